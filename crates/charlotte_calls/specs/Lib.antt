@@ -1,0 +1,5 @@
+pub mod Names
+pub mod Calls
+pub mod Setting
+pub mod Moving
+pub mod Packets
