@@ -1,0 +1,6 @@
+pub mod Put
+pub mod Progress
+pub mod Actions
+pub mod Rows
+pub mod Calls
+pub mod Kernel
