@@ -54,6 +54,13 @@ impl Mark {
         self.fields.hint
     }
 
+    /// Sets kernel and hop count of the opposite end.
+    pub fn set_hint(&mut self, hint: (u8, u32))
+        ensures { self.new ≡ record self.old { hint = hint } }
+    {
+        self.fields.hint = hint;
+    }
+
     /// The number of the last send started on the end.
     pub fn sent(&self) -> u32
         ensures { result ≡ self.now.sent }

@@ -4,3 +4,4 @@ pub mod Actions
 pub mod Rows
 pub mod Calls
 pub mod Kernel
+pub mod Start
