@@ -25,7 +25,7 @@ use Rattle.end_table.specs.declared.entry.Inward.{Inward}
 use Rattle.end_table.specs.declared.entry.Inward.TheVariants as inward
 use Rattle.end_table.specs.declared.entry.Outward.{Outward}
 use Rattle.end_table.specs.declared.entry.Outward.TheVariants as outward
-use Rattle.kernel_step.specs.Put.{end_eq}
+use Rattle.end_table.specs.Place.{end_eq}
 use Rattle.kernel_step.specs.Progress.{Progress, sends, means, keeps}
 use Rattle.kernel_step.specs.Actions.{here, hint_kernel, enclosed_of, matches, ends, hold_each}
 

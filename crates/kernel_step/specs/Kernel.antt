@@ -23,7 +23,7 @@ use Rattle.end_table.specs.declared.entry.Inward.{Inward}
 use Rattle.end_table.specs.declared.entry.Inward.TheVariants as inward
 use Rattle.end_table.specs.declared.entry.Outward.{Outward}
 use Rattle.end_table.specs.declared.entry.Outward.TheVariants as outward
-use Rattle.kernel_step.specs.Put.{put}
+use Rattle.end_table.specs.Place.{put}
 use Rattle.kernel_step.specs.Progress.{Progress, means}
 use Rattle.kernel_step.specs.Actions.{ends}
 use Rattle.kernel_step.specs.Rows.{row}

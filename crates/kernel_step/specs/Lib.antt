@@ -1,7 +1,7 @@
-pub mod Put
 pub mod Progress
 pub mod Actions
 pub mod Rows
 pub mod Calls
 pub mod Kernel
 pub mod Start
+pub mod Owned

@@ -8,7 +8,7 @@ use Rattle.charlotte_calls.specs.declared.names.Pid.{Pid}
 use Rattle.charlotte_calls.specs.declared.picture.Picture.{Picture}
 use Rattle.charlotte_calls.specs.declared.picture.PictureWhat.{PictureWhat}
 use Rattle.end_table.specs.declared.entry.Entry.{Entry}
-use Rattle.kernel_step.specs.Put.{put}
+use Rattle.end_table.specs.Place.{put}
 
 pub record Progress : Type 0 where
   -- what the kernel keeps of each end

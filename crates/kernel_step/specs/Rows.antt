@@ -21,7 +21,7 @@ use Rattle.end_table.specs.declared.entry.Inward.{Inward}
 use Rattle.end_table.specs.declared.entry.Inward.TheVariants as inward
 use Rattle.end_table.specs.declared.entry.Outward.{Outward}
 use Rattle.end_table.specs.declared.entry.Outward.TheVariants as outward
-use Rattle.kernel_step.specs.Put.{put}
+use Rattle.end_table.specs.Place.{put}
 use Rattle.kernel_step.specs.Progress.{Progress, sends, means, keeps}
 use Rattle.kernel_step.specs.Actions.{answers, reports, send_report, receive_report, forgets, leaves, match_waiting, ends_idle, notices, is_withdrawing, hears, resends_on_news, settle_each, tell_arrivals}
 

@@ -10,7 +10,7 @@ use Rattle.end_table.specs.Entries.{settled}
 use Rattle.end_table.specs.declared.entry.Entry.{Entry}
 use Rattle.end_table.specs.declared.entry.Entry.TheVariants as entry
 use Rattle.end_table.specs.declared.entry.Holder.TheVariants as holder
-use Rattle.kernel_step.specs.Put.{put}
+use Rattle.end_table.specs.Place.{put}
 use Rattle.kernel_step.specs.Calls.{made_end}
 use Rattle.kernel_step.specs.Kernel.{Kernel, Running}
 

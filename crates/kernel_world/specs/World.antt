@@ -1,16 +1,17 @@
 -- Several kernels together.
-use Rattle.std.specs.Prelude.{◌≡◌, ℕ, ◌<◌, ◌≤◌, ◌^◌, Bool, true, false, nat_eq, ◌&&◌, ◌⊎◌, List, [], ◌∷◌, ◌++◌, length, Option, Some, None, slice_get, if◌then◌else◌, Contains}
+use Rattle.std.specs.Prelude.{ℕ, nat_eq, ◌&&◌, List, [], ◌∷◌, ◌++◌, None, if◌then◌else◌}
 use Rattle.std.specs.List.{fold}
 use Rattle.charlotte_calls.specs.declared.calls.Call.{Call}
-use Rattle.charlotte_calls.specs.declared.calls.Call.TheVariants as call
 use Rattle.charlotte_calls.specs.declared.names.EndId.{EndId}
 use Rattle.charlotte_calls.specs.declared.names.Pid.{Pid}
 use Rattle.charlotte_calls.specs.declared.picture.Picture.{Picture}
+use Rattle.charlotte_calls.specs.declared.picture.PictureWhat.TheVariants.{GoneSeen}
 use Rattle.charlotte_calls.specs.declared.setting.Setting.{Setting}
-use Rattle.end_table.specs.declared.entry.Entry.{Entry as TableEntry}
-use Rattle.kernel_step.specs.Kernel.{Kernel, Outcome, Running, call_step, take_step, with_process, process_of}
-use Rattle.kernel_world.specs.declared.entry.Entry.{Entry}
+use Rattle.kernel_step.specs.Calls.{made_end}
+use Rattle.kernel_step.specs.Kernel.{Kernel, Outcome, call_step, take_step, with_process, process_of}
+use Rattle.kernel_step.specs.Start.{start_kernel}
 use Rattle.kernel_world.specs.declared.entry.Happened.TheVariants.{Asked, Took}
+use Rattle.kernel_world.specs.declared.entry.Happened.{Happened}
 use Rattle.kernel_world.specs.declared.entry.Placed.{Placed}
 
 -- a state of each kernel, and for each ordered pair of kernels the packets that the first sent and the second has not taken, oldest first
@@ -38,6 +39,14 @@ kernel_of (Takes k from) = k
 abbrev pub takes_first : Kernel → ℕ → List Picture → Outcome
 takes_first s from [] = record { kernel = s; packets = []; answered = []; steps = [] }
 takes_first s from (p ∷ ps) = take_step s from p
+
+-- the first of these packets; there is one where the taking is allowed
+abbrev pub nothing_sent : Picture
+nothing_sent = record { stamp = 0; what = GoneSeen (made_end 0 0) }
+
+abbrev pub first_or : Picture → List Picture → Picture
+first_or p [] = p
+first_or p (q ∷ qs) = q
 
 -- what an event gives
 abbrev pub outcome : World → Event → Outcome
@@ -69,7 +78,27 @@ happens w e =
       packets = adds_all (kernel_of e) o.packets (removes e w.packets);
     }
 
--- the first of these packets, of which there is one where the event is allowed
-abbrev pub first_or : Picture → List Picture → Picture
-first_or p [] = p
-first_or p (q ∷ qs) = q
+-- what an event is noted as: a packet is noted as it was sent
+abbrev pub asked_or_took : World → Event → Happened
+asked_or_took w (Calls k p c mine) = Asked p c
+asked_or_took w (Takes k from) = Took from (first_or nothing_sent (w.packets from k))
+
+-- the entry of an event
+abbrev pub noted_as : World → Event → Placed
+noted_as w e =
+    let o = outcome w e in
+    record { kernel = kernel_of e; entry = record { stamp = o.kernel.stamp; what = asked_or_took w e; steps = o.steps } }
+
+-- the world after a list of events
+abbrev pub after : World → List Event → World
+after w [] = w
+after w (e ∷ es) = after (happens w e) es
+
+-- their entries, in order
+abbrev pub noted : World → List Event → List Placed
+noted w [] = []
+noted w (e ∷ es) = noted_as w e ∷ noted (happens w e) es
+
+-- the world with which a run of a setting starts
+abbrev pub start : Setting → World
+start s = record { kernel = start_kernel s; packets = λ _ _. [] }

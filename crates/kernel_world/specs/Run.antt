@@ -1,0 +1,64 @@
+-- World runs: lists of events, each allowed where it happens, and what is noted of them.
+use Rattle.std.specs.Prelude.{◌≡◌, ◌≢◌, ℕ, ◌≤◌, ◌<◌, ◌^◌, Bool, nat_eq, nat_lt, nat_le, ◌&&◌, ◌||◌, IsTrue, if◌then◌else◌, List, [], ◌∷◌, length, map, slice_index_or}
+use Rattle.std.specs.List.{filter}
+use Rattle.charlotte_calls.specs.declared.calls.Call.{Call}
+use Rattle.charlotte_calls.specs.declared.calls.Call.TheVariants as call
+use Rattle.charlotte_calls.specs.declared.setting.Setting.{Setting}
+use Rattle.kernel_step.specs.Kernel.{Running, process_of}
+use Rattle.kernel_step.specs.Start.{home}
+use Rattle.kernel_step.specs.Owned.{AreEndsOf}
+use Rattle.kernel_world.specs.World.{World, Event, Calls, Takes, happens, noted, start}
+use Rattle.kernel_world.specs.declared.entry.Entry.{Entry}
+use Rattle.kernel_world.specs.declared.entry.Placed.{Placed}
+
+-- in version 1 a message encloses at most one end, in version 2 at most eight
+abbrev pub IsCallOf : ℕ → Call → Type 0
+IsCallOf version (call.Send on bytes xs) = IsTrue (nat_le (length xs) (if nat_eq version 1 then 1 else 8))
+IsCallOf version _ = Unit {0}
+
+-- a process that runs may call its own kernel; a packet that is there may be taken
+abbrev pub IsAllowed : Setting → World → Event → Type 0
+IsAllowed s w (Calls k p c mine) =
+    (p.0 < length s.homes) × (home s p ≡ k) × ((process_of p (w.kernel k)).phase ≡ Running) × IsCallOf s.version c
+    × AreEndsOf p (w.kernel k).table mine
+IsAllowed s w (Takes k from) = w.packets from k ≢ []
+
+-- each of these events is allowed in the world that those before it leave
+abbrev pub AreAllowed : Setting → World → List Event → Type 0
+AreAllowed s w [] = Unit {0}
+AreAllowed s w (e ∷ es) = IsAllowed s w e × AreAllowed s (happens w e) es
+
+-- a run of a setting
+pub record IsRun (s : Setting) (es : List Event) : Type 0 where
+  pub allowed : AreAllowed s (start s) es
+  -- no number runs out in so many events
+  pub few : length es ≤ 2 ^ 31
+
+-- an entry stands before another: by stamp, and at the same stamp by kernel
+abbrev pub stands_before : Placed → Placed → Bool
+stands_before a b =
+    nat_lt a.entry.stamp b.entry.stamp || (nat_eq a.entry.stamp b.entry.stamp && nat_lt a.kernel b.kernel)
+
+-- each entry stands before the next
+abbrev pub AreInOrder : List Placed → Type 0
+AreInOrder [] = Unit {0}
+AreInOrder (a ∷ []) = Unit {0}
+AreInOrder (a ∷ b ∷ ps) = IsTrue (stands_before a b) × AreInOrder (b ∷ ps)
+
+-- the entries of one kernel, in order
+abbrev pub of_kernel : ℕ → List Placed → List Entry
+of_kernel k ps = map (λ p. p.entry) (filter (λ p. nat_eq p.kernel k) ps)
+
+-- the merge of journals, one for each kernel in order: all their entries by stamp and kernel
+pub record IsMerge (journals : List (List Entry)) (merged : List Placed) : Type 0 where
+  pub order : AreInOrder merged
+  pub entries : (k : ℕ) → of_kernel k merged ≡ slice_index_or journals k []
+
+-- these are the entries of the events of a run, in the order of a merge
+pub record AreEntriesOf (s : Setting) (es : List Event) (merged : List Placed) : Type 0 where
+  pub order : AreInOrder merged
+  pub entries : (k : ℕ) → of_kernel k merged ≡ of_kernel k (noted (start s) es)
+
+-- no packet is under way
+abbrev pub AllTaken : World → Type 0
+AllTaken w = (from to : ℕ) → w.packets from to ≡ []
