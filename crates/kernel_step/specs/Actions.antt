@@ -106,8 +106,8 @@ matches k v n bytes xs d =
     let s = v.value.end in
     let served = record v { value = record v.value { served = v.value.want; want = 0 }; outward = outward.Matched n } in
     sends (hint_kernel v)
-      (packet.Parcel (opposite s) n v.value.want k v.value.hops bytes (values_leaving k d.table xs))
-      (means (step.Match s n) (leave_each (hint_kernel v) xs (keeps s (entry.Here served) d)))
+    (packet.Parcel (opposite s) n v.value.want k v.value.hops bytes (values_leaving k d.table xs))
+    (means (step.Match s n) (leave_each (hint_kernel v) xs (keeps s (entry.Here served) d)))
 
 -- MATCH where a send waits; the end's view is kept in either case
 abbrev pub match_waiting : ℕ → HereView → Outward → Progress → Progress

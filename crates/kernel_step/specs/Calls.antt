@@ -167,7 +167,7 @@ makes k made p d =
     let a = made_end k made in
     let b = opposite a in
     keeps b (entry.Here (settled (holder.Owner p) (new_end b k)))
-      (keeps a (entry.Here (settled (holder.Owner p) (new_end a k))) (means (step.Make p a b) d))
+    (keeps a (entry.Here (settled (holder.Owner p) (new_end a k))) (means (step.Make p a b) d))
 
 -- Send: a send of these bytes is started, which encloses xs; it is matched where a receive wants it
 unfoldable pub starts_send : ℕ → List ℕ → List EndId → HereView → Progress → Progress
@@ -185,20 +185,20 @@ unfoldable pub posts : ℕ → HereView → Progress → Progress
 posts k v d =
     let w = gains_one v.value.asked in
     sends (hint_kernel v) (packet.Want (opposite v.value.end) w k v.value.hops)
-      (means (step.Receive v.value.end)
-        (keeps v.value.end (entry.Here (record v { value = record v.value { asked = w }; inward = inward.Posted w })) d))
+    (means (step.Receive v.value.end)
+    (keeps v.value.end (entry.Here (record v { value = record v.value { asked = w }; inward = inward.Posted w })) d))
 
 -- Cancel of a send: it never happened, and the ends that it enclosed are its owner's again
 unfoldable pub withdraws_send : HereView → Progress → Progress
 withdraws_send v d =
     hold_each v.holder (enclosed_of v.outward)
-      (means (step.Cancel v.value.end way.Outward) (keeps v.value.end (entry.Here (record v { outward = outward.Idle })) d))
+    (means (step.Cancel v.value.end way.Outward) (keeps v.value.end (entry.Here (record v { outward = outward.Idle })) d))
 
 -- Cancel of the receive w: the opposite end is asked whether it was matched
 unfoldable pub withdraws_receive : ℕ → ℕ → HereView → Progress → Progress
 withdraws_receive k w v d =
     sends (hint_kernel v) (packet.Unwant (opposite v.value.end) w k v.value.hops)
-      (means (step.Cancel v.value.end way.Inward) (keeps v.value.end (entry.Here (record v { inward = inward.Withdrawing w })) d))
+    (means (step.Cancel v.value.end way.Inward) (keeps v.value.end (entry.Here (record v { inward = inward.Withdrawing w })) d))
 
 -- END of an end that is here
 abbrev pub ends_here : ℕ → Option HereView → Progress → Progress

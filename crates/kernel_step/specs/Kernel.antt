@@ -119,7 +119,7 @@ unfoldable pub answers_wait : Pid → Report → List Report → Outcome → Out
 answers_wait p r others o =
     let s = o.kernel in
     let told = with_process p (record (process_of p s) { reports = others })
-        (record s { table = put s.table r.on (reported_entry r.way (s.table r.on)) }) in
+    (record s { table = put s.table r.on (reported_entry r.way (s.table r.on)) }) in
     stands p (answer.Reported r) (record o { kernel = told; steps = o.steps ++ step.Report p r ∷ [] })
 
 abbrev pub is_waiting : Phase → Bool
@@ -145,8 +145,8 @@ join_answers as_given o = fold (λ so_far a. stands a.0 a.1 so_far) o as_given
 unfoldable pub closes : Kernel → Progress → Outcome
 closes s d =
     join_reports d.reports
-      (join_answers d.answers
-        (record { kernel = record s { table = d.table; stamp = d.stamp }; packets = d.packets; answered = []; steps = d.steps }))
+    (join_answers d.answers
+    (record { kernel = record s { table = d.table; stamp = d.stamp }; packets = d.packets; answered = []; steps = d.steps }))
 
 -- taking a packet: one that names a kernel that is not there is dropped
 unfoldable pub take_step : Kernel → ℕ → Picture → Outcome

@@ -1,5 +1,5 @@
 -- The ends of a process, in order of maker, count and side.
-use Rattle.std.specs.Prelude.{◌≡◌, ℕ, Bool, true, false, nat_eq, nat_lt, ◌&&◌, ◌||◌, IsTrue, IsSome, List, [], ◌∷◌, Contains, ◌↔◌}
+use Rattle.std.specs.Prelude.{Bool, true, false, nat_eq, nat_lt, ◌&&◌, ◌||◌, IsTrue, IsSome, List, [], ◌∷◌, Contains, ◌↔◌}
 use Rattle.charlotte_calls.specs.declared.names.EndId.{EndId}
 use Rattle.charlotte_calls.specs.declared.names.Pid.{Pid}
 use Rattle.charlotte_calls.specs.declared.names.Side.{Side}
@@ -19,7 +19,7 @@ abbrev pub end_before : EndId → EndId → Bool
 end_before x y =
     nat_lt x.link.maker y.link.maker
     || (nat_eq x.link.maker y.link.maker
-      && (nat_lt x.link.count y.link.count || (nat_eq x.link.count y.link.count && side_before x.side y.side)))
+    && (nat_lt x.link.count y.link.count || (nat_eq x.link.count y.link.count && side_before x.side y.side)))
 
 -- each end stands before the next
 abbrev pub AreEndsInOrder : List EndId → Type 0

@@ -1,10 +1,13 @@
 -- How far an event has come at one kernel: the table as it is now, and what the event added so far.
-use Rattle.std.specs.Prelude.{ℕ, List, [], ◌∷◌, ◌++◌}
+use Rattle.std.specs.Prelude.{◌≡◌, ℕ, ◌+◌, ◌≤◌, List, [], ◌∷◌, ◌++◌, map, vec_len, vec_capacity}
+use Rattle.charlotte_calls.specs.Packets.{packet_picture}
 use Rattle.charlotte_calls.specs.declared.calls.Answer.{Answer}
 use Rattle.charlotte_calls.specs.declared.calls.Report.{Report}
 use Rattle.charlotte_calls.specs.declared.calls.ServiceStep.{ServiceStep}
 use Rattle.charlotte_calls.specs.declared.names.EndId.{EndId}
 use Rattle.charlotte_calls.specs.declared.names.Pid.{Pid}
+use Rattle.charlotte_calls.specs.declared.packet.Packet.{Packet}
+use Rattle.charlotte_calls.specs.declared.work.Work.{Work}
 use Rattle.charlotte_calls.specs.declared.picture.Picture.{Picture}
 use Rattle.charlotte_calls.specs.declared.picture.PictureWhat.{PictureWhat}
 use Rattle.end_table.specs.declared.entry.Entry.{Entry}
@@ -43,3 +46,37 @@ means step d = record d { steps = d.steps ++ step ∷ [] }
 -- the entry of one end changed
 unfoldable pub keeps : EndId → Entry → Progress → Progress
 keeps end x d = record d { table = put d.table end x }
+
+-- a packet that is sent, as plain data
+abbrev pub sent_picture : ℕ × Packet → ℕ × Picture
+sent_picture sent = (sent.0, packet_picture sent.1)
+
+-- how far an event has come, as a table and a `Work` have it
+unfoldable pub progress : (EndId → Entry) → Work → Progress
+progress t out =
+    record {
+      table = t;
+      stamp = out.stamp;
+      packets = map sent_picture out.packets.items;
+      reports = out.reports.items;
+      answers = out.answers.items;
+      steps = out.steps.items;
+    }
+
+-- the lists have spare room for so many packets, reports, answers and steps
+pub record HasRoom (p r a s : ℕ) (out : Work) : Type 0 where
+  pub packets : vec_len out.packets + p ≤ vec_capacity out.packets
+  pub reports : vec_len out.reports + r ≤ vec_capacity out.reports
+  pub answers : vec_len out.answers + a ≤ vec_capacity out.answers
+  pub steps : vec_len out.steps + s ≤ vec_capacity out.steps
+
+-- no list took memory, and each gained at most so many
+pub record AddsAtMost (p r a s : ℕ) (old new : Work) : Type 0 where
+  pub packets : vec_len new.packets ≤ vec_len old.packets + p
+  pub reports : vec_len new.reports ≤ vec_len old.reports + r
+  pub answers : vec_len new.answers ≤ vec_len old.answers + a
+  pub steps : vec_len new.steps ≤ vec_len old.steps + s
+  pub packets_in_place : vec_capacity new.packets ≡ vec_capacity old.packets
+  pub reports_in_place : vec_capacity new.reports ≡ vec_capacity old.reports
+  pub answers_in_place : vec_capacity new.answers ≡ vec_capacity old.answers
+  pub steps_in_place : vec_capacity new.steps ≡ vec_capacity old.steps

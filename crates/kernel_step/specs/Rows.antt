@@ -32,7 +32,7 @@ want_here k w at hops v d =
     let wanted = record heard { value = record heard.value { want = w } } in
     if v.value.dead then d
     else resends_on_news k v hops heard
-      (if nat_lt v.value.served w then match_waiting k wanted v.outward d else keeps v.value.end (entry.Here heard) d)
+    (if nat_lt v.value.served w then match_waiting k wanted v.outward d else keeps v.value.end (entry.Here heard) d)
 
 abbrev pub want_row : ℕ → EndId → ℕ → ℕ → ℕ → Entry → Progress → Progress
 want_row k to w at hops entry.Nothing d = d
@@ -48,9 +48,9 @@ unwant_here k w at hops v d =
     let voided = record heard { value = record heard.value { served = w; want = 0 } } in
     if v.value.dead then d
     else resends_on_news k v hops heard
-      (if nat_lt v.value.served w
-       then sends at (packet.Unwanted (opposite e) w k v.value.hops) (means (step.Withdraw (opposite e)) (keeps e (entry.Here voided) d))
-       else keeps e (entry.Here heard) d)
+    (if nat_lt v.value.served w
+    then sends at (packet.Unwanted (opposite e) w k v.value.hops) (means (step.Withdraw (opposite e)) (keeps e (entry.Here voided) d))
+    else keeps e (entry.Here heard) d)
 
 abbrev pub unwant_row : ℕ → EndId → ℕ → ℕ → ℕ → Entry → Progress → Progress
 unwant_row k to w at hops entry.Nothing d = d
@@ -63,7 +63,7 @@ unfoldable pub frees : ℕ → ℕ → ℕ → HereView → Progress → Progres
 frees k at hops v d =
     let freed = record (hears v at hops) { inward = inward.Idle } in
     resends_on_news k v hops freed
-      (answers v.holder answer.Ok (means (step.Free v.value.end) (keeps v.value.end (entry.Here freed) d)))
+    (answers v.holder answer.Ok (means (step.Free v.value.end) (keeps v.value.end (entry.Here freed) d)))
 
 abbrev pub unwanted_here : ℕ → ℕ → ℕ → ℕ → HereView → Inward → Progress → Progress
 unwanted_here k w at hops v inward.Idle d = d
@@ -119,7 +119,7 @@ receives k n at hops bytes xs v d =
     let taken = record (hears v at hops) { inward = inward.Unreported } in
     let reported = reports v.holder (receive_report e bytes xs) (takes e n late v.holder (keeps e (entry.Here taken) d)) in
     sends at (packet.Taken (opposite e) n k v.value.hops)
-      (if late then answers v.holder (answer.Refused cause.Late) reported else reported)
+    (if late then answers v.holder (answer.Refused cause.Late) reported else reported)
 
 -- each of these values leaves to kernel `at`, in order
 unfoldable pub pass_each : ℕ → List MovingPicture → Progress → Progress
@@ -148,7 +148,7 @@ parcel_row k made to n at hops bytes ms (Some v) d =
     let came = arriving k made v.holder d.table ms in
     let taken = record (hears v at hops) { inward = inward.Unreported } in
     resends_on_news k v hops taken
-      (tell_arrivals k came (receives k n at hops bytes (ends_in came) v (settle_each v.holder came d)))
+    (tell_arrivals k came (receives k n at hops bytes (ends_in came) v (settle_each v.holder came d)))
 
 -- taken: the send n is completed
 unfoldable pub completes : ℕ → ℕ → ℕ → ℕ → HereView → Progress → Progress
@@ -156,7 +156,7 @@ completes k n at hops v d =
     let e = v.value.end in
     let done = record (hears v at hops) { outward = outward.Unreported } in
     resends_on_news k v hops done
-      (reports v.holder (send_report e outcome.Done []) (means (step.Complete e n) (keeps e (entry.Here done) d)))
+    (reports v.holder (send_report e outcome.Done []) (means (step.Complete e n) (keeps e (entry.Here done) d)))
 
 -- the send n is matched
 abbrev pub is_matched : ℕ → Outward → Bool
@@ -179,8 +179,8 @@ taken_row k n at hops (Some v) d = completes k n at hops v d
 unfoldable pub gives_back : List MovingPicture → HereView → Progress → Progress
 gives_back came v d =
     settle_each v.holder came
-      (reports v.holder (send_report v.value.end outcome.Destroyed (ends_in came))
-        (keeps v.value.end (entry.Here (record v { outward = outward.Unreported })) d))
+    (reports v.holder (send_report v.value.end outcome.Destroyed (ends_in came))
+    (keeps v.value.end (entry.Here (record v { outward = outward.Unreported })) d))
 
 -- NOTICE, unless the death was noticed before; the destroyed end is told so at the kernel that sent the packet
 unfoldable pub notices_first : ℕ → ℕ → HereView → Progress → Progress

@@ -1,5 +1,5 @@
 -- The kernels with which a run of a setting starts.
-use Rattle.std.specs.Prelude.{ℕ, ◌+◌, nat_eq, List, [], ◌∷◌, if◌then◌else◌, None, slice_index}
+use Rattle.std.specs.Prelude.{ℕ, ◌+◌, nat_eq, [], if◌then◌else◌, None, slice_index}
 use Rattle.std.specs.List.{fold}
 use Rattle.charlotte_calls.specs.Names.{opposite}
 use Rattle.charlotte_calls.specs.Moving.{new_end}
