@@ -105,9 +105,10 @@ unfoldable pub matches : ℕ → HereView → ℕ → List ℕ → List EndId �
 matches k v n bytes xs d =
     let s = v.value.end in
     let served = record v { value = record v.value { served = v.value.want; want = 0 }; outward = outward.Matched n } in
+    let kept = keeps s (entry.Here served) d in
     sends (hint_kernel v)
-    (packet.Parcel (opposite s) n v.value.want k v.value.hops bytes (values_leaving k d.table xs))
-    (means (step.Match s n) (leave_each (hint_kernel v) xs (keeps s (entry.Here served) d)))
+      (packet.Parcel (opposite s) n v.value.want k v.value.hops bytes (values_leaving k kept.table xs))
+      (means (step.Match s n) (leave_each (hint_kernel v) xs kept))
 
 -- MATCH where a send waits; the end's view is kept in either case
 abbrev pub match_waiting : ℕ → HereView → Outward → Progress → Progress
@@ -195,25 +196,31 @@ abbrev pub hears : HereView → ℕ → ℕ → HereView
 hears v at hops = record v { value = learned at hops v.value }
 
 -- the live packet of a receive
-abbrev pub resends_receive : ℕ → HereView → Inward → Progress → Progress
-resends_receive k v inward.Idle d = d
-resends_receive k v (inward.Posted w) d = sends (hint_kernel v) (packet.Want (opposite v.value.end) w k v.value.hops) d
-resends_receive k v (inward.Withdrawing w) d = sends (hint_kernel v) (packet.Unwant (opposite v.value.end) w k v.value.hops) d
-resends_receive k v inward.Unreported d = d
+abbrev pub resends_receive : ℕ → MovingPicture → Inward → Progress → Progress
+resends_receive k m inward.Idle d = d
+resends_receive k m (inward.Posted w) d = sends m.hint.0 (packet.Want (opposite m.end) w k m.hops) d
+resends_receive k m (inward.Withdrawing w) d = sends m.hint.0 (packet.Unwant (opposite m.end) w k m.hops) d
+resends_receive k m inward.Unreported d = d
 
 -- the opposite end is told that the end has moved
 unfoldable pub tells_moved : ℕ → MovingPicture → Progress → Progress
 tells_moved k m d = sends m.hint.0 (packet.Moved (opposite m.end) k m.hops) d
 
 -- the live packets of an end go to the kernel of the new hint: want or unwant, and then moved
-unfoldable pub resends : ℕ → HereView → Progress → Progress
-resends k v d =
-    let asked = resends_receive k v v.inward d in
-    if nat_eq v.value.trail 0 then asked else tells_moved k v.value asked
+unfoldable pub resends : ℕ → MovingPicture → Inward → Progress → Progress
+resends k m inward d =
+    let asked = resends_receive k m inward d in
+    if nat_eq m.trail 0 then asked else tells_moved k m asked
 
--- they go again where the hint rose: before is the view that heard of the hops, after the view that the packet leaves
-unfoldable pub resends_on_news : ℕ → HereView → ℕ → HereView → Progress → Progress
-resends_on_news k before hops after d = if is_news before.value hops then resends k after d else d
+-- they go again where the hint rose: before is the value that heard of the hops, m and inward are what the packet leaves
+unfoldable pub resends_on_news : ℕ → MovingPicture → ℕ → MovingPicture → Inward → Progress → Progress
+resends_on_news k before hops m inward d = if is_news before hops then resends k m inward d else d
+
+-- LEARN, where nothing else happens to the end
+unfoldable pub listens : ℕ → ℕ → ℕ → HereView → Progress → Progress
+listens k at hops v d =
+    let heard = hears v at hops in
+    resends_on_news k v.value hops heard.value v.inward (keeps v.value.end (entry.Here heard) d)
 
 -- each of these values becomes an end that is here
 unfoldable pub settle_each : Holder → List MovingPicture → Progress → Progress

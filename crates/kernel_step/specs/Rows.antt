@@ -23,16 +23,18 @@ use Rattle.end_table.specs.declared.entry.Outward.{Outward}
 use Rattle.end_table.specs.declared.entry.Outward.TheVariants as outward
 use Rattle.end_table.specs.Place.{put}
 use Rattle.kernel_step.specs.Progress.{Progress, sends, means, keeps}
-use Rattle.kernel_step.specs.Actions.{answers, reports, send_report, receive_report, forgets, leaves, match_waiting, ends_idle, notices, is_withdrawing, hears, resends_on_news, settle_each, tell_arrivals}
+use Rattle.kernel_step.specs.Actions.{answers, reports, send_report, receive_report, forgets, leaves, match_waiting, ends_idle, notices, is_withdrawing, hears, listens, resends_on_news, settle_each, tell_arrivals}
 
--- want: the receive w of the opposite end asks for a message
+-- want: the receive w of the opposite end asks for a message, unless it was matched or withdrawn
+unfoldable pub wants : ℕ → ℕ → ℕ → ℕ → HereView → Progress → Progress
+wants k w at hops v d =
+    let heard = hears v at hops in
+    resends_on_news k v.value hops heard.value v.inward
+      (match_waiting k (record heard { value = record heard.value { want = w } }) v.outward d)
+
 unfoldable pub want_here : ℕ → ℕ → ℕ → ℕ → HereView → Progress → Progress
 want_here k w at hops v d =
-    let heard = hears v at hops in
-    let wanted = record heard { value = record heard.value { want = w } } in
-    if v.value.dead then d
-    else resends_on_news k v hops heard
-    (if nat_lt v.value.served w then match_waiting k wanted v.outward d else keeps v.value.end (entry.Here heard) d)
+    if v.value.dead then d else if nat_lt v.value.served w then wants k w at hops v d else listens k at hops v d
 
 abbrev pub want_row : ℕ → EndId → ℕ → ℕ → ℕ → Entry → Progress → Progress
 want_row k to w at hops entry.Nothing d = d
@@ -40,17 +42,18 @@ want_row k to w at hops (entry.Here v) d = want_here k w at hops v d
 want_row k to w at hops (entry.Left there h) d = sends there (packet.Want to w at hops) d
 want_row k to w at hops (entry.Destroyed m) d = d
 
--- unwant: the receive w is withdrawn, unless it was matched
-unfoldable pub unwant_here : ℕ → ℕ → ℕ → ℕ → HereView → Progress → Progress
-unwant_here k w at hops v d =
+-- unwant: the receive w of the opposite end is withdrawn, unless it was matched or withdrawn before
+unfoldable pub voids : ℕ → ℕ → ℕ → ℕ → HereView → Progress → Progress
+voids k w at hops v d =
     let e = v.value.end in
     let heard = hears v at hops in
     let voided = record heard { value = record heard.value { served = w; want = 0 } } in
-    if v.value.dead then d
-    else resends_on_news k v hops heard
-    (if nat_lt v.value.served w
-    then sends at (packet.Unwanted (opposite e) w k v.value.hops) (means (step.Withdraw (opposite e)) (keeps e (entry.Here voided) d))
-    else keeps e (entry.Here heard) d)
+    resends_on_news k v.value hops heard.value v.inward
+      (sends at (packet.Unwanted (opposite e) w k v.value.hops) (means (step.Withdraw (opposite e)) (keeps e (entry.Here voided) d)))
+
+unfoldable pub unwant_here : ℕ → ℕ → ℕ → ℕ → HereView → Progress → Progress
+unwant_here k w at hops v d =
+    if v.value.dead then d else if nat_lt v.value.served w then voids k w at hops v d else listens k at hops v d
 
 abbrev pub unwant_row : ℕ → EndId → ℕ → ℕ → ℕ → Entry → Progress → Progress
 unwant_row k to w at hops entry.Nothing d = d
@@ -62,7 +65,7 @@ unwant_row k to w at hops (entry.Destroyed m) d = d
 unfoldable pub frees : ℕ → ℕ → ℕ → HereView → Progress → Progress
 frees k at hops v d =
     let freed = record (hears v at hops) { inward = inward.Idle } in
-    resends_on_news k v hops freed
+    resends_on_news k v.value hops freed.value inward.Idle
     (answers v.holder answer.Ok (means (step.Free v.value.end) (keeps v.value.end (entry.Here freed) d)))
 
 abbrev pub unwanted_here : ℕ → ℕ → ℕ → ℕ → HereView → Inward → Progress → Progress
@@ -142,12 +145,17 @@ asks w (entry.Here v) = if is_asked w v.inward then Some v else None
 asks w (entry.Left to hops) = None
 asks w (entry.Destroyed m) = None
 
+-- the part of the row that is about the message; xs are the ends that came with it
+abbrev pub arrived_row : ℕ → ℕ → ℕ → ℕ → List ℕ → List EndId → Option HereView → Progress → Progress
+arrived_row k n at hops bytes xs None d = d
+arrived_row k n at hops bytes xs (Some v) d =
+    resends_on_news k v.value hops (learned at hops v.value) inward.Unreported (receives k n at hops bytes xs v d)
+
 abbrev pub parcel_row : ℕ → ℕ → EndId → ℕ → ℕ → ℕ → List ℕ → List MovingPicture → Option HereView → Progress → Progress
 parcel_row k made to n at hops bytes ms None d = sends_back k to n at (passing k made d.table ms) d
 parcel_row k made to n at hops bytes ms (Some v) d =
     let came = arriving k made v.holder d.table ms in
-    let taken = record (hears v at hops) { inward = inward.Unreported } in
-    resends_on_news k v hops taken
+    resends_on_news k v.value hops (learned at hops v.value) inward.Unreported
     (tell_arrivals k came (receives k n at hops bytes (ends_in came) v (settle_each v.holder came d)))
 
 -- taken: the send n is completed
@@ -155,7 +163,7 @@ unfoldable pub completes : ℕ → ℕ → ℕ → ℕ → HereView → Progress
 completes k n at hops v d =
     let e = v.value.end in
     let done = record (hears v at hops) { outward = outward.Unreported } in
-    resends_on_news k v hops done
+    resends_on_news k v.value hops done.value v.inward
     (reports v.holder (send_report e outcome.Done []) (means (step.Complete e n) (keeps e (entry.Here done) d)))
 
 -- the send n is matched
@@ -226,9 +234,7 @@ gone_row k to at (entry.Destroyed m) d = erases k m (sends at (packet.GoneSeen (
 -- moved: the opposite end is at kernel `at` now
 unfoldable pub moved_here : ℕ → ℕ → ℕ → HereView → Progress → Progress
 moved_here k at hops v d =
-    let heard = hears v at hops in
-    if v.value.dead then d
-    else sends at (packet.Known (opposite v.value.end) hops) (resends_on_news k v hops heard (keeps v.value.end (entry.Here heard) d))
+    if v.value.dead then d else sends at (packet.Known (opposite v.value.end) hops) (listens k at hops v d)
 
 abbrev pub moved_row : ℕ → EndId → ℕ → ℕ → Entry → Progress → Progress
 moved_row k to at hops entry.Nothing d = d

@@ -1,0 +1,230 @@
+ghost use Rattle.std.specs.Prelude.{◌≡◌, [], Some, IfSome};
+ghost use Rattle.end_table.specs.Table.{entries, IsHere, IfHere};
+ghost use Rattle.end_table.specs.declared.entry.Entry.TheVariants.{Here};
+ghost use Rattle.kernel_step.specs.Actions.{send_report, enclosed_of};
+ghost use Rattle.kernel_step.specs.Calls.{starts_send};
+ghost use Rattle.kernel_step.specs.Progress.{progress, HasRoom, AddsAtMost};
+ghost use Rattle.kernel_step.specs.Rows.{want_row, want_here, wants, awaits, taken_row, completes, unwant_row, unwant_here, voids};
+
+use crate::matching::{match_waiting, send_parcel};
+use crate::tools::{hear, here, keep, listen, no_bytes, no_ends, report, resend_on_news};
+use charlotte_calls::{Bytes, EndId, Ends, Outcome, Report, ServiceStep, Way, What, Work};
+use end_table::{Entry, HereView, Outward, Table};
+use kernel_step::{push_packet, push_step};
+
+/// Send: a send of these bytes, which encloses nothing, is started, and matched where a receive wants it.
+#[tactic(auto, unfolding(kernel_step::specs::Calls::starts_send))]
+pub fn start_send(table: &mut Table, on: EndId, bytes: Bytes, out: &mut Work)
+    requires here { IsHere (entries table.old on) }
+    requires room { HasRoom 1 0 0 2 out.old }
+    ensures part { IfHere (entries table.old on) (λ v. progress (entries table.new) out.new
+        ≡ starts_send table.old.kernel bytes [] v (progress (entries table.old) out.old)) }
+    ensures room { AddsAtMost 1 0 0 2 out.old out.new }
+{
+    let HereView {
+        mut value,
+        holder,
+        outward: _,
+        inward,
+    } = here(table, on);
+    let n = value.sent.saturating_add(1);
+    push_step(
+        out,
+        ServiceStep::Send {
+            on,
+            n,
+            bytes: bytes.copy(),
+            enclose: no_ends(),
+        },
+    );
+    value.sent = n;
+    if value.want != 0 {
+        send_parcel(table, value, holder, inward, n, bytes, out);
+        return;
+    }
+    let outward = Outward::Waiting {
+        n,
+        bytes,
+        enclosed: no_ends(),
+    };
+    keep(
+        table,
+        HereView {
+            value,
+            holder,
+            outward,
+            inward,
+        },
+    );
+}
+
+/// The row want: the receive w of the opposite end asks for a message, unless it was matched or withdrawn.
+pub fn want(table: &mut Table, to: EndId, w: u32, at: u8, hops: u32, out: &mut Work)
+    requires alone { IfHere (entries table.old to) (λ v. enclosed_of v.outward ≡ []) }
+    requires room { HasRoom 3 0 0 1 out.old }
+    ensures part { progress (entries table.new) out.new
+        ≡ want_row table.old.kernel to w at hops (entries table.old to) (progress (entries table.old) out.old) }
+    ensures room { AddsAtMost 3 0 0 1 out.old out.new }
+{
+    match table.look(to) {
+        Entry::Here(view) => want_here(table, view, w, at, hops, out),
+        Entry::Left { to: there, .. } => push_packet(out, there, What::Want { to, w, at, hops }),
+        Entry::Nothing | Entry::Destroyed(_) => {}
+    }
+}
+
+/// The receive w of the opposite end asks an end that is here.
+#[tactic(auto, unfolding(kernel_step::specs::Rows::want_here))]
+fn want_here(table: &mut Table, view: HereView, w: u32, at: u8, hops: u32, out: &mut Work)
+    requires here { entries table.old view.value.end ≡ Here view }
+    requires alone { enclosed_of view.outward ≡ [] }
+    requires room { HasRoom 3 0 0 1 out.old }
+    ensures part { progress (entries table.new) out.new
+        ≡ want_here table.old.kernel w at hops view (progress (entries table.old) out.old) }
+    ensures room { AddsAtMost 3 0 0 1 out.old out.new }
+{
+    if view.value.dead {
+        return;
+    }
+    if view.value.served < w {
+        serve(table, view, w, at, hops, out);
+    } else {
+        listen(table, view, at, hops, out);
+    }
+}
+
+/// The receive w of the opposite end asks for a message: a waiting one is sent.
+#[tactic(auto, unfolding(kernel_step::specs::Rows::wants, kernel_step::specs::Actions::resends_on_news))]
+fn serve(table: &mut Table, mut view: HereView, w: u32, at: u8, hops: u32, out: &mut Work)
+    requires here { entries table.old view.value.end ≡ Here view }
+    requires alone { enclosed_of view.outward ≡ [] }
+    requires room { HasRoom 3 0 0 1 out.old }
+    ensures part { progress (entries table.new) out.new
+        ≡ wants table.old.kernel w at hops view (progress (entries table.old) out.old) }
+    ensures room { AddsAtMost 3 0 0 1 out.old out.new }
+{
+    let kernel = table.kernel();
+    let news = hear(&mut view, at, hops);
+    let heard = view.value;
+    let inward = view.inward;
+    view.value.want = w;
+    match_waiting(table, view, out);
+    resend_on_news(out, kernel, news, heard, inward);
+}
+
+/// The row taken: the send n is completed, where it is matched.
+pub fn finished(table: &mut Table, to: EndId, n: u32, at: u8, hops: u32, out: &mut Work)
+    requires room { HasRoom 2 1 0 1 out.old }
+    ensures part { progress (entries table.new) out.new
+        ≡ taken_row table.old.kernel n at hops (awaits n (entries table.old to)) (progress (entries table.old) out.old) }
+    ensures room { AddsAtMost 2 1 0 1 out.old out.new }
+{
+    if let Some(view) = awaiting(table, to, n) {
+        complete(table, view, n, at, hops, out);
+    }
+}
+
+/// The view of an end whose send n is matched.
+fn awaiting(table: &Table, to: EndId, n: u32) -> Option<HereView>
+    ensures view { result ≡ awaits n (entries table.now to) }
+    ensures here { IfSome result (λ v. entries table.now v.value.end ≡ Here v) }
+{
+    match table.look(to) {
+        Entry::Here(view) => match view.outward {
+            Outward::Matched { n: matched } if matched == n => Some(view),
+            _ => None,
+        },
+        _ => None,
+    }
+}
+
+/// The matched send of an end that is here is completed and reported.
+#[tactic(auto, unfolding(kernel_step::specs::Rows::completes, kernel_step::specs::Actions::resends_on_news))]
+fn complete(table: &mut Table, mut view: HereView, n: u32, at: u8, hops: u32, out: &mut Work)
+    requires here { entries table.old view.value.end ≡ Here view }
+    requires room { HasRoom 2 1 0 1 out.old }
+    ensures part { progress (entries table.new) out.new
+        ≡ completes table.old.kernel n at hops view (progress (entries table.old) out.old) }
+    ensures room { AddsAtMost 2 1 0 1 out.old out.new }
+{
+    let kernel = table.kernel();
+    let on = view.value.end;
+    push_step(out, ServiceStep::Complete { on, n });
+    report(out, view.holder, send_report(on, Outcome::Done, no_ends()));
+    let news = hear(&mut view, at, hops);
+    view.outward = Outward::Unreported;
+    resend_on_news(out, kernel, news, view.value, view.inward);
+    keep(table, view);
+}
+
+/// The report of a send that is over.
+fn send_report(on: EndId, outcome: Outcome, enclosed: Ends) -> Report
+    ensures { result ≡ send_report on outcome enclosed }
+{
+    Report {
+        on,
+        way: Way::Outward,
+        outcome,
+        bytes: no_bytes(),
+        enclosed,
+    }
+}
+
+/// The row unwant: the receive w of the opposite end is withdrawn, unless it was matched.
+pub fn unwant(table: &mut Table, to: EndId, w: u32, at: u8, hops: u32, out: &mut Work)
+    requires room { HasRoom 3 0 0 1 out.old }
+    ensures part { progress (entries table.new) out.new
+        ≡ unwant_row table.old.kernel to w at hops (entries table.old to) (progress (entries table.old) out.old) }
+    ensures room { AddsAtMost 3 0 0 1 out.old out.new }
+{
+    match table.look(to) {
+        Entry::Here(view) => withdraw(table, view, w, at, hops, out),
+        Entry::Left { to: there, .. } => push_packet(out, there, What::Unwant { to, w, at, hops }),
+        Entry::Nothing | Entry::Destroyed(_) => {}
+    }
+}
+
+/// The receive w of the opposite end is withdrawn at an end that is here.
+#[tactic(auto, unfolding(kernel_step::specs::Rows::unwant_here))]
+fn withdraw(table: &mut Table, view: HereView, w: u32, at: u8, hops: u32, out: &mut Work)
+    requires here { entries table.old view.value.end ≡ Here view }
+    requires room { HasRoom 3 0 0 1 out.old }
+    ensures part { progress (entries table.new) out.new
+        ≡ unwant_here table.old.kernel w at hops view (progress (entries table.old) out.old) }
+    ensures room { AddsAtMost 3 0 0 1 out.old out.new }
+{
+    if view.value.dead {
+        return;
+    }
+    if view.value.served < w {
+        void(table, view, w, at, hops, out);
+    } else {
+        listen(table, view, at, hops, out);
+    }
+}
+
+/// The receive w of the opposite end is withdrawn: the opposite end is told.
+#[tactic(auto, unfolding(kernel_step::specs::Rows::voids, kernel_step::specs::Actions::resends_on_news))]
+fn void(table: &mut Table, mut view: HereView, w: u32, at: u8, hops: u32, out: &mut Work)
+    requires here { entries table.old view.value.end ≡ Here view }
+    requires room { HasRoom 3 0 0 1 out.old }
+    ensures part { progress (entries table.new) out.new
+        ≡ voids table.old.kernel w at hops view (progress (entries table.old) out.old) }
+    ensures room { AddsAtMost 3 0 0 1 out.old out.new }
+{
+    let kernel = table.kernel();
+    let asking = view.value.end.opposite();
+    push_step(out, ServiceStep::Withdraw { on: asking });
+    let told = What::Unwanted {
+        to: asking,
+        w,
+        at: kernel,
+        hops: view.value.hops,
+    };
+    push_packet(out, at, told);
+    let news = hear(&mut view, at, hops);
+    resend_on_news(out, kernel, news, view.value, view.inward);
+    view.value.served = w;
+    view.value.want = 0;
+    keep(table, view);
+}
