@@ -1,1 +1,2 @@
 pub mod EndEq
+pub mod Change

@@ -1,2 +1,4 @@
 pub mod Entries
 pub mod Place
+pub mod Table
+pub mod Slot

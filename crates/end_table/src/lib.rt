@@ -2,5 +2,9 @@
 #![tactic(auto)]
 
 mod entry;
+mod mark;
+mod slot;
+mod table;
 
 pub use entry::{Entry, HereView, Holder, Inward, Outward};
+pub use table::{NotStored, Table};

@@ -1,0 +1,71 @@
+-- The entries of a table, and what a call changes of them.
+use Rattle.std.specs.Prelude.{◌≡◌, ℕ, ◌<◌, Bool, false, true, IsTrue, List, IsSome, unwrap_or}
+use Rattle.std.specs.Map.{lookup}
+use Rattle.charlotte_calls.specs.declared.names.EndId.{EndId}
+use Rattle.charlotte_calls.specs.declared.picture.MovingPicture.{MovingPicture}
+use Rattle.end_table.specs.declared.entry.Entry.{Entry}
+use Rattle.end_table.specs.declared.entry.Entry.TheVariants as entry
+use Rattle.end_table.specs.declared.entry.HereView.{HereView}
+use Rattle.end_table.specs.declared.entry.Outward.TheVariants as outward
+use Rattle.end_table.specs.declared.entry.Inward.TheVariants as inward
+use Rattle.end_table.specs.Place.{end_eq, put}
+
+-- the entry is Here, with this true of it
+abbrev pub IsHereAnd : Entry → (HereView → Type 0) → Type 0
+IsHereAnd (entry.Here v) p = p v
+IsHereAnd _ p = ⊥
+
+-- the entry is Here
+abbrev pub IsHere : Entry → Type 0
+IsHere x = IsHereAnd x (λ _. Unit {0})
+
+-- where the entry is Here, this is true of it
+abbrev pub IfHere : Entry → (HereView → Type 0) → Type 0
+IfHere (entry.Here v) p = p v
+IfHere _ p = Unit {0}
+
+-- the entry is Destroyed
+abbrev pub IsDestroyed : Entry → Type 0
+IsDestroyed (entry.Destroyed m) = Unit {0}
+IsDestroyed _ = ⊥
+
+-- where the entry is Destroyed, this is true of its mark
+abbrev pub IfDestroyed : Entry → (MovingPicture → Type 0) → Type 0
+IfDestroyed (entry.Destroyed m) p = p m
+IfDestroyed _ p = Unit {0}
+
+-- no activity is started or unreported
+pub record IsIdle (v : HereView) : Type 0 where
+  pub outward : v.outward ≡ outward.Idle
+  pub inward : v.inward ≡ inward.Idle
+
+-- what contracts see of a table: the number of its kernel, and the entry at each place
+pub record TableView : Type 0 where
+  pub kernel : ℕ
+  pub places : List (EndId × Entry)
+
+-- what the kernel keeps of each end
+unfoldable pub entries : TableView → EndId → Entry
+entries t end = unwrap_or (lookup (end_eq end) t.places) entry.Nothing
+
+-- an entry is Here or Destroyed at its own end only
+abbrev pub is_of_end : EndId → Entry → Bool
+is_of_end end (entry.Here v) = end_eq v.value.end end
+is_of_end end (entry.Destroyed m) = end_eq m.end end
+is_of_end end _ = true
+
+-- what is true of every table
+pub record IsWellKept (t : TableView) : Type 0 where
+  pub kernel : t.kernel < 8
+  pub own : (end : EndId) → IsTrue (is_of_end end (entries t end))
+
+-- the end has a place: an `install` there takes no memory
+unfoldable pub HasPlace : TableView → EndId → Type 0
+HasPlace t end = IsSome (lookup (end_eq end) t.places)
+
+-- this entry is put at an end; every other end keeps its entry and its place, and the kernel's number stays
+pub record Puts (old new : TableView) (end : EndId) (x : Entry) : Type 0 where
+  pub after : entries new ≡ put (entries old) end x
+  pub others : (q : EndId) → end_eq end q ≡ false → entries new q ≡ entries old q
+  pub places : (q : EndId) → end_eq end q ≡ false → HasPlace old q → HasPlace new q
+  pub kernel : new.kernel ≡ old.kernel
