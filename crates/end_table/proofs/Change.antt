@@ -1,6 +1,7 @@
 -- From what a map says of its keys to what a table says of its ends.
 use Rattle.std.proofs.Common.{◌≡◌, ℕ, ◌<◌, Bool, true, false, cond, List, [], Option, None, Some, is_some, unwrap_or, IsTrue, refl, sym, ap, subst, ◌∙◌, true≢false}
 use Rattle.std.specs.Map.{lookup}
+use Rattle.std.specs.HashMap.{HashMap, WritesThrough, get_by}
 use Rattle.charlotte_calls.specs.declared.names.EndId.{EndId}
 use Rattle.end_table.specs.declared.entry.Entry.{Entry}
 use Rattle.end_table.specs.declared.entry.Entry.TheVariants.{Nothing}
@@ -61,3 +62,37 @@ IsWellKept-empty t kernel empty =
 pub no-HasPlace : (k : ℕ) (places : List (EndId × Entry)) (e : EndId) → lookup (end_eq e) places ≡ None → HasPlace (record { kernel = k; places = places }) e → ⊥
 unfolding HasPlace
 no-HasPlace k places e none has = true≢false (sym has ∙ ap is_some none)
+
+-- what stands at a place is the entry of its end
+pub entries-some : (k : ℕ) (places : List (EndId × Entry)) (e : EndId) (x : Entry) → Some x ≡ lookup (end_eq e) places → entries (record { kernel = k; places = places }) e ≡ x
+unfolding entries
+entries-some k places e x some = sym (ap entry_in some)
+
+-- and without a place it is `Nothing`
+pub entries-none : (k : ℕ) (places : List (EndId × Entry)) (e : EndId) → None ≡ lookup (end_eq e) places → entries (record { kernel = k; places = places }) e ≡ Nothing
+unfolding entries
+entries-none k places e none = sym (ap entry_in none)
+
+-- a write through `get_mut` changes that one place
+pub Changes-WritesThrough : {S : Type 0} (m n : HashMap EndId Entry S) (e : EndId) (x w : Entry) → Some x ≡ get_by (end_eq e) m → WritesThrough end_eq (end_eq e) m w n → Changes m.entries n.entries e (Some w)
+Changes-WritesThrough m n e x w some h = (h.3 (sym (ap is_some some))).0
+
+-- to put `Nothing` at an end without a place changes nothing
+pub put-no_place : (t : TableView) (e : EndId) → (HasPlace t e → ⊥) → put (entries t) e Nothing ≡ entries t
+unfolding put entries HasPlace
+put-no_place t e none = λ i q. by (end_eq e q) q refl i
+  where
+    absent : (o : Option Entry) → (is_some o ≡ true → ⊥) → entry_in o ≡ Nothing
+    absent None not = refl
+    absent (Some x) not = absurd (not refl)
+    by : (b : Bool) (q : EndId) → end_eq e q ≡ b → cond b Nothing (entries t q) ≡ entries t q
+    by true q same = subst (λ z. Nothing ≡ entries t z) (end_eq-same e q same) (sym (absent (lookup (end_eq e) t.places) none))
+    by false q apart = refl
+
+-- where the end has a place afterwards, every place is kept
+pub HasPlace-Puts : (old new : TableView) (e : EndId) (x : Entry) → Puts old new e x → HasPlace new e → (q : EndId) → HasPlace old q → HasPlace new q
+HasPlace-Puts old new e x puts there q has = by (end_eq e q) refl
+  where
+    by : (b : Bool) → end_eq e q ≡ b → HasPlace new q
+    by true same = subst (HasPlace new) (end_eq-same e q same) there
+    by false apart = puts.places q apart has

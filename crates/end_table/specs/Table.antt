@@ -1,5 +1,5 @@
 -- The entries of a table, and what a call changes of them.
-use Rattle.std.specs.Prelude.{◌≡◌, ℕ, ◌<◌, Bool, false, true, IsTrue, List, IsSome, unwrap_or}
+use Rattle.std.specs.Prelude.{◌≡◌, ℕ, ◌<◌, ◌≤◌, Bool, false, true, IsTrue, List, IsSome, unwrap_or}
 use Rattle.std.specs.Map.{lookup}
 use Rattle.charlotte_calls.specs.declared.names.EndId.{EndId}
 use Rattle.charlotte_calls.specs.declared.picture.MovingPicture.{MovingPicture}
@@ -33,6 +33,11 @@ IsDestroyed _ = ⊥
 abbrev pub IfDestroyed : Entry → (MovingPicture → Type 0) → Type 0
 IfDestroyed (entry.Destroyed m) p = p m
 IfDestroyed _ p = Unit {0}
+
+-- the entry is Left with hops at most these
+abbrev pub HasLeftUpTo : ℕ → Entry → Type 0
+HasLeftUpTo upto (entry.Left to hops) = hops ≤ upto
+HasLeftUpTo upto _ = ⊥
 
 -- no activity is started or unreported
 pub record IsIdle (v : HereView) : Type 0 where

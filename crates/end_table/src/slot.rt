@@ -1,6 +1,6 @@
-ghost use Rattle.std.specs.Prelude.{◌≡◌};
+ghost use Rattle.std.specs.Prelude.{◌≡◌, ◌↔◌, IsTrue};
 ghost use Rattle.end_table.specs.Entries.{settled, learned, is_news};
-ghost use Rattle.end_table.specs.Table.{IsHere, IfHere, IsDestroyed, IfDestroyed};
+ghost use Rattle.end_table.specs.Table.{IsHere, IfHere, IsDestroyed, IfDestroyed, HasLeftUpTo};
 ghost use Rattle.end_table.specs.declared.entry.Entry.TheVariants.{Nothing, Here, Left, Destroyed};
 
 use crate::mark::with_hint;
@@ -242,5 +242,31 @@ impl Slot {
             Kept::Destroyed(mark) => *mark = with_hint(*mark, hint),
             _ => unreachable!(),
         }
+    }
+
+    pub(crate) fn is_nothing(&self) -> bool
+        ensures { IsTrue result ↔ (self.now ≡ Nothing) }
+    {
+        match &self.kept {
+            Kept::Nothing => true,
+            _ => false,
+        }
+    }
+
+    pub(crate) fn is_left_up_to(&self, upto: u32) -> bool
+        ensures { IsTrue result ↔ HasLeftUpTo upto self.now }
+    {
+        match &self.kept {
+            Kept::Left { hops, .. } => *hops <= upto,
+            _ => false,
+        }
+    }
+
+    /// The value of the end that is here.
+    pub(crate) fn into_moving(mut self) -> Moving
+        requires { IsHere self }
+        ensures { IfHere self (λ v. result ≡ v.value) }
+    {
+        self.take().into_moving()
     }
 }

@@ -1,7 +1,8 @@
 ghost use Rattle.std.specs.Prelude.{◌≡◌, ℕ, ◌<◌, OnOk, OnErr, IfOk, IfErr, IsOk, IsTrue, ◌↔◌};
+ghost use Rattle.std.specs.Bool.{OnTrue, OnFalse};
 ghost use Rattle.end_table.specs.Place.{put, end_eq};
 ghost use Rattle.end_table.specs.Entries.{left_value, left_entry, ended_entry, learned, is_news, settled};
-ghost use Rattle.end_table.specs.Table.{entries, HasPlace, Puts, IsHere, IsHereAnd, IfHere, IsIdle, IsDestroyed, IfDestroyed, is_of_end};
+ghost use Rattle.end_table.specs.Table.{entries, HasPlace, Puts, IsHere, IsHereAnd, IfHere, IsIdle, IsDestroyed, IfDestroyed, HasLeftUpTo, is_of_end};
 ghost use Rattle.end_table.specs.declared.entry.Entry.TheVariants.{Nothing, Here, Left, Destroyed};
 
 use crate::slot::{Living, Slot};
@@ -139,4 +140,144 @@ impl Table {
             Err(_) => Err(NoMemory),
         }
     }
+
+    /// Makes the end of a value Here: with that value and holder, and both activities idle. The old entry is overwritten.
+    /// At an end with a place it takes no memory; the value comes back for want of memory alone.
+    pub fn install(&mut self, moving: Moving, holder: Holder) -> Result<(), NotStored>
+        requires { IsHere (entries self.old moving.end) → ⊥ }
+        ensures ok { OnOk result (Puts self.old self.new moving.end (Here (settled holder moving))) }
+        ensures same { OnErr result (self.new ≡ self.old) }
+        ensures back { IfErr result (λ n. n.moving ≡ moving) }
+        ensures succeeds { HasPlace self.old moving.end → IsOk result }
+    {
+        let end = moving.end();
+        match self.store(end, Slot::here(Living::settled(moving, holder))) {
+            Ok(()) => Ok(()),
+            Err(slot) => Err(NotStored {
+                moving: slot.into_moving(),
+            }),
+        }
+    }
+
+    /// Takes out the value of an end that leaves to another kernel. It gains a hop and has this kernel in its trail.
+    /// The entry becomes Left with these hops, or Nothing where the end is dead.
+    pub fn take_out(&mut self, end: EndId, to: u8) -> Moving
+        requires { IsHereAnd (entries self.old end) IsIdle }
+        ensures value { IfHere (entries self.old end) (λ v. result ≡ left_value self.old.kernel v.value) }
+        ensures left { IfHere (entries self.old end) (λ v. Puts self.old self.new end (left_entry to v.value)) }
+    {
+        let mut moving = self.take(end).into_moving();
+        leave(&mut moving, self.kernel());
+        let slot = if moving.dead() {
+            Slot::nothing()
+        } else {
+            Slot::left(to, moving.hops())
+        };
+        self.leave_behind(end, slot);
+        moving
+    }
+
+    /// Destroys an end that is here. The entry becomes Destroyed with its mark, or Nothing where the end is dead.
+    pub fn end_here(&mut self, end: EndId) -> Mark
+        requires { IsHere (entries self.old end) }
+        ensures mark { IfHere (entries self.old end) (λ v. result ≡ v.value) }
+        ensures ended { IfHere (entries self.old end) (λ v. Puts self.old self.new end (ended_entry v.value)) }
+    {
+        let mark = self.take(end).into_moving().destroy();
+        let slot = if mark.dead() {
+            Slot::nothing()
+        } else {
+            Slot::destroyed(mark)
+        };
+        self.leave_behind(end, slot);
+        mark
+    }
+
+    /// Puts what an end leaves behind at its place, and takes the place away where that is nothing.
+    fn leave_behind(&mut self, end: EndId, slot: Slot)
+        requires place { HasPlace self.old end }
+        requires own { IsTrue (is_of_end end slot) }
+        ensures { Puts self.old self.new end slot }
+    {
+        if slot.is_nothing() {
+            self.remove(end);
+        } else {
+            self.keep(end, slot);
+        }
+    }
+
+    /// Sets the hint of the mark of a destroyed end.
+    pub fn hint_mark(&mut self, end: EndId, hint: (u8, u32))
+        requires { IsDestroyed (entries self.old end) }
+        ensures { IfDestroyed (entries self.old end) (λ m. Puts self.old self.new end (Destroyed (record m { hint = hint }))) }
+    {
+        match self.slots.get_mut(&end) {
+            Some(slot) => slot.set_hint(hint),
+            None => unreachable!(),
+        }
+    }
+
+    /// Makes the entry of a destroyed end Nothing.
+    pub fn erase(&mut self, end: EndId)
+        requires { IsDestroyed (entries self.old end) }
+        ensures { Puts self.old self.new end Nothing }
+    {
+        self.remove(end);
+    }
+
+    /// Removes a Left entry whose hops are at most `upto`, and answers whether there was one.
+    pub fn retire(&mut self, end: EndId, upto: u32) -> bool
+        ensures found { IsTrue result ↔ HasLeftUpTo upto (entries self.old end) }
+        ensures retired { OnTrue result (Puts self.old self.new end Nothing) }
+        ensures kept { OnFalse result (self.new ≡ self.old) }
+    {
+        if self.has_left_up_to(end, upto) {
+            self.remove(end);
+            return true;
+        }
+        false
+    }
+
+    fn has_left_up_to(&self, end: EndId, upto: u32) -> bool
+        ensures { IsTrue result ↔ HasLeftUpTo upto (entries self.now end) }
+    {
+        match self.slots.get(&end) {
+            Some(slot) => slot.is_left_up_to(upto),
+            None => false,
+        }
+    }
+
+    /// Makes an end that is here exactly this view, which is of that end.
+    pub fn change(&mut self, end: EndId, view: HereView)
+        requires here { IsHere (entries self.old end) }
+        requires same_end { view.value.end ≡ end }
+        ensures { Puts self.old self.new end (Here view) }
+    {
+        match self.slots.get_mut(&end) {
+            Some(slot) => slot.change(view),
+            None => unreachable!(),
+        }
+    }
+
+    /// Lets an end that is here hear that the opposite end is at a kernel with these hops, and answers whether that was news:
+    /// the hint changes where the hops are more than those of the hint.
+    pub fn hint(&mut self, end: EndId, kernel: u8, hops: u32) -> bool
+        requires { IsHere (entries self.old end) }
+        ensures news { IfHere (entries self.old end) (λ v. result ≡ is_news v.value hops) }
+        ensures learned { IfHere (entries self.old end) (λ v. Puts self.old self.new end (Here (record v { value = learned kernel hops v.value }))) }
+    {
+        match self.slots.get_mut(&end) {
+            Some(slot) => slot.learn(kernel, hops),
+            None => unreachable!(),
+        }
+    }
+}
+
+/// What happens to the value of an end that leaves this kernel.
+fn leave(moving: &mut Moving, kernel: u8)
+    requires { kernel < 8 }
+    ensures { moving.new ≡ left_value kernel moving.old }
+{
+    moving.set_hops(moving.hops().saturating_add(1));
+    moving.set_trail(moving.trail() | 1 << kernel);
 }
