@@ -1,13 +1,17 @@
 -- From what a map says of its keys to what a table says of its ends.
-use Rattle.std.proofs.Common.{◌≡◌, ℕ, ◌<◌, Bool, true, false, cond, List, [], Option, None, Some, is_some, unwrap_or, IsTrue, refl, sym, ap, subst, ◌∙◌, true≢false}
+use Rattle.std.proofs.Common.{◌≡◌, ℕ, ◌<◌, Bool, true, false, cond, List, [], Option, None, Some, is_some, unwrap_or, IsTrue, refl, sym, ap, subst, ◌∙◌, true≢false, if◌then◌else◌}
 use Rattle.std.specs.Map.{lookup}
 use Rattle.std.specs.HashMap.{HashMap, WritesThrough, get_by}
 use Rattle.charlotte_calls.specs.declared.names.EndId.{EndId}
 use Rattle.end_table.specs.declared.entry.Entry.{Entry}
 use Rattle.end_table.specs.declared.entry.Entry.TheVariants.{Nothing}
+use Rattle.end_table.specs.declared.entry.Entry.TheVariants as entry
+use Rattle.end_table.specs.declared.entry.HereView.{HereView}
+use Rattle.charlotte_calls.specs.declared.picture.MovingPicture.{MovingPicture}
+use Rattle.end_table.specs.Entries.{learned, is_news}
 use Rattle.end_table.specs.Place.{end_eq, put}
-use Rattle.end_table.specs.Table.{TableView, entries, HasPlace, Puts, IsWellKept, is_of_end}
-use Rattle.end_table.proofs.EndEq.{end_eq-same, end_eq-refl, put-at, put-other}
+use Rattle.end_table.specs.Table.{TableView, entries, HasPlace, Puts, IsWellKept, IsOfEnd, IsHere, IfHere, IsDestroyed, IfDestroyed}
+use Rattle.end_table.proofs.EndEq.{end_eq-same, end_eq-refl, put-at, put-other, put-put}
 
 -- the entry that a map has at a key
 abbrev pub entry_in : Option Entry → Entry
@@ -39,15 +43,15 @@ module _ (k : ℕ) (old new : List (EndId × Entry)) (e : EndId) (w : Option Ent
   HasPlace-Changes there = ap is_some (h e ∙ ap (λ b. cond b w (lookup (end_eq e) old)) (end_eq-refl e)) ∙ there
 
 -- a table stays well kept where an entry of its own end is put
-pub IsWellKept-Puts : (old new : TableView) (e : EndId) (x : Entry) → IsWellKept old → IsTrue (is_of_end e x) → Puts old new e x → IsWellKept new
+pub IsWellKept-Puts : (old new : TableView) (e : EndId) (x : Entry) → IsWellKept old → IsOfEnd e x → Puts old new e x → IsWellKept new
 IsWellKept-Puts old new e x kept own puts =
     record { kernel = subst (λ k. k < 8) (sym puts.kernel) kept.kernel; own = λ q. by (end_eq e q) q refl }
   where
-    by : (b : Bool) (q : EndId) → end_eq e q ≡ b → IsTrue (is_of_end q (entries new q))
+    by : (b : Bool) (q : EndId) → end_eq e q ≡ b → IsOfEnd q (entries new q)
     by true q same =
         let at : entries new e ≡ x = ap (λ t. t e) puts.after ∙ put-at (entries old) e x in
-        subst (λ z. IsTrue (is_of_end z (entries new z))) (end_eq-same e q same) (subst (λ y. IsTrue (is_of_end e y)) (sym at) own)
-    by false q apart = subst (λ y. IsTrue (is_of_end q y)) (sym (puts.others q apart)) (kept.own q)
+        subst (λ z. IsOfEnd z (entries new z)) (end_eq-same e q same) (subst (λ y. IsOfEnd e y) (sym at) own)
+    by false q apart = subst (λ y. IsOfEnd q y) (sym (puts.others q apart)) (kept.own q)
 
 -- a table without places has no entry
 pub entries-empty : (t : TableView) → t.places ≡ [] → entries t ≡ (λ _. Nothing)
@@ -56,7 +60,7 @@ entries-empty t empty = λ i q. entry_in (lookup (end_eq q) (empty i))
 
 pub IsWellKept-empty : (t : TableView) → t.kernel < 8 → t.places ≡ [] → IsWellKept t
 IsWellKept-empty t kernel empty =
-    record { kernel = kernel; own = λ q. subst (λ f. IsTrue (is_of_end q (f q))) (sym (entries-empty t empty)) refl }
+    record { kernel = kernel; own = λ q. subst (λ f. IsOfEnd q (f q)) (sym (entries-empty t empty)) tt }
 
 -- an end that the map has not has no place
 pub no-HasPlace : (k : ℕ) (places : List (EndId × Entry)) (e : EndId) → lookup (end_eq e) places ≡ None → HasPlace (record { kernel = k; places = places }) e → ⊥
@@ -96,3 +100,61 @@ HasPlace-Puts old new e x puts there q has = by (end_eq e q) refl
     by : (b : Bool) → end_eq e q ≡ b → HasPlace new q
     by true same = subst (HasPlace new) (end_eq-same e q same) there
     by false apart = puts.places q apart has
+
+-- the later of two entries put at one end stands
+pub puts_twice : (old middle new : TableView) (e : EndId) (x y : Entry) → Puts old middle e x → Puts middle new e y → Puts old new e y
+puts_twice old middle new e x y first second =
+    record {
+      after = second.after ∙ ap (λ t. put t e y) first.after ∙ put-put (entries old) e x y;
+      others = λ q apart. second.others q apart ∙ first.others q apart;
+      places = λ q apart has. second.places q apart (first.places q apart has);
+      kernel = second.kernel ∙ first.kernel;
+    }
+
+-- where what stands at a place becomes a function of the view there, so does the entry
+module _ (k : ℕ) (old new : List (EndId × Entry)) (e : EndId) (x y : Entry) (some : Some x ≡ lookup (end_eq e) old) (h : Changes old new e (Some y)) where
+  pub IfHere-Puts : (f : HereView → Entry) → IfHere x (λ v. y ≡ f v) → IfHere (entries (record { kernel = k; places = old }) e) (λ v. Puts (record { kernel = k; places = old }) (record { kernel = k; places = new }) e (f v))
+  IfHere-Puts f is = subst (λ z. IfHere z (λ v. Puts (record { kernel = k; places = old }) (record { kernel = k; places = new }) e (f v))) (sym (entries-some k old e x some)) (by x is)
+    where
+      by : (x : Entry) → IfHere x (λ v. y ≡ f v) → IfHere x (λ v. Puts (record { kernel = k; places = old }) (record { kernel = k; places = new }) e (f v))
+      by (entry.Here v) is = subst (Puts (record { kernel = k; places = old }) (record { kernel = k; places = new }) e) is (Puts-Changes k old new e (Some y) h)
+      by entry.Nothing is = tt
+      by (entry.Left to hops) is = tt
+      by (entry.Destroyed m) is = tt
+
+  pub IfDestroyed-Puts : (f : MovingPicture → Entry) → IfDestroyed x (λ m. y ≡ f m) → IfDestroyed (entries (record { kernel = k; places = old }) e) (λ m. Puts (record { kernel = k; places = old }) (record { kernel = k; places = new }) e (f m))
+  IfDestroyed-Puts f is = subst (λ z. IfDestroyed z (λ m. Puts (record { kernel = k; places = old }) (record { kernel = k; places = new }) e (f m))) (sym (entries-some k old e x some)) (by x is)
+    where
+      by : (x : Entry) → IfDestroyed x (λ m. y ≡ f m) → IfDestroyed x (λ m. Puts (record { kernel = k; places = old }) (record { kernel = k; places = new }) e (f m))
+      by (entry.Destroyed m) is = subst (Puts (record { kernel = k; places = old }) (record { kernel = k; places = new }) e) is (Puts-Changes k old new e (Some y) h)
+      by entry.Nothing is = tt
+      by (entry.Left to hops) is = tt
+      by (entry.Here v) is = tt
+
+-- an entry Here that is of an end has its name
+pub end-IsOfEnd : (x : Entry) (e f : EndId) → IsOfEnd e x → f ≡ e → IfHere x (λ v. f ≡ v.value.end)
+end-IsOfEnd (entry.Here v) e f own same = same ∙ sym own
+end-IsOfEnd entry.Nothing e f own same = tt
+end-IsOfEnd (entry.Left to hops) e f own same = tt
+end-IsOfEnd (entry.Destroyed m) e f own same = tt
+
+-- to hear of the opposite end changes no name
+pub IsOfEnd-learned : (x y : Entry) (e : EndId) (at hops : ℕ) → IsHere x → IsOfEnd e x
+    → IfHere x (λ v. y ≡ entry.Here (record v { value = learned at hops v.value })) → IsOfEnd e y
+IsOfEnd-learned (entry.Here v) y e at hops here own is =
+    subst (IsOfEnd e) (sym is) (by (is_news v.value hops))
+  where
+    by : (b : Bool) → (if b then record v.value { hint = (at, hops) } else v.value).end ≡ e
+    by true = own
+    by false = own
+IsOfEnd-learned entry.Nothing y e at hops here own is = absurd here
+IsOfEnd-learned (entry.Left to n) y e at hops here own is = absurd here
+IsOfEnd-learned (entry.Destroyed m) y e at hops here own is = absurd here
+
+-- nor does a new hint of a mark
+pub IsOfEnd-hinted : (x y : Entry) (e : EndId) (hint : ℕ × ℕ) → IsDestroyed x → IsOfEnd e x
+    → IfDestroyed x (λ m. y ≡ entry.Destroyed (record m { hint = hint })) → IsOfEnd e y
+IsOfEnd-hinted (entry.Destroyed m) y e hint there own is = subst (IsOfEnd e) (sym is) own
+IsOfEnd-hinted entry.Nothing y e hint there own is = absurd there
+IsOfEnd-hinted (entry.Left to n) y e hint there own is = absurd there
+IsOfEnd-hinted (entry.Here v) y e hint there own is = absurd there

@@ -1,5 +1,5 @@
 -- The entries of a table, and what a call changes of them.
-use Rattle.std.specs.Prelude.{◌≡◌, ℕ, ◌<◌, ◌≤◌, Bool, false, true, IsTrue, List, IsSome, unwrap_or}
+use Rattle.std.specs.Prelude.{◌≡◌, ℕ, ◌<◌, ◌≤◌, false, List, IsSome, unwrap_or}
 use Rattle.std.specs.Map.{lookup}
 use Rattle.charlotte_calls.specs.declared.names.EndId.{EndId}
 use Rattle.charlotte_calls.specs.declared.picture.MovingPicture.{MovingPicture}
@@ -53,16 +53,16 @@ pub record TableView : Type 0 where
 unfoldable pub entries : TableView → EndId → Entry
 entries t end = unwrap_or (lookup (end_eq end) t.places) entry.Nothing
 
--- an entry is Here or Destroyed at its own end only
-abbrev pub is_of_end : EndId → Entry → Bool
-is_of_end end (entry.Here v) = end_eq v.value.end end
-is_of_end end (entry.Destroyed m) = end_eq m.end end
-is_of_end end _ = true
+-- an entry that is Here or Destroyed is of this end
+abbrev pub IsOfEnd : EndId → Entry → Type 0
+IsOfEnd end (entry.Here v) = v.value.end ≡ end
+IsOfEnd end (entry.Destroyed m) = m.end ≡ end
+IsOfEnd end _ = Unit {0}
 
 -- what is true of every table
 pub record IsWellKept (t : TableView) : Type 0 where
   pub kernel : t.kernel < 8
-  pub own : (end : EndId) → IsTrue (is_of_end end (entries t end))
+  pub own : (end : EndId) → IsOfEnd end (entries t end)
 
 -- the end has a place: an `install` there takes no memory
 unfoldable pub HasPlace : TableView → EndId → Type 0

@@ -1,5 +1,5 @@
-ghost use Rattle.std.specs.Prelude.{◌≡◌, ◌↔◌, IsTrue};
-ghost use Rattle.end_table.specs.Entries.{settled, learned, is_news};
+ghost use Rattle.std.specs.Prelude.{◌≡◌, ◌<◌, ◌↔◌, IsTrue};
+ghost use Rattle.end_table.specs.Entries.{gains_one, left_value, left_entry, ended_entry, settled, learned, is_news};
 ghost use Rattle.end_table.specs.Table.{IsHere, IfHere, IsDestroyed, IfDestroyed, HasLeftUpTo};
 ghost use Rattle.end_table.specs.declared.entry.Entry.TheVariants.{Nothing, Here, Left, Destroyed};
 
@@ -91,6 +91,22 @@ impl Living {
     }
 }
 
+/// One more, but for the greatest number, which stays.
+fn gains_one(number: u32) -> u32
+    ensures { result ≡ gains_one number }
+{
+    number.saturating_add(1)
+}
+
+/// What happens to the value of an end that leaves this kernel.
+pub(crate) fn leave(moving: &mut Moving, kernel: u8)
+    requires { kernel < 8 }
+    ensures { moving.new ≡ left_value kernel moving.old }
+{
+    moving.set_hops(gains_one(moving.hops()));
+    moving.set_trail(moving.trail() | 1 << kernel);
+}
+
 /// Gives the value these fields, all but the end.
 pub(crate) fn set_fields(moving: &mut Moving, fields: MovingPicture)
     requires { fields.end ≡ moving.old.end }
@@ -167,17 +183,28 @@ impl Slot {
         }
     }
 
-    pub(crate) fn left(to: u8, hops: u32) -> Slot
-        ensures { result ≡ Left to hops }
+    /// What an end with this value leaves behind when it goes to a kernel.
+    pub(crate) fn left(to: u8, moving: &Moving) -> Slot
+        ensures { result ≡ left_entry to moving.now }
     {
+        if moving.dead() {
+            return Slot::nothing();
+        }
         Slot {
-            kept: Kept::Left { to, hops },
+            kept: Kept::Left {
+                to,
+                hops: gains_one(moving.hops()),
+            },
         }
     }
 
-    pub(crate) fn destroyed(mark: Mark) -> Slot
-        ensures { result ≡ Destroyed mark }
+    /// What an end with this mark leaves behind when it is destroyed.
+    pub(crate) fn ended(mark: Mark) -> Slot
+        ensures { result ≡ ended_entry mark }
     {
+        if mark.dead() {
+            return Slot::nothing();
+        }
         Slot {
             kept: Kept::Destroyed(mark),
         }

@@ -2,10 +2,10 @@ ghost use Rattle.std.specs.Prelude.{◌≡◌, ℕ, ◌<◌, OnOk, OnErr, IfOk, 
 ghost use Rattle.std.specs.Bool.{OnTrue, OnFalse};
 ghost use Rattle.end_table.specs.Place.{put, end_eq};
 ghost use Rattle.end_table.specs.Entries.{left_value, left_entry, ended_entry, learned, is_news, settled};
-ghost use Rattle.end_table.specs.Table.{entries, HasPlace, Puts, IsHere, IsHereAnd, IfHere, IsIdle, IsDestroyed, IfDestroyed, HasLeftUpTo, is_of_end};
+ghost use Rattle.end_table.specs.Table.{entries, HasPlace, Puts, IsHere, IsHereAnd, IfHere, IsIdle, IsDestroyed, IfDestroyed, HasLeftUpTo, IsOfEnd};
 ghost use Rattle.end_table.specs.declared.entry.Entry.TheVariants.{Nothing, Here, Left, Destroyed};
 
-use crate::slot::{Living, Slot};
+use crate::slot::{Living, Slot, leave};
 use crate::{Entry, HereView, Holder};
 use charlotte_calls::{EndId, Mark, Moving, NoMemory, Pid};
 use indexmap::IndexMap;
@@ -61,7 +61,7 @@ impl Table {
 
     /// Puts a slot at the place of an end. Without memory for a new place the slot comes back.
     fn store(&mut self, end: EndId, slot: Slot) -> Result<(), Slot>
-        requires { IsTrue (is_of_end end slot) }
+        requires { IsOfEnd end slot }
         ensures ok { OnOk result (Puts self.old self.new end slot) }
         ensures placed { OnOk result (HasPlace self.new end) }
         ensures same { OnErr result (self.new ≡ self.old) }
@@ -77,7 +77,7 @@ impl Table {
     /// Puts a slot at the place that the end has.
     fn keep(&mut self, end: EndId, slot: Slot)
         requires place { HasPlace self.old end }
-        requires own { IsTrue (is_of_end end slot) }
+        requires own { IsOfEnd end slot }
         ensures kept { Puts self.old self.new end slot }
     {
         match self.store(end, slot) {
@@ -97,6 +97,7 @@ impl Table {
     fn take(&mut self, end: EndId) -> Living
         requires { IsHere (entries self.old end) }
         ensures living { entries self.old end ≡ Here result }
+        ensures own { result.value.end ≡ end }
         ensures nothing { Puts self.old self.new end Nothing }
         ensures place { HasPlace self.new end }
     {
@@ -109,7 +110,7 @@ impl Table {
     /// What the kernel keeps of an end. `Nothing` comes exactly where there is no entry.
     pub fn look(&self, end: EndId) -> Entry
         ensures entry { result ≡ entries self.now end }
-        ensures own { IsTrue (is_of_end end result) }
+        ensures own { IsOfEnd end result }
     {
         match self.slots.get(&end) {
             Some(slot) => slot.look(),
@@ -161,42 +162,35 @@ impl Table {
 
     /// Takes out the value of an end that leaves to another kernel. It gains a hop and has this kernel in its trail.
     /// The entry becomes Left with these hops, or Nothing where the end is dead.
+    #[tactic(auto, using(crate::proofs::Change::puts_twice))]
     pub fn take_out(&mut self, end: EndId, to: u8) -> Moving
         requires { IsHereAnd (entries self.old end) IsIdle }
         ensures value { IfHere (entries self.old end) (λ v. result ≡ left_value self.old.kernel v.value) }
         ensures left { IfHere (entries self.old end) (λ v. Puts self.old self.new end (left_entry to v.value)) }
     {
         let mut moving = self.take(end).into_moving();
+        let slot = Slot::left(to, &moving);
         leave(&mut moving, self.kernel());
-        let slot = if moving.dead() {
-            Slot::nothing()
-        } else {
-            Slot::left(to, moving.hops())
-        };
         self.leave_behind(end, slot);
         moving
     }
 
     /// Destroys an end that is here. The entry becomes Destroyed with its mark, or Nothing where the end is dead.
+    #[tactic(auto, using(crate::proofs::Change::puts_twice))]
     pub fn end_here(&mut self, end: EndId) -> Mark
         requires { IsHere (entries self.old end) }
         ensures mark { IfHere (entries self.old end) (λ v. result ≡ v.value) }
         ensures ended { IfHere (entries self.old end) (λ v. Puts self.old self.new end (ended_entry v.value)) }
     {
         let mark = self.take(end).into_moving().destroy();
-        let slot = if mark.dead() {
-            Slot::nothing()
-        } else {
-            Slot::destroyed(mark)
-        };
-        self.leave_behind(end, slot);
+        self.leave_behind(end, Slot::ended(mark));
         mark
     }
 
     /// Puts what an end leaves behind at its place, and takes the place away where that is nothing.
     fn leave_behind(&mut self, end: EndId, slot: Slot)
         requires place { HasPlace self.old end }
-        requires own { IsTrue (is_of_end end slot) }
+        requires own { IsOfEnd end slot }
         ensures { Puts self.old self.new end slot }
     {
         if slot.is_nothing() {
@@ -271,13 +265,4 @@ impl Table {
             None => unreachable!(),
         }
     }
-}
-
-/// What happens to the value of an end that leaves this kernel.
-fn leave(moving: &mut Moving, kernel: u8)
-    requires { kernel < 8 }
-    ensures { moving.new ≡ left_value kernel moving.old }
-{
-    moving.set_hops(moving.hops().saturating_add(1));
-    moving.set_trail(moving.trail() | 1 << kernel);
 }

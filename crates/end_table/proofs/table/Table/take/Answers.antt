@@ -1,6 +1,6 @@
 use Rattle.std.proofs.Common.{refl, ◌∙◌, subst, sym}
 use Rattle.end_table.specs.Place.{end_eq}
-use Rattle.end_table.specs.Table.{IsHere, entries}
+use Rattle.end_table.specs.Table.{IsHere, IsOfEnd, entries}
 use Rattle.end_table.proofs.Change.{Changes-WritesThrough, Puts-Changes, HasPlace-Changes, IsWellKept-Puts, entries-some, entries-none}
 use Rattle.end_table.proofs.table.Table.take.Goals as goal
 
@@ -16,7 +16,7 @@ unreachable-requires c = subst IsHere (entries-none _ _ _ c.in-None.ensures.valu
 pub invariant_of-self : goal.invariant_of-self
 unfolding end_eq
 invariant_of-self c =
-    IsWellKept-Puts _ _ _ _ c.self.invariant (rw c.take.ensures.nothing refl)
+    IsWellKept-Puts _ _ _ _ c.self.invariant (rw c.take.ensures.nothing tt)
     (Puts-Changes _ _ _ _ _ (Changes-WritesThrough _ _ _ _ _ c.in-Some.ensures.value (c.get_mut.follows.holds c.take.new.self)))
 
 pub returns-clause-living : goal.returns-clause-living
@@ -33,3 +33,8 @@ pub returns-clause-place : goal.returns-clause-place
 unfolding end_eq
 returns-clause-place c =
     HasPlace-Changes _ _ _ _ _ (Changes-WritesThrough _ _ _ _ _ c.in-Some.ensures.value (c.get_mut.follows.holds c.take.new.self)) refl
+
+pub returns-clause-own : goal.returns-clause-own
+unfolding end_eq
+returns-clause-own c =
+    subst (IsOfEnd c.args.end) (entries-some _ _ _ _ c.in-Some.ensures.value ∙ c.take.ensures.living) (c.self.invariant.own c.args.end)
