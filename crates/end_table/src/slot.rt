@@ -1,11 +1,11 @@
 ghost use Rattle.std.specs.Prelude.{◌≡◌, ◌<◌, ◌↔◌, IsTrue};
 ghost use Rattle.end_table.specs.Entries.{gains_one, left_value, left_entry, ended_entry, settled, learned, is_news};
-ghost use Rattle.end_table.specs.Table.{IsHere, IfHere, IsDestroyed, IfDestroyed, HasLeftUpTo};
+ghost use Rattle.end_table.specs.Table.{IsHere, IfHere, IsDestroyed, IfDestroyed, HasLeftUpTo, is_held_by, is_owned_by};
 ghost use Rattle.end_table.specs.declared.entry.Entry.TheVariants.{Nothing, Here, Left, Destroyed};
 
 use crate::mark::with_hint;
 use crate::{Entry, HereView, Holder, Inward, Outward};
-use charlotte_calls::{Mark, Moving, MovingPicture};
+use charlotte_calls::{Mark, Moving, MovingPicture, Pid};
 use std::marker::Model;
 use std::mem;
 
@@ -47,6 +47,15 @@ impl Living {
             holder: self.holder,
             outward: self.outward.copy(),
             inward: self.inward,
+        }
+    }
+
+    fn is_owned_by(&self, p: Pid) -> bool
+        ensures { result ≡ is_held_by p self.now.holder }
+    {
+        match self.holder {
+            Holder::Owner(Pid(owner)) => owner == p.0,
+            Holder::EnclosedIn(_) => false,
         }
     }
 
@@ -268,6 +277,15 @@ impl Slot {
         match &mut self.kept {
             Kept::Destroyed(mark) => *mark = with_hint(*mark, hint),
             _ => unreachable!(),
+        }
+    }
+
+    pub(crate) fn is_owned_by(&self, p: Pid) -> bool
+        ensures { result ≡ is_owned_by p self.now }
+    {
+        match &self.kept {
+            Kept::Here(living) => living.is_owned_by(p),
+            _ => false,
         }
     }
 

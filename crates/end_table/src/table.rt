@@ -1,15 +1,17 @@
 ghost use Rattle.std.specs.Prelude.{◌≡◌, ℕ, ◌<◌, OnOk, OnErr, IfOk, IfErr, IsOk, IsTrue, ◌↔◌};
 ghost use Rattle.std.specs.Bool.{OnTrue, OnFalse};
+ghost use Rattle.std.specs.List.{IsDistinct};
+ghost use Rattle.std.specs.Map.{keys_of};
 ghost use Rattle.end_table.specs.Place.{put, end_eq};
 ghost use Rattle.end_table.specs.Entries.{left_value, left_entry, ended_entry, learned, is_news, settled};
-ghost use Rattle.end_table.specs.Table.{entries, HasPlace, Puts, IsHere, IsHereAnd, IfHere, IsIdle, IsDestroyed, IfDestroyed, HasLeftUpTo, IsOfEnd};
+ghost use Rattle.end_table.specs.Table.{entries, HasPlace, Puts, IsHere, IsHereAnd, IfHere, IsIdle, IsDestroyed, IfDestroyed, HasLeftUpTo, IsOfEnd, AreOwnedBy, owned_ends};
 ghost use Rattle.end_table.specs.declared.entry.Entry.TheVariants.{Nothing, Here, Left, Destroyed};
 
 use crate::slot::{Living, Slot, leave};
 use crate::{Entry, HereView, Holder};
 use charlotte_calls::{EndId, Mark, Moving, NoMemory, Pid};
 use indexmap::IndexMap;
-use std::alloc::Global;
+use std::alloc::{AllocError, Global};
 use std::marker::Model;
 
 /// What one kernel keeps of each end. Contracts see the number of the kernel and the entry at each place.
@@ -264,5 +266,27 @@ impl Table {
             Some(slot) => slot.learn(kernel, hops),
             None => unreachable!(),
         }
+    }
+
+    /// The ends that a process owns, each once, in order of maker, count and side.
+    pub fn owned_by(&self, p: Pid) -> Result<Vec<EndId>, NoMemory>
+        ensures { IfOk result (λ ends. AreOwnedBy (entries self.now) p ends.items) }
+    {
+        let mut ends = self.owned_anyhow(p)?;
+        ends.sort_unstable();
+        Ok(ends)
+    }
+
+    /// The ends that a process owns, in the order of their places.
+    #[tactic(auto, unfolding(crate::specs::Place::end_eq))]
+    fn owned_anyhow(&self, p: Pid) -> Result<Vec<EndId>, AllocError>
+        ensures ends { IfOk result (λ ends. ends.items ≡ owned_ends p self.now.places) }
+        ensures distinct { IsDistinct end_eq (keys_of self.now.places) }
+    {
+        self.slots
+            .iter()
+            .filter(|(_, slot)| slot.is_owned_by(p))
+            .map(|(end, _)| *end)
+            .collect(*self.slots.allocator())
     }
 }
