@@ -10,7 +10,7 @@ use Rattle.end_table.specs.declared.entry.HereView.{HereView}
 use Rattle.charlotte_calls.specs.declared.picture.MovingPicture.{MovingPicture}
 use Rattle.end_table.specs.Entries.{learned, is_news}
 use Rattle.end_table.specs.Place.{end_eq, put}
-use Rattle.end_table.specs.Table.{TableView, entries, HasPlace, Puts, IsWellKept, IsOfEnd, IsHere, IfHere, IsDestroyed, IfDestroyed}
+use Rattle.end_table.specs.Table.{TableView, entries, HasPlace, Puts, Clears, IsWellKept, IsOfEnd, IsHere, IfHere, IsDestroyed, IfDestroyed}
 use Rattle.end_table.proofs.EndEq.{end_eq-same, end_eq-refl, put-at, put-other, put-put}
 
 -- the entry that a map has at a key
@@ -21,37 +21,61 @@ entry_in o = unwrap_or o Nothing
 abbrev pub Changes : List (EndId × Entry) → List (EndId × Entry) → EndId → Option Entry → Type 0
 Changes old new e w = (q : EndId) → lookup (end_eq q) new ≡ cond (end_eq e q) w (lookup (end_eq q) old)
 
-module _ (k : ℕ) (old new : List (EndId × Entry)) (e : EndId) (w : Option Entry) (h : Changes old new e w) where
-  pub Puts-Changes : Puts (record { kernel = k; places = old }) (record { kernel = k; places = new }) e (entry_in w)
-  unfolding entries HasPlace put
-  Puts-Changes =
-      record {
-        after = λ i q. (ap entry_in (h q) ∙ chosen (end_eq e q) (lookup (end_eq q) old)) i;
-        others = λ q apart. ap entry_in (other q apart);
-        places = λ q apart has. ap is_some (other q apart) ∙ has;
-        kernel = refl;
-      }
+module _ (old new : List (EndId × Entry)) (e : EndId) (w : Option Entry) (h : Changes old new e w) where
+  entry-Changes : (q : EndId) → entry_in (lookup (end_eq q) new) ≡ cond (end_eq e q) (entry_in w) (entry_in (lookup (end_eq q) old))
+  entry-Changes q = ap entry_in (h q) ∙ chosen (end_eq e q) (lookup (end_eq q) old)
     where
       chosen : (b : Bool) (o : Option Entry) → entry_in (cond b w o) ≡ cond b (entry_in w) (entry_in o)
       chosen true o = refl
       chosen false o = refl
-      other : (q : EndId) → end_eq e q ≡ false → lookup (end_eq q) new ≡ lookup (end_eq q) old
-      other q apart = h q ∙ ap (λ b. cond b w (lookup (end_eq q) old)) apart
 
-  pub HasPlace-Changes : IsTrue (is_some w) → HasPlace (record { kernel = k; places = new }) e
-  unfolding HasPlace
-  HasPlace-Changes there = ap is_some (h e ∙ ap (λ b. cond b w (lookup (end_eq e) old)) (end_eq-refl e)) ∙ there
+  other-Changes : (q : EndId) → end_eq e q ≡ false → lookup (end_eq q) new ≡ lookup (end_eq q) old
+  other-Changes q apart = h q ∙ ap (λ b. cond b w (lookup (end_eq q) old)) apart
+
+-- a place that has an entry in the map afterwards is put
+pub Puts-Changes : (k : ℕ) (old new : List (EndId × Entry)) (e : EndId) (x : Entry) → Changes old new e (Some x) → Puts (record { kernel = k; places = old }) (record { kernel = k; places = new }) e x
+unfolding entries HasPlace put
+Puts-Changes k old new e x h =
+    record {
+      after = λ i q. entry-Changes old new e (Some x) h q i;
+      others = λ q apart. ap entry_in (other-Changes old new e (Some x) h q apart);
+      placed = ap is_some (h e ∙ ap (λ b. cond b (Some x) (lookup (end_eq e) old)) (end_eq-refl e));
+      places = λ q has. ap is_some (h q) ∙ kept (end_eq e q) (lookup (end_eq q) old) has;
+      kernel = refl;
+    }
+  where
+    kept : (b : Bool) (o : Option Entry) → is_some o ≡ true → is_some (cond b (Some x) o) ≡ true
+    kept true o has = refl
+    kept false o has = has
+
+-- a place that the map loses is cleared
+pub Clears-Changes : (k : ℕ) (old new : List (EndId × Entry)) (e : EndId) → Changes old new e None → Clears (record { kernel = k; places = old }) (record { kernel = k; places = new }) e
+unfolding entries HasPlace put
+Clears-Changes k old new e h =
+    record {
+      after = λ i q. entry-Changes old new e None h q i;
+      others = λ q apart. ap entry_in (other-Changes old new e None h q apart);
+      places = λ q apart has. ap is_some (other-Changes old new e None h q apart) ∙ has;
+      kernel = refl;
+    }
 
 -- a table stays well kept where an entry of its own end is put
+module _ (old new : TableView) (e : EndId) (x : Entry) (kept : IsWellKept old) (own : IsOfEnd e x)
+    (kernel : new.kernel ≡ old.kernel) (after : entries new ≡ put (entries old) e x) (others : (q : EndId) → end_eq e q ≡ false → entries new q ≡ entries old q) where
+  IsWellKept-put : IsWellKept new
+  IsWellKept-put = record { kernel = subst (λ k. k < 8) (sym kernel) kept.kernel; own = λ q. by (end_eq e q) q refl }
+    where
+      by : (b : Bool) (q : EndId) → end_eq e q ≡ b → IsOfEnd q (entries new q)
+      by true q same =
+          let at : entries new e ≡ x = ap (λ t. t e) after ∙ put-at (entries old) e x in
+          subst (λ z. IsOfEnd z (entries new z)) (end_eq-same e q same) (subst (λ y. IsOfEnd e y) (sym at) own)
+      by false q apart = subst (λ y. IsOfEnd q y) (sym (others q apart)) (kept.own q)
+
 pub IsWellKept-Puts : (old new : TableView) (e : EndId) (x : Entry) → IsWellKept old → IsOfEnd e x → Puts old new e x → IsWellKept new
-IsWellKept-Puts old new e x kept own puts =
-    record { kernel = subst (λ k. k < 8) (sym puts.kernel) kept.kernel; own = λ q. by (end_eq e q) q refl }
-  where
-    by : (b : Bool) (q : EndId) → end_eq e q ≡ b → IsOfEnd q (entries new q)
-    by true q same =
-        let at : entries new e ≡ x = ap (λ t. t e) puts.after ∙ put-at (entries old) e x in
-        subst (λ z. IsOfEnd z (entries new z)) (end_eq-same e q same) (subst (λ y. IsOfEnd e y) (sym at) own)
-    by false q apart = subst (λ y. IsOfEnd q y) (sym (puts.others q apart)) (kept.own q)
+IsWellKept-Puts old new e x kept own puts = IsWellKept-put old new e x kept own puts.kernel puts.after puts.others
+
+pub IsWellKept-Clears : (old new : TableView) (e : EndId) → IsWellKept old → Clears old new e → IsWellKept new
+IsWellKept-Clears old new e kept clears = IsWellKept-put old new e Nothing kept tt clears.kernel clears.after clears.others
 
 -- a table without places has no entry
 pub entries-empty : (t : TableView) → t.places ≡ [] → entries t ≡ (λ _. Nothing)
@@ -81,25 +105,14 @@ entries-none k places e none = sym (ap entry_in none)
 pub Changes-WritesThrough : {S : Type 0} (m n : HashMap EndId Entry S) (e : EndId) (x w : Entry) → Some x ≡ get_by (end_eq e) m → WritesThrough end_eq (end_eq e) m w n → Changes m.entries n.entries e (Some w)
 Changes-WritesThrough m n e x w some h = (h.3 (sym (ap is_some some))).0
 
--- to put `Nothing` at an end without a place changes nothing
-pub put-no_place : (t : TableView) (e : EndId) → (HasPlace t e → ⊥) → put (entries t) e Nothing ≡ entries t
-unfolding put entries HasPlace
-put-no_place t e none = λ i q. by (end_eq e q) q refl i
+-- to put `Nothing` at an end without an entry changes nothing
+pub put-nothing : (t : EndId → Entry) (e : EndId) → t e ≡ Nothing → put t e Nothing ≡ t
+unfolding put
+put-nothing t e nothing = λ i q. by (end_eq e q) q refl i
   where
-    absent : (o : Option Entry) → (is_some o ≡ true → ⊥) → entry_in o ≡ Nothing
-    absent None not = refl
-    absent (Some x) not = absurd (not refl)
-    by : (b : Bool) (q : EndId) → end_eq e q ≡ b → cond b Nothing (entries t q) ≡ entries t q
-    by true q same = subst (λ z. Nothing ≡ entries t z) (end_eq-same e q same) (sym (absent (lookup (end_eq e) t.places) none))
+    by : (b : Bool) (q : EndId) → end_eq e q ≡ b → cond b Nothing (t q) ≡ t q
+    by true q same = subst (λ z. Nothing ≡ t z) (end_eq-same e q same) (sym nothing)
     by false q apart = refl
-
--- where the end has a place afterwards, every place is kept
-pub HasPlace-Puts : (old new : TableView) (e : EndId) (x : Entry) → Puts old new e x → HasPlace new e → (q : EndId) → HasPlace old q → HasPlace new q
-HasPlace-Puts old new e x puts there q has = by (end_eq e q) refl
-  where
-    by : (b : Bool) → end_eq e q ≡ b → HasPlace new q
-    by true same = subst (HasPlace new) (end_eq-same e q same) there
-    by false apart = puts.places q apart has
 
 -- the later of two entries put at one end stands
 pub puts_twice : (old middle new : TableView) (e : EndId) (x y : Entry) → Puts old middle e x → Puts middle new e y → Puts old new e y
@@ -107,7 +120,8 @@ puts_twice old middle new e x y first second =
     record {
       after = second.after ∙ ap (λ t. put t e y) first.after ∙ put-put (entries old) e x y;
       others = λ q apart. second.others q apart ∙ first.others q apart;
-      places = λ q apart has. second.places q apart (first.places q apart has);
+      placed = second.placed;
+      places = λ q has. second.places q (first.places q has);
       kernel = second.kernel ∙ first.kernel;
     }
 
@@ -117,7 +131,7 @@ module _ (k : ℕ) (old new : List (EndId × Entry)) (e : EndId) (x y : Entry) (
   IfHere-Puts f is = subst (λ z. IfHere z (λ v. Puts (record { kernel = k; places = old }) (record { kernel = k; places = new }) e (f v))) (sym (entries-some k old e x some)) (by x is)
     where
       by : (x : Entry) → IfHere x (λ v. y ≡ f v) → IfHere x (λ v. Puts (record { kernel = k; places = old }) (record { kernel = k; places = new }) e (f v))
-      by (entry.Here v) is = subst (Puts (record { kernel = k; places = old }) (record { kernel = k; places = new }) e) is (Puts-Changes k old new e (Some y) h)
+      by (entry.Here v) is = subst (Puts (record { kernel = k; places = old }) (record { kernel = k; places = new }) e) is (Puts-Changes k old new e y h)
       by entry.Nothing is = tt
       by (entry.Left to hops) is = tt
       by (entry.Destroyed m) is = tt
@@ -126,7 +140,7 @@ module _ (k : ℕ) (old new : List (EndId × Entry)) (e : EndId) (x y : Entry) (
   IfDestroyed-Puts f is = subst (λ z. IfDestroyed z (λ m. Puts (record { kernel = k; places = old }) (record { kernel = k; places = new }) e (f m))) (sym (entries-some k old e x some)) (by x is)
     where
       by : (x : Entry) → IfDestroyed x (λ m. y ≡ f m) → IfDestroyed x (λ m. Puts (record { kernel = k; places = old }) (record { kernel = k; places = new }) e (f m))
-      by (entry.Destroyed m) is = subst (Puts (record { kernel = k; places = old }) (record { kernel = k; places = new }) e) is (Puts-Changes k old new e (Some y) h)
+      by (entry.Destroyed m) is = subst (Puts (record { kernel = k; places = old }) (record { kernel = k; places = new }) e) is (Puts-Changes k old new e y h)
       by entry.Nothing is = tt
       by (entry.Left to hops) is = tt
       by (entry.Here v) is = tt
@@ -158,3 +172,21 @@ IsOfEnd-hinted (entry.Destroyed m) y e hint there own is = subst (IsOfEnd e) (sy
 IsOfEnd-hinted entry.Nothing y e hint there own is = absurd there
 IsOfEnd-hinted (entry.Left to n) y e hint there own is = absurd there
 IsOfEnd-hinted (entry.Here v) y e hint there own is = absurd there
+
+-- an end with an entry has a place
+pub HasPlace-entry : (t : TableView) (e : EndId) → (entries t e ≡ Nothing → ⊥) → HasPlace t e
+unfolding entries HasPlace
+HasPlace-entry t e some = by (lookup (end_eq e) t.places) some
+  where
+    by : (o : Option Entry) → (entry_in o ≡ Nothing → ⊥) → is_some o ≡ true
+    by None some = absurd (some refl)
+    by (Some x) some = refl
+
+-- and one without a place has none
+pub entries-no_place : (t : TableView) (e : EndId) → (HasPlace t e → ⊥) → entries t e ≡ Nothing
+unfolding entries HasPlace
+entries-no_place t e none = by (lookup (end_eq e) t.places) none
+  where
+    by : (o : Option Entry) → (is_some o ≡ true → ⊥) → entry_in o ≡ Nothing
+    by None none = refl
+    by (Some x) none = absurd (none refl)

@@ -1,17 +1,11 @@
 -- The entries of a table, and what a call changes of them.
-use Rattle.std.specs.Prelude.{◌≡◌, ℕ, nat_eq, ◌<◌, ◌≤◌, ◌↔◌, Bool, false, List, filter, Contains, IsSome, unwrap_or}
-use Rattle.std.specs.List.Sorted.{IsStrictlySortedBy}
-use Rattle.std.specs.Map.{lookup, keys_of}
-use Rattle.std.specs.declared.cmp.Ordering.{Ordering}
+use Rattle.std.specs.Prelude.{◌≡◌, ℕ, ◌<◌, ◌≤◌, false, List, IsSome, unwrap_or}
+use Rattle.std.specs.Map.{lookup}
 use Rattle.charlotte_calls.specs.declared.names.EndId.{EndId}
-use Rattle.charlotte_calls.specs.contracts.names.EndIdOrd.TheImpl as derived
-use Rattle.charlotte_calls.specs.declared.names.Pid.{Pid}
 use Rattle.charlotte_calls.specs.declared.picture.MovingPicture.{MovingPicture}
 use Rattle.end_table.specs.declared.entry.Entry.{Entry}
 use Rattle.end_table.specs.declared.entry.Entry.TheVariants as entry
 use Rattle.end_table.specs.declared.entry.HereView.{HereView}
-use Rattle.end_table.specs.declared.entry.Holder.{Holder}
-use Rattle.end_table.specs.declared.entry.Holder.TheVariants as holder
 use Rattle.end_table.specs.declared.entry.Outward.TheVariants as outward
 use Rattle.end_table.specs.declared.entry.Inward.TheVariants as inward
 use Rattle.end_table.specs.Place.{end_eq, put}
@@ -74,32 +68,21 @@ pub record IsWellKept (t : TableView) : Type 0 where
 unfoldable pub HasPlace : TableView → EndId → Type 0
 HasPlace t end = IsSome (lookup (end_eq end) t.places)
 
--- this entry is put at an end; every other end keeps its entry and its place, and the kernel's number stays
+-- every place is kept
+abbrev pub KeepsPlaces : TableView → TableView → Type 0
+KeepsPlaces old new = (q : EndId) → HasPlace old q → HasPlace new q
+
+-- this entry is put at an end: every other end keeps its entry, every place is kept, and the kernel's number stays
 pub record Puts (old new : TableView) (end : EndId) (x : Entry) : Type 0 where
   pub after : entries new ≡ put (entries old) end x
   pub others : (q : EndId) → end_eq end q ≡ false → entries new q ≡ entries old q
-  pub places : (q : EndId) → end_eq end q ≡ false → HasPlace old q → HasPlace new q
+  pub placed : HasPlace new end
+  pub places : KeepsPlaces old new
   pub kernel : new.kernel ≡ old.kernel
 
--- the holder is this process
-abbrev pub is_held_by : Pid → Holder → Bool
-is_held_by p (holder.Owner owner) = nat_eq owner.0 p.0
-is_held_by p (holder.EnclosedIn end) = false
-
--- the entry is Here, and this process owns it
-abbrev pub is_owned_by : Pid → Entry → Bool
-is_owned_by p (entry.Here v) = is_held_by p v.holder
-is_owned_by p _ = false
-
--- the ends at these places that a process owns
-abbrev pub owned_ends : Pid → List (EndId × Entry) → List EndId
-owned_ends p places = keys_of (filter (λ e. is_owned_by p e.1) places)
-
--- the order of ends, as `<` of ends tells it: by maker, count and side
-unfoldable pub end_cmp : EndId → EndId → Ordering
-end_cmp = (derived.ghosts).cmp
-
--- these are the ends that a process owns, each once, in their order
-pub record AreOwnedBy (table : EndId → Entry) (p : Pid) (ends : List EndId) : Type 0 where
-  pub in_order : IsStrictlySortedBy end_cmp ends
-  pub owned : (q : EndId) → Contains ends q ↔ IsHereAnd (table q) (λ v. v.holder ≡ holder.Owner p)
+-- the entry and the place of an end are taken away: every other end keeps both, and the kernel's number stays
+pub record Clears (old new : TableView) (end : EndId) : Type 0 where
+  pub after : entries new ≡ put (entries old) end entry.Nothing
+  pub others : (q : EndId) → end_eq end q ≡ false → entries new q ≡ entries old q
+  pub places : (q : EndId) → end_eq end q ≡ false → HasPlace old q → HasPlace new q
+  pub kernel : new.kernel ≡ old.kernel

@@ -2,7 +2,6 @@
 #![tactic(auto)]
 
 mod entry;
-mod mark;
 mod slot;
 mod table;
 

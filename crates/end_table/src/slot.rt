@@ -1,9 +1,9 @@
-ghost use Rattle.std.specs.Prelude.{◌≡◌, ◌<◌, ◌↔◌, IsTrue};
+ghost use Rattle.std.specs.Prelude.{◌≡◌, is_some, ◌<◌, ◌↔◌, IsTrue};
 ghost use Rattle.end_table.specs.Entries.{gains_one, left_value, left_entry, ended_entry, settled, learned, is_news};
-ghost use Rattle.end_table.specs.Table.{IsHere, IfHere, IsDestroyed, IfDestroyed, HasLeftUpTo, is_held_by, is_owned_by};
+ghost use Rattle.end_table.specs.Table.{IsHere, IfHere, IsDestroyed, IfDestroyed, HasLeftUpTo};
+ghost use Rattle.end_table.specs.Owned.{is_owner, owned};
 ghost use Rattle.end_table.specs.declared.entry.Entry.TheVariants.{Nothing, Here, Left, Destroyed};
 
-use crate::mark::with_hint;
 use crate::{Entry, HereView, Holder, Inward, Outward};
 use charlotte_calls::{Mark, Moving, MovingPicture, Pid};
 use std::marker::Model;
@@ -51,10 +51,10 @@ impl Living {
     }
 
     fn is_owned_by(&self, p: Pid) -> bool
-        ensures { result ≡ is_held_by p self.now.holder }
+        ensures { result ≡ is_owner p self.now.holder }
     {
         match self.holder {
-            Holder::Owner(Pid(owner)) => owner == p.0,
+            Holder::Owner(owner) => p.0 == owner.0,
             Holder::EnclosedIn(_) => false,
         }
     }
@@ -275,13 +275,13 @@ impl Slot {
         ensures { IfDestroyed self.old (λ m. self.new ≡ Destroyed (record m { hint = hint })) }
     {
         match &mut self.kept {
-            Kept::Destroyed(mark) => *mark = with_hint(*mark, hint),
+            Kept::Destroyed(mark) => mark.set_hint(hint),
             _ => unreachable!(),
         }
     }
 
     pub(crate) fn is_owned_by(&self, p: Pid) -> bool
-        ensures { result ≡ is_owned_by p self.now }
+        ensures { result ≡ is_some (owned p self.now) }
     {
         match &self.kept {
             Kept::Here(living) => living.is_owned_by(p),

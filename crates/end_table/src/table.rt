@@ -1,10 +1,12 @@
-ghost use Rattle.std.specs.Prelude.{◌≡◌, ℕ, ◌<◌, OnOk, OnErr, IfOk, IfErr, IsOk, IsTrue, ◌↔◌};
+ghost use Rattle.std.specs.Prelude.{◌≡◌, ◌<◌, false, OnOk, OnErr, IfOk, IfErr, IsOk, IsTrue, ◌↔◌};
 ghost use Rattle.std.specs.Bool.{OnTrue, OnFalse};
 ghost use Rattle.std.specs.List.{IsDistinct};
 ghost use Rattle.std.specs.Map.{keys_of};
 ghost use Rattle.end_table.specs.Place.{put, end_eq};
 ghost use Rattle.end_table.specs.Entries.{left_value, left_entry, ended_entry, learned, is_news, settled};
-ghost use Rattle.end_table.specs.Table.{entries, HasPlace, Puts, IsHere, IsHereAnd, IfHere, IsIdle, IsDestroyed, IfDestroyed, HasLeftUpTo, IsOfEnd, AreOwnedBy, owned_ends};
+ghost use Rattle.end_table.specs.Table.{entries, HasPlace, Puts, IsHere, IsHereAnd, IfHere, IsIdle, IsDestroyed, IfDestroyed, HasLeftUpTo, IsOfEnd, KeepsPlaces, Clears};
+ghost use Rattle.end_table.specs.Owned.{AreEndsOf};
+ghost use Rattle.end_table.specs.Slot.{owned_ends};
 ghost use Rattle.end_table.specs.declared.entry.Entry.TheVariants.{Nothing, Here, Left, Destroyed};
 
 use crate::slot::{Living, Slot, leave};
@@ -65,7 +67,6 @@ impl Table {
     fn store(&mut self, end: EndId, slot: Slot) -> Result<(), Slot>
         requires { IsOfEnd end slot }
         ensures ok { OnOk result (Puts self.old self.new end slot) }
-        ensures placed { OnOk result (HasPlace self.new end) }
         ensures same { OnErr result (self.new ≡ self.old) }
         ensures back { IfErr result (λ s. s ≡ slot) }
         ensures succeeds { HasPlace self.old end → IsOk result }
@@ -80,7 +81,7 @@ impl Table {
     fn keep(&mut self, end: EndId, slot: Slot)
         requires place { HasPlace self.old end }
         requires own { IsOfEnd end slot }
-        ensures kept { Puts self.old self.new end slot }
+        ensures { Puts self.old self.new end slot }
     {
         match self.store(end, slot) {
             Ok(()) => {}
@@ -90,7 +91,7 @@ impl Table {
 
     /// Takes the place of an end away. The last place comes into its stead, so no others move.
     fn remove(&mut self, end: EndId)
-        ensures { Puts self.old self.new end Nothing }
+        ensures { Clears self.old self.new end }
     {
         self.slots.swap_remove(&end);
     }
@@ -101,7 +102,6 @@ impl Table {
         ensures living { entries self.old end ≡ Here result }
         ensures own { result.value.end ≡ end }
         ensures nothing { Puts self.old self.new end Nothing }
-        ensures place { HasPlace self.new end }
     {
         match self.slots.get_mut(&end) {
             Some(slot) => slot.take(),
@@ -131,7 +131,7 @@ impl Table {
     pub fn reserve(&mut self, end: EndId) -> Result<(), NoMemory>
         ensures place { OnOk result (HasPlace self.new end) }
         ensures entries { entries self.new ≡ entries self.old }
-        ensures places { (q : EndId) → HasPlace self.old q → HasPlace self.new q }
+        ensures places { KeepsPlaces self.old self.new }
         ensures kernel { self.new.kernel ≡ self.old.kernel }
         ensures err { OnErr result (self.new ≡ self.old) }
     {
@@ -173,7 +173,7 @@ impl Table {
         let mut moving = self.take(end).into_moving();
         let slot = Slot::left(to, &moving);
         leave(&mut moving, self.kernel());
-        self.leave_behind(end, slot);
+        self.keep(end, slot);
         moving
     }
 
@@ -185,21 +185,8 @@ impl Table {
         ensures ended { IfHere (entries self.old end) (λ v. Puts self.old self.new end (ended_entry v.value)) }
     {
         let mark = self.take(end).into_moving().destroy();
-        self.leave_behind(end, Slot::ended(mark));
+        self.keep(end, Slot::ended(mark));
         mark
-    }
-
-    /// Puts what an end leaves behind at its place, and takes the place away where that is nothing.
-    fn leave_behind(&mut self, end: EndId, slot: Slot)
-        requires place { HasPlace self.old end }
-        requires own { IsOfEnd end slot }
-        ensures { Puts self.old self.new end slot }
-    {
-        if slot.is_nothing() {
-            self.remove(end);
-        } else {
-            self.keep(end, slot);
-        }
     }
 
     /// Sets the hint of the mark of a destroyed end.
@@ -216,15 +203,35 @@ impl Table {
     /// Makes the entry of a destroyed end Nothing.
     pub fn erase(&mut self, end: EndId)
         requires { IsDestroyed (entries self.old end) }
-        ensures { Puts self.old self.new end Nothing }
+        ensures { Clears self.old self.new end }
     {
         self.remove(end);
+    }
+
+    /// Gives back the place of an end that has no entry.
+    pub fn release(&mut self, end: EndId)
+        ensures entries { entries self.new ≡ entries self.old }
+        ensures places { (q : EndId) → end_eq end q ≡ false → HasPlace self.old q → HasPlace self.new q }
+        ensures kernel { self.new.kernel ≡ self.old.kernel }
+    {
+        if self.has_nothing(end) {
+            self.remove(end);
+        }
+    }
+
+    fn has_nothing(&self, end: EndId) -> bool
+        ensures { IsTrue result ↔ (entries self.now end ≡ Nothing) }
+    {
+        match self.slots.get(&end) {
+            Some(slot) => slot.is_nothing(),
+            None => true,
+        }
     }
 
     /// Removes a Left entry whose hops are at most `upto`, and answers whether there was one.
     pub fn retire(&mut self, end: EndId, upto: u32) -> bool
         ensures found { IsTrue result ↔ HasLeftUpTo upto (entries self.old end) }
-        ensures retired { OnTrue result (Puts self.old self.new end Nothing) }
+        ensures retired { OnTrue result (Clears self.old self.new end) }
         ensures kept { OnFalse result (self.new ≡ self.old) }
     {
         if self.has_left_up_to(end, upto) {
@@ -270,7 +277,7 @@ impl Table {
 
     /// The ends that a process owns, each once, in order of maker, count and side.
     pub fn owned_by(&self, p: Pid) -> Result<Vec<EndId>, NoMemory>
-        ensures { IfOk result (λ ends. AreOwnedBy (entries self.now) p ends.items) }
+        ensures { IfOk result (λ ends. AreEndsOf p (entries self.now) ends.items) }
     {
         let mut ends = self.owned_anyhow(p)?;
         ends.sort_unstable();

@@ -1,6 +1,5 @@
 use Rattle.end_table.specs.Place.{end_eq}
-use Rattle.end_table.proofs.Change.{Puts-Changes, HasPlace-Changes, IsWellKept-Puts, no-HasPlace}
-use Rattle.std.proofs.Common.{refl}
+use Rattle.end_table.proofs.Change.{Puts-Changes, IsWellKept-Puts, no-HasPlace}
 use Rattle.end_table.proofs.table.Table.store.Goals as goal
 
 pub invariant_of-self : goal.invariant_of-self
@@ -11,10 +10,6 @@ invariant_of-self c =
 pub returns-in-Ok-clause-ok : goal.returns-in-Ok-clause-ok
 unfolding end_eq
 returns-in-Ok-clause-ok c = rw (← c.self.view_is) (Puts-Changes _ _ _ _ _ c.in-Ok.ensures.updates.0)
-
-pub returns-in-Ok-clause-placed : goal.returns-in-Ok-clause-placed
-unfolding end_eq
-returns-in-Ok-clause-placed c = HasPlace-Changes _ _ _ _ _ c.in-Ok.ensures.updates.0 refl
 
 pub returns-clause-succeeds : goal.returns-clause-succeeds
 unfolding end_eq

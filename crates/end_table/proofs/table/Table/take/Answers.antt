@@ -1,7 +1,7 @@
-use Rattle.std.proofs.Common.{refl, ◌∙◌, subst, sym}
+use Rattle.std.proofs.Common.{◌∙◌, subst, sym}
 use Rattle.end_table.specs.Place.{end_eq}
 use Rattle.end_table.specs.Table.{IsHere, IsOfEnd, entries}
-use Rattle.end_table.proofs.Change.{Changes-WritesThrough, Puts-Changes, HasPlace-Changes, IsWellKept-Puts, entries-some, entries-none}
+use Rattle.end_table.proofs.Change.{Changes-WritesThrough, Puts-Changes, IsWellKept-Puts, entries-some, entries-none}
 use Rattle.end_table.proofs.table.Table.take.Goals as goal
 
 pub take-requires : goal.take-requires
@@ -28,11 +28,6 @@ unfolding end_eq
 returns-clause-nothing c =
     rw (← c.self.view_is, ← c.take.ensures.nothing)
     (Puts-Changes _ _ _ _ _ (Changes-WritesThrough _ _ _ _ _ c.in-Some.ensures.value (c.get_mut.follows.holds c.take.new.self)))
-
-pub returns-clause-place : goal.returns-clause-place
-unfolding end_eq
-returns-clause-place c =
-    HasPlace-Changes _ _ _ _ _ (Changes-WritesThrough _ _ _ _ _ c.in-Some.ensures.value (c.get_mut.follows.holds c.take.new.self)) refl
 
 pub returns-clause-own : goal.returns-clause-own
 unfolding end_eq
