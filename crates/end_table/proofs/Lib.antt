@@ -1,1 +1,3 @@
 pub mod EndEq
+pub mod Change
+pub mod Owned

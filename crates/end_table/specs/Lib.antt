@@ -1,2 +1,5 @@
 pub mod Entries
 pub mod Place
+pub mod Owned
+pub mod Table
+pub mod Slot

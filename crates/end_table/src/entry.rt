@@ -1,3 +1,5 @@
+ghost use Rattle.std.specs.Prelude.{◌≡◌};
+
 use charlotte_calls::{Bytes, EndId, Ends, Mark, MovingPicture, Pid};
 
 /// Who holds an end that is here.
@@ -25,6 +27,24 @@ pub enum Outward {
     },
     /// The send is over, and its report was not given yet.
     Unreported,
+}
+
+impl Outward {
+    /// An equal value.
+    pub fn copy(&self) -> Outward
+        ensures { result ≡ self.now }
+    {
+        match self {
+            Outward::Idle => Outward::Idle,
+            Outward::Waiting { n, bytes, enclosed } => Outward::Waiting {
+                n: *n,
+                bytes: bytes.copy(),
+                enclosed: enclosed.copy(),
+            },
+            Outward::Matched { n } => Outward::Matched { n: *n },
+            Outward::Unreported => Outward::Unreported,
+        }
+    }
 }
 
 /// The activity inward on an end: a receive.

@@ -2,5 +2,8 @@
 #![tactic(auto)]
 
 mod entry;
+mod slot;
+mod table;
 
 pub use entry::{Entry, HereView, Holder, Inward, Outward};
+pub use table::{NotStored, Table};

@@ -1,0 +1,18 @@
+use Rattle.std.proofs.Common.{ap, sym, ◌∙◌, subst, IsTrue}
+use Rattle.end_table.specs.Place.{end_eq}
+use Rattle.end_table.specs.Table.{entries, IsOfEnd}
+use Rattle.end_table.proofs.Change.{entry_in}
+use Rattle.end_table.proofs.table.Table.look.Goals as goal
+
+pub returns-in-Some-clause-entry : goal.returns-in-Some-clause-entry
+unfolding end_eq entries
+returns-in-Some-clause-entry c = rw (← c.self.view_is) (c.look.ensures ∙ ap entry_in c.in-Some.ensures.value)
+
+pub returns-in-Some-clause-own : goal.returns-in-Some-clause-own
+unfolding end_eq entries
+returns-in-Some-clause-own c =
+    subst (λ x. IsOfEnd c.args.end x) (sym (c.look.ensures ∙ ap entry_in c.in-Some.ensures.value)) (c.self.invariant.own c.args.end)
+
+pub returns-in-None-clause-entry : goal.returns-in-None-clause-entry
+unfolding end_eq entries
+returns-in-None-clause-entry c = rw (← c.self.view_is) (ap entry_in c.in-None.ensures.value)
