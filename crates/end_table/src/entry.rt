@@ -74,7 +74,7 @@ pub struct HereView {
 pub enum Entry {
     Nothing,
     Here(HereView),
-    /// The end has left to another kernel, for the time that `hops` counts.
+    /// The end has left to kernel `to`, and had this many hops then.
     Left { to: u8, hops: u32 },
     /// The end was destroyed here.
     Destroyed(Mark),

@@ -23,20 +23,13 @@ use Rattle.end_table.specs.declared.entry.Inward.{Inward}
 use Rattle.end_table.specs.declared.entry.Inward.TheVariants as inward
 use Rattle.end_table.specs.declared.entry.Outward.{Outward}
 use Rattle.end_table.specs.declared.entry.Outward.TheVariants as outward
+use Rattle.kernel_step.specs.declared.phase.Phase.{Phase}
+use Rattle.kernel_step.specs.declared.phase.Phase.TheVariants.{Running, Waiting, Cancelling, Exited}
 use Rattle.end_table.specs.Place.{put}
 use Rattle.kernel_step.specs.Progress.{Progress, means}
 use Rattle.kernel_step.specs.Actions.{ends}
 use Rattle.kernel_step.specs.Rows.{row}
 use Rattle.kernel_step.specs.Calls.{owned, refusal, made_end, makes, starts_send, encloses, posts, withdraws_send, withdraws_receive, ends_each}
-
--- what a process is doing
-pub data Phase : Type 0 where
-  Running : Phase
-  -- it is in a Wait whose answer does not stand
-  Waiting : Phase
-  -- it is in a Cancel of a receive on this end whose answer does not stand
-  Cancelling : EndId → Phase
-  Exited : Phase
 
 pub record Process : Type 0 where
   pub phase : Phase

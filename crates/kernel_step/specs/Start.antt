@@ -12,7 +12,8 @@ use Rattle.end_table.specs.declared.entry.Entry.TheVariants as entry
 use Rattle.end_table.specs.declared.entry.Holder.TheVariants as holder
 use Rattle.end_table.specs.Place.{put}
 use Rattle.kernel_step.specs.Calls.{made_end}
-use Rattle.kernel_step.specs.Kernel.{Kernel, Running}
+use Rattle.kernel_step.specs.Kernel.{Kernel}
+use Rattle.kernel_step.specs.declared.phase.Phase.TheVariants.{Running}
 
 -- the kernel of a process
 abbrev pub home : Setting → Pid → ℕ

@@ -4,23 +4,32 @@ use Rattle.std.specs.List.{filter}
 use Rattle.charlotte_calls.specs.declared.calls.Call.{Call}
 use Rattle.charlotte_calls.specs.declared.calls.Call.TheVariants as call
 use Rattle.charlotte_calls.specs.declared.setting.Setting.{Setting}
-use Rattle.kernel_step.specs.Kernel.{Running, process_of}
+use Rattle.kernel_step.specs.Kernel.{process_of}
+use Rattle.end_table.specs.declared.entry.Entry.{Entry as TableEntry}
+use Rattle.kernel_step.specs.declared.phase.Phase.TheVariants.{Running}
 use Rattle.kernel_step.specs.Start.{home}
 use Rattle.kernel_step.specs.Owned.{AreEndsOf}
 use Rattle.kernel_world.specs.World.{World, Event, Calls, Takes, happens, noted, start}
 use Rattle.kernel_world.specs.declared.entry.Entry.{Entry}
 use Rattle.kernel_world.specs.declared.entry.Placed.{Placed}
 
--- in version 1 a message encloses at most one end, in version 2 at most eight
+-- in version 1 a message encloses at most one end, in version 2 at most eight; messages and prints have at most 256 bytes
 abbrev pub IsCallOf : ℕ → Call → Type 0
-IsCallOf version (call.Send on bytes xs) = IsTrue (nat_le (length xs) (if nat_eq version 1 then 1 else 8))
+IsCallOf version (call.Send on bytes xs) = (length xs ≤ (if nat_eq version 1 then 1 else 8)) × (length bytes ≤ 256)
+IsCallOf version (call.Print bytes) = length bytes ≤ 256
 IsCallOf version _ = Unit {0}
+
+-- a Wait and an Exit are about the ends that the process owns
+abbrev pub IsCallWith : Pid → (EndId → TableEntry) → List EndId → Call → Type 0
+IsCallWith p t mine call.Wait = AreEndsOf p t mine
+IsCallWith p t mine call.Exit = AreEndsOf p t mine
+IsCallWith p t mine _ = Unit {0}
 
 -- a process that runs may call its own kernel; a packet that is there may be taken
 abbrev pub IsAllowed : Setting → World → Event → Type 0
 IsAllowed s w (Calls k p c mine) =
     (p.0 < length s.homes) × (home s p ≡ k) × ((process_of p (w.kernel k)).phase ≡ Running) × IsCallOf s.version c
-    × AreEndsOf p (w.kernel k).table mine
+    × IsCallWith p (w.kernel k).table mine c
 IsAllowed s w (Takes k from) = w.packets from k ≢ []
 
 -- each of these events is allowed in the world that those before it leave
@@ -54,10 +63,11 @@ pub record IsMerge (journals : List (List Entry)) (merged : List Placed) : Type 
   pub order : AreInOrder merged
   pub entries : (k : ℕ) → of_kernel k merged ≡ slice_index_or journals k []
 
--- these are the entries of the events of a run, in the order of a merge
-pub record AreEntriesOf (s : Setting) (es : List Event) (merged : List Placed) : Type 0 where
+-- these are the entries of a run of a setting, in the order of a merge
+pub record IsRecord (s : Setting) (es : List Event) (merged : List Placed) : Type 0 where
+  pub run : IsRun s es
   pub order : AreInOrder merged
-  pub entries : (k : ℕ) → of_kernel k merged ≡ of_kernel k (noted (start s) es)
+  pub entries : noted (start s) es ≡ merged
 
 -- no packet is under way
 abbrev pub AllTaken : World → Type 0
