@@ -14,7 +14,7 @@ append_known-append (Some xs) a b = ap (λ ys. Some ys) (append_assoc xs a b)
 front_of_longer : (n : ℕ) (a b : List ℕ) → take (length (take n a)) (a ++ b) ≡ take n a
 front_of_longer n a b =
     let parts : a ++ b ≡ take n a ++ (drop n a ++ b) =
-        ap (λ s. s ++ b) (sym (take-append-drop n a)) ∙ append_assoc (take n a) (drop n a) b in
+    ap (λ s. s ++ b) (sym (take-append-drop n a)) ∙ append_assoc (take n a) (drop n a) b in
     ap (take (length (take n a))) parts ∙ take-append_seam (take n a) (drop n a ++ b)
 
 -- After a put that failed, nothing more is put.
@@ -24,9 +24,10 @@ PutsPart-stopped old new a b part =
 
 -- A put that failed comes after one that did not.
 pub PutsPart-after : (old mid new : Option (List ℕ)) (a b : List ℕ) → mid ≡ append_known old a → PutsPart mid new b → PutsPart old new (a ++ b)
-PutsPart-after old mid new a b whole part =
-    (length a + part.0,
-        part.1 ∙ (ap (λ held. append_known held (take part.0 b)) whole ∙ (append_known-append old a (take part.0 b) ∙ ap (append_known old) (sym (take-append-add a b part.0)))))
+PutsPart-after old mid new a b whole part = (
+  length a + part.0,
+  part.1 ∙ (ap (λ held. append_known held (take part.0 b)) whole ∙ (append_known-append old a (take part.0 b) ∙ ap (append_known old) (sym (take-append-add a b part.0)))),
+)
 
 -- for functions that put several pieces, by `using`
 pub ruleset chains = (append_known-append, PutsPart-stopped, PutsPart-after)

@@ -26,7 +26,8 @@ impl From<AllocError> for FileAnswer {
     }
 }
 
-/// A source of files.
+/// A source of files that are read whole. Its meaning is what it tells of them, if it tells anything, and its count
+/// of faults, which never falls.
 pub trait Files {
     /// The files by their names, each with its bytes, where the source tells them.
     ghost contents: { Self → Option Listing };
@@ -37,7 +38,9 @@ pub trait Files {
     /// Reads the file of that name, where it has at most `most` bytes. Where a name stands twice, its first
     /// bytes count.
     fn read(&mut self, alloc: Global, name: &str, most: u32) -> Result<Vec<u8>, FileAnswer>
+        // No read changes the files, nor whether they are told.
         ensures same { contents self.new ≡ contents self.old }
+
         ensures told { IfSome (contents self.old) (λ files. Reads files name.now most result) }
         ensures within { IfOk result (λ bytes. length bytes.items ≤ most) }
         ensures counted { CountsRead (faults self.old) (faults self.new) result };

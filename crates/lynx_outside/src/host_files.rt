@@ -1,5 +1,6 @@
 //! Files of the host.
-ghost use Rattle.std.specs.Prelude.{◌≡◌, ◌≢◌, ◌<◌, ◌≤◌, ℕ, None, IfOk, IfSome, IsErrOf, length, take};
+ghost use Rattle.std.specs.Prelude.{◌≡◌, ◌↔◌, ◌⊎◌, ◌<◌, ◌≤◌, ℕ, None, IfOk, IfSome, IsErrOf, length, take};
+ghost use Rattle.std.specs.IoError.{error_kind};
 ghost use Rattle.lynx_outside.specs.Host.{Hosted};
 
 use crate::faults::raised;
@@ -80,7 +81,9 @@ fn read_front<F: Read + Drop>(alloc: Global, file: F, limit: u64) -> io::Result<
     Ok(bytes)
 }
 
-fn answer_to_open(error: io::Error) -> FileAnswer {
+fn answer_to_open(error: io::Error) -> FileAnswer
+    ensures { (result ≡ FileAnswer.Absent) ↔ (error_kind error ≡ ErrorKind.NotFound) }
+{
     match error.kind() {
         ErrorKind::NotFound => FileAnswer::Absent,
         _ => answer_to_read(error),
@@ -88,11 +91,76 @@ fn answer_to_open(error: io::Error) -> FileAnswer {
 }
 
 fn answer_to_read(error: io::Error) -> FileAnswer
-    ensures there { result ≢ FileAnswer.Absent }
-    ensures no_length { result ≢ FileAnswer.TooBig }
+    ensures no_memory { (result ≡ FileAnswer.NoMemory) ↔ (error_kind error ≡ ErrorKind.OutOfMemory) }
+    ensures failed { (result ≡ FileAnswer.Failed) ⊎ (result ≡ FileAnswer.NoMemory) }
 {
     match error.kind() {
         ErrorKind::OutOfMemory => FileAnswer::NoMemory,
         _ => FileAnswer::Failed,
+    }
+}
+
+#[cfg(test)]
+mod tests {
+    use super::*;
+    use std::test::Fail;
+    use std::{env, process};
+
+    #[test]
+    fn reads_a_file_of_the_host(host: HostRuntime) -> Result<(), Fail> {
+        let alloc = host.alloc();
+        let name = format!(in alloc; "lynx-outside-{}", process::id(host.process()))?;
+        let path = env::temp_dir(&host)?.join(alloc, name.as_str())?;
+        let mut files = HostFiles::of(&host);
+        assert!(host; matches!(files.read(alloc, path.as_str(), 9), Err(FileAnswer::Absent)));
+        fs::write(&host, path.as_path(), "four")?;
+        let whole = files.read(alloc, path.as_str(), 4);
+        let too_big = files.read(alloc, path.as_str(), 3);
+        fs::remove_file(&host, path.as_path())?;
+        assert_eq!(host; whole?.as_slice(), b"four".as_slice());
+        assert!(host; matches!(too_big, Err(FileAnswer::TooBig)));
+        assert_eq!(host; files.faults, 0);
+        // A directory can be opened and not read.
+        assert!(host; matches!(files.read(alloc, "/", 9), Err(FileAnswer::Failed)));
+        assert_eq!(host; files.faults, 1);
+        Ok(())
+    }
+
+    // Gives one byte at a time, and then fails.
+    #[derive(Drop)]
+    struct Slow {
+        left: u8,
+    }
+
+    impl Read for Slow {
+        fn read(&mut self, buf: &mut [u8]) -> io::Result<usize> {
+            if self.left == 0 {
+                return Err(io::Error::from(ErrorKind::NotFound));
+            }
+            let Some(place) = buf.first_mut() else {
+                return Ok(0);
+            };
+            *place = self.left;
+            self.left -= 1;
+            Ok(1)
+        }
+    }
+
+    #[test]
+    fn no_byte_is_read_past_the_one_too_many(rt: HostRuntime) -> Result<(), Fail> {
+        let alloc = rt.alloc();
+        assert!(rt;
+            matches!(
+                read_whole(alloc, Slow { left: 4 }, 3),
+                Err(FileAnswer::TooBig)
+            )
+        );
+        assert!(rt;
+            matches!(
+                read_whole(alloc, Slow { left: 3 }, 3),
+                Err(FileAnswer::Failed)
+            )
+        );
+        Ok(())
     }
 }

@@ -61,3 +61,52 @@ fn write_whole<W: Write>(writer: &mut W, bytes: &[u8]) -> Result<(), Failed>
     }
     Ok(())
 }
+
+#[cfg(test)]
+mod tests {
+    use super::*;
+    use std::io;
+    use std::test::Fail;
+
+    // Takes one byte at a time, as long as there is room.
+    #[derive(Drop)]
+    struct Slow {
+        taken: [u8; 4],
+        count: usize,
+    }
+
+    impl Write for Slow {
+        fn write(&mut self, buf: &[u8]) -> io::Result<usize> {
+            let Some(byte) = buf.first() else {
+                return Ok(0);
+            };
+            let Some(place) = self.taken.get_mut(self.count) else {
+                return Ok(0);
+            };
+            *place = *byte;
+            self.count = self.count.saturating_add(1);
+            Ok(1)
+        }
+
+        fn flush(&mut self) -> io::Result<()> {
+            Ok(())
+        }
+    }
+
+    #[test]
+    fn writes_to_the_end_or_counts_a_fault(rt: HostRuntime) -> Result<(), Fail> {
+        let mut slow = Slow {
+            taken: [0; 4],
+            count: 0,
+        };
+        let mut sink = HostSink::of(&mut slow);
+        assert_eq!(rt; sink.put(b"abc"), Ok(()));
+        assert_eq!(rt; sink.faults, 0);
+        assert_eq!(rt; sink.put(b"de"), Err(Failed));
+        assert_eq!(rt; sink.put(b"f"), Err(Failed));
+        assert_eq!(rt; sink.faults, 2);
+        assert_eq!(rt; sink.put(b""), Ok(()));
+        assert_eq!(rt; &slow.taken, b"abcd");
+        Ok(())
+    }
+}

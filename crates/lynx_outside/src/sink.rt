@@ -6,7 +6,8 @@ ghost use Rattle.lynx_outside.specs.Sink.{Puts, CountsPut};
 #[derive(Clone, Copy, Debug, PartialEq, Eq)]
 pub struct Failed;
 
-/// What takes bytes in order.
+/// What takes bytes in order. Its meaning is the bytes that it has taken, if it tells them, and its count of faults,
+/// which never falls.
 pub trait Sink {
     /// The bytes that the sink has taken, where it tells them.
     ghost held: { Self → Option (List ℕ) };
