@@ -1,5 +1,5 @@
 -- Calls that are to fail, for tests of what stands above.
-use Rattle.std.specs.Prelude.{ℕ, Bool, List, ◌==◌, if◌then◌else◌}
+use Rattle.std.specs.Prelude.{ℕ, Bool, List, ◌==◌}
 use Rattle.std.specs.List.{list_any}
 use Rattle.lynx_outside.specs.Faults.{next_count}
 

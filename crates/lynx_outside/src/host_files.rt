@@ -1,5 +1,5 @@
 //! Files of the host.
-ghost use Rattle.std.specs.Prelude.{◌≡◌, ◌↔◌, ◌⊎◌, ◌<◌, ◌≤◌, ℕ, None, IfOk, IfSome, IsErrOf, length, take};
+ghost use Rattle.std.specs.Prelude.{◌≡◌, ◌↔◌, ◌⊎◌, ◌<◌, ◌≤◌, None, IfOk, IfSome, IsErrOf, length, take};
 ghost use Rattle.std.specs.IoError.{error_kind};
 ghost use Rattle.lynx_outside.specs.Host.{Hosted};
 

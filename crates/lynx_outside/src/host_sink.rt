@@ -1,5 +1,5 @@
 //! A sink over a writer of the host.
-ghost use Rattle.std.specs.Prelude.{◌≡◌, ℕ, None};
+ghost use Rattle.std.specs.Prelude.{◌≡◌, None};
 ghost use Rattle.lynx_outside.specs.Sink.{CountsPut};
 ghost use Rattle.lynx_outside.specs.Host.{Hosted, Writes};
 

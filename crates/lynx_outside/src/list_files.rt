@@ -1,5 +1,5 @@
 //! Files in memory of which chosen reads fail.
-ghost use Rattle.std.specs.Prelude.{◌≡◌, ◌≤◌, ◌↔◌, [], Some, IfOk, IsErrOf, IsTrue, length};
+ghost use Rattle.std.specs.Prelude.{◌≡◌, ◌≤◌, ◌↔◌, Some, IfOk, IsErrOf, IsTrue, length};
 ghost use Rattle.lynx_outside.specs.Files.{listing_of, Reads, CountsRead};
 ghost use Rattle.lynx_outside.specs.Planned.{is_due};
 ghost use Rattle.lynx_outside.specs.Listed.{PlannedFiles, after_read};

@@ -1,5 +1,5 @@
 // The calls that a test wants to fail.
-ghost use Rattle.std.specs.Prelude.{◌≡◌, []};
+ghost use Rattle.std.specs.Prelude.{◌≡◌};
 ghost use Rattle.lynx_outside.specs.Faults.{Rose};
 ghost use Rattle.lynx_outside.specs.Planned.{Plan, is_due, passed, failed};
 
