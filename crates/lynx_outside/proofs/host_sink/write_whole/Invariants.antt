@@ -1,0 +1,10 @@
+-- What was written is the front of the bytes, and what is left is their back.
+use Rattle.std.proofs.Common.{ℕ, ◌≡◌, length, take, drop}
+use Rattle.std.specs.Io.KnownBytes.{Appends}
+use Rattle.lynx_outside.proofs.host_sink.write_whole.Given as goal
+
+abbrev pub invariant-loop-rest : goal.invariant-loop-rest
+invariant-loop-rest g l = (n : ℕ) × (l.rest ≡ drop n l.bytes) × Appends (g.W.Write.contents l.initial.writer) (g.W.Write.contents l.writer) (take n l.bytes)
+
+abbrev pub decreases-loop-rest : goal.decreases-loop-rest
+decreases-loop-rest g l = length l.rest

@@ -1,0 +1,166 @@
+//! Files of the host.
+ghost use Rattle.std.specs.Prelude.{◌≡◌, ◌↔◌, ◌⊎◌, ◌<◌, ◌≤◌, None, IfOk, IfSome, IsErrOf, length, take};
+ghost use Rattle.std.specs.IoError.{error_kind};
+ghost use Rattle.lynx_outside.specs.Host.{Hosted};
+
+use crate::faults::raised;
+use crate::{FileAnswer, Files};
+use std::alloc::Global;
+use std::io::{ErrorKind, Read};
+use std::marker::Model;
+use std::{fs, io, rt};
+
+/// Files of the host. It tells nothing of what they hold.
+#[derive(Drop)]
+pub struct HostFiles<R> {
+    host: R,
+    faults: u64,
+}
+
+impl<R> Model for HostFiles<R> {
+    ghost Value = { Hosted R };
+
+    ghost view = { λ a. record { host = a.host; faults = a.faults } };
+}
+
+impl<R: rt::Files> HostFiles<R> {
+    /// The files of this host, without a fault.
+    pub fn of(host: R) -> HostFiles<R>
+        ensures { result ≡ record { host = host; faults = 0 } }
+    {
+        HostFiles { host, faults: 0 }
+    }
+}
+
+impl<R: rt::Files> Files for HostFiles<R> {
+    ghost contents = { λ _. None };
+
+    ghost faults = { λ a. a.faults };
+
+    fn read(&mut self, alloc: Global, name: &str, most: u32) -> Result<Vec<u8>, FileAnswer> {
+        let answer = read_file(alloc, &self.host, name, most);
+        if matches!(answer, Err(FileAnswer::Failed)) {
+            self.faults = raised(self.faults);
+        }
+        answer
+    }
+}
+
+fn read_file<R: rt::Files>(
+    alloc: Global,
+    host: &R,
+    name: &str,
+    most: u32,
+) -> Result<Vec<u8>, FileAnswer>
+    ensures { IfOk result (λ bytes. length bytes.items ≤ most) }
+{
+    let file = fs::open(host, name).map_err(answer_to_open)?;
+    read_whole(alloc, file, most)
+}
+
+// Reads to the end, but no more than one byte past `most`.
+fn read_whole<F: Read + Drop>(alloc: Global, file: F, most: u32) -> Result<Vec<u8>, FileAnswer>
+    ensures within { IfOk result (λ bytes. length bytes.items ≤ most) }
+    ensures whole { IfOk result (λ bytes. IfSome (F.remaining file) (λ held. bytes.items ≡ held)) }
+    ensures too_big { IsErrOf result FileAnswer.TooBig → IfSome (F.remaining file) (λ held. most < length held) }
+    ensures there { ¬ IsErrOf result FileAnswer.Absent }
+{
+    let bytes = read_front(alloc, file, u64::from(most) + 1).map_err(answer_to_read)?;
+    if bytes.len() > most as usize {
+        return Err(FileAnswer::TooBig);
+    }
+    Ok(bytes)
+}
+
+// The first bytes, as many as `limit`.
+fn read_front<F: Read + Drop>(alloc: Global, file: F, limit: u64) -> io::Result<Vec<u8>>
+    ensures { IfOk result (λ bytes. IfSome (F.remaining file) (λ held. bytes.items ≡ take limit held)) }
+{
+    let mut bytes = Vec::new(alloc);
+    file.take(limit).read_to_end(&mut bytes)?;
+    Ok(bytes)
+}
+
+fn answer_to_open(error: io::Error) -> FileAnswer
+    ensures { (result ≡ FileAnswer.Absent) ↔ (error_kind error ≡ ErrorKind.NotFound) }
+{
+    match error.kind() {
+        ErrorKind::NotFound => FileAnswer::Absent,
+        _ => answer_to_read(error),
+    }
+}
+
+fn answer_to_read(error: io::Error) -> FileAnswer
+    ensures no_memory { (result ≡ FileAnswer.NoMemory) ↔ (error_kind error ≡ ErrorKind.OutOfMemory) }
+    ensures failed { (result ≡ FileAnswer.Failed) ⊎ (result ≡ FileAnswer.NoMemory) }
+{
+    match error.kind() {
+        ErrorKind::OutOfMemory => FileAnswer::NoMemory,
+        _ => FileAnswer::Failed,
+    }
+}
+
+#[cfg(test)]
+mod tests {
+    use super::*;
+    use std::test::Fail;
+    use std::{env, process};
+
+    #[test]
+    fn reads_a_file_of_the_host(host: HostRuntime) -> Result<(), Fail> {
+        let alloc = host.alloc();
+        let name = format!(in alloc; "lynx-outside-{}", process::id(host.process()))?;
+        let path = env::temp_dir(&host)?.join(alloc, name.as_str())?;
+        let mut files = HostFiles::of(&host);
+        assert!(host; matches!(files.read(alloc, path.as_str(), 9), Err(FileAnswer::Absent)));
+        fs::write(&host, path.as_path(), "four")?;
+        let whole = files.read(alloc, path.as_str(), 4);
+        let too_big = files.read(alloc, path.as_str(), 3);
+        fs::remove_file(&host, path.as_path())?;
+        assert_eq!(host; whole?.as_slice(), b"four".as_slice());
+        assert!(host; matches!(too_big, Err(FileAnswer::TooBig)));
+        assert_eq!(host; files.faults, 0);
+        // A directory can be opened and not read.
+        assert!(host; matches!(files.read(alloc, "/", 9), Err(FileAnswer::Failed)));
+        assert_eq!(host; files.faults, 1);
+        Ok(())
+    }
+
+    // Gives one byte at a time, and then fails.
+    #[derive(Drop)]
+    struct Slow {
+        left: u8,
+    }
+
+    impl Read for Slow {
+        fn read(&mut self, buf: &mut [u8]) -> io::Result<usize> {
+            if self.left == 0 {
+                return Err(io::Error::from(ErrorKind::NotFound));
+            }
+            let Some(place) = buf.first_mut() else {
+                return Ok(0);
+            };
+            *place = self.left;
+            self.left -= 1;
+            Ok(1)
+        }
+    }
+
+    #[test]
+    fn no_byte_is_read_past_the_one_too_many(rt: HostRuntime) -> Result<(), Fail> {
+        let alloc = rt.alloc();
+        assert!(rt;
+            matches!(
+                read_whole(alloc, Slow { left: 4 }, 3),
+                Err(FileAnswer::TooBig)
+            )
+        );
+        assert!(rt;
+            matches!(
+                read_whole(alloc, Slow { left: 3 }, 3),
+                Err(FileAnswer::Failed)
+            )
+        );
+        Ok(())
+    }
+}

@@ -1,0 +1,25 @@
+//! What a program of the product meets outside itself: files that it reads, sinks that it puts bytes to, and the
+//! status with which it ends.
+#![tactic(auto)]
+
+mod faults;
+mod files;
+mod host_files;
+mod host_sink;
+mod list_files;
+mod list_sink;
+mod planned;
+mod sink;
+mod status;
+mod sure_files;
+mod sure_sink;
+
+pub use files::{FileAnswer, Files};
+pub use host_files::HostFiles;
+pub use host_sink::HostSink;
+pub use list_files::ListFiles;
+pub use list_sink::ListSink;
+pub use sink::{Failed, Sink};
+pub use status::Status;
+pub use sure_files::SureFiles;
+pub use sure_sink::SureSink;

@@ -1,0 +1,108 @@
+//! A sink in memory of which chosen puts fail.
+ghost use Rattle.std.specs.Prelude.{◌≡◌, ◌≤◌, ◌↔◌, [], Some, IfOk, IsOk, vec_len, vec_capacity};
+ghost use Rattle.lynx_outside.specs.Sink.{Puts, CountsPut};
+ghost use Rattle.lynx_outside.specs.Listed.{PlannedSink, Takes, after_put};
+
+use crate::planned::PlannedFaults;
+use crate::{Failed, Sink};
+use charlotte_calls::NoMemory;
+use std::alloc::Global;
+use std::marker::Model;
+
+/// A sink in memory with room for so many bytes, of which the puts with chosen numbers fail.
+#[derive(Drop)]
+pub struct ListSink {
+    held: Vec<u8>,
+    room: u32,
+    plan: PlannedFaults,
+}
+
+impl Model for ListSink {
+    ghost Value = { PlannedSink };
+
+    ghost view = { λ a. record { held = a.held.items; room = a.room; plan = a.plan } };
+
+    ghost invariant = { λ a. (vec_len a.held ≤ a.room) × (a.room ≤ vec_capacity a.held) };
+}
+
+impl ListSink {
+    /// An empty sink with room for `room` bytes, and the numbers, from 1, of the puts that are to fail. It takes
+    /// all its memory here.
+    pub fn with(alloc: Global, room: u32, failing: Vec<u32>) -> Result<ListSink, NoMemory>
+        ensures held { IfOk result (λ sink. sink.held ≡ []) }
+        ensures room { IfOk result (λ sink. sink.room ≡ room) }
+        ensures plan { IfOk result (λ sink. sink.plan ≡ record { calls = 0; failing = failing.items; faults = 0 }) }
+    {
+        Ok(ListSink {
+            held: Vec::with_capacity(alloc, room as usize)?,
+            room,
+            plan: PlannedFaults::of(failing),
+        })
+    }
+
+    /// The bytes held.
+    pub fn held(&self) -> &[u8]
+        ensures { result.now ≡ self.now.held }
+    {
+        &self.held
+    }
+}
+
+impl Sink for ListSink {
+    ghost held = { λ a. Some a.held };
+
+    ghost faults = { λ a. a.plan.faults };
+
+    /// A put that is to fail keeps nothing. One past the room keeps the bytes that there is room for, and fails.
+    fn put(&mut self, bytes: &[u8]) -> Result<(), Failed>
+        ensures taken { IsOk result ↔ Takes self.old bytes.now }
+        ensures after { self.new ≡ after_put self.old bytes.now result }
+        ensures appended { Puts (Some self.old.held) (Some self.new.held) bytes.now result }
+        ensures counted { CountsPut self.old.plan.faults self.new.plan.faults result }
+    {
+        if self.plan.is_due() {
+            self.plan.fail();
+            return Err(Failed);
+        }
+        let free = self.room as usize - self.held.len();
+        if free < bytes.len() {
+            self.held.extend_from_slice(&bytes[..free]).unwrap();
+            self.plan.fail();
+            return Err(Failed);
+        }
+        self.held.extend_from_slice(bytes).unwrap();
+        self.plan.pass();
+        Ok(())
+    }
+}
+
+#[cfg(test)]
+mod tests {
+    use super::*;
+    use std::test::Fail;
+
+    #[test]
+    fn chosen_puts_fail_and_keep_nothing(rt: HostRuntime) -> Result<(), Fail> {
+        let failing = vec![in rt.alloc(); 2, 4]?;
+        let mut sink = ListSink::with(rt.alloc(), 100, failing)?;
+        assert_eq!(rt; sink.put(b"a"), Ok(()));
+        assert_eq!(rt; sink.put(b"b"), Err(Failed));
+        assert_eq!(rt; sink.put(b"c"), Ok(()));
+        assert_eq!(rt; sink.put(b"d"), Err(Failed));
+        assert_eq!(rt; sink.put(b"e"), Ok(()));
+        assert_eq!(rt; sink.held(), b"ace".as_slice());
+        Ok(())
+    }
+
+    #[test]
+    fn a_put_past_the_room_keeps_what_fits(rt: HostRuntime) -> Result<(), Fail> {
+        let mut sink = ListSink::with(rt.alloc(), 5, Vec::new(rt.alloc()))?;
+        assert_eq!(rt; sink.put(b"abc"), Ok(()));
+        assert_eq!(rt; sink.put(b"defg"), Err(Failed));
+        assert_eq!(rt; sink.held(), b"abcde".as_slice());
+        assert_eq!(rt; sink.put(b""), Ok(()));
+        assert_eq!(rt; sink.put(b"h"), Err(Failed));
+        assert_eq!(rt; sink.held(), b"abcde".as_slice());
+        Ok(())
+    }
+}

@@ -1,0 +1,91 @@
+//! Files in memory that are always read.
+ghost use Rattle.std.specs.Prelude.{◌≡◌, ◌≤◌, Some, IfOk, IsErrOf, length, option_copied, option_map, find, bytes_eq, string_bytes};
+ghost use Rattle.lynx_outside.specs.Files.{Listing, listing_of, bytes_of, Reads};
+
+use crate::{FileAnswer, Files};
+use std::alloc::Global;
+use std::marker::Model;
+
+/// Files in memory. No read of them fails.
+#[derive(Drop)]
+pub struct SureFiles {
+    files: Vec<(String, Vec<u8>)>,
+}
+
+impl Model for SureFiles {
+    ghost Value = { Listing };
+
+    ghost view = { λ a. listing_of a.files.items };
+}
+
+impl SureFiles {
+    /// These files by their names, each with its bytes.
+    pub fn of(files: Vec<(String, Vec<u8>)>) -> SureFiles
+        ensures { result ≡ listing_of files.items }
+    {
+        SureFiles { files }
+    }
+}
+
+impl Files for SureFiles {
+    ghost contents = { λ files. Some files };
+
+    ghost faults = { λ _. 0 };
+
+    fn read(&mut self, alloc: Global, name: &str, most: u32) -> Result<Vec<u8>, FileAnswer>
+        ensures same { self.new ≡ self.old }
+        ensures told { Reads self.old name.now most result }
+        ensures within { IfOk result (λ bytes. length bytes.items ≤ most) }
+        ensures sure { ¬ IsErrOf result FileAnswer.Failed }
+    {
+        let Some(bytes) = first_bytes(&self.files, name) else {
+            return Err(FileAnswer::Absent);
+        };
+        if bytes.len() > most as usize {
+            return Err(FileAnswer::TooBig);
+        }
+        Ok(bytes.to_vec(alloc)?)
+    }
+}
+
+// The first of the files that has this name.
+fn first_named<'a>(files: &'a [(String, Vec<u8>)], name: &str) -> Option<&'a (String, Vec<u8>)>
+    ensures { option_copied result ≡ find (λ file. bytes_eq (string_bytes file.0) name.now) files.now }
+{
+    files.iter().find(|file| file.0.as_str() == name)
+}
+
+// The first bytes that stand under this name.
+#[tactic(auto, using(crate::proofs::Listings::listings))]
+fn first_bytes<'a>(files: &'a [(String, Vec<u8>)], name: &str) -> Option<&'a Vec<u8>>
+    ensures { option_map (λ bytes. bytes.now.items) result ≡ bytes_of (listing_of files.now) name.now }
+{
+    match first_named(files, name) {
+        Some(file) => Some(&file.1),
+        None => None,
+    }
+}
+
+#[cfg(test)]
+mod tests {
+    use super::*;
+    use std::test::Fail;
+
+    #[test]
+    fn the_first_bytes_of_a_name_count(rt: HostRuntime) -> Result<(), Fail> {
+        let alloc = rt.alloc();
+        let mut files = Vec::new(alloc);
+        for (name, bytes) in [("a", "first"), ("b", ""), ("a", "second")] {
+            files.push((
+                String::from_str(alloc, name)?,
+                bytes.as_bytes().to_vec(alloc)?,
+            ))?;
+        }
+        let mut files = SureFiles::of(files);
+        assert_eq!(rt; files.read(alloc, "a", 5)?.as_slice(), b"first".as_slice());
+        assert_eq!(rt; files.read(alloc, "b", 0)?.as_slice(), b"".as_slice());
+        assert!(rt; matches!(files.read(alloc, "a", 4), Err(FileAnswer::TooBig)));
+        assert!(rt; matches!(files.read(alloc, "c", 9), Err(FileAnswer::Absent)));
+        Ok(())
+    }
+}
