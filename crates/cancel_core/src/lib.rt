@@ -9,3 +9,4 @@ mod tools;
 
 pub use receive::{arrived, post, unwanted, withdraw_receive};
 pub use send::{finished, start_send, unwant, want};
+pub use tools::room;

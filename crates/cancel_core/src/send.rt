@@ -12,13 +12,14 @@ use charlotte_calls::{Bytes, EndId, Ends, Outcome, Report, ServiceStep, Way, Wha
 use end_table::{Entry, HereView, Outward, Table};
 use kernel_step::{push_packet, push_step};
 
-/// Send: a send of these bytes, which encloses nothing, is started, and matched where a receive wants it.
+/// Send: a send of these bytes with these ends, of which there are none, is started, and matched where a receive wants it.
 #[tactic(auto, unfolding(kernel_step::specs::Calls::starts_send))]
-pub fn start_send(table: &mut Table, on: EndId, bytes: Bytes, out: &mut Work)
+pub fn start_send(table: &mut Table, on: EndId, bytes: Bytes, enclose: Ends, out: &mut Work)
     requires here { IsHere (entries table.old on) }
+    requires alone { enclose ≡ [] }
     requires room { HasRoom 1 0 0 2 out.old }
     ensures part { IfHere (entries table.old on) (λ v. progress (entries table.new) out.new
-        ≡ starts_send table.old.kernel bytes [] v (progress (entries table.old) out.old)) }
+        ≡ starts_send table.old.kernel bytes enclose v (progress (entries table.old) out.old)) }
     ensures room { AddsAtMost 1 0 0 2 out.old out.new }
 {
     let HereView {
@@ -34,7 +35,7 @@ pub fn start_send(table: &mut Table, on: EndId, bytes: Bytes, out: &mut Work)
             on,
             n,
             bytes: bytes.copy(),
-            enclose: no_ends(),
+            enclose: enclose.copy(),
         },
     );
     value.sent = n;
@@ -45,7 +46,7 @@ pub fn start_send(table: &mut Table, on: EndId, bytes: Bytes, out: &mut Work)
     let outward = Outward::Waiting {
         n,
         bytes,
-        enclosed: no_ends(),
+        enclosed: enclose,
     };
     keep(
         table,

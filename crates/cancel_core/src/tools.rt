@@ -8,7 +8,7 @@ ghost use Rattle.end_table.specs.declared.entry.Entry.TheVariants.{Here};
 ghost use Rattle.kernel_step.specs.Actions.{reports, answers, resends, resends_receive, hears, listens, tells_moved};
 ghost use Rattle.kernel_step.specs.Progress.{progress, keeps, HasRoom, AddsAtMost};
 
-use charlotte_calls::{Answer, Bytes, EndId, Ends, MovingPicture, Report, What, Work};
+use charlotte_calls::{Answer, Bytes, EndId, Ends, MovingPicture, Report, Room, What, Work};
 use end_table::{Entry, HereView, Holder, Inward, Table};
 use kernel_step::{push_answer, push_packet, push_report};
 
@@ -158,5 +158,18 @@ pub(crate) fn no_ends() -> Ends
     match Ends::from_slice(&[]) {
         Some(none) => none,
         None => unreachable!(),
+    }
+}
+
+/// Spare room that is enough for any one action of this crate: the packets of a row and those that news sends again,
+/// and the packets that tell up to seven other kernels to forget an end.
+pub fn room(_table: &Table, _end: EndId) -> Room
+    ensures { result ≡ record { packets = 10; reports = 2; answers = 1; steps = 2 } }
+{
+    Room {
+        packets: 10,
+        reports: 2,
+        answers: 1,
+        steps: 2,
     }
 }
