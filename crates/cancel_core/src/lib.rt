@@ -2,6 +2,7 @@
 //! on the table of a kernel, and adds to a `Work` what that part sends, reports, answers and means.
 #![tactic(auto)]
 
+mod enclosed;
 mod matching;
 mod receive;
 mod send;

@@ -1,4 +1,7 @@
-ghost use Rattle.std.specs.Prelude.{◌≡◌, [], Some, IfSome};
+ghost use Rattle.std.specs.Prelude.{◌≡◌, false, Some, IfSome};
+ghost use Rattle.std.specs.List.{list_any};
+ghost use Rattle.cancel_core.specs.Enclosed.{AreEnclosed};
+ghost use Rattle.end_table.specs.Place.{end_eq};
 ghost use Rattle.end_table.specs.Table.{entries, IsHere, IfHere};
 ghost use Rattle.end_table.specs.declared.entry.Entry.TheVariants.{Here};
 ghost use Rattle.kernel_step.specs.Actions.{send_report, enclosed_of};
@@ -12,11 +15,13 @@ use charlotte_calls::{Bytes, EndId, Ends, Outcome, Report, ServiceStep, Way, Wha
 use end_table::{Entry, HereView, Outward, Table};
 use kernel_step::{push_packet, push_step};
 
-/// Send: a send of these bytes with these ends, of which there are none, is started, and matched where a receive wants it.
+/// Send: a send of these bytes, which encloses these ends, is started, and matched where a receive wants it.
+/// That the ends are held by the send is set before.
 #[tactic(auto, unfolding(kernel_step::specs::Calls::starts_send))]
 pub fn start_send(table: &mut Table, on: EndId, bytes: Bytes, enclose: Ends, out: &mut Work)
     requires here { IsHere (entries table.old on) }
-    requires alone { enclose ≡ [] }
+    requires enclosed { AreEnclosed (entries table.old) enclose }
+    requires apart { list_any (end_eq on) enclose ≡ false }
     requires room { HasRoom 1 0 0 2 out.old }
     ensures part { IfHere (entries table.old on) (λ v. progress (entries table.new) out.new
         ≡ starts_send table.old.kernel bytes enclose v (progress (entries table.old) out.old)) }
@@ -40,7 +45,7 @@ pub fn start_send(table: &mut Table, on: EndId, bytes: Bytes, enclose: Ends, out
     );
     value.sent = n;
     if value.want != 0 {
-        send_parcel(table, value, holder, inward, n, bytes, out);
+        send_parcel(table, value, holder, inward, n, bytes, &enclose, out);
         return;
     }
     let outward = Outward::Waiting {
@@ -61,7 +66,8 @@ pub fn start_send(table: &mut Table, on: EndId, bytes: Bytes, enclose: Ends, out
 
 /// The row want: the receive w of the opposite end asks for a message, unless it was matched or withdrawn.
 pub fn want(table: &mut Table, to: EndId, w: u32, at: u8, hops: u32, out: &mut Work)
-    requires alone { IfHere (entries table.old to) (λ v. enclosed_of v.outward ≡ []) }
+    requires enclosed { IfHere (entries table.old to) (λ v. AreEnclosed (entries table.old) (enclosed_of v.outward)) }
+    requires apart { IfHere (entries table.old to) (λ v. list_any (end_eq v.value.end) (enclosed_of v.outward) ≡ false) }
     requires room { HasRoom 3 0 0 1 out.old }
     ensures part { progress (entries table.new) out.new
         ≡ want_row table.old.kernel to w at hops (entries table.old to) (progress (entries table.old) out.old) }
@@ -78,7 +84,8 @@ pub fn want(table: &mut Table, to: EndId, w: u32, at: u8, hops: u32, out: &mut W
 #[tactic(auto, unfolding(kernel_step::specs::Rows::want_here))]
 fn want_here(table: &mut Table, view: HereView, w: u32, at: u8, hops: u32, out: &mut Work)
     requires here { entries table.old view.value.end ≡ Here view }
-    requires alone { enclosed_of view.outward ≡ [] }
+    requires enclosed { AreEnclosed (entries table.old) (enclosed_of view.outward) }
+    requires apart { list_any (end_eq view.value.end) (enclosed_of view.outward) ≡ false }
     requires room { HasRoom 3 0 0 1 out.old }
     ensures part { progress (entries table.new) out.new
         ≡ want_here table.old.kernel w at hops view (progress (entries table.old) out.old) }
@@ -98,7 +105,8 @@ fn want_here(table: &mut Table, view: HereView, w: u32, at: u8, hops: u32, out: 
 #[tactic(auto, unfolding(kernel_step::specs::Rows::wants, kernel_step::specs::Actions::resends_on_news))]
 fn serve(table: &mut Table, mut view: HereView, w: u32, at: u8, hops: u32, out: &mut Work)
     requires here { entries table.old view.value.end ≡ Here view }
-    requires alone { enclosed_of view.outward ≡ [] }
+    requires enclosed { AreEnclosed (entries table.old) (enclosed_of view.outward) }
+    requires apart { list_any (end_eq view.value.end) (enclosed_of view.outward) ≡ false }
     requires room { HasRoom 3 0 0 1 out.old }
     ensures part { progress (entries table.new) out.new
         ≡ wants table.old.kernel w at hops view (progress (entries table.old) out.old) }
