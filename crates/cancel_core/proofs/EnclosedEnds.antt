@@ -6,9 +6,10 @@ use Rattle.charlotte_calls.specs.declared.picture.MovingPicture.{MovingPicture}
 use Rattle.end_table.specs.Place.{end_eq}
 use Rattle.end_table.specs.Table.{IsHereAnd, IsIdle}
 use Rattle.end_table.specs.declared.entry.Entry.{Entry}
+use Rattle.end_table.specs.declared.entry.Holder.{Holder}
 use Rattle.cancel_core.specs.Enclosed.{AreEnclosed}
 use Rattle.charlotte_calls.specs.declared.work.Work.{Work}
-use Rattle.kernel_step.specs.Actions.{here, leave_each, leaves_here, value_leaving, values_leaving}
+use Rattle.kernel_step.specs.Actions.{here, held, hold_each, leave_each, leaves_here, value_leaving, values_leaving}
 use Rattle.kernel_step.specs.Progress.{progress}
 
 -- neither of two tests that are false together is true
@@ -55,3 +56,9 @@ values_leaving-more k x xs all t0 t1 m before after e first others h =
 -- of ends that are enclosed, the first is idle and no other is the same, and the others are enclosed
 pub AreEnclosed-first : (t : EndId → Entry) (x : EndId) (xs all : List EndId) → all ≡ x ∷ xs → AreEnclosed t all → AreEnclosed t (x ∷ xs)
 AreEnclosed-first t x xs all e are = subst (AreEnclosed t) e are
+
+-- another holder of the first of some ends, and then of the others, is one of all
+pub hold_each-more : (h : Holder) (x : EndId) (xs all : List EndId) (t0 t1 : EndId → Entry) (out : Work) → all ≡ x ∷ xs → progress t1 out ≡ held h (here (t0 x)) (progress t0 out) → hold_each h xs (progress t1 out) ≡ hold_each h all (progress t0 out)
+unfolding hold_each progress
+hold_each-more h x xs all t0 t1 out e same =
+    ap (λ d. hold_each h xs d) same ∙ ap (λ ys. hold_each h ys (progress t0 out)) (sym e)

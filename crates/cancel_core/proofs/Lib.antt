@@ -1,2 +1,3 @@
 pub mod EnclosedEnds
+pub mod Forgets
 pub mod Matches

@@ -1,6 +1,5 @@
 -- MATCH, made of its parts.
-use Rattle.std.proofs.Common.{◌≡◌, ℕ, List, [], ap, sym, ◌∙◌, refl}
-use Rattle.std.specs.List.{list_any}
+use Rattle.std.proofs.Common.{◌≡◌, ℕ, List, ap, sym, ◌∙◌, refl}
 use Rattle.charlotte_calls.specs.Names.{opposite}
 use Rattle.charlotte_calls.specs.declared.calls.ServiceStep.TheVariants as step
 use Rattle.charlotte_calls.specs.declared.names.EndId.{EndId}
@@ -12,7 +11,7 @@ use Rattle.end_table.specs.declared.entry.Entry.TheVariants as entry
 use Rattle.end_table.specs.declared.entry.HereView.{HereView}
 use Rattle.end_table.specs.declared.entry.Outward.{Outward}
 use Rattle.end_table.specs.declared.entry.Outward.TheVariants as outward
-use Rattle.kernel_step.specs.Actions.{hint_kernel, leave_each, matches, match_waiting, enclosed_of, values_leaving}
+use Rattle.kernel_step.specs.Actions.{hint_kernel, leave_each, matches, match_waiting, values_leaving}
 use Rattle.kernel_step.specs.Progress.{Progress, progress, keeps, means, sends}
 
 -- the view of an end whose send was matched

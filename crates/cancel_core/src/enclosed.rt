@@ -4,12 +4,12 @@ ghost use Rattle.charlotte_calls.specs.declared.names.EndId.{EndId};
 ghost use Rattle.charlotte_calls.specs.declared.work.Work.{Work};
 ghost use Rattle.end_table.specs.Place.{end_eq};
 ghost use Rattle.end_table.specs.Table.{entries, IsHereAnd, IsIdle};
-ghost use Rattle.kernel_step.specs.Actions.{here, leave_each, leaves_here, value_leaving, values_leaving};
+ghost use Rattle.kernel_step.specs.Actions.{here, held, hold_each, leave_each, leaves_here, value_leaving, values_leaving};
 ghost use Rattle.kernel_step.specs.Progress.{progress};
 
 use crate::tools::here;
 use charlotte_calls::{Cargo, EndId, Moving};
-use end_table::Table;
+use end_table::{Holder, Table};
 
 /// LEAVE of an end that is here and idle: its value.
 #[tactic(auto, using(kernel_step::proofs::Steps::progress_puts))]
@@ -38,6 +38,35 @@ pub(crate) fn leave_each(table: &mut Table, ends: &[EndId], to: u8, cargo: &mut 
         Some((first, others)) => {
             cargo.add(leave(table, first, to));
             leave_each(table, others, to, cargo);
+        }
+    }
+}
+
+/// Another holder of an end that is here and idle.
+#[tactic(auto, using(kernel_step::proofs::Steps::progress_puts))]
+fn hold(table: &mut Table, end: EndId, holder: Holder)
+    requires idle { IsHereAnd (entries table.old end) IsIdle }
+    ensures part { (out : Work) → progress (entries table.new) out
+        ≡ held holder (here (entries table.old end)) (progress (entries table.old) out) }
+    ensures others { (q : EndId) → end_eq end q ≡ false → entries table.new q ≡ entries table.old q }
+    ensures kernel { table.new.kernel ≡ table.old.kernel }
+{
+    let mut view = here(table, end);
+    view.holder = holder;
+    table.change(end, view);
+}
+
+/// Another holder of each of these ends.
+pub(crate) fn hold_each(table: &mut Table, holder: Holder, ends: &[EndId])
+    requires { AreEnclosed (entries table.old) ends.now }
+    ensures part { (out : Work) → progress (entries table.new) out ≡ hold_each holder ends.now (progress (entries table.old) out) }
+    ensures kernel { table.new.kernel ≡ table.old.kernel }
+{
+    match first_of(ends) {
+        None => {}
+        Some((first, others)) => {
+            hold(table, first, holder);
+            hold_each(table, holder, others);
         }
     }
 }

@@ -64,7 +64,7 @@ pub(crate) fn send_parcel(
     requires room { HasRoom 1 0 0 1 out.old }
     ensures part { (o : Outward) → progress (entries table.new) out.new
         ≡ matches table.old.kernel (record { value = value; holder = holder; outward = o; inward = inward }) n bytes enclosed.now
-            (progress (entries table.old) out.old) }
+        (progress (entries table.old) out.old) }
     ensures room { AddsAtMost 1 0 0 1 out.old out.new }
     ensures kernel { table.new.kernel ≡ table.old.kernel }
 {

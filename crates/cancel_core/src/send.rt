@@ -5,15 +5,17 @@ ghost use Rattle.end_table.specs.Place.{end_eq};
 ghost use Rattle.end_table.specs.Table.{entries, IsHere, IfHere};
 ghost use Rattle.end_table.specs.declared.entry.Entry.TheVariants.{Here};
 ghost use Rattle.kernel_step.specs.Actions.{send_report, enclosed_of};
-ghost use Rattle.kernel_step.specs.Calls.{starts_send};
+ghost use Rattle.kernel_step.specs.Calls.{starts_send, withdraws_send};
 ghost use Rattle.kernel_step.specs.Progress.{progress, HasRoom, AddsAtMost};
 ghost use Rattle.kernel_step.specs.Rows.{want_row, want_here, wants, awaits, taken_row, completes, unwant_row, unwant_here, voids};
 
+use crate::enclosed::hold_each;
 use crate::matching::{match_waiting, send_parcel};
-use crate::tools::{hear, here, keep, listen, no_bytes, no_ends, report, resend_on_news};
-use charlotte_calls::{Bytes, EndId, Ends, Outcome, Report, ServiceStep, Way, What, Work};
+use crate::tools::{hear, here, keep, listen, no_ends, report, resend_on_news, send_report};
+use charlotte_calls::{Bytes, EndId, Ends, Outcome, ServiceStep, Way, What, Work};
 use end_table::{Entry, HereView, Outward, Table};
 use kernel_step::{push_packet, push_step};
+use std::mem;
 
 /// Send: a send of these bytes, which encloses these ends, is started, and matched where a receive wants it.
 /// That the ends are held by the send is set before.
@@ -62,6 +64,42 @@ pub fn start_send(table: &mut Table, on: EndId, bytes: Bytes, enclose: Ends, out
             inward,
         },
     );
+}
+
+/// Cancel of a send that waits: it never happened, and the ends that it enclosed are its owner's again.
+#[tactic(auto, unfolding(kernel_step::specs::Calls::withdraws_send))]
+pub fn withdraw_send(table: &mut Table, on: EndId, out: &mut Work)
+    requires here { IsHere (entries table.old on) }
+    requires enclosed { IfHere (entries table.old on) (λ v. AreEnclosed (entries table.old) (enclosed_of v.outward)) }
+    requires apart { IfHere (entries table.old on) (λ v. list_any (end_eq on) (enclosed_of v.outward) ≡ false) }
+    requires room { HasRoom 0 0 0 1 out.old }
+    ensures part { IfHere (entries table.old on) (λ v. progress (entries table.new) out.new
+        ≡ withdraws_send v (progress (entries table.old) out.old)) }
+    ensures room { AddsAtMost 0 0 0 1 out.old out.new }
+{
+    let mut view = here(table, on);
+    let holder = view.holder;
+    let sent = mem::replace(&mut view.outward, Outward::Idle);
+    keep(table, view);
+    let enclosed = enclosed_ends(sent);
+    hold_each(table, holder, enclosed.as_slice());
+    push_step(
+        out,
+        ServiceStep::Cancel {
+            on,
+            way: Way::Outward,
+        },
+    );
+}
+
+/// The ends that a send encloses.
+fn enclosed_ends(outward: Outward) -> Ends
+    ensures { result ≡ enclosed_of outward }
+{
+    match outward {
+        Outward::Waiting { enclosed, .. } => enclosed,
+        Outward::Idle | Outward::Matched { .. } | Outward::Unreported => no_ends(),
+    }
 }
 
 /// The row want: the receive w of the opposite end asks for a message, unless it was matched or withdrawn.
@@ -164,19 +202,6 @@ fn complete(table: &mut Table, mut view: HereView, n: u32, at: u8, hops: u32, ou
     view.outward = Outward::Unreported;
     resend_on_news(out, kernel, news, view.value, view.inward);
     keep(table, view);
-}
-
-/// The report of a send that is over.
-fn send_report(on: EndId, outcome: Outcome, enclosed: Ends) -> Report
-    ensures { result ≡ send_report on outcome enclosed }
-{
-    Report {
-        on,
-        way: Way::Outward,
-        outcome,
-        bytes: no_bytes(),
-        enclosed,
-    }
 }
 
 /// The row unwant: the receive w of the opposite end is withdrawn, unless it was matched.

@@ -5,10 +5,12 @@ ghost use Rattle.end_table.specs.Entries.{is_news};
 ghost use Rattle.end_table.specs.Table.{entries, Puts, IsHere};
 ghost use Rattle.end_table.specs.declared.entry.Entry.{Entry};
 ghost use Rattle.end_table.specs.declared.entry.Entry.TheVariants.{Here};
-ghost use Rattle.kernel_step.specs.Actions.{reports, answers, resends, resends_receive, hears, listens, tells_moved};
+ghost use Rattle.kernel_step.specs.Actions.{send_report, reports, answers, resends, resends_receive, hears, listens, tells_moved};
 ghost use Rattle.kernel_step.specs.Progress.{progress, keeps, HasRoom, AddsAtMost};
 
-use charlotte_calls::{Answer, Bytes, EndId, Ends, MovingPicture, Report, Room, What, Work};
+use charlotte_calls::{
+    Answer, Bytes, EndId, Ends, MovingPicture, Outcome, Report, Room, Way, What, Work,
+};
 use end_table::{Entry, HereView, Holder, Inward, Table};
 use kernel_step::{push_answer, push_packet, push_report};
 
@@ -139,6 +141,19 @@ pub(crate) fn listen(table: &mut Table, mut view: HereView, at: u8, hops: u32, o
     let news = hear(&mut view, at, hops);
     resend_on_news(out, kernel, news, view.value, view.inward);
     keep(table, view);
+}
+
+/// The report of a send that is over.
+pub(crate) fn send_report(on: EndId, outcome: Outcome, enclosed: Ends) -> Report
+    ensures { result ≡ send_report on outcome enclosed }
+{
+    Report {
+        on,
+        way: Way::Outward,
+        outcome,
+        bytes: no_bytes(),
+        enclosed,
+    }
 }
 
 /// No bytes.

@@ -1,4 +1,4 @@
-use Rattle.std.proofs.Common.{◌≡◌, ◌+◌, ◌≤◌, ◌<◌, ◌++◌, ◌∷◌, [], length, arith, ap, sym, ◌∙◌, subst, append-nil, length-append, refl}
+use Rattle.std.proofs.Common.{◌≡◌, ◌++◌, ◌∷◌, [], length, arith, ap, sym, ◌∙◌, append-nil, length-append}
 use Rattle.cancel_core.specs.Enclosed.{AreEnclosed}
 use Rattle.cancel_core.proofs.EnclosedEnds.{AreEnclosed-first, AreEnclosed-others, values_leaving-others, values_leaving-more, leave_each-more}
 use Rattle.end_table.specs.Table.{entries}
