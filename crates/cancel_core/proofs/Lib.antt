@@ -1,1 +1,3 @@
-pub mod Alone
+pub mod EnclosedEnds
+pub mod Forgets
+pub mod Matches

@@ -1,1 +1,2 @@
+pub mod Enclosed
 pub mod Receives

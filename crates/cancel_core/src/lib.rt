@@ -2,10 +2,14 @@
 //! on the table of a kernel, and adds to a `Work` what that part sends, reports, answers and means.
 #![tactic(auto)]
 
+mod death;
+mod enclosed;
 mod matching;
 mod receive;
 mod send;
 mod tools;
 
+pub use death::notice;
 pub use receive::{arrived, post, unwanted, withdraw_receive};
-pub use send::{finished, start_send, unwant, want};
+pub use send::{finished, start_send, unwant, want, withdraw_send};
+pub use tools::room;

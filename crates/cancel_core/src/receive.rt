@@ -10,7 +10,9 @@ ghost use Rattle.kernel_step.specs.Rows.{asks, arrived_row, receives, takes, unw
 ghost use Rattle.kernel_step.specs.Actions.{resends_on_news, is_withdrawing};
 
 use crate::tools::{answer, hear, here, keep, report, resend_on_news};
-use charlotte_calls::{Answer, Bytes, Cause, EndId, Ends, Outcome, Report, ServiceStep, Way, What, Work};
+use charlotte_calls::{
+    Answer, Bytes, Cause, EndId, Ends, Outcome, Report, ServiceStep, Way, What, Work,
+};
 use end_table::{Entry, HereView, Holder, Inward, Table};
 use kernel_step::{push_packet, push_step};
 
@@ -163,12 +165,7 @@ fn free(table: &mut Table, mut view: HereView, at: u8, hops: u32, out: &mut Work
     ensures room { AddsAtMost 2 0 1 1 out.old out.new }
 {
     let kernel = table.kernel();
-    push_step(
-        out,
-        ServiceStep::Free {
-            on: view.value.end,
-        },
-    );
+    push_step(out, ServiceStep::Free { on: view.value.end });
     answer(out, view.holder, Answer::Ok);
     let news = hear(&mut view, at, hops);
     view.inward = Inward::Idle;
@@ -209,7 +206,9 @@ fn asking(table: &Table, to: EndId, w: u32) -> Option<HereView>
 {
     match table.look(to) {
         Entry::Here(view) => match view.inward {
-            Inward::Posted { w: asked } | Inward::Withdrawing { w: asked } if asked == w => Some(view),
+            Inward::Posted { w: asked } | Inward::Withdrawing { w: asked } if asked == w => Some(
+                view,
+            ),
             _ => None,
         },
         _ => None,

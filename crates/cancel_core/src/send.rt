@@ -1,24 +1,32 @@
-ghost use Rattle.std.specs.Prelude.{◌≡◌, [], Some, IfSome};
+ghost use Rattle.std.specs.Prelude.{◌≡◌, false, Some, IfSome};
+ghost use Rattle.std.specs.List.{list_any};
+ghost use Rattle.cancel_core.specs.Enclosed.{AreEnclosed};
+ghost use Rattle.end_table.specs.Place.{end_eq};
 ghost use Rattle.end_table.specs.Table.{entries, IsHere, IfHere};
 ghost use Rattle.end_table.specs.declared.entry.Entry.TheVariants.{Here};
 ghost use Rattle.kernel_step.specs.Actions.{send_report, enclosed_of};
-ghost use Rattle.kernel_step.specs.Calls.{starts_send};
+ghost use Rattle.kernel_step.specs.Calls.{starts_send, withdraws_send};
 ghost use Rattle.kernel_step.specs.Progress.{progress, HasRoom, AddsAtMost};
 ghost use Rattle.kernel_step.specs.Rows.{want_row, want_here, wants, awaits, taken_row, completes, unwant_row, unwant_here, voids};
 
+use crate::enclosed::hold_each;
 use crate::matching::{match_waiting, send_parcel};
-use crate::tools::{hear, here, keep, listen, no_bytes, no_ends, report, resend_on_news};
-use charlotte_calls::{Bytes, EndId, Ends, Outcome, Report, ServiceStep, Way, What, Work};
+use crate::tools::{hear, here, keep, listen, no_ends, report, resend_on_news, send_report};
+use charlotte_calls::{Bytes, EndId, Ends, Outcome, ServiceStep, Way, What, Work};
 use end_table::{Entry, HereView, Outward, Table};
 use kernel_step::{push_packet, push_step};
+use std::mem;
 
-/// Send: a send of these bytes, which encloses nothing, is started, and matched where a receive wants it.
+/// Send: a send of these bytes, which encloses these ends, is started, and matched where a receive wants it.
+/// That the ends are held by the send is set before.
 #[tactic(auto, unfolding(kernel_step::specs::Calls::starts_send))]
-pub fn start_send(table: &mut Table, on: EndId, bytes: Bytes, out: &mut Work)
+pub fn start_send(table: &mut Table, on: EndId, bytes: Bytes, enclose: Ends, out: &mut Work)
     requires here { IsHere (entries table.old on) }
+    requires enclosed { AreEnclosed (entries table.old) enclose }
+    requires apart { list_any (end_eq on) enclose ≡ false }
     requires room { HasRoom 1 0 0 2 out.old }
     ensures part { IfHere (entries table.old on) (λ v. progress (entries table.new) out.new
-        ≡ starts_send table.old.kernel bytes [] v (progress (entries table.old) out.old)) }
+        ≡ starts_send table.old.kernel bytes enclose v (progress (entries table.old) out.old)) }
     ensures room { AddsAtMost 1 0 0 2 out.old out.new }
 {
     let HereView {
@@ -34,18 +42,18 @@ pub fn start_send(table: &mut Table, on: EndId, bytes: Bytes, out: &mut Work)
             on,
             n,
             bytes: bytes.copy(),
-            enclose: no_ends(),
+            enclose: enclose.copy(),
         },
     );
     value.sent = n;
     if value.want != 0 {
-        send_parcel(table, value, holder, inward, n, bytes, out);
+        send_parcel(table, value, holder, inward, n, bytes, &enclose, out);
         return;
     }
     let outward = Outward::Waiting {
         n,
         bytes,
-        enclosed: no_ends(),
+        enclosed: enclose,
     };
     keep(
         table,
@@ -58,9 +66,46 @@ pub fn start_send(table: &mut Table, on: EndId, bytes: Bytes, out: &mut Work)
     );
 }
 
+/// Cancel of a send that waits: it never happened, and the ends that it enclosed are its owner's again.
+#[tactic(auto, unfolding(kernel_step::specs::Calls::withdraws_send))]
+pub fn withdraw_send(table: &mut Table, on: EndId, out: &mut Work)
+    requires here { IsHere (entries table.old on) }
+    requires enclosed { IfHere (entries table.old on) (λ v. AreEnclosed (entries table.old) (enclosed_of v.outward)) }
+    requires apart { IfHere (entries table.old on) (λ v. list_any (end_eq on) (enclosed_of v.outward) ≡ false) }
+    requires room { HasRoom 0 0 0 1 out.old }
+    ensures part { IfHere (entries table.old on) (λ v. progress (entries table.new) out.new
+        ≡ withdraws_send v (progress (entries table.old) out.old)) }
+    ensures room { AddsAtMost 0 0 0 1 out.old out.new }
+{
+    let mut view = here(table, on);
+    let holder = view.holder;
+    let sent = mem::replace(&mut view.outward, Outward::Idle);
+    keep(table, view);
+    let enclosed = enclosed_ends(sent);
+    hold_each(table, holder, enclosed.as_slice());
+    push_step(
+        out,
+        ServiceStep::Cancel {
+            on,
+            way: Way::Outward,
+        },
+    );
+}
+
+/// The ends that a send encloses.
+fn enclosed_ends(outward: Outward) -> Ends
+    ensures { result ≡ enclosed_of outward }
+{
+    match outward {
+        Outward::Waiting { enclosed, .. } => enclosed,
+        Outward::Idle | Outward::Matched { .. } | Outward::Unreported => no_ends(),
+    }
+}
+
 /// The row want: the receive w of the opposite end asks for a message, unless it was matched or withdrawn.
 pub fn want(table: &mut Table, to: EndId, w: u32, at: u8, hops: u32, out: &mut Work)
-    requires alone { IfHere (entries table.old to) (λ v. enclosed_of v.outward ≡ []) }
+    requires enclosed { IfHere (entries table.old to) (λ v. AreEnclosed (entries table.old) (enclosed_of v.outward)) }
+    requires apart { IfHere (entries table.old to) (λ v. list_any (end_eq v.value.end) (enclosed_of v.outward) ≡ false) }
     requires room { HasRoom 3 0 0 1 out.old }
     ensures part { progress (entries table.new) out.new
         ≡ want_row table.old.kernel to w at hops (entries table.old to) (progress (entries table.old) out.old) }
@@ -77,7 +122,8 @@ pub fn want(table: &mut Table, to: EndId, w: u32, at: u8, hops: u32, out: &mut W
 #[tactic(auto, unfolding(kernel_step::specs::Rows::want_here))]
 fn want_here(table: &mut Table, view: HereView, w: u32, at: u8, hops: u32, out: &mut Work)
     requires here { entries table.old view.value.end ≡ Here view }
-    requires alone { enclosed_of view.outward ≡ [] }
+    requires enclosed { AreEnclosed (entries table.old) (enclosed_of view.outward) }
+    requires apart { list_any (end_eq view.value.end) (enclosed_of view.outward) ≡ false }
     requires room { HasRoom 3 0 0 1 out.old }
     ensures part { progress (entries table.new) out.new
         ≡ want_here table.old.kernel w at hops view (progress (entries table.old) out.old) }
@@ -97,7 +143,8 @@ fn want_here(table: &mut Table, view: HereView, w: u32, at: u8, hops: u32, out: 
 #[tactic(auto, unfolding(kernel_step::specs::Rows::wants, kernel_step::specs::Actions::resends_on_news))]
 fn serve(table: &mut Table, mut view: HereView, w: u32, at: u8, hops: u32, out: &mut Work)
     requires here { entries table.old view.value.end ≡ Here view }
-    requires alone { enclosed_of view.outward ≡ [] }
+    requires enclosed { AreEnclosed (entries table.old) (enclosed_of view.outward) }
+    requires apart { list_any (end_eq view.value.end) (enclosed_of view.outward) ≡ false }
     requires room { HasRoom 3 0 0 1 out.old }
     ensures part { progress (entries table.new) out.new
         ≡ wants table.old.kernel w at hops view (progress (entries table.old) out.old) }
@@ -155,19 +202,6 @@ fn complete(table: &mut Table, mut view: HereView, n: u32, at: u8, hops: u32, ou
     view.outward = Outward::Unreported;
     resend_on_news(out, kernel, news, view.value, view.inward);
     keep(table, view);
-}
-
-/// The report of a send that is over.
-fn send_report(on: EndId, outcome: Outcome, enclosed: Ends) -> Report
-    ensures { result ≡ send_report on outcome enclosed }
-{
-    Report {
-        on,
-        way: Way::Outward,
-        outcome,
-        bytes: no_bytes(),
-        enclosed,
-    }
 }
 
 /// The row unwant: the receive w of the opposite end is withdrawn, unless it was matched.

@@ -5,10 +5,12 @@ ghost use Rattle.end_table.specs.Entries.{is_news};
 ghost use Rattle.end_table.specs.Table.{entries, Puts, IsHere};
 ghost use Rattle.end_table.specs.declared.entry.Entry.{Entry};
 ghost use Rattle.end_table.specs.declared.entry.Entry.TheVariants.{Here};
-ghost use Rattle.kernel_step.specs.Actions.{reports, answers, resends, resends_receive, hears, listens, tells_moved};
+ghost use Rattle.kernel_step.specs.Actions.{send_report, reports, answers, resends, resends_receive, hears, listens, tells_moved};
 ghost use Rattle.kernel_step.specs.Progress.{progress, keeps, HasRoom, AddsAtMost};
 
-use charlotte_calls::{Answer, Bytes, EndId, Ends, MovingPicture, Report, What, Work};
+use charlotte_calls::{
+    Answer, Bytes, EndId, Ends, MovingPicture, Outcome, Report, Room, Way, What, Work,
+};
 use end_table::{Entry, HereView, Holder, Inward, Table};
 use kernel_step::{push_answer, push_packet, push_report};
 
@@ -141,6 +143,19 @@ pub(crate) fn listen(table: &mut Table, mut view: HereView, at: u8, hops: u32, o
     keep(table, view);
 }
 
+/// The report of a send that is over.
+pub(crate) fn send_report(on: EndId, outcome: Outcome, enclosed: Ends) -> Report
+    ensures { result ≡ send_report on outcome enclosed }
+{
+    Report {
+        on,
+        way: Way::Outward,
+        outcome,
+        bytes: no_bytes(),
+        enclosed,
+    }
+}
+
 /// No bytes.
 pub(crate) fn no_bytes() -> Bytes
     ensures { result ≡ [] }
@@ -158,5 +173,18 @@ pub(crate) fn no_ends() -> Ends
     match Ends::from_slice(&[]) {
         Some(none) => none,
         None => unreachable!(),
+    }
+}
+
+/// Spare room that is enough for any one action of this crate: the packets of a row and those that news sends again,
+/// and the packets that tell up to seven other kernels to forget an end.
+pub fn room(_table: &Table, _end: EndId) -> Room
+    ensures { result ≡ record { packets = 10; reports = 2; answers = 1; steps = 2 } }
+{
+    Room {
+        packets: 10,
+        reports: 2,
+        answers: 1,
+        steps: 2,
     }
 }

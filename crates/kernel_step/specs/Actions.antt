@@ -1,7 +1,7 @@
 -- The actions of which calls and packets are made, each on how far the event has come. k is this kernel.
 -- A view is what the kernel keeps of an end that is here.
 use Rattle.std.specs.Prelude.{ℕ, Bool, true, false, nat_eq, ◌&&◌, not, List, [], ◌∷◌, if◌then◌else◌, Option, Some, None}
-use Rattle.std.specs.List.{fold, filter, flat_map}
+use Rattle.std.specs.List.{fold, flat_map}
 use Rattle.std.specs.Int.{bit_at}
 use Rattle.charlotte_calls.specs.Names.{opposite}
 use Rattle.charlotte_calls.specs.declared.calls.Answer.{Answer}
@@ -70,13 +70,13 @@ dead_receive_report e = record { on = e; way = way.Inward; outcome = outcome.Des
 abbrev pub kernel_numbers : List ℕ
 kernel_numbers = 0 ∷ 1 ∷ 2 ∷ 3 ∷ 4 ∷ 5 ∷ 6 ∷ 7 ∷ []
 
--- the kernels of a trail other than k, in order
-abbrev pub others_of_trail : ℕ → ℕ → List ℕ
-others_of_trail k trail = filter (λ j. nat_eq (bit_at trail j) 1 && not (nat_eq j k)) kernel_numbers
+-- a kernel of the trail, other than k, is told to forget the end
+abbrev pub forget_at : ℕ → MovingPicture → ℕ → Progress → Progress
+forget_at k m j d = if nat_eq (bit_at m.trail j) 1 && not (nat_eq j k) then sends j (packet.Forget m.end m.hops) d else d
 
--- each other kernel of the trail is told to forget the end
+-- each other kernel of the trail is told so, in order
 unfoldable pub forgets : ℕ → MovingPicture → Progress → Progress
-forgets k m d = fold (λ so_far j. sends j (packet.Forget m.end m.hops) so_far) d (others_of_trail k m.trail)
+forgets k m d = fold (λ so_far j. forget_at k m j so_far) d kernel_numbers
 
 -- LEAVE: the end's entry tells where it went
 abbrev pub leaves : ℕ → MovingPicture → Progress → Progress
@@ -107,8 +107,8 @@ matches k v n bytes xs d =
     let served = record v { value = record v.value { served = v.value.want; want = 0 }; outward = outward.Matched n } in
     let kept = keeps s (entry.Here served) d in
     sends (hint_kernel v)
-      (packet.Parcel (opposite s) n v.value.want k v.value.hops bytes (values_leaving k kept.table xs))
-      (means (step.Match s n) (leave_each (hint_kernel v) xs kept))
+    (packet.Parcel (opposite s) n v.value.want k v.value.hops bytes (values_leaving k kept.table xs))
+    (means (step.Match s n) (leave_each (hint_kernel v) xs kept))
 
 -- MATCH where a send waits; the end's view is kept in either case
 abbrev pub match_waiting : ℕ → HereView → Outward → Progress → Progress
@@ -164,25 +164,25 @@ noticed_inward (inward.Withdrawing w) = inward.Unreported
 noticed_inward inward.Unreported = inward.Unreported
 
 -- NOTICE of a send: a waiting one reports Destroyed, and the ends that it encloses are its owner's again
-unfoldable pub notice_send : HereView → Outward → Progress → Progress
-notice_send v outward.Idle d = d
-notice_send v (outward.Waiting n bytes xs) d = hold_each v.holder xs (reports v.holder (send_report v.value.end outcome.Destroyed xs) d)
-notice_send v (outward.Matched n) d = d
-notice_send v outward.Unreported d = d
+unfoldable pub notice_send : EndId → Holder → Outward → Progress → Progress
+notice_send e h outward.Idle d = d
+notice_send e h (outward.Waiting n bytes xs) d = hold_each h xs (reports h (send_report e outcome.Destroyed xs) d)
+notice_send e h (outward.Matched n) d = d
+notice_send e h outward.Unreported d = d
 
 -- NOTICE of a receive: a started one reports Destroyed, and a Cancel that waits is answered Dead
-unfoldable pub notice_receive : HereView → Inward → Progress → Progress
-notice_receive v inward.Idle d = d
-notice_receive v (inward.Posted w) d = reports v.holder (dead_receive_report v.value.end) d
-notice_receive v (inward.Withdrawing w) d =
-    answers v.holder (answer.Refused cause.Dead) (reports v.holder (dead_receive_report v.value.end) d)
-notice_receive v inward.Unreported d = d
+unfoldable pub notice_receive : EndId → Holder → Inward → Progress → Progress
+notice_receive e h inward.Idle d = d
+notice_receive e h (inward.Posted w) d = reports h (dead_receive_report e) d
+notice_receive e h (inward.Withdrawing w) d = answers h (answer.Refused cause.Dead) (reports h (dead_receive_report e) d)
+notice_receive e h inward.Unreported d = d
 
 -- NOTICE: the death of the link is known at the end
 unfoldable pub notices : ℕ → HereView → Progress → Progress
 notices k v d =
+    let e = v.value.end in
     let noticed = record v { value = noticed_value v.value; outward = noticed_outward v.outward; inward = noticed_inward v.inward } in
-    forgets k v.value (notice_receive v v.inward (notice_send v v.outward (keeps v.value.end (entry.Here noticed) d)))
+    forgets k v.value (notice_receive e v.holder v.inward (notice_send e v.holder v.outward (keeps e (entry.Here noticed) d)))
 
 -- whether a Cancel of a receive waits at the end
 abbrev pub is_withdrawing : Inward → Bool

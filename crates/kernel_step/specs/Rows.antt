@@ -30,7 +30,7 @@ unfoldable pub wants : ℕ → ℕ → ℕ → ℕ → HereView → Progress →
 wants k w at hops v d =
     let heard = hears v at hops in
     resends_on_news k v.value hops heard.value v.inward
-      (match_waiting k (record heard { value = record heard.value { want = w } }) v.outward d)
+    (match_waiting k (record heard { value = record heard.value { want = w } }) v.outward d)
 
 unfoldable pub want_here : ℕ → ℕ → ℕ → ℕ → HereView → Progress → Progress
 want_here k w at hops v d =
@@ -49,7 +49,7 @@ voids k w at hops v d =
     let heard = hears v at hops in
     let voided = record heard { value = record heard.value { served = w; want = 0 } } in
     resends_on_news k v.value hops heard.value v.inward
-      (sends at (packet.Unwanted (opposite e) w k v.value.hops) (means (step.Withdraw (opposite e)) (keeps e (entry.Here voided) d)))
+    (sends at (packet.Unwanted (opposite e) w k v.value.hops) (means (step.Withdraw (opposite e)) (keeps e (entry.Here voided) d)))
 
 unfoldable pub unwant_here : ℕ → ℕ → ℕ → ℕ → HereView → Progress → Progress
 unwant_here k w at hops v d =

@@ -1,0 +1,161 @@
+ghost use Rattle.std.specs.Prelude.{◌≡◌, ◌<◌, false};
+ghost use Rattle.std.specs.List.{list_any};
+ghost use Rattle.cancel_core.specs.Enclosed.{AreEnclosed};
+ghost use Rattle.charlotte_calls.specs.declared.names.EndId.{EndId};
+ghost use Rattle.end_table.specs.Place.{end_eq};
+ghost use Rattle.end_table.specs.Table.{entries, IsHere, IfHere};
+ghost use Rattle.end_table.specs.declared.entry.Entry.{Entry};
+ghost use Rattle.kernel_step.specs.Actions.{enclosed_of, notices, notice_send, notice_receive, noticed_value, noticed_outward, noticed_inward, dead_receive_report, forgets, forget_at};
+ghost use Rattle.kernel_step.specs.Progress.{progress, HasRoom, AddsAtMost};
+
+use crate::enclosed::hold_each;
+use crate::tools::{answer, here, keep, no_bytes, no_ends, report, send_report};
+use charlotte_calls::{Answer, Cause, EndId, MovingPicture, Outcome, Report, Way, What, Work};
+use end_table::{HereView, Holder, Inward, Outward, Table};
+use kernel_step::push_packet;
+
+/// The numbers of the kernels that there may be.
+const KERNELS: [u8; 8] = [0, 1, 2, 3, 4, 5, 6, 7];
+
+/// Each other kernel of the trail is told to forget the end.
+#[tactic(auto, unfolding(kernel_step::specs::Actions::forgets))]
+pub(crate) fn forget(out: &mut Work, kernel: u8, value: MovingPicture)
+    requires { HasRoom 8 0 0 0 out.old }
+    ensures part { (t : EndId → Entry) → progress t out.new ≡ forgets kernel value (progress t out.old) }
+    ensures room { AddsAtMost 8 0 0 0 out.old out.new }
+{
+    for to in &KERNELS {
+        forget_at(out, kernel, value, *to);
+    }
+}
+
+/// A kernel of the trail, other than this one, is told to forget the end.
+fn forget_at(out: &mut Work, kernel: u8, value: MovingPicture, to: u8)
+    requires below { to < 8 }
+    requires room { HasRoom 1 0 0 0 out.old }
+    ensures part { (t : EndId → Entry) → progress t out.new ≡ forget_at kernel value to (progress t out.old) }
+    ensures room { AddsAtMost 1 0 0 0 out.old out.new }
+{
+    if (value.trail >> to) & 1 == 1 && to != kernel {
+        push_packet(
+            out,
+            to,
+            What::Forget {
+                to: value.end,
+                hops: value.hops,
+            },
+        );
+    }
+}
+
+/// The action NOTICE at an end that is here: a waiting send and a started receive report Destroyed, a Cancel that waits is
+/// answered Dead, and the traces of the end are forgotten.
+#[tactic(auto, unfolding(kernel_step::specs::Actions::notices))]
+pub fn notice(table: &mut Table, on: EndId, out: &mut Work)
+    requires here { IsHere (entries table.old on) }
+    requires enclosed { IfHere (entries table.old on) (λ v. AreEnclosed (entries table.old) (enclosed_of v.outward)) }
+    requires apart { IfHere (entries table.old on) (λ v. list_any (end_eq on) (enclosed_of v.outward) ≡ false) }
+    requires room { HasRoom 8 2 1 0 out.old }
+    ensures part { IfHere (entries table.old on) (λ v. progress (entries table.new) out.new
+        ≡ notices table.old.kernel v (progress (entries table.old) out.old)) }
+    ensures room { AddsAtMost 8 2 1 0 out.old out.new }
+{
+    let HereView {
+        value,
+        holder,
+        outward,
+        inward,
+    } = here(table, on);
+    let kernel = table.kernel();
+    let noticed = HereView {
+        value: noticed_value(value),
+        holder,
+        outward: noticed_outward(&outward),
+        inward: noticed_inward(inward),
+    };
+    keep(table, noticed);
+    notice_send(table, on, holder, outward, out);
+    notice_receive(out, on, holder, inward);
+    forget(out, kernel, value);
+}
+
+/// What NOTICE makes of an end's value.
+fn noticed_value(mut value: MovingPicture) -> MovingPicture
+    ensures { result ≡ noticed_value value }
+{
+    value.want = 0;
+    value.dead = true;
+    value.trail = 0;
+    value
+}
+
+/// What NOTICE makes of a send.
+fn noticed_outward(outward: &Outward) -> Outward
+    ensures { result ≡ noticed_outward outward.now }
+{
+    match outward {
+        Outward::Idle => Outward::Idle,
+        Outward::Matched { n } => Outward::Matched { n: *n },
+        Outward::Waiting { .. } | Outward::Unreported => Outward::Unreported,
+    }
+}
+
+/// What NOTICE makes of a receive.
+fn noticed_inward(inward: Inward) -> Inward
+    ensures { result ≡ noticed_inward inward }
+{
+    match inward {
+        Inward::Idle => Inward::Idle,
+        Inward::Posted { .. } | Inward::Withdrawing { .. } | Inward::Unreported => {
+            Inward::Unreported
+        }
+    }
+}
+
+/// NOTICE of a send: a waiting one reports Destroyed, and the ends that it encloses are its owner's again.
+#[tactic(auto, unfolding(kernel_step::specs::Actions::notice_send))]
+fn notice_send(table: &mut Table, on: EndId, holder: Holder, outward: Outward, out: &mut Work)
+    requires enclosed { AreEnclosed (entries table.old) (enclosed_of outward) }
+    requires room { HasRoom 0 1 0 0 out.old }
+    ensures part { progress (entries table.new) out.new ≡ notice_send on holder outward (progress (entries table.old) out.old) }
+    ensures room { AddsAtMost 0 1 0 0 out.old out.new }
+{
+    if let Outward::Waiting { enclosed, .. } = outward {
+        report(
+            out,
+            holder,
+            send_report(on, Outcome::Destroyed, enclosed.copy()),
+        );
+        hold_each(table, holder, enclosed.as_slice());
+    }
+}
+
+/// NOTICE of a receive: a started one reports Destroyed, and a Cancel that waits is answered Dead.
+#[tactic(auto, unfolding(kernel_step::specs::Actions::notice_receive))]
+fn notice_receive(out: &mut Work, on: EndId, holder: Holder, inward: Inward)
+    requires { HasRoom 0 1 1 0 out.old }
+    ensures part { (t : EndId → Entry) → progress t out.new ≡ notice_receive on holder inward (progress t out.old) }
+    ensures room { AddsAtMost 0 1 1 0 out.old out.new }
+{
+    match inward {
+        Inward::Idle | Inward::Unreported => {}
+        Inward::Posted { .. } => report(out, holder, dead_receive_report(on)),
+        Inward::Withdrawing { .. } => {
+            report(out, holder, dead_receive_report(on));
+            answer(out, holder, Answer::Refused(Cause::Dead));
+        }
+    }
+}
+
+/// The report of a receive whose link died.
+fn dead_receive_report(on: EndId) -> Report
+    ensures { result ≡ dead_receive_report on }
+{
+    Report {
+        on,
+        way: Way::Inward,
+        outcome: Outcome::Destroyed,
+        bytes: no_bytes(),
+        enclosed: no_ends(),
+    }
+}
