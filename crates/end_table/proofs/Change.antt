@@ -38,6 +38,7 @@ unfolding entries HasPlace put
 Puts-Changes k old new e x h =
     record {
       after = λ i q. entry-Changes old new e (Some x) h q i;
+      at = entry-Changes old new e (Some x) h e ∙ ap (λ b. cond b x (entry_in (lookup (end_eq e) old))) (end_eq-refl e);
       others = λ q apart. ap entry_in (other-Changes old new e (Some x) h q apart);
       placed = ap is_some (h e ∙ ap (λ b. cond b (Some x) (lookup (end_eq e) old)) (end_eq-refl e));
       places = λ q has. ap is_some (h q) ∙ kept (end_eq e q) (lookup (end_eq q) old) has;
@@ -54,6 +55,7 @@ unfolding entries HasPlace put
 Clears-Changes k old new e h =
     record {
       after = λ i q. entry-Changes old new e None h q i;
+      at = entry-Changes old new e None h e ∙ ap (λ b. cond b Nothing (entry_in (lookup (end_eq e) old))) (end_eq-refl e);
       others = λ q apart. ap entry_in (other-Changes old new e None h q apart);
       places = λ q apart has. ap is_some (other-Changes old new e None h q apart) ∙ has;
       kernel = refl;
@@ -61,21 +63,19 @@ Clears-Changes k old new e h =
 
 -- a table stays well kept where an entry of its own end is put
 module _ (old new : TableView) (e : EndId) (x : Entry) (kept : IsWellKept old) (own : IsOfEnd e x)
-    (kernel : new.kernel ≡ old.kernel) (after : entries new ≡ put (entries old) e x) (others : (q : EndId) → end_eq e q ≡ false → entries new q ≡ entries old q) where
+    (kernel : new.kernel ≡ old.kernel) (at : entries new e ≡ x) (others : (q : EndId) → end_eq e q ≡ false → entries new q ≡ entries old q) where
   IsWellKept-put : IsWellKept new
   IsWellKept-put = record { kernel = subst (λ k. k < 8) (sym kernel) kept.kernel; own = λ q. by (end_eq e q) q refl }
     where
       by : (b : Bool) (q : EndId) → end_eq e q ≡ b → IsOfEnd q (entries new q)
-      by true q same =
-          let at : entries new e ≡ x = ap (λ t. t e) after ∙ put-at (entries old) e x in
-          subst (λ z. IsOfEnd z (entries new z)) (end_eq-same e q same) (subst (λ y. IsOfEnd e y) (sym at) own)
+      by true q same = subst (λ z. IsOfEnd z (entries new z)) (end_eq-same e q same) (subst (λ y. IsOfEnd e y) (sym at) own)
       by false q apart = subst (λ y. IsOfEnd q y) (sym (others q apart)) (kept.own q)
 
 pub IsWellKept-Puts : (old new : TableView) (e : EndId) (x : Entry) → IsWellKept old → IsOfEnd e x → Puts old new e x → IsWellKept new
-IsWellKept-Puts old new e x kept own puts = IsWellKept-put old new e x kept own puts.kernel puts.after puts.others
+IsWellKept-Puts old new e x kept own puts = IsWellKept-put old new e x kept own puts.kernel puts.at puts.others
 
 pub IsWellKept-Clears : (old new : TableView) (e : EndId) → IsWellKept old → Clears old new e → IsWellKept new
-IsWellKept-Clears old new e kept clears = IsWellKept-put old new e Nothing kept tt clears.kernel clears.after clears.others
+IsWellKept-Clears old new e kept clears = IsWellKept-put old new e Nothing kept tt clears.kernel clears.at clears.others
 
 -- a table without places has no entry
 pub entries-empty : (t : TableView) → t.places ≡ [] → entries t ≡ (λ _. Nothing)
@@ -118,6 +118,7 @@ put-nothing t e nothing = λ i q. by (end_eq e q) q refl i
 pub puts_twice : (old middle new : TableView) (e : EndId) (x y : Entry) → Puts old middle e x → Puts middle new e y → Puts old new e y
 puts_twice old middle new e x y first second =
     record {
+      at = second.at;
       after = second.after ∙ ap (λ t. put t e y) first.after ∙ put-put (entries old) e x y;
       others = λ q apart. second.others q apart ∙ first.others q apart;
       placed = second.placed;

@@ -60,9 +60,10 @@ end_before-end_cmp x y less = search rules
 pub AreEndsInOrder-sorted : (ends : List EndId) → IsStrictlySortedBy end_cmp ends → AreEndsInOrder ends
 AreEndsInOrder-sorted [] sorted = tt
 AreEndsInOrder-sorted (x ∷ []) sorted = tt
-AreEndsInOrder-sorted (x ∷ y ∷ ends) sorted =
-    ( end_before-end_cmp x y (Less-from_sorted end_cmp (x ∷ y ∷ ends) 0 1 x sorted (omega arith) (omega arith))
-    , AreEndsInOrder-sorted (y ∷ ends) (sorted_tail end_cmp x (y ∷ ends) sorted) )
+AreEndsInOrder-sorted (x ∷ y ∷ ends) sorted = (
+  end_before-end_cmp x y (Less-from_sorted end_cmp (x ∷ y ∷ ends) 0 1 x sorted (omega arith) (omega arith)),
+  AreEndsInOrder-sorted (y ∷ ends) (sorted_tail end_cmp x (y ∷ ends) sorted),
+)
 
 strict_from_sort : (ends : List EndId) → IsDistinct end_eq ends → IsSorted end_cmp ends → IsStrictlySortedBy end_cmp ends
 strict_from_sort ends distinct sorted =
@@ -84,18 +85,23 @@ AreEndsOf-sorted t p ends distinct moved sorted =
   where
     mine : Entry → Bool
     mine x = is_some (owned p x)
+
     own : EndId × Entry → Bool
     own e = mine e.1
+
     found : (q : EndId) → is_some (lookup (end_eq q) (filter own t.places)) ≡ mine (entry_in (lookup (end_eq q) t.places))
     found q = ap is_some (lookup-filter-values end_eq-equivalence mine q t.places distinct) ∙ by (lookup (end_eq q) t.places)
       where
         chosen : (b : Bool) (x : Entry) → is_some (cond b (Some x) None) ≡ b
         chosen true x = refl
         chosen false x = refl
+
         by : (o : Option Entry) → is_some (option_filter mine o) ≡ mine (entry_in o)
         by None = refl
         by (Some x) = chosen (mine x) x
+
     to : (q : EndId) → Contains (owned_ends p t.places) q → mine (entry_in (lookup (end_eq q) t.places)) ≡ true
     to q among = sym (found q) ∙ IsSome-lookup_from_Contains end_eq-equivalence q (filter own t.places) among
+
     from : (q : EndId) → mine (entry_in (lookup (end_eq q) t.places)) ≡ true → Contains (owned_ends p t.places) q
     from q owner = Contains-keys_from_lookup end_eq-same q (filter own t.places) (found q ∙ owner)

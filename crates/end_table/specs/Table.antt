@@ -75,6 +75,7 @@ KeepsPlaces old new = (q : EndId) → HasPlace old q → HasPlace new q
 -- this entry is put at an end: every other end keeps its entry, every place is kept, and the kernel's number stays
 pub record Puts (old new : TableView) (end : EndId) (x : Entry) : Type 0 where
   pub after : entries new ≡ put (entries old) end x
+  pub at : entries new end ≡ x
   pub others : (q : EndId) → end_eq end q ≡ false → entries new q ≡ entries old q
   pub placed : HasPlace new end
   pub places : KeepsPlaces old new
@@ -83,6 +84,7 @@ pub record Puts (old new : TableView) (end : EndId) (x : Entry) : Type 0 where
 -- the entry and the place of an end are taken away: every other end keeps both, and the kernel's number stays
 pub record Clears (old new : TableView) (end : EndId) : Type 0 where
   pub after : entries new ≡ put (entries old) end entry.Nothing
+  pub at : entries new end ≡ entry.Nothing
   pub others : (q : EndId) → end_eq end q ≡ false → entries new q ≡ entries old q
   pub places : (q : EndId) → end_eq end q ≡ false → HasPlace old q → HasPlace new q
   pub kernel : new.kernel ≡ old.kernel

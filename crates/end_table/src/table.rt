@@ -9,6 +9,9 @@ ghost use Rattle.end_table.specs.Owned.{AreEndsOf};
 ghost use Rattle.end_table.specs.Slot.{owned_ends};
 ghost use Rattle.end_table.specs.declared.entry.Entry.TheVariants.{Nothing, Here, Left, Destroyed};
 
+#[cfg(test)]
+mod tests;
+
 use crate::slot::{Living, Slot, leave};
 use crate::{Entry, HereView, Holder};
 use charlotte_calls::{EndId, Mark, Moving, NoMemory, Pid};
@@ -167,6 +170,7 @@ impl Table {
     #[tactic(auto, using(crate::proofs::Change::puts_twice))]
     pub fn take_out(&mut self, end: EndId, to: u8) -> Moving
         requires { IsHereAnd (entries self.old end) IsIdle }
+        ensures own { IsOfEnd end (entries self.old end) }
         ensures value { IfHere (entries self.old end) (λ v. result ≡ left_value self.old.kernel v.value) }
         ensures left { IfHere (entries self.old end) (λ v. Puts self.old self.new end (left_entry to v.value)) }
     {
@@ -181,6 +185,7 @@ impl Table {
     #[tactic(auto, using(crate::proofs::Change::puts_twice))]
     pub fn end_here(&mut self, end: EndId) -> Mark
         requires { IsHere (entries self.old end) }
+        ensures own { IsOfEnd end (entries self.old end) }
         ensures mark { IfHere (entries self.old end) (λ v. result ≡ v.value) }
         ensures ended { IfHere (entries self.old end) (λ v. Puts self.old self.new end (ended_entry v.value)) }
     {
@@ -192,7 +197,8 @@ impl Table {
     /// Sets the hint of the mark of a destroyed end.
     pub fn hint_mark(&mut self, end: EndId, hint: (u8, u32))
         requires { IsDestroyed (entries self.old end) }
-        ensures { IfDestroyed (entries self.old end) (λ m. Puts self.old self.new end (Destroyed (record m { hint = hint }))) }
+        ensures own { IsOfEnd end (entries self.old end) }
+        ensures hinted { IfDestroyed (entries self.old end) (λ m. Puts self.old self.new end (Destroyed (record m { hint = hint }))) }
     {
         match self.slots.get_mut(&end) {
             Some(slot) => slot.set_hint(hint),
@@ -266,6 +272,7 @@ impl Table {
     /// the hint changes where the hops are more than those of the hint.
     pub fn hint(&mut self, end: EndId, kernel: u8, hops: u32) -> bool
         requires { IsHere (entries self.old end) }
+        ensures own { IsOfEnd end (entries self.old end) }
         ensures news { IfHere (entries self.old end) (λ v. result ≡ is_news v.value hops) }
         ensures learned { IfHere (entries self.old end) (λ v. Puts self.old self.new end (Here (record v { value = learned kernel hops v.value }))) }
     {

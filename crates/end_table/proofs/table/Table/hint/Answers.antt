@@ -22,8 +22,8 @@ invariant_of-self c =
     let at = entries-some c.self.inside.kernel c.self.inside.slots.entries c.args.end c.in-Some.slot.now c.in-Some.ensures.value in
     IsWellKept-Puts _ _ _ _ c.self.invariant
     (IsOfEnd-learned c.in-Some.slot.now c.learn.new.self c.args.end c.args.kernel c.args.hops
-        (subst IsHere at (subst (λ t. IsHere (entries t c.args.end)) (sym c.self.view_is) c.requires))
-        (subst (IsOfEnd c.args.end) at (c.self.invariant.own c.args.end)) c.learn.ensures.learned)
+    (subst IsHere at (subst (λ t. IsHere (entries t c.args.end)) (sym c.self.view_is) c.requires))
+    (subst (IsOfEnd c.args.end) at (c.self.invariant.own c.args.end)) c.learn.ensures.learned)
     (Puts-Changes _ _ _ _ _ (Changes-WritesThrough _ _ _ _ _ c.in-Some.ensures.value (c.get_mut.follows.holds c.learn.new.self)))
 
 pub returns-clause-news : goal.returns-clause-news
@@ -37,4 +37,8 @@ unfolding end_eq
 returns-clause-learned c =
     rw (← c.self.view_is)
     (IfHere-Puts _ _ _ _ _ _ c.in-Some.ensures.value (Changes-WritesThrough _ _ _ _ _ c.in-Some.ensures.value (c.get_mut.follows.holds c.learn.new.self))
-        (λ v. Here (record v { value = learned c.args.kernel c.args.hops v.value })) c.learn.ensures.learned)
+    (λ v. Here (record v { value = learned c.args.kernel c.args.hops v.value })) c.learn.ensures.learned)
+
+pub returns-clause-own : goal.returns-clause-own
+unfolding end_eq
+returns-clause-own c = rw (← c.self.view_is) (c.self.invariant.own c.args.end)

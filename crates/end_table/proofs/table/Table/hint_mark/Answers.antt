@@ -21,13 +21,17 @@ invariant_of-self c =
     let at = entries-some c.self.inside.kernel c.self.inside.slots.entries c.args.end c.in-Some.slot.now c.in-Some.ensures.value in
     IsWellKept-Puts _ _ _ _ c.self.invariant
     (IsOfEnd-hinted c.in-Some.slot.now c.set_hint.new.self c.args.end c.args.hint
-        (subst IsDestroyed at (subst (λ t. IsDestroyed (entries t c.args.end)) (sym c.self.view_is) c.requires))
-        (subst (IsOfEnd c.args.end) at (c.self.invariant.own c.args.end)) c.set_hint.ensures)
+    (subst IsDestroyed at (subst (λ t. IsDestroyed (entries t c.args.end)) (sym c.self.view_is) c.requires))
+    (subst (IsOfEnd c.args.end) at (c.self.invariant.own c.args.end)) c.set_hint.ensures)
     (Puts-Changes _ _ _ _ _ (Changes-WritesThrough _ _ _ _ _ c.in-Some.ensures.value (c.get_mut.follows.holds c.set_hint.new.self)))
 
-pub returns : goal.returns
+pub returns-clause-hinted : goal.returns-clause-hinted
 unfolding end_eq
-returns c =
+returns-clause-hinted c =
     rw (← c.self.view_is)
     (IfDestroyed-Puts _ _ _ _ _ _ c.in-Some.ensures.value (Changes-WritesThrough _ _ _ _ _ c.in-Some.ensures.value (c.get_mut.follows.holds c.set_hint.new.self))
-        (λ m. Destroyed (record m { hint = c.args.hint })) c.set_hint.ensures)
+    (λ m. Destroyed (record m { hint = c.args.hint })) c.set_hint.ensures)
+
+pub returns-clause-own : goal.returns-clause-own
+unfolding end_eq
+returns-clause-own c = rw (← c.self.view_is) (c.self.invariant.own c.args.end)

@@ -8,8 +8,8 @@ use Rattle.end_table.proofs.table.Table.reserve.Goals.{in-Ok, in-Err}
 pub returns-clause-entries : goal.returns-clause-entries
 returns-clause-entries c =
     elim c.match-store.branch [
-      in-Ok w ↦
-        w.in-Ok.ensures.ok.after ∙ ap (put (entries c.args.self.now) c.args.end) c.nothing.ensures
-        ∙ put-nothing _ _ (entries-no_place _ _ (λ has. true≢false (sym (c.has_place.ensures.1 has) ∙ c.if-has_place.false)))
-    | in-Err w ↦ ap entries w.in-Err.ensures.same
+      | in-Ok w ↦
+          w.in-Ok.ensures.ok.after ∙ ap (put (entries c.args.self.now) c.args.end) c.nothing.ensures
+          ∙ put-nothing _ _ (entries-no_place _ _ (λ has. true≢false (sym (c.has_place.ensures.1 has) ∙ c.if-has_place.false)))
+      | in-Err w ↦ ap entries w.in-Err.ensures.same
     ]
