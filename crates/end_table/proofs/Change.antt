@@ -1,5 +1,5 @@
 -- From what a map says of its keys to what a table says of its ends.
-use Rattle.std.proofs.Common.{◌≡◌, ℕ, ◌<◌, Bool, true, false, cond, List, [], Option, None, Some, is_some, unwrap_or, IsTrue, refl, sym, ap, subst, ◌∙◌, true≢false, if◌then◌else◌}
+use Rattle.std.proofs.Common.{◌≡◌, ℕ, ◌<◌, Bool, true, false, cond, List, [], Option, None, Some, is_some, unwrap_or, refl, sym, ap, subst, ◌∙◌, true≢false, if◌then◌else◌}
 use Rattle.std.specs.Map.{lookup}
 use Rattle.std.specs.HashMap.{HashMap, WritesThrough, get_by}
 use Rattle.charlotte_calls.specs.declared.names.EndId.{EndId}
@@ -11,7 +11,7 @@ use Rattle.charlotte_calls.specs.declared.picture.MovingPicture.{MovingPicture}
 use Rattle.end_table.specs.Entries.{learned, is_news}
 use Rattle.end_table.specs.Place.{end_eq, put}
 use Rattle.end_table.specs.Table.{TableView, entries, HasPlace, Puts, Clears, IsWellKept, IsOfEnd, IsHere, IfHere, IsDestroyed, IfDestroyed}
-use Rattle.end_table.proofs.EndEq.{end_eq-same, end_eq-refl, put-at, put-other, put-put}
+use Rattle.end_table.proofs.EndEq.{end_eq-same, end_eq-refl, put-put}
 
 -- the entry that a map has at a key
 abbrev pub entry_in : Option Entry → Entry
@@ -56,6 +56,7 @@ Clears-Changes k old new e h =
     record {
       after = λ i q. entry-Changes old new e None h q i;
       at = entry-Changes old new e None h e ∙ ap (λ b. cond b Nothing (entry_in (lookup (end_eq e) old))) (end_eq-refl e);
+      no_place = λ has. true≢false (sym has ∙ ap is_some (h e ∙ ap (λ b. cond b None (lookup (end_eq e) old)) (end_eq-refl e)));
       others = λ q apart. ap entry_in (other-Changes old new e None h q apart);
       places = λ q apart has. ap is_some (other-Changes old new e None h q apart) ∙ has;
       kernel = refl;

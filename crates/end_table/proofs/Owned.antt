@@ -1,5 +1,5 @@
 -- The ends that a process owns, from the places of a table.
-use Rattle.std.proofs.Common.{◌≡◌, ◌↔◌, ◌<◌, ◌+◌, ℕ, Bool, true, false, true≢false, cond, List, [], ◌∷◌, Option, None, Some, is_some, filter, Contains, IsTrue, eqb, eqb-true, eq-eqb, refl, sym, ap, subst, ◌∙◌, arith, rules}
+use Rattle.std.proofs.Common.{◌≡◌, ◌↔◌, ◌⊎◌, ⊎_elim, inl, inr, zero, suc, ◌+◌, Bool, true, false, true≢false, cond, List, [], ◌∷◌, Option, None, Some, is_some, filter, Contains, refl, sym, ap, subst, ◌∙◌, arith, rules}
 use Rattle.std.specs.Cmp.{IsTotalOrder, IsEquivalence}
 use Rattle.std.specs.List.{IsDistinct}
 use Rattle.std.specs.List.Sorted.{IsStrictlySortedBy, IsSorted, IsPermutation}
@@ -105,3 +105,73 @@ AreEndsOf-sorted t p ends distinct moved sorted =
 
     from : (q : EndId) → mine (entry_in (lookup (end_eq q) t.places)) ≡ true → Contains (owned_ends p t.places) q
     from q owner = Contains-keys_from_lookup end_eq-same q (filter own t.places) (found q ∙ owner)
+
+-- no end stands before itself, and none before one that stands before it
+end_before-irrefl : (x : EndId) → end_before x x ≡ true → ⊥
+end_before-irrefl x h = search rules
+
+end_cmp-end_before : (x y : EndId) → end_before x y ≡ true → end_cmp x y ≡ Less
+unfolding end_cmp
+end_cmp-end_before x y before = search rules
+
+end_before-trans : (x y z : EndId) → end_before x y ≡ true → end_before y z ≡ true → end_before x z ≡ true
+end_before-trans x y z h k = end_before-end_cmp x z (end_cmp-total.trans x y z (end_cmp-end_before x y h) (end_cmp-end_before y z k))
+
+-- where an element of a list with a first one stands
+first_or_later : (x : EndId) (xs : List EndId) (q : EndId) → Contains (x ∷ xs) q → (x ≡ q) ⊎ Contains xs q
+first_or_later x xs q (zero, within, is) = inl is
+first_or_later x xs q (suc k, within, is) = inr (k, omega arith, is)
+
+later : (x : EndId) (xs : List EndId) (q : EndId) → Contains xs q → Contains (x ∷ xs) q
+later x xs q (k, within, is) = (suc k, omega arith, is)
+
+first : (x : EndId) (xs : List EndId) → Contains (x ∷ xs) x
+first x xs = (zero, omega arith, refl)
+
+-- the first of ends in order stands before each other
+before_later : (x : EndId) (xs : List EndId) → AreEndsInOrder (x ∷ xs) → (q : EndId) → Contains xs q → end_before x q ≡ true
+before_later x [] order q (k, within, is) = absurd (omega arith)
+before_later x (y ∷ ys) order q among =
+    ⊎_elim (λ e. subst (λ z. end_before x z ≡ true) e order.0)
+    (λ later. end_before-trans x y q order.0 (before_later y ys order.1 q later)) (first_or_later y ys q among)
+
+in_order-tail : (x : EndId) (xs : List EndId) → AreEndsInOrder (x ∷ xs) → AreEndsInOrder xs
+in_order-tail x [] order = tt
+in_order-tail x (y ∷ ys) order = order.1
+
+-- lists in order with the same ends are the same
+pub in_order-unique : (xs ys : List EndId) → AreEndsInOrder xs → AreEndsInOrder ys → ((q : EndId) → Contains xs q ↔ Contains ys q) → xs ≡ ys
+in_order-unique [] [] x_order y_order same = refl
+in_order-unique [] (y ∷ ys) x_order y_order same = none ((same y).1 (first y ys))
+  where
+    none : Contains [] y → [] ≡ y ∷ ys
+    none (k, within, is) = absurd (omega arith)
+in_order-unique (x ∷ xs) [] x_order y_order same = none ((same x).0 (first x xs))
+  where
+    none : Contains [] x → x ∷ xs ≡ []
+    none (k, within, is) = absurd (omega arith)
+in_order-unique (x ∷ xs) (y ∷ ys) x_order y_order same =
+    let heads : x ≡ y = firsts in
+    (λ i. heads i ∷ (in_order-unique xs ys (in_order-tail x xs x_order) (in_order-tail y ys y_order) tails) i)
+  where
+    firsts : x ≡ y
+    firsts =
+        ⊎_elim (λ e. sym e)
+        (λ x_later. ⊎_elim (λ e. e)
+        (λ y_later. absurd (end_before-irrefl x (end_before-trans x y x (before_later x xs x_order y y_later) (before_later y ys y_order x x_later))))
+        (first_or_later x xs y ((same y).1 (first y ys))))
+        (first_or_later y ys x ((same x).0 (first x xs)))
+
+    tails : (q : EndId) → Contains xs q ↔ Contains ys q
+    tails q = (
+      λ among. ⊎_elim (λ e. absurd (end_before-irrefl x (subst (λ z. end_before x z ≡ true) (sym e ∙ sym firsts) (before_later x xs x_order q among)))) (λ l. l)
+          (first_or_later y ys q ((same q).0 (later x xs q among))),
+      λ among. ⊎_elim (λ e. absurd (end_before-irrefl y (subst (λ z. end_before y z ≡ true) (sym e ∙ firsts) (before_later y ys y_order q among)))) (λ l. l)
+          (first_or_later x xs q ((same q).1 (later y ys q among))),
+    )
+
+-- a process has one list of its ends
+pub AreEndsOf-unique : (p : Pid) (t : EndId → Entry) (xs ys : List EndId) → AreEndsOf p t xs → AreEndsOf p t ys → xs ≡ ys
+AreEndsOf-unique p t xs ys first second =
+    in_order-unique xs ys first.order second.order
+    (λ q. (λ among. (second.all q).1 ((first.all q).0 among), λ among. (first.all q).1 ((second.all q).0 among)))

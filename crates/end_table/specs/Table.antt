@@ -85,6 +85,7 @@ pub record Puts (old new : TableView) (end : EndId) (x : Entry) : Type 0 where
 pub record Clears (old new : TableView) (end : EndId) : Type 0 where
   pub after : entries new ≡ put (entries old) end entry.Nothing
   pub at : entries new end ≡ entry.Nothing
+  pub no_place : HasPlace new end → ⊥
   pub others : (q : EndId) → end_eq end q ≡ false → entries new q ≡ entries old q
   pub places : (q : EndId) → end_eq end q ≡ false → HasPlace old q → HasPlace new q
   pub kernel : new.kernel ≡ old.kernel

@@ -116,6 +116,7 @@ impl Table {
     pub fn look(&self, end: EndId) -> Entry
         ensures entry { result ≡ entries self.now end }
         ensures own { IsOfEnd end result }
+        ensures placed { (result ≡ Nothing → ⊥) → HasPlace self.now end }
     {
         match self.slots.get(&end) {
             Some(slot) => slot.look(),
@@ -216,6 +217,7 @@ impl Table {
 
     /// Gives back the place of an end that has no entry.
     pub fn release(&mut self, end: EndId)
+        ensures released { entries self.old end ≡ Nothing → HasPlace self.new end → ⊥ }
         ensures entries { entries self.new ≡ entries self.old }
         ensures places { (q : EndId) → end_eq end q ≡ false → HasPlace self.old q → HasPlace self.new q }
         ensures kernel { self.new.kernel ≡ self.old.kernel }

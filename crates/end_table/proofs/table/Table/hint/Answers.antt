@@ -2,7 +2,7 @@ use Rattle.std.proofs.Common.{◌≡◌, subst, sym}
 use Rattle.end_table.specs.Entries.{learned, is_news}
 use Rattle.end_table.specs.Place.{end_eq}
 use Rattle.end_table.specs.declared.entry.Entry.TheVariants.{Here}
-use Rattle.end_table.specs.Table.{IsHere, IfHere, IsOfEnd, Puts, entries}
+use Rattle.end_table.specs.Table.{IsHere, IfHere, IsOfEnd, entries}
 use Rattle.end_table.proofs.Change.{Changes-WritesThrough, Puts-Changes, IsWellKept-Puts, entries-some, entries-none, IfHere-Puts, IsOfEnd-learned}
 use Rattle.end_table.proofs.table.Table.hint.Goals as goal
 

@@ -1,7 +1,7 @@
 use Rattle.std.proofs.Common.{subst, sym}
 use Rattle.end_table.specs.Place.{end_eq}
 use Rattle.end_table.specs.declared.entry.Entry.TheVariants.{Destroyed}
-use Rattle.end_table.specs.Table.{IsDestroyed, IfDestroyed, IsOfEnd, Puts, entries}
+use Rattle.end_table.specs.Table.{IsDestroyed, IsOfEnd, entries}
 use Rattle.end_table.proofs.Change.{Changes-WritesThrough, Puts-Changes, IsWellKept-Puts, entries-some, entries-none, IfDestroyed-Puts, IsOfEnd-hinted}
 use Rattle.end_table.proofs.table.Table.hint_mark.Goals as goal
 

@@ -1,6 +1,6 @@
-use Rattle.std.proofs.Common.{ap, sym, ◌∙◌, subst, IsTrue}
+use Rattle.std.proofs.Common.{refl, is_some, ap, sym, ◌∙◌, subst}
 use Rattle.end_table.specs.Place.{end_eq}
-use Rattle.end_table.specs.Table.{entries, IsOfEnd}
+use Rattle.end_table.specs.Table.{entries, HasPlace, IsOfEnd}
 use Rattle.end_table.proofs.Change.{entry_in}
 use Rattle.end_table.proofs.table.Table.look.Goals as goal
 
@@ -16,3 +16,10 @@ returns-in-Some-clause-own c =
 pub returns-in-None-clause-entry : goal.returns-in-None-clause-entry
 unfolding end_eq entries
 returns-in-None-clause-entry c = rw (← c.self.view_is) (ap entry_in c.in-None.ensures.value)
+
+pub returns-in-Some-clause-placed : goal.returns-in-Some-clause-placed
+unfolding end_eq HasPlace
+returns-in-Some-clause-placed c = rw (← c.self.view_is) (λ some. ap is_some (sym c.in-Some.ensures.value))
+
+pub returns-in-None-clause-placed : goal.returns-in-None-clause-placed
+returns-in-None-clause-placed c = λ some. absurd (some refl)
