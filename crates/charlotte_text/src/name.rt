@@ -1,8 +1,12 @@
-ghost use Rattle.std.specs.Prelude.{◌≡◌, ◌++◌, OnOk, OnErr, length, take};
+ghost use Rattle.std.specs.Prelude.{◌≡◌, ◌++◌, OnOk, OnErr, length, take, ◌≤◌, ◌∷◌, option_copied};
 ghost use Rattle.charlotte_text.specs.Spelling.{end_text, ends_text, process_text};
+ghost use Rattle.charlotte_text.specs.Reading.{Gives, process_of, side_of, end_of, plus_end_of, ends_of, rest_parts};
 
-use crate::number::push_number;
-use charlotte_calls::{EndId, NoMemory, Pid, Side};
+use crate::fault::Fault;
+use crate::number::{Number, push_number, read_below, read_number};
+use crate::part::{cut, no_part};
+use arrayvec::ArrayVec;
+use charlotte_calls::{EndId, Ends, LinkId, NoMemory, Pid, Side};
 
 /// Appends an end, as `0.1b`.
 pub fn push_end(out: &mut Vec<u8>, end: EndId) -> Result<(), NoMemory>
@@ -75,4 +79,72 @@ fn push_process_parts(out: &mut Vec<u8>, process: Pid) -> Result<(), NoMemory>
     out.push(b'p')?;
     push_number(out, u64::from(process.0))?;
     Ok(())
+}
+
+/// The number of the process that a word names, as 7 of `p7`. It may be of any size.
+#[tactic(auto, unfolding(crate::specs::Reading::process_of))]
+pub fn read_process(word: &[u8]) -> Result<Number, Fault>
+    ensures { result ≡ process_of word.now }
+{
+    match word {
+        [b'p', number @ ..] => read_number(number),
+        _ => Err(Fault::Form),
+    }
+}
+
+/// The end that a word names.
+#[tactic(auto, unfolding(crate::specs::Reading::end_of))]
+pub fn read_end(word: &[u8]) -> Result<EndId, Fault>
+    ensures { result ≡ end_of word.now }
+{
+    let (maker, rest) = cut(b'.', word);
+    let tail = rest.ok_or(Fault::Form)?;
+    let (tail, rest) = cut(b'.', tail);
+    no_part(b'.', rest)?;
+    let (count, side) = split_side(tail)?;
+    let maker = read_below(maker, 256)? as u8;
+    let count = read_below(count, 4_294_967_296)? as u32;
+    Ok(EndId {
+        link: LinkId { maker, count },
+        side,
+    })
+}
+
+#[tactic(auto, unfolding(crate::specs::Reading::side_of))]
+fn split_side(word: &[u8]) -> Result<(&[u8], Side), Fault>
+    ensures { Gives (λ x. (x.0.now, x.1)) result (side_of word.now) }
+{
+    match word.split_last() {
+        Some((b'a', count)) => Ok((count, Side::A)),
+        Some((b'b', count)) => Ok((count, Side::B)),
+        _ => Err(Fault::Form),
+    }
+}
+
+/// The ends that the words name of which this is left, each behind a plus. `Form` where they are more than `most`.
+pub fn read_ends(words: Option<&[u8]>, most: usize) -> Result<Ends, Fault>
+    requires { most ≤ 8 }
+    ensures { result ≡ ends_of most (rest_parts 32 (option_copied words.entry)) }
+{
+    let mut ends = ArrayVec::<EndId, 8>::new();
+    let mut rest = words;
+    while let Some(text) = rest {
+        if most <= ends.len() {
+            return Err(Fault::Form);
+        }
+        let (word, after) = cut(b' ', text);
+        ends.push(read_plus_end(word)?);
+        rest = after;
+    }
+    Ends::from_slice(ends.as_slice()).ok_or(Fault::Form)
+}
+
+#[tactic(auto, unfolding(crate::specs::Reading::plus_end_of))]
+fn read_plus_end(word: &[u8]) -> Result<EndId, Fault>
+    ensures { result ≡ plus_end_of word.now }
+{
+    match word {
+        [b'+', end @ ..] => read_end(end),
+        _ => Err(Fault::Form),
+    }
 }

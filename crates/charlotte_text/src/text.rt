@@ -1,8 +1,12 @@
-ghost use Rattle.std.specs.Prelude.{◌≡◌, ◌<◌, ◌++◌, OnOk, OnErr, length, take};
+ghost use Rattle.std.specs.Prelude.{◌≡◌, ◌<◌, ◌++◌, OnOk, OnErr, IfOk, length, take};
 ghost use Rattle.charlotte_text.specs.Spelling.{is_plain, hex_digit, byte_text, bytes_text};
+ghost use Rattle.charlotte_text.specs.Reading.{Gives, hex_value, escaped, byte_at, spelled, bytes_of};
 ghost use Rattle.std.specs.List.{flat_map};
 
-use charlotte_calls::NoMemory;
+use arrayvec::ArrayVec;
+use charlotte_calls::{Bytes, NoMemory};
+
+use crate::fault::Fault;
 
 /// Appends a string of bytes: letters, digits, `_` and `.` as themselves, every other byte as `%` and two upper-case
 /// hexadecimal digits, and `-` where there are no bytes.
@@ -59,5 +63,68 @@ fn digit(value: u8) -> u8
         b'0' + value
     } else {
         b'A' - 10 + value
+    }
+}
+
+/// The bytes that a word spells. `Long` where its form is right and it spells more than 256.
+#[tactic(auto, unfolding(crate::specs::Reading::bytes_of))]
+pub fn read_bytes(word: &[u8]) -> Result<Bytes, Fault>
+    ensures { result ≡ bytes_of word.now }
+{
+    if word == b"-".as_slice() {
+        return Bytes::from_slice(&[]).ok_or(Fault::Long);
+    }
+    if word.is_empty() {
+        return Err(Fault::Form);
+    }
+    decode(word)
+}
+
+fn decode(word: &[u8]) -> Result<Bytes, Fault>
+    ensures { result ≡ spelled word.now }
+{
+    // One byte more than a text may have shows that it is too long.
+    let mut kept = ArrayVec::<u8, 257>::new();
+    let mut rest = word;
+    while !rest.is_empty() {
+        let (byte, after) = read_byte(rest)?;
+        if !kept.is_full() {
+            kept.push(byte);
+        }
+        rest = after;
+    }
+    Bytes::from_slice(kept.as_slice()).ok_or(Fault::Long)
+}
+
+/// The first byte that is spelled, and what stands behind its spelling.
+fn read_byte(text: &[u8]) -> Result<(u8, &[u8]), Fault>
+    ensures exact { Gives (λ x. (x.0, x.1.now)) result (byte_at text.now) }
+    ensures shorter { IfOk result (λ x. length x.1.now < length text.now) }
+{
+    match text {
+        [byte, rest @ ..] if plain(*byte) => Ok((*byte, rest)),
+        [b'%', high, low, rest @ ..] => Ok((unescape(*high, *low)?, rest)),
+        _ => Err(Fault::Form),
+    }
+}
+
+fn unescape(high: u8, low: u8) -> Result<u8, Fault>
+    ensures { result ≡ escaped high low }
+{
+    let (high, low) = (digit_value(high), digit_value(low));
+    if high < 16 && low < 16 && !plain(16 * high + low) {
+        Ok(16 * high + low)
+    } else {
+        Err(Fault::Form)
+    }
+}
+
+fn digit_value(digit: u8) -> u8
+    ensures { result ≡ hex_value digit }
+{
+    match digit {
+        b'0'..=b'9' => digit - b'0',
+        b'A'..=b'F' => digit - (b'A' - 10),
+        _ => 16,
     }
 }
