@@ -9,10 +9,10 @@ use Rattle.charlotte_text.specs.Spelling.{is_plain}
 use Rattle.charlotte_text.specs.Reading.{◌>>=◌, escaped, byte_at, with_first, decoded, limited}
 use Rattle.charlotte_text.proofs.Ends.{with_front, regroup, front_done}
 
-abbrev read : ℕ → List ℕ → Result (ℕ × List ℕ) Fault
+abbrev pub read : ℕ → List ℕ → Result (ℕ × List ℕ) Fault
 read b rest = Ok (b, rest)
 
-abbrev go_on : Result (ℕ × List ℕ) Fault → Result (List ℕ) Fault
+abbrev pub go_on : Result (ℕ × List ℕ) Fault → Result (List ℕ) Fault
 go_on r = r >>= λ x. with_first x.0 (decoded x.1)
 
 -- a byte that is read, and the rest

@@ -17,7 +17,7 @@ use Rattle.charlotte_text.specs.declared.number.Number.{Number}
 use Rattle.charlotte_text.specs.declared.number.Number.TheVariants.{Is, Large}
 use Rattle.charlotte_text.specs.declared.call.Keyword.{Keyword}
 use Rattle.charlotte_text.specs.declared.call.Keyword.TheVariants.{Make, Destroy, Send, Receive, Cancel, Wait, Print, Exit}
-use Rattle.charlotte_text.specs.Spelling.{is_plain}
+use Rattle.charlotte_text.specs.Spelling.{is_plain, most_ends}
 
 infixl 10 ◌>>=◌
 -- what is read next, unless there is a fault
@@ -163,10 +163,6 @@ keyword_of word =
     else if bytes_eq word (codes "print") then Ok Print
     else if bytes_eq word (codes "exit") then Ok Exit
     else Err Form
-
--- how many ends a message may enclose: one in version 1, else eight
-abbrev pub most_ends : ℕ → ℕ
-most_ends version = if version == 1 then 1 else 8
 
 -- an end, and nothing behind it
 unfoldable pub only_end_of : List (List ℕ) → Result EndId Fault
