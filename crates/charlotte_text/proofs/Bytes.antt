@@ -1,5 +1,5 @@
 -- Reading bytes one after the other, as a loop does.
-use Rattle.std.proofs.Common.{◌≡◌, ℕ, zero, suc, ◌+◌, ◌-◌, ◌<◌, ◌≤◌, ◌↔◌, Bool, true, false, cond, eqb, leb, inl, inr, Option, Some, None, List, [], ◌∷◌, ◌++◌, length, take, Result, Ok, Err, refl, sym, ap, ◌∙◌, append_assoc, arith}
+use Rattle.std.proofs.Common.{◌≡◌, ℕ, zero, suc, ◌<◌, ◌≤◌, ◌↔◌, Bool, true, false, cond, eqb, leb, inl, inr, Option, Some, None, List, [], ◌∷◌, ◌++◌, length, take, Result, Ok, Err, refl, sym, ap, ◌∙◌, arith}
 use Rattle.std.specs.Prelude.{IsNone, IfSome, ok_or}
 use Rattle.std.proofs.lemmas.Bool.{leb-true, leb-false, eqb-true, eqb-false, cases_lt}
 use Rattle.std.proofs.lemmas.List.{length-append, length-take, take_all, take-append-le, nil_from_length}
@@ -25,9 +25,9 @@ byte_first (b ∷ h ∷ l ∷ rest) lt =
     elim (is_plain b) as (λ p. cond p (with_first b (decoded (h ∷ l ∷ rest))) (cond (eqb b 37) (escaped h l >>= λ v. with_first v (decoded rest)) (Err Form)) ≡ go_on (cond p (read b (h ∷ l ∷ rest)) (cond (eqb b 37) (escaped h l >>= λ v. read v rest) (Err Form)))) [
       | true ↦ refl
       | false ↦ elim (eqb b 37) as (λ q. cond q (escaped h l >>= λ v. with_first v (decoded rest)) (Err Form) ≡ go_on (cond q (escaped h l >>= λ v. read v rest) (Err Form))) [
-          | true ↦ elim (escaped h l) as (λ r. (r >>= λ v. with_first v (decoded rest)) ≡ go_on (r >>= λ v. read v rest)) [ Ok v ↦ refl | Err f ↦ refl ]
-          | false ↦ refl
-        ]
+        | true ↦ elim (escaped h l) as (λ r. (r >>= λ v. with_first v (decoded rest)) ≡ go_on (r >>= λ v. read v rest)) [ Ok v ↦ refl | Err f ↦ refl ]
+        | false ↦ refl
+      ]
     ]
 
 pub byte_goes_on : (front text after : List ℕ) (b : ℕ) (total : Result (List ℕ) Fault) → 0 < length text → byte_at text ≡ Ok (b, after) → with_front front (decoded text) ≡ total → with_front (front ++ b ∷ []) (decoded after) ≡ total
@@ -58,7 +58,7 @@ is_limited front kept true h e = (λ le. ap Ok (short_front front kept e (omega 
 is_limited front kept false h e = (λ le. absurd (omega (arith, leb-false _ _ h, ap length e, length-take 257 front)), λ lt. refl)
 
 not_long : (n : ℕ) → (256 < n → ⊥) → n ≤ 256
-not_long n h = elim (cases_lt 256 n) [ | inl lt ↦ absurd (h lt) | inr le ↦ le ]
+not_long n h = elim (cases_lt 256 n) [ inl lt ↦ absurd (h lt) | inr le ↦ le ]
 
 pub finish : (front kept : List ℕ) (r : Option (List ℕ)) → kept ≡ take 257 front → (IsNone r ↔ (256 < length kept)) → IfSome r (λ s. s ≡ kept) → ok_or r Long ≡ limited front
 finish front kept None e long same = (is_limited front kept (leb (length front) 256) refl e).1 (long.0 refl)
@@ -72,7 +72,7 @@ pub is_left : (n : ℕ) (empty : Bool) → empty ≡ eqb n 0 → empty ≡ false
 is_left n empty e f = nonzero n (eqb-false n 0 (sym e ∙ f))
 
 pub has_room : (n : ℕ) (full : Bool) → full ≡ eqb n 257 → full ≡ false → n ≤ 257 → n < 257
-has_room n full e f le = elim (cases_lt n 257) [ | inl lt ↦ lt | inr ge ↦ absurd (eqb-false n 257 (sym e ∙ f) (omega arith)) ]
+has_room n full e f le = elim (cases_lt n 257) [ inl lt ↦ lt | inr ge ↦ absurd (eqb-false n 257 (sym e ∙ f) (omega arith)) ]
 
 pub no_room : (n : ℕ) (full : Bool) → full ≡ eqb n 257 → full ≡ true → n ≡ 257
 no_room n full e f = eqb-true n 257 (sym e ∙ f)

@@ -1,28 +1,27 @@
 -- Calls: what is read is spelled so, and what is spelled so is read.
-use Rattle.std.proofs.Common.{◌≡◌, ℕ, zero, suc, ◌+◌, ◌^◌, ◌<◌, ◌≤◌, Bool, true, false, cond, not, eqb, List, [], ◌∷◌, ◌++◌, length, map, Result, Ok, Err, refl, sym, ap, subst, ◌∙◌, append_assoc, inl, inr, arith}
+use Rattle.std.proofs.Common.{◌≡◌, ℕ, true, false, cond, not, eqb, List, [], ◌∷◌, ◌++◌, map, Ok, Err, refl, sym, ap, subst, ◌∙◌, append_assoc, inl, inr}
 use Rattle.std.specs.Prelude.{codes}
 use Rattle.std.specs.Bool.{Decides}
-use Rattle.std.specs.List.{All, AllByRecursion, list_all, flat_map, join_with_byte, slice_split}
+use Rattle.std.specs.List.{AllByRecursion, list_all, join_with_byte}
 use Rattle.std.specs.Str.{bytes_eq}
 use Rattle.std.proofs.lemmas.Bool.{and_parts, not-true}
 use Rattle.std.proofs.lemmas.List.{append-nil}
 use Rattle.std.proofs.lemmas.List.Concat.{flat_map-cons}
 use Rattle.std.proofs.lemmas.List.Elements.{All-cons, All-nil}
-use Rattle.std.proofs.lemmas.List.Splits.{slice_split_at, slice_split_none, join_with_byte-slice_split}
+use Rattle.std.proofs.lemmas.List.Splits.{slice_split_at, slice_split_none}
 use Rattle.std.proofs.lemmas.Slice.Eq.{bytes_eq-Decides}
 use Rattle.charlotte_calls.specs.declared.names.EndId.{EndId}
 use Rattle.charlotte_calls.specs.declared.names.Way.{Way}
 use Rattle.charlotte_calls.specs.declared.names.Way.TheVariants.{Inward, Outward}
 use Rattle.charlotte_calls.specs.declared.calls.Call.{Call}
 use Rattle.charlotte_calls.specs.declared.calls.Call.TheVariants as call
-use Rattle.charlotte_text.specs.declared.fault.Fault.{Fault}
-use Rattle.charlotte_text.specs.declared.fault.Fault.TheVariants.{Form, Long}
+use Rattle.charlotte_text.specs.declared.fault.Fault.TheVariants.{Form}
 use Rattle.charlotte_text.specs.declared.call.Keyword.{Keyword}
 use Rattle.charlotte_text.specs.declared.call.Keyword.TheVariants.{Make, Destroy, Send, Receive, Cancel, Wait, Print, Exit}
-use Rattle.charlotte_text.specs.Spelling.{end_text, ends_text, bytes_text, way_text, call_text, most_ends, IsEnd, AreBytes, IsCall}
-use Rattle.charlotte_text.specs.Reading.{◌>>=◌, words, part_at, ended, end_of, ends_of, bytes_of, limited, way_of, keyword_of, only_end_of, send_of, cancel_of, print_of, operands_of, call_of}
+use Rattle.charlotte_text.specs.Spelling.{end_text, plus_text, ends_text, bytes_text, way_text, call_text, most_ends, IsEnd, IsCall}
+use Rattle.charlotte_text.specs.Reading.{◌>>=◌, words, part_at, ended, end_of, ends_of, bytes_of, way_of, keyword_of, only_end_of, send_of, cancel_of, print_of, operands_of, call_of}
 use Rattle.charlotte_text.proofs.Steps.{bind_ok, done, ok_is, not_ok, chosen, held, part_ok, ended_ok}
-use Rattle.charlotte_text.proofs.Names.{plus_text, end_takes, end_again, end_free, ends_take, ends_again}
+use Rattle.charlotte_text.proofs.Names.{end_takes, end_again, end_free, ends_take, ends_again}
 use Rattle.charlotte_text.proofs.Texts.{IsWord, bytes_takes, bytes_again, bytes_free, short_text}
 
 -- ---- keywords
@@ -43,7 +42,7 @@ named w k l d h = d.0 h.0 ∙ ap keyword_text (ok_is l k h.1)
 keyword_takes : (w : List ℕ) (k : Keyword) → keyword_of w ≡ Ok k → w ≡ keyword_text k
 unfolding keyword_of
 keyword_takes w k e =
-    elim (chosen (bytes_eq w (codes "make")) (Ok Make) (cond (bytes_eq w (codes "destroy")) (Ok Destroy) (cond (bytes_eq w (codes "send")) (Ok Send) (cond (bytes_eq w (codes "receive")) (Ok Receive) (cond (bytes_eq w (codes "cancel")) (Ok Cancel) (cond (bytes_eq w (codes "wait")) (Ok Wait) (cond (bytes_eq w (codes "print")) (Ok Print) (cond (bytes_eq w (codes "exit")) (Ok Exit) (Err Form)))))))) (Ok k) e) [ | inl h ↦ named w k Make (bytes_eq-Decides w (codes "make")) h | inr h0 ↦ elim (chosen (bytes_eq w (codes "destroy")) (Ok Destroy) (cond (bytes_eq w (codes "send")) (Ok Send) (cond (bytes_eq w (codes "receive")) (Ok Receive) (cond (bytes_eq w (codes "cancel")) (Ok Cancel) (cond (bytes_eq w (codes "wait")) (Ok Wait) (cond (bytes_eq w (codes "print")) (Ok Print) (cond (bytes_eq w (codes "exit")) (Ok Exit) (Err Form))))))) (Ok k) h0.1) [ | inl h ↦ named w k Destroy (bytes_eq-Decides w (codes "destroy")) h | inr h1 ↦ elim (chosen (bytes_eq w (codes "send")) (Ok Send) (cond (bytes_eq w (codes "receive")) (Ok Receive) (cond (bytes_eq w (codes "cancel")) (Ok Cancel) (cond (bytes_eq w (codes "wait")) (Ok Wait) (cond (bytes_eq w (codes "print")) (Ok Print) (cond (bytes_eq w (codes "exit")) (Ok Exit) (Err Form)))))) (Ok k) h1.1) [ | inl h ↦ named w k Send (bytes_eq-Decides w (codes "send")) h | inr h2 ↦ elim (chosen (bytes_eq w (codes "receive")) (Ok Receive) (cond (bytes_eq w (codes "cancel")) (Ok Cancel) (cond (bytes_eq w (codes "wait")) (Ok Wait) (cond (bytes_eq w (codes "print")) (Ok Print) (cond (bytes_eq w (codes "exit")) (Ok Exit) (Err Form))))) (Ok k) h2.1) [ | inl h ↦ named w k Receive (bytes_eq-Decides w (codes "receive")) h | inr h3 ↦ elim (chosen (bytes_eq w (codes "cancel")) (Ok Cancel) (cond (bytes_eq w (codes "wait")) (Ok Wait) (cond (bytes_eq w (codes "print")) (Ok Print) (cond (bytes_eq w (codes "exit")) (Ok Exit) (Err Form)))) (Ok k) h3.1) [ | inl h ↦ named w k Cancel (bytes_eq-Decides w (codes "cancel")) h | inr h4 ↦ elim (chosen (bytes_eq w (codes "wait")) (Ok Wait) (cond (bytes_eq w (codes "print")) (Ok Print) (cond (bytes_eq w (codes "exit")) (Ok Exit) (Err Form))) (Ok k) h4.1) [ | inl h ↦ named w k Wait (bytes_eq-Decides w (codes "wait")) h | inr h5 ↦ elim (chosen (bytes_eq w (codes "print")) (Ok Print) (cond (bytes_eq w (codes "exit")) (Ok Exit) (Err Form)) (Ok k) h5.1) [ | inl h ↦ named w k Print (bytes_eq-Decides w (codes "print")) h | inr h6 ↦ elim (chosen (bytes_eq w (codes "exit")) (Ok Exit) (Err Form) (Ok k) h6.1) [ | inl h ↦ named w k Exit (bytes_eq-Decides w (codes "exit")) h | inr h7 ↦ absurd (not_ok k Form h7.1) ] ] ] ] ] ] ] ]
+    elim (chosen (bytes_eq w (codes "make")) (Ok Make) (cond (bytes_eq w (codes "destroy")) (Ok Destroy) (cond (bytes_eq w (codes "send")) (Ok Send) (cond (bytes_eq w (codes "receive")) (Ok Receive) (cond (bytes_eq w (codes "cancel")) (Ok Cancel) (cond (bytes_eq w (codes "wait")) (Ok Wait) (cond (bytes_eq w (codes "print")) (Ok Print) (cond (bytes_eq w (codes "exit")) (Ok Exit) (Err Form)))))))) (Ok k) e) [ inl h ↦ named w k Make (bytes_eq-Decides w (codes "make")) h | inr h0 ↦ elim (chosen (bytes_eq w (codes "destroy")) (Ok Destroy) (cond (bytes_eq w (codes "send")) (Ok Send) (cond (bytes_eq w (codes "receive")) (Ok Receive) (cond (bytes_eq w (codes "cancel")) (Ok Cancel) (cond (bytes_eq w (codes "wait")) (Ok Wait) (cond (bytes_eq w (codes "print")) (Ok Print) (cond (bytes_eq w (codes "exit")) (Ok Exit) (Err Form))))))) (Ok k) h0.1) [ inl h ↦ named w k Destroy (bytes_eq-Decides w (codes "destroy")) h | inr h1 ↦ elim (chosen (bytes_eq w (codes "send")) (Ok Send) (cond (bytes_eq w (codes "receive")) (Ok Receive) (cond (bytes_eq w (codes "cancel")) (Ok Cancel) (cond (bytes_eq w (codes "wait")) (Ok Wait) (cond (bytes_eq w (codes "print")) (Ok Print) (cond (bytes_eq w (codes "exit")) (Ok Exit) (Err Form)))))) (Ok k) h1.1) [ inl h ↦ named w k Send (bytes_eq-Decides w (codes "send")) h | inr h2 ↦ elim (chosen (bytes_eq w (codes "receive")) (Ok Receive) (cond (bytes_eq w (codes "cancel")) (Ok Cancel) (cond (bytes_eq w (codes "wait")) (Ok Wait) (cond (bytes_eq w (codes "print")) (Ok Print) (cond (bytes_eq w (codes "exit")) (Ok Exit) (Err Form))))) (Ok k) h2.1) [ inl h ↦ named w k Receive (bytes_eq-Decides w (codes "receive")) h | inr h3 ↦ elim (chosen (bytes_eq w (codes "cancel")) (Ok Cancel) (cond (bytes_eq w (codes "wait")) (Ok Wait) (cond (bytes_eq w (codes "print")) (Ok Print) (cond (bytes_eq w (codes "exit")) (Ok Exit) (Err Form)))) (Ok k) h3.1) [ inl h ↦ named w k Cancel (bytes_eq-Decides w (codes "cancel")) h | inr h4 ↦ elim (chosen (bytes_eq w (codes "wait")) (Ok Wait) (cond (bytes_eq w (codes "print")) (Ok Print) (cond (bytes_eq w (codes "exit")) (Ok Exit) (Err Form))) (Ok k) h4.1) [ inl h ↦ named w k Wait (bytes_eq-Decides w (codes "wait")) h | inr h5 ↦ elim (chosen (bytes_eq w (codes "print")) (Ok Print) (cond (bytes_eq w (codes "exit")) (Ok Exit) (Err Form)) (Ok k) h5.1) [ inl h ↦ named w k Print (bytes_eq-Decides w (codes "print")) h | inr h6 ↦ elim (chosen (bytes_eq w (codes "exit")) (Ok Exit) (Err Form) (Ok k) h6.1) [ inl h ↦ named w k Exit (bytes_eq-Decides w (codes "exit")) h | inr h7 ↦ absurd (not_ok k Form h7.1) ] ] ] ] ] ] ] ]
 
 keyword_again : (k : Keyword) → keyword_of (keyword_text k) ≡ Ok k
 unfolding keyword_of
@@ -68,14 +67,14 @@ call_words call.Wait = codes "wait" ∷ []
 call_words (call.Print bytes) = codes "print" ∷ bytes_text bytes ∷ []
 call_words call.Exit = codes "exit" ∷ []
 
-way_takes : (w : List ℕ) (way : Way) → way_of w ≡ Ok way → w ≡ way_text way
+pub way_takes : (w : List ℕ) (way : Way) → way_of w ≡ Ok way → w ≡ way_text way
 unfolding way_of
 way_takes w way e = elim (chosen (bytes_eq w (codes "in")) (Ok Inward) (cond (bytes_eq w (codes "out")) (Ok Outward) (Err Form)) (Ok way) e) [
-      | inl h ↦ (bytes_eq-Decides w (codes "in")).0 h.0 ∙ ap way_text (ok_is Inward way h.1)
-      | inr h ↦ let k = held (bytes_eq w (codes "out")) (Ok Outward) Form way h.1 in (bytes_eq-Decides w (codes "out")).0 k.0 ∙ ap way_text (ok_is Outward way k.1)
-    ]
+  | inl h ↦ (bytes_eq-Decides w (codes "in")).0 h.0 ∙ ap way_text (ok_is Inward way h.1)
+  | inr h ↦ let k = held (bytes_eq w (codes "out")) (Ok Outward) Form way h.1 in (bytes_eq-Decides w (codes "out")).0 k.0 ∙ ap way_text (ok_is Outward way k.1)
+]
 
-way_again : (way : Way) → way_of (way_text way) ≡ Ok way
+pub way_again : (way : Way) → way_of (way_text way) ≡ Ok way
 unfolding way_of
 way_again Inward = refl
 way_again Outward = refl
@@ -198,7 +197,7 @@ call_again v c fits = operands_again v c fits
 
 joined_ends : (w : List ℕ) (es : List EndId) → join_with_byte 32 (w ∷ map plus_text es) ≡ w ++ ends_text es
 joined_ends w [] = sym (append-nil w)
-joined_ends w (e ∷ es) = ap (λ (x : List ℕ). w ++ 32 ∷ x) (joined_ends (plus_text e) es) ∙ ap (λ (x : List ℕ). w ++ x) (sym (flat_map-cons (λ (x : EndId). 32 ∷ plus_text x) e es))
+joined_ends w (e ∷ es) = ap (λ (x : List ℕ). w ++ 32 ∷ x) (joined_ends (plus_text e) es) ∙ ap (λ (x : List ℕ). w ++ x) (sym (flat_map-cons (λ (x : EndId). codes " " ++ plus_text x) e es))
 
 send_shape : (a b c : List ℕ) → codes "send " ++ (a ++ 32 ∷ (b ++ c)) ≡ (((codes "send " ++ a) ++ codes " ") ++ b) ++ c
 send_shape a b c = simp append_assoc
@@ -242,3 +241,26 @@ call_free v call.Exit fits = (free_codes (codes "exit") refl, tt)
 pub words_joined : (w : List ℕ) (ws : List (List ℕ)) → IsWord w → AllByRecursion IsWord ws → words (join_with_byte 32 (w ∷ ws)) ≡ w ∷ ws
 words_joined w [] free rest = slice_split_none (λ b. eqb b 32) w free
 words_joined w (v ∷ vs) free rest = slice_split_at (λ b. eqb b 32) w 32 (join_with_byte 32 (v ∷ vs)) free refl ∙ ap (λ (xs : List (List ℕ)). w ∷ xs) (words_joined v vs rest.0 rest.1)
+
+pub call_nonempty : (c : Call) → call_words c ≡ [] → ⊥
+call_nonempty call.Make e = cc
+call_nonempty (call.Destroy on) e = cc
+call_nonempty (call.Send on bytes enclose) e = cc
+call_nonempty (call.Receive on) e = cc
+call_nonempty (call.Cancel on way) e = cc
+call_nonempty call.Wait e = cc
+call_nonempty (call.Print bytes) e = cc
+call_nonempty call.Exit e = cc
+
+split_call : (c : Call) → AllByRecursion IsWord (call_words c) → words (join_with_byte 32 (call_words c)) ≡ call_words c
+split_call call.Make free = words_joined _ _ free.0 free.1
+split_call (call.Destroy on) free = words_joined _ _ free.0 free.1
+split_call (call.Send on bytes enclose) free = words_joined _ _ free.0 free.1
+split_call (call.Receive on) free = words_joined _ _ free.0 free.1
+split_call (call.Cancel on way) free = words_joined _ _ free.0 free.1
+split_call call.Wait free = words_joined _ _ free.0 free.1
+split_call (call.Print bytes) free = words_joined _ _ free.0 free.1
+split_call call.Exit free = words_joined _ _ free.0 free.1
+
+pub call_split : (v : ℕ) (c : Call) → IsCall v c → words (call_text c) ≡ call_words c
+call_split v c fits = ap words (sym (joined c)) ∙ split_call c (call_free v c fits)

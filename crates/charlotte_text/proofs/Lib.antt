@@ -6,3 +6,4 @@ pub mod Ends
 pub mod Bytes
 pub mod Texts
 pub mod Calls
+pub mod Clauses

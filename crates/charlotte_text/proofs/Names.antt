@@ -1,6 +1,6 @@
 -- Ends and processes: what is read is spelled so, and what is spelled so is read.
-use Rattle.std.proofs.Common.{◌≡◌, ℕ, zero, suc, ◌+◌, ◌-◌, ◌^◌, ◌<◌, ◌≤◌, Bool, true, false, cond, eqb, List, [], ◌∷◌, ◌++◌, length, get_or, take, drop, map, Result, Ok, Err, refl, sym, ap, subst, ◌∙◌, append_assoc, inl, inr, arith}
-use Rattle.std.specs.List.{All, AllByRecursion, slice_split, join_with_byte, flat_map}
+use Rattle.std.proofs.Common.{◌≡◌, ℕ, zero, suc, ◌-◌, ◌^◌, ◌<◌, ◌≤◌, false, cond, eqb, List, [], ◌∷◌, ◌++◌, length, get_or, take, drop, map, Result, Ok, Err, refl, sym, ap, subst, ◌∙◌, append_assoc, inl, inr, arith}
+use Rattle.std.specs.List.{All, AllByRecursion, join_with_byte}
 use Rattle.std.proofs.lemmas.Bool.{eqb-true, ne_eqb}
 use Rattle.std.proofs.lemmas.List.{take-append-drop, take_at, length-append}
 use Rattle.std.proofs.Common.{drop-cons}
@@ -13,9 +13,8 @@ use Rattle.charlotte_calls.specs.declared.names.Side.TheVariants.{A, B}
 use Rattle.charlotte_calls.specs.declared.names.EndId.{EndId}
 use Rattle.charlotte_text.specs.declared.fault.Fault.{Fault}
 use Rattle.charlotte_text.specs.declared.fault.Fault.TheVariants.{Form}
-use Rattle.charlotte_text.specs.declared.number.Number.{Number}
-use Rattle.charlotte_text.specs.declared.number.Number.TheVariants.{Is, Large}
-use Rattle.charlotte_text.specs.Spelling.{number_text, side_text, end_text, IsEnd}
+use Rattle.charlotte_text.specs.declared.number.Number.TheVariants.{Is}
+use Rattle.charlotte_text.specs.Spelling.{number_text, side_text, end_text, plus_text, IsEnd}
 use Rattle.charlotte_text.specs.Reading.{◌>>=◌, parts, part_at, ended, number_of, number_below, process_of, side_of, end_of, plus_end_of, ends_of}
 use Rattle.charlotte_text.proofs.Steps.{bind_ok, ok_is, not_ok, chosen, held, part_ok, ended_ok}
 use Rattle.charlotte_text.proofs.Numbers.{number_takes, number_again, below_takes, below_again, no_digit}
@@ -99,14 +98,10 @@ pub end_free : (e : EndId) → IsEnd e → All (λ b. eqb b 32 ≡ false) (end_t
 end_free e fits =
     let P : ℕ → Type 0 = λ b. eqb b 32 ≡ false in
     All-append P (number_text e.link.maker ++ 46 ∷ [] ++ number_text e.link.count) (side_text e.side)
-      (All-append P (number_text e.link.maker ++ 46 ∷ []) (number_text e.link.count)
-        (All-append P (number_text e.link.maker) (46 ∷ []) (no_digit 32 e.link.maker (omega (arith, fits.maker)) (inl (omega arith))) (All-cons P 46 [] refl (All-nil P)))
-        (no_digit 32 e.link.count (omega (arith, fits.count)) (inl (omega arith))))
-      (side_free 32 e.side (omega arith))
-
--- an end behind a plus
-abbrev pub plus_text : EndId → List ℕ
-plus_text e = 43 ∷ end_text e
+    (All-append P (number_text e.link.maker ++ 46 ∷ []) (number_text e.link.count)
+    (All-append P (number_text e.link.maker) (46 ∷ []) (no_digit 32 e.link.maker (omega (arith, fits.maker)) (inl (omega arith))) (All-cons P 46 [] refl (All-nil P)))
+    (no_digit 32 e.link.count (omega (arith, fits.count)) (inl (omega arith))))
+    (side_free 32 e.side (omega arith))
 
 plus_takes : (w : List ℕ) (e : EndId) → plus_end_of w ≡ Ok e → (w ≡ plus_text e) × IsEnd e
 unfolding plus_end_of

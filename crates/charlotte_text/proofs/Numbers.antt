@@ -1,11 +1,9 @@
 -- Numbers and their digits.
-use Rattle.std.proofs.Common.{◌≡◌, ◌≢◌, ℕ, zero, suc, ◌+◌, ◌^◌, ◌<◌, ◌≤◌, Bool, true, false, cond, not, eqb, ltb, ◌&&◌, ◌||◌, List, [], ◌∷◌, length, get_or, Result, Ok, Err, refl, sym, ap, ◌∙◌, arith, rules, ◌⊎◌, inl, inr}
-use Rattle.std.specs.Prelude.{IsTrue}
+use Rattle.std.proofs.Common.{◌≡◌, ℕ, zero, suc, ◌^◌, ◌<◌, Bool, true, false, cond, not, eqb, ltb, ◌||◌, List, [], ◌∷◌, length, get_or, Result, Ok, Err, refl, sym, ap, ◌∙◌, arith, rules, ◌⊎◌, inl, inr}
 use Rattle.std.specs.List.{list_all}
 use Rattle.std.specs.Char.{is_ascii_digit}
 use Rattle.std.specs.Str.{IsUtf8}
-use Rattle.std.specs.Str.Parse.{AllDigits, digits_value, ParsesUnsigned}
-use Rattle.std.specs.Result.{OkIff}
+use Rattle.std.specs.Str.Parse.{digits_value, ParsesUnsigned}
 use Rattle.std.proofs.lemmas.Str.{IsUtf8-from_ascii}
 use Rattle.std.proofs.lemmas.Str.Parse.{IsNumeralModel, numerals_by_value, parse_digits, not_in_digits}
 use Rattle.std.proofs.lemmas.Fmt.{IsAscii-from_digits, decimal-digits_value, decimal_digit, first_decimal, decimal_nonempty, digits_decimal, digits_value-decimal}
@@ -13,13 +11,12 @@ use Rattle.std.proofs.lemmas.List.{get_or_default}
 use Rattle.std.specs.List.{All}
 use Rattle.std.specs.Int.{IsInRange}
 use Rattle.std.proofs.lemmas.Result.{OkIff-at_err}
-use Rattle.std.proofs.lemmas.Bool.{ltb-true, ltb-false, eqb-true, lt-ltb, ne_eqb, and_parts, and_from}
+use Rattle.std.proofs.lemmas.Bool.{ltb-true, eqb-true, lt-ltb, ne_eqb, and_parts, and_from}
 use Rattle.charlotte_text.specs.declared.number.Number.{Number}
 use Rattle.charlotte_text.specs.declared.number.Number.TheVariants.{Is, Large}
-use Rattle.charlotte_text.specs.declared.fault.Fault.{Fault}
 use Rattle.charlotte_text.specs.declared.fault.Fault.TheVariants.{Form}
 use Rattle.charlotte_text.specs.Spelling.{number_text}
-use Rattle.charlotte_text.specs.Reading.{◌>>=◌, is_number, sized, number_of, below, number_below}
+use Rattle.charlotte_text.specs.Reading.{is_number, sized, number_of, below, number_below}
 use Rattle.charlotte_text.proofs.Steps.{bind_ok, ok_is, not_ok, held}
 
 abbrev pub AreDigits : List ℕ → Type 0
@@ -126,4 +123,3 @@ out_of c (inr h) within = omega arith
 -- no digit is another byte
 pub no_digit : (c n : ℕ) → n < 2 ^ 64 → (c < 48) ⊎ (57 < c) → All (λ b. eqb b c ≡ false) (number_text n)
 no_digit c n lt out = λ k d l. ne_eqb _ _ (rw (get_or_default (number_text n) k d 0 l) (not_in_digits own (number_text n) c (digits_decimal own n lt) (λ within. out_of c out within) k l))
-

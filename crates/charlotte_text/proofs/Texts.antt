@@ -1,8 +1,8 @@
 -- Strings of bytes: what is read is spelled so, and what is spelled so is read.
-use Rattle.std.proofs.Common.{◌≡◌, ℕ, zero, suc, ◌+◌, ◌-◌, ◌*◌, ◌/◌, ◌%◌, ◌^◌, ◌<◌, ◌≤◌, ◌⊎◌, Bool, true, false, cond, not, ◌&&◌, ◌||◌, eqb, ltb, leb, List, [], ◌∷◌, ◌++◌, length, Result, Ok, Err, refl, sym, ap, subst, ◌∙◌, append_assoc, inl, inr, arith}
-use Rattle.std.specs.List.{All, AllByRecursion, flat_map}
+use Rattle.std.proofs.Common.{◌≡◌, ℕ, zero, suc, ◌+◌, ◌*◌, ◌/◌, ◌%◌, ◌<◌, ◌≤◌, true, false, cond, not, ◌&&◌, eqb, ltb, leb, List, [], ◌∷◌, ◌++◌, length, Result, Ok, Err, refl, sym, ap, subst, ◌∙◌, inl, inr, arith}
+use Rattle.std.specs.List.{All, flat_map}
 use Rattle.std.specs.Str.{bytes_eq}
-use Rattle.std.proofs.lemmas.Bool.{eqb-true, eqb-false, ne_eqb, ltb-true, lt-ltb, leb-true, leb-false, le-leb, lt-leb, and_parts, and_from, not-true, both_ways}
+use Rattle.std.proofs.lemmas.Bool.{eqb-true, eqb-false, ne_eqb, ltb-true, lt-ltb, leb-true, leb-false, le-leb, and_parts, not-true}
 use Rattle.std.proofs.lemmas.Bool.Decides.{nat_tests}
 use Rattle.std.proofs.lemmas.List.Elements.{All-append, All-cons, All-nil, All-same}
 use Rattle.std.proofs.lemmas.List.Concat.{flat_map-cons}
@@ -12,7 +12,7 @@ use Rattle.charlotte_text.specs.declared.fault.Fault.TheVariants.{Form, Long}
 use Rattle.charlotte_text.specs.Spelling.{is_plain, hex_digit, byte_text, bytes_text, AreBytes}
 use Rattle.charlotte_text.specs.Reading.{◌>>=◌, hex_value, escaped, byte_at, with_first, decoded, limited, spelled, bytes_of}
 use Rattle.charlotte_text.proofs.Steps.{bind_ok, ok_is, not_ok, chosen, held}
-use Rattle.charlotte_text.proofs.Bytes.{go_on, byte_first}
+use Rattle.charlotte_text.proofs.Bytes.{byte_first}
 
 -- ---- digits
 
@@ -144,12 +144,12 @@ bytes_takes w bs e =
     elim (chosen (bytes_eq w (45 ∷ [])) (Ok []) (cond (eqb (length w) 0) (Err Form) (spelled w)) (Ok bs) e) [
       | inl k ↦ subst (λ (x : List ℕ). Spells w x × (length x ≤ 256)) (ok_is [] bs k.1) (record { text = (bytes_eq-Decides w (45 ∷ [])).0 k.0; bytes = tt }, omega arith)
       | inr k ↦ elim (chosen (eqb (length w) 0) (Err Form) (spelled w) (Ok bs) k.1) [
-          | inl m ↦ absurd (not_ok bs Form m.1)
-          | inr m ↦
-              let d = bind_ok (decoded w) limited bs m.1 in
-              let l = limited_ok d.0 bs d.2 in
-              (spells w bs m.0 (d.1 ∙ ap Ok l.0), l.1)
-        ]
+        | inl m ↦ absurd (not_ok bs Form m.1)
+        | inr m ↦
+            let d = bind_ok (decoded w) limited bs m.1 in
+            let l = limited_ok d.0 bs d.2 in
+            (spells w bs m.0 (d.1 ∙ ap Ok l.0), l.1)
+      ]
     ]
 
 limited_long : (xs : List ℕ) → limited xs ≡ Err Long → 256 < length xs
@@ -188,15 +188,15 @@ escaped_form h l rest e h' = escaped_read h l rest (escaped h l) refl e h'
 decoded_form : (text : List ℕ) → decoded text ≡ Err Long → ⊥
 unfolding decoded
 decoded_form [] e = not_ok [] Long (sym e)
-decoded_form (b ∷ []) e = elim (chosen (is_plain b) (Ok (b ∷ [])) (Err Form) (Err Long) e) [ | inl k ↦ not_ok (b ∷ []) Long (sym k.1) | inr k ↦ form_not_long k.1 ]
-decoded_form (b ∷ h ∷ []) e = elim (chosen (is_plain b) (with_first b (decoded (h ∷ []))) (Err Form) (Err Long) e) [ | inl k ↦ first_form b (decoded (h ∷ [])) k.1 (decoded_form (h ∷ [])) | inr k ↦ form_not_long k.1 ]
+decoded_form (b ∷ []) e = elim (chosen (is_plain b) (Ok (b ∷ [])) (Err Form) (Err Long) e) [ inl k ↦ not_ok (b ∷ []) Long (sym k.1) | inr k ↦ form_not_long k.1 ]
+decoded_form (b ∷ h ∷ []) e = elim (chosen (is_plain b) (with_first b (decoded (h ∷ []))) (Err Form) (Err Long) e) [ inl k ↦ first_form b (decoded (h ∷ [])) k.1 (decoded_form (h ∷ [])) | inr k ↦ form_not_long k.1 ]
 decoded_form (b ∷ h ∷ l ∷ rest) e =
     elim (chosen (is_plain b) (with_first b (decoded (h ∷ l ∷ rest))) (cond (eqb b 37) (escaped h l >>= λ v. with_first v (decoded rest)) (Err Form)) (Err Long) e) [
       | inl k ↦ first_form b (decoded (h ∷ l ∷ rest)) k.1 (decoded_form (h ∷ l ∷ rest))
       | inr k ↦ elim (chosen (eqb b 37) (escaped h l >>= λ v. with_first v (decoded rest)) (Err Form) (Err Long) k.1) [
-          | inl m ↦ escaped_form h l rest m.1 (decoded_form rest)
-          | inr m ↦ form_not_long m.1
-        ]
+        | inl m ↦ escaped_form h l rest m.1 (decoded_form rest)
+        | inr m ↦ form_not_long m.1
+      ]
     ]
 
 spelled_long : (w : List ℕ) (r : Result (List ℕ) Fault) → decoded w ≡ r → eqb (length w) 0 ≡ false → (r >>= limited) ≡ Err Long → (bs : List ℕ) × Spells w bs × (256 < length bs)
@@ -209,9 +209,9 @@ bytes_long w e =
     elim (chosen (bytes_eq w (45 ∷ [])) (Ok []) (cond (eqb (length w) 0) (Err Form) (spelled w)) (Err Long) e) [
       | inl k ↦ absurd (not_ok [] Long (sym k.1))
       | inr k ↦ elim (chosen (eqb (length w) 0) (Err Form) (spelled w) (Err Long) k.1) [
-          | inl m ↦ absurd (form_not_long m.1)
-          | inr m ↦ spelled_long w (decoded w) refl m.0 m.1
-        ]
+        | inl m ↦ absurd (form_not_long m.1)
+        | inr m ↦ spelled_long w (decoded w) refl m.0 m.1
+      ]
     ]
 
 not_dash : (bs : List ℕ) → AreBytes bs → 0 < length bs → flat_map byte_text bs ≡ 45 ∷ [] → ⊥
@@ -260,3 +260,16 @@ bytes_free (b ∷ bs) = all_free (b ∷ bs)
 
 pub short_text : (bs : List ℕ) → length bs ≤ 256 → limited bs ≡ Ok bs
 short_text bs le = rw (le-leb (length bs) 256 le) refl
+
+-- the bytes of a text of any length
+abbrev unlimited : List ℕ → Result (List ℕ) Fault
+unlimited w = cond (bytes_eq w (45 ∷ [])) (Ok []) (decoded w)
+
+unlimited_again : (bs : List ℕ) → AreBytes bs → unlimited (bytes_text bs) ≡ Ok bs
+unlimited_again [] fits = refl
+unlimited_again (b ∷ bs) fits =
+    let w : List ℕ = flat_map byte_text (b ∷ bs) in
+    rw (dash_free w (not_dash (b ∷ bs) fits (omega arith)), decoded_again (b ∷ bs) fits) refl
+
+pub same_text : (a b : List ℕ) → AreBytes a → AreBytes b → bytes_text a ≡ bytes_text b → a ≡ b
+same_text a b fa fb e = ok_is a b (sym (unlimited_again a fa) ∙ ap unlimited e ∙ unlimited_again b fb)

@@ -23,9 +23,13 @@ side_text B = codes "b"
 abbrev pub end_text : EndId → List ℕ
 end_text e = number_text e.link.maker ++ codes "." ++ number_text e.link.count ++ side_text e.side
 
--- the ends of a message, each behind a blank and a plus
+-- an end that a message encloses, as `+0.1b`
+abbrev pub plus_text : EndId → List ℕ
+plus_text e = codes "+" ++ end_text e
+
+-- the ends of a message, each behind a blank
 abbrev pub ends_text : List EndId → List ℕ
-ends_text ends = flat_map (λ e. codes " +" ++ end_text e) ends
+ends_text ends = flat_map (λ e. codes " " ++ plus_text e) ends
 
 -- a process, as `p7`
 abbrev pub process_text : Pid → List ℕ

@@ -1,6 +1,6 @@
 ghost use Rattle.std.specs.Prelude.{◌≡◌, ◌++◌, OnOk, OnErr, length, take};
-ghost use Rattle.std.specs.Prelude.{option_copied};
-ghost use Rattle.charlotte_text.specs.Spelling.{end_text, way_text, call_text};
+ghost use Rattle.std.specs.Prelude.{option_copied, Some, IfOk};
+ghost use Rattle.charlotte_text.specs.Spelling.{end_text, way_text, call_text, IsCall};
 ghost use Rattle.charlotte_text.specs.Reading.{way_of, keyword_of, only_end_of, send_of, cancel_of, print_of, operands_of, call_of, rest_parts};
 
 use crate::fault::Fault;
@@ -88,8 +88,17 @@ fn push_on(out: &mut Vec<u8>, keyword: &[u8], end: EndId) -> Result<(), NoMemory
 
 /// The call that the words spell of which this is left. A message encloses at most one end in version 1, and eight in
 /// version 2. `Long` where the form of each word is right, and a text spells more than 256 bytes.
-#[tactic(auto, unfolding(crate::specs::Reading::call_of))]
 pub fn read_call(words: Option<&[u8]>, version: u8) -> Result<Call, Fault>
+    ensures exact { result ≡ call_of version (rest_parts 32 (option_copied words.entry)) }
+    ensures found { IfOk result (λ call. option_copied words.entry ≡ Some (call_text call)) }
+    ensures fits { IfOk result (IsCall version) }
+    ensures only { (call : Call) → IsCall version call → option_copied words.entry ≡ Some (call_text call) → result ≡ Ok call }
+{
+    parse_call(words, version)
+}
+
+#[tactic(auto, unfolding(crate::specs::Reading::call_of))]
+fn parse_call(words: Option<&[u8]>, version: u8) -> Result<Call, Fault>
     ensures { result ≡ call_of version (rest_parts 32 (option_copied words.entry)) }
 {
     let (word, rest) = next_word(words)?;
@@ -171,7 +180,7 @@ fn read_cancel(rest: Option<&[u8]>) -> Result<Call, Fault>
     let (end, rest) = next_word(rest)?;
     let on = read_end(end)?;
     let (word, rest) = next_word(rest)?;
-    let way = read_way(word)?;
+    let way = parse_way(word)?;
     end_of_line(rest)?;
     Ok(Call::Cancel { on, way })
 }
@@ -187,8 +196,16 @@ fn read_print(rest: Option<&[u8]>) -> Result<Call, Fault>
 }
 
 /// The direction that a word names, `in` or `out`.
-#[tactic(auto, unfolding(crate::specs::Reading::way_of))]
 pub fn read_way(word: &[u8]) -> Result<Way, Fault>
+    ensures exact { result ≡ way_of word.now }
+    ensures found { IfOk result (λ way. word.now ≡ way_text way) }
+    ensures only { (way : Way) → word.now ≡ way_text way → result ≡ Ok way }
+{
+    parse_way(word)
+}
+
+#[tactic(auto, unfolding(crate::specs::Reading::way_of))]
+fn parse_way(word: &[u8]) -> Result<Way, Fault>
     ensures { result ≡ way_of word.now }
 {
     if word == b"in".as_slice() {

@@ -6,6 +6,7 @@
 
 mod call;
 mod fault;
+mod law;
 mod name;
 mod number;
 mod part;
@@ -13,7 +14,11 @@ mod text;
 
 pub use call::{Keyword, push_call, push_way, read_call, read_way};
 pub use fault::Fault;
+pub use law::{one_call, one_end, one_string_of_bytes};
 pub use name::{push_end, push_ends, push_process, read_end, read_ends, read_process};
 pub use number::{Number, push_number, read_below, read_number};
 pub use part::{cut, end_of_line, next_word};
 pub use text::{push_bytes, read_bytes};
+
+#[cfg(test)]
+mod tests;

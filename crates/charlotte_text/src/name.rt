@@ -1,5 +1,6 @@
-ghost use Rattle.std.specs.Prelude.{◌≡◌, ◌++◌, OnOk, OnErr, length, take, ◌≤◌, ◌∷◌, option_copied};
-ghost use Rattle.charlotte_text.specs.Spelling.{end_text, ends_text, process_text};
+ghost use Rattle.std.specs.Prelude.{◌≡◌, ◌≤◌, ◌<◌, ◌^◌, ◌∷◌, ◌++◌, ℕ, List, OnOk, OnErr, IfOk, length, take, map, option_copied};
+ghost use Rattle.charlotte_text.specs.Spelling.{end_text, ends_text, plus_text, process_text, IsEnd};
+ghost use Rattle.std.specs.List.{AllByRecursion};
 ghost use Rattle.charlotte_text.specs.Reading.{Gives, process_of, side_of, end_of, plus_end_of, ends_of, rest_parts};
 
 use crate::fault::Fault;
@@ -82,8 +83,16 @@ fn push_process_parts(out: &mut Vec<u8>, process: Pid) -> Result<(), NoMemory>
 }
 
 /// The number of the process that a word names, as 7 of `p7`. It may be of any size.
-#[tactic(auto, unfolding(crate::specs::Reading::process_of))]
 pub fn read_process(word: &[u8]) -> Result<Number, Fault>
+    ensures exact { result ≡ process_of word.now }
+    ensures found { (p : Pid) → result ≡ Ok (Number.Is p.0) → word.now ≡ process_text p }
+    ensures only { (p : Pid) → p.0 < 2 ^ 64 → word.now ≡ process_text p → result ≡ Ok (Number.Is p.0) }
+{
+    parse_process(word)
+}
+
+#[tactic(auto, unfolding(crate::specs::Reading::process_of))]
+fn parse_process(word: &[u8]) -> Result<Number, Fault>
     ensures { result ≡ process_of word.now }
 {
     match word {
@@ -93,8 +102,16 @@ pub fn read_process(word: &[u8]) -> Result<Number, Fault>
 }
 
 /// The end that a word names.
-#[tactic(auto, unfolding(crate::specs::Reading::end_of))]
 pub fn read_end(word: &[u8]) -> Result<EndId, Fault>
+    ensures exact { result ≡ end_of word.now }
+    ensures found { IfOk result (λ e. word.now ≡ end_text e) }
+    ensures only { (e : EndId) → IsEnd e → word.now ≡ end_text e → result ≡ Ok e }
+{
+    parse_end(word)
+}
+
+#[tactic(auto, unfolding(crate::specs::Reading::end_of))]
+fn parse_end(word: &[u8]) -> Result<EndId, Fault>
     ensures { result ≡ end_of word.now }
 {
     let (maker, rest) = cut(b'.', word);
@@ -124,6 +141,15 @@ fn split_side(word: &[u8]) -> Result<(&[u8], Side), Fault>
 /// The ends that the words name of which this is left, each behind a plus. `Form` where they are more than `most`.
 pub fn read_ends(words: Option<&[u8]>, most: usize) -> Result<Ends, Fault>
     requires { most ≤ 8 }
+    ensures exact { result ≡ ends_of most (rest_parts 32 (option_copied words.entry)) }
+    ensures found { IfOk result (λ es. rest_parts 32 (option_copied words.entry) ≡ map plus_text es) }
+    ensures only { (es : List EndId) → AllByRecursion IsEnd es → length es ≤ most → rest_parts 32 (option_copied words.entry) ≡ map plus_text es → result ≡ Ok es }
+{
+    parse_ends(words, most)
+}
+
+fn parse_ends(words: Option<&[u8]>, most: usize) -> Result<Ends, Fault>
+    requires { most ≤ 8 }
     ensures { result ≡ ends_of most (rest_parts 32 (option_copied words.entry)) }
 {
     let mut ends = ArrayVec::<EndId, 8>::new();
@@ -133,18 +159,18 @@ pub fn read_ends(words: Option<&[u8]>, most: usize) -> Result<Ends, Fault>
             return Err(Fault::Form);
         }
         let (word, after) = cut(b' ', text);
-        ends.push(read_plus_end(word)?);
+        ends.push(parse_plus_end(word)?);
         rest = after;
     }
     Ends::from_slice(ends.as_slice()).ok_or(Fault::Form)
 }
 
 #[tactic(auto, unfolding(crate::specs::Reading::plus_end_of))]
-fn read_plus_end(word: &[u8]) -> Result<EndId, Fault>
+fn parse_plus_end(word: &[u8]) -> Result<EndId, Fault>
     ensures { result ≡ plus_end_of word.now }
 {
     match word {
-        [b'+', end @ ..] => read_end(end),
+        [b'+', end @ ..] => parse_end(end),
         _ => Err(Fault::Form),
     }
 }

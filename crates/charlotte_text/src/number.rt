@@ -1,15 +1,14 @@
-ghost use Rattle.std.specs.Prelude.{◌≡◌, ◌<◌, ◌++◌, OnOk, OnErr, IfOk, IsTrue};
+ghost use Rattle.std.specs.Prelude.{◌≡◌, ◌<◌, ◌^◌, ◌++◌, ℕ, OnOk, OnErr, IfOk, IsTrue};
 ghost use Rattle.std.specs.List.{list_all};
 ghost use Rattle.std.specs.Char.{is_ascii_digit};
 ghost use Rattle.std.specs.Str.Parse.{digits_value};
 ghost use Rattle.charlotte_text.specs.Spelling.{number_text};
 ghost use Rattle.charlotte_text.specs.Reading.{is_number, sized, number_of, number_below};
 
+use crate::fault::Fault;
 use charlotte_calls::NoMemory;
 use itoa::Buffer;
 use std::str::from_utf8;
-
-use crate::fault::Fault;
 
 /// A number of a line, which may be of any size.
 #[derive(Clone, Copy, Debug, PartialEq, Eq)]
@@ -31,8 +30,16 @@ pub fn push_number(out: &mut Vec<u8>, number: u64) -> Result<(), NoMemory>
 }
 
 /// The decimal number that a word is, of any size.
-#[tactic(auto, unfolding(crate::specs::Reading::number_of))]
 pub fn read_number(word: &[u8]) -> Result<Number, Fault>
+    ensures exact { result ≡ number_of word.now }
+    ensures found { (n : ℕ) → result ≡ Ok (Number.Is n) → word.now ≡ number_text n }
+    ensures only { (n : ℕ) → n < 2 ^ 64 → word.now ≡ number_text n → result ≡ Ok (Number.Is n) }
+{
+    parse_number(word)
+}
+
+#[tactic(auto, unfolding(crate::specs::Reading::number_of))]
+fn parse_number(word: &[u8]) -> Result<Number, Fault>
     ensures { result ≡ number_of word.now }
 {
     if is_numeral(word) {
@@ -43,12 +50,21 @@ pub fn read_number(word: &[u8]) -> Result<Number, Fault>
 }
 
 /// The decimal number that a word is, where it is below a limit, and else `Form`.
-#[tactic(auto, unfolding(crate::specs::Reading::number_below))]
 pub fn read_below(word: &[u8], limit: u64) -> Result<u64, Fault>
+    ensures exact { result ≡ number_below limit word.now }
+    ensures found { IfOk result (λ n. word.now ≡ number_text n) }
+    ensures within { IfOk result (λ n. n < limit) }
+    ensures only { (n : ℕ) → n < limit → word.now ≡ number_text n → result ≡ Ok n }
+{
+    parse_below(word, limit)
+}
+
+#[tactic(auto, unfolding(crate::specs::Reading::number_below))]
+fn parse_below(word: &[u8], limit: u64) -> Result<u64, Fault>
     ensures exact { result ≡ number_below limit word.now }
     ensures within { IfOk result (λ n. n < limit) }
 {
-    match read_number(word)? {
+    match parse_number(word)? {
         Number::Is(number) if number < limit => Ok(number),
         _ => Err(Fault::Form),
     }

@@ -1,12 +1,11 @@
-ghost use Rattle.std.specs.Prelude.{◌≡◌, ◌<◌, ◌++◌, OnOk, OnErr, IfOk, length, take};
-ghost use Rattle.charlotte_text.specs.Spelling.{is_plain, hex_digit, byte_text, bytes_text};
+ghost use Rattle.std.specs.Prelude.{◌≡◌, ◌<◌, ◌++◌, ℕ, List, OnOk, OnErr, IfOk, if◌then◌else◌, nat_le, length, take};
+ghost use Rattle.charlotte_text.specs.Spelling.{is_plain, hex_digit, byte_text, bytes_text, AreBytes};
 ghost use Rattle.charlotte_text.specs.Reading.{Gives, hex_value, escaped, byte_at, spelled, bytes_of};
 ghost use Rattle.std.specs.List.{flat_map};
 
+use crate::fault::Fault;
 use arrayvec::ArrayVec;
 use charlotte_calls::{Bytes, NoMemory};
-
-use crate::fault::Fault;
 
 /// Appends a string of bytes: letters, digits, `_` and `.` as themselves, every other byte as `%` and two upper-case
 /// hexadecimal digits, and `-` where there are no bytes.
@@ -67,8 +66,17 @@ fn digit(value: u8) -> u8
 }
 
 /// The bytes that a word spells. `Long` where its form is right and it spells more than 256.
-#[tactic(auto, unfolding(crate::specs::Reading::bytes_of))]
 pub fn read_bytes(word: &[u8]) -> Result<Bytes, Fault>
+    ensures exact { result ≡ bytes_of word.now }
+    ensures found { IfOk result (λ bytes. word.now ≡ bytes_text bytes) }
+    ensures long { result ≡ Err Fault.Long → (bytes : List ℕ) × (256 < length bytes) × (word.now ≡ bytes_text bytes) }
+    ensures only { (bytes : List ℕ) → AreBytes bytes → word.now ≡ bytes_text bytes → result ≡ (if nat_le (length bytes) 256 then Ok bytes else Err Fault.Long) }
+{
+    parse_bytes(word)
+}
+
+#[tactic(auto, unfolding(crate::specs::Reading::bytes_of))]
+fn parse_bytes(word: &[u8]) -> Result<Bytes, Fault>
     ensures { result ≡ bytes_of word.now }
 {
     if word == b"-".as_slice() {
