@@ -1,0 +1,4 @@
+pub mod Given
+pub mod Forms
+pub mod Rules
+pub mod Reading
