@@ -62,7 +62,7 @@ before_version n stage.Processes e = absurd cc
 before_version n stage.Wires e = absurd cc
 before_version n stage.Calls e = absurd cc
 
-process_stage : (i k : Number) (s : Stage) → allows (Process i k) s ≡ true → s ≡ stage.Processes
+pub process_stage : (i k : Number) (s : Stage) → allows (Process i k) s ≡ true → s ≡ stage.Processes
 process_stage i k stage.Start e = absurd cc
 process_stage i k stage.Named e = absurd cc
 process_stage i k stage.Processes e = refl
@@ -70,14 +70,14 @@ process_stage i k stage.Wires e = absurd cc
 process_stage i k stage.Calls e = absurd cc
 
 -- after any other line that stands, the `kernels` line stood
-wire_after : (i j : Number) (s : Stage) → allows (Wire i j) s ≡ true → has_kernels s ≡ true
+pub wire_after : (i j : Number) (s : Stage) → allows (Wire i j) s ≡ true → has_kernels s ≡ true
 wire_after i j stage.Start e = absurd cc
 wire_after i j stage.Named e = absurd cc
 wire_after i j stage.Processes e = refl
 wire_after i j stage.Wires e = refl
 wire_after i j stage.Calls e = absurd cc
 
-settle_after : (s : Stage) → allows Settle s ≡ true → has_kernels s ≡ true
+pub settle_after : (s : Stage) → allows Settle s ≡ true → has_kernels s ≡ true
 settle_after stage.Start e = absurd cc
 settle_after stage.Named e = absurd cc
 settle_after stage.Processes e = refl

@@ -2,3 +2,4 @@ pub mod Given
 pub mod Forms
 pub mod Rules
 pub mod Reading
+pub mod ScriptText

@@ -16,3 +16,6 @@ pub use form::{Form, Lead};
 pub use read::read_script;
 pub use script::{Script, ScriptCall, ScriptLine};
 pub use stage::Stage;
+
+#[cfg(test)]
+mod tests;

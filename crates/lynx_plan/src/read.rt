@@ -1,4 +1,6 @@
-ghost use Rattle.std.specs.Prelude.{◌≡◌, ◌<◌, ◌≤◌, length, MatchResult};
+ghost use Rattle.std.specs.Prelude.{◌≡◌, ◌<◌, ◌≤◌, length, MatchResult, IfOk};
+ghost use Rattle.charlotte_calls.specs.Setting.{IsValid};
+ghost use Rattle.lynx_plan.specs.ScriptText.{IsScriptText};
 ghost use Rattle.lynx_plan.specs.Reading.{Fails, Gives, is_skipped, entry_at, line_read, lines_read, script_of};
 
 use charlotte_text::cut;
@@ -15,6 +17,10 @@ use crate::stage::Stage;
 /// The script that the bytes spell, or the first line that fails a rule and the least rule there.
 pub fn read_script(alloc: Global, bytes: &[u8]) -> Result<Script, PlanFault>
     requires { length bytes.now < 4294967295 }
+    // What is read is spelled so.
+    ensures found { IfOk result (IsScriptText bytes.now) }
+    ensures valid { IfOk result (λ script. IsValid script.setting) }
+    // Which line and which rule it is.
     ensures exact { Gives result (script_of bytes.now) }
 {
     read_lines(alloc, bytes)
