@@ -1,0 +1,13 @@
+//! Journals of kernels, their merge, and the transcript of a run.
+#![tactic(auto)]
+
+mod journal;
+mod last;
+mod packet;
+mod print;
+mod step;
+
+pub use journal::Journal;
+pub use kernel_world::{Entry, Happened, Placed};
+pub use last::{Last, ScriptNote};
+pub use print::{print_entry, print_picture};
