@@ -130,11 +130,15 @@ line text = text ++ 10 ∷ []
 abbrev pub entry_lines : Placed → List (List ℕ)
 entry_lines p = line (entry_text p) ∷ map (λ s. line (step_text s)) p.entry.steps
 
+-- a process with its kernel
+abbrev pub process_home_text : ℕ → ℕ → List ℕ
+process_home_text number home = codes "process " ++ number_text number ++ codes " on " ++ number_text home
+
 -- each process with its kernel; the first has this number
 abbrev pub process_lines : ℕ → List ℕ → List (List ℕ)
 process_lines number [] = []
 process_lines number (home ∷ homes) =
-    line (codes "process " ++ number_text number ++ codes " on " ++ number_text home) ∷ process_lines (number + 1) homes
+    line (process_home_text number home) ∷ process_lines (number + 1) homes
 
 -- a wire with its two processes
 abbrev pub wire_text : Pid × Pid → List ℕ

@@ -3,6 +3,7 @@
 
 mod journal;
 mod last;
+mod merging;
 mod packet;
 mod print;
 mod step;
@@ -10,4 +11,5 @@ mod step;
 pub use journal::Journal;
 pub use kernel_world::{Entry, Happened, Placed};
 pub use last::{Last, ScriptNote};
-pub use print::{print_entry, print_picture};
+pub use merging::merge;
+pub use print::{print_entry, print_header, print_picture, print_transcript};

@@ -1,5 +1,7 @@
 ghost use Rattle.std.specs.Prelude.{◌≡◌, ◌++◌, ◌∷◌, IfOk, OnOk, map};
-ghost use Rattle.kernel_journal.specs.Transcript.{line, packet_text, happened_text, entry_text, step_text, entry_lines, note_text, last_text, header_lines, process_lines, wire_text, transcript_lines};
+ghost use Rattle.std.specs.List.{flat_map};
+ghost use Rattle.charlotte_text.specs.Spelling.{number_text};
+ghost use Rattle.kernel_journal.specs.Transcript.{line, process_home_text, packet_text, happened_text, entry_text, step_text, entry_lines, note_text, last_text, header_lines, process_lines, wire_text, transcript_lines};
 
 use crate::packet::{push_numbers, push_packet};
 use crate::step::{push_of, push_step};
@@ -80,5 +82,117 @@ pub fn print_entry(alloc: Global, placed: &Placed) -> Result<Vec<Vec<u8>>, NoMem
 {
     let mut lines = Vec::new(alloc);
     push_entry_lines(alloc, &mut lines, placed)?;
+    Ok(lines)
+}
+
+fn number_line(alloc: Global, word: &[u8], number: u8) -> Result<Vec<u8>, NoMemory>
+    ensures { IfOk result (λ text. text.items ≡ line (word.now ++ number_text number)) }
+{
+    let mut text = Vec::new(alloc);
+    text.extend_from_slice(word)?;
+    push_number(&mut text, u64::from(number))?;
+    text.push(b'\n')?;
+    Ok(text)
+}
+
+fn process_line(alloc: Global, number: usize, home: u8) -> Result<Vec<u8>, NoMemory>
+    ensures { IfOk result (λ text. text.items ≡ line (process_home_text number home)) }
+{
+    let mut text = Vec::new(alloc);
+    text.extend_from_slice(b"process ")?;
+    push_number(&mut text, number as u64)?;
+    text.extend_from_slice(b" on ")?;
+    push_number(&mut text, u64::from(home))?;
+    text.push(b'\n')?;
+    Ok(text)
+}
+
+fn wire_line(alloc: Global, wire: (Pid, Pid)) -> Result<Vec<u8>, NoMemory>
+    ensures { IfOk result (λ text. text.items ≡ line (wire_text wire)) }
+{
+    let mut text = Vec::new(alloc);
+    text.extend_from_slice(b"wire")?;
+    push_numbers(&mut text, b' ', &[u64::from(wire.0.0), u64::from(wire.1.0)])?;
+    text.push(b'\n')?;
+    Ok(text)
+}
+
+fn push_process_lines(alloc: Global, lines: &mut Vec<Vec<u8>>, homes: &[u8]) -> Result<(), NoMemory>
+    ensures { OnOk result (map (λ l. l.items) lines.new.items ≡ map (λ l. l.items) lines.old.items ++ process_lines 0 homes.now) }
+{
+    for (number, home) in homes.iter().enumerate() {
+        lines.push(process_line(alloc, number, *home)?)?;
+    }
+    Ok(())
+}
+
+fn push_wire_lines(alloc: Global, lines: &mut Vec<Vec<u8>>, wires: &[(Pid, Pid)]) -> Result<(), NoMemory>
+    ensures { OnOk result (map (λ l. l.items) lines.new.items ≡ map (λ l. l.items) lines.old.items ++ map (λ wire. line (wire_text wire)) wires.now) }
+{
+    for wire in wires {
+        lines.push(wire_line(alloc, *wire)?)?;
+    }
+    Ok(())
+}
+
+/// The lines of a setting, each with its line feed.
+pub fn print_header(alloc: Global, setting: &Setting) -> Result<Vec<Vec<u8>>, NoMemory>
+    ensures { IfOk result (λ lines. map (λ l. l.items) lines.items ≡ header_lines setting.now) }
+{
+    let mut lines = Vec::new(alloc);
+    lines.push(number_line(alloc, b"transcript ", setting.version)?)?;
+    lines.push(number_line(alloc, b"kernels ", setting.kernels)?)?;
+    push_process_lines(alloc, &mut lines, setting.homes.as_slice())?;
+    push_wire_lines(alloc, &mut lines, setting.wires.as_slice())?;
+    Ok(lines)
+}
+
+fn note_line(alloc: Global, note: ScriptNote) -> Result<Vec<u8>, NoMemory>
+    ensures { IfOk result (λ text. text.items ≡ line (note_text note)) }
+{
+    let mut text = Vec::new(alloc);
+    text.extend_from_slice(b"note ")?;
+    push_number(&mut text, u64::from(note.line))?;
+    text.extend_from_slice(if note.waits { b" waits" } else { b" nothing" })?;
+    text.push(b'\n')?;
+    Ok(text)
+}
+
+fn last_line(alloc: Global, last: Last) -> Result<Vec<u8>, NoMemory>
+    ensures { IfOk result (λ text. text.items ≡ line (last_text last)) }
+{
+    match last {
+        Last::Quiet => Ok(Vec::from_slice(alloc, b"quiet\n")?),
+        Last::Unsettled => Ok(Vec::from_slice(alloc, b"open\n")?),
+        Last::Spent(kernel) => number_line(alloc, b"spent ", kernel),
+    }
+}
+
+fn push_note_lines(alloc: Global, lines: &mut Vec<Vec<u8>>, notes: &[ScriptNote]) -> Result<(), NoMemory>
+    ensures { OnOk result (map (λ l. l.items) lines.new.items ≡ map (λ l. l.items) lines.old.items ++ map (λ n. line (note_text n)) notes.now) }
+{
+    for note in notes {
+        lines.push(note_line(alloc, *note)?)?;
+    }
+    Ok(())
+}
+
+fn push_merged_lines(alloc: Global, lines: &mut Vec<Vec<u8>>, merged: &[Placed]) -> Result<(), NoMemory>
+    ensures { OnOk result (map (λ l. l.items) lines.new.items ≡ map (λ l. l.items) lines.old.items ++ flat_map entry_lines merged.now) }
+{
+    for placed in merged {
+        push_entry_lines(alloc, lines, placed)?;
+    }
+    Ok(())
+}
+
+/// The lines of a transcript, each with its line feed.
+pub fn print_transcript(alloc: Global, setting: &Setting, merged: &[Placed], notes: &[ScriptNote], last: Last) -> Result<Vec<Vec<u8>>, NoMemory>
+    ensures { IfOk result (λ lines. map (λ l. l.items) lines.items ≡ transcript_lines setting.now merged.now notes.now last) }
+{
+    let mut lines = print_header(alloc, setting)?;
+    push_merged_lines(alloc, &mut lines, merged)?;
+    push_note_lines(alloc, &mut lines, notes)?;
+    lines.push(last_line(alloc, last)?)?;
     Ok(lines)
 }
