@@ -1,5 +1,5 @@
 -- Journals whose stamps rise.
-use Rattle.std.proofs.Common.{List, [], ◌∷◌, ◌++◌}
+use Rattle.std.proofs.Common.{ℕ, zero, suc, List, [], ◌∷◌, ◌++◌, drop}
 use Rattle.kernel_journal.specs.Journal.{AreRising, IsAfterLast}
 use Rattle.kernel_world.specs.declared.entry.Entry.{Entry}
 
@@ -8,3 +8,10 @@ pub AreRising-push : (es : List Entry) (e : Entry) → AreRising es → IsAfterL
 AreRising-push [] e r a = tt
 AreRising-push (f ∷ []) e r a = (a, tt)
 AreRising-push (f ∷ g ∷ es) e r a = (r.0, AreRising-push (g ∷ es) e r.1 a)
+
+-- so are the entries from a place on
+pub AreRising-drop : (p : ℕ) (es : List Entry) → AreRising es → AreRising (drop p es)
+AreRising-drop zero es r = r
+AreRising-drop (suc p) [] r = tt
+AreRising-drop (suc p) (e ∷ []) r = AreRising-drop p [] tt
+AreRising-drop (suc p) (e ∷ f ∷ es) r = AreRising-drop p (f ∷ es) r.1

@@ -1,5 +1,5 @@
 -- What a merge has not placed yet.
-use Rattle.std.specs.Prelude.{◌≡◌, ℕ, ◌+◌, ◌-◌, ◌<◌, ◌≤◌, ◌⊎◌, List, [], ◌∷◌, length, map, drop, slice_get, slice_index, slice_index_or, Option, None, Some, MatchOption, nat_le, if◌then◌else◌}
+use Rattle.std.specs.Prelude.{◌≡◌, ℕ, ◌+◌, ◌-◌, ◌<◌, ◌≤◌, List, [], ◌∷◌, length, map, drop, slice_get, slice_index, slice_index_or, Option, None, Some, MatchOption, nat_le, if◌then◌else◌}
 use Rattle.kernel_journal.specs.Journal.{Kept}
 use Rattle.kernel_journal.specs.declared.merging.Head.{Head}
 use Rattle.kernel_world.specs.declared.entry.Entry.{Entry}
@@ -20,14 +20,16 @@ rest journals places kernel = drop (slice_index places kernel) (entries_at journ
 abbrev pub head_stamp : List Kept → List ℕ → ℕ → Option ℕ
 head_stamp journals places kernel = slice_get (map (λ e. e.stamp) (entries_at journals kernel)) (slice_index places kernel)
 
--- a head is first where its stamp is less, or equal and its kernel not greater
+-- a head stands before another, or is it
 abbrev pub IsNoLater : Head → ℕ → ℕ → Type 0
-IsNoLater head kernel stamp = (head.stamp < stamp) ⊎ ((head.stamp ≡ stamp) × (head.kernel ≤ kernel))
+IsNoLater head kernel stamp = (head.stamp ≤ stamp) × (head.stamp ≡ stamp → head.kernel ≤ kernel)
 
--- of two heads the one with the smaller stamp, and the first where their stamps are equal
-abbrev pub earlier_head : Option Head → Head → Option Head
-earlier_head None second = Some second
-earlier_head (Some head) second = if nat_le head.stamp second.stamp then Some head else Some second
+-- the first head so far and that of a later kernel, if it has one: the one with the smaller stamp, and the first where they are equal
+abbrev pub earlier_head : Option Head → ℕ → Option ℕ → Option Head
+earlier_head first kernel None = first
+earlier_head None kernel (Some stamp) = Some (record { kernel = kernel; stamp = stamp })
+earlier_head (Some head) kernel (Some stamp) =
+    if nat_le head.stamp stamp then Some head else Some (record { kernel = kernel; stamp = stamp })
 
 -- the first of the heads of the kernels below a number, if there is one
 abbrev pub IsFirstBelow : List Kept → List ℕ → ℕ → Option Head → Type 0
@@ -35,7 +37,7 @@ IsFirstBelow journals places n first =
     MatchOption first
     ((k : ℕ) → k < n → head_stamp journals places k ≡ None)
     (λ head. (head.kernel < n) × (head_stamp journals places head.kernel ≡ Some head.stamp)
-    × ((k stamp : ℕ) → k < n → head_stamp journals places k ≡ Some stamp → IsNoLater head k stamp))
+    × ((k : ℕ) → k < n → (stamp : ℕ) → head_stamp journals places k ≡ Some stamp → IsNoLater head k stamp))
 
 -- how many entries are left
 abbrev pub left : List Kept → List ℕ → ℕ

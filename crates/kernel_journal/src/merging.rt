@@ -1,4 +1,4 @@
-ghost use Rattle.std.specs.Prelude.{◌≡◌, ◌+◌, ◌<◌, ◌≤◌, ◌∷◌, List, IfOk, length, map, drop, slice_get};
+ghost use Rattle.std.specs.Prelude.{◌≡◌, ◌+◌, ◌^◌, ◌<◌, ◌≤◌, ◌∷◌, List, IfOk, length, map, drop, slice_get};
 ghost use Rattle.kernel_journal.specs.Journal.{AreRising};
 ghost use Rattle.kernel_journal.specs.Heads.{lists, earlier_head, IsFirstBelow};
 ghost use Rattle.kernel_world.specs.Run.{IsMerge};
@@ -37,6 +37,7 @@ fn place_head(alloc: Global, kernel: u8, journal: &Journal, place: usize) -> Res
     ensures kernel { IfOk result (λ placed. placed.kernel ≡ kernel) }
     ensures entry { IfOk result (λ placed. drop place journal.now.entries ≡ placed.entry ∷ drop (place + 1) journal.now.entries) }
     ensures rising { AreRising journal.now.entries }
+    ensures fits { place + 1 < 2 ^ 64 }
 {
     let entry = journal.entries()[place].copy(alloc)?;
     Ok(Placed { kernel, entry })
@@ -49,9 +50,7 @@ fn first_head(journals: &[Journal], places: &[usize; 8]) -> Option<Head>
 {
     let mut first = None;
     for (kernel, journal) in journals.iter().enumerate() {
-        if let Some(stamp) = stamp_at(journal, places[kernel]) {
-            first = earlier(first, Head { kernel, stamp });
-        }
+        first = earlier(first, kernel, stamp_at(journal, places[kernel]));
     }
     first
 }
@@ -62,12 +61,15 @@ fn stamp_at(journal: &Journal, place: usize) -> Option<u64>
     journal.entries().get(place).map(|entry| entry.stamp)
 }
 
-/// Of two heads the one with the smaller stamp, and the first where their stamps are equal.
-fn earlier(first: Option<Head>, second: Head) -> Option<Head>
-    ensures { result ≡ earlier_head first second }
+/// The first head so far or that of a later kernel: the one with the smaller stamp, and the first where they are equal.
+fn earlier(first: Option<Head>, kernel: usize, stamp: Option<u64>) -> Option<Head>
+    ensures { result ≡ earlier_head first kernel stamp }
 {
+    let Some(stamp) = stamp else {
+        return first;
+    };
     match first {
-        Some(head) if head.stamp <= second.stamp => Some(head),
-        _ => Some(second),
+        Some(head) if head.stamp <= stamp => Some(head),
+        _ => Some(Head { kernel, stamp }),
     }
 }
