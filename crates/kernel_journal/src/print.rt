@@ -1,7 +1,8 @@
 ghost use Rattle.std.specs.Prelude.{◌≡◌, ◌++◌, ◌∷◌, IfOk, OnOk, map};
-ghost use Rattle.std.specs.List.{flat_map};
+ghost use Rattle.std.specs.List.{flat_map, concat};
 ghost use Rattle.charlotte_text.specs.Spelling.{number_text};
 ghost use Rattle.kernel_journal.specs.Transcript.{line, process_home_text, packet_text, happened_text, entry_text, step_text, entry_lines, note_text, last_text, header_lines, process_lines, wire_text, transcript_lines};
+ghost use Rattle.kernel_journal.specs.TranscriptText.{AreOfTranscript, IsTranscript};
 
 use crate::packet::{push_numbers, push_packet};
 use crate::step::{push_of, push_step};
@@ -188,7 +189,8 @@ fn push_merged_lines(alloc: Global, lines: &mut Vec<Vec<u8>>, merged: &[Placed])
 
 /// The lines of a transcript, each with its line feed.
 pub fn print_transcript(alloc: Global, setting: &Setting, merged: &[Placed], notes: &[ScriptNote], last: Last) -> Result<Vec<Vec<u8>>, NoMemory>
-    ensures { IfOk result (λ lines. map (λ l. l.items) lines.items ≡ transcript_lines setting.now merged.now notes.now last) }
+    ensures lines { IfOk result (λ lines. map (λ l. l.items) lines.items ≡ transcript_lines setting.now merged.now notes.now last) }
+    ensures text { AreOfTranscript setting.now merged.now notes.now last → IfOk result (λ lines. IsTranscript (concat (map (λ l. l.items) lines.items)) setting.now merged.now notes.now last) }
 {
     let mut lines = print_header(alloc, setting)?;
     push_merged_lines(alloc, &mut lines, merged)?;
