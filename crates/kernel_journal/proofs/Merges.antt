@@ -56,7 +56,7 @@ of_kernel-push : (ps : List Placed) (p : Placed) (k : ℕ) → p.kernel ≡ k �
 of_kernel-push [] p k h = of_kernel-same p [] k h
 of_kernel-push (q ∷ ps) p k h =
     elim (eqb_tells q.kernel k) [
-      inl e ↦ of_kernel-same q (ps ++ p ∷ []) k e.1 ∙ ap (λ es. q.entry ∷ es) (of_kernel-push ps p k h) ∙ ap (λ es. es ++ p.entry ∷ []) (sym (of_kernel-same q ps k e.1))
+      | inl e ↦ of_kernel-same q (ps ++ p ∷ []) k e.1 ∙ ap (λ es. q.entry ∷ es) (of_kernel-push ps p k h) ∙ ap (λ es. es ++ p.entry ∷ []) (sym (of_kernel-same q ps k e.1))
       | inr e ↦ of_kernel-other q (ps ++ p ∷ []) k e.1 ∙ of_kernel-push ps p k h ∙ ap (λ es. es ++ p.entry ∷ []) (sym (of_kernel-other q ps k e.1))
     ]
 
@@ -64,7 +64,7 @@ of_kernel-push_other : (ps : List Placed) (p : Placed) (k : ℕ) → p.kernel �
 of_kernel-push_other [] p k h = of_kernel-other p [] k h
 of_kernel-push_other (q ∷ ps) p k h =
     elim (eqb_tells q.kernel k) [
-      inl e ↦ of_kernel-same q (ps ++ p ∷ []) k e.1 ∙ ap (λ es. q.entry ∷ es) (of_kernel-push_other ps p k h) ∙ sym (of_kernel-same q ps k e.1)
+      | inl e ↦ of_kernel-same q (ps ++ p ∷ []) k e.1 ∙ ap (λ es. q.entry ∷ es) (of_kernel-push_other ps p k h) ∙ sym (of_kernel-same q ps k e.1)
       | inr e ↦ of_kernel-other q (ps ++ p ∷ []) k e.1 ∙ of_kernel-push_other ps p k h ∙ sym (of_kernel-other q ps k e.1)
     ]
 
@@ -77,14 +77,14 @@ first-before : (p : Placed) (ps : List Placed) (k : ℕ) (e : Entry) (es : List 
 first-before p [] k e es o h = absurd (cc)
 first-before p (q ∷ ps) k e es o h =
     elim (eqb_tells q.kernel k) [
-      inl w ↦
-        let here : q.entry ∷ of_kernel k ps ≡ e ∷ es = sym (of_kernel-same q ps k w.1) ∙ h in
-        let same : q.entry ≡ e = cc in
-        let kernel : q.kernel ≡ k = w.1 in
-        subst (λ (x : ℕ). IsTrue (stands_before p (record { kernel = x; entry = e }))) kernel (subst (λ (x : Entry). IsTrue (stands_before p (record { kernel = q.kernel; entry = x }))) same o.0)
+      | inl w ↦
+          let here : q.entry ∷ of_kernel k ps ≡ e ∷ es = sym (of_kernel-same q ps k w.1) ∙ h in
+          let same : q.entry ≡ e = cc in
+          let kernel : q.kernel ≡ k = w.1 in
+          subst (λ (x : ℕ). IsTrue (stands_before p (record { kernel = x; entry = e }))) kernel (subst (λ (x : Entry). IsTrue (stands_before p (record { kernel = q.kernel; entry = x }))) same o.0)
       | inr w ↦
-        let c : Placed = record { kernel = k; entry = e } in
-        stands_before-chains p q c o.0 (first-before q ps k e es o.1 (sym (of_kernel-other q ps k w.1) ∙ h))
+          let c : Placed = record { kernel = k; entry = e } in
+          stands_before-chains p q c o.0 (first-before q ps k e es o.1 (sym (of_kernel-other q ps k w.1) ∙ h))
     ]
 
 same-tail : (e : Entry) (es fs : List Entry) → e ∷ es ≡ e ∷ fs → es ≡ fs
@@ -94,7 +94,7 @@ same-tail e es fs h = cc
 rests-equal : (p : Placed) (ps qs : List Placed) → ((k : ℕ) → of_kernel k (p ∷ ps) ≡ of_kernel k (p ∷ qs)) → (k : ℕ) → of_kernel k ps ≡ of_kernel k qs
 rests-equal p ps qs h k =
     elim (eqb_tells p.kernel k) [
-      inl w ↦ same-tail p.entry (of_kernel k ps) (of_kernel k qs) (sym (of_kernel-same p ps k w.1) ∙ h k ∙ of_kernel-same p qs k w.1)
+      | inl w ↦ same-tail p.entry (of_kernel k ps) (of_kernel k qs) (sym (of_kernel-same p ps k w.1) ∙ h k ∙ of_kernel-same p qs k w.1)
       | inr w ↦ sym (of_kernel-other p ps k w.1) ∙ h k ∙ of_kernel-other p qs k w.1
     ]
 
@@ -102,19 +102,19 @@ rests-equal p ps qs h k =
 first-equal : (p q : Placed) (ps qs : List Placed) → AreInOrder (p ∷ ps) → AreInOrder (q ∷ qs) → ((k : ℕ) → of_kernel k (p ∷ ps) ≡ of_kernel k (q ∷ qs)) → p ≡ q
 first-equal p q ps qs op oq h =
     elim (eqb_tells p.kernel q.kernel) [
-      inl w ↦
-        let kernel : p.kernel ≡ q.kernel = w.1 in
-        let both : p.entry ∷ of_kernel q.kernel ps ≡ q.entry ∷ of_kernel q.kernel qs = sym (of_kernel-same p ps q.kernel kernel) ∙ h q.kernel ∙ of_kernel-same q qs q.kernel refl in
-        let entry : p.entry ≡ q.entry = cc in
-        let P : ℕ → Entry → Placed = λ k e. record { kernel = k; entry = e } in
-        ap (λ (k : ℕ). P k p.entry) kernel ∙ ap (λ (e : Entry). P q.kernel e) entry
+      | inl w ↦
+          let kernel : p.kernel ≡ q.kernel = w.1 in
+          let both : p.entry ∷ of_kernel q.kernel ps ≡ q.entry ∷ of_kernel q.kernel qs = sym (of_kernel-same p ps q.kernel kernel) ∙ h q.kernel ∙ of_kernel-same q qs q.kernel refl in
+          let entry : p.entry ≡ q.entry = cc in
+          let P : ℕ → Entry → Placed = λ k e. record { kernel = k; entry = e } in
+          ap (λ (k : ℕ). P k p.entry) kernel ∙ ap (λ (e : Entry). P q.kernel e) entry
       | inr w ↦
-        let other : q.kernel ≢ p.kernel = λ e. w.1 (sym e) in
-        let of_p : of_kernel p.kernel qs ≡ p.entry ∷ of_kernel p.kernel ps = sym (of_kernel-other q qs p.kernel other) ∙ sym (h p.kernel) ∙ of_kernel-same p ps p.kernel refl in
-        let of_q : of_kernel q.kernel ps ≡ q.entry ∷ of_kernel q.kernel qs = sym (of_kernel-other p ps q.kernel w.1) ∙ h q.kernel ∙ of_kernel-same q qs q.kernel refl in
-        let q-p = first-before q qs p.kernel p.entry (of_kernel p.kernel ps) oq of_p in
-        let p-q = first-before p ps q.kernel q.entry (of_kernel q.kernel qs) op of_q in
-        absurd (Before-not_both p.entry.stamp p.kernel q.entry.stamp q.kernel (before-means p q p-q) (before-means q p q-p))
+          let other : q.kernel ≢ p.kernel = λ e. w.1 (sym e) in
+          let of_p : of_kernel p.kernel qs ≡ p.entry ∷ of_kernel p.kernel ps = sym (of_kernel-other q qs p.kernel other) ∙ sym (h p.kernel) ∙ of_kernel-same p ps p.kernel refl in
+          let of_q : of_kernel q.kernel ps ≡ q.entry ∷ of_kernel q.kernel qs = sym (of_kernel-other p ps q.kernel w.1) ∙ h q.kernel ∙ of_kernel-same q qs q.kernel refl in
+          let q-p = first-before q qs p.kernel p.entry (of_kernel p.kernel ps) oq of_p in
+          let p-q = first-before p ps q.kernel q.entry (of_kernel q.kernel qs) op of_q in
+          absurd (Before-not_both p.entry.stamp p.kernel q.entry.stamp q.kernel (before-means p q p-q) (before-means q p q-p))
     ]
 
 -- two lists in order with the same entries of each kernel are equal
@@ -185,17 +185,17 @@ IsSoFar-more all rests more merged k e es s is here others rising before =
     record {
       order = o;
       entries = λ j. elim (eqb_tells j k) [
-        inl w ↦
-          let at : k ≡ j = sym w.1 in
-          subst (λ (i : ℕ). of_kernel i (merged ++ x ∷ []) ++ more i ≡ all i) at (ap (λ fs. fs ++ more k) (of_kernel-push merged x k refl) ∙ append_assoc (of_kernel k merged) (e ∷ []) (more k) ∙ ap (λ fs. of_kernel k merged ++ e ∷ fs) here ∙ ap (λ fs. of_kernel k merged ++ fs) (sym is) ∙ s.entries k)
+        | inl w ↦
+            let at : k ≡ j = sym w.1 in
+            subst (λ (i : ℕ). of_kernel i (merged ++ x ∷ []) ++ more i ≡ all i) at (ap (λ fs. fs ++ more k) (of_kernel-push merged x k refl) ∙ append_assoc (of_kernel k merged) (e ∷ []) (more k) ∙ ap (λ fs. of_kernel k merged ++ e ∷ fs) here ∙ ap (λ fs. of_kernel k merged ++ fs) (sym is) ∙ s.entries k)
         | inr w ↦
-          let other : k ≢ j = λ q. w.1 (sym q) in
-          ap (λ fs. fs ++ more j) (of_kernel-push_other merged x j other) ∙ ap (λ fs. of_kernel j merged ++ fs) (others j w.1) ∙ s.entries j
+            let other : k ≢ j = λ q. w.1 (sym q) in
+            ap (λ fs. fs ++ more j) (of_kernel-push_other merged x j other) ∙ ap (λ fs. of_kernel j merged ++ fs) (others j w.1) ∙ s.entries j
       ];
       next = λ j. elim (eqb_tells j k) [
-        inl w ↦
-          let at : k ≡ j = sym w.1 in
-          subst (λ (i : ℕ). IsNext (merged ++ x ∷ []) i (more i)) at (next-other merged x k (more k) o (λ f fs q. rising-before k e es rising f fs (sym here ∙ q)))
+        | inl w ↦
+            let at : k ≡ j = sym w.1 in
+            subst (λ (i : ℕ). IsNext (merged ++ x ∷ []) i (more i)) at (next-other merged x k (more k) o (λ f fs q. rising-before k e es rising f fs (sym here ∙ q)))
         | inr w ↦ next-other merged x j (more j) o (λ f fs q. before j w.1 f fs (sym (others j w.1) ∙ q))
       ];
     }
@@ -206,7 +206,7 @@ no-later-before head e f i same ne later =
     let le : head.stamp ≤ f.stamp = later.0 in
     before-if (record { kernel = head.kernel; entry = e }) (record { kernel = i; entry = f })
     (elim (eqb_tells head.stamp f.stamp) [
-      inl w ↦ let at : head.kernel ≤ i = later.1 w.1 in let eq : head.stamp ≡ f.stamp = w.1 in inr (omega arith, omega arith)
+      | inl w ↦ let at : head.kernel ≤ i = later.1 w.1 in let eq : head.stamp ≡ f.stamp = w.1 in inr (omega arith, omega arith)
       | inr w ↦ let neq : head.stamp ≢ f.stamp = w.1 in inl (omega arith)
     ])
 
@@ -218,9 +218,9 @@ first-of_all js ps head e es first is i ne f fs q =
     let known : head_stamp js ps head.kernel ≡ Some head.stamp = first.1 in
     let same : e.stamp ≡ head.stamp = cc in
     elim (leb_tells (length js) i) [
-      inl w ↦
-        let no : [] ≡ f ∷ fs = sym (drop-none (slice_index ps i)) ∙ ap (λ (xs : List Entry). drop (slice_index ps i) xs) (sym (entries_at-none js i w.1)) ∙ q in
-        absurd (cc)
+      | inl w ↦
+          let no : [] ≡ f ∷ fs = sym (drop-none (slice_index ps i)) ∙ ap (λ (xs : List Entry). drop (slice_index ps i) xs) (sym (entries_at-none js i w.1)) ∙ q in
+          absurd (cc)
       | inr w ↦ no-later-before head e f i same ne (first.2 i w.1 f.stamp other)
     ]
 
@@ -242,7 +242,7 @@ IsSoFar-placed js ps merged head j e eight few first is split rising so_far =
 pub IsMerge-end : (js : List Kept) (ps : List ℕ) (merged : List Placed) → IsFirstBelow js ps (length js) None → IsSoFar (entries_at js) (rest js ps) merged → IsMerge (lists js) merged
 IsMerge-end js ps merged none so_far =
     let nothing : (k : ℕ) → rest js ps k ≡ [] = λ k. elim (leb_tells (length js) k) [
-      inl w ↦ ap (λ (xs : List Entry). drop (slice_index ps k) xs) (entries_at-none js k w.1) ∙ drop-none (slice_index ps k)
+      | inl w ↦ ap (λ (xs : List Entry). drop (slice_index ps k) xs) (entries_at-none js k w.1) ∙ drop-none (slice_index ps k)
       | inr w ↦ none-left (entries_at js k) (slice_index ps k) (none k w.1)
     ] in
     record { order = so_far.order; entries = IsSoFar-end (lists js) (entries_at js) (rest js ps) merged so_far nothing }

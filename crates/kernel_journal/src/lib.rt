@@ -7,6 +7,8 @@ mod merging;
 mod packet;
 mod print;
 mod step;
+#[cfg(test)]
+mod tests;
 
 pub use journal::Journal;
 pub use kernel_world::{Entry, Happened, Placed};

@@ -32,7 +32,12 @@ pub fn merge(alloc: Global, journals: &[Journal]) -> Result<Vec<Placed>, NoMemor
 }
 
 /// A copy of the entry at a place of a journal.
-fn place_head(alloc: Global, kernel: u8, journal: &Journal, place: usize) -> Result<Placed, NoMemory>
+fn place_head(
+    alloc: Global,
+    kernel: u8,
+    journal: &Journal,
+    place: usize,
+) -> Result<Placed, NoMemory>
     requires { place < length journal.now.entries }
     ensures kernel { IfOk result (λ placed. placed.kernel ≡ kernel) }
     ensures entry { IfOk result (λ placed. drop place journal.now.entries ≡ placed.entry ∷ drop (place + 1) journal.now.entries) }

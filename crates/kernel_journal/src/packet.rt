@@ -26,7 +26,12 @@ pub(crate) fn push_on(out: &mut Vec<u8>, word: &[u8], end: EndId) -> Result<(), 
 }
 
 /// Appends a word with its blank, an end, and numbers.
-pub(crate) fn push_form(out: &mut Vec<u8>, word: &[u8], end: EndId, numbers: &[u64]) -> Result<(), NoMemory>
+pub(crate) fn push_form(
+    out: &mut Vec<u8>,
+    word: &[u8],
+    end: EndId,
+    numbers: &[u64],
+) -> Result<(), NoMemory>
     ensures { OnOk result (out.new.items ≡ out.old.items ++ word.now ++ end_text end ++ numbers_text numbers.now) }
 {
     push_on(out, word, end)?;
@@ -69,23 +74,56 @@ pub(crate) fn push_packet(out: &mut Vec<u8>, what: &PictureWhat) -> Result<(), N
 {
     match what {
         PictureWhat::Want { to, w, at, hops } => {
-            push_form(out, b"want ", *to, &[u64::from(*w), u64::from(*at), u64::from(*hops)])?
+            push_form(
+                out,
+                b"want ",
+                *to,
+                &[u64::from(*w), u64::from(*at), u64::from(*hops)],
+            )?
         }
         PictureWhat::Unwant { to, w, at, hops } => {
-            push_form(out, b"unwant ", *to, &[u64::from(*w), u64::from(*at), u64::from(*hops)])?
+            push_form(
+                out,
+                b"unwant ",
+                *to,
+                &[u64::from(*w), u64::from(*at), u64::from(*hops)],
+            )?
         }
         PictureWhat::Unwanted { to, w, at, hops } => {
-            push_form(out, b"unwanted ", *to, &[u64::from(*w), u64::from(*at), u64::from(*hops)])?
+            push_form(
+                out,
+                b"unwanted ",
+                *to,
+                &[u64::from(*w), u64::from(*at), u64::from(*hops)],
+            )?
         }
-        PictureWhat::Parcel { to, n, w, at, hops, bytes, moving } => {
-            let numbers = [u64::from(*n), u64::from(*w), u64::from(*at), u64::from(*hops)];
+        PictureWhat::Parcel {
+            to,
+            n,
+            w,
+            at,
+            hops,
+            bytes,
+            moving,
+        } => {
+            let numbers = [
+                u64::from(*n),
+                u64::from(*w),
+                u64::from(*at),
+                u64::from(*hops),
+            ];
             push_form(out, b"parcel ", *to, &numbers)?;
             out.push(b' ')?;
             push_bytes(out, bytes.as_slice())?;
             push_values(out, moving.as_slice())?;
         }
         PictureWhat::Taken { to, n, at, hops } => {
-            push_form(out, b"taken ", *to, &[u64::from(*n), u64::from(*at), u64::from(*hops)])?
+            push_form(
+                out,
+                b"taken ",
+                *to,
+                &[u64::from(*n), u64::from(*at), u64::from(*hops)],
+            )?
         }
         PictureWhat::Back { to, n, moving } => {
             push_form(out, b"back ", *to, &[u64::from(*n)])?;

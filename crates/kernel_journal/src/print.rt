@@ -60,7 +60,11 @@ fn step_line(alloc: Global, step: &ServiceStep) -> Result<Vec<u8>, NoMemory>
     Ok(text)
 }
 
-fn push_step_lines(alloc: Global, lines: &mut Vec<Vec<u8>>, steps: &[ServiceStep]) -> Result<(), NoMemory>
+fn push_step_lines(
+    alloc: Global,
+    lines: &mut Vec<Vec<u8>>,
+    steps: &[ServiceStep],
+) -> Result<(), NoMemory>
     ensures { OnOk result (map (λ l. l.items) lines.new.items ≡ map (λ l. l.items) lines.old.items ++ map (λ s. line (step_text s)) steps.now) }
 {
     for step in steps {
@@ -69,7 +73,11 @@ fn push_step_lines(alloc: Global, lines: &mut Vec<Vec<u8>>, steps: &[ServiceStep
     Ok(())
 }
 
-fn push_entry_lines(alloc: Global, lines: &mut Vec<Vec<u8>>, placed: &Placed) -> Result<(), NoMemory>
+fn push_entry_lines(
+    alloc: Global,
+    lines: &mut Vec<Vec<u8>>,
+    placed: &Placed,
+) -> Result<(), NoMemory>
     ensures { OnOk result (map (λ l. l.items) lines.new.items ≡ map (λ l. l.items) lines.old.items ++ entry_lines placed.now) }
 {
     lines.push(entry_line(alloc, placed)?)?;
@@ -127,7 +135,11 @@ fn push_process_lines(alloc: Global, lines: &mut Vec<Vec<u8>>, homes: &[u8]) -> 
     Ok(())
 }
 
-fn push_wire_lines(alloc: Global, lines: &mut Vec<Vec<u8>>, wires: &[(Pid, Pid)]) -> Result<(), NoMemory>
+fn push_wire_lines(
+    alloc: Global,
+    lines: &mut Vec<Vec<u8>>,
+    wires: &[(Pid, Pid)],
+) -> Result<(), NoMemory>
     ensures { OnOk result (map (λ l. l.items) lines.new.items ≡ map (λ l. l.items) lines.old.items ++ map (λ wire. line (wire_text wire)) wires.now) }
 {
     for wire in wires {
@@ -169,7 +181,11 @@ fn last_line(alloc: Global, last: Last) -> Result<Vec<u8>, NoMemory>
     }
 }
 
-fn push_note_lines(alloc: Global, lines: &mut Vec<Vec<u8>>, notes: &[ScriptNote]) -> Result<(), NoMemory>
+fn push_note_lines(
+    alloc: Global,
+    lines: &mut Vec<Vec<u8>>,
+    notes: &[ScriptNote],
+) -> Result<(), NoMemory>
     ensures { OnOk result (map (λ l. l.items) lines.new.items ≡ map (λ l. l.items) lines.old.items ++ map (λ n. line (note_text n)) notes.now) }
 {
     for note in notes {
@@ -178,7 +194,11 @@ fn push_note_lines(alloc: Global, lines: &mut Vec<Vec<u8>>, notes: &[ScriptNote]
     Ok(())
 }
 
-fn push_merged_lines(alloc: Global, lines: &mut Vec<Vec<u8>>, merged: &[Placed]) -> Result<(), NoMemory>
+fn push_merged_lines(
+    alloc: Global,
+    lines: &mut Vec<Vec<u8>>,
+    merged: &[Placed],
+) -> Result<(), NoMemory>
     ensures { OnOk result (map (λ l. l.items) lines.new.items ≡ map (λ l. l.items) lines.old.items ++ flat_map entry_lines merged.now) }
 {
     for placed in merged {
@@ -188,7 +208,13 @@ fn push_merged_lines(alloc: Global, lines: &mut Vec<Vec<u8>>, merged: &[Placed])
 }
 
 /// The lines of a transcript, each with its line feed.
-pub fn print_transcript(alloc: Global, setting: &Setting, merged: &[Placed], notes: &[ScriptNote], last: Last) -> Result<Vec<Vec<u8>>, NoMemory>
+pub fn print_transcript(
+    alloc: Global,
+    setting: &Setting,
+    merged: &[Placed],
+    notes: &[ScriptNote],
+    last: Last,
+) -> Result<Vec<Vec<u8>>, NoMemory>
     ensures lines { IfOk result (λ lines. map (λ l. l.items) lines.items ≡ transcript_lines setting.now merged.now notes.now last) }
     ensures text { AreOfTranscript setting.now merged.now notes.now last → IfOk result (λ lines. IsTranscript (concat (map (λ l. l.items) lines.items)) setting.now merged.now notes.now last) }
 {

@@ -33,7 +33,13 @@ fn push_cause(out: &mut Vec<u8>, cause: Cause) -> Result<(), NoMemory>
     Ok(())
 }
 
-fn push_result(out: &mut Vec<u8>, way: Way, outcome: Outcome, bytes: &[u8], ends: &[EndId]) -> Result<(), NoMemory>
+fn push_result(
+    out: &mut Vec<u8>,
+    way: Way,
+    outcome: Outcome,
+    bytes: &[u8],
+    ends: &[EndId],
+) -> Result<(), NoMemory>
     ensures { OnOk result (out.new.items ≡ out.old.items ++ result_text way outcome bytes.now ends.now) }
 {
     match (way, outcome) {
@@ -59,7 +65,13 @@ fn push_report(out: &mut Vec<u8>, p: Pid, report: &Report) -> Result<(), NoMemor
     push_on(out, b" ", report.on)?;
     out.push(b' ')?;
     push_way(out, report.way)?;
-    push_result(out, report.way, report.outcome, report.bytes.as_slice(), report.enclosed.as_slice())?;
+    push_result(
+        out,
+        report.way,
+        report.outcome,
+        report.bytes.as_slice(),
+        report.enclosed.as_slice(),
+    )?;
     Ok(())
 }
 
@@ -88,7 +100,12 @@ pub(crate) fn push_step(out: &mut Vec<u8>, step: &ServiceStep) -> Result<(), NoM
             push_cause(out, *cause)?;
         }
         ServiceStep::Destroy { on } => push_on(out, b". destroy ", *on)?,
-        ServiceStep::Send { on, n, bytes: _, enclose } => {
+        ServiceStep::Send {
+            on,
+            n,
+            bytes: _,
+            enclose,
+        } => {
             push_form(out, b". send ", *on, &[u64::from(*n)])?;
             push_ends(out, enclose.as_slice())?;
         }
