@@ -1,6 +1,9 @@
 //! Journals of kernels, their merge, and the transcript of a run.
 #![tactic(auto)]
 
+mod end_lines;
+mod entry_lines;
+mod header_lines;
 mod journal;
 mod last;
 mod merging;

@@ -21,7 +21,7 @@ pub fn merge(alloc: Global, journals: &[Journal]) -> Result<Vec<Placed>, NoMemor
     ensures merge { IfOk result (λ merged. IsMerge (lists journals.now) merged.items) }
     ensures only { IfOk result (λ merged. (ps : List APlaced) → IsMerge (lists journals.now) ps → ps ≡ merged.items) }
 {
-    let mut merged = Vec::new(alloc);
+    let mut merged = Vec::with_capacity(alloc, entries_in(journals))?;
     let mut places = [0usize; 8];
     while let Some(head) = first_head(journals, &places) {
         let kernel = head.kernel;
@@ -29,6 +29,14 @@ pub fn merge(alloc: Global, journals: &[Journal]) -> Result<Vec<Placed>, NoMemor
         places[kernel] += 1;
     }
     Ok(merged)
+}
+
+/// How many entries the journals have together.
+fn entries_in(journals: &[Journal]) -> usize {
+    journals.iter().fold(
+        0,
+        |sum: usize, journal| sum.saturating_add(journal.entries().len()),
+    )
 }
 
 /// A copy of the entry at a place of a journal.

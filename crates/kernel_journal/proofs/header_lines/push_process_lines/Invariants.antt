@@ -1,6 +1,6 @@
 use Rattle.std.proofs.Common.{◌≡◌, ◌++◌, take, drop, map}
 use Rattle.kernel_journal.specs.Transcript.{process_lines}
-use Rattle.kernel_journal.proofs.print.push_process_lines.Given as goal
+use Rattle.kernel_journal.proofs.header_lines.push_process_lines.Given as goal
 
 abbrev pub invariant-loop-number : goal.invariant-loop-number
 invariant-loop-number l =

@@ -1,6 +1,6 @@
 use Rattle.std.proofs.Common.{◌≡◌, ◌++◌, take, map}
 use Rattle.kernel_journal.specs.Transcript.{line, step_text}
-use Rattle.kernel_journal.proofs.print.push_step_lines.Given as goal
+use Rattle.kernel_journal.proofs.entry_lines.push_step_lines.Given as goal
 
 abbrev pub invariant-loop-step : goal.invariant-loop-step
 invariant-loop-step l =

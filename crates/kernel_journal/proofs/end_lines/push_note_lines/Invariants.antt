@@ -1,6 +1,6 @@
 use Rattle.std.proofs.Common.{◌≡◌, ◌++◌, take, drop, map}
 use Rattle.kernel_journal.specs.Transcript.{line, note_text}
-use Rattle.kernel_journal.proofs.print.push_note_lines.Given as goal
+use Rattle.kernel_journal.proofs.end_lines.push_note_lines.Given as goal
 
 abbrev pub invariant-loop-note : goal.invariant-loop-note
 invariant-loop-note l =

@@ -1,6 +1,6 @@
 use Rattle.std.proofs.Common.{◌≡◌, ◌++◌, take, drop, map}
 use Rattle.kernel_journal.specs.Transcript.{line, wire_text}
-use Rattle.kernel_journal.proofs.print.push_wire_lines.Given as goal
+use Rattle.kernel_journal.proofs.header_lines.push_wire_lines.Given as goal
 
 abbrev pub invariant-loop-wire : goal.invariant-loop-wire
 invariant-loop-wire l =
