@@ -1,0 +1,34 @@
+//! Why a source has no tokens.
+
+ghost use Rattle.std.specs.Prelude.{◌≡◌};
+ghost use Rattle.lynx_lexer.specs.declared.fault.LexFault.TheVariants as faults;
+
+use std::alloc::{AllocError, AllocFailed};
+
+/// Why a source has no tokens within the limits.
+#[derive(Clone, Copy, Debug, PartialEq, Eq)]
+pub enum LexFault {
+    /// The first fault: the place of the first byte of the token in which it stands, counted from 0,
+    /// and its number. 1: no token and no separator begins with that byte. 2: a text is not closed.
+    /// 3: a number is above 9223372036854775807. 4: a text has more than 64 bytes. 5: a name has more
+    /// than 32 bytes.
+    At { place: u32, no: u8 },
+    /// There was not memory enough.
+    NoMemory,
+}
+
+impl From<AllocError> for LexFault {
+    ghost from_gives = { λ _ e. e ≡ faults.NoMemory };
+
+    fn from(_error: AllocError) -> LexFault {
+        LexFault::NoMemory
+    }
+}
+
+impl<T: Drop> From<AllocFailed<T>> for LexFault {
+    ghost from_gives = { λ _ e. e ≡ faults.NoMemory };
+
+    fn from(_error: AllocFailed<T>) -> LexFault {
+        LexFault::NoMemory
+    }
+}

@@ -1,0 +1,19 @@
+//! Tokens of LYNX modules: a source is cut into its longest tokens, and the first fault is found.
+#![tactic(auto)]
+
+mod class;
+mod fault;
+mod ident;
+mod keyword;
+mod memory;
+mod sign;
+mod text;
+mod token;
+
+pub use fault::LexFault;
+pub use ident::Ident;
+pub use keyword::Keyword;
+pub use memory::NoMemory;
+pub use sign::Sign;
+pub use text::TextLit;
+pub use token::{Kind, Token};
