@@ -14,7 +14,7 @@ abbrev pub is_mark : ℕ → Bool
 is_mark b = (nat_le 40 b && nat_le b 47) || (nat_le 58 b && nat_le b 62) || b == 91 || b == 93
 
 -- what can begin with the byte: a separator, a name, a number, a text, a sign or comment, or nothing
-abbrev pub class_of : ℕ → Class
+unfoldable pub class_of : ℕ → Class
 class_of b =
     if is_blank b then Blank
     else (if is_ascii_alphabetic b then Letter

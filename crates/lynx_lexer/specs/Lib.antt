@@ -1,2 +1,4 @@
 pub mod Bytes
+pub mod Pieces
+pub mod Source
 pub mod Words

@@ -24,6 +24,7 @@ pub enum Class {
 
 impl Class {
     /// The class of a byte.
+    #[tactic(auto, unfolding(crate::specs::Bytes::class_of))]
     pub fn from_byte(byte: u8) -> Class
         ensures { result ≡ class_of byte }
     {
