@@ -1,4 +1,5 @@
 pub mod Cuts
+pub mod Decimals
 pub mod Longest
 pub mod Runs
 pub mod Shapes

@@ -1,4 +1,5 @@
 pub mod Bytes
+pub mod Fronts
 pub mod Pieces
 pub mod Source
 pub mod Words

@@ -5,6 +5,17 @@ ghost use Rattle.lynx_lexer.specs.declared.fault.LexFault.TheVariants as faults;
 
 use std::alloc::{AllocError, AllocFailed};
 
+/// No token and no separator begins with the byte.
+pub const BAD_BYTE: u8 = 1;
+/// A text is not closed.
+pub const OPEN_TEXT: u8 = 2;
+/// A number is above the greatest i64.
+pub const NUMBER_TOO_WIDE: u8 = 3;
+/// A text has more than 64 bytes.
+pub const TEXT_TOO_LONG: u8 = 4;
+/// A name has more than 32 bytes.
+pub const NAME_TOO_LONG: u8 = 5;
+
 /// Why a source has no tokens within the limits.
 #[derive(Clone, Copy, Debug, PartialEq, Eq)]
 pub enum LexFault {

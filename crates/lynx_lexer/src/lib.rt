@@ -3,6 +3,7 @@
 
 mod class;
 mod fault;
+mod front;
 mod ident;
 mod keyword;
 mod law;
