@@ -3,4 +3,5 @@ pub mod Decimals
 pub mod Longest
 pub mod Runs
 pub mod Shapes
+pub mod Stands
 pub mod WordLemmas

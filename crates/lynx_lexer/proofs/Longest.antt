@@ -6,7 +6,7 @@ use Rattle.lynx_lexer.specs.Bytes.{class_of}
 use Rattle.lynx_lexer.specs.Words.{sign_of}
 use Rattle.lynx_lexer.specs.Pieces.{IsPiece, IsLongest, is_name_byte, is_digit, is_text_byte, is_comment_byte}
 use Rattle.lynx_lexer.specs.declared.class.Class.{Class}
-use Rattle.lynx_lexer.specs.declared.class.Class.TheVariants.{Blank, Letter, Digit, Underscore, Quote, Mark, Other}
+use Rattle.lynx_lexer.specs.declared.class.Class.TheVariants.{Blank, Letter, Digit, Underscore, Quote, Other}
 use Rattle.lynx_lexer.specs.declared.sign.Sign.{Sign}
 use Rattle.lynx_lexer.specs.declared.sign.Sign.TheVariants as signs
 use Rattle.lynx_lexer.proofs.Runs.{Stops, run_longest}
@@ -46,13 +46,13 @@ at_quote b bs k (number c all) = absurd cc
 at_quote b bs k (quoted inside c all e) = (inside, all, e)
 at_quote b bs k (sign s c e) = absurd cc
 
-pub at_mark : (b : ℕ) (bs : List ℕ) → class_of b ≡ Mark → Shape b bs → ((line : List ℕ) × (b ≡ 45) × (bs ≡ 45 ∷ line) × (list_all is_comment_byte line ≡ true)) ⊎ ((s : Sign) × (b ∷ bs ≡ sign_of s))
-at_mark b bs k (blank c e) = absurd cc
-at_mark b bs k (comment line c d e all) = inl (line, d, e, all)
-at_mark b bs k (word c all) = absurd cc
-at_mark b bs k (number c all) = absurd cc
-at_mark b bs k (quoted inside c all e) = absurd cc
-at_mark b bs k (sign s c e) = inr (s, e)
+pub at_other : (b : ℕ) (bs : List ℕ) → class_of b ≡ Other → Shape b bs → ((line : List ℕ) × (b ≡ 45) × (bs ≡ 45 ∷ line) × (list_all is_comment_byte line ≡ true)) ⊎ ((s : Sign) × (b ∷ bs ≡ sign_of s))
+at_other b bs k (blank c e) = absurd cc
+at_other b bs k (comment line c d e all) = inl (line, d, e, all)
+at_other b bs k (word c all) = absurd cc
+at_other b bs k (number c all) = absurd cc
+at_other b bs k (quoted inside c all e) = absurd cc
+at_other b bs k (sign s c e) = inr (s, e)
 
 pub at_underscore : (b : ℕ) (bs : List ℕ) → class_of b ≡ Underscore → Shape b bs → ⊥
 at_underscore b bs k (blank c e) = cc
@@ -61,14 +61,6 @@ at_underscore b bs k (word c all) = cc
 at_underscore b bs k (number c all) = cc
 at_underscore b bs k (quoted inside c all e) = cc
 at_underscore b bs k (sign s c e) = cc
-
-pub at_other : (b : ℕ) (bs : List ℕ) → class_of b ≡ Other → Shape b bs → ⊥
-at_other b bs k (blank c e) = cc
-at_other b bs k (comment line c d e all) = cc
-at_other b bs k (word c all) = cc
-at_other b bs k (number c all) = cc
-at_other b bs k (quoted inside c all e) = cc
-at_other b bs k (sign s c e) = cc
 
 -- ---- the longest
 
@@ -107,7 +99,7 @@ length-sign_of-le s = leb-true _ _ (short_sign s)
 
 pub longest_comment : (line rest : List ℕ) → Stops is_comment_byte rest → IsLongest (45 ∷ 45 ∷ line) rest
 longest_comment line rest stops = longest 45 (45 ∷ line) rest (λ cs more e s.
-    elim (at_mark 45 cs class_of_dash s) [
+    elim (at_other 45 cs class_of_dash s) [
       | inl found ↦ (let other : List ℕ = found.0 in
           let is : cs ≡ 45 ∷ other = found.2 in
           let joined : 45 ∷ line ++ rest ≡ 45 ∷ other ++ more = e ∙ ap (λ (x : List ℕ). x ++ more) is in
@@ -116,15 +108,11 @@ longest_comment line rest stops = longest 45 (45 ∷ line) rest (λ cs more e s.
       | inr found ↦ omega (arith, ap length found.1, length-sign_of-le found.0)
     ])
 
--- the text is a sign, and neither a comment nor a longer sign stands at its place
-pub record IsLongestSign (s : Sign) (rest : List ℕ) : Type 0 where
-  pub no_comment : (line : List ℕ) → sign_of s ++ rest ≡ 45 ∷ 45 ∷ line → ⊥
-  pub no_longer : (t : Sign) (more : List ℕ) → sign_of s ++ rest ≡ sign_of t ++ more → length (sign_of t) ≤ length (sign_of s)
-
-longest_mark : (s : Sign) (b : ℕ) (bs rest : List ℕ) → b ∷ bs ≡ sign_of s → class_of b ≡ Mark → IsLongestSign s rest → IsLongest (b ∷ bs) rest
-longest_mark s b bs rest is k h = longest b bs rest (λ cs more e sh.
+pub longest_sign : (s : Sign) (b : ℕ) (bs rest : List ℕ) → b ∷ bs ≡ sign_of s → class_of b ≡ Other → ((line : List ℕ) → sign_of s ++ rest ≡ 45 ∷ 45 ∷ line → ⊥)
+    → ((t : Sign) (more : List ℕ) → sign_of s ++ rest ≡ sign_of t ++ more → length (sign_of t) ≤ length (sign_of s)) → IsLongest (b ∷ bs) rest
+longest_sign s b bs rest is k no_comment no_longer = longest b bs rest (λ cs more e sh.
     let whole : sign_of s ++ rest ≡ b ∷ (cs ++ more) = ap (λ (x : List ℕ). x ++ rest) (sym is) ∙ ap (λ (x : List ℕ). b ∷ x) e in
-    elim (at_mark b cs k sh) [
-      | inl found ↦ absurd (h.no_comment (found.0 ++ more) (whole ∙ (λ i. found.1 i ∷ (found.2 i ++ more))))
-      | inr found ↦ omega (arith, ap length found.1, ap length is, h.no_longer found.0 more (whole ∙ ap (λ (x : List ℕ). x ++ more) found.1))
+    elim (at_other b cs k sh) [
+      | inl found ↦ absurd (no_comment (found.0 ++ more) (whole ∙ (λ i. found.1 i ∷ (found.2 i ++ more))))
+      | inr found ↦ omega (arith, ap length found.1, ap length is, no_longer found.0 more (whole ∙ ap (λ (x : List ℕ). x ++ more) found.1))
     ])

@@ -1,7 +1,7 @@
 -- Runs of bytes at the front of lists.
-use Rattle.std.proofs.Common.{◌≡◌, ℕ, ◌+◌, ◌≤◌, Bool, true, false, ◌&&◌, List, [], ◌∷◌, ◌++◌, length, refl, sym, ap, ◌∙◌, arith}
+use Rattle.std.proofs.Common.{◌≡◌, ℕ, suc, ◌+◌, ◌≤◌, ◌⊎◌, Bool, true, false, ◌&&◌, List, [], ◌∷◌, ◌++◌, length, take, drop, refl, sym, ap, ◌∙◌, subst, arith, inl, inr}
 use Rattle.std.specs.Prelude.{⊤}
-use Rattle.std.specs.List.{list_all}
+use Rattle.std.specs.List.{list_all, prefix_len}
 
 pub both_true : (x y : Bool) → (x && y) ≡ true → (x ≡ true) × (y ≡ true)
 both_true true y e = (refl, e)
@@ -41,3 +41,29 @@ same_fronts (c ∷ a) (d ∷ b) x y e l =
     let heads : c ≡ d = cc in
     let found = same_fronts a b x y tails lengths in
     (λ i. heads i ∷ found.0 i, found.1)
+
+cases_bool : (b : Bool) → (b ≡ true) ⊎ (b ≡ false)
+cases_bool true = inl refl
+cases_bool false = inr refl
+
+pub prefix_len-yes : (p : ℕ → Bool) (b : ℕ) (bs : List ℕ) → p b ≡ true → prefix_len p (b ∷ bs) ≡ suc (prefix_len p bs)
+prefix_len-yes p b bs passes = rw passes (omega arith)
+
+pub prefix_len-no : (p : ℕ → Bool) (b : ℕ) (bs : List ℕ) → p b ≡ false → prefix_len p (b ∷ bs) ≡ 0
+prefix_len-no p b bs fails = rw fails refl
+
+pub run_passes : (p : ℕ → Bool) (bs : List ℕ) → list_all p (take (prefix_len p bs) bs) ≡ true
+run_passes p [] = refl
+run_passes p (b ∷ bs) =
+    elim (cases_bool (p b)) [
+      | inl passes ↦ ap (λ (n : ℕ). list_all p (take n (b ∷ bs))) (prefix_len-yes p b bs passes) ∙ ap (λ (t : Bool). t && list_all p (take (prefix_len p bs) bs)) passes ∙ run_passes p bs
+      | inr fails ↦ ap (λ (n : ℕ). list_all p (take n (b ∷ bs))) (prefix_len-no p b bs fails)
+    ]
+
+pub run_stops : (p : ℕ → Bool) (bs : List ℕ) → Stops p (drop (prefix_len p bs) bs)
+run_stops p [] = tt
+run_stops p (b ∷ bs) =
+    elim (cases_bool (p b)) [
+      | inl passes ↦ subst (λ (n : ℕ). Stops p (drop n (b ∷ bs))) (sym (prefix_len-yes p b bs passes)) (run_stops p bs)
+      | inr fails ↦ subst (λ (n : ℕ). Stops p (drop n (b ∷ bs))) (sym (prefix_len-no p b bs fails)) fails
+    ]

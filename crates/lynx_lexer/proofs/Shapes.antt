@@ -5,7 +5,7 @@ use Rattle.lynx_lexer.specs.Bytes.{class_of}
 use Rattle.lynx_lexer.specs.Words.{word_of, sign_of}
 use Rattle.lynx_lexer.specs.Pieces.{IsPiece, IsToken, is_name_byte, is_digit, is_text_byte, is_comment_byte}
 use Rattle.lynx_lexer.specs.declared.class.Class.{Class}
-use Rattle.lynx_lexer.specs.declared.class.Class.TheVariants.{Blank, Letter, Digit, Underscore, Quote, Mark, Other}
+use Rattle.lynx_lexer.specs.declared.class.Class.TheVariants.{Blank, Letter, Digit, Underscore, Quote, Other}
 use Rattle.lynx_lexer.specs.declared.sign.Sign.{Sign}
 use Rattle.lynx_lexer.specs.declared.sign.Sign.TheVariants as signs
 use Rattle.lynx_lexer.specs.declared.token.Kind.{Kind}
@@ -16,13 +16,13 @@ use Rattle.std.proofs.lemmas.Bool.{false≢true}
 
 pub data Shape (b : ℕ) (bs : List ℕ) : Type 0 where
   blank : class_of b ≡ Blank → bs ≡ [] → Shape b bs
-  comment : (line : List ℕ) → class_of b ≡ Mark → b ≡ 45 → bs ≡ 45 ∷ line → list_all is_comment_byte line ≡ true → Shape b bs
+  comment : (line : List ℕ) → class_of b ≡ Other → b ≡ 45 → bs ≡ 45 ∷ line → list_all is_comment_byte line ≡ true → Shape b bs
   word : class_of b ≡ Letter → list_all is_name_byte bs ≡ true → Shape b bs
   number : class_of b ≡ Digit → list_all is_digit bs ≡ true → Shape b bs
   quoted : (inside : List ℕ) → class_of b ≡ Quote → list_all is_text_byte inside ≡ true → bs ≡ inside ++ 39 ∷ [] → Shape b bs
-  sign : (s : Sign) → class_of b ≡ Mark → b ∷ bs ≡ sign_of s → Shape b bs
+  sign : (s : Sign) → class_of b ≡ Other → b ∷ bs ≡ sign_of s → Shape b bs
 
-pub class_of_dash : class_of 45 ≡ Mark
+pub class_of_dash : class_of 45 ≡ Other
 unfolding class_of
 class_of_dash = refl
 
@@ -51,7 +51,7 @@ shape (Some kind) b bs h = shape_of_token kind b bs h
 -- the class of the first byte of a token
 class_of_kind : Kind → Class
 class_of_kind (kinds.Keyword keyword) = Letter
-class_of_kind (kinds.Sign s) = Mark
+class_of_kind (kinds.Sign s) = Other
 class_of_kind (kinds.Name name) = Letter
 class_of_kind (kinds.Number n) = Digit
 class_of_kind (kinds.Text inside) = Quote
@@ -64,7 +64,7 @@ first_class_of_token (kinds.Name name) text h = ap first_class h.1.4 ∙ h.1.2
 first_class_of_token (kinds.Number n) text h = ap first_class h.0.4 ∙ h.0.2
 first_class_of_token (kinds.Text inside) text h = ap first_class h.1 ∙ class_of_quote
 
-some_class : (kind : Kind) → Other ≡ class_of_kind kind → ⊥
+some_class : (kind : Kind) → Underscore ≡ class_of_kind kind → ⊥
 unfolding class_of_kind
 some_class (kinds.Keyword keyword) e = cc
 some_class (kinds.Sign s) e = cc
@@ -138,7 +138,7 @@ apart kind text h g =
     not_blank (kinds.Name name) e = cc
     not_blank (kinds.Number n) e = cc
     not_blank (kinds.Text inside) e = cc
-    not_comment : (kind : Kind) (text line : List ℕ) → IsToken kind text → text ≡ 45 ∷ 45 ∷ line → Mark ≡ class_of_kind kind → ⊥
+    not_comment : (kind : Kind) (text line : List ℕ) → IsToken kind text → text ≡ 45 ∷ 45 ∷ line → Other ≡ class_of_kind kind → ⊥
     not_comment (kinds.Keyword keyword) text line h m e = cc
     not_comment (kinds.Sign s) text line h m e = second_of_sign s line (sym h ∙ m)
     not_comment (kinds.Name name) text line h m e = cc

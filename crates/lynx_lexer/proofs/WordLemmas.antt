@@ -7,7 +7,7 @@ use Rattle.lynx_lexer.specs.Bytes.{class_of}
 use Rattle.lynx_lexer.specs.Words.{word_of, sign_of}
 use Rattle.lynx_lexer.specs.Pieces.{is_name_byte}
 use Rattle.lynx_lexer.specs.declared.class.Class.{Class}
-use Rattle.lynx_lexer.specs.declared.class.Class.TheVariants.{Letter, Mark, Other}
+use Rattle.lynx_lexer.specs.declared.class.Class.TheVariants.{Letter, Underscore, Other}
 use Rattle.lynx_lexer.specs.declared.keyword.Keyword.{Keyword}
 use Rattle.lynx_lexer.specs.declared.keyword.Keyword.TheVariants as keywords
 use Rattle.lynx_lexer.specs.declared.sign.Sign.{Sign}
@@ -15,7 +15,7 @@ use Rattle.lynx_lexer.specs.declared.sign.Sign.TheVariants as signs
 
 -- the class of the first byte
 abbrev pub first_class : List ℕ → Class
-first_class [] = Other
+first_class [] = Underscore
 first_class (b ∷ bs) = class_of b
 
 -- what stands behind the first byte
@@ -250,7 +250,7 @@ sign_from-sign_of signs.Over = refl
 pub same_sign : (s t : Sign) → sign_of s ≡ sign_of t → s ≡ t
 same_sign s t e = some_is s t (sym (sign_from-sign_of s) ∙ ap sign_from e ∙ sign_from-sign_of t)
 
-pub first_class-sign_of : (sign : Sign) → first_class (sign_of sign) ≡ Mark
+pub first_class-sign_of : (sign : Sign) → first_class (sign_of sign) ≡ Other
 unfolding class_of
 first_class-sign_of signs.Semicolon = refl
 first_class-sign_of signs.Dot = refl

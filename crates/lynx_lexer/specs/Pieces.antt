@@ -4,7 +4,7 @@ use Rattle.std.specs.List.{list_all, flat_map, fold}
 use Rattle.lynx_lexer.specs.Bytes.{class_of}
 use Rattle.lynx_lexer.specs.Words.{word_of, sign_of}
 use Rattle.lynx_lexer.specs.declared.class.Class.{Class}
-use Rattle.lynx_lexer.specs.declared.class.Class.TheVariants.{Blank, Letter, Digit, Underscore, Quote, Mark, Other}
+use Rattle.lynx_lexer.specs.declared.class.Class.TheVariants.{Blank, Letter, Digit, Underscore, Quote, Other}
 use Rattle.lynx_lexer.specs.declared.keyword.Keyword.{Keyword}
 use Rattle.lynx_lexer.specs.declared.token.Kind.{Kind}
 use Rattle.lynx_lexer.specs.declared.token.Kind.TheVariants as kinds
@@ -16,7 +16,6 @@ goes_on_name Digit = true
 goes_on_name Underscore = true
 goes_on_name Blank = false
 goes_on_name Quote = false
-goes_on_name Mark = false
 goes_on_name Other = false
 
 abbrev pub is_name_byte : ℕ → Bool

@@ -16,9 +16,7 @@ pub enum Class {
     Underscore,
     /// A text.
     Quote,
-    /// A sign, or a comment.
-    Mark,
-    /// Nothing.
+    /// A sign, a comment or nothing.
     Other,
 }
 
@@ -34,8 +32,6 @@ impl Class {
             b'0'..=b'9' => Class::Digit,
             b'_' => Class::Underscore,
             b'\'' => Class::Quote,
-            b'(' | b')' | b'*' | b'+' | b',' | b'-' | b'.' | b'/' => Class::Mark,
-            b':' | b';' | b'<' | b'=' | b'>' | b'[' | b']' => Class::Mark,
             _ => Class::Other,
         }
     }
