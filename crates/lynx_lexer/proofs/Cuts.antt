@@ -44,7 +44,7 @@ each_any [] = tt
 each_any (p ∷ ps) = (tt, each_any ps)
 
 -- no piece stands at the end
-end_bars : (W : Piece → Type 0) → Bars W []
+pub end_bars : (W : Piece → Type 0) → Bars W []
 end_bars W p rest e h longest w = empty p.text e h
   where
     empty : (text : List ℕ) → [] ≡ text ++ rest → IsPiece p.kind text → ⊥
@@ -53,6 +53,6 @@ end_bars W p rest e h longest w = empty p.text e h
 
 pub one_spelling : (source : List ℕ) (a b : List Token) → Spell a source → Spell b source → a ≡ b
 one_spelling source a b x y =
-    let e : text_of x.0 ++ [] ≡ text_of y.0 ++ [] = ap (λ (t : List ℕ). t ++ []) (sym x.1 ∙ y.1) in
-    let same = one_cut any x.0 y.0 [] [] e x.2 y.2 (each_any x.0) (each_any y.0) (end_bars any) (end_bars any) in
-    x.3 ∙ ap (tokens_of 0) same.0 ∙ sym y.3
+    let e : text_of x.0 ++ [] ≡ text_of y.0 ++ [] = sym x.1.0 ∙ y.1.0 in
+    let same = one_cut any x.0 y.0 [] [] e x.1.1 y.1.1 (each_any x.0) (each_any y.0) (end_bars any) (end_bars any) in
+    x.2 ∙ ap (tokens_of 0) same.0 ∙ sym y.2

@@ -1,6 +1,8 @@
 pub mod Cuts
 pub mod Decimals
+pub mod Faults
 pub mod Longest
+pub mod Reached
 pub mod Runs
 pub mod Shapes
 pub mod Stands

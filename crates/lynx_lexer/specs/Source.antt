@@ -1,7 +1,6 @@
 -- How tokens spell a source, and what its first fault is.
 use Rattle.std.specs.Prelude.{◌≡◌, ◌≢◌, ℕ, ◌+◌, ◌⊎◌, Bool, true, false, IsTrue, IsFalse, List, [], ◌∷◌, ◌++◌, length, Option, Some, None, ⊤}
-use Rattle.std.specs.List.{list_all, flat_map, AllByRecursion, cons_option}
-use Rattle.std.specs.Option.{option_map}
+use Rattle.std.specs.List.{list_all, flat_map, AllByRecursion}
 use Rattle.lynx_lexer.specs.Pieces.{IsPiece, IsToken, IsLongest, is_text_byte, limit_passed}
 use Rattle.lynx_lexer.specs.declared.token.Kind.{Kind}
 use Rattle.lynx_lexer.specs.declared.token.Token.{Token}
@@ -20,14 +19,23 @@ abbrev pub AreLongest : List Piece → List ℕ → Type 0
 AreLongest [] rest = ⊤
 AreLongest (p ∷ ps) rest = IsPiece p.kind p.text × IsLongest p.text (text_of ps ++ rest) × AreLongest ps rest
 
+-- the token that a piece is, from one place to another, if it is one
+abbrev pub token_at : ℕ → ℕ → Option Kind → List Token
+token_at from to None = []
+token_at from to (Some kind) = record { kind = kind; from = from; to = to } ∷ []
+
 -- the tokens among pieces that begin at a place
 abbrev pub tokens_of : ℕ → List Piece → List Token
 tokens_of at [] = []
-tokens_of at (p ∷ ps) = cons_option (option_map (λ kind. record { kind = kind; from = at; to = at + length p.text }) p.kind) (tokens_of (at + length p.text) ps)
+tokens_of at (p ∷ ps) = token_at at (at + length p.text) p.kind ++ tokens_of (at + length p.text) ps
+
+-- the source is these pieces and then the rest
+abbrev pub IsCut : List ℕ → List Piece → List ℕ → Type 0
+IsCut source pieces rest = (source ≡ text_of pieces ++ rest) × AreLongest pieces rest
 
 -- the tokens spell the source: each is the longest that may stand at its place, and only separators stand between
 abbrev pub Spell : List Token → List ℕ → Type 0
-Spell tokens source = (pieces : List Piece) × (source ≡ text_of pieces) × AreLongest pieces [] × (tokens ≡ tokens_of 0 pieces)
+Spell tokens source = (pieces : List Piece) × IsCut source pieces [] × (tokens ≡ tokens_of 0 pieces)
 
 -- no token passes a limit
 abbrev pub AreWithinLimits : List Token → Type 0
@@ -54,6 +62,6 @@ PassesLimit number bytes = (kind : Kind) × (text rest : List ℕ) × (bytes ≡
 abbrev pub HasFault : ℕ → List ℕ → Type 0
 HasFault number bytes = ((number ≡ 1) × BeginsNothing bytes) ⊎ ((number ≡ 2) × IsOpenText bytes) ⊎ PassesLimit number bytes
 
--- the first fault of the source: pieces within the limits stand before its place
+-- the first fault of the source: what stands before its place are longest pieces within the limits
 abbrev pub IsFirstFault : ℕ → ℕ → List ℕ → Type 0
-IsFirstFault place number source = (pieces : List Piece) × (rest : List ℕ) × (source ≡ text_of pieces ++ rest) × AreLongest pieces rest × AreWithinLimits (tokens_of 0 pieces) × (place ≡ length (text_of pieces)) × HasFault number rest
+IsFirstFault place number source = (pieces : List Piece) × (rest : List ℕ) × IsCut source pieces rest × AreWithinLimits (tokens_of 0 pieces) × (place ≡ length (text_of pieces)) × HasFault number rest

@@ -132,7 +132,7 @@ fn number_at(bytes: &[u8]) -> Result<Front, u8>
 }
 
 /// The bytes behind the first n.
-fn behind(bytes: &[u8], n: usize) -> &[u8]
+pub fn behind(bytes: &[u8], n: usize) -> &[u8]
     requires { n ≤ length bytes.now }
     ensures { result.now ≡ drop n bytes.now }
 {
