@@ -5,7 +5,6 @@ use Rattle.std.proofs.lemmas.List.{take-append-drop, take_more}
 use Rattle.std.proofs.lemmas.Grind.{fold-append}
 use Rattle.lynx_lexer.specs.Pieces.{decimal}
 
-
 fold_least : (n : ℕ) (xs : List ℕ) → n ≤ fold (λ n b. 10 * n + (b - 48)) n xs
 fold_least n [] = omega arith
 fold_least n (x ∷ xs) = omega (arith, fold_least (10 * n + (x - 48)) xs)
@@ -17,5 +16,5 @@ decimal_step xs i lt =
 pub decimal_front : (xs : List ℕ) (i : ℕ) → decimal (take i xs) ≤ decimal xs
 decimal_front xs i =
     let whole : decimal xs ≡ fold (λ n b. 10 * n + (b - 48)) (decimal (take i xs)) (drop i xs) =
-      ap decimal (sym (take-append-drop i xs)) ∙ fold-append (λ n b. 10 * n + (b - 48)) 0 (take i xs) (drop i xs) in
+    ap decimal (sym (take-append-drop i xs)) ∙ fold-append (λ n b. 10 * n + (b - 48)) 0 (take i xs) (drop i xs) in
     omega (arith, whole, fold_least (decimal (take i xs)) (drop i xs))

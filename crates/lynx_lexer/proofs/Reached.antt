@@ -41,8 +41,8 @@ tokens_of-push at (q ∷ ps) p =
     let next : ℕ = at + length q.text in
     let same : next + length (text_of ps) ≡ at + length (q.text ++ text_of ps) = omega (arith, length-append q.text (text_of ps)) in
     ap (λ (ts : List Token). token_at at next q.kind ++ ts) (tokens_of-push next ps p)
-      ∙ sym (append_assoc (token_at at next q.kind) (tokens_of next ps) (token_at (next + length (text_of ps)) (next + length (text_of ps) + length p.text) p.kind))
-      ∙ ap (λ (n : ℕ). (token_at at next q.kind ++ tokens_of next ps) ++ token_at n (n + length p.text) p.kind) same
+    ∙ sym (append_assoc (token_at at next q.kind) (tokens_of next ps) (token_at (next + length (text_of ps)) (next + length (text_of ps) + length p.text) p.kind))
+    ∙ ap (λ (n : ℕ). (token_at at next q.kind ++ tokens_of next ps) ++ token_at n (n + length p.text) p.kind) same
 
 within_push : (ts : List Token) (from to : ℕ) (kind : Option Kind) → AreWithinLimits ts → IfSome kind (λ k. limit_passed k ≡ None) → AreWithinLimits (ts ++ token_at from to kind)
 within_push [] from to None w h = tt
@@ -69,6 +69,7 @@ reached_more source at tokens kind n r s =
   where
     place_is : at ≡ 0 + length (text_of r.pieces)
     place_is = omega (arith, r.place)
+
     size_is : n ≡ length (take n (drop at source))
     size_is = sym (length-take-le n (drop at source) s.fits)
 

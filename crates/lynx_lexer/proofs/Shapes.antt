@@ -138,6 +138,7 @@ apart kind text h g =
     not_blank (kinds.Name name) e = cc
     not_blank (kinds.Number n) e = cc
     not_blank (kinds.Text inside) e = cc
+
     not_comment : (kind : Kind) (text line : List ℕ) → IsToken kind text → text ≡ 45 ∷ 45 ∷ line → Other ≡ class_of_kind kind → ⊥
     not_comment (kinds.Keyword keyword) text line h m e = cc
     not_comment (kinds.Sign s) text line h m e = second_of_sign s line (sym h ∙ m)

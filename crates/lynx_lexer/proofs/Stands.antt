@@ -249,10 +249,18 @@ head_sign s = (s, refl)
 
 pub no_mark : (bytes : List ℕ) → Begins Other bytes → ((s : Sign) (rest : List ℕ) → bytes ≢ sign_of s ++ rest) → HasFault 1 bytes
 no_mark [] begins unlike = absurd (omega (arith, begins.some))
-no_mark (b ∷ bs) begins unlike = inl (refl, (b, bs, refl, (λ piece more h.
-    elim (at_other b more begins.first (shape piece b more h)) [
-      | inl found ↦ unlike signs.Minus bs (λ i. found.1 i ∷ bs)
-      | inr found ↦ (let t = head_sign found.0 in
-          let one : b ∷ [] ≡ sign_of t.0 = ap (take 1) found.1 ∙ sym t.1 in
-          unlike t.0 bs (ap (λ (x : List ℕ). x ++ bs) one))
-    ])))
+no_mark (b ∷ bs) begins unlike = inl (
+  refl,
+  (
+    b,
+    bs,
+    refl,
+    (λ piece more h.
+        elim (at_other b more begins.first (shape piece b more h)) [
+          | inl found ↦ unlike signs.Minus bs (λ i. found.1 i ∷ bs)
+          | inr found ↦ (let t = head_sign found.0 in
+              let one : b ∷ [] ≡ sign_of t.0 = ap (take 1) found.1 ∙ sym t.1 in
+              unlike t.0 bs (ap (λ (x : List ℕ). x ++ bs) one))
+        ]),
+  ),
+)

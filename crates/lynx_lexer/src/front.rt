@@ -40,10 +40,7 @@ fn is_text_byte(byte: u8) -> bool
 fn name_length(bytes: &[u8]) -> usize
     ensures { result ≡ prefix_len is_name_byte bytes.now }
 {
-    bytes
-        .iter()
-        .take_while(|byte| is_name_byte(**byte))
-        .count()
+    bytes.iter().take_while(|byte| is_name_byte(**byte)).count()
 }
 
 fn digits_length(bytes: &[u8]) -> usize
@@ -59,20 +56,14 @@ fn text_length(bytes: &[u8]) -> usize
     ensures value { result ≡ prefix_len is_text_byte bytes.now }
     ensures fits { result ≤ length bytes.now }
 {
-    bytes
-        .iter()
-        .take_while(|byte| is_text_byte(**byte))
-        .count()
+    bytes.iter().take_while(|byte| is_text_byte(**byte)).count()
 }
 
 fn line_length(bytes: &[u8]) -> usize
     ensures value { result ≡ prefix_len is_comment_byte bytes.now }
     ensures fits { result ≤ length bytes.now }
 {
-    bytes
-        .iter()
-        .take_while(|byte| **byte != b'\n')
-        .count()
+    bytes.iter().take_while(|byte| **byte != b'\n').count()
 }
 
 /// The number that digits stand for. None exactly where it is above the greatest i64.

@@ -5,9 +5,6 @@ ghost use Rattle.std.specs.Prelude.{◌≡◌, ◌≤◌, ◌<◌, ◌↔◌, le
 use arrayvec::ArrayVec;
 use std::marker::Model;
 
-/// The greatest number of bytes of a name.
-pub const NAME_LIMIT: usize = 32;
-
 /// The bytes of a name, from 1 to 32.
 #[derive(Debug, Drop)]
 pub struct Ident {

@@ -7,5 +7,4 @@ ghost use Rattle.lynx_lexer.specs.Source.{Spell};
 /// At most one list of tokens spells a source.
 pub fn one_list()
     ensures { (source : List ℕ) (a b : List Token) → Spell a source → Spell b source → a ≡ b }
-{
-}
+{}

@@ -22,3 +22,6 @@ pub use reading::tokens;
 pub use sign::Sign;
 pub use text::TextLit;
 pub use token::{Kind, Token};
+
+#[cfg(test)]
+mod tests;
