@@ -1,10 +1,10 @@
 -- A source has its tokens or its first fault, and one of them only.
-use Rattle.std.proofs.Common.{◌≡◌, ℕ, ◌+◌, ◌≤◌, ◌⊎◌, Bool, true, false, List, [], ◌∷◌, ◌++◌, length, Option, Some, None, Result, Ok, Err, refl, sym, ap, ◌∙◌, subst, arith, append_assoc, inl, inr}
-use Rattle.std.specs.Prelude.{IfSome, IfOk, IfErr, ⊤}
+use Rattle.std.proofs.Common.{◌≡◌, ℕ, ◌+◌, ◌≤◌, List, [], ◌∷◌, ◌++◌, length, Option, Some, None, Result, Ok, Err, refl, sym, ap, ◌∙◌, subst, arith, append_assoc, inl, inr}
+use Rattle.std.specs.Prelude.{IfSome, IfOk, IfErr}
 use Rattle.std.specs.Global.{Vec}
-use Rattle.std.specs.List.{AllByRecursion, list_all}
+use Rattle.std.specs.List.{AllByRecursion}
 use Rattle.lynx_lexer.specs.Pieces.{IsPiece, IsLongest, is_text_byte, limit_passed}
-use Rattle.lynx_lexer.specs.Source.{Piece, text_of, AreLongest, token_at, tokens_of, IsCut, Spell, AreWithinLimits, BeginsNothing, CutsText, IsOpenText, PassesLimit, HasFault, IsFirstFault}
+use Rattle.lynx_lexer.specs.Source.{Piece, text_of, token_at, tokens_of, Spell, AreWithinLimits, BeginsNothing, CutsText, IsOpenText, PassesLimit, HasFault, IsFirstFault}
 use Rattle.lynx_lexer.specs.Answers.{GivesTokens, GivesFault, IsFaultOf}
 use Rattle.lynx_lexer.specs.declared.fault.LexFault.{LexFault}
 use Rattle.lynx_lexer.specs.declared.fault.LexFault.TheVariants as faults

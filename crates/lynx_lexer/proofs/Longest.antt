@@ -1,11 +1,10 @@
 -- Which pieces are the longest at their place, by what follows them.
-use Rattle.std.proofs.Common.{◌≡◌, ℕ, ◌+◌, ◌≤◌, Bool, true, false, List, [], ◌∷◌, ◌++◌, length, leb, Option, refl, sym, ap, ◌∙◌, subst, arith, append_assoc, length-append, ◌⊎◌, inl, inr}
+use Rattle.std.proofs.Common.{◌≡◌, ℕ, ◌≤◌, true, List, [], ◌∷◌, ◌++◌, length, leb, refl, sym, ap, ◌∙◌, subst, arith, append_assoc, length-append, ◌⊎◌, inl, inr}
 use Rattle.std.specs.List.{list_all}
 use Rattle.std.proofs.lemmas.Bool.{leb-true}
 use Rattle.lynx_lexer.specs.Bytes.{class_of}
 use Rattle.lynx_lexer.specs.Words.{sign_of}
-use Rattle.lynx_lexer.specs.Pieces.{IsPiece, IsLongest, is_name_byte, is_digit, is_text_byte, is_comment_byte}
-use Rattle.lynx_lexer.specs.declared.class.Class.{Class}
+use Rattle.lynx_lexer.specs.Pieces.{IsLongest, is_name_byte, is_digit, is_text_byte, is_comment_byte}
 use Rattle.lynx_lexer.specs.declared.class.Class.TheVariants.{Blank, Letter, Digit, Underscore, Quote, Other}
 use Rattle.lynx_lexer.specs.declared.sign.Sign.{Sign}
 use Rattle.lynx_lexer.specs.declared.sign.Sign.TheVariants as signs

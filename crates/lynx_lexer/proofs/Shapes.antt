@@ -1,8 +1,8 @@
 -- What follows the first byte of a piece.
-use Rattle.std.proofs.Common.{◌≡◌, ℕ, Bool, true, false, List, [], ◌∷◌, ◌++◌, length, Option, Some, None, ◌&&◌, eqb, get_or, refl, sym, ap, ◌∙◌, inl, inr}
+use Rattle.std.proofs.Common.{◌≡◌, ℕ, Bool, true, false, List, [], ◌∷◌, ◌++◌, Option, Some, None, ◌&&◌, eqb, get_or, refl, sym, ap, ◌∙◌, inl, inr}
 use Rattle.std.specs.List.{list_all}
 use Rattle.lynx_lexer.specs.Bytes.{class_of}
-use Rattle.lynx_lexer.specs.Words.{word_of, sign_of}
+use Rattle.lynx_lexer.specs.Words.{sign_of}
 use Rattle.lynx_lexer.specs.Pieces.{IsPiece, IsToken, is_name_byte, is_digit, is_text_byte, is_comment_byte}
 use Rattle.lynx_lexer.specs.declared.class.Class.{Class}
 use Rattle.lynx_lexer.specs.declared.class.Class.TheVariants.{Blank, Letter, Digit, Underscore, Quote, Other}

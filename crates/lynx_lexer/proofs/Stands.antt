@@ -1,6 +1,6 @@
 -- What a run of bytes at the front is.
-use Rattle.std.proofs.Common.{◌≡◌, ◌≢◌, ℕ, suc, ◌+◌, ◌<◌, ◌≤◌, ◌^◌, ◌&&◌, Bool, true, false, cond, not, List, [], ◌∷◌, ◌++◌, length, take, drop, get_or, ℤ, Option, Some, None, pos, refl, sym, ap, ◌∙◌, subst, arith, append_assoc, inl, inr, ltb, eqb}
-use Rattle.std.specs.Prelude.{slice_index, codes, nat_eq, IfSome, int_lt, ◌↔◌}
+use Rattle.std.proofs.Common.{◌≡◌, ◌≢◌, ℕ, suc, ◌+◌, ◌<◌, ◌≤◌, ◌^◌, ◌&&◌, Bool, true, false, List, [], ◌∷◌, ◌++◌, length, take, drop, get_or, ℤ, Some, None, pos, refl, sym, ap, ◌∙◌, subst, arith, inl, inr, eqb}
+use Rattle.std.specs.Prelude.{codes, nat_eq}
 use Rattle.std.specs.List.{list_all, prefix_len, starts_with}
 use Rattle.std.proofs.lemmas.Bool.{lt-ltb, le-ltb, cases_lt, false≢true, eqb-true}
 use Rattle.std.proofs.lemmas.Bool.Decides.{nat_tests}
@@ -8,7 +8,7 @@ use Rattle.std.proofs.lemmas.List.{take-append-drop, take_at, drop_at, length-ap
 use Rattle.std.proofs.lemmas.List.Sums.{prefix_len-le-length}
 use Rattle.lynx_lexer.specs.Bytes.{class_of}
 use Rattle.lynx_lexer.specs.Words.{word_of, sign_of}
-use Rattle.lynx_lexer.specs.Pieces.{IsPiece, IsToken, IsLongest, IsWord, IsDigits, goes_on_name, is_name_byte, is_digit, is_text_byte, is_comment_byte, decimal, limit_passed}
+use Rattle.lynx_lexer.specs.Pieces.{IsToken, IsLongest, goes_on_name, is_name_byte, is_digit, is_text_byte, is_comment_byte, decimal, limit_passed}
 use Rattle.lynx_lexer.specs.Source.{HasFault, CutsText}
 use Rattle.lynx_lexer.specs.Fronts.{StandsAt, Begins, IsLongestSign}
 use Rattle.lynx_lexer.specs.declared.class.Class.{Class}
@@ -16,7 +16,6 @@ use Rattle.lynx_lexer.specs.declared.class.Class.TheVariants.{Blank, Letter, Dig
 use Rattle.lynx_lexer.specs.declared.keyword.Keyword.{Keyword}
 use Rattle.lynx_lexer.specs.declared.sign.Sign.{Sign}
 use Rattle.lynx_lexer.specs.declared.sign.Sign.TheVariants as signs
-use Rattle.lynx_lexer.specs.declared.token.Kind.{Kind}
 use Rattle.lynx_lexer.specs.declared.token.Kind.TheVariants as kinds
 use Rattle.lynx_lexer.proofs.Runs.{Stops, both_true, prefix_len-yes, run_passes, run_stops}
 use Rattle.lynx_lexer.proofs.Longest.{longest_blank, longest_word, longest_number, longest_text, longest_comment, longest_sign, at_underscore, at_other}

@@ -1,5 +1,5 @@
 -- How tokens spell a source, and what its first fault is.
-use Rattle.std.specs.Prelude.{◌≡◌, ◌≢◌, ℕ, ◌+◌, ◌⊎◌, Bool, true, false, IsTrue, IsFalse, List, [], ◌∷◌, ◌++◌, length, Option, Some, None, ⊤}
+use Rattle.std.specs.Prelude.{◌≡◌, ◌≢◌, ℕ, ◌+◌, ◌⊎◌, IsTrue, IsFalse, List, [], ◌∷◌, ◌++◌, length, Option, Some, None, ⊤}
 use Rattle.std.specs.List.{list_all, flat_map, AllByRecursion}
 use Rattle.lynx_lexer.specs.Pieces.{IsPiece, IsToken, IsLongest, is_text_byte, limit_passed}
 use Rattle.lynx_lexer.specs.declared.token.Kind.{Kind}

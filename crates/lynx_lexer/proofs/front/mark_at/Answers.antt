@@ -1,7 +1,7 @@
 use Rattle.std.proofs.Common.{sym, ap, ◌∙◌}
 use Rattle.std.specs.List.{prefix_len}
 use Rattle.lynx_lexer.specs.Pieces.{is_comment_byte}
-use Rattle.lynx_lexer.proofs.Stands.{comment_stands, sign_stands, no_mark}
+use Rattle.lynx_lexer.proofs.Stands.{comment_stands, no_mark}
 use Rattle.lynx_lexer.proofs.front.mark_at.Goals as goal
 
 pub returns-then-starts_with-clause-ok : goal.returns-then-starts_with-clause-ok

@@ -1,4 +1,4 @@
-use Rattle.std.proofs.Common.{◌≤◌, ◌<◌, ◌^◌, ◌+◌, ◌*◌, length, arith}
+use Rattle.std.proofs.Common.{◌<◌, ◌+◌, length, arith}
 use Rattle.lynx_lexer.proofs.Decimals.{decimal_step, decimal_front}
 use Rattle.lynx_lexer.proofs.front.number.Goals as goal
 
