@@ -1,0 +1,9 @@
+pub mod Cuts
+pub mod Decimals
+pub mod Faults
+pub mod Longest
+pub mod Reached
+pub mod Runs
+pub mod Shapes
+pub mod Stands
+pub mod WordLemmas

@@ -1,0 +1,10 @@
+use Rattle.std.proofs.Common.{◌-◌, length}
+use Rattle.lynx_lexer.proofs.Reached.{Reached}
+use Rattle.lynx_lexer.proofs.reading.read.Given as goal
+
+-- what is read so far
+abbrev pub invariant-loop-at : goal.invariant-loop-at
+invariant-loop-at l = Reached l.source l.at l.tokens.items
+
+abbrev pub decreases-loop-at : goal.decreases-loop-at
+decreases-loop-at l = length l.source - l.at

@@ -1,0 +1,38 @@
+//! Bytes by what can begin with them.
+
+ghost use Rattle.std.specs.Prelude.{◌≡◌};
+ghost use Rattle.lynx_lexer.specs.Bytes.{class_of};
+
+/// What can begin with a byte.
+#[derive(Clone, Copy, Debug, PartialEq, Eq)]
+pub enum Class {
+    /// A separator of one byte.
+    Blank,
+    /// A name or a keyword.
+    Letter,
+    /// A number.
+    Digit,
+    /// Nothing, but it goes on a name.
+    Underscore,
+    /// A text.
+    Quote,
+    /// A sign, a comment or nothing.
+    Other,
+}
+
+impl Class {
+    /// The class of a byte.
+    #[tactic(auto, unfolding(crate::specs::Bytes::class_of))]
+    pub fn from_byte(byte: u8) -> Class
+        ensures { result ≡ class_of byte }
+    {
+        match byte {
+            b' ' | b'\t' | b'\n' | b'\r' => Class::Blank,
+            b'A'..=b'Z' | b'a'..=b'z' => Class::Letter,
+            b'0'..=b'9' => Class::Digit,
+            b'_' => Class::Underscore,
+            b'\'' => Class::Quote,
+            _ => Class::Other,
+        }
+    }
+}

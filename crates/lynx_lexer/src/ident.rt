@@ -1,0 +1,55 @@
+//! Names.
+
+ghost use Rattle.std.specs.Prelude.{◌≡◌, ◌≤◌, ◌<◌, ◌↔◌, length, IsSome, IfSome};
+
+use arrayvec::ArrayVec;
+use std::marker::Model;
+
+/// The bytes of a name, from 1 to 32.
+#[derive(Debug, Drop)]
+pub struct Ident {
+    bytes: ArrayVec<u8, 32>,
+}
+
+impl Model for Ident {
+    ghost use Rattle.std.specs.Prelude.{ℕ, List, length, ◌<◌};
+
+    ghost Value = { List ℕ };
+
+    ghost view = { λ a. a.bytes.items };
+
+    ghost invariant = { λ a. 0 < length a.bytes.items };
+}
+
+impl Ident {
+    /// The name of these bytes. None exactly where they are none or more than 32.
+    pub fn from_slice(bytes: &[u8]) -> Option<Ident>
+        ensures variant { IsSome result ↔ ((0 < length bytes.now) × (length bytes.now ≤ 32)) }
+        ensures value { IfSome result (λ ident. ident ≡ bytes.now) }
+    {
+        if bytes.is_empty() {
+            return None;
+        }
+        let mut kept = ArrayVec::new();
+        kept.try_extend_from_slice(bytes).ok()?;
+        Some(Ident { bytes: kept })
+    }
+
+    /// The bytes.
+    pub fn as_slice(&self) -> &[u8]
+        ensures value { result.now ≡ self.now }
+        ensures fits { length result.now ≤ 32 }
+        ensures some { 0 < length result.now }
+    {
+        self.bytes.as_slice()
+    }
+
+    /// A name that is equal.
+    pub fn copy(&self) -> Ident
+        ensures { result ≡ self.now }
+    {
+        let mut kept = ArrayVec::new();
+        let _ = kept.try_extend_from_slice(self.bytes.as_slice());
+        Ident { bytes: kept }
+    }
+}

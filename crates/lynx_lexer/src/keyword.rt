@@ -1,0 +1,150 @@
+//! The keywords.
+
+ghost use Rattle.std.specs.Prelude.{◌≡◌, ◌≢◌, IfSome, IfNone};
+ghost use Rattle.lynx_lexer.specs.declared.keyword.Keyword.{Keyword};
+ghost use Rattle.lynx_lexer.specs.Words.{word_of};
+
+/// A keyword: a word of the grammar in lower case, which is no name.
+#[derive(Clone, Copy, Debug, PartialEq, Eq)]
+pub enum Keyword {
+    Module,
+    Begin,
+    End,
+    Op,
+    Param,
+    Var,
+    Entry,
+    Of,
+    Int,
+    Bool,
+    Text,
+    Link,
+    Row,
+    If,
+    Then,
+    Else,
+    While,
+    Do,
+    Write,
+    Await,
+    Stop,
+    Raise,
+    New,
+    Destroy,
+    Bind,
+    To,
+    Unbind,
+    From,
+    Connect,
+    On,
+    Accept,
+    Reply,
+    Try,
+    When,
+    Or,
+    And,
+    Mod,
+    Not,
+    True,
+    False,
+}
+
+impl Keyword {
+    /// The keyword's spelling.
+    pub fn as_slice(self) -> &'static [u8]
+        ensures { result.now ≡ word_of self }
+    {
+        match self {
+            Keyword::Module => b"module",
+            Keyword::Begin => b"begin",
+            Keyword::End => b"end",
+            Keyword::Op => b"op",
+            Keyword::Param => b"param",
+            Keyword::Var => b"var",
+            Keyword::Entry => b"entry",
+            Keyword::Of => b"of",
+            Keyword::Int => b"int",
+            Keyword::Bool => b"bool",
+            Keyword::Text => b"text",
+            Keyword::Link => b"link",
+            Keyword::Row => b"row",
+            Keyword::If => b"if",
+            Keyword::Then => b"then",
+            Keyword::Else => b"else",
+            Keyword::While => b"while",
+            Keyword::Do => b"do",
+            Keyword::Write => b"write",
+            Keyword::Await => b"await",
+            Keyword::Stop => b"stop",
+            Keyword::Raise => b"raise",
+            Keyword::New => b"new",
+            Keyword::Destroy => b"destroy",
+            Keyword::Bind => b"bind",
+            Keyword::To => b"to",
+            Keyword::Unbind => b"unbind",
+            Keyword::From => b"from",
+            Keyword::Connect => b"connect",
+            Keyword::On => b"on",
+            Keyword::Accept => b"accept",
+            Keyword::Reply => b"reply",
+            Keyword::Try => b"try",
+            Keyword::When => b"when",
+            Keyword::Or => b"or",
+            Keyword::And => b"and",
+            Keyword::Mod => b"mod",
+            Keyword::Not => b"not",
+            Keyword::True => b"true",
+            Keyword::False => b"false",
+        }
+    }
+
+    /// The keyword that is spelled so.
+    pub fn from_slice(word: &[u8]) -> Option<Keyword>
+        ensures found { IfSome result (λ keyword. word.now ≡ word_of keyword) }
+        ensures none { IfNone result ((keyword : Keyword) → word.now ≢ word_of keyword) }
+    {
+        match word {
+            b"module" => Some(Keyword::Module),
+            b"begin" => Some(Keyword::Begin),
+            b"end" => Some(Keyword::End),
+            b"op" => Some(Keyword::Op),
+            b"param" => Some(Keyword::Param),
+            b"var" => Some(Keyword::Var),
+            b"entry" => Some(Keyword::Entry),
+            b"of" => Some(Keyword::Of),
+            b"int" => Some(Keyword::Int),
+            b"bool" => Some(Keyword::Bool),
+            b"text" => Some(Keyword::Text),
+            b"link" => Some(Keyword::Link),
+            b"row" => Some(Keyword::Row),
+            b"if" => Some(Keyword::If),
+            b"then" => Some(Keyword::Then),
+            b"else" => Some(Keyword::Else),
+            b"while" => Some(Keyword::While),
+            b"do" => Some(Keyword::Do),
+            b"write" => Some(Keyword::Write),
+            b"await" => Some(Keyword::Await),
+            b"stop" => Some(Keyword::Stop),
+            b"raise" => Some(Keyword::Raise),
+            b"new" => Some(Keyword::New),
+            b"destroy" => Some(Keyword::Destroy),
+            b"bind" => Some(Keyword::Bind),
+            b"to" => Some(Keyword::To),
+            b"unbind" => Some(Keyword::Unbind),
+            b"from" => Some(Keyword::From),
+            b"connect" => Some(Keyword::Connect),
+            b"on" => Some(Keyword::On),
+            b"accept" => Some(Keyword::Accept),
+            b"reply" => Some(Keyword::Reply),
+            b"try" => Some(Keyword::Try),
+            b"when" => Some(Keyword::When),
+            b"or" => Some(Keyword::Or),
+            b"and" => Some(Keyword::And),
+            b"mod" => Some(Keyword::Mod),
+            b"not" => Some(Keyword::Not),
+            b"true" => Some(Keyword::True),
+            b"false" => Some(Keyword::False),
+            _ => None,
+        }
+    }
+}

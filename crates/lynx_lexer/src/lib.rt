@@ -1,0 +1,27 @@
+//! Tokens of LYNX modules: a source is cut into its longest tokens, and the first fault is found.
+#![tactic(auto)]
+
+mod class;
+mod fault;
+mod front;
+mod ident;
+mod keyword;
+mod law;
+mod memory;
+mod reading;
+mod sign;
+mod text;
+mod token;
+
+pub use fault::LexFault;
+pub use ident::Ident;
+pub use keyword::Keyword;
+pub use law::one_list;
+pub use memory::NoMemory;
+pub use reading::tokens;
+pub use sign::Sign;
+pub use text::TextLit;
+pub use token::{Kind, Token};
+
+#[cfg(test)]
+mod tests;

@@ -1,0 +1,68 @@
+//! The tokens of a source.
+
+ghost use Rattle.std.specs.Prelude.{◌≡◌, ℕ, ◌<◌, ◌≤◌, ◌++◌, List, length, IfOk, IfErr, OnOk};
+ghost use Rattle.lynx_lexer.specs.declared.token.Token.{Token};
+ghost use Rattle.lynx_lexer.specs.Source.{Spell, AreWithinLimits, IsFirstFault, token_at};
+ghost use Rattle.lynx_lexer.specs.Answers.{GivesTokens, GivesFault, IsFaultOf};
+
+use crate::fault::LexFault;
+use crate::front::{behind, front_at};
+use crate::token::{Kind, Token};
+use std::alloc::{AllocError, Global};
+
+/// Adds the token of a piece, if it is one.
+fn push_kind(
+    tokens: &mut Vec<Token>,
+    kind: Option<Kind>,
+    from: u32,
+    to: u32,
+) -> Result<(), AllocError>
+    ensures { OnOk result (tokens.new.items ≡ tokens.old.items ++ token_at from to kind) }
+{
+    if let Some(kind) = kind {
+        tokens.push(Token { kind, from, to })?;
+    }
+    Ok(())
+}
+
+fn read(alloc: Global, source: &[u8]) -> Result<Vec<Token>, LexFault>
+    requires { length source.now < 4294967295 }
+    ensures found { IfOk result (λ v. Spell v.items source.now × AreWithinLimits v.items) }
+    ensures fault { IfErr result (IsFaultOf source.now) }
+{
+    let mut tokens = Vec::new(alloc);
+    let mut at = 0;
+    while at < source.len() {
+        let front = match front_at(behind(source, at)) {
+            Ok(front) => front,
+            Err(no) => {
+                return Err(LexFault::At {
+                    place: at as u32,
+                    no,
+                });
+            }
+        };
+        let to = at + front.length;
+        push_kind(&mut tokens, front.kind, at as u32, to as u32)?;
+        at = to;
+    }
+    Ok(tokens)
+}
+
+/// The tokens of a source with their places, or its first fault.
+///
+/// A token is as long as possible. Blanks, tabs, line feeds, carriage returns and comments, from `--` to
+/// the line's end, separate tokens.
+pub fn tokens(alloc: Global, source: &[u8]) -> Result<Vec<Token>, LexFault>
+    requires { length source.now < 4294967295 }
+
+    // The tokens spell the source, each within its limit, and such a list is given.
+    ensures found { IfOk result (λ v. Spell v.items source.now × AreWithinLimits v.items) }
+    ensures only { (tokens : List Token) → Spell tokens source.now → AreWithinLimits tokens → GivesTokens tokens result }
+
+    // The fault is the first of the source, and such a fault is given.
+    ensures fault { IfErr result (IsFaultOf source.now) }
+    ensures only_fault { (place number : ℕ) → IsFirstFault place number source.now → GivesFault place number result }
+{
+    read(alloc, source)
+}
