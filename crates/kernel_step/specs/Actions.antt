@@ -78,7 +78,7 @@ forget_at k m j d = if nat_eq (bit_at m.trail j) 1 && not (nat_eq j k) then send
 unfoldable pub forgets : ℕ → MovingPicture → Progress → Progress
 forgets k m d = fold (λ so_far j. forget_at k m j so_far) d kernel_numbers
 
--- LEAVE: the end's entry tells where it went
+-- LEAVE, as far as the entry goes: it tells where the end went (the value that leaves is `left_value`)
 abbrev pub leaves : ℕ → MovingPicture → Progress → Progress
 leaves to m d = keeps m.end (left_entry to m) d
 

@@ -15,6 +15,7 @@ use Rattle.charlotte_calls.specs.declared.names.Pid.{Pid}
 use Rattle.charlotte_calls.specs.declared.names.Way.{Way}
 use Rattle.charlotte_calls.specs.declared.names.Way.TheVariants as way
 use Rattle.charlotte_calls.specs.declared.picture.PictureWhat.TheVariants as packet
+use Rattle.end_table.specs.Owned.{owned}
 use Rattle.end_table.specs.Entries.{gains_one, settled}
 use Rattle.end_table.specs.declared.entry.Entry.{Entry}
 use Rattle.end_table.specs.declared.entry.Entry.TheVariants as entry
@@ -67,17 +68,6 @@ is_started Begun = true
 is_started Bound = true
 is_started Over = false
 
-abbrev pub is_owner : Pid → Holder → Bool
-is_owner p (holder.Owner q) = nat_eq p.0 q.0
-is_owner p (holder.EnclosedIn on) = false
-
--- the view of an end that p owns
-abbrev pub owned : Pid → Entry → Option HereView
-owned p entry.Nothing = None
-owned p (entry.Here v) = if is_owner p v.holder then Some v else None
-owned p (entry.Left to hops) = None
-owned p (entry.Destroyed m) = None
-
 -- the first of some tests that holds
 abbrev pub first_of : List (Bool × Cause) → Option Cause
 first_of [] = None
@@ -97,7 +87,7 @@ abbrev pub names_twice : List EndId → Bool
 names_twice [] = false
 names_twice (x ∷ xs) = list_any (end_eq x) xs || names_twice xs
 
--- the causes of an end to act on that p owns, in their order
+-- the causes of a Send on an end that p owns, in their order, each with its test
 abbrev pub send_causes : Pid → (EndId → Entry) → EndId → List EndId → HereView → List (Bool × Cause)
 send_causes p t on xs v =
     (not (is_free (outward_activity v.outward)), cause.Busy)

@@ -29,7 +29,8 @@ use Rattle.end_table.specs.Place.{put}
 use Rattle.kernel_step.specs.Progress.{Progress, means}
 use Rattle.kernel_step.specs.Actions.{ends}
 use Rattle.kernel_step.specs.Rows.{row}
-use Rattle.kernel_step.specs.Calls.{owned, refusal, made_end, makes, starts_send, encloses, posts, withdraws_send, withdraws_receive, ends_each}
+use Rattle.end_table.specs.Owned.{owned}
+use Rattle.kernel_step.specs.Calls.{refusal, made_end, makes, starts_send, encloses, posts, withdraws_send, withdraws_receive, ends_each}
 
 pub record Process : Type 0 where
   pub phase : Phase
@@ -147,7 +148,7 @@ take_step s from p =
     let d = begins s (next_stamp (max s.stamp p.stamp)) in
     closes s (if is_addressed p.what s.kernels then row s.number s.made from p.what d else d)
 
--- a process does something else, with no answer
+-- a process goes on to another phase
 abbrev pub turns : Pid → Phase → Kernel → Kernel
 turns p phase s = with_process p (record (process_of p s) { phase = phase }) s
 

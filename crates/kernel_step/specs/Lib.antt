@@ -4,4 +4,3 @@ pub mod Rows
 pub mod Calls
 pub mod Kernel
 pub mod Start
-pub mod Owned

@@ -1,5 +1,6 @@
 -- What a kernel does with a packet, by the entry of the end that it is addressed to: one definition for each kind of packet.
--- k is this kernel, to the end addressed, at and hops kernel and hop count of the opposite end that sent the packet.
+-- k is this kernel, to the end addressed, at and hops kernel and hop count of the opposite end that sent the packet
+-- (of a known or forget, hops are those of the addressed end itself).
 use Rattle.std.specs.Prelude.{ℕ, Bool, true, false, nat_eq, nat_lt, nat_le, ◌&&◌, not, List, [], ◌∷◌, map, if◌then◌else◌, Option, Some, None}
 use Rattle.std.specs.List.{fold, filter}
 use Rattle.charlotte_calls.specs.Names.{opposite}
@@ -94,7 +95,7 @@ is_here (entry.Destroyed m) = false
 abbrev pub is_carried : ℕ → ℕ → (EndId → Entry) → MovingPicture → Bool
 is_carried k made t m = not (is_here (t m.end)) && not (is_unmade k made m)
 
--- the values that leave or end here, one after the other
+-- the values that leave or end here, one after the other: no end becomes Here by that, so one look at the table serves
 abbrev pub passing : ℕ → ℕ → (EndId → Entry) → List MovingPicture → List MovingPicture
 passing k made t ms = filter (is_carried k made t) ms
 

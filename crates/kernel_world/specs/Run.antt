@@ -10,7 +10,7 @@ use Rattle.kernel_step.specs.Kernel.{process_of}
 use Rattle.end_table.specs.declared.entry.Entry.{Entry as TableEntry}
 use Rattle.kernel_step.specs.declared.phase.Phase.TheVariants.{Running}
 use Rattle.kernel_step.specs.Start.{home}
-use Rattle.kernel_step.specs.Owned.{AreEndsOf}
+use Rattle.end_table.specs.Owned.{AreEndsOf}
 use Rattle.kernel_world.specs.World.{World, Event, Calls, Takes, happens, noted, start}
 use Rattle.kernel_world.specs.declared.entry.Entry.{Entry}
 use Rattle.kernel_world.specs.declared.entry.Placed.{Placed}

@@ -40,10 +40,11 @@ abbrev pub takes_first : Kernel → ℕ → List Picture → Outcome
 takes_first s from [] = record { kernel = s; packets = []; answered = []; steps = [] }
 takes_first s from (p ∷ ps) = take_step s from p
 
--- the first of these packets; there is one where the taking is allowed
+-- where no packet is; it stands in no entry of an allowed event
 abbrev pub nothing_sent : Picture
 nothing_sent = record { stamp = 0; what = GoneSeen (made_end 0 0) }
 
+-- the first of these packets, of which there is one where the taking is allowed
 abbrev pub first_or : Picture → List Picture → Picture
 first_or p [] = p
 first_or p (q ∷ qs) = q
