@@ -215,7 +215,7 @@ joined call.Wait = refl
 joined (call.Print bytes) = refl
 joined call.Exit = refl
 
-free_codes : (w : List ℕ) → list_all (λ b. not (eqb b 32)) w ≡ true → IsWord w
+pub free_codes : (w : List ℕ) → list_all (λ b. not (eqb b 32)) w ≡ true → IsWord w
 free_codes [] e = All-nil (λ b. eqb b 32 ≡ false)
 free_codes (b ∷ bs) e = let k = and_parts (not (eqb b 32)) (list_all (λ c. not (eqb c 32)) bs) e in All-cons (λ c. eqb c 32 ≡ false) b bs (not-true _ k.0) (free_codes bs k.1)
 

@@ -16,7 +16,7 @@ use Rattle.charlotte_text.specs.declared.fault.Fault.TheVariants.{Form}
 use Rattle.charlotte_text.specs.declared.number.Number.TheVariants.{Is}
 use Rattle.charlotte_text.specs.Spelling.{number_text, side_text, end_text, plus_text, IsEnd}
 use Rattle.charlotte_text.specs.Reading.{◌>>=◌, parts, part_at, ended, number_of, number_below, process_of, side_of, end_of, plus_end_of, ends_of}
-use Rattle.charlotte_text.proofs.Steps.{bind_ok, ok_is, not_ok, chosen, held, part_ok, ended_ok}
+use Rattle.charlotte_text.proofs.Steps.{bind_ok, done, ok_is, not_ok, chosen, held, part_ok, ended_ok}
 use Rattle.charlotte_text.proofs.Numbers.{number_takes, number_again, below_takes, below_again, no_digit}
 
 last_split : (b : ℕ) (bs : List ℕ) (x : ℕ) → get_or (b ∷ bs) (length (b ∷ bs) - 1) 0 ≡ x → b ∷ bs ≡ take (length (b ∷ bs) - 1) (b ∷ bs) ++ x ∷ []
@@ -56,10 +56,13 @@ side_again f B =
 end_shape : (a b c : List ℕ) → ((a ++ 46 ∷ []) ++ b) ++ c ≡ a ++ 46 ∷ (b ++ c)
 end_shape a b c = simp append_assoc
 
-end_made : (w mw tw cw : List ℕ) (m c : ℕ) (s : Side) → parts 46 w ≡ mw ∷ tw ∷ [] → tw ≡ cw ++ side_text s → mw ≡ number_text m → cw ≡ number_text c → w ≡ end_text (record { link = record { maker = m; count = c }; side = s })
-end_made w mw tw cw m c s split te me ce =
+end_made : (w mw tw cw : List ℕ) (m c : ℕ) (s : Side) (e : EndId) → parts 46 w ≡ mw ∷ tw ∷ [] → tw ≡ cw ++ side_text s → (mw ≡ number_text m) × (m < 2 ^ 8) → (cw ≡ number_text c) × (c < 2 ^ 32)
+    → done (record { link = record { maker = m; count = c }; side = s }) ≡ done e → (w ≡ end_text e) × IsEnd e
+end_made w mw tw cw m c s e split te me ce is =
+    let made : EndId = record { link = record { maker = m; count = c }; side = s } in
     let whole : w ≡ mw ++ 46 ∷ tw = sym (join_with_byte-slice_split 46 w) ∙ ap (join_with_byte 46) split in
-    whole ∙ rw (te, me, ce) (sym (end_shape (number_text m) (number_text c) (side_text s)))
+    let spelled : w ≡ end_text made = whole ∙ rw (te, me.0, ce.0) (sym (end_shape (number_text m) (number_text c) (side_text s))) in
+    subst (λ (x : EndId). (w ≡ end_text x) × IsEnd x) (ok_is made e is) (spelled, record { maker = me.1; count = ce.1 })
 
 pub end_takes : (w : List ℕ) (e : EndId) → end_of w ≡ Ok e → (w ≡ end_text e) × IsEnd e
 unfolding end_of
@@ -70,13 +73,8 @@ end_takes w e h =
     let side = bind_ok (side_of tail.0.0) (λ side. number_below (2 ^ 8) maker.0.0 >>= λ m. number_below (2 ^ 32) side.0 >>= λ c. Ok (record { link = record { maker = m; count = c }; side = side.1 })) e last.2 in
     let m = bind_ok (number_below (2 ^ 8) maker.0.0) (λ m. number_below (2 ^ 32) side.0.0 >>= λ c. Ok (record { link = record { maker = m; count = c }; side = side.0.1 })) e side.2 in
     let c = bind_ok (number_below (2 ^ 32) side.0.0) (λ c. Ok (record { link = record { maker = m.0; count = c }; side = side.0.1 })) e m.2 in
-    let made : EndId = record { link = record { maker = m.0; count = c.0 }; side = side.0.1 } in
-    let mt = below_takes (2 ^ 8) maker.0.0 m.0 m.1 in
-    let ct = below_takes (2 ^ 32) side.0.0 c.0 c.1 in
-    let st = side_takes tail.0.0 side.0.0 side.0.1 side.1 in
     let split : parts 46 w ≡ maker.0.0 ∷ tail.0.0 ∷ [] = part_ok (parts 46 w) maker.0 maker.1 ∙ ap (λ (ps : List (List ℕ)). maker.0.0 ∷ ps) (part_ok maker.0.1 tail.0 tail.1 ∙ ap (λ (ps : List (List ℕ)). tail.0.0 ∷ ps) (ended_ok tail.0.1 last.0 last.1)) in
-    let spelled : w ≡ end_text made = end_made w maker.0.0 tail.0.0 side.0.0 m.0 c.0 side.0.1 split st mt.0 ct.0 in
-    subst (λ (x : EndId). (w ≡ end_text x) × IsEnd x) (ok_is made e c.2) (spelled, record { maker = mt.1; count = ct.1 })
+    end_made w maker.0.0 tail.0.0 side.0.0 m.0 c.0 side.0.1 e split (side_takes tail.0.0 side.0.0 side.0.1 side.1) (below_takes (2 ^ 8) maker.0.0 m.0 m.1) (below_takes (2 ^ 32) side.0.0 c.0 c.1) c.2
 
 side_free : (c : ℕ) (s : Side) → c < 97 → All (λ b. eqb b c ≡ false) (side_text s)
 side_free c A lt = All-cons (λ b. eqb b c ≡ false) 97 [] (ne_eqb 97 c (λ e. absurd (omega arith))) (All-nil (λ b. eqb b c ≡ false))

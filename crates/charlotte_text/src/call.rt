@@ -11,7 +11,7 @@ use charlotte_calls::{Call, EndId, NoMemory, Way};
 
 /// The first word of a call.
 #[derive(Clone, Copy)]
-pub enum Keyword {
+pub(crate) enum Keyword {
     Make,
     Destroy,
     Send,

@@ -2,6 +2,10 @@
 //!
 //! Writers append to a buffer: `push_number`, `push_end`, `push_ends`, `push_process`, `push_bytes`, `push_way`, `push_call`.
 //! Each ensures that the buffer then ends with the spelling, and that it is as before where there was no memory.
+//!
+//! Readers take a word or what is left of a line: `read_number`, `read_below`, `read_end`, `read_ends`, `read_process`,
+//! `read_bytes`, `read_way`, `read_call`, over `next_word` and `end_of_line`. Each finds a value exactly where the bytes
+//! spell it, and takes no memory. A number or a text that is too large is told apart from bytes of another form.
 #![tactic(auto)]
 
 mod call;
@@ -12,7 +16,7 @@ mod number;
 mod part;
 mod text;
 
-pub use call::{Keyword, push_call, push_way, read_call, read_way};
+pub use call::{push_call, push_way, read_call, read_way};
 pub use fault::Fault;
 pub use law::{one_call, one_end, one_string_of_bytes};
 pub use name::{push_end, push_ends, push_process, read_end, read_ends, read_process};

@@ -1,14 +1,13 @@
 -- What a line that fails no rule is.
-use Rattle.std.proofs.Common.{◌≡◌, ℕ, ◌+◌, ◌<◌, ◌≤◌, ◌⊎◌, Bool, true, false, not, cond, ◌&&◌, ◌||◌, eqb, ltb, leb, List, length, Option, Some, None, Result, Ok, Err, refl, sym, ap, ◌∙◌, inl, inr, arith}
+use Rattle.std.proofs.Common.{◌≡◌, ℕ, ◌<◌, ◌≤◌, ◌⊎◌, Bool, true, false, not, cond, ◌||◌, leb, length, Option, Some, None, Ok, refl, ap, inl, inr, arith}
 use Rattle.std.proofs.lemmas.Bool.{ltb-true, ltb-false, leb-false, eqb-true, or_parts, or_cases, not-false}
-use Rattle.charlotte_calls.specs.declared.calls.Call.{Call}
 use Rattle.charlotte_text.specs.declared.number.Number.{Number}
 use Rattle.charlotte_text.specs.declared.number.Number.TheVariants.{Is, Large}
 use Rattle.lynx_plan.specs.declared.form.Form.{Form}
 use Rattle.lynx_plan.specs.declared.form.Form.TheVariants.{Version, Kernels, Process, Wire, Ask, LongAsk, Take, Settle}
 use Rattle.lynx_plan.specs.declared.entry.Entry.{Entry}
 use Rattle.lynx_plan.specs.Given.{Given}
-use Rattle.lynx_plan.specs.Rules.{allows, is_below, is_number, value, broken, least_rule, entry_of, unless, ruled, judged}
+use Rattle.lynx_plan.specs.Rules.{allows, is_below, is_number, value, broken, least_rule, entry_of, unless, judged}
 
 -- a number that its type holds, below a limit
 pub record IsSmall (n : Number) (limit : ℕ) : Type 0 where
@@ -50,7 +49,7 @@ below_is Large m limit is e = absurd cc
 pub lawful_from : (g : Given) (f : Form) → broken g f ≡ None → Lawful g f
 lawful_from g (Version n) e =
     let p = passed (not (is_number n 1 || is_number n 2)) 10 None e in
-    elim (or_cases (is_number n 1) (is_number n 2) (not-false _ p.0)) [ | inl h ↦ inl (number_from n 1 h) | inr h ↦ inr (number_from n 2 h) ]
+    elim (or_cases (is_number n 1) (is_number n 2) (not-false _ p.0)) [ inl h ↦ inl (number_from n 1 h) | inr h ↦ inr (number_from n 2 h) ]
 lawful_from g (Kernels n) e =
     let p = passed (is_below n 1 || not (is_below n 9)) 2 None e in
     let b = or_parts (is_below n 1) (not (is_below n 9)) p.0 in

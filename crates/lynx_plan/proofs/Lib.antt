@@ -3,3 +3,4 @@ pub mod Sound
 pub mod Lines
 pub mod Words
 pub mod Spelled
+pub mod Again

@@ -1,16 +1,14 @@
 -- Reading lines one after the other, as a loop does.
-use Rattle.std.proofs.Common.{◌≡◌, ℕ, ◌+◌, ◌<◌, ◌≤◌, Bool, true, false, cond, eqb, List, [], ◌∷◌, length, Result, Ok, Err, refl, sym, ap, ◌∙◌, arith, ◌⊎◌, inl, inr}
-use Rattle.std.specs.List.{count_by}
+use Rattle.std.proofs.Common.{◌≡◌, ℕ, ◌+◌, ◌≤◌, true, false, cond, eqb, List, [], ◌∷◌, length, Result, Ok, Err, refl, sym, ap, ◌∙◌, arith, ◌⊎◌, inl, inr}
 use Rattle.std.proofs.lemmas.List.Sums.{count_by-le-length}
 use Rattle.std.proofs.lemmas.List.Splits.{length-slice_split}
 use Rattle.charlotte_text.specs.Reading.{parts}
 use Rattle.lynx_plan.specs.declared.stage.Stage.{Stage}
 use Rattle.lynx_plan.specs.declared.stage.Stage.TheVariants as stage
-use Rattle.lynx_plan.specs.declared.script.Script.{Script}
 use Rattle.lynx_plan.specs.declared.fault.PlanFault.{PlanFault}
 use Rattle.lynx_plan.specs.declared.fault.PlanFault.TheVariants.{BadPlan, NoMemory}
 use Rattle.lynx_plan.specs.Given.{Given, nothing}
-use Rattle.lynx_plan.specs.Reading.{Fails, Gives, has_kernels, script_given, finished, line_read, then_lines, lines_read, script_of}
+use Rattle.lynx_plan.specs.Reading.{Fails, has_kernels, script_given, finished, line_read, lines_read, script_of}
 
 pub few_parts : (bytes : List ℕ) → length (parts 10 bytes) ≤ length bytes + 1
 few_parts bytes = omega (arith, length-slice_split (λ b. eqb b 10) bytes, count_by-le-length (λ b. eqb b 10) bytes)

@@ -1,28 +1,25 @@
 -- What the lines said keeps within the limits.
-use Rattle.std.proofs.Common.{◌≡◌, ℕ, ◌+◌, ◌<◌, ◌≤◌, ◌⊎◌, Bool, true, false, not, cond, List, [], ◌∷◌, ◌++◌, length, Option, Some, None, Result, Ok, Err, refl, sym, ap, subst, ◌∙◌, inl, inr, arith}
+use Rattle.std.proofs.Common.{◌≡◌, ℕ, ◌+◌, ◌<◌, ◌≤◌, ◌⊎◌, Bool, true, false, cond, List, [], ◌∷◌, ◌++◌, length, Result, Ok, Err, refl, ap, subst, inl, inr, arith}
 use Rattle.std.specs.List.{All}
 use Rattle.std.proofs.lemmas.List.{length-append}
 use Rattle.std.proofs.lemmas.List.Elements.{All-nil, All-push, All-weaker, All-same}
 use Rattle.charlotte_calls.specs.declared.names.Pid.{Pid}
-use Rattle.charlotte_calls.specs.Setting.{IsValid, IsWithinLimits}
+use Rattle.charlotte_calls.specs.Setting.{IsValid}
 use Rattle.charlotte_text.specs.declared.fault.Fault.{Fault}
 use Rattle.charlotte_text.specs.declared.number.Number.{Number}
-use Rattle.charlotte_text.specs.declared.number.Number.TheVariants.{Is, Large}
+use Rattle.charlotte_text.specs.declared.number.Number.TheVariants.{Is}
 use Rattle.charlotte_text.specs.Reading.{words}
 use Rattle.lynx_plan.specs.declared.stage.Stage.{Stage}
 use Rattle.lynx_plan.specs.declared.stage.Stage.TheVariants as stage
 use Rattle.lynx_plan.specs.declared.form.Form.{Form}
 use Rattle.lynx_plan.specs.declared.form.Form.TheVariants.{Version, Kernels, Process, Wire, Ask, LongAsk, Take, Settle}
 use Rattle.lynx_plan.specs.declared.entry.Entry.{Entry}
-use Rattle.lynx_plan.specs.declared.entry.Entry.TheVariants as entry
-use Rattle.lynx_plan.specs.declared.script.Script.{Script}
 use Rattle.lynx_plan.specs.declared.fault.PlanFault.{PlanFault}
-use Rattle.lynx_plan.specs.declared.fault.PlanFault.TheVariants.{BadPlan, NoMemory}
 use Rattle.lynx_plan.specs.Given.{Given, nothing}
 use Rattle.lynx_plan.specs.Forms.{form_of}
-use Rattle.lynx_plan.specs.Rules.{allows, value, entry_of, judged, with_entry}
+use Rattle.lynx_plan.specs.Rules.{allows, value, entry_of, with_entry}
 use Rattle.lynx_plan.specs.Reading.{has_kernels, judged_form, entry_at, noted, line_read, is_skipped, script_given}
-use Rattle.lynx_plan.proofs.Lawful.{IsSmall, Lawful, Passes, passes_from}
+use Rattle.lynx_plan.proofs.Lawful.{Lawful, passes_from}
 
 -- each wire joins processes that are declared
 abbrev pub Joins : ℕ → Pid × Pid → Type 0
@@ -40,8 +37,15 @@ pub record Sound (g : Given) : Type 0 where
 
 pub sound_nothing : Sound nothing
 sound_nothing = record {
-  version = inl refl; kernels = omega arith; some = λ e. absurd cc; none = λ e. refl; processes = omega arith; count = omega arith;
-  homes = All-nil (λ home. home < 0); wires = All-nil (Joins 0) }
+  version = inl refl;
+  kernels = omega arith;
+  some = λ e. absurd cc;
+  none = λ e. refl;
+  processes = omega arith;
+  count = omega arith;
+  homes = All-nil (λ home. home < 0);
+  wires = All-nil (Joins 0);
+}
 
 version_value : (n : Number) → (n ≡ Is 1) ⊎ (n ≡ Is 2) → (value n ≡ 1) ⊎ (value n ≡ 2)
 version_value n (inl e) = inl (ap value e)
@@ -87,24 +91,52 @@ settle_after stage.Calls e = refl
 sound_form : (line : ℕ) (g : Given) (f : Form) → allows f g.stage ≡ true → Lawful g f → Sound g → Sound (with_entry line g (entry_of f))
 unfolding with_entry
 sound_form line g (Version n) a l s = record {
-  version = version_value n l; kernels = s.kernels; some = λ x. absurd cc; none = λ x. s.none (before_version n g.stage a); processes = s.processes; count = s.count; homes = s.homes; wires = s.wires }
+  version = version_value n l;
+  kernels = s.kernels;
+  some = λ x. absurd cc;
+  none = λ x. s.none (before_version n g.stage a);
+  processes = s.processes;
+  count = s.count;
+  homes = s.homes;
+  wires = s.wires;
+}
 sound_form line g (Kernels n) a l s =
     let empty : g.homes ≡ [] = s.none (before_kernels n g.stage a) in
     record {
-      version = s.version; kernels = omega (arith, l.0.small); some = λ x. l.1; none = λ x. absurd cc; processes = s.processes; count = s.count;
-      homes = All-same (λ home. home < value n) g.homes [] empty (All-nil (λ home. home < value n)); wires = s.wires }
+      version = s.version;
+      kernels = omega (arith, l.0.small);
+      some = λ x. l.1;
+      none = λ x. absurd cc;
+      processes = s.processes;
+      count = s.count;
+      homes = All-same (λ home. home < value n) g.homes [] empty (All-nil (λ home. home < value n));
+      wires = s.wires;
+    }
 sound_form line g (Process i k) a l s =
     let len : length (g.homes ++ value k ∷ []) ≡ length g.homes + 1 = length-append g.homes (value k ∷ []) in
     let there : has_kernels g.stage ≡ true = ap has_kernels (process_stage i k g.stage a) in
     record {
-      version = s.version; kernels = s.kernels; some = λ x. s.some there; none = λ x. absurd (let e = there in cc); processes = omega (arith, l.1); count = s.count;
+      version = s.version;
+      kernels = s.kernels;
+      some = λ x. s.some there;
+      none = λ x. absurd (let e = there in cc);
+      processes = omega (arith, l.1);
+      count = s.count;
       homes = All-push (λ home. home < g.kernels) g.homes (value k) s.homes l.2.small;
-      wires = All-weaker (Joins (length g.homes)) (Joins (length (g.homes ++ value k ∷ []))) (λ w h. (omega (arith, h.0), omega (arith, h.1))) g.wires s.wires }
+      wires = All-weaker (Joins (length g.homes)) (Joins (length (g.homes ++ value k ∷ []))) (λ w h. (omega (arith, h.0), omega (arith, h.1))) g.wires s.wires;
+    }
 sound_form line g (Wire i j) a l s =
     let there = wire_after i j g.stage a in
     record {
-      version = s.version; kernels = s.kernels; some = λ x. s.some there; none = λ x. absurd cc; processes = s.processes; count = omega (arith, l.2, length-append g.wires ((record { 0 = value i }, record { 0 = value j }) ∷ [])); homes = s.homes;
-      wires = All-push (Joins (length g.homes)) g.wires (record { 0 = value i }, record { 0 = value j }) s.wires (l.0.small, l.1.small) }
+      version = s.version;
+      kernels = s.kernels;
+      some = λ x. s.some there;
+      none = λ x. absurd cc;
+      processes = s.processes;
+      count = omega (arith, l.2, length-append g.wires ((record { 0 = value i }, record { 0 = value j }) ∷ []));
+      homes = s.homes;
+      wires = All-push (Joins (length g.homes)) g.wires (record { 0 = value i }, record { 0 = value j }) s.wires (l.0.small, l.1.small);
+    }
 sound_form line g (Ask p call) a l s = let there = settle_after g.stage a in record { version = s.version; kernels = s.kernels; some = λ x. s.some there; none = λ x. absurd cc; processes = s.processes; count = s.count; homes = s.homes; wires = s.wires }
 sound_form line g (LongAsk p) a l s = absurd l
 sound_form line g (Take j k) a l s = let there = settle_after g.stage a in record { version = s.version; kernels = s.kernels; some = λ x. s.some there; none = λ x. absurd cc; processes = s.processes; count = s.count; homes = s.homes; wires = s.wires }
@@ -141,4 +173,6 @@ sound_kept line g h text e s =
 pub valid_given : (g : Given) → Sound g → has_kernels g.stage ≡ true → IsValid (script_given g).setting
 valid_given g s k = record {
   limits = record { version = s.version; some_kernel = s.some k; kernels = s.kernels; processes = s.processes; wires = s.count };
-  homes = s.homes; wires = s.wires }
+  homes = s.homes;
+  wires = s.wires;
+}

@@ -1,5 +1,5 @@
 -- The lines that were read spell what was read.
-use Rattle.std.proofs.Common.{◌≡◌, ℕ, ◌+◌, ◌<◌, ◌≤◌, ◌⊎◌, Bool, true, false, cond, List, [], ◌∷◌, ◌++◌, length, map, Result, Ok, Err, refl, sym, ap, subst, ◌∙◌, append_assoc, inl, inr, arith}
+use Rattle.std.proofs.Common.{◌≡◌, ℕ, ◌+◌, ◌⊎◌, true, false, cond, List, [], ◌∷◌, ◌++◌, length, map, Result, Ok, Err, refl, sym, ap, subst, ◌∙◌, append_assoc, inl, inr, arith}
 use Rattle.std.specs.Prelude.{IfOk}
 use Rattle.std.specs.List.{All}
 use Rattle.std.proofs.lemmas.List.{append-nil, map_push}
@@ -20,14 +20,14 @@ use Rattle.lynx_plan.specs.declared.script.ScriptLine.{ScriptLine}
 use Rattle.lynx_plan.specs.declared.script.ScriptCall.{ScriptCall}
 use Rattle.lynx_plan.specs.declared.script.ScriptCall.TheVariants as script
 use Rattle.lynx_plan.specs.declared.fault.PlanFault.{PlanFault}
-use Rattle.lynx_plan.specs.declared.fault.PlanFault.TheVariants.{BadPlan, NoMemory}
+use Rattle.lynx_plan.specs.declared.fault.PlanFault.TheVariants.{BadPlan}
 use Rattle.lynx_plan.specs.Given.{Given, nothing}
 use Rattle.lynx_plan.specs.Forms.{form_of}
-use Rattle.lynx_plan.specs.Rules.{allows, value, entry_of, judged, with_entry}
+use Rattle.lynx_plan.specs.Rules.{allows, value, entry_of, with_entry}
 use Rattle.lynx_plan.specs.Reading.{Gives, is_skipped, has_kernels, judged_form, entry_at, noted, line_read, then_lines, lines_read, script_given, finished, script_of}
 use Rattle.lynx_plan.specs.ScriptText.{standing, version_text, kernels_text, home_text, home_texts, wire_text, what_text, header_texts, IsHeader, FitsWhat, numbered, IsScriptText}
-use Rattle.lynx_plan.proofs.Lawful.{IsSmall, Lawful, Passes, passes_from}
-use Rattle.lynx_plan.proofs.Sound.{Sound, sound_nothing, sound_kept, valid_given, which, given_is, process_stage, wire_after, settle_after}
+use Rattle.lynx_plan.proofs.Lawful.{Lawful, passes_from}
+use Rattle.lynx_plan.proofs.Sound.{Sound, sound_nothing, sound_kept, valid_given, given_is, process_stage, wire_after, settle_after}
 use Rattle.lynx_plan.proofs.Words.{form_text, form_has, text_has, FitsForm, fits_has}
 
 abbrev setting_of : Given → Setting
@@ -94,7 +94,7 @@ home_header g k none =
     let before : home_texts 0 g.homes ++ map wire_text g.wires ≡ home_texts 0 g.homes = ap (λ (ws : List (Pid × Pid)). home_texts 0 g.homes ++ map wire_text ws) none ∙ append-nil (home_texts 0 g.homes) in
     let after : home_texts 0 (g.homes ++ k ∷ []) ++ map wire_text g.wires ≡ home_texts 0 (g.homes ++ k ∷ []) = ap (λ (ws : List (Pid × Pid)). home_texts 0 (g.homes ++ k ∷ []) ++ map wire_text ws) none ∙ append-nil (home_texts 0 (g.homes ++ k ∷ [])) in
     ap (λ (ts : List (List ℕ)). kernels_text g.kernels ∷ (ts ++ home_text (length g.homes) k ∷ [])) before
-      ∙ ap (λ (ts : List (List ℕ)). kernels_text g.kernels ∷ ts) (ap (λ (m : ℕ). home_texts 0 g.homes ++ home_text m k ∷ []) (sym n) ∙ sym (home_texts_push 0 g.homes k) ∙ sym after)
+    ∙ ap (λ (ts : List (List ℕ)). kernels_text g.kernels ∷ ts) (ap (λ (m : ℕ). home_texts 0 g.homes ++ home_text m k ∷ []) (sym n) ∙ sym (home_texts_push 0 g.homes k) ∙ sym after)
 
 wire_header : (g : Given) (w : Pid × Pid) → header_texts (setting_of g) ++ wire_text w ∷ [] ≡ kernels_text g.kernels ∷ (home_texts 0 g.homes ++ map wire_text (g.wires ++ w ∷ []))
 wire_header g w =
@@ -207,12 +207,12 @@ reads_wire line g w text all s none t r =
 
 reads_call : (line : ℕ) (g : Given) (what : ScriptCall) (text : List ℕ) (all : List Line) → has_kernels g.stage ≡ true → text ≡ what_text what → FitsWhat (setting_of g) what → Reads g all → Reads (record g { lines = g.lines ++ record { line = line; what = what } ∷ []; stage = stage.Calls }) (all ++ (line, text) ∷ [])
 reads_call line g what text all s t fits r = record {
-      header = r.header;
-      lines = with_call g all r.header line text what r.lines t;
-      opens = whole_header g g.stage (texts_of r.header) s r.opens;
-      empty = tt;
-      calls = All-push (Fit g) g.lines (record { line = line; what = what }) r.calls fits;
-    }
+  header = r.header;
+  lines = with_call g all r.header line text what r.lines t;
+  opens = whole_header g g.stage (texts_of r.header) s r.opens;
+  empty = tt;
+  calls = All-push (Fit g) g.lines (record { line = line; what = what }) r.calls fits;
+}
 
 reads_form : (line : ℕ) (g : Given) (f : Form) (text : List ℕ) (all : List Line) → allows f g.stage ≡ true → Lawful g f → FitsForm g.version f → text ≡ form_text g f → Reads g all → Reads (with_entry line g (entry_of f)) (all ++ (line, text) ∷ [])
 unfolding with_entry
@@ -230,7 +230,7 @@ reads_judged line g text (Ok f) e all is h r =
     let p = passes_from g f e h in
     let has = form_has g.version (words text) f is in
     subst (λ (x : Entry). Reads (with_entry line g x) (all ++ (line, text) ∷ [])) p.says
-      (reads_form line g f text all p.stands p.lawful (fits_has g.version (words text) f has) (text_has g g.version text f has p.lawful) r)
+    (reads_form line g f text all p.stands p.lawful (fits_has g.version (words text) f has) (text_has g g.version text f has p.lawful) r)
 reads_judged line g text (Err f) e all is h r = absurd cc
 
 reads_noted : (line : ℕ) (g h : Given) (read : Result Entry ℕ) (all : List Line) → noted line g read ≡ Ok h → ((e : Entry) → read ≡ Ok e → Reads (with_entry line g e) all) → Reads h all
@@ -276,7 +276,12 @@ spelled_end n bytes s g e f =
     let both = reads_lines 1 nothing g (parts 10 bytes) [] e sound_nothing reads_nothing in
     elim (has_kernels g.stage) as (λ b. has_kernels g.stage ≡ b → cond b (Ok (script_given g)) (Err (BadPlan n 1)) ≡ Ok s → IsScriptText bytes s) [
       | true ↦ λ k x. subst (IsScriptText bytes) (script_is (script_given g) s x) (record {
-          header = both.0.header; lines = both.0.lines; spelled = whole_header g g.stage (texts_of both.0.header) k both.0.opens; valid = valid_given g both.1 k; calls = both.0.calls })
+        header = both.0.header;
+        lines = both.0.lines;
+        spelled = whole_header g g.stage (texts_of both.0.header) k both.0.opens;
+        valid = valid_given g both.1 k;
+        calls = both.0.calls;
+      })
       | false ↦ λ k x. absurd cc
     ] refl f
 

@@ -1,22 +1,21 @@
 -- The words of a line that has a form, and its text where it fails no rule.
-use Rattle.std.proofs.Common.{◌≡◌, ℕ, ◌+◌, ◌<◌, Bool, true, false, cond, eqb, List, [], ◌∷◌, ◌++◌, length, Result, Ok, Err, refl, sym, ap, subst, ◌∙◌, append_assoc, ◌⊎◌, inl, inr, arith}
+use Rattle.std.proofs.Common.{◌≡◌, ℕ, true, false, cond, List, [], ◌∷◌, ◌++◌, length, Result, Ok, Err, refl, sym, ap, subst, ◌∙◌, append_assoc, ◌⊎◌, inl, inr}
 use Rattle.std.specs.Prelude.{codes}
 use Rattle.std.specs.List.{join_with_byte}
 use Rattle.std.specs.Str.{bytes_eq}
 use Rattle.std.proofs.lemmas.List.Splits.{join_with_byte-slice_split}
 use Rattle.std.proofs.lemmas.Slice.Eq.{bytes_eq-Decides}
-use Rattle.charlotte_calls.specs.declared.names.Pid.{Pid}
 use Rattle.charlotte_calls.specs.declared.calls.Call.{Call}
 use Rattle.charlotte_text.specs.declared.fault.Fault.{Fault}
 use Rattle.charlotte_text.specs.declared.fault.Fault.TheVariants as fault
 use Rattle.charlotte_text.specs.declared.number.Number.{Number}
-use Rattle.charlotte_text.specs.declared.number.Number.TheVariants.{Is, Large}
+use Rattle.charlotte_text.specs.declared.number.Number.TheVariants.{Is}
 use Rattle.charlotte_text.specs.Spelling.{number_text, process_text, call_text, IsCall}
 use Rattle.charlotte_text.specs.Reading.{◌>>=◌, words, part_at, ended, number_of, process_of, call_of}
-use Rattle.charlotte_text.proofs.Steps.{bind_ok, done, ok_is, not_ok, held, part_ok, ended_ok}
+use Rattle.charlotte_text.proofs.Steps.{bind_ok, ok_is, not_ok, held, part_ok, ended_ok}
 use Rattle.charlotte_text.proofs.Numbers.{number_takes}
 use Rattle.charlotte_text.proofs.Names.{process_takes}
-use Rattle.charlotte_text.proofs.Calls.{call_words, call_takes, joined, join_call}
+use Rattle.charlotte_text.proofs.Calls.{call_words, call_takes, join_call}
 use Rattle.lynx_plan.specs.declared.form.Lead.{Lead}
 use Rattle.lynx_plan.specs.declared.form.Lead.TheVariants as lead
 use Rattle.lynx_plan.specs.declared.form.Form.{Form}
@@ -24,8 +23,8 @@ use Rattle.lynx_plan.specs.declared.form.Form.TheVariants.{Version, Kernels, Pro
 use Rattle.lynx_plan.specs.Given.{Given}
 use Rattle.lynx_plan.specs.Forms.{lead_of, one_number, two_numbers, placed, ask_form, asked, led, form_of}
 use Rattle.lynx_plan.specs.Rules.{value}
-use Rattle.lynx_plan.specs.ScriptText.{version_text, kernels_text, home_text, wire_text, what_text}
-use Rattle.lynx_plan.proofs.Lawful.{IsSmall, Lawful}
+use Rattle.lynx_plan.specs.ScriptText.{version_text, kernels_text, home_text, wire_text}
+use Rattle.lynx_plan.proofs.Lawful.{Lawful}
 
 -- ---- first words
 
@@ -46,11 +45,11 @@ lead_is : (w : List ℕ) → LeadIs w (lead_of w)
 unfolding lead_of
 lead_is w =
     lead_step w (codes "version") lead.Version (cond (bytes_eq w (codes "kernels")) lead.Kernels (cond (bytes_eq w (codes "process")) lead.Process (cond (bytes_eq w (codes "wire")) lead.Wire (cond (bytes_eq w (codes "take")) lead.Take (cond (bytes_eq w (codes "settle")) lead.Settle lead.Other))))) (λ e. e)
-      (lead_step w (codes "kernels") lead.Kernels (cond (bytes_eq w (codes "process")) lead.Process (cond (bytes_eq w (codes "wire")) lead.Wire (cond (bytes_eq w (codes "take")) lead.Take (cond (bytes_eq w (codes "settle")) lead.Settle lead.Other)))) (λ e. e)
-        (lead_step w (codes "process") lead.Process (cond (bytes_eq w (codes "wire")) lead.Wire (cond (bytes_eq w (codes "take")) lead.Take (cond (bytes_eq w (codes "settle")) lead.Settle lead.Other))) (λ e. e)
-          (lead_step w (codes "wire") lead.Wire (cond (bytes_eq w (codes "take")) lead.Take (cond (bytes_eq w (codes "settle")) lead.Settle lead.Other)) (λ e. e)
-            (lead_step w (codes "take") lead.Take (cond (bytes_eq w (codes "settle")) lead.Settle lead.Other) (λ e. e)
-              (lead_step w (codes "settle") lead.Settle lead.Other (λ e. e) tt)))))
+    (lead_step w (codes "kernels") lead.Kernels (cond (bytes_eq w (codes "process")) lead.Process (cond (bytes_eq w (codes "wire")) lead.Wire (cond (bytes_eq w (codes "take")) lead.Take (cond (bytes_eq w (codes "settle")) lead.Settle lead.Other)))) (λ e. e)
+    (lead_step w (codes "process") lead.Process (cond (bytes_eq w (codes "wire")) lead.Wire (cond (bytes_eq w (codes "take")) lead.Take (cond (bytes_eq w (codes "settle")) lead.Settle lead.Other))) (λ e. e)
+    (lead_step w (codes "wire") lead.Wire (cond (bytes_eq w (codes "take")) lead.Take (cond (bytes_eq w (codes "settle")) lead.Settle lead.Other)) (λ e. e)
+    (lead_step w (codes "take") lead.Take (cond (bytes_eq w (codes "settle")) lead.Settle lead.Other) (λ e. e)
+    (lead_step w (codes "settle") lead.Settle lead.Other (λ e. e) tt)))))
 
 -- ---- numbers
 
@@ -85,7 +84,12 @@ two_take ws x e =
     let j = bind_ok (one_number a.0.1) (λ j. Ok (i.0, j)) x i.2 in
     let o = one_takes a.0.1 j.0 j.1 in
     subst (λ (y : Number × Number). TwoNumbers [] ws y) (ok_is (i.0, j.0) x j.2) (record {
-      first = a.0.0; second = o.word; words = part_ok ws a.0 a.1 ∙ ap (λ (ps : List (List ℕ)). a.0.0 ∷ ps) o.words; one = i.1; two = o.number })
+      first = a.0.0;
+      second = o.word;
+      words = part_ok ws a.0 a.1 ∙ ap (λ (ps : List (List ℕ)). a.0.0 ∷ ps) o.words;
+      one = i.1;
+      two = o.number;
+    })
 
 placed_take : (ws : List (List ℕ)) (x : Number × Number) → placed ws ≡ Ok x → TwoNumbers (codes "on" ∷ []) ws x
 unfolding placed
@@ -99,7 +103,12 @@ placed_take ws x e =
     let on : s.0.0 ≡ codes "on" = (bytes_eq-Decides s.0.0 (codes "on")).0 h.0 in
     let tail : a.0.1 ≡ codes "on" ∷ o.word ∷ [] = part_ok a.0.1 s.0 s.1 ∙ ap (λ (w : List ℕ). w ∷ s.0.1) on ∙ ap (λ (ps : List (List ℕ)). codes "on" ∷ ps) o.words in
     subst (λ (y : Number × Number). TwoNumbers (codes "on" ∷ []) ws y) (ok_is (i.0, k.0) x k.2) (record {
-      first = a.0.0; second = o.word; words = part_ok ws a.0 a.1 ∙ ap (λ (ps : List (List ℕ)). a.0.0 ∷ ps) tail; one = i.1; two = o.number })
+      first = a.0.0;
+      second = o.word;
+      words = part_ok ws a.0 a.1 ∙ ap (λ (ps : List (List ℕ)). a.0.0 ∷ ps) tail;
+      one = i.1;
+      two = o.number;
+    })
 
 -- ---- forms
 
@@ -175,13 +184,13 @@ form_text g Settle = codes "settle"
 line_is : (text : List ℕ) (ws : List (List ℕ)) → words text ≡ ws → text ≡ join_with_byte 32 ws
 line_is text ws e = sym (join_with_byte-slice_split 32 text) ∙ ap (join_with_byte 32) e
 
-two_shape : (k x y : List ℕ) → k ++ 32 ∷ (x ++ 32 ∷ y) ≡ ((k ++ codes " ") ++ x ++ codes " ") ++ y
+pub two_shape : (k x y : List ℕ) → k ++ 32 ∷ (x ++ 32 ∷ y) ≡ ((k ++ codes " ") ++ x ++ codes " ") ++ y
 two_shape k x y = simp append_assoc
 
-home_shape : (x y : List ℕ) → codes "process" ++ 32 ∷ (x ++ 32 ∷ (codes "on" ++ 32 ∷ y)) ≡ ((codes "process " ++ x) ++ codes " on ") ++ y
+pub home_shape : (x y : List ℕ) → codes "process" ++ 32 ∷ (x ++ 32 ∷ (codes "on" ++ 32 ∷ y)) ≡ ((codes "process " ++ x) ++ codes " on ") ++ y
 home_shape x y = simp append_assoc
 
-ask_shape : (w : List ℕ) (c : List ℕ) → w ++ 32 ∷ c ≡ (w ++ codes " ") ++ c
+pub ask_shape : (w : List ℕ) (c : List ℕ) → w ++ 32 ∷ c ≡ (w ++ codes " ") ++ c
 ask_shape w c = simp append_assoc
 
 one_number_is : (n : Number) → (n ≡ Is 1) ⊎ (n ≡ Is 2) → n ≡ Is (value n)

@@ -1,7 +1,6 @@
 -- Which lines may stand where, the rules as tests of one line after what was read before it, and what a line adds.
-use Rattle.std.specs.Prelude.{◌≡◌, ℕ, List, [], ◌∷◌, ◌++◌, Bool, true, false, not, ◌&&◌, ◌||◌, nat_le, nat_lt, ◌==◌, if◌then◌else◌, length, Option, Some, None, Result, Ok, Err}
+use Rattle.std.specs.Prelude.{ℕ, [], ◌∷◌, ◌++◌, Bool, true, false, not, ◌||◌, nat_le, nat_lt, ◌==◌, if◌then◌else◌, length, Option, Some, None, Result, Ok, Err}
 use Rattle.charlotte_calls.specs.declared.names.Pid.{Pid}
-use Rattle.charlotte_text.specs.declared.fault.Fault.{Fault}
 use Rattle.charlotte_text.specs.declared.number.Number.{Number}
 use Rattle.charlotte_text.specs.declared.number.Number.TheVariants.{Is, Large}
 use Rattle.lynx_plan.specs.declared.stage.Stage.{Stage}
@@ -10,8 +9,6 @@ use Rattle.lynx_plan.specs.declared.form.Form.{Form}
 use Rattle.lynx_plan.specs.declared.form.Form.TheVariants.{Version, Kernels, Process, Wire, Ask, LongAsk, Take, Settle}
 use Rattle.lynx_plan.specs.declared.entry.Entry.{Entry}
 use Rattle.lynx_plan.specs.declared.entry.Entry.TheVariants as entry
-use Rattle.lynx_plan.specs.declared.script.ScriptLine.{ScriptLine}
-use Rattle.lynx_plan.specs.declared.script.ScriptCall.{ScriptCall}
 use Rattle.lynx_plan.specs.declared.script.ScriptCall.TheVariants as script
 use Rattle.lynx_plan.specs.Given.{Given}
 

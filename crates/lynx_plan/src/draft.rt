@@ -1,17 +1,16 @@
 ghost use Rattle.std.specs.Prelude.{◌≡◌, length};
 ghost use Rattle.lynx_plan.specs.Given.{Given, nothing};
 
+use crate::entry::Entry;
+use crate::script::{Script, ScriptLine};
+use crate::stage::Stage;
 use charlotte_calls::{Items, Pid, Setting};
 use std::alloc::{AllocError, Global};
 use std::marker::Model;
 
-use crate::entry::Entry;
-use crate::script::{Script, ScriptLine};
-use crate::stage::Stage;
-
 /// What the lines of a script said so far.
 #[derive(Drop)]
-pub struct Draft {
+pub(crate) struct Draft {
     version: u8,
     kernels: u8,
     homes: Vec<u8>,
@@ -24,12 +23,12 @@ impl Model for Draft {
     ghost Value = { Given };
 
     ghost view = { λ d. record {
-        version = d.version;
-        kernels = d.kernels;
-        homes = d.homes.items;
-        wires = d.wires.items;
-        lines = d.lines.items;
-        stage = d.stage;
+      version = d.version;
+      kernels = d.kernels;
+      homes = d.homes.items;
+      wires = d.wires.items;
+      lines = d.lines.items;
+      stage = d.stage;
     } };
 }
 

@@ -1,10 +1,9 @@
-use charlotte_calls::Pid;
-
 use crate::script::ScriptCall;
+use charlotte_calls::Pid;
 
 /// What a line says that fails no rule.
 #[derive(Debug, Drop)]
-pub enum Entry {
+pub(crate) enum Entry {
     Version(u8),
     Kernels(u8),
     /// The kernel of the next process.

@@ -2,6 +2,8 @@ ghost use Rattle.std.specs.Prelude.{◌≡◌};
 ghost use Rattle.lynx_plan.specs.declared.fault.PlanFault.TheVariants as faults;
 
 use std::alloc::{AllocError, AllocFailed};
+use std::error::Error;
+use std::fmt;
 
 /// Why a script or plan was not read.
 #[derive(Clone, Copy, Debug, PartialEq, Eq)]
@@ -11,6 +13,17 @@ pub enum PlanFault {
     /// There was not memory enough.
     NoMemory,
 }
+
+impl fmt::Display for PlanFault {
+    fn fmt<W: fmt::Write>(&self, f: &mut fmt::Formatter<W>) -> fmt::Result {
+        match self {
+            PlanFault::BadPlan { line, rule } => write!(f, "line {line} fails rule {rule}"),
+            PlanFault::NoMemory => f.write_str("no memory"),
+        }
+    }
+}
+
+impl Error for PlanFault {}
 
 impl From<AllocError> for PlanFault {
     ghost from_gives = { λ _ e. e ≡ faults.NoMemory };

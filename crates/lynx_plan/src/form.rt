@@ -7,7 +7,7 @@ use charlotte_text::{Fault, Number, end_of_line, next_word, read_call, read_numb
 
 /// Which kind of line a first word begins.
 #[derive(Clone, Copy, Debug)]
-pub enum Lead {
+pub(crate) enum Lead {
     Version,
     Kernels,
     Process,
@@ -19,7 +19,7 @@ pub enum Lead {
 
 /// The form of a line of a script, with numbers of any size.
 #[derive(Debug, Drop)]
-pub enum Form {
+pub(crate) enum Form {
     Version(Number),
     Kernels(Number),
     /// The process and its kernel.

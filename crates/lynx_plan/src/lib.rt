@@ -5,17 +5,16 @@ mod draft;
 mod entry;
 mod fault;
 mod form;
+mod law;
 mod read;
 mod rules;
 mod script;
 mod stage;
 
-pub use entry::Entry;
 pub use fault::PlanFault;
-pub use form::{Form, Lead};
+pub use law::one_script;
 pub use read::read_script;
 pub use script::{Script, ScriptCall, ScriptLine};
-pub use stage::Stage;
 
 #[cfg(test)]
 mod tests;

@@ -1,10 +1,8 @@
-ghost use Rattle.std.specs.Prelude.{◌≡◌, ◌<◌, ◌≤◌, length, MatchResult, IfOk};
+ghost use Rattle.std.specs.Prelude.{◌≡◌, ◌<◌, ◌≤◌, length, MatchResult, IfOk, Ok};
 ghost use Rattle.charlotte_calls.specs.Setting.{IsValid};
+ghost use Rattle.lynx_plan.specs.declared.script.Script.{Script};
 ghost use Rattle.lynx_plan.specs.ScriptText.{IsScriptText};
 ghost use Rattle.lynx_plan.specs.Reading.{Fails, Gives, is_skipped, entry_at, line_read, lines_read, script_of};
-
-use charlotte_text::cut;
-use std::alloc::Global;
 
 use crate::draft::Draft;
 use crate::entry::Entry;
@@ -13,6 +11,8 @@ use crate::form::script_form;
 use crate::rules::judge;
 use crate::script::Script;
 use crate::stage::Stage;
+use charlotte_text::cut;
+use std::alloc::Global;
 
 /// The script that the bytes spell, or the first line that fails a rule and the least rule there.
 pub fn read_script(alloc: Global, bytes: &[u8]) -> Result<Script, PlanFault>
@@ -20,6 +20,8 @@ pub fn read_script(alloc: Global, bytes: &[u8]) -> Result<Script, PlanFault>
     // What is read is spelled so.
     ensures found { IfOk result (IsScriptText bytes.now) }
     ensures valid { IfOk result (λ script. IsValid script.setting) }
+    // What is spelled as a script is read so, unless memory runs out.
+    ensures only { (script : Script) → IsScriptText bytes.now script → Gives result (Ok script) }
     // Which line and which rule it is.
     ensures exact { Gives result (script_of bytes.now) }
 {

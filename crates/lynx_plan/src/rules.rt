@@ -1,14 +1,13 @@
 ghost use Rattle.std.specs.Prelude.{◌≡◌, ◌<◌, ◌≤◌, IsTrue, Some, None, if◌then◌else◌, length};
 ghost use Rattle.lynx_plan.specs.Rules.{allows, is_below, is_number, value, known_process, ruled, judged};
 
-use charlotte_calls::Pid;
-use charlotte_text::Number;
-
 use crate::draft::Draft;
 use crate::entry::Entry;
 use crate::form::Form;
 use crate::script::ScriptCall;
 use crate::stage::Stage;
+use charlotte_calls::Pid;
+use charlotte_text::Number;
 
 /// What a line of a form says after the lines before it, or the least rule that it fails.
 #[tactic(auto, unfolding(crate::specs::Rules::judged, crate::specs::Rules::ruled))]

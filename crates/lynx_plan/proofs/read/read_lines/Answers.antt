@@ -1,4 +1,4 @@
-use Rattle.std.proofs.Common.{◌≡◌, ◌+◌, ◌∷◌, [], Ok, refl, List, ℕ, length, option_copied, sym, ap, ◌∙◌, arith}
+use Rattle.std.proofs.Common.{◌≡◌, ◌+◌, ◌∷◌, [], Ok, refl, length, option_copied, sym, ap, ◌∙◌, arith}
 use Rattle.std.proofs.lemmas.Result.{err_from_is_err_and}
 use Rattle.charlotte_text.specs.Reading.{parts, rest_parts}
 use Rattle.lynx_plan.specs.Given.{nothing}

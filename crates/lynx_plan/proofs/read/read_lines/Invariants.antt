@@ -9,7 +9,8 @@ abbrev pub invariant-loop-rest : goal.invariant-loop-rest
 invariant-loop-rest l = record {
   so_far : lines_read (l.line + 1) l.draft (rest_parts 10 (option_copied l.rest)) ≡ lines_read 1 nothing (parts 10 l.bytes);
   count : l.line + length (rest_parts 10 (option_copied l.rest)) ≡ length (parts 10 l.bytes);
-  sound : Sound l.draft }
+  sound : Sound l.draft;
+}
 
 abbrev pub decreases-loop-rest : goal.decreases-loop-rest
 decreases-loop-rest l = length (rest_parts 10 (option_copied l.rest))

@@ -1,3 +1,4 @@
+use Rattle.lynx_plan.proofs.Again.{script_only}
 use Rattle.lynx_plan.proofs.Spelled.{script_found, script_valid}
 use Rattle.lynx_plan.proofs.read.read_script.Goals as goal
 
@@ -6,3 +7,6 @@ returns-clause-found c = script_found c.args.bytes.now c.read_lines.result c.rea
 
 pub returns-clause-valid : goal.returns-clause-valid
 returns-clause-valid c = script_valid c.args.bytes.now c.read_lines.result c.read_lines.ensures
+
+pub returns-clause-only : goal.returns-clause-only
+returns-clause-only c = λ s is. script_only c.args.bytes.now c.read_lines.result s c.read_lines.ensures is
