@@ -43,6 +43,8 @@ pub enum Call {
 }
 
 impl Call {
+    ghost use Rattle.charlotte_calls.specs.Program.{causes, is_cause_of, is_answer_to};
+
     /// An equal call.
     pub fn copy(&self) -> Call
         ensures { result ≡ self.now }
@@ -62,6 +64,56 @@ impl Call {
                 bytes: bytes.copy(),
             },
             Call::Exit => Call::Exit,
+        }
+    }
+
+    /// Whether the call can have this answer: one that is named for it, or a refusal for a cause that is.
+    pub fn fits(&self, answer: &Answer) -> bool
+        ensures { result ≡ is_answer_to self.now answer.now }
+    {
+        match (self, answer) {
+            (_, Answer::Refused(cause)) => self.can_be_refused(*cause),
+            (Call::Make, Answer::Made(..)) => true,
+            (Call::Make, _) => false,
+            (Call::Wait, Answer::Reported(_)) => true,
+            (Call::Wait, _) => false,
+            (_, Answer::Ok) => true,
+            (_, _) => false,
+        }
+    }
+
+    fn can_be_refused(&self, cause: Cause) -> bool
+        ensures { result ≡ is_cause_of self.now cause }
+    {
+        let number = cause.number();
+        self.causes().iter().any(|named| named.number() == number)
+    }
+
+    /// The causes for which the call can be refused.
+    fn causes(&self) -> &'static [Cause]
+        ensures { result.now ≡ causes self.now }
+    {
+        match self {
+            Call::Make => &[Cause::LinksFull],
+            Call::Destroy { .. } => &[Cause::NoEnd],
+            Call::Send { .. } => &[
+                Cause::NoEnd,
+                Cause::Busy,
+                Cause::Dead,
+                Cause::EncloseNoEnd,
+                Cause::EncloseBusy,
+                Cause::EncloseSame,
+                Cause::EncloseTwice,
+            ],
+            Call::Receive { .. } => &[Cause::NoEnd, Cause::Busy, Cause::Dead],
+            Call::Cancel { .. } => &[
+                Cause::NoEnd,
+                Cause::Dead,
+                Cause::Late,
+                Cause::NoActivity,
+            ],
+            Call::Wait => &[Cause::NoActivity],
+            Call::Print { .. } | Call::Exit => &[],
         }
     }
 }
