@@ -11,6 +11,8 @@ mod names;
 mod packet;
 mod picture;
 mod program;
+#[cfg(test)]
+mod program_tests;
 mod setting;
 mod short;
 mod work;
