@@ -13,6 +13,8 @@ mod picture;
 mod program;
 #[cfg(test)]
 mod program_tests;
+#[cfg(test)]
+mod samples;
 mod setting;
 mod short;
 mod work;

@@ -5,7 +5,8 @@ ghost use Rattle.charlotte_calls.specs.Listed.{Listed, listed_step, done_of, ask
 ghost use Rattle.charlotte_calls.specs.Program.{steps, state_after, MayBeGiven, MayFollow, EndsAfterExit, IsOfVersion};
 
 use crate::{
-    Answer, Bytes, Call, Cause, EndId, Ends, LinkId, Next, NoMemory, Outcome, Program, Report, Side, Way,
+    Answer, Bytes, Call, Cause, EndId, Ends, LinkId, Next, NoMemory, Outcome, Program, Report,
+    Side, Way,
 };
 use std::alloc::Global;
 use std::collections::VecDeque;
@@ -131,10 +132,12 @@ fn a_program_asks_its_calls_and_ends(rt: HostRuntime) -> Result<(), Fail> {
         Some(Answer::Ok),
     ];
     let done = perform(rt.alloc(), &mut program, &given)?;
-    assert!(rt; matches!(
-        done.as_slice(),
-        [Next::Ask(Call::Make), Next::Ask(Call::Exit), Next::Ended]
-    ));
+    assert!(rt;
+        matches!(
+            done.as_slice(),
+            [Next::Ask(Call::Make), Next::Ask(Call::Exit), Next::Ended]
+        )
+    );
     Ok(())
 }
 
@@ -195,7 +198,11 @@ fn calls_have_their_own_answers(rt: HostRuntime) -> Result<(), Fail> {
         (Call::Exit, [true, false, false]),
     ];
     for (call, want) in &table {
-        let fits = [call.fits(&Answer::Ok), call.fits(&made), call.fits(&reported)];
+        let fits = [
+            call.fits(&Answer::Ok),
+            call.fits(&made),
+            call.fits(&reported),
+        ];
         assert_eq!(rt; fits, *want, "{call:?}");
     }
     Ok(())
