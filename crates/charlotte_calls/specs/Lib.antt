@@ -3,3 +3,5 @@ pub mod Calls
 pub mod Setting
 pub mod Moving
 pub mod Packets
+pub mod Program
+pub mod Listed

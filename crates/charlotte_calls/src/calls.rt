@@ -43,6 +43,8 @@ pub enum Call {
 }
 
 impl Call {
+    ghost use Rattle.charlotte_calls.specs.Program.{causes, is_cause_of, is_answer_to};
+
     /// An equal call.
     pub fn copy(&self) -> Call
         ensures { result ≡ self.now }
@@ -62,6 +64,51 @@ impl Call {
                 bytes: bytes.copy(),
             },
             Call::Exit => Call::Exit,
+        }
+    }
+
+    /// Whether the call can have this answer: one that is named for it, or a refusal for a cause that is.
+    pub fn fits(&self, answer: &Answer) -> bool
+        ensures { result ≡ is_answer_to self.now answer.now }
+    {
+        match (self, answer) {
+            (_, Answer::Refused(cause)) => self.can_be_refused(*cause),
+            (Call::Make, Answer::Made(..)) => true,
+            (Call::Make, _) => false,
+            (Call::Wait, Answer::Reported(_)) => true,
+            (Call::Wait, _) => false,
+            (_, Answer::Ok) => true,
+            (_, _) => false,
+        }
+    }
+
+    fn can_be_refused(&self, cause: Cause) -> bool
+        ensures { result ≡ is_cause_of self.now cause }
+    {
+        let number = cause.number();
+        self.causes().iter().any(|named| named.number() == number)
+    }
+
+    /// The causes for which the call can be refused.
+    fn causes(&self) -> &'static [Cause]
+        ensures { result.now ≡ causes self.now }
+    {
+        match self {
+            Call::Make => &[Cause::LinksFull],
+            Call::Destroy { .. } => &[Cause::NoEnd],
+            Call::Send { .. } => &[
+                Cause::NoEnd,
+                Cause::Busy,
+                Cause::Dead,
+                Cause::EncloseNoEnd,
+                Cause::EncloseBusy,
+                Cause::EncloseSame,
+                Cause::EncloseTwice,
+            ],
+            Call::Receive { .. } => &[Cause::NoEnd, Cause::Busy, Cause::Dead],
+            Call::Cancel { .. } => &[Cause::NoEnd, Cause::Dead, Cause::Late, Cause::NoActivity],
+            Call::Wait => &[Cause::NoActivity],
+            Call::Print { .. } | Call::Exit => &[],
         }
     }
 }
@@ -296,5 +343,112 @@ impl ServiceStep {
                 dead: *dead,
             },
         }
+    }
+}
+
+#[cfg(test)]
+mod tests {
+    use super::*;
+    use crate::Side;
+    use crate::samples::{end, same_text, some_bytes, two_ends};
+    use std::test::Fail;
+
+    fn send() -> Result<Call, Fail> {
+        Ok(Call::Send {
+            on: end(3, Side::A),
+            bytes: some_bytes()?,
+            enclose: two_ends()?,
+        })
+    }
+
+    fn report() -> Result<Report, Fail> {
+        Ok(Report {
+            on: end(4, Side::B),
+            way: Way::Outward,
+            outcome: Outcome::Destroyed,
+            bytes: some_bytes()?,
+            enclosed: two_ends()?,
+        })
+    }
+
+    #[test]
+    fn a_copied_call_is_that_call(rt: HostRuntime) -> Result<(), Fail> {
+        let (on, way) = (end(3, Side::A), Way::Inward);
+        let bytes = some_bytes()?;
+        for call in [
+            Call::Make,
+            Call::Destroy { on },
+            send()?,
+            Call::Receive { on },
+            Call::Cancel { on, way },
+            Call::Wait,
+            Call::Print { bytes },
+            Call::Exit,
+        ] {
+            assert!(rt; same_text(rt.alloc(), &call.copy(), &call)?, "{call:?}");
+        }
+        Ok(())
+    }
+
+    #[test]
+    fn a_copied_answer_is_that_answer(rt: HostRuntime) -> Result<(), Fail> {
+        for answer in [
+            Answer::Ok,
+            Answer::Made(end(1, Side::A), end(1, Side::B)),
+            Answer::Reported(report()?),
+            Answer::Refused(Cause::EncloseSame),
+        ] {
+            assert!(rt;
+                same_text(rt.alloc(), &answer.copy(), &answer)?,
+                "{answer:?}"
+            );
+        }
+        Ok(())
+    }
+
+    fn steps() -> Result<[ServiceStep; 16], Fail> {
+        let (p, n, dead, late) = (Pid(1), 2, true, true);
+        let (on, a, b) = (end(5, Side::B), end(6, Side::A), end(6, Side::B));
+        Ok([
+            ServiceStep::Make { p, a, b },
+            ServiceStep::Refuse {
+                p,
+                call: send()?,
+                cause: Cause::Busy,
+            },
+            ServiceStep::Destroy { on },
+            ServiceStep::Send {
+                on,
+                n,
+                bytes: some_bytes()?,
+                enclose: two_ends()?,
+            },
+            ServiceStep::Receive { on },
+            ServiceStep::Cancel {
+                on,
+                way: Way::Inward,
+            },
+            ServiceStep::Wait { p },
+            ServiceStep::Report {
+                p,
+                report: report()?,
+            },
+            ServiceStep::Exit { p },
+            ServiceStep::Match { on, n },
+            ServiceStep::Take { on, n, p, late },
+            ServiceStep::Complete { on, n },
+            ServiceStep::Withdraw { on },
+            ServiceStep::Free { on },
+            ServiceStep::Notice { on, dead },
+            ServiceStep::Back { on, n, dead },
+        ])
+    }
+
+    #[test]
+    fn a_copied_step_is_that_step(rt: HostRuntime) -> Result<(), Fail> {
+        for step in steps()? {
+            assert!(rt; same_text(rt.alloc(), &step.copy(), &step)?, "{step:?}");
+        }
+        Ok(())
     }
 }

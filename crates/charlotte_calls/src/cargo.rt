@@ -1,4 +1,4 @@
-ghost use Rattle.std.specs.Prelude.{◌≡◌, ◌<◌, [], ◌∷◌, ◌++◌, length};
+ghost use Rattle.std.specs.Prelude.{◌≡◌, ◌<◌, ◌↔◌, [], ◌∷◌, ◌++◌, length, IsNone};
 ghost use Rattle.std.specs.List.{list_all};
 ghost use Rattle.std.specs.Option.{option_to_list};
 
@@ -45,7 +45,8 @@ impl Cargo {
 
     /// Takes out the first value; `None` exactly where there is none.
     pub fn next(&mut self) -> Option<Moving>
-        ensures { self.old ≡ option_to_list result ++ self.new }
+        ensures first { self.old ≡ option_to_list result ++ self.new }
+        ensures none { IsNone result ↔ (self.old ≡ []) }
     {
         if self.values.is_empty() {
             return None;
@@ -88,5 +89,54 @@ impl Cargo {
     /// Spends every value.
     pub(crate) fn spend(self) {
         let Cargo { values: _ } = self;
+    }
+}
+
+#[cfg(test)]
+mod tests {
+    use super::*;
+    use crate::{LinkId, Side};
+
+    #[test]
+    fn values_come_out_as_they_went_in(rt: HostRuntime) {
+        let (a, b) = Moving::pair(LinkId { maker: 1, count: 2 }, 3, 4);
+        let mut cargo = Cargo::empty();
+        assert_eq!(rt; cargo.len(), 0);
+        cargo.add(b);
+        cargo.add(a);
+        assert_eq!(rt; cargo.len(), 2);
+        let sides = [Side::B, Side::A];
+        for (value, side) in cargo.picture().as_slice().iter().zip(&sides) {
+            assert_eq!(rt; value.end.side, *side);
+        }
+        for side in sides {
+            let value = cargo.next();
+            assert!(rt; matches!(&value, Some(value) if value.end().side == side));
+            spent(value);
+        }
+        let none = cargo.next();
+        assert!(rt; none.is_none());
+        spent(none);
+        cargo.close();
+    }
+
+    #[test]
+    fn eight_values_go_in(rt: HostRuntime) {
+        let mut cargo = Cargo::empty();
+        for count in 0..4 {
+            let (a, b) = Moving::pair(LinkId { maker: 0, count }, 0, 7);
+            cargo.add(a);
+            cargo.add(b);
+        }
+        assert_eq!(rt; cargo.len(), 8);
+        assert!(rt; cargo.addressed(8));
+        assert!(rt; !cargo.addressed(7));
+        cargo.spend();
+    }
+
+    fn spent(value: Option<Moving>) {
+        if let Some(value) = value {
+            value.destroy();
+        }
     }
 }

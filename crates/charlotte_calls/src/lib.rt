@@ -10,6 +10,11 @@ mod moving;
 mod names;
 mod packet;
 mod picture;
+mod program;
+#[cfg(test)]
+mod program_tests;
+#[cfg(test)]
+mod samples;
 mod setting;
 mod short;
 mod work;
@@ -23,6 +28,7 @@ pub use moving::Moving;
 pub use names::{EndId, LinkId, Outcome, Pid, Side, Way};
 pub use packet::{Packet, What};
 pub use picture::{CargoPicture, MovingPicture, Picture, PictureWhat};
+pub use program::{Next, Program};
 pub use setting::Setting;
 pub use short::Short;
 pub use work::{Effect, Room, Work};

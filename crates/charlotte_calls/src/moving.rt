@@ -212,3 +212,72 @@ impl Moving {
         self.fields.trail = trail;
     }
 }
+
+#[cfg(test)]
+mod tests {
+    use super::*;
+
+    const LINK: LinkId = LinkId {
+        maker: 4,
+        count: 123,
+    };
+
+    #[test]
+    fn a_pair_is_new_and_hints_to_the_other_kernel(rt: HostRuntime) {
+        let (a, b) = Moving::pair(LINK, 2, 5);
+        for (value, side, at) in [(&a, Side::A, 5), (&b, Side::B, 2)] {
+            assert_eq!(rt; value.end(), EndId { link: LINK, side });
+            assert_eq!(rt; value.hint(), (at, 0));
+            assert_eq!(rt; value.hops(), 0);
+            assert_eq!(rt;
+                (value.sent(), value.asked(), value.served(), value.want()),
+                (0, 0, 0, 0)
+            );
+            assert_eq!(rt; (value.dead(), value.trail()), (false, 0));
+        }
+        a.destroy();
+        b.destroy();
+    }
+
+    #[test]
+    fn what_was_set_is_read_and_left_in_the_mark(rt: HostRuntime) {
+        let (mut value, other) = Moving::pair(LINK, 0, 0);
+        other.destroy();
+        value.set_hops(1);
+        value.set_hint((2, 3));
+        value.set_sent(4);
+        value.set_asked(5);
+        value.set_served(6);
+        value.set_want(7);
+        value.set_dead(true);
+        value.set_trail(8);
+        let set = MovingPicture {
+            end: EndId {
+                link: LINK,
+                side: Side::A,
+            },
+            hops: 1,
+            hint: (2, 3),
+            sent: 4,
+            asked: 5,
+            served: 6,
+            want: 7,
+            dead: true,
+            trail: 8,
+        };
+        assert_eq!(rt; value.picture(), set);
+        let mut mark = value.destroy();
+        assert_eq!(rt; mark.picture(), set);
+        assert_eq!(rt;
+            (mark.end(), mark.hops(), mark.hint()),
+            (set.end, 1, (2, 3))
+        );
+        assert_eq!(rt;
+            (mark.sent(), mark.asked(), mark.served(), mark.want()),
+            (4, 5, 6, 7)
+        );
+        assert_eq!(rt; (mark.dead(), mark.trail()), (true, 8));
+        mark.set_hint((9, 10));
+        assert_eq!(rt; mark.hint(), (9, 10));
+    }
+}

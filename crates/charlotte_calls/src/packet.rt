@@ -257,3 +257,188 @@ impl Packet {
         }
     }
 }
+
+#[cfg(test)]
+mod tests {
+    use super::*;
+    use crate::samples::same_text;
+    use crate::{LinkId, Moving, Side};
+    use std::test::Fail;
+
+    const TO: EndId = EndId {
+        link: LinkId { maker: 1, count: 2 },
+        side: Side::B,
+    };
+
+    /// A value whose hint names kernel 0 and then one with this hint and trail.
+    fn cargo(hint: u8, trail: u8) -> Cargo {
+        let (first, mut second) = Moving::pair(TO.link, 0, 0);
+        second.set_hint((hint, 0));
+        second.set_trail(trail);
+        let mut cargo = Cargo::empty();
+        cargo.add(first);
+        cargo.add(second);
+        cargo
+    }
+
+    fn bytes() -> Result<Bytes, Fail> {
+        Ok(Bytes::from_slice(b"hi").ok_or("bytes")?)
+    }
+
+    fn packet(what: What) -> Packet {
+        Packet { stamp: 9, what }
+    }
+
+    /// One packet of each kind that names a kernel, this one.
+    fn naming(at: u8) -> Result<[Packet; 8], Fail> {
+        let (to, w, n, hops) = (TO, 1, 2, 3);
+        let bytes = bytes()?;
+        Ok([
+            packet(What::Want { to, w, at, hops }),
+            packet(What::Unwant { to, w, at, hops }),
+            packet(What::Unwanted { to, w, at, hops }),
+            packet(What::Parcel {
+                to,
+                n,
+                w,
+                at,
+                hops,
+                bytes,
+                moving: Cargo::empty(),
+            }),
+            packet(What::Taken { to, n, at, hops }),
+            packet(What::Back {
+                to,
+                n,
+                moving: cargo(at, 0),
+            }),
+            packet(What::Gone { to, at }),
+            packet(What::Moved { to, at, hops }),
+        ])
+    }
+
+    #[test]
+    fn a_packet_names_a_kernel_that_is_there(rt: HostRuntime) -> Result<(), Fail> {
+        for (at, kernels, want) in [(0, 1, true), (0, 0, false), (7, 8, true), (7, 7, false)] {
+            for packet in naming(at)? {
+                assert_eq!(rt;
+                    packet.addressed(kernels),
+                    want,
+                    "{at} {kernels} {packet:?}"
+                );
+            }
+        }
+        Ok(())
+    }
+
+    /// One packet of each kind that names no kernel.
+    fn naming_none() -> [Packet; 3] {
+        let (to, hops) = (TO, 3);
+        [
+            packet(What::Known { to, hops }),
+            packet(What::Forget { to, hops }),
+            packet(What::GoneSeen { to }),
+        ]
+    }
+
+    #[test]
+    fn some_packets_name_no_kernel(rt: HostRuntime) {
+        for packet in naming_none() {
+            assert!(rt; packet.addressed(0));
+        }
+    }
+
+    /// A packet without values and its picture are printed alike, since their fields have the same names.
+    #[test]
+    fn a_picture_has_the_fields_of_its_packet(rt: HostRuntime) -> Result<(), Fail> {
+        for packet in naming_none().iter().chain(naming(4)?.iter()) {
+            let picture = packet.picture();
+            assert_eq!(rt; picture.stamp, 9);
+            let copied = picture.copy();
+            assert!(rt; same_text(rt.alloc(), &copied, &picture)?, "{packet:?}");
+            if let PictureWhat::Parcel { .. } | PictureWhat::Back { .. } = picture.what {
+                continue;
+            }
+            assert!(rt;
+                same_text(rt.alloc(), &picture.what, &packet.what)?,
+                "{packet:?}"
+            );
+        }
+        Ok(())
+    }
+
+    #[test]
+    fn a_picture_has_the_values_of_its_packet(rt: HostRuntime) -> Result<(), Fail> {
+        let parcel = packet(What::Parcel {
+            to: TO,
+            n: 1,
+            w: 2,
+            at: 3,
+            hops: 4,
+            bytes: bytes()?,
+            moving: cargo(5, 6),
+        });
+        let PictureWhat::Parcel {
+            to,
+            n,
+            w,
+            at,
+            hops,
+            bytes,
+            moving,
+        } = parcel.picture().what
+        else {
+            return Err("another kind".into());
+        };
+        assert_eq!(rt; (to, n, w, at, hops), (TO, 1, 2, 3, 4));
+        assert_eq!(rt; bytes.as_slice(), b"hi".as_slice());
+        let values = moving.as_slice();
+        assert_eq!(rt; values.len(), 2);
+        assert_eq!(rt; (values[0].end, values[0].hint), (TO.opposite(), (0, 0)));
+        assert_eq!(rt;
+            (values[1].end, values[1].hint, values[1].trail),
+            (TO, (5, 0), 6)
+        );
+        Ok(())
+    }
+
+    #[test]
+    fn an_open_packet_gives_what_it_tells(rt: HostRuntime) {
+        let (stamp, what) = packet(What::GoneSeen { to: TO }).open();
+        assert_eq!(rt; stamp, 9);
+        let back = Packet { stamp: 1, what };
+        assert!(rt; matches!(&back.what, What::GoneSeen { to } if *to == TO));
+    }
+
+    #[test]
+    fn values_name_their_hints_and_trails(rt: HostRuntime) -> Result<(), Fail> {
+        let table = [
+            (0, 0, 1, true),
+            (2, 0, 2, false),
+            (2, 0, 3, true),
+            (0, 4, 2, false),
+            (0, 4, 3, true),
+            (0, 128, 7, false),
+            (7, 255, 8, true),
+        ];
+        for (hint, trail, kernels, want) in table {
+            let back = packet(What::Back {
+                to: TO,
+                n: 1,
+                moving: cargo(hint, trail),
+            });
+            assert_eq!(rt; back.addressed(kernels), want, "{hint} {trail} {kernels}");
+            let parcel = packet(What::Parcel {
+                to: TO,
+                n: 1,
+                w: 1,
+                at: 0,
+                hops: 0,
+                bytes: bytes()?,
+                moving: cargo(hint, trail),
+            });
+            assert_eq!(rt; parcel.addressed(kernels), want, "{hint} {trail} {kernels}");
+        }
+        Ok(())
+    }
+}

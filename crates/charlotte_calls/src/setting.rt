@@ -50,3 +50,71 @@ fn wires_are_there(processes: usize, wires: &[(Pid, Pid)]) -> bool
 {
     wires.iter().all(|wire| usize::from(wire.0.0) < processes && usize::from(wire.1.0) < processes)
 }
+
+#[cfg(test)]
+mod tests {
+    use super::*;
+    use std::alloc::Global;
+    use std::test::Fail;
+
+    /// This many processes on kernel 0, and this many wires from process 0 to itself.
+    fn setting(
+        alloc: Global,
+        version: u8,
+        kernels: u8,
+        processes: usize,
+        wires: usize,
+    ) -> Result<Setting, Fail> {
+        let mut homes = Vec::new(alloc);
+        homes.resize(processes, 0)?;
+        let mut joined = Vec::new(alloc);
+        joined.resize(wires, (Pid(0), Pid(0)))?;
+        Ok(Setting {
+            version,
+            kernels,
+            homes: Items::of(homes),
+            wires: Items::of(joined),
+        })
+    }
+
+    #[test]
+    fn limits_of_settings(rt: HostRuntime) -> Result<(), Fail> {
+        let table = [
+            (0, 1, 1, 1, false),
+            (1, 1, 0, 0, true),
+            (1, 1, 1, 1, true),
+            (2, 8, 64, 4096, true),
+            (3, 1, 1, 1, false),
+            (1, 0, 0, 0, false),
+            (1, 9, 1, 1, false),
+            (1, 8, 65, 1, false),
+            (1, 8, 1, 4097, false),
+            (1, 1, 0, 1, false),
+        ];
+        for (version, kernels, processes, wires, want) in table {
+            let valid = setting(rt.alloc(), version, kernels, processes, wires)?.valid();
+            assert_eq!(rt; valid, want, "{version} {kernels} {processes} {wires}");
+        }
+        Ok(())
+    }
+
+    #[test]
+    fn homes_and_wires_name_what_is_there(rt: HostRuntime) -> Result<(), Fail> {
+        let table = [
+            (1, 1, 1, true),
+            (2, 1, 1, false),
+            (1, 2, 1, false),
+            (1, 1, 2, false),
+        ];
+        for (home, first, second, want) in table {
+            let setting = Setting {
+                version: 1,
+                kernels: 2,
+                homes: Items::of(vec![in rt.alloc(); 0, home]?),
+                wires: Items::of(vec![in rt.alloc(); (Pid(0), Pid(1)), (Pid(first), Pid(second))]?),
+            };
+            assert_eq!(rt; setting.valid(), want, "{home} {first} {second}");
+        }
+        Ok(())
+    }
+}

@@ -58,3 +58,67 @@ impl<T, const CAP: usize> Short<T, CAP> {
         self.items.as_slice()
     }
 }
+
+#[cfg(test)]
+mod tests {
+    use crate::{Bytes, CargoPicture, EndId, Ends, LinkId, MovingPicture, Side};
+    use std::test::Fail;
+
+    /// 0, 1, 2 and so on, and 0 once more after 255.
+    fn counted() -> [u8; 257] {
+        let mut bytes = [0; 257];
+        for (byte, number) in bytes.iter_mut().zip(0..=255) {
+            *byte = number;
+        }
+        bytes
+    }
+
+    #[test]
+    fn bytes_are_at_most_256(rt: HostRuntime) -> Result<(), Fail> {
+        let all = counted();
+        for (count, fits) in [(0, true), (1, true), (255, true), (256, true), (257, false)] {
+            let some = all.get(..count).ok_or("a longer slice")?;
+            let bytes = Bytes::from_slice(some);
+            assert_eq!(rt; bytes.is_some(), fits, "{count} bytes");
+            if let Some(bytes) = bytes {
+                assert_eq!(rt; bytes.as_slice(), some, "{count} bytes");
+                assert_eq!(rt; bytes.copy().as_slice(), some, "{count} bytes");
+            }
+        }
+        Ok(())
+    }
+
+    fn ninth() -> EndId {
+        EndId {
+            link: LinkId { maker: 1, count: 9 },
+            side: Side::B,
+        }
+    }
+
+    #[test]
+    fn ends_are_at_most_eight(rt: HostRuntime) -> Result<(), Fail> {
+        let mut all = [EndId::default(); 9];
+        all[7] = ninth();
+        for (count, fits) in [(0, true), (1, true), (7, true), (8, true), (9, false)] {
+            let some = all.get(..count).ok_or("a longer slice")?;
+            let ends = Ends::from_slice(some);
+            assert_eq!(rt; ends.is_some(), fits, "{count} ends");
+            if let Some(ends) = ends {
+                assert_eq!(rt; ends.as_slice(), some, "{count} ends");
+                assert_eq!(rt; ends.copy().as_slice(), some, "{count} ends");
+            }
+        }
+        Ok(())
+    }
+
+    #[test]
+    fn pictures_of_values_are_at_most_eight(rt: HostRuntime) -> Result<(), Fail> {
+        let mut all = [MovingPicture::default(); 9];
+        all[7].end = ninth();
+        assert!(rt; CargoPicture::from_slice(&all).is_none());
+        let eight = CargoPicture::from_slice(&all[..8]).ok_or("eight")?;
+        assert_eq!(rt; eight.as_slice(), &all[..8]);
+        assert_eq!(rt; eight.copy().as_slice(), &all[..8]);
+        Ok(())
+    }
+}
