@@ -1,0 +1,12 @@
+//! Trees of LYNX modules: tokens are parsed into the one tree of the grammar, and a tree is printed.
+#![tactic(auto)]
+
+mod declaration;
+mod expression;
+mod module;
+mod statement;
+
+pub use declaration::{EntryDecl, OpDecl, TypeName, VarDecl};
+pub use expression::{Expr, TermSign};
+pub use module::Module;
+pub use statement::{Handler, Stmt};
