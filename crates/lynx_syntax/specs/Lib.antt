@@ -1,3 +1,4 @@
 pub mod Faults
 pub mod Grammar
+pub mod Printing
 pub mod Trees
