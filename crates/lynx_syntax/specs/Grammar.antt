@@ -81,6 +81,11 @@ abbrev mutual
   term_marks d trees.no_terms = []
   term_marks d (trees.more_terms sign e rest) = term_sign d sign ∷ (expr_marks d e ++ term_marks d rest)
 
+-- an index in its brackets
+abbrev pub index_marks : ℕ → ExprTree → List Mark
+index_marks d index = mark (suc d) signs.OpenRow ∷ (expr_marks (suc d) index ++ mark (suc d) signs.CloseRow ∷ [])
+
+-- values with commas in brackets
 abbrev pub exprs_marks : ℕ → ExprTrees → List Mark
 exprs_marks d values = bracketed d (chain_marks (suc d) (mark (suc d) signs.Comma) values)
 

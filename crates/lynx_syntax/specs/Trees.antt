@@ -134,6 +134,15 @@ abbrev pub expr_list : List expr.Expr → ExprTrees
 expr_list [] = no_exprs
 expr_list (e ∷ es) = more_exprs (expr_tree e) (expr_list es)
 
+-- the members of a sum or a term
+abbrev pub sum_list : List (Sign × expr.Expr) → SumTail
+sum_list [] = no_sums
+sum_list (m ∷ ms) = more_sums m.0 (expr_tree m.1) (sum_list ms)
+
+abbrev pub term_list : List (TermSign × expr.Expr) → TermTail
+term_list [] = no_terms
+term_list (m ∷ ms) = more_terms m.0 (expr_tree m.1) (term_list ms)
+
 -- an assignment, with its index where it has one
 abbrev pub assign_tree : List ℕ → Option expr.Expr → expr.Expr → StmtTree
 assign_tree name None value = Assign name (expr_tree value)

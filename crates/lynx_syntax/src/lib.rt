@@ -4,6 +4,7 @@
 mod declaration;
 mod expression;
 mod module;
+mod print_expression;
 mod print_token;
 mod statement;
 
