@@ -1,5 +1,5 @@
 -- The grammar: which list of tokens each tree has, with the nesting at each token.
-use Rattle.std.specs.Prelude.{◌≡◌, ℕ, zero, suc, ◌≤◌, List, [], ◌∷◌, ◌++◌, map, ⊤, ◌⊎◌}
+use Rattle.std.specs.Prelude.{◌≡◌, ℕ, zero, suc, ◌≤◌, List, [], ◌∷◌, ◌++◌, map, ⊤, Option, None, Some}
 use Rattle.std.specs.List.{flat_map, AllByRecursion}
 use Rattle.lynx_lexer.specs.declared.keyword.Keyword.{Keyword}
 use Rattle.lynx_lexer.specs.declared.keyword.Keyword.TheVariants as keywords
@@ -223,6 +223,20 @@ abbrev mutual
   pub AreHandlers : HandlerTrees → Type 0
   AreHandlers trees.no_handlers = ⊤
   AreHandlers (trees.more_handlers n body rest) = AreStmts body × AreHandlers rest
+
+-- what is assigned to: a variable or a member of a row
+abbrev pub target_marks : ℕ → List ℕ → Option ExprTree → List Mark
+target_marks d n None = name d n ∷ []
+target_marks d n (Some index) = name d n ∷ index_marks d index
+
+-- the other side of a choice, if it has one, and its end
+abbrev pub else_marks : ℕ → Option StmtTrees → List Mark
+else_marks d None = word d keywords.End ∷ []
+else_marks d (Some otherwise) = word d keywords.Else ∷ (stmts_marks d otherwise ++ word d keywords.End ∷ [])
+
+-- an accept up to its body
+abbrev pub accept_marks : ℕ → List ℕ → List ℕ → List (List ℕ) → List Mark
+accept_marks d op link names = word d keywords.Accept ∷ name d op ∷ word d keywords.On ∷ name d link ∷ (names_marks d names ++ word d keywords.Do ∷ [])
 
 -- ---- declarations, which stand in no bracket and no statement
 

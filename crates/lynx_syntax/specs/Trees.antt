@@ -7,6 +7,8 @@ use Rattle.lynx_syntax.specs.declared.declaration.OpDecl.{OpDecl}
 use Rattle.lynx_syntax.specs.declared.declaration.VarDecl.{VarDecl}
 use Rattle.lynx_syntax.specs.declared.declaration.EntryDecl.{EntryDecl}
 use Rattle.lynx_syntax.specs.declared.module.Module.{Module}
+use Rattle.lynx_syntax.specs.declared.statement.Handler.{Handler}
+use Rattle.std.specs.Global.{Vec}
 use Rattle.lynx_syntax.specs.declared.expression.Expr as expr
 use Rattle.lynx_syntax.specs.declared.statement.Stmt as stmt
 
@@ -182,6 +184,21 @@ abbrev mutual
 abbrev pub stmt_list : List stmt.Stmt → StmtTrees
 stmt_list [] = no_stmts
 stmt_list (s ∷ ss) = more_stmts (stmt_tree s) (stmt_list ss)
+
+-- the other side of a choice
+abbrev pub else_list : Option (Vec stmt.Stmt) → Option StmtTrees
+else_list None = None
+else_list (Some otherwise) = Some (stmt_list otherwise.items)
+
+-- the trees of a list of handlers
+abbrev pub handler_list : List Handler → HandlerTrees
+handler_list [] = no_handlers
+handler_list (h ∷ hs) = more_handlers h.name (stmt_list h.body.items) (handler_list hs)
+
+-- the tree of an index
+abbrev pub index_tree : Option expr.Expr → Option ExprTree
+index_tree None = None
+index_tree (Some index) = Some (expr_tree index)
 
 abbrev pub op_tree : OpDecl → OpTree
 op_tree op = record { name = op.name; arguments = op.arguments.items; results = op.results.items }

@@ -5,6 +5,8 @@ mod declaration;
 mod expression;
 mod module;
 mod print_expression;
+mod print_list;
+mod print_statement;
 mod print_token;
 mod statement;
 
