@@ -60,3 +60,7 @@ bracketed_printed d inside o a b new first second third =
 pub text_of_comma : (d : ℕ) → token_text (mark d signs.Comma).kind ≡ codes "," ++ 32 ∷ []
 unfolding token_text
 text_of_comma d = refl
+
+-- what the items of a slice print, those of its vector print
+pub along : {X : Type 0} (f : List X → List Mark) (xs ys : List X) (old new : List ℕ) → xs ≡ ys → Prints old new (f xs) → Prints old new (f ys)
+along {X = X} f xs ys old new e h = subst (λ (zs : List X). Prints old new (f zs)) e h

@@ -31,7 +31,7 @@ fn push_target(out: &mut Vec<u8>, name: &Ident, index: &Option<Expr>) -> Result<
 
 /// Adds a keyword and a name.
 #[tactic(auto, using(crate::proofs::Texts::texts))]
-fn push_named(out: &mut Vec<u8>, keyword: Keyword, ident: &Ident) -> Result<(), NoMemory>
+pub fn push_named(out: &mut Vec<u8>, keyword: Keyword, ident: &Ident) -> Result<(), NoMemory>
     ensures { (d : ℕ) → OnOk result (Prints out.old.items out.new.items (word d keyword ∷ name d ident.now ∷ [])) }
 {
     push_keyword(out, keyword)?;
@@ -41,7 +41,7 @@ fn push_named(out: &mut Vec<u8>, keyword: Keyword, ident: &Ident) -> Result<(), 
 
 /// Adds two names, each behind its keyword.
 #[tactic(auto, using(crate::proofs::Texts::texts))]
-fn push_two(
+pub fn push_two(
     out: &mut Vec<u8>,
     keyword: Keyword,
     first: &Ident,
