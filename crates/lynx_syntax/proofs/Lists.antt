@@ -38,7 +38,7 @@ pub commas_end : {X : Type 0} (d : ℕ) (f : X → List Mark) (xs rest : List X)
 commas_end {X = X} d f xs rest first i old o last are le begun whole =
     let others : List Mark = flat_map (behind_comma d f) rest in
     let all : text_of (commas d (map f xs)) ≡ text_of (f first) ++ text_of others =
-      ap (λ (ys : List X). text_of (commas d (map f ys))) are ∙ ap (λ (ms : List Mark). text_of (f first ++ ms)) (flat_map-map (λ next. mark d signs.Comma ∷ next) f rest) ∙ text_of-append (f first) others in
+    ap (λ (ys : List X). text_of (commas d (map f ys))) are ∙ ap (λ (ms : List Mark). text_of (f first ++ ms)) (flat_map-map (λ next. mark d signs.Comma ∷ next) f rest) ∙ text_of-append (f first) others in
     each_end (behind_comma d f) rest i o last le whole ∙ ap (λ (y : List ℕ). y ++ text_of others) begun ∙ append_assoc old (text_of (f first)) (text_of others) ∙ ap (λ (y : List ℕ). old ++ y) (sym all)
 
 -- ---- single tokens and brackets
@@ -51,7 +51,7 @@ bracketed_printed d inside o a b new first second third =
     let open_text : List ℕ = token_text (mark (suc d) signs.Open).kind in
     let close_text : List ℕ = token_text (mark (suc d) signs.Close).kind in
     let whole : text_of (bracketed d inside) ≡ open_text ++ (text_of inside ++ close_text) =
-      ap (λ (y : List ℕ). open_text ++ y) (text_of-append inside (mark (suc d) signs.Close ∷ []) ∙ ap (λ (y : List ℕ). text_of inside ++ y) (append-nil close_text)) in
+    ap (λ (y : List ℕ). open_text ++ y) (text_of-append inside (mark (suc d) signs.Close ∷ []) ∙ ap (λ (y : List ℕ). text_of inside ++ y) (append-nil close_text)) in
     third ∙ ap (λ (y : List ℕ). y ++ close_text) (second ∙ ap (λ (y : List ℕ). y ++ text_of inside) first) ∙ regrouped o open_text (text_of inside) close_text ∙ ap (λ (y : List ℕ). o ++ y) (sym whole)
   where
     regrouped : (o b e t : List ℕ) → ((o ++ b) ++ e) ++ t ≡ o ++ (b ++ (e ++ t))

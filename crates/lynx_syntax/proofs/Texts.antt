@@ -62,7 +62,7 @@ chain_step rest i x d t between o o' o'' start lt is spelled first second before
     let here : List Mark = expr_marks d (expr_tree x) in
     let left : List Mark = behind_marks d t (expr_list (drop (i + 1) rest)) in
     let split : text_of (behind_marks d t (expr_list (drop i rest))) ≡ token_text t.kind ++ (text_of here ++ text_of left) =
-      ap (λ (xs : List expr.Expr). text_of (behind_marks d t (expr_list xs))) (at_place rest i x lt is) ∙ ap (λ (y : List ℕ). token_text t.kind ++ y) (text_of-append here left) in
+    ap (λ (xs : List expr.Expr). text_of (behind_marks d t (expr_list xs))) (at_place rest i x lt is) ∙ ap (λ (y : List ℕ). token_text t.kind ++ y) (text_of-append here left) in
     let grown : o'' ≡ (o ++ token_text t.kind) ++ text_of here = second ∙ ap (λ (y : List ℕ). y ++ text_of here) (first ∙ ap (λ (y : List ℕ). o ++ y) (sym spelled)) in
     ap (λ (y : List ℕ). y ++ text_of left) grown ∙ regroup o (token_text t.kind) (text_of here) (text_of left) ∙ ap (λ (y : List ℕ). o ++ y) (sym split) ∙ before
 
@@ -73,7 +73,7 @@ sum_step ms i m d o o' o'' start lt is first second before =
     let left : List Mark = sum_marks d (sum_list (drop (i + 1) ms)) in
     let sign : List ℕ = token_text (kinds.Sign m.0) in
     let split : text_of (sum_marks d (sum_list (drop i ms))) ≡ sign ++ (text_of here ++ text_of left) =
-      ap (λ (xs : List (Sign × expr.Expr)). text_of (sum_marks d (sum_list xs))) (at_place ms i m lt is) ∙ ap (λ (y : List ℕ). sign ++ y) (text_of-append here left) in
+    ap (λ (xs : List (Sign × expr.Expr)). text_of (sum_marks d (sum_list xs))) (at_place ms i m lt is) ∙ ap (λ (y : List ℕ). sign ++ y) (text_of-append here left) in
     let grown : o'' ≡ (o ++ sign) ++ text_of here = second ∙ ap (λ (y : List ℕ). y ++ text_of here) first in
     ap (λ (y : List ℕ). y ++ text_of left) grown ∙ regroup o sign (text_of here) (text_of left) ∙ ap (λ (y : List ℕ). o ++ y) (sym split) ∙ before
 
@@ -84,7 +84,7 @@ term_step ms i m d o o' o'' start lt is first second before =
     let left : List Mark = term_marks d (term_list (drop (i + 1) ms)) in
     let sign : List ℕ = token_text (term_sign d m.0).kind in
     let split : text_of (term_marks d (term_list (drop i ms))) ≡ sign ++ (text_of here ++ text_of left) =
-      ap (λ (xs : List (TermSign × expr.Expr)). text_of (term_marks d (term_list xs))) (at_place ms i m lt is) ∙ ap (λ (y : List ℕ). sign ++ y) (text_of-append here left) in
+    ap (λ (xs : List (TermSign × expr.Expr)). text_of (term_marks d (term_list xs))) (at_place ms i m lt is) ∙ ap (λ (y : List ℕ). sign ++ y) (text_of-append here left) in
     let grown : o'' ≡ (o ++ sign) ++ text_of here = second ∙ ap (λ (y : List ℕ). y ++ text_of here) (first ∙ ap (λ (y : List ℕ). o ++ y) (append-nil sign)) in
     ap (λ (y : List ℕ). y ++ text_of left) grown ∙ regroup o sign (text_of here) (text_of left) ∙ ap (λ (y : List ℕ). o ++ y) (sym split) ∙ before
 
@@ -94,9 +94,9 @@ chain_end members rest first i d t old o last are le begun whole =
     let here : List Mark = expr_marks d (expr_tree first) in
     let others : List Mark = behind_marks d t (expr_list rest) in
     let done : last ++ text_of (behind_marks d t (expr_list (drop i rest))) ≡ last =
-      ap (λ (xs : List expr.Expr). last ++ text_of (behind_marks d t (expr_list xs))) (drop_all i rest le) ∙ append-nil last in
+    ap (λ (xs : List expr.Expr). last ++ text_of (behind_marks d t (expr_list xs))) (drop_all i rest le) ∙ append-nil last in
     let all : text_of (chain_marks d t (expr_list members)) ≡ text_of here ++ text_of others =
-      ap (λ (xs : List expr.Expr). text_of (chain_marks d t (expr_list xs))) are ∙ text_of-append here others in
+    ap (λ (xs : List expr.Expr). text_of (chain_marks d t (expr_list xs))) are ∙ text_of-append here others in
     sym done ∙ whole ∙ ap (λ (y : List ℕ). y ++ text_of others) begun ∙ append_assoc old (text_of here) (text_of others) ∙ ap (λ (y : List ℕ). old ++ y) (sym all)
 
 -- ---- what printing the parts of an expression says of it
@@ -113,14 +113,14 @@ pub or_printed : (e : expr.Expr) (v : Vec expr.Expr) (items : List expr.Expr) (d
     → OnOk r (Prints old new (chain_marks d (word d keywords.Or) (expr_list items))) → OnOk r (Prints old new (expr_marks d (expr_tree e)))
 or_printed e v items d r old new is are h =
     let same : expr_marks d (expr_tree e) ≡ chain_marks d (word d keywords.Or) (expr_list items) =
-      ap (λ (x : expr.Expr). expr_marks d (expr_tree x)) is ∙ ap (expr_marks d) (expr_tree-Or v) ∙ ap (λ (xs : List expr.Expr). chain_marks d (word d keywords.Or) (expr_list xs)) (sym are) in
+    ap (λ (x : expr.Expr). expr_marks d (expr_tree x)) is ∙ ap (expr_marks d) (expr_tree-Or v) ∙ ap (λ (xs : List expr.Expr). chain_marks d (word d keywords.Or) (expr_list xs)) (sym are) in
     subst (λ (ms : List Mark). OnOk r (Prints old new ms)) (sym same) h
 
 pub and_printed : (e : expr.Expr) (v : Vec expr.Expr) (items : List expr.Expr) (d : ℕ) (r : Result (Unit {0}) NoMemory) (old new : List ℕ) → e ≡ expr.And v → items ≡ v.items
     → OnOk r (Prints old new (chain_marks d (word d keywords.And) (expr_list items))) → OnOk r (Prints old new (expr_marks d (expr_tree e)))
 and_printed e v items d r old new is are h =
     let same : expr_marks d (expr_tree e) ≡ chain_marks d (word d keywords.And) (expr_list items) =
-      ap (λ (x : expr.Expr). expr_marks d (expr_tree x)) is ∙ ap (expr_marks d) (expr_tree-And v) ∙ ap (λ (xs : List expr.Expr). chain_marks d (word d keywords.And) (expr_list xs)) (sym are) in
+    ap (λ (x : expr.Expr). expr_marks d (expr_tree x)) is ∙ ap (expr_marks d) (expr_tree-And v) ∙ ap (λ (xs : List expr.Expr). chain_marks d (word d keywords.And) (expr_list xs)) (sym are) in
     subst (λ (ms : List Mark). OnOk r (Prints old new ms)) (sym same) h
 
 two_parts : (a b : List Mark) (old mid new : List ℕ) → Prints old mid a → Prints mid new b → Prints old new (a ++ b)
@@ -130,12 +130,12 @@ pub sum_printed : (e x : expr.Expr) (first : Box expr.Expr) (v : Vec (Sign × ex
     → Prints old mid (expr_marks d (expr_tree x)) → Prints mid new (sum_marks d (sum_list items)) → Prints old new (expr_marks d (expr_tree e))
 sum_printed e x first v items d old mid new is head are h g =
     let same : expr_marks d (expr_tree e) ≡ expr_marks d (expr_tree x) ++ sum_marks d (sum_list items) =
-      ap (λ (y : expr.Expr). expr_marks d (expr_tree y)) is ∙ ap (expr_marks d) (expr_tree-Sum first v) ∙ (λ i. expr_marks d (expr_tree (sym head i)) ++ sum_marks d (sum_list (sym are i))) in
+    ap (λ (y : expr.Expr). expr_marks d (expr_tree y)) is ∙ ap (expr_marks d) (expr_tree-Sum first v) ∙ (λ i. expr_marks d (expr_tree (sym head i)) ++ sum_marks d (sum_list (sym are i))) in
     subst (λ (ms : List Mark). Prints old new ms) (sym same) (two_parts (expr_marks d (expr_tree x)) (sum_marks d (sum_list items)) old mid new h g)
 
 pub term_printed : (e x : expr.Expr) (first : Box expr.Expr) (v : Vec (TermSign × expr.Expr)) (items : List (TermSign × expr.Expr)) (d : ℕ) (old mid new : List ℕ) → e ≡ expr.Term first v → x ≡ first.value → items ≡ v.items
     → Prints old mid (expr_marks d (expr_tree x)) → Prints mid new (term_marks d (term_list items)) → Prints old new (expr_marks d (expr_tree e))
 term_printed e x first v items d old mid new is head are h g =
     let same : expr_marks d (expr_tree e) ≡ expr_marks d (expr_tree x) ++ term_marks d (term_list items) =
-      ap (λ (y : expr.Expr). expr_marks d (expr_tree y)) is ∙ ap (expr_marks d) (expr_tree-Term first v) ∙ (λ i. expr_marks d (expr_tree (sym head i)) ++ term_marks d (term_list (sym are i))) in
+    ap (λ (y : expr.Expr). expr_marks d (expr_tree y)) is ∙ ap (expr_marks d) (expr_tree-Term first v) ∙ (λ i. expr_marks d (expr_tree (sym head i)) ++ term_marks d (term_list (sym are i))) in
     subst (λ (ms : List Mark). Prints old new ms) (sym same) (two_parts (expr_marks d (expr_tree x)) (term_marks d (term_list items)) old mid new h g)

@@ -6,7 +6,9 @@ ghost use Rattle.lynx_syntax.specs.Trees.{expr_tree, expr_list, sum_list, term_l
 ghost use Rattle.lynx_syntax.specs.Printing.{Prints, token_text};
 
 use crate::expression::{Expr, TermSign};
-use crate::print_token::{push_keyword, push_name, push_number, push_sign, push_spelling, push_text};
+use crate::print_token::{
+    push_keyword, push_name, push_number, push_sign, push_spelling, push_text,
+};
 use lynx_lexer::{Keyword, NoMemory, Sign};
 
 /// Adds an expression.

@@ -80,7 +80,12 @@ fn push_new(out: &mut Vec<u8>, first: &Ident, second: &Ident) -> Result<(), NoMe
 
 /// Adds a value between two keywords.
 #[tactic(auto, using(crate::proofs::Texts::texts))]
-fn push_test(out: &mut Vec<u8>, first: Keyword, value: &Expr, second: Keyword) -> Result<(), NoMemory>
+fn push_test(
+    out: &mut Vec<u8>,
+    first: Keyword,
+    value: &Expr,
+    second: Keyword,
+) -> Result<(), NoMemory>
     ensures { (d : ℕ) → OnOk result (Prints out.old.items out.new.items (word d first ∷ (expr_marks d (expr_tree value.now) ++ word d second ∷ []))) }
 {
     push_keyword(out, first)?;
@@ -123,12 +128,7 @@ fn push_connect(
 }
 
 /// Adds the first line of an accept.
-fn push_accept(
-    out: &mut Vec<u8>,
-    op: &Ident,
-    link: &Ident,
-    names: &[Ident],
-) -> Result<(), NoMemory>
+fn push_accept(out: &mut Vec<u8>, op: &Ident, link: &Ident, names: &[Ident]) -> Result<(), NoMemory>
     ensures { (d : ℕ) → OnOk result (Prints out.old.items out.new.items (accept_marks d op.now link.now names.now)) }
 {
     push_two(out, Keyword::Accept, op, Keyword::On, link)?;

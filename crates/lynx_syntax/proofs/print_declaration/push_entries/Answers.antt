@@ -12,4 +12,4 @@ loop-entry-preserved c =
 pub returns : goal.returns
 returns c =
     each_end (λ x. entry_marks (entry_tree x)) c.args.entries.now c.loop-entry.entry-index c.args.out.now.items c.loop-entry.out.items (omega arith) c.loop-entry.invariant
-      ∙ ap (λ (ms : List Mark). c.args.out.now.items ++ text_of ms) (sym (flat_map-map entry_marks entry_tree c.args.entries.now))
+    ∙ ap (λ (ms : List Mark). c.args.out.now.items ++ text_of ms) (sym (flat_map-map entry_marks entry_tree c.args.entries.now))

@@ -12,4 +12,4 @@ loop-op-preserved c =
 pub returns : goal.returns
 returns c =
     each_end (λ x. op_marks (op_tree x)) c.args.ops.now c.loop-op.op-index c.args.out.now.items c.loop-op.out.items (omega arith) c.loop-op.invariant
-      ∙ ap (λ (ms : List Mark). c.args.out.now.items ++ text_of ms) (sym (flat_map-map op_marks op_tree c.args.ops.now))
+    ∙ ap (λ (ms : List Mark). c.args.out.now.items ++ text_of ms) (sym (flat_map-map op_marks op_tree c.args.ops.now))

@@ -12,5 +12,5 @@ use Rattle.lynx_syntax.proofs.print_declaration.push_var.Goals as goal
 pub returns : goal.returns
 returns c =
     two (word 0 c.args.keyword ∷ name 0 c.args.var.now.name ∷ []) (mark 0 signs.Colon ∷ (type_marks 0 c.args.var.now.kind ++ mark 0 signs.Semicolon ∷ [])) _ c.push_named.new.out.items _ (c.in_ok-push_named.ensures 0)
-      (one_then (mark 0 signs.Colon) (type_marks 0 c.args.var.now.kind ++ mark 0 signs.Semicolon ∷ []) _ c.push_sign.new.out.items _ c.in_ok-push_sign.ensures
-        (two (type_marks 0 c.args.var.now.kind) (mark 0 signs.Semicolon ∷ []) _ c.push_type.new.out.items _ (c.in_ok-push_type.ensures 0) (one_more (mark 0 signs.Semicolon) _ _ c.in_ok-push_sign-2.ensures)))
+    (one_then (mark 0 signs.Colon) (type_marks 0 c.args.var.now.kind ++ mark 0 signs.Semicolon ∷ []) _ c.push_sign.new.out.items _ c.in_ok-push_sign.ensures
+    (two (type_marks 0 c.args.var.now.kind) (mark 0 signs.Semicolon ∷ []) _ c.push_type.new.out.items _ (c.in_ok-push_type.ensures 0) (one_more (mark 0 signs.Semicolon) _ _ c.in_ok-push_sign-2.ensures)))

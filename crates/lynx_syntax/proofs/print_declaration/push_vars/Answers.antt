@@ -12,4 +12,4 @@ loop-var-preserved c =
 pub returns : goal.returns
 returns c =
     each_end (λ x. var_marks c.args.keyword (var_tree x)) c.args.vars.now c.loop-var.var-index c.args.out.now.items c.loop-var.out.items (omega arith) c.loop-var.invariant
-      ∙ ap (λ (ms : List Mark). c.args.out.now.items ++ text_of ms) (sym (flat_map-map (var_marks c.args.keyword) var_tree c.args.vars.now))
+    ∙ ap (λ (ms : List Mark). c.args.out.now.items ++ text_of ms) (sym (flat_map-map (var_marks c.args.keyword) var_tree c.args.vars.now))

@@ -13,8 +13,8 @@ use Rattle.lynx_syntax.proofs.print_statement.+print_statement.Goals as goal
 pub push_stmts-loop-stmt-preserved : goal.push_stmts-loop-stmt-preserved
 push_stmts-loop-stmt-preserved t c d =
     each_step (stmt_here d) c.args.stmts.now c.loop-stmt.stmt-index c.stmt-item.result c.loop-stmt.out.items c.push_sign.new.out.items _ (omega arith) c.stmt-item.is
-      (two (stmt_marks (suc d) (stmt_tree c.stmt-item.result)) (mark d signs.Semicolon ∷ []) c.loop-stmt.out.items c.push_stmt.new.out.items c.push_sign.new.out.items (c.in_ok-push_stmt.ensures (suc d)) (one_more (mark d signs.Semicolon) _ _ c.in_ok-push_sign.ensures))
-      (c.loop-stmt.invariant d)
+    (two (stmt_marks (suc d) (stmt_tree c.stmt-item.result)) (mark d signs.Semicolon ∷ []) c.loop-stmt.out.items c.push_stmt.new.out.items c.push_sign.new.out.items (c.in_ok-push_stmt.ensures (suc d)) (one_more (mark d signs.Semicolon) _ _ c.in_ok-push_sign.ensures))
+    (c.loop-stmt.invariant d)
 
 pub push_stmts-returns : goal.push_stmts-returns
 push_stmts-returns t c d =
@@ -23,9 +23,9 @@ push_stmts-returns t c d =
 pub push_handlers-loop-handler-preserved : goal.push_handlers-loop-handler-preserved
 push_handlers-loop-handler-preserved t c d =
     each_step (handler_here d) c.args.handlers.now c.loop-handler.handler-index c.handler-item.result c.loop-handler.out.items c.push_stmts.new.out.items _ (omega arith) c.handler-item.is
-      (two (word d keywords.When ∷ name d c.handler-item.result.name ∷ []) (word d keywords.Do ∷ stmts_marks d (stmt_list c.handler-item.result.body.items)) _ c.push_named.new.out.items _ (c.in_ok-push_named.ensures d)
-        (one_then (word d keywords.Do) _ _ c.push_keyword.new.out.items _ c.in_ok-push_keyword.ensures (of_list d _ _ _ _ c.deref.ensures.value (c.in_ok-push_stmts.ensures d))))
-      (c.loop-handler.invariant d)
+    (two (word d keywords.When ∷ name d c.handler-item.result.name ∷ []) (word d keywords.Do ∷ stmts_marks d (stmt_list c.handler-item.result.body.items)) _ c.push_named.new.out.items _ (c.in_ok-push_named.ensures d)
+    (one_then (word d keywords.Do) _ _ c.push_keyword.new.out.items _ c.in_ok-push_keyword.ensures (of_list d _ _ _ _ c.deref.ensures.value (c.in_ok-push_stmts.ensures d))))
+    (c.loop-handler.invariant d)
 
 pub push_handlers-returns : goal.push_handlers-returns
 push_handlers-returns t c d =
@@ -34,7 +34,7 @@ push_handlers-returns t c d =
 pub push_stmt-returns-in-Assign : goal.push_stmt-returns-in-Assign
 push_stmt-returns-in-Assign t c d =
     as_marks c.args.stmt.now d (target_marks d c.in-Assign.name (index_tree c.in-Assign.index) ++ mark d signs.Becomes ∷ expr_marks d (expr_tree c.in-Assign.value)) c.push_assign.result _ _
-      (ap (λ (s : stmt.Stmt). stmt_marks d (stmt_tree s)) c.in-Assign.is ∙ assign_marks d c.in-Assign.name c.in-Assign.index c.in-Assign.value) (c.push_assign.ensures d)
+    (ap (λ (s : stmt.Stmt). stmt_marks d (stmt_tree s)) c.in-Assign.is ∙ assign_marks d c.in-Assign.name c.in-Assign.index c.in-Assign.value) (c.push_assign.ensures d)
 
 pub push_stmt-returns-in-Raise : goal.push_stmt-returns-in-Raise
 push_stmt-returns-in-Raise t c d = as_marks c.args.stmt.now d (word d keywords.Raise ∷ name d c.in-Raise.name ∷ []) c.push_named.result _ _ (ap (λ (s : stmt.Stmt). stmt_marks d (stmt_tree s)) c.in-Raise.is) (c.push_named.ensures d)
@@ -59,19 +59,19 @@ pub push_stmt-returns-in_ok-push_stmts-in-While : goal.push_stmt-returns-in_ok-p
 push_stmt-returns-in_ok-push_stmts-in-While t c d =
     let head : List Mark = word d keywords.While ∷ (expr_marks d (expr_tree c.in-While.condition) ++ word d keywords.Do ∷ []) in
     as_marks c.args.stmt.now d (head ++ (stmts_marks d (stmt_list c.in-While.body.items) ++ word d keywords.End ∷ [])) c.push_keyword-in-While.result _ _
-      (ap (λ (s : stmt.Stmt). stmt_marks d (stmt_tree s)) c.in-While.is ∙ ap (stmt_marks d) (while_tree c.in-While.condition c.in-While.body) ∙ head_first (word d keywords.While) (expr_marks d (expr_tree c.in-While.condition)) (word d keywords.Do) _)
-      (three head (stmts_marks d (stmt_list c.in-While.body.items)) (word d keywords.End ∷ []) c.push_keyword-in-While.result _ c.push_test-in-While.new.out.items c.push_stmts-in-While.new.out.items _
-        (c.in_ok-push_test-in-While.ensures d) (of_list d _ _ _ _ c.deref-in-While.ensures.value (c.in_ok-push_stmts-in-While.ensures d)) (ended d c.push_keyword-in-While.result _ _ c.push_keyword-in-While.ensures))
+    (ap (λ (s : stmt.Stmt). stmt_marks d (stmt_tree s)) c.in-While.is ∙ ap (stmt_marks d) (while_tree c.in-While.condition c.in-While.body) ∙ head_first (word d keywords.While) (expr_marks d (expr_tree c.in-While.condition)) (word d keywords.Do) _)
+    (three head (stmts_marks d (stmt_list c.in-While.body.items)) (word d keywords.End ∷ []) c.push_keyword-in-While.result _ c.push_test-in-While.new.out.items c.push_stmts-in-While.new.out.items _
+    (c.in_ok-push_test-in-While.ensures d) (of_list d _ _ _ _ c.deref-in-While.ensures.value (c.in_ok-push_stmts-in-While.ensures d)) (ended d c.push_keyword-in-While.result _ _ c.push_keyword-in-While.ensures))
 
 pub push_stmt-returns-in-None : goal.push_stmt-returns-in-None
 push_stmt-returns-in-None t c d =
     let head : List Mark = word d keywords.If ∷ (expr_marks d (expr_tree c.in-If.condition) ++ word d keywords.Then ∷ []) in
     let body : List Mark = stmts_marks d (stmt_list c.in-If.then.items) in
     as_marks c.args.stmt.now d (head ++ (body ++ word d keywords.End ∷ [])) c.push_keyword.result _ _
-      (ap (λ (s : stmt.Stmt). stmt_marks d (stmt_tree s)) c.in-If.is ∙ choice_marks d c.in-If.condition c.in-If.then c.in-If.otherwise
-        ∙ head_first (word d keywords.If) (expr_marks d (expr_tree c.in-If.condition)) (word d keywords.Then) _ ∙ ap (λ (o : Option (Vec stmt.Stmt)). head ++ (body ++ else_marks d (else_list o))) c.in-None.is)
-      (three head body (word d keywords.End ∷ []) c.push_keyword.result _ c.push_test.new.out.items c.push_stmts.new.out.items _
-        (c.in_ok-push_test-in-If.ensures d) (of_list d _ _ _ _ c.deref.ensures.value (c.in_ok-push_stmts-in-If.ensures d)) (ended d c.push_keyword.result _ _ c.push_keyword.ensures))
+    (ap (λ (s : stmt.Stmt). stmt_marks d (stmt_tree s)) c.in-If.is ∙ choice_marks d c.in-If.condition c.in-If.then c.in-If.otherwise
+    ∙ head_first (word d keywords.If) (expr_marks d (expr_tree c.in-If.condition)) (word d keywords.Then) _ ∙ ap (λ (o : Option (Vec stmt.Stmt)). head ++ (body ++ else_marks d (else_list o))) c.in-None.is)
+    (three head body (word d keywords.End ∷ []) c.push_keyword.result _ c.push_test.new.out.items c.push_stmts.new.out.items _
+    (c.in_ok-push_test-in-If.ensures d) (of_list d _ _ _ _ c.deref.ensures.value (c.in_ok-push_stmts-in-If.ensures d)) (ended d c.push_keyword.result _ _ c.push_keyword.ensures))
 
 pub push_stmt-returns-in_ok-push_stmts-in-Some : goal.push_stmt-returns-in_ok-push_stmts-in-Some
 push_stmt-returns-in_ok-push_stmts-in-Some t c d =
@@ -79,30 +79,30 @@ push_stmt-returns-in_ok-push_stmts-in-Some t c d =
     let body : List Mark = stmts_marks d (stmt_list c.in-If.then.items) in
     let other : List Mark = stmts_marks d (stmt_list c.in-Some.otherwise.items) in
     as_marks c.args.stmt.now d (head ++ (body ++ word d keywords.Else ∷ (other ++ word d keywords.End ∷ []))) c.push_keyword-in-Some-2.result _ _
-      (ap (λ (s : stmt.Stmt). stmt_marks d (stmt_tree s)) c.in-If.is ∙ choice_marks d c.in-If.condition c.in-If.then c.in-If.otherwise
-        ∙ head_first (word d keywords.If) (expr_marks d (expr_tree c.in-If.condition)) (word d keywords.Then) _ ∙ ap (λ (o : Option (Vec stmt.Stmt)). head ++ (body ++ else_marks d (else_list o))) c.in-Some.is)
-      (three head body (word d keywords.Else ∷ (other ++ word d keywords.End ∷ [])) c.push_keyword-in-Some-2.result _ c.push_test.new.out.items c.push_stmts.new.out.items _
-        (c.in_ok-push_test-in-If.ensures d) (of_list d _ _ _ _ c.deref.ensures.value (c.in_ok-push_stmts-in-If.ensures d))
-        (three (word d keywords.Else ∷ []) other (word d keywords.End ∷ []) c.push_keyword-in-Some-2.result _ c.push_keyword-in-Some.new.out.items c.push_stmts-in-Some.new.out.items _
-          (one_more (word d keywords.Else) _ _ c.in_ok-push_keyword-in-Some.ensures) (of_list d _ _ _ _ c.deref-in-Some.ensures.value (c.in_ok-push_stmts-in-Some.ensures d)) (ended d c.push_keyword-in-Some-2.result _ _ c.push_keyword-in-Some-2.ensures)))
+    (ap (λ (s : stmt.Stmt). stmt_marks d (stmt_tree s)) c.in-If.is ∙ choice_marks d c.in-If.condition c.in-If.then c.in-If.otherwise
+    ∙ head_first (word d keywords.If) (expr_marks d (expr_tree c.in-If.condition)) (word d keywords.Then) _ ∙ ap (λ (o : Option (Vec stmt.Stmt)). head ++ (body ++ else_marks d (else_list o))) c.in-Some.is)
+    (three head body (word d keywords.Else ∷ (other ++ word d keywords.End ∷ [])) c.push_keyword-in-Some-2.result _ c.push_test.new.out.items c.push_stmts.new.out.items _
+    (c.in_ok-push_test-in-If.ensures d) (of_list d _ _ _ _ c.deref.ensures.value (c.in_ok-push_stmts-in-If.ensures d))
+    (three (word d keywords.Else ∷ []) other (word d keywords.End ∷ []) c.push_keyword-in-Some-2.result _ c.push_keyword-in-Some.new.out.items c.push_stmts-in-Some.new.out.items _
+    (one_more (word d keywords.Else) _ _ c.in_ok-push_keyword-in-Some.ensures) (of_list d _ _ _ _ c.deref-in-Some.ensures.value (c.in_ok-push_stmts-in-Some.ensures d)) (ended d c.push_keyword-in-Some-2.result _ _ c.push_keyword-in-Some-2.ensures)))
 
 pub push_stmt-returns-in_ok-push_stmts-in-Accept : goal.push_stmt-returns-in_ok-push_stmts-in-Accept
 push_stmt-returns-in_ok-push_stmts-in-Accept t c d =
     let head : List Mark = accept_marks d c.in-Accept.op c.in-Accept.link c.in-Accept.names.items in
     let body : List Mark = stmts_marks d (stmt_list c.in-Accept.body.items) in
     as_marks c.args.stmt.now d (head ++ (body ++ word d keywords.End ∷ [])) c.push_keyword-in-Accept.result _ _
-      (ap (λ (s : stmt.Stmt). stmt_marks d (stmt_tree s)) c.in-Accept.is ∙ ap (stmt_marks d) (accept_tree c.in-Accept.op c.in-Accept.link c.in-Accept.names c.in-Accept.body) ∙ accept_first d c.in-Accept.op c.in-Accept.link c.in-Accept.names.items _)
-      (three head body (word d keywords.End ∷ []) c.push_keyword-in-Accept.result _ c.push_accept.new.out.items c.push_stmts-in-Accept.new.out.items _
-        (accept_of_list d _ _ _ _ _ _ c.deref-in-Accept.ensures.value (c.in_ok-push_accept-in-Accept.ensures d)) (of_list d _ _ _ _ c.deref-in-Accept-2.ensures.value (c.in_ok-push_stmts-in-Accept.ensures d))
-        (ended d c.push_keyword-in-Accept.result _ _ c.push_keyword-in-Accept.ensures))
+    (ap (λ (s : stmt.Stmt). stmt_marks d (stmt_tree s)) c.in-Accept.is ∙ ap (stmt_marks d) (accept_tree c.in-Accept.op c.in-Accept.link c.in-Accept.names c.in-Accept.body) ∙ accept_first d c.in-Accept.op c.in-Accept.link c.in-Accept.names.items _)
+    (three head body (word d keywords.End ∷ []) c.push_keyword-in-Accept.result _ c.push_accept.new.out.items c.push_stmts-in-Accept.new.out.items _
+    (accept_of_list d _ _ _ _ _ _ c.deref-in-Accept.ensures.value (c.in_ok-push_accept-in-Accept.ensures d)) (of_list d _ _ _ _ c.deref-in-Accept-2.ensures.value (c.in_ok-push_stmts-in-Accept.ensures d))
+    (ended d c.push_keyword-in-Accept.result _ _ c.push_keyword-in-Accept.ensures))
 
 pub push_stmt-returns-in_ok-push_handlers-in-Try : goal.push_stmt-returns-in_ok-push_handlers-in-Try
 push_stmt-returns-in_ok-push_handlers-in-Try t c d =
     let body : List Mark = stmts_marks d (stmt_list c.in-Try.body.items) in
     let others : List Mark = handlers_marks d (handler_list c.in-Try.handlers.items) in
     as_marks c.args.stmt.now d ((word d keywords.Try ∷ []) ++ (body ++ (others ++ word d keywords.End ∷ []))) c.push_keyword-in-Try-2.result _ _
-      (ap (λ (s : stmt.Stmt). stmt_marks d (stmt_tree s)) c.in-Try.is ∙ ap (stmt_marks d) (try_tree c.in-Try.body c.in-Try.handlers))
-      (three (word d keywords.Try ∷ []) body (others ++ word d keywords.End ∷ []) c.push_keyword-in-Try-2.result _ c.push_keyword-in-Try.new.out.items c.push_stmts-in-Try.new.out.items _
-        (one_more (word d keywords.Try) _ _ c.in_ok-push_keyword-in-Try.ensures) (of_list d _ _ _ _ c.deref-in-Try.ensures.value (c.in_ok-push_stmts-in-Try.ensures d))
-        (on_ok others (word d keywords.End ∷ []) c.push_keyword-in-Try-2.result _ c.push_handlers.new.out.items _
-          (handlers_of_list d _ _ _ _ c.deref-in-Try-2.ensures.value (c.in_ok-push_handlers-in-Try.ensures d)) (ended d c.push_keyword-in-Try-2.result _ _ c.push_keyword-in-Try-2.ensures)))
+    (ap (λ (s : stmt.Stmt). stmt_marks d (stmt_tree s)) c.in-Try.is ∙ ap (stmt_marks d) (try_tree c.in-Try.body c.in-Try.handlers))
+    (three (word d keywords.Try ∷ []) body (others ++ word d keywords.End ∷ []) c.push_keyword-in-Try-2.result _ c.push_keyword-in-Try.new.out.items c.push_stmts-in-Try.new.out.items _
+    (one_more (word d keywords.Try) _ _ c.in_ok-push_keyword-in-Try.ensures) (of_list d _ _ _ _ c.deref-in-Try.ensures.value (c.in_ok-push_stmts-in-Try.ensures d))
+    (on_ok others (word d keywords.End ∷ []) c.push_keyword-in-Try-2.result _ c.push_handlers.new.out.items _
+    (handlers_of_list d _ _ _ _ c.deref-in-Try-2.ensures.value (c.in_ok-push_handlers-in-Try.ensures d)) (ended d c.push_keyword-in-Try-2.result _ _ c.push_keyword-in-Try-2.ensures)))

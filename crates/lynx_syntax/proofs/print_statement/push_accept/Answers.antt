@@ -8,4 +8,4 @@ use Rattle.lynx_syntax.proofs.print_statement.push_accept.Goals as goal
 pub returns : goal.returns
 returns c d =
     two (word d keywords.Accept ∷ name d c.args.op.now ∷ word d keywords.On ∷ name d c.args.link.now ∷ []) (names_marks d c.args.names.now ++ word d keywords.Do ∷ []) _ c.push_two.new.out.items _ (c.in_ok-push_two.ensures d)
-      (two (names_marks d c.args.names.now) (word d keywords.Do ∷ []) _ c.push_names.new.out.items _ (c.in_ok-push_names.ensures d) (one_more (word d keywords.Do) _ _ c.in_ok-push_keyword.ensures))
+    (two (names_marks d c.args.names.now) (word d keywords.Do ∷ []) _ c.push_names.new.out.items _ (c.in_ok-push_names.ensures d) (one_more (word d keywords.Do) _ _ c.in_ok-push_keyword.ensures))

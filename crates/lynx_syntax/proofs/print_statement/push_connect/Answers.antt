@@ -9,5 +9,5 @@ use Rattle.lynx_syntax.proofs.print_statement.push_connect.Goals as goal
 pub returns : goal.returns
 returns c d =
     two (word d keywords.Connect ∷ name d c.args.op.now ∷ word d keywords.On ∷ name d c.args.link.now ∷ []) (exprs_marks d (expr_list c.args.values.now) ++ mark d signs.Colon ∷ names_marks d c.args.results.now) _ c.push_two.new.out.items _ (c.in_ok-push_two.ensures d)
-      (two (exprs_marks d (expr_list c.args.values.now)) (mark d signs.Colon ∷ names_marks d c.args.results.now) _ c.push_exprs.new.out.items _ (c.in_ok-push_exprs.ensures d)
-        (one_then (mark d signs.Colon) (names_marks d c.args.results.now) _ c.push_sign.new.out.items _ c.in_ok-push_sign.ensures (c.in_ok-push_names.ensures d)))
+    (two (exprs_marks d (expr_list c.args.values.now)) (mark d signs.Colon ∷ names_marks d c.args.results.now) _ c.push_exprs.new.out.items _ (c.in_ok-push_exprs.ensures d)
+    (one_then (mark d signs.Colon) (names_marks d c.args.results.now) _ c.push_sign.new.out.items _ c.in_ok-push_sign.ensures (c.in_ok-push_names.ensures d)))
