@@ -1,23 +1,22 @@
 -- A token that a blank or a line feed follows is the longest at its place.
-use Rattle.std.proofs.Common.{◌≡◌, ◌≢◌, ℕ, ◌+◌, ◌*◌, ◌-◌, ◌^◌, ◌<◌, ◌≤◌, ◌⊎◌, ◌&&◌, Bool, true, false, eqb, List, [], ◌∷◌, ◌++◌, length, pos, ℤ, Option, Some, None, refl, sym, ap, subst, ◌∙◌, arith, inl, inr, rules}
+use Rattle.std.proofs.Common.{◌≡◌, ℕ, ◌+◌, ◌*◌, ◌-◌, ◌^◌, ◌<◌, ◌≤◌, true, false, eqb, List, [], ◌∷◌, ◌++◌, length, pos, refl, sym, ap, subst, ◌∙◌, arith, rules}
 use Rattle.std.specs.List.{list_all, fold}
-use Rattle.std.specs.Fmt.{decimal as written, signed_decimal}
+use Rattle.std.specs.Fmt.{decimal as written}
 use Rattle.std.proofs.lemmas.Bool.{false≢true}
 use Rattle.std.proofs.lemmas.Bool.Decides.{nat_tests}
-use Rattle.std.proofs.lemmas.Str.Parse.{IsNumeralModel, numerals_by_fold, IsDigitsTest, FoldsDigits}
+use Rattle.std.proofs.lemmas.Str.Parse.{IsNumeralModel, numerals_by_fold}
 use Rattle.std.proofs.lemmas.Fmt.{digits_decimal, digits_value-decimal, decimal_is_IsNumeral}
 use Rattle.lynx_lexer.specs.Bytes.{class_of}
-use Rattle.lynx_lexer.specs.Words.{word_of, sign_of}
-use Rattle.lynx_lexer.specs.Pieces.{IsToken, IsLongest, IsDigits, goes_on_name, is_name_byte, is_digit, decimal}
-use Rattle.lynx_lexer.specs.declared.class.Class.{Class}
-use Rattle.lynx_lexer.specs.declared.class.Class.TheVariants.{Blank, Letter, Digit, Underscore, Quote, Other}
+use Rattle.lynx_lexer.specs.Words.{sign_of}
+use Rattle.lynx_lexer.specs.Pieces.{IsToken, IsLongest, IsDigits, goes_on_name, is_digit, decimal}
+use Rattle.lynx_lexer.specs.declared.class.Class.TheVariants.{Blank, Letter, Digit, Underscore, Other}
 use Rattle.lynx_lexer.specs.declared.sign.Sign.{Sign}
 use Rattle.lynx_lexer.specs.declared.sign.Sign.TheVariants as signs
 use Rattle.lynx_lexer.specs.declared.token.Kind.{Kind}
 use Rattle.lynx_lexer.specs.declared.token.Kind.TheVariants as kinds
 use Rattle.lynx_lexer.proofs.WordLemmas.{first_class, first_class-word_of, first_class-sign_of}
 use Rattle.lynx_lexer.proofs.Runs.{all_head, all_tail}
-use Rattle.lynx_lexer.proofs.Longest.{longest_word, longest_number, longest_text, longest_sign, length-sign_of-le}
+use Rattle.lynx_lexer.proofs.Longest.{longest_word, longest_number, longest_text, longest_sign}
 
 no_digit : (b : ℕ) → class_of b ≡ Blank → is_digit b ≡ false
 unfolding class_of

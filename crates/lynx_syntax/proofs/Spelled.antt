@@ -1,10 +1,10 @@
 -- The text of tokens is spelled by them.
-use Rattle.std.proofs.Common.{◌≡◌, ℕ, ◌+◌, ◌<◌, ◌≤◌, ◌^◌, Bool, true, false, cond, ltb, List, [], ◌∷◌, ◌++◌, length, map, pos, ℤ, Option, Some, None, refl, sym, ap, subst, ◌∙◌, append_assoc, arith, inl, inr}
+use Rattle.std.proofs.Common.{◌≡◌, ℕ, ◌+◌, ◌<◌, ◌^◌, List, [], ◌∷◌, ◌++◌, length, map, pos, ℤ, Some, None, refl, sym, ap, subst, ◌∙◌, append_assoc, arith, inl, inr}
 use Rattle.std.specs.List.{AllByRecursion}
 use Rattle.std.proofs.lemmas.Bool.{cases_lt, lt-ltb}
 use Rattle.std.proofs.lemmas.List.{append-nil}
 use Rattle.lynx_lexer.specs.Bytes.{class_of}
-use Rattle.lynx_lexer.specs.Pieces.{IsPiece, IsToken, IsLongest, limit_passed, decimal}
+use Rattle.lynx_lexer.specs.Pieces.{IsToken, limit_passed, decimal}
 use Rattle.lynx_lexer.specs.Source.{Piece, text_of as pieces_text, AreLongest, tokens_of, Spell, AreWithinLimits}
 use Rattle.lynx_lexer.specs.declared.class.Class.TheVariants.{Blank}
 use Rattle.lynx_lexer.specs.declared.sign.Sign.{Sign}

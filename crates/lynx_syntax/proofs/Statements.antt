@@ -1,5 +1,5 @@
 -- Trees of the statements in a vector, and what printing the parts of a statement says of it.
-use Rattle.std.proofs.Common.{◌≡◌, ℕ, suc, ◌+◌, ◌<◌, ◌≤◌, List, [], ◌∷◌, ◌++◌, length, drop, get_or, Option, Some, None, Result, Ok, Err, refl, sym, ap, subst, ◌∙◌, append_assoc, rules}
+use Rattle.std.proofs.Common.{◌≡◌, ℕ, suc, List, [], ◌∷◌, ◌++◌, Option, Some, None, Result, Ok, Err, refl, sym, ap, subst, ◌∙◌, append_assoc, rules}
 use Rattle.std.specs.Prelude.{OnOk}
 use Rattle.std.specs.Global.{Vec}
 use Rattle.std.specs.List.{flat_map}

@@ -1,7 +1,6 @@
 -- The text of a list of tokens.
-use Rattle.std.specs.Prelude.{◌≡◌, ℕ, List, [], ◌∷◌, ◌++◌, map, None}
+use Rattle.std.specs.Prelude.{◌≡◌, ℕ, List, [], ◌∷◌, ◌++◌, None}
 use Rattle.std.specs.Fmt.{signed_decimal}
-use Rattle.std.specs.List.{AllByRecursion}
 use Rattle.lynx_lexer.specs.Words.{word_of, sign_of}
 use Rattle.lynx_lexer.specs.Pieces.{IsToken, limit_passed}
 use Rattle.lynx_lexer.specs.declared.sign.Sign.{Sign}

@@ -1,11 +1,8 @@
-use Rattle.std.proofs.Common.{◌++◌, [], ◌∷◌, List, refl, ap}
-use Rattle.std.specs.List.{flat_map}
-use Rattle.std.proofs.Common.{map}
+use Rattle.std.proofs.Common.{◌++◌, [], ◌∷◌}
 use Rattle.lynx_lexer.specs.declared.keyword.Keyword.TheVariants as keywords
-use Rattle.lynx_lexer.specs.declared.sign.Sign.TheVariants as signs
-use Rattle.lynx_syntax.specs.Trees.{op_tree, var_tree, entry_tree, stmt_list}
-use Rattle.lynx_syntax.specs.Grammar.{Mark, word, mark, name, types_marks, type_marks, names_marks, vars_marks, var_marks, op_marks, entry_marks, stmts_marks}
-use Rattle.lynx_syntax.proofs.Lists.{one_more, along}
+use Rattle.lynx_syntax.specs.Trees.{stmt_list}
+use Rattle.lynx_syntax.specs.Grammar.{word, mark, stmts_marks}
+use Rattle.lynx_syntax.proofs.Lists.{one_more}
 use Rattle.lynx_syntax.proofs.Statements.{two, one_then}
 use Rattle.lynx_syntax.proofs.print_declaration.push_body.Goals as goal
 

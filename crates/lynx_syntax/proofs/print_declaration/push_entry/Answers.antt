@@ -1,12 +1,11 @@
-use Rattle.std.proofs.Common.{◌++◌, [], ◌∷◌, List, refl, ap}
-use Rattle.std.specs.List.{flat_map}
+use Rattle.std.proofs.Common.{◌++◌, [], ◌∷◌, List}
 use Rattle.std.proofs.Common.{map}
 use Rattle.lynx_lexer.specs.declared.keyword.Keyword.TheVariants as keywords
 use Rattle.lynx_lexer.specs.declared.sign.Sign.TheVariants as signs
-use Rattle.lynx_syntax.specs.Trees.{op_tree, var_tree, entry_tree, stmt_list}
-use Rattle.lynx_syntax.specs.Grammar.{Mark, word, mark, name, types_marks, type_marks, names_marks, vars_marks, var_marks, op_marks, entry_marks, stmts_marks}
-use Rattle.lynx_syntax.proofs.Lists.{one_more, along}
-use Rattle.lynx_syntax.proofs.Statements.{two, one_then}
+use Rattle.lynx_syntax.specs.Trees.{var_tree, stmt_list}
+use Rattle.lynx_syntax.specs.Grammar.{Mark, word, mark, name, names_marks, vars_marks, stmts_marks}
+use Rattle.lynx_syntax.proofs.Lists.{along}
+use Rattle.lynx_syntax.proofs.Statements.{two}
 use Rattle.lynx_syntax.proofs.print_declaration.push_entry.Goals as goal
 
 pub returns : goal.returns

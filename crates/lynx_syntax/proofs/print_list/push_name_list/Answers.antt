@@ -1,5 +1,4 @@
-use Rattle.std.proofs.Common.{ℕ, List, [], ◌∷◌, ◌++◌, sym, ap, ◌∙◌, arith}
-use Rattle.std.proofs.lemmas.List.{append-nil}
+use Rattle.std.proofs.Common.{[], ◌∷◌, arith}
 use Rattle.lynx_syntax.specs.Grammar.{name}
 use Rattle.lynx_syntax.proofs.Lists.{comma_step, commas_end, one_more}
 use Rattle.lynx_syntax.proofs.print_list.push_name_list.Goals as goal

@@ -1,4 +1,4 @@
-use Rattle.std.proofs.Common.{◌≡◌, ℕ, suc, Option, List, ◌++◌, [], ◌∷◌, ap, ◌∙◌, sym, refl, arith}
+use Rattle.std.proofs.Common.{suc, Option, List, ◌++◌, [], ◌∷◌, ap, ◌∙◌, arith}
 use Rattle.lynx_lexer.specs.declared.keyword.Keyword.TheVariants as keywords
 use Rattle.lynx_lexer.specs.declared.sign.Sign.TheVariants as signs
 use Rattle.std.specs.Global.{Vec}

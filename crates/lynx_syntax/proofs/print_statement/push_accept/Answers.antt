@@ -1,4 +1,4 @@
-use Rattle.std.proofs.Common.{sym, ap, ◌∙◌, ◌++◌, List, ℕ, [], ◌∷◌}
+use Rattle.std.proofs.Common.{◌++◌, [], ◌∷◌}
 use Rattle.lynx_lexer.specs.declared.keyword.Keyword.TheVariants as keywords
 use Rattle.lynx_syntax.specs.Grammar.{word, name, names_marks}
 use Rattle.lynx_syntax.proofs.Lists.{one_more}
