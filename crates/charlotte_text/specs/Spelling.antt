@@ -1,6 +1,6 @@
 -- How scripts and transcripts spell names, bytes and calls. Each value has one spelling.
-use Rattle.std.specs.Prelude.{ℕ, List, [], ◌∷◌, ◌++◌, Bool, ◌&&◌, ◌||◌, nat_le, ◌==◌, ◌+◌, ◌/◌, ◌%◌, if◌then◌else◌, codes, decimal}
-use Rattle.std.specs.List.{flat_map}
+use Rattle.std.specs.Prelude.{ℕ, List, [], ◌∷◌, ◌++◌, Bool, ◌&&◌, ◌||◌, nat_le, ◌==◌, ◌+◌, ◌^◌, ◌<◌, ◌≤◌, length, ◌/◌, ◌%◌, if◌then◌else◌, codes, decimal}
+use Rattle.std.specs.List.{flat_map, AllByRecursion}
 use Rattle.charlotte_calls.specs.declared.names.Side.{Side}
 use Rattle.charlotte_calls.specs.declared.names.Side.TheVariants.{A, B}
 use Rattle.charlotte_calls.specs.declared.names.Way.{Way}
@@ -23,9 +23,13 @@ side_text B = codes "b"
 abbrev pub end_text : EndId → List ℕ
 end_text e = number_text e.link.maker ++ codes "." ++ number_text e.link.count ++ side_text e.side
 
--- the ends of a message, each behind a blank and a plus
+-- an end that a message encloses, as `+0.1b`
+abbrev pub plus_text : EndId → List ℕ
+plus_text e = codes "+" ++ end_text e
+
+-- the ends of a message, each behind a blank
 abbrev pub ends_text : List EndId → List ℕ
-ends_text ends = flat_map (λ e. codes " +" ++ end_text e) ends
+ends_text ends = flat_map (λ e. codes " " ++ plus_text e) ends
 
 -- a process, as `p7`
 abbrev pub process_text : Pid → List ℕ
@@ -63,3 +67,27 @@ call_text (Cancel on way) = codes "cancel " ++ end_text on ++ codes " " ++ way_t
 call_text Wait = codes "wait"
 call_text (Print bytes) = codes "print " ++ bytes_text bytes
 call_text Exit = codes "exit"
+
+-- an end whose numbers are within their types
+pub record IsEnd (e : EndId) : Type 0 where
+  pub maker : e.link.maker < 2 ^ 8
+  pub count : e.link.count < 2 ^ 32
+
+-- numbers of one byte each
+abbrev pub AreBytes : List ℕ → Type 0
+AreBytes bytes = AllByRecursion (λ b. b < 256) bytes
+
+-- how many ends a message may enclose: one in version 1, else eight
+abbrev pub most_ends : ℕ → ℕ
+most_ends version = if version == 1 then 1 else 8
+
+-- a call that a line of a version can spell
+abbrev pub IsCall : ℕ → Call → Type 0
+IsCall version Make = Unit {0}
+IsCall version (Destroy on) = IsEnd on
+IsCall version (Send on bytes enclose) = IsEnd on × AreBytes bytes × (length bytes ≤ 256) × AllByRecursion IsEnd enclose × (length enclose ≤ most_ends version)
+IsCall version (Receive on) = IsEnd on
+IsCall version (Cancel on way) = IsEnd on
+IsCall version Wait = Unit {0}
+IsCall version (Print bytes) = AreBytes bytes × (length bytes ≤ 256)
+IsCall version Exit = Unit {0}

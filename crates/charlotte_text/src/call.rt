@@ -1,9 +1,26 @@
 ghost use Rattle.std.specs.Prelude.{◌≡◌, ◌++◌, OnOk, OnErr, length, take};
-ghost use Rattle.charlotte_text.specs.Spelling.{end_text, way_text, call_text};
+ghost use Rattle.std.specs.Prelude.{option_copied, Some, IfOk};
+ghost use Rattle.charlotte_text.specs.Spelling.{end_text, way_text, call_text, IsCall};
+ghost use Rattle.charlotte_text.specs.Reading.{way_of, keyword_of, only_end_of, send_of, cancel_of, print_of, operands_of, call_of, rest_parts};
 
-use crate::name::{push_end, push_ends};
-use crate::text::push_bytes;
+use crate::fault::Fault;
+use crate::name::{push_end, push_ends, read_end, read_ends};
+use crate::part::{end_of_line, next_word};
+use crate::text::{push_bytes, read_bytes};
 use charlotte_calls::{Call, EndId, NoMemory, Way};
+
+/// The first word of a call.
+#[derive(Clone, Copy)]
+pub enum Keyword {
+    Make,
+    Destroy,
+    Send,
+    Receive,
+    Cancel,
+    Wait,
+    Print,
+    Exit,
+}
 
 /// Appends the direction of an activity, `in` or `out`.
 pub fn push_way(out: &mut Vec<u8>, way: Way) -> Result<(), NoMemory>
@@ -67,4 +84,135 @@ fn push_on(out: &mut Vec<u8>, keyword: &[u8], end: EndId) -> Result<(), NoMemory
     out.extend_from_slice(keyword)?;
     push_end(out, end)?;
     Ok(())
+}
+
+/// The call that the words spell of which this is left. A message encloses at most one end in version 1, and eight in
+/// version 2. `Long` where the form of each word is right, and a text spells more than 256 bytes.
+pub fn read_call(words: Option<&[u8]>, version: u8) -> Result<Call, Fault>
+    ensures exact { result ≡ call_of version (rest_parts 32 (option_copied words.entry)) }
+    ensures found { IfOk result (λ call. option_copied words.entry ≡ Some (call_text call)) }
+    ensures fits { IfOk result (IsCall version) }
+    ensures only { (call : Call) → IsCall version call → option_copied words.entry ≡ Some (call_text call) → result ≡ Ok call }
+{
+    parse_call(words, version)
+}
+
+#[tactic(auto, unfolding(crate::specs::Reading::call_of))]
+fn parse_call(words: Option<&[u8]>, version: u8) -> Result<Call, Fault>
+    ensures { result ≡ call_of version (rest_parts 32 (option_copied words.entry)) }
+{
+    let (word, rest) = next_word(words)?;
+    let keyword = read_keyword(word)?;
+    read_operands(keyword, rest, version)
+}
+
+#[tactic(auto, unfolding(crate::specs::Reading::keyword_of))]
+fn read_keyword(word: &[u8]) -> Result<Keyword, Fault>
+    ensures { result ≡ keyword_of word.now }
+{
+    if word == b"make".as_slice() {
+        Ok(Keyword::Make)
+    } else if word == b"destroy".as_slice() {
+        Ok(Keyword::Destroy)
+    } else if word == b"send".as_slice() {
+        Ok(Keyword::Send)
+    } else if word == b"receive".as_slice() {
+        Ok(Keyword::Receive)
+    } else if word == b"cancel".as_slice() {
+        Ok(Keyword::Cancel)
+    } else if word == b"wait".as_slice() {
+        Ok(Keyword::Wait)
+    } else if word == b"print".as_slice() {
+        Ok(Keyword::Print)
+    } else if word == b"exit".as_slice() {
+        Ok(Keyword::Exit)
+    } else {
+        Err(Fault::Form)
+    }
+}
+
+#[tactic(auto, unfolding(crate::specs::Reading::operands_of))]
+fn read_operands(keyword: Keyword, rest: Option<&[u8]>, version: u8) -> Result<Call, Fault>
+    ensures { result ≡ operands_of version keyword (rest_parts 32 (option_copied rest.entry)) }
+{
+    match keyword {
+        Keyword::Make => end_of_line(rest).map(|()| Call::Make),
+        Keyword::Destroy => Ok(Call::Destroy {
+            on: read_only_end(rest)?,
+        }),
+        Keyword::Send => read_send(rest, version),
+        Keyword::Receive => Ok(Call::Receive {
+            on: read_only_end(rest)?,
+        }),
+        Keyword::Cancel => read_cancel(rest),
+        Keyword::Wait => end_of_line(rest).map(|()| Call::Wait),
+        Keyword::Print => read_print(rest),
+        Keyword::Exit => end_of_line(rest).map(|()| Call::Exit),
+    }
+}
+
+#[tactic(auto, unfolding(crate::specs::Reading::only_end_of))]
+fn read_only_end(rest: Option<&[u8]>) -> Result<EndId, Fault>
+    ensures { result ≡ only_end_of (rest_parts 32 (option_copied rest.entry)) }
+{
+    let (end, rest) = next_word(rest)?;
+    let on = read_end(end)?;
+    end_of_line(rest)?;
+    Ok(on)
+}
+
+#[tactic(auto, unfolding(crate::specs::Reading::send_of))]
+fn read_send(rest: Option<&[u8]>, version: u8) -> Result<Call, Fault>
+    ensures { result ≡ send_of version (rest_parts 32 (option_copied rest.entry)) }
+{
+    let (end, rest) = next_word(rest)?;
+    let on = read_end(end)?;
+    let (text, rest) = next_word(rest)?;
+    let enclose = read_ends(rest, if version == 1 { 1 } else { 8 })?;
+    let bytes = read_bytes(text)?;
+    Ok(Call::Send { on, bytes, enclose })
+}
+
+#[tactic(auto, unfolding(crate::specs::Reading::cancel_of))]
+fn read_cancel(rest: Option<&[u8]>) -> Result<Call, Fault>
+    ensures { result ≡ cancel_of (rest_parts 32 (option_copied rest.entry)) }
+{
+    let (end, rest) = next_word(rest)?;
+    let on = read_end(end)?;
+    let (word, rest) = next_word(rest)?;
+    let way = parse_way(word)?;
+    end_of_line(rest)?;
+    Ok(Call::Cancel { on, way })
+}
+
+#[tactic(auto, unfolding(crate::specs::Reading::print_of))]
+fn read_print(rest: Option<&[u8]>) -> Result<Call, Fault>
+    ensures { result ≡ print_of (rest_parts 32 (option_copied rest.entry)) }
+{
+    let (text, rest) = next_word(rest)?;
+    end_of_line(rest)?;
+    let bytes = read_bytes(text)?;
+    Ok(Call::Print { bytes })
+}
+
+/// The direction that a word names, `in` or `out`.
+pub fn read_way(word: &[u8]) -> Result<Way, Fault>
+    ensures exact { result ≡ way_of word.now }
+    ensures found { IfOk result (λ way. word.now ≡ way_text way) }
+    ensures only { (way : Way) → word.now ≡ way_text way → result ≡ Ok way }
+{
+    parse_way(word)
+}
+
+#[tactic(auto, unfolding(crate::specs::Reading::way_of))]
+fn parse_way(word: &[u8]) -> Result<Way, Fault>
+    ensures { result ≡ way_of word.now }
+{
+    if word == b"in".as_slice() {
+        Ok(Way::Inward)
+    } else if word == b"out".as_slice() {
+        Ok(Way::Outward)
+    } else {
+        Err(Fault::Form)
+    }
 }

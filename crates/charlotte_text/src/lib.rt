@@ -5,11 +5,20 @@
 #![tactic(auto)]
 
 mod call;
+mod fault;
+mod law;
 mod name;
 mod number;
+mod part;
 mod text;
 
-pub use call::{push_call, push_way};
-pub use name::{push_end, push_ends, push_process};
-pub use number::push_number;
-pub use text::push_bytes;
+pub use call::{Keyword, push_call, push_way, read_call, read_way};
+pub use fault::Fault;
+pub use law::{one_call, one_end, one_string_of_bytes};
+pub use name::{push_end, push_ends, push_process, read_end, read_ends, read_process};
+pub use number::{Number, push_number, read_below, read_number};
+pub use part::{cut, end_of_line, next_word};
+pub use text::{push_bytes, read_bytes};
+
+#[cfg(test)]
+mod tests;

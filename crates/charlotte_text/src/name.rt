@@ -1,8 +1,13 @@
-ghost use Rattle.std.specs.Prelude.{◌≡◌, ◌++◌, OnOk, OnErr, length, take};
-ghost use Rattle.charlotte_text.specs.Spelling.{end_text, ends_text, process_text};
+ghost use Rattle.std.specs.Prelude.{◌≡◌, ◌≤◌, ◌<◌, ◌^◌, ◌∷◌, ◌++◌, ℕ, List, OnOk, OnErr, IfOk, length, take, map, option_copied};
+ghost use Rattle.charlotte_text.specs.Spelling.{end_text, ends_text, plus_text, process_text, IsEnd};
+ghost use Rattle.std.specs.List.{AllByRecursion};
+ghost use Rattle.charlotte_text.specs.Reading.{Gives, process_of, side_of, end_of, plus_end_of, ends_of, rest_parts};
 
-use crate::number::push_number;
-use charlotte_calls::{EndId, NoMemory, Pid, Side};
+use crate::fault::Fault;
+use crate::number::{Number, push_number, read_below, read_number};
+use crate::part::{cut, no_part};
+use arrayvec::ArrayVec;
+use charlotte_calls::{EndId, Ends, LinkId, NoMemory, Pid, Side};
 
 /// Appends an end, as `0.1b`.
 pub fn push_end(out: &mut Vec<u8>, end: EndId) -> Result<(), NoMemory>
@@ -75,4 +80,97 @@ fn push_process_parts(out: &mut Vec<u8>, process: Pid) -> Result<(), NoMemory>
     out.push(b'p')?;
     push_number(out, u64::from(process.0))?;
     Ok(())
+}
+
+/// The number of the process that a word names, as 7 of `p7`. It may be of any size.
+pub fn read_process(word: &[u8]) -> Result<Number, Fault>
+    ensures exact { result ≡ process_of word.now }
+    ensures found { (p : Pid) → result ≡ Ok (Number.Is p.0) → word.now ≡ process_text p }
+    ensures only { (p : Pid) → p.0 < 2 ^ 64 → word.now ≡ process_text p → result ≡ Ok (Number.Is p.0) }
+{
+    parse_process(word)
+}
+
+#[tactic(auto, unfolding(crate::specs::Reading::process_of))]
+fn parse_process(word: &[u8]) -> Result<Number, Fault>
+    ensures { result ≡ process_of word.now }
+{
+    match word {
+        [b'p', number @ ..] => read_number(number),
+        _ => Err(Fault::Form),
+    }
+}
+
+/// The end that a word names.
+pub fn read_end(word: &[u8]) -> Result<EndId, Fault>
+    ensures exact { result ≡ end_of word.now }
+    ensures found { IfOk result (λ e. word.now ≡ end_text e) }
+    ensures only { (e : EndId) → IsEnd e → word.now ≡ end_text e → result ≡ Ok e }
+{
+    parse_end(word)
+}
+
+#[tactic(auto, unfolding(crate::specs::Reading::end_of))]
+fn parse_end(word: &[u8]) -> Result<EndId, Fault>
+    ensures { result ≡ end_of word.now }
+{
+    let (maker, rest) = cut(b'.', word);
+    let tail = rest.ok_or(Fault::Form)?;
+    let (tail, rest) = cut(b'.', tail);
+    no_part(b'.', rest)?;
+    let (count, side) = split_side(tail)?;
+    let maker = read_below(maker, 256)? as u8;
+    let count = read_below(count, 4_294_967_296)? as u32;
+    Ok(EndId {
+        link: LinkId { maker, count },
+        side,
+    })
+}
+
+#[tactic(auto, unfolding(crate::specs::Reading::side_of))]
+fn split_side(word: &[u8]) -> Result<(&[u8], Side), Fault>
+    ensures { Gives (λ x. (x.0.now, x.1)) result (side_of word.now) }
+{
+    match word.split_last() {
+        Some((b'a', count)) => Ok((count, Side::A)),
+        Some((b'b', count)) => Ok((count, Side::B)),
+        _ => Err(Fault::Form),
+    }
+}
+
+/// The ends that the words name of which this is left, each behind a plus. `Form` where they are more than `most`.
+pub fn read_ends(words: Option<&[u8]>, most: usize) -> Result<Ends, Fault>
+    requires { most ≤ 8 }
+    ensures exact { result ≡ ends_of most (rest_parts 32 (option_copied words.entry)) }
+    ensures found { IfOk result (λ es. rest_parts 32 (option_copied words.entry) ≡ map plus_text es) }
+    ensures only { (es : List EndId) → AllByRecursion IsEnd es → length es ≤ most → rest_parts 32 (option_copied words.entry) ≡ map plus_text es → result ≡ Ok es }
+{
+    parse_ends(words, most)
+}
+
+fn parse_ends(words: Option<&[u8]>, most: usize) -> Result<Ends, Fault>
+    requires { most ≤ 8 }
+    ensures { result ≡ ends_of most (rest_parts 32 (option_copied words.entry)) }
+{
+    let mut ends = ArrayVec::<EndId, 8>::new();
+    let mut rest = words;
+    while let Some(text) = rest {
+        if most <= ends.len() {
+            return Err(Fault::Form);
+        }
+        let (word, after) = cut(b' ', text);
+        ends.push(parse_plus_end(word)?);
+        rest = after;
+    }
+    Ends::from_slice(ends.as_slice()).ok_or(Fault::Form)
+}
+
+#[tactic(auto, unfolding(crate::specs::Reading::plus_end_of))]
+fn parse_plus_end(word: &[u8]) -> Result<EndId, Fault>
+    ensures { result ≡ plus_end_of word.now }
+{
+    match word {
+        [b'+', end @ ..] => parse_end(end),
+        _ => Err(Fault::Form),
+    }
 }

@@ -1,8 +1,23 @@
-ghost use Rattle.std.specs.Prelude.{◌≡◌, ◌++◌, OnOk, OnErr};
+ghost use Rattle.std.specs.Prelude.{◌≡◌, ◌<◌, ◌^◌, ◌++◌, ℕ, OnOk, OnErr, IfOk, IsTrue};
+ghost use Rattle.std.specs.List.{list_all};
+ghost use Rattle.std.specs.Char.{is_ascii_digit};
+ghost use Rattle.std.specs.Str.Parse.{digits_value};
 ghost use Rattle.charlotte_text.specs.Spelling.{number_text};
+ghost use Rattle.charlotte_text.specs.Reading.{is_number, sized, number_of, number_below};
 
+use crate::fault::Fault;
 use charlotte_calls::NoMemory;
 use itoa::Buffer;
+use std::str::from_utf8;
+
+/// A number of a line, which may be of any size.
+#[derive(Clone, Copy, Debug, PartialEq, Eq)]
+pub enum Number {
+    /// This number.
+    Is(u64),
+    /// A number of 2 to the 64 or more.
+    Large,
+}
 
 /// Appends a decimal number without leading zeros.
 pub fn push_number(out: &mut Vec<u8>, number: u64) -> Result<(), NoMemory>
@@ -12,4 +27,73 @@ pub fn push_number(out: &mut Vec<u8>, number: u64) -> Result<(), NoMemory>
     let mut buffer = Buffer::new();
     out.extend_from_slice(buffer.format(number).as_bytes())?;
     Ok(())
+}
+
+/// The decimal number that a word is, of any size.
+pub fn read_number(word: &[u8]) -> Result<Number, Fault>
+    ensures exact { result ≡ number_of word.now }
+    ensures found { (n : ℕ) → result ≡ Ok (Number.Is n) → word.now ≡ number_text n }
+    ensures only { (n : ℕ) → n < 2 ^ 64 → word.now ≡ number_text n → result ≡ Ok (Number.Is n) }
+{
+    parse_number(word)
+}
+
+#[tactic(auto, unfolding(crate::specs::Reading::number_of))]
+fn parse_number(word: &[u8]) -> Result<Number, Fault>
+    ensures { result ≡ number_of word.now }
+{
+    if is_numeral(word) {
+        Ok(value(word))
+    } else {
+        Err(Fault::Form)
+    }
+}
+
+/// The decimal number that a word is, where it is below a limit, and else `Form`.
+pub fn read_below(word: &[u8], limit: u64) -> Result<u64, Fault>
+    ensures exact { result ≡ number_below limit word.now }
+    ensures found { IfOk result (λ n. word.now ≡ number_text n) }
+    ensures within { IfOk result (λ n. n < limit) }
+    ensures only { (n : ℕ) → n < limit → word.now ≡ number_text n → result ≡ Ok n }
+{
+    parse_below(word, limit)
+}
+
+#[tactic(auto, unfolding(crate::specs::Reading::number_below))]
+fn parse_below(word: &[u8], limit: u64) -> Result<u64, Fault>
+    ensures exact { result ≡ number_below limit word.now }
+    ensures within { IfOk result (λ n. n < limit) }
+{
+    match parse_number(word)? {
+        Number::Is(number) if number < limit => Ok(number),
+        _ => Err(Fault::Form),
+    }
+}
+
+fn is_numeral(word: &[u8]) -> bool
+    ensures { result ≡ is_number word.now }
+{
+    match word {
+        [] => false,
+        [first, rest @ ..] => all_digits(word) && (rest.is_empty() || *first != b'0'),
+    }
+}
+
+fn all_digits(word: &[u8]) -> bool
+    ensures { result ≡ list_all is_ascii_digit word.now }
+{
+    word.iter().all(|byte| byte.is_ascii_digit())
+}
+
+fn value(digits: &[u8]) -> Number
+    requires { IsTrue (is_number digits.now) }
+    ensures { result ≡ sized (digits_value 10 digits.now) }
+{
+    let Ok(text) = from_utf8(digits) else {
+        unreachable!()
+    };
+    match text.parse::<u64>() {
+        Ok(number) => Number::Is(number),
+        Err(_) => Number::Large,
+    }
 }

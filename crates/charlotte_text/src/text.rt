@@ -1,8 +1,11 @@
-ghost use Rattle.std.specs.Prelude.{◌≡◌, ◌<◌, ◌++◌, OnOk, OnErr, length, take};
-ghost use Rattle.charlotte_text.specs.Spelling.{is_plain, hex_digit, byte_text, bytes_text};
+ghost use Rattle.std.specs.Prelude.{◌≡◌, ◌<◌, ◌++◌, ℕ, List, OnOk, OnErr, IfOk, if◌then◌else◌, nat_le, length, take};
+ghost use Rattle.charlotte_text.specs.Spelling.{is_plain, hex_digit, byte_text, bytes_text, AreBytes};
+ghost use Rattle.charlotte_text.specs.Reading.{Gives, hex_value, escaped, byte_at, spelled, bytes_of};
 ghost use Rattle.std.specs.List.{flat_map};
 
-use charlotte_calls::NoMemory;
+use crate::fault::Fault;
+use arrayvec::ArrayVec;
+use charlotte_calls::{Bytes, NoMemory};
 
 /// Appends a string of bytes: letters, digits, `_` and `.` as themselves, every other byte as `%` and two upper-case
 /// hexadecimal digits, and `-` where there are no bytes.
@@ -59,5 +62,77 @@ fn digit(value: u8) -> u8
         b'0' + value
     } else {
         b'A' - 10 + value
+    }
+}
+
+/// The bytes that a word spells. `Long` where its form is right and it spells more than 256.
+pub fn read_bytes(word: &[u8]) -> Result<Bytes, Fault>
+    ensures exact { result ≡ bytes_of word.now }
+    ensures found { IfOk result (λ bytes. word.now ≡ bytes_text bytes) }
+    ensures long { result ≡ Err Fault.Long → (bytes : List ℕ) × (256 < length bytes) × (word.now ≡ bytes_text bytes) }
+    ensures only { (bytes : List ℕ) → AreBytes bytes → word.now ≡ bytes_text bytes → result ≡ (if nat_le (length bytes) 256 then Ok bytes else Err Fault.Long) }
+{
+    parse_bytes(word)
+}
+
+#[tactic(auto, unfolding(crate::specs::Reading::bytes_of))]
+fn parse_bytes(word: &[u8]) -> Result<Bytes, Fault>
+    ensures { result ≡ bytes_of word.now }
+{
+    if word == b"-".as_slice() {
+        return Bytes::from_slice(&[]).ok_or(Fault::Long);
+    }
+    if word.is_empty() {
+        return Err(Fault::Form);
+    }
+    decode(word)
+}
+
+fn decode(word: &[u8]) -> Result<Bytes, Fault>
+    ensures { result ≡ spelled word.now }
+{
+    // One byte more than a text may have shows that it is too long.
+    let mut kept = ArrayVec::<u8, 257>::new();
+    let mut rest = word;
+    while !rest.is_empty() {
+        let (byte, after) = read_byte(rest)?;
+        if !kept.is_full() {
+            kept.push(byte);
+        }
+        rest = after;
+    }
+    Bytes::from_slice(kept.as_slice()).ok_or(Fault::Long)
+}
+
+/// The first byte that is spelled, and what stands behind its spelling.
+fn read_byte(text: &[u8]) -> Result<(u8, &[u8]), Fault>
+    ensures exact { Gives (λ x. (x.0, x.1.now)) result (byte_at text.now) }
+    ensures shorter { IfOk result (λ x. length x.1.now < length text.now) }
+{
+    match text {
+        [byte, rest @ ..] if plain(*byte) => Ok((*byte, rest)),
+        [b'%', high, low, rest @ ..] => Ok((unescape(*high, *low)?, rest)),
+        _ => Err(Fault::Form),
+    }
+}
+
+fn unescape(high: u8, low: u8) -> Result<u8, Fault>
+    ensures { result ≡ escaped high low }
+{
+    let (high, low) = (digit_value(high), digit_value(low));
+    if high < 16 && low < 16 && !plain(16 * high + low) {
+        Ok(16 * high + low)
+    } else {
+        Err(Fault::Form)
+    }
+}
+
+fn digit_value(digit: u8) -> u8
+    ensures { result ≡ hex_value digit }
+{
+    match digit {
+        b'0'..=b'9' => digit - b'0',
+        b'A'..=b'F' => digit - (b'A' - 10),
+        _ => 16,
     }
 }

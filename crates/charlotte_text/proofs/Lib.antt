@@ -1,0 +1,9 @@
+pub mod Steps
+pub mod Parts
+pub mod Numbers
+pub mod Names
+pub mod Ends
+pub mod Bytes
+pub mod Texts
+pub mod Calls
+pub mod Clauses
