@@ -1,8 +1,11 @@
 -- Reading the words of `run` one argument at a time.
-use Rattle.std.proofs.Common.{◌≡◌, List, [], ◌∷◌, Option, Some, None, refl, true, false, Bool}
-use Rattle.std.specs.Prelude.{codes, option_and_then, string_bytes, if◌then◌else◌}
+use Rattle.std.proofs.Common.{◌≡◌, ℕ, subst, ◌&&◌, List, [], ◌∷◌, Option, Some, None, refl, true, false, Bool, ◌∙◌, ap}
+use Rattle.std.specs.Prelude.{codes, option_and_then, string_bytes, is_none, if◌then◌else◌}
+use Rattle.std.specs.Str.{bytes_eq}
+use Rattle.std.specs.Bool.{Decides}
+use Rattle.std.proofs.lemmas.Slice.Eq.{bytes_eq-Decides}
 use Rattle.lynx_run.specs.declared.words.RunWords.{RunWords}
-use Rattle.lynx_run.specs.Words.{Word, is_spelled, with_turns, with_word, run_read}
+use Rattle.lynx_run.specs.Words.{Word, is_spelled, is_name, with_plan, with_turns, with_word, run_read}
 
 -- an argument that is not `--turns` is read alone
 pub run_read-word : (g : RunWords) (w : Word) (ws : List Word) → is_spelled w (codes "--turns") ≡ false → run_read g (w ∷ ws) ≡ option_and_then (λ h. run_read h ws) (with_word g w)
@@ -14,3 +17,24 @@ run_read-word g w (v ∷ ws) e = rw e
 pub run_read-turns : (g : RunWords) (w v : Word) (ws : List Word) → is_spelled w (codes "--turns") ≡ true → run_read g (w ∷ v ∷ ws) ≡ option_and_then (λ h. run_read h ws) (with_turns g (string_bytes v))
 unfolding run_read
 run_read-turns g w v ws e = rw e
+
+-- a word spelled so
+same_bytes : (xs ys : List ℕ) → bytes_eq xs ys ≡ true → xs ≡ ys
+same_bytes xs ys e = let P : Bool → Type 0 = λ b. Decides b (xs ≡ ys) in subst P e (bytes_eq-Decides xs ys)
+
+-- nothing is given where a second test fails
+not_both : (b : Bool) (o : Option RunWords) → (if b && false then o else None) ≡ None
+not_both true o = refl
+not_both false o = refl
+
+-- it is no plan
+no_plan : (g : RunWords) (w : Word) → string_bytes w ≡ codes "--turns" → with_plan g w ≡ None
+unfolding with_plan
+no_plan g w e = rw e (not_both (is_none g.plan) (Some (record g { plan = Some w })))
+
+-- `--turns` has a word behind it
+pub run_read-last : (g : RunWords) (w : Word) → is_spelled w (codes "--turns") ≡ true → run_read g (w ∷ []) ≡ None
+unfolding run_read with_word
+run_read-last g w e = let bytes : string_bytes w ≡ codes "--turns" = same_bytes _ _ e in rw bytes (no_plan g w bytes)
+
+pub ruleset arguments = (run_read-word, run_read-turns, run_read-last)

@@ -1,6 +1,6 @@
 //! The words of a command line, and the command that they give.
-ghost use Rattle.std.specs.Prelude.{◌≡◌};
-ghost use Rattle.lynx_run.specs.Words.{is_name, verb_of, one_name, one_seed, seed_number, turn_number, turns_number, with_plan, with_turns, with_serial, with_word, run_command, run_of, snapped_serial, snapped_place, snapped_word, snapshot_command, snapshot_of, behind, command_of};
+ghost use Rattle.std.specs.Prelude.{◌≡◌, ◌≤◌, ◌∷◌, length, option_and_then};
+ghost use Rattle.lynx_run.specs.Words.{is_name, verb_of, one_name, one_seed, seed_number, turn_number, turns_number, with_plan, with_turns, with_serial, with_word, run_command, run_read, run_of, snapped_serial, snapped_place, snapped_word, snapshot_command, snapshot_of, behind, command_of};
 
 use charlotte_text::read_below;
 use std::collections::VecDeque;
@@ -210,18 +210,26 @@ impl RunWords {
     }
 }
 
+// Reads an argument that begins with this word, of which these words may be the rest.
+#[tactic(auto, using(crate::proofs::Arguments::arguments))]
+fn add_argument(given: RunWords, word: String, words: &mut VecDeque<String>) -> Option<RunWords>
+    ensures read { run_read given (word ∷ words.old.items) ≡ option_and_then (λ h. run_read h words.new.items) result }
+    ensures fewer { length words.new.items ≤ length words.old.items }
+{
+    if word.as_bytes() != b"--turns".as_slice() {
+        return given.with_word(word);
+    }
+    let number = words.pop_front()?;
+    given.with_turns(number.as_bytes())
+}
+
 #[tactic(auto, unfolding(crate::specs::Words::run_of, crate::specs::Words::run_read))]
 fn run_of(mut words: VecDeque<String>) -> Option<Command>
     ensures { result ≡ run_of words.items }
 {
     let mut given = RunWords { plan: None, serial: false, turns: None };
     while let Some(word) = words.pop_front() {
-        if word.as_bytes() == b"--turns".as_slice() {
-            let number = words.pop_front()?;
-            given = given.with_turns(number.as_bytes())?;
-        } else {
-            given = given.with_word(word)?;
-        }
+        given = add_argument(given, word, &mut words)?;
     }
     given.command()
 }
