@@ -264,3 +264,14 @@ split_call call.Exit free = words_joined _ _ free.0 free.1
 
 pub call_split : (v : ℕ) (c : Call) → IsCall v c → words (call_text c) ≡ call_words c
 call_split v c fits = ap words (sym (joined c)) ∙ split_call c (call_free v c fits)
+
+-- a word before those of a call
+pub join_call : (w : List ℕ) (c : Call) → join_with_byte 32 (w ∷ call_words c) ≡ w ++ 32 ∷ call_text c
+join_call w call.Make = ap (λ (x : List ℕ). w ++ 32 ∷ x) (joined call.Make)
+join_call w (call.Destroy on) = ap (λ (x : List ℕ). w ++ 32 ∷ x) (joined (call.Destroy on))
+join_call w (call.Send on bytes enclose) = ap (λ (x : List ℕ). w ++ 32 ∷ x) (joined (call.Send on bytes enclose))
+join_call w (call.Receive on) = ap (λ (x : List ℕ). w ++ 32 ∷ x) (joined (call.Receive on))
+join_call w (call.Cancel on way) = ap (λ (x : List ℕ). w ++ 32 ∷ x) (joined (call.Cancel on way))
+join_call w call.Wait = ap (λ (x : List ℕ). w ++ 32 ∷ x) (joined call.Wait)
+join_call w (call.Print bytes) = ap (λ (x : List ℕ). w ++ 32 ∷ x) (joined (call.Print bytes))
+join_call w call.Exit = ap (λ (x : List ℕ). w ++ 32 ∷ x) (joined call.Exit)

@@ -1,0 +1,5 @@
+pub mod Lawful
+pub mod Sound
+pub mod Lines
+pub mod Words
+pub mod Spelled

@@ -1,0 +1,72 @@
+-- Reading a script from its first line on, with the first line that fails a rule, and the least rule there.
+use Rattle.std.specs.Prelude.{◌≡◌, ℕ, List, [], ◌∷◌, Bool, true, false, ◌+◌, ◌==◌, if◌then◌else◌, length, Result, Ok, Err}
+use Rattle.charlotte_text.specs.declared.fault.Fault.{Fault}
+use Rattle.charlotte_text.specs.Reading.{parts, words}
+use Rattle.lynx_plan.specs.declared.stage.Stage.{Stage}
+use Rattle.lynx_plan.specs.declared.stage.Stage.TheVariants as stage
+use Rattle.lynx_plan.specs.declared.form.Form.{Form}
+use Rattle.lynx_plan.specs.declared.entry.Entry.{Entry}
+use Rattle.lynx_plan.specs.declared.script.Script.{Script}
+use Rattle.lynx_plan.specs.declared.fault.PlanFault.{PlanFault}
+use Rattle.lynx_plan.specs.declared.fault.PlanFault.TheVariants.{BadPlan, NoMemory}
+use Rattle.lynx_plan.specs.Given.{Given, nothing}
+use Rattle.lynx_plan.specs.Forms.{form_of}
+use Rattle.lynx_plan.specs.Rules.{judged, with_entry}
+
+-- what a call gives is what is read, unless memory ran out
+abbrev pub Fails : {Y : Type 0} → PlanFault → Result Y PlanFault → Type 0
+Fails NoMemory read = Unit {0}
+Fails (BadPlan line rule) read = read ≡ Err (BadPlan line rule)
+
+abbrev pub Gives : {Y : Type 0} → Result Y PlanFault → Result Y PlanFault → Type 0
+Gives (Ok x) read = read ≡ Ok x
+Gives (Err e) read = Fails e read
+
+-- an empty line, or one that begins with `#`
+abbrev pub is_skipped : List ℕ → Bool
+is_skipped [] = true
+is_skipped (b ∷ bs) = b == 35
+
+-- a line of no form fails the first rule
+abbrev pub judged_form : Given → Result Form Fault → Result Entry ℕ
+judged_form g (Ok f) = judged g f
+judged_form g (Err e) = Err 1
+
+-- what a line says after what was read before it, or the least rule that it fails
+unfoldable pub entry_at : Given → List ℕ → Result Entry ℕ
+entry_at g text = judged_form g (form_of g.version (words text))
+
+-- what is said with one more line, or that line and its rule
+abbrev pub noted : ℕ → Given → Result Entry ℕ → Result Given PlanFault
+noted line g (Ok e) = Ok (with_entry line g e)
+noted line g (Err rule) = Err (BadPlan line rule)
+
+unfoldable pub line_read : ℕ → Given → List ℕ → Result Given PlanFault
+line_read line g text = if is_skipped text then Ok g else noted line g (entry_at g text)
+
+-- the lines in order, from the one with this number
+abbrev pub then_lines : (Given → Result Given PlanFault) → Result Given PlanFault → Result Given PlanFault
+then_lines f (Ok g) = f g
+then_lines f (Err e) = Err e
+
+unfoldable pub lines_read : ℕ → Given → List (List ℕ) → Result Given PlanFault
+lines_read line g [] = Ok g
+lines_read line g (text ∷ texts) = then_lines (λ h. lines_read (line + 1) h texts) (line_read line g text)
+
+-- the `kernels` line stood
+abbrev pub has_kernels : Stage → Bool
+has_kernels stage.Start = false
+has_kernels stage.Named = false
+has_kernels s = true
+
+abbrev pub script_given : Given → Script
+script_given g = record { setting = record { version = g.version; kernels = g.kernels; homes = g.homes; wires = g.wires }; lines = g.lines }
+
+-- at the end the `kernels` line must have stood; the place past the last byte is in this line
+abbrev pub finished : ℕ → Result Given PlanFault → Result Script PlanFault
+finished line (Ok g) = if has_kernels g.stage then Ok (script_given g) else Err (BadPlan line 1)
+finished line (Err e) = Err e
+
+-- the script that bytes spell, or the first line that fails and the least rule there
+unfoldable pub script_of : List ℕ → Result Script PlanFault
+script_of bytes = finished (length (parts 10 bytes)) (lines_read 1 nothing (parts 10 bytes))

@@ -1,0 +1,136 @@
+ghost use Rattle.std.specs.Prelude.{◌≡◌, length};
+ghost use Rattle.lynx_plan.specs.Given.{Given, nothing};
+
+use charlotte_calls::{Items, Pid, Setting};
+use std::alloc::{AllocError, Global};
+use std::marker::Model;
+
+use crate::entry::Entry;
+use crate::script::{Script, ScriptLine};
+use crate::stage::Stage;
+
+/// What the lines of a script said so far.
+#[derive(Drop)]
+pub struct Draft {
+    version: u8,
+    kernels: u8,
+    homes: Vec<u8>,
+    wires: Vec<(Pid, Pid)>,
+    lines: Vec<ScriptLine>,
+    stage: Stage,
+}
+
+impl Model for Draft {
+    ghost Value = { Given };
+
+    ghost view = { λ d. record {
+        version = d.version;
+        kernels = d.kernels;
+        homes = d.homes.items;
+        wires = d.wires.items;
+        lines = d.lines.items;
+        stage = d.stage;
+    } };
+}
+
+impl Draft {
+    ghost use Rattle.std.specs.Prelude.{OnOk};
+    ghost use Rattle.lynx_plan.specs.Rules.{with_entry};
+    ghost use Rattle.lynx_plan.specs.Reading.{script_given};
+
+    /// Before the first line.
+    pub(crate) fn new(alloc: Global) -> Draft
+        ensures { result ≡ nothing }
+    {
+        Draft {
+            version: 1,
+            kernels: 0,
+            homes: Vec::new(alloc),
+            wires: Vec::new(alloc),
+            lines: Vec::new(alloc),
+            stage: Stage::Start,
+        }
+    }
+
+    pub(crate) fn version(&self) -> u8
+        ensures { result ≡ self.now.version }
+    {
+        self.version
+    }
+
+    pub(crate) fn kernels(&self) -> u8
+        ensures { result ≡ self.now.kernels }
+    {
+        self.kernels
+    }
+
+    /// How many processes are declared.
+    pub(crate) fn processes(&self) -> u64
+        ensures { result ≡ length self.now.homes }
+    {
+        self.homes.len() as u64
+    }
+
+    /// How many wires stood.
+    pub(crate) fn wires(&self) -> usize
+        ensures { result ≡ length self.now.wires }
+    {
+        self.wires.len()
+    }
+
+    pub(crate) fn stage(&self) -> Stage
+        ensures { result ≡ self.now.stage }
+    {
+        self.stage
+    }
+
+    /// Adds what a line says.
+    #[tactic(auto, unfolding(crate::specs::Rules::with_entry))]
+    pub(crate) fn add(&mut self, line: u32, entry: Entry) -> Result<(), AllocError>
+        ensures { OnOk result (self.new ≡ with_entry line self.old entry) }
+    {
+        match entry {
+            Entry::Version(version) => {
+                self.version = version;
+                self.stage = Stage::Named;
+            }
+            Entry::Kernels(kernels) => {
+                self.kernels = kernels;
+                self.stage = Stage::Processes;
+            }
+            Entry::Process(kernel) => self.homes.push(kernel)?,
+            Entry::Wire(first, second) => {
+                self.wires.push((first, second))?;
+                self.stage = Stage::Wires;
+            }
+            Entry::Line(what) => {
+                self.lines.push(ScriptLine { line, what })?;
+                self.stage = Stage::Calls;
+            }
+        }
+        Ok(())
+    }
+
+    /// The script that the lines spell.
+    pub(crate) fn into_script(self) -> Script
+        ensures { result ≡ script_given self }
+    {
+        let Draft {
+            version,
+            kernels,
+            homes,
+            wires,
+            lines,
+            stage: _,
+        } = self;
+        Script {
+            setting: Setting {
+                version,
+                kernels,
+                homes: Items::of(homes),
+                wires: Items::of(wires),
+            },
+            lines: Items::of(lines),
+        }
+    }
+}

@@ -1,0 +1,139 @@
+ghost use Rattle.std.specs.Prelude.{◌≡◌, option_copied};
+ghost use Rattle.charlotte_text.specs.Reading.{rest_parts, words};
+ghost use Rattle.lynx_plan.specs.Forms.{lead_of, one_number, two_numbers, placed, asked, led, form_of};
+
+use charlotte_calls::Call;
+use charlotte_text::{Fault, Number, end_of_line, next_word, read_call, read_number, read_process};
+
+/// Which kind of line a first word begins.
+#[derive(Clone, Copy, Debug)]
+pub enum Lead {
+    Version,
+    Kernels,
+    Process,
+    Wire,
+    Take,
+    Settle,
+    Other,
+}
+
+/// The form of a line of a script, with numbers of any size.
+#[derive(Debug, Drop)]
+pub enum Form {
+    Version(Number),
+    Kernels(Number),
+    /// The process and its kernel.
+    Process(Number, Number),
+    Wire(Number, Number),
+    Ask(Number, Call),
+    /// A call whose text has more than 256 bytes.
+    LongAsk(Number),
+    Take(Number, Number),
+    Settle,
+}
+
+/// The form of a line of a script of this version.
+#[tactic(auto, unfolding(crate::specs::Forms::form_of))]
+pub(crate) fn script_form(version: u8, line: &[u8]) -> Result<Form, Fault>
+    ensures { result ≡ form_of version (words line.now) }
+{
+    let (word, rest) = next_word(Some(line))?;
+    led_form(version, read_lead(word), word, rest)
+}
+
+#[tactic(auto, unfolding(crate::specs::Forms::led))]
+fn led_form(version: u8, lead: Lead, word: &[u8], rest: Option<&[u8]>) -> Result<Form, Fault>
+    ensures { result ≡ led version lead word.now (rest_parts 32 (option_copied rest.entry)) }
+{
+    match lead {
+        Lead::Version => Ok(Form::Version(number(rest)?)),
+        Lead::Kernels => Ok(Form::Kernels(number(rest)?)),
+        Lead::Process => {
+            let (process, kernel) = process_on_kernel(rest)?;
+            Ok(Form::Process(process, kernel))
+        }
+        Lead::Wire => {
+            let (first, second) = numbers(rest)?;
+            Ok(Form::Wire(first, second))
+        }
+        Lead::Take => {
+            let (from, to) = numbers(rest)?;
+            Ok(Form::Take(from, to))
+        }
+        Lead::Settle => {
+            end_of_line(rest)?;
+            Ok(Form::Settle)
+        }
+        Lead::Other => call_of_process(version, word, rest),
+    }
+}
+
+#[tactic(auto, unfolding(crate::specs::Forms::asked))]
+fn call_of_process(version: u8, word: &[u8], rest: Option<&[u8]>) -> Result<Form, Fault>
+    ensures { result ≡ asked version word.now (rest_parts 32 (option_copied rest.entry)) }
+{
+    let process = read_process(word)?;
+    match read_call(rest, version) {
+        Ok(call) => Ok(Form::Ask(process, call)),
+        Err(Fault::Long) => Ok(Form::LongAsk(process)),
+        Err(Fault::Form) => Err(Fault::Form),
+    }
+}
+
+#[tactic(auto, unfolding(crate::specs::Forms::lead_of))]
+fn read_lead(word: &[u8]) -> Lead
+    ensures { result ≡ lead_of word.now }
+{
+    if word == b"version".as_slice() {
+        Lead::Version
+    } else if word == b"kernels".as_slice() {
+        Lead::Kernels
+    } else if word == b"process".as_slice() {
+        Lead::Process
+    } else if word == b"wire".as_slice() {
+        Lead::Wire
+    } else if word == b"take".as_slice() {
+        Lead::Take
+    } else if word == b"settle".as_slice() {
+        Lead::Settle
+    } else {
+        Lead::Other
+    }
+}
+
+/// `N`.
+#[tactic(auto, unfolding(crate::specs::Forms::one_number))]
+fn number(rest: Option<&[u8]>) -> Result<Number, Fault>
+    ensures { result ≡ one_number (rest_parts 32 (option_copied rest.entry)) }
+{
+    let (word, rest) = next_word(rest)?;
+    let number = read_number(word)?;
+    end_of_line(rest)?;
+    Ok(number)
+}
+
+/// `I J`.
+#[tactic(auto, unfolding(crate::specs::Forms::two_numbers))]
+fn numbers(rest: Option<&[u8]>) -> Result<(Number, Number), Fault>
+    ensures { result ≡ two_numbers (rest_parts 32 (option_copied rest.entry)) }
+{
+    let (word, rest) = next_word(rest)?;
+    let first = read_number(word)?;
+    let second = number(rest)?;
+    Ok((first, second))
+}
+
+/// `I on K`.
+#[tactic(auto, unfolding(crate::specs::Forms::placed))]
+fn process_on_kernel(rest: Option<&[u8]>) -> Result<(Number, Number), Fault>
+    ensures { result ≡ placed (rest_parts 32 (option_copied rest.entry)) }
+{
+    let (word, rest) = next_word(rest)?;
+    let process = read_number(word)?;
+    let (on, rest) = next_word(rest)?;
+    if on != b"on".as_slice() {
+        return Err(Fault::Form);
+    }
+    let kernel = number(rest)?;
+    Ok((process, kernel))
+}

@@ -1,0 +1,82 @@
+ghost use Rattle.std.specs.Prelude.{◌≡◌, ◌<◌, ◌≤◌, length, MatchResult, IfOk};
+ghost use Rattle.charlotte_calls.specs.Setting.{IsValid};
+ghost use Rattle.lynx_plan.specs.ScriptText.{IsScriptText};
+ghost use Rattle.lynx_plan.specs.Reading.{Fails, Gives, is_skipped, entry_at, line_read, lines_read, script_of};
+
+use charlotte_text::cut;
+use std::alloc::Global;
+
+use crate::draft::Draft;
+use crate::entry::Entry;
+use crate::fault::PlanFault;
+use crate::form::script_form;
+use crate::rules::judge;
+use crate::script::Script;
+use crate::stage::Stage;
+
+/// The script that the bytes spell, or the first line that fails a rule and the least rule there.
+pub fn read_script(alloc: Global, bytes: &[u8]) -> Result<Script, PlanFault>
+    requires { length bytes.now < 4294967295 }
+    // What is read is spelled so.
+    ensures found { IfOk result (IsScriptText bytes.now) }
+    ensures valid { IfOk result (λ script. IsValid script.setting) }
+    // Which line and which rule it is.
+    ensures exact { Gives result (script_of bytes.now) }
+{
+    read_lines(alloc, bytes)
+}
+
+fn read_lines(alloc: Global, bytes: &[u8]) -> Result<Script, PlanFault>
+    requires { length bytes.now < 4294967295 }
+    ensures { Gives result (script_of bytes.now) }
+{
+    let mut draft = Draft::new(alloc);
+    let mut line = 0;
+    let mut rest = Some(bytes);
+    while let Some(text) = rest {
+        let (this, after) = cut(b'\n', text);
+        line += 1;
+        read_line(&mut draft, line, this)?;
+        rest = after;
+    }
+    match draft.stage() {
+        Stage::Start | Stage::Named => Err(PlanFault::BadPlan { line, rule: 1 }),
+        Stage::Processes | Stage::Wires | Stage::Calls => Ok(draft.into_script()),
+    }
+}
+
+#[tactic(auto, unfolding(crate::specs::Reading::line_read))]
+fn read_line(draft: &mut Draft, line: u32, text: &[u8]) -> Result<(), PlanFault>
+    requires { length draft.old.homes ≤ 64 }
+    ensures { MatchResult result (λ _. line_read line draft.old text.now ≡ Ok draft.new) (λ e. Fails e (line_read line draft.old text.now)) }
+{
+    if skipped(text) {
+        return Ok(());
+    }
+    match read_entry(draft, text) {
+        Ok(entry) => draft.add(line, entry)?,
+        Err(rule) => return Err(PlanFault::BadPlan { line, rule }),
+    }
+    Ok(())
+}
+
+fn skipped(text: &[u8]) -> bool
+    ensures { result ≡ is_skipped text.now }
+{
+    match text {
+        [] => true,
+        [first, ..] => *first == b'#',
+    }
+}
+
+/// What a line says, or the least rule that it fails.
+#[tactic(auto, unfolding(crate::specs::Reading::entry_at))]
+fn read_entry(draft: &Draft, text: &[u8]) -> Result<Entry, u8>
+    requires { length draft.now.homes ≤ 64 }
+    ensures { result ≡ entry_at draft.now text.now }
+{
+    match script_form(draft.version(), text) {
+        Ok(form) => judge(draft, form),
+        Err(_) => Err(1),
+    }
+}
