@@ -22,30 +22,30 @@ use Rattle.kernel_step.specs.Calls as calls
 use Rattle.kernel_step.specs.Kernel as kernel
 use Rattle.kernel_world.specs.World.{Event, Calls, Takes, start, noted}
 
-abbrev pid : ℕ → Pid
+abbrev pub pid : ℕ → Pid
 pid n = record { 0 = n }
 
-abbrev end_a : ℕ → ℕ → EndId
+abbrev pub end_a : ℕ → ℕ → EndId
 end_a maker count = record { link = record { maker = maker; count = count }; side = A }
 
-abbrev end_b : ℕ → ℕ → EndId
+abbrev pub end_b : ℕ → ℕ → EndId
 end_b maker count = record { link = record { maker = maker; count = count }; side = B }
 
-abbrev value : EndId → ℕ → ℕ → ℕ → ℕ → ℕ → ℕ → ℕ → Bool → ℕ → MovingPicture
+abbrev pub value : EndId → ℕ → ℕ → ℕ → ℕ → ℕ → ℕ → ℕ → Bool → ℕ → MovingPicture
 value end hops kernel hint sent asked served want dead trail = record { end = end; hops = hops; hint = (kernel, hint); sent = sent; asked = asked; served = served; want = want; dead = dead; trail = trail }
 
 -- no line of a transcript shows the stamp of a packet
-abbrev unstamped_what : Happened → Happened
+abbrev pub unstamped_what : Happened → Happened
 unstamped_what (Asked p c) = Asked p c
 unstamped_what (Took from picture) = Took from (record { stamp = 0; what = picture.what })
 
-abbrev unstamped : List Placed → List Placed
+abbrev pub unstamped : List Placed → List Placed
 unstamped ps = map (λ p. record { kernel = p.kernel; entry = record { stamp = p.entry.stamp; what = unstamped_what p.entry.what; steps = p.entry.steps } }) ps
 
-abbrev a_back_that_notices_setting : Setting
+abbrev pub a_back_that_notices_setting : Setting
 a_back_that_notices_setting = record { version = 1; kernels = 5; homes = (0 ∷ 1 ∷ 2 ∷ 3 ∷ 4 ∷ []); wires = ((pid 0, pid 1) ∷ (pid 0, pid 2) ∷ (pid 1, pid 3) ∷ (pid 2, pid 4) ∷ []) }
 
-abbrev a_back_that_notices_events : List Event
+abbrev pub a_back_that_notices_events : List Event
 a_back_that_notices_events =
     (Calls 2 (pid 2) (call.Receive (end_b 0 1)) [])
     ∷ (Calls 3 (pid 3) (call.Receive (end_b 1 0)) [])
@@ -102,7 +102,7 @@ a_back_that_notices_events =
     ∷ (Takes 4 2)
     ∷ []
 
-abbrev a_back_that_notices_entries : List Placed
+abbrev pub a_back_that_notices_entries : List Placed
 a_back_that_notices_entries =
     record { kernel = 2; entry = record { stamp = 1; what = (Asked (pid 2) (call.Receive (end_b 0 1))); steps = ((step.Receive (end_b 0 1)) ∷ []) } }
     ∷ record { kernel = 3; entry = record { stamp = 1; what = (Asked (pid 3) (call.Receive (end_b 1 0))); steps = ((step.Receive (end_b 1 0)) ∷ []) } }
@@ -159,14 +159,14 @@ a_back_that_notices_entries =
     ∷ record { kernel = 4; entry = record { stamp = 22; what = (Took 2 (record { stamp = 0; what = (packet.Taken (end_b 2 0) 1 2 0) })); steps = ((step.Complete (end_b 2 0) 1) ∷ []) } }
     ∷ []
 
-a_back_that_notices : unstamped (noted (start a_back_that_notices_setting) a_back_that_notices_events) ≡ a_back_that_notices_entries
+pub a_back_that_notices : unstamped (noted (start a_back_that_notices_setting) a_back_that_notices_events) ≡ a_back_that_notices_entries
 unfolding end_eq put progress.sends progress.reports_to progress.answers_to progress.means progress.keeps actions.forgets actions.leave_each actions.values_leaving actions.matches actions.tells_gone actions.ends_idle actions.end_each actions.ends actions.hold_each actions.notice_send actions.notice_receive actions.notices actions.tells_moved actions.resends actions.resends_on_news actions.settle_each actions.tell_arrivals actions.listens rows.wants rows.voids rows.want_here rows.unwant_here rows.frees rows.receives rows.pass_each rows.sends_back rows.completes rows.gives_back rows.notices_first rows.end_arrivals rows.erases rows.gone_here rows.moved_here rows.known_here calls.makes calls.starts_send calls.encloses calls.posts calls.withdraws_send calls.withdraws_receive calls.ends_each kernel.answers_wait kernel.join_reports kernel.join_answers kernel.closes kernel.take_step kernel.performs kernel.call_step
 a_back_that_notices = refl
 
-abbrev a_dead_link_leaves_no_trace_setting : Setting
+abbrev pub a_dead_link_leaves_no_trace_setting : Setting
 a_dead_link_leaves_no_trace_setting = record { version = 1; kernels = 2; homes = (0 ∷ 1 ∷ []); wires = ((pid 0, pid 1) ∷ []) }
 
-abbrev a_dead_link_leaves_no_trace_events : List Event
+abbrev pub a_dead_link_leaves_no_trace_events : List Event
 a_dead_link_leaves_no_trace_events =
     (Calls 1 (pid 1) (call.Destroy (end_b 0 0)) [])
     ∷ (Takes 0 1)
@@ -174,7 +174,7 @@ a_dead_link_leaves_no_trace_events =
     ∷ (Takes 1 0)
     ∷ []
 
-abbrev a_dead_link_leaves_no_trace_entries : List Placed
+abbrev pub a_dead_link_leaves_no_trace_entries : List Placed
 a_dead_link_leaves_no_trace_entries =
     record { kernel = 1; entry = record { stamp = 1; what = (Asked (pid 1) (call.Destroy (end_b 0 0))); steps = ((step.Destroy (end_b 0 0)) ∷ []) } }
     ∷ record { kernel = 0; entry = record { stamp = 2; what = (Took 1 (record { stamp = 0; what = (packet.Gone (end_a 0 0) 1) })); steps = ((step.Notice (end_a 0 0) false) ∷ []) } }
@@ -182,14 +182,14 @@ a_dead_link_leaves_no_trace_entries =
     ∷ record { kernel = 1; entry = record { stamp = 3; what = (Took 0 (record { stamp = 0; what = (packet.GoneSeen (end_b 0 0) ) })); steps = [] } }
     ∷ []
 
-a_dead_link_leaves_no_trace : unstamped (noted (start a_dead_link_leaves_no_trace_setting) a_dead_link_leaves_no_trace_events) ≡ a_dead_link_leaves_no_trace_entries
+pub a_dead_link_leaves_no_trace : unstamped (noted (start a_dead_link_leaves_no_trace_setting) a_dead_link_leaves_no_trace_events) ≡ a_dead_link_leaves_no_trace_entries
 unfolding end_eq put progress.sends progress.reports_to progress.answers_to progress.means progress.keeps actions.forgets actions.leave_each actions.values_leaving actions.matches actions.tells_gone actions.ends_idle actions.end_each actions.ends actions.hold_each actions.notice_send actions.notice_receive actions.notices actions.tells_moved actions.resends actions.resends_on_news actions.settle_each actions.tell_arrivals actions.listens rows.wants rows.voids rows.want_here rows.unwant_here rows.frees rows.receives rows.pass_each rows.sends_back rows.completes rows.gives_back rows.notices_first rows.end_arrivals rows.erases rows.gone_here rows.moved_here rows.known_here calls.makes calls.starts_send calls.encloses calls.posts calls.withdraws_send calls.withdraws_receive calls.ends_each kernel.answers_wait kernel.join_reports kernel.join_answers kernel.closes kernel.take_step kernel.performs kernel.call_step
 a_dead_link_leaves_no_trace = refl
 
-abbrev an_end_moves_and_its_trace_is_forgotten_setting : Setting
+abbrev pub an_end_moves_and_its_trace_is_forgotten_setting : Setting
 an_end_moves_and_its_trace_is_forgotten_setting = record { version = 1; kernels = 3; homes = (0 ∷ 1 ∷ 2 ∷ []); wires = ((pid 0, pid 1) ∷ (pid 2, pid 0) ∷ []) }
 
-abbrev an_end_moves_and_its_trace_is_forgotten_events : List Event
+abbrev pub an_end_moves_and_its_trace_is_forgotten_events : List Event
 an_end_moves_and_its_trace_is_forgotten_events =
     (Calls 0 (pid 0) (call.Send (end_a 0 0) (120 ∷ []) ((end_b 2 0) ∷ [])) [])
     ∷ (Calls 1 (pid 1) (call.Receive (end_b 0 0)) [])
@@ -208,7 +208,7 @@ an_end_moves_and_its_trace_is_forgotten_events =
     ∷ (Calls 2 (pid 2) call.Wait ((end_a 2 0) ∷ []))
     ∷ []
 
-abbrev an_end_moves_and_its_trace_is_forgotten_entries : List Placed
+abbrev pub an_end_moves_and_its_trace_is_forgotten_entries : List Placed
 an_end_moves_and_its_trace_is_forgotten_entries =
     record { kernel = 0; entry = record { stamp = 1; what = (Asked (pid 0) (call.Send (end_a 0 0) (120 ∷ []) ((end_b 2 0) ∷ []))); steps = ((step.Send (end_a 0 0) 1 (120 ∷ []) ((end_b 2 0) ∷ [])) ∷ []) } }
     ∷ record { kernel = 1; entry = record { stamp = 1; what = (Asked (pid 1) (call.Receive (end_b 0 0))); steps = ((step.Receive (end_b 0 0)) ∷ []) } }
@@ -227,14 +227,14 @@ an_end_moves_and_its_trace_is_forgotten_entries =
     ∷ record { kernel = 2; entry = record { stamp = 10; what = (Asked (pid 2) call.Wait); steps = ((step.Wait (pid 2)) ∷ (step.Report (pid 2) (record { on = (end_a 2 0); way = Inward; outcome = Done; bytes = (121 ∷ []); enclosed = [] })) ∷ []) } }
     ∷ []
 
-an_end_moves_and_its_trace_is_forgotten : unstamped (noted (start an_end_moves_and_its_trace_is_forgotten_setting) an_end_moves_and_its_trace_is_forgotten_events) ≡ an_end_moves_and_its_trace_is_forgotten_entries
+pub an_end_moves_and_its_trace_is_forgotten : unstamped (noted (start an_end_moves_and_its_trace_is_forgotten_setting) an_end_moves_and_its_trace_is_forgotten_events) ≡ an_end_moves_and_its_trace_is_forgotten_entries
 unfolding end_eq put progress.sends progress.reports_to progress.answers_to progress.means progress.keeps actions.forgets actions.leave_each actions.values_leaving actions.matches actions.tells_gone actions.ends_idle actions.end_each actions.ends actions.hold_each actions.notice_send actions.notice_receive actions.notices actions.tells_moved actions.resends actions.resends_on_news actions.settle_each actions.tell_arrivals actions.listens rows.wants rows.voids rows.want_here rows.unwant_here rows.frees rows.receives rows.pass_each rows.sends_back rows.completes rows.gives_back rows.notices_first rows.end_arrivals rows.erases rows.gone_here rows.moved_here rows.known_here calls.makes calls.starts_send calls.encloses calls.posts calls.withdraws_send calls.withdraws_receive calls.ends_each kernel.answers_wait kernel.join_reports kernel.join_answers kernel.closes kernel.take_step kernel.performs kernel.call_step
 an_end_moves_and_its_trace_is_forgotten = refl
 
-abbrev busy_until_reported_setting : Setting
+abbrev pub busy_until_reported_setting : Setting
 busy_until_reported_setting = record { version = 1; kernels = 2; homes = (0 ∷ 1 ∷ []); wires = ((pid 0, pid 1) ∷ []) }
 
-abbrev busy_until_reported_events : List Event
+abbrev pub busy_until_reported_events : List Event
 busy_until_reported_events =
     (Calls 0 (pid 0) (call.Send (end_a 0 0) (120 ∷ []) []) [])
     ∷ (Calls 1 (pid 1) (call.Receive (end_b 0 0)) [])
@@ -247,7 +247,7 @@ busy_until_reported_events =
     ∷ (Calls 0 (pid 0) (call.Send (end_a 0 0) (121 ∷ []) []) [])
     ∷ []
 
-abbrev busy_until_reported_entries : List Placed
+abbrev pub busy_until_reported_entries : List Placed
 busy_until_reported_entries =
     record { kernel = 0; entry = record { stamp = 1; what = (Asked (pid 0) (call.Send (end_a 0 0) (120 ∷ []) [])); steps = ((step.Send (end_a 0 0) 1 (120 ∷ []) []) ∷ []) } }
     ∷ record { kernel = 1; entry = record { stamp = 1; what = (Asked (pid 1) (call.Receive (end_b 0 0))); steps = ((step.Receive (end_b 0 0)) ∷ []) } }
@@ -260,14 +260,14 @@ busy_until_reported_entries =
     ∷ record { kernel = 0; entry = record { stamp = 7; what = (Asked (pid 0) (call.Send (end_a 0 0) (121 ∷ []) [])); steps = ((step.Send (end_a 0 0) 2 (121 ∷ []) []) ∷ []) } }
     ∷ []
 
-busy_until_reported : unstamped (noted (start busy_until_reported_setting) busy_until_reported_events) ≡ busy_until_reported_entries
+pub busy_until_reported : unstamped (noted (start busy_until_reported_setting) busy_until_reported_events) ≡ busy_until_reported_entries
 unfolding end_eq put progress.sends progress.reports_to progress.answers_to progress.means progress.keeps actions.forgets actions.leave_each actions.values_leaving actions.matches actions.tells_gone actions.ends_idle actions.end_each actions.ends actions.hold_each actions.notice_send actions.notice_receive actions.notices actions.tells_moved actions.resends actions.resends_on_news actions.settle_each actions.tell_arrivals actions.listens rows.wants rows.voids rows.want_here rows.unwant_here rows.frees rows.receives rows.pass_each rows.sends_back rows.completes rows.gives_back rows.notices_first rows.end_arrivals rows.erases rows.gone_here rows.moved_here rows.known_here calls.makes calls.starts_send calls.encloses calls.posts calls.withdraws_send calls.withdraws_receive calls.ends_each kernel.answers_wait kernel.join_reports kernel.join_answers kernel.closes kernel.take_step kernel.performs kernel.call_step
 busy_until_reported = refl
 
-abbrev cancel_meets_its_parcel_setting : Setting
+abbrev pub cancel_meets_its_parcel_setting : Setting
 cancel_meets_its_parcel_setting = record { version = 1; kernels = 2; homes = (0 ∷ 1 ∷ []); wires = ((pid 0, pid 1) ∷ []) }
 
-abbrev cancel_meets_its_parcel_events : List Event
+abbrev pub cancel_meets_its_parcel_events : List Event
 cancel_meets_its_parcel_events =
     (Calls 0 (pid 0) (call.Send (end_a 0 0) (120 ∷ []) []) [])
     ∷ (Calls 1 (pid 1) (call.Receive (end_b 0 0)) [])
@@ -279,7 +279,7 @@ cancel_meets_its_parcel_events =
     ∷ (Calls 1 (pid 1) call.Wait ((end_b 0 0) ∷ []))
     ∷ []
 
-abbrev cancel_meets_its_parcel_entries : List Placed
+abbrev pub cancel_meets_its_parcel_entries : List Placed
 cancel_meets_its_parcel_entries =
     record { kernel = 0; entry = record { stamp = 1; what = (Asked (pid 0) (call.Send (end_a 0 0) (120 ∷ []) [])); steps = ((step.Send (end_a 0 0) 1 (120 ∷ []) []) ∷ []) } }
     ∷ record { kernel = 1; entry = record { stamp = 1; what = (Asked (pid 1) (call.Receive (end_b 0 0))); steps = ((step.Receive (end_b 0 0)) ∷ []) } }
@@ -291,29 +291,29 @@ cancel_meets_its_parcel_entries =
     ∷ record { kernel = 1; entry = record { stamp = 4; what = (Asked (pid 1) call.Wait); steps = ((step.Wait (pid 1)) ∷ (step.Report (pid 1) (record { on = (end_b 0 0); way = Inward; outcome = Done; bytes = (120 ∷ []); enclosed = [] })) ∷ []) } }
     ∷ []
 
-cancel_meets_its_parcel : unstamped (noted (start cancel_meets_its_parcel_setting) cancel_meets_its_parcel_events) ≡ cancel_meets_its_parcel_entries
+pub cancel_meets_its_parcel : unstamped (noted (start cancel_meets_its_parcel_setting) cancel_meets_its_parcel_events) ≡ cancel_meets_its_parcel_entries
 unfolding end_eq put progress.sends progress.reports_to progress.answers_to progress.means progress.keeps actions.forgets actions.leave_each actions.values_leaving actions.matches actions.tells_gone actions.ends_idle actions.end_each actions.ends actions.hold_each actions.notice_send actions.notice_receive actions.notices actions.tells_moved actions.resends actions.resends_on_news actions.settle_each actions.tell_arrivals actions.listens rows.wants rows.voids rows.want_here rows.unwant_here rows.frees rows.receives rows.pass_each rows.sends_back rows.completes rows.gives_back rows.notices_first rows.end_arrivals rows.erases rows.gone_here rows.moved_here rows.known_here calls.makes calls.starts_send calls.encloses calls.posts calls.withdraws_send calls.withdraws_receive calls.ends_each kernel.answers_wait kernel.join_reports kernel.join_answers kernel.closes kernel.take_step kernel.performs kernel.call_step
 cancel_meets_its_parcel = refl
 
-abbrev no_process_setting : Setting
+abbrev pub no_process_setting : Setting
 no_process_setting = record { version = 1; kernels = 1; homes = []; wires = [] }
 
-abbrev no_process_events : List Event
+abbrev pub no_process_events : List Event
 no_process_events =
     []
 
-abbrev no_process_entries : List Placed
+abbrev pub no_process_entries : List Placed
 no_process_entries =
     []
 
-no_process : unstamped (noted (start no_process_setting) no_process_events) ≡ no_process_entries
+pub no_process : unstamped (noted (start no_process_setting) no_process_events) ≡ no_process_entries
 unfolding end_eq put progress.sends progress.reports_to progress.answers_to progress.means progress.keeps actions.forgets actions.leave_each actions.values_leaving actions.matches actions.tells_gone actions.ends_idle actions.end_each actions.ends actions.hold_each actions.notice_send actions.notice_receive actions.notices actions.tells_moved actions.resends actions.resends_on_news actions.settle_each actions.tell_arrivals actions.listens rows.wants rows.voids rows.want_here rows.unwant_here rows.frees rows.receives rows.pass_each rows.sends_back rows.completes rows.gives_back rows.notices_first rows.end_arrivals rows.erases rows.gone_here rows.moved_here rows.known_here calls.makes calls.starts_send calls.encloses calls.posts calls.withdraws_send calls.withdraws_receive calls.ends_each kernel.answers_wait kernel.join_reports kernel.join_answers kernel.closes kernel.take_step kernel.performs kernel.call_step
 no_process = refl
 
-abbrev one_message_between_two_kernels_setting : Setting
+abbrev pub one_message_between_two_kernels_setting : Setting
 one_message_between_two_kernels_setting = record { version = 1; kernels = 2; homes = (0 ∷ 1 ∷ []); wires = ((pid 0, pid 1) ∷ []) }
 
-abbrev one_message_between_two_kernels_events : List Event
+abbrev pub one_message_between_two_kernels_events : List Event
 one_message_between_two_kernels_events =
     (Calls 0 (pid 0) (call.Send (end_a 0 0) (120 ∷ []) []) [])
     ∷ (Calls 1 (pid 1) (call.Receive (end_b 0 0)) [])
@@ -323,7 +323,7 @@ one_message_between_two_kernels_events =
     ∷ (Calls 1 (pid 1) call.Wait ((end_b 0 0) ∷ []))
     ∷ []
 
-abbrev one_message_between_two_kernels_entries : List Placed
+abbrev pub one_message_between_two_kernels_entries : List Placed
 one_message_between_two_kernels_entries =
     record { kernel = 0; entry = record { stamp = 1; what = (Asked (pid 0) (call.Send (end_a 0 0) (120 ∷ []) [])); steps = ((step.Send (end_a 0 0) 1 (120 ∷ []) []) ∷ []) } }
     ∷ record { kernel = 1; entry = record { stamp = 1; what = (Asked (pid 1) (call.Receive (end_b 0 0))); steps = ((step.Receive (end_b 0 0)) ∷ []) } }
@@ -333,14 +333,14 @@ one_message_between_two_kernels_entries =
     ∷ record { kernel = 1; entry = record { stamp = 4; what = (Asked (pid 1) call.Wait); steps = ((step.Wait (pid 1)) ∷ (step.Report (pid 1) (record { on = (end_b 0 0); way = Inward; outcome = Done; bytes = (120 ∷ []); enclosed = [] })) ∷ []) } }
     ∷ []
 
-one_message_between_two_kernels : unstamped (noted (start one_message_between_two_kernels_setting) one_message_between_two_kernels_events) ≡ one_message_between_two_kernels_entries
+pub one_message_between_two_kernels : unstamped (noted (start one_message_between_two_kernels_setting) one_message_between_two_kernels_events) ≡ one_message_between_two_kernels_entries
 unfolding end_eq put progress.sends progress.reports_to progress.answers_to progress.means progress.keeps actions.forgets actions.leave_each actions.values_leaving actions.matches actions.tells_gone actions.ends_idle actions.end_each actions.ends actions.hold_each actions.notice_send actions.notice_receive actions.notices actions.tells_moved actions.resends actions.resends_on_news actions.settle_each actions.tell_arrivals actions.listens rows.wants rows.voids rows.want_here rows.unwant_here rows.frees rows.receives rows.pass_each rows.sends_back rows.completes rows.gives_back rows.notices_first rows.end_arrivals rows.erases rows.gone_here rows.moved_here rows.known_here calls.makes calls.starts_send calls.encloses calls.posts calls.withdraws_send calls.withdraws_receive calls.ends_each kernel.answers_wait kernel.join_reports kernel.join_answers kernel.closes kernel.take_step kernel.performs kernel.call_step
 one_message_between_two_kernels = refl
 
-abbrev one_message_on_one_kernel_setting : Setting
+abbrev pub one_message_on_one_kernel_setting : Setting
 one_message_on_one_kernel_setting = record { version = 1; kernels = 1; homes = (0 ∷ 0 ∷ []); wires = ((pid 0, pid 1) ∷ []) }
 
-abbrev one_message_on_one_kernel_events : List Event
+abbrev pub one_message_on_one_kernel_events : List Event
 one_message_on_one_kernel_events =
     (Calls 0 (pid 1) (call.Receive (end_b 0 0)) [])
     ∷ (Calls 0 (pid 0) (call.Send (end_a 0 0) (104 ∷ 101 ∷ 108 ∷ 108 ∷ 111 ∷ []) []) [])
@@ -351,7 +351,7 @@ one_message_on_one_kernel_events =
     ∷ (Calls 0 (pid 1) call.Wait ((end_b 0 0) ∷ []))
     ∷ []
 
-abbrev one_message_on_one_kernel_entries : List Placed
+abbrev pub one_message_on_one_kernel_entries : List Placed
 one_message_on_one_kernel_entries =
     record { kernel = 0; entry = record { stamp = 1; what = (Asked (pid 1) (call.Receive (end_b 0 0))); steps = ((step.Receive (end_b 0 0)) ∷ []) } }
     ∷ record { kernel = 0; entry = record { stamp = 2; what = (Asked (pid 0) (call.Send (end_a 0 0) (104 ∷ 101 ∷ 108 ∷ 108 ∷ 111 ∷ []) [])); steps = ((step.Send (end_a 0 0) 1 (104 ∷ 101 ∷ 108 ∷ 108 ∷ 111 ∷ []) []) ∷ []) } }
@@ -362,14 +362,14 @@ one_message_on_one_kernel_entries =
     ∷ record { kernel = 0; entry = record { stamp = 7; what = (Asked (pid 1) call.Wait); steps = ((step.Wait (pid 1)) ∷ (step.Report (pid 1) (record { on = (end_b 0 0); way = Inward; outcome = Done; bytes = (104 ∷ 101 ∷ 108 ∷ 108 ∷ 111 ∷ []); enclosed = [] })) ∷ []) } }
     ∷ []
 
-one_message_on_one_kernel : unstamped (noted (start one_message_on_one_kernel_setting) one_message_on_one_kernel_events) ≡ one_message_on_one_kernel_entries
+pub one_message_on_one_kernel : unstamped (noted (start one_message_on_one_kernel_setting) one_message_on_one_kernel_events) ≡ one_message_on_one_kernel_entries
 unfolding end_eq put progress.sends progress.reports_to progress.answers_to progress.means progress.keeps actions.forgets actions.leave_each actions.values_leaving actions.matches actions.tells_gone actions.ends_idle actions.end_each actions.ends actions.hold_each actions.notice_send actions.notice_receive actions.notices actions.tells_moved actions.resends actions.resends_on_news actions.settle_each actions.tell_arrivals actions.listens rows.wants rows.voids rows.want_here rows.unwant_here rows.frees rows.receives rows.pass_each rows.sends_back rows.completes rows.gives_back rows.notices_first rows.end_arrivals rows.erases rows.gone_here rows.moved_here rows.known_here calls.makes calls.starts_send calls.encloses calls.posts calls.withdraws_send calls.withdraws_receive calls.ends_each kernel.answers_wait kernel.join_reports kernel.join_answers kernel.closes kernel.take_step kernel.performs kernel.call_step
 one_message_on_one_kernel = refl
 
-abbrev two_ends_in_one_message_setting : Setting
+abbrev pub two_ends_in_one_message_setting : Setting
 two_ends_in_one_message_setting = record { version = 2; kernels = 2; homes = (0 ∷ 1 ∷ []); wires = ((pid 0, pid 1) ∷ (pid 0, pid 1) ∷ (pid 0, pid 1) ∷ []) }
 
-abbrev two_ends_in_one_message_events : List Event
+abbrev pub two_ends_in_one_message_events : List Event
 two_ends_in_one_message_events =
     (Calls 1 (pid 1) (call.Receive (end_b 0 0)) [])
     ∷ (Takes 0 1)
@@ -385,7 +385,7 @@ two_ends_in_one_message_events =
     ∷ (Calls 1 (pid 1) call.Wait ((end_b 0 0) ∷ (end_a 0 1) ∷ (end_b 0 1) ∷ (end_a 0 2) ∷ (end_b 0 2) ∷ []))
     ∷ []
 
-abbrev two_ends_in_one_message_entries : List Placed
+abbrev pub two_ends_in_one_message_entries : List Placed
 two_ends_in_one_message_entries =
     record { kernel = 1; entry = record { stamp = 1; what = (Asked (pid 1) (call.Receive (end_b 0 0))); steps = ((step.Receive (end_b 0 0)) ∷ []) } }
     ∷ record { kernel = 0; entry = record { stamp = 2; what = (Took 1 (record { stamp = 0; what = (packet.Want (end_a 0 0) 1 1 0) })); steps = [] } }
@@ -401,7 +401,7 @@ two_ends_in_one_message_entries =
     ∷ record { kernel = 1; entry = record { stamp = 9; what = (Asked (pid 1) call.Wait); steps = ((step.Wait (pid 1)) ∷ (step.Report (pid 1) (record { on = (end_b 0 0); way = Inward; outcome = Done; bytes = (120 ∷ []); enclosed = ((end_a 0 1) ∷ (end_a 0 2) ∷ []) })) ∷ []) } }
     ∷ []
 
-two_ends_in_one_message : unstamped (noted (start two_ends_in_one_message_setting) two_ends_in_one_message_events) ≡ two_ends_in_one_message_entries
+pub two_ends_in_one_message : unstamped (noted (start two_ends_in_one_message_setting) two_ends_in_one_message_events) ≡ two_ends_in_one_message_entries
 unfolding end_eq put progress.sends progress.reports_to progress.answers_to progress.means progress.keeps actions.forgets actions.leave_each actions.values_leaving actions.matches actions.tells_gone actions.ends_idle actions.end_each actions.ends actions.hold_each actions.notice_send actions.notice_receive actions.notices actions.tells_moved actions.resends actions.resends_on_news actions.settle_each actions.tell_arrivals actions.listens rows.wants rows.voids rows.want_here rows.unwant_here rows.frees rows.receives rows.pass_each rows.sends_back rows.completes rows.gives_back rows.notices_first rows.end_arrivals rows.erases rows.gone_here rows.moved_here rows.known_here calls.makes calls.starts_send calls.encloses calls.posts calls.withdraws_send calls.withdraws_receive calls.ends_each kernel.answers_wait kernel.join_reports kernel.join_answers kernel.closes kernel.take_step kernel.performs kernel.call_step
 two_ends_in_one_message = refl
 

@@ -1,5 +1,5 @@
 -- Reading the words of `run` one argument at a time.
-use Rattle.std.proofs.Common.{◌≡◌, ℕ, subst, ◌&&◌, List, [], ◌∷◌, Option, Some, None, refl, true, false, Bool, ◌∙◌, ap}
+use Rattle.std.proofs.Common.{◌≡◌, ℕ, take, ◌&&◌, List, [], ◌∷◌, Option, Some, None, refl, true, false, Bool, ◌∙◌, ap}
 use Rattle.std.specs.Prelude.{codes, option_and_then, string_bytes, is_none, if◌then◌else◌}
 use Rattle.std.specs.Str.{bytes_eq}
 use Rattle.std.specs.Bool.{Decides}
@@ -19,8 +19,9 @@ unfolding run_read
 run_read-turns g w v ws e = rw e
 
 -- a word spelled so
-same_bytes : (xs ys : List ℕ) → bytes_eq xs ys ≡ true → xs ≡ ys
-same_bytes xs ys e = let P : Bool → Type 0 = λ b. Decides b (xs ≡ ys) in subst P e (bytes_eq-Decides xs ys)
+same_bytes : (b : Bool) (xs ys : List ℕ) → Decides b (xs ≡ ys) → b ≡ true → xs ≡ ys
+same_bytes true xs ys d e = d.0 tt
+same_bytes false xs ys d e = cc
 
 -- nothing is given where a second test fails
 not_both : (b : Bool) (o : Option RunWords) → (if b && false then o else None) ≡ None
@@ -28,13 +29,21 @@ not_both true o = refl
 not_both false o = refl
 
 -- it is no plan
-no_plan : (g : RunWords) (w : Word) → string_bytes w ≡ codes "--turns" → with_plan g w ≡ None
+no_plan : (g : RunWords) (w : Word) → is_name (string_bytes w) ≡ false → with_plan g w ≡ None
 unfolding with_plan
-no_plan g w e = rw e (not_both (is_none g.plan) (Some (record g { plan = Some w })))
+no_plan g w e = rw e (not_both (is_none g.plan) _)
+
+-- it is no argument of one word
+no_word : (g : RunWords) (w : Word) → string_bytes w ≡ codes "--turns" → with_word g w ≡ None
+unfolding with_word
+no_word g w e =
+    let serial : is_spelled w (codes "--serial") ≡ false = ap (λ bs. bytes_eq bs (codes "--serial")) e in
+    let turns : bytes_eq (take 8 (string_bytes w)) (codes "--turns=") ≡ false = ap (λ bs. bytes_eq (take 8 bs) (codes "--turns=")) e in
+    rw (serial, turns) (no_plan g w (ap is_name e))
 
 -- `--turns` has a word behind it
 pub run_read-last : (g : RunWords) (w : Word) → is_spelled w (codes "--turns") ≡ true → run_read g (w ∷ []) ≡ None
-unfolding run_read with_word
-run_read-last g w e = let bytes : string_bytes w ≡ codes "--turns" = same_bytes _ _ e in rw bytes (no_plan g w bytes)
+unfolding run_read
+run_read-last g w e = no_word g w (same_bytes (is_spelled w (codes "--turns")) _ _ (bytes_eq-Decides _ _) e)
 
 pub ruleset arguments = (run_read-word, run_read-turns, run_read-last)

@@ -1,0 +1,4 @@
+pub mod Journal
+pub mod Heads
+pub mod Transcript
+pub mod TranscriptText

@@ -1,0 +1,15 @@
+//! Journals of kernels, their merge, and the transcript of a run.
+#![tactic(auto)]
+
+mod journal;
+mod last;
+mod merging;
+mod packet;
+mod print;
+mod step;
+
+pub use journal::Journal;
+pub use kernel_world::{Entry, Happened, Placed};
+pub use last::{Last, ScriptNote};
+pub use merging::merge;
+pub use print::{print_entry, print_header, print_picture, print_transcript};
