@@ -2,7 +2,6 @@
 use Rattle.std.proofs.Common.{◌≡◌, ℕ, take, ◌&&◌, List, [], ◌∷◌, Option, Some, None, refl, true, false, Bool, ◌∙◌, ap}
 use Rattle.std.specs.Prelude.{codes, option_and_then, string_bytes, is_none, if◌then◌else◌}
 use Rattle.std.specs.Str.{bytes_eq}
-use Rattle.std.specs.Bool.{Decides}
 use Rattle.std.proofs.lemmas.Slice.Eq.{bytes_eq-Decides}
 use Rattle.lynx_run.specs.declared.words.RunWords.{RunWords}
 use Rattle.lynx_run.specs.Words.{Word, is_spelled, is_name, with_plan, with_turns, with_word, run_read}
@@ -17,11 +16,6 @@ run_read-word g w (v ∷ ws) e = rw e
 pub run_read-turns : (g : RunWords) (w v : Word) (ws : List Word) → is_spelled w (codes "--turns") ≡ true → run_read g (w ∷ v ∷ ws) ≡ option_and_then (λ h. run_read h ws) (with_turns g (string_bytes v))
 unfolding run_read
 run_read-turns g w v ws e = rw e
-
--- a word spelled so
-same_bytes : (b : Bool) (xs ys : List ℕ) → Decides b (xs ≡ ys) → b ≡ true → xs ≡ ys
-same_bytes true xs ys d e = d.0 tt
-same_bytes false xs ys d e = cc
 
 -- nothing is given where a second test fails
 not_both : (b : Bool) (o : Option RunWords) → (if b && false then o else None) ≡ None
@@ -44,6 +38,6 @@ no_word g w e =
 -- `--turns` has a word behind it
 pub run_read-last : (g : RunWords) (w : Word) → is_spelled w (codes "--turns") ≡ true → run_read g (w ∷ []) ≡ None
 unfolding run_read
-run_read-last g w e = no_word g w (same_bytes (is_spelled w (codes "--turns")) _ _ (bytes_eq-Decides _ _) e)
+run_read-last g w e = no_word g w ((bytes_eq-Decides (string_bytes w) (codes "--turns")).0 e)
 
 pub ruleset arguments = (run_read-word, run_read-turns, run_read-last)
