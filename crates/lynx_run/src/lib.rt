@@ -1,6 +1,10 @@
 //! The commands of the program `lynx`.
 #![tactic(auto)]
 
+mod failure;
+mod puts;
 mod words;
 
+pub use failure::Failure;
+pub use puts::put_lines;
 pub use words::{Command, command_of};
