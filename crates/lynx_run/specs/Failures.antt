@@ -27,3 +27,15 @@ failure_text name Absent = line (codes "lynx: " ++ name ++ codes ": absent")
 failure_text name TooBig = line (codes "lynx: " ++ name ++ codes ": too big")
 failure_text name (Script n rule) = line (name ++ codes ":" ++ number_text n ++ codes ": script " ++ number_text rule)
 failure_text name NoMemory = line (codes "lynx: no memory")
+
+-- A text is put on err: then the status is that of the failure. Where the put fails, the status is 3.
+abbrev pub IsPutAs : Failure → List ℕ → Status → Option (List ℕ) → Option (List ℕ) → ℕ → ℕ → Type 0
+IsPutAs failure text ended old new before now =
+    ((ended ≡ status_of failure) × (new ≡ append_known old text) × (now ≡ before))
+    ⊎ ((ended ≡ status.WriteFault) × PutsPart old new text × Rose before now)
+
+-- A failure is told on err by its line. Where there is no memory for the line, want of memory is told.
+abbrev pub Tells : List ℕ → Failure → Status → Option (List ℕ) → Option (List ℕ) → ℕ → ℕ → Type 0
+Tells name failure ended old new before now =
+    IsPutAs failure (failure_text name failure) ended old new before now
+    ⊎ IsPutAs NoMemory (failure_text name NoMemory) ended old new before now

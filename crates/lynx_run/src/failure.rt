@@ -42,7 +42,7 @@ impl Failure {
     }
 
     /// The line on err, where the file has this name.
-    fn text(self, alloc: Global, name: &str) -> Result<Vec<u8>, NoMemory>
+    pub(crate) fn text(self, alloc: Global, name: &str) -> Result<Vec<u8>, NoMemory>
         ensures { IfOk result (λ text. text.items ≡ failure_text name.now self) }
     {
         match self {

@@ -3,6 +3,7 @@
 
 mod failure;
 mod puts;
+mod tell;
 mod words;
 
 pub use failure::Failure;
