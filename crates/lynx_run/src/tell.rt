@@ -1,10 +1,9 @@
 //! A failure is told on err.
 ghost use Rattle.lynx_run.specs.Failures.{Tells, IsPutAs};
 
+use crate::failure::Failure;
 use lynx_outside::{Sink, Status};
 use std::alloc::Global;
-
-use crate::failure::Failure;
 
 /// Puts the line of a failure on err, and gives its status. Where there is no memory for the line, the failure is
 /// want of memory.
@@ -24,5 +23,52 @@ fn put_text<E: Sink>(failure: Failure, text: &[u8], err: &mut E) -> Status
     match err.put(text) {
         Ok(()) => failure.status(),
         Err(_) => Status::WriteFault,
+    }
+}
+
+#[cfg(test)]
+mod tests {
+    use super::*;
+    use lynx_outside::ListSink;
+    use std::test::Fail;
+
+    #[test]
+    fn each_failure_has_its_line(rt: HostRuntime) -> Result<(), Fail> {
+        let rows = [
+            (Failure::Usage, Status::Usage, "lynx: usage\n"),
+            (
+                Failure::ReadFault,
+                Status::ReadFault,
+                "lynx: a/s: read fault\n",
+            ),
+            (Failure::Absent, Status::NoFile, "lynx: a/s: absent\n"),
+            (Failure::TooBig, Status::TooBig, "lynx: a/s: too big\n"),
+            (
+                Failure::Script {
+                    line: 4097,
+                    rule: 10,
+                },
+                Status::Refused,
+                "a/s:4097: script 10\n",
+            ),
+            (Failure::NoMemory, Status::NoMemory, "lynx: no memory\n"),
+        ];
+        for (failure, status, text) in rows {
+            let mut err = ListSink::with(rt.alloc(), 100, Vec::new(rt.alloc()))?;
+            assert_eq!(rt; tell(rt.alloc(), "a/s", failure, &mut err), status);
+            assert_eq!(rt; err.held(), text.as_bytes());
+        }
+        Ok(())
+    }
+
+    #[test]
+    fn a_line_that_is_not_taken(rt: HostRuntime) -> Result<(), Fail> {
+        let mut err = ListSink::with(rt.alloc(), 5, Vec::new(rt.alloc()))?;
+        assert_eq!(rt;
+            tell(rt.alloc(), "s", Failure::Absent, &mut err),
+            Status::WriteFault
+        );
+        assert_eq!(rt; err.held(), b"lynx:".as_slice());
+        Ok(())
     }
 }

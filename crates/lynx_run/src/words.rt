@@ -6,22 +6,40 @@ use charlotte_text::read_below;
 use std::collections::VecDeque;
 
 /// What the words after the program's name ask for.
-#[derive(Debug, Drop)]
+#[derive(Debug, PartialEq, Eq, Drop)]
 pub enum Command {
     /// Performs the script of a file.
-    Drive { file: String },
+    Drive {
+        file: String,
+    },
     /// Checks the module of a file.
-    Check { file: String },
+    Check {
+        file: String,
+    },
     /// Lists the compiled module of a file.
-    Code { file: String },
+    Code {
+        file: String,
+    },
     /// Runs a plan, on one thread where it is serial, with so many turns for each kernel.
-    Run { plan: String, serial: bool, turns: u32 },
+    Run {
+        plan: String,
+        serial: bool,
+        turns: u32,
+    },
     /// Performs the script of a seed and counts.
-    Bench { seed: u32 },
+    Bench {
+        seed: u32,
+    },
     /// Replays the transcript of a file.
-    Audit { file: String },
+    Audit {
+        file: String,
+    },
     /// Runs a plan, on one thread where it is serial, with a snapshot that begins at a turn of kernel 0.
-    Snapshot { plan: String, at: u32, serial: bool },
+    Snapshot {
+        plan: String,
+        at: u32,
+        serial: bool,
+    },
 }
 
 /// The first word of a command.
@@ -68,12 +86,22 @@ fn behind(verb: Verb, words: VecDeque<String>) -> Option<Command>
     ensures { result ≡ behind verb words.items }
 {
     match verb {
-        Verb::Drive => Some(Command::Drive { file: one_name(words)? }),
-        Verb::Check => Some(Command::Check { file: one_name(words)? }),
-        Verb::Code => Some(Command::Code { file: one_name(words)? }),
+        Verb::Drive => Some(Command::Drive {
+            file: one_name(words)?,
+        }),
+        Verb::Check => Some(Command::Check {
+            file: one_name(words)?,
+        }),
+        Verb::Code => Some(Command::Code {
+            file: one_name(words)?,
+        }),
         Verb::Run => run_of(words),
-        Verb::Bench => Some(Command::Bench { seed: one_seed(words)? }),
-        Verb::Audit => Some(Command::Audit { file: one_name(words)? }),
+        Verb::Bench => Some(Command::Bench {
+            seed: one_seed(words)?,
+        }),
+        Verb::Audit => Some(Command::Audit {
+            file: one_name(words)?,
+        }),
         Verb::Snapshot => snapshot_of(words),
     }
 }
@@ -163,7 +191,11 @@ impl RunWords {
         if self.plan.is_some() || !is_name(word.as_bytes()) {
             return None;
         }
-        Some(RunWords { plan: Some(word), serial: self.serial, turns: self.turns })
+        Some(RunWords {
+            plan: Some(word),
+            serial: self.serial,
+            turns: self.turns,
+        })
     }
 
     #[tactic(auto, unfolding(crate::specs::Words::with_turns))]
@@ -174,7 +206,11 @@ impl RunWords {
             return None;
         }
         let turns = turns_number(number)?;
-        Some(RunWords { plan: self.plan, serial: self.serial, turns: Some(turns) })
+        Some(RunWords {
+            plan: self.plan,
+            serial: self.serial,
+            turns: Some(turns),
+        })
     }
 
     #[tactic(auto, unfolding(crate::specs::Words::with_serial))]
@@ -184,7 +220,11 @@ impl RunWords {
         if self.serial {
             return None;
         }
-        Some(RunWords { plan: self.plan, serial: true, turns: self.turns })
+        Some(RunWords {
+            plan: self.plan,
+            serial: true,
+            turns: self.turns,
+        })
     }
 
     #[tactic(auto, unfolding(crate::specs::Words::with_word))]
@@ -206,7 +246,11 @@ impl RunWords {
         ensures { result ≡ run_command self }
     {
         let plan = self.plan?;
-        Some(Command::Run { plan, serial: self.serial, turns: self.turns.unwrap_or(100_000) })
+        Some(Command::Run {
+            plan,
+            serial: self.serial,
+            turns: self.turns.unwrap_or(100_000),
+        })
     }
 }
 
@@ -227,7 +271,11 @@ fn add_argument(given: RunWords, word: String, words: &mut VecDeque<String>) -> 
 fn run_of(mut words: VecDeque<String>) -> Option<Command>
     ensures { result ≡ run_of words.items }
 {
-    let mut given = RunWords { plan: None, serial: false, turns: None };
+    let mut given = RunWords {
+        plan: None,
+        serial: false,
+        turns: None,
+    };
     while let Some(word) = words.pop_front() {
         given = add_argument(given, word, &mut words)?;
     }
@@ -241,7 +289,11 @@ impl SnapshotWords {
         if self.serial {
             return None;
         }
-        Some(SnapshotWords { plan: self.plan, at: self.at, serial: true })
+        Some(SnapshotWords {
+            plan: self.plan,
+            at: self.at,
+            serial: true,
+        })
     }
 
     fn with_place(self, word: String) -> Option<SnapshotWords>
@@ -251,13 +303,21 @@ impl SnapshotWords {
             if !is_name(word.as_bytes()) {
                 return None;
             }
-            return Some(SnapshotWords { plan: Some(word), at: self.at, serial: self.serial });
+            return Some(SnapshotWords {
+                plan: Some(word),
+                at: self.at,
+                serial: self.serial,
+            });
         }
         if self.at.is_some() {
             return None;
         }
         let at = turn_number(word.as_bytes())?;
-        Some(SnapshotWords { plan: self.plan, at: Some(at), serial: self.serial })
+        Some(SnapshotWords {
+            plan: self.plan,
+            at: Some(at),
+            serial: self.serial,
+        })
     }
 
     #[tactic(auto, unfolding(crate::specs::Words::snapped_word))]
@@ -276,7 +336,11 @@ impl SnapshotWords {
     {
         let plan = self.plan?;
         let at = self.at?;
-        Some(Command::Snapshot { plan, at, serial: self.serial })
+        Some(Command::Snapshot {
+            plan,
+            at,
+            serial: self.serial,
+        })
     }
 }
 
@@ -284,9 +348,16 @@ impl SnapshotWords {
 fn snapshot_of(mut words: VecDeque<String>) -> Option<Command>
     ensures { result ≡ snapshot_of words.items }
 {
-    let mut given = SnapshotWords { plan: None, at: None, serial: false };
+    let mut given = SnapshotWords {
+        plan: None,
+        at: None,
+        serial: false,
+    };
     while let Some(word) = words.pop_front() {
         given = given.with_word(word)?;
     }
     given.command()
 }
+
+#[cfg(test)]
+mod tests;
