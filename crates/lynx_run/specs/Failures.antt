@@ -1,0 +1,41 @@
+-- Why a command was not done: the line on err and the status.
+use Rattle.std.specs.Prelude.{◌≡◌, ◌⊎◌, ℕ, List, ◌++◌, Option, codes}
+use Rattle.std.specs.Io.KnownBytes.{append_known}
+use Rattle.charlotte_text.specs.Spelling.{number_text}
+use Rattle.kernel_journal.specs.Transcript.{line}
+use Rattle.lynx_outside.specs.Faults.{Rose}
+use Rattle.lynx_outside.specs.Sink.{PutsPart}
+use Rattle.lynx_outside.specs.declared.status.Status.{Status}
+use Rattle.lynx_outside.specs.declared.status.Status.TheVariants as status
+use Rattle.lynx_run.specs.declared.failure.Failure.{Failure}
+use Rattle.lynx_run.specs.declared.failure.Failure.TheVariants.{Usage, ReadFault, Absent, TooBig, Script, NoMemory}
+
+-- the status of a failure
+abbrev pub status_of : Failure → Status
+status_of Usage = status.Usage
+status_of ReadFault = status.ReadFault
+status_of Absent = status.NoFile
+status_of TooBig = status.TooBig
+status_of (Script n rule) = status.Refused
+status_of NoMemory = status.NoMemory
+
+-- its line on err, where the file that was read has this name
+abbrev pub failure_text : List ℕ → Failure → List ℕ
+failure_text name Usage = line (codes "lynx: usage")
+failure_text name ReadFault = line (codes "lynx: " ++ name ++ codes ": read fault")
+failure_text name Absent = line (codes "lynx: " ++ name ++ codes ": absent")
+failure_text name TooBig = line (codes "lynx: " ++ name ++ codes ": too big")
+failure_text name (Script n rule) = line (name ++ codes ":" ++ number_text n ++ codes ": script " ++ number_text rule)
+failure_text name NoMemory = line (codes "lynx: no memory")
+
+-- A text is put on err: then the status is that of the failure. Where the put fails, the status is 3.
+abbrev pub IsPutAs : Failure → List ℕ → Status → Option (List ℕ) → Option (List ℕ) → ℕ → ℕ → Type 0
+IsPutAs failure text ended old new before now =
+    ((ended ≡ status_of failure) × (new ≡ append_known old text) × (now ≡ before))
+    ⊎ ((ended ≡ status.WriteFault) × PutsPart old new text × Rose before now)
+
+-- A failure is told on err by its line. Where there is no memory for the line, want of memory is told.
+abbrev pub Tells : List ℕ → Failure → Status → Option (List ℕ) → Option (List ℕ) → ℕ → ℕ → Type 0
+Tells name failure ended old new before now =
+    IsPutAs failure (failure_text name failure) ended old new before now
+    ⊎ IsPutAs NoMemory (failure_text name NoMemory) ended old new before now

@@ -1,0 +1,85 @@
+//! Why a command was not done: the text on err and the status.
+ghost use Rattle.std.specs.Prelude.{◌≡◌, ◌++◌, IfOk, OnOk, codes};
+ghost use Rattle.charlotte_text.specs.Spelling.{number_text};
+
+use charlotte_calls::NoMemory;
+use charlotte_text::push_number;
+use lynx_outside::{Sink, Status};
+use std::alloc::Global;
+
+/// Why a command was not done.
+#[derive(Clone, Copy, Debug, PartialEq, Eq)]
+pub enum Failure {
+    /// The words are not of the form.
+    Usage,
+    /// The file was not read.
+    ReadFault,
+    /// The file is not there.
+    Absent,
+    /// The file has more bytes than it may have.
+    TooBig,
+    /// A line of the script breaks a rule.
+    Script { line: u32, rule: u8 },
+    /// There was not memory enough.
+    NoMemory,
+}
+
+impl Failure {
+    ghost use Rattle.lynx_run.specs.Failures.{status_of, failure_text};
+
+    /// The status with which the program ends.
+    pub(crate) fn status(self) -> Status
+        ensures { result ≡ status_of self }
+    {
+        match self {
+            Failure::Usage => Status::Usage,
+            Failure::ReadFault => Status::ReadFault,
+            Failure::Absent => Status::NoFile,
+            Failure::TooBig => Status::TooBig,
+            Failure::Script { .. } => Status::Refused,
+            Failure::NoMemory => Status::NoMemory,
+        }
+    }
+
+    /// The line on err, where the file has this name.
+    pub(crate) fn text(self, alloc: Global, name: &str) -> Result<Vec<u8>, NoMemory>
+        ensures { IfOk result (λ text. text.items ≡ failure_text name.now self) }
+    {
+        match self {
+            Failure::Usage => bytes_of(alloc, b"lynx: usage\n"),
+            Failure::ReadFault => file_text(alloc, name, b": read fault\n"),
+            Failure::Absent => file_text(alloc, name, b": absent\n"),
+            Failure::TooBig => file_text(alloc, name, b": too big\n"),
+            Failure::Script { line, rule } => script_text(alloc, name, line, rule),
+            Failure::NoMemory => bytes_of(alloc, b"lynx: no memory\n"),
+        }
+    }
+}
+
+fn bytes_of(alloc: Global, bytes: &[u8]) -> Result<Vec<u8>, NoMemory>
+    ensures { IfOk result (λ text. text.items ≡ bytes.now) }
+{
+    let text = bytes.to_vec(alloc)?;
+    Ok(text)
+}
+
+fn file_text(alloc: Global, name: &str, what: &[u8]) -> Result<Vec<u8>, NoMemory>
+    ensures { IfOk result (λ text. text.items ≡ codes "lynx: " ++ name.now ++ what.now) }
+{
+    let mut text = b"lynx: ".to_vec(alloc)?;
+    text.extend_from_slice(name.as_bytes())?;
+    text.extend_from_slice(what)?;
+    Ok(text)
+}
+
+fn script_text(alloc: Global, name: &str, line: u32, rule: u8) -> Result<Vec<u8>, NoMemory>
+    ensures { IfOk result (λ text. text.items ≡ name.now ++ codes ":" ++ number_text line ++ codes ": script " ++ number_text rule ++ codes "\n") }
+{
+    let mut text = name.as_bytes().to_vec(alloc)?;
+    text.push(b':')?;
+    push_number(&mut text, u64::from(line))?;
+    text.extend_from_slice(b": script ")?;
+    push_number(&mut text, u64::from(rule))?;
+    text.push(b'\n')?;
+    Ok(text)
+}

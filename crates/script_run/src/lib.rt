@@ -1,0 +1,2 @@
+//! Performing a script: the run of kernels that its lines name, and what is noted of it.
+#![tactic(auto)]
