@@ -9,12 +9,11 @@ ghost use Rattle.kernel_step.specs.Progress.{progress, HasRoom, AddsAtMost};
 ghost use Rattle.kernel_step.specs.Rows.{asks, arrived_row, receives, takes, unwanted_row, frees};
 ghost use Rattle.kernel_step.specs.Actions.{resends_on_news, is_withdrawing};
 
-use crate::tools::{answer, hear, here, keep, report, resend_on_news};
 use charlotte_calls::{
     Answer, Bytes, Cause, EndId, Ends, Outcome, Report, ServiceStep, Way, What, Work,
 };
 use end_table::{Entry, HereView, Holder, Inward, Table};
-use kernel_step::{push_packet, push_step};
+use kernel_step::{answer, asking, hear, here, keep, push_packet, push_step, report, resend_on_news};
 
 /// Receive: a receive is started on an end, and the opposite end is asked for a message.
 #[tactic(auto, unfolding(kernel_step::specs::Calls::posts))]
@@ -197,20 +196,4 @@ fn is_withdrawing(inward: Inward) -> bool
     ensures { result ≡ is_withdrawing inward }
 {
     matches!(inward, Inward::Withdrawing { .. })
-}
-
-/// The view of an end whose receive w is started.
-fn asking(table: &Table, to: EndId, w: u32) -> Option<HereView>
-    ensures view { result ≡ asks w (entries table.now to) }
-    ensures here { IfSome result (λ v. entries table.now v.value.end ≡ Here v) }
-{
-    match table.look(to) {
-        Entry::Here(view) => match view.inward {
-            Inward::Posted { w: asked } | Inward::Withdrawing { w: asked } if asked == w => Some(
-                view,
-            ),
-            _ => None,
-        },
-        _ => None,
-    }
 }

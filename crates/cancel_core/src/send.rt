@@ -1,6 +1,6 @@
 ghost use Rattle.std.specs.Prelude.{◌≡◌, false, Some, IfSome};
 ghost use Rattle.std.specs.List.{list_any};
-ghost use Rattle.cancel_core.specs.Enclosed.{AreEnclosed};
+ghost use Rattle.kernel_step.specs.Enclosed.{AreEnclosed};
 ghost use Rattle.end_table.specs.Place.{end_eq};
 ghost use Rattle.end_table.specs.Table.{entries, IsHere, IfHere};
 ghost use Rattle.end_table.specs.declared.entry.Entry.TheVariants.{Here};
@@ -11,10 +11,11 @@ ghost use Rattle.kernel_step.specs.Rows.{want_row, want_here, wants, awaits, tak
 
 use crate::enclosed::hold_each;
 use crate::matching::{match_waiting, send_parcel};
-use crate::tools::{hear, here, keep, listen, no_ends, report, resend_on_news, send_report};
 use charlotte_calls::{Bytes, EndId, Ends, Outcome, ServiceStep, Way, What, Work};
 use end_table::{Entry, HereView, Outward, Table};
-use kernel_step::{push_packet, push_step};
+use kernel_step::{
+    awaiting, hear, here, keep, listen, no_ends, push_packet, push_step, report, resend_on_news, send_report,
+};
 use std::mem;
 
 /// Send: a send of these bytes, which encloses these ends, is started, and matched where a receive wants it.
@@ -168,20 +169,6 @@ pub fn finished(table: &mut Table, to: EndId, n: u32, at: u8, hops: u32, out: &m
 {
     if let Some(view) = awaiting(table, to, n) {
         complete(table, view, n, at, hops, out);
-    }
-}
-
-/// The view of an end whose send n is matched.
-fn awaiting(table: &Table, to: EndId, n: u32) -> Option<HereView>
-    ensures view { result ≡ awaits n (entries table.now to) }
-    ensures here { IfSome result (λ v. entries table.now v.value.end ≡ Here v) }
-{
-    match table.look(to) {
-        Entry::Here(view) => match view.outward {
-            Outward::Matched { n: matched } if matched == n => Some(view),
-            _ => None,
-        },
-        _ => None,
     }
 }
 

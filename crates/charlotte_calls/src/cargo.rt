@@ -1,4 +1,4 @@
-ghost use Rattle.std.specs.Prelude.{◌≡◌, ◌<◌, [], ◌∷◌, ◌++◌, length};
+ghost use Rattle.std.specs.Prelude.{◌≡◌, ◌<◌, [], ◌∷◌, ◌++◌, length, IfNone};
 ghost use Rattle.std.specs.List.{list_all};
 ghost use Rattle.std.specs.Option.{option_to_list};
 
@@ -45,7 +45,8 @@ impl Cargo {
 
     /// Takes out the first value; `None` exactly where there is none.
     pub fn next(&mut self) -> Option<Moving>
-        ensures { self.old ≡ option_to_list result ++ self.new }
+        ensures rest { self.old ≡ option_to_list result ++ self.new }
+        ensures none { IfNone result (self.old ≡ []) }
     {
         if self.values.is_empty() {
             return None;

@@ -5,3 +5,4 @@ pub mod Calls
 pub mod Kernel
 pub mod Start
 pub mod Owned
+pub mod Enclosed
