@@ -24,6 +24,7 @@ pub fn notice(table: &mut Table, on: EndId, out: &mut Work)
     ensures part { IfHere (entries table.old on) (λ v. progress (entries table.new) out.new
         ≡ notices table.old.kernel v (progress (entries table.old) out.old)) }
     ensures room { AddsAtMost 8 2 1 0 out.old out.new }
+    ensures kernel { table.new.kernel ≡ table.old.kernel }
 {
     let HereView {
         value,
@@ -84,6 +85,7 @@ fn notice_send(table: &mut Table, on: EndId, holder: Holder, outward: Outward, o
     requires room { HasRoom 0 1 0 0 out.old }
     ensures part { progress (entries table.new) out.new ≡ notice_send on holder outward (progress (entries table.old) out.old) }
     ensures room { AddsAtMost 0 1 0 0 out.old out.new }
+    ensures kernel { table.new.kernel ≡ table.old.kernel }
 {
     if let Outward::Waiting { enclosed, .. } = outward {
         report(

@@ -14,7 +14,7 @@ use crate::matching::{match_waiting, send_parcel};
 use charlotte_calls::{Bytes, EndId, Ends, Outcome, ServiceStep, Way, What, Work};
 use end_table::{Entry, HereView, Outward, Table};
 use kernel_step::{
-    awaiting, hear, here, keep, listen, no_ends, push_packet, push_step, report, resend_on_news, send_report,
+    awaiting, enclosed_ends, hear, here, keep, listen, no_ends, push_packet, push_step, report, resend_on_news, send_report,
 };
 use std::mem;
 
@@ -29,6 +29,7 @@ pub fn start_send(table: &mut Table, on: EndId, bytes: Bytes, enclose: Ends, out
     ensures part { IfHere (entries table.old on) (λ v. progress (entries table.new) out.new
         ≡ starts_send table.old.kernel bytes enclose v (progress (entries table.old) out.old)) }
     ensures room { AddsAtMost 1 0 0 2 out.old out.new }
+    ensures kernel { table.new.kernel ≡ table.old.kernel }
 {
     let HereView {
         mut value,
@@ -77,6 +78,7 @@ pub fn withdraw_send(table: &mut Table, on: EndId, out: &mut Work)
     ensures part { IfHere (entries table.old on) (λ v. progress (entries table.new) out.new
         ≡ withdraws_send v (progress (entries table.old) out.old)) }
     ensures room { AddsAtMost 0 0 0 1 out.old out.new }
+    ensures kernel { table.new.kernel ≡ table.old.kernel }
 {
     let mut view = here(table, on);
     let holder = view.holder;
@@ -93,16 +95,6 @@ pub fn withdraw_send(table: &mut Table, on: EndId, out: &mut Work)
     );
 }
 
-/// The ends that a send encloses.
-fn enclosed_ends(outward: Outward) -> Ends
-    ensures { result ≡ enclosed_of outward }
-{
-    match outward {
-        Outward::Waiting { enclosed, .. } => enclosed,
-        Outward::Idle | Outward::Matched { .. } | Outward::Unreported => no_ends(),
-    }
-}
-
 /// The row want: the receive w of the opposite end asks for a message, unless it was matched or withdrawn.
 pub fn want(table: &mut Table, to: EndId, w: u32, at: u8, hops: u32, out: &mut Work)
     requires enclosed { IfHere (entries table.old to) (λ v. AreEnclosed (entries table.old) (enclosed_of v.outward)) }
@@ -111,6 +103,7 @@ pub fn want(table: &mut Table, to: EndId, w: u32, at: u8, hops: u32, out: &mut W
     ensures part { progress (entries table.new) out.new
         ≡ want_row table.old.kernel to w at hops (entries table.old to) (progress (entries table.old) out.old) }
     ensures room { AddsAtMost 3 0 0 1 out.old out.new }
+    ensures kernel { table.new.kernel ≡ table.old.kernel }
 {
     match table.look(to) {
         Entry::Here(view) => want_here(table, view, w, at, hops, out),
@@ -129,6 +122,7 @@ fn want_here(table: &mut Table, view: HereView, w: u32, at: u8, hops: u32, out: 
     ensures part { progress (entries table.new) out.new
         ≡ want_here table.old.kernel w at hops view (progress (entries table.old) out.old) }
     ensures room { AddsAtMost 3 0 0 1 out.old out.new }
+    ensures kernel { table.new.kernel ≡ table.old.kernel }
 {
     if view.value.dead {
         return;
@@ -150,6 +144,7 @@ fn serve(table: &mut Table, mut view: HereView, w: u32, at: u8, hops: u32, out: 
     ensures part { progress (entries table.new) out.new
         ≡ wants table.old.kernel w at hops view (progress (entries table.old) out.old) }
     ensures room { AddsAtMost 3 0 0 1 out.old out.new }
+    ensures kernel { table.new.kernel ≡ table.old.kernel }
 {
     let kernel = table.kernel();
     let news = hear(&mut view, at, hops);
@@ -166,6 +161,7 @@ pub fn finished(table: &mut Table, to: EndId, n: u32, at: u8, hops: u32, out: &m
     ensures part { progress (entries table.new) out.new
         ≡ taken_row table.old.kernel n at hops (awaits n (entries table.old to)) (progress (entries table.old) out.old) }
     ensures room { AddsAtMost 2 1 0 1 out.old out.new }
+    ensures kernel { table.new.kernel ≡ table.old.kernel }
 {
     if let Some(view) = awaiting(table, to, n) {
         complete(table, view, n, at, hops, out);
@@ -180,6 +176,7 @@ fn complete(table: &mut Table, mut view: HereView, n: u32, at: u8, hops: u32, ou
     ensures part { progress (entries table.new) out.new
         ≡ completes table.old.kernel n at hops view (progress (entries table.old) out.old) }
     ensures room { AddsAtMost 2 1 0 1 out.old out.new }
+    ensures kernel { table.new.kernel ≡ table.old.kernel }
 {
     let kernel = table.kernel();
     let on = view.value.end;
@@ -197,6 +194,7 @@ pub fn unwant(table: &mut Table, to: EndId, w: u32, at: u8, hops: u32, out: &mut
     ensures part { progress (entries table.new) out.new
         ≡ unwant_row table.old.kernel to w at hops (entries table.old to) (progress (entries table.old) out.old) }
     ensures room { AddsAtMost 3 0 0 1 out.old out.new }
+    ensures kernel { table.new.kernel ≡ table.old.kernel }
 {
     match table.look(to) {
         Entry::Here(view) => withdraw(table, view, w, at, hops, out),
@@ -213,6 +211,7 @@ fn withdraw(table: &mut Table, view: HereView, w: u32, at: u8, hops: u32, out: &
     ensures part { progress (entries table.new) out.new
         ≡ unwant_here table.old.kernel w at hops view (progress (entries table.old) out.old) }
     ensures room { AddsAtMost 3 0 0 1 out.old out.new }
+    ensures kernel { table.new.kernel ≡ table.old.kernel }
 {
     if view.value.dead {
         return;
@@ -232,6 +231,7 @@ fn void(table: &mut Table, mut view: HereView, w: u32, at: u8, hops: u32, out: &
     ensures part { progress (entries table.new) out.new
         ≡ voids table.old.kernel w at hops view (progress (entries table.old) out.old) }
     ensures room { AddsAtMost 3 0 0 1 out.old out.new }
+    ensures kernel { table.new.kernel ≡ table.old.kernel }
 {
     let kernel = table.kernel();
     let asking = view.value.end.opposite();

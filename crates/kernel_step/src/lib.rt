@@ -3,8 +3,8 @@
 //! the parts of an event add to a `Work`.
 #![tactic(auto)]
 
-mod ends;
 mod enclosed;
+mod ends;
 mod news;
 mod owners;
 mod phase;
@@ -12,8 +12,8 @@ mod started;
 mod trail;
 mod writers;
 
+pub use enclosed::{enclosed_ends, ends_in};
 pub use ends::{first_of, hear, here, hold, keep, leave};
-pub use enclosed::ends_in;
 pub use news::{listen, resend_on_news, tell_moved};
 pub use owners::{answer, no_bytes, no_ends, report, send_report};
 pub use phase::Phase;

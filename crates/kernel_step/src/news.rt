@@ -84,6 +84,7 @@ pub fn listen(table: &mut Table, mut view: HereView, at: u8, hops: u32, out: &mu
     ensures part { progress (entries table.new) out.new
         ≡ listens table.old.kernel at hops view (progress (entries table.old) out.old) }
     ensures room { AddsAtMost 2 0 0 0 out.old out.new }
+    ensures kernel { table.new.kernel ≡ table.old.kernel }
 {
     let kernel = table.kernel();
     let news = hear(&mut view, at, hops);
