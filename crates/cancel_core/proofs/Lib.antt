@@ -1,3 +1,1 @@
-pub mod EnclosedEnds
-pub mod Forgets
 pub mod Matches

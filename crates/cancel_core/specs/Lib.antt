@@ -1,2 +1,1 @@
-pub mod Enclosed
 pub mod Receives

@@ -1,52 +1,17 @@
-ghost use Rattle.std.specs.Prelude.{◌≡◌, ◌<◌, false};
+ghost use Rattle.std.specs.Prelude.{◌≡◌, false};
 ghost use Rattle.std.specs.List.{list_any};
-ghost use Rattle.cancel_core.specs.Enclosed.{AreEnclosed};
+ghost use Rattle.kernel_step.specs.Enclosed.{AreEnclosed};
 ghost use Rattle.charlotte_calls.specs.declared.names.EndId.{EndId};
 ghost use Rattle.end_table.specs.Place.{end_eq};
 ghost use Rattle.end_table.specs.Table.{entries, IsHere, IfHere};
 ghost use Rattle.end_table.specs.declared.entry.Entry.{Entry};
-ghost use Rattle.kernel_step.specs.Actions.{enclosed_of, notices, notice_send, notice_receive, noticed_value, noticed_outward, noticed_inward, dead_receive_report, forgets, forget_at};
+ghost use Rattle.kernel_step.specs.Actions.{enclosed_of, notices, notice_send, notice_receive, noticed_value, noticed_outward, noticed_inward, dead_receive_report};
 ghost use Rattle.kernel_step.specs.Progress.{progress, HasRoom, AddsAtMost};
 
 use crate::enclosed::hold_each;
-use crate::tools::{answer, here, keep, no_bytes, no_ends, report, send_report};
-use charlotte_calls::{Answer, Cause, EndId, MovingPicture, Outcome, Report, Way, What, Work};
+use charlotte_calls::{Answer, Cause, EndId, MovingPicture, Outcome, Report, Way, Work};
 use end_table::{HereView, Holder, Inward, Outward, Table};
-use kernel_step::push_packet;
-
-/// The numbers of the kernels that there may be.
-const KERNELS: [u8; 8] = [0, 1, 2, 3, 4, 5, 6, 7];
-
-/// Each other kernel of the trail is told to forget the end.
-#[tactic(auto, unfolding(kernel_step::specs::Actions::forgets))]
-pub(crate) fn forget(out: &mut Work, kernel: u8, value: MovingPicture)
-    requires { HasRoom 8 0 0 0 out.old }
-    ensures part { (t : EndId → Entry) → progress t out.new ≡ forgets kernel value (progress t out.old) }
-    ensures room { AddsAtMost 8 0 0 0 out.old out.new }
-{
-    for to in &KERNELS {
-        forget_at(out, kernel, value, *to);
-    }
-}
-
-/// A kernel of the trail, other than this one, is told to forget the end.
-fn forget_at(out: &mut Work, kernel: u8, value: MovingPicture, to: u8)
-    requires below { to < 8 }
-    requires room { HasRoom 1 0 0 0 out.old }
-    ensures part { (t : EndId → Entry) → progress t out.new ≡ forget_at kernel value to (progress t out.old) }
-    ensures room { AddsAtMost 1 0 0 0 out.old out.new }
-{
-    if (value.trail >> to) & 1 == 1 && to != kernel {
-        push_packet(
-            out,
-            to,
-            What::Forget {
-                to: value.end,
-                hops: value.hops,
-            },
-        );
-    }
-}
+use kernel_step::{answer, forget, here, keep, no_bytes, no_ends, report, send_report};
 
 /// The action NOTICE at an end that is here: a waiting send and a started receive report Destroyed, a Cancel that waits is
 /// answered Dead, and the traces of the end are forgotten.
@@ -59,6 +24,7 @@ pub fn notice(table: &mut Table, on: EndId, out: &mut Work)
     ensures part { IfHere (entries table.old on) (λ v. progress (entries table.new) out.new
         ≡ notices table.old.kernel v (progress (entries table.old) out.old)) }
     ensures room { AddsAtMost 8 2 1 0 out.old out.new }
+    ensures kernel { table.new.kernel ≡ table.old.kernel }
 {
     let HereView {
         value,
@@ -119,6 +85,7 @@ fn notice_send(table: &mut Table, on: EndId, holder: Holder, outward: Outward, o
     requires room { HasRoom 0 1 0 0 out.old }
     ensures part { progress (entries table.new) out.new ≡ notice_send on holder outward (progress (entries table.old) out.old) }
     ensures room { AddsAtMost 0 1 0 0 out.old out.new }
+    ensures kernel { table.new.kernel ≡ table.old.kernel }
 {
     if let Outward::Waiting { enclosed, .. } = outward {
         report(

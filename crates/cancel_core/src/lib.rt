@@ -7,9 +7,9 @@ mod enclosed;
 mod matching;
 mod receive;
 mod send;
-mod tools;
+mod spare;
 
 pub use death::notice;
 pub use receive::{arrived, post, unwanted, withdraw_receive};
+pub use spare::room;
 pub use send::{finished, start_send, unwant, want, withdraw_send};
-pub use tools::room;

@@ -1,6 +1,6 @@
 ghost use Rattle.std.specs.Prelude.{◌≡◌, false};
 ghost use Rattle.std.specs.List.{list_any};
-ghost use Rattle.cancel_core.specs.Enclosed.{AreEnclosed};
+ghost use Rattle.kernel_step.specs.Enclosed.{AreEnclosed};
 ghost use Rattle.end_table.specs.Place.{end_eq};
 ghost use Rattle.end_table.specs.Table.{entries, IsHere};
 ghost use Rattle.end_table.specs.declared.entry.Outward.{Outward};
@@ -8,10 +8,9 @@ ghost use Rattle.kernel_step.specs.Actions.{matches, match_waiting, enclosed_of}
 ghost use Rattle.kernel_step.specs.Progress.{progress, HasRoom, AddsAtMost};
 
 use crate::enclosed::leave_each;
-use crate::tools::keep;
 use charlotte_calls::{Bytes, Cargo, Ends, MovingPicture, ServiceStep, What, Work};
 use end_table::{HereView, Holder, Inward, Outward, Table};
-use kernel_step::{push_packet, push_step};
+use kernel_step::{keep, push_packet, push_step};
 
 /// MATCH where a send waits. The view is kept in either case.
 pub(crate) fn match_waiting(table: &mut Table, view: HereView, out: &mut Work)

@@ -9,12 +9,11 @@ ghost use Rattle.kernel_step.specs.Progress.{progress, HasRoom, AddsAtMost};
 ghost use Rattle.kernel_step.specs.Rows.{asks, arrived_row, receives, takes, unwanted_row, frees};
 ghost use Rattle.kernel_step.specs.Actions.{resends_on_news, is_withdrawing};
 
-use crate::tools::{answer, hear, here, keep, report, resend_on_news};
 use charlotte_calls::{
     Answer, Bytes, Cause, EndId, Ends, Outcome, Report, ServiceStep, Way, What, Work,
 };
 use end_table::{Entry, HereView, Holder, Inward, Table};
-use kernel_step::{push_packet, push_step};
+use kernel_step::{answer, asking, hear, here, keep, push_packet, push_step, report, resend_on_news};
 
 /// Receive: a receive is started on an end, and the opposite end is asked for a message.
 #[tactic(auto, unfolding(kernel_step::specs::Calls::posts))]
@@ -24,6 +23,7 @@ pub fn post(table: &mut Table, on: EndId, out: &mut Work)
     ensures part { IfHere (entries table.old on) (λ v. progress (entries table.new) out.new
         ≡ posts table.old.kernel v (progress (entries table.old) out.old)) }
     ensures room { AddsAtMost 1 0 0 1 out.old out.new }
+    ensures kernel { table.new.kernel ≡ table.old.kernel }
 {
     let mut view = here(table, on);
     let w = view.value.asked.saturating_add(1);
@@ -57,6 +57,7 @@ pub fn arrived(
     ensures part { progress (entries table.new) out.new
         ≡ arrived_row table.old.kernel n at hops bytes enclosed (asks w (entries table.old to)) (progress (entries table.old) out.old) }
     ensures room { AddsAtMost 3 1 1 1 out.old out.new }
+    ensures kernel { table.new.kernel ≡ table.old.kernel }
 {
     if let Some(view) = asking(table, to, w) {
         receive(table, view, n, at, hops, bytes, enclosed, out);
@@ -80,6 +81,7 @@ fn receive(
     ensures part { progress (entries table.new) out.new
         ≡ arrived_row table.old.kernel n at hops bytes enclosed (Some view) (progress (entries table.old) out.old) }
     ensures room { AddsAtMost 3 1 1 1 out.old out.new }
+    ensures kernel { table.new.kernel ≡ table.old.kernel }
 {
     let kernel = table.kernel();
     let on = view.value.end;
@@ -117,6 +119,7 @@ pub fn withdraw_receive(table: &mut Table, on: EndId, out: &mut Work)
     ensures part { IfHere (entries table.old on) (λ v. IfPosted v.inward (λ w. progress (entries table.new) out.new
         ≡ withdraws_receive table.old.kernel w v (progress (entries table.old) out.old))) }
     ensures room { AddsAtMost 1 0 0 1 out.old out.new }
+    ensures kernel { table.new.kernel ≡ table.old.kernel }
 {
     let mut view = here(table, on);
     let w = match view.inward {
@@ -147,6 +150,7 @@ pub fn unwanted(table: &mut Table, to: EndId, w: u32, at: u8, hops: u32, out: &m
     ensures part { progress (entries table.new) out.new
         ≡ unwanted_row table.old.kernel w at hops (entries table.old to) (progress (entries table.old) out.old) }
     ensures room { AddsAtMost 2 0 1 1 out.old out.new }
+    ensures kernel { table.new.kernel ≡ table.old.kernel }
 {
     if let Entry::Here(view) = table.look(to) {
         if view.inward == (Inward::Withdrawing { w }) {
@@ -163,6 +167,7 @@ fn free(table: &mut Table, mut view: HereView, at: u8, hops: u32, out: &mut Work
     ensures part { progress (entries table.new) out.new
         ≡ frees table.old.kernel at hops view (progress (entries table.old) out.old) }
     ensures room { AddsAtMost 2 0 1 1 out.old out.new }
+    ensures kernel { table.new.kernel ≡ table.old.kernel }
 {
     let kernel = table.kernel();
     push_step(out, ServiceStep::Free { on: view.value.end });
@@ -197,20 +202,4 @@ fn is_withdrawing(inward: Inward) -> bool
     ensures { result ≡ is_withdrawing inward }
 {
     matches!(inward, Inward::Withdrawing { .. })
-}
-
-/// The view of an end whose receive w is started.
-fn asking(table: &Table, to: EndId, w: u32) -> Option<HereView>
-    ensures view { result ≡ asks w (entries table.now to) }
-    ensures here { IfSome result (λ v. entries table.now v.value.end ≡ Here v) }
-{
-    match table.look(to) {
-        Entry::Here(view) => match view.inward {
-            Inward::Posted { w: asked } | Inward::Withdrawing { w: asked } if asked == w => Some(
-                view,
-            ),
-            _ => None,
-        },
-        _ => None,
-    }
 }

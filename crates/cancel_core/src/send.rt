@@ -1,6 +1,6 @@
 ghost use Rattle.std.specs.Prelude.{◌≡◌, false, Some, IfSome};
 ghost use Rattle.std.specs.List.{list_any};
-ghost use Rattle.cancel_core.specs.Enclosed.{AreEnclosed};
+ghost use Rattle.kernel_step.specs.Enclosed.{AreEnclosed};
 ghost use Rattle.end_table.specs.Place.{end_eq};
 ghost use Rattle.end_table.specs.Table.{entries, IsHere, IfHere};
 ghost use Rattle.end_table.specs.declared.entry.Entry.TheVariants.{Here};
@@ -11,10 +11,11 @@ ghost use Rattle.kernel_step.specs.Rows.{want_row, want_here, wants, awaits, tak
 
 use crate::enclosed::hold_each;
 use crate::matching::{match_waiting, send_parcel};
-use crate::tools::{hear, here, keep, listen, no_ends, report, resend_on_news, send_report};
 use charlotte_calls::{Bytes, EndId, Ends, Outcome, ServiceStep, Way, What, Work};
 use end_table::{Entry, HereView, Outward, Table};
-use kernel_step::{push_packet, push_step};
+use kernel_step::{
+    awaiting, enclosed_ends, hear, here, keep, listen, no_ends, push_packet, push_step, report, resend_on_news, send_report,
+};
 use std::mem;
 
 /// Send: a send of these bytes, which encloses these ends, is started, and matched where a receive wants it.
@@ -28,6 +29,7 @@ pub fn start_send(table: &mut Table, on: EndId, bytes: Bytes, enclose: Ends, out
     ensures part { IfHere (entries table.old on) (λ v. progress (entries table.new) out.new
         ≡ starts_send table.old.kernel bytes enclose v (progress (entries table.old) out.old)) }
     ensures room { AddsAtMost 1 0 0 2 out.old out.new }
+    ensures kernel { table.new.kernel ≡ table.old.kernel }
 {
     let HereView {
         mut value,
@@ -76,6 +78,7 @@ pub fn withdraw_send(table: &mut Table, on: EndId, out: &mut Work)
     ensures part { IfHere (entries table.old on) (λ v. progress (entries table.new) out.new
         ≡ withdraws_send v (progress (entries table.old) out.old)) }
     ensures room { AddsAtMost 0 0 0 1 out.old out.new }
+    ensures kernel { table.new.kernel ≡ table.old.kernel }
 {
     let mut view = here(table, on);
     let holder = view.holder;
@@ -92,16 +95,6 @@ pub fn withdraw_send(table: &mut Table, on: EndId, out: &mut Work)
     );
 }
 
-/// The ends that a send encloses.
-fn enclosed_ends(outward: Outward) -> Ends
-    ensures { result ≡ enclosed_of outward }
-{
-    match outward {
-        Outward::Waiting { enclosed, .. } => enclosed,
-        Outward::Idle | Outward::Matched { .. } | Outward::Unreported => no_ends(),
-    }
-}
-
 /// The row want: the receive w of the opposite end asks for a message, unless it was matched or withdrawn.
 pub fn want(table: &mut Table, to: EndId, w: u32, at: u8, hops: u32, out: &mut Work)
     requires enclosed { IfHere (entries table.old to) (λ v. AreEnclosed (entries table.old) (enclosed_of v.outward)) }
@@ -110,6 +103,7 @@ pub fn want(table: &mut Table, to: EndId, w: u32, at: u8, hops: u32, out: &mut W
     ensures part { progress (entries table.new) out.new
         ≡ want_row table.old.kernel to w at hops (entries table.old to) (progress (entries table.old) out.old) }
     ensures room { AddsAtMost 3 0 0 1 out.old out.new }
+    ensures kernel { table.new.kernel ≡ table.old.kernel }
 {
     match table.look(to) {
         Entry::Here(view) => want_here(table, view, w, at, hops, out),
@@ -128,6 +122,7 @@ fn want_here(table: &mut Table, view: HereView, w: u32, at: u8, hops: u32, out: 
     ensures part { progress (entries table.new) out.new
         ≡ want_here table.old.kernel w at hops view (progress (entries table.old) out.old) }
     ensures room { AddsAtMost 3 0 0 1 out.old out.new }
+    ensures kernel { table.new.kernel ≡ table.old.kernel }
 {
     if view.value.dead {
         return;
@@ -149,6 +144,7 @@ fn serve(table: &mut Table, mut view: HereView, w: u32, at: u8, hops: u32, out: 
     ensures part { progress (entries table.new) out.new
         ≡ wants table.old.kernel w at hops view (progress (entries table.old) out.old) }
     ensures room { AddsAtMost 3 0 0 1 out.old out.new }
+    ensures kernel { table.new.kernel ≡ table.old.kernel }
 {
     let kernel = table.kernel();
     let news = hear(&mut view, at, hops);
@@ -165,23 +161,10 @@ pub fn finished(table: &mut Table, to: EndId, n: u32, at: u8, hops: u32, out: &m
     ensures part { progress (entries table.new) out.new
         ≡ taken_row table.old.kernel n at hops (awaits n (entries table.old to)) (progress (entries table.old) out.old) }
     ensures room { AddsAtMost 2 1 0 1 out.old out.new }
+    ensures kernel { table.new.kernel ≡ table.old.kernel }
 {
     if let Some(view) = awaiting(table, to, n) {
         complete(table, view, n, at, hops, out);
-    }
-}
-
-/// The view of an end whose send n is matched.
-fn awaiting(table: &Table, to: EndId, n: u32) -> Option<HereView>
-    ensures view { result ≡ awaits n (entries table.now to) }
-    ensures here { IfSome result (λ v. entries table.now v.value.end ≡ Here v) }
-{
-    match table.look(to) {
-        Entry::Here(view) => match view.outward {
-            Outward::Matched { n: matched } if matched == n => Some(view),
-            _ => None,
-        },
-        _ => None,
     }
 }
 
@@ -193,6 +176,7 @@ fn complete(table: &mut Table, mut view: HereView, n: u32, at: u8, hops: u32, ou
     ensures part { progress (entries table.new) out.new
         ≡ completes table.old.kernel n at hops view (progress (entries table.old) out.old) }
     ensures room { AddsAtMost 2 1 0 1 out.old out.new }
+    ensures kernel { table.new.kernel ≡ table.old.kernel }
 {
     let kernel = table.kernel();
     let on = view.value.end;
@@ -210,6 +194,7 @@ pub fn unwant(table: &mut Table, to: EndId, w: u32, at: u8, hops: u32, out: &mut
     ensures part { progress (entries table.new) out.new
         ≡ unwant_row table.old.kernel to w at hops (entries table.old to) (progress (entries table.old) out.old) }
     ensures room { AddsAtMost 3 0 0 1 out.old out.new }
+    ensures kernel { table.new.kernel ≡ table.old.kernel }
 {
     match table.look(to) {
         Entry::Here(view) => withdraw(table, view, w, at, hops, out),
@@ -226,6 +211,7 @@ fn withdraw(table: &mut Table, view: HereView, w: u32, at: u8, hops: u32, out: &
     ensures part { progress (entries table.new) out.new
         ≡ unwant_here table.old.kernel w at hops view (progress (entries table.old) out.old) }
     ensures room { AddsAtMost 3 0 0 1 out.old out.new }
+    ensures kernel { table.new.kernel ≡ table.old.kernel }
 {
     if view.value.dead {
         return;
@@ -245,6 +231,7 @@ fn void(table: &mut Table, mut view: HereView, w: u32, at: u8, hops: u32, out: &
     ensures part { progress (entries table.new) out.new
         ≡ voids table.old.kernel w at hops view (progress (entries table.old) out.old) }
     ensures room { AddsAtMost 3 0 0 1 out.old out.new }
+    ensures kernel { table.new.kernel ≡ table.old.kernel }
 {
     let kernel = table.kernel();
     let asking = view.value.end.opposite();

@@ -1,4 +1,4 @@
-ghost use Rattle.std.specs.Prelude.{◌≡◌, ◌<◌, ◌↔◌, [], ◌∷◌, ◌++◌, length, IsNone};
+ghost use Rattle.std.specs.Prelude.{◌≡◌, ◌<◌, [], ◌∷◌, ◌++◌, length, IfNone};
 ghost use Rattle.std.specs.List.{list_all};
 ghost use Rattle.std.specs.Option.{option_to_list};
 
@@ -45,8 +45,8 @@ impl Cargo {
 
     /// Takes out the first value; `None` exactly where there is none.
     pub fn next(&mut self) -> Option<Moving>
-        ensures first { self.old ≡ option_to_list result ++ self.new }
-        ensures none { IsNone result ↔ (self.old ≡ []) }
+        ensures rest { self.old ≡ option_to_list result ++ self.new }
+        ensures none { IfNone result (self.old ≡ []) }
     {
         if self.values.is_empty() {
             return None;

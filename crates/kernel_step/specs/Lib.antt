@@ -4,3 +4,4 @@ pub mod Rows
 pub mod Calls
 pub mod Kernel
 pub mod Start
+pub mod Enclosed

@@ -159,6 +159,11 @@ parcel_row k made to n at hops bytes ms (Some v) d =
     resends_on_news k v.value hops (learned at hops v.value) inward.Unreported
     (tell_arrivals k came (receives k n at hops bytes (ends_in came) v (settle_each v.holder came d)))
 
+-- the part of the row that is about the ends that came with it; ms are those that are carried
+abbrev pub arrive_row : ℕ → EndId → ℕ → ℕ → List MovingPicture → Option HereView → Progress → Progress
+arrive_row k to n at ms None d = sends_back k to n at ms d
+arrive_row k to n at ms (Some v) d = tell_arrivals k ms (settle_each v.holder ms d)
+
 -- taken: the send n is completed
 unfoldable pub completes : ℕ → ℕ → ℕ → ℕ → HereView → Progress → Progress
 completes k n at hops v d =
@@ -216,6 +221,11 @@ back_row k made from to n ms (Some v) d =
     let answers_cancel = not v.value.dead && is_withdrawing v.inward in
     tell_arrivals k came (notices_first k from returned (gives_back came v (means (step.Back to n answers_cancel) d)))
 
+-- the part of the row without the step and without NOTICE; ms are the values that are carried
+abbrev pub give_back_row : ℕ → List MovingPicture → Option HereView → Progress → Progress
+give_back_row k ms None d = end_arrivals k ms d
+give_back_row k ms (Some v) d = tell_arrivals k ms (gives_back ms v d)
+
 -- the end's death is known to all: its mark is erased, and its traces are forgotten
 unfoldable pub erases : ℕ → MovingPicture → Progress → Progress
 erases k m d = keeps m.end entry.Nothing (forgets k m d)
@@ -237,12 +247,18 @@ unfoldable pub moved_here : ℕ → ℕ → ℕ → HereView → Progress → Pr
 moved_here k at hops v d =
     if v.value.dead then d else sends at (packet.Known (opposite v.value.end) hops) (listens k at hops v d)
 
+-- a destroyed end hears it too, and its opposite is told of the destruction
+abbrev pub mark_hears : EndId → ℕ → ℕ → MovingPicture → Progress → Progress
+mark_hears to at hops m d = if is_news m hops then keeps to (entry.Destroyed (learned at hops m)) d else d
+
+unfoldable pub moved_mark : ℕ → EndId → ℕ → ℕ → MovingPicture → Progress → Progress
+moved_mark k to at hops m d = sends at (packet.Gone (opposite to) k) (mark_hears to at hops m d)
+
 abbrev pub moved_row : ℕ → EndId → ℕ → ℕ → Entry → Progress → Progress
 moved_row k to at hops entry.Nothing d = d
 moved_row k to at hops (entry.Here v) d = moved_here k at hops v d
 moved_row k to at hops (entry.Left there h) d = sends there (packet.Moved to at hops) d
-moved_row k to at hops (entry.Destroyed m) d =
-    sends at (packet.Gone (opposite to) k) (if is_news m hops then keeps to (entry.Destroyed (learned at hops m)) d else d)
+moved_row k to at hops (entry.Destroyed m) d = moved_mark k to at hops m d
 
 -- known: that the end moved is known, so that its traces are forgotten
 unfoldable pub known_here : ℕ → ℕ → HereView → Progress → Progress

@@ -1,9 +1,22 @@
 //! The kernel step: what a kernel does at each call and with each packet, as definitions on plain data,
-//! and the writers by which the parts of an event add to a `Work`.
+//! and the small parts of which the actions are made: what reads and keeps an end that is here, and the writers by which
+//! the parts of an event add to a `Work`.
 #![tactic(auto)]
 
+mod enclosed;
+mod ends;
+mod news;
+mod owners;
 mod phase;
+mod started;
+mod trail;
 mod writers;
 
+pub use enclosed::{enclosed_ends, ends_in};
+pub use ends::{first_of, hear, here, hold, keep, leave};
+pub use news::{listen, resend_on_news, tell_moved};
+pub use owners::{answer, no_bytes, no_ends, report, send_report};
 pub use phase::Phase;
+pub use started::{asking, awaiting};
+pub use trail::forget;
 pub use writers::{push_answer, push_packet, push_report, push_step};

@@ -1,5 +1,5 @@
 use Rattle.std.proofs.Common.{◌≡◌, ap, ◌∙◌}
-use Rattle.cancel_core.proofs.EnclosedEnds.{AreEnclosed-others}
+use Rattle.kernel_step.proofs.EnclosedEnds.{AreEnclosed-others}
 use Rattle.charlotte_calls.specs.declared.picture.MovingPicture.{MovingPicture}
 use Rattle.cancel_core.proofs.death.notice.Goals as goal
 

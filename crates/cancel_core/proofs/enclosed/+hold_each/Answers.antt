@@ -1,6 +1,6 @@
 use Rattle.std.proofs.Common.{◌≡◌, ◌∷◌, length, arith, ap, sym, ◌∙◌}
-use Rattle.cancel_core.specs.Enclosed.{AreEnclosed}
-use Rattle.cancel_core.proofs.EnclosedEnds.{AreEnclosed-first, AreEnclosed-others, hold_each-more}
+use Rattle.kernel_step.specs.Enclosed.{AreEnclosed}
+use Rattle.kernel_step.proofs.EnclosedEnds.{AreEnclosed-first, AreEnclosed-others, hold_each-more}
 use Rattle.end_table.specs.Table.{entries}
 use Rattle.kernel_step.specs.Actions.{hold_each}
 use Rattle.kernel_step.specs.Progress.{progress}

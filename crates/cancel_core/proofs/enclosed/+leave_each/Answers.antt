@@ -1,6 +1,6 @@
 use Rattle.std.proofs.Common.{◌≡◌, ◌++◌, ◌∷◌, [], length, arith, ap, sym, ◌∙◌, append-nil, length-append}
-use Rattle.cancel_core.specs.Enclosed.{AreEnclosed}
-use Rattle.cancel_core.proofs.EnclosedEnds.{AreEnclosed-first, AreEnclosed-others, values_leaving-others, values_leaving-more, leave_each-more}
+use Rattle.kernel_step.specs.Enclosed.{AreEnclosed}
+use Rattle.kernel_step.proofs.EnclosedEnds.{AreEnclosed-first, AreEnclosed-others, values_leaving-others, values_leaving-more, leave_each-more}
 use Rattle.end_table.specs.Table.{entries}
 use Rattle.kernel_step.specs.Actions.{leave_each, values_leaving}
 use Rattle.kernel_step.specs.Progress.{progress}

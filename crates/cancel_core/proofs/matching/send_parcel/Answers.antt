@@ -1,5 +1,5 @@
 use Rattle.std.proofs.Common.{◌≡◌, ◌++◌, ap, ◌∙◌}
-use Rattle.cancel_core.proofs.EnclosedEnds.{AreEnclosed-others}
+use Rattle.kernel_step.proofs.EnclosedEnds.{AreEnclosed-others}
 use Rattle.cancel_core.proofs.Matches.{matches-made}
 use Rattle.end_table.specs.Table.{entries}
 use Rattle.kernel_step.specs.Actions.{leave_each, values_leaving}

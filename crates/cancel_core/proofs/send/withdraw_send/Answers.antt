@@ -1,5 +1,5 @@
 use Rattle.std.proofs.Common.{◌≡◌, ap, ◌∙◌}
-use Rattle.cancel_core.proofs.EnclosedEnds.{AreEnclosed-others}
+use Rattle.kernel_step.proofs.EnclosedEnds.{AreEnclosed-others}
 use Rattle.kernel_step.specs.Actions.{enclosed_of}
 use Rattle.cancel_core.proofs.send.withdraw_send.Goals as goal
 

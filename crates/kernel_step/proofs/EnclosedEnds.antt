@@ -7,17 +7,17 @@ use Rattle.end_table.specs.Place.{end_eq}
 use Rattle.end_table.specs.Table.{IsHereAnd, IsIdle}
 use Rattle.end_table.specs.declared.entry.Entry.{Entry}
 use Rattle.end_table.specs.declared.entry.Holder.{Holder}
-use Rattle.cancel_core.specs.Enclosed.{AreEnclosed}
+use Rattle.kernel_step.specs.Enclosed.{AreEnclosed}
 use Rattle.charlotte_calls.specs.declared.work.Work.{Work}
 use Rattle.kernel_step.specs.Actions.{here, held, hold_each, leave_each, leaves_here, value_leaving, values_leaving}
 use Rattle.kernel_step.specs.Progress.{progress}
 
 -- neither of two tests that are false together is true
-first_false : (a b : Bool) → (a || b) ≡ false → a ≡ false
+pub first_false : (a b : Bool) → (a || b) ≡ false → a ≡ false
 first_false true b h = h
 first_false false b h = refl
 
-second_false : (a b : Bool) → (a || b) ≡ false → b ≡ false
+pub second_false : (a b : Bool) → (a || b) ≡ false → b ≡ false
 second_false true b h = cc
 second_false false b h = h
 

@@ -1,7 +1,7 @@
 use Rattle.std.proofs.Common.{arith}
-use Rattle.cancel_core.proofs.Forgets.{forgets-more, AddsAtMost-more}
+use Rattle.kernel_step.proofs.Forgets.{forgets-more, AddsAtMost-more}
 use Rattle.kernel_step.specs.Progress.{progress}
-use Rattle.cancel_core.proofs.death.forget.Goals as goal
+use Rattle.kernel_step.proofs.trail.forget.Goals as goal
 
 pub loop-to-preserved : goal.loop-to-preserved
 loop-to-preserved c =

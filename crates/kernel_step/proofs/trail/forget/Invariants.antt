@@ -5,7 +5,7 @@ use Rattle.charlotte_calls.specs.declared.names.EndId.{EndId}
 use Rattle.end_table.specs.declared.entry.Entry.{Entry}
 use Rattle.kernel_step.specs.Actions.{forget_at, kernel_numbers}
 use Rattle.kernel_step.specs.Progress.{progress, AddsAtMost}
-use Rattle.cancel_core.proofs.death.forget.Given as goal
+use Rattle.kernel_step.proofs.trail.forget.Given as goal
 
 abbrev pub invariant-loop-to : goal.invariant-loop-to
 invariant-loop-to l =

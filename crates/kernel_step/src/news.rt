@@ -1,0 +1,93 @@
+ghost use Rattle.std.specs.Prelude.{◌≡◌, nat_eq, if◌then◌else◌};
+ghost use Rattle.charlotte_calls.specs.declared.names.EndId.{EndId};
+ghost use Rattle.end_table.specs.Table.{entries};
+ghost use Rattle.end_table.specs.declared.entry.Entry.{Entry};
+ghost use Rattle.end_table.specs.declared.entry.Entry.TheVariants.{Here};
+ghost use Rattle.kernel_step.specs.Actions.{resends, resends_receive, listens, tells_moved};
+ghost use Rattle.kernel_step.specs.Progress.{progress, HasRoom, AddsAtMost};
+
+use crate::ends::{hear, keep};
+use crate::writers::push_packet;
+use charlotte_calls::{MovingPicture, What, Work};
+use end_table::{HereView, Inward, Table};
+
+/// Sends the live packet of a receive again.
+fn resend_receive(out: &mut Work, kernel: u8, value: MovingPicture, inward: Inward)
+    requires { HasRoom 1 0 0 0 out.old }
+    ensures part { (t : EndId → Entry) → progress t out.new ≡ resends_receive kernel value inward (progress t out.old) }
+    ensures room { AddsAtMost 1 0 0 0 out.old out.new }
+{
+    let to = value.end.opposite();
+    let at = kernel;
+    let hops = value.hops;
+    match inward {
+        Inward::Idle | Inward::Unreported => {}
+        Inward::Posted { w } => push_packet(out, value.hint.0, What::Want { to, w, at, hops }),
+        Inward::Withdrawing { w } => {
+            push_packet(out, value.hint.0, What::Unwant { to, w, at, hops })
+        }
+    }
+}
+
+/// Tells the opposite end that the end has moved.
+#[tactic(auto, unfolding(crate::specs::Actions::tells_moved))]
+pub fn tell_moved(out: &mut Work, kernel: u8, value: MovingPicture)
+    requires { HasRoom 1 0 0 0 out.old }
+    ensures part { (t : EndId → Entry) → progress t out.new ≡ tells_moved kernel value (progress t out.old) }
+    ensures room { AddsAtMost 1 0 0 0 out.old out.new }
+{
+    let moved = What::Moved {
+        to: value.end.opposite(),
+        at: kernel,
+        hops: value.hops,
+    };
+    push_packet(out, value.hint.0, moved);
+}
+
+/// Tells the opposite end so again, where kernels may hold a forwarding entry of the end.
+fn resend_moved(out: &mut Work, kernel: u8, value: MovingPicture)
+    requires { HasRoom 1 0 0 0 out.old }
+    ensures part { (t : EndId → Entry) → progress t out.new
+        ≡ (if nat_eq value.trail 0 then progress t out.old else tells_moved kernel value (progress t out.old)) }
+    ensures room { AddsAtMost 1 0 0 0 out.old out.new }
+{
+    if value.trail != 0 {
+        tell_moved(out, kernel, value);
+    }
+}
+
+/// Sends the live packets of an end again where the hint rose: `news` tells whether it did.
+#[tactic(auto, unfolding(crate::specs::Actions::resends))]
+pub fn resend_on_news(
+    out: &mut Work,
+    kernel: u8,
+    news: bool,
+    value: MovingPicture,
+    inward: Inward,
+)
+    requires { HasRoom 2 0 0 0 out.old }
+    ensures part { (t : EndId → Entry) → progress t out.new
+        ≡ (if news then resends kernel value inward (progress t out.old) else progress t out.old) }
+    ensures room { AddsAtMost 2 0 0 0 out.old out.new }
+{
+    if news {
+        resend_receive(out, kernel, value, inward);
+        resend_moved(out, kernel, value);
+    }
+}
+
+/// An end that is here hears that its opposite is at a kernel with these hops, and nothing else happens to it.
+#[tactic(auto, unfolding(crate::specs::Actions::listens, crate::specs::Actions::resends_on_news))]
+pub fn listen(table: &mut Table, mut view: HereView, at: u8, hops: u32, out: &mut Work)
+    requires here { entries table.old view.value.end ≡ Here view }
+    requires room { HasRoom 2 0 0 0 out.old }
+    ensures part { progress (entries table.new) out.new
+        ≡ listens table.old.kernel at hops view (progress (entries table.old) out.old) }
+    ensures room { AddsAtMost 2 0 0 0 out.old out.new }
+    ensures kernel { table.new.kernel ≡ table.old.kernel }
+{
+    let kernel = table.kernel();
+    let news = hear(&mut view, at, hops);
+    resend_on_news(out, kernel, news, view.value, view.inward);
+    keep(table, view);
+}

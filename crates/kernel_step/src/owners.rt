@@ -1,0 +1,66 @@
+ghost use Rattle.std.specs.Prelude.{◌≡◌, []};
+ghost use Rattle.charlotte_calls.specs.declared.names.EndId.{EndId};
+ghost use Rattle.end_table.specs.declared.entry.Entry.{Entry};
+ghost use Rattle.kernel_step.specs.Actions.{send_report, reports, answers};
+ghost use Rattle.kernel_step.specs.Progress.{progress, HasRoom, AddsAtMost};
+
+use crate::writers::{push_answer, push_report};
+use charlotte_calls::{Answer, Bytes, EndId, Ends, Outcome, Report, Way, Work};
+use end_table::Holder;
+
+/// Reports to the owner of an end.
+pub fn report(out: &mut Work, holder: Holder, report: Report)
+    requires { HasRoom 0 1 0 0 out.old }
+    ensures part { (t : EndId → Entry) → progress t out.new ≡ reports holder report (progress t out.old) }
+    ensures room { AddsAtMost 0 1 0 0 out.old out.new }
+{
+    match holder {
+        Holder::Owner(p) => push_report(out, p, report),
+        Holder::EnclosedIn(_) => {}
+    }
+}
+
+/// Answers the Cancel of the owner of an end.
+pub fn answer(out: &mut Work, holder: Holder, answer: Answer)
+    requires { HasRoom 0 0 1 0 out.old }
+    ensures part { (t : EndId → Entry) → progress t out.new ≡ answers holder answer (progress t out.old) }
+    ensures room { AddsAtMost 0 0 1 0 out.old out.new }
+{
+    match holder {
+        Holder::Owner(p) => push_answer(out, p, answer),
+        Holder::EnclosedIn(_) => {}
+    }
+}
+
+/// The report of a send that is over.
+pub fn send_report(on: EndId, outcome: Outcome, enclosed: Ends) -> Report
+    ensures { result ≡ send_report on outcome enclosed }
+{
+    Report {
+        on,
+        way: Way::Outward,
+        outcome,
+        bytes: no_bytes(),
+        enclosed,
+    }
+}
+
+/// No bytes.
+pub fn no_bytes() -> Bytes
+    ensures { result ≡ [] }
+{
+    match Bytes::from_slice(&[]) {
+        Some(none) => none,
+        None => unreachable!(),
+    }
+}
+
+/// No ends.
+pub fn no_ends() -> Ends
+    ensures { result ≡ [] }
+{
+    match Ends::from_slice(&[]) {
+        Some(none) => none,
+        None => unreachable!(),
+    }
+}

@@ -1,0 +1,37 @@
+ghost use Rattle.std.specs.Prelude.{◌≡◌, IfSome};
+ghost use Rattle.end_table.specs.Table.{entries};
+ghost use Rattle.end_table.specs.declared.entry.Entry.TheVariants.{Here};
+ghost use Rattle.kernel_step.specs.Rows.{asks, awaits};
+
+use charlotte_calls::EndId;
+use end_table::{Entry, HereView, Inward, Outward, Table};
+
+/// The view of an end whose receive w is started.
+pub fn asking(table: &Table, to: EndId, w: u32) -> Option<HereView>
+    ensures view { result ≡ asks w (entries table.now to) }
+    ensures here { IfSome result (λ v. entries table.now v.value.end ≡ Here v) }
+{
+    match table.look(to) {
+        Entry::Here(view) => match view.inward {
+            Inward::Posted { w: asked } | Inward::Withdrawing { w: asked } if asked == w => Some(
+                view,
+            ),
+            _ => None,
+        },
+        _ => None,
+    }
+}
+
+/// The view of an end whose send n is matched.
+pub fn awaiting(table: &Table, to: EndId, n: u32) -> Option<HereView>
+    ensures view { result ≡ awaits n (entries table.now to) }
+    ensures here { IfSome result (λ v. entries table.now v.value.end ≡ Here v) }
+{
+    match table.look(to) {
+        Entry::Here(view) => match view.outward {
+            Outward::Matched { n: matched } if matched == n => Some(view),
+            _ => None,
+        },
+        _ => None,
+    }
+}

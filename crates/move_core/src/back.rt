@@ -1,0 +1,102 @@
+ghost use Rattle.std.specs.Prelude.{◌≡◌, length, IfSome, false};
+ghost use Rattle.charlotte_calls.specs.declared.names.EndId.{EndId};
+ghost use Rattle.charlotte_calls.specs.declared.work.Work.{Work};
+ghost use Rattle.end_table.specs.Entries.{ended_entry};
+ghost use Rattle.end_table.specs.Table.{entries, HasPlace, IsHere, Puts};
+ghost use Rattle.end_table.specs.declared.entry.Entry.TheVariants.{Here};
+ghost use Rattle.kernel_step.specs.Actions.{ends_idle, tell_arrivals};
+ghost use Rattle.kernel_step.specs.Progress.{progress, keeps, HasRoom, AddsAtMost};
+ghost use Rattle.kernel_step.specs.Rows.{awaits, give_back_row, gives_back, end_arrivals};
+ghost use Rattle.move_core.specs.Arriving.{AreAway, AreApart};
+
+use crate::settling::settle;
+use crate::parcel::settle_and_tell;
+use crate::ending::tell_gone;
+use charlotte_calls::{Cargo, EndId, Moving, MovingPicture, Outcome, Work};
+use end_table::{HereView, Holder, Outward, Table};
+use kernel_step::{awaiting, ends_in, keep, report, send_report};
+
+/// Of a back all but its NOTICE: at its matched send the report Destroyed, and each end that it brings becomes Here again
+/// and tells its opposite so. Anywhere else each is destroyed.
+pub fn give_back(table: &mut Table, to: EndId, n: u32, moving: Cargo, out: &mut Work)
+    requires away { AreAway table.old moving }
+    requires apart { IfSome (awaits n (entries table.old to)) (λ _. AreApart moving) }
+    requires room { HasRoom 8 1 0 0 out.old }
+    ensures part { progress (entries table.new) out.new
+        ≡ give_back_row table.old.kernel moving (awaits n (entries table.old to)) (progress (entries table.old) out.old) }
+    ensures room { AddsAtMost 8 1 0 0 out.old out.new }
+    ensures kernel { table.new.kernel ≡ table.old.kernel }
+{
+    match awaiting(table, to, n) {
+        Some(view) => return_ends(table, view, moving, out),
+        None => end_arrivals(table, to, moving, out),
+    }
+}
+
+/// A matched send was not taken: it reports Destroyed, and its ends are its owner's again.
+#[tactic(auto, unfolding(kernel_step::specs::Rows::gives_back))]
+fn return_ends(table: &mut Table, mut view: HereView, moving: Cargo, out: &mut Work)
+    requires here { entries table.old view.value.end ≡ Here view }
+    requires away { AreAway table.old moving }
+    requires apart { AreApart moving }
+    requires room { HasRoom 8 1 0 0 out.old }
+    ensures part { progress (entries table.new) out.new
+        ≡ tell_arrivals table.old.kernel moving (gives_back moving view (progress (entries table.old) out.old)) }
+    ensures room { AddsAtMost 8 1 0 0 out.old out.new }
+    ensures kernel { table.new.kernel ≡ table.old.kernel }
+{
+    let on = view.value.end;
+    let holder = view.holder;
+    view.outward = Outward::Unreported;
+    keep(table, view);
+    report(out, holder, send_report(on, Outcome::Destroyed, ends_in(&moving)));
+    settle_and_tell(table, holder, moving, out);
+}
+
+/// An end that a packet brought is destroyed: its value.
+#[tactic(auto, using(kernel_step::proofs::Steps::progress_puts, end_table::proofs::Change::puts_twice))]
+fn end_arrived(table: &mut Table, on: EndId, moving: Moving) -> MovingPicture
+    requires place { HasPlace table.old moving.end }
+    requires away { IsHere (entries table.old moving.end) → ⊥ }
+    ensures value { result ≡ moving }
+    ensures part { (out : Work) → progress (entries table.new) out
+        ≡ keeps moving.end (ended_entry moving) (progress (entries table.old) out) }
+    ensures puts { Puts table.old table.new moving.end (ended_entry moving) }
+{
+    let end = moving.end();
+    settle(table, moving, Holder::EnclosedIn(on));
+    table.end_here(end).picture()
+}
+
+/// END of an end that a packet brought.
+#[tactic(auto, unfolding(kernel_step::specs::Actions::ends_idle))]
+fn end_arrival(table: &mut Table, on: EndId, moving: Moving, out: &mut Work)
+    requires place { HasPlace table.old moving.end }
+    requires away { IsHere (entries table.old moving.end) → ⊥ }
+    requires room { HasRoom 1 0 0 0 out.old }
+    ensures part { progress (entries table.new) out.new
+        ≡ ends_idle table.old.kernel moving (progress (entries table.old) out.old) }
+    ensures puts { Puts table.old table.new moving.end (ended_entry moving) }
+    ensures room { AddsAtMost 1 0 0 0 out.old out.new }
+{
+    let value = end_arrived(table, on, moving);
+    tell_gone(out, table.kernel(), value);
+}
+
+/// END of each of these ends, in order.
+fn end_arrivals(table: &mut Table, on: EndId, mut moving: Cargo, out: &mut Work)
+    requires away { AreAway table.old moving }
+    requires room { HasRoom (length moving) 0 0 0 out.old }
+    ensures part { progress (entries table.new) out.new
+        ≡ end_arrivals table.old.kernel moving (progress (entries table.old) out.old) }
+    ensures room { AddsAtMost (length moving) 0 0 0 out.old out.new }
+    ensures kernel { table.new.kernel ≡ table.old.kernel }
+{
+    match moving.next() {
+        None => moving.close(),
+        Some(first) => {
+            end_arrival(table, on, first, out);
+            end_arrivals(table, on, moving, out);
+        }
+    }
+}

@@ -1,0 +1,139 @@
+ghost use Rattle.std.specs.Prelude.{◌≡◌, false, length};
+ghost use Rattle.std.specs.List.{list_any};
+ghost use Rattle.charlotte_calls.specs.Names.{opposite};
+ghost use Rattle.charlotte_calls.specs.declared.names.EndId.{EndId};
+ghost use Rattle.charlotte_calls.specs.declared.picture.PictureWhat.TheVariants as packet;
+ghost use Rattle.charlotte_calls.specs.declared.work.Work.{Work};
+ghost use Rattle.end_table.specs.Entries.{ended_entry};
+ghost use Rattle.end_table.specs.Place.{end_eq};
+ghost use Rattle.end_table.specs.Table.{entries, IfHere, IsHere, Puts};
+ghost use Rattle.end_table.specs.declared.entry.Entry.{Entry};
+ghost use Rattle.end_table.specs.declared.entry.Entry.TheVariants.{Here, Destroyed};
+ghost use Rattle.kernel_step.specs.Actions.{here, enclosed_of, tells_gone, ends_idle, ends_idle_here, end_each, ends};
+ghost use Rattle.kernel_step.specs.Enclosed.{AreEnclosed};
+ghost use Rattle.kernel_step.specs.Progress.{progress, sends, keeps, HasRoom, AddsAtMost};
+ghost use Rattle.kernel_step.specs.Rows.{goneseen_row, erases};
+
+use charlotte_calls::{EndId, Mark, MovingPicture, What, Work};
+use end_table::{Entry, HereView, Table};
+use kernel_step::{enclosed_ends, first_of, forget, here, push_packet};
+
+/// The opposite end is told of the destruction, unless the link is known to be dead.
+#[tactic(auto, unfolding(kernel_step::specs::Actions::tells_gone))]
+pub(crate) fn tell_gone(out: &mut Work, kernel: u8, value: MovingPicture)
+    requires { HasRoom 1 0 0 0 out.old }
+    ensures part { (t : EndId → Entry) → progress t out.new ≡ tells_gone kernel value (progress t out.old) }
+    ensures room { AddsAtMost 1 0 0 0 out.old out.new }
+{
+    if value.dead {
+        return;
+    }
+    send_gone(out, kernel, value);
+}
+
+/// The opposite end is told of the destruction.
+fn send_gone(out: &mut Work, kernel: u8, value: MovingPicture)
+    requires { HasRoom 1 0 0 0 out.old }
+    ensures part { (t : EndId → Entry) → progress t out.new ≡ sends value.hint.0 (packet.Gone (opposite value.end) kernel) (progress t out.old) }
+    ensures room { AddsAtMost 1 0 0 0 out.old out.new }
+{
+    let gone = What::Gone {
+        to: value.end.opposite(),
+        at: kernel,
+    };
+    push_packet(out, value.hint.0, gone);
+}
+
+/// An end that is here is destroyed.
+#[tactic(auto, using(kernel_step::proofs::Steps::progress_puts))]
+fn end_entry(table: &mut Table, view: &HereView)
+    requires here { entries table.old view.now.value.end ≡ Here view.now }
+    ensures part { (out : Work) → progress (entries table.new) out
+        ≡ keeps view.now.value.end (ended_entry view.now.value) (progress (entries table.old) out) }
+    ensures puts { Puts table.old table.new view.now.value.end (ended_entry view.now.value) }
+{
+    table.end_here(view.value.end);
+}
+
+/// END of an end that is here and idle.
+#[tactic(auto, unfolding(kernel_step::specs::Actions::ends_idle))]
+fn end_idle(table: &mut Table, end: EndId, out: &mut Work)
+    requires here { IsHere (entries table.old end) }
+    requires room { HasRoom 1 0 0 0 out.old }
+    ensures part { progress (entries table.new) out.new
+        ≡ ends_idle_here table.old.kernel (here (entries table.old end)) (progress (entries table.old) out.old) }
+    ensures room { AddsAtMost 1 0 0 0 out.old out.new }
+    ensures others { (q : EndId) → end_eq end q ≡ false → entries table.new q ≡ entries table.old q }
+    ensures kernel { table.new.kernel ≡ table.old.kernel }
+{
+    let view = here(table, end);
+    end_entry(table, &view);
+    tell_gone(out, table.kernel(), view.value);
+}
+
+/// END of each of these ends, in order.
+fn end_each(table: &mut Table, ends: &[EndId], out: &mut Work)
+    requires enclosed { AreEnclosed (entries table.old) ends.now }
+    requires room { HasRoom (length ends.now) 0 0 0 out.old }
+    ensures part { progress (entries table.new) out.new
+        ≡ end_each table.old.kernel ends.now (progress (entries table.old) out.old) }
+    ensures room { AddsAtMost (length ends.now) 0 0 0 out.old out.new }
+    ensures kernel { table.new.kernel ≡ table.old.kernel }
+{
+    match first_of(ends) {
+        None => {}
+        Some((first, others)) => {
+            end_idle(table, first, out);
+            end_each(table, others, out);
+        }
+    }
+}
+
+/// The action END at an end that is here: it is destroyed, then the ends that its waiting message encloses, and the
+/// opposite of each that is not dead is told so.
+#[tactic(auto, unfolding(kernel_step::specs::Actions::ends))]
+pub fn destroy(table: &mut Table, on: EndId, out: &mut Work)
+    requires here { IsHere (entries table.old on) }
+    requires enclosed { IfHere (entries table.old on) (λ v. AreEnclosed (entries table.old) (enclosed_of v.outward)) }
+    requires apart { IfHere (entries table.old on) (λ v. list_any (end_eq on) (enclosed_of v.outward) ≡ false) }
+    requires room { HasRoom 9 0 0 0 out.old }
+    ensures part { IfHere (entries table.old on) (λ v. progress (entries table.new) out.new
+        ≡ ends table.old.kernel v (progress (entries table.old) out.old)) }
+    ensures room { AddsAtMost 9 0 0 0 out.old out.new }
+    ensures kernel { table.new.kernel ≡ table.old.kernel }
+{
+    let view = here(table, on);
+    let kernel = table.kernel();
+    end_entry(table, &view);
+    let value = view.value;
+    let enclosed = enclosed_ends(view.outward);
+    end_each(table, enclosed.as_slice(), out);
+    tell_gone(out, kernel, value);
+}
+
+/// The row goneseen: the mark of a destroyed end is erased, and the traces of the end are forgotten.
+pub fn gone_seen(table: &mut Table, to: EndId, out: &mut Work)
+    requires room { HasRoom 8 0 0 0 out.old }
+    ensures part { progress (entries table.new) out.new
+        ≡ goneseen_row table.old.kernel (entries table.old to) (progress (entries table.old) out.old) }
+    ensures room { AddsAtMost 8 0 0 0 out.old out.new }
+    ensures kernel { table.new.kernel ≡ table.old.kernel }
+{
+    if let Entry::Destroyed(mark) = table.look(to) {
+        erase(table, mark, out);
+    }
+}
+
+/// The mark of a destroyed end is erased.
+#[tactic(auto, unfolding(kernel_step::specs::Rows::erases), using(kernel_step::proofs::Steps::progress_puts))]
+fn erase(table: &mut Table, mark: Mark, out: &mut Work)
+    requires mark { entries table.old mark.end ≡ Destroyed mark }
+    requires room { HasRoom 8 0 0 0 out.old }
+    ensures part { progress (entries table.new) out.new
+        ≡ erases table.old.kernel mark (progress (entries table.old) out.old) }
+    ensures room { AddsAtMost 8 0 0 0 out.old out.new }
+    ensures kernel { table.new.kernel ≡ table.old.kernel }
+{
+    forget(out, table.kernel(), mark.picture());
+    table.erase(mark.end());
+}

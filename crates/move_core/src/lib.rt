@@ -1,0 +1,23 @@
+//! Enclosing, leaving, arriving and routing of ends: each call does one part of the kernel step on the table of a kernel,
+//! and adds to a `Work` what that part sends and reports.
+#![tactic(auto)]
+
+mod back;
+mod ending;
+mod forward;
+mod holding;
+mod movement;
+mod parcel;
+mod routing;
+mod settling;
+mod spare;
+
+pub use back::give_back;
+pub use ending::{destroy, gone_seen};
+pub use forward::Route;
+pub use holding::enclose;
+pub use kernel_step::leave;
+pub use movement::{forget, known, moved};
+pub use parcel::arrive;
+pub use routing::route;
+pub use spare::room;

@@ -1,0 +1,116 @@
+ghost use Rattle.std.specs.Prelude.{◌≡◌};
+ghost use Rattle.end_table.specs.Table.{entries};
+ghost use Rattle.end_table.specs.declared.entry.Entry.TheVariants.{Here, Destroyed};
+ghost use Rattle.kernel_step.specs.Progress.{progress, HasRoom, AddsAtMost};
+ghost use Rattle.kernel_step.specs.Rows.{moved_row, moved_here, mark_hears, moved_mark, known_row, known_here, forget_row};
+
+use charlotte_calls::{EndId, Mark, What, Work};
+use end_table::{Entry, HereView, Table};
+use kernel_step::{keep, listen, push_packet};
+
+/// The row moved: the opposite of an end is at kernel `at` now.
+pub fn moved(table: &mut Table, to: EndId, at: u8, hops: u32, out: &mut Work)
+    requires room { HasRoom 3 0 0 0 out.old }
+    ensures part { progress (entries table.new) out.new
+        ≡ moved_row table.old.kernel to at hops (entries table.old to) (progress (entries table.old) out.old) }
+    ensures room { AddsAtMost 3 0 0 0 out.old out.new }
+    ensures kernel { table.new.kernel ≡ table.old.kernel }
+{
+    match table.look(to) {
+        Entry::Nothing => {}
+        Entry::Here(view) => moved_here(table, view, at, hops, out),
+        Entry::Left { to: there, .. } => push_packet(out, there, What::Moved { to, at, hops }),
+        Entry::Destroyed(mark) => moved_mark(table, to, mark, at, hops, out),
+    }
+}
+
+/// The opposite of an end that is here has moved: the end learns it and answers.
+#[tactic(auto, unfolding(kernel_step::specs::Rows::moved_here))]
+fn moved_here(table: &mut Table, view: HereView, at: u8, hops: u32, out: &mut Work)
+    requires here { entries table.old view.value.end ≡ Here view }
+    requires room { HasRoom 3 0 0 0 out.old }
+    ensures part { progress (entries table.new) out.new
+        ≡ moved_here table.old.kernel at hops view (progress (entries table.old) out.old) }
+    ensures room { AddsAtMost 3 0 0 0 out.old out.new }
+    ensures kernel { table.new.kernel ≡ table.old.kernel }
+{
+    if view.value.dead {
+        return;
+    }
+    let to = view.value.end.opposite();
+    listen(table, view, at, hops, out);
+    push_packet(out, at, What::Known { to, hops });
+}
+
+/// The opposite of a destroyed end has moved: it is told of the destruction.
+#[tactic(auto, unfolding(kernel_step::specs::Rows::moved_mark))]
+fn moved_mark(table: &mut Table, to: EndId, mark: Mark, at: u8, hops: u32, out: &mut Work)
+    requires mark { entries table.old to ≡ Destroyed mark }
+    requires room { HasRoom 1 0 0 0 out.old }
+    ensures part { progress (entries table.new) out.new
+        ≡ moved_mark table.old.kernel to at hops mark (progress (entries table.old) out.old) }
+    ensures room { AddsAtMost 1 0 0 0 out.old out.new }
+    ensures kernel { table.new.kernel ≡ table.old.kernel }
+{
+    mark_hears(table, to, mark, at, hops);
+    let gone = What::Gone {
+        to: to.opposite(),
+        at: table.kernel(),
+    };
+    push_packet(out, at, gone);
+}
+
+/// LEARN at the mark of a destroyed end.
+#[tactic(auto, using(kernel_step::proofs::Steps::progress_puts))]
+fn mark_hears(table: &mut Table, to: EndId, mark: Mark, at: u8, hops: u32)
+    requires mark { entries table.old to ≡ Destroyed mark }
+    ensures part { (out : Work) → progress (entries table.new) out
+        ≡ mark_hears to at hops mark (progress (entries table.old) out) }
+    ensures kernel { table.new.kernel ≡ table.old.kernel }
+{
+    if mark.hint().1 < hops {
+        table.hint_mark(to, (at, hops));
+    }
+}
+
+/// The row known: that an end has moved is known, so that its traces are forgotten.
+pub fn known(table: &mut Table, to: EndId, hops: u32, out: &mut Work)
+    requires room { HasRoom 8 0 0 0 out.old }
+    ensures part { progress (entries table.new) out.new
+        ≡ known_row table.old.kernel hops (entries table.old to) (progress (entries table.old) out.old) }
+    ensures room { AddsAtMost 8 0 0 0 out.old out.new }
+    ensures kernel { table.new.kernel ≡ table.old.kernel }
+{
+    if let Entry::Here(view) = table.look(to) {
+        known_here(table, view, hops, out);
+    }
+}
+
+/// That an end that is here has moved is known, where it has these hops.
+#[tactic(auto, unfolding(kernel_step::specs::Rows::known_here))]
+fn known_here(table: &mut Table, mut view: HereView, hops: u32, out: &mut Work)
+    requires here { entries table.old view.value.end ≡ Here view }
+    requires room { HasRoom 8 0 0 0 out.old }
+    ensures part { progress (entries table.new) out.new
+        ≡ known_here table.old.kernel hops view (progress (entries table.old) out.old) }
+    ensures room { AddsAtMost 8 0 0 0 out.old out.new }
+    ensures kernel { table.new.kernel ≡ table.old.kernel }
+{
+    if view.value.dead || view.value.hops != hops {
+        return;
+    }
+    kernel_step::forget(out, table.kernel(), view.value);
+    view.value.trail = 0;
+    keep(table, view);
+}
+
+/// The row forget: an entry that tells where an end went is removed, where it has at most these hops.
+#[tactic(auto, using(kernel_step::proofs::Steps::progress_puts))]
+pub fn forget(table: &mut Table, to: EndId, hops: u32, _out: &mut Work)
+    ensures part { progress (entries table.new) _out.new
+        ≡ forget_row to hops (entries table.old to) (progress (entries table.old) _out.old) }
+    ensures same { _out.new ≡ _out.old }
+    ensures kernel { table.new.kernel ≡ table.old.kernel }
+{
+    table.retire(to, hops);
+}
