@@ -8,8 +8,10 @@ mod matching;
 mod receive;
 mod send;
 mod spare;
+#[cfg(test)]
+mod tests;
 
 pub use death::notice;
 pub use receive::{arrived, post, unwanted, withdraw_receive};
-pub use spare::room;
 pub use send::{finished, start_send, unwant, want, withdraw_send};
+pub use spare::room;

@@ -13,7 +13,9 @@ use charlotte_calls::{
     Answer, Bytes, Cause, EndId, Ends, Outcome, Report, ServiceStep, Way, What, Work,
 };
 use end_table::{Entry, HereView, Holder, Inward, Table};
-use kernel_step::{answer, asking, hear, here, keep, push_packet, push_step, report, resend_on_news};
+use kernel_step::{
+    answer, asking, hear, here, keep, push_packet, push_step, report, resend_on_news,
+};
 
 /// Receive: a receive is started on an end, and the opposite end is asked for a message.
 #[tactic(auto, unfolding(kernel_step::specs::Calls::posts))]

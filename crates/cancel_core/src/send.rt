@@ -14,7 +14,8 @@ use crate::matching::{match_waiting, send_parcel};
 use charlotte_calls::{Bytes, EndId, Ends, Outcome, ServiceStep, Way, What, Work};
 use end_table::{Entry, HereView, Outward, Table};
 use kernel_step::{
-    awaiting, enclosed_ends, hear, here, keep, listen, no_ends, push_packet, push_step, report, resend_on_news, send_report,
+    awaiting, enclosed_ends, hear, here, keep, listen, no_ends, push_packet, push_step, report,
+    resend_on_news, send_report,
 };
 use std::mem;
 

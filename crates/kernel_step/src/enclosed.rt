@@ -2,8 +2,8 @@ ghost use Rattle.std.specs.Prelude.{◌≡◌};
 ghost use Rattle.kernel_step.specs.Actions.{enclosed_of};
 ghost use Rattle.kernel_step.specs.Rows.{ends_in};
 
-use arrayvec::ArrayVec;
 use crate::owners::no_ends;
+use arrayvec::ArrayVec;
 use charlotte_calls::{Cargo, EndId, Ends};
 use end_table::Outward;
 

@@ -58,13 +58,7 @@ fn resend_moved(out: &mut Work, kernel: u8, value: MovingPicture)
 
 /// Sends the live packets of an end again where the hint rose: `news` tells whether it did.
 #[tactic(auto, unfolding(crate::specs::Actions::resends))]
-pub fn resend_on_news(
-    out: &mut Work,
-    kernel: u8,
-    news: bool,
-    value: MovingPicture,
-    inward: Inward,
-)
+pub fn resend_on_news(out: &mut Work, kernel: u8, news: bool, value: MovingPicture, inward: Inward)
     requires { HasRoom 2 0 0 0 out.old }
     ensures part { (t : EndId → Entry) → progress t out.new
         ≡ (if news then resends kernel value inward (progress t out.old) else progress t out.old) }

@@ -9,9 +9,9 @@ ghost use Rattle.kernel_step.specs.Progress.{progress, keeps, HasRoom, AddsAtMos
 ghost use Rattle.kernel_step.specs.Rows.{awaits, give_back_row, gives_back, end_arrivals};
 ghost use Rattle.move_core.specs.Arriving.{AreAway, AreApart};
 
-use crate::settling::settle;
-use crate::parcel::settle_and_tell;
 use crate::ending::tell_gone;
+use crate::parcel::settle_and_tell;
+use crate::settling::settle;
 use charlotte_calls::{Cargo, EndId, Moving, MovingPicture, Outcome, Work};
 use end_table::{HereView, Holder, Outward, Table};
 use kernel_step::{awaiting, ends_in, keep, report, send_report};
@@ -49,7 +49,11 @@ fn return_ends(table: &mut Table, mut view: HereView, moving: Cargo, out: &mut W
     let holder = view.holder;
     view.outward = Outward::Unreported;
     keep(table, view);
-    report(out, holder, send_report(on, Outcome::Destroyed, ends_in(&moving)));
+    report(
+        out,
+        holder,
+        send_report(on, Outcome::Destroyed, ends_in(&moving)),
+    );
     settle_and_tell(table, holder, moving, out);
 }
 
