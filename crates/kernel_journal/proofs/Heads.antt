@@ -1,8 +1,8 @@
 -- The first of the heads of several journals.
-use Rattle.std.proofs.Common.{◌≡◌, ℕ, zero, suc, ◌+◌, ◌-◌, ◌<◌, ◌≤◌, ◌≢◌, ◌⊎◌, inl, inr, Bool, true, false, cond, nat_le, List, [], ◌∷◌, length, map, drop, set, get_or, slice_get, slice_index, Option, None, Some, refl, sym, ap, ◌∙◌, below_more, arith}
+use Rattle.std.proofs.Common.{◌≡◌, ℕ, zero, suc, ◌+◌, ◌<◌, ◌≤◌, ◌⊎◌, inl, inr, Bool, true, false, cond, nat_le, List, [], ◌∷◌, length, map, drop, set, get_or, slice_get, slice_index, Option, None, Some, refl, sym, ap, ◌∙◌, below_more, arith}
 use Rattle.std.proofs.lemmas.Bool.Decides.{leb_tells}
 use Rattle.kernel_journal.specs.Journal.{Kept}
-use Rattle.kernel_journal.specs.Heads.{head_stamp, entries_at, rest, IsNoLater, earlier_head, IsFirstBelow, left}
+use Rattle.kernel_journal.specs.Heads.{head_stamp, entries_at, IsNoLater, earlier_head, IsFirstBelow, left}
 use Rattle.kernel_journal.specs.declared.merging.Head.{Head}
 use Rattle.kernel_world.specs.declared.entry.Entry.{Entry}
 

@@ -6,7 +6,7 @@ use Rattle.charlotte_calls.specs.declared.calls.ServiceStep.{ServiceStep}
 use Rattle.charlotte_calls.specs.declared.setting.Setting.{Setting}
 use Rattle.kernel_journal.specs.Transcript.{line, entry_lines, header_lines, note_text, last_text, transcript_lines}
 use Rattle.kernel_journal.specs.declared.last.Last.{Last}
-use Rattle.kernel_journal.specs.declared.last.Last.TheVariants.{Quiet, Unsettled, Spent}
+use Rattle.kernel_journal.specs.declared.last.Last.TheVariants.{Quiet}
 use Rattle.kernel_journal.specs.declared.last.ScriptNote.{ScriptNote}
 use Rattle.kernel_world.specs.World.{start, noted}
 use Rattle.kernel_world.specs.declared.entry.Happened.{Happened}

@@ -1,10 +1,9 @@
 -- Transcripts: texts that tell a setting, the entries of its events, notes and how it ended.
-use Rattle.std.specs.Prelude.{◌≡◌, ◌≢◌, ℕ, ◌<◌, ◌≤◌, nat_eq, List, [], ◌∷◌, length, All, if◌then◌else◌}
+use Rattle.std.specs.Prelude.{◌≡◌, ℕ, ◌<◌, ◌≤◌, nat_eq, List, [], ◌∷◌, length, All, if◌then◌else◌}
 use Rattle.std.specs.List.{concat}
 use Rattle.charlotte_calls.specs.Setting.{IsValid}
 use Rattle.charlotte_calls.specs.declared.calls.Call.{Call}
 use Rattle.charlotte_calls.specs.declared.calls.Call.TheVariants as call
-use Rattle.charlotte_calls.specs.declared.calls.Report.{Report}
 use Rattle.charlotte_calls.specs.declared.calls.ServiceStep.{ServiceStep}
 use Rattle.charlotte_calls.specs.declared.calls.ServiceStep.TheVariants as step
 use Rattle.charlotte_calls.specs.declared.names.EndId.{EndId}
@@ -17,7 +16,7 @@ use Rattle.charlotte_calls.specs.declared.picture.PictureWhat.TheVariants as pac
 use Rattle.charlotte_calls.specs.declared.setting.Setting.{Setting}
 use Rattle.kernel_journal.specs.Transcript.{transcript_lines}
 use Rattle.kernel_journal.specs.declared.last.Last.{Last}
-use Rattle.kernel_journal.specs.declared.last.Last.TheVariants.{Quiet, Unsettled, Spent}
+use Rattle.kernel_journal.specs.declared.last.Last.TheVariants.{Spent}
 use Rattle.kernel_journal.specs.declared.last.ScriptNote.{ScriptNote}
 use Rattle.kernel_world.specs.declared.entry.Happened.{Happened}
 use Rattle.kernel_world.specs.declared.entry.Happened.TheVariants.{Asked, Took}

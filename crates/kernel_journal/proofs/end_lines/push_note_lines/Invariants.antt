@@ -1,4 +1,4 @@
-use Rattle.std.proofs.Common.{◌≡◌, ◌++◌, take, drop, map}
+use Rattle.std.proofs.Common.{◌≡◌, ◌++◌, take, map}
 use Rattle.kernel_journal.specs.Transcript.{line, note_text}
 use Rattle.kernel_journal.proofs.end_lines.push_note_lines.Given as goal
 

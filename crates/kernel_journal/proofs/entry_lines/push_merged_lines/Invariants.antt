@@ -1,4 +1,4 @@
-use Rattle.std.proofs.Common.{◌≡◌, ◌++◌, take, drop, map}
+use Rattle.std.proofs.Common.{◌≡◌, ◌++◌, take, map}
 use Rattle.std.specs.List.{flat_map}
 use Rattle.kernel_journal.specs.Transcript.{entry_lines}
 use Rattle.kernel_journal.proofs.entry_lines.push_merged_lines.Given as goal

@@ -1,4 +1,4 @@
-use Rattle.std.proofs.Common.{◌≡◌, ◌++◌, take, drop, map}
+use Rattle.std.proofs.Common.{◌≡◌, ◌++◌, drop, map}
 use Rattle.kernel_journal.specs.Transcript.{process_lines}
 use Rattle.kernel_journal.proofs.header_lines.push_process_lines.Given as goal
 

@@ -1,4 +1,4 @@
-use Rattle.std.proofs.Common.{◌≡◌, ◌++◌, take, drop, map}
+use Rattle.std.proofs.Common.{◌≡◌, ◌++◌, take, map}
 use Rattle.kernel_journal.specs.Transcript.{line, wire_text}
 use Rattle.kernel_journal.proofs.header_lines.push_wire_lines.Given as goal
 

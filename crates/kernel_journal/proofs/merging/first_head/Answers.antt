@@ -1,4 +1,4 @@
-use Rattle.std.proofs.Common.{◌≡◌, sym, ap}
+use Rattle.std.proofs.Common.{◌≡◌}
 use Rattle.kernel_journal.specs.Heads.{head_stamp}
 use Rattle.kernel_journal.proofs.Heads.{IsFirstBelow-next, entries_at-is}
 use Rattle.kernel_journal.proofs.merging.first_head.Goals as goal

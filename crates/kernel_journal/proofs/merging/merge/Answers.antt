@@ -1,4 +1,4 @@
-use Rattle.std.proofs.Common.{◌≡◌, ◌+◌, ◌<◌, ℕ, length, set, slice_index, [], ◌∷◌, ◌++◌, sym, ap, subst, ◌∙◌, length-set, arith}
+use Rattle.std.proofs.Common.{◌≡◌, ◌+◌, ℕ, length, set, slice_index, [], ◌∷◌, ◌++◌, sym, ap, subst, ◌∙◌, length-set, arith}
 use Rattle.kernel_journal.specs.Heads.{entries_at, rest}
 use Rattle.kernel_journal.proofs.Heads.{left-falls, some-left}
 use Rattle.kernel_journal.proofs.Merges.{IsSoFar, IsSoFar-placed, IsMerge-end, merge-unique}
