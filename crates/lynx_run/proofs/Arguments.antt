@@ -1,5 +1,5 @@
 -- Reading the words of `run` one argument at a time.
-use Rattle.std.proofs.Common.{◌≡◌, ℕ, take, ◌&&◌, List, [], ◌∷◌, Option, Some, None, refl, true, false, Bool, ◌∙◌, ap}
+use Rattle.std.proofs.Common.{◌≡◌, take, ◌&&◌, List, [], ◌∷◌, Option, Some, None, refl, true, false, Bool, ap}
 use Rattle.std.specs.Prelude.{codes, option_and_then, string_bytes, is_none, if◌then◌else◌}
 use Rattle.std.specs.Str.{bytes_eq}
 use Rattle.std.proofs.lemmas.Slice.Eq.{bytes_eq-Decides}

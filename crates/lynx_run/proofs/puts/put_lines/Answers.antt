@@ -1,6 +1,5 @@
 -- The lines before a put are put, and those behind a put that failed are not.
-use Rattle.std.proofs.Common.{◌≡◌, ◌<◌, ◌++◌, length, map, take, drop, suc, rules, ap, sym, ◌∙◌, arith, List}
-use Rattle.std.specs.Prelude.{ℕ}
+use Rattle.std.proofs.Common.{◌≡◌, ◌<◌, ◌++◌, length, map, take, drop, suc, rules, ap, sym, ◌∙◌, arith}
 use Rattle.std.specs.List.{concat}
 use Rattle.std.specs.Io.KnownBytes.{append_known}
 use Rattle.lynx_outside.specs.Sink.{PutsPart}
