@@ -143,7 +143,7 @@ a_back_that_notices_entries =
     ∷ record { kernel = 3; entry = record { stamp = 13; what = (Took 1 (record { stamp = 0; what = (packet.Moved (end_b 0 0) 4 2) })); steps = [] } }
     ∷ record { kernel = 4; entry = record { stamp = 13; what = (Asked (pid 4) call.Wait); steps = ((step.Wait (pid 4)) ∷ (step.Report (pid 4) (record { on = (end_a 0 0); way = Outward; outcome = Destroyed; bytes = []; enclosed = [] })) ∷ []) } }
     ∷ record { kernel = 2; entry = record { stamp = 14; what = (Took 3 (record { stamp = 0; what = (packet.Known (end_a 0 0) 1) })); steps = [] } }
-    ∷ record { kernel = 3; entry = record { stamp = 14; what = (Took 4 (record { stamp = 0; what = (packet.GoneSeen (end_b 0 0) ) })); steps = [] } }
+    ∷ record { kernel = 3; entry = record { stamp = 14; what = (Took 4 (record { stamp = 0; what = (packet.GoneSeen (end_b 0 0)) })); steps = [] } }
     ∷ record { kernel = 4; entry = record { stamp = 14; what = (Took 2 (record { stamp = 0; what = (packet.Want (end_b 2 0) 1 2 0) })); steps = [] } }
     ∷ record { kernel = 1; entry = record { stamp = 15; what = (Took 3 (record { stamp = 0; what = (packet.Forget (end_b 0 0) 1) })); steps = [] } }
     ∷ record { kernel = 2; entry = record { stamp = 15; what = (Took 3 (record { stamp = 0; what = (packet.Gone (end_a 0 0) 3) })); steps = [] } }
@@ -179,7 +179,7 @@ a_dead_link_leaves_no_trace_entries =
     record { kernel = 1; entry = record { stamp = 1; what = (Asked (pid 1) (call.Destroy (end_b 0 0))); steps = ((step.Destroy (end_b 0 0)) ∷ []) } }
     ∷ record { kernel = 0; entry = record { stamp = 2; what = (Took 1 (record { stamp = 0; what = (packet.Gone (end_a 0 0) 1) })); steps = ((step.Notice (end_a 0 0) false) ∷ []) } }
     ∷ record { kernel = 0; entry = record { stamp = 3; what = (Asked (pid 0) (call.Destroy (end_a 0 0))); steps = ((step.Destroy (end_a 0 0)) ∷ []) } }
-    ∷ record { kernel = 1; entry = record { stamp = 3; what = (Took 0 (record { stamp = 0; what = (packet.GoneSeen (end_b 0 0) ) })); steps = [] } }
+    ∷ record { kernel = 1; entry = record { stamp = 3; what = (Took 0 (record { stamp = 0; what = (packet.GoneSeen (end_b 0 0)) })); steps = [] } }
     ∷ []
 
 pub a_dead_link_leaves_no_trace : unstamped (noted (start a_dead_link_leaves_no_trace_setting) a_dead_link_leaves_no_trace_events) ≡ a_dead_link_leaves_no_trace_entries
@@ -404,4 +404,3 @@ two_ends_in_one_message_entries =
 pub two_ends_in_one_message : unstamped (noted (start two_ends_in_one_message_setting) two_ends_in_one_message_events) ≡ two_ends_in_one_message_entries
 unfolding end_eq put progress.sends progress.reports_to progress.answers_to progress.means progress.keeps actions.forgets actions.leave_each actions.values_leaving actions.matches actions.tells_gone actions.ends_idle actions.end_each actions.ends actions.hold_each actions.notice_send actions.notice_receive actions.notices actions.tells_moved actions.resends actions.resends_on_news actions.settle_each actions.tell_arrivals actions.listens rows.wants rows.voids rows.want_here rows.unwant_here rows.frees rows.receives rows.pass_each rows.sends_back rows.completes rows.gives_back rows.notices_first rows.end_arrivals rows.erases rows.gone_here rows.moved_here rows.moved_mark rows.known_here calls.makes calls.starts_send calls.encloses calls.posts calls.withdraws_send calls.withdraws_receive calls.ends_each kernel.answers_wait kernel.join_reports kernel.join_answers kernel.closes kernel.take_step kernel.performs kernel.call_step
 two_ends_in_one_message = refl
-
