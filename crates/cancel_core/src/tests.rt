@@ -40,6 +40,7 @@ fn ample(alloc: Global) -> Result<Work, NoMemory>
 fn view(wanted: u32, outward: Outward, inward: Inward) -> HereView
     ensures end { result.value.end ≡ END }
     ensures outward { result.outward ≡ outward }
+    ensures inward { result.inward ≡ inward }
 {
     let (a, b) = Moving::pair(END.link, 0, 3);
     b.destroy();
