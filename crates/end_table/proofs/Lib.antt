@@ -1,3 +1,4 @@
+pub mod Listed
 pub mod EndEq
 pub mod Change
 pub mod Owned

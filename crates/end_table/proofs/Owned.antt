@@ -1,5 +1,5 @@
 -- The ends that a process owns, from the places of a table.
-use Rattle.std.proofs.Common.{◌≡◌, ◌↔◌, ◌⊎◌, ⊎_elim, inl, inr, zero, suc, ◌+◌, Bool, true, false, true≢false, cond, List, [], ◌∷◌, Option, None, Some, is_some, filter, Contains, refl, sym, ap, subst, ◌∙◌, arith, rules}
+use Rattle.std.proofs.Common.{◌≡◌, ◌↔◌, ◌⊎◌, ⊎_elim, inl, inr, zero, suc, ◌+◌, Bool, true, false, true≢false, cond, List, [], ◌∷◌, Option, None, Some, is_some, filter, Contains, IsSome, refl, sym, ap, subst, ◌∙◌, arith, rules}
 use Rattle.std.specs.Cmp.{IsTotalOrder, IsEquivalence}
 use Rattle.std.specs.List.{IsDistinct}
 use Rattle.std.specs.List.Sorted.{IsStrictlySortedBy, IsSorted, IsPermutation}
@@ -73,15 +73,11 @@ strict_from_sort ends distinct sorted =
     none : EndId
     none = record { link = record { maker = 0; count = 0 }; side = A }
 
--- the sorted keys of the places that a process owns are all its ends, in order
-pub AreEndsOf-sorted : (t : TableView) (p : Pid) (ends : List EndId) → IsDistinct end_eq (keys_of t.places)
-    → IsPermutation (owned_ends p t.places) ends → IsSorted end_cmp ends → AreEndsOf p (entries t) ends
+-- the keys of the places that a process owns are its ends
+pub Contains-owned_ends : (t : TableView) (p : Pid) → IsDistinct end_eq (keys_of t.places)
+    → (q : EndId) → Contains (owned_ends p t.places) q ↔ IsSome (owned p (entries t q))
 unfolding entries
-AreEndsOf-sorted t p ends distinct moved sorted =
-    record {
-      order = AreEndsInOrder-sorted ends (strict_from_sort ends (IsDistinct-IsPermutation end_eq end_eq-sym _ ends moved (IsDistinct-keys_filter end_eq own t.places distinct)) sorted);
-      all = λ q. (λ among. to q (Contains-permutation ends _ q (IsPermutation-sym _ ends moved) among), λ owner. Contains-permutation _ ends q moved (from q owner));
-    }
+Contains-owned_ends t p distinct q = (to, from)
   where
     mine : Entry → Bool
     mine x = is_some (owned p x)
@@ -89,8 +85,8 @@ AreEndsOf-sorted t p ends distinct moved sorted =
     own : EndId × Entry → Bool
     own e = mine e.1
 
-    found : (q : EndId) → is_some (lookup (end_eq q) (filter own t.places)) ≡ mine (entry_in (lookup (end_eq q) t.places))
-    found q = ap is_some (lookup-filter-values end_eq-equivalence mine q t.places distinct) ∙ by (lookup (end_eq q) t.places)
+    found : is_some (lookup (end_eq q) (filter own t.places)) ≡ mine (entry_in (lookup (end_eq q) t.places))
+    found = ap is_some (lookup-filter-values end_eq-equivalence mine q t.places distinct) ∙ by (lookup (end_eq q) t.places)
       where
         chosen : (b : Bool) (x : Entry) → is_some (cond b (Some x) None) ≡ b
         chosen true x = refl
@@ -100,32 +96,47 @@ AreEndsOf-sorted t p ends distinct moved sorted =
         by None = refl
         by (Some x) = chosen (mine x) x
 
-    to : (q : EndId) → Contains (owned_ends p t.places) q → mine (entry_in (lookup (end_eq q) t.places)) ≡ true
-    to q among = sym (found q) ∙ IsSome-lookup_from_Contains end_eq-equivalence q (filter own t.places) among
+    to : Contains (owned_ends p t.places) q → mine (entry_in (lookup (end_eq q) t.places)) ≡ true
+    to among = sym found ∙ IsSome-lookup_from_Contains end_eq-equivalence q (filter own t.places) among
 
-    from : (q : EndId) → mine (entry_in (lookup (end_eq q) t.places)) ≡ true → Contains (owned_ends p t.places) q
-    from q owner = Contains-keys_from_lookup end_eq-same q (filter own t.places) (found q ∙ owner)
+    from : mine (entry_in (lookup (end_eq q) t.places)) ≡ true → Contains (owned_ends p t.places) q
+    from owner = Contains-keys_from_lookup end_eq-same q (filter own t.places) (found ∙ owner)
+
+-- the sorted keys of the places that a process owns are all its ends, in order
+pub AreEndsOf-sorted : (t : TableView) (p : Pid) (ends : List EndId) → IsDistinct end_eq (keys_of t.places)
+    → IsPermutation (owned_ends p t.places) ends → IsSorted end_cmp ends → AreEndsOf p (entries t) ends
+AreEndsOf-sorted t p ends distinct moved sorted =
+    record {
+      order = AreEndsInOrder-sorted ends (strict_from_sort ends (IsDistinct-IsPermutation end_eq end_eq-sym _ ends moved (IsDistinct-keys_filter end_eq own t.places distinct)) sorted);
+      all = λ q. (
+        λ among. (Contains-owned_ends t p distinct q).0 (Contains-permutation ends _ q (IsPermutation-sym _ ends moved) among),
+        λ owner. Contains-permutation _ ends q moved ((Contains-owned_ends t p distinct q).1 owner),
+      );
+    }
+  where
+    own : EndId × Entry → Bool
+    own e = is_some (owned p e.1)
 
 -- no end stands before itself, and none before one that stands before it
-end_before-irrefl : (x : EndId) → end_before x x ≡ true → ⊥
+pub end_before-irrefl : (x : EndId) → end_before x x ≡ true → ⊥
 end_before-irrefl x h = search rules
 
 end_cmp-end_before : (x y : EndId) → end_before x y ≡ true → end_cmp x y ≡ Less
 unfolding end_cmp
 end_cmp-end_before x y before = search rules
 
-end_before-trans : (x y z : EndId) → end_before x y ≡ true → end_before y z ≡ true → end_before x z ≡ true
+pub end_before-trans : (x y z : EndId) → end_before x y ≡ true → end_before y z ≡ true → end_before x z ≡ true
 end_before-trans x y z h k = end_before-end_cmp x z (end_cmp-total.trans x y z (end_cmp-end_before x y h) (end_cmp-end_before y z k))
 
 -- where an element of a list with a first one stands
-first_or_later : (x : EndId) (xs : List EndId) (q : EndId) → Contains (x ∷ xs) q → (x ≡ q) ⊎ Contains xs q
+pub first_or_later : (x : EndId) (xs : List EndId) (q : EndId) → Contains (x ∷ xs) q → (x ≡ q) ⊎ Contains xs q
 first_or_later x xs q (zero, within, is) = inl is
 first_or_later x xs q (suc k, within, is) = inr (k, omega arith, is)
 
-later : (x : EndId) (xs : List EndId) (q : EndId) → Contains xs q → Contains (x ∷ xs) q
+pub later : (x : EndId) (xs : List EndId) (q : EndId) → Contains xs q → Contains (x ∷ xs) q
 later x xs q (k, within, is) = (suc k, omega arith, is)
 
-first : (x : EndId) (xs : List EndId) → Contains (x ∷ xs) x
+pub first : (x : EndId) (xs : List EndId) → Contains (x ∷ xs) x
 first x xs = (zero, omega arith, refl)
 
 -- the first of ends in order stands before each other
@@ -135,7 +146,7 @@ before_later x (y ∷ ys) order q among =
     ⊎_elim (λ e. subst (λ z. end_before x z ≡ true) e order.0)
     (λ later. end_before-trans x y q order.0 (before_later y ys order.1 q later)) (first_or_later y ys q among)
 
-in_order-tail : (x : EndId) (xs : List EndId) → AreEndsInOrder (x ∷ xs) → AreEndsInOrder xs
+pub in_order-tail : (x : EndId) (xs : List EndId) → AreEndsInOrder (x ∷ xs) → AreEndsInOrder xs
 in_order-tail x [] order = tt
 in_order-tail x (y ∷ ys) order = order.1
 

@@ -1,7 +1,8 @@
-ghost use Rattle.std.specs.Prelude.{◌≡◌, ◌<◌, false, OnOk, OnErr, IfOk, IfErr, IsOk, IsTrue, ◌↔◌};
+ghost use Rattle.std.specs.Prelude.{◌≡◌, ◌<◌, false, List, OnOk, OnErr, IfOk, IfErr, IsOk, IsTrue, ◌↔◌};
 ghost use Rattle.std.specs.Bool.{OnTrue, OnFalse};
 ghost use Rattle.std.specs.List.{IsDistinct};
 ghost use Rattle.std.specs.Map.{keys_of};
+ghost use Rattle.charlotte_calls.specs.declared.names.EndId.{EndId};
 ghost use Rattle.end_table.specs.Place.{put, end_eq};
 ghost use Rattle.end_table.specs.Entries.{left_value, left_entry, ended_entry, learned, is_news, settled};
 ghost use Rattle.end_table.specs.Table.{entries, HasPlace, Puts, IsHere, IsHereAnd, IfHere, IsIdle, IsDestroyed, IfDestroyed, HasLeftUpTo, IsOfEnd, KeepsPlaces, Clears};
@@ -291,6 +292,20 @@ impl Table {
         let mut ends = self.owned_anyhow(p)?;
         ends.sort_unstable();
         Ok(ends)
+    }
+
+    /// The ends that a process owns can be listed. This only says so, and makes no list.
+    pub fn has_list_of(&self, p: Pid)
+        ensures { (mine : List EndId) × AreEndsOf p (entries self.now) mine }
+    {
+        self.has_distinct_places();
+    }
+
+    #[tactic(auto, unfolding(crate::specs::Place::end_eq))]
+    fn has_distinct_places(&self)
+        ensures { IsDistinct end_eq (keys_of self.now.places) }
+    {
+        let _count = self.slots.len();
     }
 
     /// The ends that a process owns, in the order of their places.

@@ -15,7 +15,7 @@ use Rattle.charlotte_calls.specs.declared.names.Pid.{Pid}
 use Rattle.charlotte_calls.specs.declared.names.Way.{Way}
 use Rattle.charlotte_calls.specs.declared.names.Way.TheVariants as way
 use Rattle.charlotte_calls.specs.declared.picture.PictureWhat.TheVariants as packet
-use Rattle.end_table.specs.Owned.{owned}
+use Rattle.end_table.specs.Owned.{owned, AreEndsOf}
 use Rattle.end_table.specs.Entries.{gains_one, settled}
 use Rattle.end_table.specs.declared.entry.Entry.{Entry}
 use Rattle.end_table.specs.declared.entry.Entry.TheVariants as entry
@@ -198,3 +198,9 @@ ends_here k (Some v) d = ends k v d
 -- END of each of these ends, in order
 unfoldable pub ends_each : ℕ → List EndId → Progress → Progress
 ends_each k xs d = fold (λ so_far x. ends_here k (here (so_far.table x)) so_far) d xs
+
+-- a Wait and an Exit are about the ends that the process owns
+abbrev pub IsCallWith : Pid → (EndId → Entry) → List EndId → Call → Type 0
+IsCallWith p t mine call.Wait = AreEndsOf p t mine
+IsCallWith p t mine call.Exit = AreEndsOf p t mine
+IsCallWith p t mine _ = Unit {0}

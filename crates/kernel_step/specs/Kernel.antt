@@ -77,6 +77,10 @@ with_process p x s = record s { process = λ q. if nat_eq p.0 q then x else s.pr
 abbrev pub process_of : Pid → Kernel → Process
 process_of p s = s.process p.0
 
+-- the standing answer of a process is taken away
+abbrev pub without_answer : Pid → Kernel → Kernel
+without_answer p s = with_process p (record (process_of p s) { answer = None }) s
+
 -- an outcome, as the last parts of an event fill it: an answer comes to stand, and its process runs again
 abbrev pub stands : Pid → Answer → Outcome → Outcome
 stands p a o =

@@ -3,14 +3,11 @@ use Rattle.std.specs.Prelude.{◌≡◌, ◌≢◌, ℕ, ◌≤◌, ◌<◌, ◌
 use Rattle.std.specs.List.{filter}
 use Rattle.charlotte_calls.specs.declared.calls.Call.{Call}
 use Rattle.charlotte_calls.specs.declared.calls.Call.TheVariants as call
-use Rattle.charlotte_calls.specs.declared.names.EndId.{EndId}
-use Rattle.charlotte_calls.specs.declared.names.Pid.{Pid}
 use Rattle.charlotte_calls.specs.declared.setting.Setting.{Setting}
+use Rattle.kernel_step.specs.Calls.{IsCallWith}
 use Rattle.kernel_step.specs.Kernel.{process_of}
-use Rattle.end_table.specs.declared.entry.Entry.{Entry as TableEntry}
 use Rattle.kernel_step.specs.declared.phase.Phase.TheVariants.{Running}
 use Rattle.kernel_step.specs.Start.{home}
-use Rattle.end_table.specs.Owned.{AreEndsOf}
 use Rattle.kernel_world.specs.World.{World, Event, Calls, Takes, happens, noted, start}
 use Rattle.kernel_world.specs.declared.entry.Entry.{Entry}
 use Rattle.kernel_world.specs.declared.entry.Placed.{Placed}
@@ -20,12 +17,6 @@ abbrev pub IsCallOf : ℕ → Call → Type 0
 IsCallOf version (call.Send on bytes xs) = (length xs ≤ (if nat_eq version 1 then 1 else 8)) × (length bytes ≤ 256)
 IsCallOf version (call.Print bytes) = length bytes ≤ 256
 IsCallOf version _ = Unit {0}
-
--- a Wait and an Exit are about the ends that the process owns
-abbrev pub IsCallWith : Pid → (EndId → TableEntry) → List EndId → Call → Type 0
-IsCallWith p t mine call.Wait = AreEndsOf p t mine
-IsCallWith p t mine call.Exit = AreEndsOf p t mine
-IsCallWith p t mine _ = Unit {0}
 
 -- a process that runs may call its own kernel; a packet that is there may be taken
 abbrev pub IsAllowed : Setting → World → Event → Type 0

@@ -1,5 +1,5 @@
 -- Several kernels together.
-use Rattle.std.specs.Prelude.{ℕ, nat_eq, ◌&&◌, List, [], ◌∷◌, ◌++◌, None, if◌then◌else◌}
+use Rattle.std.specs.Prelude.{ℕ, nat_eq, ◌&&◌, List, [], ◌∷◌, ◌++◌, if◌then◌else◌}
 use Rattle.std.specs.List.{fold}
 use Rattle.charlotte_calls.specs.declared.calls.Call.{Call}
 use Rattle.charlotte_calls.specs.declared.names.EndId.{EndId}
@@ -8,7 +8,7 @@ use Rattle.charlotte_calls.specs.declared.picture.Picture.{Picture}
 use Rattle.charlotte_calls.specs.declared.picture.PictureWhat.TheVariants.{GoneSeen}
 use Rattle.charlotte_calls.specs.declared.setting.Setting.{Setting}
 use Rattle.kernel_step.specs.Calls.{made_end}
-use Rattle.kernel_step.specs.Kernel.{Kernel, Outcome, call_step, take_step, with_process, process_of}
+use Rattle.kernel_step.specs.Kernel.{Kernel, Outcome, call_step, take_step, without_answer}
 use Rattle.kernel_step.specs.Start.{start_kernel}
 use Rattle.kernel_world.specs.declared.entry.Happened.TheVariants.{Asked, Took}
 use Rattle.kernel_world.specs.declared.entry.Happened.{Happened}
@@ -25,10 +25,6 @@ pub data Event : Type 0 where
   Calls : (k : ℕ) → (p : Pid) → (c : Call) → (mine : List EndId) → Event
   -- kernel k takes the first packet that comes from a kernel
   Takes : (k from : ℕ) → Event
-
--- the standing answer of a process is taken away
-abbrev pub without_answer : Pid → Kernel → Kernel
-without_answer p s = with_process p (record (process_of p s) { answer = None }) s
 
 -- the kernel of an event
 abbrev pub kernel_of : Event → ℕ

@@ -1,0 +1,33 @@
+-- A call by the parts of a kernel, before and after its room was reserved.
+use Rattle.std.proofs.Common.{◌≡◌, ℕ, List, map, sym, ap, subst, ◌∙◌, refl}
+use Rattle.charlotte_calls.specs.declared.calls.Call.{Call}
+use Rattle.charlotte_calls.specs.declared.names.EndId.{EndId}
+use Rattle.charlotte_calls.specs.declared.names.Pid.{Pid}
+use Rattle.charlotte_calls.specs.declared.work.Effect.{Effect}
+use Rattle.end_table.specs.Table.{TableView, entries}
+use Rattle.kernel_core.proofs.Reserved.{reserved-parts}
+use Rattle.kernel_core.proofs.Takes.{state-parts, state-changed}
+use Rattle.kernel_core.specs.State.{KernelView, kept_process, state_of, ended, with_parts}
+use Rattle.kernel_core.specs.Stepping.{HasParts, IsStepOf, IsCalled}
+use Rattle.kernel_core.specs.declared.process.Kept.{Kept}
+use Rattle.kernel_step.specs.Calls.{IsCallWith}
+use Rattle.kernel_step.specs.Kernel.{call_step, next_stamp}
+
+-- the event of a call whose room was reserved first
+pub called-before : (old t new : TableView) (xs ys zs : List Kept) (made stamp made_now : ℕ) (effect : Effect) (p : Pid) (c : Call) → entries t ≡ entries old → t.kernel ≡ old.kernel → map kept_process ys ≡ map kept_process xs
+    → IsCalled t ys made stamp new zs made_now effect p c → IsCalled old xs made stamp new zs made_now effect p c
+called-before old t new xs ys zs made stamp made_now effect p c same kernel kept called = (
+  called.0,
+  subst (λ u. IsCallWith p u called.0 c) same called.1,
+  λ s has next.
+      called.2 s (record { parts = reserved-parts old t xs ys s same kept ∙ has.parts; number = has.number ∙ sym kernel; links = has.links }) next,
+)
+
+-- the event of a call is that of the kernel
+pub call-by_parts : (v w : KernelView) (xs ys : List Kept) (stamp : ℕ) (effect : Effect) (p : Pid) (mine : List EndId) (c : Call) → map kept_process xs ≡ v.processes → map kept_process ys ≡ w.processes
+    → w.kernels ≡ v.kernels → w.version ≡ v.version → w.table.kernel ≡ v.table.kernel → w.stamp ≡ effect.stamp → stamp ≡ next_stamp v.stamp
+    → IsStepOf v.table xs v.made stamp w.table ys w.made effect p mine c → ended (state_of w) effect ≡ call_step (state_of v) p mine c
+unfolding state_of
+call-by_parts v w xs ys stamp effect p mine c xs_are ys_are kernels version number stamp_is next step =
+    ap (λ s. ended s effect) (state-changed v w ys kernels version number ys_are ∙ ap (λ n. with_parts (entries w.table) ys (record (state_of v) { made = w.made; stamp = n })) stamp_is)
+    ∙ step (state_of v) (record { parts = state-parts v xs xs_are; number = refl; links = refl }) next

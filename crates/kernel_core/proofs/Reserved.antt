@@ -1,0 +1,29 @@
+-- What is as before once the room of an event was reserved.
+use Rattle.std.proofs.Common.{◌≡◌, ℕ, List, length, map, sym, ap, subst, ◌∙◌, refl}
+use Rattle.charlotte_calls.specs.declared.names.EndId.{EndId}
+use Rattle.end_table.specs.Table.{TableView, entries}
+use Rattle.end_table.specs.declared.entry.Entry.{Entry}
+use Rattle.kernel_core.proofs.ActiveSets.{tells_same}
+use Rattle.kernel_core.proofs.Takes.{with_parts-kept}
+use Rattle.kernel_core.specs.Kept.{IsKept, Tells, started_ends}
+use Rattle.kernel_core.specs.Sound.{IsSound}
+use Rattle.kernel_core.specs.State.{kept_process, with_parts}
+use Rattle.kernel_core.specs.declared.process.Kept.{Kept}
+use Rattle.end_table.specs.Owned.{owned}
+use Rattle.kernel_step.specs.Calls.{is_active}
+use Rattle.kernel_step.specs.Kernel.{Kernel}
+
+module _ (old new : TableView) (xs ys : List Kept) (made : ℕ) (kept : IsKept old xs made) (same : entries new ≡ entries old) (kernel : new.kernel ≡ old.kernel)
+    (started : map started_ends ys ≡ map started_ends xs) (lengths : length ys ≡ length xs) where
+  pub reserved-kept : IsKept new ys made
+  reserved-kept =
+      record {
+        sound =
+            subst (λ k. IsSound k made (length ys) (entries new)) (sym kernel)
+            (subst (λ n. IsSound old.kernel made n (entries new)) (sym lengths) (subst (IsSound old.kernel made (length xs)) (sym same) kept.sound));
+        active = tells_same (entries old) (entries new) xs ys kept.active started (λ p e. ap (λ t. is_active (owned p (t e))) same);
+      }
+
+-- the state of the kernel
+pub reserved-parts : (old new : TableView) (xs ys : List Kept) (s : Kernel) → entries new ≡ entries old → map kept_process ys ≡ map kept_process xs → with_parts (entries new) ys s ≡ with_parts (entries old) xs s
+reserved-parts old new xs ys s same kept = ap (λ t. with_parts t ys s) same ∙ with_parts-kept (entries old) xs ys s kept

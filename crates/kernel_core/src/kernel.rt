@@ -1,0 +1,181 @@
+ghost use Rattle.std.specs.Prelude.{◌≡◌, ◌<◌, ◌↔◌, List, length, None, IfOk, IfErr, OnErr, IsTrue};
+ghost use Rattle.charlotte_calls.specs.Packets.{packet_picture};
+ghost use Rattle.charlotte_calls.specs.Setting.{IsValid};
+ghost use Rattle.charlotte_calls.specs.declared.names.EndId.{EndId};
+ghost use Rattle.end_table.specs.Table.{entries};
+ghost use Rattle.kernel_step.specs.Calls.{IsCallWith};
+ghost use Rattle.kernel_step.specs.Kernel.{call_step, take_step, process_of, without_answer};
+ghost use Rattle.kernel_step.specs.Start.{start_kernel};
+ghost use Rattle.kernel_step.specs.declared.phase.Phase.TheVariants.{Running};
+ghost use Rattle.kernel_core.specs.State.{state_of, ended, is_pending, kept_process};
+
+use crate::deciding::call_event;
+use crate::process::Kept;
+use crate::stamp::{greater, stamp_after};
+use crate::start::{fresh_processes, wire_links};
+use crate::taking::{NotTaken, take_event};
+use charlotte_calls::{Answer, Call, Effect, NoMemory, Packet, Pid, Setting};
+use end_table::Table;
+use kernel_step::Phase;
+use std::alloc::Global;
+use std::marker::Model;
+
+/// One kernel: its table of ends, and its processes.
+#[derive(Drop)]
+pub struct Kernel {
+    alloc: Global,
+    kernels: u8,
+    version: u8,
+    table: Table,
+    /// The processes of the setting, by number. Those of other kernels stay as they start.
+    processes: Vec<Kept>,
+    made: u32,
+    stamp: u64,
+}
+
+impl Model for Kernel {
+    ghost use Rattle.std.specs.Prelude.{map};
+    ghost use Rattle.kernel_core.specs.State.{KernelView, kept_process};
+    ghost use Rattle.kernel_core.specs.Kept.{IsKept};
+
+    ghost Value = { KernelView };
+
+    ghost view = { λ k. record { kernels = k.kernels; version = k.version; table = k.table; processes = map kept_process k.processes.items; made = k.made; stamp = k.stamp } };
+
+    ghost invariant = { λ k. IsKept k.table k.processes.items k.made };
+}
+
+impl Kernel {
+    /// The kernel of a setting with this number, before any event. An `id` is below the number of the setting's kernels.
+    pub fn start(alloc: Global, id: u8, setting: &Setting) -> Result<Kernel, NoMemory>
+        requires valid { IsValid setting.now }
+        requires below { id < setting.now.kernels }
+        ensures state { IfOk result (λ k. state_of k ≡ start_kernel setting.now id) }
+        ensures processes { IfOk result (λ k. length k.processes ≡ length setting.now.homes) }
+    {
+        let (table, made) = wire_links(alloc, id, setting)?;
+        let processes = fresh_processes(alloc, setting.homes.len())?;
+        Ok(Kernel {
+            alloc,
+            kernels: setting.kernels,
+            version: setting.version,
+            table,
+            processes,
+            made,
+            stamp: 0,
+        })
+    }
+
+    /// A call of a process that runs and to which no answer stands. In version 1 a Send encloses at most one end.
+    ///
+    /// The answer stands afterwards, unless the call is a Wait that finds no report, or starts to cancel a receive: then
+    /// it comes to stand in a later event. After want of memory the kernel is as before.
+    pub fn call(&mut self, p: Pid, call: Call) -> Result<Effect, NoMemory>
+        requires process { p.0 < length self.old.processes }
+        requires running { (process_of p (state_of self.old)).phase ≡ Running }
+        requires answered { (process_of p (state_of self.old)).answer ≡ None }
+        ensures step { IfOk result (λ effect. (mine : List EndId) × IsCallWith p (entries self.old.table) mine call
+            × (ended (state_of self.new) effect ≡ call_step (state_of self.old) p mine call)) }
+        ensures stamp { IfOk result (λ effect. effect.stamp ≡ self.new.stamp) }
+        ensures same { OnErr result (state_of self.new ≡ state_of self.old) }
+        ensures processes { length self.new.processes ≡ length self.old.processes }
+    {
+        let stamp = stamp_after(self.stamp);
+        let called = call_event(
+            self.alloc,
+            &mut self.table,
+            self.processes.as_mut_slice(),
+            &mut self.made,
+            p,
+            stamp,
+            call,
+        );
+        match called {
+            Ok(effect) => {
+                self.stamp = effect.stamp;
+                Ok(effect)
+            }
+            Err(NoMemory) => Err(NoMemory),
+        }
+    }
+
+    /// Takes a packet from a kernel. Every packet, sensible or not, is taken by the rules of its kind. For want of memory
+    /// the packet comes back, and the kernel is as before.
+    pub fn take(&mut self, from: u8, packet: Packet) -> Result<Effect, NotTaken>
+        ensures step { IfOk result (λ effect. ended (state_of self.new) effect ≡ take_step (state_of self.old) from (packet_picture packet)) }
+        ensures stamp { IfOk result (λ effect. effect.stamp ≡ self.new.stamp) }
+        ensures back { IfErr result (λ e. e.packet ≡ packet) }
+        ensures same { OnErr result (state_of self.new ≡ state_of self.old) }
+        ensures processes { length self.new.processes ≡ length self.old.processes }
+    {
+        let stamp = stamp_after(greater(self.stamp, packet.stamp));
+        let taken = take_event(
+            self.alloc,
+            &mut self.table,
+            self.processes.as_mut_slice(),
+            self.made,
+            self.kernels,
+            from,
+            stamp,
+            packet,
+        );
+        match taken {
+            Ok(effect) => {
+                self.stamp = effect.stamp;
+                Ok(effect)
+            }
+            Err(not_taken) => Err(not_taken),
+        }
+    }
+
+    /// What the kernel keeps of a process.
+    fn process(&self, p: Pid) -> &Kept
+        requires { p.0 < length self.now.processes }
+        ensures { kept_process result.now ≡ process_of p (state_of self.now) }
+    {
+        &self.processes[usize::from(p.0)]
+    }
+
+    /// Whether a process is in a Wait or in a Cancel whose answer does not stand.
+    pub fn waiting(&self, p: Pid) -> bool
+        requires { p.0 < length self.now.processes }
+        ensures { result ≡ is_pending (process_of p (state_of self.now)).phase }
+    {
+        match self.process(p).phase {
+            Phase::Waiting | Phase::Cancelling(_) => true,
+            Phase::Running | Phase::Exited => false,
+        }
+    }
+
+    /// Whether a process runs: it may make a call.
+    pub fn running(&self, p: Pid) -> bool
+        requires { p.0 < length self.now.processes }
+        ensures { IsTrue result ↔ ((process_of p (state_of self.now)).phase ≡ Running) }
+    {
+        matches!(self.process(p).phase, Phase::Running)
+    }
+
+    /// Takes the standing answer of a process.
+    pub fn answer(&mut self, p: Pid) -> Option<Answer>
+        requires { p.0 < length self.old.processes }
+        ensures answer { result ≡ (process_of p (state_of self.old)).answer }
+        ensures state { state_of self.new ≡ without_answer p (state_of self.old) }
+        ensures processes { length self.new.processes ≡ length self.old.processes }
+    {
+        self.processes[usize::from(p.0)].answer.take()
+    }
+
+    /// The stamp of the last event, 0 before the first.
+    pub fn stamp(&self) -> u64
+        ensures { result ≡ self.now.stamp }
+    {
+        self.stamp
+    }
+
+    /// What the kernel keeps of ends.
+    pub fn table(&self) -> &Table
+        ensures { result.now ≡ self.now.table }
+    {
+        &self.table
+    }
+}
