@@ -1,1 +1,4 @@
+pub mod Built
+pub mod Nodes
 pub mod Performing
+pub mod Told

@@ -1,17 +1,18 @@
 -- Performing a script: which events its lines name, in which order, and what is noted where a line names none.
-use Rattle.std.specs.Prelude.{◌≡◌, ℕ, zero, suc, nat_eq, not, List, [], ◌∷◌, ◌++◌, length, map, find, option_map, Option, None, Some, true, false}
+use Rattle.std.specs.Prelude.{◌≡◌, ◌<◌, ℕ, zero, suc, nat_eq, not, List, [], ◌∷◌, ◌++◌, length, map, find, option_map, Option, None, Some, true, false}
 use Rattle.std.specs.List.{flat_map, range_with_len}
 use Rattle.charlotte_calls.specs.declared.calls.Call.{Call}
 use Rattle.charlotte_calls.specs.declared.names.EndId.{EndId}
 use Rattle.charlotte_calls.specs.declared.names.Pid.{Pid}
 use Rattle.charlotte_calls.specs.declared.picture.Picture.{Picture}
 use Rattle.charlotte_calls.specs.declared.setting.Setting.{Setting}
+use Rattle.kernel_step.specs.Calls.{IsCallWith}
 use Rattle.kernel_step.specs.Kernel.{process_of}
 use Rattle.kernel_step.specs.Start.{home}
 use Rattle.kernel_step.specs.declared.phase.Phase.{Phase}
 use Rattle.kernel_step.specs.declared.phase.Phase.TheVariants.{Running, Waiting, Cancelling, Exited}
 use Rattle.kernel_world.specs.World.{World, Event, Calls, Takes, happens, after, start, noted}
-use Rattle.kernel_world.specs.Run.{IsCallWith, IsRecord, of_kernel, AllTaken}
+use Rattle.kernel_world.specs.Run.{IsRecord, of_kernel, AllTaken}
 use Rattle.kernel_world.specs.declared.entry.Placed.{Placed}
 use Rattle.kernel_journal.specs.declared.last.Last.{Last}
 use Rattle.kernel_journal.specs.declared.last.Last.TheVariants.{Quiet, Unsettled, Spent}
@@ -90,6 +91,12 @@ Performs s w [] es notes = (es ≡ []) × (notes ≡ [])
 Performs s w (l ∷ ls) es notes =
     (now later : List Event) × (noted_now noted_later : List ScriptNote) × Does s w l.line l.what now noted_now
     × Performs s (after w now) ls later noted_later × (es ≡ now ++ later) × (notes ≡ noted_now ++ noted_later)
+
+-- each line stands behind the one before it
+abbrev pub AreRisingLines : List ScriptLine → Type 0
+AreRisingLines [] = Unit {0}
+AreRisingLines (l ∷ []) = Unit {0}
+AreRisingLines (l ∷ m ∷ ls) = (l.line < m.line) × AreRisingLines (m ∷ ls)
 
 -- how the world is that a script leaves
 abbrev pub IsLast : World → Last → Type 0

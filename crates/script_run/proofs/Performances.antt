@@ -1,0 +1,257 @@
+-- Whole performances: their start, their notes, their last world and their merge.
+use Rattle.std.proofs.Common.{◌≡◌, ◌≢◌, ◌⊎◌, inl, inr, ℕ, ◌+◌, ◌<◌, ◌≤◌, zero, suc, true, false, nat_eq, List, [], ◌∷◌, ◌++◌, length, map, get_or, All, Option, cond, arith, ap, sym, subst, ◌∙◌, refl, length-append}
+use Rattle.std.specs.List.{filter}
+use Rattle.std.specs.Option.{option_to_list}
+use Rattle.std.proofs.lemmas.List.{map-append, length-map, get_or_past}
+use Rattle.std.proofs.lemmas.List.Elements.{All-push, All-head, All-tail, All-cons, All-nil}
+use Rattle.std.proofs.lemmas.Bool.Decides.{eqb_tells}
+use Rattle.charlotte_calls.specs.declared.calls.Call.{Call}
+use Rattle.charlotte_calls.specs.declared.names.Pid.{Pid}
+use Rattle.charlotte_calls.specs.declared.packet.Packet.{Packet}
+use Rattle.charlotte_calls.specs.declared.picture.Picture.{Picture}
+use Rattle.charlotte_calls.specs.declared.setting.Setting.{Setting}
+use Rattle.charlotte_calls.specs.Packets.{packet_picture}
+use Rattle.charlotte_calls.specs.Setting.{IsValid}
+use Rattle.kernel_core.specs.State.{state_of}
+use Rattle.kernel_journal.specs.TranscriptText.{AreOfTranscript, AreRisingNotes, HasNotesOf, IsShown}
+use Rattle.kernel_journal.specs.declared.last.Last.{Last}
+use Rattle.kernel_journal.specs.declared.last.Last.TheVariants.{Quiet, Unsettled, Spent}
+use Rattle.kernel_journal.specs.declared.last.ScriptNote.{ScriptNote}
+use Rattle.kernel_step.specs.Start.{start_kernel}
+use Rattle.kernel_step.specs.declared.phase.Phase.{Phase}
+use Rattle.kernel_step.specs.declared.phase.Phase.TheVariants.{Running, Waiting, Cancelling, Exited}
+use Rattle.kernel_world.specs.Run.{AllTaken, AreAllowed, IsMerge, of_kernel}
+use Rattle.kernel_world.specs.World.{World, Event, after, start, noted}
+use Rattle.kernel_world.specs.declared.entry.Entry.{Entry}
+use Rattle.kernel_world.specs.declared.entry.Placed.{Placed}
+use Rattle.lynx_plan.specs.declared.script.ScriptLine.{ScriptLine}
+use Rattle.lynx_plan.specs.declared.script.ScriptCall.{ScriptCall}
+use Rattle.lynx_plan.specs.declared.script.ScriptCall.TheVariants.{Ask, Take, Settle}
+use Rattle.script_run.specs.Nodes.{sent_to, world_of, noted_at, IsNodeOf, AreLinesDone, AreReady, IsLineDone, Goes}
+use Rattle.script_run.specs.Performing.{Asks, TakesFirst, Does, Performs, AreRisingLines, IsLast, IsPerformance, waits_note, nothing_note}
+use Rattle.script_run.specs.declared.node.Node.{Node}
+use Rattle.script_run.proofs.Nodes.{state_at, entries_of, Goes-then}
+use Rattle.script_run.proofs.Runs.{Performs-more}
+use Rattle.script_run.proofs.Worlds.{shown-noted, told-start}
+use Rattle.script_run.proofs.Sent.{Lists, sent_in, IsEmptyList, nothing_sent}
+
+-- ---- the start
+
+get_or-push : {X : Type 0} (ys : List X) (y d : X) (q : ℕ) → (q ≡ length ys → y ≡ d) → get_or (ys ++ y ∷ []) q d ≡ get_or ys q d
+get_or-push [] y d zero same = same refl
+get_or-push [] y d (suc q) same = refl
+get_or-push (x ∷ xs) y d zero same = refl
+get_or-push (x ∷ xs) y d (suc q) same = get_or-push xs y d q (λ e. same (ap suc e))
+
+-- the nodes so far are those of a start
+pub record IsStarting (s : Setting) (n : ℕ) (ns : List Node) : Type 0 where
+  pub count : length ns ≡ n
+  pub nodes : All (IsNodeOf s) ns
+  pub world : world_of s ns ≡ start s
+  pub entries : (k : ℕ) → noted_at ns k ≡ []
+
+pub starting-none : (s : Setting) → IsStarting s 0 []
+starting-none s = record { count = refl; nodes = All-nil (IsNodeOf s); world = refl; entries = λ k. refl }
+
+pub starting-more : (s : Setting) (n : ℕ) (ns : List Node) (node : Node) → IsStarting s n ns → state_of node.kernel ≡ start_kernel s n → node.journal.entries ≡ [] → ((to : ℕ) → sent_to node to ≡ []) → IsNodeOf s node → IsStarting s (n + 1) (ns ++ node ∷ [])
+starting-more s n ns node is state none sent of =
+    record {
+      count = omega (arith, length-append ns (node ∷ []), is.count);
+      nodes = All-push (IsNodeOf s) ns node is.nodes of;
+      world = (λ j. record { kernel = λ q. kernel q j; packets = λ from to. packets from to j }) ∙ is.world;
+      entries = λ k. ap (λ es. get_or es k []) (map-append entries_of ns (node ∷ [])) ∙ get_or-push (map entries_of ns) node.journal.entries [] k (λ _. none) ∙ is.entries k;
+    }
+  where
+    kernel : (q : ℕ) → (world_of s (ns ++ node ∷ [])).kernel q ≡ (world_of s ns).kernel q
+    kernel q = ap (λ ks. get_or ks q (start_kernel s q)) (map-append state_at ns (node ∷ []))
+        ∙ get_or-push (map state_at ns) (state_of node.kernel) (start_kernel s q) q (λ e. state ∙ ap (start_kernel s) (sym (e ∙ length-map ns state_at ∙ is.count)))
+
+    packets : (from to : ℕ) → (world_of s (ns ++ node ∷ [])).packets from to ≡ (world_of s ns).packets from to
+    packets from to = ap (λ (fs : List (ℕ → List Picture)). get_or fs from (λ _. []) to) (map-append sent_to ns (node ∷ []))
+        ∙ ap (λ (f : ℕ → List Picture). f to) (get_or-push (map sent_to ns) (sent_to node) (λ _. []) from (λ _ j t. sent t j))
+
+-- ---- one line more
+
+pub lines-none : (s : Setting) (a : List Node) → Goes s a a [] → AreLinesDone s [] [] a a
+lines-none s a goes = record { events = []; performed = (refl, refl); goes = goes; few = omega arith }
+
+pub lines-more : (s : Setting) (ls : List ScriptLine) (l : ScriptLine) (notes : List ScriptNote) (note : Option ScriptNote) (a b c : List Node) → AreLinesDone s ls notes a b → IsLineDone s l.line l.what note b c → AreLinesDone s (ls ++ l ∷ []) (notes ++ option_to_list note) a c
+lines-more s ls l notes note a b c so_far one =
+    record {
+      events = so_far.events ++ one.events;
+      performed = Performs-more s (world_of s a) ls l so_far.events one.events notes (option_to_list note) so_far.performed (subst (λ (w : World). Does s w l.line l.what one.events (option_to_list note)) so_far.goes.world one.does);
+      goes = Goes-then s a b c so_far.events one.events so_far.goes one.goes;
+      few = omega (arith, length-append so_far.events one.events, length-append ls (l ∷ []), so_far.few, one.few);
+    }
+
+-- ---- notes rise with their lines
+
+abbrev HasNote : ℕ → List ScriptNote → Type 0
+HasNote line notes = (notes ≡ []) ⊎ ((note : ScriptNote) × (notes ≡ note ∷ []) × (note.line ≡ line))
+
+asks-note : (s : Setting) (w : World) (line : ℕ) (p : Pid) (c : Call) (phase : Phase) (es : List Event) (notes : List ScriptNote) → Asks s w line p c phase es notes → HasNote line notes
+asks-note s w line p c Running es notes h = inl h.1
+asks-note s w line p c Waiting es notes h = inr (waits_note line, h.one_note, refl)
+asks-note s w line p c (Cancelling on) es notes h = inr (waits_note line, h.one_note, refl)
+asks-note s w line p c Exited es notes h = inr (waits_note line, h.one_note, refl)
+
+takes-note : (line from to : ℕ) (qs : List Picture) (es : List Event) (notes : List ScriptNote) → TakesFirst line from to qs es notes → HasNote line notes
+takes-note line from to [] es notes h = inr (nothing_note line, h.one_note, refl)
+takes-note line from to (q ∷ qs) es notes h = inl h.1
+
+does-note : (s : Setting) (w : World) (line : ℕ) (what : ScriptCall) (es : List Event) (notes : List ScriptNote) → Does s w line what es notes → HasNote line notes
+does-note s w line (Ask p c) es notes h = asks-note s w line p c _ es notes h
+does-note s w line (Take from to) es notes h = takes-note line from to (w.packets from to) es notes h
+does-note s w line Settle es notes h = inl h.1
+
+abbrev StartsAfter : ℕ → List ScriptNote → Type 0
+StartsAfter b [] = Unit {0}
+StartsAfter b (n ∷ ns) = b < n.line
+
+abbrev LinesAfter : ℕ → List ScriptLine → Type 0
+LinesAfter b [] = Unit {0}
+LinesAfter b (l ∷ ls) = b < l.line
+
+later-lines : (l : ScriptLine) (ls : List ScriptLine) → AreRisingLines (l ∷ ls) → LinesAfter l.line ls × AreRisingLines ls
+later-lines l [] r = (tt, tt)
+later-lines l (m ∷ ls) r = (r.0, r.1)
+
+starts-before : (b c : ℕ) (notes : List ScriptNote) → b < c → StartsAfter c notes → StartsAfter b notes
+starts-before b c [] lt h = tt
+starts-before b c (n ∷ ns) lt h = omega arith
+
+rising-cons : (n : ScriptNote) (ns : List ScriptNote) → StartsAfter n.line ns → AreRisingNotes ns → AreRisingNotes (n ∷ ns)
+rising-cons n [] h r = tt
+rising-cons n (m ∷ ns) h r = (h, r)
+
+-- the notes of a line, and those behind it
+line-notes : (line : ℕ) (now later : List ScriptNote) → HasNote line now → StartsAfter line later × AreRisingNotes later → AreRisingNotes (now ++ later)
+line-notes line now later (inl none) more = subst (λ (ns : List ScriptNote). AreRisingNotes (ns ++ later)) (sym none) more.1
+line-notes line now later (inr one) more =
+    subst (λ (ns : List ScriptNote). AreRisingNotes (ns ++ later)) (sym one.1) (rising-cons one.0 later (subst (λ n. StartsAfter n later) (sym one.2) more.0) more.1)
+
+line-rises : (b line : ℕ) (now later : List ScriptNote) → b < line → HasNote line now → StartsAfter line later × AreRisingNotes later → StartsAfter b (now ++ later) × AreRisingNotes (now ++ later)
+line-rises b line now later after_b (inl none) more = subst (λ (ns : List ScriptNote). StartsAfter b (ns ++ later) × AreRisingNotes (ns ++ later)) (sym none) (starts-before b line later after_b more.0, more.1)
+line-rises b line now later after_b (inr one) more =
+    let at : line ≡ one.0.line = sym one.2 in
+    subst (λ (ns : List ScriptNote). StartsAfter b (ns ++ later) × AreRisingNotes (ns ++ later)) (sym one.1)
+    (subst (λ n. b < n) at after_b, rising-cons one.0 later (subst (λ n. StartsAfter n later) at more.0) more.1)
+
+rising-after : (s : Setting) (w : World) (b : ℕ) (ls : List ScriptLine) (es : List Event) (notes : List ScriptNote) → LinesAfter b ls → AreRisingLines ls → Performs s w ls es notes → StartsAfter b notes × AreRisingNotes notes
+rising-after s w b [] es notes after_b r h = let none : notes ≡ [] = h.1 in subst (λ (ns : List ScriptNote). StartsAfter b ns × AreRisingNotes ns) (sym none) (tt, tt)
+rising-after s w b (l ∷ ls) es notes after_b r h =
+    let next = later-lines l ls r in
+    subst (λ (ns : List ScriptNote). StartsAfter b ns × AreRisingNotes ns) (sym h.7)
+    (line-rises b l.line h.2 h.3 after_b (does-note s w l.line l.what h.0 h.2 h.4) (rising-after s (after w h.0) l.line ls h.1 h.3 next.0 next.1 h.5))
+
+pub notes-rise : (s : Setting) (w : World) (ls : List ScriptLine) (es : List Event) (notes : List ScriptNote) → AreRisingLines ls → Performs s w ls es notes → AreRisingNotes notes
+notes-rise s w [] es notes r h = let none : notes ≡ [] = h.1 in subst AreRisingNotes (sym none) tt
+notes-rise s w (l ∷ ls) es notes r h =
+    let next = later-lines l ls r in
+    subst AreRisingNotes (sym h.7)
+    (line-notes l.line h.2 h.3 (does-note s w l.line l.what h.0 h.2 h.4) (rising-after s (after w h.0) l.line ls h.1 h.3 next.0 next.1 h.5))
+
+-- ---- the last world
+
+pub last-notes : (w : World) (last : Last) (notes : List ScriptNote) → IsLast w last → HasNotesOf last notes
+last-notes w Quiet notes h = tt
+last-notes w Unsettled notes h = tt
+last-notes w (Spent k) notes h = absurd h
+
+abbrev pub IsQuietNode : Node → Type 0
+IsQuietNode node = All IsEmptyList node.sent.items
+
+pub all-taken : (s : Setting) (ns : List Node) → All IsQuietNode ns → AllTaken (world_of s ns)
+all-taken s [] all from to = refl
+all-taken s (n ∷ ns) all zero to = nothing_sent n.sent.items (All-head IsQuietNode n ns all) to
+all-taken s (n ∷ ns) all (suc from) to = all-taken s ns (All-tail IsQuietNode n ns all) from to
+
+no-pictures : (xs : List Packet) → map packet_picture xs ≡ [] → xs ≡ []
+no-pictures [] e = refl
+no-pictures (x ∷ xs) e = let no : packet_picture x ∷ map packet_picture xs ≡ [] = e in cc
+
+empty-lists : (lists : Lists) → ((to : ℕ) → sent_in lists to ≡ []) → All IsEmptyList lists
+empty-lists [] none = All-nil IsEmptyList
+empty-lists (x ∷ xs) none = All-cons IsEmptyList x xs (no-pictures x.items (none 0)) (empty-lists xs (λ to. none (suc to)))
+
+pub all-quiet : (ns : List Node) → ((from to : ℕ) → get_or (map sent_to ns) from (λ _. []) to ≡ []) → All IsQuietNode ns
+all-quiet [] none = All-nil IsQuietNode
+all-quiet (n ∷ ns) none = All-cons IsQuietNode n ns (empty-lists n.sent.items (none 0)) (all-quiet ns (λ from. none (suc from)))
+
+-- ---- the merge, where there is one kernel
+
+abbrev at_first : Entry → Placed
+at_first e = record { kernel = 0; entry = e }
+
+of_kernel-own : (k : ℕ) (p : Placed) (ps : List Placed) → nat_eq p.kernel k ≡ true → of_kernel k (p ∷ ps) ≡ p.entry ∷ of_kernel k ps
+of_kernel-own k p ps e = ap (λ b. map (λ (x : Placed). x.entry) (cond b (p ∷ filter (λ (x : Placed). nat_eq x.kernel k) ps) (filter (λ (x : Placed). nat_eq x.kernel k) ps))) e
+
+of_kernel-other : (k : ℕ) (p : Placed) (ps : List Placed) → nat_eq p.kernel k ≡ false → of_kernel k (p ∷ ps) ≡ of_kernel k ps
+of_kernel-other k p ps e = ap (λ b. map (λ (x : Placed). x.entry) (cond b (p ∷ filter (λ (x : Placed). nat_eq x.kernel k) ps) (filter (λ (x : Placed). nat_eq x.kernel k) ps))) e
+
+none-less : (k : ℕ) (p : Placed) (ps : List Placed) → of_kernel k (p ∷ ps) ≡ [] → of_kernel k ps ≡ []
+none-less k p ps h = elim (eqb_tells p.kernel k) [
+  | inl x ↦ let no : p.entry ∷ of_kernel k ps ≡ [] = sym (of_kernel-own k p ps x.0) ∙ h in cc
+  | inr x ↦ sym (of_kernel-other k p ps x.0) ∙ h
+]
+
+placed-first : (ps : List Placed) → ((k : ℕ) → 1 ≤ k → of_kernel k ps ≡ []) → ps ≡ map at_first (of_kernel 0 ps)
+placed-first [] none = refl
+placed-first (p ∷ ps) none = elim (eqb_tells p.kernel 0) [
+  | inl e ↦
+      let at : p ≡ at_first p.entry = ap (λ (k : ℕ). record { kernel = k; entry = p.entry }) e.1 in
+      ap (λ (xs : List Placed). p ∷ xs) (placed-first ps (λ k le. none-less k p ps (none k le)))
+      ∙ ap (λ (x : Placed). x ∷ map at_first (of_kernel 0 ps)) at
+      ∙ ap (map at_first) (sym (of_kernel-own 0 p ps e.0))
+  | inr e ↦
+      let here : nat_eq p.kernel p.kernel ≡ true = elim (eqb_tells p.kernel p.kernel) [ inl x ↦ x.0 | inr x ↦ absurd (x.1 refl) ] in
+      let ne : p.kernel ≢ 0 = e.1 in
+      let some : 1 ≤ p.kernel = omega arith in
+      let no : p.entry ∷ of_kernel p.kernel ps ≡ [] = sym (of_kernel-own p.kernel p ps here) ∙ none p.kernel some in
+      cc
+]
+
+-- all entries are of the first kernel, so that there is one list of them
+pub same-placed : (ps qs : List Placed) → ((k : ℕ) → of_kernel k ps ≡ of_kernel k qs) → ((k : ℕ) → 1 ≤ k → of_kernel k ps ≡ []) → ps ≡ qs
+same-placed ps qs same none =
+    placed-first ps none ∙ ap (map at_first) (same 0) ∙ sym (placed-first qs (λ k le. sym (same k) ∙ none k le))
+
+-- ---- the whole
+
+pub performance : (s : Setting) (lines : List ScriptLine) (merged : List Placed) (notes : List ScriptNote) (last : Last) (a b : List Node) → length b ≡ length a → AreReady s 0 a → world_of s a ≡ start s → ((k : ℕ) → noted_at a k ≡ []) → AreLinesDone s lines notes a b → IsMerge (map entries_of b) merged → IsLast (world_of s b) last → s.kernels ≤ 1 → length lines ≤ 200000 → IsPerformance s lines merged notes last
+performance s lines merged notes last a b count ready begins none done merge ends one few =
+    record {
+      named = es;
+      performed = subst (λ (w : World). Performs s w lines es notes) begins done.performed;
+      run = es;
+      told = record {
+        run = record { allowed = subst (λ (w : World). AreAllowed s w es) begins done.goes.allowed; few = omega (arith, done.few, few) };
+        order = merge.order;
+        entries = sym told;
+      };
+      same = λ k. ap (of_kernel k) told;
+      leaves = refl;
+      last_world = subst (λ (w : World). IsLast w last) (done.goes.world ∙ ap (λ (w : World). after w es) begins) ends;
+    }
+  where
+    es : List Event
+    es = done.events
+
+    at_kernel : (k : ℕ) → of_kernel k merged ≡ of_kernel k (noted (start s) es)
+    at_kernel k = merge.entries k ∙ done.goes.entries k ∙ ap (λ xs. xs ++ of_kernel k (noted (world_of s a) es)) (none k) ∙ ap (λ (w : World). of_kernel k (noted w es)) begins
+
+    past : (k : ℕ) → 1 ≤ k → of_kernel k merged ≡ []
+    past k le = merge.entries k ∙ get_or_past (map entries_of b) k [] (omega (arith, length-map b entries_of, count, ready.count, one))
+
+    told : merged ≡ noted (start s) es
+    told = same-placed merged (noted (start s) es) at_kernel past
+
+-- what was performed can be told
+pub performance-told : (s : Setting) (lines : List ScriptLine) (merged : List Placed) (notes : List ScriptNote) (last : Last) → IsValid s → AreRisingLines lines → IsPerformance s lines merged notes last → AreOfTranscript s merged notes last
+performance-told s lines merged notes last valid rising p =
+    record {
+      setting = valid;
+      shown = subst (λ (ps : List Placed). All (IsShown s.version) ps) p.told.entries (shown-noted s 0 (start s) p.run (omega (arith, p.told.run.few)) p.told.run.allowed (told-start s));
+      in_order = notes-rise s (start s) lines p.named notes rising p.performed;
+      spent = last-notes (after (start s) p.named) last notes p.last_world;
+    }

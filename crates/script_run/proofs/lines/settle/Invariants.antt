@@ -1,0 +1,5 @@
+use Rattle.script_run.proofs.Settling.{IsSettling}
+use Rattle.script_run.proofs.lines.settle.Given as goal
+
+abbrev pub invariant-loop : goal.invariant-loop
+invariant-loop l = IsSettling l.setting l.setting.kernels 10000 l.counter l.fn.nodes l.nodes

@@ -1,0 +1,29 @@
+use Rattle.std.proofs.Common.{◌+◌, List, sym, subst, arith}
+use Rattle.kernel_world.specs.World.{World}
+use Rattle.script_run.specs.Told.{IsToldWorld}
+use Rattle.script_run.specs.declared.node.Node.{Node}
+use Rattle.script_run.proofs.Performances.{IsStarting, starting-none, starting-more}
+use Rattle.script_run.proofs.Worlds.{told-start}
+use Rattle.script_run.proofs.performance.start_nodes.Goals as goal
+
+pub loop-id-init : goal.loop-id-init
+loop-id-init c = subst (λ (ns : List Node). IsStarting c.args.setting.now 0 ns) (sym c.new-nodes.ensures.items) (starting-none c.args.setting.now)
+
+pub loop-id-preserved : goal.loop-id-preserved
+loop-id-preserved c =
+    let node = c.in_ok-start.ensures in
+    subst (λ (ns : List Node). IsStarting c.args.setting.now (c.loop-id.id + 1) ns) (sym c.in_ok-push.ensures.items)
+    (starting-more c.args.setting.now c.loop-id.id c.loop-id.nodes.items c.in_ok-start.field-0 c.loop-id.invariant node.state node.entries node.sent node.node)
+
+pub returns-clause-ready : goal.returns-clause-ready
+returns-clause-ready c = record {
+  count = omega (arith, c.loop-id.invariant.count);
+  nodes = c.loop-id.invariant.nodes;
+  told = subst (λ (w : World). IsToldWorld c.args.setting.now 0 w) (sym c.loop-id.invariant.world) (told-start c.args.setting.now);
+}
+
+pub returns-clause-start : goal.returns-clause-start
+returns-clause-start c = c.loop-id.invariant.world
+
+pub returns-clause-entries : goal.returns-clause-entries
+returns-clause-entries c = c.loop-id.invariant.entries

@@ -1,0 +1,160 @@
+ghost use Rattle.std.specs.Prelude.{◌≡◌, ◌↔◌, ◌^◌, ◌<◌, ◌-◌, max, ℕ, nat_eq, not, ◌++◌, ◌∷◌, [], All, IfOk, IsTrue, OnOk, List, MatchOption, length, map};
+ghost use Rattle.charlotte_calls.specs.Packets.{packet_picture, what_picture};
+ghost use Rattle.charlotte_calls.specs.Setting.{IsValid};
+ghost use Rattle.charlotte_calls.specs.declared.names.EndId.{EndId};
+ghost use Rattle.end_table.specs.Table.{entries};
+ghost use Rattle.kernel_core.specs.State.{state_of};
+ghost use Rattle.kernel_journal.specs.Journal.{IsAfterLast};
+ghost use Rattle.kernel_journal.specs.TranscriptText.{HasFewCall, HasFewPacket};
+ghost use Rattle.kernel_step.specs.Calls.{IsCallWith};
+ghost use Rattle.kernel_step.specs.Kernel.{call_step, take_step, process_of, without_answer};
+ghost use Rattle.kernel_step.specs.Progress.{sent_picture};
+ghost use Rattle.kernel_step.specs.Start.{start_kernel};
+ghost use Rattle.kernel_step.specs.declared.phase.Phase.TheVariants.{Running};
+ghost use Rattle.kernel_world.specs.declared.entry.Happened.TheVariants.{Asked, Took};
+ghost use Rattle.script_run.specs.Nodes.{sent_to, to_kernel, IsNodeOf, IsStamped, IsAfter, IsPopped, IsUnpopped};
+ghost use Rattle.script_run.specs.Told.{IsTold};
+
+use charlotte_calls::{Call, Effect, Items, NoMemory, Packet, Pid, Setting};
+use kernel_core::{Kernel, NotTaken};
+use kernel_journal::{Entry, Happened, Journal};
+use std::alloc::Global;
+use std::collections::VecDeque;
+
+/// A kernel, what happened at it, and what it sent.
+#[derive(Drop)]
+pub(crate) struct Node {
+    pub(crate) kernel: Kernel,
+    pub(crate) journal: Journal,
+    /// The packets that were not taken yet, oldest first: a list for each number that a kernel may have.
+    pub(crate) sent: Vec<VecDeque<Packet>>,
+}
+
+/// How many numbers a packet may be addressed to.
+const NUMBERS: usize = 256;
+
+impl Node {
+    /// A kernel of a setting before any event.
+    pub(crate) fn start(alloc: Global, id: u8, setting: &Setting) -> Result<Node, NoMemory>
+        requires valid { IsValid setting.now }
+        requires below { id < setting.now.kernels }
+        ensures state { IfOk result (λ node. state_of node.kernel ≡ start_kernel setting.now id) }
+        ensures entries { IfOk result (λ node. node.journal.entries ≡ []) }
+        ensures sent { IfOk result (λ node. (to : ℕ) → sent_to node to ≡ []) }
+        ensures node { IfOk result (λ node. IsNodeOf setting.now node) }
+    {
+        Ok(Node {
+            kernel: Kernel::start(alloc, id, setting)?,
+            journal: Journal::start(alloc),
+            sent: empty_lists(alloc)?,
+        })
+    }
+
+    /// A process that runs makes a call; the answer that stood is let go.
+    pub(crate) fn call(&mut self, p: Pid, call: &Call) -> Result<(), NoMemory>
+        requires process { p.0 < length self.old.kernel.processes }
+        requires running { (process_of p (state_of self.old.kernel)).phase ≡ Running }
+        requires lists { length self.old.sent.items ≡ 256 }
+        requires stamped { IsStamped self.old }
+        requires time { self.old.kernel.stamp < 2 ^ 64 - 1 }
+        requires told { (version : ℕ) × IsTold version (state_of self.old.kernel) × HasFewCall version call.now }
+        ensures after { OnOk result ((mine : List EndId) × IsCallWith p (entries self.old.kernel.table) mine call.now
+            × IsAfter (Asked p call.now) (call_step (without_answer p (state_of self.old.kernel)) p mine call.now) self.old self.new) }
+    {
+        self.journal.reserve(1)?;
+        let _ = self.kernel.answer(p);
+        let effect = self.kernel.call(p, call.copy())?;
+        let call = call.copy();
+        self.note(Happened::Asked { p, call }, effect)
+    }
+
+    /// Takes the first packet that a kernel sent to this one.
+    pub(crate) fn take(&mut self, from: u8, packet: Packet) -> Result<(), NoMemory>
+        requires lists { length self.old.sent.items ≡ 256 }
+        requires stamped { IsStamped self.old }
+        requires time { max self.old.kernel.stamp packet.stamp < 2 ^ 64 - 1 }
+        requires told { (version : ℕ) × IsTold version (state_of self.old.kernel) × HasFewPacket version (what_picture packet.what) }
+        ensures after { OnOk result (IsAfter (Took from (packet_picture packet)) (take_step (state_of self.old.kernel) from (packet_picture packet)) self.old self.new) }
+    {
+        self.journal.reserve(1)?;
+        let picture = packet.picture();
+        match self.kernel.take(from, packet) {
+            Ok(effect) => self.note(Happened::Took { from, picture }, effect),
+            Err(NotTaken { packet: _ }) => Err(NoMemory),
+        }
+    }
+}
+
+impl Node {
+    /// Notes an event whose stamp is new, and sends its packets.
+    fn note(&mut self, what: Happened, effect: Effect) -> Result<(), NoMemory>
+        requires lists { length self.old.sent.items ≡ 256 }
+        requires after_last { IsAfterLast self.old.journal.entries effect.stamp }
+        ensures kernel { self.new.kernel ≡ self.old.kernel }
+        ensures entries { OnOk result (self.new.journal.entries ≡ self.old.journal.entries ++ record { stamp = effect.stamp; what = what; steps = effect.steps.items } ∷ []) }
+        ensures sent { OnOk result ((to : ℕ) → sent_to self.new to ≡ sent_to self.old to ++ to_kernel to (map sent_picture effect.packets.items)) }
+        ensures lists { length self.new.sent.items ≡ length self.old.sent.items }
+    {
+        let Effect {
+            stamp,
+            packets,
+            answered: _,
+            steps,
+        } = effect;
+        self.journal.push(Entry {
+            stamp,
+            what,
+            steps: Items::of(steps),
+        })?;
+        self.send_all(packets)
+    }
+
+    fn send_all(&mut self, packets: Vec<(u8, Packet)>) -> Result<(), NoMemory>
+        requires { length self.old.sent.items ≡ 256 }
+        ensures kernel { self.new.kernel ≡ self.old.kernel }
+        ensures journal { self.new.journal ≡ self.old.journal }
+        ensures sent { OnOk result ((to : ℕ) → sent_to self.new to ≡ sent_to self.old to ++ to_kernel to (map sent_picture packets.items)) }
+        ensures lists { length self.new.sent.items ≡ length self.old.sent.items }
+    {
+        for (to, packet) in packets {
+            self.sent[usize::from(to)].push_back(packet)?;
+        }
+        Ok(())
+    }
+
+    /// The oldest packet to a kernel that was not taken yet.
+    pub(crate) fn pop(&mut self, to: u8) -> Option<Packet>
+        requires { length self.old.sent.items ≡ 256 }
+        ensures packet { MatchOption result (IsUnpopped to self.old self.new) (λ packet. IsPopped to packet self.old self.new) }
+        ensures kernel { self.new.kernel ≡ self.old.kernel }
+        ensures journal { self.new.journal ≡ self.old.journal }
+        ensures lists { length self.new.sent.items ≡ length self.old.sent.items }
+    {
+        self.sent[usize::from(to)].pop_front()
+    }
+
+    /// Whether no packet to a kernel waits to be taken.
+    pub(crate) fn has_sent(&self, to: u8) -> bool
+        requires { length self.now.sent.items ≡ 256 }
+        ensures { result ≡ not (nat_eq (length (sent_to self.now to)) 0) }
+    {
+        !self.sent[usize::from(to)].is_empty()
+    }
+
+    /// Whether no packet of this node waits to be taken.
+    pub(crate) fn is_quiet(&self) -> bool
+        ensures { IsTrue result ↔ All (λ list. list.items ≡ []) self.now.sent.items }
+    {
+        self.sent.iter().all(|list| list.is_empty())
+    }
+}
+
+fn empty_lists(alloc: Global) -> Result<Vec<VecDeque<Packet>>, NoMemory>
+    ensures { IfOk result (λ lists. (length lists.items ≡ 256) × All (λ list. list.items ≡ []) lists.items) }
+{
+    let mut lists = Vec::with_capacity(alloc, NUMBERS)?;
+    for _ in 0..NUMBERS {
+        lists.push(VecDeque::new(alloc))?;
+    }
+    Ok(lists)
+}
