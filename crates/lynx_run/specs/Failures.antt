@@ -5,10 +5,14 @@ use Rattle.charlotte_text.specs.Spelling.{number_text}
 use Rattle.kernel_journal.specs.Transcript.{line}
 use Rattle.lynx_outside.specs.Faults.{Rose}
 use Rattle.lynx_outside.specs.Sink.{PutsPart}
+use Rattle.lynx_outside.specs.declared.files.FileAnswer.{FileAnswer}
+use Rattle.lynx_outside.specs.declared.files.FileAnswer.TheVariants as answer
 use Rattle.lynx_outside.specs.declared.status.Status.{Status}
 use Rattle.lynx_outside.specs.declared.status.Status.TheVariants as status
+use Rattle.lynx_plan.specs.declared.fault.PlanFault.{PlanFault}
+use Rattle.lynx_plan.specs.declared.fault.PlanFault.TheVariants as fault
 use Rattle.lynx_run.specs.declared.failure.Failure.{Failure}
-use Rattle.lynx_run.specs.declared.failure.Failure.TheVariants.{Usage, ReadFault, Absent, TooBig, Script, NoMemory}
+use Rattle.lynx_run.specs.declared.failure.Failure.TheVariants.{Usage, ReadFault, Absent, TooBig, Script, Unbuilt, NoMemory}
 
 -- the status of a failure
 abbrev pub status_of : Failure → Status
@@ -17,15 +21,29 @@ status_of ReadFault = status.ReadFault
 status_of Absent = status.NoFile
 status_of TooBig = status.TooBig
 status_of (Script n rule) = status.Refused
+status_of Unbuilt = status.Refused
 status_of NoMemory = status.NoMemory
 
--- its line on err, where the file that was read has this name
+-- why a file was not read
+abbrev pub failure_of_file : FileAnswer → Failure
+failure_of_file answer.Absent = Absent
+failure_of_file answer.TooBig = TooBig
+failure_of_file answer.Failed = ReadFault
+failure_of_file answer.NoMemory = NoMemory
+
+-- why a script was not read
+abbrev pub failure_of_script : PlanFault → Failure
+failure_of_script (fault.BadPlan n rule) = Script n rule
+failure_of_script fault.NoMemory = NoMemory
+
+-- its line on err, where the file that was read, or the command that is not built, has this name
 abbrev pub failure_text : List ℕ → Failure → List ℕ
 failure_text name Usage = line (codes "lynx: usage")
 failure_text name ReadFault = line (codes "lynx: " ++ name ++ codes ": read fault")
 failure_text name Absent = line (codes "lynx: " ++ name ++ codes ": absent")
 failure_text name TooBig = line (codes "lynx: " ++ name ++ codes ": too big")
 failure_text name (Script n rule) = line (name ++ codes ":" ++ number_text n ++ codes ": script " ++ number_text rule)
+failure_text name Unbuilt = line (codes "lynx: " ++ name ++ codes ": not built")
 failure_text name NoMemory = line (codes "lynx: no memory")
 
 -- A text is put on err: then the status is that of the failure. Where the put fails, the status is 3.

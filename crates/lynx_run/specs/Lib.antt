@@ -1,2 +1,4 @@
+pub mod Commands
+pub mod Drive
 pub mod Failures
 pub mod Words

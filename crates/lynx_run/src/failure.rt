@@ -1,10 +1,13 @@
 //! Why a command was not done: the text on err and the status.
 ghost use Rattle.std.specs.Prelude.{◌≡◌, ◌++◌, IfOk, OnOk, codes};
 ghost use Rattle.charlotte_text.specs.Spelling.{number_text};
+ghost use Rattle.lynx_run.specs.declared.failure.Failure.TheVariants as failures;
+ghost use Rattle.lynx_run.specs.Failures.{failure_of_file, failure_of_script};
 
 use charlotte_calls::NoMemory;
 use charlotte_text::push_number;
-use lynx_outside::{Sink, Status};
+use lynx_outside::{FileAnswer, Status};
+use lynx_plan::PlanFault;
 use std::alloc::Global;
 
 /// Why a command was not done.
@@ -20,6 +23,8 @@ pub enum Failure {
     TooBig,
     /// A line of the script breaks a rule.
     Script { line: u32, rule: u8 },
+    /// The command is not built yet.
+    Unbuilt,
     /// There was not memory enough.
     NoMemory,
 }
@@ -37,6 +42,7 @@ impl Failure {
             Failure::Absent => Status::NoFile,
             Failure::TooBig => Status::TooBig,
             Failure::Script { .. } => Status::Refused,
+            Failure::Unbuilt => Status::Refused,
             Failure::NoMemory => Status::NoMemory,
         }
     }
@@ -51,6 +57,7 @@ impl Failure {
             Failure::Absent => file_text(alloc, name, b": absent\n"),
             Failure::TooBig => file_text(alloc, name, b": too big\n"),
             Failure::Script { line, rule } => script_text(alloc, name, line, rule),
+            Failure::Unbuilt => file_text(alloc, name, b": not built\n"),
             Failure::NoMemory => bytes_of(alloc, b"lynx: no memory\n"),
         }
     }
@@ -82,4 +89,36 @@ fn script_text(alloc: Global, name: &str, line: u32, rule: u8) -> Result<Vec<u8>
     push_number(&mut text, u64::from(rule))?;
     text.push(b'\n')?;
     Ok(text)
+}
+
+impl From<NoMemory> for Failure {
+    ghost from_gives = { λ _ e. e ≡ failures.NoMemory };
+
+    fn from(_error: NoMemory) -> Failure {
+        Failure::NoMemory
+    }
+}
+
+impl From<FileAnswer> for Failure {
+    ghost from_gives = { λ a e. e ≡ failure_of_file a };
+
+    fn from(answer: FileAnswer) -> Failure {
+        match answer {
+            FileAnswer::Absent => Failure::Absent,
+            FileAnswer::TooBig => Failure::TooBig,
+            FileAnswer::Failed => Failure::ReadFault,
+            FileAnswer::NoMemory => Failure::NoMemory,
+        }
+    }
+}
+
+impl From<PlanFault> for Failure {
+    ghost from_gives = { λ f e. e ≡ failure_of_script f };
+
+    fn from(fault: PlanFault) -> Failure {
+        match fault {
+            PlanFault::BadPlan { line, rule } => Failure::Script { line, rule },
+            PlanFault::NoMemory => Failure::NoMemory,
+        }
+    }
 }

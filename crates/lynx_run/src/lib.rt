@@ -1,11 +1,15 @@
 //! The commands of the program `lynx`.
 #![tactic(auto)]
 
+mod drive;
 mod failure;
 mod puts;
 mod tell;
+mod top;
 mod words;
 
+pub use drive::drive_file;
 pub use failure::Failure;
 pub use puts::put_lines;
+pub use top::{fail, lynx};
 pub use words::{Command, command_of};

@@ -1,0 +1,114 @@
+//! The command that performs a script.
+ghost use Rattle.std.specs.Prelude.{◌≡◌, ◌≢◌, ◌≤◌, ℕ, List, Result, IfOk, IfErr, length, map, Some};
+ghost use Rattle.std.specs.List.{concat};
+ghost use Rattle.lynx_run.specs.declared.failure.Failure.{Failure};
+ghost use Rattle.lynx_run.specs.Drive.{IsScriptOf, IsDriven, FailsAt, Finds, found_text, Drives, CountsFound, change, Ends};
+
+use crate::failure::Failure;
+use crate::puts::put_lines;
+use crate::tell::tell;
+use charlotte_calls::NoMemory;
+use kernel_journal::print_transcript;
+use lynx_outside::{Files, Sink, Status};
+use lynx_plan::{Script, read_script};
+use script_run::{first_unbuilt, perform};
+use std::alloc::Global;
+
+const MOST_BYTES: u32 = 1_048_576;
+
+// The script of these bytes, where all of it can be performed.
+fn built_script(alloc: Global, bytes: &[u8]) -> Result<Script, Failure>
+    requires { length bytes.now ≤ 1048576 }
+    ensures given { IfOk result (IsScriptOf bytes.now) }
+    ensures refused { IfErr result (λ f. FailsAt (Some bytes.now) f) }
+    ensures no_fault { IfErr result (λ f. f ≢ Failure.ReadFault) }
+{
+    let script = read_script(alloc, bytes)?;
+    match first_unbuilt(bytes, &script) {
+        Some(line) => Err(Failure::Script { line, rule: 9 }),
+        None => Ok(script),
+    }
+}
+
+// The lines of the transcript of a script.
+fn transcript(alloc: Global, bytes: &[u8], script: &Script) -> Result<Vec<Vec<u8>>, NoMemory>
+    requires within { length bytes.now ≤ 1048576 }
+    requires given { IsScriptOf bytes.now script.now }
+    ensures { IfOk result (λ lines. IsDriven bytes.now (concat (map (λ l. l.items) lines.items))) }
+{
+    let performance = perform(alloc, script)?;
+    print_transcript(
+        alloc,
+        &script.setting,
+        performance.merged.as_slice(),
+        performance.notes.as_slice(),
+        performance.last,
+    )
+}
+
+// The lines of the transcript of the script that a file holds.
+fn drive_lines<F: Files>(alloc: Global, name: &str, files: &mut F) -> Result<Vec<Vec<u8>>, Failure>
+    ensures same { F.contents files.new ≡ F.contents files.old }
+    ensures found { Drives (F.contents files.old) name.now (found_text result) }
+    ensures counted { CountsFound (F.faults files.old) (F.faults files.new) result }
+{
+    let bytes = files.read(alloc, name, MOST_BYTES)?;
+    let lines = lines_of(alloc, bytes.as_slice())?;
+    Ok(lines)
+}
+
+// The lines of the transcript of the script of these bytes.
+fn lines_of(alloc: Global, bytes: &[u8]) -> Result<Vec<Vec<u8>>, Failure>
+    requires { length bytes.now ≤ 1048576 }
+    ensures found { Finds (Some bytes.now) (found_text result) }
+    ensures no_fault { IfErr result (λ f. f ≢ Failure.ReadFault) }
+{
+    let script = built_script(alloc, bytes)?;
+    let lines = transcript(alloc, bytes, &script)?;
+    Ok(lines)
+}
+
+// Puts the lines on out, or the line of the failure on err.
+pub(crate) fn end_with<O: Sink, E: Sink>(
+    alloc: Global,
+    name: &str,
+    found: Result<Vec<Vec<u8>>, Failure>,
+    out: &mut O,
+    err: &mut E,
+) -> Status
+    ensures { Ends name.now (found_text found) result
+        (change (O.held out.old) (O.held out.new) (O.faults out.old) (O.faults out.new))
+        (change (E.held err.old) (E.held err.new) (E.faults err.old) (E.faults err.new)) }
+{
+    match found {
+        Ok(lines) => match put_lines(out, lines.as_slice()) {
+            Ok(()) => Status::Done,
+            Err(_) => Status::WriteFault,
+        },
+        Err(failure) => tell(alloc, name, failure, err),
+    }
+}
+
+/// Performs the script of a file, and puts its transcript on out, one put a line. Where that fails, the line of the
+/// failure is put on err. After a put that failed nothing more is put.
+pub fn drive_file<F: Files, O: Sink, E: Sink>(
+    alloc: Global,
+    name: &str,
+    files: &mut F,
+    out: &mut O,
+    err: &mut E,
+) -> Status
+    ensures same { F.contents files.new ≡ F.contents files.old }
+    ensures ended { (found : Result (List ℕ) Failure)
+        × Drives (F.contents files.old) name.now found
+        × CountsFound (F.faults files.old) (F.faults files.new) found
+        × Ends name.now found result
+        (change (O.held out.old) (O.held out.new) (O.faults out.old) (O.faults out.new))
+        (change (E.held err.old) (E.held err.new) (E.faults err.old) (E.faults err.new)) }
+{
+    let found = drive_lines(alloc, name, files);
+    end_with(alloc, name, found, out, err)
+}
+
+#[cfg(test)]
+mod tests;
