@@ -36,14 +36,16 @@ handlers_are (stmt.more_of-Handler n shape body rest) =
 pub try_tree : (body : Vec stmt.Stmt) (handlers : Vec Handler) → stmt_tree (stmt.Try body handlers) ≡ trees.Try (stmt_list body.items) (handler_list handlers.items)
 try_tree body handlers = search (rules, stmts_are, handlers_are, the_lemmas)
 
+pub if_tree : (condition : expr.Expr) (then : Vec stmt.Stmt) → stmt_tree (stmt.If condition then None) ≡ trees.If (expr_tree condition) (stmt_list then.items)
+if_tree condition then = search (rules, stmts_are, the_lemmas)
+
+pub if_else_tree : (condition : expr.Expr) (then otherwise : Vec stmt.Stmt) → stmt_tree (stmt.If condition then (Some otherwise)) ≡ trees.IfElse (expr_tree condition) (stmt_list then.items) (stmt_list otherwise.items)
+if_else_tree condition then otherwise = search (rules, stmts_are, the_lemmas)
+
 pub choice_marks : (d : ℕ) (condition : expr.Expr) (then : Vec stmt.Stmt) (otherwise : Option (Vec stmt.Stmt)) → stmt_marks d (stmt_tree (stmt.If condition then otherwise))
     ≡ word d keywords.If ∷ (expr_marks d (expr_tree condition) ++ word d keywords.Then ∷ (stmts_marks d (stmt_list then.items) ++ else_marks d (else_list otherwise)))
-choice_marks d condition then None =
-    let e : stmt_tree (stmt.If condition then None) ≡ trees.If (expr_tree condition) (stmt_list then.items) = search (rules, stmts_are, the_lemmas) in
-    ap (stmt_marks d) e
-choice_marks d condition then (Some otherwise) =
-    let e : stmt_tree (stmt.If condition then (Some otherwise)) ≡ trees.IfElse (expr_tree condition) (stmt_list then.items) (stmt_list otherwise.items) = search (rules, stmts_are, the_lemmas) in
-    ap (stmt_marks d) e
+choice_marks d condition then None = ap (stmt_marks d) (if_tree condition then)
+choice_marks d condition then (Some otherwise) = ap (stmt_marks d) (if_else_tree condition then otherwise)
 
 -- ---- what printing says
 

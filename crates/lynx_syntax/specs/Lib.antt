@@ -2,3 +2,9 @@ pub mod Faults
 pub mod Grammar
 pub mod Printing
 pub mod Trees
+pub mod Reading
+pub mod ReadingExpressions
+pub mod ReadingLists
+pub mod ReadingStatements
+pub mod ReadingModules
+pub mod Answers

@@ -1,0 +1,19 @@
+use Rattle.std.proofs.Common.{List, subst, arith}
+use Rattle.std.specs.List.{AllByRecursion}
+use Rattle.lynx_lexer.specs.declared.token.Kind.{Kind}
+use Rattle.lynx_syntax.specs.Answers.{kinds, IsTreeOf}
+use Rattle.lynx_syntax.specs.Grammar.{kinds_of}
+use Rattle.lynx_syntax.specs.Printing.{IsPrintable}
+use Rattle.lynx_syntax.specs.Trees.{module_tree}
+use Rattle.lynx_syntax.proofs.Lengths.{tokens_fit}
+use Rattle.lynx_syntax.proofs.Printable.{tokens_printable, ok_then}
+use Rattle.lynx_syntax.proofs.parsing.parse.Goals as goal
+
+pub read-requires : goal.read-requires
+read-requires c = omega (arith, tokens_fit c.args.tokens.now c.args.source.now c.requires.spell)
+
+pub returns-clause-printable : goal.returns-clause-printable
+returns-clause-printable c =
+    let all = tokens_printable c.args.tokens.now c.args.source.now c.requires.spell c.requires.limits in
+    ok_then c.read.result (λ m. IsTreeOf (kinds c.args.tokens.now) (module_tree m)) (λ m. AllByRecursion IsPrintable (kinds_of (module_tree m))) c.read.ensures.found
+    (λ m h. subst (λ (ks : List Kind). AllByRecursion IsPrintable ks) h.0.1 all)
