@@ -1,11 +1,10 @@
 -- Scripts that were read: their lines rise, and are not too many.
-use Rattle.std.proofs.Common.{◌≡◌, ℕ, ◌+◌, ◌*◌, ◌≤◌, ◌<◌, Bool, true, false, cond, eqb, List, [], ◌∷◌, ◌++◌, length, map, Option, Some, None, refl, sym, ap, ◌∙◌, arith}
-use Rattle.std.specs.Prelude.{nat_lt, codes}
-use Rattle.std.specs.List.{slice_split, onto_first}
+use Rattle.std.proofs.Common.{◌≡◌, ℕ, ◌+◌, ◌*◌, ◌≤◌, Bool, true, false, cond, eqb, List, [], ◌∷◌, ◌++◌, length, map, refl, arith}
+use Rattle.std.specs.List.{onto_first}
 use Rattle.charlotte_calls.specs.declared.calls.Call.{Call}
 use Rattle.charlotte_calls.specs.declared.calls.Call.TheVariants as call
 use Rattle.charlotte_text.specs.Reading.{parts}
-use Rattle.charlotte_text.specs.Spelling.{call_text, process_text}
+use Rattle.charlotte_text.specs.Spelling.{call_text}
 use Rattle.lynx_plan.specs.Reading.{is_skipped}
 use Rattle.lynx_plan.specs.ScriptText.{standing, what_text, numbered, IsScriptText}
 use Rattle.lynx_plan.specs.declared.script.Script.{Script}
@@ -13,8 +12,6 @@ use Rattle.lynx_plan.specs.declared.script.ScriptLine.{ScriptLine}
 use Rattle.lynx_plan.specs.declared.script.ScriptCall.{ScriptCall}
 use Rattle.lynx_plan.specs.declared.script.ScriptCall.TheVariants.{Ask, Take, Settle}
 use Rattle.std.proofs.lemmas.List.{length-append}
-use Rattle.std.proofs.lemmas.Bool.{ltb-false}
-use Rattle.script_run.specs.Built.{line_beginning, unbuilt, IsBuilt}
 use Rattle.script_run.specs.Performing.{AreRisingLines}
 
 -- ---- the numbers of lines rise
@@ -114,12 +111,3 @@ pub script_few : (bytes : List ℕ) (s : Script) → length bytes ≤ 1048576 �
 script_few bytes s small h =
     let all = rw h.lines at (standing_weight 1 (parts 10 bytes)) in
     omega (arith, all, parts_weight bytes, weight_of-append h.header (map numbered s.lines), lines_weight s.lines)
-
--- ---- what is not refused is built
-
-none_of_cond : (b : Bool) (n : ℕ) → cond b (Some n) None ≡ None → b ≡ false
-none_of_cond true n e = absurd cc
-none_of_cond false n e = refl
-
-pub all_built : (bytes : List ℕ) (s : Script) → unbuilt bytes s ≡ None → IsBuilt s
-all_built bytes s e = record { one_kernel = ltb-false _ _ (none_of_cond (nat_lt 1 s.setting.kernels) (line_beginning (codes "kernels ") 1 (parts 10 bytes)) e) }

@@ -1,5 +1,5 @@
 -- What `drive` does: what it puts, or why it fails, and how that ends.
-use Rattle.std.specs.Prelude.{◌≡◌, ◌⊎◌, ℕ, ◌<◌, ◌≤◌, List, Option, None, Some, Result, Ok, Err, IfSome, IsSomeAnd, length, map, Vec}
+use Rattle.std.specs.Prelude.{◌≡◌, ◌⊎◌, ℕ, ◌<◌, ◌≤◌, List, Option, None, Result, Ok, Err, IfSome, IsSomeAnd, length, map, Vec}
 use Rattle.std.specs.List.{concat}
 use Rattle.std.specs.declared.alloc.Global.{Global}
 use Rattle.std.specs.Io.KnownBytes.{append_known}
@@ -19,18 +19,16 @@ use Rattle.lynx_plan.specs.declared.script.Script.{Script}
 use Rattle.lynx_run.specs.Failures.{Tells}
 use Rattle.lynx_run.specs.declared.failure.Failure.{Failure}
 use Rattle.lynx_run.specs.declared.failure.Failure.TheVariants.{Usage, ReadFault, Absent, TooBig, Script as BrokenScript, Unbuilt, NoMemory}
-use Rattle.script_run.specs.Built.{unbuilt}
 use Rattle.script_run.specs.Performing.{IsPerformance}
 
 -- the most bytes of a script
 abbrev pub most_bytes : ℕ
 most_bytes = 1048576
 
--- the bytes are a script, and it can be performed: no line of them is refused
+-- the bytes are a script: no line of them is refused
 pub record IsScriptOf (bytes : List ℕ) (script : Script) : Type 0 where
   pub read : script_of bytes ≡ Ok script
   pub spelled : IsScriptText bytes script
-  pub built : unbuilt bytes script ≡ None
 
 -- the text is the transcript of the run that these bytes name as a script
 pub record IsDriven (bytes text : List ℕ) : Type 0 where
@@ -42,11 +40,9 @@ pub record IsDriven (bytes text : List ℕ) : Type 0 where
   pub performed : IsPerformance script.setting script.lines merged notes last
   pub told : IsTranscript text script.setting merged notes last
 
--- the first line that fails a rule, and the least rule there; or else the first line that can't be performed yet
+-- the first line that fails a rule, and the least rule there
 abbrev pub IsRefused : List ℕ → ℕ → ℕ → Type 0
-IsRefused bytes line rule =
-    (script_of bytes ≡ Err (plan.BadPlan line rule))
-    ⊎ ((script : Script) × (script_of bytes ≡ Ok script) × (unbuilt bytes script ≡ Some line) × (rule ≡ 9))
+IsRefused bytes line rule = script_of bytes ≡ Err (plan.BadPlan line rule)
 
 -- what a file gives, where its bytes are there and not too many
 abbrev pub IsRead : Option (List ℕ) → (List ℕ → Type 0) → Type 0

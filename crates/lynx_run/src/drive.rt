@@ -11,24 +11,10 @@ use charlotte_calls::NoMemory;
 use kernel_journal::print_transcript;
 use lynx_outside::{Files, Sink, Status};
 use lynx_plan::{Script, read_script};
-use script_run::{first_unbuilt, perform};
+use script_run::perform;
 use std::alloc::Global;
 
 const MOST_BYTES: u32 = 1_048_576;
-
-// The script of these bytes, where all of it can be performed.
-fn built_script(alloc: Global, bytes: &[u8]) -> Result<Script, Failure>
-    requires { length bytes.now ≤ 1048576 }
-    ensures given { IfOk result (IsScriptOf bytes.now) }
-    ensures refused { IfErr result (λ f. FailsAt (Some bytes.now) f) }
-    ensures no_fault { IfErr result (λ f. f ≢ Failure.ReadFault) }
-{
-    let script = read_script(alloc, bytes)?;
-    match first_unbuilt(bytes, &script) {
-        Some(line) => Err(Failure::Script { line, rule: 9 }),
-        None => Ok(script),
-    }
-}
 
 // The lines of the transcript of a script.
 fn transcript(alloc: Global, bytes: &[u8], script: &Script) -> Result<Vec<Vec<u8>>, NoMemory>
@@ -63,7 +49,7 @@ fn lines_of(alloc: Global, bytes: &[u8]) -> Result<Vec<Vec<u8>>, Failure>
     ensures found { Finds (Some bytes.now) (found_text result) }
     ensures no_fault { IfErr result (λ f. f ≢ Failure.ReadFault) }
 {
-    let script = built_script(alloc, bytes)?;
+    let script = read_script(alloc, bytes)?;
     let lines = transcript(alloc, bytes, &script)?;
     Ok(lines)
 }

@@ -1,18 +1,16 @@
 -- What the answers of the parser say.
-use Rattle.std.proofs.Common.{◌≡◌, ℕ, zero, suc, ◌+◌, ◌-◌, ◌<◌, ◌≤◌, List, [], ◌∷◌, ◌++◌, length, map, take, drop, Option, Some, Ok, Err, refl, sym, ap, subst, ◌∙◌, arith, rules, length-append}
+use Rattle.std.proofs.Common.{◌≡◌, ℕ, suc, ◌-◌, ◌<◌, ◌≤◌, List, [], ◌∷◌, ◌++◌, length, take, Some, Ok, Err, refl, sym, ap, subst, ◌∙◌, arith, length-append}
 use Rattle.std.specs.Prelude.{slice_get}
-use Rattle.std.specs.List.{AllByRecursion}
 use Rattle.std.proofs.lemmas.List.{append-nil}
 use Rattle.lynx_lexer.specs.declared.token.Kind.{Kind}
-use Rattle.lynx_syntax.specs.declared.refusal.Refusal.{Refusal}
 use Rattle.lynx_syntax.specs.declared.refusal.Refusal.TheVariants as refusals
 use Rattle.lynx_syntax.specs.Trees.{ModuleTree}
-use Rattle.lynx_syntax.specs.Grammar.{Mark, module_marks, kinds_of, IsModule, HasTokens}
+use Rattle.lynx_syntax.specs.Grammar.{Mark, module_marks, kinds_of, HasTokens}
 use Rattle.lynx_syntax.specs.Faults.{BeginsModule, IsNested, IsTooDeep, most_open}
 use Rattle.lynx_lexer.specs.declared.token.Token.{Token}
 use Rattle.lynx_syntax.specs.declared.fault.SyntaxFault.TheVariants as faults
 use Rattle.lynx_syntax.specs.Answers.{IsTreeOf, IsFaultOf, kinds}
-use Rattle.lynx_syntax.specs.Reading.{Parser, Outcome, and_then, ◌>>=◌}
+use Rattle.lynx_syntax.specs.Reading.{Outcome, and_then}
 use Rattle.lynx_syntax.specs.ReadingModules.{one_module, at_end, whole}
 use Rattle.lynx_syntax.proofs.Told.{Told, Tells, Got, Left, Deep, Goes, Spells, Within, kinds_in, next, done, refused}
 use Rattle.lynx_syntax.proofs.ToldModules.{told_module}
@@ -26,7 +24,7 @@ told_end n m v =
     read [] g = (done n (Spells HasTokens module_marks) (module_marks m) m (v, refl)).told []
     read (k ∷ ts) g = refused n (Spells HasTokens module_marks) (module_marks m) (k ∷ ts) g
 
-told_whole : (n : ℕ) → Tells n (Spells HasTokens module_marks) [] (whole n)
+pub told_whole : (n : ℕ) → Tells n (Spells HasTokens module_marks) [] (whole n)
 unfolding whole
 told_whole n = next n (Spells HasTokens module_marks) [] HasTokens module_marks (one_module n) at_end (told_module n) (told_end n)
 
@@ -56,18 +54,18 @@ found ts rest m h =
 
 -- ---- places
 
-kinds_count : (ms : List Mark) → length (kinds_in ms) ≡ length ms
+pub kinds_count : (ms : List Mark) → length (kinds_in ms) ≡ length ms
 kinds_count [] = refl
 kinds_count (m ∷ ms) = ap suc (kinds_count ms)
 
-before_place : (before : List Mark) (rest : List Kind) (k : ℕ) → length rest ≡ k → length (kinds_in before ++ rest) - k ≡ length before
+pub before_place : (before : List Mark) (rest : List Kind) (k : ℕ) → length rest ≡ k → length (kinds_in before ++ rest) - k ≡ length before
 before_place before rest k h = omega (arith, length-append (kinds_in before) rest, kinds_count before)
 
 take_before : (before : List Mark) (rest : List Kind) → take (length before) (kinds_in before ++ rest) ≡ kinds_in before
 take_before [] rest = refl
 take_before (t ∷ before) rest = ap (λ (ks : List Kind). t.kind ∷ ks) (take_before before rest)
 
-take_one_more : (before : List Mark) (k : Kind) (rest : List Kind) → take (suc (length before)) (kinds_in before ++ k ∷ rest) ≡ kinds_in before ++ k ∷ []
+pub take_one_more : (before : List Mark) (k : Kind) (rest : List Kind) → take (suc (length before)) (kinds_in before ++ k ∷ rest) ≡ kinds_in before ++ k ∷ []
 take_one_more [] k rest = refl
 take_one_more (t ∷ before) k rest = ap (λ (ks : List Kind). t.kind ∷ ks) (take_one_more before k rest)
 
@@ -83,7 +81,7 @@ kinds_joined : (before : List Mark) (t : Mark) (after : List Mark) → kinds_in 
 kinds_joined [] t after = refl
 kinds_joined (x ∷ before) t after = ap (λ (ks : List Kind). x.kind ∷ ks) (kinds_joined before t after)
 
-kinds_split : (before after : List Mark) → kinds_in (before ++ after) ≡ kinds_in before ++ kinds_in after
+pub kinds_split : (before after : List Mark) → kinds_in (before ++ after) ≡ kinds_in before ++ kinds_in after
 kinds_split [] after = refl
 kinds_split (x ∷ before) after = ap (λ (ks : List Kind). x.kind ∷ ks) (kinds_split before after)
 
@@ -111,12 +109,9 @@ deep ts k h =
 
 -- ---- the same, with places counted in the list of tokens
 
-count : (tokens : List Token) → length (kinds tokens) ≡ length tokens
+pub count : (tokens : List Token) → length (kinds tokens) ≡ length tokens
 count [] = refl
 count (t ∷ tokens) = ap suc (count tokens)
-
-pub left_at : (tokens : List Token) (k at : ℕ) → at ≡ length tokens - k → whole most_open (kinds tokens) ≡ Err (refusals.At k) → IsFaultOf (kinds tokens) (faults.At at)
-left_at tokens k at is h = subst (λ (j : ℕ). IsFaultOf (kinds tokens) (faults.At j)) (ap (λ (j : ℕ). j - k) (count tokens) ∙ sym is) (left (kinds tokens) k h)
 
 pub deep_at : (tokens : List Token) (k at : ℕ) → at ≡ length tokens - k → whole most_open (kinds tokens) ≡ Err (refusals.TooDeep k) → IsFaultOf (kinds tokens) (faults.TooDeep at)
 deep_at tokens k at is h = subst (λ (j : ℕ). IsTooDeep j (kinds tokens)) (ap (λ (j : ℕ). j - k) (count tokens) ∙ sym is) (deep (kinds tokens) k h)

@@ -1,12 +1,10 @@
 -- A list of tokens has at most one tree, and the parser finds it.
-use Rattle.std.proofs.Common.{◌≡◌, ℕ, zero, suc, ◌+◌, ◌<◌, ◌≤◌, Bool, true, cond, max, List, [], ◌∷◌, ◌++◌, length, Ok, Err, refl, sym, ap, subst, ◌∙◌, arith}
-use Rattle.std.specs.List.{AllByRecursion}
-use Rattle.std.proofs.lemmas.List.{append-nil}
+use Rattle.std.proofs.Common.{◌≡◌, ℕ, ◌+◌, ◌≤◌, Bool, cond, List, [], ◌∷◌, ◌++◌, length, Ok, Err, refl, sym, ap, subst, ◌∙◌, arith}
 use Rattle.lynx_lexer.specs.declared.token.Kind.{Kind}
 use Rattle.lynx_syntax.specs.declared.refusal.Refusal.{Refusal}
 use Rattle.lynx_syntax.specs.declared.refusal.Refusal.TheVariants as refusals
 use Rattle.lynx_syntax.specs.Trees.{ModuleTree}
-use Rattle.lynx_syntax.specs.Grammar.{Mark, module_marks, kinds_of, IsModule, HasTokens}
+use Rattle.lynx_syntax.specs.Grammar.{Mark, module_marks, IsModule}
 use Rattle.lynx_syntax.specs.Faults.{most_open}
 use Rattle.lynx_syntax.specs.Answers.{IsTreeOf}
 use Rattle.lynx_syntax.specs.Reading.{Outcome}
@@ -15,7 +13,7 @@ use Rattle.lynx_syntax.proofs.Told.{Within, kinds_in}
 use Rattle.lynx_syntax.proofs.Guard.{guard, fits_true}
 use Rattle.lynx_syntax.proofs.FindModules.{find_whole}
 
-guard_within : {A : Type 0} (n : ℕ) (ms : List Mark) (rest : List Kind) (o : Outcome A) → Within n ms → guard n ms rest o ≡ o
+pub guard_within : {A : Type 0} (n : ℕ) (ms : List Mark) (rest : List Kind) (o : Outcome A) → Within n ms → guard n ms rest o ≡ o
 guard_within n [] rest o h = refl
 guard_within n (t ∷ ms) rest o h =
     ap (λ (b : Bool). cond b (guard n ms rest o) (Err (refusals.TooDeep (length (t.kind ∷ (kinds_in ms ++ rest)))))) (fits_true t.depth n h.0) ∙ guard_within n ms rest o h.1

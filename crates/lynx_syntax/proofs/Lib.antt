@@ -21,3 +21,10 @@ pub mod FindLists
 pub mod FindStatements
 pub mod FindModules
 pub mod Laws
+pub mod Locality
+pub mod LocalityTokens
+pub mod LocalityExpressions
+pub mod LocalityLists
+pub mod LocalityStatements
+pub mod LocalityModules
+pub mod Exact

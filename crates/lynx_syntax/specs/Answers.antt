@@ -1,5 +1,5 @@
 -- What `parse` answers.
-use Rattle.std.specs.Prelude.{◌≡◌, ℕ, ◌≤◌, List, length, take, map, Result, Ok, Err, ⊤}
+use Rattle.std.specs.Prelude.{◌≡◌, List, map, Result, Ok, Err, ⊤}
 use Rattle.lynx_lexer.specs.declared.token.Kind.{Kind}
 use Rattle.lynx_lexer.specs.declared.token.Token.{Token}
 use Rattle.lynx_syntax.specs.declared.fault.SyntaxFault.{SyntaxFault}
@@ -7,7 +7,7 @@ use Rattle.lynx_syntax.specs.declared.module.Module.{Module}
 use Rattle.lynx_syntax.specs.declared.fault.SyntaxFault.TheVariants as faults
 use Rattle.lynx_syntax.specs.Trees.{ModuleTree, module_tree}
 use Rattle.lynx_syntax.specs.Grammar.{IsModule, module_marks}
-use Rattle.lynx_syntax.specs.Faults.{BeginsModule, IsNested, IsTooDeep}
+use Rattle.lynx_syntax.specs.Faults.{LeavesGrammar, IsNested, IsTooDeep, IsNowhereTooDeep}
 
 abbrev pub kinds : List Token → List Kind
 kinds tokens = map (λ (t : Token). t.kind) tokens
@@ -23,8 +23,15 @@ GivesTree m (Err (faults.At at)) = ⊥
 GivesTree m (Err (faults.TooDeep at)) = ⊥
 GivesTree m (Err faults.NoMemory) = ⊤
 
--- a fault at a token: those before it begin a module; one of nesting: it is the first that opens too much
+-- the answer is this fault, unless memory ran out
+abbrev pub GivesFault : SyntaxFault → Result Module SyntaxFault → Type 0
+GivesFault fault (Ok found) = ⊥
+GivesFault fault (Err (faults.At at)) = faults.At at ≡ fault
+GivesFault fault (Err (faults.TooDeep at)) = faults.TooDeep at ≡ fault
+GivesFault fault (Err faults.NoMemory) = ⊤
+
+-- a fault at a token: the list leaves the grammar there, and no token before opens too much; one of nesting: the token is the first that does
 abbrev pub IsFaultOf : List Kind → SyntaxFault → Type 0
-IsFaultOf tokens (faults.At at) = (at ≤ length tokens) × BeginsModule (take at tokens)
+IsFaultOf tokens (faults.At at) = LeavesGrammar at tokens × IsNowhereTooDeep tokens
 IsFaultOf tokens (faults.TooDeep at) = IsTooDeep at tokens
 IsFaultOf tokens faults.NoMemory = ⊤

@@ -26,3 +26,7 @@ IsNested marks = AllByRecursion (λ (t : Mark). t.depth ≤ most_open) marks
 abbrev pub IsTooDeep : ℕ → List Kind → Type 0
 IsTooDeep at tokens = (at < length tokens) × (m : ModuleTree) × (more : List Kind) × IsModule m (take (suc at) tokens ++ more)
     × IsNested (take at (module_marks m)) × (t : Mark) × (slice_get (module_marks m) at ≡ Some t) × (most_open < t.depth)
+
+-- there is no such token
+abbrev pub IsNowhereTooDeep : List Kind → Type 0
+IsNowhereTooDeep tokens = (at : ℕ) → IsTooDeep at tokens → ⊥

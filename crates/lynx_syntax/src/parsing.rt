@@ -1,9 +1,10 @@
 //! Modules from tokens.
 
-ghost use Rattle.std.specs.Prelude.{◌≡◌, ◌<◌, ◌^◌, ◌-◌, length, IfOk, IfErr};
+ghost use Rattle.std.specs.Prelude.{◌≡◌, ℕ, ◌<◌, ◌^◌, ◌-◌, length, IfOk, IfErr};
 ghost use Rattle.lynx_lexer.specs.Source.{Spell, AreWithinLimits};
 ghost use Rattle.std.specs.List.{AllByRecursion};
-ghost use Rattle.lynx_syntax.specs.Answers.{kinds, IsTreeOf, GivesTree, IsFaultOf};
+ghost use Rattle.lynx_syntax.specs.Answers.{kinds, IsTreeOf, GivesTree, GivesFault, IsFaultOf};
+ghost use Rattle.lynx_syntax.specs.Faults.{LeavesGrammar, IsTooDeep, IsNowhereTooDeep};
 ghost use Rattle.lynx_syntax.specs.Grammar.{kinds_of};
 ghost use Rattle.lynx_syntax.specs.Printing.{IsPrintable};
 ghost use Rattle.lynx_syntax.specs.Trees.{ModuleTree, module_tree};
@@ -60,8 +61,11 @@ pub fn parse(alloc: Global, source: &[u8], tokens: &[Token]) -> Result<Module, S
     // The tree can be printed.
     ensures printable { IfOk result (λ m. AllByRecursion IsPrintable (kinds_of (module_tree m))) }
 
-    // The tokens before the fault begin a module, and where it is too deep it is the first such token.
+    // The fault is the token at which the list leaves the grammar, or before that the first one that opens too much. Where there is such
+    // a fault it is given.
     ensures fault { IfErr result (IsFaultOf (kinds tokens.now)) }
+    ensures only_fault { (at : ℕ) → LeavesGrammar at (kinds tokens.now) → IsNowhereTooDeep (kinds tokens.now) → GivesFault (faults.At at) result }
+    ensures only_too_deep { (at : ℕ) → IsTooDeep at (kinds tokens.now) → GivesFault (faults.TooDeep at) result }
 {
     let _source = source;
     read(alloc, tokens)

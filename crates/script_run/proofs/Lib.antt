@@ -1,5 +1,5 @@
-mod Counts
 pub mod Events
+pub mod Exchange
 pub mod Kept
 pub mod KeptRows
 pub mod KeptSteps
@@ -10,5 +10,6 @@ pub mod Performances
 pub mod Runs
 pub mod Sent
 pub mod Settling
+pub mod Sorted
 pub mod Stamps
 pub mod Worlds

@@ -1,10 +1,8 @@
 -- Whole performances: their start, their notes, their last world and their merge.
-use Rattle.std.proofs.Common.{◌≡◌, ◌≢◌, ◌⊎◌, inl, inr, ℕ, ◌+◌, ◌<◌, ◌≤◌, zero, suc, true, false, nat_eq, List, [], ◌∷◌, ◌++◌, length, map, get_or, All, Option, cond, arith, ap, sym, subst, ◌∙◌, refl, length-append}
-use Rattle.std.specs.List.{filter}
+use Rattle.std.proofs.Common.{◌≡◌, ◌⊎◌, inl, inr, ℕ, ◌+◌, ◌<◌, ◌≤◌, zero, suc, ◌^◌, List, [], ◌∷◌, ◌++◌, length, map, get_or, All, Option, arith, ap, sym, subst, ◌∙◌, refl, length-append}
 use Rattle.std.specs.Option.{option_to_list}
-use Rattle.std.proofs.lemmas.List.{map-append, length-map, get_or_past}
+use Rattle.std.proofs.lemmas.List.{map-append, length-map}
 use Rattle.std.proofs.lemmas.List.Elements.{All-push, All-head, All-tail, All-cons, All-nil}
-use Rattle.std.proofs.lemmas.Bool.Decides.{eqb_tells}
 use Rattle.charlotte_calls.specs.declared.calls.Call.{Call}
 use Rattle.charlotte_calls.specs.declared.names.Pid.{Pid}
 use Rattle.charlotte_calls.specs.declared.packet.Packet.{Packet}
@@ -13,6 +11,7 @@ use Rattle.charlotte_calls.specs.declared.setting.Setting.{Setting}
 use Rattle.charlotte_calls.specs.Packets.{packet_picture}
 use Rattle.charlotte_calls.specs.Setting.{IsValid}
 use Rattle.kernel_core.specs.State.{state_of}
+use Rattle.kernel_journal.proofs.Merges.{in-order-unique}
 use Rattle.kernel_journal.specs.TranscriptText.{AreOfTranscript, AreRisingNotes, HasNotesOf, IsShown}
 use Rattle.kernel_journal.specs.declared.last.Last.{Last}
 use Rattle.kernel_journal.specs.declared.last.Last.TheVariants.{Quiet, Unsettled, Spent}
@@ -22,7 +21,6 @@ use Rattle.kernel_step.specs.declared.phase.Phase.{Phase}
 use Rattle.kernel_step.specs.declared.phase.Phase.TheVariants.{Running, Waiting, Cancelling, Exited}
 use Rattle.kernel_world.specs.Run.{AllTaken, AreAllowed, IsMerge, of_kernel}
 use Rattle.kernel_world.specs.World.{World, Event, after, start, noted}
-use Rattle.kernel_world.specs.declared.entry.Entry.{Entry}
 use Rattle.kernel_world.specs.declared.entry.Placed.{Placed}
 use Rattle.lynx_plan.specs.declared.script.ScriptLine.{ScriptLine}
 use Rattle.lynx_plan.specs.declared.script.ScriptCall.{ScriptCall}
@@ -32,6 +30,7 @@ use Rattle.script_run.specs.Performing.{Asks, TakesFirst, Does, Performs, AreRis
 use Rattle.script_run.specs.declared.node.Node.{Node}
 use Rattle.script_run.proofs.Nodes.{state_at, entries_of, Goes-then}
 use Rattle.script_run.proofs.Runs.{Performs-more}
+use Rattle.script_run.proofs.Sorted.{IsSorted, sort}
 use Rattle.script_run.proofs.Worlds.{shown-noted, told-start}
 use Rattle.script_run.proofs.Sent.{Lists, sent_in, IsEmptyList, nothing_sent}
 
@@ -178,73 +177,39 @@ pub all-quiet : (ns : List Node) → ((from to : ℕ) → get_or (map sent_to ns
 all-quiet [] none = All-nil IsQuietNode
 all-quiet (n ∷ ns) none = All-cons IsQuietNode n ns (empty-lists n.sent.items (none 0)) (all-quiet ns (λ from. none (suc from)))
 
--- ---- the merge, where there is one kernel
-
-abbrev at_first : Entry → Placed
-at_first e = record { kernel = 0; entry = e }
-
-of_kernel-own : (k : ℕ) (p : Placed) (ps : List Placed) → nat_eq p.kernel k ≡ true → of_kernel k (p ∷ ps) ≡ p.entry ∷ of_kernel k ps
-of_kernel-own k p ps e = ap (λ b. map (λ (x : Placed). x.entry) (cond b (p ∷ filter (λ (x : Placed). nat_eq x.kernel k) ps) (filter (λ (x : Placed). nat_eq x.kernel k) ps))) e
-
-of_kernel-other : (k : ℕ) (p : Placed) (ps : List Placed) → nat_eq p.kernel k ≡ false → of_kernel k (p ∷ ps) ≡ of_kernel k ps
-of_kernel-other k p ps e = ap (λ b. map (λ (x : Placed). x.entry) (cond b (p ∷ filter (λ (x : Placed). nat_eq x.kernel k) ps) (filter (λ (x : Placed). nat_eq x.kernel k) ps))) e
-
-none-less : (k : ℕ) (p : Placed) (ps : List Placed) → of_kernel k (p ∷ ps) ≡ [] → of_kernel k ps ≡ []
-none-less k p ps h = elim (eqb_tells p.kernel k) [
-  | inl x ↦ let no : p.entry ∷ of_kernel k ps ≡ [] = sym (of_kernel-own k p ps x.0) ∙ h in cc
-  | inr x ↦ sym (of_kernel-other k p ps x.0) ∙ h
-]
-
-placed-first : (ps : List Placed) → ((k : ℕ) → 1 ≤ k → of_kernel k ps ≡ []) → ps ≡ map at_first (of_kernel 0 ps)
-placed-first [] none = refl
-placed-first (p ∷ ps) none = elim (eqb_tells p.kernel 0) [
-  | inl e ↦
-      let at : p ≡ at_first p.entry = ap (λ (k : ℕ). record { kernel = k; entry = p.entry }) e.1 in
-      ap (λ (xs : List Placed). p ∷ xs) (placed-first ps (λ k le. none-less k p ps (none k le)))
-      ∙ ap (λ (x : Placed). x ∷ map at_first (of_kernel 0 ps)) at
-      ∙ ap (map at_first) (sym (of_kernel-own 0 p ps e.0))
-  | inr e ↦
-      let here : nat_eq p.kernel p.kernel ≡ true = elim (eqb_tells p.kernel p.kernel) [ inl x ↦ x.0 | inr x ↦ absurd (x.1 refl) ] in
-      let ne : p.kernel ≢ 0 = e.1 in
-      let some : 1 ≤ p.kernel = omega arith in
-      let no : p.entry ∷ of_kernel p.kernel ps ≡ [] = sym (of_kernel-own p.kernel p ps here) ∙ none p.kernel some in
-      cc
-]
-
--- all entries are of the first kernel, so that there is one list of them
-pub same-placed : (ps qs : List Placed) → ((k : ℕ) → of_kernel k ps ≡ of_kernel k qs) → ((k : ℕ) → 1 ≤ k → of_kernel k ps ≡ []) → ps ≡ qs
-same-placed ps qs same none =
-    placed-first ps none ∙ ap (map at_first) (same 0) ∙ sym (placed-first qs (λ k le. sym (same k) ∙ none k le))
-
 -- ---- the whole
 
-pub performance : (s : Setting) (lines : List ScriptLine) (merged : List Placed) (notes : List ScriptNote) (last : Last) (a b : List Node) → length b ≡ length a → AreReady s 0 a → world_of s a ≡ start s → ((k : ℕ) → noted_at a k ≡ []) → AreLinesDone s lines notes a b → IsMerge (map entries_of b) merged → IsLast (world_of s b) last → s.kernels ≤ 1 → length lines ≤ 200000 → IsPerformance s lines merged notes last
-performance s lines merged notes last a b count ready begins none done merge ends one few =
+pub performance : (s : Setting) (lines : List ScriptLine) (merged : List Placed) (notes : List ScriptNote) (last : Last) (a b : List Node) → AreReady s 0 a → world_of s a ≡ start s → ((k : ℕ) → noted_at a k ≡ []) → AreLinesDone s lines notes a b → IsMerge (map entries_of b) merged → IsLast (world_of s b) last → length lines ≤ 200000 → IsPerformance s lines merged notes last
+performance s lines merged notes last a b ready begins none done merge ends few =
     record {
       named = es;
       performed = subst (λ (w : World). Performs s w lines es notes) begins done.performed;
-      run = es;
+      run = sorted.0;
       told = record {
-        run = record { allowed = subst (λ (w : World). AreAllowed s w es) begins done.goes.allowed; few = omega (arith, done.few, few) };
+        run = record { allowed = sorted.1.reordered.allowed; few = omega (arith, sorted.1.reordered.count, few_events) };
         order = merge.order;
-        entries = sym told;
+        entries = in-order-unique (noted (start s) sorted.0) merged sorted.1.order merge.order (λ k. sorted.1.reordered.same k ∙ sym (at_kernel k));
       };
-      same = λ k. ap (of_kernel k) told;
-      leaves = refl;
+      same = at_kernel;
+      leaves = sorted.1.reordered.ends;
       last_world = subst (λ (w : World). IsLast w last) (done.goes.world ∙ ap (λ (w : World). after w es) begins) ends;
     }
   where
     es : List Event
     es = done.events
 
+    few_events : length es ≤ 2 ^ 31
+    few_events = omega (arith, done.few, few)
+
+    allowed : AreAllowed s (start s) es
+    allowed = subst (λ (w : World). AreAllowed s w es) begins done.goes.allowed
+
+    -- the events in the order of a merge
+    sorted : (gs : List Event) × IsSorted s (start s) es gs
+    sorted = sort s 0 (start s) es (omega (arith, few_events)) (told-start s) allowed
+
     at_kernel : (k : ℕ) → of_kernel k merged ≡ of_kernel k (noted (start s) es)
     at_kernel k = merge.entries k ∙ done.goes.entries k ∙ ap (λ xs. xs ++ of_kernel k (noted (world_of s a) es)) (none k) ∙ ap (λ (w : World). of_kernel k (noted w es)) begins
-
-    past : (k : ℕ) → 1 ≤ k → of_kernel k merged ≡ []
-    past k le = merge.entries k ∙ get_or_past (map entries_of b) k [] (omega (arith, length-map b entries_of, count, ready.count, one))
-
-    told : merged ≡ noted (start s) es
-    told = same-placed merged (noted (start s) es) at_kernel past
 
 -- what was performed can be told
 pub performance-told : (s : Setting) (lines : List ScriptLine) (merged : List Placed) (notes : List ScriptNote) (last : Last) → IsValid s → AreRisingLines lines → IsPerformance s lines merged notes last → AreOfTranscript s merged notes last

@@ -32,7 +32,7 @@ pub adds_all-other : (k : ℕ) (sent : List (ℕ × Picture)) (ps : ℕ → ℕ 
 adds_all-other k [] ps from to e = refl
 adds_all-other k (x ∷ xs) ps from to e = adds_all-other k xs (adds k x ps) from to e ∙ ap (λ b. cond (b && nat_eq to x.0) (ps from to ++ x.1 ∷ []) (ps from to)) e
 
-to_kernel-first : (to : ℕ) (x : ℕ × Picture) (xs : List (ℕ × Picture)) (b : Bool) → nat_eq to x.0 ≡ b → to_kernel to (x ∷ xs) ≡ cond b (x.1 ∷ to_kernel to xs) (to_kernel to xs)
+pub to_kernel-first : (to : ℕ) (x : ℕ × Picture) (xs : List (ℕ × Picture)) (b : Bool) → nat_eq to x.0 ≡ b → to_kernel to (x ∷ xs) ≡ cond b (x.1 ∷ to_kernel to xs) (to_kernel to xs)
 to_kernel-first to x xs true e = ap (λ b. map (λ (s : ℕ × Picture). s.1) (cond b (x ∷ filter (λ s. nat_eq to s.0) xs) (filter (λ s. nat_eq to s.0) xs))) e
 to_kernel-first to x xs false e = ap (λ b. map (λ (s : ℕ × Picture). s.1) (cond b (x ∷ filter (λ s. nat_eq to s.0) xs) (filter (λ s. nat_eq to s.0) xs))) e
 
@@ -61,11 +61,11 @@ few_call v (call.Print bytes) h = tt
 few_call v call.Exit h = tt
 
 -- an event in a world that can be told, whose stamp is greater than that of its kernel
-record IsEvent (s : Setting) (n : ℕ) (w : World) (e : Event) : Type 0 where
-  gives : Gives s.version (outcome w e).kernel.stamp (asked_or_took w e) (outcome w e)
-  later : (w.kernel (kernel_of e)).stamp < (outcome w e).kernel.stamp
-  few_events : (outcome w e).kernel.stamp ≤ n + 1
-  shown : HasFew s.version (asked_or_took w e)
+pub record IsEvent (s : Setting) (n : ℕ) (w : World) (e : Event) : Type 0 where
+  pub gives : Gives s.version (outcome w e).kernel.stamp (asked_or_took w e) (outcome w e)
+  pub later : (w.kernel (kernel_of e)).stamp < (outcome w e).kernel.stamp
+  pub few_events : (outcome w e).kernel.stamp ≤ n + 1
+  pub shown : HasFew s.version (asked_or_took w e)
 
 same-stamp : (v n : ℕ) (w : Happened) (o : Outcome) → Gives v n w o → Gives v o.kernel.stamp w o
 same-stamp v n w o g = subst (λ m. Gives v m w o) (sym g.stamp) g
@@ -79,7 +79,7 @@ taken-event s n k from (q ∷ qs) early told stamp all some =
     let before : q.stamp ≤ n = first.stamp in
     (same-stamp s.version (next_stamp (max k.stamp q.stamp)) (Took from q) (take_step k from q) g, omega arith, omega arith, first.few)
 
-is_event : (s : Setting) (n : ℕ) (w : World) (e : Event) → n < 2 ^ 64 - 1 → IsAllowed s w e → IsToldWorld s n w → IsEvent s n w e
+pub is_event : (s : Setting) (n : ℕ) (w : World) (e : Event) → n < 2 ^ 64 - 1 → IsAllowed s w e → IsToldWorld s n w → IsEvent s n w e
 is_event s n w (Calls k p c mine) early allowed told =
     let few : HasFewCall s.version c = few_call s.version c allowed.3 in
     let g = call_step-gives s.version (without_answer p (w.kernel k)) p mine c few (told-without_answer s.version (w.kernel k) p (told.kernels k)) in
@@ -126,7 +126,7 @@ told-to_kernel v m n to (x ∷ xs) le all =
       | false ↦ others
     ]
 
-told-happens : (s : Setting) (n : ℕ) (w : World) (e : Event) → IsEvent s n w e → IsToldWorld s n w → IsToldWorld s (n + 1) (happens w e)
+pub told-happens : (s : Setting) (n : ℕ) (w : World) (e : Event) → IsEvent s n w e → IsToldWorld s n w → IsToldWorld s (n + 1) (happens w e)
 told-happens s n w e is told =
     let o : Outcome = outcome w e in
     let k : ℕ = kernel_of e in

@@ -1,4 +1,3 @@
-pub mod Built
 pub mod Nodes
 pub mod Performing
 pub mod Told

@@ -1,12 +1,10 @@
 //! Performing a script: the run of kernels that its lines name, and what is noted of it.
 #![tactic(auto)]
 
-mod built;
 mod lines;
 mod node;
 mod performance;
 #[cfg(test)]
 mod tests;
 
-pub use built::first_unbuilt;
 pub use performance::{Performance, perform};

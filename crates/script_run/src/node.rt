@@ -99,8 +99,9 @@ impl Node {
             stamp,
             packets,
             answered: _,
-            steps,
+            mut steps,
         } = effect;
+        steps.shrink_to_fit();
         self.journal.push(Entry {
             stamp,
             what,

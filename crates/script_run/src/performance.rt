@@ -7,7 +7,6 @@ ghost use Rattle.kernel_journal.specs.TranscriptText.{AreOfTranscript};
 ghost use Rattle.kernel_world.specs.Run.{IsMerge};
 ghost use Rattle.kernel_world.specs.World.{start};
 ghost use Rattle.lynx_plan.specs.ScriptText.{FitsWhat};
-ghost use Rattle.script_run.specs.Built.{IsBuilt};
 ghost use Rattle.script_run.specs.Nodes.{AreLinesDone, AreReady, noted_at, world_of};
 ghost use Rattle.script_run.specs.Performing.{AreRisingLines, IsLast, IsPerformance};
 
@@ -36,7 +35,6 @@ pub fn perform(alloc: Global, script: &Script) -> Result<Performance, NoMemory>
     requires rising { AreRisingLines script.now.lines }
     // So no number of events runs out.
     requires few { length script.now.lines ≤ 200000 }
-    requires built { IsBuilt script.now }
     ensures performed { IfOk result (λ p. IsPerformance script.now.setting script.now.lines p.merged p.notes p.last) }
     ensures told { IfOk result (λ p. AreOfTranscript script.now.setting p.merged p.notes p.last) }
 {

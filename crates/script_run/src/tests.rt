@@ -27,7 +27,6 @@ fn transcript(rt: &impl Abort, alloc: Global, text: &str) -> Result<Vec<Vec<u8>>
     let bytes = text.as_bytes();
     assert!(rt; bytes.len() < 100_000);
     let script = read_script(alloc, bytes)?;
-    assert!(rt; script.setting.kernels <= 1);
     assert!(rt; script.lines.len() <= 200_000);
     assert!(rt; rises(script.lines.as_slice()));
     let performance = perform(alloc, &script)?;
@@ -86,6 +85,132 @@ fn one_message_on_one_kernel(rt: HostRuntime) -> Result<(), Fail> {
             "7 k0 p1 wait\n",
             ". wait p1\n",
             ". report p1 0.0b in done hello\n",
+            "quiet\n",
+        ],
+    );
+    Ok(())
+}
+
+#[test]
+fn one_message_between_two_kernels(rt: HostRuntime) -> Result<(), Fail> {
+    let lines = transcript(
+        &rt,
+        rt.alloc(),
+        "kernels 2\nprocess 0 on 0\nprocess 1 on 1\nwire 0 1\np0 send 0.0a x\np1 receive 0.0b\nsettle\np1 wait\n",
+    )?;
+    same_lines(
+        &rt,
+        &lines,
+        &[
+            "transcript 1\n",
+            "kernels 2\n",
+            "process 0 on 0\n",
+            "process 1 on 1\n",
+            "wire 0 1\n",
+            "1 k0 p0 send 0.0a x\n",
+            ". send 0.0a 1\n",
+            "1 k1 p1 receive 0.0b\n",
+            ". receive 0.0b\n",
+            "2 k0 from 1 want 0.0a 1 1 0\n",
+            ". match 0.0a 1\n",
+            "3 k1 from 0 parcel 0.0b 1 1 0 0 x\n",
+            ". take 0.0a 1 p1\n",
+            "4 k0 from 1 taken 0.0a 1 1 0\n",
+            ". complete 0.0a 1\n",
+            "4 k1 p1 wait\n",
+            ". wait p1\n",
+            ". report p1 0.0b in done x\n",
+            "quiet\n",
+        ],
+    );
+    Ok(())
+}
+
+#[test]
+fn cancel_meets_its_parcel(rt: HostRuntime) -> Result<(), Fail> {
+    let lines = transcript(
+        &rt,
+        rt.alloc(),
+        "kernels 2\nprocess 0 on 0\nprocess 1 on 1\nwire 0 1\np1 receive 0.0b\np0 send 0.0a x\ntake 1 0\np1 cancel 0.0b in\ntake 0 1\np1 wait\ntake 1 0\ntake 1 0\n",
+    )?;
+    same_lines(
+        &rt,
+        &lines,
+        &[
+            "transcript 1\n",
+            "kernels 2\n",
+            "process 0 on 0\n",
+            "process 1 on 1\n",
+            "wire 0 1\n",
+            "1 k0 p0 send 0.0a x\n",
+            ". send 0.0a 1\n",
+            "1 k1 p1 receive 0.0b\n",
+            ". receive 0.0b\n",
+            "2 k0 from 1 want 0.0a 1 1 0\n",
+            ". match 0.0a 1\n",
+            "2 k1 p1 cancel 0.0b in\n",
+            ". cancel 0.0b in\n",
+            "3 k0 from 1 unwant 0.0a 1 1 0\n",
+            "3 k1 from 0 parcel 0.0b 1 1 0 0 x\n",
+            ". take 0.0a 1 p1 late\n",
+            "4 k0 from 1 taken 0.0a 1 1 0\n",
+            ". complete 0.0a 1\n",
+            "4 k1 p1 wait\n",
+            ". wait p1\n",
+            ". report p1 0.0b in done x\n",
+            "quiet\n",
+        ],
+    );
+    Ok(())
+}
+
+#[test]
+fn an_end_moves_and_its_trace_is_forgotten(rt: HostRuntime) -> Result<(), Fail> {
+    let lines = transcript(
+        &rt,
+        rt.alloc(),
+        "kernels 3\nprocess 0 on 0\nprocess 1 on 1\nprocess 2 on 2\nwire 0 1\nwire 2 0\np1 receive 0.0b\np0 send 0.0a x +2.0b\nsettle\np1 wait\np2 receive 2.0a\nsettle\np1 send 2.0b y\nsettle\np2 wait\n",
+    )?;
+    same_lines(
+        &rt,
+        &lines,
+        &[
+            "transcript 1\n",
+            "kernels 3\n",
+            "process 0 on 0\n",
+            "process 1 on 1\n",
+            "process 2 on 2\n",
+            "wire 0 1\n",
+            "wire 2 0\n",
+            "1 k0 p0 send 0.0a x +2.0b\n",
+            ". send 0.0a 1 +2.0b\n",
+            "1 k1 p1 receive 0.0b\n",
+            ". receive 0.0b\n",
+            "2 k0 from 1 want 0.0a 1 1 0\n",
+            ". match 0.0a 1\n",
+            "3 k1 from 0 parcel 0.0b 1 1 0 0 x +2.0b:1:2:0:0:0:0:0:0:1\n",
+            ". take 0.0a 1 p1\n",
+            "4 k0 from 1 taken 0.0a 1 1 0\n",
+            ". complete 0.0a 1\n",
+            "4 k2 from 1 moved 2.0a 1 1\n",
+            "5 k1 from 2 known 2.0b 1\n",
+            "5 k2 p2 receive 2.0a\n",
+            ". receive 2.0a\n",
+            "6 k0 from 1 forget 2.0b 1\n",
+            "6 k1 p1 wait\n",
+            ". wait p1\n",
+            ". report p1 0.0b in done x +2.0b\n",
+            "7 k1 from 2 want 2.0b 1 2 0\n",
+            "8 k1 p1 send 2.0b y\n",
+            ". send 2.0b 1\n",
+            ". match 2.0b 1\n",
+            "9 k2 from 1 parcel 2.0a 1 1 1 1 y\n",
+            ". take 2.0b 1 p2\n",
+            "10 k1 from 2 taken 2.0b 1 2 0\n",
+            ". complete 2.0b 1\n",
+            "10 k2 p2 wait\n",
+            ". wait p2\n",
+            ". report p2 2.0a in done y\n",
             "quiet\n",
         ],
     );

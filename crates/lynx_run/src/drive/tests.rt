@@ -67,8 +67,15 @@ fn scripts_and_their_transcripts(rt: HostRuntime) -> Result<(), Fail> {
         b"transcript 1\nkernels 1\nprocess 0 on 0\nprocess 1 on 0\nwire 0 1\n1 k0 p0 wait\n. refuse p0 NoActivity\n2 k0 p0 send 0.0a x\n. send 0.0a 1\n3 k0 p0 wait\n. wait p0\nnote 5 nothing\nnote 9 waits\nquiet\n";
     let open =
         b"transcript 1\nkernels 1\nprocess 0 on 0\nprocess 1 on 0\nwire 0 1\n1 k0 p1 receive 0.0b\n. receive 0.0b\n2 k0 p0 send 0.0a hell\n. send 0.0a 1\nopen\n";
+    let between =
+        b"transcript 1\nkernels 2\nprocess 0 on 0\nprocess 1 on 1\nwire 0 1\n1 k0 p0 send 0.0a x\n. send 0.0a 1\n1 k1 p1 receive 0.0b\n. receive 0.0b\n2 k0 from 1 want 0.0a 1 1 0\n. match 0.0a 1\n3 k1 from 0 parcel 0.0b 1 1 0 0 x\n. take 0.0a 1 p1\n4 k0 from 1 taken 0.0a 1 1 0\n. complete 0.0a 1\n4 k1 p1 wait\n. wait p1\n. report p1 0.0b in done x\nquiet\n";
     let rows = [
         (ONE_MESSAGE, whole.as_slice()),
+        // two kernels
+        (
+            b"kernels 2\nprocess 0 on 0\nprocess 1 on 1\nwire 0 1\np0 send 0.0a x\np1 receive 0.0b\nsettle\np1 wait\n".as_slice(),
+            between.as_slice(),
+        ),
         (
             b"kernels 1\nprocess 0 on 0\nprocess 1 on 0\nwire 0 1\ntake 0 0\np0 wait\np0 send 0.0a x\np0 wait\np0 make\n".as_slice(),
             notes.as_slice(),
@@ -161,7 +168,6 @@ fn bytes_of_no_script(rt: HostRuntime) -> Result<(), Fail> {
             b"kernels 1\nprocess 0 on 0\nprocess 1 on 0\nwire 0 1\np1 receive 0.0b\np0 se",
             "s:6: script 1\n",
         ),
-        (b"# two\n\nkernels 2\n", "s:3: script 9\n"),
     ];
     for (script, text) in rows {
         let refused = drive_over(alloc, script.to_vec(alloc)?, 2_000, Vec::new(alloc))?;

@@ -82,18 +82,6 @@ fn files_and_scripts_that_are_refused(rt: HostRuntime) -> Result<(), Fail> {
         ),
         (
             "drive s",
-            "# two\n\nkernels 2\n",
-            Status::Refused,
-            "s:3: script 9\n",
-        ),
-        (
-            "drive s",
-            "version 2\nkernels 8\nprocess 0 on 7\np0 make\n",
-            Status::Refused,
-            "s:2: script 9\n",
-        ),
-        (
-            "drive s",
             "kernels 2\nprocess 0 on 0\np1 wait\n",
             Status::Refused,
             "s:3: script 5\n",

@@ -1,5 +1,5 @@
--- A script that was read has rising lines, and few of them, and what is not refused can be performed.
-use Rattle.lynx_run.proofs.Scripts.{script_rising, script_few, all_built}
+-- A script that was read has rising lines, and few of them.
+use Rattle.lynx_run.proofs.Scripts.{script_rising, script_few}
 use Rattle.lynx_run.proofs.drive.transcript.Goals as goal
 
 pub perform-requires-clause-rising : goal.perform-requires-clause-rising
@@ -7,6 +7,3 @@ perform-requires-clause-rising c = script_rising c.args.bytes.now c.args.script.
 
 pub perform-requires-clause-few : goal.perform-requires-clause-few
 perform-requires-clause-few c = script_few c.args.bytes.now c.args.script.now c.requires.within c.requires.given.spelled
-
-pub perform-requires-clause-built : goal.perform-requires-clause-built
-perform-requires-clause-built c = all_built c.args.bytes.now c.args.script.now c.requires.given.built

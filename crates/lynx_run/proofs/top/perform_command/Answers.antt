@@ -1,6 +1,5 @@
 -- A command that is not built fails by its name.
-use Rattle.std.proofs.Common.{◌≡◌, List, String, Option, Some, Err, refl}
-use Rattle.std.specs.Prelude.{ℕ}
+use Rattle.std.proofs.Common.{◌≡◌, String, Option, Some, Err, refl}
 use Rattle.std.specs.declared.alloc.Global.{Global}
 use Rattle.lynx_outside.specs.Files.{Listing}
 use Rattle.lynx_run.specs.Commands.{command_name, Answers}

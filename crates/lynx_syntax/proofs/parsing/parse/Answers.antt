@@ -5,6 +5,7 @@ use Rattle.lynx_syntax.specs.Answers.{kinds, IsTreeOf}
 use Rattle.lynx_syntax.specs.Grammar.{kinds_of}
 use Rattle.lynx_syntax.specs.Printing.{IsPrintable}
 use Rattle.lynx_syntax.specs.Trees.{module_tree}
+use Rattle.lynx_syntax.proofs.Exact.{gives_fault, gives_too_deep}
 use Rattle.lynx_syntax.proofs.Lengths.{tokens_fit}
 use Rattle.lynx_syntax.proofs.Printable.{tokens_printable, ok_then}
 use Rattle.lynx_syntax.proofs.parsing.parse.Goals as goal
@@ -17,3 +18,9 @@ returns-clause-printable c =
     let all = tokens_printable c.args.tokens.now c.args.source.now c.requires.spell c.requires.limits in
     ok_then c.read.result (λ m. IsTreeOf (kinds c.args.tokens.now) (module_tree m)) (λ m. AllByRecursion IsPrintable (kinds_of (module_tree m))) c.read.ensures.found
     (λ m h. subst (λ (ks : List Kind). AllByRecursion IsPrintable ks) h.0.1 all)
+
+pub returns-clause-only_fault : goal.returns-clause-only_fault
+returns-clause-only_fault c at leaves nowhere = gives_fault (kinds c.args.tokens.now) at c.read.result c.read.ensures.found c.read.ensures.fault leaves nowhere
+
+pub returns-clause-only_too_deep : goal.returns-clause-only_too_deep
+returns-clause-only_too_deep c at deep = gives_too_deep (kinds c.args.tokens.now) at c.read.result c.read.ensures.found c.read.ensures.fault deep

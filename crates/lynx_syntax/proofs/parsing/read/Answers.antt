@@ -1,11 +1,12 @@
-use Rattle.std.proofs.Common.{◌≡◌, Ok, Err, sym, ap, ◌∙◌, rules, arith}
+use Rattle.std.proofs.Common.{◌≡◌, Err, sym, ap, ◌∙◌, rules}
 use Rattle.lynx_syntax.specs.Answers.{kinds}
 use Rattle.lynx_syntax.specs.Faults.{most_open}
 use Rattle.lynx_syntax.specs.ReadingModules.{whole}
 use Rattle.lynx_syntax.specs.Trees.{module_tree}
 use Rattle.lynx_syntax.specs.declared.refusal.Refusal.TheVariants as refusals
 use Rattle.lynx_syntax.proofs.Laws.{read_is, never_refused}
-use Rattle.lynx_syntax.proofs.Answered.{found, left_at, deep_at}
+use Rattle.lynx_syntax.proofs.Answered.{found, deep_at}
+use Rattle.lynx_syntax.proofs.Exact.{left_at}
 use Rattle.lynx_syntax.proofs.parsing.read.Goals as goal
 
 pub returns-in-Ok-clause-found : goal.returns-in-Ok-clause-found

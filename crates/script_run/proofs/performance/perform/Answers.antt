@@ -1,4 +1,4 @@
-use Rattle.std.proofs.Common.{◌≡◌, List, length, map, ap, sym, subst, ◌∙◌, rules}
+use Rattle.std.proofs.Common.{◌≡◌, List, length, map, sym, subst, ◌∙◌, rules}
 use Rattle.std.proofs.lemmas.List.{with_items_is}
 use Rattle.charlotte_calls.specs.declared.setting.Setting.{Setting}
 use Rattle.kernel_journal.specs.declared.last.ScriptNote.{ScriptNote}
@@ -17,7 +17,6 @@ performed c =
     let s : Setting = c.args.script.now.setting in
     let a : List Node = c.in_ok-nodes.nodes.items in
     let b : List Node = c.do_lines.new.nodes in
-    let count : length b ≡ length a = c.do_lines.auto.nodes ∙ ap length c.deref_mut.ensures.value in
     let held : length b ≡ c.in_ok-nodes.nodes.len = search rules in
     let whole : c.deref.result.now ≡ b = c.deref.ensures.value ∙ with_items_is c.in_ok-nodes.nodes b held in
     let done : AreLinesDone s c.args.script.now.lines c.in_ok-notes.notes.items a b =
@@ -28,7 +27,7 @@ performed c =
     let ends : IsLast (world_of s b) c.last_of-last.result = subst (λ (ns : List Node). IsLast (world_of s ns) c.last_of-last.result) whole (c.last_of-last.ensures s) in
     subst (λ (ps : List Placed). IsPerformance s c.args.script.now.lines ps c.of-2.result c.last_of-last.result) (sym c.of.ensures)
     (subst (λ (notes : List ScriptNote). IsPerformance s c.args.script.now.lines c.in_ok-merged.merged.items notes c.last_of-last.result) (sym c.of-2.ensures)
-    (performance s c.args.script.now.lines c.in_ok-merged.merged.items c.in_ok-notes.notes.items c.last_of-last.result a b count c.in_ok-nodes.ensures.ready c.in_ok-nodes.ensures.start c.in_ok-nodes.ensures.entries done merge ends c.requires.built.one_kernel c.requires.few))
+    (performance s c.args.script.now.lines c.in_ok-merged.merged.items c.in_ok-notes.notes.items c.last_of-last.result a b c.in_ok-nodes.ensures.ready c.in_ok-nodes.ensures.start c.in_ok-nodes.ensures.entries done merge ends c.requires.few))
 
 pub returns-clause-performed : goal.returns-clause-performed
 returns-clause-performed c = performed c
