@@ -1,3 +1,4 @@
 mod Arguments
+mod Finding
 mod Lines
 mod Scripts

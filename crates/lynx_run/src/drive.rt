@@ -1,20 +1,20 @@
 //! The command that performs a script.
-ghost use Rattle.std.specs.Prelude.{◌≡◌, ◌≢◌, ◌≤◌, ℕ, List, Result, IfOk, IfErr, length, map, Some};
+ghost use Rattle.std.specs.Prelude.{◌≡◌, ◌≢◌, ◌≤◌, ℕ, List, IfOk, IfErr, length, map};
 ghost use Rattle.std.specs.List.{concat};
-ghost use Rattle.lynx_run.specs.declared.failure.Failure.{Failure};
-ghost use Rattle.lynx_run.specs.Drive.{IsScriptOf, IsDriven, FailsAt, Finds, found_text, Drives, CountsFound, change, Ends};
+ghost use Rattle.lynx_run.specs.declared.failure.Failure.TheVariants as failures;
+ghost use Rattle.lynx_run.specs.Drive.{IsScriptOf, IsDriven, Drives};
+ghost use Rattle.lynx_run.specs.Ending.{change, Ends};
+ghost use Rattle.lynx_run.specs.Found.{Found, Finds, CountsFound, found_text};
 
+use crate::ending::end_with;
 use crate::failure::Failure;
-use crate::puts::put_lines;
-use crate::tell::tell;
+use crate::file::read_file;
 use charlotte_calls::NoMemory;
 use kernel_journal::print_transcript;
 use lynx_outside::{Files, Sink, Status};
 use lynx_plan::{Script, read_script};
 use script_run::perform;
 use std::alloc::Global;
-
-const MOST_BYTES: u32 = 1_048_576;
 
 // The lines of the transcript of a script.
 fn transcript(alloc: Global, bytes: &[u8], script: &Script) -> Result<Vec<Vec<u8>>, NoMemory>
@@ -32,47 +32,25 @@ fn transcript(alloc: Global, bytes: &[u8], script: &Script) -> Result<Vec<Vec<u8
     )
 }
 
-// The lines of the transcript of the script that a file holds.
-fn drive_lines<F: Files>(alloc: Global, name: &str, files: &mut F) -> Result<Vec<Vec<u8>>, Failure>
-    ensures same { F.contents files.new ≡ F.contents files.old }
-    ensures found { Drives (F.contents files.old) name.now (found_text result) }
-    ensures counted { CountsFound (F.faults files.old) (F.faults files.new) result }
-{
-    let bytes = files.read(alloc, name, MOST_BYTES)?;
-    let lines = lines_of(alloc, bytes.as_slice())?;
-    Ok(lines)
-}
-
 // The lines of the transcript of the script of these bytes.
-fn lines_of(alloc: Global, bytes: &[u8]) -> Result<Vec<Vec<u8>>, Failure>
+fn drive_bytes(alloc: Global, bytes: &[u8]) -> Result<Vec<Vec<u8>>, Failure>
     requires { length bytes.now ≤ 1048576 }
-    ensures found { Finds (Some bytes.now) (found_text result) }
-    ensures no_fault { IfErr result (λ f. f ≢ Failure.ReadFault) }
+    ensures found { Drives bytes.now (found_text result) }
+    ensures no_fault { IfErr result (λ f. f ≢ failures.ReadFault) }
 {
     let script = read_script(alloc, bytes)?;
     let lines = transcript(alloc, bytes, &script)?;
     Ok(lines)
 }
 
-// Puts the lines on out, or the line of the failure on err.
-pub(crate) fn end_with<O: Sink, E: Sink>(
-    alloc: Global,
-    name: &str,
-    found: Result<Vec<Vec<u8>>, Failure>,
-    out: &mut O,
-    err: &mut E,
-) -> Status
-    ensures { Ends name.now (found_text found) result
-        (change (O.held out.old) (O.held out.new) (O.faults out.old) (O.faults out.new))
-        (change (E.held err.old) (E.held err.new) (E.faults err.old) (E.faults err.new)) }
+// The lines of the transcript of the script that a file holds.
+fn drive_lines<F: Files>(alloc: Global, name: &str, files: &mut F) -> Result<Vec<Vec<u8>>, Failure>
+    ensures same { F.contents files.new ≡ F.contents files.old }
+    ensures found { Finds Drives (F.contents files.old) name.now (found_text result) }
+    ensures counted { CountsFound (F.faults files.old) (F.faults files.new) result }
 {
-    match found {
-        Ok(lines) => match put_lines(out, lines.as_slice()) {
-            Ok(()) => Status::Done,
-            Err(_) => Status::WriteFault,
-        },
-        Err(failure) => tell(alloc, name, failure, err),
-    }
+    let bytes = read_file(alloc, name, files)?;
+    drive_bytes(alloc, bytes.as_slice())
 }
 
 /// Performs the script of a file, and puts its transcript on out, one put a line. Where that fails, the line of the
@@ -85,8 +63,8 @@ pub fn drive_file<F: Files, O: Sink, E: Sink>(
     err: &mut E,
 ) -> Status
     ensures same { F.contents files.new ≡ F.contents files.old }
-    ensures ended { (found : Result (List ℕ) Failure)
-        × Drives (F.contents files.old) name.now found
+    ensures ended { (found : Found)
+        × Finds Drives (F.contents files.old) name.now found
         × CountsFound (F.faults files.old) (F.faults files.new) found
         × Ends name.now found result
         (change (O.held out.old) (O.held out.new) (O.faults out.old) (O.faults out.new))

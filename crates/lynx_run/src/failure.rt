@@ -2,12 +2,13 @@
 ghost use Rattle.std.specs.Prelude.{◌≡◌, ◌++◌, IfOk, OnOk, codes};
 ghost use Rattle.charlotte_text.specs.Spelling.{number_text};
 ghost use Rattle.lynx_run.specs.declared.failure.Failure.TheVariants as failures;
-ghost use Rattle.lynx_run.specs.Failures.{failure_of_file, failure_of_script};
+ghost use Rattle.lynx_run.specs.Failures.{failure_of_file, failure_of_script, failure_of_source, place_text};
 
 use charlotte_calls::NoMemory;
 use charlotte_text::push_number;
 use lynx_outside::{FileAnswer, Status};
 use lynx_plan::PlanFault;
+use lynx_source::{Place, SourceFault};
 use std::alloc::Global;
 
 /// Why a command was not done.
@@ -23,6 +24,12 @@ pub enum Failure {
     TooBig,
     /// A line of the script breaks a rule.
     Script { line: u32, rule: u8 },
+    /// The module has this lexical fault; it stands at the first byte of its token.
+    Lex { at: Place, no: u8 },
+    /// The module leaves the grammar at this token.
+    Syntax { at: Place },
+    /// The module is nested too deeply at this token.
+    Deep { at: Place },
     /// The command is not built yet.
     Unbuilt,
     /// There was not memory enough.
@@ -42,6 +49,7 @@ impl Failure {
             Failure::Absent => Status::NoFile,
             Failure::TooBig => Status::TooBig,
             Failure::Script { .. } => Status::Refused,
+            Failure::Lex { .. } | Failure::Syntax { .. } | Failure::Deep { .. } => Status::Refused,
             Failure::Unbuilt => Status::Refused,
             Failure::NoMemory => Status::NoMemory,
         }
@@ -57,6 +65,9 @@ impl Failure {
             Failure::Absent => file_text(alloc, name, b": absent\n"),
             Failure::TooBig => file_text(alloc, name, b": too big\n"),
             Failure::Script { line, rule } => script_text(alloc, name, line, rule),
+            Failure::Lex { at, no } => lex_text(alloc, name, at, no),
+            Failure::Syntax { at } => place_text(alloc, name, at, b"syntax\n"),
+            Failure::Deep { at } => place_text(alloc, name, at, b"deep\n"),
             Failure::Unbuilt => file_text(alloc, name, b": not built\n"),
             Failure::NoMemory => bytes_of(alloc, b"lynx: no memory\n"),
         }
@@ -91,6 +102,28 @@ fn script_text(alloc: Global, name: &str, line: u32, rule: u8) -> Result<Vec<u8>
     Ok(text)
 }
 
+fn place_text(alloc: Global, name: &str, at: Place, what: &[u8]) -> Result<Vec<u8>, NoMemory>
+    ensures { IfOk result (λ text. text.items ≡ place_text name.now at ++ what.now) }
+{
+    let mut text = name.as_bytes().to_vec(alloc)?;
+    text.push(b':')?;
+    push_number(&mut text, u64::from(at.line))?;
+    text.push(b':')?;
+    push_number(&mut text, u64::from(at.column))?;
+    text.extend_from_slice(b": ")?;
+    text.extend_from_slice(what)?;
+    Ok(text)
+}
+
+fn lex_text(alloc: Global, name: &str, at: Place, no: u8) -> Result<Vec<u8>, NoMemory>
+    ensures { IfOk result (λ text. text.items ≡ place_text name.now at ++ codes "lex " ++ number_text no ++ codes "\n") }
+{
+    let mut text = place_text(alloc, name, at, b"lex ")?;
+    push_number(&mut text, u64::from(no))?;
+    text.push(b'\n')?;
+    Ok(text)
+}
+
 impl From<NoMemory> for Failure {
     ghost from_gives = { λ _ e. e ≡ failures.NoMemory };
 
@@ -119,6 +152,19 @@ impl From<PlanFault> for Failure {
         match fault {
             PlanFault::BadPlan { line, rule } => Failure::Script { line, rule },
             PlanFault::NoMemory => Failure::NoMemory,
+        }
+    }
+}
+
+impl From<SourceFault> for Failure {
+    ghost from_gives = { λ f e. e ≡ failure_of_source f };
+
+    fn from(fault: SourceFault) -> Failure {
+        match fault {
+            SourceFault::Lex { at, no } => Failure::Lex { at, no },
+            SourceFault::Syntax { at } => Failure::Syntax { at },
+            SourceFault::Deep { at } => Failure::Deep { at },
+            SourceFault::NoMemory => Failure::NoMemory,
         }
     }
 }

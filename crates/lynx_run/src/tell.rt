@@ -30,10 +30,15 @@ fn put_text<E: Sink>(failure: Failure, text: &[u8], err: &mut E) -> Status
 mod tests {
     use super::*;
     use lynx_outside::ListSink;
+    use lynx_source::Place;
     use std::test::Fail;
 
     #[test]
     fn each_failure_has_its_line(rt: HostRuntime) -> Result<(), Fail> {
+        let at = Place {
+            line: 65_535,
+            column: 1_048_577,
+        };
         let rows = [
             (Failure::Usage, Status::Usage, "lynx: usage\n"),
             (
@@ -50,6 +55,21 @@ mod tests {
                 },
                 Status::Refused,
                 "a/s:4097: script 10\n",
+            ),
+            (
+                Failure::Lex { at, no: 5 },
+                Status::Refused,
+                "a/s:65535:1048577: lex 5\n",
+            ),
+            (
+                Failure::Syntax { at },
+                Status::Refused,
+                "a/s:65535:1048577: syntax\n",
+            ),
+            (
+                Failure::Deep { at },
+                Status::Refused,
+                "a/s:65535:1048577: deep\n",
             ),
             (Failure::NoMemory, Status::NoMemory, "lynx: no memory\n"),
         ];

@@ -1,12 +1,14 @@
 //! The program's top call.
-ghost use Rattle.std.specs.Prelude.{◌≡◌, ℕ, List, [], Result, Some};
-ghost use Rattle.lynx_run.specs.declared.failure.Failure.{Failure};
+ghost use Rattle.std.specs.Prelude.{◌≡◌, ℕ, List, [], Some};
 ghost use Rattle.lynx_run.specs.Words.{command_of};
 ghost use Rattle.lynx_run.specs.Commands.{command_name, Answers};
 ghost use Rattle.lynx_run.specs.Failures.{Tells};
-ghost use Rattle.lynx_run.specs.Drive.{CountsFound, change, Ends};
+ghost use Rattle.lynx_run.specs.Ending.{change, Ends};
+ghost use Rattle.lynx_run.specs.Found.{Found, CountsFound};
 
-use crate::drive::{drive_file, end_with};
+use crate::check::check_file;
+use crate::drive::drive_file;
+use crate::ending::end_with;
 use crate::failure::Failure;
 use crate::tell::tell;
 use crate::words::{Command, command_of};
@@ -23,7 +25,7 @@ pub fn lynx<F: Files, O: Sink, E: Sink>(
     err: &mut E,
 ) -> Status
     ensures same { F.contents files.new ≡ F.contents files.old }
-    ensures ended { (name : List ℕ) × (found : Result (List ℕ) Failure)
+    ensures ended { (name : List ℕ) × (found : Found)
         × Answers (command_of words.items) (F.contents files.old) name found
         × CountsFound (F.faults files.old) (F.faults files.new) found
         × Ends name found result
@@ -52,7 +54,7 @@ fn perform_command<F: Files, O: Sink, E: Sink>(
     err: &mut E,
 ) -> Status
     ensures same { F.contents files.new ≡ F.contents files.old }
-    ensures ended { (name : List ℕ) × (found : Result (List ℕ) Failure)
+    ensures ended { (name : List ℕ) × (found : Found)
         × Answers (Some command.now) (F.contents files.old) name found
         × CountsFound (F.faults files.old) (F.faults files.new) found
         × Ends name found result
@@ -61,6 +63,7 @@ fn perform_command<F: Files, O: Sink, E: Sink>(
 {
     match command {
         Command::Drive { file } => drive_file(alloc, file.as_str(), files, out, err),
+        Command::Check { file } => check_file(alloc, file.as_str(), files, out, err),
         _ => end_with(
             alloc,
             command_name(command),

@@ -68,7 +68,7 @@ fn words_of_no_form(rt: HostRuntime) -> Result<(), Fail> {
 }
 
 #[test]
-fn files_and_scripts_that_are_refused(rt: HostRuntime) -> Result<(), Fail> {
+fn files_that_are_refused(rt: HostRuntime) -> Result<(), Fail> {
     let alloc = rt.alloc();
     for (line, file, status, text) in [
         ("drive t", "", Status::NoFile, "lynx: t: absent\n"),
@@ -86,6 +86,14 @@ fn files_and_scripts_that_are_refused(rt: HostRuntime) -> Result<(), Fail> {
             Status::Refused,
             "s:3: script 5\n",
         ),
+        ("check t", "", Status::NoFile, "lynx: t: absent\n"),
+        ("check s", "", Status::Refused, "s:1:1: syntax\n"),
+        (
+            "check s",
+            "module s;\nbegin\n  '",
+            Status::Refused,
+            "s:3:3: lex 2\n",
+        ),
     ] {
         end_so(&rt, alloc, words_of(alloc, line)?, file, status, text)?;
     }
@@ -96,7 +104,6 @@ fn files_and_scripts_that_are_refused(rt: HostRuntime) -> Result<(), Fail> {
 fn commands_that_are_not_built(rt: HostRuntime) -> Result<(), Fail> {
     let alloc = rt.alloc();
     for (line, text) in [
-        ("check s", "lynx: check: not built\n"),
         ("code s", "lynx: code: not built\n"),
         ("run --turns=7 a", "lynx: run: not built\n"),
         ("bench 1", "lynx: bench: not built\n"),
