@@ -1,13 +1,13 @@
 -- What is found at a file, by what is found in its bytes.
 use Rattle.std.proofs.Common.{◌≡◌, ℕ, suc, ◌≤◌, ◌<◌, List, [], Option, Some, None, Result, Ok, Err, Vec, length, refl, sym, ap, subst, replicate, arith}
-use Rattle.std.specs.Prelude.{IfSome, IfOk}
+use Rattle.std.specs.Prelude.{IfSome, IfOk, IsErrAnd}
 use Rattle.std.specs.declared.alloc.Global.{Global}
 use Rattle.std.proofs.lemmas.List.{length-replicate}
 use Rattle.lynx_outside.specs.Files.{Listing, bytes_of, Reads}
 use Rattle.lynx_outside.specs.declared.files.FileAnswer.{FileAnswer}
 use Rattle.lynx_outside.specs.declared.files.FileAnswer.TheVariants as answers
 use Rattle.lynx_run.specs.Failures.{failure_of_file}
-use Rattle.lynx_run.specs.Found.{Found, most_bytes, FindsIn, Finds, IsBytes}
+use Rattle.lynx_run.specs.Found.{Found, most_bytes, FindsIn, Finds, IsBytes, found_bytes, found_text}
 use Rattle.lynx_run.specs.declared.failure.Failure.{Failure}
 use Rattle.lynx_run.specs.declared.failure.Failure.TheVariants.{Usage, ReadFault, Absent, TooBig, Script, Lex, Syntax, Deep, Unbuilt, NoMemory}
 
@@ -20,7 +20,7 @@ unfolding text_in
 ok_same a b e = ap (text_in []) e
 
 -- what a read answers, as what a command finds
-pub read_found : Result (Vec ℕ Global) FileAnswer → Found
+abbrev pub read_found : Result (Vec ℕ Global) FileAnswer → Found
 read_found (Ok bytes) = Ok bytes.items
 read_found (Err answer) = Err (failure_of_file answer)
 
@@ -84,11 +84,15 @@ reads_told listing name (Err answers.TooBig) within h = h
 reads_told listing name (Err answers.Failed) within h = tt
 reads_told listing name (Err answers.NoMemory) within h = tt
 
+-- a list that is longer
+longer : (n : ℕ) → (bytes : List ℕ) × (n < length bytes)
+longer n = (replicate (suc n) 0, omega (arith, length-replicate {A = ℕ} (suc n) 0))
+
 -- some file that is read so
 some_file : Result (Vec ℕ Global) FileAnswer → Option (List ℕ)
 some_file (Ok bytes) = Some bytes.items
 some_file (Err answers.Absent) = None
-some_file (Err answers.TooBig) = Some (replicate (suc most_bytes) 0)
+some_file (Err answers.TooBig) = Some (longer most_bytes).0
 some_file (Err answers.Failed) = None
 some_file (Err answers.NoMemory) = None
 
@@ -96,7 +100,7 @@ reads_some : (r : Result (Vec ℕ Global) FileAnswer) → IfOk r (λ bytes. leng
 unfolding some_file
 reads_some (Ok bytes) within = (within, refl)
 reads_some (Err answers.Absent) within = refl
-reads_some (Err answers.TooBig) within = omega (arith, length-replicate (suc most_bytes) 0)
+reads_some (Err answers.TooBig) within = (longer most_bytes).1
 reads_some (Err answers.Failed) within = tt
 reads_some (Err answers.NoMemory) within = tt
 
@@ -104,3 +108,26 @@ pub read_finds : (files : Option Listing) (name : List ℕ) (r : Result (Vec ℕ
     → Finds IsBytes files name (read_found r)
 read_finds (Some listing) name r within h = (bytes_of listing name, refl, reads_told listing name r within h)
 read_finds None name r within h = (some_file r, tt, reads_some r within)
+
+-- what a read answers is handed on
+pub told_on : (files : Option Listing) (name : List ℕ) (answer : FileAnswer) (r : Result (Vec ℕ Global) Failure) → IsErrAnd r (λ e. e ≡ failure_of_file answer) → Finds IsBytes files name (Err (failure_of_file answer))
+    → Finds IsBytes files name (found_bytes r)
+told_on files name answer (Ok bytes) is h = absurd is
+told_on files name answer (Err f) is h = subst (λ (x : Failure). Finds IsBytes files name (Err x)) (sym is) h
+
+-- ---- what a command finds in bytes that were read
+
+-- bytes that were read, and lines or a failure that they give
+pub lines_found : (In : List ℕ → Found → Type 0) (files : Option Listing) (name : List ℕ) (r : Result (Vec ℕ Global) Failure) (bytes : Vec ℕ Global) (read : List ℕ) (found : Found)
+    → FindsBytes In → Finds IsBytes files name (found_bytes r) → r ≡ Ok bytes → read ≡ bytes.items → In read found → Finds In files name found
+lines_found In files name r bytes read found is h was same g =
+    let h' : Finds IsBytes files name (Ok bytes.items) = subst (λ (x : Result (Vec ℕ Global) Failure). Finds IsBytes files name (found_bytes x)) was h in
+    finds_ok In files name bytes.items found is h' (subst (λ (bs : List ℕ). In bs found) same g)
+
+-- a file that gave no bytes
+pub none_found : (In : List ℕ → Found → Type 0) (files : Option Listing) (name : List ℕ) (r : Result (Vec ℕ Global) Failure) (s : Result (Vec (Vec ℕ Global) Global) Failure) (f : Failure)
+    → Finds IsBytes files name (found_bytes r) → r ≡ Err f → IsErrAnd s (λ e. e ≡ f) → Finds In files name (found_text s)
+none_found In files name r (Ok lines) f h was is = absurd is
+none_found In files name r (Err e) f h was is =
+    let h' : Finds IsBytes files name (Err f) = subst (λ (x : Result (Vec ℕ Global) Failure). Finds IsBytes files name (found_bytes x)) was h in
+    subst (λ (x : Failure). Finds In files name (Err x)) (sym is) (finds_err In files name f h')

@@ -1,5 +1,6 @@
 //! The command that reads a module.
-ghost use Rattle.std.specs.Prelude.{◌≡◌, ◌≢◌, ◌≤◌, ℕ, List, IfOk, IfErr, length};
+ghost use Rattle.std.specs.Prelude.{◌≡◌, ◌≢◌, ◌≤◌, ℕ, List, IfOk, IfErr, length, map};
+ghost use Rattle.std.specs.List.{concat};
 ghost use Rattle.lynx_run.specs.declared.failure.Failure.TheVariants as failures;
 ghost use Rattle.lynx_run.specs.Check.{checked_text, Checks};
 ghost use Rattle.lynx_run.specs.Ending.{change, Ends};
@@ -14,13 +15,14 @@ use lynx_source::read_module;
 use std::alloc::Global;
 
 // The line for a module of this name.
-fn checked_line(alloc: Global, name: &[u8]) -> Result<Vec<u8>, NoMemory>
-    ensures { IfOk result (λ text. text.items ≡ checked_text name.now) }
+fn checked_lines(alloc: Global, name: &[u8]) -> Result<Vec<Vec<u8>>, NoMemory>
+    ensures { IfOk result (λ lines. concat (map (λ l. l.items) lines.items) ≡ checked_text name.now) }
 {
-    let mut text = b"ok ".to_vec(alloc)?;
-    text.extend_from_slice(name)?;
-    text.push(b'\n')?;
-    Ok(text)
+    let mut line = b"ok ".to_vec(alloc)?;
+    line.extend_from_slice(name)?;
+    line.push(b'\n')?;
+    let lines = vec![in alloc; line]?;
+    Ok(lines)
 }
 
 // The line for the module of these bytes.
@@ -30,8 +32,7 @@ fn check_bytes(alloc: Global, bytes: &[u8]) -> Result<Vec<Vec<u8>>, Failure>
     ensures no_fault { IfErr result (λ f. f ≢ failures.ReadFault) }
 {
     let module = read_module(alloc, bytes)?;
-    let line = checked_line(alloc, module.name.as_slice())?;
-    let lines = vec![in alloc; line]?;
+    let lines = checked_lines(alloc, module.name.as_slice())?;
     Ok(lines)
 }
 

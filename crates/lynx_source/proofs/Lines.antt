@@ -1,5 +1,5 @@
 -- One byte more, and its line and column.
-use Rattle.std.proofs.Common.{◌≡◌, ℕ, ◌+◌, ◌<◌, ◌≤◌, Bool, true, false, not, cond, reverse, List, [], ◌∷◌, length, take, get_or, ap, sym, ◌∙◌, add_comm, arith}
+use Rattle.std.proofs.Common.{◌≡◌, ℕ, ◌+◌, ◌<◌, ◌≤◌, Bool, true, false, not, cond, reverse, List, [], ◌∷◌, length, take, get_or, ap, ◌∙◌, arith}
 use Rattle.std.specs.List.{prefix_len, suffix_len, count_by}
 use Rattle.std.proofs.lemmas.List.{reverse-append, length-reverse, take_more, length-take}
 use Rattle.std.proofs.lemmas.List.Sums.{count_by_more_no, count_by_more_yes, count_by-le-length, prefix_len-le-length}

@@ -1,6 +1,6 @@
 -- A source has one reading.
 use Rattle.std.proofs.Common.{◌≡◌, ℕ, List, Result, Ok, Err, sym, ap, subst, ◌∙◌}
-use Rattle.lynx_lexer.specs.Source.{Spell, AreWithinLimits, IsFirstFault}
+use Rattle.lynx_lexer.specs.Source.{IsFirstFault}
 use Rattle.lynx_lexer.specs.declared.fault.LexFault.TheVariants as lex
 use Rattle.lynx_lexer.specs.declared.token.Token.{Token}
 use Rattle.lynx_lexer.proofs.Cuts.{one_spelling}

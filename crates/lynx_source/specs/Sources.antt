@@ -1,5 +1,5 @@
 -- What a source is read as: the tree of a module, or the first fault with its place.
-use Rattle.std.specs.Prelude.{◌≡◌, ℕ, List, length, Option, Result, Ok, Err, ⊤, slice_get, option_map, unwrap_or}
+use Rattle.std.specs.Prelude.{◌≡◌, ℕ, List, length, Result, Ok, Err, ⊤, slice_get, option_map, unwrap_or}
 use Rattle.lynx_lexer.specs.Source.{Spell, AreWithinLimits, IsFirstFault}
 use Rattle.lynx_lexer.specs.declared.token.Token.{Token}
 use Rattle.lynx_syntax.specs.Answers.{kinds, IsTreeOf}

@@ -25,11 +25,17 @@ fn sources_are_read(rt: HostRuntime) -> Result<(), Fail> {
     for (source, want) in [
         ("module m; begin end.", "m"),
         ("module m; begin end.\n", "m"),
-        ("-- a server\r\nmodule\tserver_2;\r\nbegin\r\nend.\r\n", "server_2"),
+        (
+            "-- a server\r\nmodule\tserver_2;\r\nbegin\r\nend.\r\n",
+            "server_2",
+        ),
         // the tokens, each fault
         ("module m; begin n := 2 # 3; end.\n", "1:24 lex 1"),
         ("module m;\nbegin\n  x := 'ab;\nend.\n", "3:8 lex 2"),
-        ("module m; begin n := 9223372036854775808; end.\n", "1:22 lex 3"),
+        (
+            "module m; begin n := 9223372036854775808; end.\n",
+            "1:22 lex 3",
+        ),
         (
             "module m; begin write 'aaaaaaaaaaaaaaaaaaaaaaaaaaaaaaaaaaaaaaaaaaaaaaaaaaaaaaaaaaaaaaaaa'; end.\n",
             "1:23 lex 4",
@@ -53,7 +59,11 @@ fn sources_are_read(rt: HostRuntime) -> Result<(), Fail> {
         ("-- é\n-- é é; begin\nmodule m;\r\n\t\tend.", "4:3 syntax"),
         ("module m; begin\r end\r;", "1:22 syntax"),
     ] {
-        assert_eq!(rt; answer(rt.alloc(), source.as_bytes())?.as_str(), want, "in {source}");
+        assert_eq!(rt;
+            answer(rt.alloc(), source.as_bytes())?.as_str(),
+            want,
+            "in {source}"
+        );
     }
     Ok(())
 }
@@ -75,8 +85,14 @@ fn brackets(alloc: Global, count: u8) -> Result<Vec<u8>, AllocError> {
 #[test]
 fn at_most_64_may_be_open(rt: HostRuntime) -> Result<(), Fail> {
     let alloc = rt.alloc();
-    assert_eq!(rt; answer(alloc, brackets(alloc, 63)?.as_slice())?.as_str(), "m");
-    assert_eq!(rt; answer(alloc, brackets(alloc, 64)?.as_slice())?.as_str(), "4:69 deep");
+    assert_eq!(rt;
+        answer(alloc, brackets(alloc, 63)?.as_slice())?.as_str(),
+        "m"
+    );
+    assert_eq!(rt;
+        answer(alloc, brackets(alloc, 64)?.as_slice())?.as_str(),
+        "4:69 deep"
+    );
     Ok(())
 }
 
