@@ -1,4 +1,4 @@
-use crate::{Place, SourceFault, read_module};
+use crate::{SourceFault, read_module};
 use std::alloc::{AllocError, Global};
 use std::fmt::Write;
 use std::str;
@@ -104,11 +104,9 @@ fn a_long_source(rt: HostRuntime) -> Result<(), Fail> {
     for _ in 0..1_048_576u32 {
         source.push(b' ')?;
     }
-    let found = read_module(alloc, source.as_slice()).err();
-    let at = Place {
-        line: 1,
-        column: 1_048_577,
-    };
-    assert_eq!(rt; found, Some(SourceFault::Syntax { at }));
+    assert_eq!(rt;
+        answer(alloc, source.as_slice())?.as_str(),
+        "1:1048577 syntax"
+    );
     Ok(())
 }
