@@ -1,6 +1,6 @@
 -- What reading the tokens of an expression gives.
-use Rattle.std.proofs.Common.{◌≡◌, ℕ, zero, suc, ◌+◌, ◌<◌, ◌≤◌, Bool, true, false, cond, List, [], ◌∷◌, ◌++◌, length, drop, Option, Some, None, Ok, Err, refl, sym, ap, subst, ◌∙◌, append_assoc, arith, rules, length-append}
-use Rattle.std.specs.Prelude.{⊤, is_some, if◌then◌else◌}
+use Rattle.std.proofs.Common.{◌≡◌, ℕ, zero, suc, ◌+◌, ◌<◌, ◌≤◌, Bool, true, false, cond, List, [], ◌∷◌, ◌++◌, length, Option, Some, None, Ok, refl, sym, ap, subst, ◌∙◌, append_assoc, arith, length-append}
+use Rattle.std.specs.Prelude.{is_some, if◌then◌else◌}
 use Rattle.std.specs.List.{flat_map, AllByRecursion}
 use Rattle.std.proofs.lemmas.List.{append-nil}
 use Rattle.lynx_lexer.specs.declared.keyword.Keyword.{Keyword}
@@ -11,17 +11,16 @@ use Rattle.lynx_lexer.specs.declared.token.Kind.{Kind}
 use Rattle.lynx_lexer.specs.declared.token.Kind.TheVariants as kinds
 use Rattle.lynx_syntax.specs.declared.expression.TermSign.{TermSign}
 use Rattle.lynx_syntax.specs.declared.expression.TermSign.TheVariants as term_signs
-use Rattle.lynx_syntax.specs.declared.refusal.Refusal.TheVariants as refusals
 use Rattle.lynx_syntax.specs.Trees as trees
 use Rattle.lynx_syntax.specs.Trees.{ExprTree, ExprTrees, SumTail, TermTail}
 use Rattle.lynx_syntax.specs.Grammar as grammar
 use Rattle.lynx_syntax.specs.Grammar.{Mark, word, mark, expr_marks, index_marks, chain_marks, behind_marks, sum_marks, term_marks, rank, IsExpr, AreExprs, AreSums, AreTerms, IsSumSign, IsRelationSign}
-use Rattle.lynx_syntax.specs.Reading.{Parser, Outcome, and_then, ◌>>=◌, pure, sign, advance, sees_keyword, sees_sign, same_keyword, same_sign, number, text, name, many, many_from}
+use Rattle.lynx_syntax.specs.Reading.{Parser, Outcome, and_then, ◌>>=◌, pure, sign, advance, sees_keyword, sees_sign, same_keyword, same_sign, number, text, many, many_from}
 use Rattle.lynx_syntax.specs.ReadingExpressions.{exprs_of, sums_of, terms_of, sum_of, term_of, named_of, relation_sign, sum_sign, term_sign, behind_sign, index, named, prim, unary, term, sum, rel_by, rel, conj, expr, inside}
-use Rattle.lynx_syntax.proofs.Told.{Within, kinds_in, kinds_append, kinds_count}
+use Rattle.lynx_syntax.proofs.Told.{kinds_in, kinds_append, kinds_count}
 use Rattle.lynx_syntax.proofs.ToldExpressions.{chained, chained_rest, chained_second, Ranked, IsIndex, index_in, IsFactor, factor_marks, IsSummand, summand_marks}
 use Rattle.lynx_syntax.proofs.Turns.{turn_stops}
-use Rattle.lynx_syntax.proofs.Guard.{guard, Finds, find_next, find_token, find_deep, find_sign, find_name, same_sign_refl, guard_then, guard_append, same_keyword_refl}
+use Rattle.lynx_syntax.proofs.Guard.{guard, Finds, find_next, find_token, find_deep, find_sign, find_name, same_sign_refl, guard_then, same_keyword_refl}
 
 -- nothing goes on with what stands behind an expression of a rank
 abbrev pub NoRow : List Kind → Type 0

@@ -1,8 +1,7 @@
 -- What reading the tokens of a list in brackets gives.
-use Rattle.std.proofs.Common.{◌≡◌, ℕ, ℤ, zero, suc, ◌+◌, ◌<◌, ◌≤◌, Bool, true, false, cond, List, [], ◌∷◌, ◌++◌, length, drop, map, Ok, Err, refl, sym, ap, subst, ◌∙◌, append_assoc, arith}
+use Rattle.std.proofs.Common.{◌≡◌, ℕ, zero, suc, ◌+◌, ◌≤◌, Bool, false, cond, List, [], ◌∷◌, ◌++◌, length, map, Ok, Err, refl, sym, ap, subst, ◌∙◌, arith}
 use Rattle.std.specs.Prelude.{⊤, if◌then◌else◌}
 use Rattle.std.specs.List.{flat_map, AllByRecursion}
-use Rattle.std.proofs.lemmas.List.{append-nil}
 use Rattle.lynx_lexer.specs.declared.keyword.Keyword.TheVariants as keywords
 use Rattle.lynx_lexer.specs.declared.sign.Sign.TheVariants as signs
 use Rattle.lynx_lexer.specs.declared.token.Kind.{Kind}
@@ -18,11 +17,10 @@ use Rattle.lynx_syntax.specs.Reading.{Parser, Outcome, and_then, ◌>>=◌, pure
 use Rattle.lynx_syntax.specs.ReadingExpressions.{exprs_of, inside, expr}
 use Rattle.lynx_syntax.specs.ReadingLists.{listed, names, values, type_name, type_names}
 use Rattle.lynx_syntax.proofs.Lists.{flat_map-map}
-use Rattle.lynx_syntax.proofs.Told.{Within, kinds_in, kinds_append}
-use Rattle.lynx_syntax.proofs.ToldExpressions.{Ranked}
+use Rattle.lynx_syntax.proofs.Told.{kinds_in, kinds_append}
 use Rattle.lynx_syntax.proofs.ToldLists.{Anything, AreValues, values_marks}
-use Rattle.lynx_syntax.proofs.Guard.{guard, guard_then, guard_append, Finds, find_next, find_token, find_deep, find_sign, find_name, same_sign_refl}
-use Rattle.lynx_syntax.proofs.FindExpressions.{NoOr, comma_ends, close_ends, Begins, item_quiet, find_many, find_value, exprs_in, exprs_again, are_links}
+use Rattle.lynx_syntax.proofs.Guard.{guard, guard_then, guard_append, Finds, find_next, find_token, find_deep, find_sign, same_sign_refl}
+use Rattle.lynx_syntax.proofs.FindExpressions.{NoOr, comma_ends, close_ends, Begins, item_quiet, find_many, find_value}
 
 -- `(`, where so many more brackets may be open
 pub find_bracket : {A : Type 0} (n room d : ℕ) (f : ℕ → Parser A) (ms : List Mark) (rest : List Kind) (o : Outcome A) → room + d ≡ n → ((r : ℕ) → r + suc d ≡ n → f r (kinds_in ms ++ rest) ≡ guard n ms rest o)

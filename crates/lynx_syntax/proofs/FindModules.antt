@@ -1,24 +1,22 @@
 -- What reading the tokens of a module gives.
-use Rattle.std.proofs.Common.{◌≡◌, ℕ, zero, suc, ◌+◌, ◌<◌, ◌≤◌, Bool, true, false, List, [], ◌∷◌, ◌++◌, length, drop, map, Ok, Err, refl, sym, ap, subst, ◌∙◌, append_assoc, arith}
-use Rattle.std.specs.Prelude.{⊤}
+use Rattle.std.proofs.Common.{◌≡◌, ℕ, false, List, [], ◌∷◌, ◌++◌, Ok, Err, refl, sym, ap, ◌∙◌, append_assoc, arith}
 use Rattle.std.specs.List.{flat_map, AllByRecursion}
 use Rattle.std.proofs.lemmas.List.{append-nil}
 use Rattle.lynx_lexer.specs.declared.keyword.Keyword.{Keyword}
 use Rattle.lynx_lexer.specs.declared.keyword.Keyword.TheVariants as keywords
 use Rattle.lynx_lexer.specs.declared.sign.Sign.TheVariants as signs
 use Rattle.lynx_lexer.specs.declared.token.Kind.{Kind}
-use Rattle.lynx_lexer.specs.declared.token.Kind.TheVariants as kinds
 use Rattle.lynx_syntax.specs.Trees.{OpTree, VarTree, EntryTree, ModuleTree, StmtTrees}
 use Rattle.lynx_syntax.specs.Grammar as grammar
 use Rattle.lynx_syntax.specs.Grammar.{Mark, word, mark, names_marks, type_marks, types_marks, op_marks, var_marks, vars_marks, entry_marks, module_marks, stmts_marks, AreStmts, HasTokens}
-use Rattle.lynx_syntax.specs.Reading.{Parser, Outcome, and_then, ◌>>=◌, pure, advance, same_keyword, sees_keyword, sign, keyword, name, many}
+use Rattle.lynx_syntax.specs.Reading.{Parser, Outcome, and_then, ◌>>=◌, pure, same_keyword, sees_keyword, sign, keyword, name, many}
 use Rattle.lynx_syntax.specs.ReadingLists.{names, type_name, type_names}
-use Rattle.lynx_syntax.specs.ReadingStatements.{stmts, begins_stmt}
+use Rattle.lynx_syntax.specs.ReadingStatements.{stmts}
 use Rattle.lynx_syntax.specs.ReadingModules.{op, ops, var, vars, body, entry, entries, one_module, at_end, whole}
-use Rattle.lynx_syntax.proofs.Told.{Within, kinds_in, kinds_append}
+use Rattle.lynx_syntax.proofs.Told.{kinds_in, kinds_append}
 use Rattle.lynx_syntax.proofs.ToldLists.{Anything}
 use Rattle.lynx_syntax.proofs.Guard.{guard, guard_then, guard_append, Finds, find_next, find_token, find_keyword, find_sign, find_name, same_keyword_refl}
-use Rattle.lynx_syntax.proofs.FindExpressions.{Begins, item_quiet, find_many}
+use Rattle.lynx_syntax.proofs.FindExpressions.{Begins, find_many}
 use Rattle.lynx_syntax.proofs.FindLists.{Free, find_names, find_type, find_types}
 use Rattle.lynx_syntax.proofs.FindStatements.{Calm, find_stmts, end_calm}
 

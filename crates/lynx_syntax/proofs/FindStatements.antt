@@ -1,8 +1,7 @@
 -- What reading the tokens of a statement gives.
-use Rattle.std.proofs.Common.{◌≡◌, ℕ, zero, suc, ◌+◌, ◌<◌, ◌≤◌, Bool, true, false, cond, List, [], ◌∷◌, ◌++◌, length, drop, Option, Some, None, Ok, Err, refl, sym, ap, subst, ◌∙◌, append_assoc, arith}
-use Rattle.std.specs.Prelude.{⊤, if◌then◌else◌}
+use Rattle.std.proofs.Common.{◌≡◌, ℕ, zero, suc, ◌+◌, ◌≤◌, Bool, true, false, List, [], ◌∷◌, ◌++◌, length, Option, Some, None, Ok, Err, refl, sym, ap, subst, ◌∙◌, append_assoc, arith}
+use Rattle.std.specs.Prelude.{if◌then◌else◌}
 use Rattle.std.specs.List.{flat_map, AllByRecursion}
-use Rattle.std.proofs.lemmas.List.{append-nil}
 use Rattle.lynx_lexer.specs.declared.keyword.Keyword.{Keyword}
 use Rattle.lynx_lexer.specs.declared.keyword.Keyword.TheVariants as keywords
 use Rattle.lynx_lexer.specs.declared.sign.Sign.TheVariants as signs
@@ -13,11 +12,11 @@ use Rattle.lynx_syntax.specs.Trees as trees
 use Rattle.lynx_syntax.specs.Trees.{ExprTree, ExprTrees, StmtTree, StmtTrees, HandlerTrees}
 use Rattle.lynx_syntax.specs.Grammar as grammar
 use Rattle.lynx_syntax.specs.Grammar.{Mark, word, mark, names_marks, exprs_marks, expr_marks, stmt_marks, stmts_marks, handlers_marks, index_marks, IsExpr, IsStmt, AreStmts, AreHandlers, AreExprs}
-use Rattle.lynx_syntax.specs.Reading.{Parser, Outcome, and_then, ◌>>=◌, pure, advance, same_keyword, same_sign, sees_keyword, sees_sign, sign, keyword, name, many}
+use Rattle.lynx_syntax.specs.Reading.{Parser, Outcome, and_then, ◌>>=◌, pure, advance, same_keyword, same_sign, sees_keyword, sign, keyword, name}
 use Rattle.lynx_syntax.specs.ReadingExpressions.{exprs_of, inside, expr, index}
 use Rattle.lynx_syntax.specs.ReadingLists.{names, values}
 use Rattle.lynx_syntax.specs.ReadingStatements.{stmts_of, handlers_of, assign_of, choice_of, assign, pair, new, connect, reply, otherwise, choice, repetition, accept, handler, handlers, attempt, within, begins_stmt, ended, stmts_by, stmt, stmts}
-use Rattle.lynx_syntax.proofs.Told.{Within, kinds_in, kinds_append}
+use Rattle.lynx_syntax.proofs.Told.{kinds_in, kinds_append}
 use Rattle.lynx_syntax.proofs.ToldExpressions.{IsIndex, index_in}
 use Rattle.lynx_syntax.proofs.ToldLists.{Anything, AreValues, values_marks}
 use Rattle.lynx_syntax.proofs.ToldStatements.{pair_marks, IsOther, other_in, IsHandler, handler_marks, ended_marks}

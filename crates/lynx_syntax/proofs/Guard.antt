@@ -1,7 +1,6 @@
 -- What reading the tokens of a tree gives: the tree, unless one of them opens too much.
-use Rattle.std.proofs.Common.{◌≡◌, ℕ, zero, suc, ◌+◌, ◌<◌, ◌≤◌, nat_le, Bool, true, false, cond, List, [], ◌∷◌, ◌++◌, length, drop, map, Ok, Err, refl, sym, ap, subst, ◌∙◌, append_assoc, arith, rules}
+use Rattle.std.proofs.Common.{◌≡◌, ℕ, ◌<◌, ◌≤◌, nat_le, Bool, true, false, cond, List, [], ◌∷◌, ◌++◌, length, Ok, Err, refl, sym, ap, ◌∙◌, arith}
 use Rattle.std.proofs.lemmas.Bool.Decides.{nat_tests}
-use Rattle.std.proofs.lemmas.List.{append-nil}
 use denote.Enum.Bare.{true_same}
 use Rattle.lynx_lexer.specs.contracts.keyword.Keyword.{the_type as keyword_type}
 use Rattle.lynx_lexer.specs.contracts.sign.Sign.{the_type as sign_type}
@@ -12,7 +11,7 @@ use Rattle.lynx_lexer.specs.declared.token.Kind.TheVariants as kinds
 use Rattle.lynx_syntax.specs.declared.refusal.Refusal.TheVariants as refusals
 use Rattle.lynx_syntax.specs.Grammar.{Mark, word, mark}
 use Rattle.lynx_syntax.specs.Grammar as grammar
-use Rattle.lynx_syntax.specs.Reading.{Parser, Outcome, and_then, ◌>>=◌, pure, same_keyword, same_sign, sees_keyword, sees_sign, keyword, sign, name, many, many_from}
+use Rattle.lynx_syntax.specs.Reading.{Parser, Outcome, and_then, ◌>>=◌, same_keyword, same_sign, keyword, sign, name}
 use Rattle.lynx_syntax.proofs.Told.{Within, kinds_in, kinds_append}
 
 -- the outcome, unless one of these tokens opens too much

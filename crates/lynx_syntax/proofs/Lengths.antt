@@ -1,5 +1,5 @@
 -- A source has no more tokens than bytes.
-use Rattle.std.proofs.Common.{◌≡◌, ℕ, ◌+◌, ◌<◌, ◌≤◌, List, [], ◌∷◌, ◌++◌, length, Option, Some, None, sym, ap, ◌∙◌, arith, length-append}
+use Rattle.std.proofs.Common.{◌≡◌, ℕ, ◌+◌, ◌<◌, ◌≤◌, List, [], ◌∷◌, length, Option, Some, None, ap, ◌∙◌, arith, length-append}
 use Rattle.lynx_lexer.specs.Pieces.{IsToken, IsPiece}
 use Rattle.lynx_lexer.specs.Source.{Piece, Spell, AreLongest, text_of, tokens_of, token_at}
 use Rattle.lynx_lexer.specs.declared.class.Class.TheVariants.{Letter, Digit, Underscore, Other}

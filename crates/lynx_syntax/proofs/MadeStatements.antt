@@ -1,14 +1,13 @@
 -- The trees of statements that are made of their parts.
-use Rattle.std.proofs.Common.{◌≡◌, ℕ, List, [], ◌∷◌, map, option_map, Option, Some, None, refl, sym, ap, ◌∙◌, rules}
+use Rattle.std.proofs.Common.{◌≡◌, ℕ, List, [], ◌∷◌, map, option_map, Option, Some, None, refl, ap, ◌∙◌}
 use Rattle.std.specs.Global.{Vec}
 use Rattle.lynx_syntax.specs.declared.expression.Expr as expr
 use Rattle.lynx_syntax.specs.declared.statement.Stmt as stmt
-use Rattle.lynx_syntax.specs.declared.statement.Stmt.TheViews.{the_lemmas}
 use Rattle.lynx_syntax.specs.declared.statement.Handler.{Handler}
 use Rattle.lynx_syntax.specs.Trees as trees
 use Rattle.lynx_syntax.specs.Trees.{StmtTree, StmtTrees, HandlerTrees, ExprTrees, expr_tree, stmt_tree, stmt_list, handler_list}
 use Rattle.lynx_syntax.specs.ReadingExpressions.{exprs_of}
-use Rattle.lynx_syntax.specs.ReadingStatements.{stmts_of, handlers_of, body_of, handler_of, assign_of, choice_of}
+use Rattle.lynx_syntax.specs.ReadingStatements.{handlers_of, body_of, handler_of, assign_of, choice_of}
 use Rattle.lynx_syntax.proofs.Made.{exprs_listed}
 use Rattle.lynx_syntax.proofs.Statements.{while_tree, accept_tree, try_tree, if_tree, if_else_tree}
 

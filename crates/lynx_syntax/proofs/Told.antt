@@ -1,9 +1,8 @@
 -- What the outcome of reading tells of the tokens, and how the words of the grammar keep that.
-use Rattle.std.proofs.Common.{◌≡◌, ℕ, suc, ◌+◌, ◌<◌, ◌≤◌, Bool, true, false, cond, List, [], ◌∷◌, ◌++◌, length, map, Ok, Err, refl, sym, ap, subst, ◌∙◌, append_assoc, arith, rules}
+use Rattle.std.proofs.Common.{◌≡◌, ℕ, suc, ◌<◌, ◌≤◌, List, [], ◌∷◌, ◌++◌, length, map, Ok, Err, refl, sym, ap, subst, ◌∙◌, append_assoc}
 use Rattle.std.specs.List.{AllByRecursion}
 use Rattle.std.proofs.lemmas.List.{append-nil, map-append}
 use Rattle.lynx_lexer.specs.declared.token.Kind.{Kind}
-use Rattle.lynx_syntax.specs.declared.refusal.Refusal.{Refusal}
 use Rattle.lynx_syntax.specs.declared.refusal.Refusal.TheVariants as refusals
 use Rattle.lynx_syntax.specs.Grammar.{Mark}
 use Rattle.lynx_syntax.specs.Reading.{Parser, Outcome, and_then, ◌>>=◌, pure}

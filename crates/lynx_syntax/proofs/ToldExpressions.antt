@@ -1,5 +1,5 @@
 -- What reading expressions tells.
-use Rattle.std.proofs.Common.{◌≡◌, ℕ, zero, suc, ◌+◌, ◌<◌, ◌≤◌, Bool, true, false, cond, List, [], ◌∷◌, ◌++◌, length, drop, Option, Some, None, Ok, Err, refl, sym, ap, subst, ◌∙◌, append_assoc, arith, rules}
+use Rattle.std.proofs.Common.{◌≡◌, ℕ, zero, suc, ◌+◌, ◌<◌, ◌≤◌, true, List, [], ◌∷◌, ◌++◌, length, drop, Option, Some, None, Ok, refl, sym, ap, subst, ◌∙◌, append_assoc, arith}
 use Rattle.std.specs.Prelude.{⊤, is_some, if◌then◌else◌}
 use Rattle.std.proofs.lemmas.Bool.{false≢true}
 use Rattle.std.proofs.lemmas.List.{append-nil}
@@ -11,15 +11,14 @@ use Rattle.lynx_lexer.specs.declared.token.Kind.{Kind}
 use Rattle.lynx_lexer.specs.declared.token.Kind.TheVariants as kinds
 use Rattle.lynx_syntax.specs.declared.expression.TermSign.{TermSign}
 use Rattle.lynx_syntax.specs.declared.expression.TermSign.TheVariants as term_signs
-use Rattle.lynx_syntax.specs.declared.refusal.Refusal.TheVariants as refusals
 use Rattle.lynx_syntax.specs.Trees as trees
 use Rattle.lynx_syntax.specs.Trees.{ExprTree, ExprTrees}
 use Rattle.lynx_syntax.specs.Grammar as grammar
 use Rattle.lynx_syntax.specs.Grammar.{Mark, word, mark, expr_marks, index_marks, chain_marks, behind_marks, sum_marks, term_marks, rank, IsExpr, AreExprs, AreSums, AreTerms, HasTwo, HasSums, HasTerms, IsSumSign, IsRelationSign}
-use Rattle.lynx_syntax.specs.Reading.{Parser, Outcome, and_then, ◌>>=◌, pure, sign, advance, sees_keyword, sees_sign, number, text, name, many}
-use Rattle.lynx_syntax.specs.ReadingExpressions.{exprs_of, sums_of, terms_of, sum_of, term_of, named_of, relation_sign, sum_sign, term_sign, behind_sign, index, named, prim, unary, factors, term, summands, sum, rel_by, rel, conjuncts, conj, disjuncts, expr, inside}
-use Rattle.lynx_syntax.proofs.Told.{Told, Tells, Goes, Spells, Within, bind_told, then_goes, next, done, refused, opens, token, behind, respelled}
-use Rattle.lynx_syntax.proofs.ToldTokens.{keyword_seen, sign_seen, either, at_token, then_keyword, then_sign, then_name, then_many}
+use Rattle.lynx_syntax.specs.Reading.{Parser, and_then, ◌>>=◌, pure, sign, advance, sees_keyword, sees_sign, number, text, many}
+use Rattle.lynx_syntax.specs.ReadingExpressions.{exprs_of, sums_of, terms_of, sum_of, term_of, named_of, relation_sign, sum_sign, term_sign, behind_sign, index, named, prim, unary, term, sum, rel_by, rel, conj, expr, inside}
+use Rattle.lynx_syntax.proofs.Told.{Told, Tells, Goes, Spells, bind_told, next, done, refused, opens, token, respelled}
+use Rattle.lynx_syntax.proofs.ToldTokens.{keyword_seen, sign_seen, either, at_token, then_sign, then_name, then_many}
 
 -- an expression that binds so tightly
 abbrev pub Ranked : ℕ → ExprTree → Type 0

@@ -1,5 +1,5 @@
 -- What reading lists in brackets tells.
-use Rattle.std.proofs.Common.{◌≡◌, ℕ, ℤ, pos, zero, suc, ◌+◌, ◌<◌, ◌≤◌, Bool, true, false, cond, List, [], ◌∷◌, ◌++◌, length, drop, map, Ok, Err, refl, sym, ap, subst, ◌∙◌, append_assoc, arith, rules}
+use Rattle.std.proofs.Common.{◌≡◌, ℕ, ℤ, pos, zero, suc, ◌+◌, ◌<◌, ◌≤◌, Bool, true, false, cond, List, [], ◌∷◌, ◌++◌, length, drop, map, Ok, Err, refl, sym, ap, subst, ◌∙◌, append_assoc, arith}
 use Rattle.std.specs.Prelude.{⊤, if◌then◌else◌}
 use Rattle.std.specs.List.{flat_map}
 use Rattle.std.proofs.lemmas.Grind.{flat_map-append}
@@ -18,9 +18,9 @@ use Rattle.lynx_syntax.specs.Grammar.{Mark, word, mark, commas, bracketed, names
 use Rattle.lynx_syntax.specs.Reading.{Parser, Outcome, and_then, ◌>>=◌, pure, advance, sees_sign, sign, name, number, opened, bracket, many}
 use Rattle.lynx_syntax.specs.ReadingExpressions.{exprs_of, inside, expr}
 use Rattle.lynx_syntax.specs.ReadingLists.{listed, names, values, type_name, type_names}
-use Rattle.lynx_syntax.proofs.Told.{Told, Tells, Goes, Spells, bind_told, next, done, refused, opens, token, behind, respelled}
-use Rattle.lynx_syntax.proofs.ToldTokens.{sign_seen, either, at_token, then_sign, then_name, then_many, joined}
-use Rattle.lynx_syntax.proofs.ToldExpressions.{E, Ranked, Chain, chain_more, told_value}
+use Rattle.lynx_syntax.proofs.Told.{Told, Tells, Goes, Spells, next, done, refused, opens, token, behind, respelled}
+use Rattle.lynx_syntax.proofs.ToldTokens.{sign_seen, at_token, then_sign, then_name, then_many, joined}
+use Rattle.lynx_syntax.proofs.ToldExpressions.{Ranked, Chain, chain_more, told_value}
 
 -- `(`, where so many more brackets may be open
 then_bracket : {A : Type 0} (n room d : ℕ) (L : A → List Mark → Type 0) (acc : List Mark) (f : ℕ → Parser A) → room + d ≡ n → Goes L (acc ++ mark (suc d) signs.Open ∷ [])

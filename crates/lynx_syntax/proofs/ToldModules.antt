@@ -1,6 +1,5 @@
 -- What reading a module tells.
-use Rattle.std.proofs.Common.{◌≡◌, ℕ, zero, suc, ◌+◌, ◌<◌, ◌≤◌, Bool, true, false, cond, List, [], ◌∷◌, ◌++◌, length, drop, map, Ok, Err, refl, sym, ap, subst, ◌∙◌, append_assoc, arith, rules}
-use Rattle.std.specs.Prelude.{⊤}
+use Rattle.std.proofs.Common.{◌≡◌, ℕ, ◌≤◌, true, List, [], ◌∷◌, ◌++◌, drop, refl, sym, ap, subst, ◌∙◌, append_assoc, arith}
 use Rattle.std.specs.List.{flat_map, AllByRecursion}
 use Rattle.std.proofs.lemmas.Grind.{flat_map-append}
 use Rattle.std.proofs.lemmas.List.{append-nil}
@@ -8,20 +7,17 @@ use Rattle.lynx_lexer.specs.declared.keyword.Keyword.{Keyword}
 use Rattle.lynx_lexer.specs.declared.keyword.Keyword.TheVariants as keywords
 use Rattle.lynx_lexer.specs.declared.sign.Sign.TheVariants as signs
 use Rattle.lynx_lexer.specs.declared.token.Kind.{Kind}
-use Rattle.lynx_lexer.specs.declared.token.Kind.TheVariants as kinds
-use Rattle.lynx_syntax.specs.declared.declaration.TypeName.{TypeName}
-use Rattle.lynx_syntax.specs.Trees as trees
 use Rattle.lynx_syntax.specs.Trees.{OpTree, VarTree, EntryTree, ModuleTree, StmtTrees}
 use Rattle.lynx_syntax.specs.Grammar as grammar
 use Rattle.lynx_syntax.specs.Grammar.{Mark, word, mark, names_marks, type_marks, types_marks, op_marks, var_marks, vars_marks, entry_marks, module_marks, stmts_marks, AreStmts, HasTokens}
-use Rattle.lynx_syntax.specs.Reading.{Parser, Outcome, and_then, ◌>>=◌, pure, advance, sees_keyword, sign, keyword, name, many}
+use Rattle.lynx_syntax.specs.Reading.{Parser, ◌>>=◌, pure, advance, sees_keyword, sign, keyword, name, many}
 use Rattle.lynx_syntax.specs.ReadingLists.{names, type_name, type_names}
 use Rattle.lynx_syntax.specs.ReadingStatements.{stmts}
-use Rattle.lynx_syntax.specs.ReadingModules.{op, ops, var, vars, body, entry, entries, one_module}
-use Rattle.lynx_syntax.proofs.Told.{Told, Tells, Goes, Spells, next, done, token, behind}
+use Rattle.lynx_syntax.specs.ReadingModules.{op, var, vars, body, entry, one_module}
+use Rattle.lynx_syntax.proofs.Told.{Told, Tells, Spells, next, done}
 use Rattle.lynx_syntax.proofs.ToldTokens.{keyword_seen, at_token, then_keyword, then_sign, then_name, then_many}
 use Rattle.lynx_syntax.proofs.ToldLists.{Anything, told_names, told_type, told_types}
-use Rattle.lynx_syntax.proofs.ToldStatements.{B, told_stmts}
+use Rattle.lynx_syntax.proofs.ToldStatements.{told_stmts}
 
 -- items, each with its tokens
 flat_more : {A : Type 0} (w : A → List Mark) (found : List A) (x : A) → flat_map w (found ++ x ∷ []) ≡ flat_map w found ++ w x

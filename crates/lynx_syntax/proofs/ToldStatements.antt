@@ -1,6 +1,6 @@
 -- What reading statements tells.
-use Rattle.std.proofs.Common.{◌≡◌, ℕ, zero, suc, ◌+◌, ◌<◌, ◌≤◌, Bool, true, false, cond, List, [], ◌∷◌, ◌++◌, length, drop, Option, Some, None, Ok, Err, refl, sym, ap, subst, ◌∙◌, append_assoc, arith, rules}
-use Rattle.std.specs.Prelude.{⊤, if◌then◌else◌}
+use Rattle.std.proofs.Common.{◌≡◌, ℕ, zero, suc, ◌+◌, ◌≤◌, true, List, [], ◌∷◌, ◌++◌, length, drop, Option, Some, None, Err, refl, sym, ap, subst, ◌∙◌, append_assoc, arith}
+use Rattle.std.specs.Prelude.{⊤}
 use Rattle.std.proofs.lemmas.Bool.{false≢true}
 use Rattle.std.proofs.lemmas.List.{append-nil}
 use Rattle.lynx_lexer.specs.declared.keyword.Keyword.{Keyword}
@@ -13,13 +13,13 @@ use Rattle.lynx_syntax.specs.Trees as trees
 use Rattle.lynx_syntax.specs.Trees.{ExprTree, StmtTree, StmtTrees, HandlerTrees}
 use Rattle.lynx_syntax.specs.Grammar as grammar
 use Rattle.lynx_syntax.specs.Grammar.{Mark, word, mark, names_marks, exprs_marks, expr_marks, stmt_marks, stmts_marks, handlers_marks, IsExpr, IsStmt, AreStmts, AreHandlers, index_marks}
-use Rattle.lynx_syntax.specs.Reading.{Parser, Outcome, and_then, ◌>>=◌, pure, advance, sees_keyword, sign, keyword, name, many}
+use Rattle.lynx_syntax.specs.Reading.{Parser, and_then, ◌>>=◌, pure, advance, sees_keyword, sign, keyword, name}
 use Rattle.lynx_syntax.specs.ReadingExpressions.{exprs_of, inside, expr, index}
 use Rattle.lynx_syntax.specs.ReadingLists.{names, values}
-use Rattle.lynx_syntax.specs.ReadingStatements.{stmts_of, handlers_of, assign_of, choice_of, assign, pair, new, connect, reply, otherwise, choice, repetition, accept, handler, handlers, attempt, within, begins_stmt, ended, stmts_by, stmt, stmts}
-use Rattle.lynx_syntax.proofs.Told.{Told, Tells, Goes, Spells, bind_told, then_goes, next, done, refused, opens, token, behind, respelled}
+use Rattle.lynx_syntax.specs.ReadingStatements.{stmts_of, handlers_of, assign_of, choice_of, assign, pair, new, connect, reply, otherwise, choice, repetition, accept, handler, attempt, within, begins_stmt, ended, stmts_by, stmt, stmts}
+use Rattle.lynx_syntax.proofs.Told.{Told, Tells, Goes, Spells, bind_told, next, done, refused, opens, token}
 use Rattle.lynx_syntax.proofs.ToldTokens.{keyword_seen, either, at_token, then_keyword, then_sign, then_name, then_many}
-use Rattle.lynx_syntax.proofs.ToldExpressions.{E, Ranked, IsIndex, index_in, told_index, told_inside, told_value}
+use Rattle.lynx_syntax.proofs.ToldExpressions.{Ranked, IsIndex, index_in, told_index, told_inside, told_value}
 use Rattle.lynx_syntax.proofs.ToldLists.{Anything, AreValues, values_marks, told_names, told_values}
 
 -- a statement whose own tokens stand at depth d, and statements inside d

@@ -1,5 +1,5 @@
 -- What reading single tokens and lists tells.
-use Rattle.std.proofs.Common.{◌≡◌, ℕ, zero, suc, ◌≤◌, Bool, true, false, cond, List, [], ◌∷◌, ◌++◌, length, drop, Ok, Err, refl, sym, ap, subst, ◌∙◌, rules}
+use Rattle.std.proofs.Common.{◌≡◌, ℕ, zero, suc, ◌≤◌, Bool, true, false, cond, List, [], ◌∷◌, ◌++◌, length, drop, Ok, Err, refl, sym, ap, subst, rules}
 use denote.Enum.Bare.{same_true}
 use Rattle.lynx_lexer.specs.contracts.keyword.Keyword.{the_type as keyword_type}
 use Rattle.lynx_lexer.specs.contracts.sign.Sign.{the_type as sign_type}
@@ -10,8 +10,8 @@ use Rattle.lynx_lexer.specs.declared.token.Kind.TheVariants as kinds
 use Rattle.lynx_syntax.specs.declared.refusal.Refusal.TheVariants as refusals
 use Rattle.lynx_syntax.specs.Grammar.{Mark, word, mark}
 use Rattle.lynx_syntax.specs.Grammar as grammar
-use Rattle.lynx_syntax.specs.Reading.{Parser, Outcome, and_then, ◌>>=◌, ◌>>◌, same_keyword, same_sign, sees_keyword, sees_sign, keyword, sign, name, many, many_from}
-use Rattle.lynx_syntax.proofs.Told.{Told, Tells, Goes, Spells, Within, bind_told, refused, token, behind}
+use Rattle.lynx_syntax.specs.Reading.{Parser, Outcome, and_then, ◌>>=◌, same_keyword, same_sign, sees_keyword, sees_sign, keyword, sign, name, many, many_from}
+use Rattle.lynx_syntax.proofs.Told.{Told, Tells, Goes, Spells, bind_told, refused, token, behind}
 
 pub keyword_same : (a b : Keyword) → same_keyword a b ≡ true → a ≡ b
 unfolding same_keyword

@@ -3,7 +3,7 @@ use Rattle.std.proofs.Common.{◌≡◌, ℕ, zero, suc, ◌+◌, ◌-◌, ◌<�
 use Rattle.std.proofs.lemmas.List.{map-append}
 use Rattle.lynx_lexer.specs.declared.token.Kind.{Kind}
 use Rattle.lynx_syntax.specs.declared.refusal.Refusal.{Refusal}
-use Rattle.lynx_syntax.specs.Reading.{Parser, Outcome, ◌>>=◌, and_then, many, many_from}
+use Rattle.lynx_syntax.specs.Reading.{Parser, Outcome, many, many_from}
 
 pub turn_first : {A : Type 0} (goes : List Kind → Bool) (item : Parser A) (found : List A) (ts : List Kind) → many goes item found ts ≡ many_from goes item (length ts - 0) found ts
 unfolding many

@@ -1,5 +1,5 @@
 -- How the parser reads, step by step: a word of the grammar as a function of the tokens that are left. Private clauses alone cite it.
-use Rattle.std.specs.Prelude.{◌≡◌, ◌≢◌, ℕ, ℤ, zero, suc, ◌-◌, Bool, true, false, if◌then◌else◌, List, [], ◌∷◌, ◌++◌, length, drop, Result, Ok, Err}
+use Rattle.std.specs.Prelude.{◌≡◌, ◌≢◌, ℕ, ℤ, zero, suc, Bool, false, if◌then◌else◌, List, [], ◌∷◌, ◌++◌, length, drop, Result, Ok, Err}
 use denote.Enum.Bare.{sameb}
 use Rattle.lynx_lexer.specs.contracts.keyword.Keyword.{the_type as keyword_type}
 use Rattle.lynx_lexer.specs.contracts.sign.Sign.{the_type as sign_type}

@@ -1,15 +1,14 @@
 -- How lists in brackets are read, where so many more brackets may be open.
-use Rattle.std.specs.Prelude.{ℕ, zero, suc, Bool, true, false, if◌then◌else◌, List, [], ◌∷◌, ◌++◌, Ok, Err}
+use Rattle.std.specs.Prelude.{ℕ, if◌then◌else◌, List, [], ◌∷◌}
 use Rattle.lynx_lexer.specs.declared.keyword.Keyword.TheVariants as keywords
 use Rattle.lynx_lexer.specs.declared.sign.Sign.TheVariants as signs
-use Rattle.lynx_lexer.specs.declared.token.Kind.{Kind}
 use Rattle.lynx_syntax.specs.declared.declaration.TypeName.{TypeName}
 use Rattle.lynx_syntax.specs.declared.declaration.TypeName.TheVariants as types
 use Rattle.lynx_syntax.specs.declared.reader.Ahead.{Ahead}
 use Rattle.lynx_syntax.specs.declared.reader.Ahead.TheVariants as next
-use Rattle.lynx_syntax.specs.Trees.{ExprTree, ExprTrees}
+use Rattle.lynx_syntax.specs.Trees.{ExprTree}
 use Rattle.lynx_syntax.specs.Reading.{Parser, ◌>>=◌, ◌>>◌, ◌<$>◌, pure, refuse, advance, asks, peek, sees_sign, sign, name, number, bracket, many}
-use Rattle.lynx_syntax.specs.ReadingExpressions.{inside, expr, exprs_of}
+use Rattle.lynx_syntax.specs.ReadingExpressions.{inside, expr}
 
 -- what follows each comma
 abbrev pub commas : {A : Type 0} → Parser A → List A → Parser (List A)

@@ -81,6 +81,115 @@ fn printed_modules_are_read_again(rt: HostRuntime) -> Result<(), Fail> {
     Ok(())
 }
 
+/// A name server, a server that it names and a client of both.
+#[test]
+fn a_name_server_is_read_and_printed(rt: HostRuntime) -> Result<(), Fail> {
+    let alloc = rt.alloc();
+    let names = "module names;
+op register (link) : ();
+op find () : (link);
+op take (link) : ();
+param a : link; param b : link; param c : link; param d : link;
+var kept : link; var ready : bool;
+entry reg of register (l) begin kept := l; ready := true; reply (); end;
+entry get of find () var x : link; var y : link;
+begin
+  await ready; new x, y;
+  connect take on kept (x) : (); reply (y);
+end;
+begin bind a to reg; bind b to get; bind c to get; bind d to get; end.
+";
+    let printed_names = "module names ;
+op register ( link ) : ( ) ;
+op find ( ) : ( link ) ;
+op take ( link ) : ( ) ;
+param a : link ;
+param b : link ;
+param c : link ;
+param d : link ;
+var kept : link ;
+var ready : bool ;
+entry reg of register ( l ) begin kept := l ;
+ready := true ;
+reply ( ) ;
+end ;
+entry get of find ( ) var x : link ;
+var y : link ;
+begin await ready ;
+new x , y ;
+connect take on kept ( x ) : ( ) ;
+reply ( y ) ;
+end ;
+begin bind a to reg ;
+bind b to get ;
+bind c to get ;
+bind d to get ;
+end .
+";
+    let adder = "module adder;
+op register (link) : ();
+op take (link) : ();
+op add (int, int) : (int);
+param n : link;
+var mine : link; var theirs : link;
+entry sum of add (x, y) begin reply (x + y); end;
+entry more of take (l) begin bind l to sum; reply (); end;
+begin
+  new mine, theirs; bind mine to more;
+  connect register on n (theirs) : ();
+end.
+";
+    let printed_adder = "module adder ;
+op register ( link ) : ( ) ;
+op take ( link ) : ( ) ;
+op add ( int , int ) : ( int ) ;
+param n : link ;
+var mine : link ;
+var theirs : link ;
+entry sum of add ( x , y ) begin reply ( x + y ) ;
+end ;
+entry more of take ( l ) begin bind l to sum ;
+reply ( ) ;
+end ;
+begin new mine , theirs ;
+bind mine to more ;
+connect register on n ( theirs ) : ( ) ;
+end .
+";
+    let client = "module client;
+op find () : (link);
+op add (int, int) : (int);
+param n : link;
+var l : link; var r : int;
+begin
+  connect find on n () : (l);
+  connect add on l (20, 22) : (r);
+  write r; destroy l;
+end.
+";
+    let printed_client = "module client ;
+op find ( ) : ( link ) ;
+op add ( int , int ) : ( int ) ;
+param n : link ;
+var l : link ;
+var r : int ;
+begin connect find on n ( ) : ( l ) ;
+connect add on l ( 20 , 22 ) : ( r ) ;
+write r ;
+destroy l ;
+end .
+";
+    for (source, printed) in [
+        (names, printed_names),
+        (adder, printed_adder),
+        (client, printed_client),
+    ] {
+        assert_eq!(rt; answer(alloc, source)?.as_str(), printed);
+        assert_eq!(rt; answer(alloc, printed)?.as_str(), printed);
+    }
+    Ok(())
+}
+
 /// Each word of the grammar with a token that may not follow what stands before it.
 #[test]
 fn faults_are_at_the_first_token_that_does_not_fit(rt: HostRuntime) -> Result<(), Fail> {

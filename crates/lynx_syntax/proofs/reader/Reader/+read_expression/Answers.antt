@@ -1,6 +1,5 @@
-use Rattle.std.proofs.Common.{rules, arith, ◌∙◌}
+use Rattle.std.proofs.Common.{rules, arith}
 use Rattle.std.specs.Prelude.{is_some}
-use Rattle.std.proofs.lemmas.Grind.{common_steps}
 use Rattle.lynx_lexer.specs.declared.keyword.Keyword.TheVariants as keywords
 use Rattle.lynx_syntax.specs.Trees.{expr_tree}
 use Rattle.lynx_syntax.specs.Reading.{◌>>◌, advance, sees_keyword}

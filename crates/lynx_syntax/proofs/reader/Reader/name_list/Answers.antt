@@ -1,7 +1,7 @@
 use Rattle.std.proofs.Common.{rules, arith}
 use Rattle.lynx_lexer.specs.declared.sign.Sign.TheVariants as signs
-use Rattle.lynx_syntax.specs.Reading.{◌>>◌, advance, sees_sign, name, many, many_from}
-use Rattle.lynx_syntax.proofs.Turns.{turn_more, turn_same}
+use Rattle.lynx_syntax.specs.Reading.{◌>>◌, advance, sees_sign, name}
+use Rattle.lynx_syntax.proofs.Turns.{turn_same}
 use Rattle.lynx_syntax.proofs.reader.Reader.name_list.Goals as goal
 
 pub loop-turn-preserved : goal.loop-turn-preserved

@@ -1,4 +1,4 @@
-use Rattle.std.proofs.Common.{◌≡◌, ◌-◌, map}
+use Rattle.std.proofs.Common.{◌≡◌, ◌-◌}
 use Rattle.lynx_lexer.specs.declared.sign.Sign.TheVariants as signs
 use Rattle.lynx_syntax.specs.Reading.{◌>>◌, advance, sees_sign, many, many_from}
 use Rattle.lynx_syntax.specs.ReadingLists.{type_name}

@@ -1,9 +1,9 @@
 use Rattle.std.proofs.Common.{rules, arith}
 use Rattle.lynx_lexer.specs.declared.sign.Sign.TheVariants as signs
-use Rattle.lynx_syntax.specs.Reading.{◌>>◌, advance, sees_sign, many, many_from}
+use Rattle.lynx_syntax.specs.Reading.{◌>>◌, advance, sees_sign}
 use Rattle.lynx_syntax.specs.Trees.{expr_tree}
 use Rattle.lynx_syntax.specs.ReadingExpressions.{inside, expr}
-use Rattle.lynx_syntax.proofs.Turns.{turn_more, turn_same}
+use Rattle.lynx_syntax.proofs.Turns.{turn_more}
 use Rattle.lynx_syntax.proofs.reader.Reader.value_list.Goals as goal
 
 pub loop-turn-preserved : goal.loop-turn-preserved
