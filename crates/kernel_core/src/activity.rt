@@ -13,9 +13,10 @@ ghost use Rattle.kernel_core.specs.Kept.{started_ends, Refreshes, Empties};
 ghost use Rattle.kernel_core.specs.State.{kept_process};
 ghost use Rattle.kernel_core.specs.declared.process.Kept.{Kept};
 
+use crate::owners::owned;
 use crate::process::Kept;
 use charlotte_calls::{EndId, Pid};
-use end_table::{Entry, HereView, Holder, Inward, Outward, Table};
+use end_table::{HereView, Inward, Outward, Table};
 use indexmap::IndexSet;
 
 /// The set of process `p` has this end exactly where it has a started activity on it.
@@ -89,12 +90,9 @@ fn remove(active: &mut IndexSet<EndId>, end: EndId)
 fn is_active(table: &Table, p: Pid, end: EndId) -> bool
     ensures { result ≡ is_active (owned p (entries table.now end)) }
 {
-    match table.look(end) {
-        Entry::Here(view) => match view.holder {
-            Holder::Owner(owner) if owner.0 == p.0 => has_activity(&view),
-            _ => false,
-        },
-        Entry::Nothing | Entry::Left { .. } | Entry::Destroyed(_) => false,
+    match owned(table, p, end) {
+        Some(view) => has_activity(&view),
+        None => false,
     }
 }
 
