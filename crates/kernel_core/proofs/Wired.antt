@@ -43,7 +43,7 @@ keeps_at-each : (P : EndId → Entry → Type 0) (k : ℕ) (e : EndId) (x : Entr
 keeps_at-each P k e x ts at others q f = by (nat_eq q k)
   where
     by : (b : Bool) → P f ((if b then put (ts q) e x else ts q) f)
-    by true = put-each P (ts q) e x at (λ g apart. others q g) f
+    by true = put-each P (ts q) e x at f (λ apart. others q f)
     by false = others q f
 
 -- one more link
