@@ -1,20 +1,13 @@
 -- What is known of processes of which an event changes other parts.
-use Rattle.std.proofs.Common.{◌≡◌, ℕ, ◌≤◌, ◌<◌, Bool, List, [], ◌∷◌, Option, None, Some, length, map, get_or, refl, sym, ap, subst, ◌∙◌}
-use Rattle.std.specs.Prelude.{slice_get, slice_index_or}
+use Rattle.std.proofs.Common.{◌≡◌, ℕ, ◌≤◌, ◌<◌, List, [], ◌∷◌, Option, None, Some, length, map, get_or, refl, sym, ap, subst, ◌∙◌}
+use Rattle.std.specs.Prelude.{slice_get}
 use Rattle.std.specs.Option.{option_map}
-use Rattle.std.specs.List.{list_any}
 use Rattle.std.proofs.lemmas.List.{get_or-map, length-map}
 use Rattle.std.proofs.lemmas.Option.{slice_get-map}
-use Rattle.charlotte_calls.specs.declared.names.EndId.{EndId}
-use Rattle.charlotte_calls.specs.declared.names.Pid.{Pid}
-use Rattle.end_table.specs.Owned.{owned}
-use Rattle.end_table.specs.Place.{end_eq}
-use Rattle.end_table.specs.declared.entry.Entry.{Entry}
 use Rattle.indexmap.specs.IndexSet.{spare}
 use Rattle.kernel_core.specs.Closing.{HavePlace}
 use Rattle.kernel_core.specs.Kept.{started_ends}
 use Rattle.kernel_core.specs.declared.process.Kept.{Kept}
-use Rattle.kernel_step.specs.Calls.{is_active}
 
 some_is : {X : Type 0} (x y : X) → Some x ≡ Some y → x ≡ y
 some_is x y same = cc

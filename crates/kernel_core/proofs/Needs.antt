@@ -9,7 +9,7 @@ use Rattle.charlotte_calls.specs.declared.work.Work.{Work}
 use Rattle.end_table.proofs.EndEq.{end_eq-same, end_eq-sym, put-at, put-other}
 use Rattle.end_table.specs.Owned.{is_owner, owned}
 use Rattle.end_table.specs.Place.{end_eq, put}
-use Rattle.end_table.specs.Table.{TableView, entries, HasPlace, IsHere, IsHereAnd, IfHere, IsIdle, IsOfEnd}
+use Rattle.end_table.specs.Table.{TableView, entries, IsHere, IsHereAnd, IfHere, IsIdle, IsOfEnd}
 use Rattle.end_table.specs.declared.entry.Entry.{Entry}
 use Rattle.end_table.specs.declared.entry.Entry.TheVariants as entry
 use Rattle.end_table.specs.declared.entry.HereView.{HereView}

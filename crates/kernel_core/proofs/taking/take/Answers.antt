@@ -1,19 +1,16 @@
 -- The row goes well, the event closes, and the set of the end's owner is made anew.
-use Rattle.std.proofs.Common.{◌≡◌, ◌<◌, ℕ, IfSome, length, map, refl, sym, ap, subst, ◌∙◌, false}
+use Rattle.std.proofs.Common.{◌<◌, IfSome, length, refl, sym, ap, subst, ◌∙◌}
 use Rattle.charlotte_calls.specs.Packets.{what_picture}
-use Rattle.charlotte_calls.specs.declared.names.EndId.{EndId}
-use Rattle.charlotte_calls.specs.declared.names.Pid.{Pid}
 use Rattle.end_table.specs.Place.{end_eq}
 use Rattle.end_table.specs.Table.{entries}
 use Rattle.kernel_core.proofs.ActiveSets.{tells_same}
 use Rattle.kernel_core.proofs.KeptMoved.{keys-moved, HavePlace-moved}
 use Rattle.kernel_core.proofs.Needs.{IsReady-sound}
-use Rattle.kernel_core.proofs.Takes.{row-goes, well-sound, well-reports, well-answers, row-sound, row-calm, owner-below, with_parts-kept, closes-table}
-use Rattle.kernel_core.specs.Kept.{IsKept}
-use Rattle.kernel_core.specs.Owners.{owner_of, IsCalmBut}
+use Rattle.kernel_core.proofs.Takes.{row-goes, well-reports, well-answers, row-sound, row-calm, owner-below, with_parts-kept, closes-table}
+use Rattle.kernel_core.specs.Owners.{owner_of}
 use Rattle.kernel_core.specs.Sound.{IsSound, GoesWell, addressee}
 use Rattle.kernel_core.specs.State.{ended, with_parts}
-use Rattle.kernel_step.specs.Kernel.{Kernel, closes}
+use Rattle.kernel_step.specs.Kernel.{closes}
 use Rattle.kernel_step.specs.Progress.{progress}
 use Rattle.kernel_step.specs.Rows.{row}
 use Rattle.kernel_core.proofs.taking.take.Goals as goal
