@@ -1,12 +1,11 @@
 -- The sets of the ends on which processes have started an activity.
-use Rattle.std.proofs.Common.{◌≡◌, ◌≢◌, ◌⊎◌, inl, inr, ℕ, ◌+◌, ◌<◌, Bool, true, false, true≢false, cond, nat_eq, ◌&&◌, List, [], length, slice_set, slice_get, Some, map, ap, sym, subst, ◌∙◌, refl, get_or, if◌then◌else◌, arith}
+use Rattle.std.proofs.Common.{◌≡◌, ◌≢◌, ◌⊎◌, inl, inr, ℕ, ◌<◌, Bool, true, false, true≢false, cond, nat_eq, ◌&&◌, List, [], length, slice_set, slice_get, Some, map, ap, sym, subst, ◌∙◌, refl, get_or, if◌then◌else◌}
 use Rattle.std.specs.List.{list_any}
-use Rattle.std.specs.Option.{option_map}
 use Rattle.std.proofs.lemmas.Bool.Decides.{eqb_tells}
 use Rattle.std.proofs.lemmas.Grind.{get_or-set_at}
-use Rattle.std.proofs.lemmas.List.{get_or-set_other, length-map}
+use Rattle.std.proofs.lemmas.List.{get_or-set_other}
 use Rattle.std.proofs.Math.ListN.{length-set}
-use Rattle.std.proofs.lemmas.Option.{slice_get-get_or, slice_get-map, slice_get_within, get_or_from_slice_get}
+use Rattle.std.proofs.lemmas.Option.{slice_get-get_or, slice_get_within, get_or_from_slice_get}
 use Rattle.charlotte_calls.specs.declared.names.EndId.{EndId}
 use Rattle.charlotte_calls.specs.declared.names.Pid.{Pid}
 use Rattle.end_table.proofs.EndEq.{end_eq-same}
@@ -14,6 +13,7 @@ use Rattle.end_table.specs.Owned.{owned}
 use Rattle.end_table.specs.Place.{end_eq}
 use Rattle.end_table.specs.declared.entry.Entry.{Entry}
 use Rattle.kernel_step.specs.Calls.{is_active}
+use Rattle.kernel_core.proofs.KeptMoved.{get-moved}
 use Rattle.kernel_core.specs.Kept.{started_ends, Tells, Refreshes, Empties}
 use Rattle.kernel_core.specs.declared.process.Kept.{Kept}
 
@@ -75,30 +75,11 @@ set_empties xs i d y p at within none q x is =
 
 -- Whether the set of each process tells its started activities, as an event changes what is started
 
-some : {A : Type 0} {a b : A} → Some a ≡ Some b → a ≡ b
-some e = cc
-
-same_sets : (xs ys : List Kept) → map started_ends ys ≡ map started_ends xs → (q : ℕ) (y : Kept) → slice_get ys q ≡ Some y
-    → (x : Kept) × (slice_get xs q ≡ Some x) × (started_ends y ≡ started_ends x)
-same_sets xs ys same_ends q y is = (x, slice_get-get_or xs q y below, sym kept)
-  where
-    both : slice_get (map started_ends xs) q ≡ Some (started_ends y)
-    both = ap (λ l. slice_get l q) (sym same_ends) ∙ slice_get-map started_ends ys q ∙ ap (option_map started_ends) is
-
-    below : q < length xs
-    below = subst (λ n. q < n) (length-map xs started_ends) (slice_get_within (map started_ends xs) q (started_ends y) both)
-
-    x : Kept
-    x = get_or xs q y
-
-    kept : started_ends x ≡ started_ends y
-    kept = some (sym (sym both ∙ slice_get-map started_ends xs q ∙ ap (option_map started_ends) (slice_get-get_or xs q y below)))
-
--- activity is the same everywhere
+-- sets with the same ends tell the same, where no activity changed
 pub tells_same : (t u : EndId → Entry) (xs ys : List Kept) → Tells t xs → map started_ends ys ≡ map started_ends xs
     → ((p : Pid) (e : EndId) → is_active (owned p (u e)) ≡ is_active (owned p (t e))) → Tells u ys
 tells_same t u xs ys told same_ends unchanged p y is e =
-    let found = same_sets xs ys same_ends p.0 y is in
+    let found = get-moved started_ends xs ys same_ends p.0 y is in
     ap (list_any (end_eq e)) found.2 ∙ told p found.0 found.1 e ∙ sym (unchanged p e)
 
 -- a choice by two tests, and by one
@@ -128,7 +109,7 @@ pub tells_refreshed : (t u : EndId → Entry) (xs ys zs : List Kept) (p : Pid) (
     → Refreshes p end (is_active (owned p (u end))) ys zs → Tells u zs
 tells_refreshed t u xs ys zs p end told same_ends elsewhere others refreshed q z is e =
     let found = refreshed q z is in
-    let before = same_sets xs ys same_ends q.0 found.0 found.1 in
+    let before = get-moved started_ends xs ys same_ends q.0 found.0 found.1 in
     let was : list_any (end_eq e) (found.0).active.keys ≡ is_active (owned q (t e)) = ap (list_any (end_eq e)) before.2 ∙ told q before.0 before.1 e in
     found.2 e
     ∙ choose (nat_eq p.0 q.0) (end_eq end e) (is_active (owned p (u end))) (list_any (end_eq e) (found.0).active.keys) (is_active (owned q (u e)))
@@ -147,7 +128,7 @@ pub tells_emptied : (t u : EndId → Entry) (xs ys zs : List Kept) (p : Pid) →
     → Empties p ys zs → Tells u zs
 tells_emptied t u xs ys zs p told same_ends others none emptied q z is e =
     let found = emptied q z is in
-    let before = same_sets xs ys same_ends q.0 found.0 found.1 in
+    let before = get-moved started_ends xs ys same_ends q.0 found.0 found.1 in
     let was : list_any (end_eq e) (found.0).active.keys ≡ is_active (owned q (t e)) = ap (list_any (end_eq e)) before.2 ∙ told q before.0 before.1 e in
     found.2 e
     ∙ choose_one (nat_eq p.0 q.0) false (list_any (end_eq e) (found.0).active.keys) (is_active (owned q (u e)))

@@ -1,5 +1,5 @@
 -- Packets that bring values: their parts, in the order of their row.
-use Rattle.std.proofs.Common.{arith, length-append, ◌≤◌, ◌≡◌, ℕ, ◌+◌, Bool, true, false, not, ◌&&◌, ◌||◌, List, [], ◌∷◌, Option, Some, None, length, map, refl, sym, ap, subst, ◌∙◌}
+use Rattle.std.proofs.Common.{arith, length-append, ◌≤◌, ◌≡◌, ℕ, ◌+◌, Bool, true, false, not, ◌&&◌, ◌||◌, List, [], ◌∷◌, Some, length, map, refl, sym, ap, subst, ◌∙◌}
 use Rattle.std.proofs.lemmas.List.{append-nil, length-map}
 use Rattle.std.specs.List.{list_any}
 use Rattle.charlotte_calls.specs.declared.calls.ServiceStep.TheVariants as step
@@ -9,7 +9,7 @@ use Rattle.charlotte_calls.specs.declared.work.Work.{Work}
 use Rattle.end_table.proofs.EndEq.{end_eq-same}
 use Rattle.end_table.specs.Entries.{learned}
 use Rattle.end_table.specs.Place.{end_eq}
-use Rattle.end_table.specs.Table.{TableView, entries, HasPlace, IsHere, IfHere}
+use Rattle.end_table.specs.Table.{TableView, entries, IsHere, IfHere}
 use Rattle.end_table.specs.declared.entry.Entry.{Entry}
 use Rattle.end_table.specs.declared.entry.Entry.TheVariants as entry
 use Rattle.end_table.specs.declared.entry.HereView.{HereView}
@@ -21,7 +21,7 @@ use Rattle.kernel_core.specs.Order.{put_behind}
 use Rattle.kernel_core.proofs.Needs.{AreAway-passing, AreAway-arriving, AreApart-arriving, HavePlaces-placed}
 use Rattle.kernel_core.proofs.Prefixed.{Adds, Stays, receives-adds, receives-stays, receives-one, resends_on_news-adds, notices_first-adds, notices_first-stays, settle_each-silent, gives_back-silent, order, order-length}
 use Rattle.kernel_core.proofs.SoundTells.{tell_arrivals-tells, tells-same}
-use Rattle.kernel_core.proofs.SoundParcels.{asks-here, awaits-here, gives_back-table}
+use Rattle.kernel_core.proofs.SoundParcels.{asks-here, gives_back-table}
 use Rattle.kernel_core.proofs.SoundValues.{settle_each-others}
 use Rattle.kernel_step.specs.Actions.{enclosed_of, is_withdrawing, resends_on_news, settle_each, tell_arrivals}
 use Rattle.kernel_step.specs.Enclosed.{AreEnclosed}

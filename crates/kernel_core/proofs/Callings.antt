@@ -16,8 +16,9 @@ use Rattle.end_table.specs.declared.entry.Entry.{Entry}
 use Rattle.end_table.specs.declared.entry.HereView.{HereView}
 use Rattle.end_table.specs.declared.entry.Inward.{Inward}
 use Rattle.end_table.specs.declared.entry.Inward.TheVariants as inward
+use Rattle.kernel_core.proofs.ActiveSets.{tells_same}
 use Rattle.kernel_core.proofs.ExitSilent.{exit-silent}
-use Rattle.kernel_core.proofs.KeptMoved.{Tells-calm, Tells-moved, keys-moved}
+use Rattle.kernel_core.proofs.KeptMoved.{keys-moved}
 use Rattle.kernel_core.proofs.Performs.{acts-answers, acts-reports}
 use Rattle.kernel_core.proofs.SoundActs.{acts-well}
 use Rattle.kernel_core.proofs.Takes.{begun-well, closes-table, owner-below, well-calm, well-sound}
@@ -38,7 +39,7 @@ pub kept-calm : (n made : ℕ) (old new : TableView) (xs ys : List Kept) → Sta
 kept-calm n made old new xs ys calm kept is =
     record {
       sound = subst (λ m. IsSound new.kernel made m (entries new)) (sym kept.length) (calm.sound made (length xs) is.sound);
-      active = Tells-calm (entries old) (entries new) ys calm.calm (Tells-moved (entries old) xs ys (keys-moved xs ys kept.active) is.active);
+      active = tells_same (entries old) (entries new) xs ys is.active (keys-moved xs ys kept.active) calm.calm;
     }
 
 -- an event that began with a service step has no reports

@@ -1,7 +1,7 @@
 -- What the end of an event changes of the table and of the processes.
-use Rattle.std.proofs.Common.{◌≡◌, ◌≢◌, ◌⊎◌, inl, inr, ℕ, ◌+◌, ◌<◌, ◌≤◌, Bool, true, false, nat_eq, eq-eqb, Some, List, [], ◌∷◌, ◌++◌, drop, length, slice_set, map, ap, sym, subst, ◌∙◌, refl, if◌then◌else◌, get_or, cond, arith}
+use Rattle.std.proofs.Common.{◌≡◌, ◌≢◌, ◌⊎◌, inl, inr, ℕ, ◌+◌, ◌<◌, ◌≤◌, Bool, true, false, nat_eq, eq-eqb, Some, List, [], ◌∷◌, ◌++◌, drop, length, slice_set, map, ap, sym, subst, ◌∙◌, refl, get_or, cond, arith}
 use Rattle.std.specs.VecDeque.{deque_len, deque_capacity}
-use Rattle.std.proofs.lemmas.List.{get_or-set_other, get_or-set_same, map-set, get_or-map, length-map, length-set, set-get_or}
+use Rattle.std.proofs.lemmas.List.{map-set, get_or-map, length-set, set-get_or}
 use Rattle.std.proofs.lemmas.List.Elements.{All-set}
 use Rattle.std.proofs.lemmas.Bool.Decides.{eqb_tells}
 use Rattle.charlotte_calls.specs.declared.calls.Answer.{Answer}

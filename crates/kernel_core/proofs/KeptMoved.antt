@@ -1,24 +1,13 @@
 -- What is known of processes of which an event changes other parts.
-use Rattle.std.proofs.Common.{◌≡◌, ℕ, ◌≤◌, ◌<◌, Bool, List, [], ◌∷◌, Option, None, Some, length, map, get_or, refl, sym, ap, subst, ◌∙◌}
-use Rattle.std.specs.Prelude.{slice_get, slice_index_or}
+use Rattle.std.proofs.Common.{◌≡◌, ℕ, ◌≤◌, ◌<◌, List, [], ◌∷◌, Option, None, Some, length, map, get_or, refl, sym, ap, subst, ◌∙◌}
+use Rattle.std.specs.Prelude.{slice_get}
 use Rattle.std.specs.Option.{option_map}
-use Rattle.std.specs.List.{list_any}
 use Rattle.std.proofs.lemmas.List.{get_or-map, length-map}
 use Rattle.std.proofs.lemmas.Option.{slice_get-map}
-use Rattle.charlotte_calls.specs.declared.names.EndId.{EndId}
-use Rattle.charlotte_calls.specs.declared.names.Pid.{Pid}
-use Rattle.end_table.specs.Owned.{owned}
-use Rattle.end_table.specs.Place.{end_eq}
-use Rattle.end_table.specs.declared.entry.Entry.{Entry}
 use Rattle.indexmap.specs.IndexSet.{spare}
 use Rattle.kernel_core.specs.Closing.{HavePlace}
-use Rattle.kernel_core.specs.Kept.{Tells}
+use Rattle.kernel_core.specs.Kept.{started_ends}
 use Rattle.kernel_core.specs.declared.process.Kept.{Kept}
-use Rattle.kernel_step.specs.Calls.{is_active}
-
--- the ends of a process's set
-abbrev pub keys_in : Kept → List EndId
-keys_in x = x.active.keys
 
 some_is : {X : Type 0} (x y : X) → Some x ≡ Some y → x ≡ y
 some_is x y same = cc
@@ -38,22 +27,12 @@ module _ {Y : Type 0} (f : Kept → Y) (xs ys : List Kept) (same : map f ys ≡ 
       by None none = absurd (none_some (f y) (sym (ap (option_map f) none) ∙ told))
       by (Some x) some = (x, some, sym (some_is (f x) (f y) (sym (ap (option_map f) some) ∙ told)))
 
--- sets with the same ends tell the same
-pub Tells-moved : (t : EndId → Entry) (xs ys : List Kept) → map keys_in ys ≡ map keys_in xs → Tells t xs → Tells t ys
-Tells-moved t xs ys same tells p y is e =
-    let there = get-moved keys_in xs ys same p.0 y is in
-    ap (list_any (end_eq e)) there.2 ∙ tells p there.0 there.1 e
-
--- and so they do where no activity changed
-pub Tells-calm : (t u : EndId → Entry) (xs : List Kept) → ((p : Pid) (e : EndId) → is_active (owned p (u e)) ≡ is_active (owned p (t e))) → Tells t xs → Tells u xs
-Tells-calm t u xs calm tells p x is e = tells p x is e ∙ sym (calm p e)
-
 map-after : {Y Z : Type 0} (g : Y → Z) (f : Kept → Y) (xs : List Kept) → map (λ x. g (f x)) xs ≡ map g (map f xs)
 map-after g f [] = refl
 map-after g f (x ∷ xs) = ap (λ l. g (f x) ∷ l) (map-after g f xs)
 
 -- the same sets have the same ends
-pub keys-moved : (xs ys : List Kept) → map (λ x. x.active) ys ≡ map (λ x. x.active) xs → map keys_in ys ≡ map keys_in xs
+pub keys-moved : (xs ys : List Kept) → map (λ x. x.active) ys ≡ map (λ x. x.active) xs → map started_ends ys ≡ map started_ends xs
 keys-moved xs ys same = map-after (λ s. s.keys) (λ x. x.active) ys ∙ ap (map (λ s. s.keys)) same ∙ sym (map-after (λ s. s.keys) (λ x. x.active) xs)
 
 -- and the same room

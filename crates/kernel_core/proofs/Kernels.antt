@@ -1,15 +1,13 @@
 -- A kernel as its parts, before and after an event.
-use Rattle.std.proofs.Common.{◌≡◌, ℕ, Bool, List, length, map, max, sym, ap, subst, ◌∙◌, refl}
-use Rattle.charlotte_calls.specs.declared.names.EndId.{EndId}
+use Rattle.std.proofs.Common.{◌≡◌, ℕ, List, map, max, ap, ◌∙◌}
 use Rattle.charlotte_calls.specs.declared.picture.Picture.{Picture}
 use Rattle.charlotte_calls.specs.declared.work.Effect.{Effect}
-use Rattle.end_table.specs.Table.{TableView, entries}
-use Rattle.end_table.specs.declared.entry.Entry.{Entry}
+use Rattle.end_table.specs.Table.{entries}
 use Rattle.kernel_core.proofs.Takes.{state-parts, state-changed}
 use Rattle.kernel_core.specs.Started.{takes_addressed}
 use Rattle.kernel_core.specs.State.{KernelView, kept_process, process_at, state_of, ended, with_parts}
 use Rattle.kernel_core.specs.declared.process.Kept.{Kept}
-use Rattle.kernel_step.specs.Kernel.{Kernel, begins, closes, next_stamp, take_step}
+use Rattle.kernel_step.specs.Kernel.{begins, closes, next_stamp, take_step}
 
 -- a kernel of which no part that counts has changed
 pub state-same : (v w : KernelView) → w.kernels ≡ v.kernels → w.version ≡ v.version → w.table.kernel ≡ v.table.kernel → entries w.table ≡ entries v.table → w.processes ≡ v.processes → w.made ≡ v.made → w.stamp ≡ v.stamp → state_of w ≡ state_of v

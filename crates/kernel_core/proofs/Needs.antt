@@ -9,7 +9,7 @@ use Rattle.charlotte_calls.specs.declared.work.Work.{Work}
 use Rattle.end_table.proofs.EndEq.{end_eq-same, end_eq-sym, put-at, put-other}
 use Rattle.end_table.specs.Owned.{is_owner, owned}
 use Rattle.end_table.specs.Place.{end_eq, put}
-use Rattle.end_table.specs.Table.{TableView, entries, HasPlace, IsHere, IsHereAnd, IfHere, IsIdle, IsOfEnd}
+use Rattle.end_table.specs.Table.{TableView, entries, IsHere, IsHereAnd, IfHere, IsIdle, IsOfEnd}
 use Rattle.end_table.specs.declared.entry.Entry.{Entry}
 use Rattle.end_table.specs.declared.entry.Entry.TheVariants as entry
 use Rattle.end_table.specs.declared.entry.HereView.{HereView}
@@ -19,6 +19,7 @@ use Rattle.end_table.specs.declared.entry.Inward.{Inward}
 use Rattle.end_table.specs.declared.entry.Inward.TheVariants as inward
 use Rattle.end_table.specs.declared.entry.Outward.{Outward}
 use Rattle.end_table.specs.declared.entry.Outward.TheVariants as outward
+use Rattle.kernel_core.proofs.SoundPut.{put-each}
 use Rattle.kernel_core.specs.Needs.{HavePlaces, ArePlaced, IsReady}
 use Rattle.kernel_core.specs.Sound.{AreHeldBy, IsSound}
 use Rattle.kernel_step.proofs.EnclosedEnds.{first_false, second_false}
@@ -222,18 +223,10 @@ module _ (p : Pid) (t : EndId → Entry) (on : EndId) (xs : List EndId) (v : Her
   pub send-apart : list_any (end_eq on) xs ≡ false
   send-apart = apart-same_link on xs fail.1.1.1.1.0
 
--- what is true of the entry that is put, and was true of another, is true of that other after the put
-pub put-keeps : (t : EndId → Entry) (e : EndId) (x : Entry) (p : EndId → Entry → Type 0) (q : EndId) → p e x → p q (t q) → p q (put t e x q)
-put-keeps t e x p q at was = by (end_eq e q) refl
-  where
-    by : (b : Bool) → end_eq e q ≡ b → p q (put t e x q)
-    by true same = subst (λ z. p z (put t e x z)) (end_eq-same e q same) (subst (p e) (sym (put-at t e x)) at)
-    by false apart = subst (p q) (sym (put-other t e x q apart)) was
-
 -- ends stay enclosed where an entry that is here and idle is put
 pub AreEnclosed-put : (t : EndId → Entry) (e : EndId) (x : Entry) (xs : List EndId) → IsHereAnd x IsIdle → AreEnclosed t xs → AreEnclosed (put t e x) xs
 AreEnclosed-put t e x [] idle are = tt
-AreEnclosed-put t e x (y ∷ ys) idle are = (put-keeps t e x (λ q z. IsHereAnd z IsIdle) y idle are.0, are.1, AreEnclosed-put t e x ys idle are.2)
+AreEnclosed-put t e x (y ∷ ys) idle are = (put-each (λ q z. IsHereAnd z IsIdle) t e x idle y (λ apart. are.0), are.1, AreEnclosed-put t e x ys idle are.2)
 
 -- ends stay idle where one that is idle is held otherwise
 held-idle : (h : Holder) (z : Entry) (d : Progress) (ys : List EndId) → IsHereAnd z IsIdle → AreEnclosed d.table ys → AreEnclosed (held h (here z) d).table ys
@@ -248,7 +241,7 @@ held-idle h (entry.Destroyed m) d ys idle are = are
 pub held-own : (h : Holder) (z : Entry) (d : Progress) → ((q : EndId) → IsOfEnd q (d.table q)) → (q : EndId) → IsOfEnd q ((held h (here z) d).table q)
 unfolding keeps
 held-own h entry.Nothing d own q = own q
-held-own h (entry.Here v) d own q = put-keeps d.table v.value.end (entry.Here (record v { holder = h })) IsOfEnd q refl (own q)
+held-own h (entry.Here v) d own q = put-each IsOfEnd d.table v.value.end (entry.Here (record v { holder = h })) refl q (λ apart. own q)
 held-own h (entry.Left to hops) d own q = own q
 held-own h (entry.Destroyed m) d own q = own q
 
@@ -340,7 +333,7 @@ module _ (k made : ℕ) (h : Holder) (t : TableView) where
       arrived = put more m.end (entry.Here (record { value = m; holder = h; outward = outward.Idle; inward = inward.Idle }))
 
       up_arrived : (q : EndId) → IsHere (entries t q) → IsHere (arrived q)
-      up_arrived q here = put-keeps more m.end (entry.Here (record { value = m; holder = h; outward = outward.Idle; inward = inward.Idle })) (λ _ z. IsHere z) q tt (up q here)
+      up_arrived q here = put-each (λ _ z. IsHere z) more m.end (entry.Here (record { value = m; holder = h; outward = outward.Idle; inward = inward.Idle })) tt q (λ apart. up q here)
 
       by : (b : Bool) → is_carried k made more m ≡ b → AreAway t (arriving k made h arrived ms) → AreAway t (arriving k made h more ms)
           → AreAway t (if b then m ∷ arriving k made h arrived ms else arriving k made h more ms)
@@ -357,7 +350,7 @@ module _ (k made : ℕ) (h : Holder) where
   -- an end that is here is none of theirs
   arriving-none : (t : EndId → Entry) (e : EndId) (ms : List MovingPicture) → IsHere (t e) → list_any (end_eq e) (ends_in (arriving k made h t ms)) ≡ false
   arriving-none t e [] here = refl
-  arriving-none t e (m ∷ ms) here = by (is_carried k made t m) refl (arriving-none arrived e ms (put-keeps t m.end _ (λ _ z. IsHere z) e tt here)) (arriving-none t e ms here)
+  arriving-none t e (m ∷ ms) here = by (is_carried k made t m) refl (arriving-none arrived e ms (put-each (λ _ z. IsHere z) t m.end _ tt e (λ apart. here))) (arriving-none t e ms here)
     where
       arrived : EndId → Entry
       arrived = put t m.end (entry.Here (record { value = m; holder = h; outward = outward.Idle; inward = inward.Idle }))

@@ -1,12 +1,12 @@
 -- One process of a kernel changes.
-use Rattle.std.proofs.Common.{◌≡◌, ◌≢◌, ◌⊎◌, inl, inr, ℕ, ◌<◌, Bool, true, false, nat_eq, List, length, slice_set, map, ap, sym, subst, ◌∙◌, refl, if◌then◌else◌, get_or, cond, arith}
+use Rattle.std.proofs.Common.{◌≡◌, ◌≢◌, ◌⊎◌, inl, inr, ℕ, ◌<◌, true, false, nat_eq, List, length, slice_set, map, ap, sym, subst, ◌∙◌, if◌then◌else◌, get_or, cond}
 use Rattle.std.proofs.lemmas.List.{get_or-set_other, map-set, get_or-map, length-map}
 use Rattle.std.proofs.lemmas.Grind.{get_or-set_at}
 use Rattle.std.proofs.lemmas.Bool.Decides.{eqb_tells}
 use Rattle.charlotte_calls.specs.declared.names.EndId.{EndId}
 use Rattle.charlotte_calls.specs.declared.names.Pid.{Pid}
 use Rattle.end_table.specs.declared.entry.Entry.{Entry}
-use Rattle.kernel_step.specs.Kernel.{Kernel, Process, with_process, process_of}
+use Rattle.kernel_step.specs.Kernel.{Kernel, with_process, process_of}
 use Rattle.kernel_core.specs.State.{KernelView, kept_process, no_process, process_at, state_of, with_parts}
 use Rattle.kernel_core.specs.declared.process.Kept.{Kept}
 

@@ -1,11 +1,9 @@
 -- What is as before once the room of an event was reserved.
-use Rattle.std.proofs.Common.{◌≡◌, ℕ, List, length, map, sym, ap, subst, ◌∙◌, refl}
-use Rattle.charlotte_calls.specs.declared.names.EndId.{EndId}
+use Rattle.std.proofs.Common.{◌≡◌, ℕ, List, length, map, sym, ap, subst, ◌∙◌}
 use Rattle.end_table.specs.Table.{TableView, entries}
-use Rattle.end_table.specs.declared.entry.Entry.{Entry}
 use Rattle.kernel_core.proofs.ActiveSets.{tells_same}
 use Rattle.kernel_core.proofs.Takes.{with_parts-kept}
-use Rattle.kernel_core.specs.Kept.{IsKept, Tells, started_ends}
+use Rattle.kernel_core.specs.Kept.{IsKept, started_ends}
 use Rattle.kernel_core.specs.Sound.{IsSound}
 use Rattle.kernel_core.specs.State.{kept_process, with_parts}
 use Rattle.kernel_core.specs.declared.process.Kept.{Kept}

@@ -19,10 +19,10 @@ use Rattle.end_table.specs.declared.entry.Entry.TheVariants as entry
 use Rattle.end_table.specs.declared.entry.HereView.{HereView}
 use Rattle.end_table.specs.declared.entry.Holder.TheVariants as holder
 use Rattle.end_table.specs.declared.entry.Outward.TheVariants as outward
-use Rattle.kernel_core.proofs.Needs.{owner-is_owner, AreFree, AreFree-others, IfHere-at, apart_at-sound, held-other, held-own, hold_each-other, put-keeps, send-apart, send-free}
+use Rattle.kernel_core.proofs.Needs.{owner-is_owner, AreFree, AreFree-others, IfHere-at, apart_at-sound, held-other, held-own, hold_each-other, send-apart, send-free}
 use Rattle.kernel_core.proofs.SoundGoes.{IsOfEnd-ended, keeps-well, keeps-well-quiet, keeps-well-settled, means-well, sends-well, tells-well}
 use Rattle.kernel_core.proofs.SoundLists.{IsReleasing, end_each-well, hold_each-well, leave_each-well, tells-releasing}
-use Rattle.kernel_core.proofs.SoundPut.{AreHeldBy-others, HasNoMessage, IfHere-away, IsFreeFor-owned, IsHeldBy, IsHolder, IsHolder-held, IsQuiet, made-here, put-sound}
+use Rattle.kernel_core.proofs.SoundPut.{AreHeldBy-others, HasNoMessage, IfHere-away, IsFreeFor-owned, IsHeldBy, IsHolder, IsHolder-held, IsQuiet, made-here, put-each, put-sound}
 use Rattle.kernel_core.proofs.SoundTells.{means-tells, tells-same, tells_gone-tells}
 use Rattle.kernel_core.specs.Sound.{AreHeldBy, GoesWell, IsHeldWell, IsSound}
 use Rattle.kernel_step.specs.Actions.{enclosed_of, end_each, ends, ends_idle, ends_idle_here, here, held, hold_each, matches, tells_gone}
@@ -356,7 +356,7 @@ module _ (P : HereView → Type 0) (k : ℕ) where
   -- what is destroyed is not here
   ended-stays : (m : MovingPicture) (d : Progress) (q : EndId) → IfHere (d.table q) P → IfHere ((keeps m.end (ended_entry m) d).table q) P
   unfolding keeps
-  ended-stays m d q h = put-keeps d.table m.end (ended_entry m) (λ _ z. IfHere z P) q (IfHere-away (ended_entry m) P (ended-IsHere m)) h
+  ended-stays m d q h = put-each (λ _ z. IfHere z P) d.table m.end (ended_entry m) (IfHere-away (ended_entry m) P (ended-IsHere m)) q (λ apart. h)
 
   -- what tells the opposite end changes no entry
   pub told-stays : (m : MovingPicture) (d : Progress) (q : EndId) → IfHere (d.table q) P → IfHere ((tells_gone k m d).table q) P

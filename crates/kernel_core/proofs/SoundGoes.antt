@@ -106,7 +106,7 @@ module _ {k made n : ℕ} {touches : Pid → EndId → Bool} {before : EndId →
         sound = sound;
         reports = w.reports;
         answers = w.answers;
-        calm = λ p q. put-each (λ q y. touches p q ≡ false → is_active (owned p y) ≡ is_active (owned p (before q))) d.table e x (λ not. same p not ∙ w.calm p e not) (λ q apart not. w.calm p q not) q;
+        calm = λ p q. put-each (λ q y. touches p q ≡ false → is_active (owned p y) ≡ is_active (owned p (before q))) d.table e x (λ not. same p not ∙ w.calm p e not) q (λ apart not. w.calm p q not);
       }
 
   -- and so where every process touches it

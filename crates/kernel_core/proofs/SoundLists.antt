@@ -99,7 +99,7 @@ module _ {k made n : ℕ} {touches : Pid → EndId → Bool} {before : EndId →
         well =
             keeps-well-quiet x y d (IsQuiet-held s (d.table x) r.are.0) (IsFreeFor-released d.table x y s r.are.0 r.none) own quiet holds
             (made-here x r.well.sound (IsHere-held (d.table x) _ r.are.0) y) r.well;
-        none = put-each (λ q z. s ≡ q → HasNoMessage z) d.table x y (λ at. HasNoMessage-quiet y quiet) (λ q apart at. subst (λ q. HasNoMessage (d.table q)) at r.none) s refl;
+        none = put-each (λ q z. s ≡ q → HasNoMessage z) d.table x y (λ at. HasNoMessage-quiet y quiet) s (λ apart at. r.none) refl;
         are = AreHeldBy-others d.table x y s xs r.are.1 r.are.2;
       })
 

@@ -43,13 +43,13 @@ pub record IsViewAfter (v u : HereView) : Type 0 where
   pub idle : IsIdle v → IsIdle u
   pub message : (enclosed_of u.outward ≡ enclosed_of v.outward) ⊎ (enclosed_of u.outward ≡ [])
 
--- what is true of the entry that was put, and of each other entry, is true of each
-pub put-each : (P : EndId → Entry → Type 0) (t : EndId → Entry) (e : EndId) (x : Entry) → P e x → ((q : EndId) → end_eq e q ≡ false → P q (t q)) → (q : EndId) → P q (put t e x q)
-put-each P t e x at others q = by (end_eq e q) refl
+-- what is true of the entry that is put, and of the entry at q where that is another, is true of the entry at q after the put
+pub put-each : (P : EndId → Entry → Type 0) (t : EndId → Entry) (e : EndId) (x : Entry) → P e x → (q : EndId) → (end_eq e q ≡ false → P q (t q)) → P q (put t e x q)
+put-each P t e x at q other = by (end_eq e q) refl
   where
     by : (b : Bool) → end_eq e q ≡ b → P q (put t e x q)
     by true same = subst (λ z. P z (put t e x z)) (end_eq-same e q same) (subst (P e) (sym (put-at t e x)) at)
-    by false apart = subst (P q) (sym (put-other t e x q apart)) (others q apart)
+    by false apart = subst (P q) (sym (put-other t e x q apart)) (other apart)
 
 -- ends that q holds are held by it after an entry changes that it holds as before
 pub AreHeldBy-put : (t : EndId → Entry) (e : EndId) (x : Entry) (q : EndId) (xs : List EndId) → (IsHeldBy q (t e) → IsHeldBy q x) → AreHeldBy q t xs → AreHeldBy q (put t e x) xs
@@ -141,10 +141,10 @@ pub put-sound : {k made n : ℕ} {t : EndId → Entry} (e : EndId) (x : Entry) �
     → (e.link.maker ≡ k → made ≤ e.link.count → IsHere x → ⊥) → IsSound k made n (put t e x)
 put-sound {k} {made} {n} {t} e x s free own held enclosed unmade =
     record {
-      own = put-each IsOfEnd t e x own (λ q apart. s.own q);
-      held = put-each (λ q y. IfHere y (λ v. IsHeldWell n v v.holder)) t e x held (λ q apart. s.held q);
-      enclosed = put-each (λ q y. IfHere y (λ v. AreHeldBy q (put t e x) (enclosed_of v.outward))) t e x enclosed (λ q apart. stay q (t q) (s.enclosed q) (free q));
-      unmade = put-each (λ q y. q.link.maker ≡ k → made ≤ q.link.count → IsHere y → ⊥) t e x unmade (λ q apart. s.unmade q);
+      own = λ q. put-each IsOfEnd t e x own q (λ apart. s.own q);
+      held = λ q. put-each (λ q y. IfHere y (λ v. IsHeldWell n v v.holder)) t e x held q (λ apart. s.held q);
+      enclosed = λ q. put-each (λ q y. IfHere y (λ v. AreHeldBy q (put t e x) (enclosed_of v.outward))) t e x enclosed q (λ apart. stay q (t q) (s.enclosed q) (free q));
+      unmade = λ q. put-each (λ q y. q.link.maker ≡ k → made ≤ q.link.count → IsHere y → ⊥) t e x unmade q (λ apart. s.unmade q);
     }
   where
     none : (q : EndId) (xs : List EndId) → xs ≡ [] → AreHeldBy q (put t e x) xs

@@ -16,7 +16,8 @@ use Rattle.end_table.specs.declared.entry.Inward.{Inward}
 use Rattle.end_table.specs.declared.entry.Inward.TheVariants as inward
 use Rattle.end_table.specs.declared.entry.Outward.{Outward}
 use Rattle.end_table.specs.declared.entry.Outward.TheVariants as outward
-use Rattle.kernel_core.proofs.Needs.{IfHere-map, put-keeps}
+use Rattle.kernel_core.proofs.Needs.{IfHere-map}
+use Rattle.kernel_core.proofs.SoundPut.{put-each}
 use Rattle.kernel_core.specs.Sound.{AreHeldBy, IsHeldWell, IsSound}
 use Rattle.kernel_step.specs.Actions.{enclosed_of}
 use Rattle.kernel_step.specs.Calls.{inward_activity, is_active, is_started, outward_activity}
@@ -131,7 +132,7 @@ module _ (w : Way) (on : EndId) (t : EndId → Entry) where
 
   -- what a report keeps of an entry is true of each afterwards
   each : (p : EndId → Entry → Type 0) (q : EndId) → (p on (t on) → p on (reported_entry w (t on))) → p q (t q) → p q (told q)
-  each p q keeps was = put-keeps t on (reported_entry w (t on)) (λ r z. p r (t r) → p r z) q keeps (λ h. h) was
+  each p q keeps was = put-each (λ r z. p r (t r) → p r z) t on (reported_entry w (t on)) keeps q (λ apart h. h) was
 
   -- ends that a send holds are held by it
   AreHeldBy-reported : (e : EndId) (xs : List EndId) → AreHeldBy e t xs → AreHeldBy e told xs
@@ -154,8 +155,8 @@ module _ (w : Way) (on : EndId) (t : EndId → Entry) where
       }
     where
       was_here : (e : EndId) → IsHere (told e) → IsHere (t e)
-      was_here e here = put-keeps t on (reported_entry w (t on)) (λ r z. IsHere z → IsHere (t r)) e (IsHere-reported w (t on)) (λ h. h) here
+      was_here e here = put-each (λ r z. IsHere z → IsHere (t r)) t on (reported_entry w (t on)) (IsHere-reported w (t on)) e (λ apart h. h) here
 
   -- and nobody's activities change
   pub is_active-reported_put : (p : Pid) (q : EndId) → is_active (owned p (told q)) ≡ is_active (owned p (t q))
-  is_active-reported_put p q = put-keeps t on (reported_entry w (t on)) (λ r z. is_active (owned p z) ≡ is_active (owned p (t r))) q (is_active-reported w p (t on)) refl
+  is_active-reported_put p q = put-each (λ r z. is_active (owned p z) ≡ is_active (owned p (t r))) t on (reported_entry w (t on)) (is_active-reported w p (t on)) q (λ apart. refl)

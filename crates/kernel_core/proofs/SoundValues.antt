@@ -36,7 +36,7 @@ AreComing k made t (m ∷ ms) =
 -- ends that are not here stay so where one of them becomes none that is here
 pub AreGone-put : (t : EndId → Entry) (e : EndId) (x : Entry) (ms : List MovingPicture) → (IsHere x → ⊥) → AreGone t ms → AreGone (put t e x) ms
 AreGone-put t e x [] gone are = tt
-AreGone-put t e x (m ∷ ms) gone are = (put-each (λ q y. q ≡ m.end → IsHere y → ⊥) t e x (λ at. gone) (λ q apart at here. are.0 (subst (λ z. IsHere (t z)) at here)) m.end refl, AreGone-put t e x ms gone are.1)
+AreGone-put t e x (m ∷ ms) gone are = (put-each (λ q y. q ≡ m.end → IsHere y → ⊥) t e x (λ at. gone) m.end (λ apart at. are.0) refl, AreGone-put t e x ms gone are.1)
 
 -- values come to a table as to another that differs at none of their ends
 pub AreComing-others : (k made : ℕ) (t u : EndId → Entry) (e : EndId) (ms : List MovingPicture) → ((q : EndId) → end_eq e q ≡ false → u q ≡ t q) → list_any (end_eq e) (ends_in ms) ≡ false → AreComing k made t ms → AreComing k made u ms

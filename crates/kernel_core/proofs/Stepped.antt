@@ -12,7 +12,6 @@ use Rattle.charlotte_calls.specs.declared.work.Effect.{Effect}
 use Rattle.charlotte_calls.specs.declared.work.Work.{Work}
 use Rattle.end_table.specs.Owned.{AreEndsOf}
 use Rattle.end_table.specs.Table.{TableView, entries}
-use Rattle.end_table.specs.declared.entry.Entry.{Entry}
 use Rattle.kernel_core.proofs.Performs.{call-acts, call-refused}
 use Rattle.kernel_core.proofs.Processes.{process_of-at}
 use Rattle.kernel_core.specs.Acts.{acts, made_after}
@@ -21,8 +20,8 @@ use Rattle.kernel_core.specs.State.{kept_process, process_at, with_parts, ended}
 use Rattle.kernel_core.specs.Stepping.{HasParts, IsStepOf, Begins, AreListedFor, IsRefusedFor}
 use Rattle.kernel_core.specs.declared.process.Kept.{Kept}
 use Rattle.kernel_step.specs.Calls.{IsCallWith, refusal}
-use Rattle.kernel_step.specs.Kernel.{Kernel, Outcome, begins, call_step, closes, has_report, next_stamp, process_of, stands}
-use Rattle.kernel_step.specs.Progress.{Progress, progress, means}
+use Rattle.kernel_step.specs.Kernel.{Kernel, begins, closes, has_report, next_stamp, process_of, stands}
+use Rattle.kernel_step.specs.Progress.{progress, means}
 
 -- the ends that a call is about: those that were listed, or for a Wait those that can be listed
 pub all_ends : (p : Pid) (t : TableView) (mine listed : List EndId) (c : Call) → AreListedFor p t mine c → AreEndsOf p (entries t) listed → (all : List EndId) × IsCallWith p (entries t) all c

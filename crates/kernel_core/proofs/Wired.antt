@@ -1,5 +1,5 @@
 -- What is true of the links of a setting that are wired so far.
-use Rattle.std.proofs.Common.{◌≡◌, ◌≢◌, ◌⊎◌, inl, inr, ℕ, zero, suc, ◌+◌, ◌<◌, ◌≤◌, Bool, true, false, nat_eq, cond, if◌then◌else◌, List, length, get_or, slice_set, replicate, All, take, refl, sym, ap, subst, ◌∙◌, add-one, eq-eqb, arith, rules}
+use Rattle.std.proofs.Common.{◌≡◌, ◌≢◌, ◌⊎◌, inl, inr, ℕ, zero, suc, ◌+◌, ◌<◌, ◌≤◌, Bool, true, false, nat_eq, cond, if◌then◌else◌, length, get_or, slice_set, replicate, refl, sym, ap, subst, ◌∙◌, add-one, eq-eqb, arith, rules}
 use Rattle.std.proofs.Math.Seq.{take-length}
 use Rattle.std.proofs.lemmas.Bool.Decides.{eqb_tells}
 use Rattle.std.proofs.lemmas.Grind.{get_or-set_at}
@@ -14,12 +14,10 @@ use Rattle.charlotte_calls.specs.declared.names.LinkId.{LinkId}
 use Rattle.charlotte_calls.specs.declared.names.Pid.{Pid}
 use Rattle.charlotte_calls.specs.declared.names.Side.TheVariants.{A, B}
 use Rattle.charlotte_calls.specs.declared.setting.Setting.{Setting}
-use Rattle.end_table.specs.Owned.{owned}
 use Rattle.end_table.specs.Place.{end_eq, put}
 use Rattle.end_table.specs.Table.{entries, IfHere, IsHere, IsIdle, IsOfEnd}
 use Rattle.end_table.specs.declared.entry.Entry.{Entry}
 use Rattle.end_table.specs.declared.entry.Entry.TheVariants as entry
-use Rattle.end_table.specs.declared.entry.HereView.{HereView}
 use Rattle.kernel_step.specs.Actions.{enclosed_of}
 use Rattle.kernel_step.specs.Calls.{made_end}
 use Rattle.kernel_step.specs.Start.{Wired, home, keeps_at, nothing_wired, owned_from_start, wired, wires_one}
@@ -43,7 +41,7 @@ keeps_at-each : (P : EndId → Entry → Type 0) (k : ℕ) (e : EndId) (x : Entr
 keeps_at-each P k e x ts at others q f = by (nat_eq q k)
   where
     by : (b : Bool) → P f ((if b then put (ts q) e x else ts q) f)
-    by true = put-each P (ts q) e x at (λ g apart. others q g) f
+    by true = put-each P (ts q) e x at f (λ apart. others q f)
     by false = others q f
 
 -- one more link

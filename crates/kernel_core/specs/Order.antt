@@ -1,6 +1,5 @@
 -- The order of an event's packets.
 use Rattle.std.specs.Prelude.{ℕ, ◌-◌, List, ◌++◌, take, drop}
-use Rattle.charlotte_calls.specs.declared.picture.Picture.{Picture}
 use Rattle.kernel_step.specs.Progress.{Progress}
 
 -- of the packets before a place, the first ones go behind the others

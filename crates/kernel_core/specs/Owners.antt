@@ -1,5 +1,5 @@
 -- Who owns an end, and whose activities a change of one end leaves as they were.
-use Rattle.std.specs.Prelude.{◌≡◌, Bool, false, Option, None, Some}
+use Rattle.std.specs.Prelude.{◌≡◌, false, Option, None, Some}
 use Rattle.charlotte_calls.specs.declared.names.EndId.{EndId}
 use Rattle.charlotte_calls.specs.declared.names.Pid.{Pid}
 use Rattle.end_table.specs.Owned.{owned}

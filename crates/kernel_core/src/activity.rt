@@ -13,9 +13,10 @@ ghost use Rattle.kernel_core.specs.Kept.{started_ends, Refreshes, Empties};
 ghost use Rattle.kernel_core.specs.State.{kept_process};
 ghost use Rattle.kernel_core.specs.declared.process.Kept.{Kept};
 
+use crate::owners::owned;
 use crate::process::Kept;
 use charlotte_calls::{EndId, Pid};
-use end_table::{Entry, HereView, Holder, Inward, Outward, Table};
+use end_table::{HereView, Inward, Outward, Table};
 use indexmap::IndexSet;
 
 /// The set of process `p` has this end exactly where it has a started activity on it.
@@ -89,12 +90,9 @@ fn remove(active: &mut IndexSet<EndId>, end: EndId)
 fn is_active(table: &Table, p: Pid, end: EndId) -> bool
     ensures { result ≡ is_active (owned p (entries table.now end)) }
 {
-    match table.look(end) {
-        Entry::Here(view) => match view.holder {
-            Holder::Owner(owner) if owner.0 == p.0 => has_activity(&view),
-            _ => false,
-        },
-        Entry::Nothing | Entry::Left { .. } | Entry::Destroyed(_) => false,
+    match owned(table, p, end) {
+        Some(view) => has_activity(&view),
+        None => false,
     }
 }
 
@@ -114,4 +112,117 @@ fn is_started_inward(inward: Inward) -> bool
     ensures { result ≡ is_started (inward_activity inward) }
 {
     matches!(inward, Inward::Posted { .. } | Inward::Withdrawing { .. })
+}
+
+#[cfg(test)]
+mod tests {
+    use super::*;
+    use crate::room::reserve_processes;
+    use crate::start::fresh_processes;
+    use charlotte_calls::{Bytes, Ends, LinkId, Moving, NoMemory, Side};
+    use end_table::{Entry, Holder, NotStored};
+    use std::alloc::Global;
+    use std::test::Fail;
+
+    const P: Pid = Pid(1);
+
+    const LINK: LinkId = LinkId { maker: 0, count: 7 };
+
+    const END: EndId = EndId {
+        link: LINK,
+        side: Side::A,
+    };
+
+    /// A table in which a process owns an end with these activities.
+    fn owning(alloc: Global, outward: Outward, inward: Inward) -> Result<Table, NoMemory> {
+        let mut table = Table::start(alloc, 0);
+        let (a, b) = Moving::pair(LINK, 0, 1);
+        b.destroy();
+        match table.install(a, Holder::Owner(P)) {
+            Ok(()) => {}
+            Err(NotStored { moving }) => {
+                moving.destroy();
+                return Err(NoMemory);
+            }
+        }
+        if let Entry::Here(mut view) = table.look(END) {
+            view.outward = outward;
+            view.inward = inward;
+            table.change(END, view);
+        }
+        Ok(table)
+    }
+
+    /// Whether the set of a process has the end.
+    fn has_end(processes: &[Kept], p: Pid) -> bool
+        requires { p.0 < length processes.now }
+    {
+        processes[usize::from(p.0)].active.contains(&END)
+    }
+
+    /// Whether the set of a process has the end after it tells of these activities.
+    fn is_noted(
+        alloc: Global,
+        processes: &mut [Kept],
+        p: Pid,
+        outward: Outward,
+        inward: Inward,
+    ) -> Result<bool, NoMemory>
+        requires { p.0 < length processes.old }
+        ensures { length processes.new ≡ length processes.old }
+    {
+        let table = owning(alloc, outward, inward)?;
+        reserve_processes(processes)?;
+        refresh(&table, processes, p, END);
+        Ok(has_end(processes, p))
+    }
+
+    #[test]
+    fn an_end_is_noted_while_an_activity_is_started(rt: HostRuntime) -> Result<(), Fail> {
+        let mut processes = fresh_processes(rt.alloc(), 2)?;
+        let all = processes.as_mut_slice();
+        for (inward, started) in [
+            (Inward::Posted { w: 1 }, true),
+            (Inward::Withdrawing { w: 1 }, true),
+            (Inward::Unreported, false),
+            (Inward::Idle, false),
+        ] {
+            let noted = is_noted(rt.alloc(), all, P, Outward::Idle, inward)?;
+            assert_eq!(rt; noted, started, "{inward:?}");
+            let other = is_noted(rt.alloc(), all, Pid(0), Outward::Idle, inward)?;
+            assert!(rt; !other, "{inward:?}");
+        }
+        let sent = Outward::Waiting {
+            n: 1,
+            bytes: Bytes::from_slice(b"x").ok_or("bytes")?,
+            enclosed: Ends::from_slice(&[]).ok_or("ends")?,
+        };
+        for (outward, started) in [
+            (sent, true),
+            (Outward::Unreported, false),
+            (Outward::Matched { n: 1 }, true),
+            (Outward::Idle, false),
+        ] {
+            let noted = is_noted(rt.alloc(), all, P, outward, Inward::Idle)?;
+            assert_eq!(rt; noted, started);
+        }
+        Ok(())
+    }
+
+    #[test]
+    fn an_end_is_forgotten(rt: HostRuntime) -> Result<(), Fail> {
+        let mut processes = fresh_processes(rt.alloc(), 2)?;
+        let all = processes.as_mut_slice();
+        let posted = Inward::Posted { w: 1 };
+        let noted = is_noted(rt.alloc(), all, P, Outward::Idle, posted)?;
+        assert!(rt; noted);
+        reserve_processes(all)?;
+        forget(all, P, END);
+        assert!(rt; !has_end(all, P));
+        let again = is_noted(rt.alloc(), all, P, Outward::Idle, posted)?;
+        assert!(rt; again);
+        clear(all, P);
+        assert!(rt; !has_end(all, P));
+        Ok(())
+    }
 }

@@ -1,4 +1,4 @@
-ghost use Rattle.std.specs.Prelude.{◌≡◌, ◌+◌, ◌*◌, ℕ, Bool, None, IfSome, length};
+ghost use Rattle.std.specs.Prelude.{◌≡◌, ◌+◌, ◌*◌, ℕ, Bool, None, length};
 ghost use Rattle.charlotte_calls.specs.Names.{opposite};
 ghost use Rattle.charlotte_calls.specs.declared.calls.ServiceStep.TheVariants as step;
 ghost use Rattle.charlotte_calls.specs.declared.names.EndId.{EndId};
@@ -15,9 +15,10 @@ ghost use Rattle.kernel_step.specs.Calls.{made_end, makes, posts, withdraws_send
 ghost use Rattle.kernel_step.specs.Enclosed.{AreEnclosed};
 ghost use Rattle.kernel_step.specs.Progress.{progress, keeps, means, HasRoom, AddsAtMost};
 
+use crate::owners::owned;
 use cancel_core::{post, start_send, withdraw_receive, withdraw_send};
 use charlotte_calls::{Bytes, Call, EndId, Ends, LinkId, Moving, Pid, ServiceStep, Way, Work};
-use end_table::{Entry, HereView, Holder, Inward, NotStored, Table};
+use end_table::{Entry, Holder, Inward, NotStored, Table};
 use kernel_step::{first_of, push_step};
 use move_core::enclose;
 
@@ -41,20 +42,6 @@ pub(crate) fn act(table: &mut Table, made: u32, p: Pid, mine: &[EndId], call: Ca
         Call::Wait => push_step(out, ServiceStep::Wait { p }),
         Call::Print { .. } => {}
         Call::Exit => exit(table, p, mine, out),
-    }
-}
-
-/// The view of an end that a process owns.
-fn owned(table: &Table, p: Pid, on: EndId) -> Option<HereView>
-    ensures view { result ≡ owned p (entries table.now on) }
-    ensures here { IfSome result (λ v. entries table.now on ≡ Here v) }
-{
-    match table.look(on) {
-        Entry::Here(view) => match view.holder {
-            Holder::Owner(owner) if owner.0 == p.0 => Some(view),
-            _ => None,
-        },
-        _ => None,
     }
 }
 

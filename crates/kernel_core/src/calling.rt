@@ -21,12 +21,12 @@ ghost use Rattle.kernel_step.specs.Progress.{progress, means};
 use crate::activity::clear;
 use crate::acts::act;
 use crate::closing::{close, exit, stand, turn, wait};
-use crate::owners::{owner, refresh_owner};
+use crate::owners::{owned, owner, refresh_owner};
 use crate::process::Kept;
 use charlotte_calls::{
     Answer, Call, Cause, Effect, EndId, LinkId, Pid, ServiceStep, Side, Way, Work,
 };
-use end_table::{Entry, HereView, Holder, Inward, Table};
+use end_table::{HereView, Inward, Table};
 use kernel_step::{Phase, push_step};
 
 /// How a call that is no Wait ends.
@@ -281,12 +281,9 @@ fn posted_toward(table: &Table, p: Pid, on: EndId, way: Way) -> Option<EndId>
 fn posted_on(table: &Table, p: Pid, on: EndId) -> Option<EndId>
     ensures { (s : Kernel) → turned_on p (owned p (entries table.now on)) s ≡ turned_to p result s }
 {
-    match table.look(on) {
-        Entry::Here(view) => match view.holder {
-            Holder::Owner(owner) if owner.0 == p.0 => posted_in(&view),
-            _ => None,
-        },
-        _ => None,
+    match owned(table, p, on) {
+        Some(view) => posted_in(&view),
+        None => None,
     }
 }
 

@@ -66,10 +66,11 @@ impl Kernel {
         })
     }
 
-    /// A call of a process that runs and to which no answer stands. In version 1 a Send encloses at most one end.
+    /// A call of a process that runs and to which no answer stands: the kernel step decides it. A Send may enclose up to
+    /// eight ends in either version; that in version 1 it encloses at most one is the caller's business.
     ///
     /// The answer stands afterwards, unless the call is a Wait that finds no report, or starts to cancel a receive: then
-    /// it comes to stand in a later event. After want of memory the kernel is as before.
+    /// a later event may bring it. After want of memory the kernel is as before.
     pub fn call(&mut self, p: Pid, call: Call) -> Result<Effect, NoMemory>
         requires process { p.0 < length self.old.processes }
         requires running { (process_of p (state_of self.old)).phase ≡ Running }

@@ -1,9 +1,10 @@
 ghost use Rattle.std.specs.Prelude.{◌≡◌, ◌<◌, false, IfSome, length, map};
 ghost use Rattle.charlotte_calls.specs.declared.names.EndId.{EndId};
+ghost use Rattle.end_table.specs.Owned.{owned};
 ghost use Rattle.end_table.specs.Place.{put};
 ghost use Rattle.end_table.specs.Table.{entries};
 ghost use Rattle.end_table.specs.declared.entry.Entry.{Entry};
-ghost use Rattle.end_table.specs.declared.entry.Entry.TheVariants.{Nothing};
+ghost use Rattle.end_table.specs.declared.entry.Entry.TheVariants.{Here, Nothing};
 ghost use Rattle.kernel_core.specs.Closing.{HavePlace};
 ghost use Rattle.kernel_core.specs.Kept.{Tells, Refreshes};
 ghost use Rattle.kernel_core.specs.Owners.{owner_of, IsCalmBut};
@@ -12,7 +13,21 @@ ghost use Rattle.kernel_core.specs.State.{kept_process};
 use crate::activity::{forget, refresh};
 use crate::process::Kept;
 use charlotte_calls::{EndId, Pid};
-use end_table::{Entry, Holder, Table};
+use end_table::{Entry, HereView, Holder, Table};
+
+/// The view of an end that a process owns.
+pub(crate) fn owned(table: &Table, p: Pid, on: EndId) -> Option<HereView>
+    ensures view { result ≡ owned p (entries table.now on) }
+    ensures here { IfSome result (λ v. entries table.now on ≡ Here v) }
+{
+    match table.look(on) {
+        Entry::Here(view) => match view.holder {
+            Holder::Owner(owner) if owner.0 == p.0 => Some(view),
+            _ => None,
+        },
+        _ => None,
+    }
+}
 
 /// The process that owns an end, if one does.
 pub(crate) fn owner(table: &Table, end: EndId) -> Option<Pid>

@@ -10,9 +10,10 @@ ghost use Rattle.kernel_step.specs.Calls.{cancel_causes, first_of as first_cause
 ghost use Rattle.kernel_step.specs.Kernel.{has_report};
 ghost use Rattle.kernel_core.specs.State.{kept_process};
 
+use crate::owners::owned;
 use crate::process::Kept;
 use charlotte_calls::{Call, Cause, EndId, Pid, Way};
-use end_table::{Entry, HereView, Holder, Inward, Outward, Table};
+use end_table::{HereView, Inward, Outward, Table};
 use kernel_step::first_of;
 
 /// How many links a kernel may make.
@@ -146,19 +147,6 @@ fn wait_refusal(process: &Kept) -> Option<Cause>
         return Some(Cause::NoActivity);
     }
     None
-}
-
-/// What the kernel keeps of an end that the process owns.
-fn owned(table: &Table, p: Pid, on: EndId) -> Option<HereView>
-    ensures { result ≡ owned p (entries table.now on) }
-{
-    match table.look(on) {
-        Entry::Here(view) => match view.holder {
-            Holder::Owner(owner) if owner.0 == p.0 => Some(view),
-            _ => None,
-        },
-        Entry::Nothing | Entry::Left { .. } | Entry::Destroyed(_) => None,
-    }
 }
 
 fn is_free_outward(outward: &Outward) -> bool

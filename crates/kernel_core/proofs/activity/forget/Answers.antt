@@ -1,5 +1,5 @@
 -- One process is set, with another set of ends.
-use Rattle.std.proofs.Common.{◌≡◌, refl}
+use Rattle.std.proofs.Common.{refl}
 use Rattle.kernel_core.specs.State.{kept_process}
 use Rattle.kernel_core.proofs.ActiveSets.{set_refreshes}
 use Rattle.kernel_core.proofs.Rooms.{same_map}

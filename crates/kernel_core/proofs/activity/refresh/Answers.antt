@@ -1,5 +1,5 @@
 -- One process is set, with another set of ends.
-use Rattle.std.proofs.Common.{◌≡◌, refl, ap, ◌∙◌, cond, get_or}
+use Rattle.std.proofs.Common.{refl, ap, ◌∙◌, cond, get_or}
 use Rattle.std.specs.List.{list_any}
 use Rattle.end_table.specs.Place.{end_eq}
 use Rattle.kernel_core.specs.State.{kept_process}

@@ -1,5 +1,5 @@
 -- A message that comes back where its send is not matched.
-use Rattle.std.proofs.Common.{◌≡◌, Option, None, sym, ap, ◌∙◌}
+use Rattle.std.proofs.Common.{sym, ap, ◌∙◌}
 use Rattle.end_table.specs.Table.{entries}
 use Rattle.kernel_step.specs.Progress.{progress}
 use Rattle.kernel_step.specs.Rows.{back_row}

@@ -1,5 +1,5 @@
 -- The values that pass are away, and are destroyed.
-use Rattle.std.proofs.Common.{◌≡◌, ap, ◌∙◌}
+use Rattle.std.proofs.Common.{ap, ◌∙◌}
 use Rattle.end_table.specs.Table.{entries}
 use Rattle.kernel_core.proofs.Brought.{passed-away}
 use Rattle.kernel_step.specs.Progress.{progress}

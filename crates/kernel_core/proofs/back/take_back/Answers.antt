@@ -1,13 +1,10 @@
 -- The values that came are away and apart, the death is noticed at the end, and the parts are put in order.
-use Rattle.std.proofs.Common.{◌≡◌, ℕ, Option, Some, None, IfSome, ap, sym, subst, ◌∙◌, refl, arith}
-use Rattle.end_table.specs.Table.{entries, IsHere}
-use Rattle.end_table.specs.declared.entry.Entry.TheVariants as entry
-use Rattle.end_table.specs.declared.entry.HereView.{HereView}
+use Rattle.std.proofs.Common.{IfSome, ap, sym, subst, ◌∙◌, arith}
+use Rattle.end_table.specs.Table.{entries}
 use Rattle.end_table.specs.declared.entry.Outward.TheVariants as outward
-use Rattle.kernel_core.proofs.Brought.{came-away, came-apart, apart-away, back-at, back-ready, back-gives, back-taken, back-behind}
-use Rattle.kernel_step.specs.Actions.{tell_arrivals}
-use Rattle.kernel_step.specs.Progress.{Progress, progress}
-use Rattle.kernel_step.specs.Rows.{awaits, gives_back, give_back_row, notices_first}
+use Rattle.kernel_core.proofs.Brought.{came-away, came-apart, back-at, back-ready, back-gives, back-taken, back-behind}
+use Rattle.kernel_step.specs.Progress.{progress}
+use Rattle.kernel_step.specs.Rows.{notices_first}
 use Rattle.move_core.specs.Arriving.{AreApart}
 use Rattle.kernel_core.proofs.back.take_back.Goals as goal
 

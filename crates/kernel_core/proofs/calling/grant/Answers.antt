@@ -1,8 +1,9 @@
 -- The sets of active ends tell again of what the call touched.
-use Rattle.std.proofs.Common.{length, ap, sym, subst, ◌∙◌}
+use Rattle.std.proofs.Common.{length, refl, ap, sym, subst, ◌∙◌}
 use Rattle.end_table.specs.Table.{entries}
+use Rattle.kernel_core.proofs.ActiveSets.{tells_same}
 use Rattle.kernel_core.proofs.Callings.{owners-below}
-use Rattle.kernel_core.proofs.KeptMoved.{HavePlace-moved, Tells-moved, keys-moved}
+use Rattle.kernel_core.proofs.KeptMoved.{HavePlace-moved, keys-moved}
 use Rattle.kernel_core.proofs.Takes.{with_parts-kept}
 use Rattle.kernel_core.specs.Acts.{made_after}
 use Rattle.kernel_core.specs.Finishing.{AreOwnersBelow, IsCalmAfter, touched_by}
@@ -30,6 +31,6 @@ returns-clause-kept c =
       sound = subst (λ n. IsSound c.perform-effect.new.table.kernel (made_after c.args.call c.args.made) n (entries c.perform-effect.new.table))
           (sym (c.refresh_touched.ensures.length ∙ c.perform-effect.ensures.kept.length)) c.perform-effect.ensures.sound;
       active = c.refresh_touched.ensures.told (entries c.args.table.now)
-          (Tells-moved (entries c.args.table.now) c.args.processes.now c.perform-effect.new.processes (keys-moved c.args.processes.now c.perform-effect.new.processes c.perform-effect.ensures.kept.active) c.requires.kept.active)
+          (tells_same (entries c.args.table.now) (entries c.args.table.now) c.args.processes.now c.perform-effect.new.processes c.requires.kept.active (keys-moved c.args.processes.now c.perform-effect.new.processes c.perform-effect.ensures.kept.active) (λ p e. refl))
           (subst (λ x. IsCalmAfter c.args.p x (entries c.args.table.now) (entries c.perform-effect.new.table)) (sym c.touched_by-touched.ensures) c.perform-effect.ensures.calm);
     }

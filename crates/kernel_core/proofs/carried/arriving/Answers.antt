@@ -1,5 +1,5 @@
 -- At first none became here.
-use Rattle.std.proofs.Common.{◌≡◌, ◌++◌, ap, ◌∙◌}
+use Rattle.std.proofs.Common.{◌++◌, ap, ◌∙◌}
 use Rattle.end_table.specs.Table.{entries}
 use Rattle.kernel_step.specs.Rows.{arriving}
 use Rattle.kernel_core.specs.Arrived.{with_here}

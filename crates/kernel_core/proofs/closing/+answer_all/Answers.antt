@@ -1,5 +1,5 @@
 -- The first answer comes to stand, and then the others.
-use Rattle.std.proofs.Common.{◌∙◌, ◌∷◌, ap, sym, arith}
+use Rattle.std.proofs.Common.{◌∙◌, ap, sym, arith}
 use Rattle.kernel_core.proofs.Closes.{drop-same, join_answers-more, join_answers-none, takes-both}
 use Rattle.kernel_core.specs.State.{ended, with_parts}
 use Rattle.kernel_step.specs.Kernel.{join_answers}

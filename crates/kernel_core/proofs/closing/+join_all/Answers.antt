@@ -1,8 +1,7 @@
 -- The first report joins, and then the others.
-use Rattle.std.proofs.Common.{◌∙◌, ◌+◌, ◌∷◌, length, ap, sym, arith, rules}
-use Rattle.std.proofs.lemmas.Grind.{common_steps}
+use Rattle.std.proofs.Common.{◌∙◌, ◌+◌, length, ap, sym, arith, rules}
 use Rattle.end_table.specs.Table.{entries}
-use Rattle.kernel_core.proofs.Closes.{are_for-rest, calm-both, drop-same, join_reports-more, join_reports-none, spare-fewer, takes-both}
+use Rattle.kernel_core.proofs.Closes.{are_for-rest, drop-same, join_reports-more, join_reports-none, spare-fewer, takes-both}
 use Rattle.kernel_core.specs.State.{ended, with_parts}
 use Rattle.kernel_step.specs.Kernel.{join_reports}
 use Rattle.kernel_core.proofs.closing.+join_all.Goals as goal

@@ -1,5 +1,5 @@
 -- The process that is set has the reports, and nothing else changes.
-use Rattle.std.proofs.Common.{◌++◌, [], ◌∷◌, ap, refl, get_or, arith}
+use Rattle.std.proofs.Common.{[], ap, refl, get_or, arith}
 use Rattle.kernel_step.specs.Kernel.{Process}
 use Rattle.kernel_core.specs.State.{kept_process}
 use Rattle.kernel_core.proofs.Closes.{sets-by, takes-set}

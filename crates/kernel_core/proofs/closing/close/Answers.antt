@@ -1,5 +1,5 @@
 -- The answers stand, and then the reports join.
-use Rattle.std.proofs.Common.{◌∙◌, ◌≤◌, length, ap, refl, arith}
+use Rattle.std.proofs.Common.{◌∙◌, length, ap, refl, arith}
 use Rattle.charlotte_calls.specs.declared.work.Effect.{Effect}
 use Rattle.end_table.specs.Table.{entries}
 use Rattle.kernel_core.proofs.Closes.{closes-by, spare-fewer, takes-both}

@@ -1,5 +1,5 @@
 -- The first report answers the Wait, or the process is in it.
-use Rattle.std.proofs.Common.{◌≡◌, [], drop, ap, ◌∙◌, sym, arith}
+use Rattle.std.proofs.Common.{◌≡◌, drop, ap, ◌∙◌, sym, arith}
 use Rattle.end_table.specs.Table.{entries}
 use Rattle.kernel_core.proofs.Closes.{answers_wait-left, drop-same, takes-both, waits-none, with_process-same}
 use Rattle.kernel_core.specs.State.{ended, with_parts}

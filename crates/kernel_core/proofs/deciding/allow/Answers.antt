@@ -1,5 +1,4 @@
 -- The event is the step of a call that is granted.
-use Rattle.std.proofs.Common.{◌≡◌}
 use Rattle.kernel_core.proofs.Stepped.{granted-parts, grant-steps}
 use Rattle.kernel_core.proofs.deciding.allow.Goals as goal
 

@@ -1,5 +1,4 @@
 -- The reserved room leaves everything as it was.
-use Rattle.std.proofs.Common.{◌≡◌}
 use Rattle.kernel_core.proofs.Reserved.{reserved-kept}
 use Rattle.kernel_core.proofs.CalledParts.{called-before}
 use Rattle.kernel_core.proofs.deciding.call_event.Goals as goal

@@ -1,5 +1,5 @@
 -- The refusal is told by the parts.
-use Rattle.std.proofs.Common.{◌≡◌, ◌<◌, length, sym, subst}
+use Rattle.std.proofs.Common.{◌<◌, length, sym, subst}
 use Rattle.kernel_core.proofs.Stepped.{refusal-parts}
 use Rattle.kernel_core.proofs.deciding.cause_of.Goals as goal
 

@@ -1,5 +1,4 @@
 -- The event is the step of a call that is refused.
-use Rattle.std.proofs.Common.{◌≡◌}
 use Rattle.kernel_core.proofs.Stepped.{all_ends, refused-steps}
 use Rattle.kernel_core.proofs.deciding.forbid.Goals as goal
 

@@ -1,5 +1,4 @@
 -- A Make that is not refused leaves the limit of links.
-use Rattle.std.proofs.Common.{◌≡◌}
 use Rattle.kernel_core.proofs.Stepped.{granted-make}
 use Rattle.kernel_core.proofs.deciding.permit.Goals as goal
 

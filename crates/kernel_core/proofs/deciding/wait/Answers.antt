@@ -1,6 +1,5 @@
 -- The event is the step of a Wait.
-use Rattle.std.proofs.Common.{◌≡◌, sym, subst}
-use Rattle.charlotte_calls.specs.declared.calls.Call.TheVariants as call
+use Rattle.std.proofs.Common.{sym, subst}
 use Rattle.kernel_core.proofs.Stepped.{wait-steps}
 use Rattle.kernel_core.specs.Stepping.{IsCalled, IsRefusedFor}
 use Rattle.kernel_core.proofs.deciding.wait.Goals as goal

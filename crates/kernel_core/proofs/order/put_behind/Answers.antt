@@ -1,5 +1,5 @@
 -- The packets before the place are rotated.
-use Rattle.std.proofs.Common.{◌≡◌, ◌++◌, take, drop, refl, ap, ◌∙◌}
+use Rattle.std.proofs.Common.{◌++◌, take, drop, refl, ap, ◌∙◌}
 use Rattle.std.proofs.lemmas.List.{with_items_is}
 use Rattle.kernel_core.proofs.Behind.{progress-behind}
 use Rattle.kernel_core.proofs.order.put_behind.Goals as goal

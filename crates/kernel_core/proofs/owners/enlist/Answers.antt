@@ -1,5 +1,5 @@
 -- The end is noted for its owner, if there is one.
-use Rattle.std.proofs.Common.{◌≡◌, sym, ◌∙◌}
+use Rattle.std.proofs.Common.{sym, ◌∙◌}
 use Rattle.end_table.specs.Table.{entries}
 use Rattle.kernel_core.proofs.OwnersTold.{enlisted-none, enlisted-some}
 use Rattle.kernel_core.proofs.owners.enlist.Goals as goal

@@ -1,5 +1,5 @@
 -- The end leaves the set of its owner, or is in none.
-use Rattle.std.proofs.Common.{◌≡◌, sym, ◌∙◌}
+use Rattle.std.proofs.Common.{sym, ◌∙◌}
 use Rattle.kernel_core.proofs.OwnersTold.{released-none, released-some}
 use Rattle.kernel_core.proofs.owners.release.Goals as goal
 

@@ -1,16 +1,12 @@
 -- The values that came are away and apart, and the parts of the parcel are put in order.
-use Rattle.std.proofs.Common.{vec_len, refl, ◌≡◌, ℕ, ◌+◌, ◌≤◌, Option, Some, None, IsSome, IfSome, List, length, sym, ap, subst, ◌∙◌, arith, rules}
-use Rattle.end_table.specs.Table.{entries, IsHere}
-use Rattle.end_table.specs.declared.entry.Entry.TheVariants as entry
+use Rattle.std.proofs.Common.{vec_len, refl, ◌≡◌, ◌+◌, ◌≤◌, Option, Some, None, IsSome, IfSome, ◌∙◌, arith}
+use Rattle.end_table.specs.Table.{entries}
 use Rattle.end_table.specs.declared.entry.HereView.{HereView}
 use Rattle.end_table.specs.declared.entry.Holder.TheVariants.{EnclosedIn}
-use Rattle.kernel_core.specs.Order.{put_behind}
-use Rattle.kernel_core.proofs.Brought.{came-away, came-apart, apart-away, settled-others, parcel-taken, parcel-behind, parcel-arrives, parcel-takes}
-use Rattle.kernel_core.proofs.SoundParcels.{asks-here}
-use Rattle.kernel_step.specs.Actions.{settle_each, tell_arrivals}
-use Rattle.kernel_step.specs.Progress.{Progress, progress}
-use Rattle.kernel_step.specs.Rows.{asks, arrive_row, arrived_row, parcel_row, ends_in}
-use Rattle.move_core.specs.Arriving.{AreAway, AreApart}
+use Rattle.kernel_core.proofs.Brought.{came-away, came-apart, parcel-taken, parcel-behind, parcel-arrives, parcel-takes}
+use Rattle.kernel_step.specs.Progress.{progress}
+use Rattle.kernel_step.specs.Rows.{asks, parcel_row}
+use Rattle.move_core.specs.Arriving.{AreApart}
 use Rattle.kernel_core.proofs.parcel.take_parcel.Goals as goal
 
 pub arrive-requires-clause-away : goal.arrive-requires-clause-away

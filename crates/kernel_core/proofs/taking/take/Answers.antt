@@ -1,18 +1,16 @@
 -- The row goes well, the event closes, and the set of the end's owner is made anew.
-use Rattle.std.proofs.Common.{◌≡◌, ◌<◌, ℕ, IfSome, length, map, sym, ap, subst, ◌∙◌, false}
+use Rattle.std.proofs.Common.{◌<◌, IfSome, length, refl, sym, ap, subst, ◌∙◌}
 use Rattle.charlotte_calls.specs.Packets.{what_picture}
-use Rattle.charlotte_calls.specs.declared.names.EndId.{EndId}
-use Rattle.charlotte_calls.specs.declared.names.Pid.{Pid}
 use Rattle.end_table.specs.Place.{end_eq}
 use Rattle.end_table.specs.Table.{entries}
-use Rattle.kernel_core.proofs.KeptMoved.{Tells-moved, keys-moved, HavePlace-moved}
+use Rattle.kernel_core.proofs.ActiveSets.{tells_same}
+use Rattle.kernel_core.proofs.KeptMoved.{keys-moved, HavePlace-moved}
 use Rattle.kernel_core.proofs.Needs.{IsReady-sound}
-use Rattle.kernel_core.proofs.Takes.{row-goes, well-sound, well-reports, well-answers, row-sound, row-calm, owner-below, with_parts-kept, closes-table}
-use Rattle.kernel_core.specs.Kept.{IsKept}
-use Rattle.kernel_core.specs.Owners.{owner_of, IsCalmBut}
+use Rattle.kernel_core.proofs.Takes.{row-goes, well-reports, well-answers, row-sound, row-calm, owner-below, with_parts-kept, closes-table}
+use Rattle.kernel_core.specs.Owners.{owner_of}
 use Rattle.kernel_core.specs.Sound.{IsSound, GoesWell, addressee}
 use Rattle.kernel_core.specs.State.{ended, with_parts}
-use Rattle.kernel_step.specs.Kernel.{Kernel, closes}
+use Rattle.kernel_step.specs.Kernel.{closes}
 use Rattle.kernel_step.specs.Progress.{progress}
 use Rattle.kernel_step.specs.Rows.{row}
 use Rattle.kernel_core.proofs.taking.take.Goals as goal
@@ -57,6 +55,6 @@ returns-clause-kept c =
       sound = subst (λ n. IsSound c.close-effect.new.table.kernel c.args.made n (entries c.close-effect.new.table)) (sym (c.refresh_owner.ensures.length ∙ c.close-effect.ensures.kept.length)) sound;
       active =
           c.refresh_owner.ensures.told (entries c.args.table.now) c.owner-before.ensures
-          (Tells-moved (entries c.args.table.now) c.args.processes.now c.close-effect.new.processes (keys-moved c.args.processes.now c.close-effect.new.processes c.close-effect.ensures.kept.active) c.requires.kept.active)
+          (tells_same (entries c.args.table.now) (entries c.args.table.now) c.args.processes.now c.close-effect.new.processes c.requires.kept.active (keys-moved c.args.processes.now c.close-effect.new.processes c.close-effect.ensures.kept.active) (λ p e. refl))
           (λ p e apart. c.close-effect.ensures.calm.calm p e ∙ row-calm c.args.table.now.kernel c.args.made (length c.args.processes.now) c.args.from (what_picture c.args.what) (entries c.args.table.now) (entries c.row.new.table) c.args.work c.row.new.out c.requires.started.reports c.requires.started.answers c.requires.kept.sound c.row.ensures.part p e (ap (λ to. end_eq to e) (sym c.addressee-to.ensures) ∙ apart));
     }

@@ -1,5 +1,5 @@
 -- The reserved room leaves everything as it was.
-use Rattle.std.proofs.Common.{◌≡◌, sym, ap, ◌∙◌}
+use Rattle.std.proofs.Common.{sym, ap, ◌∙◌}
 use Rattle.charlotte_calls.specs.Packets.{what_picture}
 use Rattle.end_table.specs.Table.{entries}
 use Rattle.kernel_core.proofs.Reserved.{reserved-kept, reserved-parts}

@@ -1,5 +1,5 @@
 -- The event is that of the kernel's parts.
-use Rattle.std.proofs.Common.{◌≡◌, ◌<◌, length, map, max, sym, ap, subst, ◌∙◌, refl}
+use Rattle.std.proofs.Common.{◌≡◌, map, sym, ap, subst, ◌∙◌, refl}
 use Rattle.std.proofs.lemmas.List.{with_items_is}
 use Rattle.std.specs.Vec.{with_items}
 use Rattle.charlotte_calls.specs.Packets.{packet_picture}
