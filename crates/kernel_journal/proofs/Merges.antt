@@ -1,14 +1,18 @@
 -- Merges: there is one of given journals, and placing the first head each time makes it.
-use Rattle.std.proofs.Common.{◌≡◌, ℕ, ◌+◌, ◌<◌, ◌≤◌, ◌≢◌, ◌⊎◌, inl, inr, true, false, IsTrue, nat_lt, nat_eq, ◌||◌, ◌&&◌, List, [], ◌∷◌, ◌++◌, length, drop, set, get_or, slice_index, None, Some, Decides, refl, sym, ap, ◌∙◌, subst, append_assoc, append-nil, get_or-set_same, get_or-set_other, arith}
+use Rattle.std.proofs.Common.{◌≡◌, ℕ, ◌+◌, ◌<◌, ◌≤◌, ◌≢◌, ◌⊎◌, inl, inr, true, false, IsTrue, nat_lt, nat_eq, ◌||◌, ◌&&◌, List, [], ◌∷◌, ◌++◌, length, set, Some, Decides, refl, sym, ap, ◌∙◌, subst, append_assoc, append-nil, get_or-set_same, get_or-set_other, arith}
 use Rattle.std.proofs.lemmas.Bool.Decides.{Decides-or, Decides-and, Decides-ltb, Decides-eqb, eqb_tells, leb_tells}
+use Rattle.std.proofs.lemmas.List.Sums.{sum_by-set}
+use Rattle.std.specs.List.{sum_by}
+use Rattle.std.specs.declared.alloc.Global.{Global}
+use Rattle.std.specs.declared.collections.VecDeque.{VecDeque}
 use Rattle.kernel_world.specs.declared.entry.Entry.{Entry}
 use Rattle.kernel_world.specs.declared.entry.Placed.{Placed}
 use Rattle.kernel_world.specs.Run.{stands_before, AreInOrder, of_kernel, IsMerge}
-use Rattle.kernel_journal.specs.Journal.{Kept, AreRising}
-use Rattle.kernel_journal.specs.Heads.{lists, entries_at, rest, head_stamp, IsNoLater, IsFirstBelow}
+use Rattle.kernel_journal.specs.Journal.{AreRising}
+use Rattle.kernel_journal.specs.Heads.{queued, entries_at, first_stamp, IsNoLater, IsFirstBelow, StandsBeforeHeads, IsPopped}
 use Rattle.kernel_journal.specs.declared.merging.Head.{Head}
-use Rattle.kernel_journal.proofs.Heads.{entries_at-is, entries_at-none, drop-none, stamp-of_first, none-left}
-use Rattle.kernel_journal.proofs.Rising.{AreRising-drop}
+use Rattle.kernel_journal.proofs.Heads.{entries_at-none}
+use Rattle.kernel_journal.proofs.Rising.{AreRising-tail}
 
 -- what the order says of stamps and kernels
 abbrev Before : ℕ → ℕ → ℕ → ℕ → Type 0
@@ -146,24 +150,13 @@ pub record IsSoFar (all rests : ℕ → List Entry) (merged : List Placed) : Typ
   pub entries : (k : ℕ) → of_kernel k merged ++ rests k ≡ all k
   pub next : (k : ℕ) → IsNext merged k (rests k)
 
-IsNext-first : (k : ℕ) (es : List Entry) → IsNext [] k es
-IsNext-first k [] = tt
-IsNext-first k (e ∷ es) = tt
-
-pub IsSoFar-start : (all : ℕ → List Entry) → IsSoFar all all []
-IsSoFar-start all = record { order = tt; entries = λ k. refl; next = λ k. IsNext-first k (all k) }
-
-pub IsSoFar-end : (journals : List (List Entry)) (all rests : ℕ → List Entry) (merged : List Placed) → IsSoFar all rests merged → ((k : ℕ) → rests k ≡ []) → (k : ℕ) → of_kernel k merged ≡ all k
-IsSoFar-end js all rests merged s h k = sym (append-nil (of_kernel k merged)) ∙ ap (λ es. of_kernel k merged ++ es) (sym (h k)) ∙ s.entries k
+IsSoFar-end : (all rests : ℕ → List Entry) (merged : List Placed) → IsSoFar all rests merged → ((k : ℕ) → rests k ≡ []) → (k : ℕ) → of_kernel k merged ≡ all k
+IsSoFar-end all rests merged s h k = sym (append-nil (of_kernel k merged)) ∙ ap (λ es. of_kernel k merged ++ es) (sym (h k)) ∙ s.entries k
 
 AreInOrder-push : (ps : List Placed) (x y : Placed) → AreInOrder (ps ++ x ∷ []) → IsTrue (stands_before x y) → AreInOrder ((ps ++ x ∷ []) ++ y ∷ [])
 AreInOrder-push [] x y o h = (h, tt)
 AreInOrder-push (p ∷ []) x y o h = (o.0, (h, tt))
 AreInOrder-push (p ∷ q ∷ ps) x y o h = (o.0, AreInOrder-push (q ∷ ps) x y o.1 h)
-
--- the head of this kernel stands before those of the others
-abbrev StandsBeforeHeads : (ℕ → List Entry) → ℕ → Entry → Type 0
-StandsBeforeHeads rests k e = (j : ℕ) → j ≢ k → (f : Entry) (fs : List Entry) → rests j ≡ f ∷ fs → IsTrue (stands_before (record { kernel = k; entry = e }) (record { kernel = j; entry = f }))
 
 next-other : (merged : List Placed) (x : Placed) (j : ℕ) (es : List Entry) → AreInOrder (merged ++ x ∷ []) → ((f : Entry) (fs : List Entry) → es ≡ f ∷ fs → IsTrue (stands_before x (record { kernel = j; entry = f }))) → IsNext (merged ++ x ∷ []) j es
 next-other merged x j [] o h = tt
@@ -177,7 +170,7 @@ rising-before k e (g ∷ gs) r f fs h =
     before-if (record { kernel = k; entry = e }) (record { kernel = k; entry = f }) (inl lt)
 
 -- the first head is placed
-pub IsSoFar-more : (all rests more : ℕ → List Entry) (merged : List Placed) (k : ℕ) (e : Entry) (es : List Entry) → IsSoFar all rests merged → rests k ≡ e ∷ es → more k ≡ es → ((j : ℕ) → j ≢ k → more j ≡ rests j) → AreRising (e ∷ es) → StandsBeforeHeads rests k e → IsSoFar all more (merged ++ record { kernel = k; entry = e } ∷ [])
+IsSoFar-more : (all rests more : ℕ → List Entry) (merged : List Placed) (k : ℕ) (e : Entry) (es : List Entry) → IsSoFar all rests merged → rests k ≡ e ∷ es → more k ≡ es → ((j : ℕ) → j ≢ k → more j ≡ rests j) → AreRising (e ∷ es) → StandsBeforeHeads rests k e → IsSoFar all more (merged ++ record { kernel = k; entry = e } ∷ [])
 IsSoFar-more all rests more merged k e es s is here others rising before =
     let x : Placed = record { kernel = k; entry = e } in
     let o : AreInOrder (merged ++ x ∷ []) = subst (λ (fs : List Entry). IsNext merged k fs) is (s.next k) in
@@ -210,38 +203,61 @@ no-later-before head e f i same ne later =
     ])
 
 -- the first of all heads stands before every other
-first-of_all : (js : List Kept) (ps : List ℕ) (head : Head) (e : Entry) (es : List Entry) → IsFirstBelow js ps (length js) (Some head) → rest js ps head.kernel ≡ e ∷ es → StandsBeforeHeads (rest js ps) head.kernel e
-first-of_all js ps head e es first is i ne f fs q =
-    let stamp : head_stamp js ps head.kernel ≡ Some e.stamp = stamp-of_first (entries_at js head.kernel) (slice_index ps head.kernel) e es is in
-    let other : head_stamp js ps i ≡ Some f.stamp = stamp-of_first (entries_at js i) (slice_index ps i) f fs q in
-    let known : head_stamp js ps head.kernel ≡ Some head.stamp = first.1 in
+first-of_all : (ls : List (List Entry)) (n : ℕ) (head : Head) (e : Entry) (es : List Entry) → length ls ≤ n → IsFirstBelow ls n (Some head) → entries_at ls head.kernel ≡ e ∷ es → StandsBeforeHeads (entries_at ls) head.kernel e
+first-of_all ls n head e es all first is i ne f fs q =
+    let stamp : first_stamp (entries_at ls head.kernel) ≡ Some e.stamp = ap first_stamp is in
+    let other : first_stamp (entries_at ls i) ≡ Some f.stamp = ap first_stamp q in
+    let known : first_stamp (entries_at ls head.kernel) ≡ Some head.stamp = first.1 in
     let same : e.stamp ≡ head.stamp = cc in
-    elim (leb_tells (length js) i) [
-      | inl w ↦
-          let no : [] ≡ f ∷ fs = sym (drop-none (slice_index ps i)) ∙ ap (λ (xs : List Entry). drop (slice_index ps i) xs) (sym (entries_at-none js i w.1)) ∙ q in
-          absurd (cc)
+    elim (leb_tells n i) [
+      | inl w ↦ let no : [] ≡ f ∷ fs = sym (entries_at-none ls i (omega (arith, w.1))) ∙ q in absurd (cc)
       | inr w ↦ no-later-before head e f i same ne (first.2 i w.1 f.stamp other)
     ]
 
--- the merge so far after the first head is placed
-pub IsSoFar-placed : (js : List Kept) (ps : List ℕ) (merged : List Placed) (head : Head) (j : Kept) (e : Entry) → length ps ≡ 8 → length js ≤ 8 → IsFirstBelow js ps (length js) (Some head) → j ≡ get_or js head.kernel j → drop (slice_index ps head.kernel) j.entries ≡ e ∷ drop (slice_index ps head.kernel + 1) j.entries → AreRising j.entries → IsSoFar (entries_at js) (rest js ps) merged → IsSoFar (entries_at js) (rest js (set ps head.kernel (slice_index ps head.kernel + 1))) (merged ++ record { kernel = head.kernel; entry = e } ∷ [])
-IsSoFar-placed js ps merged head j e eight few first is split rising so_far =
-    let k : ℕ = head.kernel in
-    let p : ℕ = slice_index ps head.kernel in
-    let below : head.kernel < length js = first.0 in
-    let at : entries_at js head.kernel ≡ j.entries = entries_at-is js head.kernel j below ∙ ap (λ (x : Kept). x.entries) (sym is) in
-    let now : rest js ps head.kernel ≡ e ∷ drop (p + 1) j.entries = ap (λ (xs : List Entry). drop p xs) at ∙ split in
-    let within : head.kernel < length ps = omega arith in
-    let then : rest js (set ps head.kernel (p + 1)) head.kernel ≡ drop (p + 1) j.entries = ap (λ (i : ℕ). drop i (entries_at js head.kernel)) (get_or-set_same ps head.kernel (p + 1) 0 within) ∙ ap (λ (xs : List Entry). drop (p + 1) xs) at in
-    let others : (i : ℕ) → i ≢ head.kernel → rest js (set ps head.kernel (p + 1)) i ≡ rest js ps i = λ i ne. ap (λ (n : ℕ). drop n (entries_at js i)) (get_or-set_other ps head.kernel i (p + 1) 0 ne) in
-    let ups : AreRising (e ∷ drop (p + 1) j.entries) = subst (λ (xs : List Entry). AreRising xs) split (AreRising-drop p j.entries rising) in
-    IsSoFar-more (entries_at js) (rest js ps) (rest js (set ps head.kernel (p + 1))) merged head.kernel e (drop (p + 1) j.entries) so_far now then others ups (first-of_all js ps head e (drop (p + 1) j.entries) first now)
+-- the first entry of the first head's list is popped
+pub IsPopped-first : (ls : List (List Entry)) (n : ℕ) (head : Head) (e : Entry) (es : List Entry) → length ls ≡ n → IsFirstBelow ls n (Some head) → entries_at ls head.kernel ≡ e ∷ es → IsPopped ls (set ls head.kernel es) (record { kernel = head.kernel; entry = e })
+IsPopped-first ls n head e es all first is =
+    let within : head.kernel < length ls = omega (arith, first.0, all) in
+    let here : entries_at (set ls head.kernel es) head.kernel ≡ es = get_or-set_same ls head.kernel es [] within in
+    let sums : sum_by length (set ls head.kernel es) + length (entries_at ls head.kernel) ≡ sum_by length ls + length es = sum_by-set length ls head.kernel es [] within in
+    let long : length (entries_at ls head.kernel) ≡ length es + 1 = ap length is ∙ omega arith in
+    record {
+      entry = is ∙ ap (λ (xs : List Entry). e ∷ xs) (sym here);
+      others = λ k ne. get_or-set_other ls head.kernel k es [] ne;
+      first = first-of_all ls n head e es (omega (arith, all)) first is;
+      count = omega (arith, sums, long);
+    }
 
--- where no head is left, the merge is whole
-pub IsMerge-end : (js : List Kept) (ps : List ℕ) (merged : List Placed) → IsFirstBelow js ps (length js) None → IsSoFar (entries_at js) (rest js ps) merged → IsMerge (lists js) merged
-IsMerge-end js ps merged none so_far =
-    let nothing : (k : ℕ) → rest js ps k ≡ [] = λ k. elim (leb_tells (length js) k) [
-      | inl w ↦ ap (λ (xs : List Entry). drop (slice_index ps k) xs) (entries_at-none js k w.1) ∙ drop-none (slice_index ps k)
-      | inr w ↦ none-left (entries_at js k) (slice_index ps k) (none k w.1)
-    ] in
-    record { order = so_far.order; entries = IsSoFar-end (lists js) (entries_at js) (rest js ps) merged so_far nothing }
+-- the merge so far after the first entry of all is placed
+IsSoFar-popped : (all : ℕ → List Entry) (before after : List (List Entry)) (merged : List Placed) (placed : Placed) → IsPopped before after placed → AreRising (entries_at before placed.kernel) → IsSoFar all (entries_at before) merged → IsSoFar all (entries_at after) (merged ++ placed ∷ [])
+IsSoFar-popped all before after merged placed popped rising so_far =
+    let ups : AreRising (placed.entry ∷ entries_at after placed.kernel) = subst (λ (xs : List Entry). AreRising xs) popped.entry rising in
+    IsSoFar-more all (entries_at before) (entries_at after) merged placed.kernel placed.entry (entries_at after placed.kernel) so_far popped.entry refl popped.others ups popped.first
+
+-- what is left after that rises too
+AreRising-popped : (before after : List (List Entry)) (placed : Placed) → IsPopped before after placed → ((k : ℕ) → AreRising (entries_at before k)) → (k : ℕ) → AreRising (entries_at after k)
+AreRising-popped before after placed popped rising k =
+    elim (eqb_tells k placed.kernel) [
+      | inl w ↦ subst (λ (i : ℕ). AreRising (entries_at after i)) (sym w.1) (AreRising-tail placed.entry (entries_at after placed.kernel) (subst (λ (xs : List Entry). AreRising xs) popped.entry (rising placed.kernel)))
+      | inr w ↦ subst (λ (xs : List Entry). AreRising xs) (sym (popped.others k w.1)) (rising k)
+    ]
+
+-- the queues hold what the merge so far has not placed
+pub record IsMerging (journals : List (List Entry)) (queues : List (VecDeque Entry Global)) (merged : List Placed) : Type 0 where
+  pub few : length queues ≤ 8
+  pub rising : (k : ℕ) → AreRising (entries_at (queued queues) k)
+  pub so_far : IsSoFar (entries_at journals) (entries_at (queued queues)) merged
+
+pub IsMerging-more : (journals : List (List Entry)) (before after : List (VecDeque Entry Global)) (merged : List Placed) (placed : Placed) → length after ≡ length before → IsPopped (queued before) (queued after) placed → IsMerging journals before merged → IsMerging journals after (merged ++ placed ∷ [])
+IsMerging-more journals before after merged placed long popped merging =
+    let few : length before ≤ 8 = merging.few in
+    record {
+      few = omega arith;
+      rising = AreRising-popped (queued before) (queued after) placed popped merging.rising;
+      so_far = IsSoFar-popped (entries_at journals) (queued before) (queued after) merged placed popped (merging.rising placed.kernel) merging.so_far;
+    }
+
+-- where no entry is left, the merge is whole
+pub IsMerging-end : (journals : List (List Entry)) (queues : List (VecDeque Entry Global)) (merged : List Placed) → ((k : ℕ) → entries_at (queued queues) k ≡ []) → IsMerging journals queues merged → IsMerge journals merged
+IsMerging-end journals queues merged nothing merging =
+    record { order = merging.so_far.order; entries = IsSoFar-end (entries_at journals) (entries_at (queued queues)) merged merging.so_far nothing }

@@ -1,5 +1,5 @@
 -- Journals whose stamps rise.
-use Rattle.std.proofs.Common.{ℕ, zero, suc, ◌<◌, ◌≤◌, arith, List, [], ◌∷◌, ◌++◌, drop}
+use Rattle.std.proofs.Common.{ℕ, ◌<◌, ◌≤◌, arith, List, [], ◌∷◌, ◌++◌}
 use Rattle.kernel_journal.specs.Journal.{AreRising, IsAfterLast}
 use Rattle.kernel_world.specs.declared.entry.Entry.{Entry}
 
@@ -9,12 +9,10 @@ AreRising-push [] e r a = tt
 AreRising-push (f ∷ []) e r a = (a, tt)
 AreRising-push (f ∷ g ∷ es) e r a = (r.0, AreRising-push (g ∷ es) e r.1 a)
 
--- so are the entries from a place on
-pub AreRising-drop : (p : ℕ) (es : List Entry) → AreRising es → AreRising (drop p es)
-AreRising-drop zero es r = r
-AreRising-drop (suc p) [] r = tt
-AreRising-drop (suc p) (e ∷ []) r = AreRising-drop p [] tt
-AreRising-drop (suc p) (e ∷ f ∷ es) r = AreRising-drop p (f ∷ es) r.1
+-- without the first entry it still rises
+pub AreRising-tail : (e : Entry) (es : List Entry) → AreRising (e ∷ es) → AreRising es
+AreRising-tail e [] r = tt
+AreRising-tail e (f ∷ es) r = r.1
 
 -- a later stamp is after the last entry too
 pub IsAfterLast-later : (es : List Entry) (s t : ℕ) → IsAfterLast es s → s ≤ t → IsAfterLast es t

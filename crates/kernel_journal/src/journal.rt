@@ -1,4 +1,4 @@
-ghost use Rattle.std.specs.Prelude.{◌≡◌, ◌+◌, ◌≤◌, ◌<◌, [], ◌∷◌, ◌++◌, OnOk, OnErr, IsOk};
+ghost use Rattle.std.specs.Prelude.{◌≡◌, ◌+◌, ◌≤◌, ◌<◌, [], ◌∷◌, ◌++◌, IfOk, OnOk, OnErr, IsOk};
 
 use crate::Entry;
 use charlotte_calls::NoMemory;
@@ -40,6 +40,25 @@ impl Journal {
         ensures rising { AreRising self.now.entries }
     {
         self.entries.as_slice()
+    }
+
+    /// The entries, moved out.
+    pub fn into_entries(self) -> Vec<Entry>
+        ensures same { result.items ≡ self.entries }
+        ensures rising { AreRising self.entries }
+    {
+        self.entries
+    }
+
+    /// A journal with equal entries.
+    pub fn copy(&self, alloc: Global) -> Result<Journal, NoMemory>
+        ensures { IfOk result (λ copy. copy.entries ≡ self.now.entries) }
+    {
+        let mut entries = Vec::with_capacity(alloc, self.entries.len())?;
+        for entry in &self.entries {
+            entries.push(entry.copy(alloc)?)?;
+        }
+        Ok(Journal { entries })
     }
 
     /// Appends an entry, whose stamp has to be greater than the last. It succeeds where there is room.

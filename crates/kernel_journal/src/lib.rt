@@ -16,5 +16,5 @@ mod tests;
 pub use journal::Journal;
 pub use kernel_world::{Entry, Happened, Placed};
 pub use last::{Last, ScriptNote};
-pub use merging::merge;
+pub use merging::{merge, merge_whole};
 pub use print::{print_entry, print_header, print_picture, print_transcript};

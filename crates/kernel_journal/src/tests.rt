@@ -2,7 +2,9 @@ ghost use Rattle.std.specs.Prelude.{◌≡◌, IfOk};
 
 mod forms;
 
-use crate::{Entry, Happened, Journal, Last, Placed, merge, print_entry, print_transcript};
+use crate::{
+    Entry, Happened, Journal, Last, Placed, merge, merge_whole, print_entry, print_transcript,
+};
 use charlotte_calls::{
     Bytes, Call, EndId, Ends, Items, LinkId, Outcome, Picture, PictureWhat, Pid, Report,
     ServiceStep, Setting, Short, Side, Way,
@@ -232,11 +234,16 @@ fn merge_goes_by_stamp_and_then_by_kernel(rt: HostRuntime) -> Result<(), Fail> {
         of_two(&rt, alloc, 2, 3)?,
     ]?;
     assert!(rt; journals.len() <= 8);
-    let merged = merge(alloc, &journals)?;
     let wanted = [(1, 0), (1, 1), (2, 1), (2, 2), (3, 2), (4, 0)];
+    same_order(&rt, &merge(alloc, &journals)?, &wanted);
+    same_order(&rt, &merge_whole(alloc, journals)?, &wanted);
+    Ok(())
+}
+
+/// The entries have these stamps and kernels.
+fn same_order(rt: &impl Abort, merged: &[Placed], wanted: &[(u64, u8)]) {
     assert_eq!(rt; merged.len(), wanted.len());
     for (placed, want) in merged.iter().zip(wanted) {
-        assert_eq!(rt; (placed.entry.stamp, placed.kernel), want);
+        assert_eq!(rt; (placed.entry.stamp, placed.kernel), *want);
     }
-    Ok(())
 }

@@ -13,7 +13,7 @@ ghost use Rattle.script_run.specs.Performing.{AreRisingLines, IsLast, IsPerforma
 use crate::lines::do_line;
 use crate::node::Node;
 use charlotte_calls::{Items, NoMemory, Setting};
-use kernel_journal::{Last, Placed, ScriptNote, merge};
+use kernel_journal::{Last, Placed, ScriptNote, merge_whole};
 use lynx_plan::{Script, ScriptLine};
 use std::alloc::Global;
 
@@ -125,5 +125,5 @@ fn merge_journals(alloc: Global, nodes: Vec<Node>) -> Result<Vec<Placed>, NoMemo
         } = node;
         journals.push(journal)?;
     }
-    merge(alloc, &journals)
+    merge_whole(alloc, journals)
 }
