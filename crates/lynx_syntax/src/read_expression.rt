@@ -85,6 +85,7 @@ impl<'a> Reader<'a> {
             self.advance();
             members.push(self.conj(room)?)?;
         }
+        members.shrink_to_fit();
         Ok(members)
     }
 
@@ -116,6 +117,7 @@ impl<'a> Reader<'a> {
             self.advance();
             members.push(self.rel(room)?)?;
         }
+        members.shrink_to_fit();
         Ok(members)
     }
 
@@ -157,6 +159,7 @@ impl<'a> Reader<'a> {
             self.advance();
             rest.push((sign, self.term(room)?))?;
         }
+        rest.shrink_to_fit();
         Ok(rest)
     }
 
@@ -184,6 +187,7 @@ impl<'a> Reader<'a> {
             self.advance();
             rest.push((sign, self.unary(room)?))?;
         }
+        rest.shrink_to_fit();
         Ok(rest)
     }
 

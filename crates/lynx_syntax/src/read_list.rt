@@ -30,6 +30,7 @@ impl<'a> Reader<'a> {
             self.advance();
             all.push(self.name()?)?;
         }
+        all.shrink_to_fit();
         Ok(all)
     }
 
@@ -61,6 +62,7 @@ impl<'a> Reader<'a> {
             self.advance();
             all.push(self.expr(room)?)?;
         }
+        all.shrink_to_fit();
         Ok(all)
     }
 
@@ -112,6 +114,7 @@ impl<'a> Reader<'a> {
             self.advance();
             all.push(self.type_name()?)?;
         }
+        all.shrink_to_fit();
         Ok(all)
     }
 

@@ -106,6 +106,7 @@ impl<'a> Reader<'a> {
             all.push(self.stmt(room)?)?;
             self.sign(Sign::Semicolon)?;
         }
+        all.shrink_to_fit();
         Ok(all)
     }
 
@@ -264,6 +265,7 @@ impl<'a> Reader<'a> {
             }
             all.push(self.handler(room)?)?;
         }
+        all.shrink_to_fit();
         Ok(all)
     }
 
