@@ -1,10 +1,9 @@
 //! The module of a source.
 
-ghost use Rattle.std.specs.Prelude.{◌≡◌, ◌<◌, length};
+ghost use Rattle.std.specs.Prelude.{◌≡◌, ◌<◌, Err, length};
 ghost use Rattle.lynx_lexer.specs.Answers.{IsFaultOf as IsLexFaultOf};
 ghost use Rattle.lynx_syntax.specs.Answers.{kinds, IsFaultOf};
 ghost use Rattle.lynx_syntax.specs.Trees.{module_tree};
-ghost use Rattle.std.specs.Prelude.{Err};
 ghost use Rattle.lynx_source.specs.Places.{place_of};
 ghost use Rattle.lynx_source.specs.Sources.{IsReadAs, AreTokensOf, first_byte, reading_of};
 
