@@ -16,7 +16,7 @@ struct Head {
     stamp: u64,
 }
 
-/// All entries of at most eight journals, one for each kernel in order, by stamp and kernel. They are copied.
+/// All entries of at most eight journals, one for each kernel in order, by stamp and kernel. The entries are copied.
 pub fn merge(alloc: Global, journals: &[Journal]) -> Result<Vec<Placed>, NoMemory>
     requires { length journals.now ≤ 8 }
     ensures merge { IfOk result (λ merged. IsMerge (lists journals.now) merged.items) }
@@ -25,7 +25,7 @@ pub fn merge(alloc: Global, journals: &[Journal]) -> Result<Vec<Placed>, NoMemor
     merge_whole(alloc, copies_of(alloc, journals)?)
 }
 
-/// All entries of at most eight journals, one for each kernel in order, by stamp and kernel. They are moved.
+/// All entries of at most eight journals, one for each kernel in order, by stamp and kernel. The entries are moved.
 pub fn merge_whole(alloc: Global, journals: Vec<Journal>) -> Result<Vec<Placed>, NoMemory>
     requires { length journals.items ≤ 8 }
     ensures merge { IfOk result (λ merged. IsMerge (lists journals.items) merged.items) }
