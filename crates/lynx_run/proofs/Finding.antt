@@ -24,28 +24,6 @@ abbrev pub read_found : Result (Vec ℕ Global) FileAnswer → Found
 read_found (Ok bytes) = Ok bytes.items
 read_found (Err answer) = Err (failure_of_file answer)
 
--- a file that gives no bytes gives none to a command
-pub err_in : (In : List ℕ → Found → Type 0) (file : Option (List ℕ)) (f : Failure) → FindsIn IsBytes file (Err f) → FindsIn In file (Err f)
-err_in In file ReadFault h = tt
-err_in In file NoMemory h = tt
-err_in In file Absent h = h
-err_in In file TooBig h = h
-err_in In (Some bytes) Usage h = absurd cc
-err_in In (Some bytes) (Script n rule) h = absurd cc
-err_in In (Some bytes) (Lex at number) h = absurd cc
-err_in In (Some bytes) (Syntax at) h = absurd cc
-err_in In (Some bytes) (Deep at) h = absurd cc
-err_in In (Some bytes) Unbuilt h = absurd cc
-err_in In None Usage h = h
-err_in In None (Script n rule) h = h
-err_in In None (Lex at number) h = h
-err_in In None (Syntax at) h = h
-err_in In None (Deep at) h = h
-err_in In None Unbuilt h = h
-
-pub finds_err : (In : List ℕ → Found → Type 0) (files : Option Listing) (name : List ℕ) (f : Failure) → Finds IsBytes files name (Err f) → Finds In files name (Err f)
-finds_err In files name f h = (h.0, h.1, err_in In h.0 f h.2)
-
 -- what a command finds in bytes tells nothing of a file that gives none
 pub record FindsBytes (In : List ℕ → Found → Type 0) : Type 0 where
   pub not_absent : (bytes : List ℕ) → In bytes (Err Absent) → ⊥
@@ -123,11 +101,3 @@ pub lines_found : (In : List ℕ → Found → Type 0) (files : Option Listing) 
 lines_found In files name r bytes read found is h was same g =
     let h' : Finds IsBytes files name (Ok bytes.items) = subst (λ (x : Result (Vec ℕ Global) Failure). Finds IsBytes files name (found_bytes x)) was h in
     finds_ok In files name bytes.items found is h' (subst (λ (bs : List ℕ). In bs found) same g)
-
--- a file that gave no bytes
-pub none_found : (In : List ℕ → Found → Type 0) (files : Option Listing) (name : List ℕ) (r : Result (Vec ℕ Global) Failure) (s : Result (Vec (Vec ℕ Global) Global) Failure) (f : Failure)
-    → Finds IsBytes files name (found_bytes r) → r ≡ Err f → IsErrAnd s (λ e. e ≡ f) → Finds In files name (found_text s)
-none_found In files name r (Ok lines) f h was is = absurd is
-none_found In files name r (Err e) f h was is =
-    let h' : Finds IsBytes files name (Err f) = subst (λ (x : Result (Vec ℕ Global) Failure). Finds IsBytes files name (found_bytes x)) was h in
-    subst (λ (x : Failure). Finds In files name (Err x)) (sym is) (finds_err In files name f h')

@@ -7,9 +7,9 @@ use Rattle.lynx_syntax.proofs.printing.print.Goals as goal
 
 pub returns-clause-text : goal.returns-clause-text
 returns-clause-text c =
-    c.in_ok-push_module.ensures ∙ ap (λ (y : List ℕ). y ++ text_of (module_marks (module_tree c.args.module.now))) c.new-out.ensures.items ∙ sym (printed-kinds (module_marks (module_tree c.args.module.now)))
+    c.in_ok-push_module.ensures ∙ ap (λ (y : List ℕ). y ++ text_of (module_marks (module_tree c.args.tree.now))) c.new-out.ensures.items ∙ sym (printed-kinds (module_marks (module_tree c.args.tree.now)))
 
 pub returns-clause-spelled : goal.returns-clause-spelled
 returns-clause-spelled c =
-    spelled (kinds_of (module_tree c.args.module.now)) _ c.requires.tokens
-    (c.in_ok-push_module.ensures ∙ ap (λ (y : List ℕ). y ++ text_of (module_marks (module_tree c.args.module.now))) c.new-out.ensures.items ∙ sym (printed-kinds (module_marks (module_tree c.args.module.now))))
+    spelled (kinds_of (module_tree c.args.tree.now)) _ c.requires.tokens
+    (c.in_ok-push_module.ensures ∙ ap (λ (y : List ℕ). y ++ text_of (module_marks (module_tree c.args.tree.now))) c.new-out.ensures.items ∙ sym (printed-kinds (module_marks (module_tree c.args.tree.now))))
