@@ -7,7 +7,7 @@ use Rattle.lynx_outside.specs.Files.{Listing, bytes_of, Reads}
 use Rattle.lynx_outside.specs.declared.files.FileAnswer.{FileAnswer}
 use Rattle.lynx_outside.specs.declared.files.FileAnswer.TheVariants as answers
 use Rattle.lynx_run.specs.Failures.{failure_of_file}
-use Rattle.lynx_run.specs.Found.{Found, most_bytes, FindsIn, Finds, IsBytes, found_bytes, found_text}
+use Rattle.lynx_run.specs.Found.{Found, most_bytes, FindsIn, Finds, IsBytes, found_bytes}
 use Rattle.lynx_run.specs.declared.failure.Failure.{Failure}
 use Rattle.lynx_run.specs.declared.failure.Failure.TheVariants.{Usage, ReadFault, Absent, TooBig, Script, Lex, Syntax, Deep, Unbuilt, NoMemory}
 
