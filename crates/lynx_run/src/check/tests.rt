@@ -55,17 +55,6 @@ fn modules_and_their_faults(rt: HostRuntime) -> Result<(), Fail> {
 }
 
 #[test]
-fn a_module_nested_too_deeply(rt: HostRuntime) -> Result<(), Fail> {
-    let alloc = rt.alloc();
-    let mut source = b"module m;\nbegin\n".to_vec(alloc)?;
-    for _ in 0..65 {
-        source.extend_from_slice(b"try ")?;
-    }
-    let line = "m:3:257: deep\n";
-    ends(&rt, alloc, source.as_slice(), Status::Refused, ("", line))
-}
-
-#[test]
 fn the_longest_module_and_one_byte_more(rt: HostRuntime) -> Result<(), Fail> {
     let alloc = rt.alloc();
     let mut source = b"module m; begin end.\n--".to_vec(alloc)?;
