@@ -342,12 +342,15 @@ def may_send_first(told: Told, number: int, tail: Event, words: list[str]) -> bo
 
 
 def faults_of_holders(picture: Picture, told: Told) -> list[str]:
-    """At the height of each event the column of each end has the colour of its holder, and a red edge where it is dead."""
+    """In each row the column of each end has the colour of its holder, and a red edge where it is dead."""
     faults = []
     columns = {end: box.x for end, _, box in picture.holds}
     if len(set(columns.values())) != len(columns) or any(box.x != columns[end] for end, _, box in picture.holds):
         faults.append("an end has not one column of its own")
-    for event, holders, dead in zip(told.events, told.holders, told.dead):
+    # A row is a stamp, so it shows what holds after the last event of that stamp.
+    rows = {event.stamp: number for number, event in enumerate(told.events)}
+    for number in rows.values():
+        event, holders, dead = told.events[number], told.holders[number], told.dead[number]
         y = picture.cards[event.line].y + 3
         seen = {}
         for end, holder, box in picture.holds:

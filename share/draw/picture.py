@@ -29,6 +29,7 @@ text { font: 11px ui-monospace, Menlo, Consolas, 'DejaVu Sans Mono', monospace; 
 .step { font-size: 10.5px; fill: #4a4f55; }
 .refused { fill: #b3261e; }
 .label { font-size: 9.5px; }
+.inside { paint-order: stroke; stroke: #fbf6e3; stroke-width: 3px; stroke-linejoin: round; }
 .card rect.box { fill: #fff; stroke: #8a929c; }
 .card.taking rect.box { fill: #f1f3f6; stroke: #c3c9d1; }
 .card.refusal rect.box { stroke: #b3261e; }
@@ -176,7 +177,7 @@ class Picture:
                 x += 10
             self.columns[end] = x
             x += self.column_width + 3
-        self.right = x
+        self.right = max(x, self.after_lanes + 20 * SANS_CHAR) if self.ends else x
 
     def place_heads(self) -> None:
         self.legend_top = MARGIN + 34
@@ -278,7 +279,7 @@ class Picture:
         if any(" " in holder for holder in holders):
             items.append(("enclosed", "end inside a message"))
         if "dead" in holders:
-            items.append(("dead", "its owner's kernel knows that the link is dead"))
+            items.append(("dead", "opposite end known to be destroyed"))
         if "destroyed" in holders:
             items.append(("destroyed", "end destroyed"))
         return items
@@ -449,10 +450,10 @@ class Picture:
     def draw_hold(self, change: Change, top: float, stop: float) -> None:
         x, width = self.columns[change.end], self.column_width
         if " " in change.holder:
-            fill, ink, edge = "url(#enclosed)", "#1a1a1a", ' stroke="#d9c27a"'
+            fill, ink, edge, look = "url(#enclosed)", "#1a1a1a", ' stroke="#d9c27a"', "label inside"
         else:
             fill = colour_of(int(change.holder[1:]))
-            ink, edge = ink_on(fill), ""
+            ink, edge, look = ink_on(fill), "", "label"
         label = self.holder_label(change.holder)
         since = 0 if change.event < 0 else self.transcript.entries[change.event].line
         self.add(f'<rect class="hold" data-end="{change.end}" data-holder={quoteattr(change.holder)} data-since="{since}" '
@@ -460,7 +461,7 @@ class Picture:
                  f"<title>{change.end}: {escape(label)}</title></rect>")
         y = top + 14
         while y <= stop - 3:
-            self.text(x + width / 2, y, label, "label", f' text-anchor="middle" style="fill:{ink}"')
+            self.text(x + width / 2, y, label, look, f' text-anchor="middle" style="fill:{ink}"')
             y += LABEL_EVERY
 
     def draw_death(self, end: str, change: Change, changes: list[Change]) -> None:
