@@ -3,7 +3,7 @@
 from dataclasses import dataclass
 from xml.sax.saxutils import escape, quoteattr
 
-from kernels import FORWARDED, RESENT, Arrow, Change, Story, opposite, order_of
+from state import FORWARDED, RESENT, Arrow, Change, Story, opposite, order_of
 from transcript import Entry, Transcript
 
 MARGIN, GUTTER, LEFT = 24, 64, 48
@@ -312,7 +312,8 @@ class Picture:
             case "enclosed":
                 self.add(f'<rect {box} fill="url(#enclosed)" stroke="#d9c27a"/>')
             case "dead":
-                self.add(f'<rect {box} fill="{COLOURS[0]}"/><rect x="{x + 21:g}" y="{y - 7:g}" width="5" height="14" class="dead"/>')
+                self.add(f'<rect {box} fill="{COLOURS[0]}"/>'
+                         f'<rect x="{x + 21:g}" y="{y - 7:g}" width="5" height="14" class="dead"/>')
             case "destroyed":
                 self.draw_cross(x + 13, y)
             case _:
@@ -396,7 +397,7 @@ class Picture:
             self.draw_lines(card)
             self.add("</g>")
         if self.rest_cards:
-            self.text(MARGIN, self.body_end + 40, "never", "sans quiet")
+            self.text(MARGIN - 8, self.body_end + 40, "not taken", "sans quiet")
 
     def box(self, card: Card) -> str:
         return f'<rect class="box" x="{card.x:g}" y="{card.y:g}" width="{card.width:g}" height="{card.height:g}" rx="4"/>'
@@ -468,8 +469,9 @@ class Picture:
         """A red edge from the event in which the owner's kernel learnt that the opposite end was destroyed."""
         ended = [other.event for other in changes if other.holder == "destroyed"]
         top, stop = self.row_top(change.event), self.row_top(ended[0]) if ended else self.body_end
-        self.add(f'<rect class="dead" data-end="{end}" x="{self.columns[end] + self.column_width - 5:g}" y="{top + 1:g}" width="5" '
-                 f'height="{stop - top - 1:g}"><title>{end}: {opposite(end)} was destroyed</title></rect>')
+        x = self.columns[end] + self.column_width - 5
+        self.add(f'<rect class="dead" data-end="{end}" x="{x:g}" y="{top + 1:g}" width="5" height="{stop - top - 1:g}"><title>'
+                 f"{end}: {opposite(end)} was destroyed</title></rect>")
 
     def draw_cross(self, x: float, y: float) -> None:
         self.add(f'<path class="cross" d="M{x - 4:g} {y - 4:g} L{x + 4:g} {y + 4:g} M{x + 4:g} {y - 4:g} L{x - 4:g} {y + 4:g}"/>')
