@@ -183,6 +183,9 @@ class Picture:
         self.holds = [(rect.get("data-end"), rect.get("data-holder"), box_of(rect)) for rect in self.find("rect", "hold")]
         self.dead = [(rect.get("data-end"), box_of(rect)) for rect in self.find("rect", "dead") if rect.get("data-end")]
         self.arrows = [arrow_of(path) for path in self.find("path", "packet")]
+        self.texts = [(text.text, text_box(text)) for text in self.root.iter(SVG + "text")]
+        self.width = float(self.root.get("width"))
+        self.height = float(self.root.get("height"))
 
     def find(self, tag: str, kind: str) -> list[ElementTree.Element]:
         return [one for one in self.root.iter(SVG + tag) if kind in (one.get("class") or "").split(" ")]
@@ -190,6 +193,20 @@ class Picture:
 
 def box_of(rect: ElementTree.Element) -> Box:
     return Box(*(float(rect.get(name)) for name in ("x", "y", "width", "height")), rect.get("fill") or "")
+
+
+def text_box(text: ElementTree.Element) -> Box:
+    """About the place that a text takes. Letters of these fonts have at most this width, in parts of their size."""
+    look = (text.get("class") or "").split(" ")
+    size = 16 if "title" in look else 12 if "head" in look else 9.5 if "label" in look else 10.5 if "step" in look else 11
+    width = len(text.text) * size * (0.56 if "sans" in look else 0.603)
+    start = {"middle": width / 2, "end": width}.get(text.get("text-anchor") or "", 0)
+    return Box(float(text.get("x")) - start, float(text.get("y")) - size * 0.75, width, size * 0.9)
+
+
+def meet(one: Box, two: Box) -> bool:
+    return (one.x < two.x + two.width and two.x < one.x + one.width
+            and one.y < two.y + two.height and two.y < one.y + one.height)
 
 
 def arrow_of(path: ElementTree.Element) -> Arrow:
@@ -216,7 +233,8 @@ def faults_of(svg: bytes, text: str) -> list[str]:
     except ElementTree.ParseError as fault:
         return [f"no well-formed XML: {fault}"]
     told = told_by(text)
-    return faults_of_cards(picture, told) + faults_of_arrows(picture, told) + faults_of_holders(picture, told)
+    return (faults_of_cards(picture, told) + faults_of_arrows(picture, told) + faults_of_holders(picture, told)
+            + faults_of_texts(picture))
 
 
 def faults_of_cards(picture: Picture, told: Told) -> list[str]:
@@ -368,6 +386,21 @@ def faults_of_holders(picture: Picture, told: Told) -> list[str]:
     return faults
 
 
+def faults_of_texts(picture: Picture) -> list[str]:
+    """No text lies on another, or goes over the edge of the picture or of its card."""
+    faults = []
+    for number, (text, box) in enumerate(picture.texts):
+        if box.x < 0 or box.x + box.width > picture.width or box.y + box.height > picture.height:
+            faults.append(f"`{text}` goes over the edge of the picture")
+        for other_text, other_box in picture.texts[number + 1:]:
+            if meet(box, other_box):
+                faults.append(f"`{text}` lies on `{other_text}`")
+        for card in picture.cards.values():
+            if meet(box, card) and box.x + box.width > card.x + card.width:
+                faults.append(f"`{text}` goes over the edge of its card")
+    return faults
+
+
 # The cases
 
 
@@ -417,6 +450,7 @@ def try_wrong_pictures(tries: Tries) -> None:
         "a holder is missing": svg.replace(holds[-1], "", 1),
         "a holder has another colour": svg.replace(holds[-1], holds[-1].replace('fill="#', 'fill="#1'), 1),
         "a holder is another": svg.replace(holds[-1], holds[-1].replace('"p1"', '"p0"'), 1),
+        "two texts lie on each other": svg.replace(">0.0a<", ">0.0a_0.0a_0.0a_0.0a_0.0a<", 1),
         "a tag is not closed": svg.replace("</svg>", "", 1),
     }
     for name, changed in wrong.items():
