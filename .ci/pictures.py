@@ -2,10 +2,11 @@
 """Tries share/draw on each transcript of examples/.
 
 The pictures are read as drawings, by the places and colours of what is drawn, and compared with the transcript in a second way
-that shares no code with share/draw: who holds an end comes from the service lines alone, and for the tail of an arrow the event at
-its tail has to be one that may send such a packet.
+that shares no code with share/draw: who holds an end comes from the service lines alone, and the event at the tail of an arrow
+has to be one that may send such a packet.
 """
 
+import re
 import subprocess
 import sys
 import tempfile
@@ -493,27 +494,43 @@ def try_refusals(tries: Tries, folder: Path) -> None:
         file.write_text(text)
         made = draw(str(file))
         said = made.stderr.decode()
-        right = made.returncode == 4 and not made.stdout and said.startswith(f"lynx: {file}:{line}: ") and said.count("\n") == 1
-        tries.expect(right, f"refused: {name}", f"status {made.returncode}, {said.strip()}; wanted line {line}")
+        right = said.startswith(f"{file}:{line}: transcript: ") and said.count("\n") == 1
+        tries.expect(right and made.returncode == 4 and not made.stdout, f"refused: {name}", f"status {made.returncode}, {said.strip()}; wanted line {line}")
 
 
 def try_words(tries: Tries, folder: Path) -> None:
     """Wrong words, files that can't be read, and a run that is too long for a picture."""
-    tries.expect(draw().returncode == 1 and draw("a", "b").returncode == 1, "wrong words have status 1")
-    tries.expect(draw(str(folder / "absent")).returncode == 6, "an absent file has status 6")
-    tries.expect(draw(str(folder)).returncode == 2, "a folder has status 2")
+    absent = folder / "absent"
+    for words in ((), ("a", "b")):
+        made = draw(*words)
+        tries.expect(made.returncode == 1 and made.stderr.startswith(b"lynx: usage\n"), f"{len(words)} words are no command")
+    for file, status, text in ((absent, 6, "absent"), (folder, 2, "read fault")):
+        made = draw(str(file))
+        said = made.stderr.decode()
+        tries.expect(made.returncode == status and said == f"lynx: {file}: {text}\n", f"a file with the answer {text}")
     long = folder / "long"
     prints = "".join(f"{stamp} k0 p0 print x\n" for stamp in range(1, 100_001))
     long.write_text(f"transcript 1\nkernels 1\nprocess 0 on 0\n{prints}quiet\n")
     made = draw(str(long))
-    tries.expect(made.returncode == 8 and b"100000 events" in made.stderr, "a run of 100,000 events is told to be too long",
+    tries.expect(made.returncode == 8 and b": too big: 100000 events" in made.stderr, "a run of 100,000 events is told to be too long",
                  made.stderr.decode())
+
+
+def try_pages(tries: Tries) -> None:
+    """The pictures that the pages show are there, and well-formed."""
+    for page in [TOP / "README.md", EXAMPLES / "README.md", *sorted((TOP / "docs").glob("*.md"))]:
+        for name in re.findall(r"!\[[^]]*\]\(([^)]*\.svg)\)", page.read_text()):
+            picture = page.parent / name
+            tries.expect(picture.exists(), f"{page.name} shows {name}, which is there")
+            if picture.exists():
+                tries.expect(ElementTree.parse(picture).getroot().tag == SVG + "svg", f"{name} is an SVG")
 
 
 def main() -> int:
     tries = Tries()
     with tempfile.TemporaryDirectory() as folder:
         try_examples(tries)
+        try_pages(tries)
         try_wrong_pictures(tries)
         try_refusals(tries, Path(folder))
         try_words(tries, Path(folder))
