@@ -495,7 +495,8 @@ def try_refusals(tries: Tries, folder: Path) -> None:
         made = draw(str(file))
         said = made.stderr.decode()
         right = said.startswith(f"{file}:{line}: transcript: ") and said.count("\n") == 1
-        tries.expect(right and made.returncode == 4 and not made.stdout, f"refused: {name}", f"status {made.returncode}, {said.strip()}; wanted line {line}")
+        tries.expect(right and made.returncode == 4 and not made.stdout, f"refused: {name}",
+                     f"status {made.returncode}, {said.strip()}; wanted line {line}")
 
 
 def try_words(tries: Tries, folder: Path) -> None:
@@ -512,8 +513,8 @@ def try_words(tries: Tries, folder: Path) -> None:
     prints = "".join(f"{stamp} k0 p0 print x\n" for stamp in range(1, 100_001))
     long.write_text(f"transcript 1\nkernels 1\nprocess 0 on 0\n{prints}quiet\n")
     made = draw(str(long))
-    tries.expect(made.returncode == 8 and b": too big: 100000 events" in made.stderr, "a run of 100,000 events is told to be too long",
-                 made.stderr.decode())
+    said = made.stderr.decode()
+    tries.expect(made.returncode == 8 and ": too big: 100000 events" in said, "a run of 100,000 events is told to be too long", said)
 
 
 def try_pages(tries: Tries) -> None:
