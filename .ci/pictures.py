@@ -440,6 +440,8 @@ def try_wrong_pictures(tries: Tries) -> None:
     svg = draw(str(EXAMPLES / "moving_end.transcript")).stdout.decode()
     arrows = [line for line in svg.splitlines() if 'class="packet ' in line]
     holds = [line for line in svg.splitlines() if 'data-holder="p1"' in line]
+    if not arrows or not holds:
+        return tries.expect(False, "wrong pictures: there is a picture to change")
     mark = arrows[0].split('data-tail="')[1].split('"')[0]
     wrong = {
         "an arrow is missing": svg.replace(arrows[0] + "\n", "", 1),

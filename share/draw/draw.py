@@ -8,8 +8,9 @@ sys.dont_write_bytecode = True
 if sys.version_info < (3, 10):
     sys.exit("lynx: draw needs Python 3.10 or later")
 
+from picture import Picture  # noqa: E402
 from run import follow  # noqa: E402
-from picture import Picture, shown_ends  # noqa: E402
+from texts import shown_ends  # noqa: E402
 from transcript import Refused, read  # noqa: E402
 
 MOST_BYTES = 67_108_864
