@@ -1,0 +1,247 @@
+"""Reads a transcript, line by line. The forms of its lines are those of docs/TRANSCRIPT.md."""
+
+import re
+from dataclasses import dataclass, field
+
+CAUSES = ("NoEnd", "Busy", "Dead", "EncloseNoEnd", "EncloseBusy", "EncloseSame", "Late", "NoActivity",
+          "LinksFull", "EncloseTwice")
+MOST_KERNELS, MOST_PROCESSES, MOST_WIRES, MOST_BYTES = 8, 64, 4096, 256
+
+NUMBER = r"(?:0|[1-9][0-9]{0,19})"
+END = rf"{NUMBER}\.{NUMBER}[ab]"
+TEXT = r"[A-Za-z0-9_.%]+|-"
+ENDS = rf"(?: \+{END})*"
+VALUES = rf"(?: \+{END}(?::{NUMBER}){{7}}:[01]:{NUMBER})*"
+
+HEADER = re.compile(rf"(?:process (?P<i>{NUMBER}) on (?P<k>{NUMBER})|wire (?P<a>{NUMBER}) (?P<b>{NUMBER}))")
+ENTRY = re.compile(rf"(?P<stamp>{NUMBER}) k(?P<kernel>{NUMBER}) "
+                   rf"(?:p(?P<process>{NUMBER}) (?P<call>.+)|from (?P<sender>{NUMBER}) (?P<packet>.+))")
+CALL = re.compile(rf"make|wait|exit|(?:destroy|receive) (?:{END})|cancel (?:{END}) (?:in|out)"
+                  rf"|print (?:{TEXT})|send (?:{END}) (?:{TEXT}){ENDS}")
+PACKET = re.compile(rf"(?:want|unwant|unwanted|taken) {END}(?: {NUMBER}){{3}}"
+                    rf"|parcel {END}(?: {NUMBER}){{4}} (?:{TEXT}){VALUES}|back {END} {NUMBER}{VALUES}"
+                    rf"|(?:gone|known|forget) {END} {NUMBER}|moved {END} {NUMBER} {NUMBER}|goneseen {END}")
+STEP = re.compile(rf"\. (?:make {END} {END}|refuse p{NUMBER} (?:{'|'.join(CAUSES)})"
+                  rf"|(?:destroy|receive|withdraw|free) {END}|send {END} {NUMBER}{ENDS}|cancel {END} (?:in|out)"
+                  rf"|(?:wait|exit) p{NUMBER}|(?:match|complete) {END} {NUMBER}|take {END} {NUMBER} p{NUMBER}(?: late)?"
+                  rf"|notice {END}(?: dead)?|back {END} {NUMBER}(?: dead)?"
+                  rf"|report p{NUMBER} {END} (?:out done|out destroyed{ENDS}|in done (?:{TEXT}){ENDS}|in destroyed))")
+NOTE = re.compile(rf"note (?P<line>{NUMBER}) (?:nothing|waits)")
+LAST = re.compile(rf"quiet|open|spent (?P<kernel>{NUMBER})")
+A_TEXT = re.compile(r"-|(?:[A-Za-z0-9_.]|%[0-9A-F]{2})+")
+ESCAPE = re.compile(r"%(..)")
+AN_END = re.compile(rf"\+?({END})(?::.*)?")
+
+
+class Refused(Exception):
+    """The text is no transcript that this program draws: the first line where that shows, and why."""
+
+    def __init__(self, line: int, why: str):
+        super().__init__(why)
+        self.line = line
+        self.why = why
+
+
+@dataclass(slots=True)
+class Step:
+    """A service line, without its dot."""
+    line: int
+    text: str
+
+
+@dataclass(slots=True)
+class Entry:
+    """An event: a call of a process, or the taking of a packet from the kernel `sender`."""
+    line: int
+    stamp: int
+    kernel: int
+    process: int | None
+    sender: int | None
+    what: str
+    steps: list[Step] = field(default_factory=list)
+
+    def is_packet(self) -> bool:
+        return self.sender is not None
+
+
+@dataclass
+class Transcript:
+    version: int = 1
+    kernels: int = 0
+    homes: list[int] = field(default_factory=list)
+    wires: list[tuple[int, int]] = field(default_factory=list)
+    entries: list[Entry] = field(default_factory=list)
+    notes: list[str] = field(default_factory=list)
+    last: str = ""
+    last_line: int = 0
+
+
+def read(text: str) -> Transcript:
+    """The transcript that this text is. Raises Refused for any other text."""
+    lines = text.split("\n")
+    if lines[-1] != "":
+        raise Refused(len(lines), "the line feed is missing at the end")
+    lines.pop()
+    transcript = Transcript()
+    at = read_header(transcript, lines)
+    at = read_entries(transcript, lines, at)
+    at = read_notes(transcript, lines, at)
+    read_last(transcript, lines, at)
+    return transcript
+
+
+def read_header(transcript: Transcript, lines: list[str]) -> int:
+    """Reads the lines up to the last wire, and tells which comes next."""
+    first = line_at(lines, 0, "`transcript 1` or `transcript 2`")
+    if first not in ("transcript 1", "transcript 2"):
+        raise Refused(1, "a transcript begins with `transcript 1` or `transcript 2`")
+    transcript.version = int(first[-1])
+    second = re.fullmatch(rf"kernels ({NUMBER})", line_at(lines, 1, "`kernels N`"))
+    if not second or not 1 <= int(second[1]) <= MOST_KERNELS:
+        raise Refused(2, "`kernels N` with 1 to 8 kernels belongs here")
+    transcript.kernels = int(second[1])
+    at = 2
+    while at < len(lines) and (found := HEADER.fullmatch(lines[at])):
+        add_header_line(transcript, found, at + 1)
+        at += 1
+    return at
+
+
+def add_header_line(transcript: Transcript, found: re.Match, number: int) -> None:
+    if found["i"] is not None:
+        if transcript.wires:
+            raise Refused(number, "a process line can't stand behind a wire")
+        if int(found["i"]) != len(transcript.homes) or len(transcript.homes) == MOST_PROCESSES:
+            raise Refused(number, f"processes are numbered 0, 1, 2 and so on, up to {MOST_PROCESSES - 1}")
+        check_kernel(transcript, found["k"], number)
+        transcript.homes.append(int(found["k"]))
+        return
+    for name in (found["a"], found["b"]):
+        check_process(transcript, name, number)
+    if len(transcript.wires) == MOST_WIRES:
+        raise Refused(number, f"there are at most {MOST_WIRES} wires")
+    transcript.wires.append((int(found["a"]), int(found["b"])))
+
+
+def read_entries(transcript: Transcript, lines: list[str], at: int) -> int:
+    """Reads the entries with their service lines, and tells which line comes next."""
+    before = (0, -1)
+    while at < len(lines):
+        line = lines[at]
+        if line.startswith(". "):
+            add_step(transcript, line, at + 1)
+        elif found := ENTRY.fullmatch(line):
+            entry = entry_of(transcript, found, at + 1)
+            if (entry.stamp, entry.kernel) <= before:
+                raise Refused(at + 1, "events stand in the order of their stamps, and then of their kernels")
+            before = (entry.stamp, entry.kernel)
+            transcript.entries.append(entry)
+        else:
+            return at
+        at += 1
+    return at
+
+
+def entry_of(transcript: Transcript, found: re.Match, number: int) -> Entry:
+    check_kernel(transcript, found["kernel"], number)
+    kernel = int(found["kernel"])
+    if found["process"] is not None:
+        check_process(transcript, found["process"], number)
+        process, sender, what = int(found["process"]), None, found["call"]
+        if transcript.homes[process] != kernel:
+            raise Refused(number, f"process {process} is at home on kernel {transcript.homes[process]}")
+        known = CALL
+    else:
+        check_kernel(transcript, found["sender"], number)
+        process, sender, what = None, int(found["sender"]), found["packet"]
+        known = PACKET
+    if not known.fullmatch(what):
+        raise Refused(number, "no call has this form" if known is CALL else "no packet has this form")
+    check_words(transcript, what, number)
+    return Entry(number, int(found["stamp"]), kernel, process, sender, what)
+
+
+def add_step(transcript: Transcript, line: str, number: int) -> None:
+    if not transcript.entries:
+        raise Refused(number, "a service line stands below an event")
+    if not STEP.fullmatch(line):
+        raise Refused(number, "no service line has this form")
+    check_words(transcript, line, number)
+    transcript.entries[-1].steps.append(Step(number, line[2:]))
+
+
+def check_words(transcript: Transcript, text: str, number: int) -> None:
+    """Tests what the forms of lines leave open: texts, the numbers of ends, and how many ends a message has."""
+    words = text.removeprefix(". ").split(" ")
+    place = {"send": 2, "print": 1, "parcel": 6}.get(words[0])
+    if words[0] == "send" and text.startswith(". "):
+        place = None
+    if words[0] == "report" and words[3:5] == ["in", "done"]:
+        place = 5
+    if place is not None:
+        check_text(words[place], number)
+    for at, word in enumerate(words):
+        if at != place and (found := AN_END.fullmatch(word)):
+            check_end(found[1], number)
+    if sum(word.startswith("+") for word in words) > (1 if transcript.version == 1 else 8):
+        raise Refused(number, "a message has at most one end in version 1, at most eight in version 2")
+
+
+def check_end(end: str, number: int) -> None:
+    maker, count = end[:-1].split(".")
+    if int(maker) > 255 or int(count) > 4294967295:
+        raise Refused(number, f"{end} is no end: its maker is past 255 or its count past 4294967295")
+
+
+def check_text(text: str, number: int) -> None:
+    if not A_TEXT.fullmatch(text):
+        raise Refused(number, f"`{text}` spells no bytes")
+    if text == "-":
+        return
+    for code in ESCAPE.findall(text):
+        byte = int(code, 16)
+        if byte < 128 and (chr(byte).isalnum() or chr(byte) in "_."):
+            raise Refused(number, f"`%{code}` stands for a byte that is written as itself")
+    if len(ESCAPE.sub(".", text)) > MOST_BYTES:
+        raise Refused(number, f"a message has at most {MOST_BYTES} bytes")
+
+
+def read_notes(transcript: Transcript, lines: list[str], at: int) -> int:
+    before = 0
+    while at < len(lines) and (found := NOTE.fullmatch(lines[at])):
+        if int(found["line"]) <= before:
+            raise Refused(at + 1, "notes stand in the order of the script's lines")
+        before = int(found["line"])
+        transcript.notes.append(lines[at])
+        at += 1
+    return at
+
+
+def read_last(transcript: Transcript, lines: list[str], at: int) -> None:
+    found = LAST.fullmatch(line_at(lines, at, "`quiet`, `open` or `spent K`"))
+    if not found:
+        raise Refused(at + 1, "no line of a transcript that can stand here")
+    if found["kernel"] is not None:
+        check_kernel(transcript, found["kernel"], at + 1)
+        if transcript.notes:
+            raise Refused(at + 1, "`spent` stands behind no note")
+    if at + 1 < len(lines):
+        raise Refused(at + 2, "the transcript has ended with the line before")
+    transcript.last = lines[at]
+    transcript.last_line = at + 1
+
+
+def line_at(lines: list[str], at: int, wanted: str) -> str:
+    if at >= len(lines):
+        raise Refused(at + 1, f"the text ends here, and {wanted} is missing")
+    return lines[at]
+
+
+def check_kernel(transcript: Transcript, name: str, number: int) -> None:
+    if int(name) >= transcript.kernels:
+        raise Refused(number, f"there is no kernel {name}")
+
+
+def check_process(transcript: Transcript, name: str, number: int) -> None:
+    if int(name) >= len(transcript.homes):
+        raise Refused(number, f"there is no process {name}")
