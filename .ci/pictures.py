@@ -1,9 +1,9 @@
 #!/usr/bin/env python3
 """Tries share/draw on each transcript of examples/.
 
-The pictures are read as drawings, by the places and colours of what is drawn, and compared with the transcript in a second way that
-shares no code with share/draw: who holds an end comes from the service lines alone, and for the tail of an arrow the event at its
-tail has to be one that may send such a packet.
+The pictures are read as drawings, by the places and colours of what is drawn, and compared with the transcript in a second way
+that shares no code with share/draw: who holds an end comes from the service lines alone, and for the tail of an arrow the event at
+its tail has to be one that may send such a packet.
 """
 
 import subprocess
@@ -342,12 +342,15 @@ def may_send_first(told: Told, number: int, tail: Event, words: list[str]) -> bo
 
 
 def faults_of_holders(picture: Picture, told: Told) -> list[str]:
-    """At the height of each event the column of each end has the colour of its holder, and a red edge where it is dead."""
+    """In each row the column of each end has the colour of its holder, and a red edge where it is dead."""
     faults = []
     columns = {end: box.x for end, _, box in picture.holds}
     if len(set(columns.values())) != len(columns) or any(box.x != columns[end] for end, _, box in picture.holds):
         faults.append("an end has not one column of its own")
-    for event, holders, dead in zip(told.events, told.holders, told.dead):
+    # A row is a stamp, so it shows what holds after the last event of that stamp.
+    rows = {event.stamp: number for number, event in enumerate(told.events)}
+    for number in rows.values():
+        event, holders, dead = told.events[number], told.holders[number], told.dead[number]
         y = picture.cards[event.line].y + 3
         seen = {}
         for end, holder, box in picture.holds:
@@ -429,7 +432,8 @@ def try_refusals(tries: Tries, folder: Path) -> None:
 
     cases = [
         ("nothing", "", 1), ("a script", (EXAMPLES / "moving_end.script").read_text(), 1),
-        ("no line feed at the end", "\n".join(good), len(good)), ("no last line", "".join(x + "\n" for x in good[:-1]), len(good)),
+        ("no line feed at the end", "\n".join(good), len(good)),
+        ("no last line", "".join(x + "\n" for x in good[:-1]), len(good)),
         ("a version that is none", edited(1, "transcript 3"), 1), ("nine kernels", edited(2, "kernels 9"), 2),
         ("a process on no kernel", edited(4, "process 1 on 3"), 4), ("a process left out", edited(4), 4),
         ("a call of no form", edited(8, "1 k0 p0 send 0.0a"), 8), ("an end of no form", edited(8, "1 k0 p0 send 0.0c yours"), 8),
@@ -443,7 +447,11 @@ def try_refusals(tries: Tries, folder: Path) -> None:
         ("a service line of no form", edited(13, ". matched 0.0a 1"), 13),
         ("a wrong service line", edited(13, ". match 0.0a 2"), 13), ("a service line left out", edited(13), 12),
         ("a service line too many", edited(13, good[12], good[12]), 14),
-        ("a call that is refused and happens", edited(9), 8), ("a last line that is wrong", edited(len(good), "open"), len(good)),
+        ("a service line of a call left out", edited(9), 8),
+        ("a refusal of a call that is allowed", edited(9, ". refuse p0 Busy"), 9),
+        ("a report of another message", edited(25, ". report p1 0.0b in done mine +2.0b"), 25),
+        ("a report without its ends", edited(25, ". report p1 0.0b in done yours"), 25),
+        ("a last line that is wrong", edited(len(good), "open"), len(good)),
         ("a line behind the last", "".join(x + "\n" for x in good + ["quiet"]), len(good) + 1),
     ]
     for name, text, line in cases:

@@ -5,8 +5,10 @@ import os
 import sys
 
 sys.dont_write_bytecode = True
+if sys.version_info < (3, 10):
+    sys.exit("lynx: draw needs Python 3.10 or later")
 
-from kernels import follow  # noqa: E402
+from run import follow  # noqa: E402
 from picture import Picture, shown_ends  # noqa: E402
 from transcript import Refused, read  # noqa: E402
 

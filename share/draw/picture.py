@@ -3,7 +3,7 @@
 from dataclasses import dataclass
 from xml.sax.saxutils import escape, quoteattr
 
-from kernels import FORWARDED, RESENT, Arrow, Change, Story, opposite, order_of
+from state import FORWARDED, RESENT, Arrow, Change, Story, opposite, order_of
 from transcript import Entry, Transcript
 
 MARGIN, GUTTER, LEFT = 24, 64, 48
@@ -29,6 +29,7 @@ text { font: 11px ui-monospace, Menlo, Consolas, 'DejaVu Sans Mono', monospace; 
 .step { font-size: 10.5px; fill: #4a4f55; }
 .refused { fill: #b3261e; }
 .label { font-size: 9.5px; }
+.inside { paint-order: stroke; stroke: #fbf6e3; stroke-width: 3px; stroke-linejoin: round; }
 .card rect.box { fill: #fff; stroke: #8a929c; }
 .card.taking rect.box { fill: #f1f3f6; stroke: #c3c9d1; }
 .card.refusal rect.box { stroke: #b3261e; }
@@ -176,7 +177,7 @@ class Picture:
                 x += 10
             self.columns[end] = x
             x += self.column_width + 3
-        self.right = x
+        self.right = max(x, self.after_lanes + 20 * SANS_CHAR) if self.ends else x
 
     def place_heads(self) -> None:
         self.legend_top = MARGIN + 34
@@ -278,7 +279,7 @@ class Picture:
         if any(" " in holder for holder in holders):
             items.append(("enclosed", "end inside a message"))
         if "dead" in holders:
-            items.append(("dead", "its owner's kernel knows that the link is dead"))
+            items.append(("dead", "opposite end known to be destroyed"))
         if "destroyed" in holders:
             items.append(("destroyed", "end destroyed"))
         return items
@@ -311,7 +312,8 @@ class Picture:
             case "enclosed":
                 self.add(f'<rect {box} fill="url(#enclosed)" stroke="#d9c27a"/>')
             case "dead":
-                self.add(f'<rect {box} fill="{COLOURS[0]}"/><rect x="{x + 21:g}" y="{y - 7:g}" width="5" height="14" class="dead"/>')
+                self.add(f'<rect {box} fill="{COLOURS[0]}"/>'
+                         f'<rect x="{x + 21:g}" y="{y - 7:g}" width="5" height="14" class="dead"/>')
             case "destroyed":
                 self.draw_cross(x + 13, y)
             case _:
@@ -395,7 +397,7 @@ class Picture:
             self.draw_lines(card)
             self.add("</g>")
         if self.rest_cards:
-            self.text(MARGIN, self.body_end + 40, "never", "sans quiet")
+            self.text(MARGIN - 8, self.body_end + 40, "not taken", "sans quiet")
 
     def box(self, card: Card) -> str:
         return f'<rect class="box" x="{card.x:g}" y="{card.y:g}" width="{card.width:g}" height="{card.height:g}" rx="4"/>'
@@ -449,10 +451,10 @@ class Picture:
     def draw_hold(self, change: Change, top: float, stop: float) -> None:
         x, width = self.columns[change.end], self.column_width
         if " " in change.holder:
-            fill, ink, edge = "url(#enclosed)", "#1a1a1a", ' stroke="#d9c27a"'
+            fill, ink, edge, look = "url(#enclosed)", "#1a1a1a", ' stroke="#d9c27a"', "label inside"
         else:
             fill = colour_of(int(change.holder[1:]))
-            ink, edge = ink_on(fill), ""
+            ink, edge, look = ink_on(fill), "", "label"
         label = self.holder_label(change.holder)
         since = 0 if change.event < 0 else self.transcript.entries[change.event].line
         self.add(f'<rect class="hold" data-end="{change.end}" data-holder={quoteattr(change.holder)} data-since="{since}" '
@@ -460,15 +462,16 @@ class Picture:
                  f"<title>{change.end}: {escape(label)}</title></rect>")
         y = top + 14
         while y <= stop - 3:
-            self.text(x + width / 2, y, label, "label", f' text-anchor="middle" style="fill:{ink}"')
+            self.text(x + width / 2, y, label, look, f' text-anchor="middle" style="fill:{ink}"')
             y += LABEL_EVERY
 
     def draw_death(self, end: str, change: Change, changes: list[Change]) -> None:
         """A red edge from the event in which the owner's kernel learnt that the opposite end was destroyed."""
         ended = [other.event for other in changes if other.holder == "destroyed"]
         top, stop = self.row_top(change.event), self.row_top(ended[0]) if ended else self.body_end
-        self.add(f'<rect class="dead" data-end="{end}" x="{self.columns[end] + self.column_width - 5:g}" y="{top + 1:g}" width="5" '
-                 f'height="{stop - top - 1:g}"><title>{end}: {opposite(end)} was destroyed</title></rect>')
+        x = self.columns[end] + self.column_width - 5
+        self.add(f'<rect class="dead" data-end="{end}" x="{x:g}" y="{top + 1:g}" width="5" height="{stop - top - 1:g}"><title>'
+                 f"{end}: {opposite(end)} was destroyed</title></rect>")
 
     def draw_cross(self, x: float, y: float) -> None:
         self.add(f'<path class="cross" d="M{x - 4:g} {y - 4:g} L{x + 4:g} {y + 4:g} M{x + 4:g} {y - 4:g} L{x - 4:g} {y + 4:g}"/>')

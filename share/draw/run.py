@@ -1,0 +1,88 @@
+"""Finds which event sent each packet of a transcript, and who holds each end after each event.
+
+No line of a transcript shows a sending. But docs/KERNEL.md fixes which packets an event sends, and the packets from one kernel
+to another are taken in the order in which they were sent. So the kernels' rules are followed here, event by event: what an event
+sends goes to the end of a list, and the taking of a packet takes the first one of its list, which knows its sender.
+
+The text of a packet is kept as a transcript would print it. Where the first packet of a list is another than the line says, or a
+stamp or a service line is another than the event has, the text is not the transcript of a run, and is refused at that line.
+"""
+
+from collections import deque
+
+from calls import CallEvent
+from packets import PacketEvent
+from state import Arrow, Change, Destroyed, Here, Left, Packet, Process, Story, Value
+from transcript import Entry, Refused, Transcript
+
+
+def follow(transcript: Transcript) -> Story:
+    """What happens in a run: its arrows in the order of their heads, and the changes of holders in order."""
+    world = World(transcript)
+    for number, entry in enumerate(transcript.entries):
+        world.happens(number, entry)
+    under_way = world.under_way()
+    if transcript.last == "quiet" and under_way:
+        raise Refused(transcript.last_line, "a packet is under way: the last line is not `quiet`")
+    if transcript.last == "open" and not under_way:
+        raise Refused(transcript.last_line, "no packet is under way: the last line is not `open`")
+    world.story.arrows += under_way
+    return world.story
+
+
+class World:
+    """All kernels and the packets between them."""
+
+    def __init__(self, transcript: Transcript):
+        self.story = Story()
+        self.kernels = transcript.kernels
+        self.homes = transcript.homes
+        self.tables: list[dict[str, Here | Left | Destroyed]] = [{} for _ in range(self.kernels)]
+        self.processes = [Process() for _ in self.homes]
+        self.stamps = [0] * self.kernels
+        self.made = [0] * self.kernels
+        self.lists = {(j, k): deque() for j in range(self.kernels) for k in range(self.kernels)}
+        self.stamp_of: list[int] = []
+        for first, second in transcript.wires:
+            self.wire(first, second)
+
+    def wire(self, first: int, second: int) -> None:
+        maker, other = self.homes[first], self.homes[second]
+        link = f"{maker}.{self.made[maker]}"
+        self.made[maker] += 1
+        self.install(maker, Here(Value(link + "a", 0, (other, 0)), first), -1)
+        self.install(other, Here(Value(link + "b", 0, (maker, 0)), second), -1)
+
+    def install(self, kernel: int, here: Here, event: int) -> None:
+        self.tables[kernel][here.value.end] = here
+        self.story.changes.append(Change(event, here.value.end, f"p{here.owner}"))
+
+    def happens(self, number: int, entry: Entry) -> None:
+        packet = self.first_packet(entry) if entry.is_packet() else None
+        before = max(self.stamps[entry.kernel], self.stamp_of[packet.tail] if packet else 0)
+        if entry.stamp != before + 1:
+            raise Refused(entry.line, f"the stamp of this event is {before + 1}")
+        self.stamps[entry.kernel] = entry.stamp
+        self.stamp_of.append(entry.stamp)
+        event = self.taking(number, entry, packet) if packet else CallEvent(self, number, entry)
+        event.happens()
+        event.answer_waits()
+        event.compare_steps()
+
+    def taking(self, number: int, entry: Entry, packet: Packet) -> PacketEvent:
+        self.lists[entry.sender, entry.kernel].popleft()
+        cargo = [value.end for value in packet.cargo]
+        self.story.arrows.append(Arrow(packet.text, packet.manner, entry.sender, entry.kernel, packet.tail, number, cargo))
+        return PacketEvent(self, number, entry, packet)
+
+    def first_packet(self, entry: Entry) -> Packet:
+        waiting = self.lists[entry.sender, entry.kernel]
+        if not waiting:
+            raise Refused(entry.line, f"no packet is under way from kernel {entry.sender} to kernel {entry.kernel}")
+        if waiting[0].text != entry.what:
+            raise Refused(entry.line, f"the first packet from kernel {entry.sender} is `{waiting[0].text}`")
+        return waiting[0]
+
+    def under_way(self) -> list[Arrow]:
+        return [Arrow(packet.text, packet.manner, j, k, packet.tail, None, [value.end for value in packet.cargo])
+                for (j, k), packets in self.lists.items() for packet in packets]
