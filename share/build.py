@@ -33,6 +33,7 @@ class Build:
         self.begun = time.time()
         self.end = self.begun + 60 * MINUTES
         self.told = None
+        self.waits = set()
         self.out = f"{top}/crates/{PROGRAM}/out"
         os.makedirs(self.out, exist_ok=True)
 
@@ -102,6 +103,15 @@ class Build:
             say(words)
         self.told = words
 
+    def tell_waits(self):
+        """Hands on that the toolchain waits for another run, as one in another window, which it says first."""
+        for crate in self.running:
+            with open(self.log_of(crate), encoding="utf-8", errors="replace") as log:
+                for line in log.read(4096).splitlines():
+                    if line.startswith("rt: ") and "waiting for" in line and line not in self.waits:
+                        self.waits.add(line)
+                        say(line)
+
     def stop(self):
         """Ends the runs that are under way, with all that they started."""
         while self.running:
@@ -124,6 +134,7 @@ class Build:
         while len(self.proved) < len(self.needs):
             self.begin_all()
             self.tell()
+            self.tell_waits()
             failed = self.ended()
             if failed:
                 say(f"the program could not be built: {failed} was not proved. The lines of the toolchain are in {self.log_of(failed)}")
