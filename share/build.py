@@ -30,6 +30,7 @@ class Build:
         self.lines = {crate: self.lines_of(crate) for crate in needs}
         self.proved = set()
         self.running = {}
+        self.left = self.all_lines = self.lines_left()
         self.begun = time.time()
         self.end = self.begun + 60 * MINUTES
         self.told = None
@@ -38,8 +39,8 @@ class Build:
         os.makedirs(self.out, exist_ok=True)
 
     def lines_of(self, crate):
-        """The lines of a crate's sources, by which the time that its proof takes is estimated."""
-        count = 1
+        """The lines of a crate's sources, by which the time that it takes is estimated; each crate takes that of 1,000 lines besides."""
+        count = 1000
         for kind in ("src", "specs", "proofs"):
             for folder, _, names in os.walk(f"{self.top}/crates/{crate}/{kind}"):
                 for name in names:
@@ -50,6 +51,11 @@ class Build:
     def below(self, crate):
         """The crate and all that it stands on."""
         return {crate}.union(*(self.below(need) for need in self.needs[crate]))
+
+    def lines_left(self):
+        """The lines that are left in the longest row. Crates that stand on one crate are proved one after the other: they are a row."""
+        left = [crate for crate in self.needs if crate not in self.proved]
+        return max(sum(self.lines[crate] for crate in left if low in self.below(crate)) for low in self.needs)
 
     def log_of(self, crate):
         return f"{self.out}/build-{os.getpid()}-{crate}.log"
@@ -90,11 +96,12 @@ class Build:
         return None
 
     def estimate(self):
-        """When the build ends, at the speed so far, once a tenth of it is done."""
-        done = sum(self.lines[crate] for crate in self.proved) / sum(self.lines.values())
-        now = time.time()
-        if done >= 0.1:
-            self.end = self.begun + (now - self.begun) / done
+        """When the build ends, at the speed so far of the longest row, once a tenth of it is done."""
+        left, before = self.lines_left(), self.left
+        done = 1 - left / self.all_lines
+        if left < before and done >= 0.1:
+            self.end = self.begun + (time.time() - self.begun) / done
+        self.left = left
 
     def tell(self):
         left = max(1, math.ceil((self.end - time.time()) / 60))
