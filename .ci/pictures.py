@@ -2,10 +2,11 @@
 """Tries share/draw on each transcript of examples/.
 
 The pictures are read as drawings, by the places and colours of what is drawn, and compared with the transcript in a second way
-that shares no code with share/draw: who holds an end comes from the service lines alone, and for the tail of an arrow the event at
-its tail has to be one that may send such a packet.
+that shares no code with share/draw: who holds an end comes from the service lines alone, and the event at the tail of an arrow
+has to be one that may send such a packet.
 """
 
+import re
 import subprocess
 import sys
 import tempfile
@@ -183,6 +184,9 @@ class Picture:
         self.holds = [(rect.get("data-end"), rect.get("data-holder"), box_of(rect)) for rect in self.find("rect", "hold")]
         self.dead = [(rect.get("data-end"), box_of(rect)) for rect in self.find("rect", "dead") if rect.get("data-end")]
         self.arrows = [arrow_of(path) for path in self.find("path", "packet")]
+        self.texts = [(text.text, text_box(text)) for text in self.root.iter(SVG + "text")]
+        self.width = float(self.root.get("width"))
+        self.height = float(self.root.get("height"))
 
     def find(self, tag: str, kind: str) -> list[ElementTree.Element]:
         return [one for one in self.root.iter(SVG + tag) if kind in (one.get("class") or "").split(" ")]
@@ -190,6 +194,20 @@ class Picture:
 
 def box_of(rect: ElementTree.Element) -> Box:
     return Box(*(float(rect.get(name)) for name in ("x", "y", "width", "height")), rect.get("fill") or "")
+
+
+def text_box(text: ElementTree.Element) -> Box:
+    """About the place that a text takes. Letters of these fonts have at most this width, in parts of their size."""
+    look = (text.get("class") or "").split(" ")
+    size = 16 if "title" in look else 12 if "head" in look else 9.5 if "label" in look else 10.5 if "step" in look else 11
+    width = len(text.text) * size * (0.56 if "sans" in look else 0.603)
+    start = {"middle": width / 2, "end": width}.get(text.get("text-anchor") or "", 0)
+    return Box(float(text.get("x")) - start, float(text.get("y")) - size * 0.75, width, size * 0.9)
+
+
+def meet(one: Box, two: Box) -> bool:
+    return (one.x < two.x + two.width and two.x < one.x + one.width
+            and one.y < two.y + two.height and two.y < one.y + one.height)
 
 
 def arrow_of(path: ElementTree.Element) -> Arrow:
@@ -216,7 +234,8 @@ def faults_of(svg: bytes, text: str) -> list[str]:
     except ElementTree.ParseError as fault:
         return [f"no well-formed XML: {fault}"]
     told = told_by(text)
-    return faults_of_cards(picture, told) + faults_of_arrows(picture, told) + faults_of_holders(picture, told)
+    return (faults_of_cards(picture, told) + faults_of_arrows(picture, told) + faults_of_holders(picture, told)
+            + faults_of_texts(picture))
 
 
 def faults_of_cards(picture: Picture, told: Told) -> list[str]:
@@ -368,6 +387,21 @@ def faults_of_holders(picture: Picture, told: Told) -> list[str]:
     return faults
 
 
+def faults_of_texts(picture: Picture) -> list[str]:
+    """No text lies on another, or goes over the edge of the picture or of its card."""
+    faults = []
+    for number, (text, box) in enumerate(picture.texts):
+        if box.x < 0 or box.x + box.width > picture.width or box.y + box.height > picture.height:
+            faults.append(f"`{text}` goes over the edge of the picture")
+        for other_text, other_box in picture.texts[number + 1:]:
+            if meet(box, other_box):
+                faults.append(f"`{text}` lies on `{other_text}`")
+        for card in picture.cards.values():
+            if meet(box, card) and box.x + box.width > card.x + card.width:
+                faults.append(f"`{text}` goes over the edge of its card")
+    return faults
+
+
 # The cases
 
 
@@ -417,6 +451,7 @@ def try_wrong_pictures(tries: Tries) -> None:
         "a holder is missing": svg.replace(holds[-1], "", 1),
         "a holder has another colour": svg.replace(holds[-1], holds[-1].replace('fill="#', 'fill="#1'), 1),
         "a holder is another": svg.replace(holds[-1], holds[-1].replace('"p1"', '"p0"'), 1),
+        "two texts lie on each other": svg.replace(">0.0a<", ">0.0a_0.0a_0.0a_0.0a_0.0a<", 1),
         "a tag is not closed": svg.replace("</svg>", "", 1),
     }
     for name, changed in wrong.items():
@@ -459,27 +494,44 @@ def try_refusals(tries: Tries, folder: Path) -> None:
         file.write_text(text)
         made = draw(str(file))
         said = made.stderr.decode()
-        right = made.returncode == 4 and not made.stdout and said.startswith(f"lynx: {file}:{line}: ") and said.count("\n") == 1
-        tries.expect(right, f"refused: {name}", f"status {made.returncode}, {said.strip()}; wanted line {line}")
+        right = said.startswith(f"{file}:{line}: transcript: ") and said.count("\n") == 1
+        tries.expect(right and made.returncode == 4 and not made.stdout, f"refused: {name}",
+                     f"status {made.returncode}, {said.strip()}; wanted line {line}")
 
 
 def try_words(tries: Tries, folder: Path) -> None:
     """Wrong words, files that can't be read, and a run that is too long for a picture."""
-    tries.expect(draw().returncode == 1 and draw("a", "b").returncode == 1, "wrong words have status 1")
-    tries.expect(draw(str(folder / "absent")).returncode == 6, "an absent file has status 6")
-    tries.expect(draw(str(folder)).returncode == 2, "a folder has status 2")
+    absent = folder / "absent"
+    for words in ((), ("a", "b")):
+        made = draw(*words)
+        tries.expect(made.returncode == 1 and made.stderr.startswith(b"lynx: usage\n"), f"{len(words)} words are no command")
+    for file, status, text in ((absent, 6, "absent"), (folder, 2, "read fault")):
+        made = draw(str(file))
+        said = made.stderr.decode()
+        tries.expect(made.returncode == status and said == f"lynx: {file}: {text}\n", f"a file with the answer {text}")
     long = folder / "long"
     prints = "".join(f"{stamp} k0 p0 print x\n" for stamp in range(1, 100_001))
     long.write_text(f"transcript 1\nkernels 1\nprocess 0 on 0\n{prints}quiet\n")
     made = draw(str(long))
-    tries.expect(made.returncode == 8 and b"100000 events" in made.stderr, "a run of 100,000 events is told to be too long",
-                 made.stderr.decode())
+    said = made.stderr.decode()
+    tries.expect(made.returncode == 8 and ": too big: 100000 events" in said, "a run of 100,000 events is too long", said)
+
+
+def try_pages(tries: Tries) -> None:
+    """The pictures that the pages show are there, and well-formed."""
+    for page in [TOP / "README.md", EXAMPLES / "README.md", *sorted((TOP / "docs").glob("*.md"))]:
+        for name in re.findall(r"!\[[^]]*\]\(([^)]*\.svg)\)", page.read_text()):
+            picture = page.parent / name
+            tries.expect(picture.exists(), f"{page.name} shows {name}, which is there")
+            if picture.exists():
+                tries.expect(ElementTree.parse(picture).getroot().tag == SVG + "svg", f"{name} is an SVG")
 
 
 def main() -> int:
     tries = Tries()
     with tempfile.TemporaryDirectory() as folder:
         try_examples(tries)
+        try_pages(tries)
         try_wrong_pictures(tries)
         try_refusals(tries, Path(folder))
         try_words(tries, Path(folder))

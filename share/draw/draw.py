@@ -34,11 +34,11 @@ def read_file(name: str) -> str:
         with open(name, "rb") as file:
             data = file.read(MOST_BYTES + 1)
     except (FileNotFoundError, NotADirectoryError):
-        raise Stopped(NO_FILE, f"{name}: no such file") from None
-    except OSError as fault:
-        raise Stopped(READ_FAULT, f"{name}: {fault.strerror}") from None
+        raise Stopped(NO_FILE, f"lynx: {name}: absent") from None
+    except OSError:
+        raise Stopped(READ_FAULT, f"lynx: {name}: read fault") from None
     if len(data) > MOST_BYTES:
-        raise Stopped(TOO_BIG, f"{name}: more than {MOST_BYTES} bytes")
+        raise Stopped(TOO_BIG, f"lynx: {name}: too big")
     return data.decode("latin-1")
 
 
@@ -48,29 +48,35 @@ def picture_of(name: str) -> str:
         transcript = read(text)
         story = follow(transcript)
     except Refused as refused:
-        raise Stopped(REFUSED, f"{name}:{refused.line}: {refused.why}") from None
-    if len(transcript.entries) > MOST_EVENTS:
-        raise Stopped(TOO_BIG, f"{name}: {len(transcript.entries)} events, and a picture has at most {MOST_EVENTS}")
+        raise Stopped(REFUSED, f"{name}:{refused.line}: transcript: {refused.why}") from None
+    events = len(transcript.entries)
+    if events > MOST_EVENTS:
+        raise Stopped(TOO_BIG, f"lynx: {name}: too big: {events} events, and a picture has at most {MOST_EVENTS}")
     ends = shown_ends(transcript, story, MOST_ENDS)
     if len(ends) > MOST_ENDS:
-        raise Stopped(TOO_BIG, f"{name}: {len(ends)} ends, and a picture has at most {MOST_ENDS}")
+        raise Stopped(TOO_BIG, f"lynx: {name}: too big: {len(ends)} ends, and a picture has at most {MOST_ENDS}")
     return Picture(transcript, story, ends, os.path.basename(name)).draw()
 
 
 def main(words: list[str]) -> int:
     try:
         if len(words) != 1:
-            raise Stopped(USAGE, "usage\nlynx draw TRANSCRIPT > PICTURE.svg")
+            raise Stopped(USAGE, "lynx: usage\n  lynx draw TRANSCRIPT > PICTURE.svg")
         svg = picture_of(words[0])
-        try:
-            sys.stdout.buffer.write(svg.encode("utf-8"))
-            sys.stdout.flush()
-        except OSError as fault:
-            os.dup2(os.open(os.devnull, os.O_WRONLY), sys.stdout.fileno())
-            raise Stopped(WRITE_FAULT, f"standard output: {fault.strerror}") from None
     except Stopped as stopped:
-        sys.stderr.write(f"lynx: {stopped.text}\n")
+        sys.stderr.write(f"{stopped.text}\n")
         return stopped.status
+    return put(svg)
+
+
+def put(svg: str) -> int:
+    try:
+        sys.stdout.buffer.write(svg.encode("utf-8"))
+        sys.stdout.flush()
+    except OSError:
+        # what is left in the buffer must not fail once more at the end
+        os.dup2(os.open(os.devnull, os.O_WRONLY), sys.stdout.fileno())
+        return WRITE_FAULT
     return DONE
 
 
