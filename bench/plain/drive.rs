@@ -1593,9 +1593,9 @@ fn drive(name: &str, is_buffered: bool) -> io::Result<()> {
 fn main() {
     let words: Vec<String> = std::env::args().skip(1).collect();
     let done = match &words[..] {
-        [name] => drive(name, false),
+        [name] if !name.starts_with('-') => drive(name, false),
         [option, name] if option == "--buffered" => drive(name, true),
-        _ => fail(1, "drive [--buffered] FILE"),
+        _ => fail(1, "lynx: usage"),
     };
     if done.is_err() {
         exit(3);
