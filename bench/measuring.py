@@ -38,7 +38,8 @@ def compiled(source, compiler):
     program = os.path.join(folder, os.path.splitext(os.path.basename(source))[0])
     if not os.path.exists(program) or os.path.getmtime(program) < os.path.getmtime(source):
         os.makedirs(folder, exist_ok=True)
-        subprocess.run(compiler + ['-o', program, source], check=True)
+        if subprocess.run(compiler + ['-o', program, source]).returncode != 0:
+            sys.exit(f'bench: {source} could not be compiled')
     return program
 
 
