@@ -1112,6 +1112,7 @@ impl Event<'_> {
         let trail = mem::take(&mut here_on.moving.trail);
         let hops = here_on.moving.hops;
         let holder = here_on.holder;
+        let inward = here_on.inward;
         let is_receiving = here_on.is_receiving();
         if is_receiving {
             here_on.inward = Inward::Unreported;
@@ -1125,7 +1126,9 @@ impl Event<'_> {
             self.report(owner, Report::destroyed(on, false, message.enclosed));
         }
         if let (true, Holder::Owner(p)) = (is_receiving, holder) {
-            self.answer_cancel(p);
+            if inward == Inward::Withdrawing {
+                self.processes[usize::from(p)].state = State::Running;
+            }
             self.report(usize::from(p), Report::destroyed(on, true, Box::default()));
         }
         self.forget(on, hops, trail);
@@ -1153,13 +1156,6 @@ impl Event<'_> {
         }
         if moving.trail != 0 {
             self.send(moving.hint, What::Moved { to, at, hops: moving.hops });
-        }
-    }
-
-    fn answer_cancel(&mut self, p: u8) {
-        let process = &mut self.processes[usize::from(p)];
-        if process.state == State::InCancel {
-            process.state = State::Running;
         }
     }
 
@@ -1299,7 +1295,9 @@ impl Event<'_> {
         put_number(&mut self.kernel.journal.text, owner as u64);
         self.kernel.journal.ending(is_late, b" late");
         self.arrive(&moving, owner);
-        self.answer_cancel(owner as u8);
+        if is_late {
+            self.processes[owner].state = State::Running;
+        }
         let enclosed = moving.iter().map(|value| value.end).collect();
         self.report(owner, Report { on: to, is_inward: true, is_done: true, bytes, enclosed });
         self.send(at, What::Taken { to: to.opposite(), n, at: self.kernel.id, hops: own_hops });
