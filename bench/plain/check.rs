@@ -161,7 +161,11 @@ impl Lexer<'_> {
             self.at += 1;
         }
         let word = &self.source[from..self.at];
-        if word.len() <= 7 { keyword(word) } else { Kind::Name }
+        if word.len() <= 7 {
+            keyword(word)
+        } else {
+            Kind::Name
+        }
     }
 
     fn number(&mut self) -> Answer<i64> {
@@ -284,10 +288,17 @@ enum Stmt {
     New(Name, Name),
     Destroy(Name),
     /// Of a bind or an unbind.
-    Bound { link: Name, entry: Name, is_bind: bool },
+    Bound {
+        link: Name,
+        entry: Name,
+        is_bind: bool,
+    },
     Connect(Box<Connect>),
     Accept(Box<Accept>),
-    Reply { at: u32, values: Vec<Expr> },
+    Reply {
+        at: u32,
+        values: Vec<Expr>,
+    },
     Try(Box<Try>),
 }
 
@@ -384,7 +395,11 @@ impl<'a> Parser<'a> {
     }
 
     fn want(&mut self, kind: Kind) -> Answer<()> {
-        if self.is(kind) { self.advance() } else { self.wrong(What::Syntax) }
+        if self.is(kind) {
+            self.advance()
+        } else {
+            self.wrong(What::Syntax)
+        }
     }
 
     fn accept(&mut self, kind: Kind) -> Answer<bool> {
@@ -757,10 +772,7 @@ impl Kind {
 
     fn begins_statement(self) -> bool {
         use Kind::*;
-        matches!(
-            self,
-            Name | If | While | Write | Await | Stop | Raise | New | Destroy | Bind | Unbind | Connect | Accept | Reply | Try
-        )
+        matches!(self, Name | If | While | Write | Await | Stop | Raise | New | Destroy | Bind | Unbind | Connect | Accept | Reply | Try)
     }
 }
 
@@ -803,8 +815,14 @@ enum Meaning {
 
 type Names<'a> = HashMap<&'a [u8], Meaning, BuildHasherDefault<NameHasher>>;
 
-const EXCEPTIONS: [&[u8]; 9] =
-    [b"BUSYLINK", b"DEADLINK", b"NOLINK", b"DIVIDE", b"OVERFLOW", b"RANGE", b"FAILED", b"REPLIED", b"LINKSFULL"];
+/// Whether a name is there already; where it is not, it gets its meaning.
+fn is_there<'a>(names: &mut Names<'a>, text: &'a [u8], meaning: Meaning) -> bool {
+    let before = names.len();
+    names.entry(text).or_insert(meaning);
+    names.len() == before
+}
+
+const EXCEPTIONS: [&[u8]; 9] = [b"BUSYLINK", b"DEADLINK", b"NOLINK", b"DIVIDE", b"OVERFLOW", b"RANGE", b"FAILED", b"REPLIED", b"LINKSFULL"];
 const MOST_LINKS: usize = 8;
 const MOST_ROW: i64 = 16;
 const MOST_PACKET: u64 = 256;
@@ -855,22 +873,14 @@ impl<'a> Typing<'a> {
 
     fn declare(&mut self, name: Name, meaning: Meaning) {
         let text = self.text(name);
-        let mut is_new = false;
-        self.names.entry(text).or_insert_with(|| {
-            is_new = true;
-            meaning
-        });
-        self.fail_where(!is_new, name.from, 1);
+        let is_twice = is_there(&mut self.names, text, meaning);
+        self.fail_where(is_twice, name.from, 1);
     }
 
     fn declare_local(&mut self, name: Name, kind: Type) {
         let text = self.text(name);
-        let mut is_new = false;
-        self.locals.entry(text).or_insert_with(|| {
-            is_new = true;
-            Meaning::Variable(kind)
-        });
-        self.fail_where(!is_new, name.from, 2);
+        let is_twice = is_there(&mut self.locals, text, Meaning::Variable(kind));
+        self.fail_where(is_twice, name.from, 2);
     }
 
     fn module(&mut self) {
@@ -963,8 +973,8 @@ impl<'a> Typing<'a> {
     }
 
     fn exception(&mut self, name: Name) {
-        let text = self.text(name);
-        self.fail_where(!EXCEPTIONS.contains(&text), name.from, 23);
+        let is_one = EXCEPTIONS.contains(&self.text(name));
+        self.fail_where(!is_one, name.from, 23);
     }
 
     /// Values that are handed on, by the types that are wanted.

@@ -98,11 +98,15 @@ struct Line {
     act: Act,
 }
 
-struct Script {
+struct Setting {
     version: u8,
     kernels: u8,
     homes: Vec<u8>,
     wires: Vec<(u8, u8)>,
+}
+
+struct Script {
+    setting: Setting,
     lines: Vec<Line>,
 }
 
@@ -210,11 +214,19 @@ fn next_number(words: &mut Words) -> Result<u64, u8> {
 }
 
 fn next_is(words: &mut Words, want: &[u8]) -> Result<(), u8> {
-    if words.next() == Some(want) { Ok(()) } else { Err(NO_FORM) }
+    if words.next() == Some(want) {
+        Ok(())
+    } else {
+        Err(NO_FORM)
+    }
 }
 
 fn none_left(words: &mut Words) -> Result<(), u8> {
-    if words.next().is_none() { Ok(()) } else { Err(NO_FORM) }
+    if words.next().is_none() {
+        Ok(())
+    } else {
+        Err(NO_FORM)
+    }
 }
 
 fn send_call(words: &mut Words, most: usize) -> Result<Call, u8> {
@@ -273,8 +285,8 @@ struct Reader {
 
 impl Reader {
     fn new() -> Reader {
-        let script = Script { version: 1, kernels: 0, homes: Vec::new(), wires: Vec::new(), lines: Vec::new() };
-        Reader { script, part: Part::Start }
+        let setting = Setting { version: 1, kernels: 0, homes: Vec::new(), wires: Vec::new() };
+        Reader { script: Script { setting, lines: Vec::new() }, part: Part::Start }
     }
 
     /// Goes on to a part, where it may stand behind what was read.
@@ -311,7 +323,7 @@ impl Reader {
         if version != 1 && version != 2 {
             return Err(VERSION);
         }
-        self.script.version = version as u8;
+        self.script.setting.version = version as u8;
         Ok(())
     }
 
@@ -322,16 +334,24 @@ impl Reader {
         if kernels < 1 || kernels > MOST_KERNELS as u64 {
             return Err(KERNELS);
         }
-        self.script.kernels = kernels as u8;
+        self.script.setting.kernels = kernels as u8;
         Ok(())
     }
 
     fn kernel(&self, kernel: u64) -> Result<u8, u8> {
-        if kernel < u64::from(self.script.kernels) { Ok(kernel as u8) } else { Err(KERNEL) }
+        if kernel < u64::from(self.script.setting.kernels) {
+            Ok(kernel as u8)
+        } else {
+            Err(KERNEL)
+        }
     }
 
     fn declared(&self, process: u64) -> Result<u8, u8> {
-        if process < self.script.homes.len() as u64 { Ok(process as u8) } else { Err(PROCESS) }
+        if process < self.script.setting.homes.len() as u64 {
+            Ok(process as u8)
+        } else {
+            Err(PROCESS)
+        }
     }
 
     fn process(&mut self, words: &mut Words) -> Result<(), u8> {
@@ -340,11 +360,11 @@ impl Reader {
         let kernel = next_number(words)?;
         none_left(words)?;
         self.enter(Part::Processes)?;
-        if process != self.script.homes.len() as u64 || process >= MOST_PROCESSES as u64 {
+        if process != self.script.setting.homes.len() as u64 || process >= MOST_PROCESSES as u64 {
             return Err(PROCESS_NUMBER);
         }
         let home = self.kernel(kernel)?;
-        self.script.homes.push(home);
+        self.script.setting.homes.push(home);
         Ok(())
     }
 
@@ -353,10 +373,10 @@ impl Reader {
         none_left(words)?;
         self.enter(Part::Wires)?;
         let wire = (self.declared(first)?, self.declared(second)?);
-        if self.script.wires.len() == MOST_WIRES {
+        if self.script.setting.wires.len() == MOST_WIRES {
             return Err(WIRES);
         }
-        self.script.wires.push(wire);
+        self.script.setting.wires.push(wire);
         Ok(())
     }
 
@@ -381,7 +401,7 @@ impl Reader {
 
     fn ask(&mut self, number: u32, first: &[u8], words: &mut Words) -> Result<(), u8> {
         let process = process_word(first)?;
-        let call = call(words, if self.script.version == 1 { 1 } else { MOST_ENCLOSED })?;
+        let call = call(words, if self.script.setting.version == 1 { 1 } else { MOST_ENCLOSED })?;
         self.enter(Part::Calls)?;
         let process = self.declared(process)?;
         if call.text_length() > MOST_TEXT {
@@ -930,7 +950,11 @@ impl Event<'_> {
             return Err(b" EncloseSame");
         }
         let is_twice = |(i, end)| enclosed[..i].contains(end);
-        if enclosed.iter().enumerate().any(is_twice) { Err(b" EncloseTwice") } else { Ok(()) }
+        if enclosed.iter().enumerate().any(is_twice) {
+            Err(b" EncloseTwice")
+        } else {
+            Ok(())
+        }
     }
 
     fn start_send(&mut self, p: u8, on: End, message: Box<Message>) -> Result<(), &'static [u8]> {
@@ -1427,17 +1451,17 @@ struct World {
 }
 
 impl World {
-    fn start(script: &Script) -> World {
+    fn start(setting: &Setting) -> World {
         let kernel = |id| Kernel { id, stamp: 0, made: 0, table: Table::default(), journal: Journal::default() };
         let process = |&home| Process { home, state: State::Running, started: 0, reports: VecDeque::new() };
         let lists = (0..MOST_KERNELS * MOST_KERNELS).map(|_| VecDeque::new()).collect();
         let mut world = World {
-            kernels: (0..script.kernels).map(kernel).collect(),
-            processes: script.homes.iter().map(process).collect(),
+            kernels: (0..setting.kernels).map(kernel).collect(),
+            processes: setting.homes.iter().map(process).collect(),
             net: Net { lists, filled: 0 },
             notes: Vec::new(),
         };
-        for &(first, second) in &script.wires {
+        for &(first, second) in &setting.wires {
             world.wire(first, second);
         }
         world
@@ -1497,13 +1521,6 @@ impl World {
 }
 
 // ---------------------------------------------------------------- putting
-
-struct Setting {
-    version: u8,
-    kernels: u8,
-    homes: Vec<u8>,
-    wires: Vec<(u8, u8)>,
-}
 
 fn put_header(out: &mut impl Write, setting: &Setting) -> io::Result<()> {
     put_line(out, format!("transcript {}\n", setting.version))?;
@@ -1574,11 +1591,11 @@ fn read(name: &str) -> Vec<u8> {
 
 fn drive(name: &str, is_buffered: bool) -> io::Result<()> {
     let source = read(name);
-    let script = read_script(&source).unwrap_or_else(|(line, rule)| fail(4, &format!("{name}:{line}: script {rule}")));
+    let refused = |(line, rule)| fail(4, &format!("{name}:{line}: script {rule}"));
+    let Script { setting, lines } = read_script(&source).unwrap_or_else(refused);
     drop(source);
-    let mut world = World::start(&script);
-    let setting = Setting { version: script.version, kernels: script.kernels, homes: script.homes, wires: script.wires };
-    script.lines.into_iter().for_each(|line| world.perform(line));
+    let mut world = World::start(&setting);
+    lines.into_iter().for_each(|line| world.perform(line));
     // the file itself, since std's standard output keeps lines back
     let out = File::from(io::stdout().as_fd().try_clone_to_owned()?);
     if is_buffered {
