@@ -1,9 +1,11 @@
 //! Files of the host.
-ghost use Rattle.std.specs.Prelude.{◌≡◌, ◌↔◌, ◌⊎◌, ◌<◌, ◌≤◌, None, IfOk, IfSome, IsErrOf, length, take};
+ghost use Rattle.std.specs.Prelude.{◌≡◌, ◌↔◌, ◌⊎◌, ◌<◌, ◌≤◌, [], None, IfOk, IfSome, IsErrOf, length, take};
 ghost use Rattle.std.specs.IoError.{error_kind};
 ghost use Rattle.lynx_outside.specs.Host.{Hosted};
+ghost use Rattle.lynx_outside.specs.Logged.{Read as Logged};
 
 use crate::faults::raised;
+use crate::log::{ReadLog, ReadNote};
 use crate::{FileAnswer, Files};
 use std::alloc::Global;
 use std::io::{ErrorKind, Read};
@@ -15,33 +17,41 @@ use std::{fs, io, rt};
 pub struct HostFiles<R> {
     host: R,
     faults: u64,
+    log: ReadLog,
 }
 
 impl<R> Model for HostFiles<R> {
-    ghost Value = { Hosted R };
+    ghost Value = { Hosted R Logged };
 
-    ghost view = { λ a. record { host = a.host; faults = a.faults } };
+    ghost view = { λ a. record { host = a.host; faults = a.faults; log = a.log.reads } };
 }
 
 impl<R: rt::Files> HostFiles<R> {
     /// The files of this host, without a fault.
     pub fn of(host: R) -> HostFiles<R>
-        ensures { result ≡ record { host = host; faults = 0 } }
+        ensures { result ≡ record { host = host; faults = 0; log = [] } }
     {
-        HostFiles { host, faults: 0 }
+        HostFiles {
+            host,
+            faults: 0,
+            log: ReadLog::new(),
+        }
     }
 }
 
 impl<R: rt::Files> Files for HostFiles<R> {
-    ghost contents = { λ _. None };
-
-    ghost faults = { λ a. a.faults };
+    ghost state = { λ a. record { contents = None; faults = a.faults; log = a.log } };
 
     fn read(&mut self, alloc: Global, name: &str, most: u32) -> Result<Vec<u8>, FileAnswer> {
         let answer = read_file(alloc, &self.host, name, most);
         if matches!(answer, Err(FileAnswer::Failed)) {
             self.faults = raised(self.faults);
         }
+        self.log = self.log.then(&ReadNote {
+            name,
+            most,
+            answer: &answer,
+        });
         answer
     }
 }

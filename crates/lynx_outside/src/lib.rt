@@ -8,6 +8,7 @@ mod host_files;
 mod host_sink;
 mod list_files;
 mod list_sink;
+mod log;
 mod planned;
 mod sink;
 mod status;
