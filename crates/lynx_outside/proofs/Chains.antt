@@ -48,6 +48,10 @@ WerePut-append old mid new xs ys a b = record {
   logged = b.logged ∙ (ap (λ l. l ++ ys) a.logged ∙ append_assoc old.log xs ys);
 }
 
+-- one put
+pub WerePut-one : (old new : Stream) (put : Put) → Holds old.held new.held put → new.faults ≡ counted_put old.faults put → new.log ≡ old.log ++ put ∷ [] → WerePut old new (put ∷ [])
+WerePut-one old new put held counted logged = record { held = (new.held, held, refl); counted = counted; logged = logged }
+
 -- ---- what a sink holds that tells its bytes
 
 -- bytes, and then more bytes
