@@ -1,6 +1,6 @@
 //! The words of a command line, and the command that they give.
 ghost use Rattle.std.specs.Prelude.{◌≡◌, ◌≤◌, ◌∷◌, length, option_and_then};
-ghost use Rattle.lynx_run.specs.Words.{is_name, verb_of, one_name, one_seed, seed_number, turn_number, turns_number, with_plan, with_turns, with_serial, with_word, run_command, run_read, run_of, snapped_serial, snapped_place, snapped_word, snapshot_command, snapshot_of, behind, command_of};
+ghost use Rattle.lynx_words.specs.Words.{is_name, verb_of, one_name, one_seed, seed_number, turn_number, turns_number, with_plan, with_turns, with_serial, with_word, run_command, run_read, run_of, snapped_serial, snapped_place, snapped_word, snapshot_command, snapshot_of, behind, command_of};
 
 use charlotte_text::read_below;
 use std::collections::VecDeque;
@@ -358,6 +358,3 @@ fn snapshot_of(mut words: VecDeque<String>) -> Option<Command>
     }
     given.command()
 }
-
-#[cfg(test)]
-mod tests;

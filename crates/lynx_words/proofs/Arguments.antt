@@ -3,8 +3,8 @@ use Rattle.std.proofs.Common.{◌≡◌, take, ◌&&◌, List, [], ◌∷◌, Op
 use Rattle.std.specs.Prelude.{codes, option_and_then, string_bytes, is_none, if◌then◌else◌}
 use Rattle.std.specs.Str.{bytes_eq}
 use Rattle.std.proofs.lemmas.Slice.Eq.{bytes_eq-Decides}
-use Rattle.lynx_run.specs.declared.words.RunWords.{RunWords}
-use Rattle.lynx_run.specs.Words.{Word, is_spelled, is_name, with_plan, with_turns, with_word, run_read}
+use Rattle.lynx_words.specs.declared.words.RunWords.{RunWords}
+use Rattle.lynx_words.specs.Words.{Word, is_spelled, is_name, with_plan, with_turns, with_word, run_read}
 
 -- an argument that is not `--turns` is read alone
 pub run_read-word : (g : RunWords) (w : Word) (ws : List Word) → is_spelled w (codes "--turns") ≡ false → run_read g (w ∷ ws) ≡ option_and_then (λ h. run_read h ws) (with_word g w)

@@ -4,12 +4,12 @@ use Rattle.std.specs.Result.{result_ok}
 use Rattle.std.specs.Str.{bytes_eq}
 use Rattle.std.specs.declared.alloc.Global.{Global}
 use Rattle.charlotte_text.specs.Reading.{number_below}
-use Rattle.lynx_run.specs.declared.words.Command.{Command}
-use Rattle.lynx_run.specs.declared.words.Command.TheVariants as command
-use Rattle.lynx_run.specs.declared.words.Verb.{Verb}
-use Rattle.lynx_run.specs.declared.words.Verb.TheVariants as verb
-use Rattle.lynx_run.specs.declared.words.RunWords.{RunWords}
-use Rattle.lynx_run.specs.declared.words.SnapshotWords.{SnapshotWords}
+use Rattle.lynx_words.specs.declared.words.Command.{Command}
+use Rattle.lynx_words.specs.declared.words.Command.TheVariants as command
+use Rattle.lynx_words.specs.declared.words.Verb.{Verb}
+use Rattle.lynx_words.specs.declared.words.Verb.TheVariants as verb
+use Rattle.lynx_words.specs.declared.words.RunWords.{RunWords}
+use Rattle.lynx_words.specs.declared.words.SnapshotWords.{SnapshotWords}
 
 abbrev pub Word : Type 0
 Word = String Global
