@@ -1,5 +1,5 @@
 -- A command that reads nothing and puts nothing on out.
-use Rattle.std.proofs.Common.{◌≡◌, ℕ, List, [], Option, Some, None, All, Err, refl, sym}
+use Rattle.std.proofs.Common.{ℕ, List, [], Option, Some, None, All, Err, refl, sym}
 use Rattle.std.specs.Prelude.{IfSome}
 use Rattle.std.proofs.lemmas.List.{append-nil}
 use Rattle.std.proofs.lemmas.List.Elements.{All-nil}

@@ -55,7 +55,7 @@ pub fn perform_file<C: FileCommand, F: Files, O: Sink, E: Sink>(
 ) -> Status
     ensures { (course : Course) × IsOfFile C.finds C.MOST name.now course
         × Took course result (outside (F.state files.old) (O.state out.old) (E.state err.old))
-            (outside (F.state files.new) (O.state out.new) (E.state err.new)) }
+        (outside (F.state files.new) (O.state out.new) (E.state err.new)) }
 {
     let found = find_at::<C, F>(alloc, name, files);
     end_with(alloc, name, found, out, err)

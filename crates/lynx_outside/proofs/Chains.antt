@@ -8,7 +8,7 @@ use Rattle.std.proofs.Math.Seq.{take-append-add}
 use Rattle.std.specs.Io.KnownBytes.{append_known}
 use Rattle.lynx_outside.specs.Files.{Source, Listing, Reads, IsWithin, counted_read, counted_reads, WereRead}
 use Rattle.lynx_outside.specs.Logged.{Read, Put}
-use Rattle.lynx_outside.specs.Sink.{Stream, taken, failed, PutsPart, Appends, Holds, Hold, counted_put, counted_puts, WerePut}
+use Rattle.lynx_outside.specs.Sink.{Stream, taken, failed, PutsPart, Holds, Hold, counted_put, counted_puts, WerePut}
 
 -- ---- reads
 
@@ -77,7 +77,8 @@ whole_counted n (l ∷ ls) = whole_counted n ls
 pub part_held : (old new : Option (List ℕ)) (lines : List (List ℕ)) (last : List ℕ) → Hold old new (map taken lines ++ failed last ∷ []) → PutsPart old new (concat lines ++ last)
 part_held old new [] last h = (h.1.0, h.2 ∙ h.1.1)
 part_held old new (l ∷ ls) last h =
-    let part = part_held h.0 new ls last h.2 in
-    (length l + part.0,
-     part.1 ∙ (ap (λ held. append_known held (take part.0 (concat ls ++ last))) h.1 ∙ (append_known-append old l (take part.0 (concat ls ++ last))
-     ∙ ap (append_known old) (sym (take-append-add l (concat ls ++ last) part.0) ∙ ap (take (length l + part.0)) (sym (append_assoc l (concat ls) last))))))
+    let part = part_held h.0 new ls last h.2 in (
+      length l + part.0,
+      part.1 ∙ (ap (λ held. append_known held (take part.0 (concat ls ++ last))) h.1 ∙ (append_known-append old l (take part.0 (concat ls ++ last))
+          ∙ ap (append_known old) (sym (take-append-add l (concat ls ++ last) part.0) ∙ ap (take (length l + part.0)) (sym (append_assoc l (concat ls) last))))),
+    )

@@ -1,6 +1,4 @@
 -- What a log keeps of a read and of a put.
-use Rattle.std.specs.Prelude.{List, ℕ, Vec, Result, Ok, Err}
-use Rattle.std.specs.declared.alloc.Global.{Global}
 use Rattle.lynx_outside.specs.Files.{answer_of}
 use Rattle.lynx_outside.specs.Logged.{Read, Put}
 use Rattle.lynx_outside.specs.declared.log.PutNote.{PutNote}

@@ -81,23 +81,3 @@ impl Files for ListFiles {
         answer
     }
 }
-
-#[cfg(test)]
-mod tests {
-    use super::*;
-    use std::test::Fail;
-
-    #[test]
-    fn chosen_reads_fail(rt: HostRuntime) -> Result<(), Fail> {
-        let alloc = rt.alloc();
-        let file = (String::from_str(alloc, "a")?, b"text".to_vec(alloc)?);
-        let mut files = ListFiles::of(vec![in alloc; file]?, vec![in alloc; 2, 3]?);
-        assert_eq!(rt; files.read(alloc, "a", 9)?.as_slice(), b"text".as_slice());
-        assert!(rt; matches!(files.read(alloc, "a", 9), Err(FileAnswer::Failed)));
-        assert!(rt; matches!(files.read(alloc, "b", 9), Err(FileAnswer::Failed)));
-        assert!(rt; matches!(files.read(alloc, "b", 9), Err(FileAnswer::Absent)));
-        assert!(rt; matches!(files.read(alloc, "a", 3), Err(FileAnswer::TooBig)));
-        assert_eq!(rt; files.read(alloc, "a", 4)?.as_slice(), b"text".as_slice());
-        Ok(())
-    }
-}

@@ -92,34 +92,3 @@ impl Sink for ListSink {
         result
     }
 }
-
-#[cfg(test)]
-mod tests {
-    use super::*;
-    use std::test::Fail;
-
-    #[test]
-    fn chosen_puts_fail_and_keep_nothing(rt: HostRuntime) -> Result<(), Fail> {
-        let failing = vec![in rt.alloc(); 2, 4]?;
-        let mut sink = ListSink::with(rt.alloc(), 100, failing)?;
-        assert_eq!(rt; sink.put(b"a"), Ok(()));
-        assert_eq!(rt; sink.put(b"b"), Err(Failed));
-        assert_eq!(rt; sink.put(b"c"), Ok(()));
-        assert_eq!(rt; sink.put(b"d"), Err(Failed));
-        assert_eq!(rt; sink.put(b"e"), Ok(()));
-        assert_eq!(rt; sink.held(), b"ace".as_slice());
-        Ok(())
-    }
-
-    #[test]
-    fn a_put_past_the_room_keeps_what_fits(rt: HostRuntime) -> Result<(), Fail> {
-        let mut sink = ListSink::with(rt.alloc(), 5, Vec::new(rt.alloc()))?;
-        assert_eq!(rt; sink.put(b"abc"), Ok(()));
-        assert_eq!(rt; sink.put(b"defg"), Err(Failed));
-        assert_eq!(rt; sink.held(), b"abcde".as_slice());
-        assert_eq!(rt; sink.put(b""), Ok(()));
-        assert_eq!(rt; sink.put(b"h"), Err(Failed));
-        assert_eq!(rt; sink.held(), b"abcde".as_slice());
-        Ok(())
-    }
-}

@@ -90,27 +90,3 @@ fn first_bytes<'a>(files: &'a [(String, Vec<u8>)], name: &str) -> Option<&'a Vec
         None => None,
     }
 }
-
-#[cfg(test)]
-mod tests {
-    use super::*;
-    use std::test::Fail;
-
-    #[test]
-    fn the_first_bytes_of_a_name_count(rt: HostRuntime) -> Result<(), Fail> {
-        let alloc = rt.alloc();
-        let mut files = Vec::new(alloc);
-        for (name, bytes) in [("a", "first"), ("b", ""), ("a", "second")] {
-            files.push((
-                String::from_str(alloc, name)?,
-                bytes.as_bytes().to_vec(alloc)?,
-            ))?;
-        }
-        let mut files = SureFiles::of(files);
-        assert_eq!(rt; files.read(alloc, "a", 5)?.as_slice(), b"first".as_slice());
-        assert_eq!(rt; files.read(alloc, "b", 0)?.as_slice(), b"".as_slice());
-        assert!(rt; matches!(files.read(alloc, "a", 4), Err(FileAnswer::TooBig)));
-        assert!(rt; matches!(files.read(alloc, "c", 9), Err(FileAnswer::Absent)));
-        Ok(())
-    }
-}

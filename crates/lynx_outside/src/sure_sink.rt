@@ -53,19 +53,3 @@ impl Sink for SureSink {
         Ok(())
     }
 }
-
-#[cfg(test)]
-mod tests {
-    use super::*;
-    use std::test::Fail;
-
-    #[test]
-    fn counts_what_it_takes(rt: HostRuntime) -> Result<(), Fail> {
-        let mut sink = SureSink::of();
-        sink.put(b"one")?;
-        sink.put(b"")?;
-        sink.put(b"two more")?;
-        assert_eq!(rt; sink.count(), 11);
-        Ok(())
-    }
-}

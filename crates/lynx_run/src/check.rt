@@ -53,7 +53,7 @@ pub fn check_file<F: Files, O: Sink, E: Sink>(
 ) -> Status
     ensures { (course : Course) × IsOfFile Checks 1048576 name.now course
         × Took course result (outside (F.state files.old) (O.state out.old) (E.state err.old))
-            (outside (F.state files.new) (O.state out.new) (E.state err.new)) }
+        (outside (F.state files.new) (O.state out.new) (E.state err.new)) }
 {
     perform_file::<CheckCommand, F, O, E>(alloc, name, files, out, err)
 }

@@ -60,7 +60,7 @@ pub fn drive_file<F: Files, O: Sink, E: Sink>(
 ) -> Status
     ensures { (course : Course) × IsOfFile Drives 1048576 name.now course
         × Took course result (outside (F.state files.old) (O.state out.old) (E.state err.old))
-            (outside (F.state files.new) (O.state out.new) (E.state err.new)) }
+        (outside (F.state files.new) (O.state out.new) (E.state err.new)) }
 {
     perform_file::<DriveCommand, F, O, E>(alloc, name, files, out, err)
 }

@@ -25,7 +25,7 @@ pub fn lynx<F: Files, O: Sink, E: Sink>(
 ) -> Status
     ensures { (course : Course) × Answers (command_of words.items) course
         × Took course result (outside (F.state files.old) (O.state out.old) (E.state err.old))
-            (outside (F.state files.new) (O.state out.new) (E.state err.new)) }
+        (outside (F.state files.new) (O.state out.new) (E.state err.new)) }
 {
     match command_of(words) {
         None => tell(alloc, "", Failure::Usage, err),
@@ -50,7 +50,7 @@ fn perform_command<F: Files, O: Sink, E: Sink>(
 ) -> Status
     ensures { (course : Course) × Answers (Some command.now) course
         × Took course result (outside (F.state files.old) (O.state out.old) (E.state err.old))
-            (outside (F.state files.new) (O.state out.new) (E.state err.new)) }
+        (outside (F.state files.new) (O.state out.new) (E.state err.new)) }
 {
     match command {
         Command::Drive { file } => drive_file(alloc, file.as_str(), files, out, err),

@@ -1,5 +1,5 @@
 -- A command that is not built fails by its name.
-use Rattle.std.proofs.Common.{◌≡◌, String, Option, Some, List, refl}
+use Rattle.std.proofs.Common.{◌≡◌, String, Some, List, refl}
 use Rattle.std.specs.declared.alloc.Global.{Global}
 use Rattle.lynx_command.proofs.Courses.{refused_course, refused}
 use Rattle.lynx_command.specs.declared.failure.Failure.TheVariants.{Unbuilt}
@@ -22,6 +22,8 @@ not_built (Snapshot plan at serial) errs drive check = record { reads = refl; fo
 pub returns-in_default : goal.returns-in_default
 returns-in_default g c =
     let told = c.tell.ensures in
-    let name = command_name c.args.command.now in
-    (refused_course Unbuilt name told.0, not_built c.args.command.now told.0 c.in_default.not-Drive c.in_default.not-Check,
-     refused Unbuilt name _ _ _ _ _ _ (rw c.command_name.ensures at told.1) told.2)
+    let name = command_name c.args.command.now in (
+      refused_course Unbuilt name told.0,
+      not_built c.args.command.now told.0 c.in_default.not-Drive c.in_default.not-Check,
+      refused Unbuilt name _ _ _ _ _ _ (rw c.command_name.ensures at told.1) told.2,
+    )
