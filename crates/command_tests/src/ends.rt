@@ -38,7 +38,10 @@ fn each_failure_has_its_line(rt: HostRuntime) -> Result<(), Fail> {
         (Failure::TooBig, "lynx: a/s: too big\n"),
         (Failure::Lex { at, no: 5 }, "a/s:65535:1048577: lex 5\n"),
         (Failure::Deep { at }, "a/s:65535:1048577: deep\n"),
-        (Failure::Rule { at, rule: 24 }, "a/s:65535:1048577: rule 24\n"),
+        (
+            Failure::Rule { at, rule: 24 },
+            "a/s:65535:1048577: rule 24\n",
+        ),
         (Failure::CodeTooLong, "a/s:1:1: code too long\n"),
         (Failure::Plan { line: 9, rule: 11 }, "a/s:9: plan 11\n"),
         (Failure::NoTranscript { line: 310_678 }, "a/s:310678: no\n"),
@@ -46,7 +49,10 @@ fn each_failure_has_its_line(rt: HostRuntime) -> Result<(), Fail> {
     ];
     for (failure, text) in rows {
         let mut err = ListSink::with(rt.alloc(), 100, Vec::new(rt.alloc()))?;
-        assert_eq!(rt; tell(rt.alloc(), "a/s", failure, &mut err), failure.status());
+        assert_eq!(rt;
+            tell(rt.alloc(), "a/s", failure, &mut err),
+            failure.status()
+        );
         assert_eq!(rt; err.held(), text.as_bytes());
     }
     Ok(())

@@ -31,10 +31,7 @@ fn files_of(alloc: Global, failing: u32) -> Result<ListFiles, AllocError> {
         String::from_str(alloc, "m")?,
         b"module m; begin end.\n".to_vec(alloc)?,
     );
-    Ok(ListFiles::of(
-        vec![in alloc; script, module]?,
-        vec![in alloc; failing]?,
-    ))
+    Ok(ListFiles::of(vec![in alloc; script, module]?, vec![in alloc; failing]?))
 }
 
 #[test]
@@ -71,7 +68,13 @@ fn end_so(
     let mut files = files_of(alloc, failing.0)?;
     let mut out = ListSink::with(alloc, 4, vec![in alloc; 0]?)?;
     let mut err = ListSink::with(alloc, 100, vec![in alloc; failing.1]?)?;
-    let ended = lynx(alloc, words_of(alloc, line)?, &mut files, &mut out, &mut err);
+    let ended = lynx(
+        alloc,
+        words_of(alloc, line)?,
+        &mut files,
+        &mut out,
+        &mut err,
+    );
     assert_eq!(rt; ended, status, "{line}");
     assert_eq!(rt; out.held(), held.0.as_bytes());
     assert_eq!(rt; err.held(), held.1.as_bytes());
@@ -84,9 +87,27 @@ fn reads_and_puts_on_err(rt: HostRuntime) -> Result<(), Fail> {
     for (line, failing, status, out, err) in [
         ("help", (0, 0), Status::Usage, "", "lynx: usage\n"),
         ("help", (0, 1), Status::WriteFault, "", ""),
-        ("run p", (0, 0), Status::Refused, "", "lynx: run: not built\n"),
-        ("drive s", (1, 0), Status::ReadFault, "", "lynx: s: read fault\n"),
-        ("check m", (1, 0), Status::ReadFault, "", "lynx: m: read fault\n"),
+        (
+            "run p",
+            (0, 0),
+            Status::Refused,
+            "",
+            "lynx: run: not built\n",
+        ),
+        (
+            "drive s",
+            (1, 0),
+            Status::ReadFault,
+            "",
+            "lynx: s: read fault\n",
+        ),
+        (
+            "check m",
+            (1, 0),
+            Status::ReadFault,
+            "",
+            "lynx: m: read fault\n",
+        ),
         ("drive s", (1, 1), Status::WriteFault, "", ""),
         ("drive t", (0, 0), Status::NoFile, "", "lynx: t: absent\n"),
         ("drive m", (2, 0), Status::Refused, "", "m:1: script 1\n"),
