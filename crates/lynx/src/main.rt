@@ -1,8 +1,9 @@
 //! The program `lynx`: it does what its words ask for, over the files and streams of the host.
 #![tactic(auto)]
 
+use lynx_command::Failure;
 use lynx_outside::{HostFiles, HostSink};
-use lynx_run::{Failure, fail, lynx};
+use lynx_run::{fail, lynx};
 use std::env;
 use std::io::{self, ErrorKind};
 use std::process::ExitCode;

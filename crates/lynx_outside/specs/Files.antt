@@ -1,9 +1,10 @@
--- What a read of a file answers where the files are told, and what it does to the count of faults.
-use Rattle.std.specs.Prelude.{◌≡◌, ℕ, ◌<◌, List, length, Option, Some, None, Result, Ok, Err, Vec, ⊤, IsSomeAnd, find, map, option_map, bytes_eq, String, string_bytes}
+-- What reads of files answer where the files are told, and what they leave.
+use Rattle.std.specs.Prelude.{◌≡◌, ℕ, ◌<◌, ◌≤◌, List, [], ◌∷◌, ◌++◌, length, All, Option, Some, None, Result, Ok, Err, Vec, ⊤, IfSome, IfOk, IsSomeAnd, find, map, option_map, bytes_eq, String, string_bytes}
 use Rattle.std.specs.declared.alloc.Global.{Global}
+use Rattle.lynx_outside.specs.Faults.{next_count}
+use Rattle.lynx_outside.specs.Logged.{Read}
 use Rattle.lynx_outside.specs.declared.files.FileAnswer.{FileAnswer}
 use Rattle.lynx_outside.specs.declared.files.FileAnswer.TheVariants.{Absent, TooBig, Failed, NoMemory}
-use Rattle.lynx_outside.specs.Faults.{Rose}
 
 -- files by their names, each with its bytes
 abbrev pub Listing : Type 0
@@ -17,18 +18,55 @@ listing_of files = map (λ file. (string_bytes file.0, file.1.items)) files
 abbrev pub bytes_of : Listing → List ℕ → Option (List ℕ)
 bytes_of files name = option_map (λ file. file.1) (find (λ file. bytes_eq file.0 name) files)
 
--- A read of at most so many bytes answers by the list, but for a fault and want of memory.
-abbrev pub Reads : Listing → List ℕ → ℕ → Result (Vec ℕ Global) FileAnswer → Type 0
-Reads files name most (Ok bytes) = bytes_of files name ≡ Some bytes.items
-Reads files name most (Err Absent) = bytes_of files name ≡ None
-Reads files name most (Err TooBig) = IsSomeAnd (bytes_of files name) (λ bytes. most < length bytes)
-Reads files name most (Err Failed) = ⊤
-Reads files name most (Err NoMemory) = ⊤
+-- a source of files: what it holds, where it tells that, how many reads failed, and each read so far
+pub record Source : Type 0 where
+  pub contents : Option Listing
+  pub faults : ℕ
+  pub log : List Read
 
--- The count rises where the answer is Failed, and stays with every other.
-abbrev pub CountsRead : {V : Type 0} → ℕ → ℕ → Result V FileAnswer → Type 0
-CountsRead old new (Ok bytes) = new ≡ old
-CountsRead old new (Err Absent) = new ≡ old
-CountsRead old new (Err TooBig) = new ≡ old
-CountsRead old new (Err Failed) = Rose old new
-CountsRead old new (Err NoMemory) = new ≡ old
+-- the answer of a read, as its bytes
+abbrev pub answer_of : Result (Vec ℕ Global) FileAnswer → Result (List ℕ) FileAnswer
+answer_of (Ok bytes) = Ok bytes.items
+answer_of (Err answer) = Err answer
+
+-- a read of a name, of at most so many bytes, that answered so
+abbrev pub read_of : List ℕ → ℕ → Result (Vec ℕ Global) FileAnswer → Read
+read_of name most result = record { name = name; most = most; answer = answer_of result }
+
+-- the answer for a file of which at most so many bytes are read, but for a fault and want of memory
+abbrev pub IsAnswer : Option (List ℕ) → ℕ → Result (List ℕ) FileAnswer → Type 0
+IsAnswer file most (Ok bytes) = file ≡ Some bytes
+IsAnswer file most (Err Absent) = file ≡ None
+IsAnswer file most (Err TooBig) = IsSomeAnd file (λ bytes. most < length bytes)
+IsAnswer file most (Err Failed) = ⊤
+IsAnswer file most (Err NoMemory) = ⊤
+
+-- a read answers by the list
+abbrev pub Reads : Listing → Read → Type 0
+Reads files read = IsAnswer (bytes_of files read.name) read.most read.answer
+
+-- a read gives no more bytes than were asked for
+abbrev pub IsWithin : Read → Type 0
+IsWithin read = IfOk read.answer (λ bytes. length bytes ≤ read.most)
+
+-- the count of faults after a read that answered so
+abbrev pub counted_read : ℕ → Result (List ℕ) FileAnswer → ℕ
+counted_read n (Ok bytes) = n
+counted_read n (Err Absent) = n
+counted_read n (Err TooBig) = n
+counted_read n (Err Failed) = next_count n
+counted_read n (Err NoMemory) = n
+
+-- the count of faults after these reads in order
+abbrev pub counted_reads : ℕ → List Read → ℕ
+counted_reads n [] = n
+counted_reads n (read ∷ reads) = counted_reads (counted_read n read.answer) reads
+
+-- these reads were made of a source in order, and no others
+pub record WereRead (old new : Source) (reads : List Read) : Type 0 where
+  -- no read changes the files, nor whether they are told
+  pub same : new.contents ≡ old.contents
+  pub told : IfSome old.contents (λ files. All (Reads files) reads)
+  pub within : All IsWithin reads
+  pub counted : new.faults ≡ counted_reads old.faults reads
+  pub logged : new.log ≡ old.log ++ reads

@@ -1,7 +1,9 @@
 pub mod Faults
+pub mod Logged
 pub mod Files
 pub mod Sink
 pub mod Planned
 pub mod Status
 pub mod Listed
 pub mod Host
+pub mod Noted

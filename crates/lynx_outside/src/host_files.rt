@@ -1,9 +1,11 @@
 //! Files of the host.
-ghost use Rattle.std.specs.Prelude.{◌≡◌, ◌↔◌, ◌⊎◌, ◌<◌, ◌≤◌, None, IfOk, IfSome, IsErrOf, length, take};
+ghost use Rattle.std.specs.Prelude.{◌≡◌, ◌↔◌, ◌⊎◌, ◌<◌, ◌≤◌, [], None, IfOk, IfSome, IsErrOf, length, take};
 ghost use Rattle.std.specs.IoError.{error_kind};
 ghost use Rattle.lynx_outside.specs.Host.{Hosted};
+ghost use Rattle.lynx_outside.specs.Logged.{Read as Logged};
 
 use crate::faults::raised;
+use crate::log::{ReadLog, ReadNote};
 use crate::{FileAnswer, Files};
 use std::alloc::Global;
 use std::io::{ErrorKind, Read};
@@ -15,33 +17,41 @@ use std::{fs, io, rt};
 pub struct HostFiles<R> {
     host: R,
     faults: u64,
+    log: ReadLog,
 }
 
 impl<R> Model for HostFiles<R> {
-    ghost Value = { Hosted R };
+    ghost Value = { Hosted R Logged };
 
-    ghost view = { λ a. record { host = a.host; faults = a.faults } };
+    ghost view = { λ a. record { host = a.host; faults = a.faults; log = a.log.reads } };
 }
 
 impl<R: rt::Files> HostFiles<R> {
     /// The files of this host, without a fault.
     pub fn of(host: R) -> HostFiles<R>
-        ensures { result ≡ record { host = host; faults = 0 } }
+        ensures { result ≡ record { host = host; faults = 0; log = [] } }
     {
-        HostFiles { host, faults: 0 }
+        HostFiles {
+            host,
+            faults: 0,
+            log: ReadLog::new(),
+        }
     }
 }
 
 impl<R: rt::Files> Files for HostFiles<R> {
-    ghost contents = { λ _. None };
-
-    ghost faults = { λ a. a.faults };
+    ghost state = { λ a. record { contents = None; faults = a.faults; log = a.log } };
 
     fn read(&mut self, alloc: Global, name: &str, most: u32) -> Result<Vec<u8>, FileAnswer> {
         let answer = read_file(alloc, &self.host, name, most);
         if matches!(answer, Err(FileAnswer::Failed)) {
             self.faults = raised(self.faults);
         }
+        self.log = self.log.then(&ReadNote {
+            name,
+            most,
+            answer: &answer,
+        });
         answer
     }
 }
@@ -97,70 +107,5 @@ fn answer_to_read(error: io::Error) -> FileAnswer
     match error.kind() {
         ErrorKind::OutOfMemory => FileAnswer::NoMemory,
         _ => FileAnswer::Failed,
-    }
-}
-
-#[cfg(test)]
-mod tests {
-    use super::*;
-    use std::test::Fail;
-    use std::{env, process};
-
-    #[test]
-    fn reads_a_file_of_the_host(host: HostRuntime) -> Result<(), Fail> {
-        let alloc = host.alloc();
-        let name = format!(in alloc; "lynx-outside-{}", process::id(host.process()))?;
-        let path = env::temp_dir(&host)?.join(alloc, name.as_str())?;
-        let mut files = HostFiles::of(&host);
-        assert!(host; matches!(files.read(alloc, path.as_str(), 9), Err(FileAnswer::Absent)));
-        fs::write(&host, path.as_path(), "four")?;
-        let whole = files.read(alloc, path.as_str(), 4);
-        let too_big = files.read(alloc, path.as_str(), 3);
-        fs::remove_file(&host, path.as_path())?;
-        assert_eq!(host; whole?.as_slice(), b"four".as_slice());
-        assert!(host; matches!(too_big, Err(FileAnswer::TooBig)));
-        assert_eq!(host; files.faults, 0);
-        // A directory can be opened and not read.
-        assert!(host; matches!(files.read(alloc, "/", 9), Err(FileAnswer::Failed)));
-        assert_eq!(host; files.faults, 1);
-        Ok(())
-    }
-
-    // Gives one byte at a time, and then fails.
-    #[derive(Drop)]
-    struct Slow {
-        left: u8,
-    }
-
-    impl Read for Slow {
-        fn read(&mut self, buf: &mut [u8]) -> io::Result<usize> {
-            if self.left == 0 {
-                return Err(io::Error::from(ErrorKind::NotFound));
-            }
-            let Some(place) = buf.first_mut() else {
-                return Ok(0);
-            };
-            *place = self.left;
-            self.left -= 1;
-            Ok(1)
-        }
-    }
-
-    #[test]
-    fn no_byte_is_read_past_the_one_too_many(rt: HostRuntime) -> Result<(), Fail> {
-        let alloc = rt.alloc();
-        assert!(rt;
-            matches!(
-                read_whole(alloc, Slow { left: 4 }, 3),
-                Err(FileAnswer::TooBig)
-            )
-        );
-        assert!(rt;
-            matches!(
-                read_whole(alloc, Slow { left: 3 }, 3),
-                Err(FileAnswer::Failed)
-            )
-        );
-        Ok(())
     }
 }

@@ -1,9 +1,11 @@
 //! A sink over a writer of the host.
-ghost use Rattle.std.specs.Prelude.{◌≡◌, None};
-ghost use Rattle.lynx_outside.specs.Sink.{CountsPut};
+ghost use Rattle.std.specs.Prelude.{◌≡◌, [], ◌∷◌, ◌++◌, None};
+ghost use Rattle.lynx_outside.specs.Logged.{Put};
+ghost use Rattle.lynx_outside.specs.Sink.{put_of, counted_put};
 ghost use Rattle.lynx_outside.specs.Host.{Hosted, Writes};
 
 use crate::faults::raised;
+use crate::log::{PutLog, PutNote};
 use crate::{Failed, Sink};
 use std::io::Write;
 use std::marker::Model;
@@ -13,37 +15,45 @@ use std::marker::Model;
 pub struct HostSink<W> {
     writer: W,
     faults: u64,
+    log: PutLog,
 }
 
 impl<W> Model for HostSink<W> {
-    ghost Value = { Hosted W };
+    ghost Value = { Hosted W Put };
 
-    ghost view = { λ a. record { host = a.writer; faults = a.faults } };
+    ghost view = { λ a. record { host = a.writer; faults = a.faults; log = a.log.puts } };
 }
 
 impl<W: Write> HostSink<W> {
     /// A sink over this writer, without a fault.
     pub fn of(writer: W) -> HostSink<W>
-        ensures { result ≡ record { host = writer; faults = 0 } }
+        ensures { result ≡ record { host = writer; faults = 0; log = [] } }
     {
-        HostSink { writer, faults: 0 }
+        HostSink {
+            writer,
+            faults: 0,
+            log: PutLog::new(),
+        }
     }
 }
 
 impl<W: Write> Sink for HostSink<W> {
-    ghost held = { λ _. None };
-
-    ghost faults = { λ a. a.faults };
+    ghost state = { λ a. record { held = None; faults = a.faults; log = a.log } };
 
     /// Writes piece by piece. A write that takes nothing is a fault.
     fn put(&mut self, bytes: &[u8]) -> Result<(), Failed>
         ensures written { Writes (W.contents self.old.host) (W.contents self.new.host) bytes.now result }
-        ensures counted { CountsPut self.old.faults self.new.faults result }
+        ensures counted { self.new.faults ≡ counted_put self.old.faults (put_of bytes.now result) }
+        ensures logged { self.new.log ≡ self.old.log ++ put_of bytes.now result ∷ [] }
     {
         let result = write_whole(&mut self.writer, bytes);
         if result.is_err() {
             self.faults = raised(self.faults);
         }
+        self.log = self.log.then(&PutNote {
+            bytes,
+            taken: result.is_ok(),
+        });
         result
     }
 }
@@ -60,53 +70,4 @@ fn write_whole<W: Write>(writer: &mut W, bytes: &[u8]) -> Result<(), Failed>
         }
     }
     Ok(())
-}
-
-#[cfg(test)]
-mod tests {
-    use super::*;
-    use std::io;
-    use std::test::Fail;
-
-    // Takes one byte at a time, as long as there is room.
-    #[derive(Drop)]
-    struct Slow {
-        taken: [u8; 4],
-        count: usize,
-    }
-
-    impl Write for Slow {
-        fn write(&mut self, buf: &[u8]) -> io::Result<usize> {
-            let Some(byte) = buf.first() else {
-                return Ok(0);
-            };
-            let Some(place) = self.taken.get_mut(self.count) else {
-                return Ok(0);
-            };
-            *place = *byte;
-            self.count = self.count.saturating_add(1);
-            Ok(1)
-        }
-
-        fn flush(&mut self) -> io::Result<()> {
-            Ok(())
-        }
-    }
-
-    #[test]
-    fn writes_to_the_end_or_counts_a_fault(rt: HostRuntime) -> Result<(), Fail> {
-        let mut slow = Slow {
-            taken: [0; 4],
-            count: 0,
-        };
-        let mut sink = HostSink::of(&mut slow);
-        assert_eq!(rt; sink.put(b"abc"), Ok(()));
-        assert_eq!(rt; sink.faults, 0);
-        assert_eq!(rt; sink.put(b"de"), Err(Failed));
-        assert_eq!(rt; sink.put(b"f"), Err(Failed));
-        assert_eq!(rt; sink.faults, 2);
-        assert_eq!(rt; sink.put(b""), Ok(()));
-        assert_eq!(rt; &slow.taken, b"abcd");
-        Ok(())
-    }
 }

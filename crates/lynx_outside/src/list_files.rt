@@ -1,9 +1,10 @@
 //! Files in memory of which chosen reads fail.
-ghost use Rattle.std.specs.Prelude.{◌≡◌, ◌≤◌, ◌↔◌, Some, IfOk, IsErrOf, IsTrue, length};
-ghost use Rattle.lynx_outside.specs.Files.{listing_of, Reads, CountsRead};
+ghost use Rattle.std.specs.Prelude.{◌≡◌, [], ◌∷◌, ◌++◌, ◌↔◌, Some, IsErrOf, IsTrue};
+ghost use Rattle.lynx_outside.specs.Files.{listing_of, read_of, answer_of, Reads, IsWithin, counted_read};
 ghost use Rattle.lynx_outside.specs.Planned.{is_due};
-ghost use Rattle.lynx_outside.specs.Listed.{PlannedFiles, after_read};
+ghost use Rattle.lynx_outside.specs.Listed.{PlannedFiles, plan_after};
 
+use crate::log::{ReadLog, ReadNote};
 use crate::planned::PlannedFaults;
 use crate::{FileAnswer, Files, SureFiles};
 use std::alloc::Global;
@@ -14,12 +15,13 @@ use std::marker::Model;
 pub struct ListFiles {
     files: SureFiles,
     plan: PlannedFaults,
+    log: ReadLog,
 }
 
 impl Model for ListFiles {
     ghost Value = { PlannedFiles };
 
-    ghost view = { λ a. record { files = a.files; plan = a.plan } };
+    ghost view = { λ a. record { files = a.files.files; plan = a.plan; log = a.log.reads } };
 }
 
 impl ListFiles {
@@ -27,25 +29,22 @@ impl ListFiles {
     pub fn of(files: Vec<(String, Vec<u8>)>, failing: Vec<u32>) -> ListFiles
         ensures files { result.files ≡ listing_of files.items }
         ensures plan { result.plan ≡ record { calls = 0; failing = failing.items; faults = 0 } }
+        ensures log { result.log ≡ [] }
     {
         ListFiles {
             files: SureFiles::of(files),
             plan: PlannedFaults::of(failing),
+            log: ReadLog::new(),
         }
     }
-}
 
-impl Files for ListFiles {
-    ghost contents = { λ a. Some a.files };
-
-    ghost faults = { λ a. a.plan.faults };
-
-    /// A read that wants memory does not count.
-    fn read(&mut self, alloc: Global, name: &str, most: u32) -> Result<Vec<u8>, FileAnswer>
-        ensures after { self.new ≡ after_read self.old result }
-        ensures told { Reads self.old.files name.now most result }
-        ensures counted { CountsRead self.old.plan.faults self.new.plan.faults result }
-        ensures within { IfOk result (λ bytes. length bytes.items ≤ most) }
+    // What a read answers, as a call that counts.
+    fn answer(&mut self, alloc: Global, name: &str, most: u32) -> Result<Vec<u8>, FileAnswer>
+        ensures same { self.new.files ≡ self.old.files }
+        ensures log { self.new.log ≡ self.old.log }
+        ensures plan { self.new.plan ≡ plan_after self.old.plan result }
+        ensures told { Reads self.old.files (read_of name.now most result) }
+        ensures within { IsWithin (read_of name.now most result) }
         ensures due { IsErrOf result FileAnswer.Failed ↔ IsTrue (is_due self.old.plan) }
     {
         if self.plan.is_due() {
@@ -60,22 +59,25 @@ impl Files for ListFiles {
     }
 }
 
-#[cfg(test)]
-mod tests {
-    use super::*;
-    use std::test::Fail;
+impl Files for ListFiles {
+    ghost state = { λ a. record { contents = Some a.files; faults = a.plan.faults; log = a.log } };
 
-    #[test]
-    fn chosen_reads_fail(rt: HostRuntime) -> Result<(), Fail> {
-        let alloc = rt.alloc();
-        let file = (String::from_str(alloc, "a")?, b"text".to_vec(alloc)?);
-        let mut files = ListFiles::of(vec![in alloc; file]?, vec![in alloc; 2, 3]?);
-        assert_eq!(rt; files.read(alloc, "a", 9)?.as_slice(), b"text".as_slice());
-        assert!(rt; matches!(files.read(alloc, "a", 9), Err(FileAnswer::Failed)));
-        assert!(rt; matches!(files.read(alloc, "b", 9), Err(FileAnswer::Failed)));
-        assert!(rt; matches!(files.read(alloc, "b", 9), Err(FileAnswer::Absent)));
-        assert!(rt; matches!(files.read(alloc, "a", 3), Err(FileAnswer::TooBig)));
-        assert_eq!(rt; files.read(alloc, "a", 4)?.as_slice(), b"text".as_slice());
-        Ok(())
+    /// A read that wants memory does not count.
+    fn read(&mut self, alloc: Global, name: &str, most: u32) -> Result<Vec<u8>, FileAnswer>
+        ensures same { self.new.files ≡ self.old.files }
+        ensures plan { self.new.plan ≡ plan_after self.old.plan result }
+        ensures told { Reads self.old.files (read_of name.now most result) }
+        ensures within { IsWithin (read_of name.now most result) }
+        ensures counted { self.new.plan.faults ≡ counted_read self.old.plan.faults (answer_of result) }
+        ensures logged { self.new.log ≡ self.old.log ++ read_of name.now most result ∷ [] }
+        ensures due { IsErrOf result FileAnswer.Failed ↔ IsTrue (is_due self.old.plan) }
+    {
+        let answer = self.answer(alloc, name, most);
+        self.log = self.log.then(&ReadNote {
+            name,
+            most,
+            answer: &answer,
+        });
+        answer
     }
 }

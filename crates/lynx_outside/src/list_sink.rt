@@ -1,8 +1,9 @@
 //! A sink in memory of which chosen puts fail.
-ghost use Rattle.std.specs.Prelude.{◌≡◌, ◌≤◌, ◌↔◌, [], Some, IfOk, IsOk, vec_len, vec_capacity};
-ghost use Rattle.lynx_outside.specs.Sink.{Puts, CountsPut};
-ghost use Rattle.lynx_outside.specs.Listed.{PlannedSink, Takes, after_put};
+ghost use Rattle.std.specs.Prelude.{◌≡◌, ◌≤◌, ◌↔◌, [], ◌∷◌, ◌++◌, Some, IfOk, IsOk, vec_len, vec_capacity};
+ghost use Rattle.lynx_outside.specs.Sink.{put_of, Holds, counted_put};
+ghost use Rattle.lynx_outside.specs.Listed.{PlannedSink, Takes, taken_put, after_put};
 
+use crate::log::{PutLog, PutNote};
 use crate::planned::PlannedFaults;
 use crate::{Failed, Sink};
 use charlotte_calls::NoMemory;
@@ -15,12 +16,13 @@ pub struct ListSink {
     held: Vec<u8>,
     room: u32,
     plan: PlannedFaults,
+    log: PutLog,
 }
 
 impl Model for ListSink {
     ghost Value = { PlannedSink };
 
-    ghost view = { λ a. record { held = a.held.items; room = a.room; plan = a.plan } };
+    ghost view = { λ a. record { held = a.held.items; room = a.room; plan = a.plan; log = a.log.puts } };
 
     ghost invariant = { λ a. (vec_len a.held ≤ a.room) × (a.room ≤ vec_capacity a.held) };
 }
@@ -32,33 +34,21 @@ impl ListSink {
         ensures held { IfOk result (λ sink. sink.held ≡ []) }
         ensures room { IfOk result (λ sink. sink.room ≡ room) }
         ensures plan { IfOk result (λ sink. sink.plan ≡ record { calls = 0; failing = failing.items; faults = 0 }) }
+        ensures log { IfOk result (λ sink. sink.log ≡ []) }
     {
         Ok(ListSink {
             held: Vec::with_capacity(alloc, room as usize)?,
             room,
             plan: PlannedFaults::of(failing),
+            log: PutLog::new(),
         })
     }
 
-    /// The bytes held.
-    pub fn held(&self) -> &[u8]
-        ensures { result.now ≡ self.now.held }
-    {
-        &self.held
-    }
-}
-
-impl Sink for ListSink {
-    ghost held = { λ a. Some a.held };
-
-    ghost faults = { λ a. a.plan.faults };
-
-    /// A put that is to fail keeps nothing. One past the room keeps the bytes that there is room for, and fails.
-    fn put(&mut self, bytes: &[u8]) -> Result<(), Failed>
+    // Takes the bytes that it is to take, as a call that counts.
+    fn take(&mut self, bytes: &[u8]) -> Result<(), Failed>
         ensures taken { IsOk result ↔ Takes self.old bytes.now }
-        ensures after { self.new ≡ after_put self.old bytes.now result }
-        ensures appended { Puts (Some self.old.held) (Some self.new.held) bytes.now result }
-        ensures counted { CountsPut self.old.plan.faults self.new.plan.faults result }
+        ensures after { self.new ≡ taken_put self.old bytes.now result }
+        ensures appended { Holds (Some self.old.held) (Some self.new.held) (put_of bytes.now result) }
     {
         if self.plan.is_due() {
             self.plan.fail();
@@ -74,35 +64,31 @@ impl Sink for ListSink {
         self.plan.pass();
         Ok(())
     }
+
+    /// The bytes held.
+    pub fn held(&self) -> &[u8]
+        ensures { result.now ≡ self.now.held }
+    {
+        &self.held
+    }
 }
 
-#[cfg(test)]
-mod tests {
-    use super::*;
-    use std::test::Fail;
+impl Sink for ListSink {
+    ghost state = { λ a. record { held = Some a.held; faults = a.plan.faults; log = a.log } };
 
-    #[test]
-    fn chosen_puts_fail_and_keep_nothing(rt: HostRuntime) -> Result<(), Fail> {
-        let failing = vec![in rt.alloc(); 2, 4]?;
-        let mut sink = ListSink::with(rt.alloc(), 100, failing)?;
-        assert_eq!(rt; sink.put(b"a"), Ok(()));
-        assert_eq!(rt; sink.put(b"b"), Err(Failed));
-        assert_eq!(rt; sink.put(b"c"), Ok(()));
-        assert_eq!(rt; sink.put(b"d"), Err(Failed));
-        assert_eq!(rt; sink.put(b"e"), Ok(()));
-        assert_eq!(rt; sink.held(), b"ace".as_slice());
-        Ok(())
-    }
-
-    #[test]
-    fn a_put_past_the_room_keeps_what_fits(rt: HostRuntime) -> Result<(), Fail> {
-        let mut sink = ListSink::with(rt.alloc(), 5, Vec::new(rt.alloc()))?;
-        assert_eq!(rt; sink.put(b"abc"), Ok(()));
-        assert_eq!(rt; sink.put(b"defg"), Err(Failed));
-        assert_eq!(rt; sink.held(), b"abcde".as_slice());
-        assert_eq!(rt; sink.put(b""), Ok(()));
-        assert_eq!(rt; sink.put(b"h"), Err(Failed));
-        assert_eq!(rt; sink.held(), b"abcde".as_slice());
-        Ok(())
+    /// A put that is to fail keeps nothing. One past the room keeps the bytes that there is room for, and fails.
+    fn put(&mut self, bytes: &[u8]) -> Result<(), Failed>
+        ensures taken { IsOk result ↔ Takes self.old bytes.now }
+        ensures after { self.new ≡ after_put self.old bytes.now result }
+        ensures appended { Holds (Some self.old.held) (Some self.new.held) (put_of bytes.now result) }
+        ensures counted { self.new.plan.faults ≡ counted_put self.old.plan.faults (put_of bytes.now result) }
+        ensures logged { self.new.log ≡ self.old.log ++ put_of bytes.now result ∷ [] }
+    {
+        let result = self.take(bytes);
+        self.log = self.log.then(&PutNote {
+            bytes,
+            taken: result.is_ok(),
+        });
+        result
     }
 }

@@ -1,6 +1,5 @@
 // The calls that a test wants to fail.
 ghost use Rattle.std.specs.Prelude.{◌≡◌};
-ghost use Rattle.lynx_outside.specs.Faults.{Rose};
 ghost use Rattle.lynx_outside.specs.Planned.{Plan, is_due, passed, failed};
 
 use crate::faults::raised;
@@ -48,8 +47,7 @@ impl PlannedFaults {
 
     // Counts a call that failed.
     pub fn fail(&mut self)
-        ensures counted { self.new ≡ failed self.old }
-        ensures rose { Rose self.old.faults self.new.faults }
+        ensures { self.new ≡ failed self.old }
     {
         self.calls = raised(self.calls);
         self.faults = raised(self.faults);

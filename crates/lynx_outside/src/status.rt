@@ -34,26 +34,3 @@ impl Status {
         self as u8
     }
 }
-
-#[cfg(test)]
-mod tests {
-    use super::*;
-
-    #[test]
-    fn statuses_have_their_numbers(rt: HostRuntime) {
-        let all = [
-            Status::Done,
-            Status::Usage,
-            Status::ReadFault,
-            Status::WriteFault,
-            Status::Refused,
-            Status::Spent,
-            Status::NoFile,
-            Status::NoMemory,
-            Status::TooBig,
-        ];
-        for (want, status) in all.iter().enumerate() {
-            assert_eq!(rt; usize::from(status.number()), want, "{status:?}");
-        }
-    }
-}

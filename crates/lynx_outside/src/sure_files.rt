@@ -1,7 +1,9 @@
 //! Files in memory that are always read.
-ghost use Rattle.std.specs.Prelude.{◌≡◌, ◌≤◌, Some, IfOk, IsErrOf, length, option_copied, option_map, find, bytes_eq, string_bytes};
-ghost use Rattle.lynx_outside.specs.Files.{Listing, listing_of, bytes_of, Reads};
+ghost use Rattle.std.specs.Prelude.{◌≡◌, [], ◌∷◌, ◌++◌, Some, IsErrOf, option_copied, option_map, find, bytes_eq, string_bytes};
+ghost use Rattle.lynx_outside.specs.Files.{listing_of, read_of, bytes_of, Reads, IsWithin};
+ghost use Rattle.lynx_outside.specs.Listed.{SureListing};
 
+use crate::log::{ReadLog, ReadNote};
 use crate::{FileAnswer, Files};
 use std::alloc::Global;
 use std::marker::Model;
@@ -10,42 +12,65 @@ use std::marker::Model;
 #[derive(Drop)]
 pub struct SureFiles {
     files: Vec<(String, Vec<u8>)>,
+    log: ReadLog,
 }
 
 impl Model for SureFiles {
-    ghost Value = { Listing };
+    ghost Value = { SureListing };
 
-    ghost view = { λ a. listing_of a.files.items };
+    ghost view = { λ a. record { files = listing_of a.files.items; log = a.log.reads } };
 }
 
 impl SureFiles {
     /// These files by their names, each with its bytes.
     pub fn of(files: Vec<(String, Vec<u8>)>) -> SureFiles
-        ensures { result ≡ listing_of files.items }
+        ensures { result ≡ record { files = listing_of files.items; log = [] } }
     {
-        SureFiles { files }
+        SureFiles {
+            files,
+            log: ReadLog::new(),
+        }
     }
 }
 
 impl Files for SureFiles {
-    ghost contents = { λ files. Some files };
-
-    ghost faults = { λ _. 0 };
+    ghost state = { λ a. record { contents = Some a.files; faults = 0; log = a.log } };
 
     fn read(&mut self, alloc: Global, name: &str, most: u32) -> Result<Vec<u8>, FileAnswer>
-        ensures same { self.new ≡ self.old }
-        ensures told { Reads self.old name.now most result }
-        ensures within { IfOk result (λ bytes. length bytes.items ≤ most) }
+        ensures same { self.new.files ≡ self.old.files }
+        ensures told { Reads self.old.files (read_of name.now most result) }
+        ensures within { IsWithin (read_of name.now most result) }
+        ensures logged { self.new.log ≡ self.old.log ++ read_of name.now most result ∷ [] }
         ensures sure { ¬ IsErrOf result FileAnswer.Failed }
     {
-        let Some(bytes) = first_bytes(&self.files, name) else {
-            return Err(FileAnswer::Absent);
-        };
-        if bytes.len() > most as usize {
-            return Err(FileAnswer::TooBig);
-        }
-        Ok(bytes.to_vec(alloc)?)
+        let answer = read_listed(alloc, &self.files, name, most);
+        self.log = self.log.then(&ReadNote {
+            name,
+            most,
+            answer: &answer,
+        });
+        answer
     }
+}
+
+// The bytes of the first of the files that has this name.
+fn read_listed(
+    alloc: Global,
+    files: &[(String, Vec<u8>)],
+    name: &str,
+    most: u32,
+) -> Result<Vec<u8>, FileAnswer>
+    ensures told { Reads (listing_of files.now) (read_of name.now most result) }
+    ensures within { IsWithin (read_of name.now most result) }
+    ensures sure { ¬ IsErrOf result FileAnswer.Failed }
+{
+    let Some(bytes) = first_bytes(files, name) else {
+        return Err(FileAnswer::Absent);
+    };
+    if bytes.len() > most as usize {
+        return Err(FileAnswer::TooBig);
+    }
+    Ok(bytes.to_vec(alloc)?)
 }
 
 // The first of the files that has this name.
@@ -63,29 +88,5 @@ fn first_bytes<'a>(files: &'a [(String, Vec<u8>)], name: &str) -> Option<&'a Vec
     match first_named(files, name) {
         Some(file) => Some(&file.1),
         None => None,
-    }
-}
-
-#[cfg(test)]
-mod tests {
-    use super::*;
-    use std::test::Fail;
-
-    #[test]
-    fn the_first_bytes_of_a_name_count(rt: HostRuntime) -> Result<(), Fail> {
-        let alloc = rt.alloc();
-        let mut files = Vec::new(alloc);
-        for (name, bytes) in [("a", "first"), ("b", ""), ("a", "second")] {
-            files.push((
-                String::from_str(alloc, name)?,
-                bytes.as_bytes().to_vec(alloc)?,
-            ))?;
-        }
-        let mut files = SureFiles::of(files);
-        assert_eq!(rt; files.read(alloc, "a", 5)?.as_slice(), b"first".as_slice());
-        assert_eq!(rt; files.read(alloc, "b", 0)?.as_slice(), b"".as_slice());
-        assert!(rt; matches!(files.read(alloc, "a", 4), Err(FileAnswer::TooBig)));
-        assert!(rt; matches!(files.read(alloc, "c", 9), Err(FileAnswer::Absent)));
-        Ok(())
     }
 }

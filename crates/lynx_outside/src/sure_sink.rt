@@ -1,7 +1,10 @@
 //! A sink in memory that takes everything.
-ghost use Rattle.std.specs.Prelude.{◌≡◌, ℕ, ◌+◌, None, min, length, IsOk};
+ghost use Rattle.std.specs.Prelude.{◌≡◌, ◌+◌, [], ◌∷◌, ◌++◌, None, min, length, IsOk};
 ghost use Rattle.lynx_outside.specs.Faults.{last_count};
+ghost use Rattle.lynx_outside.specs.Listed.{CountedSink};
+ghost use Rattle.lynx_outside.specs.Sink.{taken};
 
+use crate::log::{PutLog, PutNote};
 use crate::{Failed, Sink};
 use std::marker::Model;
 
@@ -9,56 +12,44 @@ use std::marker::Model;
 #[derive(Drop)]
 pub struct SureSink {
     count: u64,
+    log: PutLog,
 }
 
 impl Model for SureSink {
-    ghost Value = { ℕ };
+    ghost Value = { CountedSink };
 
-    ghost view = { λ a. a.count };
+    ghost view = { λ a. record { count = a.count; log = a.log.puts } };
 }
 
 impl SureSink {
     /// A sink that has taken nothing.
     pub fn of() -> SureSink
-        ensures { result ≡ 0 }
+        ensures { result ≡ record { count = 0; log = [] } }
     {
-        SureSink { count: 0 }
+        SureSink {
+            count: 0,
+            log: PutLog::new(),
+        }
     }
 
     /// How many bytes it has taken, up to the greatest u64.
     pub fn count(&self) -> u64
-        ensures { result ≡ self.now }
+        ensures { result ≡ self.now.count }
     {
         self.count
     }
 }
 
 impl Sink for SureSink {
-    ghost held = { λ _. None };
-
-    ghost faults = { λ _. 0 };
+    ghost state = { λ a. record { held = None; faults = 0; log = a.log } };
 
     fn put(&mut self, bytes: &[u8]) -> Result<(), Failed>
         ensures sure { IsOk result }
-        ensures count { self.new ≡ min (self.old + length bytes.now) last_count }
+        ensures count { self.new.count ≡ min (self.old.count + length bytes.now) last_count }
+        ensures logged { self.new.log ≡ self.old.log ++ taken bytes.now ∷ [] }
     {
         self.count = self.count.saturating_add(bytes.len() as u64);
-        Ok(())
-    }
-}
-
-#[cfg(test)]
-mod tests {
-    use super::*;
-    use std::test::Fail;
-
-    #[test]
-    fn counts_what_it_takes(rt: HostRuntime) -> Result<(), Fail> {
-        let mut sink = SureSink::of();
-        sink.put(b"one")?;
-        sink.put(b"")?;
-        sink.put(b"two more")?;
-        assert_eq!(rt; sink.count(), 11);
+        self.log = self.log.then(&PutNote { bytes, taken: true });
         Ok(())
     }
 }

@@ -1,4 +1,1 @@
-mod Arguments
-mod Finding
-mod Lines
 mod Scripts

@@ -1,8 +1,9 @@
 -- What `check` finds in the bytes of a module.
-use Rattle.std.specs.Prelude.{◌≡◌, ℕ, List, ◌++◌, Ok, Err, codes}
-use Rattle.kernel_journal.specs.Transcript.{line}
-use Rattle.lynx_run.specs.Found.{Found}
-use Rattle.lynx_run.specs.declared.failure.Failure.TheVariants.{Lex, Syntax, Deep, NoMemory}
+use Rattle.std.specs.Prelude.{◌≡◌, ℕ, List, [], ◌∷◌, ◌++◌, Ok, Err, codes}
+use Rattle.lynx_command.specs.Found.{Found}
+use Rattle.lynx_command.specs.Text.{line}
+use Rattle.lynx_command.specs.declared.ending.End.TheVariants.{Done}
+use Rattle.lynx_command.specs.declared.failure.Failure.TheVariants.{Lex, Syntax, Deep, NoMemory}
 use Rattle.lynx_source.specs.Sources.{IsReadAs}
 use Rattle.lynx_source.specs.declared.fault.SourceFault.TheVariants as fault
 use Rattle.lynx_syntax.specs.Trees.{ModuleTree}
@@ -11,9 +12,9 @@ use Rattle.lynx_syntax.specs.Trees.{ModuleTree}
 abbrev pub checked_text : List ℕ → List ℕ
 checked_text name = line (codes "ok " ++ name)
 
--- the line of the module that the bytes spell, or their first fault; want of memory comes at any module
+-- the one line of the module that the bytes spell, or their first fault; want of memory comes at any module
 abbrev pub Checks : List ℕ → Found → Type 0
-Checks bytes (Ok text) = (m : ModuleTree) × IsReadAs bytes (Ok m) × (text ≡ checked_text m.name)
+Checks bytes (Ok told) = (m : ModuleTree) × IsReadAs bytes (Ok m) × (told.lines ≡ checked_text m.name ∷ []) × (told.end ≡ Done)
 Checks bytes (Err (Lex at number)) = IsReadAs bytes (Err (fault.Lex at number))
 Checks bytes (Err (Syntax at)) = IsReadAs bytes (Err (fault.Syntax at))
 Checks bytes (Err (Deep at)) = IsReadAs bytes (Err (fault.Deep at))

@@ -1,12 +1,12 @@
 -- What the program does with its words.
 use Rattle.std.specs.Prelude.{◌≡◌, ℕ, List, [], Option, Some, None, Err, codes, string_bytes}
-use Rattle.lynx_outside.specs.Files.{Listing}
+use Rattle.lynx_command.specs.Course.{Course, IsOfFile}
+use Rattle.lynx_command.specs.declared.failure.Failure.{Failure}
+use Rattle.lynx_command.specs.declared.failure.Failure.TheVariants.{Usage, Unbuilt}
 use Rattle.lynx_run.specs.Check.{Checks}
 use Rattle.lynx_run.specs.Drive.{Drives}
-use Rattle.lynx_run.specs.Found.{Found, Finds}
-use Rattle.lynx_run.specs.declared.failure.Failure.TheVariants.{Usage, Unbuilt}
-use Rattle.lynx_run.specs.declared.words.Command.{Command}
-use Rattle.lynx_run.specs.declared.words.Command.TheVariants.{Drive, Check, Code, Run, Bench, Audit, Snapshot}
+use Rattle.lynx_words.specs.declared.words.Command.{Command}
+use Rattle.lynx_words.specs.declared.words.Command.TheVariants.{Drive, Check, Code, Run, Bench, Audit, Snapshot}
 
 -- the first word of a command
 abbrev pub command_name : Command → List ℕ
@@ -18,14 +18,16 @@ command_name (Bench seed) = codes "bench"
 command_name (Audit file) = codes "audit"
 command_name (Snapshot plan at serial) = codes "snapshot"
 
--- a command that is not built yet fails by its name
-abbrev pub IsUnbuilt : Command → List ℕ → Found → Type 0
-IsUnbuilt command name found = (name ≡ command_name command) × (found ≡ Err Unbuilt)
+-- Nothing was read, and this is told of this name.
+pub record IsRefusedAs (failure : Failure) (name : List ℕ) (course : Course) : Type 0 where
+  pub reads : course.reads ≡ []
+  pub found : course.found ≡ Err failure
+  pub named : course.name ≡ name
 
--- what words find, where the line of a failure has this name: words that are not of the form are told so, `drive` and `check` look at
--- the file that is named
-abbrev pub Answers : Option Command → Option Listing → List ℕ → Found → Type 0
-Answers None files name found = (name ≡ []) × (found ≡ Err Usage)
-Answers (Some (Drive file)) files name found = (name ≡ string_bytes file) × Finds Drives files name found
-Answers (Some (Check file)) files name found = (name ≡ string_bytes file) × Finds Checks files name found
-Answers (Some command) files name found = IsUnbuilt command name found
+-- What words ask for: words that are not of the form are told so, `drive` and `check` read the file that is named, and a command that is
+-- not built yet is refused by its name.
+abbrev pub Answers : Option Command → Course → Type 0
+Answers None course = IsRefusedAs Usage [] course
+Answers (Some (Drive file)) course = IsOfFile Drives 1048576 (string_bytes file) course
+Answers (Some (Check file)) course = IsOfFile Checks 1048576 (string_bytes file) course
+Answers (Some command) course = IsRefusedAs Unbuilt (command_name command) course

@@ -1,5 +1,7 @@
 -- What `drive` finds in the bytes of a script.
 use Rattle.std.specs.Prelude.{◌≡◌, ℕ, List, Ok, Err}
+use Rattle.std.specs.List.{concat}
+use Rattle.kernel_journal.specs.Transcript.{transcript_lines}
 use Rattle.kernel_journal.specs.TranscriptText.{IsTranscript}
 use Rattle.kernel_journal.specs.declared.last.Last.{Last}
 use Rattle.kernel_journal.specs.declared.last.ScriptNote.{ScriptNote}
@@ -8,8 +10,9 @@ use Rattle.lynx_plan.specs.Reading.{script_of}
 use Rattle.lynx_plan.specs.ScriptText.{IsScriptText}
 use Rattle.lynx_plan.specs.declared.fault.PlanFault.TheVariants as plan
 use Rattle.lynx_plan.specs.declared.script.Script.{Script}
-use Rattle.lynx_run.specs.Found.{Found}
-use Rattle.lynx_run.specs.declared.failure.Failure.TheVariants.{Script as BrokenScript, NoMemory}
+use Rattle.lynx_command.specs.Found.{Found}
+use Rattle.lynx_command.specs.declared.ending.End.TheVariants.{Done}
+use Rattle.lynx_command.specs.declared.failure.Failure.TheVariants.{Script as BrokenScript, NoMemory}
 use Rattle.script_run.specs.Performing.{IsPerformance}
 
 -- the bytes are a script: no line of them is refused
@@ -17,15 +20,16 @@ pub record IsScriptOf (bytes : List ℕ) (script : Script) : Type 0 where
   pub read : script_of bytes ≡ Ok script
   pub spelled : IsScriptText bytes script
 
--- the text is the transcript of the run that these bytes name as a script
-pub record IsDriven (bytes text : List ℕ) : Type 0 where
+-- the lines are those of the transcript of the run that these bytes name as a script
+pub record IsDriven (bytes : List ℕ) (lines : List (List ℕ)) : Type 0 where
   pub script : Script
   pub given : IsScriptOf bytes script
   pub merged : List Placed
   pub notes : List ScriptNote
   pub last : Last
   pub performed : IsPerformance script.setting script.lines merged notes last
-  pub told : IsTranscript text script.setting merged notes last
+  pub told : IsTranscript (concat lines) script.setting merged notes last
+  pub line_by_line : lines ≡ transcript_lines script.setting merged notes last
 
 -- the first line that fails a rule, and the least rule there
 abbrev pub IsRefused : List ℕ → ℕ → ℕ → Type 0
@@ -33,7 +37,7 @@ IsRefused bytes line rule = script_of bytes ≡ Err (plan.BadPlan line rule)
 
 -- the transcript, or the line at which the bytes are no script; want of memory comes at any script
 abbrev pub Drives : List ℕ → Found → Type 0
-Drives bytes (Ok text) = IsDriven bytes text
+Drives bytes (Ok told) = IsDriven bytes told.lines × (told.end ≡ Done)
 Drives bytes (Err (BrokenScript line rule)) = IsRefused bytes line rule
 Drives bytes (Err NoMemory) = Unit {0}
 Drives bytes (Err failure) = ⊥

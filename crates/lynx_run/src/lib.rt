@@ -3,17 +3,8 @@
 
 mod check;
 mod drive;
-mod ending;
-mod failure;
-mod file;
-mod puts;
-mod tell;
 mod top;
-mod words;
 
-pub use check::check_file;
-pub use drive::drive_file;
-pub use failure::Failure;
-pub use puts::put_lines;
+pub use check::{CheckCommand, check_file};
+pub use drive::{DriveCommand, drive_file};
 pub use top::{fail, lynx};
-pub use words::{Command, command_of};

@@ -1,18 +1,17 @@
 //! The program's top call.
-ghost use Rattle.std.specs.Prelude.{◌≡◌, ℕ, List, [], Some};
-ghost use Rattle.lynx_run.specs.Words.{command_of};
+ghost use Rattle.std.specs.Prelude.{◌≡◌, [], List, Some};
+ghost use Rattle.lynx_command.specs.Course.{Course, outside, Took};
+ghost use Rattle.lynx_command.specs.Ending.{Tells};
+ghost use Rattle.lynx_outside.specs.Logged.{Put};
+ghost use Rattle.lynx_outside.specs.Sink.{WerePut};
 ghost use Rattle.lynx_run.specs.Commands.{command_name, Answers};
-ghost use Rattle.lynx_run.specs.Failures.{Tells};
-ghost use Rattle.lynx_run.specs.Ending.{change, Ends};
-ghost use Rattle.lynx_run.specs.Found.{Found, CountsFound};
+ghost use Rattle.lynx_words.specs.Words.{command_of};
 
 use crate::check::check_file;
 use crate::drive::drive_file;
-use crate::ending::end_with;
-use crate::failure::Failure;
-use crate::tell::tell;
-use crate::words::{Command, command_of};
+use lynx_command::{Failure, tell};
 use lynx_outside::{Files, Sink, Status};
+use lynx_words::{Command, command_of};
 use std::alloc::Global;
 
 /// Does what the words after the program's name ask for, and gives the status with which the program ends. Words that
@@ -24,23 +23,19 @@ pub fn lynx<F: Files, O: Sink, E: Sink>(
     out: &mut O,
     err: &mut E,
 ) -> Status
-    ensures same { F.contents files.new ≡ F.contents files.old }
-    ensures ended { (name : List ℕ) × (found : Found)
-        × Answers (command_of words.items) (F.contents files.old) name found
-        × CountsFound (F.faults files.old) (F.faults files.new) found
-        × Ends name found result
-        (change (O.held out.old) (O.held out.new) (O.faults out.old) (O.faults out.new))
-        (change (E.held err.old) (E.held err.new) (E.faults err.old) (E.faults err.new)) }
+    ensures { (course : Course) × Answers (command_of words.items) course
+        × Took course result (outside (F.state files.old) (O.state out.old) (E.state err.old))
+        (outside (F.state files.new) (O.state out.new) (E.state err.new)) }
 {
     match command_of(words) {
-        None => end_with(alloc, "", Err(Failure::Usage), out, err),
+        None => tell(alloc, "", Failure::Usage, err),
         Some(command) => perform_command(alloc, &command, files, out, err),
     }
 }
 
 /// Tells on err why no command was looked for: words that are not text, or want of memory.
 pub fn fail<E: Sink>(alloc: Global, failure: Failure, err: &mut E) -> Status
-    ensures { Tells [] failure result (E.held err.old) (E.held err.new) (E.faults err.old) (E.faults err.new) }
+    ensures { (errs : List Put) × Tells [] failure result errs × WerePut (E.state err.old) (E.state err.new) errs }
 {
     tell(alloc, "", failure, err)
 }
@@ -53,24 +48,14 @@ fn perform_command<F: Files, O: Sink, E: Sink>(
     out: &mut O,
     err: &mut E,
 ) -> Status
-    ensures same { F.contents files.new ≡ F.contents files.old }
-    ensures ended { (name : List ℕ) × (found : Found)
-        × Answers (Some command.now) (F.contents files.old) name found
-        × CountsFound (F.faults files.old) (F.faults files.new) found
-        × Ends name found result
-        (change (O.held out.old) (O.held out.new) (O.faults out.old) (O.faults out.new))
-        (change (E.held err.old) (E.held err.new) (E.faults err.old) (E.faults err.new)) }
+    ensures { (course : Course) × Answers (Some command.now) course
+        × Took course result (outside (F.state files.old) (O.state out.old) (E.state err.old))
+        (outside (F.state files.new) (O.state out.new) (E.state err.new)) }
 {
     match command {
         Command::Drive { file } => drive_file(alloc, file.as_str(), files, out, err),
         Command::Check { file } => check_file(alloc, file.as_str(), files, out, err),
-        _ => end_with(
-            alloc,
-            command_name(command),
-            Err(Failure::Unbuilt),
-            out,
-            err,
-        ),
+        _ => tell(alloc, command_name(command), Failure::Unbuilt, err),
     }
 }
 
@@ -88,6 +73,3 @@ fn command_name(command: &Command) -> &'static str
         Command::Snapshot { .. } => "snapshot",
     }
 }
-
-#[cfg(test)]
-mod tests;

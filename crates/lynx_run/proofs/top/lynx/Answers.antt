@@ -1,10 +1,12 @@
 -- Words that are not of the form fail as such.
-use Rattle.std.proofs.Common.{◌≡◌, [], None, Err, refl, rules}
-use Rattle.lynx_run.specs.Words.{command_of}
-use Rattle.lynx_run.specs.declared.failure.Failure.TheVariants.{Usage}
+use Rattle.std.proofs.Common.{◌≡◌, [], None, refl, rules}
+use Rattle.lynx_command.proofs.Courses.{refused_course, refused}
+use Rattle.lynx_command.specs.declared.failure.Failure.TheVariants.{Usage}
+use Rattle.lynx_words.specs.Words.{command_of}
 use Rattle.lynx_run.proofs.top.lynx.Goals as goal
 
-pub returns-in-None-clause-ended : goal.returns-in-None-clause-ended
-returns-in-None-clause-ended g c =
+pub returns-in-None : goal.returns-in-None
+returns-in-None g c =
     let none : command_of c.args.words.items ≡ None = search rules in
-    ([], Err Usage, rw none (refl, refl), refl, c.end_with.ensures)
+    let told = c.tell.ensures in
+    (refused_course Usage [] told.0, rw none (record { reads = refl; found = refl; named = refl }), refused _ _ _ _ _ _ _ _ told.1 told.2)

@@ -1,23 +1,29 @@
 -- A command that is not built fails by its name.
-use Rattle.std.proofs.Common.{◌≡◌, String, Option, Some, Err, refl}
+use Rattle.std.proofs.Common.{◌≡◌, String, Some, List, refl}
 use Rattle.std.specs.declared.alloc.Global.{Global}
-use Rattle.lynx_outside.specs.Files.{Listing}
+use Rattle.lynx_command.proofs.Courses.{refused_course, refused}
+use Rattle.lynx_command.specs.declared.failure.Failure.TheVariants.{Unbuilt}
+use Rattle.lynx_outside.specs.Logged.{Put}
 use Rattle.lynx_run.specs.Commands.{command_name, Answers}
-use Rattle.lynx_run.specs.declared.failure.Failure.TheVariants.{Unbuilt}
-use Rattle.lynx_run.specs.declared.words.Command.{Command}
-use Rattle.lynx_run.specs.declared.words.Command.TheVariants.{Drive, Check, Code, Run, Bench, Audit, Snapshot}
+use Rattle.lynx_words.specs.declared.words.Command.{Command}
+use Rattle.lynx_words.specs.declared.words.Command.TheVariants.{Drive, Check, Code, Run, Bench, Audit, Snapshot}
 use Rattle.lynx_run.proofs.top.perform_command.Goals as goal
 
 -- each command but two is not built
-not_built : (command : Command) (files : Option Listing) → ((file : String Global) → command ≡ Drive file → ⊥) → ((file : String Global) → command ≡ Check file → ⊥) → Answers (Some command) files (command_name command) (Err Unbuilt)
-not_built (Drive file) files drive check = absurd (drive file refl)
-not_built (Check file) files drive check = absurd (check file refl)
-not_built (Code file) files drive check = (refl, refl)
-not_built (Run plan serial turns) files drive check = (refl, refl)
-not_built (Bench seed) files drive check = (refl, refl)
-not_built (Audit file) files drive check = (refl, refl)
-not_built (Snapshot plan at serial) files drive check = (refl, refl)
+not_built : (command : Command) (errs : List Put) → ((file : String Global) → command ≡ Drive file → ⊥) → ((file : String Global) → command ≡ Check file → ⊥) → Answers (Some command) (refused_course Unbuilt (command_name command) errs)
+not_built (Drive file) errs drive check = absurd (drive file refl)
+not_built (Check file) errs drive check = absurd (check file refl)
+not_built (Code file) errs drive check = record { reads = refl; found = refl; named = refl }
+not_built (Run plan serial turns) errs drive check = record { reads = refl; found = refl; named = refl }
+not_built (Bench seed) errs drive check = record { reads = refl; found = refl; named = refl }
+not_built (Audit file) errs drive check = record { reads = refl; found = refl; named = refl }
+not_built (Snapshot plan at serial) errs drive check = record { reads = refl; found = refl; named = refl }
 
-pub returns-in_default-clause-ended : goal.returns-in_default-clause-ended
-returns-in_default-clause-ended g c =
-    (command_name c.args.command.now, Err Unbuilt, not_built c.args.command.now _ c.in_default.not-Drive c.in_default.not-Check, refl, rw c.command_name.ensures at c.end_with.ensures)
+pub returns-in_default : goal.returns-in_default
+returns-in_default g c =
+    let told = c.tell.ensures in
+    let name = command_name c.args.command.now in (
+      refused_course Unbuilt name told.0,
+      not_built c.args.command.now told.0 c.in_default.not-Drive c.in_default.not-Check,
+      refused Unbuilt name _ _ _ _ _ _ (rw c.command_name.ensures at told.1) told.2,
+    )

@@ -1,0 +1,64 @@
+//! Files and writers of the host.
+
+use lynx_outside::{Failed, FileAnswer, Files, HostFiles, HostSink, Sink};
+use std::io::{self, Write};
+use std::test::Fail;
+use std::{env, fs, process};
+
+#[test]
+fn files_are_read(host: HostRuntime) -> Result<(), Fail> {
+    let alloc = host.alloc();
+    let name = format!(in alloc; "lynx-command-{}", process::id(host.process()))?;
+    let path = env::temp_dir(&host)?.join(alloc, name.as_str())?;
+    let mut files = HostFiles::of(&host);
+    assert!(host; matches!(files.read(alloc, path.as_str(), 9), Err(FileAnswer::Absent)));
+    fs::write(&host, path.as_path(), "four")?;
+    let whole = files.read(alloc, path.as_str(), 4);
+    let too_big = files.read(alloc, path.as_str(), 3);
+    fs::remove_file(&host, path.as_path())?;
+    assert_eq!(host; whole?.as_slice(), b"four".as_slice());
+    assert!(host; matches!(too_big, Err(FileAnswer::TooBig)));
+    // A directory can be opened and not read. One without an end is read to one byte past the most.
+    assert!(host; matches!(files.read(alloc, "/", 9), Err(FileAnswer::Failed)));
+    assert!(host; matches!(files.read(alloc, "/dev/zero", 9), Err(FileAnswer::TooBig)));
+    Ok(())
+}
+
+// Takes one byte at a time, as long as there is room.
+#[derive(Drop)]
+struct Slow {
+    taken: [u8; 4],
+    count: usize,
+}
+
+impl Write for Slow {
+    fn write(&mut self, buf: &[u8]) -> io::Result<usize> {
+        let Some(byte) = buf.first() else {
+            return Ok(0);
+        };
+        let Some(place) = self.taken.get_mut(self.count) else {
+            return Ok(0);
+        };
+        *place = *byte;
+        self.count = self.count.saturating_add(1);
+        Ok(1)
+    }
+
+    fn flush(&mut self) -> io::Result<()> {
+        Ok(())
+    }
+}
+
+#[test]
+fn writers_take_all_or_fail(rt: HostRuntime) -> Result<(), Fail> {
+    let mut slow = Slow {
+        taken: [0; 4],
+        count: 0,
+    };
+    let mut sink = HostSink::of(&mut slow);
+    assert_eq!(rt; sink.put(b"abc"), Ok(()));
+    assert_eq!(rt; sink.put(b"de"), Err(Failed));
+    assert_eq!(rt; sink.put(b""), Ok(()));
+    assert_eq!(rt; &slow.taken, b"abcd");
+    Ok(())
+}

@@ -1,0 +1,5 @@
+pub mod Text
+pub mod Failures
+pub mod Found
+pub mod Ending
+pub mod Course

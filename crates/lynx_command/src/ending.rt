@@ -1,0 +1,67 @@
+//! How a command ends.
+ghost use Rattle.std.specs.Prelude.{◌≡◌, List};
+ghost use Rattle.lynx_command.specs.Ending.{Ends};
+ghost use Rattle.lynx_command.specs.Found.{found_of};
+ghost use Rattle.lynx_outside.specs.Logged.{Put};
+ghost use Rattle.lynx_outside.specs.Sink.{WerePut};
+
+use crate::failure::Failure;
+use crate::putting::{PutFault, put_text};
+use crate::telling::tell;
+use crate::text::Text;
+use lynx_outside::{Sink, Status};
+use std::alloc::Global;
+
+/// How a command ends that put its text whole.
+#[derive(Clone, Copy, Debug, PartialEq, Eq)]
+pub enum End {
+    /// It was done.
+    Done,
+    /// A kernel's turns were used up.
+    Spent,
+}
+
+impl End {
+    ghost use Rattle.lynx_command.specs.Ending.{end_status};
+
+    fn status(self) -> Status
+        ensures { result ≡ end_status self }
+    {
+        match self {
+            End::Done => Status::Done,
+            End::Spent => Status::Spent,
+        }
+    }
+}
+
+/// A text that a command is to put, and how it ends then.
+#[derive(Drop)]
+pub struct Told<T> {
+    pub text: T,
+    pub end: End,
+}
+
+/// Puts the text on out, or tells the failure on err. After a put that failed nothing more is put. Where memory lacks for a
+/// line of the text, want of memory is told, and out keeps the lines before it.
+pub fn end_with<T: Text + Drop, O: Sink, E: Sink>(
+    alloc: Global,
+    name: &str,
+    found: Result<Told<T>, Failure>,
+    out: &mut O,
+    err: &mut E,
+) -> Status
+    ensures { (outs : List Put) × (errs : List Put)
+        × Ends name.now (found_of T.lines_left found) result outs errs
+        × WerePut (O.state out.old) (O.state out.new) outs
+        × WerePut (E.state err.old) (E.state err.new) errs }
+{
+    let mut told = match found {
+        Ok(told) => told,
+        Err(failure) => return tell(alloc, name, failure, err),
+    };
+    match put_text(alloc, &mut told.text, out) {
+        Ok(()) => told.end.status(),
+        Err(PutFault::Failed) => Status::WriteFault,
+        Err(PutFault::NoMemory) => tell(alloc, name, Failure::NoMemory, err),
+    }
+}
