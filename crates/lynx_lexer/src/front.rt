@@ -9,16 +9,16 @@ ghost use Rattle.lynx_lexer.specs.Fronts.{StandsAt, Begins};
 
 use crate::class::Class;
 use crate::fault::{BAD_BYTE, NAME_TOO_LONG, NUMBER_TOO_WIDE, OPEN_TEXT, TEXT_TOO_LONG};
-use crate::ident::Ident;
+use crate::ident::IdentRef;
 use crate::keyword::Keyword;
 use crate::sign::Sign;
-use crate::text::TextLit;
+use crate::text::TextRef;
 use crate::token::Kind;
 
 /// The longest piece at the front of bytes: the kind of token, or None for a separator, and its length.
 #[derive(Drop)]
-pub struct Front {
-    pub kind: Option<Kind>,
+pub struct Front<'a> {
+    pub kind: Option<Kind<'a>>,
     pub length: usize,
 }
 
@@ -84,7 +84,7 @@ fn number(digits: &[u8]) -> Option<i64>
 }
 
 /// The name or keyword at the front.
-fn word_at(bytes: &[u8]) -> Result<Front, u8>
+fn word_at(bytes: &[u8]) -> Result<Front<'_>, u8>
     requires { Begins Letter bytes.now }
     ensures ok { IfOk result (λ front. StandsAt front.kind front.length bytes.now) }
     ensures err { IfErr result (λ number. HasFault number bytes.now) }
@@ -97,7 +97,7 @@ fn word_at(bytes: &[u8]) -> Result<Front, u8>
             length,
         });
     }
-    let Some(name) = Ident::from_slice(word) else {
+    let Some(name) = IdentRef::from_slice(word) else {
         return Err(NAME_TOO_LONG);
     };
     Ok(Front {
@@ -107,7 +107,7 @@ fn word_at(bytes: &[u8]) -> Result<Front, u8>
 }
 
 /// The number at the front.
-fn number_at(bytes: &[u8]) -> Result<Front, u8>
+fn number_at(bytes: &[u8]) -> Result<Front<'_>, u8>
     requires { Begins Digit bytes.now }
     ensures ok { IfOk result (λ front. StandsAt front.kind front.length bytes.now) }
     ensures err { IfErr result (λ number. HasFault number bytes.now) }
@@ -131,7 +131,7 @@ pub fn behind(bytes: &[u8], n: usize) -> &[u8]
 }
 
 /// The text at the front.
-fn text_at(bytes: &[u8]) -> Result<Front, u8>
+fn text_at(bytes: &[u8]) -> Result<Front<'_>, u8>
     requires { Begins Quote bytes.now }
     ensures ok { IfOk result (λ front. StandsAt front.kind front.length bytes.now) }
     ensures err { IfErr result (λ number. HasFault number bytes.now) }
@@ -141,7 +141,7 @@ fn text_at(bytes: &[u8]) -> Result<Front, u8>
     if length == rest.len() || rest[length] != b'\'' {
         return Err(OPEN_TEXT);
     }
-    let Some(inside) = TextLit::from_slice(&rest[..length]) else {
+    let Some(inside) = TextRef::from_slice(&rest[..length]) else {
         return Err(TEXT_TOO_LONG);
     };
     Ok(Front {
@@ -151,7 +151,7 @@ fn text_at(bytes: &[u8]) -> Result<Front, u8>
 }
 
 /// The comment or sign at the front.
-fn mark_at(bytes: &[u8]) -> Result<Front, u8>
+fn mark_at(bytes: &[u8]) -> Result<Front<'_>, u8>
     requires { Begins Other bytes.now }
     ensures ok { IfOk result (λ front. StandsAt front.kind front.length bytes.now) }
     ensures err { IfErr result (λ number. HasFault number bytes.now) }
@@ -172,7 +172,7 @@ fn mark_at(bytes: &[u8]) -> Result<Front, u8>
 }
 
 /// The longest piece at the front, or the number of the fault there.
-pub fn front_at(bytes: &[u8]) -> Result<Front, u8>
+pub fn front_at(bytes: &[u8]) -> Result<Front<'_>, u8>
     requires { 0 < length bytes.now }
     ensures ok { IfOk result (λ front. StandsAt front.kind front.length bytes.now) }
     ensures err { IfErr result (λ number. HasFault number bytes.now) }

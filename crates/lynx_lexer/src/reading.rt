@@ -11,13 +11,13 @@ use crate::token::{Kind, Token};
 use std::alloc::{AllocError, Global};
 
 /// Adds the token of a piece, if it is one.
-fn push_kind(
-    tokens: &mut Vec<Token>,
-    kind: Option<Kind>,
+fn push_kind<'a>(
+    tokens: &mut Vec<Token<'a>>,
+    kind: Option<Kind<'a>>,
     from: u32,
     to: u32,
 ) -> Result<(), AllocError>
-    ensures { OnOk result (tokens.new.items ≡ tokens.old.items ++ token_at from to kind) }
+    ensures { OnOk result (tokens.new.items ≡ tokens.old.items ++ token_at from to kind.entry) }
 {
     if let Some(kind) = kind {
         tokens.push(Token { kind, from, to })?;
@@ -25,7 +25,7 @@ fn push_kind(
     Ok(())
 }
 
-fn read(alloc: Global, source: &[u8]) -> Result<Vec<Token>, LexFault>
+fn read(alloc: Global, source: &[u8]) -> Result<Vec<Token<'_>>, LexFault>
     requires { length source.now < 4294967295 }
     ensures found { IfOk result (λ v. Spell v.items source.now × AreWithinLimits v.items) }
     ensures fault { IfErr result (IsFaultOf source.now) }
@@ -53,7 +53,7 @@ fn read(alloc: Global, source: &[u8]) -> Result<Vec<Token>, LexFault>
 ///
 /// A token is as long as possible. Blanks, tabs, line feeds, carriage returns and comments, from `--` to
 /// the line's end, separate tokens.
-pub fn tokens(alloc: Global, source: &[u8]) -> Result<Vec<Token>, LexFault>
+pub fn tokens(alloc: Global, source: &[u8]) -> Result<Vec<Token<'_>>, LexFault>
     requires { length source.now < 4294967295 }
 
     // The tokens spell the source, each within its limit, and such a list is given.
