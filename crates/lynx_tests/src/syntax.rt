@@ -1,5 +1,5 @@
-use crate::{SyntaxFault, parse, print};
 use lynx_lexer::{LexFault, tokens};
+use lynx_syntax::{SyntaxFault, parse, print};
 use std::alloc::{AllocError, Global};
 use std::fmt::Write;
 use std::str;
