@@ -1,0 +1,5 @@
+//! Tests of the language over its libraries.
+#![tactic(auto)]
+
+#[cfg(test)]
+mod syntax;
