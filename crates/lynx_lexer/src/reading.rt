@@ -1,6 +1,7 @@
 //! The tokens of a source.
 
 ghost use Rattle.std.specs.Prelude.{◌≡◌, ℕ, ◌<◌, ◌≤◌, ◌++◌, List, length, IfOk, IfErr, OnOk};
+ghost use Rattle.lynx_lexer.specs.declared.fault.FaultKind.{FaultKind};
 ghost use Rattle.lynx_lexer.specs.declared.token.Token.{Token};
 ghost use Rattle.lynx_lexer.specs.Source.{Spell, AreWithinLimits, IsFirstFault, token_at};
 ghost use Rattle.lynx_lexer.specs.Answers.{GivesTokens, GivesFault, IsFaultOf};
@@ -35,10 +36,10 @@ fn read(alloc: Global, source: &[u8]) -> Result<Vec<Token<'_>>, LexFault>
     while at < source.len() {
         let front = match front_at(behind(source, at)) {
             Ok(front) => front,
-            Err(no) => {
+            Err(kind) => {
                 return Err(LexFault::At {
                     place: at as u32,
-                    no,
+                    no: kind.number(),
                 });
             }
         };
@@ -62,7 +63,7 @@ pub fn tokens(alloc: Global, source: &[u8]) -> Result<Vec<Token<'_>>, LexFault>
 
     // The fault is the first of the source, and such a fault is given.
     ensures fault { IfErr result (IsFaultOf source.now) }
-    ensures only_fault { (place number : ℕ) → IsFirstFault place number source.now → GivesFault place number result }
+    ensures only_fault { (place : ℕ) (kind : FaultKind) → IsFirstFault place kind source.now → GivesFault place kind result }
 {
     read(alloc, source)
 }

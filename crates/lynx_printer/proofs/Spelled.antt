@@ -7,6 +7,7 @@ use Rattle.lynx_lexer.specs.Bytes.{class_of}
 use Rattle.lynx_lexer.specs.Pieces.{IsToken, limit_passed, decimal}
 use Rattle.lynx_lexer.specs.Source.{Piece, text_of as pieces_text, AreLongest, tokens_of, Spell, AreWithinLimits}
 use Rattle.lynx_lexer.specs.declared.class.Class.TheVariants.{Blank}
+use Rattle.lynx_lexer.specs.declared.fault.FaultKind.TheVariants.{NumberTooWide}
 use Rattle.lynx_lexer.specs.declared.sign.Sign.{Sign}
 use Rattle.lynx_lexer.specs.declared.sign.Sign.TheVariants as signs
 use Rattle.lynx_lexer.specs.declared.token.Kind.{Kind}
@@ -38,7 +39,7 @@ gap_is_blank (kinds.Text inside) = refl
 -- a number within the limit
 small : (n : ℕ) → limit_passed (kinds.Number (pos n)) ≡ None → n < 2 ^ 64
 small n within = elim (cases_lt 9223372036854775807 n) [
-  | inl lt ↦ absurd (let passed : limit_passed (kinds.Number (pos n)) ≡ Some 3 = rw (lt-ltb 9223372036854775807 n lt) refl in cc)
+  | inl lt ↦ absurd (let passed : limit_passed (kinds.Number (pos n)) ≡ Some NumberTooWide = rw (lt-ltb 9223372036854775807 n lt) refl in cc)
   | inr le ↦ omega arith
 ]
 
