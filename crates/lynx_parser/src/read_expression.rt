@@ -10,8 +10,8 @@ use lynx_tree::{Expr, TermSign};
 use crate::make_expression::{
     and_of, bracket_of, minus_of, named_of, not_of, or_of, relation_of, sum_of, term_of, two,
 };
-use crate::reader::{Ahead, Reader};
-use lynx_descent::Refusal;
+use crate::reader::Reader;
+use lynx_descent::{Ahead, Refusal};
 use lynx_lexer::{Keyword, Sign};
 
 impl<'t, 'a> Reader<'t, 'a> {
@@ -76,7 +76,7 @@ impl<'t, 'a> Reader<'t, 'a> {
     #[cycle(read_expression)]
     #[tactic(auto, using(lynx_descent::proofs::Turns::turns))]
     fn disjuncts(&mut self, room: usize, mut members: Vec<Expr<'a>>) -> Result<Vec<Expr<'a>>, Refusal>
-        ensures { Reads (λ v. map expr_tree v.items) (spec.disjuncts (inside room) (map expr_tree members.items) self.old) result self.new }
+        ensures { Reads (λ v. map expr_tree v.items) (spec.disjuncts (inside room) (map expr_tree members.entry.items) self.old) result self.new }
     {
         for _turn in 0..self.left() {
             if !self.sees_keyword(Keyword::Or) {
@@ -108,7 +108,7 @@ impl<'t, 'a> Reader<'t, 'a> {
     #[cycle(read_expression)]
     #[tactic(auto, using(lynx_descent::proofs::Turns::turns))]
     fn conjuncts(&mut self, room: usize, mut members: Vec<Expr<'a>>) -> Result<Vec<Expr<'a>>, Refusal>
-        ensures { Reads (λ v. map expr_tree v.items) (spec.conjuncts (inside room) (map expr_tree members.items) self.old) result self.new }
+        ensures { Reads (λ v. map expr_tree v.items) (spec.conjuncts (inside room) (map expr_tree members.entry.items) self.old) result self.new }
     {
         for _turn in 0..self.left() {
             if !self.sees_keyword(Keyword::And) {

@@ -8,8 +8,8 @@ ghost use Rattle.lynx_tree.specs.Trees.{expr_tree};
 
 use lynx_tree::TypeName;
 use lynx_tree::Expr;
-use crate::reader::{Ahead, Reader};
-use lynx_descent::Refusal;
+use crate::reader::Reader;
+use lynx_descent::{Ahead, Refusal};
 use lynx_lexer::{IdentRef, Keyword, Sign};
 
 impl<'t, 'a> Reader<'t, 'a> {

@@ -9,8 +9,8 @@ ghost use Rattle.lynx_tree.specs.Trees.{stmt_tree};
 use crate::make_statement::{
     accept_of, assign_of, attempt_of, choice_of, connect_of, repetition_of, reply_of,
 };
-use crate::reader::{Ahead, Reader};
-use lynx_descent::Refusal;
+use crate::reader::Reader;
+use lynx_descent::{Ahead, Refusal};
 use lynx_tree::{Handler, Stmt};
 use lynx_lexer::{IdentRef, Keyword, Sign};
 

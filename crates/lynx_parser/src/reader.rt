@@ -110,8 +110,8 @@ impl<'t, 'a> Reader<'t, 'a> {
     pub fn advance(&mut self)
         ensures { self.new ≡ drop 1 self.old }
     {
-        if let Some((_, rest)) = self.rest.split_first() {
-            self.rest = rest;
+        if !self.rest.is_empty() {
+            self.rest = &self.rest[1..];
         }
     }
 
@@ -143,63 +143,48 @@ impl<'t, 'a> Reader<'t, 'a> {
     pub fn name(&mut self) -> Result<IdentRef<'a>, Refusal>
         ensures { Reads (λ x. x) (spec.name self.old) result self.new }
     {
-        match self.rest.split_first() {
-            Some(
-                (
-                    Token {
-                        kind: Kind::Name(name),
-                        ..
-                    },
-                    rest,
-                ),
-            ) => {
-                self.rest = rest;
-                Ok(name.copy())
-            }
-            _ => Err(self.refuse()),
-        }
+        let Some(Token {
+            kind: Kind::Name(name),
+            ..
+        }) = self.rest.first()
+        else {
+            return Err(self.refuse());
+        };
+        let name = name.copy();
+        self.advance();
+        Ok(name)
     }
 
     #[tactic(auto, unfolding(lynx_descent::specs::Reading::number))]
     pub fn number(&mut self) -> Result<i64, Refusal>
         ensures { Reads (λ x. x) (spec.number self.old) result self.new }
     {
-        match self.rest.split_first() {
-            Some(
-                (
-                    Token {
-                        kind: Kind::Number(number),
-                        ..
-                    },
-                    rest,
-                ),
-            ) => {
-                self.rest = rest;
-                Ok(*number)
-            }
-            _ => Err(self.refuse()),
-        }
+        let Some(Token {
+            kind: Kind::Number(number),
+            ..
+        }) = self.rest.first()
+        else {
+            return Err(self.refuse());
+        };
+        let number = *number;
+        self.advance();
+        Ok(number)
     }
 
     #[tactic(auto, unfolding(lynx_descent::specs::Reading::text))]
     pub fn text(&mut self) -> Result<TextRef<'a>, Refusal>
         ensures { Reads (λ x. x) (spec.text self.old) result self.new }
     {
-        match self.rest.split_first() {
-            Some(
-                (
-                    Token {
-                        kind: Kind::Text(inside),
-                        ..
-                    },
-                    rest,
-                ),
-            ) => {
-                self.rest = rest;
-                Ok(inside.copy())
-            }
-            _ => Err(self.refuse()),
-        }
+        let Some(Token {
+            kind: Kind::Text(inside),
+            ..
+        }) = self.rest.first()
+        else {
+            return Err(self.refuse());
+        };
+        let inside = inside.copy();
+        self.advance();
+        Ok(inside)
     }
 
     /// Goes past a token that opens a bracket or a statement, where `room` more may be open. The room inside.

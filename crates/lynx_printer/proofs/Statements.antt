@@ -1,4 +1,4 @@
--- Trees of the statements in a vector, and what printing the parts of a statement says of it.
+-- What printing the parts of a statement says of it.
 use Rattle.std.proofs.Common.{◌≡◌, ℕ, suc, List, [], ◌∷◌, ◌++◌, Option, Some, None, Result, Ok, Err, refl, sym, ap, subst, ◌∙◌, append_assoc, rules}
 use Rattle.std.specs.Prelude.{OnOk}
 use Rattle.std.specs.Global.{Vec, Box}
@@ -8,17 +8,17 @@ use Rattle.lynx_lexer.specs.declared.keyword.Keyword.TheVariants as keywords
 use Rattle.lynx_lexer.specs.declared.sign.Sign.TheVariants as signs
 use Rattle.lynx_tree.specs.declared.expression.Expr as expr
 use Rattle.lynx_tree.specs.declared.statement.Stmt as stmt
-use Rattle.lynx_tree.specs.declared.statement.Stmt.TheViews.{the_lemmas}
 use Rattle.lynx_tree.specs.declared.statement.Handler.{Handler}
 use Rattle.lynx_tree.specs.Trees as trees
 use Rattle.lynx_tree.specs.Trees.{StmtTree, expr_tree, stmt_tree, stmt_trees, stmt_list, handler_trees, handler_list, else_list, index_tree, assign_tree}
 use Rattle.lynx_tree.specs.Grammar.{Mark, word, mark, name, expr_marks, stmt_marks, stmts_marks, handlers_marks, target_marks, else_marks, names_marks, accept_marks}
 use Rattle.lynx_tree.specs.Printing.{text_of, token_text, Prints}
+use Rattle.lynx_tree.proofs.Views.{if_tree, if_else_tree}
 use Rattle.lynx_printer.proofs.Texts.{text_of-append}
 use Rattle.std.proofs.lemmas.List.{append-nil}
 
 pub choice_marks : (d : ℕ) (condition : Box expr.Expr) (then : Vec stmt.Stmt) (otherwise : Option (Vec stmt.Stmt)) → stmt_marks d (stmt_tree (stmt.If condition then otherwise))
-    ≡ word d keywords.If ∷ (expr_marks d (expr_tree condition) ++ word d keywords.Then ∷ (stmts_marks d (stmt_list then.items) ++ else_marks d (else_list otherwise)))
+    ≡ word d keywords.If ∷ (expr_marks d (expr_tree condition.value) ++ word d keywords.Then ∷ (stmts_marks d (stmt_list then.items) ++ else_marks d (else_list otherwise)))
 choice_marks d condition then None = ap (stmt_marks d) (if_tree condition then)
 choice_marks d condition then (Some otherwise) = ap (stmt_marks d) (if_else_tree condition then otherwise)
 
@@ -46,10 +46,10 @@ pub ended : (d : ℕ) (r : Result (Unit {0}) NoMemory) (old new : List ℕ) → 
 ended d (Ok x) old new h = h ∙ ap (λ (y : List ℕ). old ++ y) (sym (append-nil (token_text (word d keywords.End).kind)))
 ended d (Err x) old new h = tt
 
-pub assign_marks : (d : ℕ) (n : List ℕ) (index : Option expr.Expr) (value : expr.Expr) → stmt_marks d (assign_tree n index value) ≡ target_marks d n (index_tree index) ++ mark d signs.Becomes ∷ expr_marks d (expr_tree value)
+pub assign_marks : (d : ℕ) (n : List ℕ) (index : Option (Box expr.Expr)) (value : expr.Expr) → stmt_marks d (assign_tree n index value) ≡ target_marks d n (index_tree index) ++ mark d signs.Becomes ∷ expr_marks d (expr_tree value)
 assign_marks d n None value = refl
 assign_marks d n (Some index) value =
-    ap (λ (ms : List Mark). name d n ∷ mark (suc d) signs.OpenRow ∷ ms) (sym (append_assoc (expr_marks (suc d) (expr_tree index)) (mark (suc d) signs.CloseRow ∷ []) (mark d signs.Becomes ∷ expr_marks d (expr_tree value))))
+    ap (λ (ms : List Mark). name d n ∷ mark (suc d) signs.OpenRow ∷ ms) (sym (append_assoc (expr_marks (suc d) (expr_tree index.value)) (mark (suc d) signs.CloseRow ∷ []) (mark d signs.Becomes ∷ expr_marks d (expr_tree value))))
 
 -- ---- loops
 
@@ -71,6 +71,10 @@ handlers_flat d (h ∷ hs) = ap (λ (ms : List Mark). handler_here d h ++ ms) (h
 -- a head of two keywords, and what stands behind it
 pub head_first : (a : Mark) (inside : List Mark) (b : Mark) (behind : List Mark) → a ∷ (inside ++ b ∷ behind) ≡ (a ∷ (inside ++ b ∷ [])) ++ behind
 head_first a inside b behind = ap (λ (ms : List Mark). a ∷ ms) (sym (append_assoc inside (b ∷ []) behind))
+
+-- a condition in a box that is read
+pub of_condition : (d : ℕ) (x y : expr.Expr) (old new : List ℕ) → x ≡ y → Prints old new (word d keywords.If ∷ (expr_marks d (expr_tree x) ++ word d keywords.Then ∷ [])) → Prints old new (word d keywords.If ∷ (expr_marks d (expr_tree y) ++ word d keywords.Then ∷ []))
+of_condition d x y old new e h = subst (λ (z : expr.Expr). Prints old new (word d keywords.If ∷ (expr_marks d (expr_tree z) ++ word d keywords.Then ∷ []))) e h
 
 -- the statements of a vector that is read as a slice
 pub of_list : (d : ℕ) (xs ys : List stmt.Stmt) (old new : List ℕ) → xs ≡ ys → Prints old new (stmts_marks d (stmt_list xs)) → Prints old new (stmts_marks d (stmt_list ys))

@@ -1,4 +1,4 @@
--- The text of joined lists of tokens, and trees of the members of a vector.
+-- The text of joined lists of tokens.
 use Rattle.std.proofs.Common.{◌≡◌, ℕ, ◌+◌, ◌<◌, ◌≤◌, List, [], ◌∷◌, ◌++◌, length, drop, get_or, Result, refl, sym, ap, subst, ◌∙◌, append_assoc, rules}
 use Rattle.std.specs.Prelude.{codes, OnOk}
 use Rattle.lynx_lexer.specs.declared.memory.NoMemory.{NoMemory}
@@ -6,7 +6,7 @@ use Rattle.lynx_lexer.specs.declared.keyword.Keyword.TheVariants as keywords
 use Rattle.std.proofs.lemmas.List.{append-nil, drop_more, drop_all}
 use Rattle.lynx_tree.specs.declared.expression.Expr as expr
 use Rattle.std.specs.Global.{Vec, Box}
-use Rattle.lynx_tree.specs.declared.expression.Expr.TheViews.{the_lemmas}
+use Rattle.lynx_tree.proofs.Views.{expr_tree-Or, expr_tree-And, expr_tree-Sum, expr_tree-Term}
 use Rattle.lynx_lexer.specs.declared.sign.Sign.{Sign}
 use Rattle.lynx_tree.specs.Trees as trees
 use Rattle.lynx_tree.specs.Trees.{ExprTree, ExprTrees, expr_tree, expr_trees, expr_list, sum_tail, sum_list, term_tail, term_list}

@@ -1,3 +1,5 @@
+//! Modules through `tokens`, `parse` and `print`.
+
 use lynx_lexer::{LexFault, tokens};
 use lynx_syntax::{SyntaxFault, parse, print};
 use std::alloc::{AllocError, Global};
@@ -35,8 +37,15 @@ fn answer(alloc: Global, source: &str) -> Result<String, AllocError> {
     Ok(text)
 }
 
+/// Reads and prints a module, and what is printed too.
+fn prints(rt: &HostRuntime, source: &str, printed: &str) -> Result<(), Fail> {
+    assert_eq!(rt; answer(rt.alloc(), source)?.as_str(), printed);
+    assert_eq!(rt; answer(rt.alloc(), printed)?.as_str(), printed);
+    Ok(())
+}
+
 #[test]
-fn modules_are_printed(rt: HostRuntime) -> Result<(), Fail> {
+fn modules_are_printed_and_read_again(rt: HostRuntime) -> Result<(), Fail> {
     for (source, want) in [
         (
             "module m; var n : int; begin n := 7 - 2; write n; end.",
@@ -63,20 +72,12 @@ fn modules_are_printed(rt: HostRuntime) -> Result<(), Fail> {
             "module m; begin try n := 1 / n; when DIVIDE do n := 3; when RANGE do end; try end; end.",
             "module m ;\nbegin try n := 1 / n ;\nwhen DIVIDE do n := 3 ;\nwhen RANGE do end ;\ntry end ;\nend .\n",
         ),
+        (
+            "module m; begin x := a - b - c < d * e / f; write a or b or c and d; end.",
+            "module m ;\nbegin x := a - b - c < d * e / f ;\nwrite a or b or c and d ;\nend .\n",
+        ),
     ] {
-        assert_eq!(rt; answer(rt.alloc(), source)?.as_str(), want);
-    }
-    Ok(())
-}
-
-#[test]
-fn printed_modules_are_read_again(rt: HostRuntime) -> Result<(), Fail> {
-    for source in [
-        "module m; begin x := a - b - c < d * e / f; write a or b or c and d; end.",
-        "module m; op p () : (); entry e of p () begin end; begin try stop; when X do end; end.",
-    ] {
-        let once = answer(rt.alloc(), source)?;
-        assert_eq!(rt; answer(rt.alloc(), once.as_str())?.as_str(), once.as_str());
+        prints(&rt, source, want)?;
     }
     Ok(())
 }
@@ -84,7 +85,6 @@ fn printed_modules_are_read_again(rt: HostRuntime) -> Result<(), Fail> {
 /// A name server, a server that it names and a client of both.
 #[test]
 fn a_name_server_is_read_and_printed(rt: HostRuntime) -> Result<(), Fail> {
-    let alloc = rt.alloc();
     let names = "module names;
 op register (link) : ();
 op find () : (link);
@@ -184,8 +184,7 @@ end .
         (adder, printed_adder),
         (client, printed_client),
     ] {
-        assert_eq!(rt; answer(alloc, source)?.as_str(), printed);
-        assert_eq!(rt; answer(alloc, printed)?.as_str(), printed);
+        prints(&rt, source, printed)?;
     }
     Ok(())
 }

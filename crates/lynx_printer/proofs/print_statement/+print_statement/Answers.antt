@@ -5,9 +5,10 @@ use Rattle.std.specs.Global.{Vec}
 use Rattle.lynx_tree.specs.Trees.{expr_tree, stmt_tree, stmt_list, handler_list, index_tree, else_list}
 use Rattle.lynx_tree.specs.Grammar.{Mark, word, mark, name, expr_marks, stmt_marks, stmts_marks, handlers_marks, target_marks, accept_marks, else_marks}
 use Rattle.lynx_printer.proofs.Lists.{each_step, each_end, one_more}
-use Rattle.lynx_printer.proofs.Statements.{as_marks, assign_marks, three, ended, two, one_then, stmt_here, stmts_flat, handler_here, handlers_flat, while_tree, accept_tree, try_tree, choice_marks, head_first, of_list, handlers_of_list, accept_of_list, accept_first, on_ok}
+use Rattle.lynx_printer.proofs.Statements.{as_marks, assign_marks, three, ended, two, one_then, stmt_here, stmts_flat, handler_here, handlers_flat, choice_marks, of_condition, head_first, of_list, handlers_of_list, accept_of_list, accept_first, on_ok}
 use Rattle.lynx_tree.specs.Printing.{text_of}
 use Rattle.lynx_tree.specs.declared.statement.Stmt as stmt
+use Rattle.lynx_tree.proofs.Views.{while_tree, accept_tree, try_tree}
 use Rattle.lynx_printer.proofs.print_statement.+print_statement.Goals as goal
 
 pub push_stmts-loop-stmt-preserved : goal.push_stmts-loop-stmt-preserved
@@ -65,24 +66,24 @@ push_stmt-returns-in_ok-push_stmts-in-While t c d =
 
 pub push_stmt-returns-in-None : goal.push_stmt-returns-in-None
 push_stmt-returns-in-None t c d =
-    let head : List Mark = word d keywords.If ∷ (expr_marks d (expr_tree c.in-If.condition) ++ word d keywords.Then ∷ []) in
+    let head : List Mark = word d keywords.If ∷ (expr_marks d (expr_tree c.in-If.condition.value) ++ word d keywords.Then ∷ []) in
     let body : List Mark = stmts_marks d (stmt_list c.in-If.then.items) in
     as_marks c.args.stmt.now d (head ++ (body ++ word d keywords.End ∷ [])) c.push_keyword.result _ _
     (ap (λ (s : stmt.Stmt). stmt_marks d (stmt_tree s)) c.in-If.is ∙ choice_marks d c.in-If.condition c.in-If.then c.in-If.otherwise
-    ∙ head_first (word d keywords.If) (expr_marks d (expr_tree c.in-If.condition)) (word d keywords.Then) _ ∙ ap (λ (o : Option (Vec stmt.Stmt)). head ++ (body ++ else_marks d (else_list o))) c.in-None.is)
+    ∙ head_first (word d keywords.If) (expr_marks d (expr_tree c.in-If.condition.value)) (word d keywords.Then) _ ∙ ap (λ (o : Option (Vec stmt.Stmt)). head ++ (body ++ else_marks d (else_list o))) c.in-None.is)
     (three head body (word d keywords.End ∷ []) c.push_keyword.result _ c.push_test.new.out.items c.push_stmts.new.out.items _
-    (c.in_ok-push_test-in-If.ensures d) (of_list d _ _ _ _ c.deref.ensures.value (c.in_ok-push_stmts-in-If.ensures d)) (ended d c.push_keyword.result _ _ c.push_keyword.ensures))
+    (of_condition d _ _ _ _ c.deref.ensures (c.in_ok-push_test-in-If.ensures d)) (of_list d _ _ _ _ c.deref-in-If.ensures.value (c.in_ok-push_stmts-in-If.ensures d)) (ended d c.push_keyword.result _ _ c.push_keyword.ensures))
 
 pub push_stmt-returns-in_ok-push_stmts-in-Some : goal.push_stmt-returns-in_ok-push_stmts-in-Some
 push_stmt-returns-in_ok-push_stmts-in-Some t c d =
-    let head : List Mark = word d keywords.If ∷ (expr_marks d (expr_tree c.in-If.condition) ++ word d keywords.Then ∷ []) in
+    let head : List Mark = word d keywords.If ∷ (expr_marks d (expr_tree c.in-If.condition.value) ++ word d keywords.Then ∷ []) in
     let body : List Mark = stmts_marks d (stmt_list c.in-If.then.items) in
     let other : List Mark = stmts_marks d (stmt_list c.in-Some.otherwise.items) in
     as_marks c.args.stmt.now d (head ++ (body ++ word d keywords.Else ∷ (other ++ word d keywords.End ∷ []))) c.push_keyword-in-Some-2.result _ _
     (ap (λ (s : stmt.Stmt). stmt_marks d (stmt_tree s)) c.in-If.is ∙ choice_marks d c.in-If.condition c.in-If.then c.in-If.otherwise
-    ∙ head_first (word d keywords.If) (expr_marks d (expr_tree c.in-If.condition)) (word d keywords.Then) _ ∙ ap (λ (o : Option (Vec stmt.Stmt)). head ++ (body ++ else_marks d (else_list o))) c.in-Some.is)
+    ∙ head_first (word d keywords.If) (expr_marks d (expr_tree c.in-If.condition.value)) (word d keywords.Then) _ ∙ ap (λ (o : Option (Vec stmt.Stmt)). head ++ (body ++ else_marks d (else_list o))) c.in-Some.is)
     (three head body (word d keywords.Else ∷ (other ++ word d keywords.End ∷ [])) c.push_keyword-in-Some-2.result _ c.push_test.new.out.items c.push_stmts.new.out.items _
-    (c.in_ok-push_test-in-If.ensures d) (of_list d _ _ _ _ c.deref.ensures.value (c.in_ok-push_stmts-in-If.ensures d))
+    (of_condition d _ _ _ _ c.deref.ensures (c.in_ok-push_test-in-If.ensures d)) (of_list d _ _ _ _ c.deref-in-If.ensures.value (c.in_ok-push_stmts-in-If.ensures d))
     (three (word d keywords.Else ∷ []) other (word d keywords.End ∷ []) c.push_keyword-in-Some-2.result _ c.push_keyword-in-Some.new.out.items c.push_stmts-in-Some.new.out.items _
     (one_more (word d keywords.Else) _ _ c.in_ok-push_keyword-in-Some.ensures) (of_list d _ _ _ _ c.deref-in-Some.ensures.value (c.in_ok-push_stmts-in-Some.ensures d)) (ended d c.push_keyword-in-Some-2.result _ _ c.push_keyword-in-Some-2.ensures)))
 
