@@ -22,6 +22,3 @@ pub use reading::tokens;
 pub use sign::Sign;
 pub use text::{TextLit, TextRef};
 pub use token::{Kind, Token};
-
-#[cfg(test)]
-mod tests;

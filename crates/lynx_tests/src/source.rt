@@ -1,4 +1,4 @@
-use crate::{SourceFault, read_module};
+use lynx_source::{SourceFault, read_module, read_source, token_place};
 use std::alloc::{AllocError, Global};
 use std::fmt::Write;
 use std::str;
@@ -15,6 +15,7 @@ fn answer(alloc: Global, source: &[u8]) -> Result<String, AllocError> {
         Err(SourceFault::Lex { at, no }) => write!(text, "{}:{} lex {no}", at.line, at.column)?,
         Err(SourceFault::Syntax { at }) => write!(text, "{}:{} syntax", at.line, at.column)?,
         Err(SourceFault::Deep { at }) => write!(text, "{}:{} deep", at.line, at.column)?,
+        Err(SourceFault::Rule { .. } | SourceFault::CodeTooLong) => text.push_str("not built")?,
         Err(SourceFault::NoMemory) => text.push_str("no memory")?,
     }
     Ok(text)
@@ -82,31 +83,36 @@ fn brackets(alloc: Global, count: u8) -> Result<Vec<u8>, AllocError> {
     Ok(text)
 }
 
+/// A source of the greatest length, of bytes of one kind.
+fn blanks(alloc: Global) -> Result<Vec<u8>, AllocError> {
+    let mut text = Vec::with_capacity(alloc, 1_048_576)?;
+    for _ in 0..1_048_576u32 {
+        text.push(b' ')?;
+    }
+    Ok(text)
+}
+
 #[test]
-fn at_most_64_may_be_open(rt: HostRuntime) -> Result<(), Fail> {
+fn sources_at_their_limits(rt: HostRuntime) -> Result<(), Fail> {
     let alloc = rt.alloc();
-    assert_eq!(rt;
-        answer(alloc, brackets(alloc, 63)?.as_slice())?.as_str(),
-        "m"
-    );
-    assert_eq!(rt;
-        answer(alloc, brackets(alloc, 64)?.as_slice())?.as_str(),
-        "4:69 deep"
-    );
+    for (source, want) in [
+        (brackets(alloc, 63)?, "m"),
+        (brackets(alloc, 64)?, "4:69 deep"),
+        (blanks(alloc)?, "1:1048577 syntax"),
+    ] {
+        assert_eq!(rt; answer(alloc, source.as_slice())?.as_str(), want);
+    }
     Ok(())
 }
 
-/// A source of the greatest length, of bytes of one kind.
 #[test]
-fn a_long_source(rt: HostRuntime) -> Result<(), Fail> {
-    let alloc = rt.alloc();
-    let mut source = Vec::with_capacity(alloc, 1_048_576)?;
-    for _ in 0..1_048_576u32 {
-        source.push(b' ')?;
+fn a_module_has_its_tokens(rt: HostRuntime) -> Result<(), Fail> {
+    let source = b"module m;\n  begin end.";
+    let reading = read_source(rt.alloc(), source).map_err(|_| "a fault")?;
+    assert_eq!(rt; reading.tokens.len(), 6);
+    for (token, line, column) in [(0, 1, 1), (2, 1, 9), (3, 2, 3), (5, 2, 12), (6, 2, 13)] {
+        let at = token_place(source, &reading.tokens, token);
+        assert_eq!(rt; (at.line, at.column), (line, column), "of {token}");
     }
-    assert_eq!(rt;
-        answer(alloc, source.as_slice())?.as_str(),
-        "1:1048577 syntax"
-    );
     Ok(())
 }
