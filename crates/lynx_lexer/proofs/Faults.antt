@@ -1,11 +1,13 @@
 -- A source has its tokens or its first fault, and one of them only.
-use Rattle.std.proofs.Common.{◌≡◌, ℕ, ◌+◌, ◌≤◌, List, [], ◌∷◌, ◌++◌, length, Option, Some, None, Result, Ok, Err, refl, sym, ap, ◌∙◌, subst, arith, append_assoc, inl, inr}
+use Rattle.std.proofs.Common.{◌≡◌, ℕ, ◌+◌, ◌≤◌, ◌⊎◌, List, [], ◌∷◌, ◌++◌, length, Option, Some, None, Result, Ok, Err, refl, sym, ap, ◌∙◌, subst, arith, append_assoc, inl, inr}
 use Rattle.std.specs.Prelude.{IfSome, IfOk, IfErr}
 use Rattle.std.specs.Global.{Vec}
 use Rattle.std.specs.List.{AllByRecursion}
 use Rattle.lynx_lexer.specs.Pieces.{IsPiece, IsLongest, is_text_byte, limit_passed}
-use Rattle.lynx_lexer.specs.Source.{Piece, text_of, token_at, tokens_of, Spell, AreWithinLimits, BeginsNothing, CutsText, IsOpenText, PassesLimit, HasFault, IsFirstFault}
+use Rattle.lynx_lexer.specs.Source.{Piece, text_of, token_at, tokens_of, Spell, AreWithinLimits, BeginsNothing, CutsText, IsOpenText, PassesLimit, HasFault, IsFirstFault, number_of}
 use Rattle.lynx_lexer.specs.Answers.{GivesTokens, GivesFault, IsFaultOf}
+use Rattle.lynx_lexer.specs.declared.fault.FaultKind.{FaultKind}
+use Rattle.lynx_lexer.specs.declared.fault.FaultKind.TheVariants.{BadByte, OpenText, NumberTooWide, TextTooLong, NameTooLong}
 use Rattle.lynx_lexer.specs.declared.fault.LexFault.{LexFault}
 use Rattle.lynx_lexer.specs.declared.fault.LexFault.TheVariants as faults
 use Rattle.lynx_lexer.specs.declared.token.Kind.{Kind}
@@ -50,28 +52,45 @@ open_no_piece bytes p (c ∷ cs) rest h e piece =
 abbrev pub IsWithin : Piece → Type 0
 IsWithin p = IfSome p.kind (λ k. limit_passed k ≡ None)
 
-limit_no_piece : (number : ℕ) (bytes : List ℕ) (p : Piece) (rest : List ℕ) → PassesLimit number bytes → bytes ≡ p.text ++ rest → IsPiece p.kind p.text → IsLongest p.text rest → IsWithin p → ⊥
-limit_no_piece number bytes p rest h e piece longest within =
+limit_no_piece : (fault : FaultKind) (bytes : List ℕ) (p : Piece) (rest : List ℕ) → PassesLimit fault bytes → bytes ≡ p.text ++ rest → IsPiece p.kind p.text → IsLongest p.text rest → IsWithin p → ⊥
+limit_no_piece fault bytes p rest h e piece longest within =
     let q : Piece = record { text = h.1; kind = Some h.0 } in
     let same = same_piece q p h.2 rest (sym h.3 ∙ e) h.4 h.5 piece longest in
     let none : limit_passed h.0 ≡ None = subst IsWithin (sym same.0) within in
-    let some : limit_passed h.0 ≡ Some number = h.6 in
+    let some : limit_passed h.0 ≡ Some fault = h.6 in
     cc
 
-fault_bars : (number : ℕ) (bytes : List ℕ) → HasFault number bytes → Bars IsWithin bytes
-fault_bars number bytes (inl h) p rest e piece longest within = nothing_no_piece bytes p.kind p.text rest h.1 e piece
-fault_bars number bytes (inr (inl h)) p rest e piece longest within = open_no_piece bytes p.kind p.text rest h.1 e piece
-fault_bars number bytes (inr (inr h)) p rest e piece longest within = limit_no_piece number bytes p rest h e piece longest within
+-- what a fault is at the front
+abbrev Fault : FaultKind → List ℕ → Type 0
+Fault fault bytes = ((fault ≡ BadByte) × BeginsNothing bytes) ⊎ ((fault ≡ OpenText) × IsOpenText bytes) ⊎ PassesLimit fault bytes
 
--- a fault stands at a byte
-fault_some : (number : ℕ) (bytes : List ℕ) → HasFault number bytes → bytes ≡ [] → ⊥
-fault_some number bytes (inl h) e = absurd (let joined : h.1.0 ∷ h.1.1 ≡ [] = sym h.1.2 ∙ e in cc)
-fault_some number bytes (inr (inl h)) e = absurd (let joined : 39 ∷ h.1.0 ++ h.1.1 ≡ [] = sym h.1.4 ∙ e in cc)
-fault_some number bytes (inr (inr h)) e = empty h.1 (sym h.3 ∙ e) h.4
+told : (fault : FaultKind) (bytes : List ℕ) → HasFault fault bytes → Fault fault bytes
+told BadByte bytes h = inl (refl, h)
+told OpenText bytes h = inr (inl (refl, h))
+told NumberTooWide bytes h = inr (inr h)
+told TextTooLong bytes h = inr (inr h)
+told NameTooLong bytes h = inr (inr h)
+
+bars_of : (fault : FaultKind) (bytes : List ℕ) → Fault fault bytes → Bars IsWithin bytes
+bars_of fault bytes (inl h) p rest e piece longest within = nothing_no_piece bytes p.kind p.text rest h.1 e piece
+bars_of fault bytes (inr (inl h)) p rest e piece longest within = open_no_piece bytes p.kind p.text rest h.1 e piece
+bars_of fault bytes (inr (inr h)) p rest e piece longest within = limit_no_piece fault bytes p rest h e piece longest within
+
+fault_bars : (fault : FaultKind) (bytes : List ℕ) → HasFault fault bytes → Bars IsWithin bytes
+fault_bars fault bytes h = bars_of fault bytes (told fault bytes h)
+
+some_of : (fault : FaultKind) (bytes : List ℕ) → Fault fault bytes → bytes ≡ [] → ⊥
+some_of fault bytes (inl h) e = absurd (let joined : h.1.0 ∷ h.1.1 ≡ [] = sym h.1.2 ∙ e in cc)
+some_of fault bytes (inr (inl h)) e = absurd (let joined : 39 ∷ h.1.0 ++ h.1.1 ≡ [] = sym h.1.4 ∙ e in cc)
+some_of fault bytes (inr (inr h)) e = empty h.1 (sym h.3 ∙ e) h.4
   where
     empty : (text : List ℕ) → text ++ h.2 ≡ [] → IsPiece (Some h.0) text → ⊥
     empty [] e piece = some_byte (Some h.0) piece
     empty (b ∷ bs) e piece = cc
+
+-- a fault stands at a byte
+fault_some : (fault : FaultKind) (bytes : List ℕ) → HasFault fault bytes → bytes ≡ [] → ⊥
+fault_some fault bytes h = some_of fault bytes (told fault bytes h)
 
 -- ---- one fault
 
@@ -84,26 +103,29 @@ nothing_not_open bytes h g =
     let heads : 39 ≡ h.0 = cc in
     h.3 (Some (kinds.Text [])) (39 ∷ []) (subst (λ (b : ℕ). IsPiece (Some (kinds.Text [])) (b ∷ 39 ∷ [])) heads empty_text)
 
-same_limit : (m n : ℕ) (bytes : List ℕ) → PassesLimit m bytes → PassesLimit n bytes → m ≡ n
+same_limit : (m n : FaultKind) (bytes : List ℕ) → PassesLimit m bytes → PassesLimit n bytes → m ≡ n
 same_limit m n bytes h g =
     let p : Piece = record { text = h.1; kind = Some h.0 } in
     let q : Piece = record { text = g.1; kind = Some g.0 } in
     let same = same_piece p q h.2 g.2 (sym h.3 ∙ g.3) h.4 h.5 g.4 g.5 in
     let kinds_are : p.kind ≡ q.kind = ap (λ (x : Piece). x.kind) same.0 in
     let kind_is : h.0 ≡ g.0 = cc in
-    let numbers : Some m ≡ Some n = sym h.6 ∙ ap limit_passed kind_is ∙ g.6 in
+    let faults_are : Some m ≡ Some n = sym h.6 ∙ ap limit_passed kind_is ∙ g.6 in
     cc
 
-one_fault : (m n : ℕ) (bytes : List ℕ) → HasFault m bytes → HasFault n bytes → m ≡ n
-one_fault m n bytes (inl h) (inl g) = h.0 ∙ sym g.0
-one_fault m n bytes (inl h) (inr (inl g)) = absurd (nothing_not_open bytes h.1 g.1)
-one_fault m n bytes (inl h) (inr (inr g)) = absurd (nothing_no_piece bytes (Some g.0) g.1 g.2 h.1 g.3 g.4)
-one_fault m n bytes (inr (inl h)) (inl g) = absurd (nothing_not_open bytes g.1 h.1)
-one_fault m n bytes (inr (inl h)) (inr (inl g)) = h.0 ∙ sym g.0
-one_fault m n bytes (inr (inl h)) (inr (inr g)) = absurd (open_no_piece bytes (Some g.0) g.1 g.2 h.1 g.3 g.4)
-one_fault m n bytes (inr (inr h)) (inl g) = absurd (nothing_no_piece bytes (Some h.0) h.1 h.2 g.1 h.3 h.4)
-one_fault m n bytes (inr (inr h)) (inr (inl g)) = absurd (open_no_piece bytes (Some h.0) h.1 h.2 g.1 h.3 h.4)
-one_fault m n bytes (inr (inr h)) (inr (inr g)) = same_limit m n bytes h g
+one_of : (m n : FaultKind) (bytes : List ℕ) → Fault m bytes → Fault n bytes → m ≡ n
+one_of m n bytes (inl h) (inl g) = h.0 ∙ sym g.0
+one_of m n bytes (inl h) (inr (inl g)) = absurd (nothing_not_open bytes h.1 g.1)
+one_of m n bytes (inl h) (inr (inr g)) = absurd (nothing_no_piece bytes (Some g.0) g.1 g.2 h.1 g.3 g.4)
+one_of m n bytes (inr (inl h)) (inl g) = absurd (nothing_not_open bytes g.1 h.1)
+one_of m n bytes (inr (inl h)) (inr (inl g)) = h.0 ∙ sym g.0
+one_of m n bytes (inr (inl h)) (inr (inr g)) = absurd (open_no_piece bytes (Some g.0) g.1 g.2 h.1 g.3 g.4)
+one_of m n bytes (inr (inr h)) (inl g) = absurd (nothing_no_piece bytes (Some h.0) h.1 h.2 g.1 h.3 h.4)
+one_of m n bytes (inr (inr h)) (inr (inl g)) = absurd (open_no_piece bytes (Some h.0) h.1 h.2 g.1 h.3 h.4)
+one_of m n bytes (inr (inr h)) (inr (inr g)) = same_limit m n bytes h g
+
+one_fault : (m n : FaultKind) (bytes : List ℕ) → HasFault m bytes → HasFault n bytes → m ≡ n
+one_fault m n bytes h g = one_of m n bytes (told m bytes h) (told n bytes g)
 
 -- ---- one answer
 
@@ -115,24 +137,26 @@ each_within at (p ∷ ps) w = both p.kind (tokens_of (at + length p.text) ps) w 
     both None others w go = (tt, go w)
     both (Some k) others w go = (w.0, go w.1)
 
-not_both : (source : List ℕ) (tokens : List Token) (place number : ℕ) → Spell tokens source → AreWithinLimits tokens → IsFirstFault place number source → ⊥
-not_both source tokens place number s w f =
-    let same = one_cut IsWithin s.0 f.0 [] f.1 (sym s.1.0 ∙ f.2.0) s.1.1 f.2.1 (each_within 0 s.0 (subst AreWithinLimits s.2 w)) (each_within 0 f.0 f.3) (end_bars IsWithin) (fault_bars number f.1 f.5) in
-    fault_some number f.1 f.5 (sym same.1)
+not_both : (source : List ℕ) (tokens : List Token) (place : ℕ) (kind : FaultKind) → Spell tokens source → AreWithinLimits tokens → IsFirstFault place kind source → ⊥
+not_both source tokens place kind s w f =
+    let same = one_cut IsWithin s.0 f.0 [] f.1 (sym s.1.0 ∙ f.2.0) s.1.1 f.2.1 (each_within 0 s.0 (subst AreWithinLimits s.2 w)) (each_within 0 f.0 f.3) (end_bars IsWithin) (fault_bars kind f.1 f.5) in
+    fault_some kind f.1 f.5 (sym same.1)
 
 pub gives_tokens : (source : List ℕ) (tokens : List Token) (r : Result (Vec Token) LexFault) → IfOk r (λ v. Spell v.items source × AreWithinLimits v.items) → IfErr r (IsFaultOf source)
     → Spell tokens source → AreWithinLimits tokens → GivesTokens tokens r
 gives_tokens source tokens (Ok v) found fault s w = one_spelling source v.items tokens found.0 s
-gives_tokens source tokens (Err (faults.At place number)) found fault s w = not_both source tokens place number s w fault
+gives_tokens source tokens (Err (faults.At place number)) found fault s w = not_both source tokens place fault.0 s w fault.1
 gives_tokens source tokens (Err faults.NoMemory) found fault s w = tt
 
-same_fault : (source : List ℕ) (place number at no_of : ℕ) → IsFirstFault place number source → IsFirstFault at no_of source → (at ≡ place) × (no_of ≡ number)
-same_fault source place number at no_of f g =
-    let same = one_cut IsWithin g.0 f.0 g.1 f.1 (sym g.2.0 ∙ f.2.0) g.2.1 f.2.1 (each_within 0 g.0 g.3) (each_within 0 f.0 f.3) (fault_bars no_of g.1 g.5) (fault_bars number f.1 f.5) in
-    (g.4 ∙ ap (λ (ps : List Piece). length (text_of ps)) same.0 ∙ sym f.4, one_fault no_of number f.1 (subst (HasFault no_of) same.1 g.5) f.5)
+same_fault : (source : List ℕ) (place at : ℕ) (kind other : FaultKind) → IsFirstFault place kind source → IsFirstFault at other source → (at ≡ place) × (other ≡ kind)
+same_fault source place at kind other f g =
+    let same = one_cut IsWithin g.0 f.0 g.1 f.1 (sym g.2.0 ∙ f.2.0) g.2.1 f.2.1 (each_within 0 g.0 g.3) (each_within 0 f.0 f.3) (fault_bars other g.1 g.5) (fault_bars kind f.1 f.5) in
+    (g.4 ∙ ap (λ (ps : List Piece). length (text_of ps)) same.0 ∙ sym f.4, one_fault other kind f.1 (subst (HasFault other) same.1 g.5) f.5)
 
-pub gives_fault : (source : List ℕ) (place number : ℕ) (r : Result (Vec Token) LexFault) → IfOk r (λ v. Spell v.items source × AreWithinLimits v.items) → IfErr r (IsFaultOf source)
-    → IsFirstFault place number source → GivesFault place number r
-gives_fault source place number (Ok v) found fault f = not_both source v.items place number found.0 found.1 f
-gives_fault source place number (Err (faults.At at no_of)) found fault f = same_fault source place number at no_of f fault
-gives_fault source place number (Err faults.NoMemory) found fault f = tt
+pub gives_fault : (source : List ℕ) (place : ℕ) (kind : FaultKind) (r : Result (Vec Token) LexFault) → IfOk r (λ v. Spell v.items source × AreWithinLimits v.items) → IfErr r (IsFaultOf source)
+    → IsFirstFault place kind source → GivesFault place kind r
+gives_fault source place kind (Ok v) found fault f = not_both source v.items place kind found.0 found.1 f
+gives_fault source place kind (Err (faults.At at number)) found fault f =
+    let same = same_fault source place at kind fault.0 f fault.1 in
+    (same.0, fault.2 ∙ ap number_of same.1)
+gives_fault source place kind (Err faults.NoMemory) found fault f = tt

@@ -5,6 +5,7 @@ use Rattle.std.proofs.lemmas.List.{append-nil, take-append-drop, drop-drop, drop
 use Rattle.lynx_lexer.specs.Pieces.{IsPiece, IsLongest, limit_passed}
 use Rattle.lynx_lexer.specs.Source.{Piece, text_of, AreLongest, token_at, tokens_of, Spell, AreWithinLimits, HasFault, IsFirstFault}
 use Rattle.lynx_lexer.specs.Fronts.{StandsAt}
+use Rattle.lynx_lexer.specs.declared.fault.FaultKind.{FaultKind}
 use Rattle.lynx_lexer.specs.declared.token.Kind.{Kind}
 use Rattle.lynx_lexer.specs.declared.token.Token.{Token}
 
@@ -77,6 +78,6 @@ reached_end source at tokens r le =
     let none : drop at source ≡ [] = drop_all at source le in
     ((r.pieces, (r.whole ∙ ap (λ (t : List ℕ). text_of r.pieces ++ t) none, subst (λ (t : List ℕ). AreLongest r.pieces t) none r.longest), r.are), r.within)
 
-pub reached_fault : (source : List ℕ) (at : ℕ) (tokens : List Token) (number : ℕ) → Reached source at tokens → HasFault number (drop at source) → IsFirstFault at number source
-reached_fault source at tokens number r h =
+pub reached_fault : (source : List ℕ) (at : ℕ) (tokens : List Token) (kind : FaultKind) → Reached source at tokens → HasFault kind (drop at source) → IsFirstFault at kind source
+reached_fault source at tokens kind r h =
     (r.pieces, drop at source, (r.whole, r.longest), subst AreWithinLimits r.are r.within, r.place, h)

@@ -13,6 +13,7 @@ use Rattle.lynx_lexer.specs.Source.{HasFault, CutsText}
 use Rattle.lynx_lexer.specs.Fronts.{StandsAt, Begins, IsLongestSign}
 use Rattle.lynx_lexer.specs.declared.class.Class.{Class}
 use Rattle.lynx_lexer.specs.declared.class.Class.TheVariants.{Blank, Letter, Digit, Underscore, Quote, Other}
+use Rattle.lynx_lexer.specs.declared.fault.FaultKind.TheVariants.{BadByte, OpenText, NumberTooWide, TextTooLong, NameTooLong}
 use Rattle.lynx_lexer.specs.declared.keyword.Keyword.{Keyword}
 use Rattle.lynx_lexer.specs.declared.sign.Sign.{Sign}
 use Rattle.lynx_lexer.specs.declared.sign.Sign.TheVariants as signs
@@ -76,12 +77,12 @@ name_stands bytes n name begins e unlike is short =
     let stands : StandsAt (Some (kinds.Name (take n bytes))) n bytes = record { some = r.some; fits = r.fits; piece = name_piece bytes n r unlike; longest = word_longest bytes n r; within = within } in
     subst (λ (t : List ℕ). StandsAt (Some (kinds.Name t)) n bytes) (sym is) stands
 
-pub name_too_long : (bytes : List ℕ) (n : ℕ) → Begins Letter bytes → n ≡ prefix_len is_name_byte bytes → ((keyword : Keyword) → take n bytes ≢ word_of keyword) → ((0 < length (take n bytes)) × (length (take n bytes) ≤ 32) → ⊥) → HasFault 5 bytes
+pub name_too_long : (bytes : List ℕ) (n : ℕ) → Begins Letter bytes → n ≡ prefix_len is_name_byte bytes → ((keyword : Keyword) → take n bytes ≢ word_of keyword) → ((0 < length (take n bytes)) × (length (take n bytes) ≤ 32) → ⊥) → HasFault NameTooLong bytes
 name_too_long bytes n begins e unlike unfit =
     let r = word_run bytes n begins e in
     let long : 32 < length (take n bytes) = elim (cases_lt 32 (length (take n bytes))) [ inl lt ↦ lt | inr short ↦ absurd (unfit (omega (arith, ap length r.text), short)) ] in
-    let passed : limit_passed (kinds.Name (take n bytes)) ≡ Some 5 = rw (lt-ltb 32 (length (take n bytes)) long) refl in
-    inr (inr (kinds.Name (take n bytes), take n bytes, drop n bytes, sym (take-append-drop n bytes), name_piece bytes n r unlike, word_longest bytes n r, passed))
+    let passed : limit_passed (kinds.Name (take n bytes)) ≡ Some NameTooLong = rw (lt-ltb 32 (length (take n bytes)) long) refl in
+    (kinds.Name (take n bytes), take n bytes, drop n bytes, sym (take-append-drop n bytes), name_piece bytes n r unlike, word_longest bytes n r, passed)
 
 -- ---- numbers
 
@@ -109,11 +110,11 @@ number_stands bytes n z begins e is fits =
     let stands : StandsAt (Some (kinds.Number (pos (decimal (take n bytes))))) n bytes = record { some = r.some; fits = r.fits; piece = number_piece bytes n r; longest = number_longest bytes n r; within = within } in
     subst (λ (t : ℤ). StandsAt (Some (kinds.Number t)) n bytes) (sym is) stands
 
-pub number_too_wide : (bytes : List ℕ) (n : ℕ) → Begins Digit bytes → n ≡ prefix_len is_digit bytes → 2 ^ 63 ≤ decimal (take n bytes) → HasFault 3 bytes
+pub number_too_wide : (bytes : List ℕ) (n : ℕ) → Begins Digit bytes → n ≡ prefix_len is_digit bytes → 2 ^ 63 ≤ decimal (take n bytes) → HasFault NumberTooWide bytes
 number_too_wide bytes n begins e wide =
     let r = digits_run bytes n begins e in
-    let passed : limit_passed (kinds.Number (pos (decimal (take n bytes)))) ≡ Some 3 = rw (lt-ltb 9223372036854775807 (decimal (take n bytes)) (omega arith)) refl in
-    inr (inr (kinds.Number (pos (decimal (take n bytes))), take n bytes, drop n bytes, sym (take-append-drop n bytes), number_piece bytes n r, number_longest bytes n r, passed))
+    let passed : limit_passed (kinds.Number (pos (decimal (take n bytes)))) ≡ Some NumberTooWide = rw (lt-ltb 9223372036854775807 (decimal (take n bytes)) (omega arith)) refl in
+    (kinds.Number (pos (decimal (take n bytes))), take n bytes, drop n bytes, sym (take-append-drop n bytes), number_piece bytes n r, number_longest bytes n r, passed)
 
 -- ---- blanks, and bytes with which nothing begins
 
@@ -127,9 +128,9 @@ blank_stands (b ∷ bs) begins = record {
   within = tt;
 }
 
-pub nothing_begins : (bytes : List ℕ) → Begins Underscore bytes → HasFault 1 bytes
+pub nothing_begins : (bytes : List ℕ) → Begins Underscore bytes → HasFault BadByte bytes
 nothing_begins [] begins = absurd (omega (arith, begins.some))
-nothing_begins (b ∷ bs) begins = inl (refl, (b, bs, refl, (λ piece more h. at_underscore b more begins.first (shape piece b more h))))
+nothing_begins (b ∷ bs) begins = (b, bs, refl, (λ piece more h. at_underscore b more begins.first (shape piece b more h)))
 
 -- ---- texts
 
@@ -168,23 +169,23 @@ text_stands (b ∷ bs) n inside begins e within closed is short =
     }
 
 pub text_too_long : (bytes : List ℕ) (n : ℕ) → Begins Quote bytes → n ≡ prefix_len is_text_byte (drop 1 bytes) → n < length (drop 1 bytes) → get_or (drop 1 bytes) n 0 ≡ 39
-    → (length (take n (drop 1 bytes)) ≤ 64 → ⊥) → HasFault 4 bytes
+    → (length (take n (drop 1 bytes)) ≤ 64 → ⊥) → HasFault TextTooLong bytes
 text_too_long [] n begins e within closed unfit = absurd (omega (arith, begins.some))
 text_too_long (b ∷ bs) n begins e within closed unfit =
     let q : b ≡ 39 = quote_of_class b begins.first in
     let inside : List ℕ = take n bs in
     let parts : take (n + 2) (b ∷ bs) ≡ 39 ∷ inside ++ 39 ∷ [] = closed_text b bs n inside q within closed refl in
     let passes : list_all is_text_byte inside ≡ true = ap (λ (m : ℕ). list_all is_text_byte (take m bs)) e ∙ run_passes is_text_byte bs in
-    let passed : limit_passed (kinds.Text inside) ≡ Some 4 = rw (lt-ltb 64 (length inside) (omega (arith, unfit))) refl in
-    inr (inr (kinds.Text inside, 39 ∷ inside ++ 39 ∷ [], drop (n + 2) (b ∷ bs), sym (ap (λ (t : List ℕ). t ++ drop (n + 2) (b ∷ bs)) (sym parts) ∙ take-append-drop (n + 2) (b ∷ bs)), (passes, refl), longest_text inside (drop (n + 2) (b ∷ bs)), passed))
+    let passed : limit_passed (kinds.Text inside) ≡ Some TextTooLong = rw (lt-ltb 64 (length inside) (omega (arith, unfit))) refl in
+    (kinds.Text inside, 39 ∷ inside ++ 39 ∷ [], drop (n + 2) (b ∷ bs), sym (ap (λ (t : List ℕ). t ++ drop (n + 2) (b ∷ bs)) (sym parts) ∙ take-append-drop (n + 2) (b ∷ bs)), (passes, refl), longest_text inside (drop (n + 2) (b ∷ bs)), passed)
 
-pub open_text : (bytes : List ℕ) (n : ℕ) → Begins Quote bytes → n ≡ prefix_len is_text_byte (drop 1 bytes) → (n < length (drop 1 bytes) → get_or (drop 1 bytes) n 0 ≢ 39) → HasFault 2 bytes
+pub open_text : (bytes : List ℕ) (n : ℕ) → Begins Quote bytes → n ≡ prefix_len is_text_byte (drop 1 bytes) → (n < length (drop 1 bytes) → get_or (drop 1 bytes) n 0 ≢ 39) → HasFault OpenText bytes
 open_text [] n begins e unclosed = absurd (omega (arith, begins.some))
 open_text (b ∷ bs) n begins e unclosed =
     let q : b ≡ 39 = quote_of_class b begins.first in
     let passes : list_all is_text_byte (take n bs) ≡ true = ap (λ (m : ℕ). list_all is_text_byte (take m bs)) e ∙ run_passes is_text_byte bs in
     let stops : Stops is_text_byte (drop n bs) = subst (λ (m : ℕ). Stops is_text_byte (drop m bs)) (sym e) (run_stops is_text_byte bs) in
-    inr (inl (refl, (take n bs, drop n bs, passes, cut_text bs n stops unclosed, (λ i. q i ∷ sym (take-append-drop n bs) i))))
+    (take n bs, drop n bs, passes, cut_text bs n stops unclosed, (λ i. q i ∷ sym (take-append-drop n bs) i))
 
 -- ---- comments and signs
 
@@ -246,20 +247,17 @@ head_sign signs.AtMost = (signs.Less, refl)
 head_sign signs.AtLeast = (signs.Greater, refl)
 head_sign s = (s, refl)
 
-pub no_mark : (bytes : List ℕ) → Begins Other bytes → ((s : Sign) (rest : List ℕ) → bytes ≢ sign_of s ++ rest) → HasFault 1 bytes
+pub no_mark : (bytes : List ℕ) → Begins Other bytes → ((s : Sign) (rest : List ℕ) → bytes ≢ sign_of s ++ rest) → HasFault BadByte bytes
 no_mark [] begins unlike = absurd (omega (arith, begins.some))
-no_mark (b ∷ bs) begins unlike = inl (
+no_mark (b ∷ bs) begins unlike = (
+  b,
+  bs,
   refl,
-  (
-    b,
-    bs,
-    refl,
-    (λ piece more h.
-        elim (at_other b more begins.first (shape piece b more h)) [
-          | inl found ↦ unlike signs.Minus bs (λ i. found.1 i ∷ bs)
-          | inr found ↦ (let t = head_sign found.0 in
-              let one : b ∷ [] ≡ sign_of t.0 = ap (take 1) found.1 ∙ sym t.1 in
-              unlike t.0 bs (ap (λ (x : List ℕ). x ++ bs) one))
-        ]),
-  ),
+  (λ piece more h.
+      elim (at_other b more begins.first (shape piece b more h)) [
+        | inl found ↦ unlike signs.Minus bs (λ i. found.1 i ∷ bs)
+        | inr found ↦ (let t = head_sign found.0 in
+            let one : b ∷ [] ≡ sign_of t.0 = ap (take 1) found.1 ∙ sym t.1 in
+            unlike t.0 bs (ap (λ (x : List ℕ). x ++ bs) one))
+      ]),
 )

@@ -2,5 +2,6 @@ pub mod Answers
 pub mod Bytes
 pub mod Fronts
 pub mod Pieces
+pub mod Slots
 pub mod Source
 pub mod Words

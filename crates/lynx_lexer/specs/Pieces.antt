@@ -5,6 +5,8 @@ use Rattle.lynx_lexer.specs.Bytes.{class_of}
 use Rattle.lynx_lexer.specs.Words.{word_of, sign_of}
 use Rattle.lynx_lexer.specs.declared.class.Class.{Class}
 use Rattle.lynx_lexer.specs.declared.class.Class.TheVariants.{Blank, Letter, Digit, Underscore, Quote, Other}
+use Rattle.lynx_lexer.specs.declared.fault.FaultKind.{FaultKind}
+use Rattle.lynx_lexer.specs.declared.fault.FaultKind.TheVariants.{NumberTooWide, TextTooLong, NameTooLong}
 use Rattle.lynx_lexer.specs.declared.keyword.Keyword.{Keyword}
 use Rattle.lynx_lexer.specs.declared.token.Kind.{Kind}
 use Rattle.lynx_lexer.specs.declared.token.Kind.TheVariants as kinds
@@ -69,10 +71,10 @@ IsPiece (Some kind) text = IsToken kind text
 abbrev pub IsLongest : List ℕ → List ℕ → Type 0
 IsLongest text rest = (piece : Option Kind) (other more : List ℕ) → text ++ rest ≡ other ++ more → IsPiece piece other → length other ≤ length text
 
--- the number of the fault where a token passes a limit
-abbrev pub limit_passed : Kind → Option ℕ
+-- the fault where a token passes a limit
+abbrev pub limit_passed : Kind → Option FaultKind
 limit_passed (kinds.Keyword keyword) = None
 limit_passed (kinds.Sign sign) = None
-limit_passed (kinds.Name name) = if nat_lt 32 (length name) then Some 5 else None
-limit_passed (kinds.Number number) = if int_lt (pos 9223372036854775807) number then Some 3 else None
-limit_passed (kinds.Text inside) = if nat_lt 64 (length inside) then Some 4 else None
+limit_passed (kinds.Name name) = if nat_lt 32 (length name) then Some NameTooLong else None
+limit_passed (kinds.Number number) = if int_lt (pos 9223372036854775807) number then Some NumberTooWide else None
+limit_passed (kinds.Text inside) = if nat_lt 64 (length inside) then Some TextTooLong else None

@@ -1,7 +1,9 @@
 -- How tokens spell a source, and what its first fault is.
-use Rattle.std.specs.Prelude.{◌≡◌, ◌≢◌, ℕ, ◌+◌, ◌⊎◌, IsTrue, IsFalse, List, [], ◌∷◌, ◌++◌, length, Option, Some, None, ⊤}
+use Rattle.std.specs.Prelude.{◌≡◌, ◌≢◌, ℕ, ◌+◌, IsTrue, IsFalse, List, [], ◌∷◌, ◌++◌, length, Option, Some, None, ⊤}
 use Rattle.std.specs.List.{list_all, flat_map, AllByRecursion}
 use Rattle.lynx_lexer.specs.Pieces.{IsPiece, IsToken, IsLongest, is_text_byte, limit_passed}
+use Rattle.lynx_lexer.specs.declared.fault.FaultKind.{FaultKind}
+use Rattle.lynx_lexer.specs.declared.fault.FaultKind.TheVariants.{BadByte, OpenText, NumberTooWide, TextTooLong, NameTooLong}
 use Rattle.lynx_lexer.specs.declared.token.Kind.{Kind}
 use Rattle.lynx_lexer.specs.declared.token.Token.{Token}
 
@@ -54,14 +56,26 @@ CutsText (b ∷ bs) = IsFalse (is_text_byte b) × (b ≢ 39)
 abbrev pub IsOpenText : List ℕ → Type 0
 IsOpenText bytes = (inside rest : List ℕ) × IsTrue (list_all is_text_byte inside) × CutsText rest × (bytes ≡ 39 ∷ inside ++ rest)
 
--- the longest token at the front passes the limit of the number
-abbrev pub PassesLimit : ℕ → List ℕ → Type 0
-PassesLimit number bytes = (kind : Kind) × (text rest : List ℕ) × (bytes ≡ text ++ rest) × IsToken kind text × IsLongest text rest × (limit_passed kind ≡ Some number)
+-- the longest token at the front passes this limit
+abbrev pub PassesLimit : FaultKind → List ℕ → Type 0
+PassesLimit fault bytes = (kind : Kind) × (text rest : List ℕ) × (bytes ≡ text ++ rest) × IsToken kind text × IsLongest text rest × (limit_passed kind ≡ Some fault)
 
--- the fault of the number stands at the front
-abbrev pub HasFault : ℕ → List ℕ → Type 0
-HasFault number bytes = ((number ≡ 1) × BeginsNothing bytes) ⊎ ((number ≡ 2) × IsOpenText bytes) ⊎ PassesLimit number bytes
+-- the fault stands at the front
+abbrev pub HasFault : FaultKind → List ℕ → Type 0
+HasFault BadByte bytes = BeginsNothing bytes
+HasFault OpenText bytes = IsOpenText bytes
+HasFault NumberTooWide bytes = PassesLimit NumberTooWide bytes
+HasFault TextTooLong bytes = PassesLimit TextTooLong bytes
+HasFault NameTooLong bytes = PassesLimit NameTooLong bytes
+
+-- the number by which people know a fault
+abbrev pub number_of : FaultKind → ℕ
+number_of BadByte = 1
+number_of OpenText = 2
+number_of NumberTooWide = 3
+number_of TextTooLong = 4
+number_of NameTooLong = 5
 
 -- the first fault of the source: what stands before its place are longest pieces within the limits
-abbrev pub IsFirstFault : ℕ → ℕ → List ℕ → Type 0
-IsFirstFault place number source = (pieces : List Piece) × (rest : List ℕ) × IsCut source pieces rest × AreWithinLimits (tokens_of 0 pieces) × (place ≡ length (text_of pieces)) × HasFault number rest
+abbrev pub IsFirstFault : ℕ → FaultKind → List ℕ → Type 0
+IsFirstFault place fault source = (pieces : List Piece) × (rest : List ℕ) × IsCut source pieces rest × AreWithinLimits (tokens_of 0 pieces) × (place ≡ length (text_of pieces)) × HasFault fault rest

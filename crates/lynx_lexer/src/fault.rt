@@ -5,16 +5,37 @@ ghost use Rattle.lynx_lexer.specs.declared.fault.LexFault.TheVariants as faults;
 
 use std::alloc::{AllocError, AllocFailed};
 
-/// No token and no separator begins with the byte.
-pub const BAD_BYTE: u8 = 1;
-/// A text is not closed.
-pub const OPEN_TEXT: u8 = 2;
-/// A number is above the greatest i64.
-pub const NUMBER_TOO_WIDE: u8 = 3;
-/// A text has more than 64 bytes.
-pub const TEXT_TOO_LONG: u8 = 4;
-/// A name has more than 32 bytes.
-pub const NAME_TOO_LONG: u8 = 5;
+/// What is wrong where no token can be, or where one passes a limit.
+#[derive(Clone, Copy, Debug)]
+pub enum FaultKind {
+    /// No token and no separator begins with the byte.
+    BadByte,
+    /// A text is not closed.
+    OpenText,
+    /// A number is above the greatest i64.
+    NumberTooWide,
+    /// A text has more than 64 bytes.
+    TextTooLong,
+    /// A name has more than 32 bytes.
+    NameTooLong,
+}
+
+impl FaultKind {
+    ghost use Rattle.lynx_lexer.specs.Source.{number_of};
+
+    /// The number by which people know the fault.
+    pub fn number(self) -> u8
+        ensures { result ≡ number_of self }
+    {
+        match self {
+            FaultKind::BadByte => 1,
+            FaultKind::OpenText => 2,
+            FaultKind::NumberTooWide => 3,
+            FaultKind::TextTooLong => 4,
+            FaultKind::NameTooLong => 5,
+        }
+    }
+}
 
 /// Why a source has no tokens within the limits.
 #[derive(Clone, Copy, Debug, PartialEq, Eq)]

@@ -8,17 +8,17 @@ ghost use Rattle.lynx_lexer.specs.Source.{HasFault};
 ghost use Rattle.lynx_lexer.specs.Fronts.{StandsAt, Begins};
 
 use crate::class::Class;
-use crate::fault::{BAD_BYTE, NAME_TOO_LONG, NUMBER_TOO_WIDE, OPEN_TEXT, TEXT_TOO_LONG};
-use crate::ident::Ident;
+use crate::fault::FaultKind;
+use crate::ident::IdentRef;
 use crate::keyword::Keyword;
 use crate::sign::Sign;
-use crate::text::TextLit;
+use crate::text::TextRef;
 use crate::token::Kind;
 
 /// The longest piece at the front of bytes: the kind of token, or None for a separator, and its length.
 #[derive(Drop)]
-pub struct Front {
-    pub kind: Option<Kind>,
+pub struct Front<'a> {
+    pub kind: Option<Kind<'a>>,
     pub length: usize,
 }
 
@@ -84,10 +84,10 @@ fn number(digits: &[u8]) -> Option<i64>
 }
 
 /// The name or keyword at the front.
-fn word_at(bytes: &[u8]) -> Result<Front, u8>
+fn word_at(bytes: &[u8]) -> Result<Front<'_>, FaultKind>
     requires { Begins Letter bytes.now }
     ensures ok { IfOk result (λ front. StandsAt front.kind front.length bytes.now) }
-    ensures err { IfErr result (λ number. HasFault number bytes.now) }
+    ensures err { IfErr result (λ kind. HasFault kind bytes.now) }
 {
     let length = name_length(bytes);
     let word = &bytes[..length];
@@ -97,8 +97,8 @@ fn word_at(bytes: &[u8]) -> Result<Front, u8>
             length,
         });
     }
-    let Some(name) = Ident::from_slice(word) else {
-        return Err(NAME_TOO_LONG);
+    let Some(name) = IdentRef::from_slice(word) else {
+        return Err(FaultKind::NameTooLong);
     };
     Ok(Front {
         kind: Some(Kind::Name(name)),
@@ -107,14 +107,14 @@ fn word_at(bytes: &[u8]) -> Result<Front, u8>
 }
 
 /// The number at the front.
-fn number_at(bytes: &[u8]) -> Result<Front, u8>
+fn number_at(bytes: &[u8]) -> Result<Front<'_>, FaultKind>
     requires { Begins Digit bytes.now }
     ensures ok { IfOk result (λ front. StandsAt front.kind front.length bytes.now) }
-    ensures err { IfErr result (λ number. HasFault number bytes.now) }
+    ensures err { IfErr result (λ kind. HasFault kind bytes.now) }
 {
     let length = digits_length(bytes);
     let Some(value) = number(&bytes[..length]) else {
-        return Err(NUMBER_TOO_WIDE);
+        return Err(FaultKind::NumberTooWide);
     };
     Ok(Front {
         kind: Some(Kind::Number(value)),
@@ -131,18 +131,18 @@ pub fn behind(bytes: &[u8], n: usize) -> &[u8]
 }
 
 /// The text at the front.
-fn text_at(bytes: &[u8]) -> Result<Front, u8>
+fn text_at(bytes: &[u8]) -> Result<Front<'_>, FaultKind>
     requires { Begins Quote bytes.now }
     ensures ok { IfOk result (λ front. StandsAt front.kind front.length bytes.now) }
-    ensures err { IfErr result (λ number. HasFault number bytes.now) }
+    ensures err { IfErr result (λ kind. HasFault kind bytes.now) }
 {
     let rest = behind(bytes, 1);
     let length = text_length(rest);
     if length == rest.len() || rest[length] != b'\'' {
-        return Err(OPEN_TEXT);
+        return Err(FaultKind::OpenText);
     }
-    let Some(inside) = TextLit::from_slice(&rest[..length]) else {
-        return Err(TEXT_TOO_LONG);
+    let Some(inside) = TextRef::from_slice(&rest[..length]) else {
+        return Err(FaultKind::TextTooLong);
     };
     Ok(Front {
         kind: Some(Kind::Text(inside)),
@@ -151,10 +151,10 @@ fn text_at(bytes: &[u8]) -> Result<Front, u8>
 }
 
 /// The comment or sign at the front.
-fn mark_at(bytes: &[u8]) -> Result<Front, u8>
+fn mark_at(bytes: &[u8]) -> Result<Front<'_>, FaultKind>
     requires { Begins Other bytes.now }
     ensures ok { IfOk result (λ front. StandsAt front.kind front.length bytes.now) }
-    ensures err { IfErr result (λ number. HasFault number bytes.now) }
+    ensures err { IfErr result (λ kind. HasFault kind bytes.now) }
 {
     if bytes.starts_with(b"--") {
         return Ok(Front {
@@ -163,7 +163,7 @@ fn mark_at(bytes: &[u8]) -> Result<Front, u8>
         });
     }
     let Some(sign) = Sign::at_front(bytes) else {
-        return Err(BAD_BYTE);
+        return Err(FaultKind::BadByte);
     };
     Ok(Front {
         kind: Some(Kind::Sign(sign)),
@@ -171,11 +171,11 @@ fn mark_at(bytes: &[u8]) -> Result<Front, u8>
     })
 }
 
-/// The longest piece at the front, or the number of the fault there.
-pub fn front_at(bytes: &[u8]) -> Result<Front, u8>
+/// The longest piece at the front, or the fault there.
+pub fn front_at(bytes: &[u8]) -> Result<Front<'_>, FaultKind>
     requires { 0 < length bytes.now }
     ensures ok { IfOk result (λ front. StandsAt front.kind front.length bytes.now) }
-    ensures err { IfErr result (λ number. HasFault number bytes.now) }
+    ensures err { IfErr result (λ kind. HasFault kind bytes.now) }
 {
     match Class::from_byte(bytes[0]) {
         Class::Blank => Ok(Front {
@@ -186,6 +186,6 @@ pub fn front_at(bytes: &[u8]) -> Result<Front, u8>
         Class::Digit => number_at(bytes),
         Class::Quote => text_at(bytes),
         Class::Other => mark_at(bytes),
-        Class::Underscore => Err(BAD_BYTE),
+        Class::Underscore => Err(FaultKind::BadByte),
     }
 }

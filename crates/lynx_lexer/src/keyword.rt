@@ -1,8 +1,9 @@
 //! The keywords.
 
-ghost use Rattle.std.specs.Prelude.{◌≡◌, ◌≢◌, IfSome, IfNone};
+ghost use Rattle.std.specs.Prelude.{◌≡◌, ◌≢◌, ◌≤◌, ◌<◌, ◌↔◌, length, Some, IsTrue, IfSome, IfNone};
 ghost use Rattle.lynx_lexer.specs.declared.keyword.Keyword.{Keyword};
 ghost use Rattle.lynx_lexer.specs.Words.{word_of};
+ghost use Rattle.lynx_lexer.specs.Slots.{slot_of, keyword_at};
 
 /// A keyword: a word of the grammar in lower case, which is no name.
 #[derive(Clone, Copy, Debug, PartialEq, Eq)]
@@ -103,48 +104,85 @@ impl Keyword {
         ensures found { IfSome result (λ keyword. word.now ≡ word_of keyword) }
         ensures none { IfNone result ((keyword : Keyword) → word.now ≢ word_of keyword) }
     {
-        match word {
-            b"module" => Some(Keyword::Module),
-            b"begin" => Some(Keyword::Begin),
-            b"end" => Some(Keyword::End),
-            b"op" => Some(Keyword::Op),
-            b"param" => Some(Keyword::Param),
-            b"var" => Some(Keyword::Var),
-            b"entry" => Some(Keyword::Entry),
-            b"of" => Some(Keyword::Of),
-            b"int" => Some(Keyword::Int),
-            b"bool" => Some(Keyword::Bool),
-            b"text" => Some(Keyword::Text),
-            b"link" => Some(Keyword::Link),
-            b"row" => Some(Keyword::Row),
-            b"if" => Some(Keyword::If),
-            b"then" => Some(Keyword::Then),
-            b"else" => Some(Keyword::Else),
-            b"while" => Some(Keyword::While),
-            b"do" => Some(Keyword::Do),
-            b"write" => Some(Keyword::Write),
-            b"await" => Some(Keyword::Await),
-            b"stop" => Some(Keyword::Stop),
-            b"raise" => Some(Keyword::Raise),
-            b"new" => Some(Keyword::New),
-            b"destroy" => Some(Keyword::Destroy),
-            b"bind" => Some(Keyword::Bind),
-            b"to" => Some(Keyword::To),
-            b"unbind" => Some(Keyword::Unbind),
-            b"from" => Some(Keyword::From),
-            b"connect" => Some(Keyword::Connect),
-            b"on" => Some(Keyword::On),
-            b"accept" => Some(Keyword::Accept),
-            b"reply" => Some(Keyword::Reply),
-            b"try" => Some(Keyword::Try),
-            b"when" => Some(Keyword::When),
-            b"or" => Some(Keyword::Or),
-            b"and" => Some(Keyword::And),
-            b"mod" => Some(Keyword::Mod),
-            b"not" => Some(Keyword::Not),
-            b"true" => Some(Keyword::True),
-            b"false" => Some(Keyword::False),
-            _ => None,
+        let keyword = candidate(word)?;
+        if !keyword.spells(word) {
+            return None;
         }
+        Some(keyword)
+    }
+
+    fn spells(self, word: &[u8]) -> bool
+        ensures { IsTrue result ↔ (word.now ≡ word_of self) }
+    {
+        self.as_slice() == word
+    }
+}
+
+/// The only keyword that the word can be.
+fn candidate(word: &[u8]) -> Option<Keyword>
+    ensures { (keyword : Keyword) → word.now ≡ word_of keyword → result ≡ Some keyword }
+{
+    if word.len() < 2 || word.len() > 7 {
+        return None;
+    }
+    keyword_at(slot(word))
+}
+
+/// A perfect hash of keywords, by the first two bytes and the length.
+fn slot(word: &[u8]) -> usize
+    requires { 2 ≤ length word.now × length word.now ≤ 7 }
+    ensures value { result ≡ slot_of word.now }
+    ensures fits { result < 128 }
+{
+    (usize::from(word[0]) + 6 * usize::from(word[1]) + 4 * word.len()) % 128
+}
+
+/// The keyword whose spelling has the slot.
+#[tactic(auto, unfolding(crate::specs::Slots::keyword_at))]
+fn keyword_at(slot: usize) -> Option<Keyword>
+    ensures { result ≡ keyword_at slot }
+{
+    match slot {
+        1 => Some(Keyword::And),
+        5 => Some(Keyword::End),
+        6 => Some(Keyword::Do),
+        9 => Some(Keyword::Int),
+        11 => Some(Keyword::On),
+        12 => Some(Keyword::Bool),
+        13 => Some(Keyword::Entry),
+        19 => Some(Keyword::Mod),
+        20 => Some(Keyword::Not),
+        22 => Some(Keyword::To),
+        23 => Some(Keyword::Op),
+        24 => Some(Keyword::Row),
+        25 => Some(Keyword::Connect),
+        31 => Some(Keyword::Module),
+        33 => Some(Keyword::Unbind),
+        34 => Some(Keyword::From),
+        35 => Some(Keyword::Or),
+        44 => Some(Keyword::Try),
+        48 => Some(Keyword::True),
+        55 => Some(Keyword::Write),
+        59 => Some(Keyword::Stop),
+        63 => Some(Keyword::Await),
+        64 => Some(Keyword::False),
+        72 => Some(Keyword::Var),
+        74 => Some(Keyword::Param),
+        75 => Some(Keyword::Accept),
+        76 => Some(Keyword::Raise),
+        84 => Some(Keyword::Begin),
+        85 => Some(Keyword::If),
+        88 => Some(Keyword::New),
+        91 => Some(Keyword::Of),
+        94 => Some(Keyword::Destroy),
+        98 => Some(Keyword::Text),
+        100 => Some(Keyword::Reply),
+        104 => Some(Keyword::Bind),
+        114 => Some(Keyword::Link),
+        116 => Some(Keyword::Then),
+        119 => Some(Keyword::When),
+        123 => Some(Keyword::While),
+        125 => Some(Keyword::Else),
+        _ => None,
     }
 }

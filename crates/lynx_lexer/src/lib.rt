@@ -14,14 +14,11 @@ mod text;
 mod token;
 
 pub use fault::LexFault;
-pub use ident::Ident;
+pub use ident::{Ident, IdentRef};
 pub use keyword::Keyword;
 pub use law::one_list;
 pub use memory::NoMemory;
 pub use reading::tokens;
 pub use sign::Sign;
-pub use text::TextLit;
+pub use text::{TextLit, TextRef};
 pub use token::{Kind, Token};
-
-#[cfg(test)]
-mod tests;

@@ -1,6 +1,7 @@
 //! The tokens of a source.
 
 ghost use Rattle.std.specs.Prelude.{◌≡◌, ℕ, ◌<◌, ◌≤◌, ◌++◌, List, length, IfOk, IfErr, OnOk};
+ghost use Rattle.lynx_lexer.specs.declared.fault.FaultKind.{FaultKind};
 ghost use Rattle.lynx_lexer.specs.declared.token.Token.{Token};
 ghost use Rattle.lynx_lexer.specs.Source.{Spell, AreWithinLimits, IsFirstFault, token_at};
 ghost use Rattle.lynx_lexer.specs.Answers.{GivesTokens, GivesFault, IsFaultOf};
@@ -11,13 +12,13 @@ use crate::token::{Kind, Token};
 use std::alloc::{AllocError, Global};
 
 /// Adds the token of a piece, if it is one.
-fn push_kind(
-    tokens: &mut Vec<Token>,
-    kind: Option<Kind>,
+fn push_kind<'a>(
+    tokens: &mut Vec<Token<'a>>,
+    kind: Option<Kind<'a>>,
     from: u32,
     to: u32,
 ) -> Result<(), AllocError>
-    ensures { OnOk result (tokens.new.items ≡ tokens.old.items ++ token_at from to kind) }
+    ensures { OnOk result (tokens.new.items ≡ tokens.old.items ++ token_at from to kind.entry) }
 {
     if let Some(kind) = kind {
         tokens.push(Token { kind, from, to })?;
@@ -25,7 +26,7 @@ fn push_kind(
     Ok(())
 }
 
-fn read(alloc: Global, source: &[u8]) -> Result<Vec<Token>, LexFault>
+fn read(alloc: Global, source: &[u8]) -> Result<Vec<Token<'_>>, LexFault>
     requires { length source.now < 4294967295 }
     ensures found { IfOk result (λ v. Spell v.items source.now × AreWithinLimits v.items) }
     ensures fault { IfErr result (IsFaultOf source.now) }
@@ -35,10 +36,10 @@ fn read(alloc: Global, source: &[u8]) -> Result<Vec<Token>, LexFault>
     while at < source.len() {
         let front = match front_at(behind(source, at)) {
             Ok(front) => front,
-            Err(no) => {
+            Err(kind) => {
                 return Err(LexFault::At {
                     place: at as u32,
-                    no,
+                    no: kind.number(),
                 });
             }
         };
@@ -53,7 +54,7 @@ fn read(alloc: Global, source: &[u8]) -> Result<Vec<Token>, LexFault>
 ///
 /// A token is as long as possible. Blanks, tabs, line feeds, carriage returns and comments, from `--` to
 /// the line's end, separate tokens.
-pub fn tokens(alloc: Global, source: &[u8]) -> Result<Vec<Token>, LexFault>
+pub fn tokens(alloc: Global, source: &[u8]) -> Result<Vec<Token<'_>>, LexFault>
     requires { length source.now < 4294967295 }
 
     // The tokens spell the source, each within its limit, and such a list is given.
@@ -62,7 +63,7 @@ pub fn tokens(alloc: Global, source: &[u8]) -> Result<Vec<Token>, LexFault>
 
     // The fault is the first of the source, and such a fault is given.
     ensures fault { IfErr result (IsFaultOf source.now) }
-    ensures only_fault { (place number : ℕ) → IsFirstFault place number source.now → GivesFault place number result }
+    ensures only_fault { (place : ℕ) (kind : FaultKind) → IsFirstFault place kind source.now → GivesFault place kind result }
 {
     read(alloc, source)
 }

@@ -1,72 +1,88 @@
--- A source has one reading.
-use Rattle.std.proofs.Common.{◌≡◌, ℕ, List, Result, Ok, Err, sym, ap, subst, ◌∙◌}
-use Rattle.lynx_lexer.specs.Source.{IsFirstFault}
+-- A source has one reading, stage by stage.
+use Rattle.std.proofs.Common.{◌≡◌, ℕ, ◌<◌, List, length, arith, inl, inr, Result, Ok, Err, refl, sym, ap, subst, ◌∙◌}
+use Rattle.std.specs.Prelude.{◌≢◌}
+use Rattle.std.proofs.lemmas.List.{length-map}
+use Rattle.std.specs.List.{AllByRecursion}
+use Rattle.lynx_lexer.specs.Source.{Spell, IsFirstFault, number_of}
+use Rattle.lynx_lexer.specs.declared.fault.FaultKind.{FaultKind}
 use Rattle.lynx_lexer.specs.declared.fault.LexFault.TheVariants as lex
 use Rattle.lynx_lexer.specs.declared.token.Token.{Token}
 use Rattle.lynx_lexer.proofs.Cuts.{one_spelling}
 use Rattle.lynx_lexer.proofs.Faults.{gives_tokens, gives_fault}
-use Rattle.lynx_syntax.specs.Answers.{kinds, IsTreeOf}
-use Rattle.lynx_syntax.specs.Faults.{LeavesGrammar, IsTooDeep}
-use Rattle.lynx_syntax.specs.Trees.{ModuleTree}
-use Rattle.lynx_syntax.proofs.Laws.{one_tree_only}
-use Rattle.lynx_syntax.proofs.Exact.{same_place, same_depth, no_tree, no_tree_deep}
+use Rattle.lynx_tree.specs.Answers.{kinds}
+use Rattle.lynx_tree.specs.Faults.{IsNested}
+use Rattle.lynx_tree.specs.Grammar.{HasTokens, kinds_of, module_marks}
+use Rattle.lynx_tree.specs.Printing.{IsPrintable, printed}
+use Rattle.lynx_tree.specs.Trees.{ModuleTree}
+use Rattle.lynx_grammar.proofs.Laws.{one_tree_only}
+use Rattle.lynx_grammar.proofs.Exact.{same_place, same_depth, no_tree, no_tree_deep}
+use Rattle.lynx_parser.proofs.Lengths.{tokens_fit}
+use Rattle.lynx_printer.proofs.Spelled.{spelled}
 use Rattle.lynx_source.specs.Places.{place_of}
-use Rattle.lynx_source.specs.Sources.{AreTokensOf, first_byte, IsReadAs, IsAnswered}
+use Rattle.lynx_source.specs.Sources.{AreTokensOf, token_place, IsLexedAs, IsParsedAs, IsReadAs}
+use Rattle.lynx_source.specs.Stages.{Then, HasOne}
 use Rattle.lynx_source.specs.declared.fault.SourceFault.{SourceFault}
 use Rattle.lynx_source.specs.declared.fault.SourceFault.TheVariants.{Lex, Syntax, Deep, NoMemory}
 
--- a source with tokens has no lexical fault
-not_both : (source : List ℕ) (tokens : List Token) (byte number : ℕ) → AreTokensOf source tokens → IsFirstFault byte number source → ⊥
-not_both source tokens byte number are fault = gives_tokens source tokens (Err (lex.At byte number)) tt fault are.0 are.1
+-- ---- stages one after another
 
-same_tokens : (source : List ℕ) (a b : List Token) → AreTokensOf source a → AreTokensOf source b → a ≡ b
-same_tokens source a b h g = one_spelling source a b h.0 g.0
+ok_is : {A : Type 0} (a b : A) (x y : Result A SourceFault) → x ≡ Ok a → y ≡ Ok b → x ≡ y → a ≡ b
+ok_is a b x y is are same = cc
 
-same_start : (source : List ℕ) (a b : List Token) (m n : ℕ) → a ≡ b → m ≡ n → place_of source (first_byte source a m) ≡ place_of source (first_byte source b n)
-same_start source a b m n e f = λ i. place_of source (first_byte source (e i) (f i))
+err_is : {A : Type 0} (e f : SourceFault) (x y : Result A SourceFault) → x ≡ Err e → y ≡ Err f → x ≡ y → e ≡ f
+err_is e f x y is are same = cc
 
-pub one_reading : (source : List ℕ) (a b : Result ModuleTree SourceFault) → IsReadAs source a → IsAnswered a → IsReadAs source b → IsAnswered b → a ≡ b
-one_reading source (Ok m) (Ok n) h _ g _ =
-    let same = same_tokens source h.0 g.0 h.1 g.1 in
-    ap Ok (one_tree_only (kinds g.0) m n (subst (λ (ts : List Token). IsTreeOf (kinds ts) m) same h.2).0 g.2.0)
-one_reading source (Ok m) (Err (Lex at number)) h _ g _ = absurd (not_both source h.0 g.0 number h.1 g.1)
-one_reading source (Ok m) (Err (Syntax at)) h _ g _ =
-    let same = same_tokens source h.0 g.0 h.1 g.1 in
-    absurd (no_tree (kinds g.0) g.2 m (subst (λ (ts : List Token). IsTreeOf (kinds ts) m) same h.2) g.3)
-one_reading source (Ok m) (Err (Deep at)) h _ g _ =
-    let same = same_tokens source h.0 g.0 h.1 g.1 in
-    absurd (no_tree_deep (kinds g.0) g.2 m (subst (λ (ts : List Token). IsTreeOf (kinds ts) m) same h.2) g.3)
-one_reading source (Err (Lex at number)) (Ok m) h _ g _ = absurd (not_both source g.0 h.0 number g.1 h.1)
-one_reading source (Err (Lex at number)) (Err (Lex by other)) h _ g _ =
-    let same = gives_fault source g.0 other (Err (lex.At h.0 number)) tt h.1 g.1 in
-    let places : at ≡ by = h.2 ∙ ap (place_of source) same.0 ∙ sym g.2 in
-    λ i. Err (Lex (places i) (same.1 i))
-one_reading source (Err (Lex at number)) (Err (Syntax by)) h _ g _ = absurd (not_both source g.0 h.0 number g.1 h.1)
-one_reading source (Err (Lex at number)) (Err (Deep by)) h _ g _ = absurd (not_both source g.0 h.0 number g.1 h.1)
-one_reading source (Err (Syntax at)) (Ok m) h _ g _ =
-    let same = same_tokens source g.0 h.0 g.1 h.1 in
-    absurd (no_tree (kinds h.0) h.2 m (subst (λ (ts : List Token). IsTreeOf (kinds ts) m) same g.2) h.3)
-one_reading source (Err (Syntax at)) (Err (Lex by number)) h _ g _ = absurd (not_both source h.0 g.0 number h.1 g.1)
-one_reading source (Err (Syntax at)) (Err (Syntax by)) h _ g _ =
-    let same = same_tokens source h.0 g.0 h.1 g.1 in
-    let token = same_place (kinds g.0) h.2 g.2 (subst (λ (ts : List Token). LeavesGrammar h.2 (kinds ts)) same h.3) g.3 in
-    ap (λ p. Err (Syntax p)) (h.5 ∙ same_start source h.0 g.0 h.2 g.2 same token ∙ sym g.5)
-one_reading source (Err (Syntax at)) (Err (Deep by)) h _ g _ =
-    let same = same_tokens source g.0 h.0 g.1 h.1 in
-    absurd (h.4 g.2 (subst (λ (ts : List Token). IsTooDeep g.2 (kinds ts)) same g.3))
-one_reading source (Err (Deep at)) (Ok m) h _ g _ =
-    let same = same_tokens source g.0 h.0 g.1 h.1 in
-    absurd (no_tree_deep (kinds h.0) h.2 m (subst (λ (ts : List Token). IsTreeOf (kinds ts) m) same g.2) h.3)
-one_reading source (Err (Deep at)) (Err (Lex by number)) h _ g _ = absurd (not_both source h.0 g.0 number h.1 g.1)
-one_reading source (Err (Deep at)) (Err (Syntax by)) h _ g _ =
-    let same = same_tokens source h.0 g.0 h.1 g.1 in
-    absurd (g.4 h.2 (subst (λ (ts : List Token). IsTooDeep h.2 (kinds ts)) same h.3))
-one_reading source (Err (Deep at)) (Err (Deep by)) h _ g _ =
-    let same = same_tokens source h.0 g.0 h.1 g.1 in
-    let token = same_depth (kinds g.0) h.2 g.2 (subst (λ (ts : List Token). IsTooDeep h.2 (kinds ts)) same h.3) g.3 in
-    ap (λ p. Err (Deep p)) (h.4 ∙ same_start source h.0 g.0 h.2 g.2 same token ∙ sym g.4)
-one_reading source (Ok m) (Err NoMemory) h _ g none = absurd none
-one_reading source (Err (Lex at number)) (Err NoMemory) h _ g none = absurd none
-one_reading source (Err (Syntax at)) (Err NoMemory) h _ g none = absurd none
-one_reading source (Err (Deep at)) (Err NoMemory) h _ g none = absurd none
-one_reading source (Err NoMemory) b h none g _ = absurd none
+not_both : {A : Type 0} (a : A) (f : SourceFault) (x y : Result A SourceFault) → x ≡ Ok a → y ≡ Err f → x ≡ y → ⊥
+not_both a f x y is are same = cc
+
+pub one_then : {A B : Type 0} (first : Result A SourceFault → Type 0) (next : A → Result B SourceFault → Type 0) → HasOne first → ((a : A) → HasOne (next a)) → HasOne (Then first next)
+one_then first next one_first one_next x y (inl h) (inl g) =
+    let same = ok_is h.0 g.0 (Ok h.0) (Ok g.0) refl refl (one_first (Ok h.0) (Ok g.0) h.1 g.1) in
+    one_next g.0 x y (subst (λ a. next a x) same h.2) g.2
+one_then first next one_first one_next x y (inl h) (inr g) = absurd (not_both h.0 g.0 (Ok h.0) (Err g.0) refl refl (one_first (Ok h.0) (Err g.0) h.1 g.1))
+one_then first next one_first one_next x y (inr h) (inl g) = absurd (not_both g.0 h.0 (Ok g.0) (Err h.0) refl refl (one_first (Ok g.0) (Err h.0) g.1 h.1))
+one_then first next one_first one_next x y (inr h) (inr g) = h.2 ∙ ap Err (err_is h.0 g.0 (Err h.0) (Err g.0) refl refl (one_first (Err h.0) (Err g.0) h.1 g.1)) ∙ sym g.2
+
+-- ---- the tokens
+
+no_fault : (source : List ℕ) (tokens : List Token) (byte : ℕ) (kind : FaultKind) → AreTokensOf source tokens → IsFirstFault byte kind source → ⊥
+no_fault source tokens byte kind are fault = gives_tokens source tokens (Err (lex.At byte (number_of kind))) tt (kind, fault, refl) are.0 are.1
+
+pub one_lexing : (source : List ℕ) → HasOne (IsLexedAs source)
+one_lexing source x y (inl h) (inl g) = h.2 ∙ ap Ok (one_spelling source h.0 g.0 h.1.0 g.1.0) ∙ sym g.2
+one_lexing source x y (inl h) (inr g) = absurd (no_fault source h.0 g.0 g.1 h.1 g.2)
+one_lexing source x y (inr h) (inl g) = absurd (no_fault source g.0 h.0 h.1 g.1 h.2)
+one_lexing source x y (inr h) (inr g) =
+    let same = gives_fault source g.0 g.1 (Err (lex.At h.0 (number_of h.1))) tt (h.1, h.2, refl) g.2 in
+    h.3 ∙ (λ i. Err (Lex (place_of source (same.0 i)) (same.1 i))) ∙ sym g.3
+
+-- ---- the grammar and its nesting
+
+pub one_parsing : (source : List ℕ) (tokens : List Token) → HasOne (IsParsedAs source tokens)
+one_parsing source tokens x y (inl h) (inl g) = h.2 ∙ ap Ok (one_tree_only (kinds tokens) h.0 g.0 h.1.0 g.1.0) ∙ sym g.2
+one_parsing source tokens x y (inl h) (inr (inl g)) = absurd (no_tree (kinds tokens) g.0 h.0 h.1 g.1)
+one_parsing source tokens x y (inl h) (inr (inr g)) = absurd (no_tree_deep (kinds tokens) g.0 h.0 h.1 g.1)
+one_parsing source tokens x y (inr (inl h)) (inl g) = absurd (no_tree (kinds tokens) h.0 g.0 g.1 h.1)
+one_parsing source tokens x y (inr (inl h)) (inr (inl g)) =
+    h.3 ∙ ap (λ (token : ℕ). Err (Syntax (token_place source tokens token))) (same_place (kinds tokens) h.0 g.0 h.1 g.1) ∙ sym g.3
+one_parsing source tokens x y (inr (inl h)) (inr (inr g)) = absurd (h.2 g.0 g.1)
+one_parsing source tokens x y (inr (inr h)) (inl g) = absurd (no_tree_deep (kinds tokens) h.0 g.0 g.1 h.1)
+one_parsing source tokens x y (inr (inr h)) (inr (inl g)) = absurd (g.2 h.0 h.1)
+one_parsing source tokens x y (inr (inr h)) (inr (inr g)) =
+    h.2 ∙ ap (λ (token : ℕ). Err (Deep (token_place source tokens token))) (same_depth (kinds tokens) h.0 g.0 h.1 g.1) ∙ sym g.2
+
+-- ---- a source
+
+pub one_reading : (source : List ℕ) (a b : Result ModuleTree SourceFault) → IsReadAs source a → a ≢ Err NoMemory → IsReadAs source b → b ≢ Err NoMemory → a ≡ b
+one_reading source a b (inl h) _ (inl g) _ = one_then (IsLexedAs source) (IsParsedAs source) (one_lexing source) (one_parsing source) a b h g
+one_reading source a b (inr h) some g _ = absurd (some h)
+one_reading source a b (inl h) _ (inr g) some = absurd (some g)
+
+pub printed_is_read : (m : ModuleTree) → HasTokens m → AllByRecursion IsPrintable (kinds_of m) → IsNested (module_marks m) → IsReadAs (printed (kinds_of m)) (Ok m)
+printed_is_read m has printable nested =
+    let s = spelled (kinds_of m) (printed (kinds_of m)) printable refl in
+    inl (inl (s.0, inl (s.0, (s.1, s.2), refl), inl (m, ((has, s.3), nested), refl)))
+
+-- a tree has no more tokens than its source has bytes
+pub few_tokens : (source : List ℕ) (tokens : List Token) (m : ModuleTree) → Spell tokens source → kinds tokens ≡ kinds_of m → length source < 4294967295 → length (kinds_of m) < 4294967295
+few_tokens source tokens m s are fits = omega (arith, tokens_fit tokens source s, ap length are, length-map tokens (λ (t : Token). t.kind))

@@ -1,12 +1,16 @@
 -- What a source is read as: the tree of a module, or the first fault with its place.
-use Rattle.std.specs.Prelude.{◌≡◌, ℕ, List, length, Result, Ok, Err, ⊤, slice_get, option_map, unwrap_or}
-use Rattle.lynx_lexer.specs.Source.{Spell, AreWithinLimits, IsFirstFault}
+use Rattle.std.specs.Prelude.{◌≡◌, ◌⊎◌, ℕ, List, length, Result, Ok, Err, slice_get, option_map, unwrap_or}
+use Rattle.lynx_lexer.specs.Source.{Spell, AreWithinLimits, IsFirstFault, number_of}
+use Rattle.lynx_lexer.specs.declared.fault.FaultKind.{FaultKind}
 use Rattle.lynx_lexer.specs.declared.token.Token.{Token}
-use Rattle.lynx_syntax.specs.Answers.{kinds, IsTreeOf}
-use Rattle.lynx_syntax.specs.Faults.{LeavesGrammar, IsTooDeep, IsNowhereTooDeep}
-use Rattle.lynx_syntax.specs.Trees.{ModuleTree, module_tree}
-use Rattle.lynx_syntax.specs.declared.module.Module.{Module}
+use Rattle.lynx_tree.specs.Answers.{kinds, IsTreeOf}
+use Rattle.lynx_tree.specs.Faults.{LeavesGrammar, IsTooDeep, IsNowhereTooDeep}
+use Rattle.lynx_tree.specs.Trees.{ModuleTree, module_tree}
+use Rattle.lynx_tree.specs.declared.module.Module.{Module}
 use Rattle.lynx_source.specs.Places.{place_of}
+use Rattle.lynx_source.specs.declared.place.Place.{Place}
+use Rattle.lynx_source.specs.Stages.{Then}
+use Rattle.lynx_source.specs.declared.reading.Reading.{Reading}
 use Rattle.lynx_source.specs.declared.fault.SourceFault.{SourceFault}
 use Rattle.lynx_source.specs.declared.fault.SourceFault.TheVariants.{Lex, Syntax, Deep, NoMemory}
 
@@ -18,27 +22,38 @@ AreTokensOf source tokens = Spell tokens source × AreWithinLimits tokens
 abbrev pub first_byte : List ℕ → List Token → ℕ → ℕ
 first_byte source tokens token = unwrap_or (option_map (λ t. t.from) (slice_get tokens token)) (length source)
 
--- A source is read as the tree of its tokens, or as its first fault, which stands at the first byte of its token. A fault of the
--- tokens comes before one of the grammar, and a token at which the list leaves the grammar before nesting behind it. Want of memory
--- comes at any source.
-abbrev pub IsReadAs : List ℕ → Result ModuleTree SourceFault → Type 0
-IsReadAs source (Ok m) = (tokens : List Token) × AreTokensOf source tokens × IsTreeOf (kinds tokens) m
-IsReadAs source (Err (Lex at number)) = (byte : ℕ) × IsFirstFault byte number source × (at ≡ place_of source byte)
-IsReadAs source (Err (Syntax at)) = (tokens : List Token) × AreTokensOf source tokens
-    × (token : ℕ) × LeavesGrammar token (kinds tokens) × IsNowhereTooDeep (kinds tokens) × (at ≡ place_of source (first_byte source tokens token))
-IsReadAs source (Err (Deep at)) = (tokens : List Token) × AreTokensOf source tokens
-    × (token : ℕ) × IsTooDeep token (kinds tokens) × (at ≡ place_of source (first_byte source tokens token))
-IsReadAs source (Err NoMemory) = ⊤
+-- where the token of this number stands
+abbrev pub token_place : List ℕ → List Token → ℕ → Place
+token_place source tokens token = place_of source (first_byte source tokens token)
 
--- it is not want of memory
-abbrev pub IsAnswered : Result ModuleTree SourceFault → Type 0
-IsAnswered (Ok m) = ⊤
-IsAnswered (Err (Lex at number)) = ⊤
-IsAnswered (Err (Syntax at)) = ⊤
-IsAnswered (Err (Deep at)) = ⊤
-IsAnswered (Err NoMemory) = ⊥
+-- the first stage: the tokens of a source, or its first lexical fault, by its number
+abbrev pub IsLexedAs : List ℕ → Result (List Token) SourceFault → Type 0
+IsLexedAs source outcome =
+    ((tokens : List Token) × AreTokensOf source tokens × (outcome ≡ Ok tokens))
+    ⊎ ((byte : ℕ) × (kind : FaultKind) × IsFirstFault byte kind source × (outcome ≡ Err (Lex (place_of source byte) (number_of kind))))
+
+-- the second stage: the tree of the tokens, or the token at which they leave the grammar, or the one that opens too much before that
+abbrev pub IsParsedAs : List ℕ → List Token → Result ModuleTree SourceFault → Type 0
+IsParsedAs source tokens outcome =
+    ((m : ModuleTree) × IsTreeOf (kinds tokens) m × (outcome ≡ Ok m))
+    ⊎ ((token : ℕ) × LeavesGrammar token (kinds tokens) × IsNowhereTooDeep (kinds tokens) × (outcome ≡ Err (Syntax (token_place source tokens token))))
+    ⊎ ((token : ℕ) × IsTooDeep token (kinds tokens) × (outcome ≡ Err (Deep (token_place source tokens token))))
+
+-- A source is read as the tree of its tokens, or as its first fault. Typing rules, and then the length of the code, are further stages
+-- behind these.
+abbrev pub Reads : List ℕ → Result ModuleTree SourceFault → Type 0
+Reads source = Then (IsLexedAs source) (IsParsedAs source)
+
+-- the same, or want of memory, which comes at any source
+abbrev pub IsReadAs : List ℕ → Result ModuleTree SourceFault → Type 0
+IsReadAs source outcome = Reads source outcome ⊎ (outcome ≡ Err NoMemory)
 
 -- a module as its tree
 abbrev pub reading_of : Result Module SourceFault → Result ModuleTree SourceFault
 reading_of (Ok m) = Ok (module_tree m)
 reading_of (Err fault) = Err fault
+
+-- a module with its tokens as its tree
+abbrev pub source_reading : Result Reading SourceFault → Result ModuleTree SourceFault
+source_reading (Ok r) = Ok (module_tree r.module)
+source_reading (Err fault) = Err fault

@@ -2,7 +2,7 @@
 
 use crate::place::Place;
 
-/// Why a source is no module, and where.
+/// Why a source is no module, and where. A fault of an earlier stage comes first: tokens, grammar and nesting, typing rules, code.
 #[derive(Clone, Copy, Debug, PartialEq, Eq)]
 pub enum SourceFault {
     /// The first lexical fault, with its number; it stands at the first byte of its token. 1: no token and no separator
@@ -13,6 +13,10 @@ pub enum SourceFault {
     Syntax { at: Place },
     /// The token that would open a 65th bracket or statement.
     Deep { at: Place },
+    /// The least typing rule, 1 to 24, that fails at the first place where one does. No call gives it yet: typing is not built.
+    Rule { at: Place, rule: u8 },
+    /// The code has more than 65,535 instructions. No call gives it yet: code is not made.
+    CodeTooLong,
     /// There was not memory enough.
     NoMemory,
 }

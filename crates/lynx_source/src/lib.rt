@@ -7,9 +7,6 @@ mod place;
 mod reading;
 
 pub use fault::SourceFault;
-pub use law::one_reading;
+pub use law::{one_reading, printed_is_read};
 pub use place::Place;
-pub use reading::read_module;
-
-#[cfg(test)]
-mod tests;
+pub use reading::{Reading, read_module, read_source, token_place};

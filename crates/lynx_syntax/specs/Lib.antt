@@ -1,10 +1,5 @@
-pub mod Faults
-pub mod Grammar
-pub mod Printing
-pub mod Trees
-pub mod Reading
-pub mod ReadingExpressions
-pub mod ReadingLists
-pub mod ReadingStatements
-pub mod ReadingModules
-pub mod Answers
+pub use Rattle.lynx_tree.specs.Trees
+pub use Rattle.lynx_tree.specs.Grammar
+pub use Rattle.lynx_tree.specs.Faults
+pub use Rattle.lynx_tree.specs.Printing
+pub use Rattle.lynx_tree.specs.Answers

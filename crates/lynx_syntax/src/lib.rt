@@ -1,36 +1,9 @@
-//! Trees of LYNX modules: tokens are parsed into the one tree of the grammar, and a tree is printed.
+//! The syntax of LYNX modules: `parse` reads tokens as the one tree of the grammar, `print` gives a tree's text.
 #![tactic(auto)]
 
-mod declaration;
-mod expression;
-mod fault;
-mod law;
-mod make_expression;
-mod make_statement;
-mod module;
-mod parsing;
-mod print_declaration;
-mod print_expression;
-mod print_list;
-mod print_statement;
-mod print_token;
-mod printing;
-mod read_expression;
-mod read_list;
-mod read_module;
-mod read_statement;
-mod reader;
-mod refusal;
-mod statement;
-
-pub use declaration::{EntryDecl, OpDecl, TypeName, VarDecl};
-pub use expression::{Expr, TermSign};
-pub use fault::SyntaxFault;
-pub use law::one_tree;
-pub use module::Module;
-pub use parsing::parse;
-pub use printing::print;
-pub use statement::{Handler, Stmt};
-
-#[cfg(test)]
-mod tests;
+pub use lynx_grammar::one_tree;
+pub use lynx_parser::parse;
+pub use lynx_printer::print;
+pub use lynx_tree::{
+    EntryDecl, Expr, Handler, Module, OpDecl, Stmt, SyntaxFault, TermSign, TypeName, VarDecl,
+};

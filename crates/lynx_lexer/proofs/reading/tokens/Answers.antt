@@ -5,4 +5,4 @@ pub returns-clause-only : goal.returns-clause-only
 returns-clause-only c tokens spelled within = gives_tokens c.args.source.now tokens c.read.result c.read.ensures.found c.read.ensures.fault spelled within
 
 pub returns-clause-only_fault : goal.returns-clause-only_fault
-returns-clause-only_fault c place number first = gives_fault c.args.source.now place number c.read.result c.read.ensures.found c.read.ensures.fault first
+returns-clause-only_fault c place kind first = gives_fault c.args.source.now place kind c.read.result c.read.ensures.found c.read.ensures.fault first

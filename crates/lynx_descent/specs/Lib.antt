@@ -1,0 +1,5 @@
+pub mod Reading
+pub mod ReadingExpressions
+pub mod ReadingLists
+pub mod ReadingStatements
+pub mod ReadingModules

@@ -1,0 +1,14 @@
+pub mod Guard
+pub mod FindExpressions
+pub mod FindLists
+pub mod FindStatements
+pub mod FindModules
+pub mod Laws
+pub mod Locality
+pub mod LocalityTokens
+pub mod LocalityExpressions
+pub mod LocalityLists
+pub mod LocalityStatements
+pub mod LocalityModules
+pub mod Answered
+pub mod Exact

@@ -1,0 +1,74 @@
+-- The trees of values that are made of their parts.
+use Rattle.std.proofs.Common.{◌≡◌, ℕ, ◌<◌, List, [], ◌∷◌, length, map, option_map, Option, Some, None, refl, sym, ap, ◌∙◌, arith, rules}
+use Rattle.std.specs.Global.{Vec, Box}
+use Rattle.lynx_lexer.specs.declared.sign.Sign.{Sign}
+use Rattle.lynx_tree.specs.declared.expression.Expr as expr
+use Rattle.lynx_tree.specs.declared.expression.Expr.TheViews.{the_lemmas}
+use Rattle.lynx_tree.specs.declared.expression.TermSign.{TermSign}
+use Rattle.lynx_tree.specs.Trees as trees
+use Rattle.lynx_tree.specs.Trees.{ExprTree, expr_tree, boxed_tree, expr_list, sum_list, term_list}
+use Rattle.lynx_descent.specs.ReadingExpressions.{exprs_of, sums_of, terms_of, sum_of, term_of, named_of}
+use Rattle.lynx_tree.proofs.Views.{expr_tree-Or, expr_tree-And, expr_tree-Sum, expr_tree-Term}
+
+pub exprs_listed : (es : List expr.Expr) → expr_list es ≡ exprs_of (map expr_tree es)
+exprs_listed [] = refl
+exprs_listed (e ∷ es) = ap (trees.more_exprs (expr_tree e)) (exprs_listed es)
+
+sums_listed : (ms : List (Sign × expr.Expr)) → sum_list ms ≡ sums_of (map (λ m. (m.0, expr_tree m.1)) ms)
+sums_listed [] = refl
+sums_listed (m ∷ ms) = ap (trees.more_sums m.0 (expr_tree m.1)) (sums_listed ms)
+
+terms_listed : (ms : List (TermSign × expr.Expr)) → term_list ms ≡ terms_of (map (λ m. (m.0, expr_tree m.1)) ms)
+terms_listed [] = refl
+terms_listed (m ∷ ms) = ap (trees.more_terms m.0 (expr_tree m.1)) (terms_listed ms)
+
+pub made_or : (v : Vec expr.Expr) → expr_tree (expr.Or v) ≡ trees.Or (exprs_of (map expr_tree v.items))
+made_or v = expr_tree-Or v ∙ ap trees.Or (exprs_listed v.items)
+
+pub made_and : (v : Vec expr.Expr) → expr_tree (expr.And v) ≡ trees.And (exprs_of (map expr_tree v.items))
+made_and v = expr_tree-And v ∙ ap trees.And (exprs_listed v.items)
+
+pub made_relation : (first second : Box expr.Expr) (sign : Sign) → expr_tree (expr.Relation first sign second) ≡ trees.Relation (expr_tree first.value) sign (expr_tree second.value)
+made_relation first second sign = search (rules, the_lemmas)
+
+pub made_minus : (inner : Box expr.Expr) → expr_tree (expr.Minus inner) ≡ trees.Minus (expr_tree inner.value)
+made_minus inner = search (rules, the_lemmas)
+
+pub made_not : (inner : Box expr.Expr) → expr_tree (expr.Not inner) ≡ trees.Not (expr_tree inner.value)
+made_not inner = search (rules, the_lemmas)
+
+pub made_bracket : (inner : Box expr.Expr) → expr_tree (expr.Bracket inner) ≡ trees.Bracket (expr_tree inner.value)
+made_bracket inner = search (rules, the_lemmas)
+
+pub made_name : (n : List ℕ) → expr_tree (expr.Name n None) ≡ trees.Name n
+made_name n = search (rules, the_lemmas)
+
+pub made_member : (n : List ℕ) (index : Box expr.Expr) → expr_tree (expr.Name n (Some index)) ≡ trees.Member n (expr_tree index.value)
+made_member n index = search (rules, the_lemmas)
+
+pub made_named : (n : List ℕ) (index : Option (Box expr.Expr)) → expr_tree (expr.Name n index) ≡ named_of n (option_map boxed_tree index)
+made_named n None = made_name n
+made_named n (Some index) = made_member n index
+
+pub made_sum : (first : Box expr.Expr) (v : Vec (Sign × expr.Expr)) → expr_tree (expr.Sum first v) ≡ trees.Sum (expr_tree first.value) (sums_of (map (λ m. (m.0, expr_tree m.1)) v.items))
+made_sum first v = expr_tree-Sum first v ∙ ap (trees.Sum (expr_tree first.value)) (sums_listed v.items)
+
+pub made_term : (first : Box expr.Expr) (v : Vec (TermSign × expr.Expr)) → expr_tree (expr.Term first v) ≡ trees.Term (expr_tree first.value) (terms_of (map (λ m. (m.0, expr_tree m.1)) v.items))
+made_term first v = expr_tree-Term first v ∙ ap (trees.Term (expr_tree first.value)) (terms_listed v.items)
+
+-- a chain that has members behind the first
+sum_more : (x : ExprTree) (ms : List (Sign × expr.Expr)) → 0 < length ms → sum_of x (map (λ m. (m.0, expr_tree m.1)) ms) ≡ trees.Sum x (sums_of (map (λ m. (m.0, expr_tree m.1)) ms))
+sum_more x [] some = absurd (omega arith)
+sum_more x (m ∷ ms) some = refl
+
+term_more : (x : ExprTree) (ms : List (TermSign × expr.Expr)) → 0 < length ms → term_of x (map (λ m. (m.0, expr_tree m.1)) ms) ≡ trees.Term x (terms_of (map (λ m. (m.0, expr_tree m.1)) ms))
+term_more x [] some = absurd (omega arith)
+term_more x (m ∷ ms) some = refl
+
+pub sum_made : (first : Box expr.Expr) (x : expr.Expr) (v : Vec (Sign × expr.Expr)) → first.value ≡ x → 0 < length v.items → expr_tree (expr.Sum first v) ≡ sum_of (expr_tree x) (map (λ m. (m.0, expr_tree m.1)) v.items)
+sum_made first x v is some = made_sum first v ∙ ap (λ (y : expr.Expr). trees.Sum (expr_tree y) (sums_of (map (λ m. (m.0, expr_tree m.1)) v.items))) is ∙ sym (sum_more (expr_tree x) v.items some)
+
+pub term_made : (first : Box expr.Expr) (x : expr.Expr) (v : Vec (TermSign × expr.Expr)) → first.value ≡ x → 0 < length v.items → expr_tree (expr.Term first v) ≡ term_of (expr_tree x) (map (λ m. (m.0, expr_tree m.1)) v.items)
+term_made first x v is some = made_term first v ∙ ap (λ (y : expr.Expr). trees.Term (expr_tree y) (terms_of (map (λ m. (m.0, expr_tree m.1)) v.items))) is ∙ sym (term_more (expr_tree x) v.items some)
+
+pub ruleset made = (made_or, made_and, made_relation, made_minus, made_not, made_bracket, made_named, made_sum, made_term)

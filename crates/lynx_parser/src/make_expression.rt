@@ -1,0 +1,102 @@
+//! Expressions made of their parts.
+
+ghost use Rattle.std.specs.Prelude.{◌≡◌, ℕ, [], ◌∷◌, map, option_map, Option, IfOk};
+ghost use Rattle.lynx_tree.specs.Trees as trees;
+ghost use Rattle.lynx_tree.specs.Trees.{expr_tree, boxed_tree};
+ghost use Rattle.lynx_descent.specs.ReadingExpressions.{exprs_of, sum_of, term_of, named_of};
+
+use lynx_tree::{Expr, TermSign};
+use lynx_lexer::{IdentRef, Sign};
+use std::alloc::{AllocError, Global};
+
+/// A list of two expressions.
+pub fn two<'a>(alloc: Global, first: Expr<'a>, second: Expr<'a>) -> Result<Vec<Expr<'a>>, AllocError>
+    ensures { IfOk result (λ v. map expr_tree v.items ≡ expr_tree first.entry ∷ expr_tree second.entry ∷ []) }
+{
+    let mut all = Vec::new(alloc);
+    all.push(first)?;
+    all.push(second)?;
+    Ok(all)
+}
+
+#[tactic(auto, using(crate::proofs::Made::made))]
+pub fn or_of<'a>(members: Vec<Expr<'a>>) -> Expr<'a>
+    ensures { expr_tree result ≡ trees.Or (exprs_of (map expr_tree members.entry.items)) }
+{
+    Expr::Or(members)
+}
+
+#[tactic(auto, using(crate::proofs::Made::made))]
+pub fn and_of<'a>(members: Vec<Expr<'a>>) -> Expr<'a>
+    ensures { expr_tree result ≡ trees.And (exprs_of (map expr_tree members.entry.items)) }
+{
+    Expr::And(members)
+}
+
+#[tactic(auto, using(crate::proofs::Made::made))]
+pub fn relation_of<'a>(alloc: Global, first: Expr<'a>, sign: Sign, second: Expr<'a>) -> Result<Expr<'a>, AllocError>
+    ensures { IfOk result (λ e. expr_tree e ≡ trees.Relation (expr_tree first.entry) sign (expr_tree second.entry)) }
+{
+    Ok(Expr::Relation {
+        first: Box::new(alloc, first)?,
+        sign,
+        second: Box::new(alloc, second)?,
+    })
+}
+
+/// A sum, or its first member where it has no other.
+#[tactic(auto, using(crate::proofs::Made::made))]
+pub fn sum_of<'a>(alloc: Global, first: Expr<'a>, rest: Vec<(Sign, Expr<'a>)>) -> Result<Expr<'a>, AllocError>
+    ensures { IfOk result (λ e. expr_tree e ≡ sum_of (expr_tree first.entry) (map (λ m. (m.0, expr_tree m.1)) rest.entry.items)) }
+{
+    if rest.is_empty() {
+        return Ok(first);
+    }
+    Ok(Expr::Sum {
+        first: Box::new(alloc, first)?,
+        rest,
+    })
+}
+
+/// A term, or its first member where it has no other.
+#[tactic(auto, using(crate::proofs::Made::made))]
+pub fn term_of<'a>(alloc: Global, first: Expr<'a>, rest: Vec<(TermSign, Expr<'a>)>) -> Result<Expr<'a>, AllocError>
+    ensures { IfOk result (λ e. expr_tree e ≡ term_of (expr_tree first.entry) (map (λ m. (m.0, expr_tree m.1)) rest.entry.items)) }
+{
+    if rest.is_empty() {
+        return Ok(first);
+    }
+    Ok(Expr::Term {
+        first: Box::new(alloc, first)?,
+        rest,
+    })
+}
+
+#[tactic(auto, using(crate::proofs::Made::made))]
+pub fn minus_of<'a>(alloc: Global, inner: Expr<'a>) -> Result<Expr<'a>, AllocError>
+    ensures { IfOk result (λ e. expr_tree e ≡ trees.Minus (expr_tree inner.entry)) }
+{
+    Ok(Expr::Minus(Box::new(alloc, inner)?))
+}
+
+#[tactic(auto, using(crate::proofs::Made::made))]
+pub fn not_of<'a>(alloc: Global, inner: Expr<'a>) -> Result<Expr<'a>, AllocError>
+    ensures { IfOk result (λ e. expr_tree e ≡ trees.Not (expr_tree inner.entry)) }
+{
+    Ok(Expr::Not(Box::new(alloc, inner)?))
+}
+
+#[tactic(auto, using(crate::proofs::Made::made))]
+pub fn bracket_of<'a>(alloc: Global, inner: Expr<'a>) -> Result<Expr<'a>, AllocError>
+    ensures { IfOk result (λ e. expr_tree e ≡ trees.Bracket (expr_tree inner.entry)) }
+{
+    Ok(Expr::Bracket(Box::new(alloc, inner)?))
+}
+
+/// A variable, or a member of a row.
+#[tactic(auto, using(crate::proofs::Made::made))]
+pub fn named_of<'a>(name: IdentRef<'a>, index: Option<Box<Expr<'a>>>) -> Expr<'a>
+    ensures { expr_tree result ≡ named_of name.entry (option_map boxed_tree index.entry) }
+{
+    Expr::Name { name, index }
+}

@@ -1,0 +1,284 @@
+//! Reading statements.
+
+ghost use Rattle.std.specs.Prelude.{◌≡◌, ℕ, map, option_map};
+ghost use Rattle.lynx_descent.specs.Reading.{Reads};
+ghost use Rattle.lynx_descent.specs.ReadingStatements as spec;
+ghost use Rattle.lynx_descent.specs.ReadingStatements.{stmts, body_of, handler_of};
+ghost use Rattle.lynx_tree.specs.Trees.{stmt_tree};
+
+use crate::make_statement::{
+    accept_of, assign_of, attempt_of, choice_of, connect_of, repetition_of, reply_of,
+};
+use crate::reader::Reader;
+use lynx_descent::{Ahead, Refusal};
+use lynx_tree::{Handler, Stmt};
+use lynx_lexer::{IdentRef, Keyword, Sign};
+
+impl<'t, 'a> Reader<'t, 'a> {
+    #[tactic(auto, unfolding(lynx_descent::specs::ReadingStatements::assign))]
+    fn assign(&mut self, room: usize) -> Result<Stmt<'a>, Refusal>
+        ensures { Reads stmt_tree (spec.assign room self.old) result self.new }
+    {
+        let name = self.name()?;
+        let index = self.index(room)?;
+        self.sign(Sign::Becomes)?;
+        let value = self.expr(room)?;
+        Ok(assign_of(name, index, value))
+    }
+
+    /// Reads two names with a keyword between.
+    #[tactic(auto, unfolding(lynx_descent::specs::ReadingStatements::pair))]
+    fn pair(&mut self, between: Keyword) -> Result<(IdentRef<'a>, IdentRef<'a>), Refusal>
+        ensures { Reads (λ x. x) (spec.pair between self.old) result self.new }
+    {
+        let first = self.name()?;
+        self.keyword(between)?;
+        let second = self.name()?;
+        Ok((first, second))
+    }
+
+    #[tactic(auto, unfolding(lynx_descent::specs::ReadingStatements::new))]
+    fn new_link(&mut self) -> Result<Stmt<'a>, Refusal>
+        ensures { Reads stmt_tree (spec.new self.old) result self.new }
+    {
+        let first = self.name()?;
+        self.sign(Sign::Comma)?;
+        let second = self.name()?;
+        Ok(Stmt::New { first, second })
+    }
+
+    #[tactic(auto, unfolding(lynx_descent::specs::ReadingStatements::connect))]
+    fn connect(&mut self, room: usize) -> Result<Stmt<'a>, Refusal>
+        ensures { Reads stmt_tree (spec.connect room self.old) result self.new }
+    {
+        let (op, link) = self.pair(Keyword::On)?;
+        let values = self.values(room)?;
+        self.sign(Sign::Colon)?;
+        let results = self.names(room)?;
+        Ok(connect_of(op, link, values, results))
+    }
+
+    #[tactic(auto, unfolding(lynx_descent::specs::ReadingStatements::reply))]
+    fn reply(&mut self, room: usize) -> Result<Stmt<'a>, Refusal>
+        ensures { Reads stmt_tree (spec.reply room self.old) result self.new }
+    {
+        Ok(reply_of(self.values(room)?))
+    }
+
+    /// Whether the next token begins a statement.
+    #[tactic(auto, unfolding(lynx_descent::specs::ReadingStatements::begins_stmt))]
+    fn begins_stmt(&self) -> bool
+        ensures { result ≡ spec.begins_stmt self.now }
+    {
+        match self.peek() {
+            Ahead::Name
+            | Ahead::Keyword(
+                Keyword::If
+                | Keyword::While
+                | Keyword::Write
+                | Keyword::Await
+                | Keyword::Stop
+                | Keyword::Raise
+                | Keyword::New
+                | Keyword::Destroy
+                | Keyword::Bind
+                | Keyword::Unbind
+                | Keyword::Connect
+                | Keyword::Accept
+                | Keyword::Reply
+                | Keyword::Try,
+            ) => true,
+            _ => false,
+        }
+    }
+
+    /// Reads statements, each with its semicolon, where `room` more brackets and statements may be open.
+    #[cycle(read_statement)]
+    #[tactic(auto, using(lynx_descent::proofs::Turns::turns), unfolding(lynx_descent::specs::ReadingStatements::stmts))]
+    pub fn stmts(&mut self, room: usize) -> Result<Vec<Stmt<'a>>, Refusal>
+        ensures { Reads (λ v. body_of v.items) (spec.stmts room self.old) result self.new }
+    {
+        let mut all = Vec::new(self.alloc());
+        for _turn in 0..self.left() {
+            if !self.begins_stmt() {
+                break;
+            }
+            all.push(self.stmt(room)?)?;
+            self.sign(Sign::Semicolon)?;
+        }
+        all.shrink_to_fit();
+        Ok(all)
+    }
+
+    #[cycle(read_statement)]
+    #[tactic(auto, unfolding(lynx_descent::specs::ReadingStatements::stmt))]
+    fn stmt(&mut self, room: usize) -> Result<Stmt<'a>, Refusal>
+        ensures { Reads stmt_tree (spec.stmt room self.old) result self.new }
+    {
+        if room == 0 {
+            return Err(self.too_deep());
+        }
+        self.within(room - 1)
+    }
+
+    /// Reads a statement that is open.
+    #[cycle(read_statement)]
+    #[tactic(auto, unfolding(lynx_descent::specs::ReadingStatements::within))]
+    fn within(&mut self, room: usize) -> Result<Stmt<'a>, Refusal>
+        ensures { Reads stmt_tree (spec.within room (stmts room) self.old) result self.new }
+    {
+        match self.peek() {
+            Ahead::Name => self.assign(room),
+            Ahead::Keyword(Keyword::If) => {
+                self.advance();
+                self.choice(room)
+            }
+            Ahead::Keyword(Keyword::While) => {
+                self.advance();
+                self.repetition(room)
+            }
+            Ahead::Keyword(Keyword::Write) => {
+                self.advance();
+                Ok(Stmt::Write(self.expr(room)?))
+            }
+            Ahead::Keyword(Keyword::Await) => {
+                self.advance();
+                Ok(Stmt::Await(self.expr(room)?))
+            }
+            Ahead::Keyword(Keyword::Stop) => {
+                self.advance();
+                Ok(Stmt::Stop)
+            }
+            Ahead::Keyword(Keyword::Raise) => {
+                self.advance();
+                Ok(Stmt::Raise(self.name()?))
+            }
+            Ahead::Keyword(Keyword::New) => {
+                self.advance();
+                self.new_link()
+            }
+            Ahead::Keyword(Keyword::Destroy) => {
+                self.advance();
+                Ok(Stmt::Destroy(self.name()?))
+            }
+            Ahead::Keyword(Keyword::Bind) => {
+                self.advance();
+                let (link, entry) = self.pair(Keyword::To)?;
+                Ok(Stmt::Bind { link, entry })
+            }
+            Ahead::Keyword(Keyword::Unbind) => {
+                self.advance();
+                let (link, entry) = self.pair(Keyword::From)?;
+                Ok(Stmt::Unbind { link, entry })
+            }
+            Ahead::Keyword(Keyword::Connect) => {
+                self.advance();
+                self.connect(room)
+            }
+            Ahead::Keyword(Keyword::Accept) => {
+                self.advance();
+                self.accept(room)
+            }
+            Ahead::Keyword(Keyword::Reply) => {
+                self.advance();
+                self.reply(room)
+            }
+            Ahead::Keyword(Keyword::Try) => {
+                self.advance();
+                self.attempt(room)
+            }
+            _ => Err(self.refuse()),
+        }
+    }
+
+    #[cycle(read_statement)]
+    #[tactic(auto, unfolding(lynx_descent::specs::ReadingStatements::choice))]
+    fn choice(&mut self, room: usize) -> Result<Stmt<'a>, Refusal>
+        ensures { Reads stmt_tree (spec.choice room (stmts room) self.old) result self.new }
+    {
+        let condition = self.expr(room)?;
+        let condition = Box::new(self.alloc(), condition)?;
+        self.keyword(Keyword::Then)?;
+        let then = self.stmts(room)?;
+        let otherwise = self.otherwise(room)?;
+        self.keyword(Keyword::End)?;
+        Ok(choice_of(condition, then, otherwise))
+    }
+
+    /// Reads the other side of a choice, if it has one.
+    #[cycle(read_statement)]
+    #[tactic(auto, unfolding(lynx_descent::specs::ReadingStatements::otherwise))]
+    fn otherwise(&mut self, room: usize) -> Result<Option<Vec<Stmt<'a>>>, Refusal>
+        ensures { Reads (option_map (λ v. body_of v.items)) (spec.otherwise (stmts room) self.old) result self.new }
+    {
+        if !self.sees_keyword(Keyword::Else) {
+            return Ok(None);
+        }
+        self.advance();
+        Ok(Some(self.stmts(room)?))
+    }
+
+    #[cycle(read_statement)]
+    #[tactic(auto, unfolding(lynx_descent::specs::ReadingStatements::repetition))]
+    fn repetition(&mut self, room: usize) -> Result<Stmt<'a>, Refusal>
+        ensures { Reads stmt_tree (spec.repetition room (stmts room) self.old) result self.new }
+    {
+        let condition = self.expr(room)?;
+        self.keyword(Keyword::Do)?;
+        let body = self.stmts(room)?;
+        self.keyword(Keyword::End)?;
+        Ok(repetition_of(condition, body))
+    }
+
+    #[cycle(read_statement)]
+    #[tactic(auto, unfolding(lynx_descent::specs::ReadingStatements::accept))]
+    fn accept(&mut self, room: usize) -> Result<Stmt<'a>, Refusal>
+        ensures { Reads stmt_tree (spec.accept room (stmts room) self.old) result self.new }
+    {
+        let (op, link) = self.pair(Keyword::On)?;
+        let names = self.names(room)?;
+        self.keyword(Keyword::Do)?;
+        let body = self.stmts(room)?;
+        self.keyword(Keyword::End)?;
+        Ok(accept_of(op, link, names, body))
+    }
+
+    #[cycle(read_statement)]
+    #[tactic(auto, unfolding(lynx_descent::specs::ReadingStatements::attempt))]
+    fn attempt(&mut self, room: usize) -> Result<Stmt<'a>, Refusal>
+        ensures { Reads stmt_tree (spec.attempt (stmts room) self.old) result self.new }
+    {
+        let body = self.stmts(room)?;
+        let handlers = self.handlers(room)?;
+        self.keyword(Keyword::End)?;
+        Ok(attempt_of(body, handlers))
+    }
+
+    #[cycle(read_statement)]
+    #[tactic(auto, using(lynx_descent::proofs::Turns::turns))]
+    fn handlers(&mut self, room: usize) -> Result<Vec<Handler<'a>>, Refusal>
+        ensures { Reads (λ v. map handler_of v.items) (spec.handlers (stmts room) self.old) result self.new }
+    {
+        let mut all = Vec::new(self.alloc());
+        for _turn in 0..self.left() {
+            if !self.sees_keyword(Keyword::When) {
+                break;
+            }
+            all.push(self.handler(room)?)?;
+        }
+        all.shrink_to_fit();
+        Ok(all)
+    }
+
+    #[cycle(read_statement)]
+    #[tactic(auto, unfolding(lynx_descent::specs::ReadingStatements::handler))]
+    fn handler(&mut self, room: usize) -> Result<Handler<'a>, Refusal>
+        ensures { Reads handler_of (spec.handler (stmts room) self.old) result self.new }
+    {
+        self.advance();
+        let name = self.name()?;
+        self.keyword(Keyword::Do)?;
+        let body = self.stmts(room)?;
+        Ok(Handler { name, body })
+    }
+}

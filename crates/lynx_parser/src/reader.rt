@@ -1,0 +1,212 @@
+//! The tokens that are left to read, and reading one.
+
+ghost use Rattle.std.specs.Prelude.{◌≡◌, ◌≢◌, ℕ, ◌<◌, List, length, drop, map, true, false};
+ghost use Rattle.lynx_lexer.specs.declared.token.Token.{Token};
+ghost use Rattle.lynx_descent.specs.declared.refusal.Refusal.TheVariants as refusals;
+ghost use Rattle.lynx_descent.specs.Reading as spec;
+ghost use Rattle.lynx_descent.specs.Reading.{Reads};
+
+use lynx_descent::{Ahead, Refusal};
+use lynx_lexer::{IdentRef, Keyword, Kind, Sign, TextRef, Token};
+use std::alloc::Global;
+use std::marker::Model;
+
+/// The tokens from the present place to the end.
+#[derive(Drop)]
+pub struct Reader<'t, 'a> {
+    alloc: Global,
+    rest: &'t [Token<'a>],
+}
+
+impl<'t, 'a> Model for Reader<'t, 'a> {
+    ghost use Rattle.std.specs.Prelude.{List, map};
+    ghost use Rattle.lynx_lexer.specs.declared.token.Kind.{Kind};
+
+    ghost Value = { List Kind };
+
+    ghost view = { λ r. map (λ t. t.kind) r.rest.now };
+}
+
+#[tactic(auto, unfolding(lynx_descent::specs::Reading::same_keyword))]
+pub fn same_keyword(a: Keyword, b: Keyword) -> bool
+    ensures { result ≡ spec.same_keyword a b }
+{
+    a == b
+}
+
+#[tactic(auto, unfolding(lynx_descent::specs::Reading::same_sign))]
+pub fn same_sign(a: Sign, b: Sign) -> bool
+    ensures { result ≡ spec.same_sign a b }
+{
+    a == b
+}
+
+impl<'t, 'a> Reader<'t, 'a> {
+    pub fn new(alloc: Global, rest: &'t [Token<'a>]) -> Reader<'t, 'a>
+        ensures { result ≡ map (λ t. t.kind) rest.now }
+    {
+        Reader { alloc, rest }
+    }
+
+    pub fn alloc(&self) -> Global {
+        self.alloc
+    }
+
+    /// How many tokens are left.
+    pub fn left(&self) -> usize
+        ensures { result ≡ length self.now }
+    {
+        self.rest.len()
+    }
+
+    /// That no module goes on with the next token.
+    pub fn refuse(&self) -> Refusal
+        ensures { result ≡ refusals.At (length self.now) }
+    {
+        Refusal::At(self.left())
+    }
+
+    /// That the next token opens one bracket or statement too many.
+    pub fn too_deep(&self) -> Refusal
+        ensures { result ≡ refusals.TooDeep (length self.now) }
+    {
+        Refusal::TooDeep(self.left())
+    }
+
+    pub fn peek(&self) -> Ahead
+        ensures { result ≡ spec.ahead self.now }
+    {
+        match self.rest.first() {
+            None => Ahead::End,
+            Some(token) => match &token.kind {
+                Kind::Keyword(keyword) => Ahead::Keyword(*keyword),
+                Kind::Sign(sign) => Ahead::Sign(*sign),
+                Kind::Name(_) => Ahead::Name,
+                Kind::Number(_) => Ahead::Number,
+                Kind::Text(_) => Ahead::Text,
+            },
+        }
+    }
+
+    pub fn sees_keyword(&self, keyword: Keyword) -> bool
+        ensures { result ≡ spec.sees_keyword keyword self.now }
+    {
+        match self.peek() {
+            Ahead::Keyword(next) => same_keyword(next, keyword),
+            _ => false,
+        }
+    }
+
+    pub fn sees_sign(&self, sign: Sign) -> bool
+        ensures { result ≡ spec.sees_sign sign self.now }
+    {
+        match self.peek() {
+            Ahead::Sign(next) => same_sign(next, sign),
+            _ => false,
+        }
+    }
+
+    /// Goes past the next token, if there is one.
+    pub fn advance(&mut self)
+        ensures { self.new ≡ drop 1 self.old }
+    {
+        if !self.rest.is_empty() {
+            self.rest = &self.rest[1..];
+        }
+    }
+
+    /// Reads this keyword.
+    #[tactic(auto, unfolding(lynx_descent::specs::Reading::keyword))]
+    pub fn keyword(&mut self, keyword: Keyword) -> Result<(), Refusal>
+        ensures { Reads (λ x. x) (spec.keyword keyword self.old) result self.new }
+    {
+        if !self.sees_keyword(keyword) {
+            return Err(self.refuse());
+        }
+        self.advance();
+        Ok(())
+    }
+
+    /// Reads this sign.
+    #[tactic(auto, unfolding(lynx_descent::specs::Reading::sign))]
+    pub fn sign(&mut self, sign: Sign) -> Result<(), Refusal>
+        ensures { Reads (λ x. x) (spec.sign sign self.old) result self.new }
+    {
+        if !self.sees_sign(sign) {
+            return Err(self.refuse());
+        }
+        self.advance();
+        Ok(())
+    }
+
+    #[tactic(auto, unfolding(lynx_descent::specs::Reading::name))]
+    pub fn name(&mut self) -> Result<IdentRef<'a>, Refusal>
+        ensures { Reads (λ x. x) (spec.name self.old) result self.new }
+    {
+        let Some(Token {
+            kind: Kind::Name(name),
+            ..
+        }) = self.rest.first()
+        else {
+            return Err(self.refuse());
+        };
+        let name = name.copy();
+        self.advance();
+        Ok(name)
+    }
+
+    #[tactic(auto, unfolding(lynx_descent::specs::Reading::number))]
+    pub fn number(&mut self) -> Result<i64, Refusal>
+        ensures { Reads (λ x. x) (spec.number self.old) result self.new }
+    {
+        let Some(Token {
+            kind: Kind::Number(number),
+            ..
+        }) = self.rest.first()
+        else {
+            return Err(self.refuse());
+        };
+        let number = *number;
+        self.advance();
+        Ok(number)
+    }
+
+    #[tactic(auto, unfolding(lynx_descent::specs::Reading::text))]
+    pub fn text(&mut self) -> Result<TextRef<'a>, Refusal>
+        ensures { Reads (λ x. x) (spec.text self.old) result self.new }
+    {
+        let Some(Token {
+            kind: Kind::Text(inside),
+            ..
+        }) = self.rest.first()
+        else {
+            return Err(self.refuse());
+        };
+        let inside = inside.copy();
+        self.advance();
+        Ok(inside)
+    }
+
+    /// Goes past a token that opens a bracket or a statement, where `room` more may be open. The room inside.
+    #[tactic(auto, unfolding(lynx_descent::specs::Reading::opened))]
+    pub fn opened(&mut self, room: usize) -> Result<usize, Refusal>
+        ensures { Reads (λ x. x) (spec.opened room self.old) result self.new }
+    {
+        if room == 0 {
+            return Err(self.too_deep());
+        }
+        self.advance();
+        Ok(room - 1)
+    }
+
+    /// Reads `(`. The room inside.
+    #[tactic(auto, unfolding(lynx_descent::specs::Reading::bracket))]
+    pub fn bracket(&mut self, room: usize) -> Result<usize, Refusal>
+        ensures { Reads (λ x. x) (spec.bracket room self.old) result self.new }
+    {
+        if !self.sees_sign(Sign::Open) {
+            return Err(self.refuse());
+        }
+        self.opened(room)
+    }
+}

@@ -1,0 +1,5 @@
+pub mod Apart
+pub mod Lists
+pub mod Spelled
+pub mod Statements
+pub mod Texts

@@ -1,0 +1,45 @@
+use Rattle.std.proofs.Common.{arith}
+use Rattle.lynx_tree.specs.Grammar.{word}
+use Rattle.lynx_lexer.specs.declared.keyword.Keyword.TheVariants as keywords
+use Rattle.lynx_printer.proofs.Texts.{chain_step, chain_end, sum_step, term_step, text_of_or, text_of_and, or_printed, and_printed, sum_printed, term_printed}
+use Rattle.lynx_printer.proofs.print_expression.+print_expression.Goals as goal
+
+pub push_sums-loop-sign-preserved : goal.push_sums-loop-sign-preserved
+push_sums-loop-sign-preserved t c d =
+    sum_step c.args.members.now c.loop-sign.sign-index c.loop-sign-item.result d c.loop-sign.out.items c.push_sign.new.out.items c.push_expr.new.out.items _ (omega arith) c.loop-sign-item.is
+    c.in_ok-push_sign.ensures (c.in_ok-push_expr.ensures d) (c.loop-sign.invariant d)
+
+pub push_terms-loop-sign-preserved : goal.push_terms-loop-sign-preserved
+push_terms-loop-sign-preserved t c d =
+    term_step c.args.members.now c.loop-sign.sign-index c.loop-sign-item.result d c.loop-sign.out.items c.push_term_sign.new.out.items c.push_expr.new.out.items _ (omega arith) c.loop-sign-item.is
+    (c.in_ok-push_term_sign.ensures d) (c.in_ok-push_expr.ensures d) (c.loop-sign.invariant d)
+
+pub push_chain-loop-member-preserved : goal.push_chain-loop-member-preserved
+push_chain-loop-member-preserved t c d m spelled =
+    chain_step c.in-Some.rest.now c.loop-member.member-index c.member-item.result d m _ c.loop-member.out.items c.push_spelling.new.out.items c.push_expr-in-loop-member.new.out.items _ (omega arith) c.member-item.is
+    spelled c.in_ok-push_spelling.ensures (c.in_ok-push_expr-2.ensures d) (c.loop-member.invariant d m spelled)
+
+pub push_chain-returns : goal.push_chain-returns
+push_chain-returns t c d m spelled =
+    chain_end c.args.members.now c.in-Some.rest.now c.in-Some.first.now c.loop-member.member-index d m c.args.out.now.items c.push_expr.new.out.items c.loop-member.out.items c.in-Some.ensures.cases.0 (omega arith)
+    (c.in_ok-push_expr.ensures d) (c.loop-member.invariant d m spelled)
+
+pub push_expr-returns-in-Or : goal.push_expr-returns-in-Or
+push_expr-returns-in-Or t c d =
+    or_printed c.args.expr.now c.in-Or.members c.deref.result.now d c.push_chain.result c.args.out.now.items c.push_chain.new.out.items c.in-Or.is c.deref.ensures.value
+    (c.push_chain.ensures d (word d keywords.Or) (text_of_or d))
+
+pub push_expr-returns-in-And : goal.push_expr-returns-in-And
+push_expr-returns-in-And t c d =
+    and_printed c.args.expr.now c.in-And.members c.deref-in-And.result.now d c.push_chain-in-And.result c.args.out.now.items c.push_chain-in-And.new.out.items c.in-And.is c.deref-in-And.ensures.value
+    (c.push_chain-in-And.ensures d (word d keywords.And) (text_of_and d))
+
+pub push_expr-returns-in_ok-push_sums-in-Sum : goal.push_expr-returns-in_ok-push_sums-in-Sum
+push_expr-returns-in_ok-push_sums-in-Sum t c d =
+    sum_printed c.args.expr.now c.deref-in-Sum.result.now c.in-Sum.first c.in-Sum.rest c.deref-in-Sum-2.result.now d c.args.out.now.items c.push_expr-in-Sum.new.out.items c.push_sums.new.out.items c.in-Sum.is
+    c.deref-in-Sum.ensures c.deref-in-Sum-2.ensures.value (c.in_ok-push_expr-in-Sum.ensures d) (c.in_ok-push_sums-in-Sum.ensures d)
+
+pub push_expr-returns-in_ok-push_terms-in-Term : goal.push_expr-returns-in_ok-push_terms-in-Term
+push_expr-returns-in_ok-push_terms-in-Term t c d =
+    term_printed c.args.expr.now c.deref-in-Term.result.now c.in-Term.first c.in-Term.rest c.deref-in-Term-2.result.now d c.args.out.now.items c.push_expr-in-Term.new.out.items c.push_terms.new.out.items c.in-Term.is
+    c.deref-in-Term.ensures c.deref-in-Term-2.ensures.value (c.in_ok-push_expr-in-Term.ensures d) (c.in_ok-push_terms-in-Term.ensures d)

@@ -1,5 +1,0 @@
-use Rattle.lynx_syntax.proofs.Laws.{one_tree_only}
-use Rattle.lynx_syntax.proofs.law.one_tree.Goals as goal
-
-pub returns : goal.returns
-returns c = one_tree_only

@@ -1,7 +1,0 @@
-use Rattle.std.proofs.Common.{arith, rules}
-use Rattle.std.proofs.lemmas.Grind.{common_steps}
-use Rattle.lynx_syntax.proofs.Made.{term_made}
-use Rattle.lynx_syntax.proofs.make_expression.term_of.Goals as goal
-
-pub returns : goal.returns
-returns c = term_made c.in_ok-new.field-0 c.args.first c.args.rest c.in_ok-new.ensures.ok (first_of (search rules, omega arith, grind (arith, common_steps)))

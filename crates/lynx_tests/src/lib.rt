@@ -1,0 +1,9 @@
+//! Tests of the language crates through their public calls.
+#![tactic(auto)]
+
+#[cfg(test)]
+mod lexer;
+#[cfg(test)]
+mod source;
+#[cfg(test)]
+mod syntax;

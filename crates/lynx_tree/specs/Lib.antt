@@ -1,0 +1,5 @@
+pub mod Trees
+pub mod Grammar
+pub mod Faults
+pub mod Printing
+pub mod Answers
