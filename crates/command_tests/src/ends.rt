@@ -1,7 +1,7 @@
 //! How commands end that the program does not have yet, and the lines of their failures.
 
 use charlotte_calls::NoMemory;
-use lynx_command::{End, Failure, Lines, Told, end_with, tell};
+use lynx_command::{End, Failure, Lines, Output, end_with, tell};
 use lynx_outside::{ListSink, Status};
 use lynx_source::Place;
 use std::alloc::Global;
@@ -19,8 +19,8 @@ fn spent_with_the_whole_text(rt: HostRuntime) -> Result<(), Fail> {
         let mut out = ListSink::with(alloc, 100, Vec::new(alloc))?;
         let mut err = ListSink::with(alloc, 100, Vec::new(alloc))?;
         let text = lines_of(alloc)?;
-        let told = Ok(Told { text, end });
-        assert_eq!(rt; end_with(alloc, "p", told, &mut out, &mut err), status);
+        let output = Ok(Output { text, end });
+        assert_eq!(rt; end_with(alloc, "p", output, &mut out, &mut err), status);
         assert_eq!(rt; out.held(), b"a\nbc\n".as_slice());
         assert_eq!(rt; err.held(), b"".as_slice());
     }

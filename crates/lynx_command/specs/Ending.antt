@@ -1,7 +1,7 @@
 -- How a command ends that found a text, or why there is none: its status, and its puts on out and on err.
 use Rattle.std.specs.Prelude.{◌≡◌, ◌⊎◌, ℕ, List, [], ◌∷◌, map, Ok, Err}
 use Rattle.lynx_command.specs.Failures.{status_of, failure_text}
-use Rattle.lynx_command.specs.Found.{Found, Finding}
+use Rattle.lynx_command.specs.Found.{Found, OutputLines}
 use Rattle.lynx_command.specs.Text.{StopsAtPut, StopsBetween}
 use Rattle.lynx_command.specs.declared.ending.End.{End}
 use Rattle.lynx_command.specs.declared.ending.End.TheVariants.{Done, Spent}
@@ -18,26 +18,26 @@ end_status Done = status.Done
 end_status Spent = status.Spent
 
 -- A line of a failure gets one put: the status is that of the failure, and 3 where the put failed.
-abbrev pub IsToldBy : Failure → List ℕ → Status → List Put → Type 0
-IsToldBy failure text ended errs =
+abbrev pub PutsFailure : Failure → List ℕ → Status → List Put → Type 0
+PutsFailure failure text ended errs =
     ((ended ≡ status_of failure) × (errs ≡ taken text ∷ []))
     ⊎ ((ended ≡ status.WriteFault) × (errs ≡ failed text ∷ []))
 
 -- A failure is told by its line. Where there is no memory for the line, want of memory is told.
 abbrev pub Tells : List ℕ → Failure → Status → List Put → Type 0
 Tells name failure ended errs =
-    IsToldBy failure (failure_text name failure) ended errs
-    ⊎ IsToldBy NoMemory (failure_text name NoMemory) ended errs
+    PutsFailure failure (failure_text name failure) ended errs
+    ⊎ PutsFailure NoMemory (failure_text name NoMemory) ended errs
 
 -- A text is put line by line: all of it, then the command ends as it says; up to a put that failed, and then nothing is put
 -- anywhere; or up to a line for which memory lacks, and then that is told.
-abbrev pub EndsText : List ℕ → Finding → Status → List Put → List Put → Type 0
-EndsText name told ended outs errs =
-    ((ended ≡ end_status told.end) × (outs ≡ map taken told.lines) × (errs ≡ []))
-    ⊎ ((ended ≡ status.WriteFault) × StopsAtPut told.lines outs × (errs ≡ []))
-    ⊎ (StopsBetween told.lines outs × Tells name NoMemory ended errs)
+abbrev pub EndsText : List ℕ → OutputLines → Status → List Put → List Put → Type 0
+EndsText name output ended outs errs =
+    ((ended ≡ end_status output.end) × (outs ≡ map taken output.lines) × (errs ≡ []))
+    ⊎ ((ended ≡ status.WriteFault) × StopsAtPut output.lines outs × (errs ≡ []))
+    ⊎ (StopsBetween output.lines outs × Tells name NoMemory ended errs)
 
 -- Out gets the text alone, err the line of a failure alone.
 abbrev pub Ends : List ℕ → Found → Status → List Put → List Put → Type 0
-Ends name (Ok told) ended outs errs = EndsText name told ended outs errs
+Ends name (Ok output) ended outs errs = EndsText name output ended outs errs
 Ends name (Err failure) ended outs errs = (outs ≡ []) × Tells name failure ended errs

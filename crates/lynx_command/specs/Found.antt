@@ -3,23 +3,23 @@ use Rattle.std.specs.Prelude.{◌≡◌, ℕ, List, [], ◌∷◌, Result, Ok, E
 use Rattle.std.specs.declared.alloc.Global.{Global}
 use Rattle.lynx_command.specs.Failures.{failure_of_file}
 use Rattle.lynx_command.specs.declared.ending.End.{End}
-use Rattle.lynx_command.specs.declared.ending.Told.{Told}
+use Rattle.lynx_command.specs.declared.ending.Output.{Output}
 use Rattle.lynx_command.specs.declared.failure.Failure.{Failure}
 use Rattle.lynx_outside.specs.Logged.{Read}
 use Rattle.lynx_outside.specs.declared.files.FileAnswer.{FileAnswer}
 
 -- a text by its lines, and how a command ends that puts it whole
-pub record Finding : Type 0 where
+pub record OutputLines : Type 0 where
   pub lines : List (List ℕ)
   pub end : End
 
 -- a text, or why there is none
 abbrev pub Found : Type 0
-Found = Result Finding Failure
+Found = Result OutputLines Failure
 
 -- what code has found, where the function gives the lines of its texts
-abbrev pub found_of : {T : Type 0} → (T → List (List ℕ)) → Result (Told T) Failure → Found
-found_of lines (Ok told) = Ok (record { lines = lines told.text; end = told.end })
+abbrev pub found_of : {T : Type 0} → (T → List (List ℕ)) → Result (Output T) Failure → Found
+found_of lines (Ok output) = Ok (record { lines = lines output.text; end = output.end })
 found_of lines (Err failure) = Err failure
 
 -- a read of a name, of at most so many bytes, that answered so

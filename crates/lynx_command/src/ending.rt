@@ -36,7 +36,7 @@ impl End {
 
 /// A text that a command is to put, and how it ends then.
 #[derive(Drop)]
-pub struct Told<T> {
+pub struct Output<T> {
     pub text: T,
     pub end: End,
 }
@@ -46,7 +46,7 @@ pub struct Told<T> {
 pub fn end_with<T: Text + Drop, O: Sink, E: Sink>(
     alloc: Global,
     name: &str,
-    found: Result<Told<T>, Failure>,
+    found: Result<Output<T>, Failure>,
     out: &mut O,
     err: &mut E,
 ) -> Status
@@ -55,12 +55,12 @@ pub fn end_with<T: Text + Drop, O: Sink, E: Sink>(
         × WerePut (O.state out.old) (O.state out.new) outs
         × WerePut (E.state err.old) (E.state err.new) errs }
 {
-    let mut told = match found {
-        Ok(told) => told,
+    let mut output = match found {
+        Ok(output) => output,
         Err(failure) => return tell(alloc, name, failure, err),
     };
-    match put_text(alloc, &mut told.text, out) {
-        Ok(()) => told.end.status(),
+    match put_text(alloc, &mut output.text, out) {
+        Ok(()) => output.end.status(),
         Err(PutFault::Failed) => Status::WriteFault,
         Err(PutFault::NoMemory) => tell(alloc, name, Failure::NoMemory, err),
     }

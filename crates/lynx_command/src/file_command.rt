@@ -5,7 +5,7 @@ ghost use Rattle.lynx_command.specs.Found.{Found, found_of, FindsAt};
 ghost use Rattle.lynx_outside.specs.Files.{WereRead};
 ghost use Rattle.lynx_outside.specs.Logged.{Read};
 
-use crate::ending::{Told, end_with};
+use crate::ending::{Output, end_with};
 use crate::failure::Failure;
 use crate::reading::read_file;
 use crate::text::Text;
@@ -26,7 +26,7 @@ pub trait FileCommand {
     ghost finds: { List ℕ → Found → Type 0 };
 
     /// The text for the bytes of the file, or why there is none.
-    fn find(alloc: Global, bytes: &[u8]) -> Result<Told<Self::Text>, Failure>
+    fn find(alloc: Global, bytes: &[u8]) -> Result<Output<Self::Text>, Failure>
         requires { length bytes.now ≤ MOST }
         ensures { finds bytes.now (found_of Self.Text.lines_left result) };
 }
@@ -36,7 +36,7 @@ fn find_at<C: FileCommand, F: Files>(
     alloc: Global,
     name: &str,
     files: &mut F,
-) -> Result<Told<C::Text>, Failure>
+) -> Result<Output<C::Text>, Failure>
     ensures { (reads : List Read) × WereRead (F.state files.old) (F.state files.new) reads
         × FindsAt C.finds C.MOST name.now reads (found_of C.Text.lines_left result) }
 {

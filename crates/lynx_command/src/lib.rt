@@ -10,7 +10,7 @@ mod reading;
 mod telling;
 mod text;
 
-pub use ending::{End, Told, end_with};
+pub use ending::{End, Output, end_with};
 pub use failure::Failure;
 pub use file_command::{FileCommand, perform_file};
 pub use lines::Lines;

@@ -1,6 +1,6 @@
 //! A failure is told on err.
 ghost use Rattle.std.specs.Prelude.{List};
-ghost use Rattle.lynx_command.specs.Ending.{Tells, IsToldBy};
+ghost use Rattle.lynx_command.specs.Ending.{Tells, PutsFailure};
 ghost use Rattle.lynx_outside.specs.Logged.{Put};
 ghost use Rattle.lynx_outside.specs.Sink.{WerePut};
 
@@ -21,7 +21,7 @@ pub fn tell<E: Sink>(alloc: Global, name: &str, failure: Failure, err: &mut E) -
 
 // Puts a line on err: the status is that of the failure, and 3 where the put fails.
 fn put_line<E: Sink>(failure: Failure, text: &[u8], err: &mut E) -> Status
-    ensures { (errs : List Put) × IsToldBy failure text.now result errs × WerePut (E.state err.old) (E.state err.new) errs }
+    ensures { (errs : List Put) × PutsFailure failure text.now result errs × WerePut (E.state err.old) (E.state err.new) errs }
 {
     match err.put(text) {
         Ok(()) => failure.status(),

@@ -14,7 +14,7 @@ checked_text name = line (codes "ok " ++ name)
 
 -- the one line of the module that the bytes spell, or their first fault; want of memory comes at any module
 abbrev pub Checks : List ℕ → Found → Type 0
-Checks bytes (Ok told) = (m : ModuleTree) × IsReadAs bytes (Ok m) × (told.lines ≡ checked_text m.name ∷ []) × (told.end ≡ Done)
+Checks bytes (Ok output) = (m : ModuleTree) × IsReadAs bytes (Ok m) × (output.lines ≡ checked_text m.name ∷ []) × (output.end ≡ Done)
 Checks bytes (Err (Lex at number)) = IsReadAs bytes (Err (fault.Lex at number))
 Checks bytes (Err (Syntax at)) = IsReadAs bytes (Err (fault.Syntax at))
 Checks bytes (Err (Deep at)) = IsReadAs bytes (Err (fault.Deep at))

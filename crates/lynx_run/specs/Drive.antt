@@ -37,7 +37,7 @@ IsRefused bytes line rule = script_of bytes ≡ Err (plan.BadPlan line rule)
 
 -- the transcript, or the line at which the bytes are no script; want of memory comes at any script
 abbrev pub Drives : List ℕ → Found → Type 0
-Drives bytes (Ok told) = IsDriven bytes told.lines × (told.end ≡ Done)
+Drives bytes (Ok output) = IsDriven bytes output.lines × (output.end ≡ Done)
 Drives bytes (Err (BrokenScript line rule)) = IsRefused bytes line rule
 Drives bytes (Err NoMemory) = Unit {0}
 Drives bytes (Err failure) = ⊥

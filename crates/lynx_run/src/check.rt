@@ -4,7 +4,7 @@ ghost use Rattle.lynx_command.specs.Course.{Course, outside, Took, IsOfFile};
 ghost use Rattle.lynx_run.specs.Check.{checked_text, Checks};
 
 use charlotte_calls::NoMemory;
-use lynx_command::{End, Failure, FileCommand, Lines, MOST_BYTES, Told, perform_file};
+use lynx_command::{End, Failure, FileCommand, Lines, MOST_BYTES, Output, perform_file};
 use lynx_outside::{Files, Sink, Status};
 use lynx_source::read_module;
 use std::alloc::Global;
@@ -21,10 +21,10 @@ impl FileCommand for CheckCommand {
 
     ghost finds = { Checks };
 
-    fn find(alloc: Global, bytes: &[u8]) -> Result<Told<Lines>, Failure> {
+    fn find(alloc: Global, bytes: &[u8]) -> Result<Output<Lines>, Failure> {
         let module = read_module(alloc, bytes)?;
         let lines = checked_lines(alloc, module.name.as_slice())?;
-        Ok(Told {
+        Ok(Output {
             text: Lines::of(lines),
             end: End::Done,
         })

@@ -5,7 +5,7 @@ ghost use Rattle.lynx_run.specs.Drive.{IsScriptOf, IsDriven, Drives};
 
 use charlotte_calls::NoMemory;
 use kernel_journal::print_transcript;
-use lynx_command::{End, Failure, FileCommand, Lines, MOST_BYTES, Told, perform_file};
+use lynx_command::{End, Failure, FileCommand, Lines, MOST_BYTES, Output, perform_file};
 use lynx_outside::{Files, Sink, Status};
 use lynx_plan::{Script, read_script};
 use script_run::perform;
@@ -23,10 +23,10 @@ impl FileCommand for DriveCommand {
 
     ghost finds = { Drives };
 
-    fn find(alloc: Global, bytes: &[u8]) -> Result<Told<Lines>, Failure> {
+    fn find(alloc: Global, bytes: &[u8]) -> Result<Output<Lines>, Failure> {
         let script = read_script(alloc, bytes).map_err(Failure::of_script)?;
         let lines = transcript(alloc, bytes, &script)?;
-        Ok(Told {
+        Ok(Output {
             text: Lines::of(lines),
             end: End::Done,
         })
