@@ -68,4 +68,3 @@ if_tree condition then = search (rules, stmts_are, the_stmt_lemmas)
 
 pub if_else_tree : (condition : Box expr.Expr) (then otherwise : Vec stmt.Stmt) → stmt_tree (stmt.If condition then (Some otherwise)) ≡ trees.IfElse (expr_tree condition.value) (stmt_list then.items) (stmt_list otherwise.items)
 if_else_tree condition then otherwise = search (rules, stmts_are, the_stmt_lemmas)
-
