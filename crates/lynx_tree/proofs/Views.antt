@@ -1,5 +1,5 @@
 -- Trees of the values in vectors and boxes: what `expr_tree` and `stmt_tree` give, said of lists.
-use Rattle.std.proofs.Common.{◌≡◌, ℕ, List, [], ◌∷◌, ◌++◌, map, Option, Some, None, refl, sym, ap, ◌∙◌, rules}
+use Rattle.std.proofs.Common.{◌≡◌, ℕ, List, [], ◌∷◌, ◌++◌, map, Some, None, refl, sym, ap, ◌∙◌, rules}
 use Rattle.std.specs.Global.{Vec, Box}
 use Rattle.std.specs.List.{flat_map}
 use Rattle.lynx_lexer.specs.declared.sign.Sign.{Sign}
