@@ -1,7 +1,10 @@
 -- The trees of values that are made of their parts.
-use Rattle.std.proofs.Common.{◌≡◌, ℕ, ◌<◌, List, [], ◌∷◌, length, map, option_map, Option, Some, None, refl, sym, ap, ◌∙◌, arith, rules}
+use Rattle.std.proofs.Common.{◌≡◌, ℕ, ◌<◌, List, [], ◌∷◌, length, map, option_map, Option, Some, None, Bool, false, Ok, refl, sym, ap, ◌∙◌, arith, rules}
 use Rattle.std.specs.Global.{Vec, Box}
 use Rattle.lynx_lexer.specs.declared.sign.Sign.{Sign}
+use Rattle.lynx_lexer.specs.declared.token.Kind.{Kind}
+use Rattle.lynx_descent.specs.Reading.{Parser, many}
+use Rattle.lynx_descent.proofs.Turns.{turn_stops}
 use Rattle.lynx_tree.specs.declared.expression.Expr as expr
 use Rattle.lynx_tree.specs.declared.expression.Expr.TheViews.{the_lemmas}
 use Rattle.lynx_tree.specs.declared.expression.TermSign.{TermSign}
@@ -70,5 +73,10 @@ sum_made first x v is some = made_sum first v ∙ ap (λ (y : expr.Expr). trees.
 
 pub term_made : (first : Box expr.Expr) (x : expr.Expr) (v : Vec (TermSign × expr.Expr)) → first.value ≡ x → 0 < length v.items → expr_tree (expr.Term first v) ≡ term_of (expr_tree x) (map (λ m. (m.0, expr_tree m.1)) v.items)
 term_made first x v is some = made_term first v ∙ ap (λ (y : expr.Expr). trees.Term (expr_tree y) (terms_of (map (λ m. (m.0, expr_tree m.1)) v.items))) is ∙ sym (term_more (expr_tree x) v.items some)
+
+-- no item is read where none begins
+pub nothing_more : {A : Type 0} (goes : List Kind → Bool) (item : Parser A) (ts : List Kind) → goes ts ≡ false → many goes item [] ts ≡ Ok ([], ts)
+unfolding many
+nothing_more goes item ts off = turn_stops goes item (length ts) [] ts off
 
 pub ruleset made = (made_or, made_and, made_relation, made_minus, made_not, made_bracket, made_named, made_sum, made_term)

@@ -1,6 +1,7 @@
 //! The parser: tokens are read as the one tree of the grammar, or the first fault is told.
 #![tactic(auto)]
 
+mod item;
 mod make_expression;
 mod make_statement;
 mod parsing;

@@ -5,12 +5,16 @@ ghost use Rattle.lynx_tree.specs.Trees as trees;
 ghost use Rattle.lynx_tree.specs.Trees.{expr_tree, boxed_tree};
 ghost use Rattle.lynx_descent.specs.ReadingExpressions.{exprs_of, sum_of, term_of, named_of};
 
-use lynx_tree::{Expr, TermSign};
 use lynx_lexer::{IdentRef, Sign};
+use lynx_tree::{Expr, TermSign};
 use std::alloc::{AllocError, Global};
 
 /// A list of two expressions.
-pub fn two<'a>(alloc: Global, first: Expr<'a>, second: Expr<'a>) -> Result<Vec<Expr<'a>>, AllocError>
+pub fn two<'a>(
+    alloc: Global,
+    first: Expr<'a>,
+    second: Expr<'a>,
+) -> Result<Vec<Expr<'a>>, AllocError>
     ensures { IfOk result (λ v. map expr_tree v.items ≡ expr_tree first.entry ∷ expr_tree second.entry ∷ []) }
 {
     let mut all = Vec::new(alloc);
@@ -34,7 +38,12 @@ pub fn and_of<'a>(members: Vec<Expr<'a>>) -> Expr<'a>
 }
 
 #[tactic(auto, using(crate::proofs::Made::made))]
-pub fn relation_of<'a>(alloc: Global, first: Expr<'a>, sign: Sign, second: Expr<'a>) -> Result<Expr<'a>, AllocError>
+pub fn relation_of<'a>(
+    alloc: Global,
+    first: Expr<'a>,
+    sign: Sign,
+    second: Expr<'a>,
+) -> Result<Expr<'a>, AllocError>
     ensures { IfOk result (λ e. expr_tree e ≡ trees.Relation (expr_tree first.entry) sign (expr_tree second.entry)) }
 {
     Ok(Expr::Relation {
@@ -46,7 +55,11 @@ pub fn relation_of<'a>(alloc: Global, first: Expr<'a>, sign: Sign, second: Expr<
 
 /// A sum, or its first member where it has no other.
 #[tactic(auto, using(crate::proofs::Made::made))]
-pub fn sum_of<'a>(alloc: Global, first: Expr<'a>, rest: Vec<(Sign, Expr<'a>)>) -> Result<Expr<'a>, AllocError>
+pub fn sum_of<'a>(
+    alloc: Global,
+    first: Expr<'a>,
+    rest: Vec<(Sign, Expr<'a>)>,
+) -> Result<Expr<'a>, AllocError>
     ensures { IfOk result (λ e. expr_tree e ≡ sum_of (expr_tree first.entry) (map (λ m. (m.0, expr_tree m.1)) rest.entry.items)) }
 {
     if rest.is_empty() {
@@ -60,7 +73,11 @@ pub fn sum_of<'a>(alloc: Global, first: Expr<'a>, rest: Vec<(Sign, Expr<'a>)>) -
 
 /// A term, or its first member where it has no other.
 #[tactic(auto, using(crate::proofs::Made::made))]
-pub fn term_of<'a>(alloc: Global, first: Expr<'a>, rest: Vec<(TermSign, Expr<'a>)>) -> Result<Expr<'a>, AllocError>
+pub fn term_of<'a>(
+    alloc: Global,
+    first: Expr<'a>,
+    rest: Vec<(TermSign, Expr<'a>)>,
+) -> Result<Expr<'a>, AllocError>
     ensures { IfOk result (λ e. expr_tree e ≡ term_of (expr_tree first.entry) (map (λ m. (m.0, expr_tree m.1)) rest.entry.items)) }
 {
     if rest.is_empty() {

@@ -6,23 +6,23 @@ ghost use Rattle.lynx_tree.specs.Trees.{expr_tree, boxed_tree, stmt_tree};
 ghost use Rattle.lynx_descent.specs.ReadingExpressions.{exprs_of};
 ghost use Rattle.lynx_descent.specs.ReadingStatements.{assign_of, choice_of, body_of, handlers_of, handler_of};
 
-use lynx_tree::Expr;
-use lynx_tree::{Handler, Stmt};
 use lynx_lexer::IdentRef;
+use lynx_tree::{Expr, Handler, Stmt};
 
 #[tactic(auto, using(crate::proofs::MadeStatements::made_statements))]
-pub fn assign_of<'a>(
-    name: IdentRef<'a>,
-    index: Option<Box<Expr<'a>>>,
-    value: Expr<'a>,
-) -> Stmt<'a>
+pub fn assign_of<'a>(name: IdentRef<'a>, index: Option<Box<Expr<'a>>>, value: Expr<'a>) -> Stmt<'a>
     ensures { stmt_tree result ≡ assign_of name.entry (option_map boxed_tree index.entry) (expr_tree value.entry) }
 {
     Stmt::Assign { name, index, value }
 }
 
 #[tactic(auto, using(crate::proofs::MadeStatements::made_statements))]
-pub fn connect_of<'a>(op: IdentRef<'a>, link: IdentRef<'a>, values: Vec<Expr<'a>>, results: Vec<IdentRef<'a>>) -> Stmt<'a>
+pub fn connect_of<'a>(
+    op: IdentRef<'a>,
+    link: IdentRef<'a>,
+    values: Vec<Expr<'a>>,
+    results: Vec<IdentRef<'a>>,
+) -> Stmt<'a>
     ensures { stmt_tree result ≡ trees.Connect op.entry link.entry (exprs_of (map expr_tree values.entry.items)) results.entry.items }
 {
     Stmt::Connect {
@@ -63,7 +63,12 @@ pub fn repetition_of<'a>(condition: Expr<'a>, body: Vec<Stmt<'a>>) -> Stmt<'a>
 }
 
 #[tactic(auto, using(crate::proofs::MadeStatements::made_statements))]
-pub fn accept_of<'a>(op: IdentRef<'a>, link: IdentRef<'a>, names: Vec<IdentRef<'a>>, body: Vec<Stmt<'a>>) -> Stmt<'a>
+pub fn accept_of<'a>(
+    op: IdentRef<'a>,
+    link: IdentRef<'a>,
+    names: Vec<IdentRef<'a>>,
+    body: Vec<Stmt<'a>>,
+) -> Stmt<'a>
     ensures { stmt_tree result ≡ trees.Accept op.entry link.entry names.entry.items (body_of body.entry.items) }
 {
     Stmt::Accept {

@@ -10,11 +10,10 @@ ghost use Rattle.lynx_tree.specs.Printing.{IsPrintable};
 ghost use Rattle.lynx_tree.specs.Trees.{ModuleTree, module_tree};
 ghost use Rattle.lynx_tree.specs.declared.fault.SyntaxFault.TheVariants as faults;
 
-use lynx_tree::SyntaxFault;
-use lynx_tree::Module;
 use crate::reader::Reader;
 use lynx_descent::Refusal;
 use lynx_lexer::Token;
+use lynx_tree::{Module, SyntaxFault};
 use std::alloc::Global;
 
 /// How many brackets and statements may be open.
@@ -49,7 +48,8 @@ fn read<'a>(alloc: Global, tokens: &[Token<'a>]) -> Result<Module<'a>, SyntaxFau
 
 /// The tree of the module that tokens spell, or the first fault.
 ///
-/// The tokens are those of the source, within the lexer's limits.
+/// The tokens are those of the source, within the lexer's limits. Reading takes stack for each level of nesting: up to
+/// 192 KiB at 64 open brackets, and 80 KiB at 64 open statements (measured).
 pub fn parse<'a>(
     alloc: Global,
     source: &'a [u8],

@@ -6,13 +6,13 @@ ghost use Rattle.lynx_descent.specs.ReadingExpressions as spec;
 ghost use Rattle.lynx_descent.specs.ReadingExpressions.{inside};
 ghost use Rattle.lynx_tree.specs.Trees.{expr_tree, boxed_tree};
 
-use lynx_tree::{Expr, TermSign};
 use crate::make_expression::{
     and_of, bracket_of, minus_of, named_of, not_of, or_of, relation_of, sum_of, term_of, two,
 };
 use crate::reader::Reader;
 use lynx_descent::{Ahead, Refusal};
 use lynx_lexer::{Keyword, Sign};
+use lynx_tree::{Expr, TermSign};
 
 impl<'t, 'a> Reader<'t, 'a> {
     /// The sign of a relation, if one comes next.
@@ -75,7 +75,11 @@ impl<'t, 'a> Reader<'t, 'a> {
     /// Reads what follows each further `or`.
     #[cycle(read_expression)]
     #[tactic(auto, using(lynx_descent::proofs::Turns::turns))]
-    fn disjuncts(&mut self, room: usize, mut members: Vec<Expr<'a>>) -> Result<Vec<Expr<'a>>, Refusal>
+    fn disjuncts(
+        &mut self,
+        room: usize,
+        mut members: Vec<Expr<'a>>,
+    ) -> Result<Vec<Expr<'a>>, Refusal>
         ensures { Reads (λ v. map expr_tree v.items) (spec.disjuncts (inside room) (map expr_tree members.entry.items) self.old) result self.new }
     {
         for _turn in 0..self.left() {
@@ -107,7 +111,11 @@ impl<'t, 'a> Reader<'t, 'a> {
     /// Reads what follows each further `and`.
     #[cycle(read_expression)]
     #[tactic(auto, using(lynx_descent::proofs::Turns::turns))]
-    fn conjuncts(&mut self, room: usize, mut members: Vec<Expr<'a>>) -> Result<Vec<Expr<'a>>, Refusal>
+    fn conjuncts(
+        &mut self,
+        room: usize,
+        mut members: Vec<Expr<'a>>,
+    ) -> Result<Vec<Expr<'a>>, Refusal>
         ensures { Reads (λ v. map expr_tree v.items) (spec.conjuncts (inside room) (map expr_tree members.entry.items) self.old) result self.new }
     {
         for _turn in 0..self.left() {
@@ -136,11 +144,14 @@ impl<'t, 'a> Reader<'t, 'a> {
     }
 
     #[cycle(read_expression)]
-    #[tactic(auto, unfolding(lynx_descent::specs::ReadingExpressions::sum))]
+    #[tactic(auto, using(crate::proofs::Made::nothing_more), unfolding(lynx_descent::specs::ReadingExpressions::sum))]
     fn sum(&mut self, room: usize) -> Result<Expr<'a>, Refusal>
         ensures { Reads expr_tree (spec.sum (inside room) self.old) result self.new }
     {
         let first = self.term(room)?;
+        if self.sum_sign().is_none() {
+            return Ok(first);
+        }
         let rest = self.summands(room)?;
         Ok(sum_of(self.alloc(), first, rest)?)
     }
@@ -164,11 +175,14 @@ impl<'t, 'a> Reader<'t, 'a> {
     }
 
     #[cycle(read_expression)]
-    #[tactic(auto, unfolding(lynx_descent::specs::ReadingExpressions::term))]
+    #[tactic(auto, using(crate::proofs::Made::nothing_more), unfolding(lynx_descent::specs::ReadingExpressions::term))]
     fn term(&mut self, room: usize) -> Result<Expr<'a>, Refusal>
         ensures { Reads expr_tree (spec.term (inside room) self.old) result self.new }
     {
         let first = self.unary(room)?;
+        if self.term_sign().is_none() {
+            return Ok(first);
+        }
         let rest = self.factors(room)?;
         Ok(term_of(self.alloc(), first, rest)?)
     }

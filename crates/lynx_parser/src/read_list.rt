@@ -1,68 +1,63 @@
 //! Reading lists in brackets.
 
-ghost use Rattle.std.specs.Prelude.{◌≡◌, ℕ, map};
+ghost use Rattle.std.specs.Prelude.{◌≡◌, ℕ, List, map};
 ghost use Rattle.lynx_descent.specs.Reading.{Reads, name};
 ghost use Rattle.lynx_descent.specs.ReadingExpressions.{inside, expr};
 ghost use Rattle.lynx_descent.specs.ReadingLists as spec;
-ghost use Rattle.lynx_tree.specs.Trees.{expr_tree};
+ghost use Rattle.lynx_tree.specs.Trees.{ExprTree, expr_tree};
+ghost use Rattle.lynx_tree.specs.declared.declaration.TypeName.{TypeName as TypeTree};
 
-use lynx_tree::TypeName;
-use lynx_tree::Expr;
+use crate::item::{Item, listed};
 use crate::reader::Reader;
 use lynx_descent::{Ahead, Refusal};
 use lynx_lexer::{IdentRef, Keyword, Sign};
+use lynx_tree::{Expr, TypeName};
+
+impl<'a> Item<'a> for IdentRef<'a> {
+    ghost Tree = { List ℕ };
+
+    ghost tree = { λ ident. ident };
+
+    ghost parser = { λ _. name };
+
+    fn read<'t>(reader: &mut Reader<'t, 'a>, _room: usize) -> Result<IdentRef<'a>, Refusal> {
+        reader.name()
+    }
+}
+
+impl<'a> Item<'a> for Expr<'a> {
+    ghost Tree = { ExprTree };
+
+    ghost tree = { expr_tree };
+
+    ghost parser = { λ room. expr (inside room) };
+
+    fn read<'t>(reader: &mut Reader<'t, 'a>, room: usize) -> Result<Expr<'a>, Refusal> {
+        reader.expr(room)
+    }
+}
+
+impl<'a> Item<'a> for TypeName {
+    ghost Tree = { TypeTree };
+
+    ghost tree = { λ kind. kind };
+
+    ghost parser = { λ _. spec.type_name };
+
+    fn read<'t>(reader: &mut Reader<'t, 'a>, _room: usize) -> Result<TypeName, Refusal> {
+        reader.type_name()
+    }
+}
 
 impl<'t, 'a> Reader<'t, 'a> {
-    /// Reads names with commas between, up to `)`.
-    #[tactic(auto, using(lynx_descent::proofs::Turns::turns))]
-    fn name_list(&mut self) -> Result<Vec<IdentRef<'a>>, Refusal>
-        ensures { Reads (λ v. v.items) (spec.listed name self.old) result self.new }
-    {
-        let mut all = Vec::new(self.alloc());
-        if self.sees_sign(Sign::Close) {
-            return Ok(all);
-        }
-        all.push(self.name()?)?;
-        for _turn in 0..self.left() {
-            if !self.sees_sign(Sign::Comma) {
-                break;
-            }
-            self.advance();
-            all.push(self.name()?)?;
-        }
-        all.shrink_to_fit();
-        Ok(all)
-    }
-
     /// Reads names in brackets.
     #[tactic(auto, unfolding(lynx_descent::specs::ReadingLists::names))]
     pub fn names(&mut self, room: usize) -> Result<Vec<IdentRef<'a>>, Refusal>
         ensures { Reads (λ v. v.items) (spec.names room self.old) result self.new }
     {
-        self.bracket(room)?;
-        let all = self.name_list()?;
+        let within = self.bracket(room)?;
+        let all = listed(self, within)?;
         self.sign(Sign::Close)?;
-        Ok(all)
-    }
-
-    /// Reads values with commas between, up to `)`.
-    #[tactic(auto, using(lynx_descent::proofs::Turns::turns))]
-    fn value_list(&mut self, room: usize) -> Result<Vec<Expr<'a>>, Refusal>
-        ensures { Reads (λ v. map expr_tree v.items) (spec.listed (expr (inside room)) self.old) result self.new }
-    {
-        let mut all = Vec::new(self.alloc());
-        if self.sees_sign(Sign::Close) {
-            return Ok(all);
-        }
-        all.push(self.expr(room)?)?;
-        for _turn in 0..self.left() {
-            if !self.sees_sign(Sign::Comma) {
-                break;
-            }
-            self.advance();
-            all.push(self.expr(room)?)?;
-        }
-        all.shrink_to_fit();
         Ok(all)
     }
 
@@ -72,7 +67,7 @@ impl<'t, 'a> Reader<'t, 'a> {
         ensures { Reads (λ v. map expr_tree v.items) (spec.values room self.old) result self.new }
     {
         let within = self.bracket(room)?;
-        let all = self.value_list(within)?;
+        let all = listed(self, within)?;
         self.sign(Sign::Close)?;
         Ok(all)
     }
@@ -97,34 +92,13 @@ impl<'t, 'a> Reader<'t, 'a> {
         Ok(kind)
     }
 
-    /// Reads types with commas between, up to `)`.
-    #[tactic(auto, using(lynx_descent::proofs::Turns::turns))]
-    fn type_list(&mut self) -> Result<Vec<TypeName>, Refusal>
-        ensures { Reads (λ v. v.items) (spec.listed spec.type_name self.old) result self.new }
-    {
-        let mut all = Vec::new(self.alloc());
-        if self.sees_sign(Sign::Close) {
-            return Ok(all);
-        }
-        all.push(self.type_name()?)?;
-        for _turn in 0..self.left() {
-            if !self.sees_sign(Sign::Comma) {
-                break;
-            }
-            self.advance();
-            all.push(self.type_name()?)?;
-        }
-        all.shrink_to_fit();
-        Ok(all)
-    }
-
     /// Reads types in brackets.
     #[tactic(auto, unfolding(lynx_descent::specs::ReadingLists::type_names))]
     pub fn type_names(&mut self, room: usize) -> Result<Vec<TypeName>, Refusal>
         ensures { Reads (λ v. v.items) (spec.type_names room self.old) result self.new }
     {
-        self.bracket(room)?;
-        let all = self.type_list()?;
+        let within = self.bracket(room)?;
+        let all = listed(self, within)?;
         self.sign(Sign::Close)?;
         Ok(all)
     }

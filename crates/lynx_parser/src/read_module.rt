@@ -4,14 +4,49 @@ ghost use Rattle.std.specs.Prelude.{◌≡◌, ℕ, map};
 ghost use Rattle.lynx_descent.specs.Reading.{Reads};
 ghost use Rattle.lynx_descent.specs.ReadingModules as spec;
 ghost use Rattle.lynx_descent.specs.ReadingStatements.{body_of};
-ghost use Rattle.lynx_tree.specs.Trees.{op_tree, var_tree, entry_tree, module_tree};
+ghost use Rattle.lynx_tree.specs.Trees.{OpTree, VarTree, EntryTree, op_tree, var_tree, entry_tree, module_tree};
 
-use lynx_tree::{EntryDecl, OpDecl, VarDecl};
-use lynx_tree::Module;
+use crate::item::{Item, declared};
 use crate::reader::Reader;
 use lynx_descent::Refusal;
-use lynx_tree::Stmt;
 use lynx_lexer::{Keyword, Sign};
+use lynx_tree::{EntryDecl, Module, OpDecl, Stmt, VarDecl};
+
+impl<'a> Item<'a> for OpDecl<'a> {
+    ghost Tree = { OpTree };
+
+    ghost tree = { op_tree };
+
+    ghost parser = { spec.op };
+
+    fn read<'t>(reader: &mut Reader<'t, 'a>, room: usize) -> Result<OpDecl<'a>, Refusal> {
+        reader.op(room)
+    }
+}
+
+impl<'a> Item<'a> for VarDecl<'a> {
+    ghost Tree = { VarTree };
+
+    ghost tree = { var_tree };
+
+    ghost parser = { λ _. spec.var };
+
+    fn read<'t>(reader: &mut Reader<'t, 'a>, _room: usize) -> Result<VarDecl<'a>, Refusal> {
+        reader.var()
+    }
+}
+
+impl<'a> Item<'a> for EntryDecl<'a> {
+    ghost Tree = { EntryTree };
+
+    ghost tree = { entry_tree };
+
+    ghost parser = { spec.entry };
+
+    fn read<'t>(reader: &mut Reader<'t, 'a>, room: usize) -> Result<EntryDecl<'a>, Refusal> {
+        reader.entry(room)
+    }
+}
 
 impl<'t, 'a> Reader<'t, 'a> {
     #[tactic(auto, unfolding(lynx_descent::specs::ReadingModules::op))]
@@ -31,20 +66,6 @@ impl<'t, 'a> Reader<'t, 'a> {
         })
     }
 
-    #[tactic(auto, using(lynx_descent::proofs::Turns::turns))]
-    fn ops(&mut self, room: usize) -> Result<Vec<OpDecl<'a>>, Refusal>
-        ensures { Reads (λ v. map op_tree v.items) (spec.ops room self.old) result self.new }
-    {
-        let mut all = Vec::new(self.alloc());
-        for _turn in 0..self.left() {
-            if !self.sees_keyword(Keyword::Op) {
-                break;
-            }
-            all.push(self.op(room)?)?;
-        }
-        Ok(all)
-    }
-
     /// Reads a param or a variable.
     #[tactic(auto, unfolding(lynx_descent::specs::ReadingModules::var))]
     fn var(&mut self) -> Result<VarDecl<'a>, Refusal>
@@ -56,21 +77,6 @@ impl<'t, 'a> Reader<'t, 'a> {
         let kind = self.type_name()?;
         self.sign(Sign::Semicolon)?;
         Ok(VarDecl { name, kind })
-    }
-
-    /// Reads params or variables, each behind the keyword.
-    #[tactic(auto, using(lynx_descent::proofs::Turns::turns))]
-    fn vars(&mut self, keyword: Keyword) -> Result<Vec<VarDecl<'a>>, Refusal>
-        ensures { Reads (λ v. map var_tree v.items) (spec.vars keyword self.old) result self.new }
-    {
-        let mut all = Vec::new(self.alloc());
-        for _turn in 0..self.left() {
-            if !self.sees_keyword(keyword) {
-                break;
-            }
-            all.push(self.var()?)?;
-        }
-        Ok(all)
     }
 
     /// Reads statements from `begin` to `end`.
@@ -93,7 +99,7 @@ impl<'t, 'a> Reader<'t, 'a> {
         self.keyword(Keyword::Of)?;
         let op = self.name()?;
         let parameters = self.names(room)?;
-        let vars = self.vars(Keyword::Var)?;
+        let vars = declared(self, Keyword::Var, room)?;
         let body = self.body(room)?;
         self.sign(Sign::Semicolon)?;
         Ok(EntryDecl {
@@ -105,20 +111,6 @@ impl<'t, 'a> Reader<'t, 'a> {
         })
     }
 
-    #[tactic(auto, using(lynx_descent::proofs::Turns::turns))]
-    fn entries(&mut self, room: usize) -> Result<Vec<EntryDecl<'a>>, Refusal>
-        ensures { Reads (λ v. map entry_tree v.items) (spec.entries room self.old) result self.new }
-    {
-        let mut all = Vec::new(self.alloc());
-        for _turn in 0..self.left() {
-            if !self.sees_keyword(Keyword::Entry) {
-                break;
-            }
-            all.push(self.entry(room)?)?;
-        }
-        Ok(all)
-    }
-
     #[tactic(auto, using(crate::proofs::MadeStatements::stmts_listed), unfolding(lynx_descent::specs::ReadingModules::one_module))]
     fn one_module(&mut self, room: usize) -> Result<Module<'a>, Refusal>
         ensures { Reads module_tree (spec.one_module room self.old) result self.new }
@@ -126,10 +118,10 @@ impl<'t, 'a> Reader<'t, 'a> {
         self.keyword(Keyword::Module)?;
         let name = self.name()?;
         self.sign(Sign::Semicolon)?;
-        let ops = self.ops(room)?;
-        let params = self.vars(Keyword::Param)?;
-        let vars = self.vars(Keyword::Var)?;
-        let entries = self.entries(room)?;
+        let ops = declared(self, Keyword::Op, room)?;
+        let params = declared(self, Keyword::Param, room)?;
+        let vars = declared(self, Keyword::Var, room)?;
+        let entries = declared(self, Keyword::Entry, room)?;
         let body = self.body(room)?;
         self.sign(Sign::Dot)?;
         Ok(Module {

@@ -11,8 +11,8 @@ use crate::make_statement::{
 };
 use crate::reader::Reader;
 use lynx_descent::{Ahead, Refusal};
-use lynx_tree::{Handler, Stmt};
 use lynx_lexer::{IdentRef, Keyword, Sign};
+use lynx_tree::{Handler, Stmt};
 
 impl<'t, 'a> Reader<'t, 'a> {
     #[tactic(auto, unfolding(lynx_descent::specs::ReadingStatements::assign))]

@@ -143,10 +143,12 @@ impl<'t, 'a> Reader<'t, 'a> {
     pub fn name(&mut self) -> Result<IdentRef<'a>, Refusal>
         ensures { Reads (λ x. x) (spec.name self.old) result self.new }
     {
-        let Some(Token {
-            kind: Kind::Name(name),
-            ..
-        }) = self.rest.first()
+        let Some(
+            Token {
+                kind: Kind::Name(name),
+                ..
+            },
+        ) = self.rest.first()
         else {
             return Err(self.refuse());
         };
@@ -159,10 +161,12 @@ impl<'t, 'a> Reader<'t, 'a> {
     pub fn number(&mut self) -> Result<i64, Refusal>
         ensures { Reads (λ x. x) (spec.number self.old) result self.new }
     {
-        let Some(Token {
-            kind: Kind::Number(number),
-            ..
-        }) = self.rest.first()
+        let Some(
+            Token {
+                kind: Kind::Number(number),
+                ..
+            },
+        ) = self.rest.first()
         else {
             return Err(self.refuse());
         };
@@ -175,10 +179,12 @@ impl<'t, 'a> Reader<'t, 'a> {
     pub fn text(&mut self) -> Result<TextRef<'a>, Refusal>
         ensures { Reads (λ x. x) (spec.text self.old) result self.new }
     {
-        let Some(Token {
-            kind: Kind::Text(inside),
-            ..
-        }) = self.rest.first()
+        let Some(
+            Token {
+                kind: Kind::Text(inside),
+                ..
+            },
+        ) = self.rest.first()
         else {
             return Err(self.refuse());
         };

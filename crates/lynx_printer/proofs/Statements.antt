@@ -1,5 +1,5 @@
 -- What printing the parts of a statement says of it.
-use Rattle.std.proofs.Common.{◌≡◌, ℕ, suc, List, [], ◌∷◌, ◌++◌, Option, Some, None, Result, Ok, Err, refl, sym, ap, subst, ◌∙◌, append_assoc, rules}
+use Rattle.std.proofs.Common.{◌≡◌, ℕ, suc, List, [], ◌∷◌, ◌++◌, Option, Some, None, Result, Ok, Err, refl, sym, ap, subst, ◌∙◌, append_assoc}
 use Rattle.std.specs.Prelude.{OnOk}
 use Rattle.std.specs.Global.{Vec, Box}
 use Rattle.std.specs.List.{flat_map}
@@ -9,8 +9,7 @@ use Rattle.lynx_lexer.specs.declared.sign.Sign.TheVariants as signs
 use Rattle.lynx_tree.specs.declared.expression.Expr as expr
 use Rattle.lynx_tree.specs.declared.statement.Stmt as stmt
 use Rattle.lynx_tree.specs.declared.statement.Handler.{Handler}
-use Rattle.lynx_tree.specs.Trees as trees
-use Rattle.lynx_tree.specs.Trees.{StmtTree, expr_tree, stmt_tree, stmt_trees, stmt_list, handler_trees, handler_list, else_list, index_tree, assign_tree}
+use Rattle.lynx_tree.specs.Trees.{expr_tree, stmt_tree, stmt_list, handler_list, else_list, index_tree, assign_tree}
 use Rattle.lynx_tree.specs.Grammar.{Mark, word, mark, name, expr_marks, stmt_marks, stmts_marks, handlers_marks, target_marks, else_marks, names_marks, accept_marks}
 use Rattle.lynx_tree.specs.Printing.{text_of, token_text, Prints}
 use Rattle.lynx_tree.proofs.Views.{if_tree, if_else_tree}

@@ -8,8 +8,7 @@ use Rattle.lynx_tree.specs.declared.expression.Expr as expr
 use Rattle.std.specs.Global.{Vec, Box}
 use Rattle.lynx_tree.proofs.Views.{expr_tree-Or, expr_tree-And, expr_tree-Sum, expr_tree-Term}
 use Rattle.lynx_lexer.specs.declared.sign.Sign.{Sign}
-use Rattle.lynx_tree.specs.Trees as trees
-use Rattle.lynx_tree.specs.Trees.{ExprTree, ExprTrees, expr_tree, expr_trees, expr_list, sum_tail, sum_list, term_tail, term_list}
+use Rattle.lynx_tree.specs.Trees.{expr_tree, expr_list, sum_list, term_list}
 use Rattle.lynx_lexer.specs.declared.token.Kind.TheVariants as kinds
 use Rattle.lynx_tree.specs.declared.expression.TermSign.{TermSign}
 use Rattle.lynx_tree.specs.Grammar.{Mark, word, expr_marks, chain_marks, behind_marks, sum_marks, term_marks, term_sign}

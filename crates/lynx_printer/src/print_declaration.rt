@@ -7,12 +7,11 @@ ghost use Rattle.lynx_tree.specs.Grammar.{Mark, word, mark, stmts_marks, op_mark
 ghost use Rattle.lynx_tree.specs.Trees.{stmt_list, op_tree, var_tree, entry_tree};
 ghost use Rattle.lynx_tree.specs.Printing.{Prints};
 
-use lynx_tree::{EntryDecl, OpDecl, VarDecl};
 use crate::print_list::{push_names, push_type, push_types};
 use crate::print_statement::{push_named, push_stmts, push_two};
 use crate::print_token::{push_keyword, push_sign};
-use lynx_tree::Stmt;
 use lynx_lexer::{Keyword, NoMemory, Sign};
+use lynx_tree::{EntryDecl, OpDecl, Stmt, VarDecl};
 
 fn push_op(out: &mut Vec<u8>, op: &OpDecl) -> Result<(), NoMemory>
     ensures { OnOk result (Prints out.old.items out.new.items (op_marks (op_tree op.now))) }

@@ -5,11 +5,11 @@ ghost use Rattle.lynx_tree.specs.Grammar.{Mark, expr_marks, index_marks, chain_m
 ghost use Rattle.lynx_tree.specs.Trees.{expr_tree, expr_list, sum_list, term_list};
 ghost use Rattle.lynx_tree.specs.Printing.{Prints, token_text};
 
-use lynx_tree::{Expr, TermSign};
 use crate::print_token::{
     push_keyword, push_name, push_number, push_sign, push_spelling, push_text,
 };
 use lynx_lexer::{Keyword, NoMemory, Sign};
+use lynx_tree::{Expr, TermSign};
 
 /// Adds an expression.
 #[cycle(print_expression)]

@@ -5,11 +5,10 @@ ghost use Rattle.lynx_tree.specs.Grammar.{Mark, name, commas, names_marks, exprs
 ghost use Rattle.lynx_tree.specs.Trees.{expr_list};
 ghost use Rattle.lynx_tree.specs.Printing.{Prints};
 
-use lynx_tree::TypeName;
-use lynx_tree::Expr;
 use crate::print_expression::push_chain;
 use crate::print_token::{push_keyword, push_name, push_number, push_sign};
 use lynx_lexer::{IdentRef, Keyword, NoMemory, Sign};
+use lynx_tree::{Expr, TypeName};
 
 fn push_name_list(out: &mut Vec<u8>, names: &[IdentRef]) -> Result<(), NoMemory>
     ensures { (d : ℕ) → OnOk result (Prints out.old.items out.new.items (commas d (map (λ n. name d n ∷ []) names.now))) }

@@ -7,16 +7,19 @@ ghost use Rattle.lynx_lexer.specs.declared.keyword.Keyword.TheVariants as keywor
 ghost use Rattle.lynx_lexer.specs.declared.sign.Sign.TheVariants as signs;
 ghost use Rattle.lynx_tree.specs.Printing.{Prints};
 
-use lynx_tree::Expr;
 use crate::print_expression::{push_expr, push_index};
 use crate::print_list::{push_exprs, push_names};
 use crate::print_token::{push_keyword, push_name, push_sign};
-use lynx_tree::{Handler, Stmt};
 use lynx_lexer::{IdentRef, Keyword, NoMemory, Sign};
+use lynx_tree::{Expr, Handler, Stmt};
 
 /// Adds the target of an assignment.
 #[tactic(auto, using(crate::proofs::Texts::texts))]
-fn push_target(out: &mut Vec<u8>, name: &IdentRef, index: &Option<Box<Expr>>) -> Result<(), NoMemory>
+fn push_target(
+    out: &mut Vec<u8>,
+    name: &IdentRef,
+    index: &Option<Box<Expr>>,
+) -> Result<(), NoMemory>
     ensures { (d : ℕ) → OnOk result (Prints out.old.items out.new.items (target_marks d name.now (index_tree index.now))) }
 {
     push_name(out, name)?;
@@ -128,7 +131,12 @@ fn push_connect(
 }
 
 /// Adds the first line of an accept.
-fn push_accept(out: &mut Vec<u8>, op: &IdentRef, link: &IdentRef, names: &[IdentRef]) -> Result<(), NoMemory>
+fn push_accept(
+    out: &mut Vec<u8>,
+    op: &IdentRef,
+    link: &IdentRef,
+    names: &[IdentRef],
+) -> Result<(), NoMemory>
     ensures { (d : ℕ) → OnOk result (Prints out.old.items out.new.items (accept_marks d op.now link.now names.now)) }
 {
     push_two(out, Keyword::Accept, op, Keyword::On, link)?;

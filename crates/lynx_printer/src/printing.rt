@@ -8,11 +8,11 @@ ghost use Rattle.lynx_tree.specs.Grammar.{module_marks, kinds_of, HasTokens};
 ghost use Rattle.lynx_tree.specs.Trees.{module_tree};
 ghost use Rattle.lynx_tree.specs.Printing.{Prints, IsPrintable, printed};
 
-use lynx_tree::Module;
 use crate::print_declaration::{push_body, push_entries, push_ops, push_vars};
 use crate::print_statement::push_named;
 use crate::print_token::push_sign;
 use lynx_lexer::{Keyword, NoMemory, Sign};
+use lynx_tree::Module;
 use std::alloc::Global;
 
 fn push_module(out: &mut Vec<u8>, tree: &Module) -> Result<(), NoMemory>

@@ -1,5 +1,5 @@
 -- Trees of the values in vectors and boxes: what `expr_tree` and `stmt_tree` give, said of lists.
-use Rattle.std.proofs.Common.{◌≡◌, ℕ, List, [], ◌∷◌, ◌++◌, map, Option, Some, None, refl, sym, ap, ◌∙◌, rules}
+use Rattle.std.proofs.Common.{◌≡◌, ℕ, List, [], ◌∷◌, ◌++◌, map, Some, None, refl, sym, ap, ◌∙◌, rules}
 use Rattle.std.specs.Global.{Vec, Box}
 use Rattle.std.specs.List.{flat_map}
 use Rattle.lynx_lexer.specs.declared.sign.Sign.{Sign}
@@ -68,4 +68,3 @@ if_tree condition then = search (rules, stmts_are, the_stmt_lemmas)
 
 pub if_else_tree : (condition : Box expr.Expr) (then otherwise : Vec stmt.Stmt) → stmt_tree (stmt.If condition then (Some otherwise)) ≡ trees.IfElse (expr_tree condition.value) (stmt_list then.items) (stmt_list otherwise.items)
 if_else_tree condition then otherwise = search (rules, stmts_are, the_stmt_lemmas)
-
