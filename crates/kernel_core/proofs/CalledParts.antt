@@ -6,10 +6,11 @@ use Rattle.charlotte_calls.specs.declared.names.Pid.{Pid}
 use Rattle.charlotte_calls.specs.declared.work.Effect.{Effect}
 use Rattle.end_table.specs.Table.{TableView, entries}
 use Rattle.kernel_core.proofs.Reserved.{reserved-parts}
-use Rattle.kernel_core.proofs.Takes.{state-parts, state-changed}
-use Rattle.kernel_core.specs.State.{KernelView, kept_process, state_of, ended, with_parts}
+use Rattle.kernel_core.proofs.Kernels.{state-parts, state-changed}
+use Rattle.kernel_core.specs.State.{KernelView, state_of}
+use Rattle.kernel_process.specs.Processes.{kept_process, ended, with_parts}
 use Rattle.kernel_core.specs.Stepping.{IsStepOf, IsCalled}
-use Rattle.kernel_core.specs.declared.process.Kept.{Kept}
+use Rattle.kernel_process.specs.declared.process.Kept.{Kept}
 use Rattle.kernel_step.specs.Calls.{IsCallWith}
 use Rattle.kernel_step.specs.Kernel.{call_step, next_stamp}
 

@@ -16,20 +16,21 @@ use Rattle.end_table.specs.declared.entry.Entry.{Entry}
 use Rattle.end_table.specs.declared.entry.HereView.{HereView}
 use Rattle.end_table.specs.declared.entry.Inward.{Inward}
 use Rattle.end_table.specs.declared.entry.Inward.TheVariants as inward
-use Rattle.kernel_core.proofs.ActiveSets.{tells_same}
+use Rattle.kernel_process.proofs.ActiveSets.{tells_same}
 use Rattle.kernel_core.proofs.ExitSilent.{exit-silent}
-use Rattle.kernel_core.proofs.KeptMoved.{keys-moved}
+use Rattle.kernel_process.proofs.KeptMoved.{keys-moved}
 use Rattle.kernel_core.proofs.Performs.{acts-answers, acts-reports}
-use Rattle.kernel_core.proofs.SoundActs.{acts-well}
-use Rattle.kernel_core.proofs.Takes.{begun-well, closes-table, owner-below, well-calm, well-sound}
-use Rattle.kernel_core.specs.Acts.{Covers, acts, made_after}
+use Rattle.kernel_sound.proofs.Acts.{acts-well}
+use Rattle.kernel_sound.proofs.Events.{begun-well, owner-below, well-calm, well-sound}
+use Rattle.kernel_process.proofs.Processes.{closes-table}
+use Rattle.kernel_sound.specs.Acts.{Covers, acts, made_after}
 use Rattle.kernel_core.specs.Finishing.{AreOwnersBelow, IsCalmAfter, ending_of, finished, finishes, touched_by, touches, turned, turned_by, turned_on}
 use Rattle.kernel_core.specs.Kept.{IsKept}
-use Rattle.kernel_core.specs.Sound.{AreFor, GoesWell, IsSound}
-use Rattle.kernel_core.specs.State.{with_parts}
-use Rattle.kernel_core.specs.Steady.{StaysCalm, TakesAtMost}
+use Rattle.kernel_sound.specs.Sound.{AreFor, GoesWell, IsSound}
+use Rattle.kernel_process.specs.Processes.{with_parts}
+use Rattle.kernel_process.specs.Steady.{StaysCalm, TakesAtMost}
 use Rattle.kernel_core.specs.declared.calling.Ending.{Ending}
-use Rattle.kernel_core.specs.declared.process.Kept.{Kept}
+use Rattle.kernel_process.specs.declared.process.Kept.{Kept}
 use Rattle.kernel_step.specs.Calls.{IsCallWith, is_active, refusal}
 use Rattle.kernel_step.specs.Kernel.{Kernel, Outcome, closes}
 use Rattle.kernel_step.specs.Progress.{means, progress}

@@ -13,10 +13,11 @@ use Rattle.end_table.specs.declared.entry.Entry.TheVariants as entry
 use Rattle.kernel_step.specs.Calls.{inward_activity, is_active, is_started, outward_activity}
 use Rattle.kernel_step.specs.Start.{start_kernel, wired}
 use Rattle.kernel_core.specs.Kept.{IsKept}
-use Rattle.kernel_core.specs.Sound.{IsSound}
-use Rattle.kernel_core.specs.State.{kept_process, no_process, process_at, state_of}
+use Rattle.kernel_sound.specs.Sound.{IsSound}
+use Rattle.kernel_process.specs.Processes.{kept_process, no_process, process_at}
+use Rattle.kernel_core.specs.State.{state_of}
 use Rattle.kernel_core.specs.Wired.{IsFresh}
-use Rattle.kernel_core.specs.declared.process.Kept.{Kept}
+use Rattle.kernel_process.specs.declared.process.Kept.{Kept}
 
 all-tail : (x : Kept) (xs : List Kept) → All IsFresh (x ∷ xs) → All IsFresh xs
 all-tail x xs fresh = λ k d within. fresh (suc k) d (omega arith)

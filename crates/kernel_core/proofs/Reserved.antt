@@ -1,12 +1,13 @@
 -- What is as before once the room of an event was reserved.
 use Rattle.std.proofs.Common.{◌≡◌, ℕ, List, length, map, sym, ap, subst, ◌∙◌}
 use Rattle.end_table.specs.Table.{TableView, entries}
-use Rattle.kernel_core.proofs.ActiveSets.{tells_same}
-use Rattle.kernel_core.proofs.Takes.{with_parts-kept}
-use Rattle.kernel_core.specs.Kept.{IsKept, started_ends}
-use Rattle.kernel_core.specs.Sound.{IsSound}
-use Rattle.kernel_core.specs.State.{kept_process, with_parts}
-use Rattle.kernel_core.specs.declared.process.Kept.{Kept}
+use Rattle.kernel_process.proofs.ActiveSets.{tells_same}
+use Rattle.kernel_process.proofs.Processes.{with_parts-kept}
+use Rattle.kernel_core.specs.Kept.{IsKept}
+use Rattle.kernel_process.specs.Active.{started_ends}
+use Rattle.kernel_sound.specs.Sound.{IsSound}
+use Rattle.kernel_process.specs.Processes.{kept_process, with_parts}
+use Rattle.kernel_process.specs.declared.process.Kept.{Kept}
 use Rattle.end_table.specs.Owned.{owned}
 use Rattle.kernel_step.specs.Calls.{is_active}
 use Rattle.kernel_step.specs.Kernel.{Kernel}

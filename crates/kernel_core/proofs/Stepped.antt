@@ -13,12 +13,12 @@ use Rattle.charlotte_calls.specs.declared.work.Work.{Work}
 use Rattle.end_table.specs.Owned.{AreEndsOf}
 use Rattle.end_table.specs.Table.{TableView, entries}
 use Rattle.kernel_core.proofs.Performs.{call-acts, call-refused}
-use Rattle.kernel_core.proofs.Processes.{process_of-at}
-use Rattle.kernel_core.specs.Acts.{acts, made_after}
+use Rattle.kernel_process.proofs.Processes.{process_of-at}
+use Rattle.kernel_sound.specs.Acts.{acts, made_after}
 use Rattle.kernel_core.specs.Finishing.{finishes, turned}
-use Rattle.kernel_core.specs.State.{kept_process, process_at, with_parts, ended}
+use Rattle.kernel_process.specs.Processes.{kept_process, process_at, with_parts, ended}
 use Rattle.kernel_core.specs.Stepping.{HasParts, IsStepOf, Begins, AreListedFor, IsRefusedFor}
-use Rattle.kernel_core.specs.declared.process.Kept.{Kept}
+use Rattle.kernel_process.specs.declared.process.Kept.{Kept}
 use Rattle.kernel_step.specs.Calls.{IsCallWith, refusal}
 use Rattle.kernel_step.specs.Kernel.{Kernel, begins, closes, has_report, next_stamp, process_of, stands}
 use Rattle.kernel_step.specs.Progress.{progress, means}

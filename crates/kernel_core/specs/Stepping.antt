@@ -8,8 +8,8 @@ use Rattle.charlotte_calls.specs.declared.names.Pid.{Pid}
 use Rattle.charlotte_calls.specs.declared.work.Effect.{Effect}
 use Rattle.charlotte_calls.specs.declared.work.Work.{Work}
 use Rattle.end_table.specs.Table.{TableView, entries}
-use Rattle.kernel_core.specs.State.{with_parts, ended}
-use Rattle.kernel_core.specs.declared.process.Kept.{Kept}
+use Rattle.kernel_process.specs.Processes.{with_parts, ended}
+use Rattle.kernel_process.specs.declared.process.Kept.{Kept}
 use Rattle.kernel_step.specs.Calls.{IsCallWith, refusal}
 use Rattle.kernel_step.specs.Kernel.{Kernel, begins, call_step, has_report, next_stamp, process_of}
 use Rattle.kernel_step.specs.Progress.{progress}

@@ -10,8 +10,8 @@ use Rattle.end_table.specs.Table.{entries}
 use Rattle.end_table.specs.declared.entry.Entry.{Entry}
 use Rattle.kernel_step.specs.Calls.{made_end}
 use Rattle.kernel_step.specs.Start.{Wired, keeps_at, nothing_wired, owned_from_start, wires_one}
-use Rattle.kernel_core.specs.State.{kept_process, no_process}
-use Rattle.kernel_core.specs.declared.process.Kept.{Kept}
+use Rattle.kernel_process.specs.Processes.{kept_process, no_process}
+use Rattle.kernel_process.specs.declared.process.Kept.{Kept}
 use Rattle.kernel_core.specs.declared.start.Wiring.{Wiring}
 
 -- the first n links of a setting, at all kernels

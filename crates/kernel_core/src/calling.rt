@@ -6,27 +6,26 @@ ghost use Rattle.charlotte_calls.specs.declared.names.Pid.{Pid};
 ghost use Rattle.end_table.specs.Owned.{owned};
 ghost use Rattle.end_table.specs.Table.{entries};
 ghost use Rattle.end_table.specs.declared.entry.Entry.{Entry};
-ghost use Rattle.kernel_core.specs.Acts.{acts, made_after, IsPlacedFor};
-ghost use Rattle.kernel_core.specs.Closing.{HaveSpare, HavePlace};
+ghost use Rattle.kernel_sound.specs.Acts.{acts, made_after};
+ghost use Rattle.kernel_event.specs.Places.{IsPlacedFor};
+ghost use Rattle.kernel_process.specs.Closing.{HaveSpare, HavePlace};
 ghost use Rattle.kernel_core.specs.Finishing.{finishes, finished, ending_of, touched_by, turned, turned_on, turned_to, AreOwnersBelow, IsCalmAfter};
-ghost use Rattle.kernel_core.specs.Kept.{IsKept, Tells};
-ghost use Rattle.kernel_core.specs.Sound.{IsSound};
+ghost use Rattle.kernel_core.specs.Kept.{IsKept};
+ghost use Rattle.kernel_process.specs.Active.{Tells};
+ghost use Rattle.kernel_sound.specs.Sound.{IsSound};
 ghost use Rattle.kernel_core.specs.Started.{IsStarted};
-ghost use Rattle.kernel_core.specs.State.{with_parts, ended, kept_process, HasPlaces};
-ghost use Rattle.kernel_core.specs.Steady.{StaysCalm, TakesAtMost};
+ghost use Rattle.kernel_process.specs.Processes.{with_parts, ended, kept_process, HasPlaces};
+ghost use Rattle.kernel_process.specs.Steady.{StaysCalm, TakesAtMost};
 ghost use Rattle.kernel_step.specs.Calls.{refusal, IsCallWith};
 ghost use Rattle.kernel_step.specs.Kernel.{Kernel, closes, stands};
 ghost use Rattle.kernel_step.specs.Progress.{progress, means};
 
-use crate::activity::clear;
-use crate::acts::act;
-use crate::closing::{close, exit, stand, turn, wait};
-use crate::owners::{owned, owner, refresh_owner};
-use crate::process::Kept;
 use charlotte_calls::{
     Answer, Call, Cause, Effect, EndId, LinkId, Pid, ServiceStep, Side, Way, Work,
 };
 use end_table::{HereView, Inward, Table};
+use kernel_event::act;
+use kernel_process::{Kept, clear, close, exit, owned, owner, refresh_owner, stand, turn, wait};
 use kernel_step::{Phase, push_step};
 
 /// How a call that is no Wait ends.

@@ -1,19 +1,21 @@
 ghost use Rattle.std.specs.Prelude.{◌≡◌, ◌+◌, ◌*◌, ◌<◌, true, false, length, map, None, Some, IfOk, OnOk, OnErr};
 ghost use Rattle.charlotte_calls.specs.declared.calls.Call.TheVariants as calls;
 ghost use Rattle.end_table.specs.Table.{entries};
-ghost use Rattle.kernel_core.specs.Acts.{made_after, IsPlacedFor};
-ghost use Rattle.kernel_core.specs.Closing.{HaveSpare, HavePlace};
-ghost use Rattle.kernel_core.specs.Kept.{IsKept, started_ends};
+ghost use Rattle.kernel_sound.specs.Acts.{made_after};
+ghost use Rattle.kernel_event.specs.Places.{IsPlacedFor};
+ghost use Rattle.kernel_process.specs.Closing.{HaveSpare, HavePlace};
+ghost use Rattle.kernel_core.specs.Kept.{IsKept};
+ghost use Rattle.kernel_process.specs.Active.{started_ends};
 ghost use Rattle.kernel_core.specs.Started.{IsStarted};
-ghost use Rattle.kernel_core.specs.State.{kept_process};
+ghost use Rattle.kernel_process.specs.Processes.{kept_process};
 ghost use Rattle.kernel_core.specs.Stepping.{IsCalled, Begins, AreListedFor, IsRefusedFor};
 
 use crate::calling::{grant, refuse, wait_granted};
-use crate::process::Kept;
 use crate::refusal::refusal;
 use crate::room::{new_answered, new_work, reserve_made, reserve_processes};
 use charlotte_calls::{Call, Cause, Effect, EndId, NoMemory, Pid, Work};
 use end_table::Table;
+use kernel_process::Kept;
 use std::alloc::Global;
 
 /// The event of a call; `mine` are the ends that the caller owns, in order, where it exits.

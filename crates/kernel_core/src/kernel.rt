@@ -7,15 +7,16 @@ ghost use Rattle.kernel_step.specs.Calls.{IsCallWith};
 ghost use Rattle.kernel_step.specs.Kernel.{call_step, take_step, process_of, without_answer};
 ghost use Rattle.kernel_step.specs.Start.{start_kernel};
 ghost use Rattle.kernel_step.specs.declared.phase.Phase.TheVariants.{Running};
-ghost use Rattle.kernel_core.specs.State.{state_of, ended, is_pending, kept_process};
+ghost use Rattle.kernel_core.specs.State.{state_of, is_pending};
+ghost use Rattle.kernel_process.specs.Processes.{ended, kept_process};
 
 use crate::deciding::call_event;
-use crate::process::Kept;
 use crate::stamp::{greater, stamp_after};
 use crate::start::{fresh_processes, wire_links};
 use crate::taking::{NotTaken, take_event};
 use charlotte_calls::{Answer, Call, Effect, NoMemory, Packet, Pid, Setting};
 use end_table::Table;
+use kernel_process::Kept;
 use kernel_step::Phase;
 use std::alloc::Global;
 use std::marker::Model;
@@ -35,7 +36,8 @@ pub struct Kernel {
 
 impl Model for Kernel {
     ghost use Rattle.std.specs.Prelude.{map};
-    ghost use Rattle.kernel_core.specs.State.{KernelView, kept_process};
+    ghost use Rattle.kernel_core.specs.State.{KernelView};
+    ghost use Rattle.kernel_process.specs.Processes.{kept_process};
     ghost use Rattle.kernel_core.specs.Kept.{IsKept};
 
     ghost Value = { KernelView };

@@ -8,12 +8,11 @@ ghost use Rattle.end_table.specs.Place.{end_eq};
 ghost use Rattle.end_table.specs.Table.{entries};
 ghost use Rattle.kernel_step.specs.Calls.{cancel_causes, first_of as first_cause, inward_activity, is_active, is_busy, is_free, is_late, link_limit, names_twice, no_causes, on_owned, outward_activity, receive_causes, refusal, same_link, send_causes, IsCallWith};
 ghost use Rattle.kernel_step.specs.Kernel.{has_report};
-ghost use Rattle.kernel_core.specs.State.{kept_process};
+ghost use Rattle.kernel_process.specs.Processes.{kept_process};
 
-use crate::owners::owned;
-use crate::process::Kept;
 use charlotte_calls::{Call, Cause, EndId, Pid, Way};
 use end_table::{HereView, Inward, Outward, Table};
+use kernel_process::{Kept, owned};
 use kernel_step::first_of;
 
 /// How many links a kernel may make.

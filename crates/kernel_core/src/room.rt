@@ -8,14 +8,14 @@ ghost use Rattle.end_table.specs.Table.{entries, HasPlace, KeepsPlaces};
 ghost use Rattle.kernel_step.specs.Calls.{made_end};
 ghost use Rattle.kernel_step.specs.Kernel.{Kernel as KernelState, begins};
 ghost use Rattle.kernel_step.specs.Progress.{progress, HasRoom};
-ghost use Rattle.kernel_core.specs.Closing.{HaveSpare, HavePlace};
-ghost use Rattle.kernel_core.specs.Kept.{started_ends};
-ghost use Rattle.kernel_core.specs.Needs.{brought, ArePlaced};
-ghost use Rattle.kernel_core.specs.State.{kept_process};
+ghost use Rattle.kernel_process.specs.Closing.{HaveSpare, HavePlace};
+ghost use Rattle.kernel_process.specs.Active.{started_ends};
+ghost use Rattle.kernel_event.specs.Places.{brought, ArePlaced};
+ghost use Rattle.kernel_process.specs.Processes.{kept_process};
 
-use crate::process::Kept;
 use charlotte_calls::{EndId, LinkId, MovingPicture, NoMemory, Pid, Side, What, Work};
 use end_table::Table;
+use kernel_process::Kept;
 use std::alloc::Global;
 
 /// How many packets the death of an end takes at most.
@@ -153,61 +153,4 @@ pub(crate) fn reserve_made(table: &mut Table, made: u32) -> Result<(), NoMemory>
     };
     table.reserve(end)?;
     table.reserve(end.opposite())
-}
-
-#[cfg(test)]
-mod tests {
-    use super::*;
-    use crate::start::fresh_processes;
-    use charlotte_calls::{Cargo, Moving, Packet};
-    use end_table::Entry;
-    use std::test::Fail;
-
-    #[test]
-    fn each_process_gets_room(rt: HostRuntime) -> Result<(), Fail> {
-        let mut processes = fresh_processes(rt.alloc(), 3)?;
-        reserve_processes(processes.as_mut_slice())?;
-        assert_eq!(rt; processes.len(), 3);
-        for process in processes.iter() {
-            assert!(rt; process.reports.is_empty() && process.active.is_empty());
-            assert!(rt; process.reports.capacity() >= 3);
-            assert!(rt; process.active.capacity() >= 1);
-        }
-        Ok(())
-    }
-
-    #[test]
-    fn an_event_begins_with_room(rt: HostRuntime) -> Result<(), Fail> {
-        let work = new_work(rt.alloc(), 7, 2)?;
-        assert_eq!(rt; work.stamp, 7);
-        assert!(rt; work.packets.is_empty() && work.packets.capacity() >= 44);
-        assert!(rt; work.reports.is_empty() && work.reports.capacity() >= 3);
-        assert!(rt; work.answers.is_empty() && work.answers.capacity() >= 1);
-        assert!(rt; work.steps.is_empty() && work.steps.capacity() >= 6);
-        let answered = new_answered(rt.alloc())?;
-        assert!(rt; answered.is_empty() && answered.capacity() >= 5);
-        Ok(())
-    }
-
-    #[test]
-    fn places_change_no_entry(rt: HostRuntime) -> Result<(), Fail> {
-        let mut table = Table::start(rt.alloc(), 0);
-        let link = LinkId { maker: 1, count: 2 };
-        let (a, b) = Moving::pair(link, 1, 0);
-        let (first, second) = (a.end(), b.end());
-        a.destroy();
-        let mut moving = Cargo::empty();
-        moving.add(b);
-        let what = What::Back {
-            to: first,
-            n: 1,
-            moving,
-        };
-        let packet = Packet { stamp: 1, what };
-        reserve_brought(&mut table, &packet.what)?;
-        reserve_made(&mut table, 0)?;
-        assert!(rt; matches!(table.look(first), Entry::Nothing));
-        assert!(rt; matches!(table.look(second), Entry::Nothing));
-        Ok(())
-    }
 }

@@ -11,13 +11,13 @@ ghost use Rattle.end_table.specs.declared.entry.Entry.TheVariants.{Here};
 ghost use Rattle.end_table.specs.declared.entry.Holder.TheVariants.{Owner};
 ghost use Rattle.kernel_step.specs.Calls.{made_end};
 ghost use Rattle.kernel_step.specs.Start.{home, keeps_at, wired};
-ghost use Rattle.kernel_core.specs.Sound.{IsSound};
+ghost use Rattle.kernel_sound.specs.Sound.{IsSound};
 ghost use Rattle.kernel_core.specs.Wired.{HasWired, IsFresh, with_link};
 
-use crate::process::Kept;
 use charlotte_calls::{LinkId, Moving, NoMemory, Pid, Setting};
 use end_table::{Holder, NotStored, Table};
 use indexmap::IndexSet;
+use kernel_process::Kept;
 use kernel_step::Phase;
 use std::alloc::Global;
 use std::collections::VecDeque;

@@ -1,23 +1,22 @@
 ghost use Rattle.std.specs.Prelude.{◌≡◌, length, map, IfOk, IfErr, OnOk, OnErr};
 ghost use Rattle.charlotte_calls.specs.Packets.{what_picture};
 ghost use Rattle.end_table.specs.Table.{entries};
-ghost use Rattle.kernel_core.specs.Closing.{HaveSpare, HavePlace};
-ghost use Rattle.kernel_core.specs.Kept.{IsKept, started_ends};
-ghost use Rattle.kernel_core.specs.Needs.{ArePlaced, brought};
-ghost use Rattle.kernel_core.specs.Sound.{addressee};
-ghost use Rattle.kernel_core.specs.State.{with_parts, ended, kept_process};
+ghost use Rattle.kernel_process.specs.Closing.{HaveSpare, HavePlace};
+ghost use Rattle.kernel_core.specs.Kept.{IsKept};
+ghost use Rattle.kernel_process.specs.Active.{started_ends};
+ghost use Rattle.kernel_event.specs.Places.{ArePlaced, brought};
+ghost use Rattle.kernel_sound.specs.Sound.{addressee};
+ghost use Rattle.kernel_process.specs.Processes.{with_parts, ended, kept_process};
 ghost use Rattle.kernel_core.specs.Started.{IsStarted, takes_addressed};
 ghost use Rattle.kernel_step.specs.Kernel.{Kernel, begins, closes};
 ghost use Rattle.kernel_step.specs.Progress.{progress};
 ghost use Rattle.kernel_step.specs.Rows.{row};
 
-use crate::closing::close;
-use crate::owners::{owner, refresh_owner};
-use crate::process::Kept;
 use crate::room::{new_answered, new_work, reserve_brought, reserve_processes};
-use crate::row::row;
 use charlotte_calls::{Effect, EndId, NoMemory, Packet, Pid, What, Work};
 use end_table::Table;
+use kernel_event::row;
+use kernel_process::{Kept, close, owner, refresh_owner};
 use std::alloc::Global;
 
 /// The packet that a kernel could not take for want of memory.

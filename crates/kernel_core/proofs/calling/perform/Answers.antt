@@ -2,11 +2,11 @@
 use Rattle.std.proofs.Common.{length, ap, sym, subst, ◌∙◌, arith}
 use Rattle.end_table.specs.Table.{entries}
 use Rattle.kernel_core.proofs.Callings.{acted-answers, acted-calm, acted-closes, acted-reports, acted-sound, finished-by}
-use Rattle.kernel_core.proofs.Closes.{takes-both}
-use Rattle.kernel_core.specs.Acts.{made_after}
+use Rattle.kernel_process.proofs.Closes.{takes-both}
+use Rattle.kernel_sound.specs.Acts.{made_after}
 use Rattle.kernel_core.specs.Finishing.{ending_of, finished}
-use Rattle.kernel_core.specs.Sound.{IsSound}
-use Rattle.kernel_core.specs.State.{ended, with_parts}
+use Rattle.kernel_sound.specs.Sound.{IsSound}
+use Rattle.kernel_process.specs.Processes.{ended, with_parts}
 use Rattle.kernel_core.proofs.calling.perform.Goals as goal
 
 pub act-requires-clause-sound : goal.act-requires-clause-sound

@@ -1,7 +1,7 @@
 -- The step is all that the event adds, and then the answer stands.
 use Rattle.std.proofs.Common.{arith}
 use Rattle.kernel_core.proofs.Callings.{kept-calm}
-use Rattle.kernel_core.proofs.Closes.{takes-both}
+use Rattle.kernel_process.proofs.Closes.{takes-both}
 use Rattle.kernel_core.proofs.calling.refuse.Goals as goal
 
 pub returns-clause-kept : goal.returns-clause-kept

@@ -4,7 +4,7 @@ use Rattle.kernel_step.specs.Calls.{refusal, IsCallWith}
 use Rattle.kernel_step.specs.Kernel.{has_report}
 use Rattle.kernel_core.proofs.Active.{wait_refused}
 use Rattle.kernel_core.proofs.refusal.refusal.Goals as goal
-use Rattle.kernel_core.specs.State.{kept_process}
+use Rattle.kernel_process.specs.Processes.{kept_process}
 
 -- some end of the process is active exactly where the set of those is not empty
 pub returns-in-Wait : goal.returns-in-Wait

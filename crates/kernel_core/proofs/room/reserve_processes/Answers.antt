@@ -2,10 +2,10 @@
 use Rattle.std.proofs.Common.{◌+◌, ◌≤◌, ◌∙◌, arith}
 use Rattle.std.specs.VecDeque.{deque_len, deque_capacity}
 use Rattle.indexmap.specs.IndexSet.{spare}
-use Rattle.kernel_core.specs.Kept.{started_ends}
-use Rattle.kernel_core.specs.State.{kept_process}
-use Rattle.kernel_core.specs.declared.process.Kept.{Kept}
-use Rattle.kernel_core.proofs.Rooms.{same_map, set_more}
+use Rattle.kernel_process.specs.Active.{started_ends}
+use Rattle.kernel_process.specs.Processes.{kept_process}
+use Rattle.kernel_process.specs.declared.process.Kept.{Kept}
+use Rattle.kernel_process.proofs.Rooms.{same_map, set_more}
 use Rattle.kernel_core.proofs.room.reserve_processes.Goals as goal
 
 pub loop-process-preserved : goal.loop-process-preserved

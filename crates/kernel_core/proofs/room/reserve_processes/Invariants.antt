@@ -2,9 +2,9 @@
 use Rattle.std.proofs.Common.{◌≡◌, ℕ, ◌+◌, ◌<◌, ◌≤◌, map, get_or}
 use Rattle.std.specs.VecDeque.{deque_len, deque_capacity}
 use Rattle.indexmap.specs.IndexSet.{spare}
-use Rattle.kernel_core.specs.Kept.{started_ends}
-use Rattle.kernel_core.specs.State.{kept_process}
-use Rattle.kernel_core.specs.declared.process.Kept.{Kept}
+use Rattle.kernel_process.specs.Active.{started_ends}
+use Rattle.kernel_process.specs.Processes.{kept_process}
+use Rattle.kernel_process.specs.declared.process.Kept.{Kept}
 use Rattle.kernel_core.proofs.room.reserve_processes.Given as goal
 
 abbrev pub invariant-loop-process : goal.invariant-loop-process

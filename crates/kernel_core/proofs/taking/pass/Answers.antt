@@ -1,9 +1,9 @@
 -- The end of the event leaves the table sound and the activities as they were.
 use Rattle.std.proofs.Common.{length, sym, subst}
 use Rattle.end_table.specs.Table.{entries}
-use Rattle.kernel_core.proofs.ActiveSets.{tells_same}
-use Rattle.kernel_core.proofs.KeptMoved.{keys-moved}
-use Rattle.kernel_core.specs.Sound.{IsSound}
+use Rattle.kernel_process.proofs.ActiveSets.{tells_same}
+use Rattle.kernel_process.proofs.KeptMoved.{keys-moved}
+use Rattle.kernel_sound.specs.Sound.{IsSound}
 use Rattle.kernel_core.proofs.taking.pass.Goals as goal
 
 pub returns-clause-kept : goal.returns-clause-kept

@@ -3,13 +3,14 @@ use Rattle.std.proofs.Common.{◌<◌, IfSome, length, refl, sym, ap, subst, ◌
 use Rattle.charlotte_calls.specs.Packets.{what_picture}
 use Rattle.end_table.specs.Place.{end_eq}
 use Rattle.end_table.specs.Table.{entries}
-use Rattle.kernel_core.proofs.ActiveSets.{tells_same}
-use Rattle.kernel_core.proofs.KeptMoved.{keys-moved, HavePlace-moved}
-use Rattle.kernel_core.proofs.Needs.{IsReady-sound}
-use Rattle.kernel_core.proofs.Takes.{row-goes, well-reports, well-answers, row-sound, row-calm, owner-below, with_parts-kept, closes-table}
-use Rattle.kernel_core.specs.Owners.{owner_of}
-use Rattle.kernel_core.specs.Sound.{IsSound, GoesWell, addressee}
-use Rattle.kernel_core.specs.State.{ended, with_parts}
+use Rattle.kernel_process.proofs.ActiveSets.{tells_same}
+use Rattle.kernel_process.proofs.KeptMoved.{keys-moved, HavePlace-moved}
+use Rattle.kernel_sound.proofs.Needs.{IsReady-sound}
+use Rattle.kernel_sound.proofs.Events.{row-goes, well-reports, well-answers, row-sound, row-calm, owner-below}
+use Rattle.kernel_process.proofs.Processes.{with_parts-kept, closes-table}
+use Rattle.kernel_sound.specs.Owners.{owner_of}
+use Rattle.kernel_sound.specs.Sound.{IsSound, GoesWell, addressee}
+use Rattle.kernel_process.specs.Processes.{ended, with_parts}
 use Rattle.kernel_step.specs.Kernel.{closes}
 use Rattle.kernel_step.specs.Progress.{progress}
 use Rattle.kernel_step.specs.Rows.{row}

@@ -2,10 +2,11 @@
 use Rattle.std.proofs.Common.{◌≡◌, ◌<◌, length, map, slice_set, Option, None, ap, sym, subst, ◌∙◌, refl}
 use Rattle.charlotte_calls.specs.declared.calls.Answer.{Answer}
 use Rattle.kernel_step.specs.Kernel.{Process, process_of, with_process, without_answer}
-use Rattle.kernel_core.specs.State.{KernelView, kept_process, state_of}
-use Rattle.kernel_core.specs.declared.process.Kept.{Kept}
+use Rattle.kernel_core.specs.State.{KernelView, state_of}
+use Rattle.kernel_process.specs.Processes.{kept_process}
+use Rattle.kernel_process.specs.declared.process.Kept.{Kept}
 use Rattle.kernel_core.specs.contracts.kernel.Kernel.{the_view}
-use Rattle.kernel_core.proofs.Processes.{state_of-at, state_of-set}
+use Rattle.kernel_core.proofs.Kernels.{state_of-at, state_of-set}
 use Rattle.kernel_core.proofs.kernel.Kernel.answer.Goals as goal
 
 pub returns-clause-answer : goal.returns-clause-answer

@@ -5,7 +5,8 @@ use Rattle.std.specs.Vec.{with_items}
 use Rattle.end_table.specs.Table.{entries}
 use Rattle.kernel_core.proofs.CalledParts.{call-by_parts}
 use Rattle.kernel_core.proofs.Kernels.{state-same}
-use Rattle.kernel_core.specs.State.{KernelView, kept_process, state_of, ended}
+use Rattle.kernel_core.specs.State.{KernelView, state_of}
+use Rattle.kernel_process.specs.Processes.{kept_process, ended}
 use Rattle.kernel_core.specs.contracts.kernel.Kernel.{the_view}
 use Rattle.kernel_step.specs.Calls.{IsCallWith}
 use Rattle.kernel_step.specs.Kernel.{call_step}

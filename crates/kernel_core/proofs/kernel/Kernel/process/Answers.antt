@@ -1,7 +1,7 @@
 -- What stands at a process's number is that process.
 use Rattle.std.proofs.Common.{ap, sym, ◌∙◌}
-use Rattle.kernel_core.specs.State.{kept_process}
-use Rattle.kernel_core.proofs.Processes.{state_of-at}
+use Rattle.kernel_process.specs.Processes.{kept_process}
+use Rattle.kernel_core.proofs.Kernels.{state_of-at}
 use Rattle.kernel_core.proofs.kernel.Kernel.process.Goals as goal
 
 pub returns : goal.returns

@@ -4,7 +4,8 @@ use Rattle.std.proofs.lemmas.List.{with_items_is}
 use Rattle.std.specs.Vec.{with_items}
 use Rattle.charlotte_calls.specs.Packets.{packet_picture}
 use Rattle.kernel_core.proofs.Kernels.{state-same, take-by_parts}
-use Rattle.kernel_core.specs.State.{KernelView, kept_process, state_of, ended}
+use Rattle.kernel_core.specs.State.{KernelView, state_of}
+use Rattle.kernel_process.specs.Processes.{kept_process, ended}
 use Rattle.kernel_core.specs.contracts.kernel.Kernel.{the_view}
 use Rattle.kernel_step.specs.Kernel.{next_stamp, take_step}
 use Rattle.kernel_core.proofs.kernel.Kernel.take.Goals as goal

@@ -1,0 +1,4 @@
+pub mod Active
+pub mod Closing
+pub mod Processes
+pub mod Steady

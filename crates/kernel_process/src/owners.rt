@@ -1,0 +1,85 @@
+ghost use Rattle.std.specs.Prelude.{◌≡◌, ◌<◌, false, IfSome, length, map};
+ghost use Rattle.charlotte_calls.specs.declared.names.EndId.{EndId};
+ghost use Rattle.end_table.specs.Owned.{owned};
+ghost use Rattle.end_table.specs.Place.{put};
+ghost use Rattle.end_table.specs.Table.{entries};
+ghost use Rattle.end_table.specs.declared.entry.Entry.{Entry};
+ghost use Rattle.end_table.specs.declared.entry.Entry.TheVariants.{Here, Nothing};
+ghost use Rattle.kernel_process.specs.Closing.{HavePlace};
+ghost use Rattle.kernel_process.specs.Active.{Tells, Refreshes};
+ghost use Rattle.kernel_sound.specs.Owners.{owner_of, IsCalmBut};
+ghost use Rattle.kernel_process.specs.Processes.{kept_process};
+
+use crate::activity::{forget, refresh};
+use crate::process::Kept;
+use charlotte_calls::{EndId, Pid};
+use end_table::{Entry, HereView, Holder, Table};
+
+/// The view of an end that a process owns.
+pub fn owned(table: &Table, p: Pid, on: EndId) -> Option<HereView>
+    ensures view { result ≡ owned p (entries table.now on) }
+    ensures here { IfSome result (λ v. entries table.now on ≡ Here v) }
+{
+    match table.look(on) {
+        Entry::Here(view) => match view.holder {
+            Holder::Owner(owner) if owner.0 == p.0 => Some(view),
+            _ => None,
+        },
+        _ => None,
+    }
+}
+
+/// The process that owns an end, if one does.
+pub fn owner(table: &Table, end: EndId) -> Option<Pid>
+    ensures { result ≡ owner_of (entries table.now end) }
+{
+    match table.look(end) {
+        Entry::Here(view) => match view.holder {
+            Holder::Owner(p) => Some(p),
+            Holder::EnclosedIn(_) => None,
+        },
+        Entry::Nothing | Entry::Left { .. } | Entry::Destroyed(_) => None,
+    }
+}
+
+/// An end changed, which a process owned before: the sets of active ends tell of it again.
+pub fn refresh_owner(table: &Table, processes: &mut [Kept], before: Option<Pid>, end: EndId)
+    requires before { IfSome before (λ p. p.0 < length processes.old) }
+    requires after { IfSome (owner_of (entries table.now end)) (λ p. p.0 < length processes.old) }
+    requires place { HavePlace processes.old }
+    ensures told { (t : EndId → Entry) → before ≡ owner_of (t end) → Tells t processes.old → IsCalmBut end t (entries table.now) → Tells (entries table.now) processes.new }
+    ensures kept { map kept_process processes.new ≡ map kept_process processes.old }
+    ensures length { length processes.new ≡ length processes.old }
+{
+    release(processes, before, end);
+    enlist(table, processes, end);
+}
+
+/// No set has the end, which this process owned.
+fn release(processes: &mut [Kept], before: Option<Pid>, end: EndId)
+    requires before { IfSome before (λ p. p.0 < length processes.old) }
+    requires place { HavePlace processes.old }
+    ensures told { (t : EndId → Entry) → before ≡ owner_of (t end) → Tells t processes.old → Tells (put t end Nothing) processes.new }
+    ensures kept { map kept_process processes.new ≡ map kept_process processes.old }
+    ensures length { length processes.new ≡ length processes.old }
+    ensures place { HavePlace processes.new }
+{
+    match before {
+        Some(p) => forget(processes, p, end),
+        None => {}
+    }
+}
+
+/// The set of the end's owner, if there is one, tells of it; no set did before.
+fn enlist(table: &Table, processes: &mut [Kept], end: EndId)
+    requires after { IfSome (owner_of (entries table.now end)) (λ p. p.0 < length processes.old) }
+    requires place { HavePlace processes.old }
+    ensures told { (t : EndId → Entry) → IsCalmBut end t (entries table.now) → Tells (put t end Nothing) processes.old → Tells (entries table.now) processes.new }
+    ensures kept { map kept_process processes.new ≡ map kept_process processes.old }
+    ensures length { length processes.new ≡ length processes.old }
+{
+    match owner(table, end) {
+        Some(p) => refresh(table, processes, p, end),
+        None => {}
+    }
+}
