@@ -22,21 +22,21 @@ use Rattle.kernel_process.proofs.KeptMoved.{keys-moved}
 use Rattle.kernel_core.proofs.Performs.{acts-answers, acts-reports}
 use Rattle.kernel_sound.proofs.Acts.{acts-well}
 use Rattle.kernel_sound.proofs.Events.{begun-well, owner-below, well-calm, well-sound}
-use Rattle.kernel_process.proofs.Processes.{closes-table}
+use Rattle.kernel_process.proofs.OneProcess.{closes-table}
 use Rattle.kernel_sound.specs.Acts.{Covers, acts, made_after}
 use Rattle.kernel_core.specs.Finishing.{AreOwnersBelow, IsCalmAfter, ending_of, finished, finishes, touched_by, touches, turned, turned_by, turned_on}
-use Rattle.kernel_core.specs.Kept.{IsKept}
+use Rattle.kernel_core.specs.Consistent.{IsConsistent}
 use Rattle.kernel_sound.specs.Sound.{AreFor, GoesWell, IsSound}
-use Rattle.kernel_process.specs.Processes.{with_parts}
+use Rattle.kernel_process.specs.Parts.{with_parts}
 use Rattle.kernel_process.specs.Steady.{StaysCalm, TakesAtMost}
 use Rattle.kernel_core.specs.declared.calling.Ending.{Ending}
-use Rattle.kernel_process.specs.declared.process.Kept.{Kept}
+use Rattle.kernel_process.specs.declared.process.ControlBlock.{ControlBlock}
 use Rattle.kernel_step.specs.Calls.{IsCallWith, is_active, refusal}
 use Rattle.kernel_step.specs.Kernel.{Kernel, Outcome, closes}
 use Rattle.kernel_step.specs.Progress.{means, progress}
 
 -- the end of an event, and what comes after it, keep what is kept
-pub kept-calm : (n made : ℕ) (old new : TableView) (xs ys : List Kept) → StaysCalm old new → TakesAtMost n xs ys → IsKept old xs made → IsKept new ys made
+pub kept-calm : (n made : ℕ) (old new : TableView) (xs ys : List ControlBlock) → StaysCalm old new → TakesAtMost n xs ys → IsConsistent old xs made → IsConsistent new ys made
 kept-calm n made old new xs ys calm kept is =
     record {
       sound = subst (λ m. IsSound new.kernel made m (entries new)) (sym kept.length) (calm.sound made (length xs) is.sound);
@@ -93,7 +93,7 @@ turned-made p (call.Print bytes) m s = refl
 turned-made p call.Exit m s = refl
 
 -- the event closes from the caller's phase, and with what the call added
-pub acted-closes : (p : Pid) (k made m : ℕ) (mine : List EndId) (c : Call) (s : Kernel) (t u : EndId → Entry) (xs ys : List Kept) (work out : Work)
+pub acted-closes : (p : Pid) (k made m : ℕ) (mine : List EndId) (c : Call) (s : Kernel) (t u : EndId → Entry) (xs ys : List ControlBlock) (work out : Work)
     → ((z : Kernel) → with_parts t ys z ≡ turned p c (with_parts t xs z)) → progress u out ≡ acts p k made mine c (progress t work)
     → closes (with_parts u ys (record s { made = m })) (progress u out) ≡ closes (record (turned p c (with_parts t xs s)) { made = m }) (acts p k made mine c (progress t work))
 unfolding with_parts

@@ -20,12 +20,12 @@ use Rattle.kernel_sound.specs.Owners.{owner_in, owner_of}
 use Rattle.kernel_sound.specs.Sound.{IsSound, IsHeldWell, AreFor, GoesWell, addressee}
 use Rattle.kernel_core.specs.Started.{takes_addressed}
 use Rattle.kernel_core.specs.State.{KernelView, state_of}
-use Rattle.kernel_process.specs.Processes.{kept_process, no_process, process_at, with_parts}
+use Rattle.kernel_process.specs.Parts.{process_state, no_process, process_at, with_parts}
 use Rattle.kernel_core.specs.State.{KernelView, state_of}
-use Rattle.kernel_process.specs.Processes.{kept_process, process_at, ended, with_parts}
+use Rattle.kernel_process.specs.Parts.{process_state, process_at, ended, with_parts}
 use Rattle.kernel_core.specs.State.{KernelView, state_of}
-use Rattle.kernel_process.specs.Processes.{kept_process, process_at, with_parts}
-use Rattle.kernel_process.specs.declared.process.Kept.{Kept}
+use Rattle.kernel_process.specs.Parts.{process_state, process_at, with_parts}
+use Rattle.kernel_process.specs.declared.process.ControlBlock.{ControlBlock}
 use Rattle.kernel_step.specs.Calls.{is_active}
 use Rattle.kernel_step.specs.Kernel.{Kernel, Process, closes}
 use Rattle.kernel_step.specs.Kernel.{Kernel, with_process, process_of}
@@ -38,15 +38,15 @@ use Rattle.std.proofs.Common.{◌≡◌, ◌≢◌, ◌⊎◌, inl, inr, ℕ, �
 use Rattle.std.proofs.lemmas.Bool.Decides.{eqb_tells}
 use Rattle.std.proofs.lemmas.Grind.{get_or-set_at}
 use Rattle.std.proofs.lemmas.List.{get_or-set_other, map-set, get_or-map, length-map}
-use Rattle.kernel_process.proofs.Processes.{process_of-at, process_at-at, process_at-set}
+use Rattle.kernel_process.proofs.OneProcess.{process_of-at, process_at-at, process_at-set}
 
 -- a kernel in the state that its parts have
-pub state-parts : (v : KernelView) (xs : List Kept) → map kept_process xs ≡ v.processes → with_parts (entries v.table) xs (state_of v) ≡ state_of v
+pub state-parts : (v : KernelView) (xs : List ControlBlock) → map process_state xs ≡ v.processes → with_parts (entries v.table) xs (state_of v) ≡ state_of v
 unfolding with_parts state_of
 state-parts v xs is = ap (λ (ps : List Process). record (state_of v) { process = process_at ps }) is
 
 -- a kernel whose parts changed
-pub state-changed : (v w : KernelView) (ys : List Kept) → w.kernels ≡ v.kernels → w.version ≡ v.version → w.table.kernel ≡ v.table.kernel → map kept_process ys ≡ w.processes
+pub state-changed : (v w : KernelView) (ys : List ControlBlock) → w.kernels ≡ v.kernels → w.version ≡ v.version → w.table.kernel ≡ v.table.kernel → map process_state ys ≡ w.processes
     → state_of w ≡ with_parts (entries w.table) ys (record (state_of v) { made = w.made; stamp = w.stamp })
 unfolding with_parts state_of
 state-changed v w ys kernels version number is = λ i. record {
@@ -73,7 +73,7 @@ state-same v w kernels version number table processes made stamp = λ i. record 
 }
 
 -- taking a packet, by the parts of the kernel
-pub take-by_parts : (v w : KernelView) (xs ys : List Kept) (from stamp : ℕ) (pic : Picture) (effect : Effect) → map kept_process xs ≡ v.processes → map kept_process ys ≡ w.processes
+pub take-by_parts : (v w : KernelView) (xs ys : List ControlBlock) (from stamp : ℕ) (pic : Picture) (effect : Effect) → map process_state xs ≡ v.processes → map process_state ys ≡ w.processes
     → w.kernels ≡ v.kernels → w.version ≡ v.version → w.table.kernel ≡ v.table.kernel → w.made ≡ v.made → w.stamp ≡ effect.stamp → stamp ≡ next_stamp (max v.stamp pic.stamp)
     → ended (with_parts (entries w.table) ys (record (state_of v) { stamp = effect.stamp })) effect ≡ closes (with_parts (entries v.table) xs (state_of v)) (takes_addressed v.kernels v.table.kernel v.made from pic.what (begins (state_of v) stamp))
     → ended (state_of w) effect ≡ take_step (state_of v) from pic
@@ -86,20 +86,20 @@ take-by_parts v w xs ys from stamp pic effect xs_are ys_are kernels version numb
     ∙ ap (λ n. closes (state_of v) (takes_addressed v.kernels v.table.kernel v.made from pic.what (begins (state_of v) n))) next
 
 -- what a kernel has of a process that is one of its processes
-pub state_of-at : (v : KernelView) (xs : List Kept) (d : Kept) (i : ℕ) (p : Pid) → map kept_process xs ≡ v.processes → i ≡ p.0 → p.0 < length v.processes → process_of p (state_of v) ≡ kept_process (get_or xs i d)
+pub state_of-at : (v : KernelView) (xs : List ControlBlock) (d : ControlBlock) (i : ℕ) (p : Pid) → map process_state xs ≡ v.processes → i ≡ p.0 → p.0 < length v.processes → process_of p (state_of v) ≡ process_state (get_or xs i d)
 unfolding state_of
-state_of-at v xs d i p is at below = ap (λ ps. process_at ps p.0) (sym is) ∙ ap (λ n. process_at (map kept_process xs) n) (sym at) ∙ process_at-at xs i d within
+state_of-at v xs d i p is at below = ap (λ ps. process_at ps p.0) (sym is) ∙ ap (λ n. process_at (map process_state xs) n) (sym at) ∙ process_at-at xs i d within
   where
     within : i < length xs
-    within = subst (λ n. n < length xs) (sym at) (subst (λ n. p.0 < n) (ap length (sym is) ∙ length-map xs kept_process) below)
+    within = subst (λ n. n < length xs) (sym at) (subst (λ n. p.0 < n) (ap length (sym is) ∙ length-map xs process_state) below)
 
 -- a kernel in which one process changes
-pub state_of-set : (v w : KernelView) (xs : List Kept) (i : ℕ) (y : Kept) (p : Pid) → map kept_process xs ≡ v.processes → w ≡ record v { processes = map kept_process (slice_set xs i y) } → i ≡ p.0 → p.0 < length v.processes → state_of w ≡ with_process p (kept_process y) (state_of v)
+pub state_of-set : (v w : KernelView) (xs : List ControlBlock) (i : ℕ) (y : ControlBlock) (p : Pid) → map process_state xs ≡ v.processes → w ≡ record v { processes = map process_state (slice_set xs i y) } → i ≡ p.0 → p.0 < length v.processes → state_of w ≡ with_process p (process_state y) (state_of v)
 unfolding state_of
 state_of-set v w xs i y p is now at below = ap state_of now ∙ λ j. record (state_of v) {
-  process = λ q. (process_at-set xs i y q within ∙ ap (λ n. cond (nat_eq n q) (kept_process y) (process_at (map kept_process xs) q)) at
-      ∙ ap (λ ps. cond (nat_eq p.0 q) (kept_process y) (process_at ps q)) is) j;
+  process = λ q. (process_at-set xs i y q within ∙ ap (λ n. cond (nat_eq n q) (process_state y) (process_at (map process_state xs) q)) at
+      ∙ ap (λ ps. cond (nat_eq p.0 q) (process_state y) (process_at ps q)) is) j;
 }
   where
     within : i < length xs
-    within = subst (λ n. n < length xs) (sym at) (subst (λ n. p.0 < n) (ap length (sym is) ∙ length-map xs kept_process) below)
+    within = subst (λ n. n < length xs) (sym at) (subst (λ n. p.0 < n) (ap length (sym is) ∙ length-map xs process_state) below)

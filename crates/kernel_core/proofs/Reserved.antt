@@ -2,19 +2,19 @@
 use Rattle.std.proofs.Common.{◌≡◌, ℕ, List, length, map, sym, ap, subst, ◌∙◌}
 use Rattle.end_table.specs.Table.{TableView, entries}
 use Rattle.kernel_process.proofs.ActiveSets.{tells_same}
-use Rattle.kernel_process.proofs.Processes.{with_parts-kept}
-use Rattle.kernel_core.specs.Kept.{IsKept}
+use Rattle.kernel_process.proofs.OneProcess.{with_parts-kept}
+use Rattle.kernel_core.specs.Consistent.{IsConsistent}
 use Rattle.kernel_process.specs.Active.{started_ends}
 use Rattle.kernel_sound.specs.Sound.{IsSound}
-use Rattle.kernel_process.specs.Processes.{kept_process, with_parts}
-use Rattle.kernel_process.specs.declared.process.Kept.{Kept}
+use Rattle.kernel_process.specs.Parts.{process_state, with_parts}
+use Rattle.kernel_process.specs.declared.process.ControlBlock.{ControlBlock}
 use Rattle.end_table.specs.Owned.{owned}
 use Rattle.kernel_step.specs.Calls.{is_active}
 use Rattle.kernel_step.specs.Kernel.{Kernel}
 
-module _ (old new : TableView) (xs ys : List Kept) (made : ℕ) (kept : IsKept old xs made) (same : entries new ≡ entries old) (kernel : new.kernel ≡ old.kernel)
+module _ (old new : TableView) (xs ys : List ControlBlock) (made : ℕ) (kept : IsConsistent old xs made) (same : entries new ≡ entries old) (kernel : new.kernel ≡ old.kernel)
     (started : map started_ends ys ≡ map started_ends xs) (lengths : length ys ≡ length xs) where
-  pub reserved-kept : IsKept new ys made
+  pub reserved-kept : IsConsistent new ys made
   reserved-kept =
       record {
         sound =
@@ -24,5 +24,5 @@ module _ (old new : TableView) (xs ys : List Kept) (made : ℕ) (kept : IsKept o
       }
 
 -- the state of the kernel
-pub reserved-parts : (old new : TableView) (xs ys : List Kept) (s : Kernel) → entries new ≡ entries old → map kept_process ys ≡ map kept_process xs → with_parts (entries new) ys s ≡ with_parts (entries old) xs s
+pub reserved-parts : (old new : TableView) (xs ys : List ControlBlock) (s : Kernel) → entries new ≡ entries old → map process_state ys ≡ map process_state xs → with_parts (entries new) ys s ≡ with_parts (entries old) xs s
 reserved-parts old new xs ys s same kept = ap (λ t. with_parts t ys s) same ∙ with_parts-kept (entries old) xs ys s kept

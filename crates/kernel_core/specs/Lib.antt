@@ -1,5 +1,5 @@
+pub mod Consistent
 pub mod Finishing
-pub mod Kept
 pub mod Started
 pub mod State
 pub mod Stepping

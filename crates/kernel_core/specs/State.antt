@@ -8,9 +8,9 @@ use Rattle.kernel_step.specs.Kernel.{Kernel, Outcome, Process}
 use Rattle.kernel_step.specs.Progress.{sent_picture}
 use Rattle.kernel_step.specs.declared.phase.Phase.{Phase}
 use Rattle.kernel_step.specs.declared.phase.Phase.TheVariants.{Running, Waiting, Cancelling, Exited}
-use Rattle.kernel_process.specs.declared.process.Kept.{Kept}
-unfoldable pub use Rattle.kernel_process.specs.Processes.{ended}
-use Rattle.kernel_process.specs.Processes.{process_at}
+use Rattle.kernel_process.specs.declared.process.ControlBlock.{ControlBlock}
+unfoldable pub use Rattle.kernel_process.specs.Parts.{ended}
+use Rattle.kernel_process.specs.Parts.{process_at}
 
 -- what contracts see of a kernel; the number of the kernel is that of its table
 pub record KernelView : Type 0 where

@@ -10,11 +10,11 @@ ghost use Rattle.kernel_sound.specs.Acts.{acts, made_after};
 ghost use Rattle.kernel_event.specs.Places.{IsPlacedFor};
 ghost use Rattle.kernel_process.specs.Closing.{HaveSpare, HavePlace};
 ghost use Rattle.kernel_core.specs.Finishing.{finishes, finished, ending_of, touched_by, turned, turned_on, turned_to, AreOwnersBelow, IsCalmAfter};
-ghost use Rattle.kernel_core.specs.Kept.{IsKept};
+ghost use Rattle.kernel_core.specs.Consistent.{IsConsistent};
 ghost use Rattle.kernel_process.specs.Active.{Tells};
 ghost use Rattle.kernel_sound.specs.Sound.{IsSound};
 ghost use Rattle.kernel_core.specs.Started.{IsStarted};
-ghost use Rattle.kernel_process.specs.Processes.{with_parts, ended, kept_process, HasPlaces};
+ghost use Rattle.kernel_process.specs.Parts.{with_parts, ended, process_state, HasPlaces};
 ghost use Rattle.kernel_process.specs.Steady.{StaysCalm, TakesAtMost};
 ghost use Rattle.kernel_step.specs.Calls.{refusal, IsCallWith};
 ghost use Rattle.kernel_step.specs.Kernel.{Kernel, closes, stands};
@@ -25,7 +25,7 @@ use charlotte_calls::{
 };
 use end_table::{HereView, Inward, Table};
 use kernel_event::act;
-use kernel_process::{Kept, clear, close, exit, owned, owner, refresh_owner, stand, turn, wait};
+use kernel_process::{ControlBlock, clear, close, exit, owned, owner, refresh_owner, stand, turn, wait};
 use kernel_step::{Phase, push_step};
 
 /// How a call that is no Wait ends.
@@ -52,7 +52,7 @@ enum Touched {
 /// The event of a call that is refused.
 pub(crate) fn refuse(
     table: &mut Table,
-    processes: &mut [Kept],
+    processes: &mut [ControlBlock],
     p: Pid,
     call: Call,
     cause: Cause,
@@ -64,7 +64,7 @@ pub(crate) fn refuse(
     requires spare { HaveSpare 3 processes.old }
     ensures part { (s : Kernel) → ended (with_parts (entries table.new) processes.new (record s { stamp = result.stamp })) result
         ≡ stands p (answer.Refused cause) (closes (with_parts (entries table.old) processes.old s) (means (step.Refuse p call cause) (progress (entries table.old) work))) }
-    ensures kept { (made : ℕ) → IsKept table.old processes.old made → IsKept table.new processes.new made }
+    ensures kept { (made : ℕ) → IsConsistent table.old processes.old made → IsConsistent table.new processes.new made }
     ensures kernel { table.new.kernel ≡ table.old.kernel }
     ensures length { length processes.new ≡ length processes.old }
 {
@@ -77,7 +77,7 @@ pub(crate) fn refuse(
 /// The event of a Wait that is not refused.
 pub(crate) fn wait_granted(
     table: &mut Table,
-    processes: &mut [Kept],
+    processes: &mut [ControlBlock],
     p: Pid,
     work: Work,
     answered: Vec<Pid>,
@@ -87,7 +87,7 @@ pub(crate) fn wait_granted(
     requires spare { HaveSpare 3 processes.old }
     ensures part { (s : Kernel) (k made : ℕ) → ended (with_parts (entries table.new) processes.new (record s { stamp = result.stamp })) result
         ≡ finishes p k made Call.Wait (closes (with_parts (entries table.old) processes.old s) (means (step.Wait p) (progress (entries table.old) work))) }
-    ensures kept { (made : ℕ) → IsKept table.old processes.old made → IsKept table.new processes.new made }
+    ensures kept { (made : ℕ) → IsConsistent table.old processes.old made → IsConsistent table.new processes.new made }
     ensures kernel { table.new.kernel ≡ table.old.kernel }
     ensures length { length processes.new ≡ length processes.old }
 {
@@ -99,7 +99,7 @@ pub(crate) fn wait_granted(
 /// The event that means this step and adds nothing else is over.
 fn close_step(
     table: &mut Table,
-    processes: &mut [Kept],
+    processes: &mut [ControlBlock],
     meant: ServiceStep,
     mut work: Work,
     answered: Vec<Pid>,
@@ -119,7 +119,7 @@ fn close_step(
 /// The event of a call that is not refused, and is no Wait; `mine` are the ends that the caller owns, in order, where it exits.
 pub(crate) fn grant(
     table: &mut Table,
-    processes: &mut [Kept],
+    processes: &mut [ControlBlock],
     made: u32,
     p: Pid,
     mine: &[EndId],
@@ -127,7 +127,7 @@ pub(crate) fn grant(
     work: Work,
     answered: Vec<Pid>,
 ) -> Effect
-    requires kept { IsKept table.old processes.old made }
+    requires kept { IsConsistent table.old processes.old made }
     requires process { p.0 < length processes.old }
     requires granted { (reported : Bool) × (refusal p (entries table.old) made mine.now reported call ≡ None) }
     requires mine { IsCallWith p (entries table.old) mine.now call }
@@ -140,7 +140,7 @@ pub(crate) fn grant(
         ≡ finishes p table.old.kernel made call
         (closes (record (turned p call (with_parts (entries table.old) processes.old s)) { made = made_after call made })
         (acts p table.old.kernel made mine.now call (progress (entries table.old) work))) }
-    ensures kept { IsKept table.new processes.new (made_after call made) }
+    ensures kept { IsConsistent table.new processes.new (made_after call made) }
     ensures kernel { table.new.kernel ≡ table.old.kernel }
     ensures length { length processes.new ≡ length processes.old }
 {
@@ -153,7 +153,7 @@ pub(crate) fn grant(
 /// What a call does, to the end of its event; the sets of active ends stay.
 fn perform(
     table: &mut Table,
-    processes: &mut [Kept],
+    processes: &mut [ControlBlock],
     made: u32,
     p: Pid,
     mine: &[EndId],
@@ -222,7 +222,7 @@ fn ending_of_cancel(way: Way) -> Ending
 }
 
 /// What comes after the event.
-fn finish(processes: &mut [Kept], effect: &mut Effect, p: Pid, ending: Ending)
+fn finish(processes: &mut [ControlBlock], effect: &mut Effect, p: Pid, ending: Ending)
     requires process { p.0 < length processes.old }
     requires places { HasPlaces 1 0 effect.old }
     ensures part { (s : Kernel) (t : EndId → Entry) → ended (with_parts t processes.new s) effect.new ≡ finished p ending (ended (with_parts t processes.old s) effect.old) }
@@ -237,7 +237,7 @@ fn finish(processes: &mut [Kept], effect: &mut Effect, p: Pid, ending: Ending)
 }
 
 /// The caller of a Cancel of a receive that is posted waits.
-fn turn_caller(table: &Table, processes: &mut [Kept], p: Pid, call: &Call)
+fn turn_caller(table: &Table, processes: &mut [ControlBlock], p: Pid, call: &Call)
     requires { p.0 < length processes.old }
     ensures part { (s : Kernel) → with_parts (entries table.now) processes.new s ≡ turned p call.now (with_parts (entries table.now) processes.old s) }
     ensures kept { TakesAtMost 0 processes.old processes.new }
@@ -314,12 +314,12 @@ fn touched_by(table: &Table, call: &Call) -> Touched
 }
 
 /// The sets of active ends tell of what was touched again.
-fn refresh_touched(table: &Table, processes: &mut [Kept], p: Pid, touched: Touched)
+fn refresh_touched(table: &Table, processes: &mut [ControlBlock], p: Pid, touched: Touched)
     requires process { p.0 < length processes.old }
     requires owners { AreOwnersBelow (length processes.old) (entries table.now) touched }
     requires place { HavePlace processes.old }
     ensures told { (t : EndId → Entry) → Tells t processes.old → IsCalmAfter p touched t (entries table.now) → Tells (entries table.now) processes.new }
-    ensures kept { map kept_process processes.new ≡ map kept_process processes.old }
+    ensures kept { map process_state processes.new ≡ map process_state processes.old }
     ensures length { length processes.new ≡ length processes.old }
 {
     match touched {

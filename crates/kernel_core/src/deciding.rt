@@ -4,10 +4,10 @@ ghost use Rattle.end_table.specs.Table.{entries};
 ghost use Rattle.kernel_sound.specs.Acts.{made_after};
 ghost use Rattle.kernel_event.specs.Places.{IsPlacedFor};
 ghost use Rattle.kernel_process.specs.Closing.{HaveSpare, HavePlace};
-ghost use Rattle.kernel_core.specs.Kept.{IsKept};
+ghost use Rattle.kernel_core.specs.Consistent.{IsConsistent};
 ghost use Rattle.kernel_process.specs.Active.{started_ends};
 ghost use Rattle.kernel_core.specs.Started.{IsStarted};
-ghost use Rattle.kernel_process.specs.Processes.{kept_process};
+ghost use Rattle.kernel_process.specs.Parts.{process_state};
 ghost use Rattle.kernel_core.specs.Stepping.{IsCalled, Begins, AreListedFor, IsRefusedFor};
 
 use crate::calling::{grant, refuse, wait_granted};
@@ -15,13 +15,13 @@ use crate::refusal::refusal;
 use crate::room::{new_answered, new_work, reserve_made, reserve_processes};
 use charlotte_calls::{Call, Cause, Effect, EndId, NoMemory, Pid, Work};
 use end_table::Table;
-use kernel_process::Kept;
+use kernel_process::ControlBlock;
 use std::alloc::Global;
 
 /// The event of a call; `mine` are the ends that the caller owns, in order, where it exits.
 pub(crate) fn decide(
     table: &mut Table,
-    processes: &mut [Kept],
+    processes: &mut [ControlBlock],
     made: &mut u32,
     p: Pid,
     stamp: u64,
@@ -30,7 +30,7 @@ pub(crate) fn decide(
     work: Work,
     answered: Vec<Pid>,
 ) -> Effect
-    requires kept { IsKept table.old processes.old made.old }
+    requires kept { IsConsistent table.old processes.old made.old }
     requires process { p.0 < length processes.old }
     requires mine { AreListedFor p table.old mine.now call }
     requires placed { IsPlacedFor call table.old made.old }
@@ -39,7 +39,7 @@ pub(crate) fn decide(
     requires spare { HaveSpare 3 processes.old }
     requires place { HavePlace processes.old }
     ensures step { IsCalled table.old processes.old made.old stamp table.new processes.new made.new result p call }
-    ensures kept { IsKept table.new processes.new made.new }
+    ensures kept { IsConsistent table.new processes.new made.new }
     ensures kernel { table.new.kernel ≡ table.old.kernel }
     ensures length { length processes.new ≡ length processes.old }
 {
@@ -54,7 +54,7 @@ pub(crate) fn decide(
 /// The event of a call that is not refused.
 fn permit(
     table: &mut Table,
-    processes: &mut [Kept],
+    processes: &mut [ControlBlock],
     made: &mut u32,
     p: Pid,
     stamp: u64,
@@ -63,7 +63,7 @@ fn permit(
     work: Work,
     answered: Vec<Pid>,
 ) -> Effect
-    requires kept { IsKept table.old processes.old made.old }
+    requires kept { IsConsistent table.old processes.old made.old }
     requires process { p.0 < length processes.old }
     requires granted { IsRefusedFor table.old processes.old made.old p call None }
     requires mine { AreListedFor p table.old mine.now call }
@@ -73,7 +73,7 @@ fn permit(
     requires spare { HaveSpare 3 processes.old }
     requires place { HavePlace processes.old }
     ensures step { IsCalled table.old processes.old made.old stamp table.new processes.new made.new result p call }
-    ensures kept { IsKept table.new processes.new made.new }
+    ensures kept { IsConsistent table.new processes.new made.new }
     ensures kernel { table.new.kernel ≡ table.old.kernel }
     ensures length { length processes.new ≡ length processes.old }
 {
@@ -89,8 +89,8 @@ fn permit(
 }
 
 /// The first cause for which a call is refused, if one holds.
-fn cause_of(table: &Table, processes: &[Kept], made: u32, p: Pid, call: &Call) -> Option<Cause>
-    requires kept { IsKept table.now processes.now made }
+fn cause_of(table: &Table, processes: &[ControlBlock], made: u32, p: Pid, call: &Call) -> Option<Cause>
+    requires kept { IsConsistent table.now processes.now made }
     requires process { p.0 < length processes.now }
     ensures { IsRefusedFor table.now processes.now made p call.now result }
 {
@@ -100,7 +100,7 @@ fn cause_of(table: &Table, processes: &[Kept], made: u32, p: Pid, call: &Call) -
 /// The event of a call that is refused.
 fn forbid(
     table: &mut Table,
-    processes: &mut [Kept],
+    processes: &mut [ControlBlock],
     made: u32,
     p: Pid,
     stamp: u64,
@@ -110,7 +110,7 @@ fn forbid(
     work: Work,
     answered: Vec<Pid>,
 ) -> Effect
-    requires kept { IsKept table.old processes.old made }
+    requires kept { IsConsistent table.old processes.old made }
     requires process { p.0 < length processes.old }
     requires refused { IsRefusedFor table.old processes.old made p call (Some cause) }
     requires mine { AreListedFor p table.old mine.now call }
@@ -118,7 +118,7 @@ fn forbid(
     requires begins { Begins table.old stamp work }
     requires spare { HaveSpare 3 processes.old }
     ensures step { IsCalled table.old processes.old made stamp table.new processes.new made result p call }
-    ensures kept { IsKept table.new processes.new made }
+    ensures kept { IsConsistent table.new processes.new made }
     ensures kernel { table.new.kernel ≡ table.old.kernel }
     ensures length { length processes.new ≡ length processes.old }
 {
@@ -129,7 +129,7 @@ fn forbid(
 /// The event of a Wait that is not refused.
 fn wait(
     table: &mut Table,
-    processes: &mut [Kept],
+    processes: &mut [ControlBlock],
     made: u32,
     p: Pid,
     stamp: u64,
@@ -137,7 +137,7 @@ fn wait(
     work: Work,
     answered: Vec<Pid>,
 ) -> Effect
-    requires kept { IsKept table.old processes.old made }
+    requires kept { IsConsistent table.old processes.old made }
     requires process { p.0 < length processes.old }
     requires wait { call ≡ calls.Wait }
     requires granted { IsRefusedFor table.old processes.old made p call None }
@@ -145,7 +145,7 @@ fn wait(
     requires begins { Begins table.old stamp work }
     requires spare { HaveSpare 3 processes.old }
     ensures step { IsCalled table.old processes.old made stamp table.new processes.new made result p call }
-    ensures kept { IsKept table.new processes.new made }
+    ensures kept { IsConsistent table.new processes.new made }
     ensures kernel { table.new.kernel ≡ table.old.kernel }
     ensures length { length processes.new ≡ length processes.old }
 {
@@ -156,7 +156,7 @@ fn wait(
 /// The event of another call that is not refused.
 fn allow(
     table: &mut Table,
-    processes: &mut [Kept],
+    processes: &mut [ControlBlock],
     made: u32,
     p: Pid,
     stamp: u64,
@@ -165,7 +165,7 @@ fn allow(
     work: Work,
     answered: Vec<Pid>,
 ) -> Effect
-    requires kept { IsKept table.old processes.old made }
+    requires kept { IsConsistent table.old processes.old made }
     requires process { p.0 < length processes.old }
     requires granted { IsRefusedFor table.old processes.old made p call None }
     requires other { call ≡ calls.Wait → ⊥ }
@@ -176,7 +176,7 @@ fn allow(
     requires spare { HaveSpare 3 processes.old }
     requires place { HavePlace processes.old }
     ensures step { IsCalled table.old processes.old made stamp table.new processes.new (made_after call made) result p call }
-    ensures kept { IsKept table.new processes.new (made_after call made) }
+    ensures kept { IsConsistent table.new processes.new (made_after call made) }
     ensures kernel { table.new.kernel ≡ table.old.kernel }
     ensures length { length processes.new ≡ length processes.old }
 {
@@ -205,17 +205,17 @@ fn links_after(call: &Call, made: u32) -> u32
 pub(crate) fn call_event(
     alloc: Global,
     table: &mut Table,
-    processes: &mut [Kept],
+    processes: &mut [ControlBlock],
     made: &mut u32,
     p: Pid,
     stamp: u64,
     call: Call,
 ) -> Result<Effect, NoMemory>
-    requires kept { IsKept table.old processes.old made.old }
+    requires kept { IsConsistent table.old processes.old made.old }
     requires process { p.0 < length processes.old }
     ensures step { IfOk result (λ effect. IsCalled table.old processes.old made.old stamp table.new processes.new made.new effect p call) }
-    ensures same { OnErr result ((entries table.new ≡ entries table.old) × (map kept_process processes.new ≡ map kept_process processes.old) × (made.new ≡ made.old)) }
-    ensures kept { IsKept table.new processes.new made.new }
+    ensures same { OnErr result ((entries table.new ≡ entries table.old) × (map process_state processes.new ≡ map process_state processes.old) × (made.new ≡ made.old)) }
+    ensures kept { IsConsistent table.new processes.new made.new }
     ensures kernel { table.new.kernel ≡ table.old.kernel }
     ensures length { length processes.new ≡ length processes.old }
 {
@@ -239,7 +239,7 @@ pub(crate) fn call_event(
 fn reserve_calling(
     alloc: Global,
     table: &mut Table,
-    processes: &mut [Kept],
+    processes: &mut [ControlBlock],
     made: u32,
     p: Pid,
     stamp: u64,
@@ -252,7 +252,7 @@ fn reserve_calling(
     ensures room { OnOk result (HaveSpare 3 processes.new × HavePlace processes.new) }
     ensures entries { entries table.new ≡ entries table.old }
     ensures kernel { table.new.kernel ≡ table.old.kernel }
-    ensures kept { map kept_process processes.new ≡ map kept_process processes.old }
+    ensures kept { map process_state processes.new ≡ map process_state processes.old }
     ensures active { map started_ends processes.new ≡ map started_ends processes.old }
     ensures length { length processes.new ≡ length processes.old }
 {

@@ -8,7 +8,7 @@ ghost use Rattle.kernel_step.specs.Kernel.{call_step, take_step, process_of, wit
 ghost use Rattle.kernel_step.specs.Start.{start_kernel};
 ghost use Rattle.kernel_step.specs.declared.phase.Phase.TheVariants.{Running};
 ghost use Rattle.kernel_core.specs.State.{state_of, is_pending};
-ghost use Rattle.kernel_process.specs.Processes.{ended, kept_process};
+ghost use Rattle.kernel_process.specs.Parts.{ended, process_state};
 
 use crate::deciding::call_event;
 use crate::stamp::{greater, stamp_after};
@@ -16,7 +16,7 @@ use crate::start::{fresh_processes, wire_links};
 use crate::taking::{NotTaken, take_event};
 use charlotte_calls::{Answer, Call, Effect, NoMemory, Packet, Pid, Setting};
 use end_table::Table;
-use kernel_process::Kept;
+use kernel_process::ControlBlock;
 use kernel_step::Phase;
 use std::alloc::Global;
 use std::marker::Model;
@@ -29,7 +29,7 @@ pub struct Kernel {
     version: u8,
     table: Table,
     /// The processes of the setting, by number. Those of other kernels stay as they start.
-    processes: Vec<Kept>,
+    processes: Vec<ControlBlock>,
     made: u32,
     stamp: u64,
 }
@@ -37,14 +37,14 @@ pub struct Kernel {
 impl Model for Kernel {
     ghost use Rattle.std.specs.Prelude.{map};
     ghost use Rattle.kernel_core.specs.State.{KernelView};
-    ghost use Rattle.kernel_process.specs.Processes.{kept_process};
-    ghost use Rattle.kernel_core.specs.Kept.{IsKept};
+    ghost use Rattle.kernel_process.specs.Parts.{process_state};
+    ghost use Rattle.kernel_core.specs.Consistent.{IsConsistent};
 
     ghost Value = { KernelView };
 
-    ghost view = { λ k. record { kernels = k.kernels; version = k.version; table = k.table; processes = map kept_process k.processes.items; made = k.made; stamp = k.stamp } };
+    ghost view = { λ k. record { kernels = k.kernels; version = k.version; table = k.table; processes = map process_state k.processes.items; made = k.made; stamp = k.stamp } };
 
-    ghost invariant = { λ k. IsKept k.table k.processes.items k.made };
+    ghost invariant = { λ k. IsConsistent k.table k.processes.items k.made };
 }
 
 impl Kernel {
@@ -132,9 +132,9 @@ impl Kernel {
     }
 
     /// What the kernel keeps of a process.
-    fn process(&self, p: Pid) -> &Kept
+    fn process(&self, p: Pid) -> &ControlBlock
         requires { p.0 < length self.now.processes }
-        ensures { kept_process result.now ≡ process_of p (state_of self.now) }
+        ensures { process_state result.now ≡ process_of p (state_of self.now) }
     {
         &self.processes[usize::from(p.0)]
     }

@@ -8,11 +8,11 @@ ghost use Rattle.end_table.specs.Place.{end_eq};
 ghost use Rattle.end_table.specs.Table.{entries};
 ghost use Rattle.kernel_step.specs.Calls.{cancel_causes, first_of as first_cause, inward_activity, is_active, is_busy, is_free, is_late, link_limit, names_twice, no_causes, on_owned, outward_activity, receive_causes, refusal, same_link, send_causes, IsCallWith};
 ghost use Rattle.kernel_step.specs.Kernel.{has_report};
-ghost use Rattle.kernel_process.specs.Processes.{kept_process};
+ghost use Rattle.kernel_process.specs.Parts.{process_state};
 
 use charlotte_calls::{Call, Cause, EndId, Pid, Way};
 use end_table::{HereView, Inward, Outward, Table};
-use kernel_process::{Kept, owned};
+use kernel_process::{ControlBlock, owned};
 use kernel_step::first_of;
 
 /// How many links a kernel may make.
@@ -22,13 +22,13 @@ const LINK_LIMIT: u32 = 65536;
 pub(crate) fn refusal(
     table: &Table,
     made: u32,
-    process: &Kept,
+    process: &ControlBlock,
     p: Pid,
     call: &Call,
 ) -> Option<Cause>
     requires active { (e : EndId) → list_any (end_eq e) process.now.active.keys ≡ is_active (owned p (entries table.now e)) }
     ensures { (mine : List EndId) → IsCallWith p (entries table.now) mine call.now
-        → result ≡ refusal p (entries table.now) made mine (has_report (kept_process process.now)) call.now }
+        → result ≡ refusal p (entries table.now) made mine (has_report (process_state process.now)) call.now }
 {
     match call {
         Call::Make => make_refusal(made),
@@ -139,7 +139,7 @@ fn cancel_receive_cause(inward: Inward) -> Option<Cause>
 }
 
 /// A Wait needs a report that stands, or an activity that is started.
-fn wait_refusal(process: &Kept) -> Option<Cause>
+fn wait_refusal(process: &ControlBlock) -> Option<Cause>
     ensures { result ≡ (if not (nat_eq (length process.now.reports.items) 0) || not (nat_eq (length process.now.active.keys) 0) then None else Some cause.NoActivity) }
 {
     if process.reports.is_empty() && process.active.is_empty() {

@@ -11,11 +11,11 @@ ghost use Rattle.kernel_step.specs.Progress.{progress, HasRoom};
 ghost use Rattle.kernel_process.specs.Closing.{HaveSpare, HavePlace};
 ghost use Rattle.kernel_process.specs.Active.{started_ends};
 ghost use Rattle.kernel_event.specs.Places.{brought, ArePlaced};
-ghost use Rattle.kernel_process.specs.Processes.{kept_process};
+ghost use Rattle.kernel_process.specs.Parts.{process_state};
 
 use charlotte_calls::{EndId, LinkId, MovingPicture, NoMemory, Pid, Side, What, Work};
 use end_table::Table;
-use kernel_process::Kept;
+use kernel_process::ControlBlock;
 use std::alloc::Global;
 
 /// How many packets the death of an end takes at most.
@@ -38,8 +38,8 @@ const ANSWERED: usize = 5;
 
 /// Each process gets room for the reports of an event, and for one more end with a started activity. A setting has at most 64
 /// processes.
-pub(crate) fn reserve_processes(processes: &mut [Kept]) -> Result<(), NoMemory>
-    ensures kept { map kept_process processes.new ≡ map kept_process processes.old }
+pub(crate) fn reserve_processes(processes: &mut [ControlBlock]) -> Result<(), NoMemory>
+    ensures kept { map process_state processes.new ≡ map process_state processes.old }
     ensures active { map started_ends processes.new ≡ map started_ends processes.old }
     ensures room { OnOk result (HaveSpare 3 processes.new × HavePlace processes.new) }
     ensures length { length processes.new ≡ length processes.old }
@@ -50,8 +50,8 @@ pub(crate) fn reserve_processes(processes: &mut [Kept]) -> Result<(), NoMemory>
     Ok(())
 }
 
-fn reserve_process(process: &mut Kept) -> Result<(), NoMemory>
-    ensures kept { kept_process process.new ≡ kept_process process.old }
+fn reserve_process(process: &mut ControlBlock) -> Result<(), NoMemory>
+    ensures kept { process_state process.new ≡ process_state process.old }
     ensures active { started_ends process.new ≡ started_ends process.old }
     ensures reports { OnOk result (deque_len process.new.reports + 3 ≤ deque_capacity process.new.reports) }
     ensures place { OnOk result (1 ≤ spare process.new.active) }

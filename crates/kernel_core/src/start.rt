@@ -17,7 +17,7 @@ ghost use Rattle.kernel_core.specs.Wired.{HasWired, IsFresh, with_link};
 use charlotte_calls::{LinkId, Moving, NoMemory, Pid, Setting};
 use end_table::{Holder, NotStored, Table};
 use indexmap::IndexSet;
-use kernel_process::Kept;
+use kernel_process::ControlBlock;
 use kernel_step::Phase;
 use std::alloc::Global;
 use std::collections::VecDeque;
@@ -156,7 +156,7 @@ fn place(table: &mut Table, at: u8, value: Moving, owner: Pid) -> Result<(), NoM
 }
 
 /// So many processes that have made no call.
-pub(crate) fn fresh_processes(alloc: Global, count: usize) -> Result<Vec<Kept>, NoMemory>
+pub(crate) fn fresh_processes(alloc: Global, count: usize) -> Result<Vec<ControlBlock>, NoMemory>
     ensures count { IfOk result (λ ps. length ps.items ≡ count) }
     ensures fresh { IfOk result (λ ps. All IsFresh ps.items) }
 {
@@ -167,10 +167,10 @@ pub(crate) fn fresh_processes(alloc: Global, count: usize) -> Result<Vec<Kept>, 
     Ok(processes)
 }
 
-fn fresh_process(alloc: Global) -> Kept
+fn fresh_process(alloc: Global) -> ControlBlock
     ensures { IsFresh result }
 {
-    Kept {
+    ControlBlock {
         phase: Phase::Running,
         reports: VecDeque::new(alloc),
         answer: None,

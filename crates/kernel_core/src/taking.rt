@@ -2,11 +2,11 @@ ghost use Rattle.std.specs.Prelude.{◌≡◌, length, map, IfOk, IfErr, OnOk, O
 ghost use Rattle.charlotte_calls.specs.Packets.{what_picture};
 ghost use Rattle.end_table.specs.Table.{entries};
 ghost use Rattle.kernel_process.specs.Closing.{HaveSpare, HavePlace};
-ghost use Rattle.kernel_core.specs.Kept.{IsKept};
+ghost use Rattle.kernel_core.specs.Consistent.{IsConsistent};
 ghost use Rattle.kernel_process.specs.Active.{started_ends};
 ghost use Rattle.kernel_event.specs.Places.{ArePlaced, brought};
 ghost use Rattle.kernel_sound.specs.Sound.{addressee};
-ghost use Rattle.kernel_process.specs.Processes.{with_parts, ended, kept_process};
+ghost use Rattle.kernel_process.specs.Parts.{with_parts, ended, process_state};
 ghost use Rattle.kernel_core.specs.Started.{IsStarted, takes_addressed};
 ghost use Rattle.kernel_step.specs.Kernel.{Kernel, begins, closes};
 ghost use Rattle.kernel_step.specs.Progress.{progress};
@@ -16,7 +16,7 @@ use crate::room::{new_answered, new_work, reserve_brought, reserve_processes};
 use charlotte_calls::{Effect, EndId, NoMemory, Packet, Pid, What, Work};
 use end_table::Table;
 use kernel_event::row;
-use kernel_process::{Kept, close, owner, refresh_owner};
+use kernel_process::{ControlBlock, close, owner, refresh_owner};
 use std::alloc::Global;
 
 /// The packet that a kernel could not take for want of memory.
@@ -28,21 +28,21 @@ pub struct NotTaken {
 /// The event in which a kernel takes a packet from a kernel; all room that it needs was reserved.
 pub(crate) fn take(
     table: &mut Table,
-    processes: &mut [Kept],
+    processes: &mut [ControlBlock],
     made: u32,
     from: u8,
     what: What,
     mut work: Work,
     answered: Vec<Pid>,
 ) -> Effect
-    requires kept { IsKept table.old processes.old made }
+    requires kept { IsConsistent table.old processes.old made }
     requires placed { ArePlaced table.old (brought what) }
     requires started { IsStarted 17 work answered }
     requires spare { HaveSpare 3 processes.old }
     requires place { HavePlace processes.old }
     ensures part { (s : Kernel) → ended (with_parts (entries table.new) processes.new (record s { stamp = result.stamp })) result
         ≡ closes (with_parts (entries table.old) processes.old s) (row table.old.kernel made from (what_picture what) (progress (entries table.old) work)) }
-    ensures kept { IsKept table.new processes.new made }
+    ensures kept { IsConsistent table.new processes.new made }
     ensures kernel { table.new.kernel ≡ table.old.kernel }
     ensures length { length processes.new ≡ length processes.old }
 {
@@ -76,7 +76,7 @@ fn addressee(what: &What) -> EndId
 /// The event of a packet, of which each named kernel is there or which is dropped.
 pub(crate) fn take_packet(
     table: &mut Table,
-    processes: &mut [Kept],
+    processes: &mut [ControlBlock],
     made: u32,
     kernels: u8,
     from: u8,
@@ -84,7 +84,7 @@ pub(crate) fn take_packet(
     work: Work,
     answered: Vec<Pid>,
 ) -> Effect
-    requires kept { IsKept table.old processes.old made }
+    requires kept { IsConsistent table.old processes.old made }
     requires placed { ArePlaced table.old (brought packet.what) }
     requires started { IsStarted 17 work answered }
     requires spare { HaveSpare 3 processes.old }
@@ -92,7 +92,7 @@ pub(crate) fn take_packet(
     ensures part { (s : Kernel) → ended (with_parts (entries table.new) processes.new (record s { stamp = result.stamp })) result
         ≡ closes (with_parts (entries table.old) processes.old s)
         (takes_addressed kernels table.old.kernel made from (what_picture packet.what) (progress (entries table.old) work)) }
-    ensures kept { IsKept table.new processes.new made }
+    ensures kept { IsConsistent table.new processes.new made }
     ensures kernel { table.new.kernel ≡ table.old.kernel }
     ensures length { length processes.new ≡ length processes.old }
 {
@@ -107,17 +107,17 @@ pub(crate) fn take_packet(
 /// The event of a packet that is dropped.
 fn pass(
     table: &mut Table,
-    processes: &mut [Kept],
+    processes: &mut [ControlBlock],
     made: u32,
     work: Work,
     answered: Vec<Pid>,
 ) -> Effect
-    requires kept { IsKept table.old processes.old made }
+    requires kept { IsConsistent table.old processes.old made }
     requires started { IsStarted 17 work answered }
     requires spare { HaveSpare 3 processes.old }
     ensures part { (s : Kernel) → ended (with_parts (entries table.new) processes.new (record s { stamp = result.stamp })) result
         ≡ closes (with_parts (entries table.old) processes.old s) (progress (entries table.old) work) }
-    ensures kept { IsKept table.new processes.new made }
+    ensures kept { IsConsistent table.new processes.new made }
     ensures kernel { table.new.kernel ≡ table.old.kernel }
     ensures length { length processes.new ≡ length processes.old }
 {
@@ -128,7 +128,7 @@ fn pass(
 pub(crate) fn reserve_taking(
     alloc: Global,
     table: &mut Table,
-    processes: &mut [Kept],
+    processes: &mut [ControlBlock],
     what: &What,
     stamp: u64,
 ) -> Result<(Work, Vec<Pid>), NoMemory>
@@ -138,7 +138,7 @@ pub(crate) fn reserve_taking(
     ensures room { OnOk result (HaveSpare 3 processes.new × HavePlace processes.new) }
     ensures entries { entries table.new ≡ entries table.old }
     ensures kernel { table.new.kernel ≡ table.old.kernel }
-    ensures kept { map kept_process processes.new ≡ map kept_process processes.old }
+    ensures kept { map process_state processes.new ≡ map process_state processes.old }
     ensures active { map started_ends processes.new ≡ map started_ends processes.old }
     ensures length { length processes.new ≡ length processes.old }
 {
@@ -153,21 +153,21 @@ pub(crate) fn reserve_taking(
 pub(crate) fn take_event(
     alloc: Global,
     table: &mut Table,
-    processes: &mut [Kept],
+    processes: &mut [ControlBlock],
     made: u32,
     kernels: u8,
     from: u8,
     stamp: u64,
     packet: Packet,
 ) -> Result<Effect, NotTaken>
-    requires kept { IsKept table.old processes.old made }
+    requires kept { IsConsistent table.old processes.old made }
     ensures part { IfOk result (λ effect. (s : Kernel) → s.table ≡ entries table.old
         → ended (with_parts (entries table.new) processes.new (record s { stamp = effect.stamp })) effect
         ≡ closes (with_parts (entries table.old) processes.old s)
         (takes_addressed kernels table.old.kernel made from (what_picture packet.what) (begins s stamp))) }
     ensures back { IfErr result (λ e. e.packet ≡ packet) }
-    ensures same { OnErr result ((entries table.new ≡ entries table.old) × (map kept_process processes.new ≡ map kept_process processes.old)) }
-    ensures kept { IsKept table.new processes.new made }
+    ensures same { OnErr result ((entries table.new ≡ entries table.old) × (map process_state processes.new ≡ map process_state processes.old)) }
+    ensures kept { IsConsistent table.new processes.new made }
     ensures kernel { table.new.kernel ≡ table.old.kernel }
     ensures length { length processes.new ≡ length processes.old }
 {

@@ -19,7 +19,7 @@ use Rattle.end_table.specs.declared.entry.Entry.{Entry}
 use Rattle.end_table.specs.declared.entry.Entry.TheVariants as entry
 use Rattle.end_table.specs.declared.entry.HereView.{HereView}
 use Rattle.end_table.specs.declared.entry.Holder.TheVariants as holder
-use Rattle.kernel_sound.proofs.Needs.{IfHere-at, encloses-enclosed, encloses-on, owned-here, send-apart, send-enclosed}
+use Rattle.kernel_sound.proofs.Needs.{IfHere-at, encloses-enclosed, encloses-on, granted-at, owned-here, send-apart, send-enclosed}
 use Rattle.kernel_sound.proofs.Calls.{IfHere-ends, ends_each-well}
 use Rattle.kernel_sound.proofs.Tells.{tells-same, tells_gone-tells}
 use Rattle.kernel_sound.specs.Acts.{AreOfOne, acts, acts_on, withdraws}

@@ -19,7 +19,7 @@ use Rattle.end_table.specs.declared.entry.Outward.TheVariants as outward
 use Rattle.kernel_event.specs.Places.{ArePlaced}
 use Rattle.kernel_sound.specs.Ready.{IsReady}
 use Rattle.kernel_event.specs.Order.{put_behind}
-use Rattle.kernel_event.proofs.Carried.{AreAway-passing, AreAway-arriving, AreApart-arriving, HavePlaces-placed}
+use Rattle.kernel_event.proofs.Away.{AreAway-passing, AreAway-arriving, AreApart-arriving, HavePlaces-placed}
 use Rattle.kernel_event.proofs.Prefixed.{Adds, Stays, receives-adds, receives-stays, receives-one, resends_on_news-adds, notices_first-adds, notices_first-stays, settle_each-silent, gives_back-silent, order, order-length}
 use Rattle.kernel_sound.proofs.Tells.{tell_arrivals-tells, tells-same}
 use Rattle.kernel_sound.proofs.Parcels.{asks-here, gives_back-table}

@@ -9,6 +9,7 @@ ghost use Rattle.end_table.specs.Table.{entries, HasPlace, IsHere, IsOfEnd, Puts
 ghost use Rattle.end_table.specs.declared.entry.Entry.TheVariants.{Here};
 ghost use Rattle.kernel_sound.specs.Acts.{acts, acts_on, withdraws, withdraws_posted, AreOfOne};
 ghost use Rattle.kernel_event.specs.Places.{IsPlacedFor};
+ghost use Rattle.kernel_event.specs.Room.{room_of_call, Fits, Adds};
 ghost use Rattle.kernel_sound.specs.Ready.{IsReady};
 ghost use Rattle.kernel_sound.specs.Sound.{IsSound};
 ghost use Rattle.kernel_step.specs.Actions.{ends, here};
@@ -29,9 +30,9 @@ pub fn act(table: &mut Table, made: u32, p: Pid, mine: &[EndId], call: Call, out
     requires granted { (reported : Bool) × (refusal p (entries table.old) made mine.now reported call ≡ None) }
     requires mine { IsCallWith p (entries table.old) mine.now call }
     requires placed { IsPlacedFor call table.old made }
-    requires room { HasRoom (9 * (length mine.now + 1)) 0 0 2 out.old }
+    requires room { Fits (room_of_call call (length mine.now)) out.old }
     ensures part { progress (entries table.new) out.new ≡ acts p table.old.kernel made mine.now call (progress (entries table.old) out.old) }
-    ensures room { AddsAtMost (9 * (length mine.now + 1)) 0 0 2 out.old out.new }
+    ensures room { Adds (room_of_call call (length mine.now)) out.old out.new }
     ensures kernel { table.new.kernel ≡ table.old.kernel }
 {
     match call {

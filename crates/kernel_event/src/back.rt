@@ -16,14 +16,20 @@ use end_table::{HereView, Outward, Table};
 use kernel_step::{awaiting, push_step};
 use move_core::give_back;
 
+/// The message of a packet back, without its values, and the kernel that sent the packet.
+#[derive(Clone, Copy)]
+pub(crate) struct Returned {
+    pub(crate) from: u8,
+    pub(crate) to: EndId,
+    pub(crate) n: u32,
+}
+
 /// The row back: at its matched send the message is reported as destroyed, and its ends are the sender's again. Anywhere
 /// else its ends are destroyed.
 pub(crate) fn back(
     table: &mut Table,
     made: u32,
-    from: u8,
-    to: EndId,
-    n: u32,
+    returned: Returned,
     moving: Cargo,
     out: &mut Work,
 )
@@ -31,26 +37,27 @@ pub(crate) fn back(
     requires first { out.old.packets.items ≡ [] }
     requires room { HasRoom 17 3 1 1 out.old }
     ensures part { progress (entries table.new) out.new
-        ≡ back_row table.old.kernel made from to n moving (awaits n (entries table.old to)) (progress (entries table.old) out.old) }
+        ≡ back_row table.old.kernel made returned.from returned.to returned.n moving (awaits returned.n (entries table.old returned.to)) (progress (entries table.old) out.old) }
     ensures room { AddsAtMost 17 3 1 1 out.old out.new }
     ensures kernel { table.new.kernel ≡ table.old.kernel }
 {
-    match awaiting(table, to, n) {
-        Some(view) => take_back(table, made, from, to, view, n, moving, out),
-        None => end_brought(table, made, to, n, moving, out),
+    match awaiting(table, returned.to, returned.n) {
+        Some(view) => take_back(table, made, returned, view, moving, out),
+        None => end_brought(table, made, returned, moving, out),
     }
 }
 
 /// The ends of a message that comes back where its send is not matched are destroyed.
-fn end_brought(table: &mut Table, made: u32, to: EndId, n: u32, moving: Cargo, out: &mut Work)
-    requires unmatched { awaits n (entries table.old to) ≡ None }
+fn end_brought(table: &mut Table, made: u32, returned: Returned, moving: Cargo, out: &mut Work)
+    requires unmatched { awaits returned.n (entries table.old returned.to) ≡ None }
     requires placed { ArePlaced table.old moving }
     requires room { HasRoom 8 1 0 1 out.old }
-    ensures part { (from : ℕ) → progress (entries table.new) out.new
-        ≡ back_row table.old.kernel made from to n moving None (progress (entries table.old) out.old) }
+    ensures part { progress (entries table.new) out.new
+        ≡ back_row table.old.kernel made returned.from returned.to returned.n moving None (progress (entries table.old) out.old) }
     ensures room { AddsAtMost 8 1 0 1 out.old out.new }
     ensures kernel { table.new.kernel ≡ table.old.kernel }
 {
+    let Returned { to, n, .. } = returned;
     let here = is_here(table, to);
     let passed = passing(table, made, moving);
     mean_back(out, to, n, here, &passed);
@@ -87,23 +94,22 @@ fn answers_cancel(view: &HereView) -> bool
 fn take_back(
     table: &mut Table,
     made: u32,
-    from: u8,
-    to: EndId,
+    returned: Returned,
     mut view: HereView,
-    n: u32,
     moving: Cargo,
     out: &mut Work,
 )
-    requires matched { awaits n (entries table.old to) ≡ Some view }
+    requires matched { awaits returned.n (entries table.old returned.to) ≡ Some view }
     requires here { entries table.old view.value.end ≡ Here view }
     requires placed { ArePlaced table.old moving }
     requires first { out.old.packets.items ≡ [] }
     requires room { HasRoom 17 3 1 1 out.old }
     ensures part { progress (entries table.new) out.new
-        ≡ back_row table.old.kernel made from to n moving (Some view) (progress (entries table.old) out.old) }
+        ≡ back_row table.old.kernel made returned.from returned.to returned.n moving (Some view) (progress (entries table.old) out.old) }
     ensures room { AddsAtMost 17 3 1 1 out.old out.new }
     ensures kernel { table.new.kernel ≡ table.old.kernel }
 {
+    let Returned { from, to, n } = returned;
     let dead = answers_cancel(&view);
     push_step(out, ServiceStep::Back { on: to, n, dead });
     let came = arriving(table, made, moving);

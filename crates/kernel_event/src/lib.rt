@@ -8,7 +8,7 @@ mod carried;
 mod death;
 mod order;
 mod parcel;
-mod row;
+mod rows;
 
 pub use acts::act;
-pub use row::row;
+pub use rows::row;

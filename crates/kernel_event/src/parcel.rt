@@ -12,17 +12,25 @@ use end_table::Table;
 use kernel_step::{asking, ends_in};
 use move_core::arrive;
 
+/// A message in a parcel, without the values that the parcel brings.
+#[derive(Drop)]
+pub(crate) struct Message {
+    pub(crate) to: EndId,
+    pub(crate) n: u32,
+    /// The receive that it is for.
+    pub(crate) w: u32,
+    /// The kernel and the hops of the end that sent it.
+    pub(crate) at: u8,
+    pub(crate) hops: u32,
+    pub(crate) bytes: Bytes,
+}
+
 /// The row parcel: at the receive that it was sent for the message is taken, and its ends become Here. Anywhere else the
 /// ends leave again, and go back with it.
 pub(crate) fn parcel(
     table: &mut Table,
     made: u32,
-    to: EndId,
-    n: u32,
-    w: u32,
-    at: u8,
-    hops: u32,
-    bytes: Bytes,
+    message: Message,
     moving: Cargo,
     out: &mut Work,
 )
@@ -30,13 +38,13 @@ pub(crate) fn parcel(
     requires first { out.old.packets.items ≡ [] }
     requires room { HasRoom 11 1 1 1 out.old }
     ensures part { progress (entries table.new) out.new
-        ≡ parcel_row table.old.kernel made to n at hops bytes moving (asks w (entries table.old to)) (progress (entries table.old) out.old) }
+        ≡ parcel_row table.old.kernel made message.to message.n message.at message.hops message.bytes moving (asks message.w (entries table.old message.to)) (progress (entries table.old) out.old) }
     ensures room { AddsAtMost 11 1 1 1 out.old out.new }
     ensures kernel { table.new.kernel ≡ table.old.kernel }
 {
-    match asking(table, to, w) {
-        Some(_) => take_parcel(table, made, to, n, w, at, hops, bytes, moving, out),
-        None => pass_parcel(table, made, to, n, w, at, moving, out),
+    match asking(table, message.to, message.w) {
+        Some(_) => take_parcel(table, made, message, moving, out),
+        None => pass_parcel(table, made, &message, moving, out),
     }
 }
 
@@ -44,47 +52,47 @@ pub(crate) fn parcel(
 fn pass_parcel(
     table: &mut Table,
     made: u32,
-    to: EndId,
-    n: u32,
-    w: u32,
-    at: u8,
+    message: &Message,
     moving: Cargo,
     out: &mut Work,
 )
-    requires unasked { asks w (entries table.old to) ≡ None }
+    requires unasked { asks message.now.w (entries table.old message.now.to) ≡ None }
     requires placed { ArePlaced table.old moving }
     requires room { HasRoom 8 0 0 0 out.old }
     ensures part { (hops : ℕ) (bytes : List ℕ) → progress (entries table.new) out.new
-        ≡ parcel_row table.old.kernel made to n at hops bytes moving None (progress (entries table.old) out.old) }
+        ≡ parcel_row table.old.kernel made message.now.to message.now.n message.now.at hops bytes moving None (progress (entries table.old) out.old) }
     ensures room { AddsAtMost 8 0 0 0 out.old out.new }
     ensures kernel { table.new.kernel ≡ table.old.kernel }
 {
     let passed = passing(table, made, moving);
-    arrive(table, to, n, w, at, passed, out);
+    arrive(table, message.to, message.n, message.w, message.at, passed, out);
 }
 
 /// The message is taken by the started receive of an end that is here.
 fn take_parcel(
     table: &mut Table,
     made: u32,
-    to: EndId,
-    n: u32,
-    w: u32,
-    at: u8,
-    hops: u32,
-    bytes: Bytes,
+    message: Message,
     moving: Cargo,
     out: &mut Work,
 )
-    requires asked { IsSome (asks w (entries table.old to)) }
+    requires asked { IsSome (asks message.w (entries table.old message.to)) }
     requires placed { ArePlaced table.old moving }
     requires first { out.old.packets.items ≡ [] }
     requires room { HasRoom 11 1 1 1 out.old }
     ensures part { progress (entries table.new) out.new
-        ≡ parcel_row table.old.kernel made to n at hops bytes moving (asks w (entries table.old to)) (progress (entries table.old) out.old) }
+        ≡ parcel_row table.old.kernel made message.to message.n message.at message.hops message.bytes moving (asks message.w (entries table.old message.to)) (progress (entries table.old) out.old) }
     ensures room { AddsAtMost 11 1 1 1 out.old out.new }
     ensures kernel { table.new.kernel ≡ table.old.kernel }
 {
+    let Message {
+        to,
+        n,
+        w,
+        at,
+        hops,
+        bytes,
+    } = message;
     let came = arriving(table, made, moving);
     let ends = ends_in(&came);
     arrive(table, to, n, w, at, came, out);

@@ -15,7 +15,7 @@ use Rattle.end_table.specs.declared.entry.Entry.{Entry}
 use Rattle.kernel_step.specs.Calls.{is_active}
 use Rattle.kernel_process.proofs.KeptMoved.{get-moved}
 use Rattle.kernel_process.specs.Active.{started_ends, Tells, Refreshes, Empties}
-use Rattle.kernel_process.specs.declared.process.Kept.{Kept}
+use Rattle.kernel_process.specs.declared.process.ControlBlock.{ControlBlock}
 
 -- the test of two numbers
 same : (a b : ℕ) → a ≡ b → nat_eq a b ≡ true
@@ -33,8 +33,8 @@ apart a b e = by (eqb_tells a b)
     by (inr t) = t.0
 
 -- what one process is, where it or another one is set
-set_process : (R : ℕ → Kept → Kept → Type 0) (xs : List Kept) (i : ℕ) (d y : Kept) → i < length xs → R i y (get_or xs i d) → ((q : ℕ) (x : Kept) → q ≢ i → R q x x)
-    → (q : ℕ) (x : Kept) → slice_get (slice_set xs i y) q ≡ Some x → (z : Kept) × (slice_get xs q ≡ Some z) × R q x z
+set_process : (R : ℕ → ControlBlock → ControlBlock → Type 0) (xs : List ControlBlock) (i : ℕ) (d y : ControlBlock) → i < length xs → R i y (get_or xs i d) → ((q : ℕ) (x : ControlBlock) → q ≢ i → R q x x)
+    → (q : ℕ) (x : ControlBlock) → slice_get (slice_set xs i y) q ≡ Some x → (z : ControlBlock) × (slice_get xs q ≡ Some z) × R q x z
 set_process R xs i d y within here others q x is = by (eqb_tells q i)
   where
     reads : get_or (slice_set xs i y) q d ≡ x
@@ -43,26 +43,27 @@ set_process R xs i d y within here others q x is = by (eqb_tells q i)
     below : q < length xs
     below = subst (λ n. q < n) (length-set xs i y) (slice_get_within (slice_set xs i y) q x is)
 
-    by : ((nat_eq q i ≡ true) × (q ≡ i)) ⊎ ((nat_eq q i ≡ false) × (q ≢ i)) → (z : Kept) × (slice_get xs q ≡ Some z) × R q x z
+    by : ((nat_eq q i ≡ true) × (q ≡ i)) ⊎ ((nat_eq q i ≡ false) × (q ≢ i)) → (z : ControlBlock) × (slice_get xs q ≡ Some z) × R q x z
     by (inl t) = (get_or xs q d, slice_get-get_or xs q d below, subst (λ v. R q v (get_or xs q d)) (sym (get_or-set_at xs i q y d t.1 within) ∙ reads) (subst (λ k. R k y (get_or xs k d)) (sym t.1) here))
     by (inr t) = (get_or xs q d, slice_get-get_or xs q d below, subst (λ v. R q v (get_or xs q d)) (sym (get_or-set_other xs i q y d t.1) ∙ reads) (others q (get_or xs q d) t.1))
 
 -- a process whose set has one end as `started` says is set
-pub set_refreshes : (xs : List Kept) (i : ℕ) (d y : Kept) (p : Pid) (end : EndId) (started : Bool) → i ≡ p.0 → p.0 < length xs
-    → ((e : EndId) → list_any (end_eq e) y.active.keys ≡ (if end_eq end e then started else list_any (end_eq e) (get_or xs i d).active.keys))
+pub set_refreshes : (xs : List ControlBlock) (i : ℕ) (d y : ControlBlock) (p : Pid) (end : EndId) (started : Bool) → d ≡ get_or xs i d → i ≡ p.0 → p.0 < length xs
+    → ((e : EndId) → list_any (end_eq e) y.active.keys ≡ (if end_eq end e then started else list_any (end_eq e) d.active.keys))
     → Refreshes p end started xs (slice_set xs i y)
-set_refreshes xs i d y p end started at within noted q x is =
+set_refreshes xs i d y p end started lent at within noted q x is =
     set_process (λ n v w. (e : EndId) → list_any (end_eq e) v.active.keys ≡ (if nat_eq p.0 n && end_eq end e then started else list_any (end_eq e) w.active.keys))
     xs i d y (subst (λ n. n < length xs) (sym at) within) here others q.0 x is
   where
     here : (e : EndId) → list_any (end_eq e) y.active.keys ≡ (if nat_eq p.0 i && end_eq end e then started else list_any (end_eq e) (get_or xs i d).active.keys)
-    here e = noted e ∙ ap (λ b. cond (b && end_eq end e) started (list_any (end_eq e) (get_or xs i d).active.keys)) (sym (same p.0 i (sym at)))
+    here e = noted e ∙ ap (λ (z : ControlBlock). cond (end_eq end e) started (list_any (end_eq e) z.active.keys)) lent
+        ∙ ap (λ b. cond (b && end_eq end e) started (list_any (end_eq e) (get_or xs i d).active.keys)) (sym (same p.0 i (sym at)))
 
-    others : (n : ℕ) (x : Kept) → n ≢ i → (e : EndId) → list_any (end_eq e) x.active.keys ≡ (if nat_eq p.0 n && end_eq end e then started else list_any (end_eq e) x.active.keys)
+    others : (n : ℕ) (x : ControlBlock) → n ≢ i → (e : EndId) → list_any (end_eq e) x.active.keys ≡ (if nat_eq p.0 n && end_eq end e then started else list_any (end_eq e) x.active.keys)
     others n x other e = ap (λ b. cond (b && end_eq end e) started (list_any (end_eq e) x.active.keys)) (sym (apart p.0 n (λ s. other (sym s ∙ sym at))))
 
 -- a process whose set is empty is set
-pub set_empties : (xs : List Kept) (i : ℕ) (d y : Kept) (p : Pid) → i ≡ p.0 → p.0 < length xs → y.active.keys ≡ [] → Empties p xs (slice_set xs i y)
+pub set_empties : (xs : List ControlBlock) (i : ℕ) (d y : ControlBlock) (p : Pid) → i ≡ p.0 → p.0 < length xs → y.active.keys ≡ [] → Empties p xs (slice_set xs i y)
 set_empties xs i d y p at within none q x is =
     set_process (λ n v w. (e : EndId) → list_any (end_eq e) v.active.keys ≡ (if nat_eq p.0 n then false else list_any (end_eq e) w.active.keys))
     xs i d y (subst (λ n. n < length xs) (sym at) within) here others q.0 x is
@@ -70,13 +71,13 @@ set_empties xs i d y p at within none q x is =
     here : (e : EndId) → list_any (end_eq e) y.active.keys ≡ (if nat_eq p.0 i then false else list_any (end_eq e) (get_or xs i d).active.keys)
     here e = ap (list_any (end_eq e)) none ∙ ap (λ b. cond b false (list_any (end_eq e) (get_or xs i d).active.keys)) (sym (same p.0 i (sym at)))
 
-    others : (n : ℕ) (x : Kept) → n ≢ i → (e : EndId) → list_any (end_eq e) x.active.keys ≡ (if nat_eq p.0 n then false else list_any (end_eq e) x.active.keys)
+    others : (n : ℕ) (x : ControlBlock) → n ≢ i → (e : EndId) → list_any (end_eq e) x.active.keys ≡ (if nat_eq p.0 n then false else list_any (end_eq e) x.active.keys)
     others n x other e = ap (λ b. cond b false (list_any (end_eq e) x.active.keys)) (sym (apart p.0 n (λ s. other (sym s ∙ sym at))))
 
 -- Whether the set of each process tells its started activities, as an event changes what is started
 
 -- sets with the same ends tell the same, where no activity changed
-pub tells_same : (t u : EndId → Entry) (xs ys : List Kept) → Tells t xs → map started_ends ys ≡ map started_ends xs
+pub tells_same : (t u : EndId → Entry) (xs ys : List ControlBlock) → Tells t xs → map started_ends ys ≡ map started_ends xs
     → ((p : Pid) (e : EndId) → is_active (owned p (u e)) ≡ is_active (owned p (t e))) → Tells u ys
 tells_same t u xs ys told same_ends unchanged p y is e =
     let found = get-moved started_ends xs ys same_ends p.0 y is in
@@ -103,7 +104,7 @@ other_pid : (p q : Pid) → nat_eq p.0 q.0 ≡ false → q.0 ≢ p.0
 other_pid p q is e = true≢false (sym (same p.0 q.0 (sym e)) ∙ is)
 
 -- activity of p changes at one end alone, and its set was refreshed there
-pub tells_refreshed : (t u : EndId → Entry) (xs ys zs : List Kept) (p : Pid) (end : EndId) → Tells t xs → map started_ends ys ≡ map started_ends xs
+pub tells_refreshed : (t u : EndId → Entry) (xs ys zs : List ControlBlock) (p : Pid) (end : EndId) → Tells t xs → map started_ends ys ≡ map started_ends xs
     → ((q : Pid) (e : EndId) → end_eq end e ≡ false → is_active (owned q (u e)) ≡ is_active (owned q (t e)))
     → ((q : Pid) → q.0 ≢ p.0 → is_active (owned q (u end)) ≡ is_active (owned q (t end)))
     → Refreshes p end (is_active (owned p (u end))) ys zs → Tells u zs
@@ -122,7 +123,7 @@ tells_refreshed t u xs ys zs p end told same_ends elsewhere others refreshed q z
     by false there other = elsewhere q e there
 
 -- p has no activity any more, and its set was emptied
-pub tells_emptied : (t u : EndId → Entry) (xs ys zs : List Kept) (p : Pid) → Tells t xs → map started_ends ys ≡ map started_ends xs
+pub tells_emptied : (t u : EndId → Entry) (xs ys zs : List ControlBlock) (p : Pid) → Tells t xs → map started_ends ys ≡ map started_ends xs
     → ((q : Pid) (e : EndId) → q.0 ≢ p.0 → is_active (owned q (u e)) ≡ is_active (owned q (t e)))
     → ((e : EndId) → is_active (owned p (u e)) ≡ false)
     → Empties p ys zs → Tells u zs

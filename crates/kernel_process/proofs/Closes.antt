@@ -25,13 +25,13 @@ use Rattle.kernel_step.specs.Kernel.{Kernel, Outcome, Process, with_process, pro
 use Rattle.kernel_step.specs.Progress.{progress, sent_picture}
 use Rattle.kernel_step.specs.declared.phase.Phase.TheVariants.{Running, Waiting, Exited}
 use Rattle.kernel_step.specs.declared.phase.Phase.{Phase}
-use Rattle.kernel_process.proofs.Processes.{process_of-at, with_parts-set}
+use Rattle.kernel_process.proofs.OneProcess.{process_of-at, with_parts-set}
 use Rattle.kernel_sound.proofs.Reports.{IsSound-reported, is_active-reported_put}
 use Rattle.kernel_process.specs.Closing.{HaveSpare}
 use Rattle.kernel_sound.specs.Sound.{AreFor, IsSound}
-use Rattle.kernel_process.specs.Processes.{ended, kept_process, with_parts}
+use Rattle.kernel_process.specs.Parts.{ended, process_state, with_parts}
 use Rattle.kernel_process.specs.Steady.{StaysCalm, TakesAtMost}
-use Rattle.kernel_process.specs.declared.process.Kept.{Kept}
+use Rattle.kernel_process.specs.declared.process.ControlBlock.{ControlBlock}
 
 -- to put what an end has changes nothing
 pub put-same : (t : EndId → Entry) (e : EndId) (x : Entry) → x ≡ t e → put t e x ≡ t
@@ -51,54 +51,54 @@ with_process-same p s = λ i. record s { process = λ q. by q (eqb_tells p.0 q) 
     by q (inr t) = ap (λ b. cond b (s.process p.0) (s.process q)) t.0
 
 -- one process becomes what a function makes of it
-pub sets-by : (t : EndId → Entry) (xs : List Kept) (i : ℕ) (y d : Kept) (s : Kernel) (p : Pid) (f : Process → Process) → i ≡ p.0 → p.0 < length xs → kept_process y ≡ f (kept_process (get_or xs i d))
+pub sets-by : (t : EndId → Entry) (xs : List ControlBlock) (i : ℕ) (y d : ControlBlock) (s : Kernel) (p : Pid) (f : Process → Process) → d ≡ get_or xs i d → i ≡ p.0 → p.0 < length xs → process_state y ≡ f (process_state d)
     → with_parts t (slice_set xs i y) s ≡ with_process p (f (process_of p (with_parts t xs s))) (with_parts t xs s)
-sets-by t xs i y d s p f at below is =
+sets-by t xs i y d s p f lent at below is =
     with_parts-set t xs i y s p at within
-    ∙ ap (λ x. with_process p x (with_parts t xs s)) (is ∙ ap f (sym (process_of-at t xs d s i p at within)))
+    ∙ ap (λ x. with_process p x (with_parts t xs s)) (is ∙ ap (λ z. f (process_state z)) lent ∙ ap f (sym (process_of-at t xs d s i p at within)))
   where
     within : i < length xs
     within = subst (λ n. n < length xs) (sym at) below
 
 -- room for so many more reports
-abbrev HasSpare : ℕ → Kept → Type 0
+abbrev HasSpare : ℕ → ControlBlock → Type 0
 HasSpare n x = deque_len x.reports + n ≤ deque_capacity x.reports
 
 -- one process is set to one with the same ends with activities, and at most n more reports
-pub takes-set : (n : ℕ) (xs : List Kept) (i : ℕ) (y d : Kept) (p : Pid) → i ≡ p.0 → p.0 < length xs → y.active ≡ (get_or xs i d).active
-    → deque_capacity y.reports ≡ deque_capacity (get_or xs i d).reports → deque_len y.reports ≤ deque_len (get_or xs i d).reports + n
+pub takes-set : (n : ℕ) (xs : List ControlBlock) (i : ℕ) (y d : ControlBlock) (p : Pid) → d ≡ get_or xs i d → i ≡ p.0 → p.0 < length xs → y.active ≡ d.active
+    → deque_capacity y.reports ≡ deque_capacity d.reports → deque_len y.reports ≤ deque_len d.reports + n
     → TakesAtMost n xs (slice_set xs i y)
-takes-set n xs i y d p at below active capacity len =
+takes-set n xs i y d p lent at below active capacity len =
     record {
-      active = map-set (λ (x : Kept). x.active) xs i y
-          ∙ ap (λ a. slice_set (map (λ (x : Kept). x.active) xs) i a) (active ∙ sym (get_or-map (λ (x : Kept). x.active) xs i d d.active within))
-          ∙ set-get_or (map (λ (x : Kept). x.active) xs) i d.active;
+      active = map-set (λ (x : ControlBlock). x.active) xs i y
+          ∙ ap (λ a. slice_set (map (λ (x : ControlBlock). x.active) xs) i a) (active ∙ ap (λ (x : ControlBlock). x.active) lent ∙ sym (get_or-map (λ (x : ControlBlock). x.active) xs i d d.active within))
+          ∙ set-get_or (map (λ (x : ControlBlock). x.active) xs) i d.active;
       length = length-set xs i y;
-      spare = λ k have. All-set (HasSpare k) xs i y (room_left k (have i d within)) (λ j e h. fewer k (get_or xs j e) (have j e h));
+      spare = λ k have. All-set (HasSpare k) xs i y (room_left k (subst (HasSpare (k + n)) (sym lent) (have i d within))) (λ j e h. fewer k (get_or xs j e) (have j e h));
     }
   where
     within : i < length xs
     within = subst (λ n. n < length xs) (sym at) below
 
-    room_left : (k : ℕ) → HasSpare (k + n) (get_or xs i d) → HasSpare k y
+    room_left : (k : ℕ) → HasSpare (k + n) d → HasSpare k y
     room_left k have = omega arith
 
-    fewer : (k : ℕ) (x : Kept) → HasSpare (k + n) x → HasSpare k x
+    fewer : (k : ℕ) (x : ControlBlock) → HasSpare (k + n) x → HasSpare k x
     fewer k x have = omega arith
 
 -- room for so many is room for fewer
-pub spare-fewer : (m n : ℕ) (xs : List Kept) → n ≤ m → HaveSpare m xs → HaveSpare n xs
+pub spare-fewer : (m n : ℕ) (xs : List ControlBlock) → n ≤ m → HaveSpare m xs → HaveSpare n xs
 spare-fewer m n xs few have = λ j e h. fewer (get_or xs j e) (have j e h)
   where
-    fewer : (x : Kept) → HasSpare m x → HasSpare n x
+    fewer : (x : ControlBlock) → HasSpare m x → HasSpare n x
     fewer x room = omega arith
 
 -- no process changes
-pub takes-none : (xs : List Kept) → TakesAtMost 0 xs xs
+pub takes-none : (xs : List ControlBlock) → TakesAtMost 0 xs xs
 takes-none xs = record { active = refl; length = refl; spare = λ k have. spare-fewer (k + 0) k xs (omega arith) have }
 
 -- one change after another
-pub takes-both : (m n o : ℕ) (xs ys zs : List Kept) → m + n ≤ o → TakesAtMost m xs ys → TakesAtMost n ys zs → TakesAtMost o xs zs
+pub takes-both : (m n o : ℕ) (xs ys zs : List ControlBlock) → m + n ≤ o → TakesAtMost m xs ys → TakesAtMost n ys zs → TakesAtMost o xs zs
 takes-both m n o xs ys zs sum first second =
     record {
       active = second.active ∙ first.active;
@@ -165,7 +165,7 @@ exits-by s after e f p is packets answered steps =
     λ j. record { kernel = is j; packets = map sent_picture (packets j); answered = answered j; steps = steps j }
 
 -- a report answers the Wait of its process, which keeps the other reports
-pub answers_wait-by : (t u : EndId → Entry) (xs : List Kept) (s : Kernel) (e f : Effect) (p : Pid) (r : Report) → u ≡ put t r.on (reported_entry r.way (t r.on))
+pub answers_wait-by : (t u : EndId → Entry) (xs : List ControlBlock) (s : Kernel) (e f : Effect) (p : Pid) (r : Report) → u ≡ put t r.on (reported_entry r.way (t r.on))
     → f.packets.items ≡ e.packets.items → f.answered.items ≡ e.answered.items → f.steps.items ≡ e.steps.items ++ step.Report p r ∷ []
     → stands p (answer.Reported r) (ended (with_parts u xs s) f) ≡ answers_wait p r (process_of p (with_parts t xs s)).reports (ended (with_parts t xs s) e)
 unfolding ended with_parts answers_wait
@@ -239,7 +239,7 @@ unfolding join_answers
 join_answers-none xs o none = ap (λ l. join_answers l o) (sym none)
 
 -- an event is over once its answers stand and its reports have joined
-pub closes-by : (s : Kernel) (t : EndId → Entry) (xs : List Kept) (work : Work) (e : Effect) (o after : Outcome) → e.packets.items ≡ work.packets.items → e.answered.items ≡ [] → e.steps.items ≡ work.steps.items
+pub closes-by : (s : Kernel) (t : EndId → Entry) (xs : List ControlBlock) (work : Work) (e : Effect) (o after : Outcome) → e.packets.items ≡ work.packets.items → e.answered.items ≡ [] → e.steps.items ≡ work.steps.items
     → o ≡ join_answers work.answers.items (ended (with_parts t xs (record s { stamp = work.stamp })) e)
     → after ≡ join_reports work.reports.items o → after ≡ closes (with_parts t xs s) (progress t work)
 unfolding ended with_parts progress closes

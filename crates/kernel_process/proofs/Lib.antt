@@ -2,5 +2,5 @@ pub mod ActiveSets
 pub mod Closes
 pub mod KeptMoved
 pub mod OwnersTold
-pub mod Processes
+pub mod OneProcess
 pub mod Rooms

@@ -13,7 +13,7 @@ use Rattle.kernel_process.proofs.ActiveSets.{tells_same, tells_refreshed}
 use Rattle.kernel_sound.proofs.Needs.{owner-is_owner}
 use Rattle.kernel_process.specs.Active.{Tells, Refreshes}
 use Rattle.kernel_sound.specs.Owners.{owner_in, owner_of, IsCalmBut}
-use Rattle.kernel_process.specs.declared.process.Kept.{Kept}
+use Rattle.kernel_process.specs.declared.process.ControlBlock.{ControlBlock}
 use Rattle.kernel_step.specs.Calls.{is_active}
 
 -- a process that does not own an end has no activity there
@@ -49,7 +49,7 @@ module _ (t : EndId → Entry) (end : EndId) where
   elsewhere : (q : Pid) (e : EndId) → end_eq end e ≡ false → is_active (owned q (put t end entry.Nothing e)) ≡ is_active (owned q (t e))
   elsewhere q e apart = ap (λ x. is_active (owned q x)) (put-other t end entry.Nothing e apart)
 
-  pub released-none : (xs : List Kept) → None ≡ owner_of (t end) → Tells t xs → Tells (put t end entry.Nothing) xs
+  pub released-none : (xs : List ControlBlock) → None ≡ owner_of (t end) → Tells t xs → Tells (put t end entry.Nothing) xs
   released-none xs before told = tells_same t (put t end entry.Nothing) xs xs told refl (λ q e. by q e (end_eq end e) refl)
     where
       by : (q : Pid) (e : EndId) (b : Bool) → end_eq end e ≡ b → is_active (owned q (put t end entry.Nothing e)) ≡ is_active (owned q (t e))
@@ -58,7 +58,7 @@ module _ (t : EndId → Entry) (end : EndId) where
           (silent q ∙ sym (not_owner q (t end) None (sym before) (λ p some. absurd (none_some p some))))
       by q e false apart = elsewhere q e apart
 
-  pub released-some : (xs zs : List Kept) (p : Pid) → Some p ≡ owner_of (t end) → Tells t xs → Refreshes p end false xs zs → Tells (put t end entry.Nothing) zs
+  pub released-some : (xs zs : List ControlBlock) (p : Pid) → Some p ≡ owner_of (t end) → Tells t xs → Refreshes p end false xs zs → Tells (put t end entry.Nothing) zs
   released-some xs zs p before told refreshed =
       tells_refreshed t (put t end entry.Nothing) xs xs zs p end told refl elsewhere
       (λ q other. silent q ∙ sym (not_owner q (t end) (Some p) (sym before) (λ r some e. other (e ∙ sym (some_pid p r some)))))
@@ -68,7 +68,7 @@ module _ (t : EndId → Entry) (end : EndId) where
     changed : (q : Pid) (e : EndId) → end_eq end e ≡ false → is_active (owned q (u e)) ≡ is_active (owned q (put t end entry.Nothing e))
     changed q e apart = calm q e apart ∙ sym (elsewhere q e apart)
 
-    pub enlisted-none : (xs : List Kept) → owner_of (u end) ≡ None → Tells (put t end entry.Nothing) xs → Tells u xs
+    pub enlisted-none : (xs : List ControlBlock) → owner_of (u end) ≡ None → Tells (put t end entry.Nothing) xs → Tells u xs
     enlisted-none xs after told = tells_same (put t end entry.Nothing) u xs xs told refl (λ q e. by q e (end_eq end e) refl)
       where
         by : (q : Pid) (e : EndId) (b : Bool) → end_eq end e ≡ b → is_active (owned q (u e)) ≡ is_active (owned q (put t end entry.Nothing e))
@@ -77,7 +77,7 @@ module _ (t : EndId → Entry) (end : EndId) where
             (not_owner q (u end) None after (λ p some. absurd (none_some p some)) ∙ sym (silent q))
         by q e false apart = changed q e apart
 
-    pub enlisted-some : (xs zs : List Kept) (p : Pid) → owner_of (u end) ≡ Some p → Tells (put t end entry.Nothing) xs → Refreshes p end (is_active (owned p (u end))) xs zs → Tells u zs
+    pub enlisted-some : (xs zs : List ControlBlock) (p : Pid) → owner_of (u end) ≡ Some p → Tells (put t end entry.Nothing) xs → Refreshes p end (is_active (owned p (u end))) xs zs → Tells u zs
     enlisted-some xs zs p after told refreshed =
         tells_refreshed (put t end entry.Nothing) u xs xs zs p end told refl changed
         (λ q other. not_owner q (u end) (Some p) after (λ r some e. other (e ∙ sym (some_pid p r some))) ∙ sym (silent q))

@@ -1,4 +1,5 @@
 pub mod Active
 pub mod Closing
-pub mod Processes
+pub mod Lending
+pub mod Parts
 pub mod Steady

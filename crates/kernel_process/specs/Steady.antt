@@ -7,7 +7,7 @@ use Rattle.end_table.specs.Table.{TableView, entries}
 use Rattle.kernel_step.specs.Calls.{is_active}
 use Rattle.kernel_process.specs.Closing.{HaveSpare}
 use Rattle.kernel_sound.specs.Sound.{IsSound}
-use Rattle.kernel_process.specs.declared.process.Kept.{Kept}
+use Rattle.kernel_process.specs.declared.process.ControlBlock.{ControlBlock}
 
 -- the table stays sound, nobody's activities change, and the kernel's number stays
 pub record StaysCalm (old new : TableView) : Type 0 where
@@ -16,7 +16,7 @@ pub record StaysCalm (old new : TableView) : Type 0 where
   pub kernel : new.kernel ≡ old.kernel
 
 -- the processes keep the ends on which an activity is started, and the reports of each take at most n of its room
-pub record TakesAtMost (n : ℕ) (old new : List Kept) : Type 0 where
+pub record TakesAtMost (n : ℕ) (old new : List ControlBlock) : Type 0 where
   pub active : map (λ x. x.active) new ≡ map (λ x. x.active) old
   pub length : length new ≡ length old
   pub spare : (k : ℕ) → HaveSpare (k + n) old → HaveSpare k new

@@ -10,49 +10,50 @@ ghost use Rattle.end_table.specs.Table.{entries};
 ghost use Rattle.kernel_step.specs.Calls.{is_active, is_started, outward_activity, inward_activity};
 ghost use Rattle.kernel_process.specs.Closing.{HavePlace};
 ghost use Rattle.kernel_process.specs.Active.{started_ends, Refreshes, Empties};
-ghost use Rattle.kernel_process.specs.Processes.{kept_process};
-ghost use Rattle.kernel_process.specs.declared.process.Kept.{Kept};
+ghost use Rattle.kernel_process.specs.Parts.{process_state};
+ghost use Rattle.kernel_process.specs.declared.process.ControlBlock.{ControlBlock};
 
 use crate::owners::owned;
-use crate::process::Kept;
+use crate::process::Processes;
 use charlotte_calls::{EndId, Pid};
 use end_table::{HereView, Inward, Outward, Table};
 use indexmap::IndexSet;
 
 /// The set of process `p` has this end exactly where it has a started activity on it.
-pub fn refresh(table: &Table, processes: &mut [Kept], p: Pid, end: EndId)
+pub fn refresh(table: &Table, processes: &mut Processes, p: Pid, end: EndId)
     requires process { p.0 < length processes.old }
     requires place { HavePlace processes.old }
-    ensures kept { map kept_process processes.new ≡ map kept_process processes.old }
+    ensures kept { map process_state processes.new ≡ map process_state processes.old }
     ensures length { length processes.new ≡ length processes.old }
     ensures active { Refreshes p end (is_active (owned p (entries table.now end))) processes.old processes.new }
 {
     let started = is_active(table, p, end);
-    let process = &mut processes[usize::from(p.0)];
+    let process = processes.at_mut(usize::from(p.0));
     note(&mut process.active, end, started);
 }
 
 /// The set of process `p` has this end no more.
-pub fn forget(processes: &mut [Kept], p: Pid, end: EndId)
+pub fn forget(processes: &mut Processes, p: Pid, end: EndId)
     requires process { p.0 < length processes.old }
     requires place { HavePlace processes.old }
-    ensures kept { map kept_process processes.new ≡ map kept_process processes.old }
+    ensures kept { map process_state processes.new ≡ map process_state processes.old }
     ensures length { length processes.new ≡ length processes.old }
     ensures active { Refreshes p end false processes.old processes.new }
     ensures place { HavePlace processes.new }
 {
-    let process = &mut processes[usize::from(p.0)];
+    let process = processes.at_mut(usize::from(p.0));
     remove(&mut process.active, end);
 }
 
 /// The set of process `p` has no end.
-pub fn clear(processes: &mut [Kept], p: Pid)
+pub fn clear(processes: &mut Processes, p: Pid)
     requires { p.0 < length processes.old }
-    ensures kept { map kept_process processes.new ≡ map kept_process processes.old }
+    ensures kept { map process_state processes.new ≡ map process_state processes.old }
     ensures length { length processes.new ≡ length processes.old }
     ensures active { Empties p processes.old processes.new }
 {
-    processes[usize::from(p.0)].active.clear();
+    let process = processes.at_mut(usize::from(p.0));
+    process.active.clear();
 }
 
 /// The set has this end exactly where `started` says so, and every other end as before.

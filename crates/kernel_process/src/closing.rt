@@ -9,50 +9,50 @@ ghost use Rattle.kernel_step.specs.Progress.{progress};
 ghost use Rattle.kernel_step.specs.declared.phase.Phase.TheVariants.{Running, Exited};
 ghost use Rattle.kernel_process.specs.Closing.{HaveSpare};
 ghost use Rattle.kernel_sound.specs.Sound.{AreFor};
-ghost use Rattle.kernel_process.specs.Processes.{ended, with_parts, kept_process, process_at, HasPlaces, GainsAtMost};
+ghost use Rattle.kernel_process.specs.Parts.{ended, with_parts, process_state, process_at, HasPlaces, GainsAtMost};
 ghost use Rattle.kernel_process.specs.Steady.{StaysCalm, TakesAtMost};
 
-use crate::process::Kept;
+use crate::process::Processes;
 use charlotte_calls::{Answer, Effect, EndId, Pid, Report, ServiceStep, Way, Work};
 use end_table::{Entry, HereView, Inward, Outward, Table};
 use kernel_step::Phase;
 use std::collections::VecDeque;
 
 /// A process goes on to another phase.
-pub fn turn(processes: &mut [Kept], p: Pid, phase: Phase)
+pub fn turn(processes: &mut Processes, p: Pid, phase: Phase)
     requires { p.0 < length processes.old }
     ensures part { (t : EndId → Entry) (s : Kernel) → with_parts t processes.new s ≡ turns p phase (with_parts t processes.old s) }
     ensures kept { TakesAtMost 0 processes.old processes.new }
 {
-    let process = &mut processes[usize::from(p.0)];
+    let process = processes.at_mut(usize::from(p.0));
     process.phase = phase;
 }
 
 /// A process runs again, with this answer.
-fn run_again(processes: &mut [Kept], p: Pid, answer: Answer)
+fn run_again(processes: &mut Processes, p: Pid, answer: Answer)
     requires { p.0 < length processes.old }
     ensures part { (t : EndId → Entry) (s : Kernel) → with_parts t processes.new s
         ≡ with_process p (record (process_of p (with_parts t processes.old s)) { phase = Running; answer = Some answer }) (with_parts t processes.old s) }
     ensures kept { TakesAtMost 0 processes.old processes.new }
 {
-    let process = &mut processes[usize::from(p.0)];
+    let process = processes.at_mut(usize::from(p.0));
     process.phase = Phase::Running;
     process.answer = Some(answer);
 }
 
 /// The reports that a process was not given are let go.
-fn clear_reports(processes: &mut [Kept], p: Pid)
+fn clear_reports(processes: &mut Processes, p: Pid)
     requires { p.0 < length processes.old }
     ensures part { (t : EndId → Entry) (s : Kernel) → with_parts t processes.new s
         ≡ with_process p (record (process_of p (with_parts t processes.old s)) { reports = [] }) (with_parts t processes.old s) }
     ensures kept { TakesAtMost 0 processes.old processes.new }
 {
-    let process = &mut processes[usize::from(p.0)];
+    let process = processes.at_mut(usize::from(p.0));
     process.reports.clear();
 }
 
 /// A report goes behind the others of its process.
-fn add_report(processes: &mut [Kept], p: Pid, report: Report)
+fn add_report(processes: &mut Processes, p: Pid, report: Report)
     requires process { p.0 < length processes.old }
     requires spare { HaveSpare 1 processes.old }
     ensures part { (t : EndId → Entry) (s : Kernel) → with_parts t processes.new s
@@ -60,7 +60,7 @@ fn add_report(processes: &mut [Kept], p: Pid, report: Report)
         (with_parts t processes.old s) }
     ensures kept { TakesAtMost 1 processes.old processes.new }
 {
-    let process = &mut processes[usize::from(p.0)];
+    let process = processes.at_mut(usize::from(p.0));
     process.reports.push_back_reserved(report);
 }
 
@@ -94,7 +94,7 @@ fn settle_report(table: &mut Table, on: EndId, way: Way)
 }
 
 /// An answer comes to stand, and its process runs again.
-pub fn stand(processes: &mut [Kept], effect: &mut Effect, p: Pid, answer: Answer)
+pub fn stand(processes: &mut Processes, effect: &mut Effect, p: Pid, answer: Answer)
     requires process { p.0 < length processes.old }
     requires places { HasPlaces 1 0 effect.old }
     ensures part { (s : Kernel) (t : EndId → Entry) → ended (with_parts t processes.new s) effect.new ≡ stands p answer (ended (with_parts t processes.old s) effect.old) }
@@ -109,7 +109,7 @@ pub fn stand(processes: &mut [Kept], effect: &mut Effect, p: Pid, answer: Answer
 /// A report answers the Wait of its process, which keeps the reports that it has.
 fn answer_wait(
     table: &mut Table,
-    processes: &mut [Kept],
+    processes: &mut Processes,
     effect: &mut Effect,
     p: Pid,
     report: Report,
@@ -142,15 +142,15 @@ fn is_waiting(phase: Phase) -> bool
 }
 
 /// Whether a process is in a Wait whose answer does not stand.
-fn is_in_wait(processes: &[Kept], p: Pid) -> bool
+fn is_in_wait(processes: &Processes, p: Pid) -> bool
     requires { p.0 < length processes.now }
     ensures { (t : EndId → Entry) (s : Kernel) → result ≡ is_waiting (process_of p (with_parts t processes.now s)).phase }
 {
-    is_waiting(processes[usize::from(p.0)].phase)
+    is_waiting(processes.at(usize::from(p.0)).phase)
 }
 
 /// A report joins the list of its process; where the process is in a Wait, the report answers it.
-fn join(table: &mut Table, processes: &mut [Kept], effect: &mut Effect, p: Pid, report: Report)
+fn join(table: &mut Table, processes: &mut Processes, effect: &mut Effect, p: Pid, report: Report)
     requires process { p.0 < length processes.old }
     requires places { HasPlaces 1 1 effect.old }
     requires spare { HaveSpare 1 processes.old }
@@ -172,7 +172,7 @@ fn join(table: &mut Table, processes: &mut [Kept], effect: &mut Effect, p: Pid, 
 /// The reports join the lists of their processes, in order.
 fn join_all(
     table: &mut Table,
-    processes: &mut [Kept],
+    processes: &mut Processes,
     effect: &mut Effect,
     mut reports: VecDeque<(Pid, Report)>,
 )
@@ -193,7 +193,7 @@ fn join_all(
 }
 
 /// The answers come to stand, in order.
-fn answer_all(processes: &mut [Kept], effect: &mut Effect, mut answers: VecDeque<(Pid, Answer)>)
+fn answer_all(processes: &mut Processes, effect: &mut Effect, mut answers: VecDeque<(Pid, Answer)>)
     requires answers { AreFor (length processes.old) answers.items }
     requires places { HasPlaces (length answers.items) 0 effect.old }
     ensures part { (s : Kernel) (t : EndId → Entry) → ended (with_parts t processes.new s) effect.new
@@ -209,7 +209,7 @@ fn answer_all(processes: &mut [Kept], effect: &mut Effect, mut answers: VecDeque
 }
 
 /// The oldest report of a process leaves its list.
-fn first_report(processes: &mut [Kept], p: Pid) -> Option<Report>
+fn first_report(processes: &mut Processes, p: Pid) -> Option<Report>
     requires { p.0 < length processes.old }
     ensures part { (t : EndId → Entry) (s : Kernel) → with_parts t processes.new s
         ≡ with_process p (record (process_of p (with_parts t processes.old s)) { reports = drop 1 (process_of p (with_parts t processes.old s)).reports })
@@ -218,12 +218,12 @@ fn first_report(processes: &mut [Kept], p: Pid) -> Option<Report>
         ≡ option_to_list result ++ drop 1 (process_of p (with_parts t processes.old s)).reports }
     ensures kept { TakesAtMost 0 processes.old processes.new }
 {
-    let process = &mut processes[usize::from(p.0)];
+    let process = processes.at_mut(usize::from(p.0));
     process.reports.pop_front()
 }
 
 /// A Wait: the oldest report of the process answers it.
-pub fn wait(table: &mut Table, processes: &mut [Kept], effect: &mut Effect, p: Pid)
+pub fn wait(table: &mut Table, processes: &mut Processes, effect: &mut Effect, p: Pid)
     requires process { p.0 < length processes.old }
     requires places { HasPlaces 1 1 effect.old }
     ensures part { (s : Kernel) → ended (with_parts (entries table.new) processes.new s) effect.new
@@ -239,20 +239,20 @@ pub fn wait(table: &mut Table, processes: &mut [Kept], effect: &mut Effect, p: P
 }
 
 /// A process that exits leaves no reports.
-fn leave(processes: &mut [Kept], p: Pid)
+fn leave(processes: &mut Processes, p: Pid)
     requires { p.0 < length processes.old }
     ensures part { (t : EndId → Entry) (s : Kernel) → with_parts t processes.new s
         ≡ with_process p (record { phase = Exited; reports = []; answer = Some answer.Ok }) (with_parts t processes.old s) }
     ensures kept { TakesAtMost 0 processes.old processes.new }
 {
-    let process = &mut processes[usize::from(p.0)];
+    let process = processes.at_mut(usize::from(p.0));
     process.phase = Phase::Exited;
     process.reports.clear();
     process.answer = Some(Answer::Ok);
 }
 
 /// A process exits.
-pub fn exit(processes: &mut [Kept], effect: &mut Effect, p: Pid)
+pub fn exit(processes: &mut Processes, effect: &mut Effect, p: Pid)
     requires process { p.0 < length processes.old }
     requires places { HasPlaces 1 0 effect.old }
     ensures part { (s : Kernel) (t : EndId → Entry) → ended (with_parts t processes.new s) effect.new ≡ exits p (ended (with_parts t processes.old s) effect.old) }
@@ -267,7 +267,7 @@ pub fn exit(processes: &mut [Kept], effect: &mut Effect, p: Pid)
 /// The event is over: its answers and reports reach their processes.
 pub fn close(
     table: &mut Table,
-    processes: &mut [Kept],
+    processes: &mut Processes,
     work: Work,
     answered: Vec<Pid>,
 ) -> Effect

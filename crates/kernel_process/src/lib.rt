@@ -9,4 +9,4 @@ mod process;
 pub use activity::clear;
 pub use closing::{close, exit, stand, turn, wait};
 pub use owners::{owned, owner, refresh_owner};
-pub use process::Kept;
+pub use process::{ControlBlock, Processes};

@@ -8,10 +8,10 @@ ghost use Rattle.end_table.specs.declared.entry.Entry.TheVariants.{Here, Nothing
 ghost use Rattle.kernel_process.specs.Closing.{HavePlace};
 ghost use Rattle.kernel_process.specs.Active.{Tells, Refreshes};
 ghost use Rattle.kernel_sound.specs.Owners.{owner_of, IsCalmBut};
-ghost use Rattle.kernel_process.specs.Processes.{kept_process};
+ghost use Rattle.kernel_process.specs.Parts.{process_state};
 
 use crate::activity::{forget, refresh};
-use crate::process::Kept;
+use crate::process::Processes;
 use charlotte_calls::{EndId, Pid};
 use end_table::{Entry, HereView, Holder, Table};
 
@@ -43,12 +43,12 @@ pub fn owner(table: &Table, end: EndId) -> Option<Pid>
 }
 
 /// An end changed, which a process owned before: the sets of active ends tell of it again.
-pub fn refresh_owner(table: &Table, processes: &mut [Kept], before: Option<Pid>, end: EndId)
+pub fn refresh_owner(table: &Table, processes: &mut Processes, before: Option<Pid>, end: EndId)
     requires before { IfSome before (λ p. p.0 < length processes.old) }
     requires after { IfSome (owner_of (entries table.now end)) (λ p. p.0 < length processes.old) }
     requires place { HavePlace processes.old }
     ensures told { (t : EndId → Entry) → before ≡ owner_of (t end) → Tells t processes.old → IsCalmBut end t (entries table.now) → Tells (entries table.now) processes.new }
-    ensures kept { map kept_process processes.new ≡ map kept_process processes.old }
+    ensures kept { map process_state processes.new ≡ map process_state processes.old }
     ensures length { length processes.new ≡ length processes.old }
 {
     release(processes, before, end);
@@ -56,11 +56,11 @@ pub fn refresh_owner(table: &Table, processes: &mut [Kept], before: Option<Pid>,
 }
 
 /// No set has the end, which this process owned.
-fn release(processes: &mut [Kept], before: Option<Pid>, end: EndId)
+fn release(processes: &mut Processes, before: Option<Pid>, end: EndId)
     requires before { IfSome before (λ p. p.0 < length processes.old) }
     requires place { HavePlace processes.old }
     ensures told { (t : EndId → Entry) → before ≡ owner_of (t end) → Tells t processes.old → Tells (put t end Nothing) processes.new }
-    ensures kept { map kept_process processes.new ≡ map kept_process processes.old }
+    ensures kept { map process_state processes.new ≡ map process_state processes.old }
     ensures length { length processes.new ≡ length processes.old }
     ensures place { HavePlace processes.new }
 {
@@ -71,11 +71,11 @@ fn release(processes: &mut [Kept], before: Option<Pid>, end: EndId)
 }
 
 /// The set of the end's owner, if there is one, tells of it; no set did before.
-fn enlist(table: &Table, processes: &mut [Kept], end: EndId)
+fn enlist(table: &Table, processes: &mut Processes, end: EndId)
     requires after { IfSome (owner_of (entries table.now end)) (λ p. p.0 < length processes.old) }
     requires place { HavePlace processes.old }
     ensures told { (t : EndId → Entry) → IsCalmBut end t (entries table.now) → Tells (put t end Nothing) processes.old → Tells (entries table.now) processes.new }
-    ensures kept { map kept_process processes.new ≡ map kept_process processes.old }
+    ensures kept { map process_state processes.new ≡ map process_state processes.old }
     ensures length { length processes.new ≡ length processes.old }
 {
     match owner(table, end) {

@@ -4,11 +4,11 @@ use Rattle.end_table.specs.Table.{entries}
 use Rattle.kernel_process.proofs.ActiveSets.{tells_same}
 use Rattle.kernel_core.proofs.Callings.{owners-below}
 use Rattle.kernel_process.proofs.KeptMoved.{HavePlace-moved, keys-moved}
-use Rattle.kernel_process.proofs.Processes.{with_parts-kept}
+use Rattle.kernel_process.proofs.OneProcess.{with_parts-kept}
 use Rattle.kernel_sound.specs.Acts.{made_after}
 use Rattle.kernel_core.specs.Finishing.{AreOwnersBelow, IsCalmAfter, touched_by}
 use Rattle.kernel_sound.specs.Sound.{IsSound}
-use Rattle.kernel_process.specs.Processes.{ended}
+use Rattle.kernel_process.specs.Parts.{ended}
 use Rattle.kernel_core.proofs.calling.grant.Goals as goal
 
 pub refresh_touched-requires-clause-owners : goal.refresh_touched-requires-clause-owners

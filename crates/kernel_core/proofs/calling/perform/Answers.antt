@@ -6,7 +6,7 @@ use Rattle.kernel_process.proofs.Closes.{takes-both}
 use Rattle.kernel_sound.specs.Acts.{made_after}
 use Rattle.kernel_core.specs.Finishing.{ending_of, finished}
 use Rattle.kernel_sound.specs.Sound.{IsSound}
-use Rattle.kernel_process.specs.Processes.{ended, with_parts}
+use Rattle.kernel_process.specs.Parts.{ended, with_parts}
 use Rattle.kernel_core.proofs.calling.perform.Goals as goal
 
 pub act-requires-clause-sound : goal.act-requires-clause-sound

@@ -5,7 +5,7 @@ use Rattle.end_table.specs.Table.{entries}
 use Rattle.kernel_core.proofs.Callings.{kept-calm}
 use Rattle.kernel_process.proofs.Closes.{calm-both, takes-both}
 use Rattle.kernel_core.specs.Finishing.{finishes}
-use Rattle.kernel_process.specs.Processes.{ended, with_parts}
+use Rattle.kernel_process.specs.Parts.{ended, with_parts}
 use Rattle.kernel_core.proofs.calling.wait_granted.Goals as goal
 
 pub returns-clause-part : goal.returns-clause-part

@@ -4,7 +4,7 @@ use Rattle.charlotte_calls.specs.Packets.{what_picture}
 use Rattle.end_table.specs.Table.{entries}
 use Rattle.kernel_core.proofs.Reserved.{reserved-kept, reserved-parts}
 use Rattle.kernel_core.specs.Started.{takes_addressed}
-use Rattle.kernel_process.specs.Processes.{with_parts}
+use Rattle.kernel_process.specs.Parts.{with_parts}
 use Rattle.kernel_step.specs.Kernel.{closes}
 use Rattle.kernel_step.specs.Progress.{progress}
 use Rattle.kernel_core.proofs.taking.take_event.Goals as goal

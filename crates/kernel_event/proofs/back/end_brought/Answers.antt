@@ -11,9 +11,9 @@ give_back-requires-clause-away c = passed-away c.args.table.now c.args.made c.ar
 
 pub returns-clause-part : goal.returns-clause-part
 unfolding progress
-returns-clause-part c = λ from.
+returns-clause-part c =
     c.give_back.ensures.part
     ∙ ap (λ o. give_back_row c.args.table.now.kernel c.passing-passed.result o (progress (entries c.args.table.now) c.mean_back.new.out)) c.requires.unmatched
     ∙ ap (end_arrivals c.args.table.now.kernel c.passing-passed.result) (c.mean_back.ensures.part (entries c.args.table.now))
-    ∙ ap (λ here. end_arrivals c.args.table.now.kernel c.passing-passed.result (means_back c.args.to c.args.n here c.passing-passed.result (progress (entries c.args.table.now) c.args.out.now))) c.is_here-here.ensures
-    ∙ ap (λ ms. end_arrivals c.args.table.now.kernel ms (means_back c.args.to c.args.n (is_here (entries c.args.table.now c.args.to)) ms (progress (entries c.args.table.now) c.args.out.now))) c.passing-passed.ensures
+    ∙ ap (λ here. end_arrivals c.args.table.now.kernel c.passing-passed.result (means_back c.args.returned.to c.args.returned.n here c.passing-passed.result (progress (entries c.args.table.now) c.args.out.now))) c.is_here-here.ensures
+    ∙ ap (λ ms. end_arrivals c.args.table.now.kernel ms (means_back c.args.returned.to c.args.returned.n (is_here (entries c.args.table.now c.args.returned.to)) ms (progress (entries c.args.table.now) c.args.out.now))) c.passing-passed.ensures

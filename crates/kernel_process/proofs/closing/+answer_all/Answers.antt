@@ -1,7 +1,7 @@
 -- The first answer comes to stand, and then the others.
 use Rattle.std.proofs.Common.{◌∙◌, ap, sym, arith}
 use Rattle.kernel_process.proofs.Closes.{drop-same, join_answers-more, join_answers-none, takes-both}
-use Rattle.kernel_process.specs.Processes.{ended, with_parts}
+use Rattle.kernel_process.specs.Parts.{ended, with_parts}
 use Rattle.kernel_step.specs.Kernel.{join_answers}
 use Rattle.kernel_process.proofs.closing.+answer_all.Goals as goal
 

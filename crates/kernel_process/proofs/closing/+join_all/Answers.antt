@@ -2,7 +2,7 @@
 use Rattle.std.proofs.Common.{◌∙◌, ◌+◌, length, ap, sym, arith, rules}
 use Rattle.end_table.specs.Table.{entries}
 use Rattle.kernel_process.proofs.Closes.{are_for-rest, drop-same, join_reports-more, join_reports-none, spare-fewer, takes-both}
-use Rattle.kernel_process.specs.Processes.{ended, with_parts}
+use Rattle.kernel_process.specs.Parts.{ended, with_parts}
 use Rattle.kernel_step.specs.Kernel.{join_reports}
 use Rattle.kernel_process.proofs.closing.+join_all.Goals as goal
 

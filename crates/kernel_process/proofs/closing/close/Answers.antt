@@ -3,7 +3,7 @@ use Rattle.std.proofs.Common.{◌∙◌, length, ap, refl, arith}
 use Rattle.charlotte_calls.specs.declared.work.Effect.{Effect}
 use Rattle.end_table.specs.Table.{entries}
 use Rattle.kernel_process.proofs.Closes.{closes-by, spare-fewer, takes-both}
-use Rattle.kernel_process.specs.Processes.{ended, with_parts}
+use Rattle.kernel_process.specs.Parts.{ended, with_parts}
 use Rattle.kernel_step.specs.Kernel.{Kernel, join_answers, join_reports}
 use Rattle.kernel_process.proofs.closing.close.Goals as goal
 

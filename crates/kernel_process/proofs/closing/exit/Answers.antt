@@ -1,7 +1,7 @@
 -- The process has exited, and is the last that is answered.
 use Rattle.std.proofs.Common.{refl}
 use Rattle.kernel_process.proofs.Closes.{exits-by}
-use Rattle.kernel_process.specs.Processes.{with_parts}
+use Rattle.kernel_process.specs.Parts.{with_parts}
 use Rattle.kernel_process.proofs.closing.exit.Goals as goal
 
 pub returns-clause-part : goal.returns-clause-part

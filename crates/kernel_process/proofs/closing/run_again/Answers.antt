@@ -6,8 +6,8 @@ use Rattle.kernel_process.proofs.closing.run_again.Goals as goal
 
 pub returns-clause-part : goal.returns-clause-part
 returns-clause-part c =
-    λ t s. sets-by t c.args.processes.now c.from.result _ c.index-processes-from.result s c.args.p (λ x. record x { phase = Running; answer = Some c.args.answer }) c.from.ensures c.requires refl
+    λ t s. sets-by t c.args.processes.now c.from.result _ c.at_mut-process.result.now s c.args.p (λ x. record x { phase = Running; answer = Some c.args.answer }) (c.at_mut-process.ensures.value _) c.from.ensures c.requires refl
 
 pub returns-clause-kept : goal.returns-clause-kept
 returns-clause-kept c =
-    takes-set 0 c.args.processes.now c.from.result _ c.index-processes-from.result c.args.p c.from.ensures c.requires refl refl (omega arith)
+    takes-set 0 c.args.processes.now c.from.result _ c.at_mut-process.result.now c.args.p (c.at_mut-process.ensures.value _) c.from.ensures c.requires refl refl (omega arith)

@@ -1,7 +1,7 @@
 -- The process runs again, and is the last that is answered.
 use Rattle.std.proofs.Common.{refl}
 use Rattle.kernel_process.proofs.Closes.{stands-by}
-use Rattle.kernel_process.specs.Processes.{with_parts}
+use Rattle.kernel_process.specs.Parts.{with_parts}
 use Rattle.kernel_process.proofs.closing.stand.Goals as goal
 
 pub returns-clause-part : goal.returns-clause-part

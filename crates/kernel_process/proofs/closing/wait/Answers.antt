@@ -2,7 +2,7 @@
 use Rattle.std.proofs.Common.{◌≡◌, drop, ap, ◌∙◌, sym, arith}
 use Rattle.end_table.specs.Table.{entries}
 use Rattle.kernel_process.proofs.Closes.{answers_wait-left, drop-same, takes-both, waits-none, with_process-same}
-use Rattle.kernel_process.specs.Processes.{ended, with_parts}
+use Rattle.kernel_process.specs.Parts.{ended, with_parts}
 use Rattle.kernel_step.specs.Kernel.{Kernel, process_of, turns, waits, with_process}
 use Rattle.kernel_step.specs.declared.phase.Phase.TheVariants.{Waiting}
 use Rattle.kernel_process.proofs.closing.wait.Goals as goal

@@ -5,7 +5,7 @@ use Rattle.std.specs.Vec.{with_items}
 use Rattle.charlotte_calls.specs.Packets.{packet_picture}
 use Rattle.kernel_core.proofs.Kernels.{state-same, take-by_parts}
 use Rattle.kernel_core.specs.State.{KernelView, state_of}
-use Rattle.kernel_process.specs.Processes.{kept_process, ended}
+use Rattle.kernel_process.specs.Parts.{process_state, ended}
 use Rattle.kernel_core.specs.contracts.kernel.Kernel.{the_view}
 use Rattle.kernel_step.specs.Kernel.{next_stamp, take_step}
 use Rattle.kernel_core.proofs.kernel.Kernel.take.Goals as goal
@@ -15,8 +15,8 @@ unfolding state_of
 returns-in-Ok-clause-step c =
     subst (λ v. ended (state_of after) c.in-Ok.effect ≡ take_step (state_of v) c.args.from (packet_picture c.args.packet)) c.self.view_is
     (take-by_parts (the_view c.self.inside) after c.as_mut_slice.result.now c.take_event-taken.new.processes c.args.from c.stamp_after-stamp.result (packet_picture c.args.packet) c.in-Ok.effect
-    (ap (map kept_process) c.as_mut_slice.ensures.value)
-    (ap (map kept_process) (sym (with_items_is c.self.inside.processes c.take_event-taken.new.processes (c.take_event-taken.ensures.length ∙ c.as_mut_slice.ensures.len))))
+    (ap (map process_state) c.as_mut_slice.ensures.value)
+    (ap (map process_state) (sym (with_items_is c.self.inside.processes c.take_event-taken.new.processes (c.take_event-taken.ensures.length ∙ c.as_mut_slice.ensures.len))))
     refl refl c.take_event-taken.ensures.kernel refl refl (c.stamp_after-stamp.ensures ∙ ap next_stamp c.greater.ensures)
     (c.in-Ok.ensures.part (state_of (the_view c.self.inside)) refl))
   where
@@ -25,7 +25,7 @@ returns-in-Ok-clause-step c =
       kernels = c.self.inside.kernels;
       version = c.self.inside.version;
       table = c.take_event-taken.new.table;
-      processes = map kept_process (with_items c.self.inside.processes c.take_event-taken.new.processes).items;
+      processes = map process_state (with_items c.self.inside.processes c.take_event-taken.new.processes).items;
       made = c.self.inside.made;
       stamp = c.in-Ok.effect.stamp;
     }
@@ -33,6 +33,6 @@ returns-in-Ok-clause-step c =
 pub returns-in-Err-clause-same : goal.returns-in-Err-clause-same
 returns-in-Err-clause-same c =
     state-same (the_view c.self.inside) _ refl refl c.take_event-taken.ensures.kernel c.in-Err.ensures.same.0
-    (ap (map kept_process) (with_items_is c.self.inside.processes c.take_event-taken.new.processes (c.take_event-taken.ensures.length ∙ c.as_mut_slice.ensures.len))
-    ∙ c.in-Err.ensures.same.1 ∙ ap (map kept_process) c.as_mut_slice.ensures.value)
+    (ap (map process_state) (with_items_is c.self.inside.processes c.take_event-taken.new.processes (c.take_event-taken.ensures.length ∙ c.as_mut_slice.ensures.len))
+    ∙ c.in-Err.ensures.same.1 ∙ ap (map process_state) c.as_mut_slice.ensures.value)
     refl refl ∙ ap state_of c.self.view_is

@@ -8,7 +8,7 @@ use Rattle.kernel_step.specs.Kernel.{Kernel, Outcome, Process}
 use Rattle.kernel_step.specs.Progress.{sent_picture}
 use Rattle.kernel_step.specs.declared.phase.Phase.{Phase}
 use Rattle.kernel_step.specs.declared.phase.Phase.TheVariants.{Running, Waiting, Cancelling, Exited}
-use Rattle.kernel_process.specs.declared.process.Kept.{Kept}
+use Rattle.kernel_process.specs.declared.process.ControlBlock.{ControlBlock}
 
 -- a number that no process has
 abbrev pub no_process : Process
@@ -19,12 +19,12 @@ unfoldable pub process_at : List Process → ℕ → Process
 process_at xs q = slice_index_or xs q no_process
 
 -- the state of a process
-abbrev pub kept_process : Kept → Process
-kept_process x = record { phase = x.phase; reports = x.reports.items; answer = x.answer }
+abbrev pub process_state : ControlBlock → Process
+process_state x = record { phase = x.phase; reports = x.reports.items; answer = x.answer }
 
 -- a kernel with this table and these processes
-unfoldable pub with_parts : (EndId → Entry) → List Kept → Kernel → Kernel
-with_parts t xs s = record s { table = t; process = process_at (map kept_process xs) }
+unfoldable pub with_parts : (EndId → Entry) → List ControlBlock → Kernel → Kernel
+with_parts t xs s = record s { table = t; process = process_at (map process_state xs) }
 
 -- what an event gives, as a kernel and an `Effect` have it
 unfoldable pub ended : Kernel → Effect → Outcome

@@ -6,12 +6,13 @@ ghost use Rattle.end_table.specs.declared.entry.Entry.{Entry};
 ghost use Rattle.end_table.specs.declared.entry.Entry.TheVariants.{Here};
 ghost use Rattle.kernel_sound.specs.Ready.{IsReady};
 ghost use Rattle.kernel_event.specs.Places.{ArePlaced, brought};
+ghost use Rattle.kernel_event.specs.Room.{room_of_packet, Fits, Adds};
 ghost use Rattle.kernel_step.specs.Progress.{progress, HasRoom, AddsAtMost};
 ghost use Rattle.kernel_step.specs.Rows.{row, gone_row, gone_here};
 
-use crate::back::back;
+use crate::back::{Returned, back};
 use crate::death::{is_withdrawing, notice_first, tell_seen};
-use crate::parcel::parcel;
+use crate::parcel::{Message, parcel};
 use cancel_core::{finished, unwant, unwanted, want};
 use charlotte_calls::{EndId, ServiceStep, What, Work};
 use end_table::{Entry, HereView, Table};
@@ -23,10 +24,10 @@ pub fn row(table: &mut Table, made: u32, from: u8, what: What, out: &mut Work)
     requires ready { (e : EndId) → IsReady (entries table.old) e }
     requires placed { ArePlaced table.old (brought what) }
     requires first { out.old.packets.items ≡ [] }
-    requires room { HasRoom 17 3 1 1 out.old }
+    requires room { Fits (room_of_packet what) out.old }
     ensures part { progress (entries table.new) out.new
         ≡ row table.old.kernel made from (what_picture what) (progress (entries table.old) out.old) }
-    ensures room { AddsAtMost 17 3 1 1 out.old out.new }
+    ensures room { Adds (room_of_packet what) out.old out.new }
     ensures kernel { table.new.kernel ≡ table.old.kernel }
 {
     match what {
@@ -41,9 +42,19 @@ pub fn row(table: &mut Table, made: u32, from: u8, what: What, out: &mut Work)
             hops,
             bytes,
             moving,
-        } => parcel(table, made, to, n, w, at, hops, bytes, moving, out),
+        } => {
+            let message = Message {
+                to,
+                n,
+                w,
+                at,
+                hops,
+                bytes,
+            };
+            parcel(table, made, message, moving, out)
+        }
         What::Taken { to, n, at, hops } => finished(table, to, n, at, hops, out),
-        What::Back { to, n, moving } => back(table, made, from, to, n, moving, out),
+        What::Back { to, n, moving } => back(table, made, Returned { from, to, n }, moving, out),
         What::Gone { to, at } => gone(table, to, at, out),
         What::Moved { to, at, hops } => moved(table, to, at, hops, out),
         What::Known { to, hops } => known(table, to, hops, out),

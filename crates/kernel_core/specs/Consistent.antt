@@ -9,10 +9,10 @@ use Rattle.end_table.specs.Table.{TableView, entries}
 use Rattle.end_table.specs.declared.entry.Entry.{Entry}
 use Rattle.kernel_step.specs.Calls.{is_active}
 use Rattle.kernel_sound.specs.Sound.{IsSound}
-use Rattle.kernel_process.specs.declared.process.Kept.{Kept}
+use Rattle.kernel_process.specs.declared.process.ControlBlock.{ControlBlock}
 use Rattle.kernel_process.specs.Active.{Tells}
 
 -- what a kernel with this table and these processes keeps
-pub record IsKept (t : TableView) (xs : List Kept) (made : ℕ) : Type 0 where
+pub record IsConsistent (t : TableView) (xs : List ControlBlock) (made : ℕ) : Type 0 where
   pub sound : IsSound t.kernel made (length xs) (entries t)
   pub active : Tells (entries t) xs

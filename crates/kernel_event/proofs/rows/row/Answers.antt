@@ -8,7 +8,7 @@ use Rattle.end_table.specs.Table.{entries}
 use Rattle.end_table.specs.declared.entry.Entry.{Entry}
 use Rattle.kernel_step.specs.Progress.{Progress, progress}
 use Rattle.kernel_step.specs.Rows.{row}
-use Rattle.kernel_event.proofs.row.row.Goals as goal
+use Rattle.kernel_event.proofs.rows.row.Goals as goal
 
 -- a packet that is of a kind
 of_kind : (k made from : ℕ) (t : EndId → Entry) (out : Work) (what kind : What) (after : Progress) → what ≡ kind → after ≡ row k made from (what_picture kind) (progress t out) → after ≡ row k made from (what_picture what) (progress t out)
