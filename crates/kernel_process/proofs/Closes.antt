@@ -27,7 +27,7 @@ use Rattle.kernel_step.specs.declared.phase.Phase.TheVariants.{Running, Waiting,
 use Rattle.kernel_step.specs.declared.phase.Phase.{Phase}
 use Rattle.kernel_process.proofs.OneProcess.{process_of-at, with_parts-set}
 use Rattle.kernel_sound.proofs.Reports.{IsSound-reported, is_active-reported_put}
-use Rattle.kernel_process.specs.Closing.{HaveSpare}
+use Rattle.kernel_process.specs.Closing.{HaveSpare, HaveSpareFor}
 use Rattle.kernel_sound.specs.Sound.{AreFor, IsSound}
 use Rattle.kernel_process.specs.Parts.{ended, process_state, with_parts}
 use Rattle.kernel_process.specs.Steady.{StaysCalm, TakesAtMost}
@@ -92,6 +92,25 @@ spare-fewer m n xs few have = λ j e h. fewer (get_or xs j e) (have j e h)
   where
     fewer : (x : ControlBlock) → HasSpare m x → HasSpare n x
     fewer x room = omega arith
+
+-- room for reports, after the first of them took its own
+pub spare-first : (p : Pid) (r : Report) (rs all : List (Pid × Report)) (xs : List ControlBlock) → all ≡ (p, r) ∷ rs → HaveSpareFor all xs → HaveSpare 1 xs
+spare-first p r rs all xs is have = spare-fewer (length ((p, r) ∷ rs)) 1 xs (omega arith) (subst (λ l. HaveSpareFor l xs) is have)
+
+pub spare-rest : (p : Pid) (r : Report) (rs all : List (Pid × Report)) (xs ys : List ControlBlock) → all ≡ (p, r) ∷ rs → TakesAtMost 1 xs ys → HaveSpareFor all xs → HaveSpareFor rs ys
+spare-rest p r [] all xs ys is takes have = tt
+spare-rest p r (q ∷ rs) all xs ys is takes have =
+    takes.spare (length (q ∷ rs)) (spare-fewer (length ((p, r) ∷ q ∷ rs)) (length (q ∷ rs) + 1) xs (omega arith) (subst (λ l. HaveSpareFor l xs) is have))
+
+-- and while none of it is taken
+pub spare-kept : (rs : List (Pid × Report)) (xs ys : List ControlBlock) → TakesAtMost 0 xs ys → HaveSpareFor rs xs → HaveSpareFor rs ys
+spare-kept [] xs ys takes have = tt
+spare-kept (r ∷ rs) xs ys takes have = takes.spare (length (r ∷ rs)) (spare-fewer (length (r ∷ rs)) (length (r ∷ rs) + 0) xs (omega arith) have)
+
+-- room for so many is room for these
+pub spare-few : (n : ℕ) (rs : List (Pid × Report)) (xs : List ControlBlock) → length rs ≤ n → HaveSpare n xs → HaveSpareFor rs xs
+spare-few n [] xs few have = tt
+spare-few n (r ∷ rs) xs few have = spare-fewer n (length (r ∷ rs)) xs few have
 
 -- no process changes
 pub takes-none : (xs : List ControlBlock) → TakesAtMost 0 xs xs

@@ -1,11 +1,12 @@
 -- What is known of processes of which an event changes other parts.
-use Rattle.std.proofs.Common.{◌≡◌, ℕ, ◌≤◌, ◌<◌, List, [], ◌∷◌, Option, None, Some, length, map, get_or, refl, sym, ap, subst, ◌∙◌}
+use Rattle.std.proofs.Common.{◌≡◌, ℕ, ◌+◌, ◌≤◌, ◌<◌, All, List, [], ◌∷◌, Option, None, Some, length, map, get_or, refl, sym, ap, subst, ◌∙◌}
 use Rattle.std.specs.Prelude.{slice_get}
 use Rattle.std.specs.Option.{option_map}
 use Rattle.std.proofs.lemmas.List.{get_or-map, length-map}
 use Rattle.std.proofs.lemmas.Option.{slice_get-map}
 use Rattle.indexmap.specs.IndexSet.{spare}
-use Rattle.kernel_process.specs.Closing.{HavePlace}
+use Rattle.std.specs.VecDeque.{deque_len, deque_capacity}
+use Rattle.kernel_process.specs.Closing.{HavePlace, HaveSpare}
 use Rattle.kernel_process.specs.Active.{started_ends}
 use Rattle.kernel_process.specs.declared.process.ControlBlock.{ControlBlock}
 
@@ -35,14 +36,22 @@ map-after g f (x ∷ xs) = ap (λ l. g (f x) ∷ l) (map-after g f xs)
 pub keys-moved : (xs ys : List ControlBlock) → map (λ x. x.active) ys ≡ map (λ x. x.active) xs → map started_ends ys ≡ map started_ends xs
 keys-moved xs ys same = map-after (λ s. s.keys) (λ x. x.active) ys ∙ ap (map (λ s. s.keys)) same ∙ sym (map-after (λ s. s.keys) (λ x. x.active) xs)
 
--- and the same room
-pub HavePlace-moved : (xs ys : List ControlBlock) → map (λ x. x.active) ys ≡ map (λ x. x.active) xs → HavePlace xs → HavePlace ys
-HavePlace-moved xs ys same places k d within = subst (λ s. 1 ≤ spare s) (sym moved) (places k d (subst (λ n. k < n) lengths within))
+-- what holds of one part of each process holds of it where that part is the same
+pub All-moved : {Y : Type 0} (f : ControlBlock → Y) (P : Y → Type 0) (xs ys : List ControlBlock) → map f ys ≡ map f xs → All (λ x. P (f x)) xs → All (λ x. P (f x)) ys
+All-moved f P xs ys same holds k d within = subst P (sym moved) (holds k d (subst (λ n. k < n) lengths within))
   where
     lengths : length ys ≡ length xs
-    lengths = sym (length-map ys (λ x. x.active)) ∙ ap length same ∙ length-map xs (λ x. x.active)
+    lengths = sym (length-map ys f) ∙ ap length same ∙ length-map xs f
 
-    moved : (get_or ys k d).active ≡ (get_or xs k d).active
+    moved : f (get_or ys k d) ≡ f (get_or xs k d)
     moved =
-        sym (get_or-map (λ x. x.active) ys k d d.active within) ∙ ap (λ l. get_or l k d.active) same
-        ∙ get_or-map (λ x. x.active) xs k d d.active (subst (λ n. k < n) lengths within)
+        sym (get_or-map f ys k d (f d) within) ∙ ap (λ l. get_or l k (f d)) same
+        ∙ get_or-map f xs k d (f d) (subst (λ n. k < n) lengths within)
+
+-- the same room for ends
+pub HavePlace-moved : (xs ys : List ControlBlock) → map (λ x. x.active) ys ≡ map (λ x. x.active) xs → HavePlace xs → HavePlace ys
+HavePlace-moved xs ys same places = All-moved (λ x. x.active) (λ s. 1 ≤ spare s) xs ys same places
+
+-- and for reports
+pub HaveSpare-moved : (n : ℕ) (xs ys : List ControlBlock) → map (λ x. x.reports) ys ≡ map (λ x. x.reports) xs → HaveSpare n xs → HaveSpare n ys
+HaveSpare-moved n xs ys same room = All-moved (λ x. x.reports) (λ q. deque_len q + n ≤ deque_capacity q) xs ys same room

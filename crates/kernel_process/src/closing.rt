@@ -7,11 +7,12 @@ ghost use Rattle.end_table.specs.declared.entry.Entry.{Entry};
 ghost use Rattle.kernel_step.specs.Kernel.{Kernel, answers_wait, closes, exits, is_waiting, joins, join_answers, join_reports, process_of, reported_entry, reported_view, stands, turns, waits, with_process};
 ghost use Rattle.kernel_step.specs.Progress.{progress};
 ghost use Rattle.kernel_step.specs.declared.phase.Phase.TheVariants.{Running, Exited};
-ghost use Rattle.kernel_process.specs.Closing.{HaveSpare};
+ghost use Rattle.kernel_process.specs.Closing.{HaveSpare, HaveSpareFor, CanClose};
 ghost use Rattle.kernel_sound.specs.Sound.{AreFor};
 ghost use Rattle.kernel_process.specs.Parts.{ended, with_parts, process_state, process_at, HasPlaces, GainsAtMost};
 ghost use Rattle.kernel_process.specs.Steady.{StaysCalm, TakesAtMost};
 
+use crate::event::Event;
 use crate::process::Processes;
 use charlotte_calls::{Answer, Effect, EndId, Pid, Report, ServiceStep, Way, Work};
 use end_table::{Entry, HereView, Inward, Outward, Table};
@@ -178,7 +179,7 @@ fn join_all(
 )
     requires reports { AreFor (length processes.old) reports.items }
     requires places { HasPlaces (length reports.items) (length reports.items) effect.old }
-    requires spare { HaveSpare (length reports.items) processes.old }
+    requires spare { HaveSpareFor reports.items processes.old }
     ensures part { (s : Kernel) → ended (with_parts (entries table.new) processes.new s) effect.new
         ≡ join_reports reports.items (ended (with_parts (entries table.old) processes.old s) effect.old) }
     ensures calm { StaysCalm table.old table.new }
@@ -265,27 +266,19 @@ pub fn exit(processes: &mut Processes, effect: &mut Effect, p: Pid)
 }
 
 /// The event is over: its answers and reports reach their processes.
-pub fn close(
-    table: &mut Table,
-    processes: &mut Processes,
-    work: Work,
-    answered: Vec<Pid>,
-) -> Effect
-    requires reports { AreFor (length processes.old) work.reports.items }
-    requires answers { AreFor (length processes.old) work.answers.items }
-    requires few { length work.reports.items ≤ 3 }
-    requires one { length work.answers.items ≤ 1 }
-    requires spare { HaveSpare 3 processes.old }
-    requires empty { answered.items ≡ [] }
-    requires places { 5 ≤ vec_capacity answered }
-    requires steps { vec_len work.steps + 4 ≤ vec_capacity work.steps }
-    ensures part { (s : Kernel) → ended (with_parts (entries table.new) processes.new (record s { stamp = work.stamp })) result
-        ≡ closes (with_parts (entries table.old) processes.old s) (progress (entries table.old) work) }
-    ensures stamp { result.stamp ≡ work.stamp }
+pub fn close(table: &mut Table, processes: &mut Processes, event: Event) -> Effect
+    requires reports { AreFor (length processes.old) event.work.reports.items }
+    requires answers { AreFor (length processes.old) event.work.answers.items }
+    requires spare { HaveSpareFor event.work.reports.items processes.old }
+    requires room { CanClose 0 0 event }
+    ensures part { (s : Kernel) → ended (with_parts (entries table.new) processes.new (record s { stamp = event.work.stamp })) result
+        ≡ closes (with_parts (entries table.old) processes.old s) (progress (entries table.old) event.work) }
+    ensures stamp { result.stamp ≡ event.work.stamp }
     ensures calm { StaysCalm table.old table.new }
-    ensures kept { TakesAtMost 3 processes.old processes.new }
-    ensures places { HasPlaces 1 1 result }
+    ensures kept { TakesAtMost (length event.work.reports.items) processes.old processes.new }
+    ensures places { (a s : ℕ) → CanClose a s event → HasPlaces a s result }
 {
+    let Event { work, answered } = event;
     let Work {
         stamp,
         packets,

@@ -3,10 +3,12 @@
 
 mod activity;
 mod closing;
+mod event;
 mod owners;
 mod process;
 
 pub use activity::clear;
 pub use closing::{close, exit, stand, turn, wait};
+pub use event::Event;
 pub use owners::{owned, owner, refresh_owner};
 pub use process::{ControlBlock, Processes};

@@ -2,6 +2,7 @@
 use Rattle.std.proofs.Common.{refl}
 use Rattle.kernel_process.specs.Parts.{process_state}
 use Rattle.kernel_process.proofs.ActiveSets.{set_empties}
+use Rattle.std.proofs.Common.{ap}
 use Rattle.kernel_process.proofs.Rooms.{same_map}
 use Rattle.kernel_process.proofs.activity.clear.Goals as goal
 

@@ -1,7 +1,7 @@
 -- The first report joins, and then the others.
 use Rattle.std.proofs.Common.{◌∙◌, ◌+◌, length, ap, sym, arith, rules}
 use Rattle.end_table.specs.Table.{entries}
-use Rattle.kernel_process.proofs.Closes.{are_for-rest, drop-same, join_reports-more, join_reports-none, spare-fewer, takes-both}
+use Rattle.kernel_process.proofs.Closes.{are_for-rest, drop-same, join_reports-more, join_reports-none, spare-first, spare-rest, takes-both}
 use Rattle.kernel_process.specs.Parts.{ended, with_parts}
 use Rattle.kernel_step.specs.Kernel.{join_reports}
 use Rattle.kernel_process.proofs.closing.+join_all.Goals as goal
@@ -13,11 +13,13 @@ join_all-requires t c = (
     are_for-rest _ _ _ _ _ c.in-Some.ensures.items c.join.ensures.kept.length c.requires.reports,
     (
       record { answered = omega (arith, ap length c.in-Some.ensures.items); steps = omega (arith, ap length c.in-Some.ensures.items) },
-      c.join.ensures.kept.spare (length c.pop_front.new.self.items)
-          (spare-fewer (length c.args.reports.items) (length c.pop_front.new.self.items + 1) c.args.processes.now (omega (arith, ap length c.in-Some.ensures.items)) c.requires.spare),
+      spare-rest c.in-Some.p c.in-Some.report c.pop_front.new.self.items c.args.reports.items c.args.processes.now c.join.new.processes c.in-Some.ensures.items c.join.ensures.kept c.requires.spare,
     ),
   ),
 )
+
+pub join-requires-clause-spare : goal.join-requires-clause-spare
+join-requires-clause-spare t c = spare-first c.in-Some.p c.in-Some.report c.pop_front.new.self.items c.args.reports.items c.args.processes.now c.in-Some.ensures.items c.requires.spare
 
 pub returns-in-Some-clause-part : goal.returns-in-Some-clause-part
 returns-in-Some-clause-part t c =

@@ -2,6 +2,7 @@
 use Rattle.std.proofs.Common.{◌<◌, length, subst, sym, ◌∙◌, ap}
 use Rattle.kernel_step.specs.Kernel.{is_waiting}
 use Rattle.kernel_process.proofs.OneProcess.{process_of-at}
+use Rattle.kernel_process.specs.Parts.{process_state}
 use Rattle.kernel_process.proofs.closing.is_in_wait.Goals as goal
 
 pub returns : goal.returns
