@@ -23,11 +23,11 @@ pub fn ends_in(moving: &Cargo) -> Ends
 }
 
 /// The ends that a send encloses.
-pub fn enclosed_ends(outward: Outward) -> Ends
-    ensures { result ≡ enclosed_of outward }
+pub fn enclosed_ends(outward: &Outward) -> Ends
+    ensures { result ≡ enclosed_of outward.now }
 {
     match outward {
-        Outward::Waiting { enclosed, .. } => enclosed,
+        Outward::Waiting { enclosed, .. } => enclosed.copy(),
         Outward::Idle | Outward::Matched { .. } | Outward::Unreported => no_ends(),
     }
 }
