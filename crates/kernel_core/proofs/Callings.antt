@@ -25,7 +25,7 @@ use Rattle.kernel_sound.proofs.Events.{begun-well, owner-below, well-calm, well-
 use Rattle.kernel_process.proofs.OneProcess.{closes-table}
 use Rattle.kernel_sound.specs.Acts.{Covers, acts, made_after}
 use Rattle.kernel_core.specs.Finishing.{AreOwnersBelow, IsCalmAfter, ending_of, finished, finishes, touched_by, touches, turned, turned_by, turned_on}
-use Rattle.kernel_core.specs.Consistent.{IsConsistent}
+use Rattle.kernel_core.specs.Consistent.{AreConsistent}
 use Rattle.kernel_sound.specs.Sound.{AreFor, GoesWell, IsSound}
 use Rattle.kernel_process.specs.Parts.{with_parts}
 use Rattle.kernel_process.specs.Steady.{StaysCalm, TakesAtMost}
@@ -36,7 +36,7 @@ use Rattle.kernel_step.specs.Kernel.{Kernel, Outcome, closes}
 use Rattle.kernel_step.specs.Progress.{means, progress}
 
 -- the end of an event, and what comes after it, keep what is kept
-pub kept-calm : (n made : ℕ) (old new : TableView) (xs ys : List ControlBlock) → StaysCalm old new → TakesAtMost n xs ys → IsConsistent old xs made → IsConsistent new ys made
+pub kept-calm : (n made : ℕ) (old new : TableView) (xs ys : List ControlBlock) → StaysCalm old new → TakesAtMost n xs ys → AreConsistent old xs made → AreConsistent new ys made
 kept-calm n made old new xs ys calm kept is =
     record {
       sound = subst (λ m. IsSound new.kernel made m (entries new)) (sym kept.length) (calm.sound made (length xs) is.sound);

@@ -12,7 +12,7 @@ use Rattle.end_table.specs.declared.entry.Entry.{Entry}
 use Rattle.end_table.specs.declared.entry.Entry.TheVariants as entry
 use Rattle.kernel_step.specs.Calls.{inward_activity, is_active, is_started, outward_activity}
 use Rattle.kernel_step.specs.Start.{start_kernel, wired}
-use Rattle.kernel_core.specs.Consistent.{IsConsistent}
+use Rattle.kernel_core.specs.Consistent.{AreConsistent}
 use Rattle.kernel_sound.specs.Sound.{IsSound}
 use Rattle.kernel_process.specs.Parts.{process_state, no_process, process_at}
 use Rattle.kernel_core.specs.State.{state_of}
@@ -62,7 +62,7 @@ not_active p (entry.Destroyed m) idle = refl
 
 -- and what is kept is kept well
 pub IsConsistent-start : (t : TableView) (xs : List ControlBlock) (k made n : ℕ) → t.kernel ≡ k → length xs ≡ n → IsSound k made n (entries t) → ((e : EndId) → IfHere (entries t e) IsIdle) → All IsFresh xs
-    → IsConsistent t xs made
+    → AreConsistent t xs made
 IsConsistent-start t xs k made n kernel count sound idle fresh =
     record {
       sound = subst (λ i. IsSound i made (length xs) (entries t)) (sym kernel) (subst (λ i. IsSound k made i (entries t)) (sym count) sound);

@@ -3,7 +3,7 @@ use Rattle.std.proofs.Common.{◌≡◌, ℕ, List, length, map, sym, ap, subst,
 use Rattle.end_table.specs.Table.{TableView, entries}
 use Rattle.kernel_process.proofs.ActiveSets.{tells_same}
 use Rattle.kernel_process.proofs.OneProcess.{with_parts-kept}
-use Rattle.kernel_core.specs.Consistent.{IsConsistent}
+use Rattle.kernel_core.specs.Consistent.{AreConsistent}
 use Rattle.kernel_process.specs.Active.{started_ends}
 use Rattle.kernel_sound.specs.Sound.{IsSound}
 use Rattle.kernel_process.specs.Parts.{process_state, with_parts}
@@ -12,9 +12,9 @@ use Rattle.end_table.specs.Owned.{owned}
 use Rattle.kernel_step.specs.Calls.{is_active}
 use Rattle.kernel_step.specs.Kernel.{Kernel}
 
-module _ (old new : TableView) (xs ys : List ControlBlock) (made : ℕ) (kept : IsConsistent old xs made) (same : entries new ≡ entries old) (kernel : new.kernel ≡ old.kernel)
+module _ (old new : TableView) (xs ys : List ControlBlock) (made : ℕ) (kept : AreConsistent old xs made) (same : entries new ≡ entries old) (kernel : new.kernel ≡ old.kernel)
     (started : map started_ends ys ≡ map started_ends xs) (lengths : length ys ≡ length xs) where
-  pub reserved-kept : IsConsistent new ys made
+  pub reserved-kept : AreConsistent new ys made
   reserved-kept =
       record {
         sound =

@@ -11,8 +11,18 @@ use Rattle.kernel_step.specs.Calls.{is_active}
 use Rattle.kernel_sound.specs.Sound.{IsSound}
 use Rattle.kernel_process.specs.declared.process.ControlBlock.{ControlBlock}
 use Rattle.kernel_process.specs.Active.{Tells}
+use Rattle.kernel_core.specs.declared.state.State.{State}
 
 -- what a kernel with this table and these processes keeps
-pub record IsConsistent (t : TableView) (xs : List ControlBlock) (made : ℕ) : Type 0 where
+pub record AreConsistent (t : TableView) (xs : List ControlBlock) (made : ℕ) : Type 0 where
   pub sound : IsSound t.kernel made (length xs) (entries t)
   pub active : Tells (entries t) xs
+
+abbrev pub IsConsistent : State → Type 0
+IsConsistent s = AreConsistent s.table s.processes s.made
+
+-- what each event keeps of the parts of a kernel
+pub record Keeps (old new : State) : Type 0 where
+  pub consistent : IsConsistent new
+  pub kernel : new.table.kernel ≡ old.table.kernel
+  pub length : length new.processes ≡ length old.processes

@@ -10,6 +10,7 @@ use Rattle.charlotte_calls.specs.declared.work.Work.{Work}
 use Rattle.end_table.specs.Table.{TableView, entries}
 use Rattle.kernel_process.specs.Parts.{with_parts, ended}
 use Rattle.kernel_process.specs.declared.process.ControlBlock.{ControlBlock}
+use Rattle.kernel_core.specs.declared.state.State.{State}
 use Rattle.kernel_step.specs.Calls.{IsCallWith, refusal}
 use Rattle.kernel_step.specs.Kernel.{Kernel, begins, call_step, has_report, next_stamp, process_of}
 use Rattle.kernel_step.specs.Progress.{progress}
@@ -27,8 +28,9 @@ IsStepOf t xs made stamp u ys made_now effect p mine c =
     → ended (with_parts (entries u) ys (record s { made = made_now; stamp = effect.stamp })) effect ≡ call_step s p mine c
 
 -- the event is the step of a call of p
-abbrev pub IsCalled : TableView → List ControlBlock → ℕ → ℕ → TableView → List ControlBlock → ℕ → Effect → Pid → Call → Type 0
-IsCalled t xs made stamp u ys made_now effect p c = (mine : List EndId) × IsCallWith p (entries t) mine c × IsStepOf t xs made stamp u ys made_now effect p mine c
+abbrev pub IsCalled : State → ℕ → State → Effect → Pid → Call → Type 0
+IsCalled old stamp new effect p c =
+    (mine : List EndId) × IsCallWith p (entries old.table) mine c × IsStepOf old.table old.processes old.made stamp new.table new.processes new.made effect p mine c
 
 -- a `Work` with which an event of this stamp begins
 abbrev pub Begins : TableView → ℕ → Work → Type 0

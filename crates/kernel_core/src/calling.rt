@@ -10,7 +10,7 @@ ghost use Rattle.kernel_sound.specs.Acts.{acts, made_after};
 ghost use Rattle.kernel_event.specs.Places.{IsPlacedFor};
 ghost use Rattle.kernel_process.specs.Closing.{HaveSpare, HavePlace};
 ghost use Rattle.kernel_core.specs.Finishing.{finishes, finished, ending_of, touched_by, turned, turned_on, turned_to, AreOwnersBelow, IsCalmAfter};
-ghost use Rattle.kernel_core.specs.Consistent.{IsConsistent};
+ghost use Rattle.kernel_core.specs.Consistent.{AreConsistent};
 ghost use Rattle.kernel_process.specs.Active.{Tells};
 ghost use Rattle.kernel_sound.specs.Sound.{IsSound};
 ghost use Rattle.kernel_core.specs.Started.{IsStarted};
@@ -64,7 +64,7 @@ pub(crate) fn refuse(
     requires spare { HaveSpare 3 processes.old }
     ensures part { (s : Kernel) → ended (with_parts (entries table.new) processes.new (record s { stamp = result.stamp })) result
         ≡ stands p (answer.Refused cause) (closes (with_parts (entries table.old) processes.old s) (means (step.Refuse p call cause) (progress (entries table.old) work))) }
-    ensures kept { (made : ℕ) → IsConsistent table.old processes.old made → IsConsistent table.new processes.new made }
+    ensures kept { (made : ℕ) → AreConsistent table.old processes.old made → AreConsistent table.new processes.new made }
     ensures kernel { table.new.kernel ≡ table.old.kernel }
     ensures length { length processes.new ≡ length processes.old }
 {
@@ -87,7 +87,7 @@ pub(crate) fn wait_granted(
     requires spare { HaveSpare 3 processes.old }
     ensures part { (s : Kernel) (k made : ℕ) → ended (with_parts (entries table.new) processes.new (record s { stamp = result.stamp })) result
         ≡ finishes p k made Call.Wait (closes (with_parts (entries table.old) processes.old s) (means (step.Wait p) (progress (entries table.old) work))) }
-    ensures kept { (made : ℕ) → IsConsistent table.old processes.old made → IsConsistent table.new processes.new made }
+    ensures kept { (made : ℕ) → AreConsistent table.old processes.old made → AreConsistent table.new processes.new made }
     ensures kernel { table.new.kernel ≡ table.old.kernel }
     ensures length { length processes.new ≡ length processes.old }
 {
@@ -127,7 +127,7 @@ pub(crate) fn grant(
     work: Work,
     answered: Vec<Pid>,
 ) -> Effect
-    requires kept { IsConsistent table.old processes.old made }
+    requires kept { AreConsistent table.old processes.old made }
     requires process { p.0 < length processes.old }
     requires granted { (reported : Bool) × (refusal p (entries table.old) made mine.now reported call ≡ None) }
     requires mine { IsCallWith p (entries table.old) mine.now call }
@@ -140,7 +140,7 @@ pub(crate) fn grant(
         ≡ finishes p table.old.kernel made call
         (closes (record (turned p call (with_parts (entries table.old) processes.old s)) { made = made_after call made })
         (acts p table.old.kernel made mine.now call (progress (entries table.old) work))) }
-    ensures kept { IsConsistent table.new processes.new (made_after call made) }
+    ensures kept { AreConsistent table.new processes.new (made_after call made) }
     ensures kernel { table.new.kernel ≡ table.old.kernel }
     ensures length { length processes.new ≡ length processes.old }
 {

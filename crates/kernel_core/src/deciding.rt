@@ -4,7 +4,7 @@ ghost use Rattle.end_table.specs.Table.{entries};
 ghost use Rattle.kernel_sound.specs.Acts.{made_after};
 ghost use Rattle.kernel_event.specs.Places.{IsPlacedFor};
 ghost use Rattle.kernel_process.specs.Closing.{HaveSpare, HavePlace};
-ghost use Rattle.kernel_core.specs.Consistent.{IsConsistent};
+ghost use Rattle.kernel_core.specs.Consistent.{AreConsistent};
 ghost use Rattle.kernel_process.specs.Active.{started_ends};
 ghost use Rattle.kernel_core.specs.Started.{IsStarted};
 ghost use Rattle.kernel_process.specs.Parts.{process_state};
@@ -30,7 +30,7 @@ pub(crate) fn decide(
     work: Work,
     answered: Vec<Pid>,
 ) -> Effect
-    requires kept { IsConsistent table.old processes.old made.old }
+    requires kept { AreConsistent table.old processes.old made.old }
     requires process { p.0 < length processes.old }
     requires mine { AreListedFor p table.old mine.now call }
     requires placed { IsPlacedFor call table.old made.old }
@@ -39,7 +39,7 @@ pub(crate) fn decide(
     requires spare { HaveSpare 3 processes.old }
     requires place { HavePlace processes.old }
     ensures step { IsCalled table.old processes.old made.old stamp table.new processes.new made.new result p call }
-    ensures kept { IsConsistent table.new processes.new made.new }
+    ensures kept { AreConsistent table.new processes.new made.new }
     ensures kernel { table.new.kernel ≡ table.old.kernel }
     ensures length { length processes.new ≡ length processes.old }
 {
@@ -63,7 +63,7 @@ fn permit(
     work: Work,
     answered: Vec<Pid>,
 ) -> Effect
-    requires kept { IsConsistent table.old processes.old made.old }
+    requires kept { AreConsistent table.old processes.old made.old }
     requires process { p.0 < length processes.old }
     requires granted { IsRefusedFor table.old processes.old made.old p call None }
     requires mine { AreListedFor p table.old mine.now call }
@@ -73,7 +73,7 @@ fn permit(
     requires spare { HaveSpare 3 processes.old }
     requires place { HavePlace processes.old }
     ensures step { IsCalled table.old processes.old made.old stamp table.new processes.new made.new result p call }
-    ensures kept { IsConsistent table.new processes.new made.new }
+    ensures kept { AreConsistent table.new processes.new made.new }
     ensures kernel { table.new.kernel ≡ table.old.kernel }
     ensures length { length processes.new ≡ length processes.old }
 {
@@ -90,7 +90,7 @@ fn permit(
 
 /// The first cause for which a call is refused, if one holds.
 fn cause_of(table: &Table, processes: &[ControlBlock], made: u32, p: Pid, call: &Call) -> Option<Cause>
-    requires kept { IsConsistent table.now processes.now made }
+    requires kept { AreConsistent table.now processes.now made }
     requires process { p.0 < length processes.now }
     ensures { IsRefusedFor table.now processes.now made p call.now result }
 {
@@ -110,7 +110,7 @@ fn forbid(
     work: Work,
     answered: Vec<Pid>,
 ) -> Effect
-    requires kept { IsConsistent table.old processes.old made }
+    requires kept { AreConsistent table.old processes.old made }
     requires process { p.0 < length processes.old }
     requires refused { IsRefusedFor table.old processes.old made p call (Some cause) }
     requires mine { AreListedFor p table.old mine.now call }
@@ -118,7 +118,7 @@ fn forbid(
     requires begins { Begins table.old stamp work }
     requires spare { HaveSpare 3 processes.old }
     ensures step { IsCalled table.old processes.old made stamp table.new processes.new made result p call }
-    ensures kept { IsConsistent table.new processes.new made }
+    ensures kept { AreConsistent table.new processes.new made }
     ensures kernel { table.new.kernel ≡ table.old.kernel }
     ensures length { length processes.new ≡ length processes.old }
 {
@@ -137,7 +137,7 @@ fn wait(
     work: Work,
     answered: Vec<Pid>,
 ) -> Effect
-    requires kept { IsConsistent table.old processes.old made }
+    requires kept { AreConsistent table.old processes.old made }
     requires process { p.0 < length processes.old }
     requires wait { call ≡ calls.Wait }
     requires granted { IsRefusedFor table.old processes.old made p call None }
@@ -145,7 +145,7 @@ fn wait(
     requires begins { Begins table.old stamp work }
     requires spare { HaveSpare 3 processes.old }
     ensures step { IsCalled table.old processes.old made stamp table.new processes.new made result p call }
-    ensures kept { IsConsistent table.new processes.new made }
+    ensures kept { AreConsistent table.new processes.new made }
     ensures kernel { table.new.kernel ≡ table.old.kernel }
     ensures length { length processes.new ≡ length processes.old }
 {
@@ -165,7 +165,7 @@ fn allow(
     work: Work,
     answered: Vec<Pid>,
 ) -> Effect
-    requires kept { IsConsistent table.old processes.old made }
+    requires kept { AreConsistent table.old processes.old made }
     requires process { p.0 < length processes.old }
     requires granted { IsRefusedFor table.old processes.old made p call None }
     requires other { call ≡ calls.Wait → ⊥ }
@@ -176,7 +176,7 @@ fn allow(
     requires spare { HaveSpare 3 processes.old }
     requires place { HavePlace processes.old }
     ensures step { IsCalled table.old processes.old made stamp table.new processes.new (made_after call made) result p call }
-    ensures kept { IsConsistent table.new processes.new (made_after call made) }
+    ensures kept { AreConsistent table.new processes.new (made_after call made) }
     ensures kernel { table.new.kernel ≡ table.old.kernel }
     ensures length { length processes.new ≡ length processes.old }
 {
@@ -211,11 +211,11 @@ pub(crate) fn call_event(
     stamp: u64,
     call: Call,
 ) -> Result<Effect, NoMemory>
-    requires kept { IsConsistent table.old processes.old made.old }
+    requires kept { AreConsistent table.old processes.old made.old }
     requires process { p.0 < length processes.old }
     ensures step { IfOk result (λ effect. IsCalled table.old processes.old made.old stamp table.new processes.new made.new effect p call) }
     ensures same { OnErr result ((entries table.new ≡ entries table.old) × (map process_state processes.new ≡ map process_state processes.old) × (made.new ≡ made.old)) }
-    ensures kept { IsConsistent table.new processes.new made.new }
+    ensures kept { AreConsistent table.new processes.new made.new }
     ensures kernel { table.new.kernel ≡ table.old.kernel }
     ensures length { length processes.new ≡ length processes.old }
 {

@@ -38,13 +38,13 @@ impl Model for Kernel {
     ghost use Rattle.std.specs.Prelude.{map};
     ghost use Rattle.kernel_core.specs.State.{KernelView};
     ghost use Rattle.kernel_process.specs.Parts.{process_state};
-    ghost use Rattle.kernel_core.specs.Consistent.{IsConsistent};
+    ghost use Rattle.kernel_core.specs.Consistent.{AreConsistent};
 
     ghost Value = { KernelView };
 
     ghost view = { λ k. record { kernels = k.kernels; version = k.version; table = k.table; processes = map process_state k.processes.items; made = k.made; stamp = k.stamp } };
 
-    ghost invariant = { λ k. IsConsistent k.table k.processes.items k.made };
+    ghost invariant = { λ k. AreConsistent k.table k.processes.items k.made };
 }
 
 impl Kernel {

@@ -2,7 +2,7 @@ ghost use Rattle.std.specs.Prelude.{◌≡◌, length, map, IfOk, IfErr, OnOk, O
 ghost use Rattle.charlotte_calls.specs.Packets.{what_picture};
 ghost use Rattle.end_table.specs.Table.{entries};
 ghost use Rattle.kernel_process.specs.Closing.{HaveSpare, HavePlace};
-ghost use Rattle.kernel_core.specs.Consistent.{IsConsistent};
+ghost use Rattle.kernel_core.specs.Consistent.{AreConsistent};
 ghost use Rattle.kernel_process.specs.Active.{started_ends};
 ghost use Rattle.kernel_event.specs.Places.{ArePlaced, brought};
 ghost use Rattle.kernel_sound.specs.Sound.{addressee};
@@ -35,14 +35,14 @@ pub(crate) fn take(
     mut work: Work,
     answered: Vec<Pid>,
 ) -> Effect
-    requires kept { IsConsistent table.old processes.old made }
+    requires kept { AreConsistent table.old processes.old made }
     requires placed { ArePlaced table.old (brought what) }
     requires started { IsStarted 17 work answered }
     requires spare { HaveSpare 3 processes.old }
     requires place { HavePlace processes.old }
     ensures part { (s : Kernel) → ended (with_parts (entries table.new) processes.new (record s { stamp = result.stamp })) result
         ≡ closes (with_parts (entries table.old) processes.old s) (row table.old.kernel made from (what_picture what) (progress (entries table.old) work)) }
-    ensures kept { IsConsistent table.new processes.new made }
+    ensures kept { AreConsistent table.new processes.new made }
     ensures kernel { table.new.kernel ≡ table.old.kernel }
     ensures length { length processes.new ≡ length processes.old }
 {
@@ -84,7 +84,7 @@ pub(crate) fn take_packet(
     work: Work,
     answered: Vec<Pid>,
 ) -> Effect
-    requires kept { IsConsistent table.old processes.old made }
+    requires kept { AreConsistent table.old processes.old made }
     requires placed { ArePlaced table.old (brought packet.what) }
     requires started { IsStarted 17 work answered }
     requires spare { HaveSpare 3 processes.old }
@@ -92,7 +92,7 @@ pub(crate) fn take_packet(
     ensures part { (s : Kernel) → ended (with_parts (entries table.new) processes.new (record s { stamp = result.stamp })) result
         ≡ closes (with_parts (entries table.old) processes.old s)
         (takes_addressed kernels table.old.kernel made from (what_picture packet.what) (progress (entries table.old) work)) }
-    ensures kept { IsConsistent table.new processes.new made }
+    ensures kept { AreConsistent table.new processes.new made }
     ensures kernel { table.new.kernel ≡ table.old.kernel }
     ensures length { length processes.new ≡ length processes.old }
 {
@@ -112,12 +112,12 @@ fn pass(
     work: Work,
     answered: Vec<Pid>,
 ) -> Effect
-    requires kept { IsConsistent table.old processes.old made }
+    requires kept { AreConsistent table.old processes.old made }
     requires started { IsStarted 17 work answered }
     requires spare { HaveSpare 3 processes.old }
     ensures part { (s : Kernel) → ended (with_parts (entries table.new) processes.new (record s { stamp = result.stamp })) result
         ≡ closes (with_parts (entries table.old) processes.old s) (progress (entries table.old) work) }
-    ensures kept { IsConsistent table.new processes.new made }
+    ensures kept { AreConsistent table.new processes.new made }
     ensures kernel { table.new.kernel ≡ table.old.kernel }
     ensures length { length processes.new ≡ length processes.old }
 {
@@ -160,14 +160,14 @@ pub(crate) fn take_event(
     stamp: u64,
     packet: Packet,
 ) -> Result<Effect, NotTaken>
-    requires kept { IsConsistent table.old processes.old made }
+    requires kept { AreConsistent table.old processes.old made }
     ensures part { IfOk result (λ effect. (s : Kernel) → s.table ≡ entries table.old
         → ended (with_parts (entries table.new) processes.new (record s { stamp = effect.stamp })) effect
         ≡ closes (with_parts (entries table.old) processes.old s)
         (takes_addressed kernels table.old.kernel made from (what_picture packet.what) (begins s stamp))) }
     ensures back { IfErr result (λ e. e.packet ≡ packet) }
     ensures same { OnErr result ((entries table.new ≡ entries table.old) × (map process_state processes.new ≡ map process_state processes.old)) }
-    ensures kept { IsConsistent table.new processes.new made }
+    ensures kept { AreConsistent table.new processes.new made }
     ensures kernel { table.new.kernel ≡ table.old.kernel }
     ensures length { length processes.new ≡ length processes.old }
 {

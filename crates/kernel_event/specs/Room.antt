@@ -1,5 +1,5 @@
 -- How much an event adds at most, by the packet or the call that it is about.
-use Rattle.std.specs.Prelude.{ℕ, ◌*◌}
+use Rattle.std.specs.Prelude.{ℕ, ◌+◌, ◌*◌}
 use Rattle.charlotte_calls.specs.declared.calls.Call.{Call}
 use Rattle.charlotte_calls.specs.declared.calls.Call.TheVariants as call
 use Rattle.charlotte_calls.specs.declared.packet.What.{What}
@@ -22,16 +22,20 @@ room_of_packet (packet.Known to hops) = record { packets = 8; reports = 0; answe
 room_of_packet (packet.Forget to hops) = record { packets = 0; reports = 0; answers = 0; steps = 0 }
 room_of_packet (packet.GoneSeen to) = record { packets = 8; reports = 0; answers = 0; steps = 0 }
 
--- by a call of a process that owns n ends: nine packets for each end that is destroyed
-abbrev pub room_of_call : Call → ℕ → Room
-room_of_call call.Make n = record { packets = 0; reports = 0; answers = 0; steps = 1 }
-room_of_call (call.Destroy on) n = record { packets = 9; reports = 0; answers = 0; steps = 1 }
-room_of_call (call.Send on bytes xs) n = record { packets = 1; reports = 0; answers = 0; steps = 2 }
-room_of_call (call.Receive on) n = record { packets = 1; reports = 0; answers = 0; steps = 1 }
-room_of_call (call.Cancel on way) n = record { packets = 1; reports = 0; answers = 0; steps = 1 }
-room_of_call call.Wait n = record { packets = 0; reports = 0; answers = 0; steps = 1 }
-room_of_call (call.Print bytes) n = record { packets = 0; reports = 0; answers = 0; steps = 0 }
-room_of_call call.Exit n = record { packets = 9 * n; reports = 0; answers = 0; steps = 1 }
+-- by a call, without the packets of an Exit, which are nine for each end of its process
+abbrev pub room_of_call : Call → Room
+room_of_call call.Make = record { packets = 0; reports = 0; answers = 0; steps = 1 }
+room_of_call (call.Destroy on) = record { packets = 9; reports = 0; answers = 0; steps = 1 }
+room_of_call (call.Send on bytes xs) = record { packets = 1; reports = 0; answers = 0; steps = 2 }
+room_of_call (call.Receive on) = record { packets = 1; reports = 0; answers = 0; steps = 1 }
+room_of_call (call.Cancel on way) = record { packets = 1; reports = 0; answers = 0; steps = 1 }
+room_of_call call.Wait = record { packets = 0; reports = 0; answers = 0; steps = 2 }
+room_of_call (call.Print bytes) = record { packets = 0; reports = 0; answers = 0; steps = 1 }
+room_of_call call.Exit = record { packets = 0; reports = 0; answers = 0; steps = 1 }
+
+-- this room, and nine packets for each of n ends besides
+abbrev pub and_ends : ℕ → Room → Room
+and_ends n r = record r { packets = r.packets + 9 * n }
 
 -- the lists of a `Work` have this room
 abbrev pub Fits : Room → Work → Type 0

@@ -9,7 +9,7 @@ ghost use Rattle.end_table.specs.Table.{entries, HasPlace, IsHere, IsOfEnd, Puts
 ghost use Rattle.end_table.specs.declared.entry.Entry.TheVariants.{Here};
 ghost use Rattle.kernel_sound.specs.Acts.{acts, acts_on, withdraws, withdraws_posted, AreOfOne};
 ghost use Rattle.kernel_event.specs.Places.{IsPlacedFor};
-ghost use Rattle.kernel_event.specs.Room.{room_of_call, Fits, Adds};
+ghost use Rattle.kernel_event.specs.Room.{and_ends, room_of_call, Fits, Adds};
 ghost use Rattle.kernel_sound.specs.Ready.{IsReady};
 ghost use Rattle.kernel_sound.specs.Sound.{IsSound};
 ghost use Rattle.kernel_step.specs.Actions.{ends, here};
@@ -19,8 +19,7 @@ ghost use Rattle.kernel_step.specs.Progress.{progress, keeps, means, HasRoom, Ad
 
 use cancel_core::{post, start_send, withdraw_receive, withdraw_send};
 use charlotte_calls::{Bytes, Call, EndId, Ends, LinkId, Moving, Pid, ServiceStep, Way, Work};
-use end_table::{Entry, Holder, Inward, NotStored, Table};
-use kernel_process::owned;
+use end_table::{Holder, Inward, Lent, NotStored, Table};
 use kernel_step::{first_of, push_step};
 use move_core::enclose;
 
@@ -30,9 +29,9 @@ pub fn act(table: &mut Table, made: u32, p: Pid, mine: &[EndId], call: Call, out
     requires granted { (reported : Bool) × (refusal p (entries table.old) made mine.now reported call ≡ None) }
     requires mine { IsCallWith p (entries table.old) mine.now call }
     requires placed { IsPlacedFor call table.old made }
-    requires room { Fits (room_of_call call (length mine.now)) out.old }
+    requires room { Fits (and_ends (length mine.now) (room_of_call call)) out.old }
     ensures part { progress (entries table.new) out.new ≡ acts p table.old.kernel made mine.now call (progress (entries table.old) out.old) }
-    ensures room { Adds (room_of_call call (length mine.now)) out.old out.new }
+    ensures room { Adds (and_ends (length mine.now) (room_of_call call)) out.old out.new }
     ensures kernel { table.new.kernel ≡ table.old.kernel }
 {
     match call {
@@ -104,7 +103,7 @@ fn destroy(table: &mut Table, p: Pid, on: EndId, out: &mut Work)
     ensures room { AddsAtMost 9 0 0 1 out.old out.new }
     ensures kernel { table.new.kernel ≡ table.old.kernel }
 {
-    if let Some(_view) = owned(table, p, on) {
+    if let Some(_living) = table.owned(p, on) {
         push_step(out, ServiceStep::Destroy { on });
         move_core::destroy(table, on, out);
     }
@@ -118,7 +117,7 @@ fn receive(table: &mut Table, p: Pid, on: EndId, out: &mut Work)
     ensures room { AddsAtMost 1 0 0 1 out.old out.new }
     ensures kernel { table.new.kernel ≡ table.old.kernel }
 {
-    if let Some(_view) = owned(table, p, on) {
+    if let Some(_living) = table.owned(p, on) {
         post(table, on, out);
     }
 }
@@ -147,7 +146,7 @@ fn cancel_send(table: &mut Table, p: Pid, on: EndId, out: &mut Work)
     ensures room { AddsAtMost 0 0 0 1 out.old out.new }
     ensures kernel { table.new.kernel ≡ table.old.kernel }
 {
-    if let Some(_view) = owned(table, p, on) {
+    if let Some(_living) = table.owned(p, on) {
         withdraw_send(table, on, out);
     }
 }
@@ -160,8 +159,8 @@ fn cancel_receive(table: &mut Table, p: Pid, on: EndId, out: &mut Work)
     ensures room { AddsAtMost 1 0 0 1 out.old out.new }
     ensures kernel { table.new.kernel ≡ table.old.kernel }
 {
-    if let Some(view) = owned(table, p, on) {
-        if let Inward::Posted { .. } = view.inward {
+    if let Some(living) = table.owned(p, on) {
+        if let Inward::Posted { .. } = living.inward() {
             withdraw_receive(table, on, out);
         }
     }
@@ -177,7 +176,7 @@ fn send(table: &mut Table, p: Pid, on: EndId, bytes: Bytes, enclose: Ends, out: 
     ensures room { AddsAtMost 1 0 0 2 out.old out.new }
     ensures kernel { table.new.kernel ≡ table.old.kernel }
 {
-    if let Some(_view) = owned(table, p, on) {
+    if let Some(_living) = table.owned(p, on) {
         enclose_each(table, on, enclose.as_slice(), out);
         start_send(table, on, bytes, enclose, out);
     }
@@ -239,7 +238,7 @@ fn destroy_here(table: &mut Table, on: EndId, out: &mut Work)
     ensures room { AddsAtMost 9 0 0 0 out.old out.new }
     ensures kernel { table.new.kernel ≡ table.old.kernel }
 {
-    if let Entry::Here(_) = table.look(on) {
+    if let Lent::Here(_) = table.lend(on) {
         move_core::destroy(table, on, out);
     }
 }

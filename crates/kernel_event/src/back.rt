@@ -9,11 +9,11 @@ ghost use Rattle.kernel_step.specs.Progress.{progress, HasRoom, AddsAtMost};
 ghost use Rattle.kernel_step.specs.Rows.{awaits, back_row, means_back};
 
 use crate::carried::{arriving, is_here, passing};
-use crate::death::{is_withdrawing, notice_first};
+use crate::death::notice_first;
 use crate::order::put_behind;
 use charlotte_calls::{Cargo, EndId, ServiceStep, Work};
 use end_table::{HereView, Outward, Table};
-use kernel_step::{awaiting, push_step};
+use kernel_step::{awaiting, is_withdrawing, push_step};
 use move_core::give_back;
 
 /// The message of a packet back, without its values, and the kernel that sent the packet.

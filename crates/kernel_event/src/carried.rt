@@ -7,7 +7,7 @@ ghost use Rattle.kernel_step.specs.Rows.{is_carried, passing, arriving, ends_in,
 ghost use Rattle.kernel_event.specs.Arrived.{with_here};
 
 use charlotte_calls::{Cargo, EndId, Moving};
-use end_table::{Entry, Table};
+use end_table::{Lent, Table};
 use kernel_step::ends_in;
 
 /// The values that leave or end here. Those that are not carried are spent.
@@ -77,9 +77,9 @@ fn is_new(table: &Table, made: u32, value: &Moving, came: &Cargo) -> bool
 pub(crate) fn is_here(table: &Table, end: EndId) -> bool
     ensures { result ≡ here_now (entries table.now end) }
 {
-    match table.look(end) {
-        Entry::Here(_) => true,
-        Entry::Nothing | Entry::Left { .. } | Entry::Destroyed(_) => false,
+    match table.lend(end) {
+        Lent::Here(_) => true,
+        Lent::Nothing | Lent::Left { .. } | Lent::Destroyed(_) => false,
     }
 }
 

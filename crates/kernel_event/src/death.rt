@@ -6,13 +6,12 @@ ghost use Rattle.end_table.specs.Table.{entries};
 ghost use Rattle.end_table.specs.declared.entry.Entry.{Entry};
 ghost use Rattle.end_table.specs.declared.entry.Entry.TheVariants.{Here};
 ghost use Rattle.kernel_sound.specs.Ready.{IsReady};
-ghost use Rattle.kernel_step.specs.Actions.{is_withdrawing};
 ghost use Rattle.kernel_step.specs.Progress.{progress, sends, HasRoom, AddsAtMost};
 ghost use Rattle.kernel_step.specs.Rows.{notices_first};
 
 use cancel_core::notice;
 use charlotte_calls::{EndId, What, Work};
-use end_table::{HereView, Inward, Table};
+use end_table::{HereView, Table};
 use kernel_step::push_packet;
 
 /// NOTICE at an end that is here, unless its death was noticed before: the destroyed end is told so at the kernel that sent
@@ -42,11 +41,4 @@ pub(crate) fn tell_seen(out: &mut Work, at: u8, on: EndId)
 {
     let to = on.opposite();
     push_packet(out, at, What::GoneSeen { to });
-}
-
-/// Whether a Cancel of a receive waits.
-pub(crate) fn is_withdrawing(inward: Inward) -> bool
-    ensures { result ≡ is_withdrawing inward }
-{
-    matches!(inward, Inward::Withdrawing { .. })
 }

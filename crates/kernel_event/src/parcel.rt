@@ -9,7 +9,7 @@ use crate::order::put_behind;
 use cancel_core::arrived;
 use charlotte_calls::{Bytes, Cargo, EndId, Work};
 use end_table::Table;
-use kernel_step::{asking, ends_in};
+use kernel_step::{ends_in, receiver};
 use move_core::arrive;
 
 /// A message in a parcel, without the values that the parcel brings.
@@ -42,7 +42,7 @@ pub(crate) fn parcel(
     ensures room { AddsAtMost 11 1 1 1 out.old out.new }
     ensures kernel { table.new.kernel ≡ table.old.kernel }
 {
-    match asking(table, message.to, message.w) {
+    match receiver(table, message.to, message.w) {
         Some(_) => take_parcel(table, made, message, moving, out),
         None => pass_parcel(table, made, &message, moving, out),
     }

@@ -11,12 +11,12 @@ ghost use Rattle.kernel_step.specs.Progress.{progress, HasRoom, AddsAtMost};
 ghost use Rattle.kernel_step.specs.Rows.{row, gone_row, gone_here};
 
 use crate::back::{Returned, back};
-use crate::death::{is_withdrawing, notice_first, tell_seen};
+use crate::death::{notice_first, tell_seen};
 use crate::parcel::{Message, parcel};
 use cancel_core::{finished, unwant, unwanted, want};
 use charlotte_calls::{EndId, ServiceStep, What, Work};
 use end_table::{Entry, HereView, Table};
-use kernel_step::{push_packet, push_step};
+use kernel_step::{is_withdrawing, push_packet, push_step};
 use move_core::{forget, gone_seen, known, moved};
 
 /// What a kernel that has made so many links does with a packet from a kernel.

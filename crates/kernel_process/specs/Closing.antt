@@ -1,5 +1,5 @@
 -- Room that an event has as it begins, and as it closes.
-use Rattle.std.specs.Prelude.{◌≡◌, ℕ, ◌+◌, ◌*◌, ◌≤◌, List, [], ◌∷◌, All, length, vec_len, vec_capacity}
+use Rattle.std.specs.Prelude.{◌≡◌, ℕ, ◌+◌, ◌≤◌, List, [], ◌∷◌, All, length, vec_len, vec_capacity}
 use Rattle.std.specs.VecDeque.{deque_len, deque_capacity}
 use Rattle.charlotte_calls.specs.declared.calls.Report.{Report}
 use Rattle.charlotte_calls.specs.declared.names.Pid.{Pid}
@@ -21,10 +21,6 @@ HaveSpareFor (r ∷ rs) xs = HaveSpare (length (r ∷ rs)) xs
 -- each process has room for one more end on which an activity is started
 abbrev pub HavePlace : List ControlBlock → Type 0
 HavePlace xs = All (λ x. 1 ≤ spare x.active) xs
-
--- this room, and nine packets for each of n ends that may die besides
-abbrev pub and_ends : ℕ → Room → Room
-and_ends n r = record r { packets = r.packets + 9 * n }
 
 -- The event has added nothing yet. Its lists have this room, and besides room for what its reports and answers bring: each an answer
 -- that comes to stand, and each report a step; and for so many answers more.

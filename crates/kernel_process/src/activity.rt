@@ -13,10 +13,9 @@ ghost use Rattle.kernel_process.specs.Active.{started_ends, Refreshes, Empties};
 ghost use Rattle.kernel_process.specs.Parts.{process_state};
 ghost use Rattle.kernel_process.specs.declared.process.ControlBlock.{ControlBlock};
 
-use crate::owners::owned;
 use crate::process::Processes;
 use charlotte_calls::{EndId, Pid};
-use end_table::{HereView, Inward, Outward, Table};
+use end_table::{Inward, Living, Outward, Table};
 use indexmap::IndexSet;
 
 /// The set of process `p` has this end exactly where it has a started activity on it.
@@ -91,16 +90,16 @@ fn remove(active: &mut IndexSet<EndId>, end: EndId)
 fn is_active(table: &Table, p: Pid, end: EndId) -> bool
     ensures { result ≡ is_active (owned p (entries table.now end)) }
 {
-    match owned(table, p, end) {
-        Some(view) => has_activity(&view),
+    match table.owned(p, end) {
+        Some(living) => has_activity(living),
         None => false,
     }
 }
 
-fn has_activity(view: &HereView) -> bool
-    ensures { result ≡ is_active (Some view.now) }
+fn has_activity(living: &Living) -> bool
+    ensures { result ≡ is_active (Some living.now) }
 {
-    is_started_outward(&view.outward) || is_started_inward(view.inward)
+    is_started_outward(living.outward()) || is_started_inward(living.inward())
 }
 
 fn is_started_outward(outward: &Outward) -> bool

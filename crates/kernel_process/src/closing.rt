@@ -1,8 +1,11 @@
-ghost use Rattle.std.specs.Prelude.{◌≡◌, ℕ, ◌+◌, ◌<◌, ◌≤◌, ◌++◌, [], ◌∷◌, Some, length, drop, option_to_list, vec_len, vec_capacity};
+ghost use Rattle.std.specs.Prelude.{◌≡◌, true, false, ℕ, ◌+◌, ◌<◌, ◌≤◌, ◌++◌, [], ◌∷◌, Some, length, drop, option_to_list, vec_len, vec_capacity};
 ghost use Rattle.charlotte_calls.specs.declared.calls.Answer.TheVariants as answer;
 ghost use Rattle.charlotte_calls.specs.declared.names.EndId.{EndId};
 ghost use Rattle.end_table.specs.Place.{put};
-ghost use Rattle.end_table.specs.Table.{entries};
+ghost use Rattle.charlotte_calls.specs.declared.names.Way.TheVariants as way;
+ghost use Rattle.end_table.specs.Table.{entries, IsHereAnd};
+ghost use Rattle.end_table.specs.declared.entry.Inward.TheVariants as inward;
+ghost use Rattle.end_table.specs.declared.entry.Outward.TheVariants as outward;
 ghost use Rattle.end_table.specs.declared.entry.Entry.{Entry};
 ghost use Rattle.kernel_step.specs.Kernel.{Kernel, answers_wait, closes, exits, is_waiting, joins, join_answers, join_reports, process_of, reported_entry, reported_view, stands, turns, waits, with_process};
 ghost use Rattle.kernel_step.specs.Progress.{progress};
@@ -15,7 +18,7 @@ ghost use Rattle.kernel_process.specs.Steady.{StaysCalm, TakesAtMost};
 use crate::event::Event;
 use crate::process::Processes;
 use charlotte_calls::{Answer, Effect, EndId, Pid, Report, ServiceStep, Way, Work};
-use end_table::{Entry, HereView, Inward, Outward, Table};
+use end_table::{Inward, Lent, Outward, Table};
 use kernel_step::Phase;
 use std::collections::VecDeque;
 
@@ -65,32 +68,58 @@ fn add_report(processes: &mut Processes, p: Pid, report: Report)
     process.reports.push_back_reserved(report);
 }
 
-/// What a report leaves of the activity that was over.
-fn report_view(view: &mut HereView, way: Way)
-    ensures { view.new ≡ reported_view way view.old }
-{
-    match way {
-        Way::Outward => {
-            if let Outward::Unreported = view.outward {
-                view.outward = Outward::Idle;
-            }
-        }
-        Way::Inward => {
-            if let Inward::Unreported = view.inward {
-                view.inward = Inward::Idle;
-            }
-        }
-    }
-}
-
 /// An activity that was over is idle once it is reported.
 fn settle_report(table: &mut Table, on: EndId, way: Way)
     ensures entries { entries table.new ≡ put (entries table.old) on (reported_entry way (entries table.old on)) }
     ensures kernel { table.new.kernel ≡ table.old.kernel }
 {
-    if let Entry::Here(mut view) = table.look(on) {
-        report_view(&mut view, way);
-        table.change(on, view);
+    match way {
+        Way::Outward => settle_send(table, on),
+        Way::Inward => settle_receive(table, on),
+    }
+}
+
+/// A send that was over is idle once it is reported.
+fn settle_send(table: &mut Table, on: EndId)
+    ensures entries { entries table.new ≡ put (entries table.old) on (reported_entry way.Outward (entries table.old on)) }
+    ensures kernel { table.new.kernel ≡ table.old.kernel }
+{
+    if is_sent(table, on) {
+        let value = table.here(on).value();
+        table.set_outward(on, value, Outward::Idle);
+    }
+}
+
+/// A receive that was over is idle once it is reported.
+fn settle_receive(table: &mut Table, on: EndId)
+    ensures entries { entries table.new ≡ put (entries table.old) on (reported_entry way.Inward (entries table.old on)) }
+    ensures kernel { table.new.kernel ≡ table.old.kernel }
+{
+    if is_received(table, on) {
+        let value = table.here(on).value();
+        table.set_inward(on, value, Inward::Idle);
+    }
+}
+
+/// Whether a send is over at an end that is here.
+fn is_sent(table: &Table, on: EndId) -> bool
+    ensures yes { result ≡ true → IsHereAnd (entries table.now on) (λ v. v.outward ≡ outward.Unreported) }
+    ensures no { result ≡ false → reported_entry way.Outward (entries table.now on) ≡ entries table.now on }
+{
+    match table.lend(on) {
+        Lent::Here(living) => matches!(living.outward(), Outward::Unreported),
+        Lent::Nothing | Lent::Left { .. } | Lent::Destroyed(_) => false,
+    }
+}
+
+/// Whether a receive is over at an end that is here.
+fn is_received(table: &Table, on: EndId) -> bool
+    ensures yes { result ≡ true → IsHereAnd (entries table.now on) (λ v. v.inward ≡ inward.Unreported) }
+    ensures no { result ≡ false → reported_entry way.Inward (entries table.now on) ≡ entries table.now on }
+{
+    match table.lend(on) {
+        Lent::Here(living) => matches!(living.inward(), Inward::Unreported),
+        Lent::Nothing | Lent::Left { .. } | Lent::Destroyed(_) => false,
     }
 }
 

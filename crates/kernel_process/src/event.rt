@@ -1,5 +1,5 @@
 ghost use Rattle.std.specs.Prelude.{◌≡◌, ◌+◌, ◌*◌, ◌<◌, ◌≤◌, ◌^◌, [], IfOk, vec_capacity, vec_len};
-ghost use Rattle.kernel_process.specs.Closing.{IsBegun, and_ends};
+ghost use Rattle.kernel_process.specs.Closing.{IsBegun};
 ghost use Rattle.kernel_step.specs.Kernel.{Kernel, begins};
 ghost use Rattle.kernel_step.specs.Progress.{progress};
 
@@ -32,7 +32,7 @@ impl Event {
         requires few { dying < 2 ^ 59 }
         requires one { own ≤ 1 }
         ensures begins { IfOk result (λ event. (s : Kernel) → progress s.table event.work ≡ begins s stamp) }
-        ensures begun { IfOk result (IsBegun (and_ends dying room) own) }
+        ensures begun { IfOk result (IsBegun (record room { packets = room.packets + 9 * dying }) own) }
         ensures stamp { IfOk result (λ event. event.work.stamp ≡ stamp) }
     {
         let most_packets = room.packets as usize + PACKETS_OF_AN_END * dying;

@@ -1,44 +1,36 @@
 ghost use Rattle.std.specs.Prelude.{◌≡◌, ◌<◌, false, IfSome, length, map};
 ghost use Rattle.charlotte_calls.specs.declared.names.EndId.{EndId};
-ghost use Rattle.end_table.specs.Owned.{owned};
 ghost use Rattle.end_table.specs.Place.{put};
 ghost use Rattle.end_table.specs.Table.{entries};
 ghost use Rattle.end_table.specs.declared.entry.Entry.{Entry};
 ghost use Rattle.end_table.specs.declared.entry.Entry.TheVariants.{Here, Nothing};
 ghost use Rattle.kernel_process.specs.Closing.{HavePlace};
 ghost use Rattle.kernel_process.specs.Active.{Tells, Refreshes};
-ghost use Rattle.kernel_sound.specs.Owners.{owner_of, IsCalmBut};
+ghost use Rattle.kernel_sound.specs.Owners.{owner_in, owner_of, IsCalmBut};
 ghost use Rattle.kernel_process.specs.Parts.{process_state};
 
 use crate::activity::{forget, refresh};
 use crate::process::Processes;
 use charlotte_calls::{EndId, Pid};
-use end_table::{Entry, HereView, Holder, Table};
-
-/// The view of an end that a process owns.
-pub fn owned(table: &Table, p: Pid, on: EndId) -> Option<HereView>
-    ensures view { result ≡ owned p (entries table.now on) }
-    ensures here { IfSome result (λ v. entries table.now on ≡ Here v) }
-{
-    match table.look(on) {
-        Entry::Here(view) => match view.holder {
-            Holder::Owner(owner) if owner.0 == p.0 => Some(view),
-            _ => None,
-        },
-        _ => None,
-    }
-}
+use end_table::{Holder, Lent, Table};
 
 /// The process that owns an end, if one does.
 pub fn owner(table: &Table, end: EndId) -> Option<Pid>
     ensures { result ≡ owner_of (entries table.now end) }
 {
-    match table.look(end) {
-        Entry::Here(view) => match view.holder {
-            Holder::Owner(p) => Some(p),
-            Holder::EnclosedIn(_) => None,
-        },
-        Entry::Nothing | Entry::Left { .. } | Entry::Destroyed(_) => None,
+    match table.lend(end) {
+        Lent::Here(living) => owner_in(living.holder()),
+        Lent::Nothing | Lent::Left { .. } | Lent::Destroyed(_) => None,
+    }
+}
+
+/// The process that holds an end, if no message does.
+fn owner_in(holder: Holder) -> Option<Pid>
+    ensures { result ≡ owner_in holder }
+{
+    match holder {
+        Holder::Owner(p) => Some(p),
+        Holder::EnclosedIn(_) => None,
     }
 }
 
