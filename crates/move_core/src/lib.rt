@@ -22,4 +22,5 @@ pub use kernel_step::leave;
 pub use movement::{forget, known, moved};
 pub use parcel::arrive;
 pub use routing::route;
+pub use settling::settle;
 pub use spare::room;
