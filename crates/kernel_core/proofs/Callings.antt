@@ -43,16 +43,6 @@ kept-calm n made old new xs ys calm kept is =
       active = tells_same (entries old) (entries new) xs ys is.active (keys-moved xs ys kept.active) calm.calm;
     }
 
--- an event that began with a service step has no reports
-pub none-reports : (n : ℕ) (t : EndId → Entry) (x : ServiceStep) (old new : Work) → progress t new ≡ means x (progress t old) → old.reports.items ≡ [] → AreFor n new.reports.items
-unfolding means progress
-none-reports n t x old new part none = subst (AreFor n) (sym (ap (λ d. d.reports) part ∙ none)) tt
-
--- and no answers
-pub none-answers : (n : ℕ) (t : EndId → Entry) (x : ServiceStep) (old new : Work) → progress t new ≡ means x (progress t old) → old.answers.items ≡ [] → AreFor n new.answers.items
-unfolding means progress
-none-answers n t x old new part none = subst (AreFor n) (sym (ap (λ d. d.answers) part ∙ none)) tt
-
 -- a call that is no Wait comes to its end
 finished-call : (p : Pid) (k made : ℕ) (c : Call) (o : Outcome) → (c ≡ call.Wait → ⊥) → finished p (ending_of k made c) o ≡ finishes p k made c o
 unfolding finishes
@@ -146,6 +136,10 @@ owners-below k j made m n t u before after call.Exit = tt
 -- what a call that is not refused leaves
 module _ (p : Pid) (k made : ℕ) (mine : List EndId) (c : Call) (t u : EndId → Entry) (work out : Work) (after : progress u out ≡ acts p k made mine c (progress t work)) where
   -- it gives no report
+  pub acted-none : work.reports.items ≡ [] → out.reports.items ≡ []
+  unfolding progress
+  acted-none none = ap (λ d. d.reports) after ∙ acts-reports p k made mine c (progress t work) ∙ none
+
   pub acted-reports : (n : ℕ) → work.reports.items ≡ [] → AreFor n out.reports.items
   unfolding progress
   acted-reports n none = subst (AreFor n) (sym (ap (λ d. d.reports) after ∙ acts-reports p k made mine c (progress t work) ∙ none)) tt

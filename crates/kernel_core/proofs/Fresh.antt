@@ -16,7 +16,7 @@ use Rattle.kernel_core.specs.Consistent.{AreConsistent}
 use Rattle.kernel_sound.specs.Sound.{IsSound}
 use Rattle.kernel_process.specs.Parts.{process_state, no_process, process_at}
 use Rattle.kernel_core.specs.State.{state_of}
-use Rattle.kernel_core.specs.Wired.{IsFresh}
+use Rattle.kernel_process.specs.Fresh.{IsFresh}
 use Rattle.kernel_process.specs.declared.process.ControlBlock.{ControlBlock}
 
 all-tail : (x : ControlBlock) (xs : List ControlBlock) → All IsFresh (x ∷ xs) → All IsFresh xs

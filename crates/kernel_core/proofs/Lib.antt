@@ -1,3 +1,4 @@
+pub mod Begun
 pub mod Active
 pub mod CalledParts
 pub mod Callings

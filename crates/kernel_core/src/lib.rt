@@ -8,6 +8,7 @@ mod refusal;
 mod room;
 mod stamp;
 mod start;
+mod state;
 mod taking;
 #[cfg(test)]
 mod tests;
