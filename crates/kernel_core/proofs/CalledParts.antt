@@ -11,17 +11,18 @@ use Rattle.kernel_core.specs.State.{KernelView, state_of}
 use Rattle.kernel_process.specs.Parts.{process_state, ended, with_parts}
 use Rattle.kernel_core.specs.Stepping.{IsStepOf, IsCalled}
 use Rattle.kernel_process.specs.declared.process.ControlBlock.{ControlBlock}
+use Rattle.kernel_core.specs.Consistent.{OnlyReserves}
+use Rattle.kernel_core.specs.declared.state.State.{State}
 use Rattle.kernel_step.specs.Calls.{IsCallWith}
 use Rattle.kernel_step.specs.Kernel.{call_step, next_stamp}
 
 -- the event of a call whose room was reserved first
-pub called-before : (old t new : TableView) (xs ys zs : List ControlBlock) (made stamp made_now : ℕ) (effect : Effect) (p : Pid) (c : Call) → entries t ≡ entries old → t.kernel ≡ old.kernel → map process_state ys ≡ map process_state xs
-    → IsCalled t ys made stamp new zs made_now effect p c → IsCalled old xs made stamp new zs made_now effect p c
-called-before old t new xs ys zs made stamp made_now effect p c same kernel kept called = (
+pub called-before : (old now new : State) (stamp : ℕ) (effect : Effect) (p : Pid) (c : Call) → OnlyReserves old now → IsCalled now stamp new effect p c → IsCalled old stamp new effect p c
+called-before old now new stamp effect p c same called = (
   called.0,
-  subst (λ u. IsCallWith p u called.0 c) same called.1,
+  subst (λ u. IsCallWith p u called.0 c) same.entries called.1,
   λ s has next.
-      called.2 s (record { parts = reserved-parts old t xs ys s same kept ∙ has.parts; number = has.number ∙ sym kernel; links = has.links }) next,
+      called.2 s (record { parts = reserved-parts old.table now.table old.processes now.processes s same.entries same.states ∙ has.parts; number = has.number ∙ sym same.kernel; links = has.links ∙ sym same.made }) next,
 )
 
 -- the event of a call is that of the kernel

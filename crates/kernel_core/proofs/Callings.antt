@@ -25,7 +25,8 @@ use Rattle.kernel_sound.proofs.Events.{begun-well, owner-below, well-calm, well-
 use Rattle.kernel_process.proofs.OneProcess.{closes-table}
 use Rattle.kernel_sound.specs.Acts.{Covers, acts, made_after}
 use Rattle.kernel_core.specs.Finishing.{AreOwnersBelow, IsCalmAfter, ending_of, finished, finishes, touched_by, touches, turned, turned_by, turned_on}
-use Rattle.kernel_core.specs.Consistent.{AreConsistent}
+use Rattle.kernel_core.specs.Consistent.{AreConsistent, IsConsistent, Keeps}
+use Rattle.kernel_core.specs.declared.state.State.{State}
 use Rattle.kernel_sound.specs.Sound.{AreFor, GoesWell, IsSound}
 use Rattle.kernel_process.specs.Parts.{with_parts}
 use Rattle.kernel_process.specs.Steady.{StaysCalm, TakesAtMost}
@@ -41,6 +42,16 @@ kept-calm n made old new xs ys calm kept is =
     record {
       sound = subst (λ m. IsSound new.kernel made m (entries new)) (sym kept.length) (calm.sound made (length xs) is.sound);
       active = tells_same (entries old) (entries new) xs ys is.active (keys-moved xs ys kept.active) calm.calm;
+    }
+
+-- so they keep what every event keeps
+pub keeps-calm : (old : State) (t : TableView) (ys : List ControlBlock) (made : ℕ) → made ≡ old.made → StaysCalm old.table t → TakesAtMost 0 old.processes ys → IsConsistent old
+    → Keeps old (record { table = t; processes = ys; made = made })
+keeps-calm old t ys made links calm kept is =
+    record {
+      consistent = subst (λ n. AreConsistent t ys n) (sym links) (kept-calm 0 old.made old.table t old.processes ys calm kept is);
+      kernel = calm.kernel;
+      length = kept.length;
     }
 
 -- a call that is no Wait comes to its end

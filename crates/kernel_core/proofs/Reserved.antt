@@ -3,7 +3,8 @@ use Rattle.std.proofs.Common.{◌≡◌, ℕ, List, length, map, sym, ap, subst,
 use Rattle.end_table.specs.Table.{TableView, entries}
 use Rattle.kernel_process.proofs.ActiveSets.{tells_same}
 use Rattle.kernel_process.proofs.OneProcess.{with_parts-kept}
-use Rattle.kernel_core.specs.Consistent.{AreConsistent}
+use Rattle.kernel_core.specs.Consistent.{AreConsistent, IsConsistent, Keeps, OnlyReserves}
+use Rattle.kernel_core.specs.declared.state.State.{State}
 use Rattle.kernel_process.specs.Active.{started_ends}
 use Rattle.kernel_sound.specs.Sound.{IsSound}
 use Rattle.kernel_process.specs.Parts.{process_state, with_parts}
@@ -22,6 +23,16 @@ module _ (old new : TableView) (xs ys : List ControlBlock) (made : ℕ) (kept : 
             (subst (λ n. IsSound old.kernel made n (entries new)) (sym lengths) (subst (IsSound old.kernel made (length xs)) (sym same) kept.sound));
         active = tells_same (entries old) (entries new) xs ys kept.active started (λ p e. ap (λ t. is_active (owned p (t e))) same);
       }
+
+-- so room that was reserved keeps what every event keeps
+pub reserved-keeps : (old new : State) → IsConsistent old → OnlyReserves old new → Keeps old new
+reserved-keeps old new is same =
+    record {
+      consistent = subst (λ n. AreConsistent new.table new.processes n) (sym same.made)
+          (reserved-kept old.table new.table old.processes new.processes old.made is same.entries same.kernel same.active same.length);
+      kernel = same.kernel;
+      length = same.length;
+    }
 
 -- the state of the kernel
 pub reserved-parts : (old new : TableView) (xs ys : List ControlBlock) (s : Kernel) → entries new ≡ entries old → map process_state ys ≡ map process_state xs → with_parts (entries new) ys s ≡ with_parts (entries old) xs s

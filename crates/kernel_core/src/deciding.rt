@@ -2,8 +2,7 @@ ghost use Rattle.std.specs.Prelude.{◌≡◌, ◌<◌, true, false, length, map
 ghost use Rattle.charlotte_calls.specs.declared.calls.Call.TheVariants as calls;
 ghost use Rattle.end_table.specs.Table.{entries};
 ghost use Rattle.kernel_event.specs.Places.{IsPlacedFor};
-ghost use Rattle.kernel_process.specs.Parts.{process_state};
-ghost use Rattle.kernel_core.specs.Consistent.{IsConsistent, Keeps};
+ghost use Rattle.kernel_core.specs.Consistent.{IsConsistent, Keeps, OnlyReserves};
 ghost use Rattle.kernel_core.specs.Started.{IsRequest, IsReadyToCall};
 ghost use Rattle.kernel_core.specs.Stepping.{IsCalled, AreListedFor, IsRefusedFor};
 
@@ -121,7 +120,7 @@ pub(crate) fn call_event(
     requires consistent { IsConsistent state.old }
     requires process { request.p.0 < length state.old.processes }
     ensures step { IfOk result (λ effect. IsCalled state.old stamp state.new effect request.p request.call) }
-    ensures same { OnErr result ((entries state.new.table ≡ entries state.old.table) × (map process_state state.new.processes ≡ map process_state state.old.processes) × (state.new.made ≡ state.old.made)) }
+    ensures same { OnErr result (OnlyReserves state.old state.new) }
     ensures keeps { Keeps state.old state.new }
 {
     match reserve_calling(alloc, state, &request, stamp) {
@@ -137,15 +136,11 @@ fn reserve_calling(
     request: &Request,
     stamp: u64,
 ) -> Result<(Vec<EndId>, Event), NoMemory>
-    requires consistent { IsConsistent state.old }
     requires process { request.now.p.0 < length state.old.processes }
     ensures request { IfOk result (λ r. IsRequest state.new request.now r.0.items) }
     ensures ready { IfOk result (λ r. IsReadyToCall state.new request.now r.0.items r.1) }
     ensures stamp { IfOk result (λ r. r.1.work.stamp ≡ stamp) }
-    ensures entries { entries state.new.table ≡ entries state.old.table }
-    ensures kept { map process_state state.new.processes ≡ map process_state state.old.processes }
-    ensures made { state.new.made ≡ state.old.made }
-    ensures keeps { Keeps state.old state.new }
+    ensures same { OnlyReserves state.old state.new }
 {
     state.processes.reserve_places()?;
     reserve_places(&mut state.table, state.made, &request.call)?;

@@ -1,9 +1,9 @@
-ghost use Rattle.std.specs.Prelude.{◌≡◌, map, IfOk, IfErr, OnErr};
+ghost use Rattle.std.specs.Prelude.{◌≡◌, IfOk, IfErr, OnErr};
 ghost use Rattle.charlotte_calls.specs.Packets.{what_picture};
 ghost use Rattle.end_table.specs.Table.{entries};
 ghost use Rattle.kernel_sound.specs.Sound.{addressee};
-ghost use Rattle.kernel_process.specs.Parts.{with_parts, ended, process_state};
-ghost use Rattle.kernel_core.specs.Consistent.{IsConsistent, Keeps};
+ghost use Rattle.kernel_process.specs.Parts.{with_parts, ended};
+ghost use Rattle.kernel_core.specs.Consistent.{IsConsistent, Keeps, OnlyReserves};
 ghost use Rattle.kernel_core.specs.Started.{IsReadyToTake, takes_addressed};
 ghost use Rattle.kernel_step.specs.Kernel.{Kernel, begins, closes};
 ghost use Rattle.kernel_step.specs.Progress.{progress};
@@ -95,13 +95,9 @@ fn reserve_taking(
     what: &What,
     stamp: u64,
 ) -> Result<Event, NoMemory>
-    requires consistent { IsConsistent state.old }
     ensures ready { IfOk result (IsReadyToTake state.new what.now) }
     ensures begins { IfOk result (λ event. (s : Kernel) → progress s.table event.work ≡ begins s stamp) }
-    ensures entries { entries state.new.table ≡ entries state.old.table }
-    ensures kept { map process_state state.new.processes ≡ map process_state state.old.processes }
-    ensures keeps { Keeps state.old state.new }
-    ensures made { state.new.made ≡ state.old.made }
+    ensures same { OnlyReserves state.old state.new }
 {
     let room = room_of_packet(what);
     let event = Event::begin(alloc, stamp, room, 0, 0)?;
@@ -126,7 +122,7 @@ pub(crate) fn take_event(
         ≡ closes (with_parts (entries state.old.table) state.old.processes s)
         (takes_addressed kernels state.old.table.kernel state.old.made from (what_picture packet.what) (begins s stamp))) }
     ensures back { IfErr result (λ e. e.packet ≡ packet) }
-    ensures same { OnErr result ((entries state.new.table ≡ entries state.old.table) × (map process_state state.new.processes ≡ map process_state state.old.processes)) }
+    ensures same { OnErr result (OnlyReserves state.old state.new) }
     ensures keeps { Keeps state.old state.new }
     ensures made { state.new.made ≡ state.old.made }
 {

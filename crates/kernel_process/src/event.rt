@@ -29,7 +29,7 @@ impl Event {
         dying: usize,
         own: usize,
     ) -> Result<Event, NoMemory>
-        requires few { dying < 2 ^ 59 }
+        requires few { dying < 2 ^ 60 }
         requires one { own ≤ 1 }
         ensures begins { IfOk result (λ event. (s : Kernel) → progress s.table event.work ≡ begins s stamp) }
         ensures begun { IfOk result (IsBegun (record room { packets = room.packets + 9 * dying }) own) }

@@ -1,6 +1,6 @@
 -- The call does its part, and the event closes.
 use Rattle.end_table.specs.Table.{entries}
-use Rattle.kernel_core.proofs.Callings.{acted-answers, acted-calm, acted-closes, acted-reports, acted-sound, finished-by}
+use Rattle.kernel_core.proofs.Callings.{acted-none, acted-answers, acted-calm, acted-closes, acted-reports, acted-sound, finished-by}
 use Rattle.kernel_core.specs.Finishing.{ending_of, finished}
 use Rattle.kernel_process.proofs.Closes.{takes-both}
 use Rattle.kernel_process.specs.Parts.{ended, with_parts}
@@ -54,12 +54,12 @@ returns-clause-sound c =
     c.close-effect.ensures.calm.sound (made_after c.args.request.call c.args.state.now.made) (length c.args.state.now.processes)
     (subst (λ k. IsSound k (made_after c.args.request.call c.args.state.now.made) (length c.args.state.now.processes) (entries c.act.new.table)) (sym c.act.ensures.kernel)
     (acted-sound c.args.request.p c.args.state.now.table.kernel c.args.state.now.made c.args.mine.now c.args.request.call (entries c.args.state.now.table) (entries c.act.new.table) c.args.event.work c.act.new.out c.act.ensures.part
-    (length c.args.state.now.processes) c.requires.ready.begun.reports c.requires.ready.begun.answers c.requires.consistent.sound c.requires.request.process c.requires.granted.0 c.requires.granted.1 c.requires.request.listed c.requires.other))
+    (length c.args.state.now.processes) c.requires.ready.begun.reports c.requires.ready.begun.answers c.requires.consistent.sound c.requires.request.process c.requires.granted.0 c.requires.granted.1 (c.requires.request.listed c.requires.other)))
 
 pub returns-clause-calm : goal.returns-clause-calm
 returns-clause-calm c =
     acted-calm c.args.request.p c.args.state.now.table.kernel c.args.state.now.made c.args.mine.now c.args.request.call (entries c.args.state.now.table) (entries c.act.new.table) c.args.event.work c.act.new.out c.act.ensures.part
-    (length c.args.state.now.processes) c.requires.ready.begun.reports c.requires.ready.begun.answers c.requires.consistent.sound c.requires.request.process c.requires.granted.0 c.requires.granted.1 c.requires.request.listed c.requires.other
+    (length c.args.state.now.processes) c.requires.ready.begun.reports c.requires.ready.begun.answers c.requires.consistent.sound c.requires.request.process c.requires.granted.0 c.requires.granted.1 (c.requires.request.listed c.requires.other)
     (entries c.close-effect.new.table) c.close-effect.ensures.calm.calm
 
 pub returns-clause-kept : goal.returns-clause-kept

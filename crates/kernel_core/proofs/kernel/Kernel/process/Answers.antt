@@ -6,5 +6,5 @@ use Rattle.kernel_core.proofs.kernel.Kernel.process.Goals as goal
 
 pub returns : goal.returns
 returns c =
-    ap process_state c.index.ensures
-    ∙ sym (state_of-at c.args.self.now c.self.inside.processes.items c.index.result.now c.from.result c.args.p (ap (λ v. v.processes) c.self.view_is) c.from.ensures c.requires)
+    ap process_state (c.at.ensures c.at.result.now)
+    ∙ sym (state_of-at c.args.self.now c.self.inside.state.processes c.at.result.now c.from.result c.args.p (ap (λ v. v.processes) c.self.view_is) c.from.ensures c.requires)
