@@ -11,9 +11,6 @@ ghost use Rattle.end_table.specs.Lent.{lent_entry};
 ghost use Rattle.end_table.specs.Slot.{owned_ends};
 ghost use Rattle.end_table.specs.declared.entry.Entry.TheVariants.{Nothing, Here, Left, Destroyed};
 
-#[cfg(test)]
-mod tests;
-
 use crate::slot::{Slot, leave};
 use crate::{Entry, HereView, Holder, Inward, Lent, Living, Outward};
 use charlotte_calls::{EndId, Mark, Moving, MovingPicture, NoMemory, Pid};

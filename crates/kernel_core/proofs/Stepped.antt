@@ -19,7 +19,7 @@ use Rattle.kernel_core.specs.Finishing.{finishes, turned}
 use Rattle.kernel_process.specs.Parts.{process_state, process_at, with_parts, ended}
 use Rattle.kernel_core.specs.Stepping.{HasParts, IsStepOf, Begins, AreListedFor, IsRefusedFor}
 use Rattle.kernel_process.specs.declared.process.ControlBlock.{ControlBlock}
-use Rattle.kernel_step.specs.Calls.{IsCallWith, refusal}
+use Rattle.kernel_step.specs.Calls.{IsCallWith, link_limit, refusal}
 use Rattle.kernel_step.specs.Kernel.{Kernel, begins, closes, has_report, next_stamp, process_of, stands}
 use Rattle.kernel_step.specs.Progress.{progress, means}
 
@@ -109,13 +109,13 @@ module _ (t : TableView) (xs : List ControlBlock) (made : ℕ) (p : Pid) (c : Ca
   granted-parts mine ends = (has_report (process_of p (sample t xs made)), granted (sample t xs made) mine (sample-parts t xs made) ends)
 
   -- a Make that is not refused leaves the limit of links
-  pub granted-make : c ≡ call.Make → made < 65536
+  pub granted-make : c ≡ call.Make → made < link_limit
   unfolding sample
   granted-make is = by (subst (λ k. IsRefusedFor t xs made p k None) is granted)
     where
-      chosen : (b : Bool) → nat_le 65536 made ≡ b → (if b then Some LinksFull else None) ≡ None → made < 65536
+      chosen : (b : Bool) → nat_le link_limit made ≡ b → (if b then Some LinksFull else None) ≡ None → made < link_limit
       chosen true full none = cc
       chosen false few none = search rules
 
-      by : IsRefusedFor t xs made p call.Make None → made < 65536
-      by granted = chosen (nat_le 65536 made) refl (granted (sample t xs made) [] (sample-parts t xs made) tt)
+      by : IsRefusedFor t xs made p call.Make None → made < link_limit
+      by granted = chosen (nat_le link_limit made) refl (granted (sample t xs made) [] (sample-parts t xs made) tt)

@@ -13,14 +13,12 @@ ghost use Rattle.kernel_process.specs.Steady.{StaysCalm, TakesAtMost};
 ghost use Rattle.kernel_core.specs.Consistent.{IsConsistent};
 ghost use Rattle.kernel_core.specs.Finishing.{finishes, finished, ending_of, touched_by, turned, turned_on, turned_to, AreOwnersBelow, IsCalmAfter};
 ghost use Rattle.kernel_core.specs.Started.{IsRequest, IsReadyToCall};
-ghost use Rattle.kernel_step.specs.Calls.{refusal};
+ghost use Rattle.kernel_step.specs.Calls.{link_limit, refusal};
 ghost use Rattle.kernel_step.specs.Kernel.{Kernel, closes};
 ghost use Rattle.kernel_step.specs.Progress.{progress, means, HasRoom};
 
 use crate::state::{Request, State};
-use charlotte_calls::{
-    Answer, Call, Effect, EndId, LinkId, Pid, ServiceStep, Side, Way,
-};
+use charlotte_calls::{Answer, Call, Effect, EndId, LinkId, Pid, ServiceStep, Side, Way};
 use end_table::{Inward, Living, Table};
 use kernel_event::act;
 use kernel_process::{Event, Processes, clear, close, exit, owner, refresh_owner, stand, turn};
@@ -66,7 +64,7 @@ pub(crate) fn close_step(state: &mut State, meant: ServiceStep, mut event: Event
 
 /// How many links are made after a call that is not refused.
 pub(crate) fn links_after(call: &Call, made: u32) -> u32
-    requires { call.now ≡ Call.Make → made < 65536 }
+    requires { call.now ≡ Call.Make → made < link_limit }
     ensures { result ≡ made_after call.now made }
 {
     match call {

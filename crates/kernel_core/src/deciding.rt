@@ -46,13 +46,7 @@ fn cause_of(state: &State, request: &Request) -> Option<Cause>
 }
 
 /// The event of a call that is refused.
-fn refuse(
-    state: &mut State,
-    request: Request,
-    mine: &[EndId],
-    cause: Cause,
-    event: Event,
-) -> Effect
+fn refuse(state: &mut State, request: Request, mine: &[EndId], cause: Cause, event: Event) -> Effect
     requires consistent { IsConsistent state.old }
     requires request { IsRequest state.old request mine.now }
     requires refused { IsRefusedFor state.old.table state.old.processes state.old.made request.p request.call (Some cause) }

@@ -10,8 +10,6 @@ mod stamp;
 mod start;
 mod state;
 mod taking;
-#[cfg(test)]
-mod tests;
 
 pub use kernel::Kernel;
 pub use taking::NotTaken;

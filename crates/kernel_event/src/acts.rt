@@ -19,9 +19,9 @@ ghost use Rattle.kernel_step.specs.Progress.{progress, keeps, means, HasRoom, Ad
 
 use cancel_core::{post, start_send, withdraw_receive, withdraw_send};
 use charlotte_calls::{Bytes, Call, EndId, Ends, LinkId, Moving, Pid, ServiceStep, Way, Work};
-use end_table::{Holder, Inward, Lent, NotStored, Table};
+use end_table::{Holder, Inward, Lent, Table};
 use kernel_step::{first_of, push_step};
-use move_core::enclose;
+use move_core::{enclose, settle};
 
 /// What a call does that is not refused; `mine` are the ends that the caller owns, in order, where it exits.
 pub fn act(table: &mut Table, made: u32, p: Pid, mine: &[EndId], call: Call, out: &mut Work)
@@ -43,24 +43,6 @@ pub fn act(table: &mut Table, made: u32, p: Pid, mine: &[EndId], call: Call, out
         Call::Wait => push_step(out, ServiceStep::Wait { p }),
         Call::Print { .. } => {}
         Call::Exit => exit(table, p, mine, out),
-    }
-}
-
-/// A new end becomes Here at the place that it has.
-#[tactic(auto, using(kernel_step::proofs::Steps::progress_puts))]
-fn settle(table: &mut Table, moving: Moving, holder: Holder)
-    requires place { HasPlace table.old moving.end }
-    requires away { IsHere (entries table.old moving.end) → ⊥ }
-    ensures part { (out : Work) → progress (entries table.new) out
-        ≡ keeps moving.end (Here (settled holder moving)) (progress (entries table.old) out) }
-    ensures puts { Puts table.old table.new moving.end (Here (settled holder moving)) }
-{
-    match table.install(moving, holder) {
-        Ok(()) => {}
-        Err(NotStored { moving }) => {
-            moving.destroy();
-            unreachable!()
-        }
     }
 }
 

@@ -26,13 +26,7 @@ pub(crate) struct Returned {
 
 /// The row back: at its matched send the message is reported as destroyed, and its ends are the sender's again. Anywhere
 /// else its ends are destroyed.
-pub(crate) fn back(
-    table: &mut Table,
-    made: u32,
-    returned: Returned,
-    moving: Cargo,
-    out: &mut Work,
-)
+pub(crate) fn back(table: &mut Table, made: u32, returned: Returned, moving: Cargo, out: &mut Work)
     requires placed { ArePlaced table.old moving }
     requires first { out.old.packets.items ≡ [] }
     requires room { HasRoom 17 3 1 1 out.old }

@@ -27,13 +27,7 @@ pub(crate) struct Message {
 
 /// The row parcel: at the receive that it was sent for the message is taken, and its ends become Here. Anywhere else the
 /// ends leave again, and go back with it.
-pub(crate) fn parcel(
-    table: &mut Table,
-    made: u32,
-    message: Message,
-    moving: Cargo,
-    out: &mut Work,
-)
+pub(crate) fn parcel(table: &mut Table, made: u32, message: Message, moving: Cargo, out: &mut Work)
     requires placed { ArePlaced table.old moving }
     requires first { out.old.packets.items ≡ [] }
     requires room { HasRoom 11 1 1 1 out.old }
@@ -49,13 +43,7 @@ pub(crate) fn parcel(
 }
 
 /// The message goes back, and its ends leave with it.
-fn pass_parcel(
-    table: &mut Table,
-    made: u32,
-    message: &Message,
-    moving: Cargo,
-    out: &mut Work,
-)
+fn pass_parcel(table: &mut Table, made: u32, message: &Message, moving: Cargo, out: &mut Work)
     requires unasked { asks message.now.w (entries table.old message.now.to) ≡ None }
     requires placed { ArePlaced table.old moving }
     requires room { HasRoom 8 0 0 0 out.old }
@@ -65,17 +53,13 @@ fn pass_parcel(
     ensures kernel { table.new.kernel ≡ table.old.kernel }
 {
     let passed = passing(table, made, moving);
-    arrive(table, message.to, message.n, message.w, message.at, passed, out);
+    arrive(
+        table, message.to, message.n, message.w, message.at, passed, out,
+    );
 }
 
 /// The message is taken by the started receive of an end that is here.
-fn take_parcel(
-    table: &mut Table,
-    made: u32,
-    message: Message,
-    moving: Cargo,
-    out: &mut Work,
-)
+fn take_parcel(table: &mut Table, made: u32, message: Message, moving: Cargo, out: &mut Work)
     requires asked { IsSome (asks message.w (entries table.old message.to)) }
     requires placed { ArePlaced table.old moving }
     requires first { out.old.packets.items ≡ [] }

@@ -37,7 +37,6 @@ pub struct Processes {
 impl Model for Processes {
     ghost use Rattle.std.specs.Prelude.{List};
     ghost use Rattle.kernel_process.specs.declared.process.ControlBlock.{ControlBlock};
-
     ghost use Rattle.kernel_process.specs.contracts.process.ControlBlock as block;
     ghost use Rattle.std.specs.Coded.{codes};
 

@@ -11,8 +11,6 @@ mod parcel;
 mod routing;
 mod settling;
 mod spare;
-#[cfg(test)]
-mod tests;
 
 pub use back::give_back;
 pub use ending::{destroy, gone_seen};

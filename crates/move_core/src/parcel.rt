@@ -44,9 +44,8 @@ pub(crate) fn settle_and_tell(table: &mut Table, holder: Holder, moving: Cargo, 
     ensures kernel { table.new.kernel ≡ table.old.kernel }
 {
     let kernel = table.kernel();
-    let values = moving.picture();
+    tell_arrivals(out, kernel, moving.values());
     settle_each(table, holder, moving);
-    tell_arrivals(out, kernel, values.as_slice());
 }
 
 /// LEAVE of an end that a packet brought: its value.

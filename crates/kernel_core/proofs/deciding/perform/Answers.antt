@@ -40,19 +40,19 @@ returns-clause-step c = (
       (grant-steps c.args.state.now.table c.act_and_close-effect.new.state.table c.args.state.now.processes c.refresh_touched.new.processes c.args.state.now.made c.args.event.work.stamp c.args.event.work c.act_and_close-effect.result c.args.request.p c.args.mine.now c.requires.ready.begins
       c.args.request.call (c.requires.request.listed c.requires.other) c.requires.granted
       (λ s. ap (λ z. ended z c.act_and_close-effect.result) (with_parts-kept (entries c.act_and_close-effect.new.state.table) c.act_and_close-effect.new.state.processes c.refresh_touched.new.processes (record s { made = made_after c.args.request.call c.args.state.now.made; stamp = c.act_and_close-effect.result.stamp }) c.refresh_touched.ensures.kept)
-    ∙ c.act_and_close-effect.ensures.part s)),
+      ∙ c.act_and_close-effect.ensures.part s)),
 )
 
 pub returns-clause-keeps : goal.returns-clause-keeps
 returns-clause-keeps c =
     record {
       consistent = subst (λ n. AreConsistent c.act_and_close-effect.new.state.table c.refresh_touched.new.processes n) (sym c.links_after-links.ensures) (record {
-      sound = subst (λ n. IsSound c.act_and_close-effect.new.state.table.kernel (made_after c.args.request.call c.args.state.now.made) n (entries c.act_and_close-effect.new.state.table))
-          (sym (c.refresh_touched.ensures.length ∙ c.act_and_close-effect.ensures.kept.length)) c.act_and_close-effect.ensures.sound;
-      active = c.refresh_touched.ensures.told (entries c.args.state.now.table)
-          (tells_same (entries c.args.state.now.table) (entries c.args.state.now.table) c.args.state.now.processes c.act_and_close-effect.new.state.processes c.requires.consistent.active (keys-moved c.args.state.now.processes c.act_and_close-effect.new.state.processes c.act_and_close-effect.ensures.kept.active) (λ p e. refl))
-          (subst (λ x. IsCalmAfter c.args.request.p x (entries c.args.state.now.table) (entries c.act_and_close-effect.new.state.table)) (sym c.touched_by-touched.ensures) c.act_and_close-effect.ensures.calm);
-    });
+        sound = subst (λ n. IsSound c.act_and_close-effect.new.state.table.kernel (made_after c.args.request.call c.args.state.now.made) n (entries c.act_and_close-effect.new.state.table))
+            (sym (c.refresh_touched.ensures.length ∙ c.act_and_close-effect.ensures.kept.length)) c.act_and_close-effect.ensures.sound;
+        active = c.refresh_touched.ensures.told (entries c.args.state.now.table)
+            (tells_same (entries c.args.state.now.table) (entries c.args.state.now.table) c.args.state.now.processes c.act_and_close-effect.new.state.processes c.requires.consistent.active (keys-moved c.args.state.now.processes c.act_and_close-effect.new.state.processes c.act_and_close-effect.ensures.kept.active) (λ p e. refl))
+            (subst (λ x. IsCalmAfter c.args.request.p x (entries c.args.state.now.table) (entries c.act_and_close-effect.new.state.table)) (sym c.touched_by-touched.ensures) c.act_and_close-effect.ensures.calm);
+      });
       kernel = c.act_and_close-effect.ensures.kernel;
       length = c.refresh_touched.ensures.length ∙ c.act_and_close-effect.ensures.kept.length;
     }

@@ -25,13 +25,16 @@ stand-requires-clause-places c = c.close_step-effect.ensures.places 1 0 (step-be
 pub returns-clause-step : goal.returns-clause-step
 returns-clause-step c =
     let listed = c.has_list_of.ensures in
-    let all = all_ends c.args.request.p c.args.state.now.table c.args.mine.now listed.0 c.args.request.call c.requires.request.listed listed.1 in
-    (all.0, all.1, subst (λ n. IsStepOf c.args.state.now.table c.args.state.now.processes c.args.state.now.made c.args.event.work.stamp c.close_step-effect.new.state.table c.stand.new.processes n c.stand.new.effect c.args.request.p all.0 c.args.request.call)
-    (sym c.close_step-effect.ensures.made)
-    (refused-steps c.args.state.now.table c.close_step-effect.new.state.table c.args.state.now.processes c.stand.new.processes c.args.state.now.made c.args.event.work.stamp c.args.event.work c.stand.new.effect c.args.request.p all.0 c.requires.ready.begins c.args.request.call c.args.cause all.1 c.requires.refused
-    (λ s. ap (λ n. ended (with_parts (entries c.close_step-effect.new.state.table) c.stand.new.processes (record s { stamp = n })) c.stand.new.effect) c.stand.ensures.stamp
-    ∙ c.stand.ensures.part (record s { stamp = c.close_step-effect.result.stamp }) (entries c.close_step-effect.new.state.table)
-    ∙ ap (stands c.args.request.p (answer.Refused c.args.cause)) (c.close_step-effect.ensures.part s))))
+    let all = all_ends c.args.request.p c.args.state.now.table c.args.mine.now listed.0 c.args.request.call c.requires.request.listed listed.1 in (
+      all.0,
+      all.1,
+      subst (λ n. IsStepOf c.args.state.now.table c.args.state.now.processes c.args.state.now.made c.args.event.work.stamp c.close_step-effect.new.state.table c.stand.new.processes n c.stand.new.effect c.args.request.p all.0 c.args.request.call)
+          (sym c.close_step-effect.ensures.made)
+          (refused-steps c.args.state.now.table c.close_step-effect.new.state.table c.args.state.now.processes c.stand.new.processes c.args.state.now.made c.args.event.work.stamp c.args.event.work c.stand.new.effect c.args.request.p all.0 c.requires.ready.begins c.args.request.call c.args.cause all.1 c.requires.refused
+          (λ s. ap (λ n. ended (with_parts (entries c.close_step-effect.new.state.table) c.stand.new.processes (record s { stamp = n })) c.stand.new.effect) c.stand.ensures.stamp
+          ∙ c.stand.ensures.part (record s { stamp = c.close_step-effect.result.stamp }) (entries c.close_step-effect.new.state.table)
+          ∙ ap (stands c.args.request.p (answer.Refused c.args.cause)) (c.close_step-effect.ensures.part s))),
+    )
 
 pub returns-clause-keeps : goal.returns-clause-keeps
 returns-clause-keeps c =

@@ -66,12 +66,12 @@ returns-clause-keeps c =
     (subst (λ k. IsSound k c.args.state.now.made (length c.args.state.now.processes) (entries c.row.new.table)) (sym c.row.ensures.kernel) (row-sound c.args.state.now.table.kernel c.args.state.now.made (length c.args.state.now.processes) c.args.from (what_picture c.args.what) (entries c.args.state.now.table) (entries c.row.new.table) c.args.event.work c.row.new.out c.requires.ready.begun.reports c.requires.ready.begun.answers c.requires.consistent.sound c.row.ensures.part)) in
     record {
       consistent = record {
-      sound = subst (λ n. IsSound c.close-effect.new.table.kernel c.args.state.now.made n (entries c.close-effect.new.table)) (sym (c.refresh_owner.ensures.length ∙ c.close-effect.ensures.kept.length)) sound;
-      active =
-          c.refresh_owner.ensures.told (entries c.args.state.now.table) c.owner-before.ensures
-          (tells_same (entries c.args.state.now.table) (entries c.args.state.now.table) c.args.state.now.processes c.close-effect.new.processes c.requires.consistent.active (keys-moved c.args.state.now.processes c.close-effect.new.processes c.close-effect.ensures.kept.active) (λ p e. refl))
-          (λ p e apart. c.close-effect.ensures.calm.calm p e ∙ row-calm c.args.state.now.table.kernel c.args.state.now.made (length c.args.state.now.processes) c.args.from (what_picture c.args.what) (entries c.args.state.now.table) (entries c.row.new.table) c.args.event.work c.row.new.out c.requires.ready.begun.reports c.requires.ready.begun.answers c.requires.consistent.sound c.row.ensures.part p e (ap (λ to. end_eq to e) (sym c.addressee-to.ensures) ∙ apart));
-    };
+        sound = subst (λ n. IsSound c.close-effect.new.table.kernel c.args.state.now.made n (entries c.close-effect.new.table)) (sym (c.refresh_owner.ensures.length ∙ c.close-effect.ensures.kept.length)) sound;
+        active =
+            c.refresh_owner.ensures.told (entries c.args.state.now.table) c.owner-before.ensures
+            (tells_same (entries c.args.state.now.table) (entries c.args.state.now.table) c.args.state.now.processes c.close-effect.new.processes c.requires.consistent.active (keys-moved c.args.state.now.processes c.close-effect.new.processes c.close-effect.ensures.kept.active) (λ p e. refl))
+            (λ p e apart. c.close-effect.ensures.calm.calm p e ∙ row-calm c.args.state.now.table.kernel c.args.state.now.made (length c.args.state.now.processes) c.args.from (what_picture c.args.what) (entries c.args.state.now.table) (entries c.row.new.table) c.args.event.work c.row.new.out c.requires.ready.begun.reports c.requires.ready.begun.answers c.requires.consistent.sound c.row.ensures.part p e (ap (λ to. end_eq to e) (sym c.addressee-to.ensures) ∙ apart));
+      };
       kernel = c.close-effect.ensures.calm.kernel ∙ c.row.ensures.kernel;
       length = c.refresh_owner.ensures.length ∙ c.close-effect.ensures.kept.length;
     }

@@ -32,4 +32,3 @@ returns-in-Ok-clause-part c = λ s same.
     ∙ ap (λ k. closes (with_parts (entries c.args.state.now.table) c.args.state.now.processes s) (takes_addressed c.args.kernels k c.args.state.now.made c.args.from (what_picture c.args.packet.what) (progress (entries c.reserve_taking.new.state.table) c.in-Ok.event.work))) c.reserve_taking.ensures.same.kernel
     ∙ ap (λ d. closes (with_parts (entries c.args.state.now.table) c.args.state.now.processes s) (takes_addressed c.args.kernels c.args.state.now.table.kernel c.args.state.now.made c.args.from (what_picture c.args.packet.what) d))
     (ap (λ t. progress t c.in-Ok.event.work) (c.reserve_taking.ensures.same.entries ∙ sym same) ∙ c.in-Ok.ensures.begins s)
-

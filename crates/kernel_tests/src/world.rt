@@ -1,11 +1,11 @@
 //! Kernels with the packets that fly between them, and what an event of one gave.
 ghost use Rattle.std.specs.Prelude.{◌≡◌, length};
 
-use crate::{Kernel, NotTaken};
 use charlotte_calls::{
     Answer, Call, Effect, EndId, Items, Packet, PictureWhat, Pid, ServiceStep, Setting,
 };
 use end_table::Entry;
+use kernel_core::{Kernel, NotTaken};
 use std::alloc::Global;
 use std::fmt::Debug;
 use std::process::Abort;

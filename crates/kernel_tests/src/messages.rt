@@ -1,88 +1,26 @@
-ghost use Rattle.std.specs.Prelude.{◌≡◌, IfOk, []};
-ghost use Rattle.end_table.specs.Table.{entries};
-ghost use Rattle.end_table.specs.declared.entry.Entry.TheVariants.{Here};
+ghost use Rattle.std.specs.Prelude.{◌≡◌, []};
 ghost use Rattle.kernel_step.specs.Actions.{enclosed_of};
-ghost use Rattle.kernel_step.specs.Progress.{HasRoom};
 
-use crate::{
+use crate::samples::{END, OWNER, ample, kept, view};
+use cancel_core::{
     arrived, finished, notice, post, room, start_send, unwant, unwanted, want, withdraw_receive,
     withdraw_send,
 };
-use charlotte_calls::{
-    Answer, Cause, EndId, LinkId, Moving, NoMemory, Outcome, Packet, Pid, Side, What, Work,
-};
-use end_table::{Entry, HereView, Holder, Inward, NotStored, Outward, Table};
+use charlotte_calls::{Answer, Cause, Outcome, Packet, Pid, What};
+use end_table::{Inward, Lent, Outward, Table};
 use kernel_step::{no_bytes, no_ends};
-use std::alloc::Global;
 use std::test::Fail;
 
-const END: EndId = EndId {
-    link: LinkId { maker: 0, count: 7 },
-    side: Side::A,
-};
-
-const OWNER: Pid = Pid(1);
-
-/// Lists with ample room, at stamp 5.
-fn ample(alloc: Global) -> Result<Work, NoMemory>
-    ensures { IfOk result (λ w. HasRoom 10 4 2 4 w) }
-{
-    Ok(Work {
-        stamp: 5,
-        packets: Vec::with_capacity(alloc, 10)?,
-        reports: Vec::with_capacity(alloc, 4)?,
-        answers: Vec::with_capacity(alloc, 2)?,
-        steps: Vec::with_capacity(alloc, 4)?,
-    })
-}
-
-/// End a of a link, at kernel 0 and owned; its opposite is at kernel 3, and its receive `wanted` asks.
-fn view(wanted: u32, outward: Outward, inward: Inward) -> HereView
-    ensures end { result.value.end ≡ END }
-    ensures outward { result.outward ≡ outward }
-    ensures inward { result.inward ≡ inward }
-{
-    let (a, b) = Moving::pair(END.link, 0, 3);
-    b.destroy();
-    let mut value = a.destroy().picture();
-    value.want = wanted;
-    HereView {
-        value,
-        holder: Holder::Owner(OWNER),
-        outward,
-        inward,
-    }
-}
-
-/// The table of kernel 0 with this end alone.
-fn kept(alloc: Global, view: HereView) -> Result<Table, NoMemory>
-    requires { view.value.end ≡ END }
-    ensures { IfOk result (λ t. entries t END ≡ Here view) }
-{
-    let mut table = Table::start(alloc, 0);
-    let (a, b) = Moving::pair(END.link, 0, 3);
-    b.destroy();
-    match table.install(a, Holder::Owner(OWNER)) {
-        Ok(()) => {}
-        Err(NotStored { moving }) => {
-            moving.destroy();
-            return Err(NoMemory);
-        }
-    }
-    table.change(END, view);
-    Ok(table)
-}
-
 fn outward_of(table: &Table) -> Outward {
-    match table.look(END) {
-        Entry::Here(view) => view.outward,
+    match table.lend(END) {
+        Lent::Here(living) => living.outward().copy(),
         _ => Outward::Idle,
     }
 }
 
 fn inward_of(table: &Table) -> Inward {
-    match table.look(END) {
-        Entry::Here(view) => view.inward,
+    match table.lend(END) {
+        Lent::Here(living) => living.inward(),
         _ => Inward::Idle,
     }
 }
@@ -263,8 +201,8 @@ fn a_want_is_withdrawn_and_never_matched(rt: HostRuntime) -> Result<(), Fail> {
             ))
         )
     );
-    match table.look(END) {
-        Entry::Here(view) => assert_eq!(rt; (view.value.served, view.value.want), (1, 0)),
+    match table.lend(END) {
+        Lent::Here(living) => assert_eq!(rt; (living.value().served, living.value().want), (1, 0)),
         _ => panic!(rt; "the end is not here"),
     }
     Ok(())
@@ -285,8 +223,8 @@ fn notice_reports_the_death_both_ways(rt: HostRuntime) -> Result<(), Fail> {
             Some((Pid(1), Answer::Refused(Cause::Dead)))
         )
     );
-    match table.look(END) {
-        Entry::Here(view) => assert_eq!(rt; (view.value.dead, view.value.want), (true, 0)),
+    match table.lend(END) {
+        Lent::Here(living) => assert_eq!(rt; (living.value().dead, living.value().want), (true, 0)),
         _ => panic!(rt; "the end is not here"),
     }
     assert_eq!(rt; room(&table, END).packets, 10);

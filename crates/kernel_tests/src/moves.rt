@@ -1,51 +1,20 @@
 ghost use Rattle.std.specs.Prelude.{◌≡◌, true, IfOk, [], ◌∷◌};
 ghost use Rattle.charlotte_calls.specs.Moving.{new_end};
-ghost use Rattle.charlotte_calls.specs.declared.names.Side.TheVariants.{A};
 ghost use Rattle.end_table.specs.Table.{entries, HasPlace, IsHere};
-ghost use Rattle.end_table.specs.declared.entry.Entry.TheVariants.{Here};
 ghost use Rattle.kernel_step.specs.Progress.{HasRoom};
 
-use crate::{
+use crate::samples::{END, OWNER, ample, end_a, kept, view};
+use charlotte_calls::{Cargo, EndId, LinkId, NoMemory, Packet, Side, What, Work};
+use end_table::{Holder, Inward, Lent, Outward, Table};
+use move_core::{
     Route, arrive, destroy, enclose, forget, give_back, gone_seen, known, leave, moved, room, route,
 };
-use charlotte_calls::{Cargo, EndId, LinkId, Moving, NoMemory, Packet, Pid, Side, What, Work};
-use end_table::{Entry, HereView, Holder, Inward, NotStored, Outward, Table};
-use std::alloc::Global;
 use std::test::Fail;
-
-const END: EndId = EndId {
-    link: LinkId { maker: 0, count: 7 },
-    side: Side::A,
-};
 
 const CARRIED: EndId = EndId {
     link: LinkId { maker: 2, count: 1 },
     side: Side::A,
 };
-
-const OWNER: Pid = Pid(1);
-
-/// Lists with ample room, at stamp 5.
-fn ample(alloc: Global) -> Result<Work, NoMemory>
-    ensures { IfOk result (λ w. HasRoom 9 1 0 0 w) }
-{
-    Ok(Work {
-        stamp: 5,
-        packets: Vec::with_capacity(alloc, 9)?,
-        reports: Vec::with_capacity(alloc, 1)?,
-        answers: Vec::with_capacity(alloc, 0)?,
-        steps: Vec::with_capacity(alloc, 0)?,
-    })
-}
-
-/// End a of a link, whose opposite is at kernel 3.
-fn end_a(link: LinkId) -> Moving
-    ensures { result ≡ new_end (record { link = link; side = A }) 3 }
-{
-    let (a, b) = Moving::pair(link, 0, 3);
-    b.destroy();
-    a
-}
 
 /// A cargo with the value of the carried end.
 fn carried() -> Cargo
@@ -54,37 +23,6 @@ fn carried() -> Cargo
     let mut moving = Cargo::empty();
     moving.add(end_a(CARRIED.link));
     moving
-}
-
-/// An end that is here and owned, with these activities.
-fn view(outward: Outward, inward: Inward) -> HereView
-    ensures end { result.value.end ≡ END }
-    ensures outward { result.outward ≡ outward }
-    ensures inward { result.inward ≡ inward }
-{
-    HereView {
-        value: end_a(END.link).destroy().picture(),
-        holder: Holder::Owner(OWNER),
-        outward,
-        inward,
-    }
-}
-
-/// The table of kernel 0 with this end alone.
-fn kept(alloc: Global, view: HereView) -> Result<Table, NoMemory>
-    requires { view.value.end ≡ END }
-    ensures { IfOk result (λ t. entries t END ≡ Here view) }
-{
-    let mut table = Table::start(alloc, 0);
-    match table.install(end_a(END.link), Holder::Owner(OWNER)) {
-        Ok(()) => {}
-        Err(NotStored { moving }) => {
-            moving.destroy();
-            return Err(NoMemory);
-        }
-    }
-    table.change(END, view);
-    Ok(table)
 }
 
 /// The carried end comes with the message 4 for the receive 1.
@@ -111,12 +49,12 @@ fn is_expected(table: &mut Table) -> Result<bool, NoMemory>
     ensures away { IfOk result (λ b. b ≡ true → IsHere (entries table.new CARRIED) → ⊥) }
 {
     table.reserve(CARRIED)?;
-    Ok(matches!(table.look(CARRIED), Entry::Nothing))
+    Ok(matches!(table.lend(CARRIED), Lent::Nothing))
 }
 
 #[test]
 fn an_end_arrives_with_its_message(rt: HostRuntime) -> Result<(), Fail> {
-    let mut table = kept(rt.alloc(), view(Outward::Idle, Inward::Posted { w: 1 }))?;
+    let mut table = kept(rt.alloc(), view(0, Outward::Idle, Inward::Posted { w: 1 }))?;
     let mut out = ample(rt.alloc())?;
     if is_expected(&mut table)? {
         arrive_once(&mut table, &mut out);
@@ -133,8 +71,8 @@ fn an_end_arrives_with_its_message(rt: HostRuntime) -> Result<(), Fail> {
             ))
         )
     );
-    match table.look(CARRIED) {
-        Entry::Here(view) => assert_eq!(rt; view.holder, Holder::Owner(OWNER)),
+    match table.lend(CARRIED) {
+        Lent::Here(living) => assert_eq!(rt; living.holder(), Holder::Owner(OWNER)),
         _ => panic!(rt; "the end did not arrive"),
     }
     assert_eq!(rt; route(&table, CARRIED), Route::Here);
@@ -143,7 +81,7 @@ fn an_end_arrives_with_its_message(rt: HostRuntime) -> Result<(), Fail> {
 
 #[test]
 fn a_late_parcel_goes_back_with_its_end(rt: HostRuntime) -> Result<(), Fail> {
-    let mut table = kept(rt.alloc(), view(Outward::Idle, Inward::Idle))?;
+    let mut table = kept(rt.alloc(), view(0, Outward::Idle, Inward::Idle))?;
     let mut out = ample(rt.alloc())?;
     if is_expected(&mut table)? {
         arrive_once(&mut table, &mut out);
@@ -170,7 +108,7 @@ fn a_late_parcel_goes_back_with_its_end(rt: HostRuntime) -> Result<(), Fail> {
 
 #[test]
 fn a_message_comes_back_with_its_end(rt: HostRuntime) -> Result<(), Fail> {
-    let mut table = kept(rt.alloc(), view(Outward::Matched { n: 4 }, Inward::Idle))?;
+    let mut table = kept(rt.alloc(), view(0, Outward::Matched { n: 4 }, Inward::Idle))?;
     let mut out = ample(rt.alloc())?;
     if is_expected(&mut table)? {
         return_once(&mut table, &mut out);
@@ -191,7 +129,7 @@ fn a_message_comes_back_with_its_end(rt: HostRuntime) -> Result<(), Fail> {
 
 #[test]
 fn an_end_of_a_stray_back_is_destroyed(rt: HostRuntime) -> Result<(), Fail> {
-    let mut table = kept(rt.alloc(), view(Outward::Idle, Inward::Idle))?;
+    let mut table = kept(rt.alloc(), view(0, Outward::Idle, Inward::Idle))?;
     let mut out = ample(rt.alloc())?;
     if is_expected(&mut table)? {
         return_once(&mut table, &mut out);
@@ -208,24 +146,24 @@ fn an_end_of_a_stray_back_is_destroyed(rt: HostRuntime) -> Result<(), Fail> {
             ))
         )
     );
-    assert!(rt; matches!(table.look(CARRIED), Entry::Destroyed(_)));
+    assert!(rt; matches!(table.lend(CARRIED), Lent::Destroyed(_)));
     let mut out = ample(rt.alloc())?;
     gone_seen(&mut table, CARRIED, &mut out);
-    assert!(rt; matches!(table.look(CARRIED), Entry::Nothing));
+    assert!(rt; matches!(table.lend(CARRIED), Lent::Nothing));
     Ok(())
 }
 
 #[test]
 fn an_enclosed_end_leaves(rt: HostRuntime) -> Result<(), Fail> {
-    let mut table = kept(rt.alloc(), view(Outward::Idle, Inward::Idle))?;
+    let mut table = kept(rt.alloc(), view(0, Outward::Idle, Inward::Idle))?;
     let left = leave(&mut table, END, 3).destroy();
     assert_eq!(rt; (left.hops(), left.trail()), (1, 1));
     assert_eq!(rt; route(&table, END), Route::Forward(3));
-    let mut table = kept(rt.alloc(), view(Outward::Idle, Inward::Idle))?;
+    let mut table = kept(rt.alloc(), view(0, Outward::Idle, Inward::Idle))?;
     let mut out = ample(rt.alloc())?;
     enclose(&mut table, END, CARRIED, &mut out);
-    match table.look(END) {
-        Entry::Here(view) => assert_eq!(rt; view.holder, Holder::EnclosedIn(CARRIED)),
+    match table.lend(END) {
+        Lent::Here(living) => assert_eq!(rt; living.holder(), Holder::EnclosedIn(CARRIED)),
         _ => panic!(rt; "the end is not here"),
     }
     Ok(())
@@ -233,7 +171,7 @@ fn an_enclosed_end_leaves(rt: HostRuntime) -> Result<(), Fail> {
 
 #[test]
 fn an_end_learns_where_its_opposite_is_and_then_is_destroyed(rt: HostRuntime) -> Result<(), Fail> {
-    let mut table = kept(rt.alloc(), view(Outward::Idle, Inward::Idle))?;
+    let mut table = kept(rt.alloc(), view(0, Outward::Idle, Inward::Idle))?;
     let mut out = ample(rt.alloc())?;
     moved(&mut table, END, 2, 1, &mut out);
     assert!(rt;
@@ -251,11 +189,14 @@ fn an_end_learns_where_its_opposite_is_and_then_is_destroyed(rt: HostRuntime) ->
     let mut out = ample(rt.alloc())?;
     known(&mut table, END, 0, &mut out);
     assert_eq!(rt; out.packets.len(), 0);
-    match table.look(END) {
-        Entry::Here(view) => assert_eq!(rt; (view.value.hint, view.value.trail), ((2, 1), 0)),
+    match table.lend(END) {
+        Lent::Here(living) => assert_eq!(rt;
+            (living.value().hint, living.value().trail),
+            ((2, 1), 0)
+        ),
         _ => panic!(rt; "the end is not here"),
     }
-    let mut table = kept(rt.alloc(), view(Outward::Idle, Inward::Idle))?;
+    let mut table = kept(rt.alloc(), view(0, Outward::Idle, Inward::Idle))?;
     let mut out = ample(rt.alloc())?;
     destroy(&mut table, END, &mut out);
     assert!(rt;

@@ -1,4 +1,4 @@
--- A list of calls as a program, for tests: it asks them in order, and ends after the last and after an Exit.
+-- A list of calls as a program: it asks them in order, and ends after the last and after an Exit.
 use Rattle.std.specs.Prelude.{List, [], ◌∷◌, Option, Some, None}
 use Rattle.charlotte_calls.specs.declared.calls.Answer.{Answer}
 use Rattle.charlotte_calls.specs.declared.calls.Call.{Call}

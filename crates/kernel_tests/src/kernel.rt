@@ -1,5 +1,4 @@
-mod world;
-
+use crate::world::World;
 use charlotte_calls::{
     Answer, Bytes, Call, CargoPicture, Cause, EndId, Ends, LinkId, MovingPicture, Outcome, Packet,
     PictureWhat, Pid, Report, ServiceStep, Side, Way, What,
@@ -8,7 +7,6 @@ use end_table::{Entry, Holder, Inward};
 use std::alloc::Global;
 use std::process::Abort;
 use std::test::Fail;
-use world::World;
 
 const P0: Pid = Pid(0);
 
