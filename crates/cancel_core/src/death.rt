@@ -4,14 +4,16 @@ ghost use Rattle.kernel_step.specs.Enclosed.{AreEnclosed};
 ghost use Rattle.charlotte_calls.specs.declared.names.EndId.{EndId};
 ghost use Rattle.end_table.specs.Place.{end_eq};
 ghost use Rattle.end_table.specs.Table.{entries, IsHere, IfHere};
+ghost use Rattle.charlotte_calls.specs.declared.work.Work.{Work};
+ghost use Rattle.end_table.specs.declared.entry.Entry.TheVariants.{Here};
 ghost use Rattle.end_table.specs.declared.entry.Entry.{Entry};
 ghost use Rattle.kernel_step.specs.Actions.{enclosed_of, notices, notice_send, notice_receive, noticed_value, noticed_outward, noticed_inward, dead_receive_report};
-ghost use Rattle.kernel_step.specs.Progress.{progress, HasRoom, AddsAtMost};
+ghost use Rattle.kernel_step.specs.Progress.{progress, keeps, HasRoom, AddsAtMost};
 
 use crate::enclosed::hold_each;
 use charlotte_calls::{Answer, Cause, EndId, MovingPicture, Outcome, Report, Way, Work};
 use end_table::{HereView, Holder, Inward, Outward, Table};
-use kernel_step::{answer, forget, here, keep, no_bytes, no_ends, report, send_report};
+use kernel_step::{answer, forget, no_bytes, no_ends, report, send_report};
 
 /// The action NOTICE at an end that is here: a waiting send and a started receive report Destroyed, a Cancel that waits is
 /// answered Dead, and the traces of the end are forgotten.
@@ -26,23 +28,37 @@ pub fn notice(table: &mut Table, on: EndId, out: &mut Work)
     ensures room { AddsAtMost 8 2 1 0 out.old out.new }
     ensures kernel { table.new.kernel ≡ table.old.kernel }
 {
-    let HereView {
-        value,
-        holder,
-        outward,
-        inward,
-    } = here(table, on);
     let kernel = table.kernel();
-    let noticed = HereView {
-        value: noticed_value(value),
-        holder,
-        outward: noticed_outward(&outward),
-        inward: noticed_inward(inward),
-    };
-    keep(table, noticed);
+    let living = table.here(on);
+    let value = living.value();
+    let holder = living.holder();
+    let inward = living.inward();
+    let outward = note_death(table, on);
     notice_send(table, on, holder, outward, out);
     notice_receive(out, on, holder, inward);
     forget(out, kernel, value);
+}
+
+/// What NOTICE makes of an end. It answers what the send was, with its message.
+#[tactic(auto, using(kernel_step::proofs::Steps::progress_puts))]
+fn note_death(table: &mut Table, on: EndId) -> Outward
+    requires here { IsHere (entries table.old on) }
+    ensures was { IfHere (entries table.old on) (λ v. result ≡ v.outward) }
+    ensures part { IfHere (entries table.old on) (λ v. (out : Work) → progress (entries table.new) out
+        ≡ keeps on (Here (record v { value = noticed_value v.value; outward = noticed_outward v.outward; inward = noticed_inward v.inward })) (progress (entries table.old) out)) }
+    ensures others { (q : EndId) → end_eq on q ≡ false → entries table.new q ≡ entries table.old q }
+    ensures kernel { table.new.kernel ≡ table.old.kernel }
+{
+    let living = table.here(on);
+    let noticed = HereView {
+        value: noticed_value(living.value()),
+        holder: living.holder(),
+        outward: noticed_outward(living.outward()),
+        inward: noticed_inward(living.inward()),
+    };
+    let was = living.outward().copy();
+    table.change(on, noticed);
+    was
 }
 
 /// What NOTICE makes of an end's value.

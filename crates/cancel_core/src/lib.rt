@@ -8,8 +8,6 @@ mod matching;
 mod receive;
 mod send;
 mod spare;
-#[cfg(test)]
-mod tests;
 
 pub use death::notice;
 pub use receive::{arrived, post, unwanted, withdraw_receive};

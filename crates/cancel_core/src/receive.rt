@@ -2,19 +2,19 @@ ghost use Rattle.std.specs.Prelude.{◌≡◌, Some, IfSome};
 ghost use Rattle.charlotte_calls.specs.declared.names.EndId.{EndId};
 ghost use Rattle.end_table.specs.Table.{entries, IsHere, IsHereAnd, IfHere};
 ghost use Rattle.end_table.specs.declared.entry.Entry.{Entry};
-ghost use Rattle.end_table.specs.declared.entry.Entry.TheVariants.{Here};
 ghost use Rattle.kernel_step.specs.Calls.{posts, withdraws_receive};
 ghost use Rattle.cancel_core.specs.Receives.{IsPosted, IfPosted};
 ghost use Rattle.kernel_step.specs.Progress.{progress, HasRoom, AddsAtMost};
 ghost use Rattle.kernel_step.specs.Rows.{asks, arrived_row, receives, takes, unwanted_row, frees};
-ghost use Rattle.kernel_step.specs.Actions.{resends_on_news, is_withdrawing};
+ghost use Rattle.kernel_step.specs.Actions.{resends_on_news};
 
 use charlotte_calls::{
     Answer, Bytes, Cause, EndId, Ends, Outcome, Report, ServiceStep, Way, What, Work,
 };
-use end_table::{Entry, HereView, Holder, Inward, Table};
+use end_table::{Holder, Inward, Lent, Table};
 use kernel_step::{
-    answer, asking, hear, here, keep, push_packet, push_step, report, resend_on_news,
+    answer, hear, is_withdrawing, keep_inward, push_packet, push_step, receiver, report,
+    resend_on_news,
 };
 
 /// Receive: a receive is started on an end, and the opposite end is asked for a message.
@@ -27,19 +27,18 @@ pub fn post(table: &mut Table, on: EndId, out: &mut Work)
     ensures room { AddsAtMost 1 0 0 1 out.old out.new }
     ensures kernel { table.new.kernel ≡ table.old.kernel }
 {
-    let mut view = here(table, on);
-    let w = view.value.asked.saturating_add(1);
+    let mut value = table.here(on).value();
+    let w = value.asked.saturating_add(1);
     push_step(out, ServiceStep::Receive { on });
     let want = What::Want {
         to: on.opposite(),
         w,
         at: table.kernel(),
-        hops: view.value.hops,
+        hops: value.hops,
     };
-    push_packet(out, view.value.hint.0, want);
-    view.value.asked = w;
-    view.inward = Inward::Posted { w };
-    keep(table, view);
+    push_packet(out, value.hint.0, want);
+    value.asked = w;
+    keep_inward(table, on, value, Inward::Posted { w });
 }
 
 /// Of a parcel at the receive that it was sent for: the message is taken and reported, and the sender is told.
@@ -61,8 +60,8 @@ pub fn arrived(
     ensures room { AddsAtMost 3 1 1 1 out.old out.new }
     ensures kernel { table.new.kernel ≡ table.old.kernel }
 {
-    if let Some(view) = asking(table, to, w) {
-        receive(table, view, n, at, hops, bytes, enclosed, out);
+    if let Some(_) = receiver(table, to, w) {
+        receive(table, to, n, at, hops, bytes, enclosed, out);
     }
 }
 
@@ -70,7 +69,7 @@ pub fn arrived(
 #[tactic(auto, unfolding(kernel_step::specs::Rows::receives, kernel_step::specs::Actions::resends_on_news))]
 fn receive(
     table: &mut Table,
-    mut view: HereView,
+    on: EndId,
     n: u32,
     at: u8,
     hops: u32,
@@ -78,17 +77,19 @@ fn receive(
     enclosed: Ends,
     out: &mut Work,
 )
-    requires here { entries table.old view.value.end ≡ Here view }
+    requires here { IsHere (entries table.old on) }
     requires room { HasRoom 3 1 1 1 out.old }
-    ensures part { progress (entries table.new) out.new
-        ≡ arrived_row table.old.kernel n at hops bytes enclosed (Some view) (progress (entries table.old) out.old) }
+    ensures part { IfHere (entries table.old on) (λ v. progress (entries table.new) out.new
+        ≡ arrived_row table.old.kernel n at hops bytes enclosed (Some v) (progress (entries table.old) out.old)) }
     ensures room { AddsAtMost 3 1 1 1 out.old out.new }
     ensures kernel { table.new.kernel ≡ table.old.kernel }
 {
     let kernel = table.kernel();
-    let on = view.value.end;
-    let late = is_withdrawing(view.inward);
-    push_take(out, on, n, late, view.holder);
+    let living = table.here(on);
+    let mut value = living.value();
+    let holder = living.holder();
+    let late = is_withdrawing(living.inward());
+    push_take(out, on, n, late, holder);
     let taken = Report {
         on,
         way: Way::Inward,
@@ -96,21 +97,20 @@ fn receive(
         bytes,
         enclosed,
     };
-    report(out, view.holder, taken);
+    report(out, holder, taken);
     if late {
-        answer(out, view.holder, Answer::Refused(Cause::Late));
+        answer(out, holder, Answer::Refused(Cause::Late));
     }
     let told = What::Taken {
         to: on.opposite(),
         n,
         at: kernel,
-        hops: view.value.hops,
+        hops: value.hops,
     };
     push_packet(out, at, told);
-    let news = hear(&mut view, at, hops);
-    view.inward = Inward::Unreported;
-    resend_on_news(out, kernel, news, view.value, view.inward);
-    keep(table, view);
+    let news = hear(&mut value, at, hops);
+    resend_on_news(out, kernel, news, value, Inward::Unreported);
+    keep_inward(table, on, value, Inward::Unreported);
 }
 
 /// Cancel of a started receive: the opposite end is asked whether its message was matched.
@@ -123,8 +123,9 @@ pub fn withdraw_receive(table: &mut Table, on: EndId, out: &mut Work)
     ensures room { AddsAtMost 1 0 0 1 out.old out.new }
     ensures kernel { table.new.kernel ≡ table.old.kernel }
 {
-    let mut view = here(table, on);
-    let w = match view.inward {
+    let living = table.here(on);
+    let value = living.value();
+    let w = match living.inward() {
         Inward::Posted { w } => w,
         _ => unreachable!(),
     };
@@ -139,11 +140,10 @@ pub fn withdraw_receive(table: &mut Table, on: EndId, out: &mut Work)
         to: on.opposite(),
         w,
         at: table.kernel(),
-        hops: view.value.hops,
+        hops: value.hops,
     };
-    push_packet(out, view.value.hint.0, unwant);
-    view.inward = Inward::Withdrawing { w };
-    keep(table, view);
+    push_packet(out, value.hint.0, unwant);
+    keep_inward(table, on, value, Inward::Withdrawing { w });
 }
 
 /// The row unwanted: the Cancel of the receive w is answered, where it waits.
@@ -154,30 +154,31 @@ pub fn unwanted(table: &mut Table, to: EndId, w: u32, at: u8, hops: u32, out: &m
     ensures room { AddsAtMost 2 0 1 1 out.old out.new }
     ensures kernel { table.new.kernel ≡ table.old.kernel }
 {
-    if let Entry::Here(view) = table.look(to) {
-        if view.inward == (Inward::Withdrawing { w }) {
-            free(table, view, at, hops, out);
+    if let Lent::Here(living) = table.lend(to) {
+        if living.inward() == (Inward::Withdrawing { w }) {
+            free(table, to, at, hops, out);
         }
     }
 }
 
 /// The Cancel of an end's receive is answered: the receive never happened.
 #[tactic(auto, unfolding(kernel_step::specs::Rows::frees, kernel_step::specs::Actions::resends_on_news))]
-fn free(table: &mut Table, mut view: HereView, at: u8, hops: u32, out: &mut Work)
-    requires here { entries table.old view.value.end ≡ Here view }
+fn free(table: &mut Table, on: EndId, at: u8, hops: u32, out: &mut Work)
+    requires here { IsHere (entries table.old on) }
     requires room { HasRoom 2 0 1 1 out.old }
-    ensures part { progress (entries table.new) out.new
-        ≡ frees table.old.kernel at hops view (progress (entries table.old) out.old) }
+    ensures part { IfHere (entries table.old on) (λ v. progress (entries table.new) out.new
+        ≡ frees table.old.kernel at hops v (progress (entries table.old) out.old)) }
     ensures room { AddsAtMost 2 0 1 1 out.old out.new }
     ensures kernel { table.new.kernel ≡ table.old.kernel }
 {
     let kernel = table.kernel();
-    push_step(out, ServiceStep::Free { on: view.value.end });
-    answer(out, view.holder, Answer::Ok);
-    let news = hear(&mut view, at, hops);
-    view.inward = Inward::Idle;
-    resend_on_news(out, kernel, news, view.value, view.inward);
-    keep(table, view);
+    let living = table.here(on);
+    let mut value = living.value();
+    push_step(out, ServiceStep::Free { on });
+    answer(out, living.holder(), Answer::Ok);
+    let news = hear(&mut value, at, hops);
+    resend_on_news(out, kernel, news, value, Inward::Idle);
+    keep_inward(table, on, value, Inward::Idle);
 }
 
 /// Notes who takes a message.
@@ -197,11 +198,4 @@ fn push_take(out: &mut Work, on: EndId, n: u32, late: bool, holder: Holder)
             },
         );
     }
-}
-
-/// Whether a Cancel of a receive waits.
-fn is_withdrawing(inward: Inward) -> bool
-    ensures { result ≡ is_withdrawing inward }
-{
-    matches!(inward, Inward::Withdrawing { .. })
 }

@@ -3,7 +3,6 @@ ghost use Rattle.std.specs.List.{list_any};
 ghost use Rattle.kernel_step.specs.Enclosed.{AreEnclosed};
 ghost use Rattle.end_table.specs.Place.{end_eq};
 ghost use Rattle.end_table.specs.Table.{entries, IsHere, IfHere};
-ghost use Rattle.end_table.specs.declared.entry.Entry.TheVariants.{Here};
 ghost use Rattle.kernel_step.specs.Actions.{send_report, enclosed_of};
 ghost use Rattle.kernel_step.specs.Calls.{starts_send, withdraws_send};
 ghost use Rattle.kernel_step.specs.Progress.{progress, HasRoom, AddsAtMost};
@@ -12,12 +11,11 @@ ghost use Rattle.kernel_step.specs.Rows.{want_row, want_here, wants, awaits, tak
 use crate::enclosed::hold_each;
 use crate::matching::{match_waiting, send_parcel};
 use charlotte_calls::{Bytes, EndId, Ends, Outcome, ServiceStep, Way, What, Work};
-use end_table::{Entry, HereView, Outward, Table};
+use end_table::{Lent, Outward, Table};
 use kernel_step::{
-    awaiting, enclosed_ends, hear, here, keep, listen, no_ends, push_packet, push_step, report,
-    resend_on_news, send_report,
+    enclosed_ends, hear, keep_inward, keep_outward, listen, no_ends, push_packet, push_step, report,
+    resend_on_news, send_report, sender,
 };
-use std::mem;
 
 /// Send: a send of these bytes, which encloses these ends, is started, and matched where a receive wants it.
 /// That the ends are held by the send is set before.
@@ -32,12 +30,7 @@ pub fn start_send(table: &mut Table, on: EndId, bytes: Bytes, enclose: Ends, out
     ensures room { AddsAtMost 1 0 0 2 out.old out.new }
     ensures kernel { table.new.kernel ≡ table.old.kernel }
 {
-    let HereView {
-        mut value,
-        holder,
-        outward: _,
-        inward,
-    } = here(table, on);
+    let mut value = table.here(on).value();
     let n = value.sent.saturating_add(1);
     push_step(
         out,
@@ -50,23 +43,15 @@ pub fn start_send(table: &mut Table, on: EndId, bytes: Bytes, enclose: Ends, out
     );
     value.sent = n;
     if value.want != 0 {
-        send_parcel(table, value, holder, inward, n, bytes, &enclose, out);
+        send_parcel(table, on, value, n, bytes, &enclose, out);
         return;
     }
-    let outward = Outward::Waiting {
+    let waiting = Outward::Waiting {
         n,
         bytes,
         enclosed: enclose,
     };
-    keep(
-        table,
-        HereView {
-            value,
-            holder,
-            outward,
-            inward,
-        },
-    );
+    keep_outward(table, on, value, waiting);
 }
 
 /// Cancel of a send that waits: it never happened, and the ends that it enclosed are its owner's again.
@@ -81,11 +66,11 @@ pub fn withdraw_send(table: &mut Table, on: EndId, out: &mut Work)
     ensures room { AddsAtMost 0 0 0 1 out.old out.new }
     ensures kernel { table.new.kernel ≡ table.old.kernel }
 {
-    let mut view = here(table, on);
-    let holder = view.holder;
-    let sent = mem::replace(&mut view.outward, Outward::Idle);
-    keep(table, view);
-    let enclosed = enclosed_ends(sent);
+    let living = table.here(on);
+    let value = living.value();
+    let holder = living.holder();
+    let sent = keep_outward(table, on, value, Outward::Idle);
+    let enclosed = enclosed_ends(&sent);
     hold_each(table, holder, enclosed.as_slice());
     push_step(
         out,
@@ -106,53 +91,56 @@ pub fn want(table: &mut Table, to: EndId, w: u32, at: u8, hops: u32, out: &mut W
     ensures room { AddsAtMost 3 0 0 1 out.old out.new }
     ensures kernel { table.new.kernel ≡ table.old.kernel }
 {
-    match table.look(to) {
-        Entry::Here(view) => want_here(table, view, w, at, hops, out),
-        Entry::Left { to: there, .. } => push_packet(out, there, What::Want { to, w, at, hops }),
-        Entry::Nothing | Entry::Destroyed(_) => {}
+    match table.lend(to) {
+        Lent::Here(_) => want_here(table, to, w, at, hops, out),
+        Lent::Left { to: there, .. } => push_packet(out, there, What::Want { to, w, at, hops }),
+        Lent::Nothing | Lent::Destroyed(_) => {}
     }
 }
 
 /// The receive w of the opposite end asks an end that is here.
 #[tactic(auto, unfolding(kernel_step::specs::Rows::want_here))]
-fn want_here(table: &mut Table, view: HereView, w: u32, at: u8, hops: u32, out: &mut Work)
-    requires here { entries table.old view.value.end ≡ Here view }
-    requires enclosed { AreEnclosed (entries table.old) (enclosed_of view.outward) }
-    requires apart { list_any (end_eq view.value.end) (enclosed_of view.outward) ≡ false }
+fn want_here(table: &mut Table, on: EndId, w: u32, at: u8, hops: u32, out: &mut Work)
+    requires here { IsHere (entries table.old on) }
+    requires enclosed { IfHere (entries table.old on) (λ v. AreEnclosed (entries table.old) (enclosed_of v.outward)) }
+    requires apart { IfHere (entries table.old on) (λ v. list_any (end_eq on) (enclosed_of v.outward) ≡ false) }
     requires room { HasRoom 3 0 0 1 out.old }
-    ensures part { progress (entries table.new) out.new
-        ≡ want_here table.old.kernel w at hops view (progress (entries table.old) out.old) }
+    ensures part { IfHere (entries table.old on) (λ v. progress (entries table.new) out.new
+        ≡ want_here table.old.kernel w at hops v (progress (entries table.old) out.old)) }
     ensures room { AddsAtMost 3 0 0 1 out.old out.new }
     ensures kernel { table.new.kernel ≡ table.old.kernel }
 {
-    if view.value.dead {
+    let value = table.here(on).value();
+    if value.dead {
         return;
     }
-    if view.value.served < w {
-        serve(table, view, w, at, hops, out);
+    if value.served < w {
+        serve(table, on, w, at, hops, out);
     } else {
-        listen(table, view, at, hops, out);
+        listen(table, on, at, hops, out);
     }
 }
 
 /// The receive w of the opposite end asks for a message: a waiting one is sent.
 #[tactic(auto, unfolding(kernel_step::specs::Rows::wants, kernel_step::specs::Actions::resends_on_news))]
-fn serve(table: &mut Table, mut view: HereView, w: u32, at: u8, hops: u32, out: &mut Work)
-    requires here { entries table.old view.value.end ≡ Here view }
-    requires enclosed { AreEnclosed (entries table.old) (enclosed_of view.outward) }
-    requires apart { list_any (end_eq view.value.end) (enclosed_of view.outward) ≡ false }
+fn serve(table: &mut Table, on: EndId, w: u32, at: u8, hops: u32, out: &mut Work)
+    requires here { IsHere (entries table.old on) }
+    requires enclosed { IfHere (entries table.old on) (λ v. AreEnclosed (entries table.old) (enclosed_of v.outward)) }
+    requires apart { IfHere (entries table.old on) (λ v. list_any (end_eq on) (enclosed_of v.outward) ≡ false) }
     requires room { HasRoom 3 0 0 1 out.old }
-    ensures part { progress (entries table.new) out.new
-        ≡ wants table.old.kernel w at hops view (progress (entries table.old) out.old) }
+    ensures part { IfHere (entries table.old on) (λ v. progress (entries table.new) out.new
+        ≡ wants table.old.kernel w at hops v (progress (entries table.old) out.old)) }
     ensures room { AddsAtMost 3 0 0 1 out.old out.new }
     ensures kernel { table.new.kernel ≡ table.old.kernel }
 {
     let kernel = table.kernel();
-    let news = hear(&mut view, at, hops);
-    let heard = view.value;
-    let inward = view.inward;
-    view.value.want = w;
-    match_waiting(table, view, out);
+    let living = table.here(on);
+    let mut value = living.value();
+    let inward = living.inward();
+    let news = hear(&mut value, at, hops);
+    let heard = value;
+    value.want = w;
+    match_waiting(table, on, value, out);
     resend_on_news(out, kernel, news, heard, inward);
 }
 
@@ -164,29 +152,31 @@ pub fn finished(table: &mut Table, to: EndId, n: u32, at: u8, hops: u32, out: &m
     ensures room { AddsAtMost 2 1 0 1 out.old out.new }
     ensures kernel { table.new.kernel ≡ table.old.kernel }
 {
-    if let Some(view) = awaiting(table, to, n) {
-        complete(table, view, n, at, hops, out);
+    if let Some(_) = sender(table, to, n) {
+        complete(table, to, n, at, hops, out);
     }
 }
 
 /// The matched send of an end that is here is completed and reported.
 #[tactic(auto, unfolding(kernel_step::specs::Rows::completes, kernel_step::specs::Actions::resends_on_news))]
-fn complete(table: &mut Table, mut view: HereView, n: u32, at: u8, hops: u32, out: &mut Work)
-    requires here { entries table.old view.value.end ≡ Here view }
+fn complete(table: &mut Table, on: EndId, n: u32, at: u8, hops: u32, out: &mut Work)
+    requires here { IsHere (entries table.old on) }
     requires room { HasRoom 2 1 0 1 out.old }
-    ensures part { progress (entries table.new) out.new
-        ≡ completes table.old.kernel n at hops view (progress (entries table.old) out.old) }
+    ensures part { IfHere (entries table.old on) (λ v. progress (entries table.new) out.new
+        ≡ completes table.old.kernel n at hops v (progress (entries table.old) out.old)) }
     ensures room { AddsAtMost 2 1 0 1 out.old out.new }
     ensures kernel { table.new.kernel ≡ table.old.kernel }
 {
     let kernel = table.kernel();
-    let on = view.value.end;
+    let living = table.here(on);
+    let mut value = living.value();
+    let holder = living.holder();
+    let inward = living.inward();
     push_step(out, ServiceStep::Complete { on, n });
-    report(out, view.holder, send_report(on, Outcome::Done, no_ends()));
-    let news = hear(&mut view, at, hops);
-    view.outward = Outward::Unreported;
-    resend_on_news(out, kernel, news, view.value, view.inward);
-    keep(table, view);
+    report(out, holder, send_report(on, Outcome::Done, no_ends()));
+    let news = hear(&mut value, at, hops);
+    resend_on_news(out, kernel, news, value, inward);
+    keep_outward(table, on, value, Outward::Unreported);
 }
 
 /// The row unwant: the receive w of the opposite end is withdrawn, unless it was matched.
@@ -197,56 +187,60 @@ pub fn unwant(table: &mut Table, to: EndId, w: u32, at: u8, hops: u32, out: &mut
     ensures room { AddsAtMost 3 0 0 1 out.old out.new }
     ensures kernel { table.new.kernel ≡ table.old.kernel }
 {
-    match table.look(to) {
-        Entry::Here(view) => withdraw(table, view, w, at, hops, out),
-        Entry::Left { to: there, .. } => push_packet(out, there, What::Unwant { to, w, at, hops }),
-        Entry::Nothing | Entry::Destroyed(_) => {}
+    match table.lend(to) {
+        Lent::Here(_) => withdraw(table, to, w, at, hops, out),
+        Lent::Left { to: there, .. } => push_packet(out, there, What::Unwant { to, w, at, hops }),
+        Lent::Nothing | Lent::Destroyed(_) => {}
     }
 }
 
 /// The receive w of the opposite end is withdrawn at an end that is here.
 #[tactic(auto, unfolding(kernel_step::specs::Rows::unwant_here))]
-fn withdraw(table: &mut Table, view: HereView, w: u32, at: u8, hops: u32, out: &mut Work)
-    requires here { entries table.old view.value.end ≡ Here view }
+fn withdraw(table: &mut Table, on: EndId, w: u32, at: u8, hops: u32, out: &mut Work)
+    requires here { IsHere (entries table.old on) }
     requires room { HasRoom 3 0 0 1 out.old }
-    ensures part { progress (entries table.new) out.new
-        ≡ unwant_here table.old.kernel w at hops view (progress (entries table.old) out.old) }
+    ensures part { IfHere (entries table.old on) (λ v. progress (entries table.new) out.new
+        ≡ unwant_here table.old.kernel w at hops v (progress (entries table.old) out.old)) }
     ensures room { AddsAtMost 3 0 0 1 out.old out.new }
     ensures kernel { table.new.kernel ≡ table.old.kernel }
 {
-    if view.value.dead {
+    let value = table.here(on).value();
+    if value.dead {
         return;
     }
-    if view.value.served < w {
-        void(table, view, w, at, hops, out);
+    if value.served < w {
+        void(table, on, w, at, hops, out);
     } else {
-        listen(table, view, at, hops, out);
+        listen(table, on, at, hops, out);
     }
 }
 
 /// The receive w of the opposite end is withdrawn: the opposite end is told.
 #[tactic(auto, unfolding(kernel_step::specs::Rows::voids, kernel_step::specs::Actions::resends_on_news))]
-fn void(table: &mut Table, mut view: HereView, w: u32, at: u8, hops: u32, out: &mut Work)
-    requires here { entries table.old view.value.end ≡ Here view }
+fn void(table: &mut Table, on: EndId, w: u32, at: u8, hops: u32, out: &mut Work)
+    requires here { IsHere (entries table.old on) }
     requires room { HasRoom 3 0 0 1 out.old }
-    ensures part { progress (entries table.new) out.new
-        ≡ voids table.old.kernel w at hops view (progress (entries table.old) out.old) }
+    ensures part { IfHere (entries table.old on) (λ v. progress (entries table.new) out.new
+        ≡ voids table.old.kernel w at hops v (progress (entries table.old) out.old)) }
     ensures room { AddsAtMost 3 0 0 1 out.old out.new }
     ensures kernel { table.new.kernel ≡ table.old.kernel }
 {
     let kernel = table.kernel();
-    let asking = view.value.end.opposite();
+    let living = table.here(on);
+    let mut value = living.value();
+    let inward = living.inward();
+    let asking = on.opposite();
     push_step(out, ServiceStep::Withdraw { on: asking });
     let told = What::Unwanted {
         to: asking,
         w,
         at: kernel,
-        hops: view.value.hops,
+        hops: value.hops,
     };
     push_packet(out, at, told);
-    let news = hear(&mut view, at, hops);
-    resend_on_news(out, kernel, news, view.value, view.inward);
-    view.value.served = w;
-    view.value.want = 0;
-    keep(table, view);
+    let news = hear(&mut value, at, hops);
+    resend_on_news(out, kernel, news, value, inward);
+    value.served = w;
+    value.want = 0;
+    keep_inward(table, on, value, inward);
 }

@@ -4,4 +4,3 @@ pub mod Setting
 pub mod Moving
 pub mod Packets
 pub mod Program
-pub mod Listed

@@ -1,4 +1,4 @@
-ghost use Rattle.std.specs.Prelude.{◌≡◌, ◌<◌, [], ◌∷◌, ◌++◌, length, IfNone};
+ghost use Rattle.std.specs.Prelude.{◌≡◌, ◌<◌, ◌≤◌, [], ◌∷◌, ◌++◌, length, IfNone};
 ghost use Rattle.std.specs.List.{list_all};
 ghost use Rattle.std.specs.Option.{option_to_list};
 
@@ -62,6 +62,14 @@ impl Cargo {
         self.values.len()
     }
 
+    /// The fields of the values, in order, lent.
+    pub fn values(&self) -> &[MovingPicture]
+        ensures same { result.now ≡ self.now }
+        ensures within { length result.now ≤ 8 }
+    {
+        self.values.as_slice()
+    }
+
     /// The fields of the values, in order.
     pub fn picture(&self) -> CargoPicture
         ensures { result ≡ self.now }
@@ -73,8 +81,7 @@ impl Cargo {
     pub fn addressed(&self, kernels: u8) -> bool
         ensures { result ≡ list_all (names_kernels_below kernels) self.now }
     {
-        self.values
-            .as_slice()
+        self.values()
             .iter()
             .all(|value| value.names_kernels_below(kernels))
     }
@@ -89,54 +96,5 @@ impl Cargo {
     /// Spends every value.
     pub(crate) fn spend(self) {
         let Cargo { values: _ } = self;
-    }
-}
-
-#[cfg(test)]
-mod tests {
-    use super::*;
-    use crate::{LinkId, Side};
-
-    #[test]
-    fn values_come_out_as_they_went_in(rt: HostRuntime) {
-        let (a, b) = Moving::pair(LinkId { maker: 1, count: 2 }, 3, 4);
-        let mut cargo = Cargo::empty();
-        assert_eq!(rt; cargo.len(), 0);
-        cargo.add(b);
-        cargo.add(a);
-        assert_eq!(rt; cargo.len(), 2);
-        let sides = [Side::B, Side::A];
-        for (value, side) in cargo.picture().as_slice().iter().zip(&sides) {
-            assert_eq!(rt; value.end.side, *side);
-        }
-        for side in sides {
-            let value = cargo.next();
-            assert!(rt; matches!(&value, Some(value) if value.end().side == side));
-            spent(value);
-        }
-        let none = cargo.next();
-        assert!(rt; none.is_none());
-        spent(none);
-        cargo.close();
-    }
-
-    #[test]
-    fn eight_values_go_in(rt: HostRuntime) {
-        let mut cargo = Cargo::empty();
-        for count in 0..4 {
-            let (a, b) = Moving::pair(LinkId { maker: 0, count }, 0, 7);
-            cargo.add(a);
-            cargo.add(b);
-        }
-        assert_eq!(rt; cargo.len(), 8);
-        assert!(rt; cargo.addressed(8));
-        assert!(rt; !cargo.addressed(7));
-        cargo.spend();
-    }
-
-    fn spent(value: Option<Moving>) {
-        if let Some(value) = value {
-            value.destroy();
-        }
     }
 }

@@ -53,21 +53,3 @@ impl<T> Items<T> {
         self.items.is_empty()
     }
 }
-
-#[cfg(test)]
-mod tests {
-    use super::*;
-    use std::test::Fail;
-
-    #[test]
-    fn items_come_back(rt: HostRuntime) -> Result<(), Fail> {
-        let items = Items::of(vec![in rt.alloc(); 3, 1, 2]?);
-        assert_eq!(rt; items.as_slice(), [3, 1, 2].as_slice());
-        assert_eq!(rt; items.len(), 3);
-        assert!(rt; !items.is_empty());
-        assert_eq!(rt; items.into_vec().as_slice(), [3, 1, 2].as_slice());
-        let none: Items<u8> = Items::of(Vec::new(rt.alloc()));
-        assert!(rt; none.is_empty());
-        Ok(())
-    }
-}

@@ -11,10 +11,6 @@ mod names;
 mod packet;
 mod picture;
 mod program;
-#[cfg(test)]
-mod program_tests;
-#[cfg(test)]
-mod samples;
 mod setting;
 mod short;
 mod work;

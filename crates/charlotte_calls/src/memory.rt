@@ -25,15 +25,3 @@ impl<T: Drop> From<AllocFailed<T>> for NoMemory {
         NoMemory
     }
 }
-
-#[cfg(test)]
-mod tests {
-    use super::*;
-    use std::test::Fail;
-
-    #[test]
-    fn want_of_memory_has_a_text(rt: HostRuntime) -> Result<(), Fail> {
-        assert_eq!(rt; format!(in rt.alloc(); "{NoMemory}")?.as_str(), "no memory");
-        Ok(())
-    }
-}

@@ -74,27 +74,3 @@ pub enum Outcome {
     /// The link died before the message was taken.
     Destroyed,
 }
-
-#[cfg(test)]
-mod tests {
-    use super::*;
-
-    #[test]
-    fn opposite_ends_differ_in_their_side_alone(rt: HostRuntime) {
-        let link = LinkId {
-            maker: 7,
-            count: 65535,
-        };
-        let a = EndId {
-            link,
-            side: Side::A,
-        };
-        let b = EndId {
-            link,
-            side: Side::B,
-        };
-        assert_eq!(rt; a.opposite(), b);
-        assert_eq!(rt; b.opposite(), a);
-        assert_eq!(rt; Side::default().other(), Side::B);
-    }
-}

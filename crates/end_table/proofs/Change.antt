@@ -154,6 +154,14 @@ end-IsOfEnd entry.Nothing e f own same = tt
 end-IsOfEnd (entry.Left to hops) e f own same = tt
 end-IsOfEnd (entry.Destroyed m) e f own same = tt
 
+-- an end that is here keeps its name where what is set keeps it
+pub IsOfEnd-set : (f : HereView → Entry) (x y : Entry) (e : EndId) → ((v : HereView) → v.value.end ≡ e → IsOfEnd e (f v)) → IsHere x → IsOfEnd e x
+    → IfHere x (λ v. y ≡ f v) → IsOfEnd e y
+IsOfEnd-set f (entry.Here v) y e keeps here own is = subst (IsOfEnd e) (sym is) (keeps v own)
+IsOfEnd-set f entry.Nothing y e keeps here own is = absurd here
+IsOfEnd-set f (entry.Left to n) y e keeps here own is = absurd here
+IsOfEnd-set f (entry.Destroyed m) y e keeps here own is = absurd here
+
 -- to hear of the opposite end changes no name
 pub IsOfEnd-learned : (x y : Entry) (e : EndId) (at hops : ℕ) → IsHere x → IsOfEnd e x
     → IfHere x (λ v. y ≡ entry.Here (record v { value = learned at hops v.value })) → IsOfEnd e y

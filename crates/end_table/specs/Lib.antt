@@ -3,3 +3,4 @@ pub mod Place
 pub mod Owned
 pub mod Table
 pub mod Slot
+pub mod Lent

@@ -1,5 +1,6 @@
 ghost use Rattle.std.specs.Prelude.{◌≡◌};
 
+use crate::Living;
 use charlotte_calls::{Bytes, EndId, Ends, Mark, MovingPicture, Pid};
 
 /// Who holds an end that is here.
@@ -77,5 +78,14 @@ pub enum Entry {
     /// The end has left to kernel `to`, and had this many hops then.
     Left { to: u8, hops: u32 },
     /// The end was destroyed here.
+    Destroyed(Mark),
+}
+
+/// An entry that is lent: an end that is here stays in the table, with its message.
+#[derive(Clone, Copy, Debug)]
+pub enum Lent<'a> {
+    Nothing,
+    Here(&'a Living),
+    Left { to: u8, hops: u32 },
     Destroyed(Mark),
 }

@@ -2,8 +2,10 @@
 #![tactic(auto)]
 
 mod entry;
+mod living;
 mod slot;
 mod table;
 
-pub use entry::{Entry, HereView, Holder, Inward, Outward};
+pub use entry::{Entry, HereView, Holder, Inward, Lent, Outward};
+pub use living::Living;
 pub use table::{NotStored, Table};

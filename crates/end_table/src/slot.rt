@@ -1,104 +1,15 @@
 ghost use Rattle.std.specs.Prelude.{◌≡◌, is_some, ◌<◌, ◌↔◌, IsTrue};
-ghost use Rattle.end_table.specs.Entries.{gains_one, left_value, left_entry, ended_entry, settled, learned, is_news};
+ghost use Rattle.end_table.specs.Entries.{gains_one, left_value, left_entry, ended_entry, learned, is_news};
+ghost use Rattle.end_table.specs.Lent.{lent_entry};
 ghost use Rattle.end_table.specs.Table.{IsHere, IfHere, IsDestroyed, IfDestroyed, HasLeftUpTo};
-ghost use Rattle.end_table.specs.Owned.{is_owner, owned};
+ghost use Rattle.end_table.specs.Owned.{owned};
 ghost use Rattle.end_table.specs.declared.entry.Entry.TheVariants.{Nothing, Here, Left, Destroyed};
 
-use crate::{Entry, HereView, Holder, Inward, Outward};
+use crate::living::Living;
+use crate::{Entry, HereView, Holder, Inward, Lent, Outward};
 use charlotte_calls::{Mark, Moving, MovingPicture, Pid};
 use std::marker::Model;
 use std::mem;
-
-/// An end that is here, with its value. Contracts see it as plain data.
-#[derive(Debug)]
-pub(crate) struct Living {
-    moving: Moving,
-    holder: Holder,
-    outward: Outward,
-    inward: Inward,
-}
-
-impl Model for Living {
-    ghost use Rattle.end_table.specs.declared.entry.HereView.{HereView};
-
-    ghost Value = { HereView };
-
-    ghost view = { λ l. record { value = l.moving; holder = l.holder; outward = l.outward; inward = l.inward } };
-}
-
-impl Living {
-    /// An end that becomes Here.
-    pub(crate) fn settled(moving: Moving, holder: Holder) -> Living
-        ensures { result ≡ settled holder moving }
-    {
-        Living {
-            moving,
-            holder,
-            outward: Outward::Idle,
-            inward: Inward::Idle,
-        }
-    }
-
-    fn view(&self) -> HereView
-        ensures { result ≡ self.now }
-    {
-        HereView {
-            value: self.moving.picture(),
-            holder: self.holder,
-            outward: self.outward.copy(),
-            inward: self.inward,
-        }
-    }
-
-    fn is_owned_by(&self, p: Pid) -> bool
-        ensures { result ≡ is_owner p self.now.holder }
-    {
-        match self.holder {
-            Holder::Owner(owner) => p.0 == owner.0,
-            Holder::EnclosedIn(_) => false,
-        }
-    }
-
-    fn change(&mut self, view: HereView)
-        requires { view.value.end ≡ self.old.value.end }
-        ensures { self.new ≡ view }
-    {
-        let HereView {
-            value,
-            holder,
-            outward,
-            inward,
-        } = view;
-        set_fields(&mut self.moving, value);
-        self.holder = holder;
-        self.outward = outward;
-        self.inward = inward;
-    }
-
-    fn learn(&mut self, kernel: u8, hops: u32) -> bool
-        ensures news { result ≡ is_news self.old.value hops }
-        ensures same { self.new ≡ record self.old { value = learned kernel hops self.old.value } }
-    {
-        let (_, known) = self.moving.hint();
-        if known < hops {
-            self.moving.set_hint((kernel, hops));
-            return true;
-        }
-        false
-    }
-
-    pub(crate) fn into_moving(self) -> Moving
-        ensures { result ≡ self.value }
-    {
-        let Living {
-            moving,
-            holder: _,
-            outward: _,
-            inward: _,
-        } = self;
-        moving
-    }
-}
 
 /// One more, but for the greatest number, which stays.
 fn gains_one(number: u32) -> u32
@@ -114,21 +25,6 @@ pub(crate) fn leave(moving: &mut Moving, kernel: u8)
 {
     moving.set_hops(gains_one(moving.hops()));
     moving.set_trail(moving.trail() | 1 << kernel);
-}
-
-/// Gives the value these fields, all but the end.
-pub(crate) fn set_fields(moving: &mut Moving, fields: MovingPicture)
-    requires { fields.end ≡ moving.old.end }
-    ensures { moving.new ≡ fields }
-{
-    moving.set_hops(fields.hops);
-    moving.set_hint(fields.hint);
-    moving.set_sent(fields.sent);
-    moving.set_asked(fields.asked);
-    moving.set_served(fields.served);
-    moving.set_want(fields.want);
-    moving.set_dead(fields.dead);
-    moving.set_trail(fields.trail);
 }
 
 /// What is kept at a place.
@@ -233,6 +129,20 @@ impl Slot {
         }
     }
 
+    pub(crate) fn lend(&self) -> Lent<'_>
+        ensures { lent_entry result ≡ self.now }
+    {
+        match &self.kept {
+            Kept::Nothing => Lent::Nothing,
+            Kept::Here(living) => Lent::Here(living),
+            Kept::Left { to, hops } => Lent::Left {
+                to: *to,
+                hops: *hops,
+            },
+            Kept::Destroyed(mark) => Lent::Destroyed(*mark),
+        }
+    }
+
     /// Takes out the end that is here, and leaves nothing.
     pub(crate) fn take(&mut self) -> Living
         requires { IsHere self.old }
@@ -253,6 +163,42 @@ impl Slot {
     {
         match &mut self.kept {
             Kept::Here(living) => living.change(view),
+            _ => unreachable!(),
+        }
+    }
+
+    /// Sets value and receive of the end that is here.
+    pub(crate) fn set_inward(&mut self, value: MovingPicture, inward: Inward)
+        requires here { IsHere self.old }
+        requires same_end { IfHere self.old (λ v. value.end ≡ v.value.end) }
+        ensures { IfHere self.old (λ v. self.new ≡ Here (record v { value = value; inward = inward })) }
+    {
+        match &mut self.kept {
+            Kept::Here(living) => living.set_inward(value, inward),
+            _ => unreachable!(),
+        }
+    }
+
+    /// Sets value and send of the end that is here, and answers what the send was.
+    pub(crate) fn set_outward(&mut self, value: MovingPicture, outward: Outward) -> Outward
+        requires here { IsHere self.old }
+        requires same_end { IfHere self.old (λ v. value.end ≡ v.value.end) }
+        ensures was { IfHere self.old (λ v. result ≡ v.outward) }
+        ensures set { IfHere self.old (λ v. self.new ≡ Here (record v { value = value; outward = outward })) }
+    {
+        match &mut self.kept {
+            Kept::Here(living) => living.set_outward(value, outward),
+            _ => unreachable!(),
+        }
+    }
+
+    /// Sets the holder of the end that is here.
+    pub(crate) fn set_holder(&mut self, holder: Holder)
+        requires { IsHere self.old }
+        ensures { IfHere self.old (λ v. self.new ≡ Here (record v { holder = holder })) }
+    {
+        match &mut self.kept {
+            Kept::Here(living) => living.set_holder(holder),
             _ => unreachable!(),
         }
     }

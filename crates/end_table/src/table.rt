@@ -1,4 +1,4 @@
-ghost use Rattle.std.specs.Prelude.{◌≡◌, ◌<◌, false, List, OnOk, OnErr, IfOk, IfErr, IsOk, IsTrue, ◌↔◌};
+ghost use Rattle.std.specs.Prelude.{◌≡◌, ◌<◌, false, List, OnOk, OnErr, IfOk, IfErr, IsOk, IfSome, IsTrue, ◌↔◌, option_copied};
 ghost use Rattle.std.specs.Bool.{OnTrue, OnFalse};
 ghost use Rattle.std.specs.List.{IsDistinct};
 ghost use Rattle.std.specs.Map.{keys_of};
@@ -6,16 +6,14 @@ ghost use Rattle.charlotte_calls.specs.declared.names.EndId.{EndId};
 ghost use Rattle.end_table.specs.Place.{put, end_eq};
 ghost use Rattle.end_table.specs.Entries.{left_value, left_entry, ended_entry, learned, is_news, settled};
 ghost use Rattle.end_table.specs.Table.{entries, HasPlace, Puts, IsHere, IsHereAnd, IfHere, IsIdle, IsDestroyed, IfDestroyed, HasLeftUpTo, IsOfEnd, KeepsPlaces, Clears};
-ghost use Rattle.end_table.specs.Owned.{AreEndsOf};
+ghost use Rattle.end_table.specs.Owned.{AreEndsOf, owned};
+ghost use Rattle.end_table.specs.Lent.{lent_entry};
 ghost use Rattle.end_table.specs.Slot.{owned_ends};
 ghost use Rattle.end_table.specs.declared.entry.Entry.TheVariants.{Nothing, Here, Left, Destroyed};
 
-#[cfg(test)]
-mod tests;
-
-use crate::slot::{Living, Slot, leave};
-use crate::{Entry, HereView, Holder};
-use charlotte_calls::{EndId, Mark, Moving, NoMemory, Pid};
+use crate::slot::{Slot, leave};
+use crate::{Entry, HereView, Holder, Inward, Lent, Living, Outward};
+use charlotte_calls::{EndId, Mark, Moving, MovingPicture, NoMemory, Pid};
 use indexmap::IndexMap;
 use std::alloc::{AllocError, Global};
 use std::marker::Model;
@@ -122,6 +120,40 @@ impl Table {
         match self.slots.get(&end) {
             Some(slot) => slot.look(),
             None => Entry::Nothing,
+        }
+    }
+
+    /// What the kernel keeps of an end, lent: nothing is copied of an end that is here.
+    pub fn lend(&self, end: EndId) -> Lent<'_>
+        ensures entry { lent_entry result ≡ entries self.now end }
+        ensures own { IsOfEnd end (lent_entry result) }
+    {
+        match self.slots.get(&end) {
+            Some(slot) => slot.lend(),
+            None => Lent::Nothing,
+        }
+    }
+
+    /// An end that is here, lent.
+    pub fn here(&self, end: EndId) -> &Living
+        requires { IsHere (entries self.now end) }
+        ensures view { entries self.now end ≡ Here result.now }
+        ensures own { result.now.value.end ≡ end }
+    {
+        match self.lend(end) {
+            Lent::Here(living) => living,
+            _ => unreachable!(),
+        }
+    }
+
+    /// An end that a process owns, lent.
+    pub fn owned(&self, p: Pid, end: EndId) -> Option<&Living>
+        ensures owned { option_copied result ≡ owned p (entries self.now end) }
+        ensures here { IfSome result (λ l. entries self.now end ≡ Here l.now) }
+    {
+        match self.lend(end) {
+            Lent::Here(living) if living.is_owned_by(p) => Some(living),
+            _ => None,
         }
     }
 
@@ -267,6 +299,44 @@ impl Table {
     {
         match self.slots.get_mut(&end) {
             Some(slot) => slot.change(view),
+            None => unreachable!(),
+        }
+    }
+
+    /// Sets the fields and the receive of an end that is here, and leaves its holder and its send.
+    pub fn set_inward(&mut self, end: EndId, value: MovingPicture, inward: Inward)
+        requires here { IsHere (entries self.old end) }
+        requires same_end { value.end ≡ end }
+        ensures { IfHere (entries self.old end) (λ v. Puts self.old self.new end (Here (record v { value = value; inward = inward }))) }
+    {
+        match self.slots.get_mut(&end) {
+            Some(slot) => slot.set_inward(value, inward),
+            None => unreachable!(),
+        }
+    }
+
+    /// Sets the fields and the send of an end that is here, and leaves its holder and its receive. It answers what the
+    /// send was, with its message.
+    pub fn set_outward(&mut self, end: EndId, value: MovingPicture, outward: Outward) -> Outward
+        requires here { IsHere (entries self.old end) }
+        requires same_end { value.end ≡ end }
+        ensures was { IfHere (entries self.old end) (λ v. result ≡ v.outward) }
+        ensures set { IfHere (entries self.old end) (λ v. Puts self.old self.new end (Here (record v { value = value; outward = outward }))) }
+    {
+        match self.slots.get_mut(&end) {
+            Some(slot) => slot.set_outward(value, outward),
+            None => unreachable!(),
+        }
+    }
+
+    /// Sets the holder of an end that is here.
+    pub fn set_holder(&mut self, end: EndId, holder: Holder)
+        requires { IsHere (entries self.old end) }
+        ensures own { IsOfEnd end (entries self.old end) }
+        ensures set { IfHere (entries self.old end) (λ v. Puts self.old self.new end (Here (record v { holder = holder }))) }
+    {
+        match self.slots.get_mut(&end) {
+            Some(slot) => slot.set_holder(holder),
             None => unreachable!(),
         }
     }

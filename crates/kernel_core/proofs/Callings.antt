@@ -16,41 +16,43 @@ use Rattle.end_table.specs.declared.entry.Entry.{Entry}
 use Rattle.end_table.specs.declared.entry.HereView.{HereView}
 use Rattle.end_table.specs.declared.entry.Inward.{Inward}
 use Rattle.end_table.specs.declared.entry.Inward.TheVariants as inward
-use Rattle.kernel_core.proofs.ActiveSets.{tells_same}
+use Rattle.kernel_process.proofs.ActiveSets.{tells_same}
 use Rattle.kernel_core.proofs.ExitSilent.{exit-silent}
-use Rattle.kernel_core.proofs.KeptMoved.{keys-moved}
+use Rattle.kernel_process.proofs.KeptMoved.{keys-moved}
 use Rattle.kernel_core.proofs.Performs.{acts-answers, acts-reports}
-use Rattle.kernel_core.proofs.SoundActs.{acts-well}
-use Rattle.kernel_core.proofs.Takes.{begun-well, closes-table, owner-below, well-calm, well-sound}
-use Rattle.kernel_core.specs.Acts.{Covers, acts, made_after}
+use Rattle.kernel_sound.proofs.Acts.{acts-well}
+use Rattle.kernel_sound.proofs.Events.{begun-well, owner-below, well-calm, well-sound}
+use Rattle.kernel_process.proofs.OneProcess.{closes-table}
+use Rattle.kernel_sound.specs.Acts.{Covers, acts, made_after}
 use Rattle.kernel_core.specs.Finishing.{AreOwnersBelow, IsCalmAfter, ending_of, finished, finishes, touched_by, touches, turned, turned_by, turned_on}
-use Rattle.kernel_core.specs.Kept.{IsKept}
-use Rattle.kernel_core.specs.Sound.{AreFor, GoesWell, IsSound}
-use Rattle.kernel_core.specs.State.{with_parts}
-use Rattle.kernel_core.specs.Steady.{StaysCalm, TakesAtMost}
+use Rattle.kernel_core.specs.Consistent.{AreConsistent, IsConsistent, Keeps}
+use Rattle.kernel_core.specs.declared.state.State.{State}
+use Rattle.kernel_sound.specs.Sound.{AreFor, GoesWell, IsSound}
+use Rattle.kernel_process.specs.Parts.{with_parts}
+use Rattle.kernel_process.specs.Steady.{StaysCalm, TakesAtMost}
 use Rattle.kernel_core.specs.declared.calling.Ending.{Ending}
-use Rattle.kernel_core.specs.declared.process.Kept.{Kept}
+use Rattle.kernel_process.specs.declared.process.ControlBlock.{ControlBlock}
 use Rattle.kernel_step.specs.Calls.{IsCallWith, is_active, refusal}
 use Rattle.kernel_step.specs.Kernel.{Kernel, Outcome, closes}
 use Rattle.kernel_step.specs.Progress.{means, progress}
 
 -- the end of an event, and what comes after it, keep what is kept
-pub kept-calm : (n made : ℕ) (old new : TableView) (xs ys : List Kept) → StaysCalm old new → TakesAtMost n xs ys → IsKept old xs made → IsKept new ys made
+pub kept-calm : (n made : ℕ) (old new : TableView) (xs ys : List ControlBlock) → StaysCalm old new → TakesAtMost n xs ys → AreConsistent old xs made → AreConsistent new ys made
 kept-calm n made old new xs ys calm kept is =
     record {
       sound = subst (λ m. IsSound new.kernel made m (entries new)) (sym kept.length) (calm.sound made (length xs) is.sound);
       active = tells_same (entries old) (entries new) xs ys is.active (keys-moved xs ys kept.active) calm.calm;
     }
 
--- an event that began with a service step has no reports
-pub none-reports : (n : ℕ) (t : EndId → Entry) (x : ServiceStep) (old new : Work) → progress t new ≡ means x (progress t old) → old.reports.items ≡ [] → AreFor n new.reports.items
-unfolding means progress
-none-reports n t x old new part none = subst (AreFor n) (sym (ap (λ d. d.reports) part ∙ none)) tt
-
--- and no answers
-pub none-answers : (n : ℕ) (t : EndId → Entry) (x : ServiceStep) (old new : Work) → progress t new ≡ means x (progress t old) → old.answers.items ≡ [] → AreFor n new.answers.items
-unfolding means progress
-none-answers n t x old new part none = subst (AreFor n) (sym (ap (λ d. d.answers) part ∙ none)) tt
+-- so they keep what every event keeps
+pub keeps-calm : (old : State) (t : TableView) (ys : List ControlBlock) (made : ℕ) → made ≡ old.made → StaysCalm old.table t → TakesAtMost 0 old.processes ys → IsConsistent old
+    → Keeps old (record { table = t; processes = ys; made = made })
+keeps-calm old t ys made links calm kept is =
+    record {
+      consistent = subst (λ n. AreConsistent t ys n) (sym links) (kept-calm 0 old.made old.table t old.processes ys calm kept is);
+      kernel = calm.kernel;
+      length = kept.length;
+    }
 
 -- a call that is no Wait comes to its end
 finished-call : (p : Pid) (k made : ℕ) (c : Call) (o : Outcome) → (c ≡ call.Wait → ⊥) → finished p (ending_of k made c) o ≡ finishes p k made c o
@@ -92,7 +94,7 @@ turned-made p (call.Print bytes) m s = refl
 turned-made p call.Exit m s = refl
 
 -- the event closes from the caller's phase, and with what the call added
-pub acted-closes : (p : Pid) (k made m : ℕ) (mine : List EndId) (c : Call) (s : Kernel) (t u : EndId → Entry) (xs ys : List Kept) (work out : Work)
+pub acted-closes : (p : Pid) (k made m : ℕ) (mine : List EndId) (c : Call) (s : Kernel) (t u : EndId → Entry) (xs ys : List ControlBlock) (work out : Work)
     → ((z : Kernel) → with_parts t ys z ≡ turned p c (with_parts t xs z)) → progress u out ≡ acts p k made mine c (progress t work)
     → closes (with_parts u ys (record s { made = m })) (progress u out) ≡ closes (record (turned p c (with_parts t xs s)) { made = m }) (acts p k made mine c (progress t work))
 unfolding with_parts
@@ -145,6 +147,10 @@ owners-below k j made m n t u before after call.Exit = tt
 -- what a call that is not refused leaves
 module _ (p : Pid) (k made : ℕ) (mine : List EndId) (c : Call) (t u : EndId → Entry) (work out : Work) (after : progress u out ≡ acts p k made mine c (progress t work)) where
   -- it gives no report
+  pub acted-none : work.reports.items ≡ [] → out.reports.items ≡ []
+  unfolding progress
+  acted-none none = ap (λ d. d.reports) after ∙ acts-reports p k made mine c (progress t work) ∙ none
+
   pub acted-reports : (n : ℕ) → work.reports.items ≡ [] → AreFor n out.reports.items
   unfolding progress
   acted-reports n none = subst (AreFor n) (sym (ap (λ d. d.reports) after ∙ acts-reports p k made mine c (progress t work) ∙ none)) tt

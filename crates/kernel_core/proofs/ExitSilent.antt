@@ -10,12 +10,12 @@ use Rattle.end_table.specs.Table.{IfHere, IsOfEnd}
 use Rattle.end_table.specs.declared.entry.Entry.{Entry}
 use Rattle.end_table.specs.declared.entry.Entry.TheVariants as entry
 use Rattle.end_table.specs.declared.entry.HereView.{HereView}
-use Rattle.kernel_core.proofs.SoundCalls.{IfHere-ends, end_each-stays, told-stays}
-use Rattle.kernel_core.proofs.SoundPut.{IfHere-away}
+use Rattle.kernel_sound.proofs.Calls.{IfHere-ends, end_each-stays, told-stays}
+use Rattle.kernel_sound.proofs.Put.{IfHere-away}
 use Rattle.kernel_step.specs.Actions.{enclosed_of, ends, here}
 use Rattle.kernel_step.specs.Calls.{ends_each, ends_here, is_active}
 use Rattle.kernel_step.specs.Progress.{Progress, keeps}
-use Rattle.move_core.proofs.Arrivals.{ended-IsHere}
+use Rattle.kernel_sound.proofs.Put.{ended-IsHere}
 
 -- p does not own the end, if it is here
 abbrev IsOfOther : Pid → Entry → Type 0

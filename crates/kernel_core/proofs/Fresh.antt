@@ -12,28 +12,29 @@ use Rattle.end_table.specs.declared.entry.Entry.{Entry}
 use Rattle.end_table.specs.declared.entry.Entry.TheVariants as entry
 use Rattle.kernel_step.specs.Calls.{inward_activity, is_active, is_started, outward_activity}
 use Rattle.kernel_step.specs.Start.{start_kernel, wired}
-use Rattle.kernel_core.specs.Kept.{IsKept}
-use Rattle.kernel_core.specs.Sound.{IsSound}
-use Rattle.kernel_core.specs.State.{kept_process, no_process, process_at, state_of}
-use Rattle.kernel_core.specs.Wired.{IsFresh}
-use Rattle.kernel_core.specs.declared.process.Kept.{Kept}
+use Rattle.kernel_core.specs.Consistent.{AreConsistent}
+use Rattle.kernel_sound.specs.Sound.{IsSound}
+use Rattle.kernel_process.specs.Parts.{process_state, no_process, process_at}
+use Rattle.kernel_core.specs.State.{state_of}
+use Rattle.kernel_process.specs.Fresh.{IsFresh}
+use Rattle.kernel_process.specs.declared.process.ControlBlock.{ControlBlock}
 
-all-tail : (x : Kept) (xs : List Kept) → All IsFresh (x ∷ xs) → All IsFresh xs
+all-tail : (x : ControlBlock) (xs : List ControlBlock) → All IsFresh (x ∷ xs) → All IsFresh xs
 all-tail x xs fresh = λ k d within. fresh (suc k) d (omega arith)
 
 -- processes that have made no call, by number
-fresh-at : (xs : List Kept) → All IsFresh xs → (q : ℕ) → process_at (map kept_process xs) q ≡ no_process
+fresh-at : (xs : List ControlBlock) → All IsFresh xs → (q : ℕ) → process_at (map process_state xs) q ≡ no_process
 unfolding process_at
 fresh-at [] fresh q = refl
 fresh-at (x ∷ xs) fresh zero = (fresh 0 x (omega arith)).process
 fresh-at (x ∷ xs) fresh (suc q) = fresh-at xs (all-tail x xs fresh) q
 
-fresh-get : (xs : List Kept) → All IsFresh xs → (i : ℕ) (x : Kept) → slice_get xs i ≡ Some x → IsFresh x
+fresh-get : (xs : List ControlBlock) → All IsFresh xs → (i : ℕ) (x : ControlBlock) → slice_get xs i ≡ Some x → IsFresh x
 fresh-get xs fresh i x is = subst IsFresh (sym (unwrap_or-slice_get xs i x) ∙ ap (λ o. unwrap_or o x) is) (fresh i x (slice_get_within xs i x is))
 
 -- the kernel state is that of the definitions
-pub state_of-start : (s : Setting) (k : ℕ) (t : TableView) (xs : List Kept) (made : ℕ) → t.kernel ≡ k → entries t ≡ (wired s).table k → made ≡ (wired s).made k → All IsFresh xs
-    → state_of (record { kernels = s.kernels; version = s.version; table = t; processes = map kept_process xs; made = made; stamp = 0 }) ≡ start_kernel s k
+pub state_of-start : (s : Setting) (k : ℕ) (t : TableView) (xs : List ControlBlock) (made : ℕ) → t.kernel ≡ k → entries t ≡ (wired s).table k → made ≡ (wired s).made k → All IsFresh xs
+    → state_of (record { kernels = s.kernels; version = s.version; table = t; processes = map process_state xs; made = made; stamp = 0 }) ≡ start_kernel s k
 unfolding state_of
 state_of-start s k t xs made kernel table made_is fresh = λ j. record {
   number = kernel j;
@@ -60,9 +61,9 @@ not_active p (entry.Left to hops) idle = refl
 not_active p (entry.Destroyed m) idle = refl
 
 -- and what is kept is kept well
-pub IsKept-start : (t : TableView) (xs : List Kept) (k made n : ℕ) → t.kernel ≡ k → length xs ≡ n → IsSound k made n (entries t) → ((e : EndId) → IfHere (entries t e) IsIdle) → All IsFresh xs
-    → IsKept t xs made
-IsKept-start t xs k made n kernel count sound idle fresh =
+pub IsConsistent-start : (t : TableView) (xs : List ControlBlock) (k made n : ℕ) → t.kernel ≡ k → length xs ≡ n → IsSound k made n (entries t) → ((e : EndId) → IfHere (entries t e) IsIdle) → All IsFresh xs
+    → AreConsistent t xs made
+IsConsistent-start t xs k made n kernel count sound idle fresh =
     record {
       sound = subst (λ i. IsSound i made (length xs) (entries t)) (sym kernel) (subst (λ i. IsSound k made i (entries t)) (sym count) sound);
       active = λ p x at e. ap (list_any (end_eq e)) (fresh-get xs fresh p.0 x at).active ∙ sym (not_active p (entries t e) (idle e));

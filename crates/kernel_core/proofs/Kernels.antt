@@ -1,13 +1,63 @@
 -- A kernel as its parts, before and after an event.
-use Rattle.std.proofs.Common.{◌≡◌, ℕ, List, map, max, ap, ◌∙◌}
+use Rattle.charlotte_calls.specs.declared.names.EndId.{EndId}
+use Rattle.charlotte_calls.specs.declared.names.Pid.{Pid}
 use Rattle.charlotte_calls.specs.declared.picture.Picture.{Picture}
+use Rattle.charlotte_calls.specs.declared.picture.PictureWhat.{PictureWhat}
 use Rattle.charlotte_calls.specs.declared.work.Effect.{Effect}
+use Rattle.charlotte_calls.specs.declared.work.Work.{Work}
+use Rattle.end_table.proofs.EndEq.{end_eq-refl}
+use Rattle.end_table.specs.Owned.{owned}
+use Rattle.end_table.specs.Place.{end_eq}
+use Rattle.end_table.specs.Table.{entries, IfHere}
 use Rattle.end_table.specs.Table.{entries}
-use Rattle.kernel_core.proofs.Takes.{state-parts, state-changed}
+use Rattle.end_table.specs.declared.entry.Entry.TheVariants as entry
+use Rattle.end_table.specs.declared.entry.Entry.{Entry}
+use Rattle.end_table.specs.declared.entry.HereView.{HereView}
+use Rattle.end_table.specs.declared.entry.Holder.TheVariants as holder
+use Rattle.end_table.specs.declared.entry.Holder.{Holder}
+use Rattle.kernel_sound.proofs.Rows.{row-well}
+use Rattle.kernel_sound.specs.Owners.{owner_in, owner_of}
+use Rattle.kernel_sound.specs.Sound.{IsSound, IsHeldWell, AreFor, GoesWell, addressee}
 use Rattle.kernel_core.specs.Started.{takes_addressed}
-use Rattle.kernel_core.specs.State.{KernelView, kept_process, process_at, state_of, ended, with_parts}
-use Rattle.kernel_core.specs.declared.process.Kept.{Kept}
+use Rattle.kernel_core.specs.State.{KernelView, state_of}
+use Rattle.kernel_process.specs.Parts.{process_state, no_process, process_at, with_parts}
+use Rattle.kernel_core.specs.State.{KernelView, state_of}
+use Rattle.kernel_process.specs.Parts.{process_state, process_at, ended, with_parts}
+use Rattle.kernel_core.specs.State.{KernelView, state_of}
+use Rattle.kernel_process.specs.Parts.{process_state, process_at, with_parts}
+use Rattle.kernel_process.specs.declared.process.ControlBlock.{ControlBlock}
+use Rattle.kernel_step.specs.Calls.{is_active}
+use Rattle.kernel_step.specs.Kernel.{Kernel, Process, closes}
+use Rattle.kernel_step.specs.Kernel.{Kernel, with_process, process_of}
 use Rattle.kernel_step.specs.Kernel.{begins, closes, next_stamp, take_step}
+use Rattle.kernel_step.specs.Progress.{Progress, progress}
+use Rattle.kernel_step.specs.Rows.{row}
+use Rattle.std.proofs.Common.{◌<◌, IfSome, ◌≡◌, ℕ, Bool, false, List, [], map, refl, sym, ap, subst, ◌∙◌}
+use Rattle.std.proofs.Common.{◌≡◌, ℕ, List, map, max, ap, ◌∙◌}
+use Rattle.std.proofs.Common.{◌≡◌, ◌≢◌, ◌⊎◌, inl, inr, ℕ, ◌<◌, true, false, nat_eq, List, length, slice_set, map, ap, sym, subst, ◌∙◌, if◌then◌else◌, get_or, cond}
+use Rattle.std.proofs.lemmas.Bool.Decides.{eqb_tells}
+use Rattle.std.proofs.lemmas.Grind.{get_or-set_at}
+use Rattle.std.proofs.lemmas.List.{get_or-set_other, map-set, get_or-map, length-map}
+use Rattle.kernel_process.proofs.OneProcess.{process_of-at, process_at-at, process_at-set}
+
+-- a kernel in the state that its parts have
+pub state-parts : (v : KernelView) (xs : List ControlBlock) → map process_state xs ≡ v.processes → with_parts (entries v.table) xs (state_of v) ≡ state_of v
+unfolding with_parts state_of
+state-parts v xs is = ap (λ (ps : List Process). record (state_of v) { process = process_at ps }) is
+
+-- a kernel whose parts changed
+pub state-changed : (v w : KernelView) (ys : List ControlBlock) → w.kernels ≡ v.kernels → w.version ≡ v.version → w.table.kernel ≡ v.table.kernel → map process_state ys ≡ w.processes
+    → state_of w ≡ with_parts (entries w.table) ys (record (state_of v) { made = w.made; stamp = w.stamp })
+unfolding with_parts state_of
+state-changed v w ys kernels version number is = λ i. record {
+  number = number i;
+  kernels = kernels i;
+  version = version i;
+  table = entries w.table;
+  process = process_at (sym is i);
+  made = w.made;
+  stamp = w.stamp;
+}
 
 -- a kernel of which no part that counts has changed
 pub state-same : (v w : KernelView) → w.kernels ≡ v.kernels → w.version ≡ v.version → w.table.kernel ≡ v.table.kernel → entries w.table ≡ entries v.table → w.processes ≡ v.processes → w.made ≡ v.made → w.stamp ≡ v.stamp → state_of w ≡ state_of v
@@ -23,7 +73,7 @@ state-same v w kernels version number table processes made stamp = λ i. record 
 }
 
 -- taking a packet, by the parts of the kernel
-pub take-by_parts : (v w : KernelView) (xs ys : List Kept) (from stamp : ℕ) (pic : Picture) (effect : Effect) → map kept_process xs ≡ v.processes → map kept_process ys ≡ w.processes
+pub take-by_parts : (v w : KernelView) (xs ys : List ControlBlock) (from stamp : ℕ) (pic : Picture) (effect : Effect) → map process_state xs ≡ v.processes → map process_state ys ≡ w.processes
     → w.kernels ≡ v.kernels → w.version ≡ v.version → w.table.kernel ≡ v.table.kernel → w.made ≡ v.made → w.stamp ≡ effect.stamp → stamp ≡ next_stamp (max v.stamp pic.stamp)
     → ended (with_parts (entries w.table) ys (record (state_of v) { stamp = effect.stamp })) effect ≡ closes (with_parts (entries v.table) xs (state_of v)) (takes_addressed v.kernels v.table.kernel v.made from pic.what (begins (state_of v) stamp))
     → ended (state_of w) effect ≡ take_step (state_of v) from pic
@@ -34,3 +84,22 @@ take-by_parts v w xs ys from stamp pic effect xs_are ys_are kernels version numb
     ∙ part
     ∙ ap (λ s. closes s (takes_addressed v.kernels v.table.kernel v.made from pic.what (begins (state_of v) stamp))) (state-parts v xs xs_are)
     ∙ ap (λ n. closes (state_of v) (takes_addressed v.kernels v.table.kernel v.made from pic.what (begins (state_of v) n))) next
+
+-- what a kernel has of a process that is one of its processes
+pub state_of-at : (v : KernelView) (xs : List ControlBlock) (d : ControlBlock) (i : ℕ) (p : Pid) → map process_state xs ≡ v.processes → i ≡ p.0 → p.0 < length v.processes → process_of p (state_of v) ≡ process_state (get_or xs i d)
+unfolding state_of
+state_of-at v xs d i p is at below = ap (λ ps. process_at ps p.0) (sym is) ∙ ap (λ n. process_at (map process_state xs) n) (sym at) ∙ process_at-at xs i d within
+  where
+    within : i < length xs
+    within = subst (λ n. n < length xs) (sym at) (subst (λ n. p.0 < n) (ap length (sym is) ∙ length-map xs process_state) below)
+
+-- a kernel in which one process changes
+pub state_of-set : (v w : KernelView) (xs : List ControlBlock) (i : ℕ) (y : ControlBlock) (p : Pid) → map process_state xs ≡ v.processes → w ≡ record v { processes = map process_state (slice_set xs i y) } → i ≡ p.0 → p.0 < length v.processes → state_of w ≡ with_process p (process_state y) (state_of v)
+unfolding state_of
+state_of-set v w xs i y p is now at below = ap state_of now ∙ λ j. record (state_of v) {
+  process = λ q. (process_at-set xs i y q within ∙ ap (λ n. cond (nat_eq n q) (process_state y) (process_at (map process_state xs) q)) at
+      ∙ ap (λ ps. cond (nat_eq p.0 q) (process_state y) (process_at ps q)) is) j;
+}
+  where
+    within : i < length xs
+    within = subst (λ n. n < length xs) (sym at) (subst (λ n. p.0 < n) (ap length (sym is) ∙ length-map xs process_state) below)

@@ -13,13 +13,13 @@ use Rattle.charlotte_calls.specs.declared.work.Work.{Work}
 use Rattle.end_table.specs.Owned.{AreEndsOf}
 use Rattle.end_table.specs.Table.{TableView, entries}
 use Rattle.kernel_core.proofs.Performs.{call-acts, call-refused}
-use Rattle.kernel_core.proofs.Processes.{process_of-at}
-use Rattle.kernel_core.specs.Acts.{acts, made_after}
+use Rattle.kernel_process.proofs.OneProcess.{process_of-at}
+use Rattle.kernel_sound.specs.Acts.{acts, made_after}
 use Rattle.kernel_core.specs.Finishing.{finishes, turned}
-use Rattle.kernel_core.specs.State.{kept_process, process_at, with_parts, ended}
+use Rattle.kernel_process.specs.Parts.{process_state, process_at, with_parts, ended}
 use Rattle.kernel_core.specs.Stepping.{HasParts, IsStepOf, Begins, AreListedFor, IsRefusedFor}
-use Rattle.kernel_core.specs.declared.process.Kept.{Kept}
-use Rattle.kernel_step.specs.Calls.{IsCallWith, refusal}
+use Rattle.kernel_process.specs.declared.process.ControlBlock.{ControlBlock}
+use Rattle.kernel_step.specs.Calls.{IsCallWith, link_limit, refusal}
 use Rattle.kernel_step.specs.Kernel.{Kernel, begins, closes, has_report, next_stamp, process_of, stands}
 use Rattle.kernel_step.specs.Progress.{progress, means}
 
@@ -34,19 +34,19 @@ all_ends p t mine listed call.Wait are others = (listed, others)
 all_ends p t mine listed (call.Print bytes) are others = (mine, tt)
 all_ends p t mine listed call.Exit are others = (mine, are (λ e. cc))
 
-module _ (t : TableView) (xs : List Kept) (made : ℕ) (s : Kernel) (has : HasParts t xs made s) where
+module _ (t : TableView) (xs : List ControlBlock) (made : ℕ) (s : Kernel) (has : HasParts t xs made s) where
   -- the table of such a state
   pub parts-table : s.table ≡ entries t
   unfolding with_parts
   parts-table = sym (ap (λ u. u.table) has.parts)
 
   -- and a process of it
-  pub parts-process : (p : Pid) (i : ℕ) (x : Kept) → i ≡ p.0 → i < length xs → x ≡ get_or xs i x → kept_process x ≡ process_of p s
-  parts-process p i x at below is = ap kept_process is ∙ sym (process_of-at (entries t) xs x s i p at below) ∙ ap (process_of p) has.parts
+  pub parts-process : (p : Pid) (i : ℕ) (x : ControlBlock) → i ≡ p.0 → i < length xs → x ≡ get_or xs i x → process_state x ≡ process_of p s
+  parts-process p i x at below is = ap process_state is ∙ sym (process_of-at (entries t) xs x s i p at below) ∙ ap (process_of p) has.parts
 
 -- a refusal of the parts is one of the state
-pub refusal-parts : (t : TableView) (xs : List Kept) (made : ℕ) (p : Pid) (c : Call) (i : ℕ) (x : Kept) (cause : Option Cause) → i ≡ p.0 → i < length xs → x ≡ get_or xs i x
-    → ((mine : List EndId) → IsCallWith p (entries t) mine c → cause ≡ refusal p (entries t) made mine (has_report (kept_process x)) c) → IsRefusedFor t xs made p c cause
+pub refusal-parts : (t : TableView) (xs : List ControlBlock) (made : ℕ) (p : Pid) (c : Call) (i : ℕ) (x : ControlBlock) (cause : Option Cause) → i ≡ p.0 → i < length xs → x ≡ get_or xs i x
+    → ((mine : List EndId) → IsCallWith p (entries t) mine c → cause ≡ refusal p (entries t) made mine (has_report (process_state x)) c) → IsRefusedFor t xs made p c cause
 refusal-parts t xs made p c i x cause at below is told s mine has ends =
     ap (λ u. refusal p u s.made mine (has_report (process_of p s)) c) (parts-table t xs made s has)
     ∙ ap (λ n. refusal p (entries t) n mine (has_report (process_of p s)) c) has.links
@@ -57,7 +57,7 @@ refusal-parts t xs made p c i x cause at below is told s mine has ends =
 links-same : (s : Kernel) (made stamp : ℕ) → s.made ≡ made → record s { made = made; stamp = stamp } ≡ record s { stamp = stamp }
 links-same s made stamp links = ap {A = ℕ} {B = Kernel} (λ n. record s { made = n; stamp = stamp }) (sym links)
 
-module _ (t u : TableView) (xs ys : List Kept) (made stamp : ℕ) (work : Work) (effect : Effect) (p : Pid) (mine : List EndId) (begun : Begins t stamp work) where
+module _ (t u : TableView) (xs ys : List ControlBlock) (made stamp : ℕ) (work : Work) (effect : Effect) (p : Pid) (mine : List EndId) (begun : Begins t stamp work) where
   -- a call that is refused
   pub refused-steps : (c : Call) (cause : Cause) → IsCallWith p (entries t) mine c → IsRefusedFor t xs made p c (Some cause)
       → ((s : Kernel) → ended (with_parts (entries u) ys (record s { stamp = effect.stamp })) effect ≡ stands p (answer.Refused cause) (closes (with_parts (entries t) xs s) (means (step.Refuse p c cause) (progress (entries t) work))))
@@ -95,27 +95,27 @@ module _ (t u : TableView) (xs ys : List Kept) (made stamp : ℕ) (work : Work) 
       ∙ sym (call-acts p s mine c (granted s mine has ends))
 
 -- a state with these parts
-sample : (t : TableView) (xs : List Kept) (made : ℕ) → Kernel
-sample t xs made = record { number = t.kernel; kernels = 0; version = 0; table = entries t; process = process_at (map kept_process xs); made = made; stamp = 0 }
+sample : (t : TableView) (xs : List ControlBlock) (made : ℕ) → Kernel
+sample t xs made = record { number = t.kernel; kernels = 0; version = 0; table = entries t; process = process_at (map process_state xs); made = made; stamp = 0 }
 
-sample-parts : (t : TableView) (xs : List Kept) (made : ℕ) → HasParts t xs made (sample t xs made)
+sample-parts : (t : TableView) (xs : List ControlBlock) (made : ℕ) → HasParts t xs made (sample t xs made)
 unfolding with_parts sample
 sample-parts t xs made = record { parts = refl; number = refl; links = refl }
 
-module _ (t : TableView) (xs : List Kept) (made : ℕ) (p : Pid) (c : Call) (granted : IsRefusedFor t xs made p c None) where
+module _ (t : TableView) (xs : List ControlBlock) (made : ℕ) (p : Pid) (c : Call) (granted : IsRefusedFor t xs made p c None) where
   -- a call that is not refused, by the table alone
   pub granted-parts : (mine : List EndId) → IsCallWith p (entries t) mine c → (reported : Bool) × (refusal p (entries t) made mine reported c ≡ None)
   unfolding sample
   granted-parts mine ends = (has_report (process_of p (sample t xs made)), granted (sample t xs made) mine (sample-parts t xs made) ends)
 
   -- a Make that is not refused leaves the limit of links
-  pub granted-make : c ≡ call.Make → made < 65536
+  pub granted-make : c ≡ call.Make → made < link_limit
   unfolding sample
   granted-make is = by (subst (λ k. IsRefusedFor t xs made p k None) is granted)
     where
-      chosen : (b : Bool) → nat_le 65536 made ≡ b → (if b then Some LinksFull else None) ≡ None → made < 65536
+      chosen : (b : Bool) → nat_le link_limit made ≡ b → (if b then Some LinksFull else None) ≡ None → made < link_limit
       chosen true full none = cc
       chosen false few none = search rules
 
-      by : IsRefusedFor t xs made p call.Make None → made < 65536
-      by granted = chosen (nat_le 65536 made) refl (granted (sample t xs made) [] (sample-parts t xs made) tt)
+      by : IsRefusedFor t xs made p call.Make None → made < link_limit
+      by granted = chosen (nat_le link_limit made) refl (granted (sample t xs made) [] (sample-parts t xs made) tt)

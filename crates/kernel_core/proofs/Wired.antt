@@ -21,9 +21,9 @@ use Rattle.end_table.specs.declared.entry.Entry.TheVariants as entry
 use Rattle.kernel_step.specs.Actions.{enclosed_of}
 use Rattle.kernel_step.specs.Calls.{made_end}
 use Rattle.kernel_step.specs.Start.{Wired, home, keeps_at, nothing_wired, owned_from_start, wired, wires_one}
-use Rattle.kernel_core.proofs.Needs.{IfHere-map}
-use Rattle.kernel_core.proofs.SoundPut.{put-each}
-use Rattle.kernel_core.specs.Sound.{AreHeldBy, IsHeldWell, IsSound}
+use Rattle.kernel_sound.proofs.Needs.{IfHere-map}
+use Rattle.kernel_sound.proofs.Put.{put-each}
+use Rattle.kernel_sound.specs.Sound.{AreHeldBy, IsHeldWell, IsSound}
 use Rattle.kernel_core.specs.Wired.{HasWired, wired_first, with_link}
 use Rattle.kernel_core.specs.declared.start.Wiring.{Wiring}
 

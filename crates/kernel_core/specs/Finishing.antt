@@ -13,7 +13,7 @@ use Rattle.end_table.specs.declared.entry.Entry.{Entry}
 use Rattle.end_table.specs.declared.entry.HereView.{HereView}
 use Rattle.end_table.specs.declared.entry.Inward.{Inward}
 use Rattle.end_table.specs.declared.entry.Inward.TheVariants as inward
-use Rattle.kernel_core.specs.Owners.{IsCalmBut, owner_of}
+use Rattle.kernel_sound.specs.Owners.{IsCalmBut, owner_of}
 use Rattle.kernel_core.specs.declared.calling.Ending.{Ending}
 use Rattle.kernel_core.specs.declared.calling.Ending.TheVariants as ending
 use Rattle.kernel_core.specs.declared.calling.Touched.{Touched}

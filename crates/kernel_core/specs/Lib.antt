@@ -1,14 +1,6 @@
-pub mod Wired
+pub mod Consistent
 pub mod Finishing
-pub mod State
-pub mod Sound
-pub mod Kept
-pub mod Needs
-pub mod Arrived
-pub mod Order
-pub mod Acts
-pub mod Closing
 pub mod Started
-pub mod Owners
-pub mod Steady
+pub mod State
 pub mod Stepping
+pub mod Wired

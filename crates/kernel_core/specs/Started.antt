@@ -1,21 +1,37 @@
--- An event that has added nothing yet, with room for what it will add.
-use Rattle.std.specs.Prelude.{◌≡◌, ℕ, ◌≤◌, [], Vec, vec_capacity, if◌then◌else◌}
+-- What an event may take for granted as it begins: what it is about, and its room.
+use Rattle.std.specs.Prelude.{◌≡◌, ℕ, ◌<◌, List, length, if◌then◌else◌}
 use Rattle.charlotte_calls.specs.Packets.{is_addressed}
+use Rattle.charlotte_calls.specs.declared.names.EndId.{EndId}
+use Rattle.charlotte_calls.specs.declared.packet.What.{What}
 use Rattle.charlotte_calls.specs.declared.picture.PictureWhat.{PictureWhat}
-use Rattle.std.specs.declared.alloc.Global.{Global}
-use Rattle.charlotte_calls.specs.declared.names.Pid.{Pid}
-use Rattle.charlotte_calls.specs.declared.work.Work.{Work}
-use Rattle.kernel_step.specs.Progress.{Progress, HasRoom}
+use Rattle.kernel_core.specs.Stepping.{Begins, AreListedFor}
+use Rattle.kernel_core.specs.declared.state.Request.{Request}
+use Rattle.kernel_core.specs.declared.state.State.{State}
+use Rattle.kernel_event.specs.Places.{ArePlaced, IsPlacedFor, brought}
+use Rattle.kernel_event.specs.Room.{and_ends, room_of_call, room_of_packet}
+use Rattle.kernel_process.specs.Closing.{HaveSpare, HavePlace, IsBegun}
+use Rattle.kernel_process.specs.declared.event.Event.{Event}
+use Rattle.kernel_step.specs.Progress.{Progress}
 use Rattle.kernel_step.specs.Rows.{row}
 
-pub record IsStarted (most : ℕ) (work : Work) (answered : Vec Pid Global) : Type 0 where
-  pub packets : work.packets.items ≡ []
-  pub reports : work.reports.items ≡ []
-  pub answers : work.answers.items ≡ []
-  pub steps : work.steps.items ≡ []
-  pub room : HasRoom most 3 1 6 work
-  pub nobody : answered.items ≡ []
-  pub places : 5 ≤ vec_capacity answered
+-- a call of one of the kernel's processes, which owns these ends, in order, where it exits
+pub record IsRequest (s : State) (r : Request) (mine : List EndId) : Type 0 where
+  pub process : r.p.0 < length s.processes
+  pub listed : AreListedFor r.p s.table mine r.call
+  pub placed : IsPlacedFor r.call s.table s.made
+
+-- all room that the event of a call needs was reserved
+pub record IsReadyToCall (s : State) (r : Request) (mine : List EndId) (event : Event) : Type 0 where
+  pub begun : IsBegun (and_ends (length mine) (room_of_call r.call)) 1 event
+  pub begins : Begins s.table event.work.stamp event.work
+  pub place : HavePlace s.processes
+
+-- all room that the event of a packet needs was reserved
+pub record IsReadyToTake (s : State) (what : What) (event : Event) : Type 0 where
+  pub begun : IsBegun (room_of_packet what) 0 event
+  pub placed : ArePlaced s.table (brought what)
+  pub spare : 0 < (room_of_packet what).reports → HaveSpare (room_of_packet what).reports s.processes
+  pub place : HavePlace s.processes
 
 -- what a kernel does with a packet: one that names a kernel that is not there is dropped
 abbrev pub takes_addressed : ℕ → ℕ → ℕ → ℕ → PictureWhat → Progress → Progress

@@ -1,4 +1,4 @@
--- What contracts see of a kernel, as the kernel state of the definitions, and what an event has come to as it ends.
+-- What contracts see of a kernel, as the kernel state of the definitions.
 use Rattle.std.specs.Prelude.{◌≡◌, ℕ, ◌+◌, ◌≤◌, List, [], Bool, true, false, map, None, slice_index_or, vec_len, vec_capacity}
 use Rattle.charlotte_calls.specs.declared.names.EndId.{EndId}
 use Rattle.charlotte_calls.specs.declared.work.Effect.{Effect}
@@ -8,7 +8,9 @@ use Rattle.kernel_step.specs.Kernel.{Kernel, Outcome, Process}
 use Rattle.kernel_step.specs.Progress.{sent_picture}
 use Rattle.kernel_step.specs.declared.phase.Phase.{Phase}
 use Rattle.kernel_step.specs.declared.phase.Phase.TheVariants.{Running, Waiting, Cancelling, Exited}
-use Rattle.kernel_core.specs.declared.process.Kept.{Kept}
+use Rattle.kernel_process.specs.declared.process.ControlBlock.{ControlBlock}
+unfoldable pub use Rattle.kernel_process.specs.Parts.{ended}
+use Rattle.kernel_process.specs.Parts.{process_at}
 
 -- what contracts see of a kernel; the number of the kernel is that of its table
 pub record KernelView : Type 0 where
@@ -19,14 +21,6 @@ pub record KernelView : Type 0 where
   pub processes : List Process
   pub made : ℕ
   pub stamp : ℕ
-
--- a number that no process has
-abbrev pub no_process : Process
-no_process = record { phase = Running; reports = []; answer = None }
-
--- the processes by number
-unfoldable pub process_at : List Process → ℕ → Process
-process_at xs q = slice_index_or xs q no_process
 
 -- the kernel state of the definitions
 unfoldable pub state_of : KernelView → Kernel
@@ -40,30 +34,6 @@ state_of v =
       made = v.made;
       stamp = v.stamp;
     }
-
--- the state of a process
-abbrev pub kept_process : Kept → Process
-kept_process x = record { phase = x.phase; reports = x.reports.items; answer = x.answer }
-
--- a kernel with this table and these processes
-unfoldable pub with_parts : (EndId → Entry) → List Kept → Kernel → Kernel
-with_parts t xs s = record s { table = t; process = process_at (map kept_process xs) }
-
--- what an event gives, as a kernel and an `Effect` have it
-unfoldable pub ended : Kernel → Effect → Outcome
-ended s effect = record { kernel = s; packets = map sent_picture effect.packets.items; answered = effect.answered.items; steps = effect.steps.items }
-
--- the effect's lists have room for so many answered processes and steps
-pub record HasPlaces (a s : ℕ) (effect : Effect) : Type 0 where
-  pub answered : vec_len effect.answered + a ≤ vec_capacity effect.answered
-  pub steps : vec_len effect.steps + s ≤ vec_capacity effect.steps
-
--- no list took memory, and each gained at most so many
-pub record GainsAtMost (a s : ℕ) (old new : Effect) : Type 0 where
-  pub answered : vec_len new.answered ≤ vec_len old.answered + a
-  pub steps : vec_len new.steps ≤ vec_len old.steps + s
-  pub answered_in_place : vec_capacity new.answered ≡ vec_capacity old.answered
-  pub steps_in_place : vec_capacity new.steps ≡ vec_capacity old.steps
 
 -- a process is in a Wait or Cancel whose answer does not stand
 abbrev pub is_pending : Phase → Bool

@@ -10,8 +10,6 @@ use Rattle.end_table.specs.Table.{entries}
 use Rattle.end_table.specs.declared.entry.Entry.{Entry}
 use Rattle.kernel_step.specs.Calls.{made_end}
 use Rattle.kernel_step.specs.Start.{Wired, keeps_at, nothing_wired, owned_from_start, wires_one}
-use Rattle.kernel_core.specs.State.{kept_process, no_process}
-use Rattle.kernel_core.specs.declared.process.Kept.{Kept}
 use Rattle.kernel_core.specs.declared.start.Wiring.{Wiring}
 
 -- the first n links of a setting, at all kernels
@@ -30,8 +28,3 @@ pub record HasWired (s : Setting) (n : ℕ) (x : Wiring) : Type 0 where
   pub table : entries x.table ≡ (wired_first s n).table x.table.kernel
   pub counts : length x.made ≡ 8
   pub made : (q : ℕ) → q < 8 → slice_index x.made q ≡ (wired_first s n).made q
-
--- a process that has made no call
-pub record IsFresh (x : Kept) : Type 0 where
-  pub process : kept_process x ≡ no_process
-  pub active : x.active.keys ≡ []

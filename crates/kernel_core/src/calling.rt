@@ -1,32 +1,27 @@
-ghost use Rattle.std.specs.Prelude.{◌≡◌, ◌+◌, ◌*◌, ◌<◌, ℕ, Bool, None, Some, length, map};
-ghost use Rattle.charlotte_calls.specs.declared.calls.Answer.TheVariants as answer;
-ghost use Rattle.charlotte_calls.specs.declared.calls.ServiceStep.TheVariants as step;
+ghost use Rattle.std.specs.Prelude.{◌≡◌, ◌+◌, ◌<◌, ℕ, Bool, [], None, Some, length, map};
 ghost use Rattle.charlotte_calls.specs.declared.names.EndId.{EndId};
 ghost use Rattle.charlotte_calls.specs.declared.names.Pid.{Pid};
 ghost use Rattle.end_table.specs.Owned.{owned};
 ghost use Rattle.end_table.specs.Table.{entries};
 ghost use Rattle.end_table.specs.declared.entry.Entry.{Entry};
-ghost use Rattle.kernel_core.specs.Acts.{acts, made_after, IsPlacedFor};
-ghost use Rattle.kernel_core.specs.Closing.{HaveSpare, HavePlace};
+ghost use Rattle.kernel_sound.specs.Acts.{acts, made_after};
+ghost use Rattle.kernel_sound.specs.Sound.{IsSound};
+ghost use Rattle.kernel_process.specs.Active.{Tells};
+ghost use Rattle.kernel_process.specs.Closing.{HavePlace, CanClose};
+ghost use Rattle.kernel_process.specs.Parts.{with_parts, ended, process_state, HasPlaces};
+ghost use Rattle.kernel_process.specs.Steady.{StaysCalm, TakesAtMost};
+ghost use Rattle.kernel_core.specs.Consistent.{IsConsistent};
 ghost use Rattle.kernel_core.specs.Finishing.{finishes, finished, ending_of, touched_by, turned, turned_on, turned_to, AreOwnersBelow, IsCalmAfter};
-ghost use Rattle.kernel_core.specs.Kept.{IsKept, Tells};
-ghost use Rattle.kernel_core.specs.Sound.{IsSound};
-ghost use Rattle.kernel_core.specs.Started.{IsStarted};
-ghost use Rattle.kernel_core.specs.State.{with_parts, ended, kept_process, HasPlaces};
-ghost use Rattle.kernel_core.specs.Steady.{StaysCalm, TakesAtMost};
-ghost use Rattle.kernel_step.specs.Calls.{refusal, IsCallWith};
-ghost use Rattle.kernel_step.specs.Kernel.{Kernel, closes, stands};
-ghost use Rattle.kernel_step.specs.Progress.{progress, means};
+ghost use Rattle.kernel_core.specs.Started.{IsRequest, IsReadyToCall};
+ghost use Rattle.kernel_step.specs.Calls.{link_limit, refusal};
+ghost use Rattle.kernel_step.specs.Kernel.{Kernel, closes};
+ghost use Rattle.kernel_step.specs.Progress.{progress, means, HasRoom};
 
-use crate::activity::clear;
-use crate::acts::act;
-use crate::closing::{close, exit, stand, turn, wait};
-use crate::owners::{owned, owner, refresh_owner};
-use crate::process::Kept;
-use charlotte_calls::{
-    Answer, Call, Cause, Effect, EndId, LinkId, Pid, ServiceStep, Side, Way, Work,
-};
-use end_table::{HereView, Inward, Table};
+use crate::state::{Request, State};
+use charlotte_calls::{Answer, Call, Effect, EndId, LinkId, Pid, ServiceStep, Side, Way};
+use end_table::{Inward, Living, Table};
+use kernel_event::act;
+use kernel_process::{Event, Processes, clear, close, exit, owner, refresh_owner, stand, turn};
 use kernel_step::{Phase, push_step};
 
 /// How a call that is no Wait ends.
@@ -42,7 +37,7 @@ enum Ending {
 
 /// Whose activities a call may change.
 #[derive(Drop)]
-enum Touched {
+pub(crate) enum Touched {
     Nothing,
     /// Those on one end, with the process that owned it before.
     End { on: EndId, before: Option<Pid> },
@@ -50,140 +45,61 @@ enum Touched {
     Caller,
 }
 
-/// The event of a call that is refused.
-pub(crate) fn refuse(
-    table: &mut Table,
-    processes: &mut [Kept],
-    p: Pid,
-    call: Call,
-    cause: Cause,
-    work: Work,
-    answered: Vec<Pid>,
-) -> Effect
-    requires process { p.0 < length processes.old }
-    requires started { IsStarted 0 work answered }
-    requires spare { HaveSpare 3 processes.old }
-    ensures part { (s : Kernel) → ended (with_parts (entries table.new) processes.new (record s { stamp = result.stamp })) result
-        ≡ stands p (answer.Refused cause) (closes (with_parts (entries table.old) processes.old s) (means (step.Refuse p call cause) (progress (entries table.old) work))) }
-    ensures kept { (made : ℕ) → IsKept table.old processes.old made → IsKept table.new processes.new made }
-    ensures kernel { table.new.kernel ≡ table.old.kernel }
-    ensures length { length processes.new ≡ length processes.old }
-{
-    let refused = ServiceStep::Refuse { p, call, cause };
-    let mut effect = close_step(table, processes, refused, work, answered);
-    stand(processes, &mut effect, p, Answer::Refused(cause));
-    effect
-}
-
-/// The event of a Wait that is not refused.
-pub(crate) fn wait_granted(
-    table: &mut Table,
-    processes: &mut [Kept],
-    p: Pid,
-    work: Work,
-    answered: Vec<Pid>,
-) -> Effect
-    requires process { p.0 < length processes.old }
-    requires started { IsStarted 0 work answered }
-    requires spare { HaveSpare 3 processes.old }
-    ensures part { (s : Kernel) (k made : ℕ) → ended (with_parts (entries table.new) processes.new (record s { stamp = result.stamp })) result
-        ≡ finishes p k made Call.Wait (closes (with_parts (entries table.old) processes.old s) (means (step.Wait p) (progress (entries table.old) work))) }
-    ensures kept { (made : ℕ) → IsKept table.old processes.old made → IsKept table.new processes.new made }
-    ensures kernel { table.new.kernel ≡ table.old.kernel }
-    ensures length { length processes.new ≡ length processes.old }
-{
-    let mut effect = close_step(table, processes, ServiceStep::Wait { p }, work, answered);
-    wait(table, processes, &mut effect, p);
-    effect
-}
-
 /// The event that means this step and adds nothing else is over.
-fn close_step(
-    table: &mut Table,
-    processes: &mut [Kept],
-    meant: ServiceStep,
-    mut work: Work,
-    answered: Vec<Pid>,
-) -> Effect
-    requires started { IsStarted 0 work answered }
-    requires spare { HaveSpare 3 processes.old }
-    ensures part { (s : Kernel) → ended (with_parts (entries table.new) processes.new (record s { stamp = result.stamp })) result
-        ≡ closes (with_parts (entries table.old) processes.old s) (means meant (progress (entries table.old) work)) }
-    ensures calm { StaysCalm table.old table.new }
-    ensures kept { TakesAtMost 3 processes.old processes.new }
-    ensures places { HasPlaces 1 1 result }
+pub(crate) fn close_step(state: &mut State, meant: ServiceStep, mut event: Event) -> Effect
+    requires reports { event.work.reports.items ≡ [] }
+    requires answers { event.work.answers.items ≡ [] }
+    requires room { HasRoom 0 0 0 1 event.work }
+    requires closes { CanClose 0 1 event }
+    ensures part { (s : Kernel) → ended (with_parts (entries state.new.table) state.new.processes (record s { stamp = result.stamp })) result
+        ≡ closes (with_parts (entries state.old.table) state.old.processes s) (means meant (progress (entries state.old.table) event.work)) }
+    ensures calm { StaysCalm state.old.table state.new.table }
+    ensures kept { TakesAtMost 0 state.old.processes state.new.processes }
+    ensures places { (a s : ℕ) → CanClose a (s + 1) event → HasPlaces a s result }
+    ensures made { state.new.made ≡ state.old.made }
 {
-    push_step(&mut work, meant);
-    close(table, processes, work, answered)
+    push_step(&mut event.work, meant);
+    close(&mut state.table, &mut state.processes, event)
 }
 
-/// The event of a call that is not refused, and is no Wait; `mine` are the ends that the caller owns, in order, where it exits.
-pub(crate) fn grant(
-    table: &mut Table,
-    processes: &mut [Kept],
-    made: u32,
-    p: Pid,
-    mine: &[EndId],
-    call: Call,
-    work: Work,
-    answered: Vec<Pid>,
-) -> Effect
-    requires kept { IsKept table.old processes.old made }
-    requires process { p.0 < length processes.old }
-    requires granted { (reported : Bool) × (refusal p (entries table.old) made mine.now reported call ≡ None) }
-    requires mine { IsCallWith p (entries table.old) mine.now call }
-    requires placed { IsPlacedFor call table.old made }
-    requires other { call ≡ Call.Wait → ⊥ }
-    requires started { IsStarted (17 + 9 * (length mine.now + 1)) work answered }
-    requires spare { HaveSpare 3 processes.old }
-    requires place { HavePlace processes.old }
-    ensures part { (s : Kernel) → ended (with_parts (entries table.new) processes.new (record s { made = made_after call made; stamp = result.stamp })) result
-        ≡ finishes p table.old.kernel made call
-        (closes (record (turned p call (with_parts (entries table.old) processes.old s)) { made = made_after call made })
-        (acts p table.old.kernel made mine.now call (progress (entries table.old) work))) }
-    ensures kept { IsKept table.new processes.new (made_after call made) }
-    ensures kernel { table.new.kernel ≡ table.old.kernel }
-    ensures length { length processes.new ≡ length processes.old }
+/// How many links are made after a call that is not refused.
+pub(crate) fn links_after(call: &Call, made: u32) -> u32
+    requires { call.now ≡ Call.Make → made < link_limit }
+    ensures { result ≡ made_after call.now made }
 {
-    let touched = touched_by(table, &call);
-    let effect = perform(table, processes, made, p, mine, call, work, answered);
-    refresh_touched(table, processes, p, touched);
-    effect
+    match call {
+        Call::Make => made + 1,
+        _ => made,
+    }
 }
 
-/// What a call does, to the end of its event; the sets of active ends stay.
-fn perform(
-    table: &mut Table,
-    processes: &mut [Kept],
-    made: u32,
-    p: Pid,
+/// What a call does, to the end of its event; the sets of active ends and the number of links stay.
+pub(crate) fn act_and_close(
+    state: &mut State,
+    request: Request,
     mine: &[EndId],
-    call: Call,
-    mut work: Work,
-    answered: Vec<Pid>,
+    mut event: Event,
 ) -> Effect
-    requires sound { IsSound table.old.kernel made (length processes.old) (entries table.old) }
-    requires process { p.0 < length processes.old }
-    requires granted { (reported : Bool) × (refusal p (entries table.old) made mine.now reported call ≡ None) }
-    requires mine { IsCallWith p (entries table.old) mine.now call }
-    requires placed { IsPlacedFor call table.old made }
-    requires other { call ≡ Call.Wait → ⊥ }
-    requires started { IsStarted (17 + 9 * (length mine.now + 1)) work answered }
-    requires spare { HaveSpare 3 processes.old }
-    ensures part { (s : Kernel) → ended (with_parts (entries table.new) processes.new (record s { made = made_after call made; stamp = result.stamp })) result
-        ≡ finishes p table.old.kernel made call
-        (closes (record (turned p call (with_parts (entries table.old) processes.old s)) { made = made_after call made })
-        (acts p table.old.kernel made mine.now call (progress (entries table.old) work))) }
-    ensures sound { IsSound table.new.kernel (made_after call made) (length processes.old) (entries table.new) }
-    ensures calm { IsCalmAfter p (touched_by (entries table.old) call) (entries table.old) (entries table.new) }
-    ensures kept { TakesAtMost 3 processes.old processes.new }
-    ensures kernel { table.new.kernel ≡ table.old.kernel }
+    requires consistent { IsConsistent state.old }
+    requires request { IsRequest state.old request mine.now }
+    requires granted { (reported : Bool) × (refusal request.p (entries state.old.table) state.old.made mine.now reported request.call ≡ None) }
+    requires other { request.call ≡ Call.Wait → ⊥ }
+    requires ready { IsReadyToCall state.old request mine.now event }
+    ensures part { (s : Kernel) → ended (with_parts (entries state.new.table) state.new.processes (record s { made = made_after request.call state.old.made; stamp = result.stamp })) result
+        ≡ finishes request.p state.old.table.kernel state.old.made request.call
+        (closes (record (turned request.p request.call (with_parts (entries state.old.table) state.old.processes s)) { made = made_after request.call state.old.made })
+        (acts request.p state.old.table.kernel state.old.made mine.now request.call (progress (entries state.old.table) event.work))) }
+    ensures sound { IsSound state.new.table.kernel (made_after request.call state.old.made) (length state.old.processes) (entries state.new.table) }
+    ensures calm { IsCalmAfter request.p (touched_by (entries state.old.table) request.call) (entries state.old.table) (entries state.new.table) }
+    ensures kept { TakesAtMost 0 state.old.processes state.new.processes }
+    ensures kernel { state.new.table.kernel ≡ state.old.table.kernel }
 {
-    let ending = ending_of(table.kernel(), made, &call);
-    turn_caller(table, processes, p, &call);
-    act(table, made, p, mine, call, &mut work);
-    let mut effect = close(table, processes, work, answered);
-    finish(processes, &mut effect, p, ending);
+    let Request { p, call } = request;
+    let ending = ending_of(state.table.kernel(), state.made, &call);
+    turn_caller(&state.table, &mut state.processes, p, &call);
+    act(&mut state.table, state.made, p, mine, call, &mut event.work);
+    let mut effect = close(&mut state.table, &mut state.processes, event);
+    finish(&mut state.processes, &mut effect, p, ending);
     effect
 }
 
@@ -223,7 +139,7 @@ fn ending_of_cancel(way: Way) -> Ending
 }
 
 /// What comes after the event.
-fn finish(processes: &mut [Kept], effect: &mut Effect, p: Pid, ending: Ending)
+fn finish(processes: &mut Processes, effect: &mut Effect, p: Pid, ending: Ending)
     requires process { p.0 < length processes.old }
     requires places { HasPlaces 1 0 effect.old }
     ensures part { (s : Kernel) (t : EndId → Entry) → ended (with_parts t processes.new s) effect.new ≡ finished p ending (ended (with_parts t processes.old s) effect.old) }
@@ -238,7 +154,7 @@ fn finish(processes: &mut [Kept], effect: &mut Effect, p: Pid, ending: Ending)
 }
 
 /// The caller of a Cancel of a receive that is posted waits.
-fn turn_caller(table: &Table, processes: &mut [Kept], p: Pid, call: &Call)
+fn turn_caller(table: &Table, processes: &mut Processes, p: Pid, call: &Call)
     requires { p.0 < length processes.old }
     ensures part { (s : Kernel) → with_parts (entries table.now) processes.new s ≡ turned p call.now (with_parts (entries table.now) processes.old s) }
     ensures kept { TakesAtMost 0 processes.old processes.new }
@@ -281,24 +197,24 @@ fn posted_toward(table: &Table, p: Pid, on: EndId, way: Way) -> Option<EndId>
 fn posted_on(table: &Table, p: Pid, on: EndId) -> Option<EndId>
     ensures { (s : Kernel) → turned_on p (owned p (entries table.now on)) s ≡ turned_to p result s }
 {
-    match owned(table, p, on) {
-        Some(view) => posted_in(&view),
+    match table.owned(p, on) {
+        Some(living) => posted_in(living),
         None => None,
     }
 }
 
 /// The end, where a receive is posted on it.
-fn posted_in(view: &HereView) -> Option<EndId>
-    ensures { (p : Pid) (s : Kernel) → turned_on p (Some view.now) s ≡ turned_to p result s }
+fn posted_in(living: &Living) -> Option<EndId>
+    ensures { (p : Pid) (s : Kernel) → turned_on p (Some living.now) s ≡ turned_to p result s }
 {
-    match view.inward {
-        Inward::Posted { .. } => Some(view.value.end),
+    match living.inward() {
+        Inward::Posted { .. } => Some(living.value().end),
         Inward::Idle | Inward::Withdrawing { .. } | Inward::Unreported => None,
     }
 }
 
 /// Whose activities a call may change.
-fn touched_by(table: &Table, call: &Call) -> Touched
+pub(crate) fn touched_by(table: &Table, call: &Call) -> Touched
     ensures { result ≡ touched_by (entries table.now) call.now }
 {
     match call {
@@ -315,12 +231,12 @@ fn touched_by(table: &Table, call: &Call) -> Touched
 }
 
 /// The sets of active ends tell of what was touched again.
-fn refresh_touched(table: &Table, processes: &mut [Kept], p: Pid, touched: Touched)
+pub(crate) fn refresh_touched(table: &Table, processes: &mut Processes, p: Pid, touched: Touched)
     requires process { p.0 < length processes.old }
     requires owners { AreOwnersBelow (length processes.old) (entries table.now) touched }
     requires place { HavePlace processes.old }
     ensures told { (t : EndId → Entry) → Tells t processes.old → IsCalmAfter p touched t (entries table.now) → Tells (entries table.now) processes.new }
-    ensures kept { map kept_process processes.new ≡ map kept_process processes.old }
+    ensures kept { map process_state processes.new ≡ map process_state processes.old }
     ensures length { length processes.new ≡ length processes.old }
 {
     match touched {

@@ -1,184 +1,64 @@
-ghost use Rattle.std.specs.Prelude.{◌≡◌, ◌+◌, ◌*◌, ◌<◌, true, false, length, map, None, Some, IfOk, OnOk, OnErr};
+ghost use Rattle.std.specs.Prelude.{◌≡◌, ◌<◌, true, false, length, map, None, Some, IfOk, OnOk, OnErr};
 ghost use Rattle.charlotte_calls.specs.declared.calls.Call.TheVariants as calls;
 ghost use Rattle.end_table.specs.Table.{entries};
-ghost use Rattle.kernel_core.specs.Acts.{made_after, IsPlacedFor};
-ghost use Rattle.kernel_core.specs.Closing.{HaveSpare, HavePlace};
-ghost use Rattle.kernel_core.specs.Kept.{IsKept, started_ends};
-ghost use Rattle.kernel_core.specs.Started.{IsStarted};
-ghost use Rattle.kernel_core.specs.State.{kept_process};
-ghost use Rattle.kernel_core.specs.Stepping.{IsCalled, Begins, AreListedFor, IsRefusedFor};
+ghost use Rattle.kernel_event.specs.Places.{IsPlacedFor};
+ghost use Rattle.kernel_core.specs.Consistent.{IsConsistent, Keeps, OnlyReserves};
+ghost use Rattle.kernel_core.specs.Started.{IsRequest, IsReadyToCall};
+ghost use Rattle.kernel_core.specs.Stepping.{IsCalled, AreListedFor, IsRefusedFor};
 
-use crate::calling::{grant, refuse, wait_granted};
-use crate::process::Kept;
+use crate::calling::{act_and_close, close_step, links_after, refresh_touched, touched_by};
 use crate::refusal::refusal;
-use crate::room::{new_answered, new_work, reserve_made, reserve_processes};
-use charlotte_calls::{Call, Cause, Effect, EndId, NoMemory, Pid, Work};
+use crate::room::{reserve_made, room_of_call};
+use crate::state::{Request, State};
+use charlotte_calls::{Answer, Call, Cause, Effect, EndId, NoMemory, Pid, ServiceStep};
 use end_table::Table;
+use kernel_process::{Event, stand, wait};
 use std::alloc::Global;
 
 /// The event of a call; `mine` are the ends that the caller owns, in order, where it exits.
-pub(crate) fn decide(
-    table: &mut Table,
-    processes: &mut [Kept],
-    made: &mut u32,
-    p: Pid,
-    stamp: u64,
-    mine: &[EndId],
-    call: Call,
-    work: Work,
-    answered: Vec<Pid>,
-) -> Effect
-    requires kept { IsKept table.old processes.old made.old }
-    requires process { p.0 < length processes.old }
-    requires mine { AreListedFor p table.old mine.now call }
-    requires placed { IsPlacedFor call table.old made.old }
-    requires started { IsStarted (17 + 9 * (length mine.now + 1)) work answered }
-    requires begins { Begins table.old stamp work }
-    requires spare { HaveSpare 3 processes.old }
-    requires place { HavePlace processes.old }
-    ensures step { IsCalled table.old processes.old made.old stamp table.new processes.new made.new result p call }
-    ensures kept { IsKept table.new processes.new made.new }
-    ensures kernel { table.new.kernel ≡ table.old.kernel }
-    ensures length { length processes.new ≡ length processes.old }
+fn decide(state: &mut State, request: Request, mine: &[EndId], event: Event) -> Effect
+    requires consistent { IsConsistent state.old }
+    requires request { IsRequest state.old request mine.now }
+    requires ready { IsReadyToCall state.old request mine.now event }
+    ensures step { IsCalled state.old event.work.stamp state.new result request.p request.call }
+    ensures keeps { Keeps state.old state.new }
 {
-    match cause_of(table, processes, *made, p, &call) {
-        Some(cause) => forbid(
-            table, processes, *made, p, stamp, mine, call, cause, work, answered,
-        ),
-        None => permit(table, processes, made, p, stamp, mine, call, work, answered),
+    match cause_of(state, &request) {
+        Some(cause) => refuse(state, request, mine, cause, event),
+        None => {
+            if is_wait(&request.call) {
+                wait_for_report(state, request, mine, event)
+            } else {
+                perform(state, request, mine, event)
+            }
+        }
     }
-}
-
-/// The event of a call that is not refused.
-fn permit(
-    table: &mut Table,
-    processes: &mut [Kept],
-    made: &mut u32,
-    p: Pid,
-    stamp: u64,
-    mine: &[EndId],
-    call: Call,
-    work: Work,
-    answered: Vec<Pid>,
-) -> Effect
-    requires kept { IsKept table.old processes.old made.old }
-    requires process { p.0 < length processes.old }
-    requires granted { IsRefusedFor table.old processes.old made.old p call None }
-    requires mine { AreListedFor p table.old mine.now call }
-    requires placed { IsPlacedFor call table.old made.old }
-    requires started { IsStarted (17 + 9 * (length mine.now + 1)) work answered }
-    requires begins { Begins table.old stamp work }
-    requires spare { HaveSpare 3 processes.old }
-    requires place { HavePlace processes.old }
-    ensures step { IsCalled table.old processes.old made.old stamp table.new processes.new made.new result p call }
-    ensures kept { IsKept table.new processes.new made.new }
-    ensures kernel { table.new.kernel ≡ table.old.kernel }
-    ensures length { length processes.new ≡ length processes.old }
-{
-    if is_wait(&call) {
-        return wait(table, processes, *made, p, stamp, call, work, answered);
-    }
-    let links = links_after(&call, *made);
-    let effect = allow(
-        table, processes, *made, p, stamp, mine, call, work, answered,
-    );
-    *made = links;
-    effect
 }
 
 /// The first cause for which a call is refused, if one holds.
-fn cause_of(table: &Table, processes: &[Kept], made: u32, p: Pid, call: &Call) -> Option<Cause>
-    requires kept { IsKept table.now processes.now made }
-    requires process { p.0 < length processes.now }
-    ensures { IsRefusedFor table.now processes.now made p call.now result }
+fn cause_of(state: &State, request: &Request) -> Option<Cause>
+    requires consistent { IsConsistent state.now }
+    requires process { request.now.p.0 < length state.now.processes }
+    ensures { IsRefusedFor state.now.table state.now.processes state.now.made request.now.p request.now.call result }
 {
-    refusal(table, made, &processes[usize::from(p.0)], p, call)
+    let process = state.processes.at(usize::from(request.p.0));
+    refusal(&state.table, state.made, process, request.p, &request.call)
 }
 
 /// The event of a call that is refused.
-fn forbid(
-    table: &mut Table,
-    processes: &mut [Kept],
-    made: u32,
-    p: Pid,
-    stamp: u64,
-    mine: &[EndId],
-    call: Call,
-    cause: Cause,
-    work: Work,
-    answered: Vec<Pid>,
-) -> Effect
-    requires kept { IsKept table.old processes.old made }
-    requires process { p.0 < length processes.old }
-    requires refused { IsRefusedFor table.old processes.old made p call (Some cause) }
-    requires mine { AreListedFor p table.old mine.now call }
-    requires started { IsStarted (17 + 9 * (length mine.now + 1)) work answered }
-    requires begins { Begins table.old stamp work }
-    requires spare { HaveSpare 3 processes.old }
-    ensures step { IsCalled table.old processes.old made stamp table.new processes.new made result p call }
-    ensures kept { IsKept table.new processes.new made }
-    ensures kernel { table.new.kernel ≡ table.old.kernel }
-    ensures length { length processes.new ≡ length processes.old }
+fn refuse(state: &mut State, request: Request, mine: &[EndId], cause: Cause, event: Event) -> Effect
+    requires consistent { IsConsistent state.old }
+    requires request { IsRequest state.old request mine.now }
+    requires refused { IsRefusedFor state.old.table state.old.processes state.old.made request.p request.call (Some cause) }
+    requires ready { IsReadyToCall state.old request mine.now event }
+    ensures step { IsCalled state.old event.work.stamp state.new result request.p request.call }
+    ensures keeps { Keeps state.old state.new }
 {
-    table.has_list_of(p);
-    refuse(table, processes, p, call, cause, work, answered)
-}
-
-/// The event of a Wait that is not refused.
-fn wait(
-    table: &mut Table,
-    processes: &mut [Kept],
-    made: u32,
-    p: Pid,
-    stamp: u64,
-    call: Call,
-    work: Work,
-    answered: Vec<Pid>,
-) -> Effect
-    requires kept { IsKept table.old processes.old made }
-    requires process { p.0 < length processes.old }
-    requires wait { call ≡ calls.Wait }
-    requires granted { IsRefusedFor table.old processes.old made p call None }
-    requires started { IsStarted 0 work answered }
-    requires begins { Begins table.old stamp work }
-    requires spare { HaveSpare 3 processes.old }
-    ensures step { IsCalled table.old processes.old made stamp table.new processes.new made result p call }
-    ensures kept { IsKept table.new processes.new made }
-    ensures kernel { table.new.kernel ≡ table.old.kernel }
-    ensures length { length processes.new ≡ length processes.old }
-{
-    table.has_list_of(p);
-    wait_granted(table, processes, p, work, answered)
-}
-
-/// The event of another call that is not refused.
-fn allow(
-    table: &mut Table,
-    processes: &mut [Kept],
-    made: u32,
-    p: Pid,
-    stamp: u64,
-    mine: &[EndId],
-    call: Call,
-    work: Work,
-    answered: Vec<Pid>,
-) -> Effect
-    requires kept { IsKept table.old processes.old made }
-    requires process { p.0 < length processes.old }
-    requires granted { IsRefusedFor table.old processes.old made p call None }
-    requires other { call ≡ calls.Wait → ⊥ }
-    requires mine { AreListedFor p table.old mine.now call }
-    requires placed { IsPlacedFor call table.old made }
-    requires started { IsStarted (17 + 9 * (length mine.now + 1)) work answered }
-    requires begins { Begins table.old stamp work }
-    requires spare { HaveSpare 3 processes.old }
-    requires place { HavePlace processes.old }
-    ensures step { IsCalled table.old processes.old made stamp table.new processes.new (made_after call made) result p call }
-    ensures kept { IsKept table.new processes.new (made_after call made) }
-    ensures kernel { table.new.kernel ≡ table.old.kernel }
-    ensures length { length processes.new ≡ length processes.old }
-{
-    grant(table, processes, made, p, mine, call, work, answered)
+    state.table.has_list_of(request.p);
+    let Request { p, call } = request;
+    let mut effect = close_step(state, ServiceStep::Refuse { p, call, cause }, event);
+    stand(&mut state.processes, &mut effect, p, Answer::Refused(cause));
+    effect
 }
 
 fn is_wait(call: &Call) -> bool
@@ -188,47 +68,57 @@ fn is_wait(call: &Call) -> bool
     matches!(call, Call::Wait)
 }
 
-/// How many links are made after a call that is not refused.
-fn links_after(call: &Call, made: u32) -> u32
-    requires { call.now ≡ calls.Make → made < 65536 }
-    ensures { result ≡ made_after call.now made }
+/// The event of a Wait that is not refused.
+fn wait_for_report(state: &mut State, request: Request, mine: &[EndId], event: Event) -> Effect
+    requires consistent { IsConsistent state.old }
+    requires request { IsRequest state.old request mine.now }
+    requires wait { request.call ≡ calls.Wait }
+    requires granted { IsRefusedFor state.old.table state.old.processes state.old.made request.p request.call None }
+    requires ready { IsReadyToCall state.old request mine.now event }
+    ensures step { IsCalled state.old event.work.stamp state.new result request.p request.call }
+    ensures keeps { Keeps state.old state.new }
 {
-    match call {
-        Call::Make => made + 1,
-        _ => made,
-    }
+    let p = request.p;
+    state.table.has_list_of(p);
+    let mut effect = close_step(state, ServiceStep::Wait { p }, event);
+    wait(&mut state.table, &mut state.processes, &mut effect, p);
+    effect
+}
+
+/// The event of another call that is not refused.
+fn perform(state: &mut State, request: Request, mine: &[EndId], event: Event) -> Effect
+    requires consistent { IsConsistent state.old }
+    requires request { IsRequest state.old request mine.now }
+    requires granted { IsRefusedFor state.old.table state.old.processes state.old.made request.p request.call None }
+    requires other { request.call ≡ calls.Wait → ⊥ }
+    requires ready { IsReadyToCall state.old request mine.now event }
+    ensures step { IsCalled state.old event.work.stamp state.new result request.p request.call }
+    ensures keeps { Keeps state.old state.new }
+{
+    let p = request.p;
+    let touched = touched_by(&state.table, &request.call);
+    let links = links_after(&request.call, state.made);
+    let effect = act_and_close(state, request, mine, event);
+    refresh_touched(&state.table, &mut state.processes, p, touched);
+    state.made = links;
+    effect
 }
 
 /// The event of a call with this stamp. For want of memory nothing has changed that counts.
 pub(crate) fn call_event(
     alloc: Global,
-    table: &mut Table,
-    processes: &mut [Kept],
-    made: &mut u32,
-    p: Pid,
+    state: &mut State,
+    request: Request,
     stamp: u64,
-    call: Call,
 ) -> Result<Effect, NoMemory>
-    requires kept { IsKept table.old processes.old made.old }
-    requires process { p.0 < length processes.old }
-    ensures step { IfOk result (λ effect. IsCalled table.old processes.old made.old stamp table.new processes.new made.new effect p call) }
-    ensures same { OnErr result ((entries table.new ≡ entries table.old) × (map kept_process processes.new ≡ map kept_process processes.old) × (made.new ≡ made.old)) }
-    ensures kept { IsKept table.new processes.new made.new }
-    ensures kernel { table.new.kernel ≡ table.old.kernel }
-    ensures length { length processes.new ≡ length processes.old }
+    requires consistent { IsConsistent state.old }
+    requires process { request.p.0 < length state.old.processes }
+    ensures step { IfOk result (λ effect. IsCalled state.old stamp state.new effect request.p request.call) }
+    ensures same { OnErr result (OnlyReserves state.old state.new) }
+    ensures keeps { Keeps state.old state.new }
 {
-    match reserve_calling(alloc, table, processes, *made, p, stamp, &call) {
-        Ok((mine, work, answered)) => Ok(decide(
-            table,
-            processes,
-            made,
-            p,
-            stamp,
-            mine.as_slice(),
-            call,
-            work,
-            answered,
-        )),
+    match reserve_calling(alloc, state, &request, stamp) {
+        Ok((mine, event)) => Ok(decide(state, request, mine.as_slice(), event)),
         Err(NoMemory) => Err(NoMemory),
     }
 }
@@ -236,30 +126,21 @@ pub(crate) fn call_event(
 /// Reserves all that the event of a call needs, and lists the caller's ends where it exits.
 fn reserve_calling(
     alloc: Global,
-    table: &mut Table,
-    processes: &mut [Kept],
-    made: u32,
-    p: Pid,
+    state: &mut State,
+    request: &Request,
     stamp: u64,
-    call: &Call,
-) -> Result<(Vec<EndId>, Work, Vec<Pid>), NoMemory>
-    ensures mine { IfOk result (λ r. AreListedFor p table.new r.0.items call.now) }
-    ensures started { IfOk result (λ r. IsStarted (17 + 9 * (length r.0.items + 1)) r.1 r.2) }
-    ensures begins { IfOk result (λ r. Begins table.new stamp r.1) }
-    ensures placed { OnOk result (IsPlacedFor call.now table.new made) }
-    ensures room { OnOk result (HaveSpare 3 processes.new × HavePlace processes.new) }
-    ensures entries { entries table.new ≡ entries table.old }
-    ensures kernel { table.new.kernel ≡ table.old.kernel }
-    ensures kept { map kept_process processes.new ≡ map kept_process processes.old }
-    ensures active { map started_ends processes.new ≡ map started_ends processes.old }
-    ensures length { length processes.new ≡ length processes.old }
+) -> Result<(Vec<EndId>, Event), NoMemory>
+    requires process { request.now.p.0 < length state.old.processes }
+    ensures request { IfOk result (λ r. IsRequest state.new request.now r.0.items) }
+    ensures ready { IfOk result (λ r. IsReadyToCall state.new request.now r.0.items r.1) }
+    ensures stamp { IfOk result (λ r. r.1.work.stamp ≡ stamp) }
+    ensures same { OnlyReserves state.old state.new }
 {
-    reserve_processes(processes)?;
-    reserve_places(table, made, call)?;
-    let mine = list_ends(alloc, table, p, call)?;
-    let work = new_work(alloc, stamp, mine.len())?;
-    let answered = new_answered(alloc)?;
-    Ok((mine, work, answered))
+    state.processes.reserve_places()?;
+    reserve_places(&mut state.table, state.made, &request.call)?;
+    let mine = list_ends(alloc, &state.table, request.p, &request.call)?;
+    let event = Event::begin(alloc, stamp, room_of_call(&request.call), mine.len(), 1)?;
+    Ok((mine, event))
 }
 
 /// Where the call is a Make, both ends of the new link get places.

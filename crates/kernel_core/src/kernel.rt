@@ -7,15 +7,17 @@ ghost use Rattle.kernel_step.specs.Calls.{IsCallWith};
 ghost use Rattle.kernel_step.specs.Kernel.{call_step, take_step, process_of, without_answer};
 ghost use Rattle.kernel_step.specs.Start.{start_kernel};
 ghost use Rattle.kernel_step.specs.declared.phase.Phase.TheVariants.{Running};
-ghost use Rattle.kernel_core.specs.State.{state_of, ended, is_pending, kept_process};
+ghost use Rattle.kernel_core.specs.State.{state_of, is_pending};
+ghost use Rattle.kernel_process.specs.Parts.{ended, process_state};
 
 use crate::deciding::call_event;
-use crate::process::Kept;
 use crate::stamp::{greater, stamp_after};
-use crate::start::{fresh_processes, wire_links};
+use crate::start::wire_links;
+use crate::state::{Request, State};
 use crate::taking::{NotTaken, take_event};
 use charlotte_calls::{Answer, Call, Effect, NoMemory, Packet, Pid, Setting};
 use end_table::Table;
+use kernel_process::{ControlBlock, Processes};
 use kernel_step::Phase;
 use std::alloc::Global;
 use std::marker::Model;
@@ -26,23 +28,22 @@ pub struct Kernel {
     alloc: Global,
     kernels: u8,
     version: u8,
-    table: Table,
-    /// The processes of the setting, by number. Those of other kernels stay as they start.
-    processes: Vec<Kept>,
-    made: u32,
+    /// The processes are those of the setting, by number. Those of other kernels stay as they start.
+    state: State,
     stamp: u64,
 }
 
 impl Model for Kernel {
     ghost use Rattle.std.specs.Prelude.{map};
-    ghost use Rattle.kernel_core.specs.State.{KernelView, kept_process};
-    ghost use Rattle.kernel_core.specs.Kept.{IsKept};
+    ghost use Rattle.kernel_core.specs.State.{KernelView};
+    ghost use Rattle.kernel_process.specs.Parts.{process_state};
+    ghost use Rattle.kernel_core.specs.Consistent.{IsConsistent};
 
     ghost Value = { KernelView };
 
-    ghost view = { λ k. record { kernels = k.kernels; version = k.version; table = k.table; processes = map kept_process k.processes.items; made = k.made; stamp = k.stamp } };
+    ghost view = { λ k. record { kernels = k.kernels; version = k.version; table = k.state.table; processes = map process_state k.state.processes; made = k.state.made; stamp = k.stamp } };
 
-    ghost invariant = { λ k. IsKept k.table k.processes.items k.made };
+    ghost invariant = { λ k. IsConsistent k.state };
 }
 
 impl Kernel {
@@ -54,14 +55,17 @@ impl Kernel {
         ensures processes { IfOk result (λ k. length k.processes ≡ length setting.now.homes) }
     {
         let (table, made) = wire_links(alloc, id, setting)?;
-        let processes = fresh_processes(alloc, setting.homes.len())?;
+        let processes = Processes::fresh(alloc, setting.homes.len())?;
+        let state = State {
+            table,
+            processes,
+            made,
+        };
         Ok(Kernel {
             alloc,
             kernels: setting.kernels,
             version: setting.version,
-            table,
-            processes,
-            made,
+            state,
             stamp: 0,
         })
     }
@@ -82,15 +86,7 @@ impl Kernel {
         ensures processes { length self.new.processes ≡ length self.old.processes }
     {
         let stamp = stamp_after(self.stamp);
-        let called = call_event(
-            self.alloc,
-            &mut self.table,
-            self.processes.as_mut_slice(),
-            &mut self.made,
-            p,
-            stamp,
-            call,
-        );
+        let called = call_event(self.alloc, &mut self.state, Request { p, call }, stamp);
         match called {
             Ok(effect) => {
                 self.stamp = effect.stamp;
@@ -112,9 +108,7 @@ impl Kernel {
         let stamp = stamp_after(greater(self.stamp, packet.stamp));
         let taken = take_event(
             self.alloc,
-            &mut self.table,
-            self.processes.as_mut_slice(),
-            self.made,
+            &mut self.state,
             self.kernels,
             from,
             stamp,
@@ -130,11 +124,11 @@ impl Kernel {
     }
 
     /// What the kernel keeps of a process.
-    fn process(&self, p: Pid) -> &Kept
+    fn process(&self, p: Pid) -> &ControlBlock
         requires { p.0 < length self.now.processes }
-        ensures { kept_process result.now ≡ process_of p (state_of self.now) }
+        ensures { process_state result.now ≡ process_of p (state_of self.now) }
     {
-        &self.processes[usize::from(p.0)]
+        self.state.processes.at(usize::from(p.0))
     }
 
     /// Whether a process is in a Wait or in a Cancel whose answer does not stand.
@@ -163,7 +157,8 @@ impl Kernel {
         ensures state { state_of self.new ≡ without_answer p (state_of self.old) }
         ensures processes { length self.new.processes ≡ length self.old.processes }
     {
-        self.processes[usize::from(p.0)].answer.take()
+        let process = self.state.processes.at_mut(usize::from(p.0));
+        process.answer.take()
     }
 
     /// The stamp of the last event, 0 before the first.
@@ -177,6 +172,6 @@ impl Kernel {
     pub fn table(&self) -> &Table
         ensures { result.now ≡ self.now.table }
     {
-        &self.table
+        &self.state.table
     }
 }

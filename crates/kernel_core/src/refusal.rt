@@ -8,12 +8,11 @@ ghost use Rattle.end_table.specs.Place.{end_eq};
 ghost use Rattle.end_table.specs.Table.{entries};
 ghost use Rattle.kernel_step.specs.Calls.{cancel_causes, first_of as first_cause, inward_activity, is_active, is_busy, is_free, is_late, link_limit, names_twice, no_causes, on_owned, outward_activity, receive_causes, refusal, same_link, send_causes, IsCallWith};
 ghost use Rattle.kernel_step.specs.Kernel.{has_report};
-ghost use Rattle.kernel_core.specs.State.{kept_process};
+ghost use Rattle.kernel_process.specs.Parts.{process_state};
 
-use crate::owners::owned;
-use crate::process::Kept;
 use charlotte_calls::{Call, Cause, EndId, Pid, Way};
-use end_table::{HereView, Inward, Outward, Table};
+use end_table::{Inward, Living, Outward, Table};
+use kernel_process::ControlBlock;
 use kernel_step::first_of;
 
 /// How many links a kernel may make.
@@ -23,13 +22,13 @@ const LINK_LIMIT: u32 = 65536;
 pub(crate) fn refusal(
     table: &Table,
     made: u32,
-    process: &Kept,
+    process: &ControlBlock,
     p: Pid,
     call: &Call,
 ) -> Option<Cause>
     requires active { (e : EndId) → list_any (end_eq e) process.now.active.keys ≡ is_active (owned p (entries table.now e)) }
     ensures { (mine : List EndId) → IsCallWith p (entries table.now) mine call.now
-        → result ≡ refusal p (entries table.now) made mine (has_report (kept_process process.now)) call.now }
+        → result ≡ refusal p (entries table.now) made mine (has_report (process_state process.now)) call.now }
 {
     match call {
         Call::Make => make_refusal(made),
@@ -54,7 +53,7 @@ fn make_refusal(made: u32) -> Option<Cause>
 fn destroy_refusal(table: &Table, p: Pid, on: EndId) -> Option<Cause>
     ensures { result ≡ on_owned (owned p (entries table.now on)) no_causes }
 {
-    match owned(table, p, on) {
+    match table.owned(p, on) {
         None => Some(Cause::NoEnd),
         Some(_) => None,
     }
@@ -63,19 +62,19 @@ fn destroy_refusal(table: &Table, p: Pid, on: EndId) -> Option<Cause>
 fn send_refusal(table: &Table, p: Pid, on: EndId, enclose: &[EndId]) -> Option<Cause>
     ensures { result ≡ on_owned (owned p (entries table.now on)) (send_causes p (entries table.now) on enclose.now) }
 {
-    match owned(table, p, on) {
+    match table.owned(p, on) {
         None => Some(Cause::NoEnd),
-        Some(view) => send_cause(table, p, on, enclose, &view),
+        Some(living) => send_cause(table, p, on, enclose, living),
     }
 }
 
-fn send_cause(table: &Table, p: Pid, on: EndId, enclose: &[EndId], view: &HereView) -> Option<Cause>
-    ensures { result ≡ first_cause (send_causes p (entries table.now) on enclose.now view.now) }
+fn send_cause(table: &Table, p: Pid, on: EndId, enclose: &[EndId], living: &Living) -> Option<Cause>
+    ensures { result ≡ first_cause (send_causes p (entries table.now) on enclose.now living.now) }
 {
-    if !is_free_outward(&view.outward) {
+    if !is_free_outward(living.outward()) {
         return Some(Cause::Busy);
     }
-    if view.value.dead {
+    if living.value().dead {
         return Some(Cause::Dead);
     }
     if encloses_no_end(table, p, enclose) {
@@ -96,10 +95,10 @@ fn send_cause(table: &Table, p: Pid, on: EndId, enclose: &[EndId], view: &HereVi
 fn receive_refusal(table: &Table, p: Pid, on: EndId) -> Option<Cause>
     ensures { result ≡ on_owned (owned p (entries table.now on)) receive_causes }
 {
-    match owned(table, p, on) {
+    match table.owned(p, on) {
         None => Some(Cause::NoEnd),
-        Some(view) if !is_free_inward(view.inward) => Some(Cause::Busy),
-        Some(view) if view.value.dead => Some(Cause::Dead),
+        Some(living) if !is_free_inward(living.inward()) => Some(Cause::Busy),
+        Some(living) if living.value().dead => Some(Cause::Dead),
         Some(_) => None,
     }
 }
@@ -107,12 +106,12 @@ fn receive_refusal(table: &Table, p: Pid, on: EndId) -> Option<Cause>
 fn cancel_refusal(table: &Table, p: Pid, on: EndId, way: Way) -> Option<Cause>
     ensures { result ≡ on_owned (owned p (entries table.now on)) (cancel_causes way) }
 {
-    match owned(table, p, on) {
+    match table.owned(p, on) {
         None => Some(Cause::NoEnd),
-        Some(view) if view.value.dead => Some(Cause::Dead),
-        Some(view) => match way {
-            Way::Outward => cancel_send_cause(&view.outward),
-            Way::Inward => cancel_receive_cause(view.inward),
+        Some(living) if living.value().dead => Some(Cause::Dead),
+        Some(living) => match way {
+            Way::Outward => cancel_send_cause(living.outward()),
+            Way::Inward => cancel_receive_cause(living.inward()),
         },
     }
 }
@@ -140,7 +139,7 @@ fn cancel_receive_cause(inward: Inward) -> Option<Cause>
 }
 
 /// A Wait needs a report that stands, or an activity that is started.
-fn wait_refusal(process: &Kept) -> Option<Cause>
+fn wait_refusal(process: &ControlBlock) -> Option<Cause>
     ensures { result ≡ (if not (nat_eq (length process.now.reports.items) 0) || not (nat_eq (length process.now.active.keys) 0) then None else Some cause.NoActivity) }
 {
     if process.reports.is_empty() && process.active.is_empty() {
@@ -165,7 +164,7 @@ fn is_free_inward(inward: Inward) -> bool
 fn encloses_no_end(table: &Table, p: Pid, ends: &[EndId]) -> bool
     ensures { result ≡ list_any (λ x. is_none (owned p (entries table.now x))) ends.now }
 {
-    ends.iter().any(|end| owned(table, p, *end).is_none())
+    ends.iter().any(|end| table.owned(p, *end).is_none())
 }
 
 /// Whether one of these ends of the process has an activity.
@@ -178,9 +177,9 @@ fn encloses_busy(table: &Table, p: Pid, ends: &[EndId]) -> bool
 fn is_busy(table: &Table, p: Pid, end: EndId) -> bool
     ensures { result ≡ is_busy (owned p (entries table.now end)) }
 {
-    match owned(table, p, end) {
+    match table.owned(p, end) {
         None => false,
-        Some(view) => !(is_free_outward(&view.outward) && is_free_inward(view.inward)),
+        Some(living) => !(is_free_outward(living.outward()) && is_free_inward(living.inward())),
     }
 }
 

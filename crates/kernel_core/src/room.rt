@@ -1,98 +1,72 @@
 //! The room that an event takes before it changes anything, so that nothing after it can fail for want of memory.
-ghost use Rattle.std.specs.Prelude.{◌≡◌, ◌+◌, ◌*◌, ◌^◌, ◌<◌, ◌≤◌, [], ◌∷◌, map, length, vec_capacity, IfOk, MatchOption, OnOk};
+ghost use Rattle.std.specs.Prelude.{◌≡◌, ◌<◌, [], ◌∷◌, map, length, MatchOption, OnOk};
 ghost use Rattle.charlotte_calls.specs.Names.{opposite};
 ghost use Rattle.charlotte_calls.specs.declared.picture.MovingPicture.{MovingPicture};
-ghost use Rattle.std.specs.VecDeque.{deque_len, deque_capacity};
-ghost use Rattle.indexmap.specs.IndexSet.{spare};
 ghost use Rattle.end_table.specs.Table.{entries, HasPlace, KeepsPlaces};
 ghost use Rattle.kernel_step.specs.Calls.{made_end};
-ghost use Rattle.kernel_step.specs.Kernel.{Kernel as KernelState, begins};
-ghost use Rattle.kernel_step.specs.Progress.{progress, HasRoom};
-ghost use Rattle.kernel_core.specs.Closing.{HaveSpare, HavePlace};
-ghost use Rattle.kernel_core.specs.Kept.{started_ends};
-ghost use Rattle.kernel_core.specs.Needs.{brought, ArePlaced};
-ghost use Rattle.kernel_core.specs.State.{kept_process};
+ghost use Rattle.kernel_process.specs.Closing.{HaveSpare};
+ghost use Rattle.kernel_event.specs.Room.{room_of_packet, room_of_call};
+ghost use Rattle.kernel_process.specs.Active.{started_ends};
+ghost use Rattle.kernel_event.specs.Places.{brought, ArePlaced};
+ghost use Rattle.kernel_process.specs.Parts.{process_state};
 
-use crate::process::Kept;
-use charlotte_calls::{EndId, LinkId, MovingPicture, NoMemory, Pid, Side, What, Work};
+use charlotte_calls::{Call, EndId, LinkId, MovingPicture, NoMemory, Room, Side, What};
 use end_table::Table;
-use std::alloc::Global;
+use kernel_process::Processes;
 
-/// How many packets the death of an end takes at most.
-const PACKETS_OF_AN_END: usize = 9;
-
-/// How many packets an event takes at most besides those for ends that die.
-const PACKETS_BESIDES: usize = 17;
-
-/// How many reports an event gives at most.
-const REPORTS: usize = 3;
-
-/// How many answers to a Cancel that waited an event gives at most.
-const ANSWERS: usize = 1;
-
-/// How many service steps an event means at most.
-const STEPS: usize = 6;
-
-/// For how many processes an answer comes to stand in an event at most.
-const ANSWERED: usize = 5;
-
-/// Each process gets room for the reports of an event, and for one more end with a started activity. A setting has at most 64
-/// processes.
-pub(crate) fn reserve_processes(processes: &mut [Kept]) -> Result<(), NoMemory>
-    ensures kept { map kept_process processes.new ≡ map kept_process processes.old }
-    ensures active { map started_ends processes.new ≡ map started_ends processes.old }
-    ensures room { OnOk result (HaveSpare 3 processes.new × HavePlace processes.new) }
-    ensures length { length processes.new ≡ length processes.old }
+/// How much the packet's part of an event may add.
+pub(crate) fn room_of_packet(what: &What) -> Room
+    ensures { result ≡ room_of_packet what.now }
 {
-    for process in processes.iter_mut() {
-        reserve_process(process)?;
-    }
-    Ok(())
-}
-
-fn reserve_process(process: &mut Kept) -> Result<(), NoMemory>
-    ensures kept { kept_process process.new ≡ kept_process process.old }
-    ensures active { started_ends process.new ≡ started_ends process.old }
-    ensures reports { OnOk result (deque_len process.new.reports + 3 ≤ deque_capacity process.new.reports) }
-    ensures place { OnOk result (1 ≤ spare process.new.active) }
-{
-    process.reports.reserve(REPORTS)?;
-    process.active.reserve(1)?;
-    Ok(())
-}
-
-/// Empty lists for what an event adds, with room for what it may add where a process owns so many ends.
-#[tactic(auto, unfolding(kernel_step::specs::Progress::progress))]
-pub(crate) fn new_work(alloc: Global, stamp: u64, ends: usize) -> Result<Work, NoMemory>
-    requires { ends < 2 ^ 60 }
-    ensures begins { IfOk result (λ work. (s : KernelState) → progress s.table work ≡ begins s stamp) }
-    ensures room { IfOk result (HasRoom (17 + 9 * (ends + 1)) 3 1 6) }
-    ensures stamp { IfOk result (λ work. work.stamp ≡ stamp) }
-    ensures packets { IfOk result (λ work. work.packets.items ≡ []) }
-    ensures reports { IfOk result (λ work. work.reports.items ≡ []) }
-    ensures answers { IfOk result (λ work. work.answers.items ≡ []) }
-    ensures steps { IfOk result (λ work. work.steps.items ≡ []) }
-{
-    let packets = Vec::with_capacity(alloc, PACKETS_BESIDES + PACKETS_OF_AN_END * (ends + 1))?;
-    let reports = Vec::with_capacity(alloc, REPORTS)?;
-    let answers = Vec::with_capacity(alloc, ANSWERS)?;
-    let steps = Vec::with_capacity(alloc, STEPS)?;
-    Ok(Work {
-        stamp,
+    let (packets, reports, answers, steps) = match what {
+        What::Want { .. } | What::Unwant { .. } => (3, 0, 0, 1),
+        What::Unwanted { .. } => (2, 0, 1, 1),
+        What::Parcel { .. } => (11, 1, 1, 1),
+        What::Taken { .. } => (2, 1, 0, 1),
+        What::Back { .. } => (17, 3, 1, 1),
+        What::Gone { .. } => (9, 2, 1, 1),
+        What::Moved { .. } => (3, 0, 0, 0),
+        What::Known { .. } | What::GoneSeen { .. } => (8, 0, 0, 0),
+        What::Forget { .. } => (0, 0, 0, 0),
+    };
+    Room {
         packets,
         reports,
         answers,
         steps,
-    })
+    }
 }
 
-/// An empty list of the processes for which an answer comes to stand, with room for those of an event.
-pub(crate) fn new_answered(alloc: Global) -> Result<Vec<Pid>, NoMemory>
-    ensures empty { IfOk result (λ v. v.items ≡ []) }
-    ensures room { IfOk result (λ v. 5 ≤ vec_capacity v) }
+/// How much the call's part of an event may add, without the packets for the ends of a process that exits.
+pub(crate) fn room_of_call(call: &Call) -> Room
+    ensures { result ≡ room_of_call call.now }
 {
-    let answered = Vec::with_capacity(alloc, ANSWERED)?;
-    Ok(answered)
+    let (packets, steps) = match call {
+        Call::Make | Call::Print { .. } | Call::Exit => (0, 1),
+        Call::Destroy { .. } => (9, 1),
+        Call::Send { .. } => (1, 2),
+        Call::Receive { .. } | Call::Cancel { .. } => (1, 1),
+        Call::Wait => (0, 2),
+    };
+    Room {
+        packets,
+        reports: 0,
+        answers: 0,
+        steps,
+    }
+}
+
+/// Each process gets room for so many reports, if there may be any.
+pub(crate) fn reserve_reports(processes: &mut Processes, most: u32) -> Result<(), NoMemory>
+    ensures kept { map process_state processes.new ≡ map process_state processes.old }
+    ensures active { map started_ends processes.new ≡ map started_ends processes.old }
+    ensures room { OnOk result (0 < most → HaveSpare most processes.new) }
+    ensures length { length processes.new ≡ length processes.old }
+{
+    if most == 0 {
+        return Ok(());
+    }
+    processes.reserve_reports(most as usize)
 }
 
 /// Every end whose value a packet brings gets a place.
@@ -153,61 +127,4 @@ pub(crate) fn reserve_made(table: &mut Table, made: u32) -> Result<(), NoMemory>
     };
     table.reserve(end)?;
     table.reserve(end.opposite())
-}
-
-#[cfg(test)]
-mod tests {
-    use super::*;
-    use crate::start::fresh_processes;
-    use charlotte_calls::{Cargo, Moving, Packet};
-    use end_table::Entry;
-    use std::test::Fail;
-
-    #[test]
-    fn each_process_gets_room(rt: HostRuntime) -> Result<(), Fail> {
-        let mut processes = fresh_processes(rt.alloc(), 3)?;
-        reserve_processes(processes.as_mut_slice())?;
-        assert_eq!(rt; processes.len(), 3);
-        for process in processes.iter() {
-            assert!(rt; process.reports.is_empty() && process.active.is_empty());
-            assert!(rt; process.reports.capacity() >= 3);
-            assert!(rt; process.active.capacity() >= 1);
-        }
-        Ok(())
-    }
-
-    #[test]
-    fn an_event_begins_with_room(rt: HostRuntime) -> Result<(), Fail> {
-        let work = new_work(rt.alloc(), 7, 2)?;
-        assert_eq!(rt; work.stamp, 7);
-        assert!(rt; work.packets.is_empty() && work.packets.capacity() >= 44);
-        assert!(rt; work.reports.is_empty() && work.reports.capacity() >= 3);
-        assert!(rt; work.answers.is_empty() && work.answers.capacity() >= 1);
-        assert!(rt; work.steps.is_empty() && work.steps.capacity() >= 6);
-        let answered = new_answered(rt.alloc())?;
-        assert!(rt; answered.is_empty() && answered.capacity() >= 5);
-        Ok(())
-    }
-
-    #[test]
-    fn places_change_no_entry(rt: HostRuntime) -> Result<(), Fail> {
-        let mut table = Table::start(rt.alloc(), 0);
-        let link = LinkId { maker: 1, count: 2 };
-        let (a, b) = Moving::pair(link, 1, 0);
-        let (first, second) = (a.end(), b.end());
-        a.destroy();
-        let mut moving = Cargo::empty();
-        moving.add(b);
-        let what = What::Back {
-            to: first,
-            n: 1,
-            moving,
-        };
-        let packet = Packet { stamp: 1, what };
-        reserve_brought(&mut table, &packet.what)?;
-        reserve_made(&mut table, 0)?;
-        assert!(rt; matches!(table.look(first), Entry::Nothing));
-        assert!(rt; matches!(table.look(second), Entry::Nothing));
-        Ok(())
-    }
 }

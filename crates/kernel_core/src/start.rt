@@ -11,16 +11,12 @@ ghost use Rattle.end_table.specs.declared.entry.Entry.TheVariants.{Here};
 ghost use Rattle.end_table.specs.declared.entry.Holder.TheVariants.{Owner};
 ghost use Rattle.kernel_step.specs.Calls.{made_end};
 ghost use Rattle.kernel_step.specs.Start.{home, keeps_at, wired};
-ghost use Rattle.kernel_core.specs.Sound.{IsSound};
-ghost use Rattle.kernel_core.specs.Wired.{HasWired, IsFresh, with_link};
+ghost use Rattle.kernel_sound.specs.Sound.{IsSound};
+ghost use Rattle.kernel_core.specs.Wired.{HasWired, with_link};
 
-use crate::process::Kept;
 use charlotte_calls::{LinkId, Moving, NoMemory, Pid, Setting};
 use end_table::{Holder, NotStored, Table};
-use indexmap::IndexSet;
-use kernel_step::Phase;
 use std::alloc::Global;
-use std::collections::VecDeque;
 
 /// What one kernel has of the links that were wired so far.
 #[derive(Drop)]
@@ -152,28 +148,5 @@ fn place(table: &mut Table, at: u8, value: Moving, owner: Pid) -> Result<(), NoM
             moving.destroy();
             Err(NoMemory)
         }
-    }
-}
-
-/// So many processes that have made no call.
-pub(crate) fn fresh_processes(alloc: Global, count: usize) -> Result<Vec<Kept>, NoMemory>
-    ensures count { IfOk result (λ ps. length ps.items ≡ count) }
-    ensures fresh { IfOk result (λ ps. All IsFresh ps.items) }
-{
-    let mut processes = Vec::new(alloc);
-    for _number in 0..count {
-        processes.push(fresh_process(alloc))?;
-    }
-    Ok(processes)
-}
-
-fn fresh_process(alloc: Global) -> Kept
-    ensures { IsFresh result }
-{
-    Kept {
-        phase: Phase::Running,
-        reports: VecDeque::new(alloc),
-        answer: None,
-        active: IndexSet::new(alloc),
     }
 }

@@ -1,23 +1,19 @@
-ghost use Rattle.std.specs.Prelude.{◌≡◌, length, map, IfOk, IfErr, OnOk, OnErr};
+ghost use Rattle.std.specs.Prelude.{◌≡◌, IfOk, IfErr, OnErr};
 ghost use Rattle.charlotte_calls.specs.Packets.{what_picture};
 ghost use Rattle.end_table.specs.Table.{entries};
-ghost use Rattle.kernel_core.specs.Closing.{HaveSpare, HavePlace};
-ghost use Rattle.kernel_core.specs.Kept.{IsKept, started_ends};
-ghost use Rattle.kernel_core.specs.Needs.{ArePlaced, brought};
-ghost use Rattle.kernel_core.specs.Sound.{addressee};
-ghost use Rattle.kernel_core.specs.State.{with_parts, ended, kept_process};
-ghost use Rattle.kernel_core.specs.Started.{IsStarted, takes_addressed};
+ghost use Rattle.kernel_sound.specs.Sound.{addressee};
+ghost use Rattle.kernel_process.specs.Parts.{with_parts, ended};
+ghost use Rattle.kernel_core.specs.Consistent.{IsConsistent, Keeps, OnlyReserves};
+ghost use Rattle.kernel_core.specs.Started.{IsReadyToTake, takes_addressed};
 ghost use Rattle.kernel_step.specs.Kernel.{Kernel, begins, closes};
 ghost use Rattle.kernel_step.specs.Progress.{progress};
 ghost use Rattle.kernel_step.specs.Rows.{row};
 
-use crate::closing::close;
-use crate::owners::{owner, refresh_owner};
-use crate::process::Kept;
-use crate::room::{new_answered, new_work, reserve_brought, reserve_processes};
-use crate::row::row;
-use charlotte_calls::{Effect, EndId, NoMemory, Packet, Pid, What, Work};
-use end_table::Table;
+use crate::room::{reserve_brought, reserve_reports, room_of_packet};
+use crate::state::State;
+use charlotte_calls::{Effect, EndId, NoMemory, Packet, What};
+use kernel_event::row;
+use kernel_process::{Event, close, owner, refresh_owner};
 use std::alloc::Global;
 
 /// The packet that a kernel could not take for want of memory.
@@ -27,31 +23,19 @@ pub struct NotTaken {
 }
 
 /// The event in which a kernel takes a packet from a kernel; all room that it needs was reserved.
-pub(crate) fn take(
-    table: &mut Table,
-    processes: &mut [Kept],
-    made: u32,
-    from: u8,
-    what: What,
-    mut work: Work,
-    answered: Vec<Pid>,
-) -> Effect
-    requires kept { IsKept table.old processes.old made }
-    requires placed { ArePlaced table.old (brought what) }
-    requires started { IsStarted 17 work answered }
-    requires spare { HaveSpare 3 processes.old }
-    requires place { HavePlace processes.old }
-    ensures part { (s : Kernel) → ended (with_parts (entries table.new) processes.new (record s { stamp = result.stamp })) result
-        ≡ closes (with_parts (entries table.old) processes.old s) (row table.old.kernel made from (what_picture what) (progress (entries table.old) work)) }
-    ensures kept { IsKept table.new processes.new made }
-    ensures kernel { table.new.kernel ≡ table.old.kernel }
-    ensures length { length processes.new ≡ length processes.old }
+fn take(state: &mut State, from: u8, what: What, mut event: Event) -> Effect
+    requires consistent { IsConsistent state.old }
+    requires ready { IsReadyToTake state.old what event }
+    ensures part { (s : Kernel) → ended (with_parts (entries state.new.table) state.new.processes (record s { stamp = result.stamp })) result
+        ≡ closes (with_parts (entries state.old.table) state.old.processes s) (row state.old.table.kernel state.old.made from (what_picture what) (progress (entries state.old.table) event.work)) }
+    ensures keeps { Keeps state.old state.new }
+    ensures made { state.new.made ≡ state.old.made }
 {
     let to = addressee(&what);
-    let before = owner(table, to);
-    row(table, made, from, what, &mut work);
-    let effect = close(table, processes, work, answered);
-    refresh_owner(table, processes, before, to);
+    let before = owner(&state.table, to);
+    row(&mut state.table, state.made, from, what, &mut event.work);
+    let effect = close(&mut state.table, &mut state.processes, event);
+    refresh_owner(&state.table, &mut state.processes, before, to);
     effect
 }
 
@@ -75,107 +59,75 @@ fn addressee(what: &What) -> EndId
 }
 
 /// The event of a packet, of which each named kernel is there or which is dropped.
-pub(crate) fn take_packet(
-    table: &mut Table,
-    processes: &mut [Kept],
-    made: u32,
-    kernels: u8,
-    from: u8,
-    packet: Packet,
-    work: Work,
-    answered: Vec<Pid>,
-) -> Effect
-    requires kept { IsKept table.old processes.old made }
-    requires placed { ArePlaced table.old (brought packet.what) }
-    requires started { IsStarted 17 work answered }
-    requires spare { HaveSpare 3 processes.old }
-    requires place { HavePlace processes.old }
-    ensures part { (s : Kernel) → ended (with_parts (entries table.new) processes.new (record s { stamp = result.stamp })) result
-        ≡ closes (with_parts (entries table.old) processes.old s)
-        (takes_addressed kernels table.old.kernel made from (what_picture packet.what) (progress (entries table.old) work)) }
-    ensures kept { IsKept table.new processes.new made }
-    ensures kernel { table.new.kernel ≡ table.old.kernel }
-    ensures length { length processes.new ≡ length processes.old }
+fn take_packet(state: &mut State, kernels: u8, from: u8, packet: Packet, event: Event) -> Effect
+    requires consistent { IsConsistent state.old }
+    requires ready { IsReadyToTake state.old packet.what event }
+    ensures part { (s : Kernel) → ended (with_parts (entries state.new.table) state.new.processes (record s { stamp = result.stamp })) result
+        ≡ closes (with_parts (entries state.old.table) state.old.processes s)
+        (takes_addressed kernels state.old.table.kernel state.old.made from (what_picture packet.what) (progress (entries state.old.table) event.work)) }
+    ensures keeps { Keeps state.old state.new }
+    ensures made { state.new.made ≡ state.old.made }
 {
     if packet.addressed(kernels) {
         let (_, what) = packet.open();
-        take(table, processes, made, from, what, work, answered)
+        take(state, from, what, event)
     } else {
-        pass(table, processes, made, work, answered)
+        pass(state, &packet.what, event)
     }
 }
 
 /// The event of a packet that is dropped.
-fn pass(
-    table: &mut Table,
-    processes: &mut [Kept],
-    made: u32,
-    work: Work,
-    answered: Vec<Pid>,
-) -> Effect
-    requires kept { IsKept table.old processes.old made }
-    requires started { IsStarted 17 work answered }
-    requires spare { HaveSpare 3 processes.old }
-    ensures part { (s : Kernel) → ended (with_parts (entries table.new) processes.new (record s { stamp = result.stamp })) result
-        ≡ closes (with_parts (entries table.old) processes.old s) (progress (entries table.old) work) }
-    ensures kept { IsKept table.new processes.new made }
-    ensures kernel { table.new.kernel ≡ table.old.kernel }
-    ensures length { length processes.new ≡ length processes.old }
+fn pass(state: &mut State, what: &What, event: Event) -> Effect
+    requires consistent { IsConsistent state.old }
+    requires ready { IsReadyToTake state.old what.now event }
+    ensures part { (s : Kernel) → ended (with_parts (entries state.new.table) state.new.processes (record s { stamp = result.stamp })) result
+        ≡ closes (with_parts (entries state.old.table) state.old.processes s) (progress (entries state.old.table) event.work) }
+    ensures keeps { Keeps state.old state.new }
+    ensures made { state.new.made ≡ state.old.made }
 {
-    close(table, processes, work, answered)
+    close(&mut state.table, &mut state.processes, event)
 }
 
 /// Reserves all that the event of a packet needs, so that nothing after it can fail.
-pub(crate) fn reserve_taking(
+fn reserve_taking(
     alloc: Global,
-    table: &mut Table,
-    processes: &mut [Kept],
+    state: &mut State,
     what: &What,
     stamp: u64,
-) -> Result<(Work, Vec<Pid>), NoMemory>
-    ensures started { IfOk result (λ r. IsStarted 17 r.0 r.1) }
-    ensures begins { IfOk result (λ r. (s : Kernel) → progress s.table r.0 ≡ begins s stamp) }
-    ensures placed { OnOk result (ArePlaced table.new (brought what.now)) }
-    ensures room { OnOk result (HaveSpare 3 processes.new × HavePlace processes.new) }
-    ensures entries { entries table.new ≡ entries table.old }
-    ensures kernel { table.new.kernel ≡ table.old.kernel }
-    ensures kept { map kept_process processes.new ≡ map kept_process processes.old }
-    ensures active { map started_ends processes.new ≡ map started_ends processes.old }
-    ensures length { length processes.new ≡ length processes.old }
+) -> Result<Event, NoMemory>
+    ensures ready { IfOk result (IsReadyToTake state.new what.now) }
+    ensures begins { IfOk result (λ event. (s : Kernel) → progress s.table event.work ≡ begins s stamp) }
+    ensures same { OnlyReserves state.old state.new }
 {
-    let work = new_work(alloc, stamp, 0)?;
-    let answered = new_answered(alloc)?;
-    reserve_processes(processes)?;
-    reserve_brought(table, what)?;
-    Ok((work, answered))
+    let room = room_of_packet(what);
+    let event = Event::begin(alloc, stamp, room, 0, 0)?;
+    reserve_reports(&mut state.processes, room.reports)?;
+    state.processes.reserve_places()?;
+    reserve_brought(&mut state.table, what)?;
+    Ok(event)
 }
 
 /// The event in which a kernel takes a packet, with this stamp. For want of memory the packet comes back.
 pub(crate) fn take_event(
     alloc: Global,
-    table: &mut Table,
-    processes: &mut [Kept],
-    made: u32,
+    state: &mut State,
     kernels: u8,
     from: u8,
     stamp: u64,
     packet: Packet,
 ) -> Result<Effect, NotTaken>
-    requires kept { IsKept table.old processes.old made }
-    ensures part { IfOk result (λ effect. (s : Kernel) → s.table ≡ entries table.old
-        → ended (with_parts (entries table.new) processes.new (record s { stamp = effect.stamp })) effect
-        ≡ closes (with_parts (entries table.old) processes.old s)
-        (takes_addressed kernels table.old.kernel made from (what_picture packet.what) (begins s stamp))) }
+    requires consistent { IsConsistent state.old }
+    ensures part { IfOk result (λ effect. (s : Kernel) → s.table ≡ entries state.old.table
+        → ended (with_parts (entries state.new.table) state.new.processes (record s { stamp = effect.stamp })) effect
+        ≡ closes (with_parts (entries state.old.table) state.old.processes s)
+        (takes_addressed kernels state.old.table.kernel state.old.made from (what_picture packet.what) (begins s stamp))) }
     ensures back { IfErr result (λ e. e.packet ≡ packet) }
-    ensures same { OnErr result ((entries table.new ≡ entries table.old) × (map kept_process processes.new ≡ map kept_process processes.old)) }
-    ensures kept { IsKept table.new processes.new made }
-    ensures kernel { table.new.kernel ≡ table.old.kernel }
-    ensures length { length processes.new ≡ length processes.old }
+    ensures same { OnErr result (OnlyReserves state.old state.new) }
+    ensures keeps { Keeps state.old state.new }
+    ensures made { state.new.made ≡ state.old.made }
 {
-    match reserve_taking(alloc, table, processes, &packet.what, stamp) {
-        Ok((work, answered)) => Ok(take_packet(
-            table, processes, made, kernels, from, packet, work, answered,
-        )),
+    match reserve_taking(alloc, state, &packet.what, stamp) {
+        Ok(event) => Ok(take_packet(state, kernels, from, packet, event)),
         Err(NoMemory) => Err(NotTaken { packet }),
     }
 }

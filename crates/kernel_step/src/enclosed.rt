@@ -11,9 +11,8 @@ use end_table::Outward;
 pub fn ends_in(moving: &Cargo) -> Ends
     ensures { result ≡ ends_in moving.now }
 {
-    let values = moving.picture();
     let mut ends: ArrayVec<EndId, 8> = ArrayVec::new();
-    for value in values.as_slice() {
+    for value in moving.values() {
         ends.push(value.end);
     }
     match Ends::from_slice(ends.as_slice()) {
@@ -23,11 +22,11 @@ pub fn ends_in(moving: &Cargo) -> Ends
 }
 
 /// The ends that a send encloses.
-pub fn enclosed_ends(outward: Outward) -> Ends
-    ensures { result ≡ enclosed_of outward }
+pub fn enclosed_ends(outward: &Outward) -> Ends
+    ensures { result ≡ enclosed_of outward.now }
 {
     match outward {
-        Outward::Waiting { enclosed, .. } => enclosed,
+        Outward::Waiting { enclosed, .. } => enclosed.copy(),
         Outward::Idle | Outward::Matched { .. } | Outward::Unreported => no_ends(),
     }
 }

@@ -1,52 +1,61 @@
 ghost use Rattle.std.specs.Prelude.{◌≡◌, false, [], ◌∷◌, MatchOption};
 ghost use Rattle.charlotte_calls.specs.declared.names.EndId.{EndId};
 ghost use Rattle.charlotte_calls.specs.declared.work.Work.{Work};
-ghost use Rattle.end_table.specs.Entries.{is_news};
+ghost use Rattle.end_table.specs.Entries.{is_news, learned};
 ghost use Rattle.end_table.specs.Place.{end_eq};
-ghost use Rattle.end_table.specs.Table.{entries, Puts, IsHere, IsHereAnd, IsIdle};
+ghost use Rattle.end_table.specs.Table.{entries, Puts, IfHere, IsHere, IsHereAnd, IsIdle};
 ghost use Rattle.end_table.specs.declared.entry.Entry.TheVariants.{Here};
-ghost use Rattle.kernel_step.specs.Actions.{here, hears, held, leaves_here, value_leaving};
+ghost use Rattle.kernel_step.specs.Actions.{here, held, leaves_here, value_leaving};
 ghost use Rattle.kernel_step.specs.Progress.{progress, keeps};
 
-use charlotte_calls::{EndId, Moving};
-use end_table::{Entry, HereView, Holder, Table};
+use charlotte_calls::{EndId, Moving, MovingPicture};
+use end_table::{Holder, Inward, Outward, Table};
 
-/// The view of an end that is here.
-pub fn here(table: &Table, on: EndId) -> HereView
-    requires { IsHere (entries table.now on) }
-    ensures view { entries table.now on ≡ Here result }
-    ensures own { result.value.end ≡ on }
+/// Keeps other fields and another receive of an end that is here.
+pub fn keep_inward(table: &mut Table, on: EndId, value: MovingPicture, inward: Inward)
+    requires here { IsHere (entries table.old on) }
+    requires same_end { value.end ≡ on }
+    ensures part { IfHere (entries table.old on) (λ v. (out : Work) → progress (entries table.new) out
+        ≡ keeps on (Here (record v { value = value; inward = inward })) (progress (entries table.old) out)) }
+    ensures puts { IfHere (entries table.old on) (λ v. Puts table.old table.new on (Here (record v { value = value; inward = inward }))) }
+    ensures kernel { table.new.kernel ≡ table.old.kernel }
 {
-    match table.look(on) {
-        Entry::Here(view) => view,
-        _ => unreachable!(),
-    }
+    table.set_inward(on, value, inward);
 }
 
-/// Keeps another view of an end that is here.
-#[tactic(auto, using(crate::proofs::Steps::progress_puts))]
-pub fn keep(table: &mut Table, view: HereView)
-    requires { IsHere (entries table.old view.value.end) }
-    ensures part { (out : Work) → progress (entries table.new) out ≡ keeps view.value.end (Here view) (progress (entries table.old) out) }
-    ensures puts { Puts table.old table.new view.value.end (Here view) }
+/// Keeps other fields and another send of an end that is here. It answers what the send was, with its message.
+pub fn keep_outward(
+    table: &mut Table,
+    on: EndId,
+    value: MovingPicture,
+    outward: Outward,
+) -> Outward
+    requires here { IsHere (entries table.old on) }
+    requires same_end { value.end ≡ on }
+    ensures was { IfHere (entries table.old on) (λ v. result ≡ v.outward) }
+    ensures part { IfHere (entries table.old on) (λ v. (out : Work) → progress (entries table.new) out
+        ≡ keeps on (Here (record v { value = value; outward = outward })) (progress (entries table.old) out)) }
+    ensures puts { IfHere (entries table.old on) (λ v. Puts table.old table.new on (Here (record v { value = value; outward = outward }))) }
+    ensures others { (q : EndId) → end_eq on q ≡ false → entries table.new q ≡ entries table.old q }
+    ensures kernel { table.new.kernel ≡ table.old.kernel }
 {
-    table.change(view.value.end, view);
+    table.set_outward(on, value, outward)
 }
 
 /// LEARN: an end hears that its opposite is at a kernel with these hops. It answers whether that was news.
-pub fn hear(view: &mut HereView, at: u8, hops: u32) -> bool
-    ensures heard { view.new ≡ hears view.old at hops }
-    ensures news { result ≡ is_news view.old.value hops }
+pub fn hear(value: &mut MovingPicture, at: u8, hops: u32) -> bool
+    ensures heard { value.new ≡ learned at hops value.old }
+    ensures news { result ≡ is_news value.old hops }
+    ensures end { value.new.end ≡ value.old.end }
 {
-    let news = view.value.hint.1 < hops;
+    let news = value.hint.1 < hops;
     if news {
-        view.value.hint = (at, hops);
+        value.hint = (at, hops);
     }
     news
 }
 
-/// LEAVE of an end that is here and idle: its value.
-#[tactic(auto, using(crate::proofs::Steps::progress_puts))]
+/// LEAVE of an end that is here and idle: its value. A dead end leaves no entry, and its place is given back.
 pub fn leave(table: &mut Table, end: EndId, to: u8) -> Moving
     requires idle { IsHereAnd (entries table.old end) IsIdle }
     ensures value { value_leaving table.old.kernel (here (entries table.old end)) ≡ result ∷ [] }
@@ -55,12 +64,12 @@ pub fn leave(table: &mut Table, end: EndId, to: u8) -> Moving
     ensures others { (q : EndId) → end_eq end q ≡ false → entries table.new q ≡ entries table.old q }
     ensures kernel { table.new.kernel ≡ table.old.kernel }
 {
-    let _view = here(table, end);
-    table.take_out(end, to)
+    let moving = table.take_out(end, to);
+    table.release(end);
+    moving
 }
 
 /// Another holder of an end that is here and idle.
-#[tactic(auto, using(crate::proofs::Steps::progress_puts))]
 pub fn hold(table: &mut Table, end: EndId, holder: Holder)
     requires idle { IsHereAnd (entries table.old end) IsIdle }
     ensures part { (out : Work) → progress (entries table.new) out
@@ -68,16 +77,14 @@ pub fn hold(table: &mut Table, end: EndId, holder: Holder)
     ensures others { (q : EndId) → end_eq end q ≡ false → entries table.new q ≡ entries table.old q }
     ensures kernel { table.new.kernel ≡ table.old.kernel }
 {
-    let mut view = here(table, end);
-    view.holder = holder;
-    table.change(end, view);
+    table.set_holder(end, holder);
 }
 
-/// The first of these ends and the others.
-pub fn first_of(ends: &[EndId]) -> Option<(EndId, &[EndId])>
-    ensures { MatchOption result (ends.now ≡ []) (λ p. ends.now ≡ p.0 ∷ p.1.now) }
+/// The first of these items and the others.
+pub fn first_of<T: Copy>(items: &[T]) -> Option<(T, &[T])>
+    ensures { MatchOption result (items.now ≡ []) (λ p. items.now ≡ p.0 ∷ p.1.now) }
 {
-    match ends {
+    match items {
         [] => None,
         [first, others @ ..] => Some((*first, others)),
     }

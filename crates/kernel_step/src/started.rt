@@ -1,10 +1,48 @@
-ghost use Rattle.std.specs.Prelude.{◌≡◌, IfSome};
+ghost use Rattle.std.specs.Prelude.{◌≡◌, IfSome, option_copied};
 ghost use Rattle.end_table.specs.Table.{entries};
 ghost use Rattle.end_table.specs.declared.entry.Entry.TheVariants.{Here};
+ghost use Rattle.kernel_step.specs.Actions.{is_withdrawing};
 ghost use Rattle.kernel_step.specs.Rows.{asks, awaits};
 
 use charlotte_calls::EndId;
-use end_table::{Entry, HereView, Inward, Outward, Table};
+use end_table::{Entry, HereView, Inward, Lent, Living, Outward, Table};
+
+/// An end whose receive w is started, lent.
+pub fn receiver(table: &Table, to: EndId, w: u32) -> Option<&Living>
+    ensures view { option_copied result ≡ asks w (entries table.now to) }
+    ensures here { IfSome result (λ l. entries table.now to ≡ Here l.now) }
+{
+    match table.lend(to) {
+        Lent::Here(living) => match living.inward() {
+            Inward::Posted { w: asked } | Inward::Withdrawing { w: asked } if asked == w => Some(
+                living,
+            ),
+            _ => None,
+        },
+        _ => None,
+    }
+}
+
+/// An end whose send n is matched, lent.
+pub fn sender(table: &Table, to: EndId, n: u32) -> Option<&Living>
+    ensures view { option_copied result ≡ awaits n (entries table.now to) }
+    ensures here { IfSome result (λ l. entries table.now to ≡ Here l.now) }
+{
+    match table.lend(to) {
+        Lent::Here(living) => match living.outward() {
+            Outward::Matched { n: matched } if *matched == n => Some(living),
+            _ => None,
+        },
+        _ => None,
+    }
+}
+
+/// Whether a Cancel of a receive waits.
+pub fn is_withdrawing(inward: Inward) -> bool
+    ensures { result ≡ is_withdrawing inward }
+{
+    matches!(inward, Inward::Withdrawing { .. })
+}
 
 /// The view of an end whose receive w is started.
 pub fn asking(table: &Table, to: EndId, w: u32) -> Option<HereView>

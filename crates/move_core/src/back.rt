@@ -2,8 +2,7 @@ ghost use Rattle.std.specs.Prelude.{◌≡◌, length, IfSome, false};
 ghost use Rattle.charlotte_calls.specs.declared.names.EndId.{EndId};
 ghost use Rattle.charlotte_calls.specs.declared.work.Work.{Work};
 ghost use Rattle.end_table.specs.Entries.{ended_entry};
-ghost use Rattle.end_table.specs.Table.{entries, HasPlace, IsHere, Puts};
-ghost use Rattle.end_table.specs.declared.entry.Entry.TheVariants.{Here};
+ghost use Rattle.end_table.specs.Table.{entries, HasPlace, IfHere, IsHere, Puts};
 ghost use Rattle.kernel_step.specs.Actions.{ends_idle, tell_arrivals};
 ghost use Rattle.kernel_step.specs.Progress.{progress, keeps, HasRoom, AddsAtMost};
 ghost use Rattle.kernel_step.specs.Rows.{awaits, give_back_row, gives_back, end_arrivals};
@@ -13,8 +12,8 @@ use crate::ending::tell_gone;
 use crate::parcel::settle_and_tell;
 use crate::settling::settle;
 use charlotte_calls::{Cargo, EndId, Moving, MovingPicture, Outcome, Work};
-use end_table::{HereView, Holder, Outward, Table};
-use kernel_step::{awaiting, ends_in, keep, report, send_report};
+use end_table::{Holder, Outward, Table};
+use kernel_step::{ends_in, keep_outward, report, send_report, sender};
 
 /// Of a back all but its NOTICE: at its matched send the report Destroyed, and each end that it brings becomes Here again
 /// and tells its opposite so. Anywhere else each is destroyed.
@@ -27,28 +26,28 @@ pub fn give_back(table: &mut Table, to: EndId, n: u32, moving: Cargo, out: &mut 
     ensures room { AddsAtMost 8 1 0 0 out.old out.new }
     ensures kernel { table.new.kernel ≡ table.old.kernel }
 {
-    match awaiting(table, to, n) {
-        Some(view) => return_ends(table, view, moving, out),
+    match sender(table, to, n) {
+        Some(_) => return_ends(table, to, moving, out),
         None => end_arrivals(table, to, moving, out),
     }
 }
 
 /// A matched send was not taken: it reports Destroyed, and its ends are its owner's again.
 #[tactic(auto, unfolding(kernel_step::specs::Rows::gives_back))]
-fn return_ends(table: &mut Table, mut view: HereView, moving: Cargo, out: &mut Work)
-    requires here { entries table.old view.value.end ≡ Here view }
+fn return_ends(table: &mut Table, on: EndId, moving: Cargo, out: &mut Work)
+    requires here { IsHere (entries table.old on) }
     requires away { AreAway table.old moving }
     requires apart { AreApart moving }
     requires room { HasRoom 8 1 0 0 out.old }
-    ensures part { progress (entries table.new) out.new
-        ≡ tell_arrivals table.old.kernel moving (gives_back moving view (progress (entries table.old) out.old)) }
+    ensures part { IfHere (entries table.old on) (λ v. progress (entries table.new) out.new
+        ≡ tell_arrivals table.old.kernel moving (gives_back moving v (progress (entries table.old) out.old))) }
     ensures room { AddsAtMost 8 1 0 0 out.old out.new }
     ensures kernel { table.new.kernel ≡ table.old.kernel }
 {
-    let on = view.value.end;
-    let holder = view.holder;
-    view.outward = Outward::Unreported;
-    keep(table, view);
+    let living = table.here(on);
+    let value = living.value();
+    let holder = living.holder();
+    keep_outward(table, on, value, Outward::Unreported);
     report(
         out,
         holder,

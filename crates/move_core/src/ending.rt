@@ -6,17 +6,17 @@ ghost use Rattle.charlotte_calls.specs.declared.picture.PictureWhat.TheVariants 
 ghost use Rattle.charlotte_calls.specs.declared.work.Work.{Work};
 ghost use Rattle.end_table.specs.Entries.{ended_entry};
 ghost use Rattle.end_table.specs.Place.{end_eq};
-ghost use Rattle.end_table.specs.Table.{entries, IfHere, IsHere, Puts};
+ghost use Rattle.end_table.specs.Table.{entries, IfHere, IsHere};
 ghost use Rattle.end_table.specs.declared.entry.Entry.{Entry};
-ghost use Rattle.end_table.specs.declared.entry.Entry.TheVariants.{Here, Destroyed};
+ghost use Rattle.end_table.specs.declared.entry.Entry.TheVariants.{Destroyed};
 ghost use Rattle.kernel_step.specs.Actions.{here, enclosed_of, tells_gone, ends_idle, ends_idle_here, end_each, ends};
 ghost use Rattle.kernel_step.specs.Enclosed.{AreEnclosed};
 ghost use Rattle.kernel_step.specs.Progress.{progress, sends, keeps, HasRoom, AddsAtMost};
 ghost use Rattle.kernel_step.specs.Rows.{goneseen_row, erases};
 
 use charlotte_calls::{EndId, Mark, MovingPicture, What, Work};
-use end_table::{Entry, HereView, Table};
-use kernel_step::{enclosed_ends, first_of, forget, here, push_packet};
+use end_table::{Lent, Table};
+use kernel_step::{enclosed_ends, first_of, forget, push_packet};
 
 /// The opposite end is told of the destruction, unless the link is known to be dead.
 #[tactic(auto, unfolding(kernel_step::specs::Actions::tells_gone))]
@@ -44,15 +44,18 @@ fn send_gone(out: &mut Work, kernel: u8, value: MovingPicture)
     push_packet(out, value.hint.0, gone);
 }
 
-/// An end that is here is destroyed.
-#[tactic(auto, using(kernel_step::proofs::Steps::progress_puts))]
-fn end_entry(table: &mut Table, view: &HereView)
-    requires here { entries table.old view.now.value.end ≡ Here view.now }
-    ensures part { (out : Work) → progress (entries table.new) out
-        ≡ keeps view.now.value.end (ended_entry view.now.value) (progress (entries table.old) out) }
-    ensures puts { Puts table.old table.new view.now.value.end (ended_entry view.now.value) }
+/// An end that is here is destroyed: its value. A dead end leaves no entry, and its place is given back.
+fn end_entry(table: &mut Table, on: EndId) -> MovingPicture
+    requires here { IsHere (entries table.old on) }
+    ensures value { IfHere (entries table.old on) (λ v. result ≡ v.value) }
+    ensures part { IfHere (entries table.old on) (λ v. (out : Work) → progress (entries table.new) out
+        ≡ keeps on (ended_entry v.value) (progress (entries table.old) out)) }
+    ensures others { (q : EndId) → end_eq on q ≡ false → entries table.new q ≡ entries table.old q }
+    ensures kernel { table.new.kernel ≡ table.old.kernel }
 {
-    table.end_here(view.value.end);
+    let mark = table.end_here(on);
+    table.release(on);
+    mark.picture()
 }
 
 /// END of an end that is here and idle.
@@ -66,9 +69,9 @@ fn end_idle(table: &mut Table, end: EndId, out: &mut Work)
     ensures others { (q : EndId) → end_eq end q ≡ false → entries table.new q ≡ entries table.old q }
     ensures kernel { table.new.kernel ≡ table.old.kernel }
 {
-    let view = here(table, end);
-    end_entry(table, &view);
-    tell_gone(out, table.kernel(), view.value);
+    let _living = table.here(end);
+    let value = end_entry(table, end);
+    tell_gone(out, table.kernel(), value);
 }
 
 /// END of each of these ends, in order.
@@ -102,11 +105,9 @@ pub fn destroy(table: &mut Table, on: EndId, out: &mut Work)
     ensures room { AddsAtMost 9 0 0 0 out.old out.new }
     ensures kernel { table.new.kernel ≡ table.old.kernel }
 {
-    let view = here(table, on);
     let kernel = table.kernel();
-    end_entry(table, &view);
-    let value = view.value;
-    let enclosed = enclosed_ends(view.outward);
+    let enclosed = enclosed_ends(table.here(on).outward());
+    let value = end_entry(table, on);
     end_each(table, enclosed.as_slice(), out);
     tell_gone(out, kernel, value);
 }
@@ -119,7 +120,7 @@ pub fn gone_seen(table: &mut Table, to: EndId, out: &mut Work)
     ensures room { AddsAtMost 8 0 0 0 out.old out.new }
     ensures kernel { table.new.kernel ≡ table.old.kernel }
 {
-    if let Entry::Destroyed(mark) = table.look(to) {
+    if let Lent::Destroyed(mark) = table.lend(to) {
         erase(table, mark, out);
     }
 }

@@ -11,8 +11,6 @@ mod parcel;
 mod routing;
 mod settling;
 mod spare;
-#[cfg(test)]
-mod tests;
 
 pub use back::give_back;
 pub use ending::{destroy, gone_seen};
@@ -22,4 +20,5 @@ pub use kernel_step::leave;
 pub use movement::{forget, known, moved};
 pub use parcel::arrive;
 pub use routing::route;
+pub use settling::settle;
 pub use spare::room;

@@ -1,12 +1,12 @@
 ghost use Rattle.std.specs.Prelude.{◌≡◌};
-ghost use Rattle.end_table.specs.Table.{entries};
-ghost use Rattle.end_table.specs.declared.entry.Entry.TheVariants.{Here, Destroyed};
+ghost use Rattle.end_table.specs.Table.{entries, IfHere, IsHere};
+ghost use Rattle.end_table.specs.declared.entry.Entry.TheVariants.{Destroyed};
 ghost use Rattle.kernel_step.specs.Progress.{progress, HasRoom, AddsAtMost};
 ghost use Rattle.kernel_step.specs.Rows.{moved_row, moved_here, mark_hears, moved_mark, known_row, known_here, forget_row};
 
 use charlotte_calls::{EndId, Mark, What, Work};
-use end_table::{Entry, HereView, Table};
-use kernel_step::{keep, listen, push_packet};
+use end_table::{Lent, Table};
+use kernel_step::{keep_inward, listen, push_packet};
 
 /// The row moved: the opposite of an end is at kernel `at` now.
 pub fn moved(table: &mut Table, to: EndId, at: u8, hops: u32, out: &mut Work)
@@ -16,30 +16,33 @@ pub fn moved(table: &mut Table, to: EndId, at: u8, hops: u32, out: &mut Work)
     ensures room { AddsAtMost 3 0 0 0 out.old out.new }
     ensures kernel { table.new.kernel ≡ table.old.kernel }
 {
-    match table.look(to) {
-        Entry::Nothing => {}
-        Entry::Here(view) => moved_here(table, view, at, hops, out),
-        Entry::Left { to: there, .. } => push_packet(out, there, What::Moved { to, at, hops }),
-        Entry::Destroyed(mark) => moved_mark(table, to, mark, at, hops, out),
+    match table.lend(to) {
+        Lent::Nothing => {}
+        Lent::Here(_) => moved_here(table, to, at, hops, out),
+        Lent::Left { to: there, .. } => push_packet(out, there, What::Moved { to, at, hops }),
+        Lent::Destroyed(mark) => moved_mark(table, to, mark, at, hops, out),
     }
 }
 
 /// The opposite of an end that is here has moved: the end learns it and answers.
 #[tactic(auto, unfolding(kernel_step::specs::Rows::moved_here))]
-fn moved_here(table: &mut Table, view: HereView, at: u8, hops: u32, out: &mut Work)
-    requires here { entries table.old view.value.end ≡ Here view }
+fn moved_here(table: &mut Table, on: EndId, at: u8, hops: u32, out: &mut Work)
+    requires here { IsHere (entries table.old on) }
     requires room { HasRoom 3 0 0 0 out.old }
-    ensures part { progress (entries table.new) out.new
-        ≡ moved_here table.old.kernel at hops view (progress (entries table.old) out.old) }
+    ensures part { IfHere (entries table.old on) (λ v. progress (entries table.new) out.new
+        ≡ moved_here table.old.kernel at hops v (progress (entries table.old) out.old)) }
     ensures room { AddsAtMost 3 0 0 0 out.old out.new }
     ensures kernel { table.new.kernel ≡ table.old.kernel }
 {
-    if view.value.dead {
+    if table.here(on).value().dead {
         return;
     }
-    let to = view.value.end.opposite();
-    listen(table, view, at, hops, out);
-    push_packet(out, at, What::Known { to, hops });
+    listen(table, on, at, hops, out);
+    let known = What::Known {
+        to: on.opposite(),
+        hops,
+    };
+    push_packet(out, at, known);
 }
 
 /// The opposite of a destroyed end has moved: it is told of the destruction.
@@ -81,27 +84,30 @@ pub fn known(table: &mut Table, to: EndId, hops: u32, out: &mut Work)
     ensures room { AddsAtMost 8 0 0 0 out.old out.new }
     ensures kernel { table.new.kernel ≡ table.old.kernel }
 {
-    if let Entry::Here(view) = table.look(to) {
-        known_here(table, view, hops, out);
+    if let Lent::Here(_) = table.lend(to) {
+        known_here(table, to, hops, out);
     }
 }
 
 /// That an end that is here has moved is known, where it has these hops.
 #[tactic(auto, unfolding(kernel_step::specs::Rows::known_here))]
-fn known_here(table: &mut Table, mut view: HereView, hops: u32, out: &mut Work)
-    requires here { entries table.old view.value.end ≡ Here view }
+fn known_here(table: &mut Table, on: EndId, hops: u32, out: &mut Work)
+    requires here { IsHere (entries table.old on) }
     requires room { HasRoom 8 0 0 0 out.old }
-    ensures part { progress (entries table.new) out.new
-        ≡ known_here table.old.kernel hops view (progress (entries table.old) out.old) }
+    ensures part { IfHere (entries table.old on) (λ v. progress (entries table.new) out.new
+        ≡ known_here table.old.kernel hops v (progress (entries table.old) out.old)) }
     ensures room { AddsAtMost 8 0 0 0 out.old out.new }
     ensures kernel { table.new.kernel ≡ table.old.kernel }
 {
-    if view.value.dead || view.value.hops != hops {
+    let living = table.here(on);
+    let mut value = living.value();
+    let inward = living.inward();
+    if value.dead || value.hops != hops {
         return;
     }
-    kernel_step::forget(out, table.kernel(), view.value);
-    view.value.trail = 0;
-    keep(table, view);
+    kernel_step::forget(out, table.kernel(), value);
+    value.trail = 0;
+    keep_inward(table, on, value, inward);
 }
 
 /// The row forget: an entry that tells where an end went is removed, where it has at most these hops.

@@ -11,7 +11,7 @@ ghost use Rattle.move_core.specs.Arriving.{AreAway, AreApart};
 use crate::settling::{settle, settle_each, tell_arrivals};
 use charlotte_calls::{Cargo, EndId, Moving, What, Work};
 use end_table::{Holder, Table};
-use kernel_step::{asking, push_packet};
+use kernel_step::{push_packet, receiver};
 
 /// Of a parcel the ends that came with its message: at the receive that it was sent for each becomes Here, and tells its
 /// opposite that it has moved. Anywhere else each leaves again, to kernel `at`, and goes back there.
@@ -24,8 +24,11 @@ pub fn arrive(table: &mut Table, to: EndId, n: u32, w: u32, at: u8, moving: Carg
     ensures room { AddsAtMost 8 0 0 0 out.old out.new }
     ensures kernel { table.new.kernel ≡ table.old.kernel }
 {
-    match asking(table, to, w) {
-        Some(view) => settle_and_tell(table, view.holder, moving, out),
+    match receiver(table, to, w) {
+        Some(living) => {
+            let holder = living.holder();
+            settle_and_tell(table, holder, moving, out)
+        }
         None => send_back(table, to, n, at, moving, out),
     }
 }
@@ -41,9 +44,8 @@ pub(crate) fn settle_and_tell(table: &mut Table, holder: Holder, moving: Cargo, 
     ensures kernel { table.new.kernel ≡ table.old.kernel }
 {
     let kernel = table.kernel();
-    let values = moving.picture();
+    tell_arrivals(out, kernel, moving.values());
     settle_each(table, holder, moving);
-    tell_arrivals(out, kernel, values.as_slice());
 }
 
 /// LEAVE of an end that a packet brought: its value.

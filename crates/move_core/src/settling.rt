@@ -12,11 +12,11 @@ ghost use Rattle.move_core.specs.Arriving.{AreAway, AreApart};
 
 use charlotte_calls::{Cargo, Moving, MovingPicture, Work};
 use end_table::{Holder, NotStored, Table};
-use kernel_step::tell_moved;
+use kernel_step::{first_of, tell_moved};
 
 /// An end that has a place becomes Here.
 #[tactic(auto, using(kernel_step::proofs::Steps::progress_puts))]
-pub(crate) fn settle(table: &mut Table, moving: Moving, holder: Holder)
+pub fn settle(table: &mut Table, moving: Moving, holder: Holder)
     requires place { HasPlace table.old moving.end }
     requires away { IsHere (entries table.old moving.end) → ⊥ }
     ensures part { (out : Work) → progress (entries table.new) out
@@ -71,15 +71,5 @@ pub(crate) fn tell_arrivals(out: &mut Work, kernel: u8, values: &[MovingPicture]
             tell_arrival(out, kernel, first);
             tell_arrivals(out, kernel, others);
         }
-    }
-}
-
-/// The first of these values and the others.
-fn first_of(values: &[MovingPicture]) -> Option<(MovingPicture, &[MovingPicture])>
-    ensures { MatchOption result (values.now ≡ []) (λ p. values.now ≡ p.0 ∷ p.1.now) }
-{
-    match values {
-        [] => None,
-        [first, others @ ..] => Some((*first, others)),
     }
 }

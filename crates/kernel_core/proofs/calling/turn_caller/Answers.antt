@@ -1,7 +1,7 @@
 -- The caller waits where a posted receive is cancelled.
 use Rattle.std.proofs.Common.{refl, sym, ◌∙◌}
 use Rattle.end_table.specs.Table.{entries}
-use Rattle.kernel_core.specs.State.{with_parts}
+use Rattle.kernel_process.specs.Parts.{with_parts}
 use Rattle.kernel_core.proofs.calling.turn_caller.Goals as goal
 
 pub returns-in-Some-clause-part : goal.returns-in-Some-clause-part

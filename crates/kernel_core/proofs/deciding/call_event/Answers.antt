@@ -1,19 +1,25 @@
 -- The reserved room leaves everything as it was.
-use Rattle.kernel_core.proofs.Reserved.{reserved-kept}
+use Rattle.std.proofs.Common.{ap, sym, subst, ◌∙◌}
 use Rattle.kernel_core.proofs.CalledParts.{called-before}
+use Rattle.kernel_core.proofs.Reserved.{reserved-keeps}
+use Rattle.kernel_core.specs.Stepping.{IsCalled}
 use Rattle.kernel_core.proofs.deciding.call_event.Goals as goal
 
-pub decide-requires-clause-kept : goal.decide-requires-clause-kept
-decide-requires-clause-kept c =
-    reserved-kept c.args.table.now c.reserve_calling.new.table c.args.processes.now c.reserve_calling.new.processes c.args.made.now c.requires.kept
-    c.reserve_calling.ensures.entries c.reserve_calling.ensures.kernel c.reserve_calling.ensures.active c.reserve_calling.ensures.length
+pub decide-requires-clause-consistent : goal.decide-requires-clause-consistent
+decide-requires-clause-consistent c = (reserved-keeps c.args.state.now c.reserve_calling.new.state c.requires.consistent c.reserve_calling.ensures.same).consistent
 
 pub returns-in-Ok-clause-step : goal.returns-in-Ok-clause-step
 returns-in-Ok-clause-step c =
-    called-before c.args.table.now c.reserve_calling.new.table c.decide.new.table c.args.processes.now c.reserve_calling.new.processes c.decide.new.processes c.args.made.now c.args.stamp c.decide.new.made c.decide.result c.args.p c.args.call
-    c.reserve_calling.ensures.entries c.reserve_calling.ensures.kernel c.reserve_calling.ensures.kept c.decide.ensures.step
+    called-before c.args.state.now c.reserve_calling.new.state c.decide.new.state c.args.stamp c.decide.result c.args.request.p c.args.request.call c.reserve_calling.ensures.same
+    (subst (λ n. IsCalled c.reserve_calling.new.state n c.decide.new.state c.decide.result c.args.request.p c.args.request.call) c.in-Ok.ensures.stamp c.decide.ensures.step)
 
-pub returns-in-Err-clause-kept : goal.returns-in-Err-clause-kept
-returns-in-Err-clause-kept c =
-    reserved-kept c.args.table.now c.reserve_calling.new.table c.args.processes.now c.reserve_calling.new.processes c.args.made.now c.requires.kept
-    c.reserve_calling.ensures.entries c.reserve_calling.ensures.kernel c.reserve_calling.ensures.active c.reserve_calling.ensures.length
+pub returns-in-Ok-clause-keeps : goal.returns-in-Ok-clause-keeps
+returns-in-Ok-clause-keeps c =
+    record {
+      consistent = c.decide.ensures.keeps.consistent;
+      kernel = c.decide.ensures.keeps.kernel ∙ c.reserve_calling.ensures.same.kernel;
+      length = c.decide.ensures.keeps.length ∙ c.reserve_calling.ensures.same.length;
+    }
+
+pub returns-in-Err-clause-keeps : goal.returns-in-Err-clause-keeps
+returns-in-Err-clause-keeps c = reserved-keeps c.args.state.now c.reserve_calling.new.state c.requires.consistent c.reserve_calling.ensures.same

@@ -3,7 +3,7 @@ use Rattle.end_table.specs.Table.{entries, IfHere, IsIdle}
 use Rattle.kernel_step.specs.Start.{wired}
 use Rattle.kernel_core.proofs.Wired.{made-wired, table-wired, wired-idle, wired-sound}
 use Rattle.kernel_core.proofs.start.wire_links.Goals as goal
-use Rattle.kernel_core.specs.Sound.{IsSound}
+use Rattle.kernel_sound.specs.Sound.{IsSound}
 
 pub returns-clause-table : goal.returns-clause-table
 returns-clause-table c = table-wired c.args.setting.now c.in_ok-table.field-0 c.args.id c.in_ok-table.ensures.kernel c.in_ok-table.ensures.wired

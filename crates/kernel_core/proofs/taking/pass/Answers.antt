@@ -1,18 +1,28 @@
 -- The end of the event leaves the table sound and the activities as they were.
-use Rattle.std.proofs.Common.{length, sym, subst}
-use Rattle.end_table.specs.Table.{entries}
-use Rattle.kernel_core.proofs.ActiveSets.{tells_same}
-use Rattle.kernel_core.proofs.KeptMoved.{keys-moved}
-use Rattle.kernel_core.specs.Sound.{IsSound}
+use Rattle.std.proofs.Common.{length, refl, ap, sym, subst, arith}
+use Rattle.kernel_core.proofs.Begun.{begun-closes}
+use Rattle.kernel_core.proofs.Callings.{keeps-calm}
+use Rattle.kernel_event.specs.Room.{room_of_packet}
+use Rattle.kernel_process.specs.Closing.{HaveSpareFor}
+use Rattle.kernel_process.specs.Steady.{TakesAtMost}
+use Rattle.kernel_sound.specs.Sound.{AreFor}
 use Rattle.kernel_core.proofs.taking.pass.Goals as goal
 
-pub returns-clause-kept : goal.returns-clause-kept
-returns-clause-kept c =
-    record {
-      sound =
-          subst (λ n. IsSound c.close.new.table.kernel c.args.made n (entries c.close.new.table)) (sym c.close.ensures.kept.length)
-          (c.close.ensures.calm.sound c.args.made (length c.args.processes.now) c.requires.kept.sound);
-      active =
-          tells_same (entries c.args.table.now) (entries c.close.new.table) c.args.processes.now c.close.new.processes c.requires.kept.active
-          (keys-moved c.args.processes.now c.close.new.processes c.close.ensures.kept.active) c.close.ensures.calm.calm;
-    }
+pub close-requires-clause-reports : goal.close-requires-clause-reports
+close-requires-clause-reports c = subst (AreFor (length c.args.state.now.processes)) (sym c.requires.ready.begun.reports) tt
+
+pub close-requires-clause-answers : goal.close-requires-clause-answers
+close-requires-clause-answers c = subst (AreFor (length c.args.state.now.processes)) (sym c.requires.ready.begun.answers) tt
+
+pub close-requires-clause-spare : goal.close-requires-clause-spare
+close-requires-clause-spare c = subst (λ rs. HaveSpareFor rs c.args.state.now.processes) (sym c.requires.ready.begun.reports) tt
+
+pub close-requires-clause-room : goal.close-requires-clause-room
+close-requires-clause-room c =
+    let closes = begun-closes (room_of_packet c.args.what.now) 0 c.args.event c.requires.ready.begun in
+    record { nobody = closes.nobody; answered = closes.answered; steps = omega (arith, closes.steps) }
+
+pub returns-clause-keeps : goal.returns-clause-keeps
+returns-clause-keeps c =
+    keeps-calm c.args.state.now c.close.new.table c.close.new.processes c.args.state.now.made refl c.close.ensures.calm
+    (subst (λ rs. TakesAtMost (length rs) c.args.state.now.processes c.close.new.processes) c.requires.ready.begun.reports c.close.ensures.kept) c.requires.consistent

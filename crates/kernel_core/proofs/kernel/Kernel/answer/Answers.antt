@@ -2,20 +2,21 @@
 use Rattle.std.proofs.Common.{◌≡◌, ◌<◌, length, map, slice_set, Option, None, ap, sym, subst, ◌∙◌, refl}
 use Rattle.charlotte_calls.specs.declared.calls.Answer.{Answer}
 use Rattle.kernel_step.specs.Kernel.{Process, process_of, with_process, without_answer}
-use Rattle.kernel_core.specs.State.{KernelView, kept_process, state_of}
-use Rattle.kernel_core.specs.declared.process.Kept.{Kept}
+use Rattle.kernel_core.specs.State.{KernelView, state_of}
+use Rattle.kernel_process.specs.Parts.{process_state}
+use Rattle.kernel_process.specs.declared.process.ControlBlock.{ControlBlock}
 use Rattle.kernel_core.specs.contracts.kernel.Kernel.{the_view}
-use Rattle.kernel_core.proofs.Processes.{state_of-at, state_of-set}
+use Rattle.kernel_core.proofs.Kernels.{state_of-at, state_of-set}
 use Rattle.kernel_core.proofs.kernel.Kernel.answer.Goals as goal
 
 pub returns-clause-answer : goal.returns-clause-answer
 returns-clause-answer c =
-    c.take.ensures.value ∙ ap (λ x. x.answer) c.index_mut.ensures.value
-    ∙ ap (λ x. x.answer) (sym (state_of-at c.args.self.now c.self.inside.processes.items c.index_mut.result.now c.from.result c.args.p (ap (λ v. v.processes) c.self.view_is) c.from.ensures c.requires))
+    c.take.ensures.value ∙ ap (λ x. x.answer) (c.at_mut-process.ensures.value c.at_mut-process.result.now)
+    ∙ ap (λ x. x.answer) (sym (state_of-at c.args.self.now c.self.inside.state.processes c.at_mut-process.result.now c.from.result c.args.p (ap (λ v. v.processes) c.self.view_is) c.from.ensures c.requires))
 
 pub returns-clause-state : goal.returns-clause-state
 returns-clause-state c = subst (λ v. state_of after ≡ without_answer c.args.p (state_of v)) c.self.view_is
-    (state_of-set before after c.self.inside.processes.items c.from.result now c.args.p refl refl c.from.ensures below ∙ ap (λ x. with_process c.args.p x (state_of before)) left)
+    (state_of-set before after c.self.inside.state.processes c.from.result now c.args.p refl refl c.from.ensures below ∙ ap (λ x. with_process c.args.p x (state_of before)) left)
   where
     before : KernelView
     before = the_view c.self.inside
@@ -23,15 +24,15 @@ returns-clause-state c = subst (λ v. state_of after ≡ without_answer c.args.p
     below : c.args.p.0 < length before.processes
     below = subst (λ v. c.args.p.0 < length v.processes) (sym c.self.view_is) c.requires
 
-    found : Kept
-    found = c.index_mut.result.now
+    found : ControlBlock
+    found = c.at_mut-process.result.now
 
-    now : Kept
+    now : ControlBlock
     now = record found { answer = c.take.new.self }
 
     after : KernelView
-    after = record before { processes = map kept_process (slice_set c.self.inside.processes.items c.from.result now) }
+    after = record before { processes = map process_state (slice_set c.self.inside.state.processes c.from.result now) }
 
-    left : kept_process now ≡ record (process_of c.args.p (state_of before)) { answer = None }
-    left = ap {A = Option Answer} {B = Process} (λ a. record (kept_process found) { answer = a }) c.take.ensures.after
-        ∙ ap {A = Process} {B = Process} (λ x. record x { answer = None }) (ap kept_process c.index_mut.ensures.value ∙ sym (state_of-at before c.self.inside.processes.items found c.from.result c.args.p refl c.from.ensures below))
+    left : process_state now ≡ record (process_of c.args.p (state_of before)) { answer = None }
+    left = ap {A = Option Answer} {B = Process} (λ a. record (process_state found) { answer = a }) c.take.ensures.after
+        ∙ ap {A = Process} {B = Process} (λ x. record x { answer = None }) (ap process_state (c.at_mut-process.ensures.value c.at_mut-process.result.now) ∙ sym (state_of-at before c.self.inside.state.processes found c.from.result c.args.p refl c.from.ensures below))

@@ -1,11 +1,10 @@
 -- The event is that of the kernel's parts.
 use Rattle.std.proofs.Common.{◌≡◌, map, sym, ap, subst, ◌∙◌, refl}
-use Rattle.std.proofs.lemmas.List.{with_items_is}
-use Rattle.std.specs.Vec.{with_items}
 use Rattle.end_table.specs.Table.{entries}
 use Rattle.kernel_core.proofs.CalledParts.{call-by_parts}
 use Rattle.kernel_core.proofs.Kernels.{state-same}
-use Rattle.kernel_core.specs.State.{KernelView, kept_process, state_of, ended}
+use Rattle.kernel_core.specs.State.{KernelView, state_of}
+use Rattle.kernel_process.specs.Parts.{process_state, ended}
 use Rattle.kernel_core.specs.contracts.kernel.Kernel.{the_view}
 use Rattle.kernel_step.specs.Calls.{IsCallWith}
 use Rattle.kernel_step.specs.Kernel.{call_step}
@@ -17,25 +16,23 @@ returns-in-Ok-clause-step c =
       called.0,
       subst (λ v. IsCallWith c.args.p (entries v.table) called.0 c.args.call) c.self.view_is called.1,
       subst (λ v. ended (state_of after) c.in-Ok.effect ≡ call_step (state_of v) c.args.p called.0 c.args.call) c.self.view_is
-          (call-by_parts (the_view c.self.inside) after c.as_mut_slice.result.now c.call_event-called.new.processes c.stamp_after-stamp.result c.in-Ok.effect c.args.p called.0 c.args.call
-          (ap (map kept_process) c.as_mut_slice.ensures.value)
-          (ap (map kept_process) (sym (with_items_is c.self.inside.processes c.call_event-called.new.processes (c.call_event-called.ensures.length ∙ c.as_mut_slice.ensures.len))))
-          refl refl c.call_event-called.ensures.kernel refl c.stamp_after-stamp.ensures called.2),
+          (call-by_parts (the_view c.self.inside) after c.self.inside.state.processes c.call_event-called.new.state.processes c.stamp_after-stamp.result c.in-Ok.effect c.args.p called.0 c.args.call
+          refl
+          refl
+          refl refl c.call_event-called.ensures.keeps.kernel refl c.stamp_after-stamp.ensures called.2),
     )
   where
     after : KernelView
     after = record {
       kernels = c.self.inside.kernels;
       version = c.self.inside.version;
-      table = c.call_event-called.new.table;
-      processes = map kept_process (with_items c.self.inside.processes c.call_event-called.new.processes).items;
-      made = c.call_event-called.new.made;
+      table = c.call_event-called.new.state.table;
+      processes = map process_state c.call_event-called.new.state.processes;
+      made = c.call_event-called.new.state.made;
       stamp = c.in-Ok.effect.stamp;
     }
 
 pub returns-in-Err-clause-same : goal.returns-in-Err-clause-same
 returns-in-Err-clause-same c =
-    state-same (the_view c.self.inside) _ refl refl c.call_event-called.ensures.kernel c.in-Err.ensures.same.0
-    (ap (map kept_process) (with_items_is c.self.inside.processes c.call_event-called.new.processes (c.call_event-called.ensures.length ∙ c.as_mut_slice.ensures.len))
-    ∙ c.in-Err.ensures.same.1 ∙ ap (map kept_process) c.as_mut_slice.ensures.value)
-    c.in-Err.ensures.same.2 refl ∙ ap state_of c.self.view_is
+    state-same (the_view c.self.inside) _ refl refl c.in-Err.ensures.same.kernel c.in-Err.ensures.same.entries c.in-Err.ensures.same.states c.in-Err.ensures.same.made refl
+    ∙ ap state_of c.self.view_is

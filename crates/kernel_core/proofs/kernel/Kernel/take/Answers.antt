@@ -1,10 +1,9 @@
 -- The event is that of the kernel's parts.
 use Rattle.std.proofs.Common.{◌≡◌, map, sym, ap, subst, ◌∙◌, refl}
-use Rattle.std.proofs.lemmas.List.{with_items_is}
-use Rattle.std.specs.Vec.{with_items}
 use Rattle.charlotte_calls.specs.Packets.{packet_picture}
 use Rattle.kernel_core.proofs.Kernels.{state-same, take-by_parts}
-use Rattle.kernel_core.specs.State.{KernelView, kept_process, state_of, ended}
+use Rattle.kernel_core.specs.State.{KernelView, state_of}
+use Rattle.kernel_process.specs.Parts.{process_state, ended}
 use Rattle.kernel_core.specs.contracts.kernel.Kernel.{the_view}
 use Rattle.kernel_step.specs.Kernel.{next_stamp, take_step}
 use Rattle.kernel_core.proofs.kernel.Kernel.take.Goals as goal
@@ -13,25 +12,23 @@ pub returns-in-Ok-clause-step : goal.returns-in-Ok-clause-step
 unfolding state_of
 returns-in-Ok-clause-step c =
     subst (λ v. ended (state_of after) c.in-Ok.effect ≡ take_step (state_of v) c.args.from (packet_picture c.args.packet)) c.self.view_is
-    (take-by_parts (the_view c.self.inside) after c.as_mut_slice.result.now c.take_event-taken.new.processes c.args.from c.stamp_after-stamp.result (packet_picture c.args.packet) c.in-Ok.effect
-    (ap (map kept_process) c.as_mut_slice.ensures.value)
-    (ap (map kept_process) (sym (with_items_is c.self.inside.processes c.take_event-taken.new.processes (c.take_event-taken.ensures.length ∙ c.as_mut_slice.ensures.len))))
-    refl refl c.take_event-taken.ensures.kernel refl refl (c.stamp_after-stamp.ensures ∙ ap next_stamp c.greater.ensures)
+    (take-by_parts (the_view c.self.inside) after c.self.inside.state.processes c.take_event-taken.new.state.processes c.args.from c.stamp_after-stamp.result (packet_picture c.args.packet) c.in-Ok.effect
+    refl
+    refl
+    refl refl c.take_event-taken.ensures.keeps.kernel c.take_event-taken.ensures.made refl (c.stamp_after-stamp.ensures ∙ ap next_stamp c.greater.ensures)
     (c.in-Ok.ensures.part (state_of (the_view c.self.inside)) refl))
   where
     after : KernelView
     after = record {
       kernels = c.self.inside.kernels;
       version = c.self.inside.version;
-      table = c.take_event-taken.new.table;
-      processes = map kept_process (with_items c.self.inside.processes c.take_event-taken.new.processes).items;
-      made = c.self.inside.made;
+      table = c.take_event-taken.new.state.table;
+      processes = map process_state c.take_event-taken.new.state.processes;
+      made = c.take_event-taken.new.state.made;
       stamp = c.in-Ok.effect.stamp;
     }
 
 pub returns-in-Err-clause-same : goal.returns-in-Err-clause-same
 returns-in-Err-clause-same c =
-    state-same (the_view c.self.inside) _ refl refl c.take_event-taken.ensures.kernel c.in-Err.ensures.same.0
-    (ap (map kept_process) (with_items_is c.self.inside.processes c.take_event-taken.new.processes (c.take_event-taken.ensures.length ∙ c.as_mut_slice.ensures.len))
-    ∙ c.in-Err.ensures.same.1 ∙ ap (map kept_process) c.as_mut_slice.ensures.value)
-    refl refl ∙ ap state_of c.self.view_is
+    state-same (the_view c.self.inside) _ refl refl c.in-Err.ensures.same.kernel c.in-Err.ensures.same.entries c.in-Err.ensures.same.states c.in-Err.ensures.same.made refl
+    ∙ ap state_of c.self.view_is

@@ -1,0 +1,168 @@
+ghost use Rattle.std.specs.Prelude.{◌≡◌};
+ghost use Rattle.end_table.specs.Entries.{settled, learned, is_news};
+ghost use Rattle.end_table.specs.Owned.{is_owner};
+
+use crate::{HereView, Holder, Inward, Outward};
+use charlotte_calls::{Moving, MovingPicture, Pid};
+use std::marker::Model;
+use std::mem;
+
+/// An end that is here, with its value and its message, as a table lends it. Contracts see it as plain data.
+#[derive(Debug)]
+pub struct Living {
+    moving: Moving,
+    holder: Holder,
+    outward: Outward,
+    inward: Inward,
+}
+
+impl Model for Living {
+    ghost use Rattle.end_table.specs.declared.entry.HereView.{HereView};
+
+    ghost Value = { HereView };
+
+    ghost view = { λ l. record { value = l.moving; holder = l.holder; outward = l.outward; inward = l.inward } };
+}
+
+impl Living {
+    /// An end that becomes Here.
+    pub(crate) fn settled(moving: Moving, holder: Holder) -> Living
+        ensures { result ≡ settled holder moving }
+    {
+        Living {
+            moving,
+            holder,
+            outward: Outward::Idle,
+            inward: Inward::Idle,
+        }
+    }
+
+    /// The fields of the end's value.
+    pub fn value(&self) -> MovingPicture
+        ensures { result ≡ self.now.value }
+    {
+        self.moving.picture()
+    }
+
+    /// Who holds the end.
+    pub fn holder(&self) -> Holder
+        ensures { result ≡ self.now.holder }
+    {
+        self.holder
+    }
+
+    /// The send, with its message.
+    pub fn outward(&self) -> &Outward
+        ensures { result.now ≡ self.now.outward }
+    {
+        &self.outward
+    }
+
+    /// The receive.
+    pub fn inward(&self) -> Inward
+        ensures { result ≡ self.now.inward }
+    {
+        self.inward
+    }
+
+    pub(crate) fn view(&self) -> HereView
+        ensures { result ≡ self.now }
+    {
+        HereView {
+            value: self.moving.picture(),
+            holder: self.holder,
+            outward: self.outward.copy(),
+            inward: self.inward,
+        }
+    }
+
+    pub(crate) fn is_owned_by(&self, p: Pid) -> bool
+        ensures { result ≡ is_owner p self.now.holder }
+    {
+        match self.holder {
+            Holder::Owner(owner) => p.0 == owner.0,
+            Holder::EnclosedIn(_) => false,
+        }
+    }
+
+    pub(crate) fn change(&mut self, view: HereView)
+        requires { view.value.end ≡ self.old.value.end }
+        ensures { self.new ≡ view }
+    {
+        let HereView {
+            value,
+            holder,
+            outward,
+            inward,
+        } = view;
+        set_fields(&mut self.moving, value);
+        self.holder = holder;
+        self.outward = outward;
+        self.inward = inward;
+    }
+
+    /// Sets value and receive.
+    pub(crate) fn set_inward(&mut self, value: MovingPicture, inward: Inward)
+        requires { value.end ≡ self.old.value.end }
+        ensures { self.new ≡ record self.old { value = value; inward = inward } }
+    {
+        set_fields(&mut self.moving, value);
+        self.inward = inward;
+    }
+
+    /// Sets value and send, and answers what the send was.
+    pub(crate) fn set_outward(&mut self, value: MovingPicture, outward: Outward) -> Outward
+        requires { value.end ≡ self.old.value.end }
+        ensures was { result ≡ self.old.outward }
+        ensures set { self.new ≡ record self.old { value = value; outward = outward } }
+    {
+        set_fields(&mut self.moving, value);
+        mem::replace(&mut self.outward, outward)
+    }
+
+    /// Sets the holder.
+    pub(crate) fn set_holder(&mut self, holder: Holder)
+        ensures { self.new ≡ record self.old { holder = holder } }
+    {
+        self.holder = holder;
+    }
+
+    pub(crate) fn learn(&mut self, kernel: u8, hops: u32) -> bool
+        ensures news { result ≡ is_news self.old.value hops }
+        ensures same { self.new ≡ record self.old { value = learned kernel hops self.old.value } }
+    {
+        let (_, known) = self.moving.hint();
+        if known < hops {
+            self.moving.set_hint((kernel, hops));
+            return true;
+        }
+        false
+    }
+
+    pub(crate) fn into_moving(self) -> Moving
+        ensures { result ≡ self.value }
+    {
+        let Living {
+            moving,
+            holder: _,
+            outward: _,
+            inward: _,
+        } = self;
+        moving
+    }
+}
+
+/// Gives the value these fields, all but the end.
+fn set_fields(moving: &mut Moving, fields: MovingPicture)
+    requires { fields.end ≡ moving.old.end }
+    ensures { moving.new ≡ fields }
+{
+    moving.set_hops(fields.hops);
+    moving.set_hint(fields.hint);
+    moving.set_sent(fields.sent);
+    moving.set_asked(fields.asked);
+    moving.set_served(fields.served);
+    moving.set_want(fields.want);
+    moving.set_dead(fields.dead);
+    moving.set_trail(fields.trail);
+}

@@ -1,6 +1,0 @@
--- each call has one fewer
-use Rattle.std.proofs.Common.{length}
-use Rattle.kernel_core.proofs.carried.+add_arriving.Given as goal
-
-abbrev pub decreases-add_arriving : goal.decreases-add_arriving
-decreases-add_arriving l = length l.moving

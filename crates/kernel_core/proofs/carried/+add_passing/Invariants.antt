@@ -1,6 +1,0 @@
--- each call has one fewer
-use Rattle.std.proofs.Common.{length}
-use Rattle.kernel_core.proofs.carried.+add_passing.Given as goal
-
-abbrev pub decreases-add_passing : goal.decreases-add_passing
-decreases-add_passing l = length l.moving

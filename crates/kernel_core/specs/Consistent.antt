@@ -1,0 +1,38 @@
+-- What is true of the parts of every kernel.
+use Rattle.std.specs.Prelude.{◌≡◌, ℕ, Bool, false, nat_eq, ◌&&◌, List, length, map, slice_get, Some, if◌then◌else◌}
+use Rattle.std.specs.List.{list_any}
+use Rattle.charlotte_calls.specs.declared.names.EndId.{EndId}
+use Rattle.charlotte_calls.specs.declared.names.Pid.{Pid}
+use Rattle.end_table.specs.Owned.{owned}
+use Rattle.end_table.specs.Place.{end_eq}
+use Rattle.end_table.specs.Table.{TableView, entries}
+use Rattle.end_table.specs.declared.entry.Entry.{Entry}
+use Rattle.kernel_step.specs.Calls.{is_active}
+use Rattle.kernel_sound.specs.Sound.{IsSound}
+use Rattle.kernel_process.specs.declared.process.ControlBlock.{ControlBlock}
+use Rattle.kernel_process.specs.Active.{Tells, started_ends}
+use Rattle.kernel_process.specs.Parts.{process_state}
+use Rattle.kernel_core.specs.declared.state.State.{State}
+
+-- what a kernel with this table and these processes keeps
+pub record AreConsistent (t : TableView) (xs : List ControlBlock) (made : ℕ) : Type 0 where
+  pub sound : IsSound t.kernel made (length xs) (entries t)
+  pub active : Tells (entries t) xs
+
+abbrev pub IsConsistent : State → Type 0
+IsConsistent s = AreConsistent s.table s.processes s.made
+
+-- what each event keeps of the parts of a kernel
+pub record Keeps (old new : State) : Type 0 where
+  pub consistent : IsConsistent new
+  pub kernel : new.table.kernel ≡ old.table.kernel
+  pub length : length new.processes ≡ length old.processes
+
+-- room was reserved, and nothing else changed that counts
+pub record OnlyReserves (old new : State) : Type 0 where
+  pub entries : entries new.table ≡ entries old.table
+  pub kernel : new.table.kernel ≡ old.table.kernel
+  pub made : new.made ≡ old.made
+  pub states : map process_state new.processes ≡ map process_state old.processes
+  pub active : map started_ends new.processes ≡ map started_ends old.processes
+  pub length : length new.processes ≡ length old.processes

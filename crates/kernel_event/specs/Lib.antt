@@ -1,0 +1,4 @@
+pub mod Arrived
+pub mod Order
+pub mod Places
+pub mod Room

@@ -1,0 +1,6 @@
+pub mod ActiveSets
+pub mod Closes
+pub mod KeptMoved
+pub mod OwnersTold
+pub mod OneProcess
+pub mod Rooms

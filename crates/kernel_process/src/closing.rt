@@ -1,0 +1,327 @@
+ghost use Rattle.std.specs.Prelude.{◌≡◌, true, false, ℕ, ◌+◌, ◌<◌, ◌≤◌, ◌++◌, [], ◌∷◌, Some, length, drop, option_to_list, vec_len, vec_capacity};
+ghost use Rattle.charlotte_calls.specs.declared.calls.Answer.TheVariants as answer;
+ghost use Rattle.charlotte_calls.specs.declared.names.EndId.{EndId};
+ghost use Rattle.end_table.specs.Place.{put};
+ghost use Rattle.charlotte_calls.specs.declared.names.Way.TheVariants as way;
+ghost use Rattle.end_table.specs.Table.{entries, IsHereAnd};
+ghost use Rattle.end_table.specs.declared.entry.Inward.TheVariants as inward;
+ghost use Rattle.end_table.specs.declared.entry.Outward.TheVariants as outward;
+ghost use Rattle.end_table.specs.declared.entry.Entry.{Entry};
+ghost use Rattle.kernel_step.specs.Kernel.{Kernel, answers_wait, closes, exits, is_waiting, joins, join_answers, join_reports, process_of, reported_entry, reported_view, stands, turns, waits, with_process};
+ghost use Rattle.kernel_step.specs.Progress.{progress};
+ghost use Rattle.kernel_step.specs.declared.phase.Phase.TheVariants.{Running, Exited};
+ghost use Rattle.kernel_process.specs.Closing.{HaveSpare, HaveSpareFor, CanClose};
+ghost use Rattle.kernel_sound.specs.Sound.{AreFor};
+ghost use Rattle.kernel_process.specs.Parts.{ended, with_parts, process_state, process_at, HasPlaces, GainsAtMost};
+ghost use Rattle.kernel_process.specs.Steady.{StaysCalm, TakesAtMost};
+
+use crate::event::Event;
+use crate::process::Processes;
+use charlotte_calls::{Answer, Effect, EndId, Pid, Report, ServiceStep, Way, Work};
+use end_table::{Inward, Lent, Outward, Table};
+use kernel_step::Phase;
+use std::collections::VecDeque;
+
+/// A process goes on to another phase.
+pub fn turn(processes: &mut Processes, p: Pid, phase: Phase)
+    requires { p.0 < length processes.old }
+    ensures part { (t : EndId → Entry) (s : Kernel) → with_parts t processes.new s ≡ turns p phase (with_parts t processes.old s) }
+    ensures kept { TakesAtMost 0 processes.old processes.new }
+{
+    let process = processes.at_mut(usize::from(p.0));
+    process.phase = phase;
+}
+
+/// A process runs again, with this answer.
+fn run_again(processes: &mut Processes, p: Pid, answer: Answer)
+    requires { p.0 < length processes.old }
+    ensures part { (t : EndId → Entry) (s : Kernel) → with_parts t processes.new s
+        ≡ with_process p (record (process_of p (with_parts t processes.old s)) { phase = Running; answer = Some answer }) (with_parts t processes.old s) }
+    ensures kept { TakesAtMost 0 processes.old processes.new }
+{
+    let process = processes.at_mut(usize::from(p.0));
+    process.phase = Phase::Running;
+    process.answer = Some(answer);
+}
+
+/// The reports that a process was not given are let go.
+fn clear_reports(processes: &mut Processes, p: Pid)
+    requires { p.0 < length processes.old }
+    ensures part { (t : EndId → Entry) (s : Kernel) → with_parts t processes.new s
+        ≡ with_process p (record (process_of p (with_parts t processes.old s)) { reports = [] }) (with_parts t processes.old s) }
+    ensures kept { TakesAtMost 0 processes.old processes.new }
+{
+    let process = processes.at_mut(usize::from(p.0));
+    process.reports.clear();
+}
+
+/// A report goes behind the others of its process.
+fn add_report(processes: &mut Processes, p: Pid, report: Report)
+    requires process { p.0 < length processes.old }
+    requires spare { HaveSpare 1 processes.old }
+    ensures part { (t : EndId → Entry) (s : Kernel) → with_parts t processes.new s
+        ≡ with_process p (record (process_of p (with_parts t processes.old s)) { reports = (process_of p (with_parts t processes.old s)).reports ++ report ∷ [] })
+        (with_parts t processes.old s) }
+    ensures kept { TakesAtMost 1 processes.old processes.new }
+{
+    let process = processes.at_mut(usize::from(p.0));
+    process.reports.push_back_reserved(report);
+}
+
+/// An activity that was over is idle once it is reported.
+fn settle_report(table: &mut Table, on: EndId, way: Way)
+    ensures entries { entries table.new ≡ put (entries table.old) on (reported_entry way (entries table.old on)) }
+    ensures kernel { table.new.kernel ≡ table.old.kernel }
+{
+    match way {
+        Way::Outward => settle_send(table, on),
+        Way::Inward => settle_receive(table, on),
+    }
+}
+
+/// A send that was over is idle once it is reported.
+fn settle_send(table: &mut Table, on: EndId)
+    ensures entries { entries table.new ≡ put (entries table.old) on (reported_entry way.Outward (entries table.old on)) }
+    ensures kernel { table.new.kernel ≡ table.old.kernel }
+{
+    if is_sent(table, on) {
+        let value = table.here(on).value();
+        table.set_outward(on, value, Outward::Idle);
+    }
+}
+
+/// A receive that was over is idle once it is reported.
+fn settle_receive(table: &mut Table, on: EndId)
+    ensures entries { entries table.new ≡ put (entries table.old) on (reported_entry way.Inward (entries table.old on)) }
+    ensures kernel { table.new.kernel ≡ table.old.kernel }
+{
+    if is_received(table, on) {
+        let value = table.here(on).value();
+        table.set_inward(on, value, Inward::Idle);
+    }
+}
+
+/// Whether a send is over at an end that is here.
+fn is_sent(table: &Table, on: EndId) -> bool
+    ensures yes { result ≡ true → IsHereAnd (entries table.now on) (λ v. v.outward ≡ outward.Unreported) }
+    ensures no { result ≡ false → reported_entry way.Outward (entries table.now on) ≡ entries table.now on }
+{
+    match table.lend(on) {
+        Lent::Here(living) => matches!(living.outward(), Outward::Unreported),
+        Lent::Nothing | Lent::Left { .. } | Lent::Destroyed(_) => false,
+    }
+}
+
+/// Whether a receive is over at an end that is here.
+fn is_received(table: &Table, on: EndId) -> bool
+    ensures yes { result ≡ true → IsHereAnd (entries table.now on) (λ v. v.inward ≡ inward.Unreported) }
+    ensures no { result ≡ false → reported_entry way.Inward (entries table.now on) ≡ entries table.now on }
+{
+    match table.lend(on) {
+        Lent::Here(living) => matches!(living.inward(), Inward::Unreported),
+        Lent::Nothing | Lent::Left { .. } | Lent::Destroyed(_) => false,
+    }
+}
+
+/// An answer comes to stand, and its process runs again.
+pub fn stand(processes: &mut Processes, effect: &mut Effect, p: Pid, answer: Answer)
+    requires process { p.0 < length processes.old }
+    requires places { HasPlaces 1 0 effect.old }
+    ensures part { (s : Kernel) (t : EndId → Entry) → ended (with_parts t processes.new s) effect.new ≡ stands p answer (ended (with_parts t processes.old s) effect.old) }
+    ensures kept { TakesAtMost 0 processes.old processes.new }
+    ensures places { GainsAtMost 1 0 effect.old effect.new }
+    ensures stamp { effect.new.stamp ≡ effect.old.stamp }
+{
+    run_again(processes, p, answer);
+    effect.answered.push_reserved(p);
+}
+
+/// A report answers the Wait of its process, which keeps the reports that it has.
+fn answer_wait(
+    table: &mut Table,
+    processes: &mut Processes,
+    effect: &mut Effect,
+    p: Pid,
+    report: Report,
+)
+    requires process { p.0 < length processes.old }
+    requires places { HasPlaces 1 1 effect.old }
+    ensures part { (s : Kernel) → ended (with_parts (entries table.new) processes.new s) effect.new
+        ≡ answers_wait p report (process_of p (with_parts (entries table.old) processes.old s)).reports (ended (with_parts (entries table.old) processes.old s) effect.old) }
+    ensures calm { StaysCalm table.old table.new }
+    ensures kept { TakesAtMost 0 processes.old processes.new }
+    ensures places { GainsAtMost 1 1 effect.old effect.new }
+    ensures stamp { effect.new.stamp ≡ effect.old.stamp }
+{
+    settle_report(table, report.on, report.way);
+    effect.steps.push_reserved(ServiceStep::Report {
+        p,
+        report: report.copy(),
+    });
+    stand(processes, effect, p, Answer::Reported(report));
+}
+
+/// Whether it is the phase of a Wait whose answer does not stand.
+fn is_waiting(phase: Phase) -> bool
+    ensures { result ≡ is_waiting phase }
+{
+    match phase {
+        Phase::Waiting => true,
+        Phase::Running | Phase::Cancelling(_) | Phase::Exited => false,
+    }
+}
+
+/// Whether a process is in a Wait whose answer does not stand.
+fn is_in_wait(processes: &Processes, p: Pid) -> bool
+    requires { p.0 < length processes.now }
+    ensures { (t : EndId → Entry) (s : Kernel) → result ≡ is_waiting (process_of p (with_parts t processes.now s)).phase }
+{
+    is_waiting(processes.at(usize::from(p.0)).phase)
+}
+
+/// A report joins the list of its process; where the process is in a Wait, the report answers it.
+fn join(table: &mut Table, processes: &mut Processes, effect: &mut Effect, p: Pid, report: Report)
+    requires process { p.0 < length processes.old }
+    requires places { HasPlaces 1 1 effect.old }
+    requires spare { HaveSpare 1 processes.old }
+    ensures part { (s : Kernel) → ended (with_parts (entries table.new) processes.new s) effect.new
+        ≡ joins p report (process_of p (with_parts (entries table.old) processes.old s)).phase (ended (with_parts (entries table.old) processes.old s) effect.old) }
+    ensures calm { StaysCalm table.old table.new }
+    ensures kept { TakesAtMost 1 processes.old processes.new }
+    ensures places { GainsAtMost 1 1 effect.old effect.new }
+    ensures stamp { effect.new.stamp ≡ effect.old.stamp }
+{
+    if is_in_wait(processes, p) {
+        clear_reports(processes, p);
+        answer_wait(table, processes, effect, p, report);
+    } else {
+        add_report(processes, p, report);
+    }
+}
+
+/// The reports join the lists of their processes, in order.
+fn join_all(
+    table: &mut Table,
+    processes: &mut Processes,
+    effect: &mut Effect,
+    mut reports: VecDeque<(Pid, Report)>,
+)
+    requires reports { AreFor (length processes.old) reports.items }
+    requires places { HasPlaces (length reports.items) (length reports.items) effect.old }
+    requires spare { HaveSpareFor reports.items processes.old }
+    ensures part { (s : Kernel) → ended (with_parts (entries table.new) processes.new s) effect.new
+        ≡ join_reports reports.items (ended (with_parts (entries table.old) processes.old s) effect.old) }
+    ensures calm { StaysCalm table.old table.new }
+    ensures kept { TakesAtMost (length reports.items) processes.old processes.new }
+    ensures places { GainsAtMost (length reports.items) (length reports.items) effect.old effect.new }
+    ensures stamp { effect.new.stamp ≡ effect.old.stamp }
+{
+    if let Some((p, report)) = reports.pop_front() {
+        join(table, processes, effect, p, report);
+        join_all(table, processes, effect, reports);
+    }
+}
+
+/// The answers come to stand, in order.
+fn answer_all(processes: &mut Processes, effect: &mut Effect, mut answers: VecDeque<(Pid, Answer)>)
+    requires answers { AreFor (length processes.old) answers.items }
+    requires places { HasPlaces (length answers.items) 0 effect.old }
+    ensures part { (s : Kernel) (t : EndId → Entry) → ended (with_parts t processes.new s) effect.new
+        ≡ join_answers answers.items (ended (with_parts t processes.old s) effect.old) }
+    ensures kept { TakesAtMost 0 processes.old processes.new }
+    ensures places { GainsAtMost (length answers.items) 0 effect.old effect.new }
+    ensures stamp { effect.new.stamp ≡ effect.old.stamp }
+{
+    if let Some((p, answer)) = answers.pop_front() {
+        stand(processes, effect, p, answer);
+        answer_all(processes, effect, answers);
+    }
+}
+
+/// The oldest report of a process leaves its list.
+fn first_report(processes: &mut Processes, p: Pid) -> Option<Report>
+    requires { p.0 < length processes.old }
+    ensures part { (t : EndId → Entry) (s : Kernel) → with_parts t processes.new s
+        ≡ with_process p (record (process_of p (with_parts t processes.old s)) { reports = drop 1 (process_of p (with_parts t processes.old s)).reports })
+        (with_parts t processes.old s) }
+    ensures first { (t : EndId → Entry) (s : Kernel) → (process_of p (with_parts t processes.old s)).reports
+        ≡ option_to_list result ++ drop 1 (process_of p (with_parts t processes.old s)).reports }
+    ensures kept { TakesAtMost 0 processes.old processes.new }
+{
+    let process = processes.at_mut(usize::from(p.0));
+    process.reports.pop_front()
+}
+
+/// A Wait: the oldest report of the process answers it.
+pub fn wait(table: &mut Table, processes: &mut Processes, effect: &mut Effect, p: Pid)
+    requires process { p.0 < length processes.old }
+    requires places { HasPlaces 1 1 effect.old }
+    ensures part { (s : Kernel) → ended (with_parts (entries table.new) processes.new s) effect.new
+        ≡ waits p (process_of p (with_parts (entries table.old) processes.old s)).reports (ended (with_parts (entries table.old) processes.old s) effect.old) }
+    ensures calm { StaysCalm table.old table.new }
+    ensures kept { TakesAtMost 0 processes.old processes.new }
+    ensures stamp { effect.new.stamp ≡ effect.old.stamp }
+{
+    match first_report(processes, p) {
+        Some(report) => answer_wait(table, processes, effect, p, report),
+        None => turn(processes, p, Phase::Waiting),
+    }
+}
+
+/// A process that exits leaves no reports.
+fn leave(processes: &mut Processes, p: Pid)
+    requires { p.0 < length processes.old }
+    ensures part { (t : EndId → Entry) (s : Kernel) → with_parts t processes.new s
+        ≡ with_process p (record { phase = Exited; reports = []; answer = Some answer.Ok }) (with_parts t processes.old s) }
+    ensures kept { TakesAtMost 0 processes.old processes.new }
+{
+    let process = processes.at_mut(usize::from(p.0));
+    process.phase = Phase::Exited;
+    process.reports.clear();
+    process.answer = Some(Answer::Ok);
+}
+
+/// A process exits.
+pub fn exit(processes: &mut Processes, effect: &mut Effect, p: Pid)
+    requires process { p.0 < length processes.old }
+    requires places { HasPlaces 1 0 effect.old }
+    ensures part { (s : Kernel) (t : EndId → Entry) → ended (with_parts t processes.new s) effect.new ≡ exits p (ended (with_parts t processes.old s) effect.old) }
+    ensures kept { TakesAtMost 0 processes.old processes.new }
+    ensures places { GainsAtMost 1 0 effect.old effect.new }
+    ensures stamp { effect.new.stamp ≡ effect.old.stamp }
+{
+    leave(processes, p);
+    effect.answered.push_reserved(p);
+}
+
+/// The event is over: its answers and reports reach their processes.
+pub fn close(table: &mut Table, processes: &mut Processes, event: Event) -> Effect
+    requires reports { AreFor (length processes.old) event.work.reports.items }
+    requires answers { AreFor (length processes.old) event.work.answers.items }
+    requires spare { HaveSpareFor event.work.reports.items processes.old }
+    requires room { CanClose 0 0 event }
+    ensures part { (s : Kernel) → ended (with_parts (entries table.new) processes.new (record s { stamp = event.work.stamp })) result
+        ≡ closes (with_parts (entries table.old) processes.old s) (progress (entries table.old) event.work) }
+    ensures stamp { result.stamp ≡ event.work.stamp }
+    ensures calm { StaysCalm table.old table.new }
+    ensures kept { TakesAtMost (length event.work.reports.items) processes.old processes.new }
+    ensures places { (a s : ℕ) → CanClose a s event → HasPlaces a s result }
+{
+    let Event { work, answered } = event;
+    let Work {
+        stamp,
+        packets,
+        reports,
+        answers,
+        steps,
+    } = work;
+    let mut effect = Effect {
+        stamp,
+        packets,
+        answered,
+        steps,
+    };
+    answer_all(processes, &mut effect, VecDeque::from(answers));
+    join_all(table, processes, &mut effect, VecDeque::from(reports));
+    effect
+}

@@ -1,0 +1,13 @@
+pub mod Actions
+pub mod Acts
+pub mod Calls
+pub mod Events
+pub mod Goes
+pub mod Lists
+pub mod Needs
+pub mod Parcels
+pub mod Put
+pub mod Reports
+pub mod Rows
+pub mod Tells
+pub mod Values

@@ -1,0 +1,4 @@
+pub mod Acts
+pub mod Owners
+pub mod Ready
+pub mod Sound

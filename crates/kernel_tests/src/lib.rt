@@ -1,0 +1,25 @@
+//! Tests of the kernels' libraries through their public calls.
+#![tactic(auto)]
+
+#[cfg(test)]
+mod calls;
+#[cfg(test)]
+mod kernel;
+#[cfg(test)]
+mod messages;
+#[cfg(test)]
+mod moves;
+#[cfg(test)]
+mod packets;
+#[cfg(test)]
+mod programs;
+#[cfg(test)]
+mod samples;
+#[cfg(test)]
+mod settings;
+#[cfg(test)]
+mod table;
+#[cfg(test)]
+mod values;
+#[cfg(test)]
+mod world;

@@ -1,0 +1,115 @@
+use charlotte_calls::{
+    Bytes, Cargo, CargoPicture, EndId, Ends, Items, LinkId, Moving, MovingPicture, NoMemory, Side,
+};
+use std::test::Fail;
+
+/// Lists in a value hold what they were made of up to their capacity, and no more.
+#[test]
+fn short_lists_have_a_limit(rt: HostRuntime) -> Result<(), Fail> {
+    let bytes = [7; 257];
+    let mut ends = [EndId::default(); 9];
+    ends[7].side = Side::B;
+    let mut values = [MovingPicture::default(); 9];
+    values[7].hops = 1;
+    for count in [0, 1, 255, 256] {
+        let some = bytes.get(..count).ok_or("a longer slice")?;
+        let list = Bytes::from_slice(some).ok_or("bytes")?;
+        assert_eq!(rt; list.copy().as_slice(), some, "{count} bytes");
+    }
+    for count in [0, 1, 7, 8] {
+        let some = ends.get(..count).ok_or("a longer slice")?;
+        let list = Ends::from_slice(some).ok_or("ends")?;
+        assert_eq!(rt; list.copy().as_slice(), some, "{count} ends");
+        let some = values.get(..count).ok_or("a longer slice")?;
+        let list = CargoPicture::from_slice(some).ok_or("values")?;
+        assert_eq!(rt; list.copy().as_slice(), some, "{count} values");
+    }
+    assert!(rt; Bytes::from_slice(&bytes).is_none());
+    assert!(rt; Ends::from_slice(&ends).is_none());
+    assert!(rt; CargoPicture::from_slice(&values).is_none());
+    Ok(())
+}
+
+#[test]
+fn items_come_back(rt: HostRuntime) -> Result<(), Fail> {
+    let items = Items::of(vec![in rt.alloc(); 3, 1, 2]?);
+    assert_eq!(rt; items.as_slice(), [3, 1, 2].as_slice());
+    assert_eq!(rt; (items.len(), items.is_empty()), (3, false));
+    assert_eq!(rt; items.into_vec().as_slice(), [3, 1, 2].as_slice());
+    assert_eq!(rt; format!(in rt.alloc(); "{NoMemory}")?.as_str(), "no memory");
+    Ok(())
+}
+
+/// What was set is read, goes through a cargo, and is left in the mark.
+#[test]
+fn a_value_keeps_its_fields(rt: HostRuntime) -> Result<(), Fail> {
+    let link = LinkId {
+        maker: 4,
+        count: 123,
+    };
+    let (mut a, b) = Moving::pair(link, 2, 5);
+    assert_eq!(rt;
+        (a.end(), b.end()),
+        (b.end().opposite(), a.end().opposite())
+    );
+    assert_eq!(rt; (a.hint(), b.hint()), ((5, 0), (2, 0)));
+    a.set_hops(1);
+    a.set_hint((2, 3));
+    a.set_sent(4);
+    a.set_asked(5);
+    a.set_served(6);
+    a.set_want(7);
+    a.set_dead(true);
+    a.set_trail(8);
+    let set = MovingPicture {
+        end: EndId {
+            link,
+            side: Side::A,
+        },
+        hops: 1,
+        hint: (2, 3),
+        sent: 4,
+        asked: 5,
+        served: 6,
+        want: 7,
+        dead: true,
+        trail: 8,
+    };
+    assert_eq!(rt; a.picture(), set);
+    assert_eq!(rt;
+        (a.hops(), a.sent(), a.asked(), a.served(), a.want()),
+        (1, 4, 5, 6, 7)
+    );
+    assert_eq!(rt; (a.dead(), a.trail()), (true, 8));
+    let mut cargo = Cargo::empty();
+    cargo.add(b);
+    cargo.add(a);
+    assert_eq!(rt; cargo.picture().as_slice(), cargo.values());
+    assert!(rt; cargo.addressed(4) && !cargo.addressed(3));
+    let marks = [cargo.next(), cargo.next(), cargo.next()];
+    cargo.close();
+    let [first, second, third] = marks;
+    destroyed(first);
+    assert_eq!(rt; destroyed(second), Some(set));
+    assert_eq!(rt; destroyed(third), None);
+    Ok(())
+}
+
+/// The fields that a value had, by the readers of its mark.
+fn destroyed(value: Option<Moving>) -> Option<MovingPicture> {
+    let mut mark = value?.destroy();
+    let hint = mark.hint();
+    mark.set_hint((9, 10));
+    mark.set_hint(hint);
+    Some(MovingPicture {
+        end: mark.end(),
+        hops: mark.hops(),
+        hint: mark.hint(),
+        sent: mark.sent(),
+        asked: mark.asked(),
+        served: mark.served(),
+        want: mark.want(),
+        dead: mark.dead(),
+        trail: mark.trail(),
+    })
+}
