@@ -24,12 +24,7 @@ pub fn keep_inward(table: &mut Table, on: EndId, value: MovingPicture, inward: I
 }
 
 /// Keeps other fields and another send of an end that is here. It answers what the send was, with its message.
-pub fn keep_outward(
-    table: &mut Table,
-    on: EndId,
-    value: MovingPicture,
-    outward: Outward,
-) -> Outward
+pub fn keep_outward(table: &mut Table, on: EndId, value: MovingPicture, outward: Outward) -> Outward
     requires here { IsHere (entries table.old on) }
     requires same_end { value.end ≡ on }
     ensures was { IfHere (entries table.old on) (λ v. result ≡ v.outward) }
