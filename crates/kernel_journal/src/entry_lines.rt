@@ -6,8 +6,9 @@ use crate::header_lines::empty_line;
 use crate::packet::push_packet;
 use crate::step::{push_of, push_step};
 use crate::{Happened, Placed};
-use charlotte_calls::{NoMemory, ServiceStep};
+use charlotte_calls::NoMemory;
 use charlotte_text::{push_call, push_number};
+use compact_calls::CompactStep;
 use std::alloc::Global;
 
 fn push_happened(out: &mut Vec<u8>, what: &Happened) -> Result<(), NoMemory>
@@ -17,13 +18,13 @@ fn push_happened(out: &mut Vec<u8>, what: &Happened) -> Result<(), NoMemory>
         Happened::Asked { p, call } => {
             push_of(out, b" ", *p)?;
             out.push(b' ')?;
-            push_call(out, call)?;
+            push_call(out, &call.call())?;
         }
         Happened::Took { from, picture } => {
             out.extend_from_slice(b" from ")?;
             push_number(out, u64::from(*from))?;
             out.push(b' ')?;
-            push_packet(out, &picture.what)?;
+            push_packet(out, &picture.picture().what)?;
         }
     }
     Ok(())
@@ -41,11 +42,11 @@ fn entry_line(alloc: Global, placed: &Placed) -> Result<Vec<u8>, NoMemory>
     Ok(text)
 }
 
-fn step_line(alloc: Global, step: &ServiceStep) -> Result<Vec<u8>, NoMemory>
+fn step_line(alloc: Global, step: &CompactStep) -> Result<Vec<u8>, NoMemory>
     ensures { IfOk result (λ text. text.items ≡ line (step_text step.now)) }
 {
     let mut text = empty_line(alloc)?;
-    push_step(&mut text, step)?;
+    push_step(&mut text, &step.step())?;
     text.push(b'\n')?;
     Ok(text)
 }
@@ -53,7 +54,7 @@ fn step_line(alloc: Global, step: &ServiceStep) -> Result<Vec<u8>, NoMemory>
 fn push_step_lines(
     alloc: Global,
     lines: &mut Vec<Vec<u8>>,
-    steps: &[ServiceStep],
+    steps: &[CompactStep],
 ) -> Result<(), NoMemory>
     ensures { OnOk result (map (λ l. l.items) lines.new.items ≡ map (λ l. l.items) lines.old.items ++ map (λ s. line (step_text s)) steps.now) }
 {

@@ -2,10 +2,10 @@ ghost use Rattle.std.specs.Prelude.{◌≡◌, ◌<◌, ◌≤◌, length, Match
 ghost use Rattle.charlotte_calls.specs.Setting.{IsValid};
 ghost use Rattle.lynx_plan.specs.declared.script.Script.{Script};
 ghost use Rattle.lynx_plan.specs.ScriptText.{IsScriptText};
-ghost use Rattle.lynx_plan.specs.Reading.{Fails, Gives, is_skipped, entry_at, line_read, lines_read, script_of};
+ghost use Rattle.lynx_plan.specs.Reading.{Fails, Gives, is_skipped, meaning_at, line_read, lines_read, script_of};
 
 use crate::draft::Draft;
-use crate::entry::Entry;
+use crate::meaning::Meaning;
 use crate::fault::PlanFault;
 use crate::form::script_form;
 use crate::rules::judge;
@@ -55,8 +55,8 @@ fn read_line(draft: &mut Draft, line: u32, text: &[u8]) -> Result<(), PlanFault>
     if skipped(text) {
         return Ok(());
     }
-    match read_entry(draft, text) {
-        Ok(entry) => draft.add(line, entry)?,
+    match read_meaning(draft, text) {
+        Ok(meaning) => draft.add(line, meaning)?,
         Err(rule) => return Err(PlanFault::BadPlan { line, rule }),
     }
     Ok(())
@@ -72,10 +72,10 @@ fn skipped(text: &[u8]) -> bool
 }
 
 /// What a line says, or the least rule that it fails.
-#[tactic(auto, unfolding(crate::specs::Reading::entry_at))]
-fn read_entry(draft: &Draft, text: &[u8]) -> Result<Entry, u8>
+#[tactic(auto, unfolding(crate::specs::Reading::meaning_at))]
+fn read_meaning(draft: &Draft, text: &[u8]) -> Result<Meaning, u8>
     requires { length draft.now.homes ≤ 64 }
-    ensures { result ≡ entry_at draft.now text.now }
+    ensures { result ≡ meaning_at draft.now text.now }
 {
     match script_form(draft.version(), text) {
         Ok(form) => judge(draft, form),
