@@ -2,3 +2,4 @@ pub mod Journal
 pub mod Heads
 pub mod Transcript
 pub mod TranscriptText
+pub mod Left

@@ -30,24 +30,38 @@ fn push_happened(out: &mut Vec<u8>, what: &Happened) -> Result<(), NoMemory>
     Ok(())
 }
 
+pub(crate) fn push_entry_line(out: &mut Vec<u8>, placed: &Placed) -> Result<(), NoMemory>
+    ensures { OnOk result (out.new.items ≡ out.old.items ++ line (entry_text placed.now)) }
+{
+    push_number(out, placed.entry.stamp)?;
+    out.extend_from_slice(b" k")?;
+    push_number(out, u64::from(placed.kernel))?;
+    push_happened(out, &placed.entry.what)?;
+    out.push(b'\n')?;
+    Ok(())
+}
+
 fn entry_line(alloc: Global, placed: &Placed) -> Result<Vec<u8>, NoMemory>
     ensures { IfOk result (λ text. text.items ≡ line (entry_text placed.now)) }
 {
     let mut text = empty_line(alloc)?;
-    push_number(&mut text, placed.entry.stamp)?;
-    text.extend_from_slice(b" k")?;
-    push_number(&mut text, u64::from(placed.kernel))?;
-    push_happened(&mut text, &placed.entry.what)?;
-    text.push(b'\n')?;
+    push_entry_line(&mut text, placed)?;
     Ok(text)
+}
+
+pub(crate) fn push_step_line(out: &mut Vec<u8>, step: &CompactStep) -> Result<(), NoMemory>
+    ensures { OnOk result (out.new.items ≡ out.old.items ++ line (step_text step.now)) }
+{
+    push_step(out, &step.step())?;
+    out.push(b'\n')?;
+    Ok(())
 }
 
 fn step_line(alloc: Global, step: &CompactStep) -> Result<Vec<u8>, NoMemory>
     ensures { IfOk result (λ text. text.items ≡ line (step_text step.now)) }
 {
     let mut text = empty_line(alloc)?;
-    push_step(&mut text, &step.step())?;
-    text.push(b'\n')?;
+    push_step_line(&mut text, step)?;
     Ok(text)
 }
 

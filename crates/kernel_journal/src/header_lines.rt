@@ -14,35 +14,56 @@ pub(crate) fn empty_line(alloc: Global) -> Result<Vec<u8>, NoMemory>
     Ok(Vec::with_capacity(alloc, 40)?)
 }
 
+pub(crate) fn push_number_line(out: &mut Vec<u8>, word: &[u8], number: u8) -> Result<(), NoMemory>
+    ensures { OnOk result (out.new.items ≡ out.old.items ++ line (word.now ++ number_text number)) }
+{
+    out.extend_from_slice(word)?;
+    push_number(out, u64::from(number))?;
+    out.push(b'\n')?;
+    Ok(())
+}
+
 pub(crate) fn number_line(alloc: Global, word: &[u8], number: u8) -> Result<Vec<u8>, NoMemory>
     ensures { IfOk result (λ text. text.items ≡ line (word.now ++ number_text number)) }
 {
     let mut text = empty_line(alloc)?;
-    text.extend_from_slice(word)?;
-    push_number(&mut text, u64::from(number))?;
-    text.push(b'\n')?;
+    push_number_line(&mut text, word, number)?;
     Ok(text)
+}
+
+pub(crate) fn push_process_line(out: &mut Vec<u8>, number: usize, home: u8) -> Result<(), NoMemory>
+    ensures { OnOk result (out.new.items ≡ out.old.items ++ line (process_home_text number home)) }
+{
+    out.extend_from_slice(b"process ")?;
+    push_number(out, number as u64)?;
+    out.extend_from_slice(b" on ")?;
+    push_number(out, u64::from(home))?;
+    out.push(b'\n')?;
+    Ok(())
 }
 
 fn process_line(alloc: Global, number: usize, home: u8) -> Result<Vec<u8>, NoMemory>
     ensures { IfOk result (λ text. text.items ≡ line (process_home_text number home)) }
 {
     let mut text = empty_line(alloc)?;
-    text.extend_from_slice(b"process ")?;
-    push_number(&mut text, number as u64)?;
-    text.extend_from_slice(b" on ")?;
-    push_number(&mut text, u64::from(home))?;
-    text.push(b'\n')?;
+    push_process_line(&mut text, number, home)?;
     Ok(text)
+}
+
+pub(crate) fn push_wire_line(out: &mut Vec<u8>, wire: (Pid, Pid)) -> Result<(), NoMemory>
+    ensures { OnOk result (out.new.items ≡ out.old.items ++ line (wire_text wire)) }
+{
+    out.extend_from_slice(b"wire")?;
+    push_numbers(out, b' ', &[u64::from(wire.0.0), u64::from(wire.1.0)])?;
+    out.push(b'\n')?;
+    Ok(())
 }
 
 fn wire_line(alloc: Global, wire: (Pid, Pid)) -> Result<Vec<u8>, NoMemory>
     ensures { IfOk result (λ text. text.items ≡ line (wire_text wire)) }
 {
     let mut text = empty_line(alloc)?;
-    text.extend_from_slice(b"wire")?;
-    push_numbers(&mut text, b' ', &[u64::from(wire.0.0), u64::from(wire.1.0)])?;
-    text.push(b'\n')?;
+    push_wire_line(&mut text, wire)?;
     Ok(text)
 }
 

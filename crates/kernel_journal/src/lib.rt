@@ -12,9 +12,11 @@ mod print;
 mod step;
 #[cfg(test)]
 mod tests;
+mod transcript;
 
 pub use journal::Journal;
 pub use kernel_world::{Entry, Happened, Placed};
 pub use last::{Last, ScriptNote};
 pub use merging::{merge, merge_whole};
 pub use print::{print_entry, print_header, print_picture, print_transcript};
+pub use transcript::TranscriptLines;
