@@ -17,6 +17,3 @@ pub use fault::PlanFault;
 pub use law::one_script;
 pub use read::read_script;
 pub use script::{Script, ScriptCall, ScriptLine};
-
-#[cfg(test)]
-mod tests;

@@ -1,7 +1,7 @@
-ghost use Rattle.std.specs.Prelude.{◌≡◌, ◌<◌, ◌≤◌, length, MatchResult, IfOk, Ok};
+ghost use Rattle.std.specs.Prelude.{◌≡◌, ◌<◌, ◌≤◌, ◌+◌, ◌*◌, length, MatchResult, IfOk, Ok};
 ghost use Rattle.charlotte_calls.specs.Setting.{IsValid};
 ghost use Rattle.lynx_plan.specs.declared.script.Script.{Script};
-ghost use Rattle.lynx_plan.specs.ScriptText.{IsScriptText};
+ghost use Rattle.lynx_plan.specs.ScriptText.{AreRisingLines, IsScriptText};
 ghost use Rattle.lynx_plan.specs.Reading.{Fails, Gives, is_skipped, meaning_at, line_read, lines_read, script_of};
 
 use crate::draft::Draft;
@@ -20,6 +20,9 @@ pub fn read_script(alloc: Global, bytes: &[u8]) -> Result<Script, PlanFault>
     // What is read is spelled so.
     ensures found { IfOk result (IsScriptText bytes.now) }
     ensures valid { IfOk result (λ script. IsValid script.setting) }
+    ensures rising { IfOk result (λ script. AreRisingLines script.lines) }
+    // The line of a call has six bytes and more, and its line feed.
+    ensures few { IfOk result (λ script. 7 * length script.lines ≤ length bytes.now + 1) }
     // What is spelled as a script is read so, unless memory runs out.
     ensures only { (script : Script) → IsScriptText bytes.now script → Gives result (Ok script) }
     // Which line and which rule it is.

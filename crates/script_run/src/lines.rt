@@ -10,7 +10,7 @@ ghost use Rattle.script_run.specs.Performing.{most_settled, settled};
 
 use crate::node::Node;
 use charlotte_calls::{Call, NoMemory, Pid, Setting};
-use kernel_journal::ScriptNote;
+use journal_text::ScriptNote;
 use lynx_plan::{ScriptCall, ScriptLine};
 
 /// The packets that one settling takes at most.

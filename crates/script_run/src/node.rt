@@ -4,20 +4,21 @@ ghost use Rattle.charlotte_calls.specs.Setting.{IsValid};
 ghost use Rattle.charlotte_calls.specs.declared.names.EndId.{EndId};
 ghost use Rattle.end_table.specs.Table.{entries};
 ghost use Rattle.kernel_core.specs.State.{state_of};
-ghost use Rattle.kernel_journal.specs.Journal.{IsAfterLast};
-ghost use Rattle.kernel_journal.specs.TranscriptText.{HasFewCall, HasFewPacket};
+ghost use Rattle.journal_text.specs.Journal.{IsAfterLast};
+ghost use Rattle.journal_text.specs.TranscriptText.{HasFewCall, HasFewPacket};
 ghost use Rattle.kernel_step.specs.Calls.{IsCallWith};
 ghost use Rattle.kernel_step.specs.Kernel.{call_step, take_step, process_of, without_answer};
 ghost use Rattle.kernel_step.specs.Progress.{sent_picture};
 ghost use Rattle.kernel_step.specs.Start.{start_kernel};
 ghost use Rattle.kernel_step.specs.declared.phase.Phase.TheVariants.{Running};
+ghost use Rattle.kernel_world.specs.World.{to_kernel};
 ghost use Rattle.kernel_world.specs.declared.entry.Happened.TheVariants.{Asked, Took};
-ghost use Rattle.script_run.specs.Nodes.{sent_to, to_kernel, IsNodeOf, IsStamped, IsAfter, IsPopped, IsUnpopped};
-ghost use Rattle.script_run.specs.Told.{IsTold};
+ghost use Rattle.script_run.specs.Nodes.{sent_to, IsNodeOf, IsStamped, IsAfter, IsPopped, IsUnpopped};
+ghost use Rattle.world_record.specs.Told.{IsTold};
 
 use charlotte_calls::{Call, Effect, NoMemory, Packet, Pid, Setting};
 use kernel_core::{Kernel, NotTaken};
-use kernel_journal::{Entry, Happened, Journal};
+use journal_text::{Entry, Happened, Journal};
 use std::alloc::Global;
 use std::collections::VecDeque;
 

@@ -1,7 +1,7 @@
 use Rattle.std.proofs.Common.{◌≡◌, ◌≢◌, ℕ, ◌<◌, List, length, get_or, ap, sym, subst, ◌∙◌, arith, rules, Option, Some, true, false}
 use Rattle.std.proofs.lemmas.List.{set-get_or}
 use Rattle.kernel_core.specs.State.{state_of}
-use Rattle.kernel_journal.specs.declared.last.ScriptNote.{ScriptNote}
+use Rattle.journal_text.specs.declared.last.ScriptNote.{ScriptNote}
 use Rattle.kernel_step.specs.Kernel.{process_of}
 use Rattle.kernel_step.specs.Start.{home}
 use Rattle.kernel_step.specs.declared.phase.Phase.TheVariants.{Running}

@@ -4,7 +4,7 @@ use Rattle.charlotte_calls.specs.declared.names.EndId.{EndId}
 use Rattle.end_table.specs.Table.{entries}
 use Rattle.end_table.specs.declared.entry.Entry.{Entry as TableEntry}
 use Rattle.kernel_core.specs.State.{KernelView, state_of}
-use Rattle.kernel_journal.specs.Journal.{IsAfterLast}
+use Rattle.journal_text.specs.Journal.{IsAfterLast}
 use Rattle.kernel_step.specs.Calls.{IsCallWith}
 use Rattle.kernel_step.specs.Kernel.{Kernel, Outcome, call_step, without_answer}
 use Rattle.kernel_world.specs.declared.entry.Entry.{Entry}

@@ -2,7 +2,7 @@ use Rattle.std.proofs.Common.{List, [], ◌∷◌, ◌++◌, ap, sym, subst, ◌
 use Rattle.charlotte_calls.specs.Packets.{packet_picture}
 use Rattle.charlotte_calls.specs.declared.picture.Picture.{Picture}
 use Rattle.kernel_core.specs.State.{KernelView, state_of}
-use Rattle.kernel_journal.specs.Journal.{IsAfterLast}
+use Rattle.journal_text.specs.Journal.{IsAfterLast}
 use Rattle.kernel_step.specs.Kernel.{Outcome, take_step}
 use Rattle.kernel_world.specs.declared.entry.Entry.{Entry}
 use Rattle.kernel_world.specs.declared.entry.Happened.{Happened}
