@@ -23,6 +23,3 @@ pub use name::{push_end, push_ends, push_process, read_end, read_ends, read_proc
 pub use number::{Number, push_number, read_below, read_number};
 pub use part::{cut, end_of_line, next_word};
 pub use text::{push_bytes, read_bytes};
-
-#[cfg(test)]
-mod tests;

@@ -1,6 +1,6 @@
 -- Several kernels together.
-use Rattle.std.specs.Prelude.{ℕ, nat_eq, ◌&&◌, List, [], ◌∷◌, ◌++◌, if◌then◌else◌}
-use Rattle.std.specs.List.{fold}
+use Rattle.std.specs.Prelude.{ℕ, Bool, false, nat_eq, ◌&&◌, List, [], ◌∷◌, ◌++◌, map, if◌then◌else◌}
+use Rattle.std.specs.List.{fold, filter}
 use Rattle.charlotte_calls.specs.declared.calls.Call.{Call}
 use Rattle.charlotte_calls.specs.declared.names.EndId.{EndId}
 use Rattle.charlotte_calls.specs.declared.names.Pid.{Pid}
@@ -74,6 +74,31 @@ happens w e =
       kernel = λ q. if nat_eq q (kernel_of e) then o.kernel else w.kernel q;
       packets = adds_all (kernel_of e) o.packets (removes e w.packets);
     }
+
+-- ---- the packets after an event, list by list
+
+-- those of these packets that go to a kernel, in order
+abbrev pub to_kernel : ℕ → List (ℕ × Picture) → List Picture
+to_kernel to sent = map (λ s. s.1) (filter (λ s. nat_eq to s.0) sent)
+
+-- whether an event takes a packet that goes from one kernel to another
+abbrev pub takes_at : Event → ℕ → ℕ → Bool
+takes_at (Calls k p c mine) from to = false
+takes_at (Takes k j) from to = nat_eq from j && nat_eq to k
+
+-- what it leaves there
+abbrev pub left_at : World → Event → ℕ → ℕ → List Picture
+left_at w e from to = if takes_at e from to then rest (w.packets from to) else w.packets from to
+
+-- what it sends from one kernel to another
+abbrev pub sends_at : World → Event → ℕ → ℕ → List Picture
+sends_at w e from to = if nat_eq from (kernel_of e) then to_kernel to (outcome w e).packets else []
+
+-- the list without its first where that was taken, and then what was sent there
+abbrev pub packets_after : World → Event → ℕ → ℕ → List Picture
+packets_after w e from to = left_at w e from to ++ sends_at w e from to
+
+-- ---- what is noted
 
 -- what an event is noted as: a packet is noted as it was sent
 abbrev pub asked_or_took : World → Event → Happened

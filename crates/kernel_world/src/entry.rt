@@ -1,44 +1,83 @@
 ghost use Rattle.std.specs.Prelude.{◌≡◌, IfOk};
+ghost use Rattle.kernel_world.specs.declared.entry.Happened.TheVariants.{Asked, Took};
 
 use charlotte_calls::{Call, Items, NoMemory, Picture, Pid, ServiceStep};
+use compact_calls::{CompactCall, CompactPicture, CompactStep};
 use std::alloc::Global;
 
 /// What happened in one event of a kernel.
 #[derive(Debug, Drop)]
 pub enum Happened {
     /// A process made a call.
-    Asked { p: Pid, call: Call },
+    Asked { p: Pid, call: CompactCall },
     /// The kernel took a packet from a kernel.
-    Took { from: u8, picture: Picture },
+    Took { from: u8, picture: CompactPicture },
 }
 
 impl Happened {
+    /// That a process made this call.
+    pub fn asked(alloc: Global, p: Pid, call: &Call) -> Result<Happened, NoMemory>
+        ensures { IfOk result (λ h. h ≡ Asked p call.now) }
+    {
+        Ok(Happened::Asked {
+            p,
+            call: CompactCall::of(alloc, call)?,
+        })
+    }
+
+    /// That a kernel took this packet from a kernel.
+    pub fn took(alloc: Global, from: u8, picture: &Picture) -> Result<Happened, NoMemory>
+        ensures { IfOk result (λ h. h ≡ Took from picture.now) }
+    {
+        Ok(Happened::Took {
+            from,
+            picture: CompactPicture::of(alloc, picture)?,
+        })
+    }
+
     /// An equal value.
-    pub fn copy(&self) -> Happened
-        ensures { result ≡ self.now }
+    pub fn copy(&self, alloc: Global) -> Result<Happened, NoMemory>
+        ensures { IfOk result (λ h. h ≡ self.now) }
     {
         match self {
-            Happened::Asked { p, call } => Happened::Asked {
+            Happened::Asked { p, call } => Ok(Happened::Asked {
                 p: *p,
-                call: call.copy(),
-            },
-            Happened::Took { from, picture } => Happened::Took {
+                call: call.copy(alloc)?,
+            }),
+            Happened::Took { from, picture } => Ok(Happened::Took {
                 from: *from,
-                picture: picture.copy(),
-            },
+                picture: picture.copy(alloc)?,
+            }),
         }
     }
 }
 
-/// One event of a kernel, with its stamp and what it means to the link service.
+/// One event of a kernel, with its stamp and what it means to the link service. It takes only the memory of what it says.
 #[derive(Debug, Drop)]
 pub struct Entry {
     pub stamp: u64,
     pub what: Happened,
-    pub steps: Items<ServiceStep>,
+    pub steps: Items<CompactStep>,
 }
 
 impl Entry {
+    /// What happened in the event of a stamp, and the steps that it means.
+    pub fn of(
+        alloc: Global,
+        stamp: u64,
+        what: Happened,
+        steps: &[ServiceStep],
+    ) -> Result<Entry, NoMemory>
+        ensures { IfOk result (λ e. e ≡ record { stamp = stamp; what = what; steps = steps.now }) }
+    {
+        let steps = store_steps(alloc, steps)?;
+        Ok(Entry {
+            stamp,
+            what,
+            steps: Items::of(steps),
+        })
+    }
+
     /// An equal entry.
     pub fn copy(&self, alloc: Global) -> Result<Entry, NoMemory>
         ensures { IfOk result (λ copy. copy ≡ self.now) }
@@ -46,18 +85,28 @@ impl Entry {
         let steps = copy_steps(alloc, self.steps.as_slice())?;
         Ok(Entry {
             stamp: self.stamp,
-            what: self.what.copy(),
+            what: self.what.copy(alloc)?,
             steps: Items::of(steps),
         })
     }
 }
 
-fn copy_steps(alloc: Global, steps: &[ServiceStep]) -> Result<Vec<ServiceStep>, NoMemory>
+fn store_steps(alloc: Global, steps: &[ServiceStep]) -> Result<Vec<CompactStep>, NoMemory>
+    ensures { IfOk result (λ stored. stored.items ≡ steps.now) }
+{
+    let mut stored = Vec::with_capacity(alloc, steps.len())?;
+    for step in steps {
+        stored.push(CompactStep::of(alloc, step)?)?;
+    }
+    Ok(stored)
+}
+
+fn copy_steps(alloc: Global, steps: &[CompactStep]) -> Result<Vec<CompactStep>, NoMemory>
     ensures { IfOk result (λ copies. copies.items ≡ steps.now) }
 {
     let mut copies = Vec::with_capacity(alloc, steps.len())?;
     for step in steps {
-        copies.push(step.copy())?;
+        copies.push(step.copy(alloc)?)?;
     }
     Ok(copies)
 }

@@ -2,5 +2,7 @@
 #![tactic(auto)]
 
 mod entry;
+mod law;
 
 pub use entry::{Entry, Happened, Placed};
+pub use law::packets_after_an_event;

@@ -31,8 +31,8 @@ use Rattle.lynx_plan.specs.declared.script.ScriptCall.TheVariants as script
 use Rattle.lynx_plan.specs.declared.fault.PlanFault.{PlanFault}
 use Rattle.lynx_plan.specs.Given.{Given, nothing}
 use Rattle.lynx_plan.specs.Forms.{lead_of, one_number, two_numbers, placed, asked, led, form_of}
-use Rattle.lynx_plan.specs.Rules.{allows, broken, entry_of, judged, with_entry}
-use Rattle.lynx_plan.specs.Reading.{Gives, is_skipped, has_kernels, entry_at, noted, line_read, then_lines, lines_read, script_given, finished, script_of}
+use Rattle.lynx_plan.specs.Rules.{allows, broken, meaning_of, judged, with_meaning}
+use Rattle.lynx_plan.specs.Reading.{Gives, is_skipped, has_kernels, meaning_at, noted, line_read, then_lines, lines_read, script_given, finished, script_of}
 use Rattle.lynx_plan.specs.ScriptText.{standing, version_text, kernels_text, home_text, home_texts, wire_text, what_text, header_texts, IsHeader, FitsWhat, numbered, IsScriptText}
 use Rattle.lynx_plan.proofs.Words.{two_shape, home_shape, ask_shape}
 use Rattle.lynx_plan.proofs.Sound.{Joins}
@@ -42,7 +42,7 @@ use Rattle.lynx_plan.proofs.Spelled.{Line}
 
 abbrev stands_read : Given → List Line → Result Given PlanFault
 stands_read g [] = Ok g
-stands_read g (l ∷ ls) = then_lines (λ h. stands_read h ls) (noted l.0 g (entry_at g l.1))
+stands_read g (l ∷ ls) = then_lines (λ h. stands_read h ls) (noted l.0 g (meaning_at g l.1))
 
 then_same : (f k : Given → Result Given PlanFault) (r : Result Given PlanFault) → ((g : Given) → f g ≡ k g) → then_lines f r ≡ then_lines k r
 then_same f k (Ok g) e = e g
@@ -52,9 +52,9 @@ stands_lines : (n : ℕ) (g : Given) (ps : List (List ℕ)) → lines_read n g p
 unfolding lines_read line_read
 stands_lines n g [] = refl
 stands_lines n g (t ∷ ts) =
-    elim (is_skipped t) as (λ b. then_lines (λ h. lines_read (n + 1) h ts) (cond b (Ok g) (noted n g (entry_at g t))) ≡ stands_read g (cond b (standing (n + 1) ts) ((n, t) ∷ standing (n + 1) ts))) [
+    elim (is_skipped t) as (λ b. then_lines (λ h. lines_read (n + 1) h ts) (cond b (Ok g) (noted n g (meaning_at g t))) ≡ stands_read g (cond b (standing (n + 1) ts) ((n, t) ∷ standing (n + 1) ts))) [
       | true ↦ stands_lines (n + 1) g ts
-      | false ↦ then_same (λ h. lines_read (n + 1) h ts) (λ h. stands_read h (standing (n + 1) ts)) (noted n g (entry_at g t)) (λ h. stands_lines (n + 1) h ts)
+      | false ↦ then_same (λ h. lines_read (n + 1) h ts) (λ h. stands_read h (standing (n + 1) ts)) (noted n g (meaning_at g t)) (λ h. stands_lines (n + 1) h ts)
     ]
 
 then_stands : (r : Result Given PlanFault) (xs ys : List Line) → ((g : Given) → stands_read g (xs ++ ys) ≡ then_lines (λ h. stands_read h ys) (stands_read g xs)) → then_lines (λ h. stands_read h (xs ++ ys)) r ≡ then_lines (λ h. stands_read h ys) (then_lines (λ h. stands_read h xs) r)
@@ -63,7 +63,7 @@ then_stands (Err f) xs ys e = refl
 
 stands_append : (xs ys : List Line) (g : Given) → stands_read g (xs ++ ys) ≡ then_lines (λ h. stands_read h ys) (stands_read g xs)
 stands_append [] ys g = refl
-stands_append (x ∷ xs) ys g = then_stands (noted x.0 g (entry_at g x.1)) xs ys (stands_append xs ys)
+stands_append (x ∷ xs) ys g = then_stands (noted x.0 g (meaning_at g x.1)) xs ys (stands_append xs ys)
 
 -- ---- forms
 
@@ -152,12 +152,12 @@ what_forms v s script.Settle e lk lh fits = ap (form_of v) (words_joined (codes 
 
 -- ---- one line
 
-judged_ok : (g : Given) (f : Form) → allows f g.stage ≡ true → broken g f ≡ None → judged g f ≡ Ok (entry_of f)
+judged_ok : (g : Given) (f : Form) → allows f g.stage ≡ true → broken g f ≡ None → judged g f ≡ Ok (meaning_of f)
 unfolding judged
 judged_ok g f a b = rw (a, b) refl
 
-one_ok : (line : ℕ) (g : Given) (text : List ℕ) (f : Form) → form_of g.version (words text) ≡ Ok f → allows f g.stage ≡ true → broken g f ≡ None → noted line g (entry_at g text) ≡ Ok (with_entry line g (entry_of f))
-unfolding entry_at
+one_ok : (line : ℕ) (g : Given) (text : List ℕ) (f : Form) → form_of g.version (words text) ≡ Ok f → allows f g.stage ≡ true → broken g f ≡ None → noted line g (meaning_at g text) ≡ Ok (with_meaning line g (meaning_of f))
+unfolding meaning_at
 one_ok line g text f e a b = rw (e, judged_ok g f a b) refl
 
 version_ok : (g : Given) (v : ℕ) → (v ≡ 1) ⊎ (v ≡ 2) → broken g (Version (Is v)) ≡ None
@@ -204,8 +204,8 @@ calls_stage s (l ∷ ls) = stage.Calls
 abbrev with_calls : Given → List ScriptLine → Given
 with_calls g ls = record g { lines = g.lines ++ ls; stage = calls_stage g.stage ls }
 
-what_adds : (line : ℕ) (g : Given) (what : ScriptCall) → with_entry line g (entry_of (what_form what)) ≡ record g { lines = g.lines ++ record { line = line; what = what } ∷ []; stage = stage.Calls }
-unfolding with_entry
+what_adds : (line : ℕ) (g : Given) (what : ScriptCall) → with_meaning line g (meaning_of (what_form what)) ≡ record g { lines = g.lines ++ record { line = line; what = what } ∷ []; stage = stage.Calls }
+unfolding with_meaning
 what_adds line g (script.Ask p call) = refl
 what_adds line g (script.Take j k) = refl
 what_adds line g script.Settle = refl
@@ -218,7 +218,7 @@ calls_read : (ls : List ScriptLine) (g : Given) → has_kernels g.stage ≡ true
 calls_read [] g k lk lh fits = ap (λ (x : List ScriptLine). Ok (record g { lines = x; stage = g.stage })) (sym (append-nil g.lines))
 calls_read (l ∷ ls) g k lk lh fits =
     let h : Given = record g { lines = g.lines ++ l ∷ []; stage = stage.Calls } in
-    let one : noted l.line g (entry_at g (what_text l.what)) ≡ Ok h =
+    let one : noted l.line g (meaning_at g (what_text l.what)) ≡ Ok h =
     one_ok l.line g (what_text l.what) (what_form l.what) (what_forms g.version (script_given g).setting l.what refl lk lh fits.0) (what_allowed l.what g.stage k) (what_ok g l.what fits.0) ∙ ap Ok (what_adds l.line g l.what) in
     ap (then_lines (λ x. stands_read x (map numbered ls))) one ∙ calls_read ls h refl lk lh fits.1
     ∙ ap (λ (x : List ScriptLine). Ok (record h { lines = x; stage = calls_stage stage.Calls ls })) (append_assoc g.lines (l ∷ []) ls)
@@ -253,8 +253,8 @@ wire_allowed i j stage.Calls e = absurd cc
 abbrev with_wires : Given → List (Pid × Pid) → Given
 with_wires g ws = record g { wires = g.wires ++ ws; stage = wires_stage g.stage ws }
 
-wire_adds : (line : ℕ) (g : Given) (w : Pid × Pid) → with_entry line g (entry_of (Wire (Is w.0.0) (Is w.1.0))) ≡ record g { wires = g.wires ++ w ∷ []; stage = stage.Wires }
-unfolding with_entry
+wire_adds : (line : ℕ) (g : Given) (w : Pid × Pid) → with_meaning line g (meaning_of (Wire (Is w.0.0) (Is w.1.0))) ≡ record g { wires = g.wires ++ w ∷ []; stage = stage.Wires }
+unfolding with_meaning
 wire_adds line g w = refl
 
 wires_stage_again : (ws : List (Pid × Pid)) → wires_stage stage.Wires ws ≡ stage.Wires
@@ -269,8 +269,8 @@ wires_read (w ∷ ws) (l ∷ ls) g e s few room fits =
     let h : Given = record g { wires = g.wires ++ w ∷ []; stage = stage.Wires } in
     let small : w.0.0 < 2 ^ 64 = omega (arith, fits.0.0) in
     let small2 : w.1.0 < 2 ^ 64 = omega (arith, fits.0.1) in
-    let one : noted l.0 g (entry_at g l.1) ≡ Ok h =
-    ap (λ (t : List ℕ). noted l.0 g (entry_at g t)) (first_text l.1 (wire_text w) (texts_of ls) (map wire_text ws) e)
+    let one : noted l.0 g (meaning_at g l.1) ≡ Ok h =
+    ap (λ (t : List ℕ). noted l.0 g (meaning_at g t)) (first_text l.1 (wire_text w) (texts_of ls) (map wire_text ws) e)
     ∙ one_ok l.0 g (wire_text w) (Wire (Is w.0.0) (Is w.1.0)) (wire_form g.version w small small2) (wire_allowed w.0.0 w.1.0 g.stage s) (wire_ok g w.0.0 w.1.0 fits.0.0 fits.0.1 (omega arith)) ∙ ap Ok (wire_adds l.0 g w) in
     ap (then_lines (λ x. stands_read x ls)) one ∙ wires_read ws ls h (other_texts l.1 (wire_text w) (texts_of ls) (map wire_text ws) e) refl few (omega (arith, length-append g.wires (w ∷ []))) fits.1
     ∙ ap (λ (x : List (Pid × Pid)). Ok (record h { wires = x; stage = wires_stage stage.Wires ws })) (append_assoc g.wires (w ∷ []) ws)
@@ -278,8 +278,8 @@ wires_read (w ∷ ws) (l ∷ ls) g e s few room fits =
 
 -- ---- the processes, and then the wires
 
-home_adds : (line : ℕ) (g : Given) (i k : ℕ) → with_entry line g (entry_of (Process (Is i) (Is k))) ≡ record g { homes = g.homes ++ k ∷ [] }
-unfolding with_entry
+home_adds : (line : ℕ) (g : Given) (i k : ℕ) → with_meaning line g (meaning_of (Process (Is i) (Is k))) ≡ record g { homes = g.homes ++ k ∷ [] }
+unfolding with_meaning
 home_adds line g i k = refl
 
 homes_read : (ks : List ℕ) (ls : List Line) (g : Given) (ws : List (Pid × Pid)) → texts_of ls ≡ home_texts (length g.homes) ks ++ map wire_text ws → g.stage ≡ stage.Processes → g.kernels ≤ 8 → length g.homes + length ks ≤ 64 → AllByRecursion (λ k. k < g.kernels) ks
@@ -292,8 +292,8 @@ homes_read (k ∷ ks) (l ∷ ls) g ws e s k8 few there room fits =
     let h : Given = record g { homes = g.homes ++ k ∷ [] } in
     let len : length (g.homes ++ k ∷ []) ≡ length g.homes + 1 = length-append g.homes (k ∷ []) in
     let small : length g.homes < 2 ^ 64 = omega arith in
-    let one : noted l.0 g (entry_at g l.1) ≡ Ok h =
-    ap (λ (t : List ℕ). noted l.0 g (entry_at g t)) (first_text l.1 (home_text (length g.homes) k) (texts_of ls) (home_texts (length g.homes + 1) ks ++ map wire_text ws) e)
+    let one : noted l.0 g (meaning_at g l.1) ≡ Ok h =
+    ap (λ (t : List ℕ). noted l.0 g (meaning_at g t)) (first_text l.1 (home_text (length g.homes) k) (texts_of ls) (home_texts (length g.homes + 1) ks ++ map wire_text ws) e)
     ∙ one_ok l.0 g (home_text (length g.homes) k) (Process (Is (length g.homes)) (Is k)) (home_form g.version (length g.homes) k small (omega (arith, there.0))) (ap (allows (Process (Is (length g.homes)) (Is k))) s) (home_ok g k (omega arith) there.0) ∙ ap Ok (home_adds l.0 g (length g.homes) k) in
     let rest : texts_of ls ≡ home_texts (length h.homes) ks ++ map wire_text ws = other_texts l.1 (home_text (length g.homes) k) (texts_of ls) (home_texts (length g.homes + 1) ks ++ map wire_text ws) e ∙ ap (λ (m : ℕ). home_texts m ks ++ map wire_text ws) (sym len) in
     let n : length g.homes + length (k ∷ ks) ≡ length h.homes + length ks = omega (arith, len) in
@@ -309,24 +309,24 @@ begun v s = record { version = v; kernels = 0; homes = []; wires = []; lines = [
 abbrev header_given : Setting → Given
 header_given t = record { version = t.version; kernels = t.kernels; homes = t.homes; wires = t.wires; lines = []; stage = wires_stage stage.Processes t.wires }
 
-kernels_adds : (line v k : ℕ) (s : Stage) → with_entry line (begun v s) (entry_of (Kernels (Is k))) ≡ record { version = v; kernels = k; homes = []; wires = []; lines = []; stage = stage.Processes }
-unfolding with_entry
+kernels_adds : (line v k : ℕ) (s : Stage) → with_meaning line (begun v s) (meaning_of (Kernels (Is k))) ≡ record { version = v; kernels = k; homes = []; wires = []; lines = []; stage = stage.Processes }
+unfolding with_meaning
 kernels_adds line v k s = refl
 
 kernels_read : (t : Setting) (s : Stage) (ls : List Line) → allows (Kernels (Is t.kernels)) s ≡ true → texts_of ls ≡ header_texts t → IsValid t → stands_read (begun t.version s) ls ≡ Ok (header_given t)
 kernels_read t s [] a e valid = absurd cc
 kernels_read t s (l ∷ ls) a e valid =
     let h : Given = record { version = t.version; kernels = t.kernels; homes = []; wires = []; lines = []; stage = stage.Processes } in
-    let one : noted l.0 (begun t.version s) (entry_at (begun t.version s) l.1) ≡ Ok h =
-    ap (λ (x : List ℕ). noted l.0 (begun t.version s) (entry_at (begun t.version s) x)) (first_text l.1 (kernels_text t.kernels) (texts_of ls) (home_texts 0 t.homes ++ map wire_text t.wires) e)
+    let one : noted l.0 (begun t.version s) (meaning_at (begun t.version s) l.1) ≡ Ok h =
+    ap (λ (x : List ℕ). noted l.0 (begun t.version s) (meaning_at (begun t.version s) x)) (first_text l.1 (kernels_text t.kernels) (texts_of ls) (home_texts 0 t.homes ++ map wire_text t.wires) e)
     ∙ one_ok l.0 (begun t.version s) (kernels_text t.kernels) (Kernels (Is t.kernels)) (kernels_form t.version t.kernels (omega (arith, valid.limits.kernels))) a (kernels_ok (begun t.version s) t.kernels valid.limits.some_kernel valid.limits.kernels) ∙ ap Ok (kernels_adds l.0 t.version t.kernels s) in
     let n : length t.homes ≡ 0 + length t.homes = omega arith in
     ap (then_lines (λ x. stands_read x ls)) one
     ∙ homes_read t.homes ls h t.wires (other_texts l.1 (kernels_text t.kernels) (texts_of ls) (home_texts 0 t.homes ++ map wire_text t.wires) e) refl valid.limits.kernels (omega (arith, valid.limits.processes)) (recursion_from_All (λ k. k < t.kernels) t.homes valid.homes) (omega (arith, valid.limits.wires))
     (subst (λ (m : ℕ). AllByRecursion (Joins m) t.wires) n (recursion_from_All (Joins (length t.homes)) t.wires valid.wires))
 
-version_adds : (line v : ℕ) → with_entry line nothing (entry_of (Version (Is v))) ≡ begun v stage.Named
-unfolding with_entry
+version_adds : (line v : ℕ) → with_meaning line nothing (meaning_of (Version (Is v))) ≡ begun v stage.Named
+unfolding with_meaning
 version_adds line v = refl
 
 small_version : (v : ℕ) → (v ≡ 1) ⊎ (v ≡ 2) → v < 2 ^ 64
@@ -337,8 +337,8 @@ header_read : (t : Setting) (ls : List Line) → IsHeader (texts_of ls) t → Is
 header_read t ls (inr h) valid = ap (λ (v : ℕ). stands_read (begun v stage.Start) ls) (sym h.0) ∙ kernels_read t stage.Start ls refl h.1 valid
 header_read t [] (inl e) valid = absurd cc
 header_read t (l ∷ ls) (inl e) valid =
-    let one : noted l.0 nothing (entry_at nothing l.1) ≡ Ok (begun t.version stage.Named) =
-    ap (λ (x : List ℕ). noted l.0 nothing (entry_at nothing x)) (first_text l.1 (version_text t.version) (texts_of ls) (header_texts t) e)
+    let one : noted l.0 nothing (meaning_at nothing l.1) ≡ Ok (begun t.version stage.Named) =
+    ap (λ (x : List ℕ). noted l.0 nothing (meaning_at nothing x)) (first_text l.1 (version_text t.version) (texts_of ls) (header_texts t) e)
     ∙ one_ok l.0 nothing (version_text t.version) (Version (Is t.version)) (version_form 1 t.version (small_version t.version valid.limits.version)) refl (version_ok nothing t.version valid.limits.version) ∙ ap Ok (version_adds l.0 t.version) in
     ap (then_lines (λ x. stands_read x ls)) one ∙ kernels_read t stage.Named ls refl (other_texts l.1 (version_text t.version) (texts_of ls) (header_texts t) e) valid
 

@@ -5,9 +5,9 @@ use Rattle.charlotte_text.specs.declared.number.Number.{Number}
 use Rattle.charlotte_text.specs.declared.number.Number.TheVariants.{Is, Large}
 use Rattle.lynx_plan.specs.declared.form.Form.{Form}
 use Rattle.lynx_plan.specs.declared.form.Form.TheVariants.{Version, Kernels, Process, Wire, Ask, LongAsk, Take, Settle}
-use Rattle.lynx_plan.specs.declared.entry.Entry.{Entry}
+use Rattle.lynx_plan.specs.declared.meaning.Meaning.{Meaning}
 use Rattle.lynx_plan.specs.Given.{Given}
-use Rattle.lynx_plan.specs.Rules.{allows, is_below, is_number, value, broken, least_rule, entry_of, unless, judged}
+use Rattle.lynx_plan.specs.Rules.{allows, is_below, is_number, value, broken, least_rule, meaning_of, unless, judged}
 
 -- a number that its type holds, below a limit
 pub record IsSmall (n : Number) (limit : ℕ) : Type 0 where
@@ -75,12 +75,12 @@ lawful_from g (Take j k) e =
 lawful_from g Settle e = tt
 
 -- a line of a form that fails no rule
-pub record Passes (g : Given) (f : Form) (e : Entry) : Type 0 where
+pub record Passes (g : Given) (f : Form) (e : Meaning) : Type 0 where
   pub stands : allows f g.stage ≡ true
   pub lawful : Lawful g f
-  pub says : entry_of f ≡ e
+  pub says : meaning_of f ≡ e
 
-unless_ok : (o : Option ℕ) (d e : Entry) → unless o d ≡ Ok e → (o ≡ None) × (d ≡ e)
+unless_ok : (o : Option ℕ) (d e : Meaning) → unless o d ≡ Ok e → (o ≡ None) × (d ≡ e)
 unless_ok None d e h = (refl, cc)
 unless_ok (Some r) d e h = absurd cc
 
@@ -88,9 +88,9 @@ stands_from : (b : Bool) (o : Option ℕ) → cond b o (Some 1) ≡ None → (b 
 stands_from true o e = (refl, e)
 stands_from false o e = absurd cc
 
-pub passes_from : (g : Given) (f : Form) (e : Entry) → judged g f ≡ Ok e → Passes g f e
+pub passes_from : (g : Given) (f : Form) (e : Meaning) → judged g f ≡ Ok e → Passes g f e
 unfolding judged
 passes_from g f e h =
-    let u = unless_ok (least_rule g f) (entry_of f) e h in
+    let u = unless_ok (least_rule g f) (meaning_of f) e h in
     let s = stands_from (allows f g.stage) (broken g f) u.0 in
     record { stands = s.0; lawful = lawful_from g f s.1; says = u.1 }

@@ -13,12 +13,12 @@ use Rattle.lynx_plan.specs.declared.stage.Stage.{Stage}
 use Rattle.lynx_plan.specs.declared.stage.Stage.TheVariants as stage
 use Rattle.lynx_plan.specs.declared.form.Form.{Form}
 use Rattle.lynx_plan.specs.declared.form.Form.TheVariants.{Version, Kernels, Process, Wire, Ask, LongAsk, Take, Settle}
-use Rattle.lynx_plan.specs.declared.entry.Entry.{Entry}
+use Rattle.lynx_plan.specs.declared.meaning.Meaning.{Meaning}
 use Rattle.lynx_plan.specs.declared.fault.PlanFault.{PlanFault}
 use Rattle.lynx_plan.specs.Given.{Given, nothing}
 use Rattle.lynx_plan.specs.Forms.{form_of}
-use Rattle.lynx_plan.specs.Rules.{allows, value, entry_of, with_entry}
-use Rattle.lynx_plan.specs.Reading.{has_kernels, judged_form, entry_at, noted, line_read, is_skipped, script_given}
+use Rattle.lynx_plan.specs.Rules.{allows, value, meaning_of, with_meaning}
+use Rattle.lynx_plan.specs.Reading.{has_kernels, judged_form, meaning_at, noted, line_read, is_skipped, script_given}
 use Rattle.lynx_plan.proofs.Lawful.{Lawful, passes_from}
 
 -- each wire joins processes that are declared
@@ -88,8 +88,8 @@ settle_after stage.Processes e = refl
 settle_after stage.Wires e = refl
 settle_after stage.Calls e = refl
 
-sound_form : (line : ℕ) (g : Given) (f : Form) → allows f g.stage ≡ true → Lawful g f → Sound g → Sound (with_entry line g (entry_of f))
-unfolding with_entry
+sound_form : (line : ℕ) (g : Given) (f : Form) → allows f g.stage ≡ true → Lawful g f → Sound g → Sound (with_meaning line g (meaning_of f))
+unfolding with_meaning
 sound_form line g (Version n) a l s = record {
   version = version_value n l;
   kernels = s.kernels;
@@ -142,10 +142,10 @@ sound_form line g (LongAsk p) a l s = absurd l
 sound_form line g (Take j k) a l s = let there = settle_after g.stage a in record { version = s.version; kernels = s.kernels; some = λ x. s.some there; none = λ x. absurd cc; processes = s.processes; count = s.count; homes = s.homes; wires = s.wires }
 sound_form line g Settle a l s = let there = settle_after g.stage a in record { version = s.version; kernels = s.kernels; some = λ x. s.some there; none = λ x. absurd cc; processes = s.processes; count = s.count; homes = s.homes; wires = s.wires }
 
-sound_judged : (line : ℕ) (g : Given) (r : Result Form Fault) (e : Entry) → judged_form g r ≡ Ok e → Sound g → Sound (with_entry line g e)
+sound_judged : (line : ℕ) (g : Given) (r : Result Form Fault) (e : Meaning) → judged_form g r ≡ Ok e → Sound g → Sound (with_meaning line g e)
 sound_judged line g (Ok f) e h s =
     let p = passes_from g f e h in
-    subst (λ (x : Entry). Sound (with_entry line g x)) p.says (sound_form line g f p.stands p.lawful s)
+    subst (λ (x : Meaning). Sound (with_meaning line g x)) p.says (sound_form line g f p.stands p.lawful s)
 sound_judged line g (Err f) e h s = absurd cc
 
 abbrev kept : Given → Result Given PlanFault
@@ -154,8 +154,8 @@ kept g = Ok g
 pub given_is : (g h : Given) → kept g ≡ kept h → g ≡ h
 given_is g h e = cc
 
-sound_noted : (line : ℕ) (g h : Given) (r : Result Entry ℕ) → noted line g r ≡ Ok h → ((e : Entry) → r ≡ Ok e → Sound (with_entry line g e)) → Sound h
-sound_noted line g h (Ok e) n s = subst Sound (given_is (with_entry line g e) h n) (s e refl)
+sound_noted : (line : ℕ) (g h : Given) (r : Result Meaning ℕ) → noted line g r ≡ Ok h → ((e : Meaning) → r ≡ Ok e → Sound (with_meaning line g e)) → Sound h
+sound_noted line g h (Ok e) n s = subst Sound (given_is (with_meaning line g e) h n) (s e refl)
 sound_noted line g h (Err rule) n s = absurd cc
 
 pub which : (b : Bool) (g h : Given) (r : Result Given PlanFault) → cond b (Ok g) r ≡ Ok h → (g ≡ h) ⊎ (r ≡ Ok h)
@@ -163,11 +163,11 @@ which true g h r e = inl (given_is g h e)
 which false g h r e = inr e
 
 pub sound_kept : (line : ℕ) (g h : Given) (text : List ℕ) → line_read line g text ≡ Ok h → Sound g → Sound h
-unfolding line_read entry_at
+unfolding line_read meaning_at
 sound_kept line g h text e s =
-    elim (which (is_skipped text) g h (noted line g (entry_at g text)) e) [
+    elim (which (is_skipped text) g h (noted line g (meaning_at g text)) e) [
       | inl same ↦ subst Sound same s
-      | inr n ↦ sound_noted line g h (entry_at g text) n (λ x at. sound_judged line g (form_of g.version (words text)) x at s)
+      | inr n ↦ sound_noted line g h (meaning_at g text) n (λ x at. sound_judged line g (form_of g.version (words text)) x at s)
     ]
 
 pub valid_given : (g : Given) → Sound g → has_kernels g.stage ≡ true → IsValid (script_given g).setting

@@ -14,7 +14,7 @@ use Rattle.lynx_plan.specs.declared.stage.Stage.{Stage}
 use Rattle.lynx_plan.specs.declared.stage.Stage.TheVariants as stage
 use Rattle.lynx_plan.specs.declared.form.Form.{Form}
 use Rattle.lynx_plan.specs.declared.form.Form.TheVariants.{Version, Kernels, Process, Wire, Ask, LongAsk, Take, Settle}
-use Rattle.lynx_plan.specs.declared.entry.Entry.{Entry}
+use Rattle.lynx_plan.specs.declared.meaning.Meaning.{Meaning}
 use Rattle.lynx_plan.specs.declared.script.Script.{Script}
 use Rattle.lynx_plan.specs.declared.script.ScriptLine.{ScriptLine}
 use Rattle.lynx_plan.specs.declared.script.ScriptCall.{ScriptCall}
@@ -23,8 +23,8 @@ use Rattle.lynx_plan.specs.declared.fault.PlanFault.{PlanFault}
 use Rattle.lynx_plan.specs.declared.fault.PlanFault.TheVariants.{BadPlan}
 use Rattle.lynx_plan.specs.Given.{Given, nothing}
 use Rattle.lynx_plan.specs.Forms.{form_of}
-use Rattle.lynx_plan.specs.Rules.{allows, value, entry_of, with_entry}
-use Rattle.lynx_plan.specs.Reading.{Gives, is_skipped, has_kernels, judged_form, entry_at, noted, line_read, then_lines, lines_read, script_given, finished, script_of}
+use Rattle.lynx_plan.specs.Rules.{allows, value, meaning_of, with_meaning}
+use Rattle.lynx_plan.specs.Reading.{Gives, is_skipped, has_kernels, judged_form, meaning_at, noted, line_read, then_lines, lines_read, script_given, finished, script_of}
 use Rattle.lynx_plan.specs.ScriptText.{standing, version_text, kernels_text, home_text, home_texts, wire_text, what_text, header_texts, IsHeader, FitsWhat, numbered, IsScriptText}
 use Rattle.lynx_plan.proofs.Lawful.{Lawful, passes_from}
 use Rattle.lynx_plan.proofs.Sound.{Sound, sound_nothing, sound_kept, valid_given, given_is, process_stage, wire_after, settle_after}
@@ -214,8 +214,8 @@ reads_call line g what text all s t fits r = record {
   calls = All-push (Fit g) g.lines (record { line = line; what = what }) r.calls fits;
 }
 
-reads_form : (line : ℕ) (g : Given) (f : Form) (text : List ℕ) (all : List Line) → allows f g.stage ≡ true → Lawful g f → FitsForm g.version f → text ≡ form_text g f → Reads g all → Reads (with_entry line g (entry_of f)) (all ++ (line, text) ∷ [])
-unfolding with_entry
+reads_form : (line : ℕ) (g : Given) (f : Form) (text : List ℕ) (all : List Line) → allows f g.stage ≡ true → Lawful g f → FitsForm g.version f → text ≡ form_text g f → Reads g all → Reads (with_meaning line g (meaning_of f)) (all ++ (line, text) ∷ [])
+unfolding with_meaning
 reads_form line g (Version n) text all a l fits t r = reads_version line g n text all (version_stage n g.stage a) t r
 reads_form line g (Kernels n) text all a l fits t r = reads_kernels line g (value n) text all (kernels_stage n g.stage a) t r
 reads_form line g (Process i k) text all a l fits t r = reads_process line g (value k) text all (process_stage i k g.stage a) t r
@@ -225,16 +225,16 @@ reads_form line g (LongAsk p) text all a l fits t r = absurd l
 reads_form line g (Take j k) text all a l fits t r = reads_call line g (script.Take (value j) (value k)) text all (settle_after g.stage a) t (l.0.small, l.1.small) r
 reads_form line g Settle text all a l fits t r = reads_call line g script.Settle text all (settle_after g.stage a) t tt r
 
-reads_judged : (line : ℕ) (g : Given) (text : List ℕ) (read : Result Form Fault) (e : Entry) (all : List Line) → form_of g.version (words text) ≡ read → judged_form g read ≡ Ok e → Reads g all → Reads (with_entry line g e) (all ++ (line, text) ∷ [])
+reads_judged : (line : ℕ) (g : Given) (text : List ℕ) (read : Result Form Fault) (e : Meaning) (all : List Line) → form_of g.version (words text) ≡ read → judged_form g read ≡ Ok e → Reads g all → Reads (with_meaning line g e) (all ++ (line, text) ∷ [])
 reads_judged line g text (Ok f) e all is h r =
     let p = passes_from g f e h in
     let has = form_has g.version (words text) f is in
-    subst (λ (x : Entry). Reads (with_entry line g x) (all ++ (line, text) ∷ [])) p.says
+    subst (λ (x : Meaning). Reads (with_meaning line g x) (all ++ (line, text) ∷ [])) p.says
     (reads_form line g f text all p.stands p.lawful (fits_has g.version (words text) f has) (text_has g g.version text f has p.lawful) r)
 reads_judged line g text (Err f) e all is h r = absurd cc
 
-reads_noted : (line : ℕ) (g h : Given) (read : Result Entry ℕ) (all : List Line) → noted line g read ≡ Ok h → ((e : Entry) → read ≡ Ok e → Reads (with_entry line g e) all) → Reads h all
-reads_noted line g h (Ok e) all n s = subst (λ (x : Given). Reads x all) (given_is (with_entry line g e) h n) (s e refl)
+reads_noted : (line : ℕ) (g h : Given) (read : Result Meaning ℕ) (all : List Line) → noted line g read ≡ Ok h → ((e : Meaning) → read ≡ Ok e → Reads (with_meaning line g e) all) → Reads h all
+reads_noted line g h (Ok e) all n s = subst (λ (x : Given). Reads x all) (given_is (with_meaning line g e) h n) (s e refl)
 reads_noted line g h (Err rule) all n s = absurd cc
 
 -- the line, if it is not skipped
@@ -242,11 +242,11 @@ abbrev one_standing : ℕ → List ℕ → List Line
 one_standing n text = cond (is_skipped text) [] ((n, text) ∷ [])
 
 reads_line : (line : ℕ) (g h : Given) (text : List ℕ) (all : List Line) → line_read line g text ≡ Ok h → Reads g all → Reads h (all ++ one_standing line text)
-unfolding line_read entry_at
+unfolding line_read meaning_at
 reads_line line g h text all e r =
-    elim (is_skipped text) as (λ b. cond b (Ok g) (noted line g (entry_at g text)) ≡ Ok h → Reads h (all ++ cond b [] ((line, text) ∷ []))) [
+    elim (is_skipped text) as (λ b. cond b (Ok g) (noted line g (meaning_at g text)) ≡ Ok h → Reads h (all ++ cond b [] ((line, text) ∷ []))) [
       | true ↦ λ k. subst (λ (x : Given). Reads x (all ++ [])) (given_is g h k) (subst (Reads g) (sym (append-nil all)) r)
-      | false ↦ λ k. reads_noted line g h (entry_at g text) (all ++ (line, text) ∷ []) k (λ x at. reads_judged line g text (form_of g.version (words text)) x all refl at r)
+      | false ↦ λ k. reads_noted line g h (meaning_at g text) (all ++ (line, text) ∷ []) k (λ x at. reads_judged line g text (form_of g.version (words text)) x all refl at r)
     ] e
 
 standing_first : (n : ℕ) (text : List ℕ) (texts : List (List ℕ)) → standing n (text ∷ texts) ≡ one_standing n text ++ standing (n + 1) texts

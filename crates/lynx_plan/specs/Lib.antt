@@ -3,3 +3,4 @@ pub mod Forms
 pub mod Rules
 pub mod Reading
 pub mod ScriptText
+pub mod Stored

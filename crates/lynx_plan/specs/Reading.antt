@@ -5,13 +5,13 @@ use Rattle.charlotte_text.specs.Reading.{parts, words}
 use Rattle.lynx_plan.specs.declared.stage.Stage.{Stage}
 use Rattle.lynx_plan.specs.declared.stage.Stage.TheVariants as stage
 use Rattle.lynx_plan.specs.declared.form.Form.{Form}
-use Rattle.lynx_plan.specs.declared.entry.Entry.{Entry}
+use Rattle.lynx_plan.specs.declared.meaning.Meaning.{Meaning}
 use Rattle.lynx_plan.specs.declared.script.Script.{Script}
 use Rattle.lynx_plan.specs.declared.fault.PlanFault.{PlanFault}
 use Rattle.lynx_plan.specs.declared.fault.PlanFault.TheVariants.{BadPlan, NoMemory}
 use Rattle.lynx_plan.specs.Given.{Given, nothing}
 use Rattle.lynx_plan.specs.Forms.{form_of}
-use Rattle.lynx_plan.specs.Rules.{judged, with_entry}
+use Rattle.lynx_plan.specs.Rules.{judged, with_meaning}
 
 -- what a call gives is what is read, unless memory ran out
 abbrev pub Fails : {Y : Type 0} → PlanFault → Result Y PlanFault → Type 0
@@ -28,21 +28,21 @@ is_skipped [] = true
 is_skipped (b ∷ bs) = b == 35
 
 -- a line of no form fails the first rule
-abbrev pub judged_form : Given → Result Form Fault → Result Entry ℕ
+abbrev pub judged_form : Given → Result Form Fault → Result Meaning ℕ
 judged_form g (Ok f) = judged g f
 judged_form g (Err e) = Err 1
 
 -- what a line says after what was read before it, or the least rule that it fails
-unfoldable pub entry_at : Given → List ℕ → Result Entry ℕ
-entry_at g text = judged_form g (form_of g.version (words text))
+unfoldable pub meaning_at : Given → List ℕ → Result Meaning ℕ
+meaning_at g text = judged_form g (form_of g.version (words text))
 
 -- what is said with one more line, or that line and its rule
-abbrev pub noted : ℕ → Given → Result Entry ℕ → Result Given PlanFault
-noted line g (Ok e) = Ok (with_entry line g e)
+abbrev pub noted : ℕ → Given → Result Meaning ℕ → Result Given PlanFault
+noted line g (Ok e) = Ok (with_meaning line g e)
 noted line g (Err rule) = Err (BadPlan line rule)
 
 unfoldable pub line_read : ℕ → Given → List ℕ → Result Given PlanFault
-line_read line g text = if is_skipped text then Ok g else noted line g (entry_at g text)
+line_read line g text = if is_skipped text then Ok g else noted line g (meaning_at g text)
 
 -- the lines in order, from the one with this number
 abbrev pub then_lines : (Given → Result Given PlanFault) → Result Given PlanFault → Result Given PlanFault

@@ -7,8 +7,8 @@ use Rattle.lynx_plan.specs.declared.stage.Stage.{Stage}
 use Rattle.lynx_plan.specs.declared.stage.Stage.TheVariants as stage
 use Rattle.lynx_plan.specs.declared.form.Form.{Form}
 use Rattle.lynx_plan.specs.declared.form.Form.TheVariants.{Version, Kernels, Process, Wire, Ask, LongAsk, Take, Settle}
-use Rattle.lynx_plan.specs.declared.entry.Entry.{Entry}
-use Rattle.lynx_plan.specs.declared.entry.Entry.TheVariants as entry
+use Rattle.lynx_plan.specs.declared.meaning.Meaning.{Meaning}
+use Rattle.lynx_plan.specs.declared.meaning.Meaning.TheVariants as meaning
 use Rattle.lynx_plan.specs.declared.script.ScriptCall.TheVariants as script
 use Rattle.lynx_plan.specs.Given.{Given}
 
@@ -106,32 +106,32 @@ abbrev pub known_process : Given → Number → Option Pid
 known_process g p = if is_below p (length g.homes) then Some (record { 0 = value p }) else None
 
 -- what a form says
-abbrev pub entry_of : Form → Entry
-entry_of (Version n) = entry.Version (value n)
-entry_of (Kernels n) = entry.Kernels (value n)
-entry_of (Process i k) = entry.Process (value k)
-entry_of (Wire i j) = entry.Wire (record { 0 = value i }) (record { 0 = value j })
-entry_of (Ask p call) = entry.Line (script.Ask (record { 0 = value p }) call)
-entry_of (LongAsk p) = entry.Line script.Settle
-entry_of (Take j k) = entry.Line (script.Take (value j) (value k))
-entry_of Settle = entry.Line script.Settle
+abbrev pub meaning_of : Form → Meaning
+meaning_of (Version n) = meaning.Version (value n)
+meaning_of (Kernels n) = meaning.Kernels (value n)
+meaning_of (Process i k) = meaning.Process (value k)
+meaning_of (Wire i j) = meaning.Wire (record { 0 = value i }) (record { 0 = value j })
+meaning_of (Ask p call) = meaning.Line (script.Ask (record { 0 = value p }) call)
+meaning_of (LongAsk p) = meaning.Line script.Settle
+meaning_of (Take j k) = meaning.Line (script.Take (value j) (value k))
+meaning_of Settle = meaning.Line script.Settle
 
 -- what a line says, or the rule that it fails
-abbrev pub unless : Option ℕ → Entry → Result Entry ℕ
+abbrev pub unless : Option ℕ → Meaning → Result Meaning ℕ
 unless None e = Ok e
 unless (Some rule) e = Err rule
 
 -- what a line says whose form may stand there, or the rule that it fails
-unfoldable pub ruled : Given → Form → Result Entry ℕ
-ruled g f = unless (broken g f) (entry_of f)
+unfoldable pub ruled : Given → Form → Result Meaning ℕ
+ruled g f = unless (broken g f) (meaning_of f)
 
-unfoldable pub judged : Given → Form → Result Entry ℕ
-judged g f = unless (least_rule g f) (entry_of f)
+unfoldable pub judged : Given → Form → Result Meaning ℕ
+judged g f = unless (least_rule g f) (meaning_of f)
 
 -- what is said with one more line
-unfoldable pub with_entry : ℕ → Given → Entry → Given
-with_entry line g (entry.Version v) = record g { version = v; stage = stage.Named }
-with_entry line g (entry.Kernels k) = record g { kernels = k; stage = stage.Processes }
-with_entry line g (entry.Process k) = record g { homes = g.homes ++ k ∷ [] }
-with_entry line g (entry.Wire p q) = record g { wires = g.wires ++ (p, q) ∷ []; stage = stage.Wires }
-with_entry line g (entry.Line what) = record g { lines = g.lines ++ record { line = line; what = what } ∷ []; stage = stage.Calls }
+unfoldable pub with_meaning : ℕ → Given → Meaning → Given
+with_meaning line g (meaning.Version v) = record g { version = v; stage = stage.Named }
+with_meaning line g (meaning.Kernels k) = record g { kernels = k; stage = stage.Processes }
+with_meaning line g (meaning.Process k) = record g { homes = g.homes ++ k ∷ [] }
+with_meaning line g (meaning.Wire p q) = record g { wires = g.wires ++ (p, q) ∷ []; stage = stage.Wires }
+with_meaning line g (meaning.Line what) = record g { lines = g.lines ++ record { line = line; what = what } ∷ []; stage = stage.Calls }

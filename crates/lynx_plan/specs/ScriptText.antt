@@ -58,6 +58,12 @@ FitsWhat s Settle = Unit {0}
 abbrev pub numbered : ScriptLine → ℕ × List ℕ
 numbered l = (l.line, what_text l.what)
 
+-- each line stands behind the one before it
+abbrev pub AreRisingLines : List ScriptLine → Type 0
+AreRisingLines [] = Unit {0}
+AreRisingLines (l ∷ []) = Unit {0}
+AreRisingLines (l ∷ m ∷ ls) = (l.line < m.line) × AreRisingLines (m ∷ ls)
+
 -- the text spells the script: its lines are the header, and then the calls in order
 pub record IsScriptText (bytes : List ℕ) (s : Script) : Type 0 where
   -- the lines of the header, with their numbers

@@ -1,11 +1,12 @@
 ghost use Rattle.std.specs.Prelude.{◌≡◌, length};
 ghost use Rattle.lynx_plan.specs.Given.{Given, nothing};
 
-use crate::entry::Entry;
+use crate::compact::CompactScriptCall;
+use crate::meaning::Meaning;
 use crate::script::{Script, ScriptLine};
 use crate::stage::Stage;
-use charlotte_calls::{Items, Pid, Setting};
-use std::alloc::{AllocError, Global};
+use charlotte_calls::{Items, NoMemory, Pid, Setting};
+use std::alloc::Global;
 use std::marker::Model;
 
 /// What the lines of a script said so far.
@@ -34,7 +35,7 @@ impl Model for Draft {
 
 impl Draft {
     ghost use Rattle.std.specs.Prelude.{OnOk};
-    ghost use Rattle.lynx_plan.specs.Rules.{with_entry};
+    ghost use Rattle.lynx_plan.specs.Rules.{with_meaning};
     ghost use Rattle.lynx_plan.specs.Reading.{script_given};
 
     /// Before the first line.
@@ -84,25 +85,26 @@ impl Draft {
     }
 
     /// Adds what a line says.
-    #[tactic(auto, unfolding(crate::specs::Rules::with_entry))]
-    pub(crate) fn add(&mut self, line: u32, entry: Entry) -> Result<(), AllocError>
-        ensures { OnOk result (self.new ≡ with_entry line self.old entry) }
+    #[tactic(auto, unfolding(crate::specs::Rules::with_meaning))]
+    pub(crate) fn add(&mut self, line: u32, meaning: Meaning) -> Result<(), NoMemory>
+        ensures { OnOk result (self.new ≡ with_meaning line self.old meaning) }
     {
-        match entry {
-            Entry::Version(version) => {
+        match meaning {
+            Meaning::Version(version) => {
                 self.version = version;
                 self.stage = Stage::Named;
             }
-            Entry::Kernels(kernels) => {
+            Meaning::Kernels(kernels) => {
                 self.kernels = kernels;
                 self.stage = Stage::Processes;
             }
-            Entry::Process(kernel) => self.homes.push(kernel)?,
-            Entry::Wire(first, second) => {
+            Meaning::Process(kernel) => self.homes.push(kernel)?,
+            Meaning::Wire(first, second) => {
                 self.wires.push((first, second))?;
                 self.stage = Stage::Wires;
             }
-            Entry::Line(what) => {
+            Meaning::Line(what) => {
+                let what = CompactScriptCall::of(*self.lines.allocator(), &what)?;
                 self.lines.push(ScriptLine { line, what })?;
                 self.stage = Stage::Calls;
             }

@@ -1,6 +1,7 @@
 ghost use Rattle.std.specs.Prelude.{◌≡◌};
 ghost use Rattle.lynx_plan.specs.declared.fault.PlanFault.TheVariants as faults;
 
+use charlotte_calls::NoMemory;
 use std::alloc::{AllocError, AllocFailed};
 use std::error::Error;
 use std::fmt;
@@ -37,6 +38,14 @@ impl<T: Drop> From<AllocFailed<T>> for PlanFault {
     ghost from_gives = { λ _ e. e ≡ faults.NoMemory };
 
     fn from(_error: AllocFailed<T>) -> PlanFault {
+        PlanFault::NoMemory
+    }
+}
+
+impl From<NoMemory> for PlanFault {
+    ghost from_gives = { λ _ e. e ≡ faults.NoMemory };
+
+    fn from(_error: NoMemory) -> PlanFault {
         PlanFault::NoMemory
     }
 }

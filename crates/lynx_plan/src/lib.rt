@@ -1,20 +1,19 @@
 //! Scripts as texts: which kernels, processes and wires there are, and which calls are made in which order.
 #![tactic(auto)]
 
+mod compact;
 mod draft;
-mod entry;
 mod fault;
 mod form;
 mod law;
+mod meaning;
 mod read;
 mod rules;
 mod script;
 mod stage;
 
+pub use compact::CompactScriptCall;
 pub use fault::PlanFault;
 pub use law::one_script;
 pub use read::read_script;
 pub use script::{Script, ScriptCall, ScriptLine};
-
-#[cfg(test)]
-mod tests;

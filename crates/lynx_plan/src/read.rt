@@ -1,11 +1,11 @@
-ghost use Rattle.std.specs.Prelude.{◌≡◌, ◌<◌, ◌≤◌, length, MatchResult, IfOk, Ok};
+ghost use Rattle.std.specs.Prelude.{◌≡◌, ◌<◌, ◌≤◌, ◌+◌, ◌*◌, length, MatchResult, IfOk, Ok};
 ghost use Rattle.charlotte_calls.specs.Setting.{IsValid};
 ghost use Rattle.lynx_plan.specs.declared.script.Script.{Script};
-ghost use Rattle.lynx_plan.specs.ScriptText.{IsScriptText};
-ghost use Rattle.lynx_plan.specs.Reading.{Fails, Gives, is_skipped, entry_at, line_read, lines_read, script_of};
+ghost use Rattle.lynx_plan.specs.ScriptText.{AreRisingLines, IsScriptText};
+ghost use Rattle.lynx_plan.specs.Reading.{Fails, Gives, is_skipped, meaning_at, line_read, lines_read, script_of};
 
 use crate::draft::Draft;
-use crate::entry::Entry;
+use crate::meaning::Meaning;
 use crate::fault::PlanFault;
 use crate::form::script_form;
 use crate::rules::judge;
@@ -20,6 +20,9 @@ pub fn read_script(alloc: Global, bytes: &[u8]) -> Result<Script, PlanFault>
     // What is read is spelled so.
     ensures found { IfOk result (IsScriptText bytes.now) }
     ensures valid { IfOk result (λ script. IsValid script.setting) }
+    ensures rising { IfOk result (λ script. AreRisingLines script.lines) }
+    // The line of a call has six bytes and more, and its line feed.
+    ensures few { IfOk result (λ script. 7 * length script.lines ≤ length bytes.now + 1) }
     // What is spelled as a script is read so, unless memory runs out.
     ensures only { (script : Script) → IsScriptText bytes.now script → Gives result (Ok script) }
     // Which line and which rule it is.
@@ -55,8 +58,8 @@ fn read_line(draft: &mut Draft, line: u32, text: &[u8]) -> Result<(), PlanFault>
     if skipped(text) {
         return Ok(());
     }
-    match read_entry(draft, text) {
-        Ok(entry) => draft.add(line, entry)?,
+    match read_meaning(draft, text) {
+        Ok(meaning) => draft.add(line, meaning)?,
         Err(rule) => return Err(PlanFault::BadPlan { line, rule }),
     }
     Ok(())
@@ -72,10 +75,10 @@ fn skipped(text: &[u8]) -> bool
 }
 
 /// What a line says, or the least rule that it fails.
-#[tactic(auto, unfolding(crate::specs::Reading::entry_at))]
-fn read_entry(draft: &Draft, text: &[u8]) -> Result<Entry, u8>
+#[tactic(auto, unfolding(crate::specs::Reading::meaning_at))]
+fn read_meaning(draft: &Draft, text: &[u8]) -> Result<Meaning, u8>
     requires { length draft.now.homes ≤ 64 }
-    ensures { result ≡ entry_at draft.now text.now }
+    ensures { result ≡ meaning_at draft.now text.now }
 {
     match script_form(draft.version(), text) {
         Ok(form) => judge(draft, form),

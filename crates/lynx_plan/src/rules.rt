@@ -2,7 +2,7 @@ ghost use Rattle.std.specs.Prelude.{◌≡◌, ◌<◌, ◌≤◌, IsTrue, Some,
 ghost use Rattle.lynx_plan.specs.Rules.{allows, is_below, is_number, value, known_process, ruled, judged};
 
 use crate::draft::Draft;
-use crate::entry::Entry;
+use crate::meaning::Meaning;
 use crate::form::Form;
 use crate::script::ScriptCall;
 use crate::stage::Stage;
@@ -11,7 +11,7 @@ use charlotte_text::Number;
 
 /// What a line of a form says after the lines before it, or the least rule that it fails.
 #[tactic(auto, unfolding(crate::specs::Rules::judged, crate::specs::Rules::ruled))]
-pub(crate) fn judge(draft: &Draft, form: Form) -> Result<Entry, u8>
+pub(crate) fn judge(draft: &Draft, form: Form) -> Result<Meaning, u8>
     requires { length draft.now.homes ≤ 64 }
     ensures { result ≡ judged draft.now form }
 {
@@ -37,7 +37,7 @@ fn allowed(form: &Form, stage: Stage) -> bool
 }
 
 #[tactic(auto, unfolding(crate::specs::Rules::ruled))]
-fn rule(draft: &Draft, form: Form) -> Result<Entry, u8>
+fn rule(draft: &Draft, form: Form) -> Result<Meaning, u8>
     requires { length draft.now.homes ≤ 64 }
     ensures { result ≡ ruled draft.now form }
 {
@@ -47,7 +47,7 @@ fn rule(draft: &Draft, form: Form) -> Result<Entry, u8>
         Form::Process(process, kernel) => rule_process(draft, process, kernel),
         Form::Wire(first, second) => rule_wire(draft, first, second),
         Form::Ask(process, call) => match known(draft, process) {
-            Some(pid) => Ok(Entry::Line(ScriptCall::Ask(pid, call))),
+            Some(pid) => Ok(Meaning::Line(ScriptCall::Ask(pid, call))),
             None => Err(5),
         },
         Form::LongAsk(process) => match known(draft, process) {
@@ -55,35 +55,35 @@ fn rule(draft: &Draft, form: Form) -> Result<Entry, u8>
             None => Err(5),
         },
         Form::Take(from, to) => rule_take(draft, from, to),
-        Form::Settle => Ok(Entry::Line(ScriptCall::Settle)),
+        Form::Settle => Ok(Meaning::Line(ScriptCall::Settle)),
     }
 }
 
 #[tactic(auto, unfolding(crate::specs::Rules::ruled))]
-fn rule_version(draft: &Draft, version: Number) -> Result<Entry, u8>
+fn rule_version(draft: &Draft, version: Number) -> Result<Meaning, u8>
     ensures { result ≡ ruled draft.now (Form.Version version) }
 {
     if version == Number::Is(1) {
-        Ok(Entry::Version(1))
+        Ok(Meaning::Version(1))
     } else if version == Number::Is(2) {
-        Ok(Entry::Version(2))
+        Ok(Meaning::Version(2))
     } else {
         Err(10)
     }
 }
 
 #[tactic(auto, unfolding(crate::specs::Rules::ruled))]
-fn rule_kernels(draft: &Draft, kernels: Number) -> Result<Entry, u8>
+fn rule_kernels(draft: &Draft, kernels: Number) -> Result<Meaning, u8>
     ensures { result ≡ ruled draft.now (Form.Kernels kernels) }
 {
     if below(kernels, 1) || !below(kernels, 9) {
         return Err(2);
     }
-    Ok(Entry::Kernels(value(kernels) as u8))
+    Ok(Meaning::Kernels(value(kernels) as u8))
 }
 
 #[tactic(auto, unfolding(crate::specs::Rules::ruled))]
-fn rule_process(draft: &Draft, process: Number, kernel: Number) -> Result<Entry, u8>
+fn rule_process(draft: &Draft, process: Number, kernel: Number) -> Result<Meaning, u8>
     ensures { result ≡ ruled draft.now (Form.Process process kernel) }
 {
     if !is(process, draft.processes()) || !below(process, 64) {
@@ -92,11 +92,11 @@ fn rule_process(draft: &Draft, process: Number, kernel: Number) -> Result<Entry,
     if !below(kernel, u64::from(draft.kernels())) {
         return Err(4);
     }
-    Ok(Entry::Process(value(kernel) as u8))
+    Ok(Meaning::Process(value(kernel) as u8))
 }
 
 #[tactic(auto, unfolding(crate::specs::Rules::ruled))]
-fn rule_wire(draft: &Draft, first: Number, second: Number) -> Result<Entry, u8>
+fn rule_wire(draft: &Draft, first: Number, second: Number) -> Result<Meaning, u8>
     requires { length draft.now.homes ≤ 64 }
     ensures { result ≡ ruled draft.now (Form.Wire first second) }
 {
@@ -105,21 +105,21 @@ fn rule_wire(draft: &Draft, first: Number, second: Number) -> Result<Entry, u8>
             if 4096 <= draft.wires() {
                 return Err(7);
             }
-            Ok(Entry::Wire(first, second))
+            Ok(Meaning::Wire(first, second))
         }
         _ => Err(5),
     }
 }
 
 #[tactic(auto, unfolding(crate::specs::Rules::ruled))]
-fn rule_take(draft: &Draft, from: Number, to: Number) -> Result<Entry, u8>
+fn rule_take(draft: &Draft, from: Number, to: Number) -> Result<Meaning, u8>
     ensures { result ≡ ruled draft.now (Form.Take from to) }
 {
     let kernels = u64::from(draft.kernels());
     if !below(from, kernels) || !below(to, kernels) {
         return Err(4);
     }
-    Ok(Entry::Line(ScriptCall::Take {
+    Ok(Meaning::Line(ScriptCall::Take {
         from: value(from) as u8,
         to: value(to) as u8,
     }))

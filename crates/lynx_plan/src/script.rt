@@ -1,3 +1,4 @@
+use crate::compact::CompactScriptCall;
 use charlotte_calls::{Call, Items, Pid, Setting};
 
 /// A script: its setting, and its calls in order.
@@ -11,7 +12,7 @@ pub struct Script {
 #[derive(Debug, Drop)]
 pub struct ScriptLine {
     pub line: u32,
-    pub what: ScriptCall,
+    pub what: CompactScriptCall,
 }
 
 /// What a line of a script asks.

@@ -1,21 +1,46 @@
 //! The command that performs a script.
-ghost use Rattle.std.specs.Prelude.{◌≤◌, IfOk, length, map};
+ghost use Rattle.std.specs.Prelude.{◌≤◌, ◌+◌, ◌*◌, ℕ, List, IfOk, length};
 ghost use Rattle.lynx_command.specs.Course.{Course, outside, Took, IsOfFile};
+ghost use Rattle.lynx_command.specs.Text.{IsNextLine};
+ghost use Rattle.lynx_plan.specs.ScriptText.{AreRisingLines};
 ghost use Rattle.lynx_run.specs.Drive.{IsScriptOf, IsDriven, Drives};
 
 use charlotte_calls::NoMemory;
-use kernel_journal::print_transcript;
-use lynx_command::{End, Failure, FileCommand, Lines, MOST_BYTES, Output, perform_file};
+use journal_text::TranscriptLines;
+use lynx_command::{End, Failure, FileCommand, MOST_BYTES, Text, Told, perform_file};
 use lynx_outside::{Files, Sink, Status};
 use lynx_plan::{Script, read_script};
-use script_run::perform;
+use script_run::{Performance, perform};
 use std::alloc::Global;
+use std::marker::Model;
+
+/// The transcript of a run, whose lines are made one after the other.
+#[derive(Drop)]
+pub struct Transcript {
+    lines: TranscriptLines,
+}
+
+impl Model for Transcript {
+    ghost Value = { List (List ℕ) };
+
+    ghost view = { λ t. t.lines };
+}
+
+impl Text for Transcript {
+    ghost lines_left = { λ t. t };
+
+    fn next_line(&mut self, line: &mut Vec<u8>) -> Result<bool, NoMemory>
+        ensures { IfOk result (λ more. IsNextLine more self.old self.new line.new.items) }
+    {
+        self.lines.next_line(line)
+    }
+}
 
 /// `drive`: the text is the transcript of the script of the file.
 pub struct DriveCommand;
 
 impl FileCommand for DriveCommand {
-    type Text = Lines;
+    type Text = Transcript;
 
     const MOST: u32 = MOST_BYTES;
 
@@ -23,30 +48,33 @@ impl FileCommand for DriveCommand {
 
     ghost finds = { Drives };
 
-    fn find(alloc: Global, bytes: &[u8]) -> Result<Output<Lines>, Failure> {
+    fn find(alloc: Global, bytes: &[u8]) -> Result<Told<Transcript>, Failure> {
         let script = read_script(alloc, bytes).map_err(Failure::of_script)?;
-        let lines = transcript(alloc, bytes, &script)?;
-        Ok(Output {
-            text: Lines::of(lines),
+        let text = transcript(alloc, bytes, script)?;
+        Ok(Told {
+            text,
             end: End::Done,
         })
     }
 }
 
-// The lines of the transcript of a script.
-fn transcript(alloc: Global, bytes: &[u8], script: &Script) -> Result<Vec<Vec<u8>>, NoMemory>
+// The transcript of a script.
+fn transcript(alloc: Global, bytes: &[u8], script: Script) -> Result<Transcript, NoMemory>
     requires within { length bytes.now ≤ 1048576 }
-    requires given { IsScriptOf bytes.now script.now }
-    ensures { IfOk result (λ lines. IsDriven bytes.now (map (λ l. l.items) lines.items)) }
+    requires given { IsScriptOf bytes.now script }
+    requires rising { AreRisingLines script.lines }
+    requires few { 7 * length script.lines ≤ length bytes.now + 1 }
+    ensures { IfOk result (IsDriven bytes.now) }
 {
-    let performance = perform(alloc, script)?;
-    print_transcript(
-        alloc,
-        &script.setting,
-        performance.merged.as_slice(),
-        performance.notes.as_slice(),
-        performance.last,
-    )
+    let performance = perform(alloc, &script)?;
+    let Script { setting, lines: _ } = script;
+    let Performance {
+        merged,
+        notes,
+        last,
+    } = performance;
+    let lines = TranscriptLines::of(alloc, setting, merged, notes, last);
+    Ok(Transcript { lines })
 }
 
 /// Performs the script of a file, and puts its transcript on out, one put a line. Where that fails, the line of the

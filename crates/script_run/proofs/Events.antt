@@ -9,16 +9,17 @@ use Rattle.charlotte_calls.specs.declared.picture.Picture.{Picture}
 use Rattle.charlotte_calls.specs.declared.work.Effect.{Effect}
 use Rattle.end_table.specs.Table.{entries}
 use Rattle.kernel_core.specs.State.{KernelView, state_of, ended}
-use Rattle.kernel_journal.specs.TranscriptText.{HasFewCall, HasFewPacket}
+use Rattle.journal_text.specs.TranscriptText.{HasFewCall, HasFewPacket}
 use Rattle.kernel_step.specs.Kernel.{Kernel, Outcome, call_step, take_step, next_stamp, process_of, without_answer}
 use Rattle.kernel_step.specs.Progress.{sent_picture}
 use Rattle.kernel_world.specs.declared.entry.Entry.{Entry}
 use Rattle.kernel_world.specs.declared.entry.Happened.{Happened}
 use Rattle.kernel_world.specs.declared.entry.Happened.TheVariants.{Took}
-use Rattle.script_run.specs.Nodes.{sent_to, to_kernel, IsStamped, IsAfter}
-use Rattle.script_run.specs.Told.{IsTold}
+use Rattle.kernel_world.specs.World.{to_kernel}
+use Rattle.script_run.specs.Nodes.{sent_to, IsStamped, IsAfter}
+use Rattle.world_record.specs.Told.{IsTold}
 use Rattle.script_run.specs.declared.node.Node.{Node}
-use Rattle.script_run.proofs.KeptSteps.{call_step-gives, take_step-gives, told-without_answer}
+use Rattle.world_record.proofs.KeptSteps.{call_step-gives, take_step-gives, told-without_answer}
 use Rattle.script_run.proofs.Stamps.{IsUpTo, up_to-push}
 
 -- an effect has what an outcome says

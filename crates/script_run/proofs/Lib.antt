@@ -1,8 +1,4 @@
 pub mod Events
-pub mod Exchange
-pub mod Kept
-pub mod KeptRows
-pub mod KeptSteps
 pub mod Lists
 pub mod Nodes
 pub mod OneLine
@@ -10,6 +6,4 @@ pub mod Performances
 pub mod Runs
 pub mod Sent
 pub mod Settling
-pub mod Sorted
 pub mod Stamps
-pub mod Worlds

@@ -7,19 +7,20 @@ use Rattle.std.proofs.lemmas.Bool.Decides.{eqb_tells}
 use Rattle.charlotte_calls.specs.declared.picture.Picture.{Picture}
 use Rattle.charlotte_calls.specs.declared.setting.Setting.{Setting}
 use Rattle.kernel_core.specs.State.{KernelView, state_of}
-use Rattle.kernel_journal.specs.Journal.{Kept}
+use Rattle.journal_text.specs.Journal.{Kept}
 use Rattle.kernel_step.specs.Kernel.{Kernel, Outcome}
 use Rattle.kernel_step.specs.Start.{start_kernel}
 use Rattle.kernel_world.specs.Run.{IsAllowed, AreAllowed, of_kernel}
-use Rattle.kernel_world.specs.World.{World, Event, kernel_of, outcome, removes, adds_all, happens, asked_or_took, noted_as, after, noted}
+use Rattle.kernel_world.specs.World.{World, Event, kernel_of, outcome, removes, adds_all, happens, asked_or_took, noted_as, after, noted, to_kernel}
+use Rattle.kernel_world.proofs.Packets.{adds_all-own, adds_all-other}
 use Rattle.kernel_world.specs.declared.entry.Entry.{Entry}
 use Rattle.kernel_world.specs.declared.entry.Placed.{Placed}
-use Rattle.script_run.specs.Nodes.{sent_to, to_kernel, IsNodeOf, IsAfter, world_of, noted_at, AreReady, Goes}
-use Rattle.script_run.specs.Told.{IsToldWorld}
+use Rattle.script_run.specs.Nodes.{sent_to, IsNodeOf, IsAfter, world_of, noted_at, AreReady, Goes}
+use Rattle.world_record.specs.Told.{IsToldWorld}
 use Rattle.script_run.specs.declared.node.Node.{Node}
 use Rattle.script_run.proofs.Lists.{map-set_same, map-set_other, map-read}
-use Rattle.script_run.proofs.Runs.{after-append, noted-append}
-use Rattle.script_run.proofs.Worlds.{adds_all-own, adds_all-other, told-after}
+use Rattle.world_record.proofs.Runs.{after-append, noted-append}
+use Rattle.world_record.proofs.Worlds.{told-after}
 
 -- ---- what is at one kernel
 

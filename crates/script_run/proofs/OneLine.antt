@@ -13,7 +13,7 @@ use Rattle.charlotte_calls.specs.Packets.{packet_picture}
 use Rattle.charlotte_text.specs.Spelling.{IsCall}
 use Rattle.end_table.specs.Table.{entries}
 use Rattle.kernel_core.specs.State.{KernelView, state_of}
-use Rattle.kernel_journal.specs.TranscriptText.{HasFewCall}
+use Rattle.journal_text.specs.TranscriptText.{HasFewCall}
 use Rattle.kernel_step.specs.Calls.{IsCallWith}
 use Rattle.kernel_step.specs.Kernel.{Kernel, call_step, take_step, process_of, without_answer}
 use Rattle.kernel_step.specs.Start.{home}
@@ -25,7 +25,7 @@ use Rattle.kernel_world.specs.declared.entry.Happened.TheVariants.{Asked, Took}
 use Rattle.lynx_plan.specs.declared.script.ScriptCall.TheVariants.{Ask, Take}
 use Rattle.script_run.specs.Nodes.{sent_to, IsNodeOf, IsAfter, IsPopped, IsUnpopped, IsTakenFirst, IsLineDone, world_of, AreReady, Goes}
 use Rattle.script_run.specs.Performing.{Asks, TakesFirst, waits_note, nothing_note}
-use Rattle.script_run.specs.Told.{IsTold, IsToldPacket}
+use Rattle.world_record.specs.Told.{IsTold, IsToldPacket}
 use Rattle.script_run.specs.declared.node.Node.{Node}
 use Rattle.script_run.proofs.Nodes.{IsWithSent, with_sent, event_goes, kernel_at, packets_at, unchanged, Goes-start}
 

@@ -11,27 +11,27 @@ use Rattle.charlotte_calls.specs.declared.setting.Setting.{Setting}
 use Rattle.charlotte_calls.specs.Packets.{packet_picture}
 use Rattle.charlotte_calls.specs.Setting.{IsValid}
 use Rattle.kernel_core.specs.State.{state_of}
-use Rattle.kernel_journal.proofs.Merges.{in-order-unique}
-use Rattle.kernel_journal.specs.TranscriptText.{AreOfTranscript, AreRisingNotes, HasNotesOf, IsShown}
-use Rattle.kernel_journal.specs.declared.last.Last.{Last}
-use Rattle.kernel_journal.specs.declared.last.Last.TheVariants.{Quiet, Unsettled, Spent}
-use Rattle.kernel_journal.specs.declared.last.ScriptNote.{ScriptNote}
+use Rattle.journal_text.specs.TranscriptText.{AreOfTranscript, AreRisingNotes, HasNotesOf, IsShown}
+use Rattle.journal_text.specs.declared.last.Last.{Last}
+use Rattle.journal_text.specs.declared.last.Last.TheVariants.{Quiet, Unsettled, Spent}
+use Rattle.journal_text.specs.declared.last.ScriptNote.{ScriptNote}
 use Rattle.kernel_step.specs.Start.{start_kernel}
 use Rattle.kernel_step.specs.declared.phase.Phase.{Phase}
 use Rattle.kernel_step.specs.declared.phase.Phase.TheVariants.{Running, Waiting, Cancelling, Exited}
 use Rattle.kernel_world.specs.Run.{AllTaken, AreAllowed, IsMerge, of_kernel}
 use Rattle.kernel_world.specs.World.{World, Event, after, start, noted}
 use Rattle.kernel_world.specs.declared.entry.Placed.{Placed}
+use Rattle.lynx_plan.specs.ScriptText.{AreRisingLines}
 use Rattle.lynx_plan.specs.declared.script.ScriptLine.{ScriptLine}
 use Rattle.lynx_plan.specs.declared.script.ScriptCall.{ScriptCall}
 use Rattle.lynx_plan.specs.declared.script.ScriptCall.TheVariants.{Ask, Take, Settle}
 use Rattle.script_run.specs.Nodes.{sent_to, world_of, noted_at, IsNodeOf, AreLinesDone, AreReady, IsLineDone, Goes}
-use Rattle.script_run.specs.Performing.{Asks, TakesFirst, Does, Performs, AreRisingLines, IsLast, IsPerformance, waits_note, nothing_note}
+use Rattle.script_run.specs.Performing.{Asks, TakesFirst, Does, Performs, IsLast, IsPerformance, waits_note, nothing_note}
 use Rattle.script_run.specs.declared.node.Node.{Node}
 use Rattle.script_run.proofs.Nodes.{state_at, entries_of, Goes-then}
 use Rattle.script_run.proofs.Runs.{Performs-more}
-use Rattle.script_run.proofs.Sorted.{IsSorted, sort}
-use Rattle.script_run.proofs.Worlds.{shown-noted, told-start}
+use Rattle.world_record.proofs.Laws.{merge-record, record-shown}
+use Rattle.world_record.proofs.Worlds.{told-start}
 use Rattle.script_run.proofs.Sent.{Lists, sent_in, IsEmptyList, nothing_sent}
 
 -- ---- the start
@@ -184,14 +184,7 @@ performance s lines merged notes last a b ready begins none done merge ends few 
     record {
       named = es;
       performed = subst (λ (w : World). Performs s w lines es notes) begins done.performed;
-      run = sorted.0;
-      told = record {
-        run = record { allowed = sorted.1.reordered.allowed; few = omega (arith, sorted.1.reordered.count, few_events) };
-        order = merge.order;
-        entries = in-order-unique (noted (start s) sorted.0) merged sorted.1.order merge.order (λ k. sorted.1.reordered.same k ∙ sym (at_kernel k));
-      };
-      same = at_kernel;
-      leaves = sorted.1.reordered.ends;
+      recorded = merge-record s es merged (record { allowed = allowed; few = few_events }) merge.order at_kernel;
       last_world = subst (λ (w : World). IsLast w last) (done.goes.world ∙ ap (λ (w : World). after w es) begins) ends;
     }
   where
@@ -204,10 +197,6 @@ performance s lines merged notes last a b ready begins none done merge ends few 
     allowed : AreAllowed s (start s) es
     allowed = subst (λ (w : World). AreAllowed s w es) begins done.goes.allowed
 
-    -- the events in the order of a merge
-    sorted : (gs : List Event) × IsSorted s (start s) es gs
-    sorted = sort s 0 (start s) es (omega (arith, few_events)) (told-start s) allowed
-
     at_kernel : (k : ℕ) → of_kernel k merged ≡ of_kernel k (noted (start s) es)
     at_kernel k = merge.entries k ∙ done.goes.entries k ∙ ap (λ xs. xs ++ of_kernel k (noted (world_of s a) es)) (none k) ∙ ap (λ (w : World). of_kernel k (noted w es)) begins
 
@@ -216,7 +205,7 @@ pub performance-told : (s : Setting) (lines : List ScriptLine) (merged : List Pl
 performance-told s lines merged notes last valid rising p =
     record {
       setting = valid;
-      shown = subst (λ (ps : List Placed). All (IsShown s.version) ps) p.told.entries (shown-noted s 0 (start s) p.run (omega (arith, p.told.run.few)) p.told.run.allowed (told-start s));
+      shown = record-shown s p.recorded.run merged p.recorded.recorded;
       in_order = notes-rise s (start s) lines p.named notes rising p.performed;
       spent = last-notes (after (start s) p.named) last notes p.last_world;
     }

@@ -2,20 +2,11 @@
 use Rattle.std.proofs.Common.{◌≡◌, List, [], ◌∷◌, ◌++◌, refl, sym, ap, ◌∙◌, append_assoc, subst}
 use Rattle.std.proofs.lemmas.List.{append-nil}
 use Rattle.charlotte_calls.specs.declared.setting.Setting.{Setting}
-use Rattle.kernel_journal.specs.declared.last.ScriptNote.{ScriptNote}
-use Rattle.kernel_world.specs.World.{World, Event, happens, after, noted, noted_as}
+use Rattle.journal_text.specs.declared.last.ScriptNote.{ScriptNote}
+use Rattle.kernel_world.specs.World.{World, Event, after}
+use Rattle.world_record.proofs.Runs.{after-append}
 use Rattle.lynx_plan.specs.declared.script.ScriptLine.{ScriptLine}
 use Rattle.script_run.specs.Performing.{Does, Performs}
-
--- the world after events, and then more of them
-pub after-append : (w : World) (es fs : List Event) → after w (es ++ fs) ≡ after (after w es) fs
-after-append w [] fs = refl
-after-append w (e ∷ es) fs = after-append (happens w e) es fs
-
--- their entries
-pub noted-append : (w : World) (es fs : List Event) → noted w (es ++ fs) ≡ noted w es ++ noted (after w es) fs
-noted-append w [] fs = refl
-noted-append w (e ∷ es) fs = ap (λ ns. noted_as w e ∷ ns) (noted-append (happens w e) es fs)
 
 -- one line alone
 one_line : (s : Setting) (w : World) (l : ScriptLine) (es : List Event) (notes : List ScriptNote) → Does s w l.line l.what es notes → Performs s w (l ∷ []) es notes

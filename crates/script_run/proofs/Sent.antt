@@ -11,7 +11,8 @@ use Rattle.charlotte_calls.specs.Packets.{packet_picture}
 use Rattle.charlotte_calls.specs.declared.packet.Packet.{Packet}
 use Rattle.charlotte_calls.specs.declared.picture.Picture.{Picture}
 use Rattle.kernel_step.specs.Progress.{sent_picture}
-use Rattle.script_run.specs.Nodes.{sent_to, to_kernel, IsPopped, IsUnpopped}
+use Rattle.kernel_world.specs.World.{to_kernel}
+use Rattle.script_run.specs.Nodes.{sent_to, IsPopped, IsUnpopped}
 use Rattle.script_run.specs.declared.node.Node.{Node}
 use Rattle.script_run.proofs.Lists.{map-set_same, map-set_other, map-read}
 

@@ -9,7 +9,7 @@ use Rattle.script_run.specs.Nodes.{sent_to, world_of, first_pair, AreReady, Goes
 use Rattle.script_run.specs.Performing.{pairs, next_take, then_events, settled}
 use Rattle.script_run.specs.declared.node.Node.{Node}
 use Rattle.script_run.proofs.Nodes.{packets_at, Goes-then, ready-after}
-use Rattle.script_run.proofs.Runs.{after-append}
+use Rattle.world_record.proofs.Runs.{after-append}
 
 -- ---- the first of a list that passes a test
 

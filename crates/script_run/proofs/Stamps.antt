@@ -1,7 +1,7 @@
 -- The stamps of entries.
 use Rattle.std.proofs.Common.{ℕ, ◌<◌, ◌≤◌, arith, List, [], ◌∷◌, ◌++◌, All}
 use Rattle.std.proofs.lemmas.List.Elements.{All-push, All-head, All-tail, All-weaker}
-use Rattle.kernel_journal.specs.Journal.{IsAfterLast}
+use Rattle.journal_text.specs.Journal.{IsAfterLast}
 use Rattle.kernel_world.specs.declared.entry.Entry.{Entry}
 
 abbrev pub IsUpTo : ℕ → Entry → Type 0

@@ -1,6 +1,5 @@
 -- Nodes: kernels with what was noted of their events and what they sent, as a world.
 use Rattle.std.specs.Prelude.{◌≡◌, ◌≢◌, ◌≤◌, ℕ, nat_eq, List, [], ◌∷◌, ◌++◌, length, map, All, slice_index_or, ◌*◌, Bool, true, false, Option, not, find}
-use Rattle.std.specs.List.{filter}
 use Rattle.std.specs.Option.{option_to_list}
 use Rattle.charlotte_calls.specs.Packets.{packet_picture}
 use Rattle.charlotte_calls.specs.declared.packet.Packet.{Packet}
@@ -9,24 +8,20 @@ use Rattle.charlotte_calls.specs.declared.setting.Setting.{Setting}
 use Rattle.kernel_core.specs.State.{state_of}
 use Rattle.kernel_step.specs.Kernel.{Outcome}
 use Rattle.kernel_step.specs.Start.{start_kernel}
-use Rattle.kernel_world.specs.World.{World, Event, Takes, after, noted}
+use Rattle.kernel_world.specs.World.{World, Event, Takes, after, noted, to_kernel}
 use Rattle.kernel_world.specs.Run.{AreAllowed, of_kernel}
 use Rattle.kernel_world.specs.declared.entry.Entry.{Entry}
 use Rattle.kernel_world.specs.declared.entry.Happened.{Happened}
-use Rattle.kernel_journal.specs.declared.last.ScriptNote.{ScriptNote}
+use Rattle.journal_text.specs.declared.last.ScriptNote.{ScriptNote}
 use Rattle.lynx_plan.specs.declared.script.ScriptCall.{ScriptCall}
 use Rattle.lynx_plan.specs.declared.script.ScriptLine.{ScriptLine}
 use Rattle.script_run.specs.Performing.{Does, Performs, most_settled, pairs}
-use Rattle.script_run.specs.Told.{IsToldWorld}
+use Rattle.world_record.specs.Told.{IsToldWorld}
 use Rattle.script_run.specs.declared.node.Node.{Node}
 
 -- the packets that a node sent to a kernel and that were not taken, oldest first
 abbrev pub sent_to : Node → ℕ → List Picture
 sent_to node to = slice_index_or (map (λ list. map packet_picture list.items) node.sent.items) to []
-
--- those of these packets that go to a kernel, in order
-abbrev pub to_kernel : ℕ → List (ℕ × Picture) → List Picture
-to_kernel to sent = map (λ s. s.1) (filter (λ s. nat_eq to s.0) sent)
 
 abbrev pub IsStamped : Node → Type 0
 IsStamped node = All (λ e. e.stamp ≤ node.kernel.stamp) node.journal.entries

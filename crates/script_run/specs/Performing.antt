@@ -1,5 +1,5 @@
 -- Performing a script: which events its lines name, in which order, and what is noted where a line names none.
-use Rattle.std.specs.Prelude.{◌≡◌, ◌<◌, ℕ, zero, suc, nat_eq, not, List, [], ◌∷◌, ◌++◌, length, map, find, option_map, Option, None, Some, true, false}
+use Rattle.std.specs.Prelude.{◌≡◌, ℕ, zero, suc, nat_eq, not, List, [], ◌∷◌, ◌++◌, length, map, find, option_map, Option, None, Some, true, false}
 use Rattle.std.specs.List.{flat_map, range_with_len}
 use Rattle.charlotte_calls.specs.declared.calls.Call.{Call}
 use Rattle.charlotte_calls.specs.declared.names.EndId.{EndId}
@@ -11,15 +11,16 @@ use Rattle.kernel_step.specs.Kernel.{process_of}
 use Rattle.kernel_step.specs.Start.{home}
 use Rattle.kernel_step.specs.declared.phase.Phase.{Phase}
 use Rattle.kernel_step.specs.declared.phase.Phase.TheVariants.{Running, Waiting, Cancelling, Exited}
-use Rattle.kernel_world.specs.World.{World, Event, Calls, Takes, happens, after, start, noted}
-use Rattle.kernel_world.specs.Run.{IsRecord, of_kernel, AllTaken}
+use Rattle.kernel_world.specs.World.{World, Event, Calls, Takes, happens, after, start}
+use Rattle.kernel_world.specs.Run.{AllTaken}
 use Rattle.kernel_world.specs.declared.entry.Placed.{Placed}
-use Rattle.kernel_journal.specs.declared.last.Last.{Last}
-use Rattle.kernel_journal.specs.declared.last.Last.TheVariants.{Quiet, Unsettled, Spent}
-use Rattle.kernel_journal.specs.declared.last.ScriptNote.{ScriptNote}
+use Rattle.journal_text.specs.declared.last.Last.{Last}
+use Rattle.journal_text.specs.declared.last.Last.TheVariants.{Quiet, Unsettled, Spent}
+use Rattle.journal_text.specs.declared.last.ScriptNote.{ScriptNote}
 use Rattle.lynx_plan.specs.declared.script.ScriptLine.{ScriptLine}
 use Rattle.lynx_plan.specs.declared.script.ScriptCall.{ScriptCall}
 use Rattle.lynx_plan.specs.declared.script.ScriptCall.TheVariants.{Ask, Take, Settle}
+use Rattle.world_record.specs.Record.{IsRecordOf}
 
 -- ---- settling
 
@@ -92,27 +93,16 @@ Performs s w (l ∷ ls) es notes =
     (now later : List Event) × (noted_now noted_later : List ScriptNote) × Does s w l.line l.what now noted_now
     × Performs s (after w now) ls later noted_later × (es ≡ now ++ later) × (notes ≡ noted_now ++ noted_later)
 
--- each line stands behind the one before it
-abbrev pub AreRisingLines : List ScriptLine → Type 0
-AreRisingLines [] = Unit {0}
-AreRisingLines (l ∷ []) = Unit {0}
-AreRisingLines (l ∷ m ∷ ls) = (l.line < m.line) × AreRisingLines (m ∷ ls)
-
 -- how the world is that a script leaves
 abbrev pub IsLast : World → Last → Type 0
 IsLast w Quiet = AllTaken w
 IsLast w Unsettled = AllTaken w → ⊥
 IsLast w (Spent kernel) = ⊥
 
--- A script was performed: its lines name these events, in their order, and give these notes. What is told of them is the record of a
--- run, in the order of a merge: at each kernel it has the events of the lines, and it leaves the same world.
+-- A script was performed: its lines name these events, in their order, and give these notes, and this is the record of these events.
 pub record IsPerformance (s : Setting) (lines : List ScriptLine) (merged : List Placed) (notes : List ScriptNote) (last : Last) : Type 0 where
   -- the events in the order of the lines
   pub named : List Event
   pub performed : Performs s (start s) lines named notes
-  -- the same events in the order of a merge
-  pub run : List Event
-  pub told : IsRecord s run merged
-  pub same : (k : ℕ) → of_kernel k merged ≡ of_kernel k (noted (start s) named)
-  pub leaves : after (start s) run ≡ after (start s) named
+  pub recorded : IsRecordOf s named merged
   pub last_world : IsLast (after (start s) named) last

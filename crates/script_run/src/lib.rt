@@ -4,7 +4,5 @@
 mod lines;
 mod node;
 mod performance;
-#[cfg(test)]
-mod tests;
 
 pub use performance::{Performance, perform};

@@ -10,7 +10,7 @@ ghost use Rattle.script_run.specs.Performing.{most_settled, settled};
 
 use crate::node::Node;
 use charlotte_calls::{Call, NoMemory, Pid, Setting};
-use kernel_journal::ScriptNote;
+use journal_text::ScriptNote;
 use lynx_plan::{ScriptCall, ScriptLine};
 
 /// The packets that one settling takes at most.
@@ -27,9 +27,9 @@ pub(crate) fn do_line(
     requires fits { FitsWhat setting.now line.now.what }
     ensures { IfOk result (λ note. IsLineDone setting.now line.now.line line.now.what note nodes.old nodes.new) }
 {
-    match &line.what {
-        ScriptCall::Ask(p, call) => ask(setting, nodes, line.line, *p, call),
-        ScriptCall::Take { from, to } => take(setting, nodes, line.line, *from, *to),
+    match line.what.script_call() {
+        ScriptCall::Ask(p, call) => ask(setting, nodes, line.line, p, call),
+        ScriptCall::Take { from, to } => take(setting, nodes, line.line, from, to),
         ScriptCall::Settle => {
             settle(setting, nodes)?;
             Ok(None)
@@ -43,12 +43,12 @@ fn ask(
     nodes: &mut [Node],
     line: u32,
     p: Pid,
-    call: &Call,
+    call: Call,
 ) -> Result<Option<ScriptNote>, NoMemory>
     requires valid { IsValid setting.now }
     requires ready { (n : ℕ) × (n < 2 ^ 32) × AreReady setting.now n nodes.old }
-    requires fits { FitsWhat setting.now (Ask p call.now) }
-    ensures { IfOk result (λ note. IsLineDone setting.now line (Ask p call.now) note nodes.old nodes.new) }
+    requires fits { FitsWhat setting.now (Ask p call) }
+    ensures { IfOk result (λ note. IsLineDone setting.now line (Ask p call) note nodes.old nodes.new) }
 {
     let home = setting.homes.as_slice()[usize::from(p.0)];
     let node = &mut nodes[usize::from(home)];

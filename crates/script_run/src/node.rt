@@ -4,20 +4,21 @@ ghost use Rattle.charlotte_calls.specs.Setting.{IsValid};
 ghost use Rattle.charlotte_calls.specs.declared.names.EndId.{EndId};
 ghost use Rattle.end_table.specs.Table.{entries};
 ghost use Rattle.kernel_core.specs.State.{state_of};
-ghost use Rattle.kernel_journal.specs.Journal.{IsAfterLast};
-ghost use Rattle.kernel_journal.specs.TranscriptText.{HasFewCall, HasFewPacket};
+ghost use Rattle.journal_text.specs.Journal.{IsAfterLast};
+ghost use Rattle.journal_text.specs.TranscriptText.{HasFewCall, HasFewPacket};
 ghost use Rattle.kernel_step.specs.Calls.{IsCallWith};
 ghost use Rattle.kernel_step.specs.Kernel.{call_step, take_step, process_of, without_answer};
 ghost use Rattle.kernel_step.specs.Progress.{sent_picture};
 ghost use Rattle.kernel_step.specs.Start.{start_kernel};
 ghost use Rattle.kernel_step.specs.declared.phase.Phase.TheVariants.{Running};
+ghost use Rattle.kernel_world.specs.World.{to_kernel};
 ghost use Rattle.kernel_world.specs.declared.entry.Happened.TheVariants.{Asked, Took};
-ghost use Rattle.script_run.specs.Nodes.{sent_to, to_kernel, IsNodeOf, IsStamped, IsAfter, IsPopped, IsUnpopped};
-ghost use Rattle.script_run.specs.Told.{IsTold};
+ghost use Rattle.script_run.specs.Nodes.{sent_to, IsNodeOf, IsStamped, IsAfter, IsPopped, IsUnpopped};
+ghost use Rattle.world_record.specs.Told.{IsTold};
 
-use charlotte_calls::{Call, Effect, Items, NoMemory, Packet, Pid, Setting};
+use charlotte_calls::{Call, Effect, NoMemory, Packet, Pid, Setting};
 use kernel_core::{Kernel, NotTaken};
-use kernel_journal::{Entry, Happened, Journal};
+use journal_text::{Entry, Happened, Journal};
 use std::alloc::Global;
 use std::collections::VecDeque;
 
@@ -51,21 +52,21 @@ impl Node {
     }
 
     /// A process that runs makes a call; the answer that stood is let go.
-    pub(crate) fn call(&mut self, p: Pid, call: &Call) -> Result<(), NoMemory>
+    pub(crate) fn call(&mut self, p: Pid, call: Call) -> Result<(), NoMemory>
         requires process { p.0 < length self.old.kernel.processes }
         requires running { (process_of p (state_of self.old.kernel)).phase ≡ Running }
         requires lists { length self.old.sent.items ≡ 256 }
         requires stamped { IsStamped self.old }
         requires time { self.old.kernel.stamp < 2 ^ 64 - 1 }
-        requires told { (version : ℕ) × IsTold version (state_of self.old.kernel) × HasFewCall version call.now }
-        ensures after { OnOk result ((mine : List EndId) × IsCallWith p (entries self.old.kernel.table) mine call.now
-            × IsAfter (Asked p call.now) (call_step (without_answer p (state_of self.old.kernel)) p mine call.now) self.old self.new) }
+        requires told { (version : ℕ) × IsTold version (state_of self.old.kernel) × HasFewCall version call }
+        ensures after { OnOk result ((mine : List EndId) × IsCallWith p (entries self.old.kernel.table) mine call
+            × IsAfter (Asked p call) (call_step (without_answer p (state_of self.old.kernel)) p mine call) self.old self.new) }
     {
         self.journal.reserve(1)?;
+        let asked = Happened::asked(self.alloc(), p, &call)?;
         let _ = self.kernel.answer(p);
-        let effect = self.kernel.call(p, call.copy())?;
-        let call = call.copy();
-        self.note(Happened::Asked { p, call }, effect)
+        let effect = self.kernel.call(p, call)?;
+        self.note(asked, effect)
     }
 
     /// Takes the first packet that a kernel sent to this one.
@@ -77,15 +78,19 @@ impl Node {
         ensures after { OnOk result (IsAfter (Took from (packet_picture packet)) (take_step (state_of self.old.kernel) from (packet_picture packet)) self.old self.new) }
     {
         self.journal.reserve(1)?;
-        let picture = packet.picture();
+        let took = Happened::took(self.alloc(), from, &packet.picture())?;
         match self.kernel.take(from, packet) {
-            Ok(effect) => self.note(Happened::Took { from, picture }, effect),
+            Ok(effect) => self.note(took, effect),
             Err(NotTaken { packet: _ }) => Err(NoMemory),
         }
     }
 }
 
 impl Node {
+    fn alloc(&self) -> Global {
+        *self.sent.allocator()
+    }
+
     /// Notes an event whose stamp is new, and sends its packets.
     fn note(&mut self, what: Happened, effect: Effect) -> Result<(), NoMemory>
         requires lists { length self.old.sent.items ≡ 256 }
@@ -99,14 +104,10 @@ impl Node {
             stamp,
             packets,
             answered: _,
-            mut steps,
+            steps,
         } = effect;
-        steps.shrink_to_fit();
-        self.journal.push(Entry {
-            stamp,
-            what,
-            steps: Items::of(steps),
-        })?;
+        let entry = Entry::of(self.alloc(), stamp, what, steps.as_slice())?;
+        self.journal.push(entry)?;
         self.send_all(packets)
     }
 

@@ -3,17 +3,17 @@ ghost use Rattle.std.specs.Prelude.{◌≡◌, ◌↔◌, ◌≤◌, ◌++◌, �
 ghost use Rattle.std.specs.Option.{option_to_list};
 ghost use Rattle.charlotte_calls.specs.Setting.{IsValid};
 ghost use Rattle.charlotte_calls.specs.declared.setting.Setting.{Setting as ASetting};
-ghost use Rattle.kernel_journal.specs.TranscriptText.{AreOfTranscript};
+ghost use Rattle.journal_text.specs.TranscriptText.{AreOfTranscript};
 ghost use Rattle.kernel_world.specs.Run.{IsMerge};
 ghost use Rattle.kernel_world.specs.World.{start};
-ghost use Rattle.lynx_plan.specs.ScriptText.{FitsWhat};
+ghost use Rattle.lynx_plan.specs.ScriptText.{AreRisingLines, FitsWhat};
 ghost use Rattle.script_run.specs.Nodes.{AreLinesDone, AreReady, noted_at, world_of};
-ghost use Rattle.script_run.specs.Performing.{AreRisingLines, IsLast, IsPerformance};
+ghost use Rattle.script_run.specs.Performing.{IsLast, IsPerformance};
 
 use crate::lines::do_line;
 use crate::node::Node;
 use charlotte_calls::{Items, NoMemory, Setting};
-use kernel_journal::{Last, Placed, ScriptNote, merge_whole};
+use journal_text::{Last, Placed, ScriptNote, merge_whole};
 use lynx_plan::{Script, ScriptLine};
 use std::alloc::Global;
 

@@ -3,7 +3,7 @@ use Rattle.charlotte_calls.specs.Packets.{packet_picture}
 use Rattle.charlotte_calls.specs.declared.setting.Setting.{Setting}
 use Rattle.kernel_step.specs.Kernel.{Kernel}
 use Rattle.script_run.specs.Nodes.{world_of, sent_to}
-use Rattle.script_run.specs.Told.{IsTold}
+use Rattle.world_record.specs.Told.{IsTold}
 use Rattle.script_run.specs.declared.node.Node.{Node}
 use Rattle.script_run.proofs.OneLine.{take-goes_at, take-nothing, mid-same, first-told, state_of-stamp}
 use Rattle.script_run.proofs.lines.take_first.Goals as goal

@@ -1,9 +1,9 @@
 use Rattle.std.proofs.Common.{◌+◌, List, sym, subst, arith}
 use Rattle.kernel_world.specs.World.{World}
-use Rattle.script_run.specs.Told.{IsToldWorld}
+use Rattle.world_record.specs.Told.{IsToldWorld}
 use Rattle.script_run.specs.declared.node.Node.{Node}
 use Rattle.script_run.proofs.Performances.{IsStarting, starting-none, starting-more}
-use Rattle.script_run.proofs.Worlds.{told-start}
+use Rattle.world_record.proofs.Worlds.{told-start}
 use Rattle.script_run.proofs.performance.start_nodes.Goals as goal
 
 pub loop-id-init : goal.loop-id-init

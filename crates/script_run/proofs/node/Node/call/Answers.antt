@@ -4,10 +4,11 @@ use Rattle.charlotte_calls.specs.declared.names.EndId.{EndId}
 use Rattle.end_table.specs.Table.{entries}
 use Rattle.end_table.specs.declared.entry.Entry.{Entry as TableEntry}
 use Rattle.kernel_core.specs.State.{KernelView, state_of}
-use Rattle.kernel_journal.specs.Journal.{IsAfterLast}
+use Rattle.journal_text.specs.Journal.{IsAfterLast}
 use Rattle.kernel_step.specs.Calls.{IsCallWith}
 use Rattle.kernel_step.specs.Kernel.{Kernel, Outcome, call_step, without_answer}
 use Rattle.kernel_world.specs.declared.entry.Entry.{Entry}
+use Rattle.kernel_world.specs.declared.entry.Happened.{Happened}
 use Rattle.kernel_world.specs.declared.entry.Happened.TheVariants.{Asked}
 use Rattle.script_run.proofs.Events.{IsEffectOf, effect_of, table-without_answer, call-later, noted-after, on_ok_both}
 use Rattle.script_run.proofs.Stamps.{after_last}
@@ -17,11 +18,11 @@ pub note-requires-clause-after_last : goal.note-requires-clause-after_last
 note-requires-clause-after_last c =
     let k : KernelView = c.args.self.now.kernel in
     let step = c.in_ok-effect.ensures.step in
-    let o : Outcome = call_step (without_answer c.args.p (state_of k)) c.args.p step.0 c.args.call.now in
-    let same : call_step (state_of c.answer.new.self) c.args.p step.0 c.copy.result ≡ o =
-    ap (λ (s : Kernel). call_step s c.args.p step.0 c.copy.result) c.answer.ensures.state ∙ ap (λ (x : Call). call_step (without_answer c.args.p (state_of k)) c.args.p step.0 x) c.copy.ensures in
+    let o : Outcome = call_step (without_answer c.args.p (state_of k)) c.args.p step.0 c.args.call in
+    let same : call_step (state_of c.answer.new.self) c.args.p step.0 c.args.call ≡ o =
+    ap (λ (s : Kernel). call_step s c.args.p step.0 c.args.call) c.answer.ensures.state in
     let is : IsEffectOf c.call.new.self c.in_ok-effect.effect o = effect_of c.call.new.self c.in_ok-effect.effect o (step.2 ∙ same) c.in_ok-effect.ensures.stamp in
-    let up = call-later k c.args.p step.0 c.args.call.now c.requires.told c.requires.time in
+    let up = call-later k c.args.p step.0 c.args.call c.requires.told c.requires.time in
     subst (λ n. IsAfterLast c.reserve.new.self.entries n) (sym is.stamp) (subst (λ (es : List Entry). IsAfterLast es o.kernel.stamp) (sym c.in_ok-reserve.ensures.same) (after_last c.args.self.now.journal.entries k.stamp o.kernel.stamp c.requires.stamped up))
 
 pub returns : goal.returns
@@ -29,16 +30,16 @@ returns c =
     let k : KernelView = c.args.self.now.kernel in
     let step = c.in_ok-effect.ensures.step in
     let mine : List EndId = step.0 in
-    let asked : Call = c.args.call.now in
+    let asked : Call = c.args.call in
     let o : Outcome = call_step (without_answer c.args.p (state_of k)) c.args.p mine asked in
-    let same : call_step (state_of c.answer.new.self) c.args.p mine c.copy.result ≡ o =
-    ap (λ (s : Kernel). call_step s c.args.p mine c.copy.result) c.answer.ensures.state ∙ ap (λ (x : Call). call_step (without_answer c.args.p (state_of k)) c.args.p mine x) c.copy.ensures in
+    let same : call_step (state_of c.answer.new.self) c.args.p mine asked ≡ o =
+    ap (λ (s : Kernel). call_step s c.args.p mine asked) c.answer.ensures.state in
     let is : IsEffectOf c.call.new.self c.in_ok-effect.effect o = effect_of c.call.new.self c.in_ok-effect.effect o (step.2 ∙ same) c.in_ok-effect.ensures.stamp in
     let up = call-later k c.args.p mine asked c.requires.told c.requires.time in
     let table : entries c.answer.new.self.table ≡ entries k.table = table-without_answer c.answer.new.self k c.args.p c.answer.ensures.state in
     let with : IsCallWith c.args.p (entries k.table) mine asked =
-    subst (λ (t : EndId → TableEntry). IsCallWith c.args.p t mine asked) table (subst (λ (x : Call). IsCallWith c.args.p (entries c.answer.new.self.table) mine x) c.copy.ensures step.1) in
-    let said : Call → Entry = λ x. record { stamp = c.in_ok-effect.effect.stamp; what = Asked c.args.p x; steps = c.in_ok-effect.effect.steps.items } in
+    subst (λ (t : EndId → TableEntry). IsCallWith c.args.p t mine asked) table step.1 in
+    let said : Happened → Entry = λ x. record { stamp = c.in_ok-effect.effect.stamp; what = x; steps = c.in_ok-effect.effect.steps.items } in
     record {
       after = on_ok_both c.note.result
           (λ entries sent. (
@@ -46,7 +47,7 @@ returns c =
             with,
             noted-after c.args.self.now c.note.new.self c.call.new.self (Asked c.args.p asked) c.in_ok-effect.effect c.reserve.new.self.entries o is
                 c.note.ensures.kernel (c.in_ok-effect.ensures.processes ∙ c.answer.ensures.processes) c.note.ensures.lists up c.requires.stamped c.in_ok-reserve.ensures.same
-                (entries ∙ ap (λ (x : Call). c.reserve.new.self.entries ++ said x ∷ []) c.copy-call.ensures) sent,
+                (entries ∙ ap (λ (x : Happened). c.reserve.new.self.entries ++ said x ∷ []) c.in_ok-asked.ensures) sent,
           ))
           c.note.ensures.entries c.note.ensures.sent;
     }

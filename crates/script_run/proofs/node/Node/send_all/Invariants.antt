@@ -1,6 +1,7 @@
 use Rattle.std.proofs.Common.{◌≡◌, ℕ, ◌++◌, map, length}
 use Rattle.kernel_step.specs.Progress.{sent_picture}
-use Rattle.script_run.specs.Nodes.{sent_to, to_kernel}
+use Rattle.kernel_world.specs.World.{to_kernel}
+use Rattle.script_run.specs.Nodes.{sent_to}
 use Rattle.script_run.proofs.node.Node.send_all.Given as goal
 
 abbrev pub invariant-loop-to : goal.invariant-loop-to

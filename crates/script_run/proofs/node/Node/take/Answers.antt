@@ -2,9 +2,10 @@ use Rattle.std.proofs.Common.{List, [], ◌∷◌, ◌++◌, ap, sym, subst, ◌
 use Rattle.charlotte_calls.specs.Packets.{packet_picture}
 use Rattle.charlotte_calls.specs.declared.picture.Picture.{Picture}
 use Rattle.kernel_core.specs.State.{KernelView, state_of}
-use Rattle.kernel_journal.specs.Journal.{IsAfterLast}
+use Rattle.journal_text.specs.Journal.{IsAfterLast}
 use Rattle.kernel_step.specs.Kernel.{Outcome, take_step}
 use Rattle.kernel_world.specs.declared.entry.Entry.{Entry}
+use Rattle.kernel_world.specs.declared.entry.Happened.{Happened}
 use Rattle.kernel_world.specs.declared.entry.Happened.TheVariants.{Took}
 use Rattle.script_run.proofs.Events.{IsEffectOf, effect_of, take-later, noted-after, on_ok_both}
 use Rattle.script_run.proofs.Stamps.{after_last}
@@ -25,11 +26,11 @@ returns-in-Ok c =
     let o : Outcome = take_step (state_of k) c.args.from q in
     let is : IsEffectOf c.take.new.self c.in-Ok.effect o = effect_of c.take.new.self c.in-Ok.effect o c.in-Ok.ensures.step c.in-Ok.ensures.stamp in
     let up = take-later k c.args.from q c.requires.told c.requires.time in
-    let said : Picture → Entry = λ x. record { stamp = c.in-Ok.effect.stamp; what = Took c.args.from x; steps = c.in-Ok.effect.steps.items } in
+    let said : Happened → Entry = λ x. record { stamp = c.in-Ok.effect.stamp; what = x; steps = c.in-Ok.effect.steps.items } in
     record {
       after = on_ok_both c.note.result
           (λ entries sent. noted-after c.args.self.now c.note.new.self c.take.new.self (Took c.args.from q) c.in-Ok.effect c.reserve.new.self.entries o is
           c.note.ensures.kernel c.in-Ok.ensures.processes c.note.ensures.lists up c.requires.stamped c.in_ok-reserve.ensures.same
-          (entries ∙ ap (λ (x : Picture). c.reserve.new.self.entries ++ said x ∷ []) c.picture-picture.ensures) sent)
+          (entries ∙ ap (λ (x : Happened). c.reserve.new.self.entries ++ said x ∷ []) (c.in_ok-took.ensures ∙ ap (λ (x : Picture). Took c.args.from x) c.picture.ensures)) sent)
           c.note.ensures.entries c.note.ensures.sent;
     }

@@ -1,0 +1,5 @@
+pub mod Journal
+pub mod Heads
+pub mod Transcript
+pub mod TranscriptText
+pub mod Left

@@ -1,0 +1,104 @@
+ghost use Rattle.std.specs.Prelude.{◌≡◌, ◌++◌, IfOk, OnOk, map};
+ghost use Rattle.std.specs.List.{flat_map};
+ghost use Rattle.journal_text.specs.Transcript.{line, happened_text, entry_text, step_text, entry_lines};
+
+use crate::header_lines::empty_line;
+use crate::packet::push_packet;
+use crate::step::{push_of, push_step};
+use crate::{Happened, Placed};
+use charlotte_calls::NoMemory;
+use charlotte_text::{push_call, push_number};
+use compact_calls::CompactStep;
+use std::alloc::Global;
+
+fn push_happened(out: &mut Vec<u8>, what: &Happened) -> Result<(), NoMemory>
+    ensures { OnOk result (out.new.items ≡ out.old.items ++ happened_text what.now) }
+{
+    match what {
+        Happened::Asked { p, call } => {
+            push_of(out, b" ", *p)?;
+            out.push(b' ')?;
+            push_call(out, &call.call())?;
+        }
+        Happened::Took { from, picture } => {
+            out.extend_from_slice(b" from ")?;
+            push_number(out, u64::from(*from))?;
+            out.push(b' ')?;
+            push_packet(out, &picture.picture().what)?;
+        }
+    }
+    Ok(())
+}
+
+pub(crate) fn push_entry_line(out: &mut Vec<u8>, placed: &Placed) -> Result<(), NoMemory>
+    ensures { OnOk result (out.new.items ≡ out.old.items ++ line (entry_text placed.now)) }
+{
+    push_number(out, placed.entry.stamp)?;
+    out.extend_from_slice(b" k")?;
+    push_number(out, u64::from(placed.kernel))?;
+    push_happened(out, &placed.entry.what)?;
+    out.push(b'\n')?;
+    Ok(())
+}
+
+fn entry_line(alloc: Global, placed: &Placed) -> Result<Vec<u8>, NoMemory>
+    ensures { IfOk result (λ text. text.items ≡ line (entry_text placed.now)) }
+{
+    let mut text = empty_line(alloc)?;
+    push_entry_line(&mut text, placed)?;
+    Ok(text)
+}
+
+pub(crate) fn push_step_line(out: &mut Vec<u8>, step: &CompactStep) -> Result<(), NoMemory>
+    ensures { OnOk result (out.new.items ≡ out.old.items ++ line (step_text step.now)) }
+{
+    push_step(out, &step.step())?;
+    out.push(b'\n')?;
+    Ok(())
+}
+
+fn step_line(alloc: Global, step: &CompactStep) -> Result<Vec<u8>, NoMemory>
+    ensures { IfOk result (λ text. text.items ≡ line (step_text step.now)) }
+{
+    let mut text = empty_line(alloc)?;
+    push_step_line(&mut text, step)?;
+    Ok(text)
+}
+
+fn push_step_lines(
+    alloc: Global,
+    lines: &mut Vec<Vec<u8>>,
+    steps: &[CompactStep],
+) -> Result<(), NoMemory>
+    ensures { OnOk result (map (λ l. l.items) lines.new.items ≡ map (λ l. l.items) lines.old.items ++ map (λ s. line (step_text s)) steps.now) }
+{
+    for step in steps {
+        lines.push(step_line(alloc, step)?)?;
+    }
+    Ok(())
+}
+
+pub(crate) fn push_entry_lines(
+    alloc: Global,
+    lines: &mut Vec<Vec<u8>>,
+    placed: &Placed,
+) -> Result<(), NoMemory>
+    ensures { OnOk result (map (λ l. l.items) lines.new.items ≡ map (λ l. l.items) lines.old.items ++ entry_lines placed.now) }
+{
+    lines.push(entry_line(alloc, placed)?)?;
+    push_step_lines(alloc, lines, placed.entry.steps.as_slice())?;
+    Ok(())
+}
+
+pub(crate) fn push_merged_lines(
+    alloc: Global,
+    lines: &mut Vec<Vec<u8>>,
+    merged: &[Placed],
+) -> Result<(), NoMemory>
+    ensures { OnOk result (map (λ l. l.items) lines.new.items ≡ map (λ l. l.items) lines.old.items ++ flat_map entry_lines merged.now) }
+{
+    for placed in merged {
+        push_entry_lines(alloc, lines, placed)?;
+    }
+    Ok(())
+}

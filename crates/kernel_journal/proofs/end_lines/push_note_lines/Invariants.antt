@@ -1,7 +1,0 @@
-use Rattle.std.proofs.Common.{◌≡◌, ◌++◌, take, map}
-use Rattle.kernel_journal.specs.Transcript.{line, note_text}
-use Rattle.kernel_journal.proofs.end_lines.push_note_lines.Given as goal
-
-abbrev pub invariant-loop-note : goal.invariant-loop-note
-invariant-loop-note l =
-    map (λ t. t.items) l.lines.items ≡ map (λ t. t.items) l.fn.lines.items ++ map (λ n. line (note_text n)) (take l.note-index l.notes)

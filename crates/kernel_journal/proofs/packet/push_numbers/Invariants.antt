@@ -1,6 +1,0 @@
-use Rattle.std.proofs.Common.{◌≡◌, ◌++◌, take}
-use Rattle.kernel_journal.specs.Transcript.{numbers_behind}
-use Rattle.kernel_journal.proofs.packet.push_numbers.Given as goal
-
-abbrev pub invariant-loop-number : goal.invariant-loop-number
-invariant-loop-number l = l.out.items ≡ l.fn.out.items ++ numbers_behind l.mark (take l.number-index l.numbers)

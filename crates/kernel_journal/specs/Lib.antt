@@ -1,4 +1,0 @@
-pub mod Journal
-pub mod Heads
-pub mod Transcript
-pub mod TranscriptText

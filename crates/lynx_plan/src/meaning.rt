@@ -1,0 +1,13 @@
+use crate::script::ScriptCall;
+use charlotte_calls::Pid;
+
+/// What a line says that fails no rule.
+#[derive(Debug, Drop)]
+pub(crate) enum Meaning {
+    Version(u8),
+    Kernels(u8),
+    /// The kernel of the next process.
+    Process(u8),
+    Wire(Pid, Pid),
+    Line(ScriptCall),
+}

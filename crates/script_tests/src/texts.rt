@@ -1,0 +1,145 @@
+//! Names, bytes and calls, each with its one spelling.
+
+use charlotte_calls::{EndId, LinkId, NoMemory, Pid, Side, Way};
+use charlotte_text::{
+    Fault, Number, cut, end_of_line, next_word, push_bytes, push_call, push_end, push_ends,
+    push_number, push_process, push_way, read_below, read_bytes, read_call, read_end, read_ends,
+    read_number, read_process, read_way,
+};
+use compact_calls::CompactCall;
+use std::alloc::Global;
+use std::process::Abort;
+use std::test::Fail;
+
+const END: EndId = EndId {
+    link: LinkId {
+        maker: 255,
+        count: 4_294_967_295,
+    },
+    side: Side::B,
+};
+
+#[test]
+fn names(rt: HostRuntime) -> Result<(), Fail> {
+    let mut out = Vec::new(rt.alloc());
+    push_number(&mut out, u64::MAX)?;
+    push_process(&mut out, Pid(7))?;
+    push_ends(&mut out, &[END, EndId::default()])?;
+    push_end(&mut out, END)?;
+    push_way(&mut out, Way::Outward)?;
+    let expected = b"18446744073709551615p7 +255.4294967295b +0.0a255.4294967295bout";
+    assert_eq!(rt; out.as_slice(), expected.as_slice());
+    for (word, number) in [
+        (b"0".as_slice(), Ok(Number::Is(0))),
+        (b"18446744073709551615", Ok(Number::Is(u64::MAX))),
+        (b"18446744073709551616", Ok(Number::Large)),
+        (b"007", Err(Fault::Form)),
+        (b"", Err(Fault::Form)),
+        (b"+1", Err(Fault::Form)),
+        (b"1\r", Err(Fault::Form)),
+    ] {
+        assert_eq!(rt; read_number(word), number);
+    }
+    assert_eq!(rt; read_below(b"63", 64), Ok(63));
+    assert_eq!(rt; read_below(b"64", 64), Err(Fault::Form));
+    assert_eq!(rt; read_process(b"p64"), Ok(Number::Is(64)));
+    assert_eq!(rt; read_process(b"p-1"), Err(Fault::Form));
+    assert_eq!(rt; read_way(b"in"), Ok(Way::Inward));
+    assert_eq!(rt; read_way(b"up"), Err(Fault::Form));
+    for (word, end) in [
+        (b"255.4294967295b".as_slice(), Ok(END)),
+        (b"256.0a", Err(Fault::Form)),
+        (b"0.4294967296a", Err(Fault::Form)),
+        (b"0.1", Err(Fault::Form)),
+        (b"0.01a", Err(Fault::Form)),
+        (b"0.1.1a", Err(Fault::Form)),
+        (b"", Err(Fault::Form)),
+    ] {
+        assert_eq!(rt; read_end(word), end);
+    }
+    assert!(rt; read_ends(Some(b"+0.1a +0.2a"), 2).is_ok_and(|ends| ends.as_slice().len() == 2));
+    assert!(rt; read_ends(Some(b"+0.1a +0.2a"), 1).is_err());
+    Ok(())
+}
+
+/// Whether a word spells these bytes, and they are spelled so.
+fn both_ways(rt: &impl Abort, alloc: Global, word: &[u8], bytes: &[u8]) -> Result<(), NoMemory> {
+    let read = read_bytes(word);
+    assert!(rt; read.is_ok_and(|read| read.as_slice() == bytes));
+    let mut out = Vec::new(alloc);
+    push_bytes(&mut out, bytes)?;
+    assert_eq!(rt; out.as_slice(), word);
+    Ok(())
+}
+
+#[test]
+fn bytes_and_words(rt: HostRuntime) -> Result<(), Fail> {
+    both_ways(&rt, rt.alloc(), b"-", b"")?;
+    both_ways(&rt, rt.alloc(), b"hello_World.09", b"hello_World.09")?;
+    both_ways(
+        &rt,
+        rt.alloc(),
+        b"%2D%20%25%00%FF%0A",
+        &[45, 32, 37, 0, 255, 10],
+    )?;
+    both_ways(&rt, rt.alloc(), &[b'z'; 256], &[b'z'; 256])?;
+    assert_eq!(rt; read_bytes(&[b'z'; 257]).err(), Some(Fault::Long));
+    for word in [b"".as_slice(), b"%2d", b"%41", b"%4", b"%", b"a-", b"a b"] {
+        assert_eq!(rt; read_bytes(word).err(), Some(Fault::Form));
+    }
+    let (first, rest) = cut(b'\n', b"a\n\nb");
+    assert_eq!(rt; first, b"a".as_slice());
+    assert!(rt; rest.is_some_and(|rest| rest == b"\nb".as_slice()));
+    assert!(rt; next_word(None).is_err());
+    assert!(rt; end_of_line(None).is_ok());
+    Ok(())
+}
+
+/// A line is a call of version 2, and that call is spelled so, also where it takes only the memory of what it says.
+fn is_call(rt: &impl Abort, alloc: Global, line: &[u8]) -> Result<(), Fail> {
+    let call = CompactCall::of(alloc, &read_call(Some(line), 2)?)?;
+    let copy = call.copy(alloc)?;
+    let mut out = Vec::new(alloc);
+    push_call(&mut out, &copy.call())?;
+    assert_eq!(rt; out.as_slice(), line);
+    Ok(())
+}
+
+#[test]
+fn calls(rt: HostRuntime) -> Result<(), Fail> {
+    for line in [
+        b"make".as_slice(),
+        b"destroy 0.1b",
+        b"send 0.0a -",
+        b"send 0.0a hello +0.1a +0.2a +0.3a +0.4a +0.5a +0.6a +0.7a +0.8a",
+        b"receive 0.0b",
+        b"cancel 0.0a out",
+        b"cancel 0.0a in",
+        b"wait",
+        b"print hello",
+        b"exit",
+    ] {
+        is_call(&rt, rt.alloc(), line)?;
+    }
+    for line in [
+        b"".as_slice(),
+        b"make ",
+        b"Make",
+        b"destroy",
+        b"destroy 0.1c",
+        b"send 0.0a",
+        b"send 0.0a x 0.1a",
+        b"send 0.0a x +0.1a +0.2a",
+        b"send  0.0a x",
+        b"cancel 0.0a",
+        b"cancel 0.0a up",
+        b"wait p0",
+        b"print",
+        b"exit 0",
+        b"se",
+    ] {
+        assert_eq!(rt; read_call(Some(line), 1).err(), Some(Fault::Form));
+    }
+    assert_eq!(rt; read_call(None, 1).err(), Some(Fault::Form));
+    Ok(())
+}

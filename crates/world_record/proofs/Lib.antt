@@ -1,0 +1,10 @@
+pub mod Exchange
+pub mod Kept
+pub mod KeptRows
+pub mod KeptSteps
+pub mod Laws
+pub mod RowLines
+pub mod Rows
+pub mod Runs
+pub mod Sorted
+pub mod Worlds
