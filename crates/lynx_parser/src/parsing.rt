@@ -49,7 +49,7 @@ fn read<'a>(alloc: Global, tokens: &[Token<'a>]) -> Result<Module<'a>, SyntaxFau
 /// The tree of the module that tokens spell, or the first fault.
 ///
 /// The tokens are those of the source, within the lexer's limits. Reading takes stack for each level of nesting: up to
-/// 192 KiB at 64 open brackets, and 80 KiB at 64 open statements (measured).
+/// 192 KiB at 64 open brackets, and 96 KiB at 64 open statements (measured).
 pub fn parse<'a>(
     alloc: Global,
     source: &'a [u8],
