@@ -339,4 +339,3 @@ exceptions = refl
 -- var n : int; var b : bool; begin b := n + 'a'; end.
 pub a_fault_deep_inside_comes_first : first_fault (module_faults (module_of [] [] (var (codes "n") Int ∷ var (codes "b") Bool ∷ []) [] (trees.Assign (codes "b") (trees.Sum (trees.Name (codes "n")) (trees.more_sums signs.Plus (trees.Text (codes "a")) trees.no_sums)) ∷ []))) ≡ Some (record { place = 18; rule = 9 })
 a_fault_deep_inside_comes_first = refl
-

@@ -1,5 +1,5 @@
 -- The faults of expressions.
-use Rattle.std.specs.Prelude.{ℕ, ◌+◌, List, [], ◌∷◌, ◌++◌, length, Option, None, Some}
+use Rattle.std.specs.Prelude.{ℕ, ◌+◌, List, [], ◌∷◌, ◌++◌, length, None, Some}
 use Rattle.lynx_lexer.specs.declared.sign.Sign.{Sign}
 use Rattle.lynx_lexer.specs.declared.sign.Sign.TheVariants as signs
 use Rattle.lynx_tree.specs.declared.declaration.TypeName.{TypeName}
@@ -59,7 +59,7 @@ abbrev mutual
   expr_faults scope at (trees.And es) = bools_faults scope at es
   expr_faults scope at (trees.Relation first sign second) =
       related sign at (expr_faults scope at first) (shown_type scope first)
-        (at + expr_size first + 1) (expr_faults scope (at + expr_size first + 1) second) (shown_type scope second)
+      (at + expr_size first + 1) (expr_faults scope (at + expr_size first + 1) second) (shown_type scope second)
   expr_faults scope at (trees.Sum first rest) = judged operand_is_int at (expr_faults scope at first) (shown_type scope first) ++ sum_faults scope (at + expr_size first) rest
   expr_faults scope at (trees.Term first rest) = judged operand_is_int at (expr_faults scope at first) (shown_type scope first) ++ term_faults scope (at + expr_size first) rest
   expr_faults scope at (trees.Minus inner) = judged operand_is_int (at + 1) (expr_faults scope (at + 1) inner) (shown_type scope inner)

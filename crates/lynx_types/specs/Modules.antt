@@ -1,11 +1,10 @@
 -- The faults of declarations and of a module: which rules fail, and where.
 use Rattle.std.specs.Prelude.{◌≡◌, ℕ, ◌+◌, ◌<◌, ◌≤◌, ◌⊎◌, List, [], ◌∷◌, ◌++◌, length, Bool, ◌&&◌, ◌||◌, nat_lt, nat_le, ◌==◌, Option, None, Some, if◌then◌else◌, Contains}
-use Rattle.std.specs.List.{AllByRecursion}
 use Rattle.lynx_tree.specs.declared.declaration.TypeName.{TypeName}
 use Rattle.lynx_tree.specs.Trees.{OpTree, VarTree, EntryTree, ModuleTree}
 use Rattle.lynx_tree.specs.Grammar.{type_marks, types_marks}
 use Rattle.lynx_types.specs.Names.{Declared, Scope, inside, results_of, each_at, op_size, var_size, entry_size, ops_at, params_at, vars_at, entries_at, body_at, locals_at, entry_body_at, module_names, module_scope, local_names}
-use Rattle.lynx_types.specs.Rules.{Fault, NoRequest, RequestOf, module_name_is_new, local_name_is_new, param_is_link, row_has_length, op_has_few_links, entry_is_of_op, entry_has_parameters, op_fits_packets}
+use Rattle.lynx_types.specs.Rules.{Fault, Outside, Asks, module_name_is_new, local_name_is_new, param_is_link, row_has_length, op_has_few_links, entry_is_of_op, entry_has_parameters, op_fits_packets}
 use Rattle.lynx_types.specs.Statements.{stmts_faults}
 
 -- what a rule finds in each name, told the names before it
@@ -37,7 +36,7 @@ entry_faults outside at entry = entry_has_parameters (at + 1) (outside entry.op)
     ++ entry_is_of_op (at + 3) (outside entry.op)
     ++ names_are_new local_name_is_new [] (local_names outside at entry)
     ++ each_at var_size var_faults (locals_at at entry) entry.vars
-    ++ stmts_faults (inside (local_names outside at entry) outside) (RequestOf (results_of (outside entry.op))) (entry_body_at at entry) entry.body
+    ++ stmts_faults (inside (local_names outside at entry) outside) (Asks (results_of (outside entry.op))) (entry_body_at at entry) entry.body
 
 -- every rule that fails in a module, with each place where it does
 abbrev pub module_faults : ModuleTree → List Fault
@@ -46,7 +45,7 @@ module_faults m = names_are_new module_name_is_new [] (module_names m)
     ++ each_at var_size param_faults (params_at m) m.params
     ++ each_at var_size var_faults (vars_at m) m.vars
     ++ each_at entry_size (entry_faults (module_scope m)) (entries_at m) m.entries
-    ++ stmts_faults (module_scope m) NoRequest (body_at m) m.body
+    ++ stmts_faults (module_scope m) Outside (body_at m) m.body
 
 -- the rule fails at the place
 abbrev pub FailsAt : ModuleTree → ℕ → ℕ → Type 0

@@ -138,16 +138,16 @@ accept_name_fits argument at name = demand 19 at (fits argument name)
 -- the request that a `reply` belongs to: that of the innermost accept around it, else of its entry; the results are
 -- None where its op is not known
 pub data Request : Type 0 where
-  NoRequest : Request
-  RequestOf : Option (List TypeName) → Request
+  Outside : Request
+  Asks : Option (List TypeName) → Request
 
 abbrev pub has_request : Request → Bool
-has_request NoRequest = false
-has_request (RequestOf results) = true
+has_request Outside = false
+has_request (Asks results) = true
 
 abbrev pub results_needed : Request → Option (List TypeName)
-results_needed NoRequest = None
-results_needed (RequestOf results) = results
+results_needed Outside = None
+results_needed (Asks results) = results
 
 -- 20: `reply` stands in an entry or in an accept
 abbrev pub reply_has_request : ℕ → Request → List Fault

@@ -8,7 +8,7 @@ use Rattle.lynx_tree.specs.Grammar.{stmt_marks, stmts_marks, exprs_marks, names_
 use Rattle.lynx_types.specs.Types.{Held}
 use Rattle.lynx_types.specs.Names.{Scope, type_of_variable, arguments_of, results_of, known}
 use Rattle.lynx_types.specs.Expressions.{expr_size, value_faults, values_faults, number_of}
-use Rattle.lynx_types.specs.Rules.{Fault, Request, NoRequest, RequestOf, is_variable, is_op, is_an_entry, new_names_differ, variable_is_link, names_exception, indexed_is_row, index_is_int, condition_is_bool, value_is_of_target, connect_has_values, connect_value_fits, connect_has_names, connect_name_fits, accept_has_names, accept_name_fits, results_needed, reply_has_request, reply_has_values, reply_value_fits, value_is_written}
+use Rattle.lynx_types.specs.Rules.{Fault, Request, Asks, is_variable, is_op, is_an_entry, new_names_differ, variable_is_link, names_exception, indexed_is_row, index_is_int, condition_is_bool, value_is_of_target, connect_has_values, connect_value_fits, connect_has_names, connect_name_fits, accept_has_names, accept_name_fits, results_needed, reply_has_request, reply_has_values, reply_value_fits, value_is_written}
 
 -- how many tokens statements have, each with its semicolon
 abbrev pub stmts_size : StmtTrees → ℕ
@@ -56,7 +56,7 @@ abbrev mutual
       ++ accept_has_names (at + 1) (length names) (arguments_of (scope op))
       ++ link_faults scope (at + 3) link
       ++ names_faults accept_name_fits scope (at + 5) names (known (arguments_of (scope op)))
-      ++ stmts_faults scope (RequestOf (results_of (scope op))) (at + length (names_marks 0 names) + 5) body
+      ++ stmts_faults scope (Asks (results_of (scope op))) (at + length (names_marks 0 names) + 5) body
   stmt_faults scope request at (trees.Reply values) = reply_has_request at request
       ++ reply_has_values at (number_of values) request
       ++ values_faults reply_value_fits scope (at + 2) values (known (results_needed request))
