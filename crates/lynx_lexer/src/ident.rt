@@ -5,7 +5,8 @@ ghost use Rattle.std.specs.Prelude.{◌≡◌, ◌≤◌, ◌<◌, ◌↔◌, le
 use arrayvec::ArrayVec;
 use std::marker::Model;
 
-/// The bytes of a name, from 1 to 32.
+/// The bytes of a name, from 1 to 32, which outlive the source. Tokens and trees lend theirs (`IdentRef`); compiled code is to
+/// keep names so.
 #[derive(Debug, Drop)]
 pub struct Ident {
     bytes: ArrayVec<u8, 32>,

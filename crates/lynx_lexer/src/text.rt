@@ -5,7 +5,8 @@ ghost use Rattle.std.specs.Prelude.{◌≡◌, ◌≤◌, ◌<◌, ◌↔◌, le
 use arrayvec::ArrayVec;
 use std::marker::Model;
 
-/// The bytes of a text value, at most 64.
+/// The bytes of a text value, at most 64, which outlive the source. Tokens and trees lend theirs (`TextRef`); compiled code is to
+/// keep texts so.
 #[derive(Debug, Drop)]
 pub struct TextLit {
     bytes: ArrayVec<u8, 64>,

@@ -1,5 +1,5 @@
 -- A source has one reading, stage by stage.
-use Rattle.std.proofs.Common.{◌≡◌, ℕ, ◌<◌, List, length, arith, ◌⊎◌, inl, inr, Result, Ok, Err, refl, sym, ap, subst, ◌∙◌}
+use Rattle.std.proofs.Common.{◌≡◌, ℕ, ◌<◌, List, length, arith, inl, inr, Result, Ok, Err, refl, sym, ap, subst, ◌∙◌}
 use Rattle.std.specs.Prelude.{◌≢◌}
 use Rattle.std.proofs.lemmas.List.{length-map}
 use Rattle.std.specs.List.{AllByRecursion}
@@ -9,7 +9,7 @@ use Rattle.lynx_lexer.specs.declared.fault.LexFault.TheVariants as lex
 use Rattle.lynx_lexer.specs.declared.token.Token.{Token}
 use Rattle.lynx_lexer.proofs.Cuts.{one_spelling}
 use Rattle.lynx_lexer.proofs.Faults.{gives_tokens, gives_fault}
-use Rattle.lynx_tree.specs.Answers.{kinds, IsTreeOf}
+use Rattle.lynx_tree.specs.Answers.{kinds}
 use Rattle.lynx_tree.specs.Faults.{IsNested}
 use Rattle.lynx_tree.specs.Grammar.{HasTokens, kinds_of, module_marks}
 use Rattle.lynx_tree.specs.Printing.{IsPrintable, printed}
@@ -19,7 +19,7 @@ use Rattle.lynx_grammar.proofs.Exact.{same_place, same_depth, no_tree, no_tree_d
 use Rattle.lynx_parser.proofs.Lengths.{tokens_fit}
 use Rattle.lynx_printer.proofs.Spelled.{spelled}
 use Rattle.lynx_source.specs.Places.{place_of}
-use Rattle.lynx_source.specs.Sources.{AreTokensOf, token_place, IsLexedAs, IsParsedAs, Reads, IsReadAs}
+use Rattle.lynx_source.specs.Sources.{AreTokensOf, token_place, IsLexedAs, IsParsedAs, IsReadAs}
 use Rattle.lynx_source.specs.Stages.{Then, HasOne}
 use Rattle.lynx_source.specs.declared.fault.SourceFault.{SourceFault}
 use Rattle.lynx_source.specs.declared.fault.SourceFault.TheVariants.{Lex, Syntax, Deep, NoMemory}

@@ -4,6 +4,7 @@ use lynx_lexer::{LexFault, tokens};
 use lynx_syntax::{SyntaxFault, parse, print};
 use std::alloc::{AllocError, Global};
 use std::fmt::Write;
+use std::process::Abort;
 use std::str;
 use std::test::Fail;
 
@@ -38,9 +39,9 @@ fn answer(alloc: Global, source: &str) -> Result<String, AllocError> {
 }
 
 /// Reads and prints a module, and what is printed too.
-fn prints(rt: &HostRuntime, source: &str, printed: &str) -> Result<(), Fail> {
-    assert_eq!(rt; answer(rt.alloc(), source)?.as_str(), printed);
-    assert_eq!(rt; answer(rt.alloc(), printed)?.as_str(), printed);
+fn prints(rt: &impl Abort, alloc: Global, source: &str, printed: &str) -> Result<(), Fail> {
+    assert_eq!(rt; answer(alloc, source)?.as_str(), printed);
+    assert_eq!(rt; answer(alloc, printed)?.as_str(), printed);
     Ok(())
 }
 
@@ -77,7 +78,7 @@ fn modules_are_printed_and_read_again(rt: HostRuntime) -> Result<(), Fail> {
             "module m ;\nbegin x := a - b - c < d * e / f ;\nwrite a or b or c and d ;\nend .\n",
         ),
     ] {
-        prints(&rt, source, want)?;
+        prints(&rt, rt.alloc(), source, want)?;
     }
     Ok(())
 }
@@ -184,7 +185,7 @@ end .
         (adder, printed_adder),
         (client, printed_client),
     ] {
-        prints(&rt, source, printed)?;
+        prints(&rt, rt.alloc(), source, printed)?;
     }
     Ok(())
 }

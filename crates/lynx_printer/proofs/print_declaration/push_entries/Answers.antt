@@ -2,7 +2,8 @@ use Rattle.std.proofs.Common.{List, ◌++◌, sym, ap, ◌∙◌, arith}
 use Rattle.lynx_tree.specs.Trees.{entry_tree}
 use Rattle.lynx_tree.specs.Grammar.{Mark, entry_marks}
 use Rattle.lynx_tree.specs.Printing.{text_of}
-use Rattle.lynx_printer.proofs.Lists.{each_step, each_end, flat_map-map}
+use Rattle.lynx_tree.proofs.Views.{flat_map-map}
+use Rattle.lynx_printer.proofs.Lists.{each_step, each_end}
 use Rattle.lynx_printer.proofs.print_declaration.push_entries.Goals as goal
 
 pub loop-entry-preserved : goal.loop-entry-preserved

@@ -2,7 +2,8 @@ use Rattle.std.proofs.Common.{List, ◌++◌, sym, ap, ◌∙◌, arith}
 use Rattle.lynx_tree.specs.Trees.{op_tree}
 use Rattle.lynx_tree.specs.Grammar.{Mark, op_marks}
 use Rattle.lynx_tree.specs.Printing.{text_of}
-use Rattle.lynx_printer.proofs.Lists.{each_step, each_end, flat_map-map}
+use Rattle.lynx_tree.proofs.Views.{flat_map-map}
+use Rattle.lynx_printer.proofs.Lists.{each_step, each_end}
 use Rattle.lynx_printer.proofs.print_declaration.push_ops.Goals as goal
 
 pub loop-op-preserved : goal.loop-op-preserved
