@@ -7,3 +7,5 @@ mod lexer;
 mod source;
 #[cfg(test)]
 mod syntax;
+#[cfg(test)]
+mod types;

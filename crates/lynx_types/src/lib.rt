@@ -1,0 +1,12 @@
+//! Typing of LYNX modules: the rules that a module obeys, the values of texts and rows, exceptions, and the signatures of operations.
+#![tactic(auto)]
+
+mod exception;
+mod row;
+mod short_text;
+mod spelling;
+
+pub use exception::Exception;
+pub use row::Row16;
+pub use short_text::ShortText;
+pub use spelling::signature;
