@@ -34,26 +34,36 @@ fn files_of(alloc: Global, failing: u32) -> Result<ListFiles, AllocError> {
     Ok(ListFiles::of(vec![in alloc; script, module]?, vec![in alloc; failing]?))
 }
 
+// The first lines of the transcript.
+fn first_lines(alloc: Global, count: usize) -> Result<Vec<u8>, AllocError> {
+    let mut lines = Vec::new(alloc);
+    for line in TRANSCRIPT.iter().take(count) {
+        lines.extend_from_slice(line.as_bytes())?;
+    }
+    Ok(lines)
+}
+
+// Where the put of this number on out fails, the lines before it are held, and nothing is put on err.
+fn put_fails_at(rt: &impl Abort, alloc: Global, failing: u32, status: Status) -> Result<(), Fail> {
+    let mut files = files_of(alloc, 0)?;
+    let mut out = ListSink::with(alloc, 100, vec![in alloc; failing]?)?;
+    let mut err = ListSink::with(alloc, 100, vec![in alloc; 1]?)?;
+    let words = words_of(alloc, "drive s")?;
+    let ended = lynx(alloc, words, &mut files, &mut out, &mut err);
+    assert_eq!(rt; ended, status);
+    assert_eq!(rt; err.held(), b"".as_slice());
+    let held = first_lines(alloc, (failing as usize).saturating_sub(1))?;
+    assert_eq!(rt; out.held(), held.as_slice());
+    Ok(())
+}
+
 #[test]
 fn puts_on_out(rt: HostRuntime) -> Result<(), Fail> {
     let alloc = rt.alloc();
-    // the put of this number fails
-    for failing in 1..7_u32 {
-        let mut files = files_of(alloc, 0)?;
-        let mut out = ListSink::with(alloc, 100, vec![in alloc; failing]?)?;
-        let mut err = ListSink::with(alloc, 100, vec![in alloc; 1]?)?;
-        let words = words_of(alloc, "drive s")?;
-        let status = lynx(alloc, words, &mut files, &mut out, &mut err);
-        let mut put = Vec::new(alloc);
-        for line in TRANSCRIPT.iter().take(failing as usize - 1) {
-            put.extend_from_slice(line.as_bytes())?;
-        }
-        assert_eq!(rt; out.held(), put.as_slice());
-        assert_eq!(rt; err.held(), b"".as_slice());
-        assert_eq!(rt; status == Status::Done, failing == 6);
-        assert_eq!(rt; status == Status::WriteFault, failing < 6);
+    for failing in 1..6_u32 {
+        put_fails_at(&rt, alloc, failing, Status::WriteFault)?;
     }
-    Ok(())
+    put_fails_at(&rt, alloc, 6, Status::Done)
 }
 
 // These words end with this status and these bytes on out and on err, where the read and the put on err of these numbers fail.

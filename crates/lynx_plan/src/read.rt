@@ -5,9 +5,9 @@ ghost use Rattle.lynx_plan.specs.ScriptText.{AreRisingLines, IsScriptText};
 ghost use Rattle.lynx_plan.specs.Reading.{Fails, Gives, is_skipped, meaning_at, line_read, lines_read, script_of};
 
 use crate::draft::Draft;
-use crate::meaning::Meaning;
 use crate::fault::PlanFault;
 use crate::form::script_form;
+use crate::meaning::Meaning;
 use crate::rules::judge;
 use crate::script::Script;
 use crate::stage::Stage;

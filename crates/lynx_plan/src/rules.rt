@@ -2,8 +2,8 @@ ghost use Rattle.std.specs.Prelude.{◌≡◌, ◌<◌, ◌≤◌, IsTrue, Some,
 ghost use Rattle.lynx_plan.specs.Rules.{allows, is_below, is_number, value, known_process, ruled, judged};
 
 use crate::draft::Draft;
-use crate::meaning::Meaning;
 use crate::form::Form;
+use crate::meaning::Meaning;
 use crate::script::ScriptCall;
 use crate::stage::Stage;
 use charlotte_calls::Pid;

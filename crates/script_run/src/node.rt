@@ -17,8 +17,8 @@ ghost use Rattle.script_run.specs.Nodes.{sent_to, IsNodeOf, IsStamped, IsAfter, 
 ghost use Rattle.world_record.specs.Told.{IsTold};
 
 use charlotte_calls::{Call, Effect, NoMemory, Packet, Pid, Setting};
-use kernel_core::{Kernel, NotTaken};
 use journal_text::{Entry, Happened, Journal};
+use kernel_core::{Kernel, NotTaken};
 use std::alloc::Global;
 use std::collections::VecDeque;
 
