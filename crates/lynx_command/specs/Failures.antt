@@ -53,6 +53,8 @@ abbrev pub failure_of_source : SourceFault → Failure
 failure_of_source (source.Lex at number) = Lex at number
 failure_of_source (source.Syntax at) = Syntax at
 failure_of_source (source.Deep at) = Deep at
+failure_of_source (source.Rule at number) = Rule at number
+failure_of_source source.CodeTooLong = CodeTooLong
 failure_of_source source.NoMemory = NoMemory
 
 -- a line of a file

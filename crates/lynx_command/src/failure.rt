@@ -220,6 +220,8 @@ impl From<SourceFault> for Failure {
             SourceFault::Lex { at, no } => Failure::Lex { at, no },
             SourceFault::Syntax { at } => Failure::Syntax { at },
             SourceFault::Deep { at } => Failure::Deep { at },
+            SourceFault::Rule { at, rule } => Failure::Rule { at, rule },
+            SourceFault::CodeTooLong => Failure::CodeTooLong,
             SourceFault::NoMemory => Failure::NoMemory,
         }
     }

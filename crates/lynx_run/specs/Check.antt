@@ -3,7 +3,7 @@ use Rattle.std.specs.Prelude.{◌≡◌, ℕ, List, [], ◌∷◌, ◌++◌, Ok,
 use Rattle.lynx_command.specs.Found.{Found}
 use Rattle.lynx_command.specs.Text.{line}
 use Rattle.lynx_command.specs.declared.ending.End.TheVariants.{Done}
-use Rattle.lynx_command.specs.declared.failure.Failure.TheVariants.{Lex, Syntax, Deep, NoMemory}
+use Rattle.lynx_command.specs.declared.failure.Failure.TheVariants.{Lex, Syntax, Deep, Rule, CodeTooLong, NoMemory}
 use Rattle.lynx_source.specs.Sources.{IsReadAs}
 use Rattle.lynx_source.specs.declared.fault.SourceFault.TheVariants as fault
 use Rattle.lynx_syntax.specs.Trees.{ModuleTree}
@@ -18,5 +18,7 @@ Checks bytes (Ok output) = (m : ModuleTree) × IsReadAs bytes (Ok m) × (output.
 Checks bytes (Err (Lex at number)) = IsReadAs bytes (Err (fault.Lex at number))
 Checks bytes (Err (Syntax at)) = IsReadAs bytes (Err (fault.Syntax at))
 Checks bytes (Err (Deep at)) = IsReadAs bytes (Err (fault.Deep at))
+Checks bytes (Err (Rule at number)) = IsReadAs bytes (Err (fault.Rule at number))
+Checks bytes (Err CodeTooLong) = IsReadAs bytes (Err fault.CodeTooLong)
 Checks bytes (Err NoMemory) = Unit {0}
 Checks bytes (Err failure) = ⊥

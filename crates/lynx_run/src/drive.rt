@@ -7,7 +7,7 @@ ghost use Rattle.lynx_run.specs.Drive.{IsScriptOf, IsDriven, Drives};
 
 use charlotte_calls::NoMemory;
 use journal_text::TranscriptLines;
-use lynx_command::{End, Failure, FileCommand, MOST_BYTES, Text, Told, perform_file};
+use lynx_command::{End, Failure, FileCommand, MOST_BYTES, Output, Text, perform_file};
 use lynx_outside::{Files, Sink, Status};
 use lynx_plan::{Script, read_script};
 use script_run::{Performance, perform};
@@ -48,10 +48,10 @@ impl FileCommand for DriveCommand {
 
     ghost finds = { Drives };
 
-    fn find(alloc: Global, bytes: &[u8]) -> Result<Told<Transcript>, Failure> {
+    fn find(alloc: Global, bytes: &[u8]) -> Result<Output<Transcript>, Failure> {
         let script = read_script(alloc, bytes).map_err(Failure::of_script)?;
         let text = transcript(alloc, bytes, script)?;
-        Ok(Told {
+        Ok(Output {
             text,
             end: End::Done,
         })
