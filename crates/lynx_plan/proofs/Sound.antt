@@ -9,6 +9,7 @@ use Rattle.charlotte_text.specs.declared.fault.Fault.{Fault}
 use Rattle.charlotte_text.specs.declared.number.Number.{Number}
 use Rattle.charlotte_text.specs.declared.number.Number.TheVariants.{Is}
 use Rattle.charlotte_text.specs.Reading.{words}
+use Rattle.lynx_plan.specs.declared.rule.Rule.{Rule}
 use Rattle.lynx_plan.specs.declared.stage.Stage.{Stage}
 use Rattle.lynx_plan.specs.declared.stage.Stage.TheVariants as stage
 use Rattle.lynx_plan.specs.declared.form.Form.{Form}
@@ -154,7 +155,7 @@ kept g = Ok g
 pub given_is : (g h : Given) → kept g ≡ kept h → g ≡ h
 given_is g h e = cc
 
-sound_noted : (line : ℕ) (g h : Given) (r : Result Meaning ℕ) → noted line g r ≡ Ok h → ((e : Meaning) → r ≡ Ok e → Sound (with_meaning line g e)) → Sound h
+sound_noted : (line : ℕ) (g h : Given) (r : Result Meaning Rule) → noted line g r ≡ Ok h → ((e : Meaning) → r ≡ Ok e → Sound (with_meaning line g e)) → Sound h
 sound_noted line g h (Ok e) n s = subst Sound (given_is (with_meaning line g e) h n) (s e refl)
 sound_noted line g h (Err rule) n s = absurd cc
 

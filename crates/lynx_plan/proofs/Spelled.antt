@@ -10,6 +10,7 @@ use Rattle.charlotte_calls.specs.Setting.{IsValid}
 use Rattle.charlotte_text.specs.declared.fault.Fault.{Fault}
 use Rattle.charlotte_text.specs.declared.number.Number.{Number}
 use Rattle.charlotte_text.specs.Reading.{parts, words}
+use Rattle.lynx_plan.specs.declared.rule.Rule.{Rule}
 use Rattle.lynx_plan.specs.declared.stage.Stage.{Stage}
 use Rattle.lynx_plan.specs.declared.stage.Stage.TheVariants as stage
 use Rattle.lynx_plan.specs.declared.form.Form.{Form}
@@ -233,7 +234,7 @@ reads_judged line g text (Ok f) e all is h r =
     (reads_form line g f text all p.stands p.lawful (fits_has g.version (words text) f has) (text_has g g.version text f has p.lawful) r)
 reads_judged line g text (Err f) e all is h r = absurd cc
 
-reads_noted : (line : ℕ) (g h : Given) (read : Result Meaning ℕ) (all : List Line) → noted line g read ≡ Ok h → ((e : Meaning) → read ≡ Ok e → Reads (with_meaning line g e) all) → Reads h all
+reads_noted : (line : ℕ) (g h : Given) (read : Result Meaning Rule) (all : List Line) → noted line g read ≡ Ok h → ((e : Meaning) → read ≡ Ok e → Reads (with_meaning line g e) all) → Reads h all
 reads_noted line g h (Ok e) all n s = subst (λ (x : Given). Reads x all) (given_is (with_meaning line g e) h n) (s e refl)
 reads_noted line g h (Err rule) all n s = absurd cc
 

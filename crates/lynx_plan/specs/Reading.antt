@@ -6,12 +6,14 @@ use Rattle.lynx_plan.specs.declared.stage.Stage.{Stage}
 use Rattle.lynx_plan.specs.declared.stage.Stage.TheVariants as stage
 use Rattle.lynx_plan.specs.declared.form.Form.{Form}
 use Rattle.lynx_plan.specs.declared.meaning.Meaning.{Meaning}
+use Rattle.lynx_plan.specs.declared.rule.Rule.{Rule}
+use Rattle.lynx_plan.specs.declared.rule.Rule.TheVariants.{LineDoesNotStandThere}
 use Rattle.lynx_plan.specs.declared.script.Script.{Script}
 use Rattle.lynx_plan.specs.declared.fault.PlanFault.{PlanFault}
 use Rattle.lynx_plan.specs.declared.fault.PlanFault.TheVariants.{BadPlan, NoMemory}
 use Rattle.lynx_plan.specs.Given.{Given, nothing}
 use Rattle.lynx_plan.specs.Forms.{form_of}
-use Rattle.lynx_plan.specs.Rules.{judged, with_meaning}
+use Rattle.lynx_plan.specs.Rules.{judged, rule_number, with_meaning}
 
 -- what a call gives is what is read, unless memory ran out
 abbrev pub Fails : {Y : Type 0} → PlanFault → Result Y PlanFault → Type 0
@@ -28,18 +30,18 @@ is_skipped [] = true
 is_skipped (b ∷ bs) = b == 35
 
 -- a line of no form fails the first rule
-abbrev pub judged_form : Given → Result Form Fault → Result Meaning ℕ
+abbrev pub judged_form : Given → Result Form Fault → Result Meaning Rule
 judged_form g (Ok f) = judged g f
-judged_form g (Err e) = Err 1
+judged_form g (Err e) = Err LineDoesNotStandThere
 
 -- what a line says after what was read before it, or the least rule that it fails
-unfoldable pub meaning_at : Given → List ℕ → Result Meaning ℕ
+unfoldable pub meaning_at : Given → List ℕ → Result Meaning Rule
 meaning_at g text = judged_form g (form_of g.version (words text))
 
 -- what is said with one more line, or that line and its rule
-abbrev pub noted : ℕ → Given → Result Meaning ℕ → Result Given PlanFault
+abbrev pub noted : ℕ → Given → Result Meaning Rule → Result Given PlanFault
 noted line g (Ok e) = Ok (with_meaning line g e)
-noted line g (Err rule) = Err (BadPlan line rule)
+noted line g (Err rule) = Err (BadPlan line (rule_number rule))
 
 unfoldable pub line_read : ℕ → Given → List ℕ → Result Given PlanFault
 line_read line g text = if is_skipped text then Ok g else noted line g (meaning_at g text)
@@ -64,7 +66,7 @@ script_given g = record { setting = record { version = g.version; kernels = g.ke
 
 -- at the end the `kernels` line must have stood; the place past the last byte is in this line
 abbrev pub finished : ℕ → Result Given PlanFault → Result Script PlanFault
-finished line (Ok g) = if has_kernels g.stage then Ok (script_given g) else Err (BadPlan line 1)
+finished line (Ok g) = if has_kernels g.stage then Ok (script_given g) else Err (BadPlan line (rule_number LineDoesNotStandThere))
 finished line (Err e) = Err e
 
 -- the script that bytes spell, or the first line that fails and the least rule there

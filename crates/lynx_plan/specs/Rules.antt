@@ -9,6 +9,8 @@ use Rattle.lynx_plan.specs.declared.form.Form.{Form}
 use Rattle.lynx_plan.specs.declared.form.Form.TheVariants.{Version, Kernels, Process, Wire, Ask, LongAsk, Take, Settle}
 use Rattle.lynx_plan.specs.declared.meaning.Meaning.{Meaning}
 use Rattle.lynx_plan.specs.declared.meaning.Meaning.TheVariants as meaning
+use Rattle.lynx_plan.specs.declared.rule.Rule.{Rule}
+use Rattle.lynx_plan.specs.declared.rule.Rule.TheVariants.{LineDoesNotStandThere, KernelsAreTooManyOrNone, ProcessIsNotTheNext, KernelIsNotThere, ProcessIsNotThere, TextIsTooLong, WiresAreTooMany, VersionIsNotKnown}
 use Rattle.lynx_plan.specs.declared.script.ScriptCall.TheVariants as script
 use Rattle.lynx_plan.specs.Given.{Given}
 
@@ -83,21 +85,32 @@ abbrev pub has_wrong_version : Given → Form → Bool
 has_wrong_version g (Version n) = not (is_number n 1 || is_number n 2)
 has_wrong_version g f = false
 
+-- the number by which a fault tells a rule
+abbrev pub rule_number : Rule → ℕ
+rule_number LineDoesNotStandThere = 1
+rule_number KernelsAreTooManyOrNone = 2
+rule_number ProcessIsNotTheNext = 3
+rule_number KernelIsNotThere = 4
+rule_number ProcessIsNotThere = 5
+rule_number TextIsTooLong = 6
+rule_number WiresAreTooMany = 7
+rule_number VersionIsNotKnown = 10
+
 -- the least of the rules from the second on that a line fails
-abbrev pub broken : Given → Form → Option ℕ
+abbrev pub broken : Given → Form → Option Rule
 broken g f =
-    if has_wrong_kernels g f then Some 2
-    else if has_wrong_number g f then Some 3
-    else if has_no_kernel g f then Some 4
-    else if has_no_process g f then Some 5
-    else if has_long_text g f then Some 6
-    else if has_many_wires g f then Some 7
-    else if has_wrong_version g f then Some 10
+    if has_wrong_kernels g f then Some KernelsAreTooManyOrNone
+    else if has_wrong_number g f then Some ProcessIsNotTheNext
+    else if has_no_kernel g f then Some KernelIsNotThere
+    else if has_no_process g f then Some ProcessIsNotThere
+    else if has_long_text g f then Some TextIsTooLong
+    else if has_many_wires g f then Some WiresAreTooMany
+    else if has_wrong_version g f then Some VersionIsNotKnown
     else None
 
 -- the least of the rules that a line of a form fails; the first is that its form may stand there
-abbrev pub least_rule : Given → Form → Option ℕ
-least_rule g f = if allows f g.stage then broken g f else Some 1
+abbrev pub least_rule : Given → Form → Option Rule
+least_rule g f = if allows f g.stage then broken g f else Some LineDoesNotStandThere
 
 -- ---- what a line adds
 
@@ -117,15 +130,15 @@ meaning_of (Take j k) = meaning.Line (script.Take (value j) (value k))
 meaning_of Settle = meaning.Line script.Settle
 
 -- what a line says, or the rule that it fails
-abbrev pub unless : Option ℕ → Meaning → Result Meaning ℕ
+abbrev pub unless : Option Rule → Meaning → Result Meaning Rule
 unless None e = Ok e
 unless (Some rule) e = Err rule
 
 -- what a line says whose form may stand there, or the rule that it fails
-unfoldable pub ruled : Given → Form → Result Meaning ℕ
+unfoldable pub ruled : Given → Form → Result Meaning Rule
 ruled g f = unless (broken g f) (meaning_of f)
 
-unfoldable pub judged : Given → Form → Result Meaning ℕ
+unfoldable pub judged : Given → Form → Result Meaning Rule
 judged g f = unless (least_rule g f) (meaning_of f)
 
 -- what is said with one more line

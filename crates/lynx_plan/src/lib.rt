@@ -8,6 +8,7 @@ mod form;
 mod law;
 mod meaning;
 mod read;
+mod rule;
 mod rules;
 mod script;
 mod stage;

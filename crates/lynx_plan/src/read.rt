@@ -8,6 +8,7 @@ use crate::draft::Draft;
 use crate::fault::PlanFault;
 use crate::form::script_form;
 use crate::meaning::Meaning;
+use crate::rule::Rule;
 use crate::rules::judge;
 use crate::script::Script;
 use crate::stage::Stage;
@@ -45,7 +46,10 @@ fn read_lines(alloc: Global, bytes: &[u8]) -> Result<Script, PlanFault>
         rest = after;
     }
     match draft.stage() {
-        Stage::Start | Stage::Named => Err(PlanFault::BadPlan { line, rule: 1 }),
+        Stage::Start | Stage::Named => Err(PlanFault::BadPlan {
+            line,
+            rule: Rule::LineDoesNotStandThere.number(),
+        }),
         Stage::Processes | Stage::Wires | Stage::Calls => Ok(draft.into_script()),
     }
 }
@@ -60,7 +64,10 @@ fn read_line(draft: &mut Draft, line: u32, text: &[u8]) -> Result<(), PlanFault>
     }
     match read_meaning(draft, text) {
         Ok(meaning) => draft.add(line, meaning)?,
-        Err(rule) => return Err(PlanFault::BadPlan { line, rule }),
+        Err(rule) => {
+            let rule = rule.number();
+            return Err(PlanFault::BadPlan { line, rule });
+        }
     }
     Ok(())
 }
@@ -76,12 +83,12 @@ fn skipped(text: &[u8]) -> bool
 
 /// What a line says, or the least rule that it fails.
 #[tactic(auto, unfolding(crate::specs::Reading::meaning_at))]
-fn read_meaning(draft: &Draft, text: &[u8]) -> Result<Meaning, u8>
+fn read_meaning(draft: &Draft, text: &[u8]) -> Result<Meaning, Rule>
     requires { length draft.now.homes ≤ 64 }
     ensures { result ≡ meaning_at draft.now text.now }
 {
     match script_form(draft.version(), text) {
         Ok(form) => judge(draft, form),
-        Err(_) => Err(1),
+        Err(_) => Err(Rule::LineDoesNotStandThere),
     }
 }

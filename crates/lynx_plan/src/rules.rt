@@ -4,6 +4,7 @@ ghost use Rattle.lynx_plan.specs.Rules.{allows, is_below, is_number, value, know
 use crate::draft::Draft;
 use crate::form::Form;
 use crate::meaning::Meaning;
+use crate::rule::Rule;
 use crate::script::ScriptCall;
 use crate::stage::Stage;
 use charlotte_calls::Pid;
@@ -11,14 +12,14 @@ use charlotte_text::Number;
 
 /// What a line of a form says after the lines before it, or the least rule that it fails.
 #[tactic(auto, unfolding(crate::specs::Rules::judged, crate::specs::Rules::ruled))]
-pub(crate) fn judge(draft: &Draft, form: Form) -> Result<Meaning, u8>
+pub(crate) fn judge(draft: &Draft, form: Form) -> Result<Meaning, Rule>
     requires { length draft.now.homes ≤ 64 }
     ensures { result ≡ judged draft.now form }
 {
     if allowed(&form, draft.stage()) {
         rule(draft, form)
     } else {
-        Err(1)
+        Err(Rule::LineDoesNotStandThere)
     }
 }
 
@@ -37,7 +38,7 @@ fn allowed(form: &Form, stage: Stage) -> bool
 }
 
 #[tactic(auto, unfolding(crate::specs::Rules::ruled))]
-fn rule(draft: &Draft, form: Form) -> Result<Meaning, u8>
+fn rule(draft: &Draft, form: Form) -> Result<Meaning, Rule>
     requires { length draft.now.homes ≤ 64 }
     ensures { result ≡ ruled draft.now form }
 {
@@ -48,11 +49,11 @@ fn rule(draft: &Draft, form: Form) -> Result<Meaning, u8>
         Form::Wire(first, second) => rule_wire(draft, first, second),
         Form::Ask(process, call) => match known(draft, process) {
             Some(pid) => Ok(Meaning::Line(ScriptCall::Ask(pid, call))),
-            None => Err(5),
+            None => Err(Rule::ProcessIsNotThere),
         },
         Form::LongAsk(process) => match known(draft, process) {
-            Some(_) => Err(6),
-            None => Err(5),
+            Some(_) => Err(Rule::TextIsTooLong),
+            None => Err(Rule::ProcessIsNotThere),
         },
         Form::Take(from, to) => rule_take(draft, from, to),
         Form::Settle => Ok(Meaning::Line(ScriptCall::Settle)),
@@ -60,7 +61,7 @@ fn rule(draft: &Draft, form: Form) -> Result<Meaning, u8>
 }
 
 #[tactic(auto, unfolding(crate::specs::Rules::ruled))]
-fn rule_version(draft: &Draft, version: Number) -> Result<Meaning, u8>
+fn rule_version(draft: &Draft, version: Number) -> Result<Meaning, Rule>
     ensures { result ≡ ruled draft.now (Form.Version version) }
 {
     if version == Number::Is(1) {
@@ -68,56 +69,56 @@ fn rule_version(draft: &Draft, version: Number) -> Result<Meaning, u8>
     } else if version == Number::Is(2) {
         Ok(Meaning::Version(2))
     } else {
-        Err(10)
+        Err(Rule::VersionIsNotKnown)
     }
 }
 
 #[tactic(auto, unfolding(crate::specs::Rules::ruled))]
-fn rule_kernels(draft: &Draft, kernels: Number) -> Result<Meaning, u8>
+fn rule_kernels(draft: &Draft, kernels: Number) -> Result<Meaning, Rule>
     ensures { result ≡ ruled draft.now (Form.Kernels kernels) }
 {
     if below(kernels, 1) || !below(kernels, 9) {
-        return Err(2);
+        return Err(Rule::KernelsAreTooManyOrNone);
     }
     Ok(Meaning::Kernels(value(kernels) as u8))
 }
 
 #[tactic(auto, unfolding(crate::specs::Rules::ruled))]
-fn rule_process(draft: &Draft, process: Number, kernel: Number) -> Result<Meaning, u8>
+fn rule_process(draft: &Draft, process: Number, kernel: Number) -> Result<Meaning, Rule>
     ensures { result ≡ ruled draft.now (Form.Process process kernel) }
 {
     if !is(process, draft.processes()) || !below(process, 64) {
-        return Err(3);
+        return Err(Rule::ProcessIsNotTheNext);
     }
     if !below(kernel, u64::from(draft.kernels())) {
-        return Err(4);
+        return Err(Rule::KernelIsNotThere);
     }
     Ok(Meaning::Process(value(kernel) as u8))
 }
 
 #[tactic(auto, unfolding(crate::specs::Rules::ruled))]
-fn rule_wire(draft: &Draft, first: Number, second: Number) -> Result<Meaning, u8>
+fn rule_wire(draft: &Draft, first: Number, second: Number) -> Result<Meaning, Rule>
     requires { length draft.now.homes ≤ 64 }
     ensures { result ≡ ruled draft.now (Form.Wire first second) }
 {
     match (known(draft, first), known(draft, second)) {
         (Some(first), Some(second)) => {
             if 4096 <= draft.wires() {
-                return Err(7);
+                return Err(Rule::WiresAreTooMany);
             }
             Ok(Meaning::Wire(first, second))
         }
-        _ => Err(5),
+        _ => Err(Rule::ProcessIsNotThere),
     }
 }
 
 #[tactic(auto, unfolding(crate::specs::Rules::ruled))]
-fn rule_take(draft: &Draft, from: Number, to: Number) -> Result<Meaning, u8>
+fn rule_take(draft: &Draft, from: Number, to: Number) -> Result<Meaning, Rule>
     ensures { result ≡ ruled draft.now (Form.Take from to) }
 {
     let kernels = u64::from(draft.kernels());
     if !below(from, kernels) || !below(to, kernels) {
-        return Err(4);
+        return Err(Rule::KernelIsNotThere);
     }
     Ok(Meaning::Line(ScriptCall::Take {
         from: value(from) as u8,

@@ -30,7 +30,7 @@ loop-rest-preserved c =
 pub returns-in-Start : goal.returns-in-Start
 returns-in-Start c =
     let none : rest_parts 10 (option_copied c.loop-rest.rest) ≡ [] = rw c.in_default.is refl in
-    ended_early c.loop-rest.line c.loop-rest.draft c.stage.result (rest_parts 10 (option_copied c.loop-rest.rest)) c.args.bytes.now c.stage.ensures c.in-Start.is none c.loop-rest.invariant.count c.loop-rest.invariant.so_far
+    rw c.number.ensures (ended_early c.loop-rest.line c.loop-rest.draft c.stage.result (rest_parts 10 (option_copied c.loop-rest.rest)) c.args.bytes.now c.stage.ensures c.in-Start.is none c.loop-rest.invariant.count c.loop-rest.invariant.so_far)
 
 pub returns-in-Processes : goal.returns-in-Processes
 returns-in-Processes c =
