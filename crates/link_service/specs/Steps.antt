@@ -260,7 +260,7 @@ after_return e s =
     record s { ends = returns e s.ends; process = tells_returned (owner (s.ends e).place) e (s.ends e) s.process }
 
 -- 9: mine are all the ends that p owns, and perhaps others, which stay
-record Exits (p : Pid) (s t : State) : Type 0 where
+pub record Exits (p : Pid) (s t : State) : Type 0 where
   pub mine : List EndId
   pub all : (e : EndId) → IsTrue (is_owned_by p (s.ends e).place) → Contains mine e
   pub after : t ≡ record s { ends = destroys_each p mine s.ends; process = ends_process p s.process }
