@@ -1,0 +1,31 @@
+-- What is kept of one process changes.
+use Rattle.std.proofs.Common.{◌≡◌, ◌≢◌, ◌⊎◌, inl, inr, ℕ, ◌<◌, Bool, true, false, nat_eq, List, length, slice_set, map, ap, sym, subst, ◌∙◌, if◌then◌else◌, get_or, cond}
+use Rattle.std.proofs.lemmas.List.{get_or-set_other, map-set, get_or-map, length-map}
+use Rattle.std.proofs.lemmas.Grind.{get_or-set_at}
+use Rattle.std.proofs.lemmas.Bool.Decides.{eqb_tells}
+use Rattle.charlotte_calls.specs.declared.names.EndId.{EndId}
+use Rattle.link_service.specs.declared.state.End.{End}
+use Rattle.link_service.specs.declared.table.Kept.{Kept}
+use Rattle.link_service.specs.Table.{KeptView, TableView, kept_view, kept_at, no_kept, process_of}
+
+-- what is kept where that of one process is set
+pub kept_at-set : (xs : List Kept) (i : ℕ) (y : Kept) (q : ℕ) → i < length xs → kept_at (map kept_view (slice_set xs i y)) q ≡ (if nat_eq i q then kept_view y else kept_at (map kept_view xs) q)
+unfolding kept_at
+kept_at-set xs i y q below = by (eqb_tells i q)
+  where
+    set_in : get_or (map kept_view (slice_set xs i y)) q no_kept ≡ get_or (slice_set (map kept_view xs) i (kept_view y)) q no_kept
+    set_in = ap (λ l. get_or l q no_kept) (map-set kept_view xs i y)
+
+    within : i < length (map kept_view xs)
+    within = subst (λ n. i < n) (sym (length-map xs kept_view)) below
+
+    by : ((nat_eq i q ≡ true) × (i ≡ q)) ⊎ ((nat_eq i q ≡ false) × (i ≢ q)) → get_or (map kept_view (slice_set xs i y)) q no_kept ≡ cond (nat_eq i q) (kept_view y) (get_or (map kept_view xs) q no_kept)
+    by (inl t) = set_in ∙ get_or-set_at (map kept_view xs) i q (kept_view y) no_kept (sym t.1) within
+        ∙ sym (ap (λ b. cond b (kept_view y) (get_or (map kept_view xs) q no_kept)) t.0)
+    by (inr t) = set_in ∙ get_or-set_other (map kept_view xs) i q (kept_view y) no_kept (λ e. t.1 (sym e))
+        ∙ sym (ap (λ b. cond b (kept_view y) (get_or (map kept_view xs) q no_kept)) t.0)
+
+-- what is kept of a process that is there
+pub kept_at-at : (xs : List Kept) (i : ℕ) (d : Kept) → i < length xs → kept_at (map kept_view xs) i ≡ kept_view (get_or xs i d)
+unfolding kept_at
+kept_at-at xs i d below = get_or-map kept_view xs i d no_kept below
