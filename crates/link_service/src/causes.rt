@@ -161,12 +161,18 @@ fn same_link(a: EndId, b: EndId) -> bool
 }
 
 /// Whether an end is named twice among these.
-#[tactic(auto, unfolding(crate::specs::Ends::end_eq))]
 fn names_twice(ends: &[EndId]) -> bool
     ensures { result ≡ names_twice ends.now }
 {
     match ends {
         [] => false,
-        [first, others @ ..] => others.contains(first) || names_twice(others),
+        [first, others @ ..] => has_end(others, *first) || names_twice(others),
     }
+}
+
+#[tactic(auto, unfolding(crate::specs::Ends::end_eq))]
+fn has_end(ends: &[EndId], end: EndId) -> bool
+    ensures { result ≡ list_any (end_eq end) ends.now }
+{
+    ends.iter().any(|other| end == *other)
 }

@@ -74,6 +74,7 @@ impl Service {
         }
     }
 
+    #[tactic(auto, unfolding(crate::specs::Table::state_of))]
     fn fits_version(&self, enclose: &[EndId]) -> bool
         ensures { result ≡ steps.fits_version (state_of self.now).version enclose.now }
     {

@@ -3,7 +3,7 @@ ghost use Rattle.charlotte_calls.specs.Setting.{IsValid};
 ghost use Rattle.charlotte_calls.specs.declared.calls.ServiceStep.TheVariants as step;
 ghost use Rattle.link_service.specs.Causes.{IsRefusedFor, HasActivity};
 ghost use Rattle.link_service.specs.Run.{start_state};
-ghost use Rattle.link_service.specs.State.{next_link, is_waiting};
+ghost use Rattle.link_service.specs.State.{next_link, counted};
 ghost use Rattle.link_service.specs.Steps.{IsServiceStep, IsOldest};
 ghost use Rattle.link_service.specs.Table.{state_of, IsFault};
 
@@ -65,11 +65,15 @@ impl Service {
         }
     }
 
-    pub(crate) fn version(&self) -> u8 {
+    pub(crate) fn version(&self) -> u8
+        ensures { result ≡ self.now.version }
+    {
         self.version
     }
 
-    pub(crate) fn table(&self) -> &Table {
+    pub(crate) fn table(&self) -> &Table
+        ensures { result.now ≡ self.now.table }
+    {
         &self.table
     }
 
@@ -85,15 +89,31 @@ impl Service {
     }
 
     /// The name of the next link that the home of a process makes.
+    #[tactic(auto, unfolding(crate::specs::Table::state_of))]
     pub(crate) fn next_link(&self, p: Pid) -> Option<LinkId>
         ensures { result ≡ next_link (state_of self.now) p }
     {
-        let maker = *self.homes.get(usize::from(p.0))?;
-        let count = *self.made.get(usize::from(maker))?;
-        Some(LinkId { maker, count })
+        match self.homes.get(usize::from(p.0)) {
+            Some(maker) => self.counted(*maker),
+            None => None,
+        }
+    }
+
+    /// The name of the next link of a kernel.
+    fn counted(&self, maker: u8) -> Option<LinkId>
+        ensures { result ≡ counted maker (slice_get self.now.made maker) }
+    {
+        match self.made.get(usize::from(maker)) {
+            Some(count) => Some(LinkId {
+                maker,
+                count: *count,
+            }),
+            None => None,
+        }
     }
 
     /// Where an end is. `Unmade` comes exactly for an end of no made link.
+    #[tactic(auto, unfolding(crate::specs::Table::state_of))]
     pub fn place(&self, end: EndId) -> Place
         ensures { result ≡ ((state_of self.now).ends end).place }
     {
