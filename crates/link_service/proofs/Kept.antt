@@ -1,5 +1,5 @@
 -- What is kept of one process changes.
-use Rattle.std.proofs.Common.{◌≡◌, ◌≢◌, ◌⊎◌, inl, inr, ℕ, ◌<◌, Bool, true, false, nat_eq, List, length, slice_set, map, ap, sym, subst, ◌∙◌, if◌then◌else◌, get_or, cond}
+use Rattle.std.proofs.Common.{◌≡◌, ◌≢◌, ◌⊎◌, inl, inr, refl, Option, Some, None, slice_get, zero, suc, ◌≤◌, arith, [], ◌∷◌, ℕ, ◌<◌, Bool, true, false, nat_eq, List, length, slice_set, map, ap, sym, subst, ◌∙◌, if◌then◌else◌, get_or, cond}
 use Rattle.std.proofs.lemmas.List.{get_or-set_other, map-set, get_or-map, length-map}
 use Rattle.std.proofs.lemmas.Grind.{get_or-set_at}
 use Rattle.std.proofs.lemmas.Bool.Decides.{eqb_tells}
@@ -29,3 +29,29 @@ kept_at-set xs i y q below = by (eqb_tells i q)
 pub kept_at-at : (xs : List Kept) (i : ℕ) (d : Kept) → i < length xs → kept_at (map kept_view xs) i ≡ kept_view (get_or xs i d)
 unfolding kept_at
 kept_at-at xs i d below = get_or-map kept_view xs i d no_kept below
+
+-- what is kept at a number, by what the list has there
+abbrev pub view_in : Option Kept → KeptView
+view_in None = no_kept
+view_in (Some x) = kept_view x
+
+pub kept_at-get : (xs : List Kept) (i : ℕ) → kept_at (map kept_view xs) i ≡ view_in (slice_get xs i)
+unfolding kept_at
+kept_at-get [] i = refl
+kept_at-get (x ∷ xs) zero = refl
+kept_at-get (x ∷ xs) (suc i) = kept_at-get xs i
+
+-- what is kept of a process that was found, and of one that was not
+pub kept_at-found : (xs ys : List Kept) (i j : ℕ) (x : Kept) → ys ≡ xs → i ≡ j → i < length ys → x ≡ get_or ys i x → kept_view x ≡ kept_at (map kept_view xs) j
+kept_at-found xs ys i j x same at within found =
+    ap kept_view found ∙ sym (kept_at-at ys i x within) ∙ ap (λ l. kept_at (map kept_view l) i) same ∙ ap (kept_at (map kept_view xs)) at
+
+pub kept_at-beyond : (xs : List Kept) (i : ℕ) → length xs ≤ i → kept_at (map kept_view xs) i ≡ no_kept
+unfolding kept_at
+kept_at-beyond [] i h = refl
+kept_at-beyond (x ∷ xs) zero h = absurd (omega arith)
+kept_at-beyond (x ∷ xs) (suc i) h = kept_at-beyond xs i (omega arith)
+
+pub kept_at-missing : (xs ys : List Kept) (i j : ℕ) → ys ≡ xs → i ≡ j → length ys ≤ i → no_kept ≡ kept_at (map kept_view xs) j
+kept_at-missing xs ys i j same at beyond =
+    sym (kept_at-beyond ys i beyond) ∙ ap (λ l. kept_at (map kept_view l) i) same ∙ ap (kept_at (map kept_view xs)) at
