@@ -1,8 +1,8 @@
 -- What is kept of one process changes.
-use Rattle.std.proofs.Common.{◌≡◌, ◌≢◌, ◌⊎◌, inl, inr, refl, Option, Some, None, slice_get, zero, suc, ◌≤◌, arith, [], ◌∷◌, ℕ, ◌<◌, Bool, true, false, nat_eq, List, length, slice_set, map, ap, sym, subst, ◌∙◌, if◌then◌else◌, get_or, cond}
+use Rattle.std.proofs.Common.{◌≡◌, ◌≢◌, ◌⊎◌, inl, inr, refl, Option, Some, None, slice_get, zero, suc, ◌≤◌, arith, nat_lt, nat_le, true≢false, [], ◌∷◌, ℕ, ◌<◌, Bool, true, false, nat_eq, List, length, slice_set, map, ap, sym, subst, ◌∙◌, if◌then◌else◌, get_or, cond}
 use Rattle.std.proofs.lemmas.List.{get_or-set_other, map-set, get_or-map, length-map}
 use Rattle.std.proofs.lemmas.Grind.{get_or-set_at}
-use Rattle.std.proofs.lemmas.Bool.Decides.{eqb_tells}
+use Rattle.std.proofs.lemmas.Bool.Decides.{eqb_tells, leb_tells}
 use Rattle.charlotte_calls.specs.declared.names.EndId.{EndId}
 use Rattle.link_service.specs.declared.state.End.{End}
 use Rattle.link_service.specs.declared.table.Kept.{Kept}
@@ -55,3 +55,18 @@ kept_at-beyond (x ∷ xs) (suc i) h = kept_at-beyond xs i (omega arith)
 pub kept_at-missing : (xs ys : List Kept) (i j : ℕ) → ys ≡ xs → i ≡ j → length ys ≤ i → no_kept ≡ kept_at (map kept_view xs) j
 kept_at-missing xs ys i j same at beyond =
     sym (kept_at-beyond ys i beyond) ∙ ap (λ l. kept_at (map kept_view l) i) same ∙ ap (kept_at (map kept_view xs)) at
+
+-- a test that a number is below another, as a slice makes it
+pub below-nat_lt : (i n : ℕ) → true ≡ nat_lt i n → i < n
+below-nat_lt i n h = by (leb_tells (suc i) n)
+  where
+    by : ((nat_le (suc i) n ≡ true) × (suc i ≤ n)) ⊎ ((nat_le (suc i) n ≡ false) × (n < suc i)) → i < n
+    by (inl (e, le)) = omega arith
+    by (inr (e, lt)) = absurd (true≢false (h ∙ e))
+
+pub beyond-nat_lt : (i n : ℕ) → false ≡ nat_lt i n → n ≤ i
+beyond-nat_lt i n h = by (leb_tells (suc i) n)
+  where
+    by : ((nat_le (suc i) n ≡ true) × (suc i ≤ n)) ⊎ ((nat_le (suc i) n ≡ false) × (n < suc i)) → n ≤ i
+    by (inl (e, le)) = absurd (true≢false (sym (h ∙ e)))
+    by (inr (e, lt)) = omega arith
