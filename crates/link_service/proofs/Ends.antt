@@ -1,10 +1,12 @@
 -- From what a map says of its keys to what the table says of its ends.
-use Rattle.std.proofs.Common.{◌≡◌, ℕ, Bool, true, false, cond, List, Option, None, Some, is_some, unwrap_or, refl, sym, ap, subst, ◌∙◌, true≢false, if◌then◌else◌, rules}
+use Rattle.std.proofs.Common.{◌≡◌, ℕ, Bool, true, false, cond, List, Option, None, Some, is_some, unwrap_or, refl, sym, ap, subst, ◌∙◌, true≢false, if◌then◌else◌, rules, All}
 use Rattle.std.specs.Map.{lookup}
 use Rattle.std.specs.HashMap.{HashMap, WritesThrough, get_by}
 use Rattle.charlotte_calls.specs.declared.names.EndId.{EndId}
-use Rattle.link_service.specs.Ends.{end_eq, is_made, put, puts, unmade}
-use Rattle.link_service.specs.Table.{TableView, KeptView, ends_of, process_of, IsWellKept, MayBe, PutsEnds, KeepsKnown, IsKnown}
+use Rattle.link_service.specs.Ends.{end_eq, is_made, is_owned_by, put, puts, unmade}
+use Rattle.link_service.specs.Table.{TableView, KeptView, ends_of, process_of, IsWellKept, MayBe, PutsEnds, KeepsKnown, IsKnown, MayGo}
+use Rattle.charlotte_calls.specs.declared.names.Pid.{Pid}
+use Rattle.link_service.specs.declared.state.Place.TheVariants.{Destroyed}
 use Rattle.link_service.specs.declared.state.End.{End}
 
 pub end_eq-same : (a b : EndId) → end_eq a b ≡ true → a ≡ b
@@ -91,3 +93,20 @@ MayBe-puts old new kept e end well may now = record { known = λ q. subst (λ f.
 pub PutsEnds-same : (old new : List (EndId × End)) (kept : List KeptView) (now : EndId → End) → ends_of (record { places = new; kept = kept }) ≡ now → PutsEnds (record { places = old; kept = kept }) (record { places = new; kept = kept }) now
 unfolding process_of
 PutsEnds-same old new kept now is = record { ends = is; process = refl; kept = record { count = refl; known = λ p e known. record { process = known.process; held = known.held; active = known.active } } }
+
+-- an end may come to a place whose owner is known to have had it
+pub MayBe-known : (t : TableView) (e : EndId) (x : End) → ((p : Pid) → is_owned_by p x.place ≡ true → IsKnown t p e) → MayBe t e x
+MayBe-known t e x h p own = ((h p own).process, (h p own).held, λ started. (h p own).active)
+
+-- what is known stays so over two changes
+pub KeepsKnown-then : (a b c : TableView) → KeepsKnown a b → KeepsKnown b c → KeepsKnown a c
+KeepsKnown-then a b c first second = record { count = second.count ∙ first.count; known = λ p e known. second.known p e (first.known p e known) }
+
+-- a change after a change
+pub PutsEnds-then : (a b c : TableView) (f : EndId → End) (g : (EndId → End) → (EndId → End)) → PutsEnds a b f → PutsEnds b c (g (ends_of b)) → PutsEnds a c (g f)
+PutsEnds-then a b c f g first second =
+    record { ends = second.ends ∙ ap g first.ends; process = second.process ∙ first.process; kept = KeepsKnown-then a b c first.kept second.kept }
+
+-- any end may be destroyed
+pub MayGo-destroyed : (t : TableView) (xs : List EndId) → All (MayGo t Destroyed) xs
+MayGo-destroyed t xs = λ k d below p own. absurd (true≢false (sym own))
