@@ -279,6 +279,7 @@ fn give_report(kept: &mut Kept)
 }
 
 /// Notes an end among those that the process may own, also with an activity.
+#[tactic(auto, unfolding(crate::specs::Ends::end_eq))]
 fn note(kept: &mut Kept, e: EndId) -> Result<(), NoMemory>
     ensures same { Notes (kept_view kept.old) (kept_view kept.new) }
     ensures known { OnOk result (IsNoted (kept_view kept.new) e) }
