@@ -69,9 +69,9 @@ may_make s p a b = runs s p && is_new_pair s.ends (next_link s p) a b
 abbrev pub may_destroy : State → EndId → Bool
 may_destroy s e = is_running_owner s (owner (s.ends e).place)
 
--- the number of ends that a message may carry in this version
+-- a message carries at most one end in version 1, and at most eight in version 2
 abbrev pub fits_version : ℕ → List EndId → Bool
-fits_version version xs = nat_le 2 version || nat_le (length xs) 1
+fits_version version xs = nat_le (length xs) (if nat_eq version 1 then 1 else 8)
 
 -- 4: the owner of e runs, no cause of Send holds, n is the next number
 abbrev pub may_send_as : State → Option Pid → EndId → ℕ → List EndId → Bool

@@ -78,7 +78,7 @@ impl Service {
     fn fits_version(&self, enclose: &[EndId]) -> bool
         ensures { result ≡ steps.fits_version (state_of self.now).version enclose.now }
     {
-        2 <= self.version() || enclose.len() <= 1
+        enclose.len() <= if self.version() == 1 { 1 } else { 8 }
     }
 
     #[tactic(auto, unfolding(crate::specs::Table::state_of))]
