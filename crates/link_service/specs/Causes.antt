@@ -23,6 +23,7 @@ abbrev pub first_of : List (Bool × Cause) → Option Cause
 first_of [] = None
 first_of (t ∷ ts) = if t.0 then Some t.1 else first_of ts
 
+-- the message of the send is Matched
 abbrev pub is_matched_outward : Outward → Bool
 is_matched_outward (outward.Matched m) = true
 is_matched_outward outward.Idle = false
@@ -30,6 +31,7 @@ is_matched_outward (outward.Waiting m) = false
 is_matched_outward outward.Taken = false
 is_matched_outward outward.Reported = false
 
+-- the two ends are of one link, or are the same end
 abbrev pub same_link : EndId → EndId → Bool
 same_link a b = nat_eq a.link.maker b.link.maker && nat_eq a.link.count b.link.count
 
@@ -41,6 +43,7 @@ is_missing_one p t xs = list_any (λ x. not (is_owned_by p (t x).place)) xs
 abbrev pub has_busy_one : (EndId → End) → List EndId → Bool
 has_busy_one t xs = list_any (λ x. not (is_idle (t x))) xs
 
+-- an end stands twice among these
 abbrev pub names_twice : List EndId → Bool
 names_twice [] = false
 names_twice (x ∷ xs) = list_any (end_eq x) xs || names_twice xs
@@ -61,19 +64,23 @@ send_causes p t on xs =
     ∷ (names_twice xs, cause.EncloseTwice)
     ∷ []
 
+-- the causes of a Receive, each with its test
 abbrev pub receive_causes : Pid → (EndId → End) → EndId → List (Bool × Cause)
 receive_causes p t on =
     no_end p t on ∷ (not (is_idle_inward (t on).inward), cause.Busy) ∷ ((t on).noticed, cause.Dead) ∷ []
 
--- the Cancel comes too late: the message was matched, or the report stands
+-- the Cancel comes too late: the message was matched, or the report stands. It is a report Done, since one that tells of the death
+-- of the link comes with the mark, and so with the cause Dead, which is tested before
 abbrev pub is_late : Way → End → Bool
 is_late way.Outward x = is_matched_outward x.outward || is_taken x.outward || is_reported_outward x.outward
 is_late way.Inward x = is_reported_inward x.inward
 
+-- there is nothing to cancel
 abbrev pub has_no_activity : Way → End → Bool
 has_no_activity way.Outward x = is_idle_outward x.outward
 has_no_activity way.Inward x = is_idle_inward x.inward
 
+-- the causes of a Cancel, each with its test; Late is that which is answered at once
 abbrev pub cancel_causes : Pid → (EndId → End) → EndId → Way → List (Bool × Cause)
 cancel_causes p t on w =
     no_end p t on
@@ -110,6 +117,7 @@ HasStarted t p = (e : EndId) × IsTrue (is_owned_by p (t e).place) × IsTrue (is
 abbrev pub HasActivity : State → Pid → Type 0
 HasActivity s p = (((s.process p.0).reports ≡ []) → ⊥) ⊎ HasStarted s.ends p
 
+-- there is a cause, and it is c
 abbrev pub is_cause : Cause → Option Cause → Bool
 is_cause c None = false
 is_cause c (Some first) = nat_eq (cause_number c) (cause_number first)

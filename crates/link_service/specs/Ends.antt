@@ -1,4 +1,5 @@
--- The table of all ends, as a function of the end, and what the steps do with it.
+-- The table of all ends, as a function of the end, and what the steps do with it. An end has a place, an activity outward (a
+-- send) and one inward (a receive), a count of its sends, and a mark, `noticed`, once the death of its link was noticed at it.
 use Rattle.std.specs.Prelude.{ℕ, Bool, true, false, nat_eq, ◌&&◌, ◌||◌, not, if◌then◌else◌, Option, Some, None, List, [], ◌∷◌}
 use Rattle.std.specs.List.{fold}
 use Rattle.charlotte_calls.specs.declared.names.EndId.{EndId}
@@ -80,8 +81,8 @@ abbrev pub carried_by : Option Message → List EndId
 carried_by None = []
 carried_by (Some m) = m.carried
 
--- how far an activity has come: a send is started while Waiting, Matched or Taken, a receive while Posted, Withdrawn or
--- Matched
+-- how far an activity has come: a send is started where it is Waiting, Matched or Taken, a receive where it is Posted, Withdrawn
+-- or Matched; over and not yet reported where it is Reported
 
 abbrev pub is_taken : Outward → Bool
 is_taken outward.Taken = true
@@ -197,7 +198,7 @@ destroys e table =
 unfoldable pub destroys_owned : Pid → EndId → (EndId → End) → (EndId → End)
 destroys_owned p e table = if is_owned_by p (table e).place then destroys e table else table
 
--- exit: each end of p as by destroy
+-- exit: each of these ends that p owns, as by destroy
 unfoldable pub destroys_each : Pid → List EndId → (EndId → End) → (EndId → End)
 destroys_each p mine table = fold (λ so_far e. destroys_owned p e so_far) table mine
 
@@ -224,6 +225,7 @@ unfoldable pub withdraws_send : Pid → EndId → (EndId → End) → (EndId →
 withdraws_send p e table =
     places (place.Owned p) (carried_by (waiting_message (table e).outward)) (turns_outward outward.Idle e table)
 
+-- a Waiting message is Matched
 abbrev pub matched_outward : Outward → Outward
 matched_outward (outward.Waiting m) = outward.Matched m
 matched_outward outward.Idle = outward.Idle
@@ -235,12 +237,13 @@ matched_outward outward.Reported = outward.Reported
 unfoldable pub matches : EndId → ℕ → (EndId → End) → (EndId → End)
 matches e n table = turns_inward (inward.Matched n) (opposite e) (turns_outward (matched_outward (table e).outward) e table)
 
--- take: the receive of the opposite is over, and each end that the message carries is p's
+-- take: the send is Taken, the receive of the opposite is over, and each end that the message carries is p's
 unfoldable pub takes : EndId → Pid → (EndId → End) → (EndId → End)
 takes e p table =
     places (place.Owned p) (carried_by (matched_message (table e).outward))
     (turns_inward inward.Reported (opposite e) (turns_outward outward.Taken e table))
 
+-- a Waiting send is over
 abbrev pub noticed_outward : Outward → Outward
 noticed_outward (outward.Waiting m) = outward.Reported
 noticed_outward outward.Idle = outward.Idle
@@ -248,6 +251,7 @@ noticed_outward (outward.Matched m) = outward.Matched m
 noticed_outward outward.Taken = outward.Taken
 noticed_outward outward.Reported = outward.Reported
 
+-- a started receive is over
 abbrev pub noticed_inward : Inward → Inward
 noticed_inward x = if is_started_inward x then inward.Reported else x
 
@@ -272,7 +276,8 @@ returned_end x =
     if x.noticed then record x { outward = outward.Reported }
     else noticed_end (record x { outward = outward.Reported })
 
--- back: at an owned end each end that the message carries goes to the owner, at a destroyed end it is destroyed
+-- back: at an owned end the send is over and each end that the message carries goes to the owner; at a destroyed end the send
+-- is idle and each of them is destroyed
 unfoldable pub returns : EndId → (EndId → End) → (EndId → End)
 returns e table =
     let x = table e in

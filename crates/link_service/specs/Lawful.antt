@@ -51,9 +51,11 @@ pub record AreHeldOnce (s : State) : Type 0 where
   pub held : (e : EndId) → IsHeldAt s e (s.ends e).place
   pub carried : (f e : EndId) (n : ℕ) → IsCarried s f n e → (s.ends e).place ≡ place.InMessage f n
 
--- the numbers of the steps of a kind on an end, in the order of the run
+-- the number n of a step on e, where e is f
 abbrev pub number_on : EndId → EndId → ℕ → List ℕ
 number_on f e n = if end_eq f e then n ∷ [] else []
+
+-- the number that a step sends on f, matches, takes or completes; none for any other step
 
 abbrev pub send_number : EndId → ServiceStep × State → List ℕ
 send_number f (step.Send e n bytes xs, t) = number_on f e n
@@ -96,7 +98,7 @@ pub record WasTakenOnce (s : State) (run before : List (ServiceStep × State)) (
   pub stands : before ≡ earlier ++ (step.Take f n p late, left) ∷ later
   pub owned : ((state_after s earlier).ends (opposite f)).place ≡ place.Owned p
 
--- the message n of f was matched in these steps
+-- a step of these matched the message n of f
 abbrev pub WasMatched : List (ServiceStep × State) → EndId → ℕ → Type 0
 WasMatched before f n = Contains (map (λ made. made.0) before) (step.Match f n)
 
@@ -120,14 +122,15 @@ abbrev pub IsRightlyLate : State → List (ServiceStep × State) → Pid → End
 IsRightlyLate s before p e way.Outward = WasMatched before e ((state_after s before).ends e).sent
 IsRightlyLate s before p e way.Inward = HasMatchedReport s before p e
 
--- what the second and the fourth clause ask of one step after the steps `before` of a run from s
+-- what the second and the fourth clause ask of one step of a run from s, which the steps `before` go before
 abbrev pub IsRightStep : State → List (ServiceStep × State) → List (ServiceStep × State) → ServiceStep → Type 0
 IsRightStep s run before (step.Complete f n) = WasTakenOnce s run before f n
 IsRightStep s run before (step.Refuse p (call.Cancel e w) cause.Late) = IsRightlyLate s before p e w
 IsRightStep s run before (step.Take f n p true) = IsTrue (is_matched (state_after s before).ends f n)
 IsRightStep s run before _ = Unit {0}
 
--- a run from s is lawful
+-- a run from s is lawful: in each of its states the ends are held once, each of its steps is right, and the numbers on each end
+-- rise
 pub record IsLawful (s : State) (run : List (ServiceStep × State)) : Type 0 where
   pub held : (before after : List (ServiceStep × State)) → run ≡ before ++ after → AreHeldOnce (state_after s before)
   pub steps : (before after : List (ServiceStep × State)) (made : ServiceStep × State) → run ≡ before ++ made ∷ after → IsRightStep s run before made.0

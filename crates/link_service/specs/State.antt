@@ -13,13 +13,15 @@ use Rattle.link_service.specs.declared.state.End.{End}
 use Rattle.link_service.specs.declared.state.Phase.{Phase}
 use Rattle.link_service.specs.declared.state.Phase.TheVariants as phase
 
+-- what a process is doing, and what it is still to be told
 pub record Process : Type 0 where
   pub phase : Phase
   -- the reports that it was not given yet, oldest first
   pub reports : List Report
 
+-- the state of the service
 pub record State : Type 0 where
-  -- 1 or 2
+  -- 1 or 2; in version 1 a message carries at most one end, in version 2 at most eight
   pub version : ℕ
   -- the kernel of each process, by its number
   pub homes : List ℕ
@@ -113,6 +115,7 @@ abbrev pub counted : ℕ → Option ℕ → Option LinkId
 counted k None = None
 counted k (Some count) = Some (record { maker = k; count = count })
 
+-- the name of the next link that a kernel makes
 abbrev pub next_at : Option ℕ → List ℕ → Option LinkId
 next_at None made = None
 next_at (Some k) made = counted k (slice_get made k)

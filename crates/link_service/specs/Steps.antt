@@ -1,5 +1,6 @@
 -- The service step: of each of the sixteen steps its number, its condition and its effect. No other step is allowed, and
--- what an effect does not name stays as it was.
+-- what an effect does not name stays as it was. The process that makes one of the steps 1 to 7 or 9 runs, and in 3 to 6 it is
+-- the owner of the end; in 8 it waits. What the steps do with the ends is in `Ends`, what they do with processes in `State`.
 use Rattle.std.specs.Prelude.{◌≡◌, ℕ, ◌+◌, Bool, true, false, nat_eq, nat_lt, nat_le, ◌&&◌, ◌||◌, not, is_none, is_some, IsTrue, if◌then◌else◌, Option, Some, None, List, [], ◌∷◌, ◌++◌, length, slice_get}
 use Rattle.std.specs.List.{Contains}
 use Rattle.charlotte_calls.specs.Names.{opposite}
@@ -23,7 +24,7 @@ use Rattle.link_service.specs.declared.state.Outward.{Outward}
 use Rattle.link_service.specs.declared.state.Outward.TheVariants as outward
 use Rattle.link_service.specs.declared.state.Phase.TheVariants as phase
 
--- the steps by number
+-- the steps by number. The numbers before definitions are these
 abbrev pub step_number : ServiceStep → ℕ
 step_number (step.Make p a b) = 1
 step_number (step.Refuse p call cause) = 2
@@ -115,7 +116,7 @@ may_match t e n =
 abbrev pub agree : Bool → Bool → Bool
 agree a b = if a then b else not b
 
--- the message n of e is Matched
+-- the message n of e is Matched; its number is the count of sends
 abbrev pub is_matched : (EndId → End) → EndId → ℕ → Bool
 is_matched t e n = is_some (matched_message (t e).outward) && nat_eq (t e).sent n
 
@@ -160,11 +161,12 @@ may_return s e n dead =
     && (is_destroyed x.place || is_some (owner x.place))
     && agree dead (not x.noticed && owner_cancels (owner x.place) e s.process)
 
--- r is the oldest report of p, which waits
+-- 8: r is the oldest report of p, which waits
 abbrev pub IsOldest : State → Pid → Report → Type 0
 IsOldest s p r = IsTrue (is_waiting (s.process p.0).phase) × (slice_get (s.process p.0).reports 0 ≡ Some r)
 
--- the condition of each step
+-- the condition of each step. 2: p runs, and the first cause of the call that holds is this one. 7: p runs, and a report of it
+-- stands or an activity is started on an end that it owns. 9: p runs
 abbrev pub IsAllowed : State → ServiceStep → Type 0
 IsAllowed s (step.Make p a b) = IsTrue (may_make s p a b)
 IsAllowed s (step.Refuse p call cause) = IsTrue (runs s p) × IsRefusedFor s p call cause
@@ -183,7 +185,7 @@ IsAllowed s (step.Free e) = IsTrue (may_free s e)
 IsAllowed s (step.Notice e dead) = IsTrue (may_notice s e dead)
 IsAllowed s (step.Back e n dead) = IsTrue (may_return s e n dead)
 
--- 1
+-- 1: a kernel has made one link more, and both its ends are p's
 abbrev pub after_make : Pid → EndId → EndId → State → State
 after_make p a b s = record s { made = counts a.link.maker s.made; ends = makes p a b s.ends }
 
@@ -193,7 +195,7 @@ after_cancel None e w s = s
 after_cancel (Some p) e way.Outward s = record s { ends = withdraws_send p e s.ends }
 after_cancel (Some p) e way.Inward s = record s { process = turns p (phase.Cancelling e) s.process }
 
--- 8
+-- 8: p is given the report, and that way of its end is idle
 abbrev pub after_report : Pid → Report → State → State
 after_report p r s = record s { ends = idles r.way r.on s.ends; process = given p s.process }
 
@@ -202,7 +204,7 @@ abbrev pub done_reports : EndId → Option Message → List Report
 done_reports e None = []
 done_reports e (Some m) = receive_report e m.bytes m.carried ∷ []
 
--- 11
+-- 11: p gains the report Done with the ends, and runs again where it was in a Cancel of this receive
 abbrev pub after_take : EndId → Pid → State → State
 after_take e p s =
     record s {
@@ -210,11 +212,12 @@ after_take e p s =
       process = tells (Some p) (opposite e) (done_reports (opposite e) (matched_message (s.ends e).outward)) s.process;
     }
 
+-- the owner, where there is one, gains these reports
 abbrev pub gains_owner : Option Pid → List Report → (ℕ → Process) → (ℕ → Process)
 gains_owner None rs process = process
 gains_owner (Some p) rs process = gains p rs process
 
--- 12
+-- 12: the send is over, and the owner gains its report Done
 abbrev pub after_complete : EndId → State → State
 after_complete e s =
     record s {
@@ -222,11 +225,12 @@ after_complete e s =
       process = gains_owner (owner (s.ends e).place) (send_report e outcome.Done [] ∷ []) s.process;
     }
 
+-- the owner, where there is one, runs again where it is in a Cancel of the receive on this end
 abbrev pub wakes_owner : Option Pid → EndId → (ℕ → Process) → (ℕ → Process)
 wakes_owner None e process = process
 wakes_owner (Some p) e process = wakes p e process
 
--- 14
+-- 14: the receive never happened, and the owner runs again
 abbrev pub after_free : EndId → State → State
 after_free e s =
     record s { ends = turns_inward inward.Idle e s.ends; process = wakes_owner (owner (s.ends e).place) e s.process }
@@ -255,11 +259,12 @@ tells_returned to e x process =
     let sent = returned_reports e (matched_message x.outward) in
     if x.noticed then gains_owner to sent process else tells to e (sent ++ dead_reports e x) process
 
+-- 16
 abbrev pub after_return : EndId → State → State
 after_return e s =
     record s { ends = returns e s.ends; process = tells_returned (owner (s.ends e).place) e (s.ends e) s.process }
 
--- 9: mine are all the ends that p owns, and perhaps others, which stay
+-- 9: each end of p is destroyed, its reports go, and it ends. All the ends that p owns are among mine; others there stay
 pub record Exits (p : Pid) (s t : State) : Type 0 where
   pub mine : List EndId
   pub all : (e : EndId) → IsTrue (is_owned_by p (s.ends e).place) → Contains mine e
