@@ -1,22 +1,21 @@
 -- When a call is refused, and for which cause. The causes of a call are tested in the order of their numbers.
-use Rattle.std.specs.Prelude.{◌≡◌, ℕ, Bool, true, false, nat_eq, nat_le, ◌&&◌, ◌||◌, not, ◌⊎◌, IsTrue, if◌then◌else◌, Option, Some, None, List, [], ◌∷◌}
+use Rattle.std.specs.Prelude.{◌≡◌, Bool, true, false, nat_eq, nat_le, ◌&&◌, ◌||◌, not, ◌⊎◌, IsTrue, if◌then◌else◌, Option, Some, None, List, [], ◌∷◌}
 use Rattle.std.specs.List.{list_any}
 use Rattle.charlotte_calls.specs.Calls.{cause_number}
 use Rattle.charlotte_calls.specs.declared.calls.Call.{Call}
 use Rattle.charlotte_calls.specs.declared.calls.Call.TheVariants as call
 use Rattle.charlotte_calls.specs.declared.calls.Cause.{Cause}
 use Rattle.charlotte_calls.specs.declared.calls.Cause.TheVariants as cause
-use Rattle.charlotte_calls.specs.declared.calls.Report.{Report}
 use Rattle.charlotte_calls.specs.declared.names.EndId.{EndId}
 use Rattle.charlotte_calls.specs.declared.names.LinkId.{LinkId}
 use Rattle.charlotte_calls.specs.declared.names.Pid.{Pid}
 use Rattle.charlotte_calls.specs.declared.names.Way.{Way}
 use Rattle.charlotte_calls.specs.declared.names.Way.TheVariants as way
-use Rattle.link_service.specs.Ends.{end_eq, is_owned_by, is_idle, is_active, is_idle_outward, is_reported_outward, is_taken, is_idle_inward, is_reported_inward, matched_message}
+use Rattle.link_service.specs.Ends.{end_eq, is_owned_by, is_idle, is_active, is_idle_outward, is_reported_outward, is_taken, is_idle_inward, is_reported_inward}
 use Rattle.link_service.specs.State.{State, next_link, link_limit}
-use Rattle.link_service.specs.declared.state.End.{End}
-use Rattle.link_service.specs.declared.state.Outward.{Outward}
-use Rattle.link_service.specs.declared.state.Outward.TheVariants as outward
+use Rattle.link_service.specs.End.{End}
+use Rattle.link_service.specs.Outward.{Outward}
+use Rattle.link_service.specs.Outward as outward
 
 -- the first of some tests that holds
 abbrev pub first_of : List (Bool × Cause) → Option Cause

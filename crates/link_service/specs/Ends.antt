@@ -1,23 +1,20 @@
 -- The table of all ends, as a function of the end, and what the steps do with it. An end has a place, an activity outward (a
 -- send) and one inward (a receive), a count of its sends, and a mark, `noticed`, once the death of its link was noticed at it.
-use Rattle.std.specs.Prelude.{ℕ, Bool, true, false, nat_eq, ◌&&◌, ◌||◌, not, if◌then◌else◌, Option, Some, None, List, [], ◌∷◌}
+use Rattle.std.specs.Prelude.{ℕ, Bool, true, false, nat_eq, ◌&&◌, ◌||◌, not, if◌then◌else◌, Option, Some, None, List, []}
 use Rattle.std.specs.List.{fold}
 use Rattle.charlotte_calls.specs.declared.names.EndId.{EndId}
-use Rattle.charlotte_calls.specs.declared.names.LinkId.{LinkId}
 use Rattle.charlotte_calls.specs.declared.names.Pid.{Pid}
-use Rattle.charlotte_calls.specs.declared.names.Side.TheVariants.{A, B}
 use Rattle.charlotte_calls.specs.declared.names.Way.{Way}
 use Rattle.charlotte_calls.specs.declared.names.Way.TheVariants as way
 use Rattle.charlotte_calls.specs.contracts.names.EndIdPartialEq.TheImpl as derived
 use Rattle.charlotte_calls.specs.Names.{opposite}
-use Rattle.link_service.specs.declared.state.End.{End}
-use Rattle.link_service.specs.declared.state.Message.{Message}
-use Rattle.link_service.specs.declared.state.Place.{Place}
-use Rattle.link_service.specs.declared.state.Place.TheVariants as place
-use Rattle.link_service.specs.declared.state.Outward.{Outward}
-use Rattle.link_service.specs.declared.state.Outward.TheVariants as outward
-use Rattle.link_service.specs.declared.state.Inward.{Inward}
-use Rattle.link_service.specs.declared.state.Inward.TheVariants as inward
+use Rattle.link_service.specs.End.{End}
+use Rattle.link_service.specs.Place.{Place}
+use Rattle.link_service.specs.Place as place
+use Rattle.link_service.specs.Outward.{Message, Outward}
+use Rattle.link_service.specs.Outward as outward
+use Rattle.link_service.specs.Inward.{Inward}
+use Rattle.link_service.specs.Inward as inward
 
 -- two ends are the same, as `==` of ends tells: they have the same maker, count and side
 unfoldable pub end_eq : EndId → EndId → Bool

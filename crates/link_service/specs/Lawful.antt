@@ -1,6 +1,6 @@
 -- Lawful service runs, in four clauses: every living end is held once; a send completes once its message was taken once;
 -- messages go in the order of their numbers; a Cancel comes too late only after a match.
-use Rattle.std.specs.Prelude.{◌≡◌, ◌≢◌, ℕ, ◌<◌, Bool, true, false, nat_eq, ◌&&◌, IsTrue, if◌then◌else◌, Option, Some, None, List, [], ◌∷◌, ◌++◌, length, map}
+use Rattle.std.specs.Prelude.{◌≡◌, ◌≢◌, ℕ, ◌<◌, Bool, true, nat_eq, IsTrue, if◌then◌else◌, Option, Some, None, List, [], ◌∷◌, ◌++◌, length, map}
 use Rattle.std.specs.List.{Contains, filter, flat_map}
 use Rattle.charlotte_calls.specs.Names.{opposite}
 use Rattle.charlotte_calls.specs.declared.calls.Call.TheVariants as call
@@ -15,13 +15,12 @@ use Rattle.link_service.specs.Ends.{end_eq}
 use Rattle.link_service.specs.Run.{state_after}
 use Rattle.link_service.specs.State.{State, receive_report}
 use Rattle.link_service.specs.Steps.{is_matched}
-use Rattle.link_service.specs.declared.state.End.{End}
-use Rattle.link_service.specs.declared.state.Message.{Message}
-use Rattle.link_service.specs.declared.state.Outward.{Outward}
-use Rattle.link_service.specs.declared.state.Outward.TheVariants as outward
-use Rattle.link_service.specs.declared.state.Phase.TheVariants.{Ended}
-use Rattle.link_service.specs.declared.state.Place.{Place}
-use Rattle.link_service.specs.declared.state.Place.TheVariants as place
+use Rattle.link_service.specs.End.{End}
+use Rattle.link_service.specs.Outward.{Message, Outward}
+use Rattle.link_service.specs.Outward as outward
+use Rattle.link_service.specs.Phase.{Ended}
+use Rattle.link_service.specs.Place.{Place}
+use Rattle.link_service.specs.Place as place
 
 -- the message of a send that is Waiting or Matched
 abbrev pub message_of : Outward → Option Message

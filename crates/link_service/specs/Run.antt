@@ -1,5 +1,5 @@
 -- Service runs: from the start of a setting, steps that are each allowed in the state that the steps before it leave.
-use Rattle.std.specs.Prelude.{◌≡◌, ℕ, nat_lt, if◌then◌else◌, List, [], ◌∷◌, length, slice_index, replicate}
+use Rattle.std.specs.Prelude.{ℕ, nat_lt, if◌then◌else◌, List, [], ◌∷◌, length, slice_index, replicate}
 use Rattle.std.specs.List.{fold}
 use Rattle.charlotte_calls.specs.Names.{opposite}
 use Rattle.charlotte_calls.specs.declared.calls.ServiceStep.{ServiceStep}
@@ -10,9 +10,9 @@ use Rattle.charlotte_calls.specs.declared.setting.Setting.{Setting}
 use Rattle.link_service.specs.Ends.{fresh, put, unmade}
 use Rattle.link_service.specs.State.{State, Process, no_process, counts}
 use Rattle.link_service.specs.Steps.{IsServiceStep}
-use Rattle.link_service.specs.declared.state.End.{End}
-use Rattle.link_service.specs.declared.state.Phase.TheVariants.{Running}
-use Rattle.link_service.specs.declared.state.Place.TheVariants.{Owned}
+use Rattle.link_service.specs.End.{End}
+use Rattle.link_service.specs.Phase.{Running}
+use Rattle.link_service.specs.Place.{Owned}
 
 -- the links wired so far
 pub record Wired : Type 0 where

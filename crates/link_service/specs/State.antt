@@ -1,6 +1,6 @@
 -- The state of the link service: the links made, the ends and the processes. It knows of no kernel but as the maker of a
 -- link and the home of a process.
-use Rattle.std.specs.Prelude.{ℕ, ◌+◌, Bool, true, false, nat_eq, nat_lt, ◌&&◌, ◌++◌, if◌then◌else◌, Option, Some, None, List, [], ◌∷◌, slice_get, slice_index, slice_set}
+use Rattle.std.specs.Prelude.{ℕ, ◌+◌, Bool, true, false, nat_eq, ◌++◌, if◌then◌else◌, Option, Some, None, List, [], ◌∷◌, slice_get, slice_index, slice_set}
 use Rattle.charlotte_calls.specs.declared.calls.Report.{Report}
 use Rattle.charlotte_calls.specs.declared.names.EndId.{EndId}
 use Rattle.charlotte_calls.specs.declared.names.LinkId.{LinkId}
@@ -9,9 +9,9 @@ use Rattle.charlotte_calls.specs.declared.names.Outcome.TheVariants as outcome
 use Rattle.charlotte_calls.specs.declared.names.Pid.{Pid}
 use Rattle.charlotte_calls.specs.declared.names.Way.TheVariants as way
 use Rattle.link_service.specs.Ends.{end_eq}
-use Rattle.link_service.specs.declared.state.End.{End}
-use Rattle.link_service.specs.declared.state.Phase.{Phase}
-use Rattle.link_service.specs.declared.state.Phase.TheVariants as phase
+use Rattle.link_service.specs.End.{End}
+use Rattle.link_service.specs.Phase.{Phase}
+use Rattle.link_service.specs.Phase as phase
 
 -- what a process is doing, and what it is still to be told
 pub record Process : Type 0 where
