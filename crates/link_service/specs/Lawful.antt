@@ -102,7 +102,7 @@ abbrev pub WasMatched : List (ServiceStep × State) → EndId → ℕ → Type 0
 WasMatched before f n = Contains (map (λ made. made.0) before) (step.Match f n)
 
 -- the report Done of a receive on e is among the reports of p: it is that of the last message that was taken from the
--- opposite of e, whose number is n, and this message was matched before it was taken
+-- opposite of e, whose number is n, and a step before matched this message
 pub record HasMatchedReport (s : State) (before : List (ServiceStep × State)) (p : Pid) (e : EndId) : Type 0 where
   pub message : Message
   pub n : ℕ
@@ -114,7 +114,7 @@ pub record HasMatchedReport (s : State) (before : List (ServiceStep × State)) (
   pub taken : before ≡ earlier ++ (step.Take (opposite e) n p late, left) ∷ later
   pub last : flat_map (take_number (opposite e)) later ≡ []
   pub its : ((state_after s earlier).ends (opposite e)).outward ≡ outward.Matched message
-  pub matched : WasMatched earlier (opposite e) n
+  pub matched : WasMatched before (opposite e) n
 
 -- a Cancel of this way is answered Late only so
 abbrev pub IsRightlyLate : State → List (ServiceStep × State) → Pid → EndId → Way → Type 0
