@@ -30,7 +30,7 @@ is_matched_outward (outward.Waiting m) = false
 is_matched_outward outward.Taken = false
 is_matched_outward outward.Reported = false
 
--- the two ends are of one link, or are the same end
+-- the two ends are of one link, whatever their sides
 abbrev pub same_link : EndId → EndId → Bool
 same_link a b = nat_eq a.link.maker b.link.maker && nat_eq a.link.count b.link.count
 

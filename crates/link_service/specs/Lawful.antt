@@ -54,7 +54,7 @@ pub record AreHeldOnce (s : State) : Type 0 where
 abbrev pub number_on : EndId → EndId → ℕ → List ℕ
 number_on f e n = if end_eq f e then n ∷ [] else []
 
--- the number that a step sends on f, matches, takes or completes; none for any other step
+-- the number of the message of f that a step sends, matches, takes or completes, as a list of one; none for every other step
 
 abbrev pub send_number : EndId → ServiceStep × State → List ℕ
 send_number f (step.Send e n bytes xs, t) = number_on f e n
@@ -129,7 +129,7 @@ IsRightStep s run before (step.Take f n p true) = IsTrue (is_matched (state_afte
 IsRightStep s run before _ = Unit {0}
 
 -- a run from s is lawful: in each of its states the ends are held once, each of its steps is right, and the numbers on each end
--- rise
+-- rise. A service run is a run from the start of its setting
 pub record IsLawful (s : State) (run : List (ServiceStep × State)) : Type 0 where
   pub held : (before after : List (ServiceStep × State)) → run ≡ before ++ after → AreHeldOnce (state_after s before)
   pub steps : (before after : List (ServiceStep × State)) (made : ServiceStep × State) → run ≡ before ++ made ∷ after → IsRightStep s run before made.0
