@@ -15,7 +15,6 @@ use Rattle.link_service.specs.Ends.{end_eq}
 use Rattle.link_service.specs.Run.{state_after}
 use Rattle.link_service.specs.State.{State, receive_report}
 use Rattle.link_service.specs.Steps.{is_matched}
-use Rattle.link_service.specs.End.{End}
 use Rattle.link_service.specs.Outward.{Message, Outward}
 use Rattle.link_service.specs.Outward as outward
 use Rattle.link_service.specs.Phase.{Ended}
