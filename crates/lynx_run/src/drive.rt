@@ -50,7 +50,7 @@ impl FileCommand for DriveCommand {
 
     fn find(alloc: Global, bytes: &[u8]) -> Result<Output<Transcript>, Failure> {
         let script = read_script(alloc, bytes).map_err(Failure::of_script)?;
-        let text = transcript(alloc, bytes, script)?;
+        let text = perform_script(alloc, bytes, script)?;
         Ok(Output {
             text,
             end: End::Done,
@@ -59,7 +59,7 @@ impl FileCommand for DriveCommand {
 }
 
 // The transcript of a script.
-fn transcript(alloc: Global, bytes: &[u8], script: Script) -> Result<Transcript, NoMemory>
+fn perform_script(alloc: Global, bytes: &[u8], script: Script) -> Result<Transcript, NoMemory>
     requires within { length bytes.now ≤ 1048576 }
     requires given { IsScriptOf bytes.now script }
     requires rising { AreRisingLines script.lines }
