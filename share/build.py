@@ -14,7 +14,7 @@ import time
 
 PROGRAM = "lynx"
 # What it takes on four processors where nothing is proved yet.
-MINUTES = 18
+MINUTES = 25
 # An empty script is refused by the program with this status, and by the toolchain itself with none: so it was built and ran.
 BUILT = 4
 
