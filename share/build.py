@@ -1,5 +1,6 @@
 #!/usr/bin/env python3
 """Proves the crates that the program is made of, and links it: build.py TOP, with a line `NAME NEED ..` for each crate on standard input.
+With `--minutes` behind TOP it prints the minutes that this takes where nothing is proved, and does nothing.
 
 A crate is proved once those that it needs are. The toolchain works on a crate and on all below it alone, so two crates are
 proved at once where nothing stands below both: those of the kernels and those of the language are.
@@ -13,33 +14,59 @@ import sys
 import time
 
 PROGRAM = "lynx"
-# What it takes on four processors where nothing is proved yet.
-MINUTES = 25
 # An empty script is refused by the program with this status, and by the toolchain itself with none: so it was built and ran.
 BUILT = 4
+# Lines of sources to a second, where a crate was never measured.
+LINES_A_SECOND = 40
+# A crate that takes less than this part of its time had its proofs kept from an earlier run, and tells nothing of the machine.
+KEPT = 0.3
 
 
 def say(text):
     print(f"lynx: {text}", file=sys.stderr, flush=True)
 
 
+def minutes_of(seconds):
+    return max(1, math.ceil(seconds / 60))
+
+
 class Build:
     def __init__(self, top, needs):
         self.top = top
         self.needs = needs
-        self.lines = {crate: self.lines_of(crate) for crate in needs}
+        # each crate with all that it stands on
+        self.below = {}
+        for crate in needs:
+            self.note_below(crate)
+        self.seconds = self.measured() | {crate: self.lines_of(crate) / LINES_A_SECOND for crate in needs if crate not in self.measured()}
+        self.at_once = max(1, (os.cpu_count() or 1) // 2)
         self.proved = set()
         self.running = {}
-        self.left = self.all_lines = self.lines_left()
-        self.begun = time.time()
-        self.end = self.begun + 60 * MINUTES
+        self.begun = {}
+        # what crates that were proved here took, and what was expected of them
+        self.took = self.expected = 0.0
+        self.started = time.time()
         self.told = None
         self.waits = set()
         self.out = f"{top}/crates/{PROGRAM}/out"
         os.makedirs(self.out, exist_ok=True)
 
+    def note_below(self, crate):
+        if crate not in self.below:
+            self.below[crate] = {crate}.union(*(self.note_below(other) for other in self.needs[crate]))
+        return self.below[crate]
+
+    def measured(self):
+        """The seconds that each crate took where nothing was proved, by the file beside this one."""
+        try:
+            with open(f"{self.top}/share/build_seconds", encoding="utf-8") as file:
+                rows = [line.split() for line in file if line.strip() and not line.startswith("#")]
+        except FileNotFoundError:
+            return {}
+        return {crate: float(seconds) for crate, seconds in rows if crate in self.needs}
+
     def lines_of(self, crate):
-        """The lines of a crate's sources, by which the time that it takes is estimated; each crate takes that of 1,000 lines besides."""
+        """The lines of a crate's sources; each crate takes the time of 1,000 lines besides."""
         count = 1000
         for kind in ("src", "specs", "proofs"):
             for folder, _, names in os.walk(f"{self.top}/crates/{crate}/{kind}"):
@@ -48,24 +75,22 @@ class Build:
                         count += file.read().count(b"\n")
         return count
 
-    def below(self, crate):
-        """The crate and all that it stands on."""
-        return {crate}.union(*(self.below(need) for need in self.needs[crate]))
-
-    def lines_left(self):
-        """The lines that are left in the longest row. Crates that stand on one crate are proved one after the other: they are a row."""
-        left = [crate for crate in self.needs if crate not in self.proved]
-        return max(sum(self.lines[crate] for crate in left if low in self.below(crate)) for low in self.needs)
-
     def log_of(self, crate):
         return f"{self.out}/build-{os.getpid()}-{crate}.log"
 
-    def may_begin(self, crate):
-        beside = set().union(*(self.below(other) for other in self.running))
-        return self.proved.issuperset(self.needs[crate]) and beside.isdisjoint(self.below(crate))
+    def next_ones(self, proved, running):
+        """The crates that may begin beside these: all that they need is proved, and they share nothing with what is running."""
+        running = set(running)
+        for crate in self.needs:
+            beside = set().union(*(self.below[other] for other in running))
+            is_new = crate not in proved and crate not in running
+            if is_new and len(running) < self.at_once and proved.issuperset(self.needs[crate]) and beside.isdisjoint(self.below[crate]):
+                running.add(crate)
+                yield crate
 
     def begin(self, crate):
         words = ["rt", "run", "--", "drive", os.devnull] if crate == PROGRAM else ["rt", "lib"]
+        self.begun[crate] = time.time()
         with open(self.log_of(crate), "wb") as log:
             self.running[crate] = subprocess.Popen(
                 words,
@@ -77,11 +102,8 @@ class Build:
             )
 
     def begin_all(self):
-        at_once = max(1, (os.cpu_count() or 1) // 2)
-        for crate in self.needs:
-            is_new = crate not in self.proved and crate not in self.running
-            if is_new and len(self.running) < at_once and self.may_begin(crate):
-                self.begin(crate)
+        for crate in list(self.next_ones(self.proved, self.running)):
+            self.begin(crate)
 
     def ended(self):
         """Takes note of the crates whose run has ended, and gives the first one that was not proved."""
@@ -92,19 +114,32 @@ class Build:
             if run.returncode != (BUILT if crate == PROGRAM else 0):
                 return crate
             self.proved.add(crate)
-            self.estimate()
+            self.note(crate)
         return None
 
-    def estimate(self):
-        """When the build ends, at the speed so far of the longest row, once a tenth of it is done."""
-        left, before = self.lines_left(), self.left
-        done = 1 - left / self.all_lines
-        if left < before and done >= 0.1:
-            self.end = self.begun + (time.time() - self.begun) / done
-        self.left = left
+    def note(self, crate):
+        """Takes note of how fast this machine is, by a crate whose proofs were not kept."""
+        took = time.time() - self.begun[crate]
+        if took > KEPT * self.seconds[crate]:
+            self.took += took
+            self.expected += self.seconds[crate]
+
+    def seconds_left(self):
+        """What the rest takes, by going through it as it will be begun, at the speed of what was proved here so far."""
+        scale = self.took / self.expected if self.expected else 1
+        proved, now = set(self.proved), time.time()
+        ends = {crate: max(0, self.begun[crate] + scale * self.seconds[crate] - now) for crate in self.running}
+        end = 0
+        while len(proved) < len(self.needs):
+            for crate in list(self.next_ones(proved, ends)):
+                ends[crate] = end + scale * self.seconds[crate]
+            first = min(ends, key=ends.get)
+            end = ends.pop(first)
+            proved.add(first)
+        return end
 
     def tell(self):
-        left = max(1, math.ceil((self.end - time.time()) / 60))
+        left = minutes_of(self.seconds_left())
         words = f"proved {len(self.proved)} of {len(self.needs)}, about {left} minute{'s' * (left != 1)} left"
         if words != self.told and len(self.proved) < len(self.needs):
             say(words)
@@ -135,8 +170,8 @@ class Build:
     def run(self):
         """Whether the program was built."""
         say(
-            f"the program has to be proved and built first: {len(self.needs)} crates. Once, that takes about {MINUTES} minutes"
-            " on four processors; after a change it takes less."
+            f"the program has to be proved and built first: {len(self.needs)} crates. Once, that takes about"
+            f" {minutes_of(self.seconds_left())} minutes on four processors; after a change it takes less."
         )
         while len(self.proved) < len(self.needs):
             self.begin_all()
@@ -148,7 +183,7 @@ class Build:
                 return False
             time.sleep(0.2)
         # so a source that was edited during the build is newer
-        os.utime(f"{self.out}/{PROGRAM}", (self.begun, self.begun))
+        os.utime(f"{self.out}/{PROGRAM}", (self.started, self.started))
         say("built")
         self.clear()
         return True
@@ -163,6 +198,9 @@ def main():
     for number in (signal.SIGINT, signal.SIGTERM, signal.SIGHUP):
         signal.signal(number, interrupted)
     build = Build(sys.argv[1], needs)
+    if "--minutes" in sys.argv:
+        print(minutes_of(build.seconds_left()))
+        return
     try:
         is_built = build.run()
     finally:
