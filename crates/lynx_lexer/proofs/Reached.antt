@@ -1,7 +1,11 @@
 -- What has been read so far, piece by piece.
 use Rattle.std.proofs.Common.{◌≡◌, ℕ, ◌+◌, ◌≤◌, List, [], ◌∷◌, ◌++◌, length, take, drop, Option, Some, None, refl, sym, ap, ◌∙◌, subst, arith, append_assoc, length-append}
-use Rattle.std.specs.Prelude.{IfSome}
+use Rattle.std.specs.Prelude.{IfSome, ◌<◌, Bool, true, ◌==◌, if◌then◌else◌, slice_index}
+use Rattle.std.specs.Char.{is_ascii_alphabetic, is_ascii_digit}
 use Rattle.std.proofs.lemmas.List.{append-nil, take-append-drop, drop-drop, drop_all, length-drop, length-take-le}
+use Rattle.lynx_lexer.specs.Bytes.{class_of, is_blank}
+use Rattle.lynx_lexer.specs.declared.class.Class.TheVariants.{Blank, Letter, Digit, Underscore, Quote, Other}
+use Rattle.lynx_lexer.proofs.Stands.{blank_stands}
 use Rattle.lynx_lexer.specs.Pieces.{IsPiece, IsLongest, limit_passed}
 use Rattle.lynx_lexer.specs.Source.{Piece, text_of, AreLongest, token_at, tokens_of, Spell, AreWithinLimits, HasFault, IsFirstFault}
 use Rattle.lynx_lexer.specs.Fronts.{StandsAt}
@@ -72,6 +76,16 @@ reached_more source at tokens kind n r s =
 
     size_is : n ≡ length (take n (drop at source))
     size_is = sym (length-take-le n (drop at source) s.fits)
+
+blank_class : (b : ℕ) → is_blank b ≡ true → class_of b ≡ Blank
+unfolding class_of
+blank_class b h = ap (λ (t : Bool). if t then Blank else (if is_ascii_alphabetic b then Letter else (if is_ascii_digit b then Digit else (if b == 95 then Underscore else (if b == 39 then Quote else Other))))) h
+
+-- a blank comes next
+pub reached_blank : (source : List ℕ) (at : ℕ) (tokens : List Token) (rest : List ℕ) → Reached source at tokens → rest ≡ drop at source → 0 < length rest → is_blank (slice_index rest 0) ≡ true → Reached source (at + 1) tokens
+reached_blank source at tokens rest r are some blank =
+    let stands : StandsAt None 1 (drop at source) = subst (λ (t : List ℕ). StandsAt None 1 t) are (blank_stands rest (record { some = some; first = blank_class (slice_index rest 0) blank })) in
+    subst (λ (ts : List Token). Reached source (at + 1) ts) (append-nil tokens) (reached_more source at tokens None 1 r stands)
 
 pub reached_end : (source : List ℕ) (at : ℕ) (tokens : List Token) → Reached source at tokens → length source ≤ at → Spell tokens source × AreWithinLimits tokens
 reached_end source at tokens r le =

@@ -1,7 +1,7 @@
 //! Bytes by what can begin with them.
 
 ghost use Rattle.std.specs.Prelude.{◌≡◌};
-ghost use Rattle.lynx_lexer.specs.Bytes.{class_of};
+ghost use Rattle.lynx_lexer.specs.Bytes.{class_of, is_blank};
 
 /// What can begin with a byte.
 #[derive(Clone, Copy, Debug, PartialEq, Eq)]
@@ -35,4 +35,11 @@ impl Class {
             _ => Class::Other,
         }
     }
+}
+
+/// Whether the byte is a separator.
+pub fn is_blank(byte: u8) -> bool
+    ensures { result ≡ is_blank byte }
+{
+    matches!(byte, b' ' | b'\n' | b'\t' | b'\r')
 }

@@ -22,12 +22,14 @@ pub struct Front<'a> {
     pub length: usize,
 }
 
+/// Whether the byte goes on a name. The commonest letters are asked for first.
+#[tactic(auto, unfolding(crate::specs::Bytes::class_of))]
 fn is_name_byte(byte: u8) -> bool
     ensures { result ≡ is_name_byte byte }
 {
-    match Class::from_byte(byte) {
-        Class::Letter | Class::Digit | Class::Underscore => true,
-        Class::Blank | Class::Quote | Class::Other => false,
+    match byte {
+        b'a'..=b'z' | b'0'..=b'9' | b'_' | b'A'..=b'Z' => true,
+        _ => false,
     }
 }
 

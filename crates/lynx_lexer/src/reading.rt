@@ -6,6 +6,7 @@ ghost use Rattle.lynx_lexer.specs.declared.token.Token.{Token};
 ghost use Rattle.lynx_lexer.specs.Source.{Spell, AreWithinLimits, IsFirstFault, token_at};
 ghost use Rattle.lynx_lexer.specs.Answers.{GivesTokens, GivesFault, IsFaultOf};
 
+use crate::class::is_blank;
 use crate::fault::LexFault;
 use crate::front::{behind, front_at};
 use crate::token::{Kind, Token};
@@ -34,7 +35,12 @@ fn read(alloc: Global, source: &[u8]) -> Result<Vec<Token<'_>>, LexFault>
     let mut tokens = Vec::new(alloc);
     let mut at = 0;
     while at < source.len() {
-        let front = match front_at(behind(source, at)) {
+        let rest = behind(source, at);
+        if is_blank(rest[0]) {
+            at += 1;
+            continue;
+        }
+        let front = match front_at(rest) {
             Ok(front) => front,
             Err(kind) => {
                 return Err(LexFault::At {

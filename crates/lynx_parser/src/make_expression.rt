@@ -4,7 +4,9 @@ ghost use Rattle.std.specs.Prelude.{◌≡◌, ℕ, [], ◌∷◌, map, option_m
 ghost use Rattle.lynx_tree.specs.Trees as trees;
 ghost use Rattle.lynx_tree.specs.Trees.{expr_tree, boxed_tree};
 ghost use Rattle.lynx_descent.specs.ReadingExpressions.{exprs_of, sum_of, term_of, named_of};
+ghost use Rattle.lynx_parser.specs.Making.{Makes};
 
+use lynx_descent::Refusal;
 use lynx_lexer::{IdentRef, Sign};
 use lynx_tree::{Expr, TermSign};
 use std::alloc::{AllocError, Global};
@@ -43,8 +45,8 @@ pub fn relation_of<'a>(
     first: Expr<'a>,
     sign: Sign,
     second: Expr<'a>,
-) -> Result<Expr<'a>, AllocError>
-    ensures { IfOk result (λ e. expr_tree e ≡ trees.Relation (expr_tree first.entry) sign (expr_tree second.entry)) }
+) -> Result<Expr<'a>, Refusal>
+    ensures { Makes (trees.Relation (expr_tree first.entry) sign (expr_tree second.entry)) result }
 {
     Ok(Expr::Relation {
         first: Box::new(alloc, first)?,
@@ -59,8 +61,8 @@ pub fn sum_of<'a>(
     alloc: Global,
     first: Expr<'a>,
     rest: Vec<(Sign, Expr<'a>)>,
-) -> Result<Expr<'a>, AllocError>
-    ensures { IfOk result (λ e. expr_tree e ≡ sum_of (expr_tree first.entry) (map (λ m. (m.0, expr_tree m.1)) rest.entry.items)) }
+) -> Result<Expr<'a>, Refusal>
+    ensures { Makes (sum_of (expr_tree first.entry) (map (λ m. (m.0, expr_tree m.1)) rest.entry.items)) result }
 {
     if rest.is_empty() {
         return Ok(first);
@@ -77,8 +79,8 @@ pub fn term_of<'a>(
     alloc: Global,
     first: Expr<'a>,
     rest: Vec<(TermSign, Expr<'a>)>,
-) -> Result<Expr<'a>, AllocError>
-    ensures { IfOk result (λ e. expr_tree e ≡ term_of (expr_tree first.entry) (map (λ m. (m.0, expr_tree m.1)) rest.entry.items)) }
+) -> Result<Expr<'a>, Refusal>
+    ensures { Makes (term_of (expr_tree first.entry) (map (λ m. (m.0, expr_tree m.1)) rest.entry.items)) result }
 {
     if rest.is_empty() {
         return Ok(first);
@@ -90,22 +92,22 @@ pub fn term_of<'a>(
 }
 
 #[tactic(auto, using(crate::proofs::Made::made))]
-pub fn minus_of<'a>(alloc: Global, inner: Expr<'a>) -> Result<Expr<'a>, AllocError>
-    ensures { IfOk result (λ e. expr_tree e ≡ trees.Minus (expr_tree inner.entry)) }
+pub fn minus_of<'a>(alloc: Global, inner: Expr<'a>) -> Result<Expr<'a>, Refusal>
+    ensures { Makes (trees.Minus (expr_tree inner.entry)) result }
 {
     Ok(Expr::Minus(Box::new(alloc, inner)?))
 }
 
 #[tactic(auto, using(crate::proofs::Made::made))]
-pub fn not_of<'a>(alloc: Global, inner: Expr<'a>) -> Result<Expr<'a>, AllocError>
-    ensures { IfOk result (λ e. expr_tree e ≡ trees.Not (expr_tree inner.entry)) }
+pub fn not_of<'a>(alloc: Global, inner: Expr<'a>) -> Result<Expr<'a>, Refusal>
+    ensures { Makes (trees.Not (expr_tree inner.entry)) result }
 {
     Ok(Expr::Not(Box::new(alloc, inner)?))
 }
 
 #[tactic(auto, using(crate::proofs::Made::made))]
-pub fn bracket_of<'a>(alloc: Global, inner: Expr<'a>) -> Result<Expr<'a>, AllocError>
-    ensures { IfOk result (λ e. expr_tree e ≡ trees.Bracket (expr_tree inner.entry)) }
+pub fn bracket_of<'a>(alloc: Global, inner: Expr<'a>) -> Result<Expr<'a>, Refusal>
+    ensures { Makes (trees.Bracket (expr_tree inner.entry)) result }
 {
     Ok(Expr::Bracket(Box::new(alloc, inner)?))
 }

@@ -140,7 +140,7 @@ impl<'t, 'a> Reader<'t, 'a> {
         };
         self.advance();
         let second = self.sum(room)?;
-        Ok(relation_of(self.alloc(), first, sign, second)?)
+        relation_of(self.alloc(), first, sign, second)
     }
 
     #[cycle(read_expression)]
@@ -153,7 +153,7 @@ impl<'t, 'a> Reader<'t, 'a> {
             return Ok(first);
         }
         let rest = self.summands(room)?;
-        Ok(sum_of(self.alloc(), first, rest)?)
+        sum_of(self.alloc(), first, rest)
     }
 
     /// Reads operators and what follows each.
@@ -184,7 +184,7 @@ impl<'t, 'a> Reader<'t, 'a> {
             return Ok(first);
         }
         let rest = self.factors(room)?;
-        Ok(term_of(self.alloc(), first, rest)?)
+        term_of(self.alloc(), first, rest)
     }
 
     /// Reads operators and what follows each.
@@ -214,12 +214,12 @@ impl<'t, 'a> Reader<'t, 'a> {
             Ahead::Sign(Sign::Minus) => {
                 self.advance();
                 let inner = self.prim(room)?;
-                Ok(minus_of(self.alloc(), inner)?)
+                minus_of(self.alloc(), inner)
             }
             Ahead::Keyword(Keyword::Not) => {
                 self.advance();
                 let inner = self.prim(room)?;
-                Ok(not_of(self.alloc(), inner)?)
+                not_of(self.alloc(), inner)
             }
             _ => self.prim(room),
         }
@@ -242,7 +242,7 @@ impl<'t, 'a> Reader<'t, 'a> {
             Ahead::Sign(Sign::Open) => {
                 let inner = self.inside(room)?;
                 self.sign(Sign::Close)?;
-                Ok(bracket_of(self.alloc(), inner)?)
+                bracket_of(self.alloc(), inner)
             }
             Ahead::Name => self.named(room),
             Ahead::Number => Ok(Expr::Number(self.number()?)),

@@ -1,10 +1,13 @@
 //! Reading statements.
 
 ghost use Rattle.std.specs.Prelude.{◌≡◌, ℕ, map, option_map};
-ghost use Rattle.lynx_descent.specs.Reading.{Reads};
+ghost use Rattle.lynx_descent.specs.Reading.{Reads, and_then, name, pure};
+ghost use Rattle.lynx_descent.specs.ReadingExpressions.{inside, expr};
 ghost use Rattle.lynx_descent.specs.ReadingStatements as spec;
 ghost use Rattle.lynx_descent.specs.ReadingStatements.{stmts, body_of, handler_of};
-ghost use Rattle.lynx_tree.specs.Trees.{stmt_tree};
+ghost use Rattle.lynx_lexer.specs.declared.keyword.Keyword.TheVariants as keywords;
+ghost use Rattle.lynx_tree.specs.Trees as trees;
+ghost use Rattle.lynx_tree.specs.Trees.{boxed_tree, stmt_tree};
 
 use crate::make_statement::{
     accept_of, assign_of, attempt_of, choice_of, connect_of, repetition_of, reply_of,
@@ -12,7 +15,7 @@ use crate::make_statement::{
 use crate::reader::Reader;
 use lynx_descent::{Ahead, Refusal};
 use lynx_lexer::{IdentRef, Keyword, Sign};
-use lynx_tree::{Handler, Stmt};
+use lynx_tree::{Expr, Handler, Stmt};
 
 impl<'t, 'a> Reader<'t, 'a> {
     #[tactic(auto, unfolding(lynx_descent::specs::ReadingStatements::assign))]
@@ -63,6 +66,52 @@ impl<'t, 'a> Reader<'t, 'a> {
         ensures { Reads stmt_tree (spec.reply room self.old) result self.new }
     {
         Ok(reply_of(self.values(room)?))
+    }
+
+    fn write(&mut self, room: usize) -> Result<Stmt<'a>, Refusal>
+        ensures { Reads stmt_tree (and_then (expr (inside room) self.old) (λ e. pure (trees.Write e))) result self.new }
+    {
+        Ok(Stmt::Write(self.expr(room)?))
+    }
+
+    fn await_stmt(&mut self, room: usize) -> Result<Stmt<'a>, Refusal>
+        ensures { Reads stmt_tree (and_then (expr (inside room) self.old) (λ e. pure (trees.Await e))) result self.new }
+    {
+        Ok(Stmt::Await(self.expr(room)?))
+    }
+
+    fn raise(&mut self) -> Result<Stmt<'a>, Refusal>
+        ensures { Reads stmt_tree (and_then (name self.old) (λ n. pure (trees.Raise n))) result self.new }
+    {
+        Ok(Stmt::Raise(self.name()?))
+    }
+
+    fn destroy(&mut self) -> Result<Stmt<'a>, Refusal>
+        ensures { Reads stmt_tree (and_then (name self.old) (λ n. pure (trees.Destroy n))) result self.new }
+    {
+        Ok(Stmt::Destroy(self.name()?))
+    }
+
+    fn bind(&mut self) -> Result<Stmt<'a>, Refusal>
+        ensures { Reads stmt_tree (and_then (spec.pair keywords.To self.old) (λ p. pure (trees.Bind p.0 p.1))) result self.new }
+    {
+        let (link, entry) = self.pair(Keyword::To)?;
+        Ok(Stmt::Bind { link, entry })
+    }
+
+    fn unbind(&mut self) -> Result<Stmt<'a>, Refusal>
+        ensures { Reads stmt_tree (and_then (spec.pair keywords.From self.old) (λ p. pure (trees.Unbind p.0 p.1))) result self.new }
+    {
+        let (link, entry) = self.pair(Keyword::From)?;
+        Ok(Stmt::Unbind { link, entry })
+    }
+
+    /// Reads an expression, for a box.
+    fn condition(&mut self, room: usize) -> Result<Box<Expr<'a>>, Refusal>
+        ensures { Reads boxed_tree (expr (inside room) self.old) result self.new }
+    {
+        let condition = self.expr(room)?;
+        Ok(Box::new(self.alloc(), condition)?)
     }
 
     /// Whether the next token begins a statement.
@@ -139,11 +188,11 @@ impl<'t, 'a> Reader<'t, 'a> {
             }
             Ahead::Keyword(Keyword::Write) => {
                 self.advance();
-                Ok(Stmt::Write(self.expr(room)?))
+                self.write(room)
             }
             Ahead::Keyword(Keyword::Await) => {
                 self.advance();
-                Ok(Stmt::Await(self.expr(room)?))
+                self.await_stmt(room)
             }
             Ahead::Keyword(Keyword::Stop) => {
                 self.advance();
@@ -151,7 +200,7 @@ impl<'t, 'a> Reader<'t, 'a> {
             }
             Ahead::Keyword(Keyword::Raise) => {
                 self.advance();
-                Ok(Stmt::Raise(self.name()?))
+                self.raise()
             }
             Ahead::Keyword(Keyword::New) => {
                 self.advance();
@@ -159,17 +208,15 @@ impl<'t, 'a> Reader<'t, 'a> {
             }
             Ahead::Keyword(Keyword::Destroy) => {
                 self.advance();
-                Ok(Stmt::Destroy(self.name()?))
+                self.destroy()
             }
             Ahead::Keyword(Keyword::Bind) => {
                 self.advance();
-                let (link, entry) = self.pair(Keyword::To)?;
-                Ok(Stmt::Bind { link, entry })
+                self.bind()
             }
             Ahead::Keyword(Keyword::Unbind) => {
                 self.advance();
-                let (link, entry) = self.pair(Keyword::From)?;
-                Ok(Stmt::Unbind { link, entry })
+                self.unbind()
             }
             Ahead::Keyword(Keyword::Connect) => {
                 self.advance();
@@ -196,8 +243,7 @@ impl<'t, 'a> Reader<'t, 'a> {
     fn choice(&mut self, room: usize) -> Result<Stmt<'a>, Refusal>
         ensures { Reads stmt_tree (spec.choice room (stmts room) self.old) result self.new }
     {
-        let condition = self.expr(room)?;
-        let condition = Box::new(self.alloc(), condition)?;
+        let condition = self.condition(room)?;
         self.keyword(Keyword::Then)?;
         let then = self.stmts(room)?;
         let otherwise = self.otherwise(room)?;

@@ -61,3 +61,7 @@ text_of_comma d = refl
 -- what the items of a slice print, those of its vector print
 pub along : {X : Type 0} (f : List X → List Mark) (xs ys : List X) (old new : List ℕ) → xs ≡ ys → Prints old new (f xs) → Prints old new (f ys)
 along {X = X} f xs ys old new e h = subst (λ (zs : List X). Prints old new (f zs)) e h
+
+-- and the trees of its items
+pub along_trees : {X Y : Type 0} (f : Y → List Mark) (tree : X → Y) (xs ys : List X) (old new : List ℕ) → xs ≡ ys → Prints old new (flat_map (λ x. f (tree x)) xs) → Prints old new (flat_map f (map tree ys))
+along_trees {X = X} f tree xs ys old new e h = along (λ (zs : List X). flat_map f (map tree zs)) xs ys old new e (h ∙ ap (λ (ms : List Mark). old ++ text_of ms) (sym (flat_map-map f tree xs)))

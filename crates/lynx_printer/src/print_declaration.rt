@@ -1,12 +1,12 @@
 //! Declarations as text.
 
-ghost use Rattle.std.specs.Prelude.{◌≡◌, ℕ, [], ◌∷◌, ◌++◌, map, OnOk};
-ghost use Rattle.std.specs.List.{flat_map};
+ghost use Rattle.std.specs.Prelude.{◌≡◌, ℕ, [], ◌∷◌, ◌++◌, OnOk};
 ghost use Rattle.lynx_lexer.specs.declared.keyword.Keyword.TheVariants as keywords;
 ghost use Rattle.lynx_tree.specs.Grammar.{Mark, word, mark, stmts_marks, op_marks, var_marks, entry_marks};
 ghost use Rattle.lynx_tree.specs.Trees.{stmt_list, op_tree, var_tree, entry_tree};
 ghost use Rattle.lynx_tree.specs.Printing.{Prints};
 
+use crate::print_all::{Declaration, push_all};
 use crate::print_list::{push_names, push_type, push_types};
 use crate::print_statement::{push_named, push_stmts, push_two};
 use crate::print_token::{push_keyword, push_sign};
@@ -24,14 +24,12 @@ fn push_op(out: &mut Vec<u8>, op: &OpDecl) -> Result<(), NoMemory>
     Ok(())
 }
 
-/// Adds operations.
-pub fn push_ops(out: &mut Vec<u8>, ops: &[OpDecl]) -> Result<(), NoMemory>
-    ensures { OnOk result (Prints out.old.items out.new.items (flat_map op_marks (map op_tree ops.now))) }
-{
-    for op in ops {
-        push_op(out, op)?;
+impl<'a> Declaration for OpDecl<'a> {
+    ghost marks = { λ _ op. op_marks (op_tree op) };
+
+    fn push(&self, out: &mut Vec<u8>, _keyword: Keyword) -> Result<(), NoMemory> {
+        push_op(out, self)
     }
-    Ok(())
 }
 
 fn push_var(out: &mut Vec<u8>, keyword: Keyword, var: &VarDecl) -> Result<(), NoMemory>
@@ -44,14 +42,12 @@ fn push_var(out: &mut Vec<u8>, keyword: Keyword, var: &VarDecl) -> Result<(), No
     Ok(())
 }
 
-/// Adds params or variables, each behind the keyword.
-pub fn push_vars(out: &mut Vec<u8>, keyword: Keyword, vars: &[VarDecl]) -> Result<(), NoMemory>
-    ensures { OnOk result (Prints out.old.items out.new.items (flat_map (var_marks keyword) (map var_tree vars.now))) }
-{
-    for var in vars {
-        push_var(out, keyword, var)?;
+impl<'a> Declaration for VarDecl<'a> {
+    ghost marks = { λ keyword var. var_marks keyword (var_tree var) };
+
+    fn push(&self, out: &mut Vec<u8>, keyword: Keyword) -> Result<(), NoMemory> {
+        push_var(out, keyword, self)
     }
-    Ok(())
 }
 
 /// Adds statements from `begin` to `end` and a sign.
@@ -70,17 +66,15 @@ fn push_entry(out: &mut Vec<u8>, entry: &EntryDecl) -> Result<(), NoMemory>
 {
     push_two(out, Keyword::Entry, &entry.name, Keyword::Of, &entry.op)?;
     push_names(out, &entry.parameters)?;
-    push_vars(out, Keyword::Var, &entry.vars)?;
+    push_all(out, Keyword::Var, &entry.vars)?;
     push_body(out, &entry.body, Sign::Semicolon)?;
     Ok(())
 }
 
-/// Adds entries.
-pub fn push_entries(out: &mut Vec<u8>, entries: &[EntryDecl]) -> Result<(), NoMemory>
-    ensures { OnOk result (Prints out.old.items out.new.items (flat_map entry_marks (map entry_tree entries.now))) }
-{
-    for entry in entries {
-        push_entry(out, entry)?;
+impl<'a> Declaration for EntryDecl<'a> {
+    ghost marks = { λ _ entry. entry_marks (entry_tree entry) };
+
+    fn push(&self, out: &mut Vec<u8>, _keyword: Keyword) -> Result<(), NoMemory> {
+        push_entry(out, self)
     }
-    Ok(())
 }

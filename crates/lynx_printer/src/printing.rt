@@ -8,7 +8,8 @@ ghost use Rattle.lynx_tree.specs.Grammar.{module_marks, kinds_of, HasTokens};
 ghost use Rattle.lynx_tree.specs.Trees.{module_tree};
 ghost use Rattle.lynx_tree.specs.Printing.{Prints, IsPrintable, printed};
 
-use crate::print_declaration::{push_body, push_entries, push_ops, push_vars};
+use crate::print_all::push_all;
+use crate::print_declaration::push_body;
 use crate::print_statement::push_named;
 use crate::print_token::push_sign;
 use lynx_lexer::{Keyword, NoMemory, Sign};
@@ -20,10 +21,10 @@ fn push_module(out: &mut Vec<u8>, tree: &Module) -> Result<(), NoMemory>
 {
     push_named(out, Keyword::Module, &tree.name)?;
     push_sign(out, Sign::Semicolon)?;
-    push_ops(out, &tree.ops)?;
-    push_vars(out, Keyword::Param, &tree.params)?;
-    push_vars(out, Keyword::Var, &tree.vars)?;
-    push_entries(out, &tree.entries)?;
+    push_all(out, Keyword::Op, &tree.ops)?;
+    push_all(out, Keyword::Param, &tree.params)?;
+    push_all(out, Keyword::Var, &tree.vars)?;
+    push_all(out, Keyword::Entry, &tree.entries)?;
     push_body(out, &tree.body, Sign::Dot)?;
     Ok(())
 }
