@@ -65,7 +65,8 @@ impl Living {
         self.inward
     }
 
-    pub(crate) fn view(&self) -> HereView
+    /// The whole, as plain data.
+    pub fn view(&self) -> HereView
         ensures { result ≡ self.now }
     {
         HereView {
