@@ -192,6 +192,7 @@ impl Packet {
     ghost use Rattle.charlotte_calls.specs.Packets.{packet_picture, what_picture, is_addressed};
 
     /// The stamp and what the packet tells.
+    #[inline(always)]
     pub fn open(self) -> (u64, What)
         ensures stamp { result.0 ≡ self.stamp }
         ensures what { result.1 ≡ self.what }

@@ -80,6 +80,7 @@ impl Slot {
         }
     }
 
+    #[inline(always)]
     pub(crate) fn here(living: Living) -> Slot
         ensures { result ≡ Here living }
     {
@@ -144,6 +145,7 @@ impl Slot {
     }
 
     /// Takes out the end that is here, and leaves nothing.
+    #[inline(always)]
     pub(crate) fn take(&mut self) -> Living
         requires { IsHere self.old }
         ensures living { self.old ≡ Here result }
@@ -168,6 +170,7 @@ impl Slot {
     }
 
     /// Sets value and receive of the end that is here.
+    #[inline(always)]
     pub(crate) fn set_inward(&mut self, value: MovingPicture, inward: Inward)
         requires here { IsHere self.old }
         requires same_end { IfHere self.old (λ v. value.end ≡ v.value.end) }
@@ -180,6 +183,7 @@ impl Slot {
     }
 
     /// Sets value and send of the end that is here, and answers what the send was.
+    #[inline(always)]
     pub(crate) fn set_outward(&mut self, value: MovingPicture, outward: Outward) -> Outward
         requires here { IsHere self.old }
         requires same_end { IfHere self.old (λ v. value.end ≡ v.value.end) }
@@ -193,6 +197,7 @@ impl Slot {
     }
 
     /// Sets the holder of the end that is here.
+    #[inline(always)]
     pub(crate) fn set_holder(&mut self, holder: Holder)
         requires { IsHere self.old }
         ensures { IfHere self.old (λ v. self.new ≡ Here (record v { holder = holder })) }
