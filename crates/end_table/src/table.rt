@@ -85,9 +85,9 @@ impl Table {
         requires own { IsOfEnd end slot }
         ensures { Puts self.old self.new end slot }
     {
-        match self.store(end, slot) {
-            Ok(()) => {}
-            Err(_) => unreachable!(),
+        match self.slots.get_mut(&end) {
+            Some(place) => *place = slot,
+            None => unreachable!(),
         }
     }
 
@@ -194,7 +194,12 @@ impl Table {
         ensures succeeds { HasPlace self.old moving.end → IsOk result }
     {
         let end = moving.end();
-        match self.store(end, Slot::here(Living::settled(moving, holder))) {
+        let slot = Slot::here(Living::settled(moving, holder));
+        if self.has_place(end) {
+            self.keep(end, slot);
+            return Ok(());
+        }
+        match self.store(end, slot) {
             Ok(()) => Ok(()),
             Err(slot) => Err(NotStored {
                 moving: slot.into_moving(),
