@@ -36,7 +36,10 @@ pub(crate) fn back(table: &mut Table, made: u32, returned: Returned, moving: Car
     ensures kernel { table.new.kernel ≡ table.old.kernel }
 {
     match sender(table, returned.to, returned.n) {
-        Some(living) => take_back(table, made, returned, living.view(), moving, out),
+        Some(living) => {
+            let view = living.view();
+            take_back(table, made, returned, view, moving, out)
+        }
         None => end_brought(table, made, returned, moving, out),
     }
 }
