@@ -51,14 +51,14 @@ impl Call {
     {
         match self {
             Call::Make => Call::Make,
-            Call::Destroy { on } => Call::Destroy { on: *on },
+            &Call::Destroy { on } => Call::Destroy { on },
             Call::Send { on, bytes, enclose } => Call::Send {
                 on: *on,
                 bytes: bytes.copy(),
                 enclose: enclose.copy(),
             },
-            Call::Receive { on } => Call::Receive { on: *on },
-            Call::Cancel { on, way } => Call::Cancel { on: *on, way: *way },
+            &Call::Receive { on } => Call::Receive { on },
+            &Call::Cancel { on, way } => Call::Cancel { on, way },
             Call::Wait => Call::Wait,
             Call::Print { bytes } => Call::Print {
                 bytes: bytes.copy(),
@@ -293,17 +293,13 @@ impl ServiceStep {
         ensures { result ≡ self.now }
     {
         match self {
-            ServiceStep::Make { p, a, b } => ServiceStep::Make {
-                p: *p,
-                a: *a,
-                b: *b,
-            },
+            &ServiceStep::Make { p, a, b } => ServiceStep::Make { p, a, b },
             ServiceStep::Refuse { p, call, cause } => ServiceStep::Refuse {
                 p: *p,
                 call: call.copy(),
                 cause: *cause,
             },
-            ServiceStep::Destroy { on } => ServiceStep::Destroy { on: *on },
+            &ServiceStep::Destroy { on } => ServiceStep::Destroy { on },
             ServiceStep::Send {
                 on,
                 n,
@@ -315,33 +311,21 @@ impl ServiceStep {
                 bytes: bytes.copy(),
                 enclose: enclose.copy(),
             },
-            ServiceStep::Receive { on } => ServiceStep::Receive { on: *on },
-            ServiceStep::Cancel { on, way } => ServiceStep::Cancel { on: *on, way: *way },
-            ServiceStep::Wait { p } => ServiceStep::Wait { p: *p },
+            &ServiceStep::Receive { on } => ServiceStep::Receive { on },
+            &ServiceStep::Cancel { on, way } => ServiceStep::Cancel { on, way },
+            &ServiceStep::Wait { p } => ServiceStep::Wait { p },
             ServiceStep::Report { p, report } => ServiceStep::Report {
                 p: *p,
                 report: report.copy(),
             },
-            ServiceStep::Exit { p } => ServiceStep::Exit { p: *p },
-            ServiceStep::Match { on, n } => ServiceStep::Match { on: *on, n: *n },
-            ServiceStep::Take { on, n, p, late } => ServiceStep::Take {
-                on: *on,
-                n: *n,
-                p: *p,
-                late: *late,
-            },
-            ServiceStep::Complete { on, n } => ServiceStep::Complete { on: *on, n: *n },
-            ServiceStep::Withdraw { on } => ServiceStep::Withdraw { on: *on },
-            ServiceStep::Free { on } => ServiceStep::Free { on: *on },
-            ServiceStep::Notice { on, dead } => ServiceStep::Notice {
-                on: *on,
-                dead: *dead,
-            },
-            ServiceStep::Back { on, n, dead } => ServiceStep::Back {
-                on: *on,
-                n: *n,
-                dead: *dead,
-            },
+            &ServiceStep::Exit { p } => ServiceStep::Exit { p },
+            &ServiceStep::Match { on, n } => ServiceStep::Match { on, n },
+            &ServiceStep::Take { on, n, p, late } => ServiceStep::Take { on, n, p, late },
+            &ServiceStep::Complete { on, n } => ServiceStep::Complete { on, n },
+            &ServiceStep::Withdraw { on } => ServiceStep::Withdraw { on },
+            &ServiceStep::Free { on } => ServiceStep::Free { on },
+            &ServiceStep::Notice { on, dead } => ServiceStep::Notice { on, dead },
+            &ServiceStep::Back { on, n, dead } => ServiceStep::Back { on, n, dead },
         }
     }
 }

@@ -87,24 +87,9 @@ impl What {
         ensures { result ≡ what_picture self.now }
     {
         match self {
-            What::Want { to, w, at, hops } => PictureWhat::Want {
-                to: *to,
-                w: *w,
-                at: *at,
-                hops: *hops,
-            },
-            What::Unwant { to, w, at, hops } => PictureWhat::Unwant {
-                to: *to,
-                w: *w,
-                at: *at,
-                hops: *hops,
-            },
-            What::Unwanted { to, w, at, hops } => PictureWhat::Unwanted {
-                to: *to,
-                w: *w,
-                at: *at,
-                hops: *hops,
-            },
+            &What::Want { to, w, at, hops } => PictureWhat::Want { to, w, at, hops },
+            &What::Unwant { to, w, at, hops } => PictureWhat::Unwant { to, w, at, hops },
+            &What::Unwanted { to, w, at, hops } => PictureWhat::Unwanted { to, w, at, hops },
             What::Parcel {
                 to,
                 n,
@@ -122,32 +107,17 @@ impl What {
                 bytes: bytes.copy(),
                 moving: moving.picture(),
             },
-            What::Taken { to, n, at, hops } => PictureWhat::Taken {
-                to: *to,
-                n: *n,
-                at: *at,
-                hops: *hops,
-            },
+            &What::Taken { to, n, at, hops } => PictureWhat::Taken { to, n, at, hops },
             What::Back { to, n, moving } => PictureWhat::Back {
                 to: *to,
                 n: *n,
                 moving: moving.picture(),
             },
-            What::Gone { to, at } => PictureWhat::Gone { to: *to, at: *at },
-            What::Moved { to, at, hops } => PictureWhat::Moved {
-                to: *to,
-                at: *at,
-                hops: *hops,
-            },
-            What::Known { to, hops } => PictureWhat::Known {
-                to: *to,
-                hops: *hops,
-            },
-            What::Forget { to, hops } => PictureWhat::Forget {
-                to: *to,
-                hops: *hops,
-            },
-            What::GoneSeen { to } => PictureWhat::GoneSeen { to: *to },
+            &What::Gone { to, at } => PictureWhat::Gone { to, at },
+            &What::Moved { to, at, hops } => PictureWhat::Moved { to, at, hops },
+            &What::Known { to, hops } => PictureWhat::Known { to, hops },
+            &What::Forget { to, hops } => PictureWhat::Forget { to, hops },
+            &What::GoneSeen { to } => PictureWhat::GoneSeen { to },
         }
     }
 
@@ -222,6 +192,7 @@ impl Packet {
     ghost use Rattle.charlotte_calls.specs.Packets.{packet_picture, what_picture, is_addressed};
 
     /// The stamp and what the packet tells.
+    #[inline(always)]
     pub fn open(self) -> (u64, What)
         ensures stamp { result.0 ≡ self.stamp }
         ensures what { result.1 ≡ self.what }

@@ -117,24 +117,9 @@ impl PictureWhat {
         ensures { result ≡ self.now }
     {
         match self {
-            PictureWhat::Want { to, w, at, hops } => PictureWhat::Want {
-                to: *to,
-                w: *w,
-                at: *at,
-                hops: *hops,
-            },
-            PictureWhat::Unwant { to, w, at, hops } => PictureWhat::Unwant {
-                to: *to,
-                w: *w,
-                at: *at,
-                hops: *hops,
-            },
-            PictureWhat::Unwanted { to, w, at, hops } => PictureWhat::Unwanted {
-                to: *to,
-                w: *w,
-                at: *at,
-                hops: *hops,
-            },
+            &PictureWhat::Want { to, w, at, hops } => PictureWhat::Want { to, w, at, hops },
+            &PictureWhat::Unwant { to, w, at, hops } => PictureWhat::Unwant { to, w, at, hops },
+            &PictureWhat::Unwanted { to, w, at, hops } => PictureWhat::Unwanted { to, w, at, hops },
             PictureWhat::Parcel {
                 to,
                 n,
@@ -152,32 +137,17 @@ impl PictureWhat {
                 bytes: bytes.copy(),
                 moving: moving.copy(),
             },
-            PictureWhat::Taken { to, n, at, hops } => PictureWhat::Taken {
-                to: *to,
-                n: *n,
-                at: *at,
-                hops: *hops,
-            },
+            &PictureWhat::Taken { to, n, at, hops } => PictureWhat::Taken { to, n, at, hops },
             PictureWhat::Back { to, n, moving } => PictureWhat::Back {
                 to: *to,
                 n: *n,
                 moving: moving.copy(),
             },
-            PictureWhat::Gone { to, at } => PictureWhat::Gone { to: *to, at: *at },
-            PictureWhat::Moved { to, at, hops } => PictureWhat::Moved {
-                to: *to,
-                at: *at,
-                hops: *hops,
-            },
-            PictureWhat::Known { to, hops } => PictureWhat::Known {
-                to: *to,
-                hops: *hops,
-            },
-            PictureWhat::Forget { to, hops } => PictureWhat::Forget {
-                to: *to,
-                hops: *hops,
-            },
-            PictureWhat::GoneSeen { to } => PictureWhat::GoneSeen { to: *to },
+            &PictureWhat::Gone { to, at } => PictureWhat::Gone { to, at },
+            &PictureWhat::Moved { to, at, hops } => PictureWhat::Moved { to, at, hops },
+            &PictureWhat::Known { to, hops } => PictureWhat::Known { to, hops },
+            &PictureWhat::Forget { to, hops } => PictureWhat::Forget { to, hops },
+            &PictureWhat::GoneSeen { to } => PictureWhat::GoneSeen { to },
         }
     }
 }

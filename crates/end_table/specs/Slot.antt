@@ -5,16 +5,16 @@ use Rattle.charlotte_calls.specs.declared.names.EndId.{EndId}
 use Rattle.charlotte_calls.specs.declared.names.Pid.{Pid}
 use Rattle.end_table.specs.declared.entry.Entry.{Entry}
 use Rattle.end_table.specs.declared.entry.Entry.TheVariants as entry
-use Rattle.end_table.specs.declared.slot.Kept.{Kept}
-use Rattle.end_table.specs.declared.slot.Kept.TheVariants as kept
+use Rattle.end_table.specs.declared.slot.Content.{Content}
+use Rattle.end_table.specs.declared.slot.Content.TheVariants as content
 use Rattle.end_table.specs.Owned.{owned}
 
--- what is kept, as an entry
-abbrev pub entry_of : Kept → Entry
-entry_of kept.Nothing = entry.Nothing
-entry_of (kept.Here v) = entry.Here v
-entry_of (kept.Left to hops) = entry.Left to hops
-entry_of (kept.Destroyed m) = entry.Destroyed m
+-- what stands in a slot, as an entry
+abbrev pub entry_of : Content → Entry
+entry_of content.Nothing = entry.Nothing
+entry_of (content.Here v) = entry.Here v
+entry_of (content.Left to hops) = entry.Left to hops
+entry_of (content.Destroyed m) = entry.Destroyed m
 
 -- the ends at these places that a process owns
 abbrev pub owned_ends : Pid → List (EndId × Entry) → List EndId

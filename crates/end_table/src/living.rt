@@ -26,6 +26,7 @@ impl Model for Living {
 
 impl Living {
     /// An end that becomes Here.
+    #[inline(always)]
     pub(crate) fn settled(moving: Moving, holder: Holder) -> Living
         ensures { result ≡ settled holder moving }
     {
@@ -65,7 +66,8 @@ impl Living {
         self.inward
     }
 
-    pub(crate) fn view(&self) -> HereView
+    /// The whole, as plain data.
+    pub fn view(&self) -> HereView
         ensures { result ≡ self.now }
     {
         HereView {
@@ -102,6 +104,7 @@ impl Living {
     }
 
     /// Sets value and receive.
+    #[inline(always)]
     pub(crate) fn set_inward(&mut self, value: MovingPicture, inward: Inward)
         requires { value.end ≡ self.old.value.end }
         ensures { self.new ≡ record self.old { value = value; inward = inward } }
@@ -111,6 +114,7 @@ impl Living {
     }
 
     /// Sets value and send, and answers what the send was.
+    #[inline(always)]
     pub(crate) fn set_outward(&mut self, value: MovingPicture, outward: Outward) -> Outward
         requires { value.end ≡ self.old.value.end }
         ensures was { result ≡ self.old.outward }
@@ -121,6 +125,7 @@ impl Living {
     }
 
     /// Sets the holder.
+    #[inline(always)]
     pub(crate) fn set_holder(&mut self, holder: Holder)
         ensures { self.new ≡ record self.old { holder = holder } }
     {
@@ -139,6 +144,7 @@ impl Living {
         false
     }
 
+    #[inline(always)]
     pub(crate) fn into_moving(self) -> Moving
         ensures { result ≡ self.value }
     {

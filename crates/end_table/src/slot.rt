@@ -27,23 +27,23 @@ pub(crate) fn leave(moving: &mut Moving, kernel: u8)
     moving.set_trail(moving.trail() | 1 << kernel);
 }
 
-/// What is kept at a place.
+/// What stands in a slot.
 #[derive(Debug)]
-enum Kept {
-    /// The place is reserved.
+enum Content {
+    /// Nothing yet: the place is reserved.
     Nothing,
     Here(Living),
     Left { to: u8, hops: u32 },
     Destroyed(Mark),
 }
 
-impl Kept {
+impl Content {
     fn spend(self) {
         match self {
-            Kept::Here(living) => {
+            Content::Here(living) => {
                 living.into_moving().destroy();
             }
-            Kept::Nothing | Kept::Left { to: _, hops: _ } | Kept::Destroyed(_) => {}
+            Content::Nothing | Content::Left { to: _, hops: _ } | Content::Destroyed(_) => {}
         }
     }
 }
@@ -51,7 +51,7 @@ impl Kept {
 /// The place of one end. Contracts see it as its entry. A slot that is let go spends the value in it.
 #[derive(Debug)]
 pub(crate) struct Slot {
-    kept: Kept,
+    content: Content,
 }
 
 impl Model for Slot {
@@ -61,13 +61,13 @@ impl Model for Slot {
 
     ghost use Rattle.end_table.specs.Slot.{entry_of};
 
-    ghost view = { λ s. entry_of s.kept };
+    ghost view = { λ s. entry_of s.content };
 }
 
 impl Drop for Slot {
     fn drop(self) {
-        let Slot { kept } = self;
-        kept.spend();
+        let Slot { content } = self;
+        content.spend();
     }
 }
 
@@ -76,15 +76,16 @@ impl Slot {
         ensures { result ≡ Nothing }
     {
         Slot {
-            kept: Kept::Nothing,
+            content: Content::Nothing,
         }
     }
 
+    #[inline(always)]
     pub(crate) fn here(living: Living) -> Slot
         ensures { result ≡ Here living }
     {
         Slot {
-            kept: Kept::Here(living),
+            content: Content::Here(living),
         }
     }
 
@@ -96,7 +97,7 @@ impl Slot {
             return Slot::nothing();
         }
         Slot {
-            kept: Kept::Left {
+            content: Content::Left {
                 to,
                 hops: gains_one(moving.hops()),
             },
@@ -111,47 +112,48 @@ impl Slot {
             return Slot::nothing();
         }
         Slot {
-            kept: Kept::Destroyed(mark),
+            content: Content::Destroyed(mark),
         }
     }
 
     pub(crate) fn look(&self) -> Entry
         ensures { result ≡ self.now }
     {
-        match &self.kept {
-            Kept::Nothing => Entry::Nothing,
-            Kept::Here(living) => Entry::Here(living.view()),
-            Kept::Left { to, hops } => Entry::Left {
+        match &self.content {
+            Content::Nothing => Entry::Nothing,
+            Content::Here(living) => Entry::Here(living.view()),
+            Content::Left { to, hops } => Entry::Left {
                 to: *to,
                 hops: *hops,
             },
-            Kept::Destroyed(mark) => Entry::Destroyed(*mark),
+            Content::Destroyed(mark) => Entry::Destroyed(*mark),
         }
     }
 
     pub(crate) fn lend(&self) -> Lent<'_>
         ensures { lent_entry result ≡ self.now }
     {
-        match &self.kept {
-            Kept::Nothing => Lent::Nothing,
-            Kept::Here(living) => Lent::Here(living),
-            Kept::Left { to, hops } => Lent::Left {
+        match &self.content {
+            Content::Nothing => Lent::Nothing,
+            Content::Here(living) => Lent::Here(living),
+            Content::Left { to, hops } => Lent::Left {
                 to: *to,
                 hops: *hops,
             },
-            Kept::Destroyed(mark) => Lent::Destroyed(*mark),
+            Content::Destroyed(mark) => Lent::Destroyed(*mark),
         }
     }
 
     /// Takes out the end that is here, and leaves nothing.
+    #[inline(always)]
     pub(crate) fn take(&mut self) -> Living
         requires { IsHere self.old }
         ensures living { self.old ≡ Here result }
         ensures nothing { self.new ≡ Nothing }
     {
-        match mem::replace(&mut self.kept, Kept::Nothing) {
-            Kept::Here(living) => living,
-            Kept::Nothing | Kept::Left { to: _, hops: _ } | Kept::Destroyed(_) => unreachable!(),
+        match mem::replace(&mut self.content, Content::Nothing) {
+            Content::Here(living) => living,
+            Content::Nothing | Content::Left { to: _, hops: _ } | Content::Destroyed(_) => unreachable!(),
         }
     }
 
@@ -161,44 +163,47 @@ impl Slot {
         requires same_end { IfHere self.old (λ v. view.value.end ≡ v.value.end) }
         ensures { self.new ≡ Here view }
     {
-        match &mut self.kept {
-            Kept::Here(living) => living.change(view),
+        match &mut self.content {
+            Content::Here(living) => living.change(view),
             _ => unreachable!(),
         }
     }
 
     /// Sets value and receive of the end that is here.
+    #[inline(always)]
     pub(crate) fn set_inward(&mut self, value: MovingPicture, inward: Inward)
         requires here { IsHere self.old }
         requires same_end { IfHere self.old (λ v. value.end ≡ v.value.end) }
         ensures { IfHere self.old (λ v. self.new ≡ Here (record v { value = value; inward = inward })) }
     {
-        match &mut self.kept {
-            Kept::Here(living) => living.set_inward(value, inward),
+        match &mut self.content {
+            Content::Here(living) => living.set_inward(value, inward),
             _ => unreachable!(),
         }
     }
 
     /// Sets value and send of the end that is here, and answers what the send was.
+    #[inline(always)]
     pub(crate) fn set_outward(&mut self, value: MovingPicture, outward: Outward) -> Outward
         requires here { IsHere self.old }
         requires same_end { IfHere self.old (λ v. value.end ≡ v.value.end) }
         ensures was { IfHere self.old (λ v. result ≡ v.outward) }
         ensures set { IfHere self.old (λ v. self.new ≡ Here (record v { value = value; outward = outward })) }
     {
-        match &mut self.kept {
-            Kept::Here(living) => living.set_outward(value, outward),
+        match &mut self.content {
+            Content::Here(living) => living.set_outward(value, outward),
             _ => unreachable!(),
         }
     }
 
     /// Sets the holder of the end that is here.
+    #[inline(always)]
     pub(crate) fn set_holder(&mut self, holder: Holder)
         requires { IsHere self.old }
         ensures { IfHere self.old (λ v. self.new ≡ Here (record v { holder = holder })) }
     {
-        match &mut self.kept {
-            Kept::Here(living) => living.set_holder(holder),
+        match &mut self.content {
+            Content::Here(living) => living.set_holder(holder),
             _ => unreachable!(),
         }
     }
@@ -209,8 +214,8 @@ impl Slot {
         ensures news { IfHere self.old (λ v. result ≡ is_news v.value hops) }
         ensures learned { IfHere self.old (λ v. self.new ≡ Here (record v { value = learned kernel hops v.value })) }
     {
-        match &mut self.kept {
-            Kept::Here(living) => living.learn(kernel, hops),
+        match &mut self.content {
+            Content::Here(living) => living.learn(kernel, hops),
             _ => unreachable!(),
         }
     }
@@ -220,8 +225,8 @@ impl Slot {
         requires { IsDestroyed self.old }
         ensures { IfDestroyed self.old (λ m. self.new ≡ Destroyed (record m { hint = hint })) }
     {
-        match &mut self.kept {
-            Kept::Destroyed(mark) => mark.set_hint(hint),
+        match &mut self.content {
+            Content::Destroyed(mark) => mark.set_hint(hint),
             _ => unreachable!(),
         }
     }
@@ -229,8 +234,8 @@ impl Slot {
     pub(crate) fn is_owned_by(&self, p: Pid) -> bool
         ensures { result ≡ is_some (owned p self.now) }
     {
-        match &self.kept {
-            Kept::Here(living) => living.is_owned_by(p),
+        match &self.content {
+            Content::Here(living) => living.is_owned_by(p),
             _ => false,
         }
     }
@@ -238,8 +243,8 @@ impl Slot {
     pub(crate) fn is_nothing(&self) -> bool
         ensures { IsTrue result ↔ (self.now ≡ Nothing) }
     {
-        match &self.kept {
-            Kept::Nothing => true,
+        match &self.content {
+            Content::Nothing => true,
             _ => false,
         }
     }
@@ -247,8 +252,8 @@ impl Slot {
     pub(crate) fn is_left_up_to(&self, upto: u32) -> bool
         ensures { IsTrue result ↔ HasLeftUpTo upto self.now }
     {
-        match &self.kept {
-            Kept::Left { hops, .. } => *hops <= upto,
+        match &self.content {
+            Content::Left { hops, .. } => *hops <= upto,
             _ => false,
         }
     }

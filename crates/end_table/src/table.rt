@@ -85,9 +85,9 @@ impl Table {
         requires own { IsOfEnd end slot }
         ensures { Puts self.old self.new end slot }
     {
-        match self.store(end, slot) {
-            Ok(()) => {}
-            Err(_) => unreachable!(),
+        match self.slots.get_mut(&end) {
+            Some(place) => *place = slot,
+            None => unreachable!(),
         }
     }
 
@@ -124,6 +124,7 @@ impl Table {
     }
 
     /// What the kernel keeps of an end, lent: nothing is copied of an end that is here.
+    #[inline(always)]
     pub fn lend(&self, end: EndId) -> Lent<'_>
         ensures entry { lent_entry result ≡ entries self.now end }
         ensures own { IsOfEnd end (lent_entry result) }
@@ -135,6 +136,7 @@ impl Table {
     }
 
     /// An end that is here, lent.
+    #[inline(always)]
     pub fn here(&self, end: EndId) -> &Living
         requires { IsHere (entries self.now end) }
         ensures view { entries self.now end ≡ Here result.now }
@@ -147,6 +149,7 @@ impl Table {
     }
 
     /// An end that a process owns, lent.
+    #[inline(always)]
     pub fn owned(&self, p: Pid, end: EndId) -> Option<&Living>
         ensures owned { option_copied result ≡ owned p (entries self.now end) }
         ensures here { IfSome result (λ l. entries self.now end ≡ Here l.now) }
@@ -191,7 +194,12 @@ impl Table {
         ensures succeeds { HasPlace self.old moving.end → IsOk result }
     {
         let end = moving.end();
-        match self.store(end, Slot::here(Living::settled(moving, holder))) {
+        let slot = Slot::here(Living::settled(moving, holder));
+        if self.has_place(end) {
+            self.keep(end, slot);
+            return Ok(());
+        }
+        match self.store(end, slot) {
             Ok(()) => Ok(()),
             Err(slot) => Err(NotStored {
                 moving: slot.into_moving(),
@@ -304,6 +312,7 @@ impl Table {
     }
 
     /// Sets the fields and the receive of an end that is here, and leaves its holder and its send.
+    #[inline(always)]
     pub fn set_inward(&mut self, end: EndId, value: MovingPicture, inward: Inward)
         requires here { IsHere (entries self.old end) }
         requires same_end { value.end ≡ end }
@@ -317,6 +326,7 @@ impl Table {
 
     /// Sets the fields and the send of an end that is here, and leaves its holder and its receive. It answers what the
     /// send was, with its message.
+    #[inline(always)]
     pub fn set_outward(&mut self, end: EndId, value: MovingPicture, outward: Outward) -> Outward
         requires here { IsHere (entries self.old end) }
         requires same_end { value.end ≡ end }

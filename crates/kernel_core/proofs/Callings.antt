@@ -1,5 +1,5 @@
 -- An event of a call keeps what is true of the kernel's parts.
-use Rattle.std.proofs.Common.{◌≡◌, ◌≢◌, ◌⊎◌, inl, inr, ℕ, ◌<◌, Bool, true, false, nat_eq, List, [], Option, Some, None, length, refl, sym, ap, subst, ◌∙◌}
+use Rattle.std.proofs.Common.{◌≡◌, ◌≢◌, ◌⊎◌, inl, inr, ℕ, ◌<◌, Bool, true, false, nat_eq, List, [], Option, Some, None, length, map, refl, sym, ap, subst, ◌∙◌}
 use Rattle.std.proofs.lemmas.Bool.Decides.{eqb_tells}
 use Rattle.charlotte_calls.specs.declared.calls.Call.{Call}
 use Rattle.charlotte_calls.specs.declared.calls.Call.TheVariants as call
@@ -18,19 +18,21 @@ use Rattle.end_table.specs.declared.entry.Inward.{Inward}
 use Rattle.end_table.specs.declared.entry.Inward.TheVariants as inward
 use Rattle.kernel_process.proofs.ActiveSets.{tells_same}
 use Rattle.kernel_core.proofs.ExitSilent.{exit-silent}
-use Rattle.kernel_process.proofs.KeptMoved.{keys-moved}
+use Rattle.kernel_process.proofs.KeptMoved.{HavePlace-moved, keys-moved}
 use Rattle.kernel_core.proofs.Performs.{acts-answers, acts-reports}
 use Rattle.kernel_sound.proofs.Acts.{acts-well}
 use Rattle.kernel_sound.proofs.Events.{begun-well, owner-below, well-calm, well-sound}
 use Rattle.kernel_process.proofs.OneProcess.{closes-table}
 use Rattle.kernel_sound.specs.Acts.{Covers, acts, made_after}
-use Rattle.kernel_core.specs.Finishing.{AreOwnersBelow, IsCalmAfter, ending_of, finished, finishes, touched_by, touches, turned, turned_by, turned_on}
+use Rattle.kernel_core.specs.Finishing.{AreOwnersBelow, HavePlaceFor, IsCalmAfter, ending_of, finished, finishes, touched_by, touches, turned, turned_by, turned_on}
 use Rattle.kernel_core.specs.Consistent.{AreConsistent, IsConsistent, Keeps}
 use Rattle.kernel_core.specs.declared.state.State.{State}
 use Rattle.kernel_sound.specs.Sound.{AreFor, GoesWell, IsSound}
 use Rattle.kernel_process.specs.Parts.{with_parts}
 use Rattle.kernel_process.specs.Steady.{StaysCalm, TakesAtMost}
 use Rattle.kernel_core.specs.declared.calling.Ending.{Ending}
+use Rattle.kernel_core.specs.declared.calling.Touched.{Touched}
+use Rattle.kernel_core.specs.declared.calling.Touched.TheVariants as touched
 use Rattle.kernel_process.specs.declared.process.ControlBlock.{ControlBlock}
 use Rattle.kernel_step.specs.Calls.{IsCallWith, is_active, refusal}
 use Rattle.kernel_step.specs.Kernel.{Kernel, Outcome, closes}
@@ -53,6 +55,12 @@ keeps-calm old t ys made links calm kept is =
       kernel = calm.kernel;
       length = kept.length;
     }
+
+-- the same room where an end was touched
+pub HavePlaceFor-moved : (x : Touched) (xs ys : List ControlBlock) → map (λ x. x.active) ys ≡ map (λ x. x.active) xs → HavePlaceFor x xs → HavePlaceFor x ys
+HavePlaceFor-moved touched.Nothing xs ys same places = tt
+HavePlaceFor-moved (touched.End on before) xs ys same places = HavePlace-moved xs ys same places
+HavePlaceFor-moved touched.Caller xs ys same places = tt
 
 -- a call that is no Wait comes to its end
 finished-call : (p : Pid) (k made : ℕ) (c : Call) (o : Outcome) → (c ≡ call.Wait → ⊥) → finished p (ending_of k made c) o ≡ finishes p k made c o

@@ -1,5 +1,5 @@
 -- How a call that is not refused goes on once its part was done and the event closed.
-use Rattle.std.specs.Prelude.{◌≡◌, ◌≢◌, ℕ, ◌<◌, Bool, false, nat_eq, Option, Some, None, IfSome}
+use Rattle.std.specs.Prelude.{◌≡◌, ◌≢◌, ℕ, ◌<◌, Bool, false, nat_eq, List, Option, Some, None, IfSome}
 use Rattle.charlotte_calls.specs.Names.{opposite}
 use Rattle.charlotte_calls.specs.declared.calls.Answer.TheVariants as answer
 use Rattle.charlotte_calls.specs.declared.calls.Call.{Call}
@@ -13,6 +13,8 @@ use Rattle.end_table.specs.declared.entry.Entry.{Entry}
 use Rattle.end_table.specs.declared.entry.HereView.{HereView}
 use Rattle.end_table.specs.declared.entry.Inward.{Inward}
 use Rattle.end_table.specs.declared.entry.Inward.TheVariants as inward
+use Rattle.kernel_process.specs.Closing.{HavePlace}
+use Rattle.kernel_process.specs.declared.process.ControlBlock.{ControlBlock}
 use Rattle.kernel_sound.specs.Owners.{IsCalmBut, owner_of}
 use Rattle.kernel_core.specs.declared.calling.Ending.{Ending}
 use Rattle.kernel_core.specs.declared.calling.Ending.TheVariants as ending
@@ -103,6 +105,12 @@ abbrev pub AreOwnersBelow : ℕ → (EndId → Entry) → Touched → Type 0
 AreOwnersBelow n t touched.Nothing = Unit {0}
 AreOwnersBelow n t (touched.End on before) = IfSome before (λ q. q.0 < n) × IfSome (owner_of (t on)) (λ q. q.0 < n)
 AreOwnersBelow n t touched.Caller = Unit {0}
+
+-- where one end was touched, each process has room for one more end on which an activity is started
+abbrev pub HavePlaceFor : Touched → List ControlBlock → Type 0
+HavePlaceFor touched.Nothing xs = Unit {0}
+HavePlaceFor (touched.End on before) xs = HavePlace xs
+HavePlaceFor touched.Caller xs = Unit {0}
 
 -- from the table t on the activities of others stayed, and after an Exit its process has none
 abbrev pub IsCalmAfter : Pid → Touched → (EndId → Entry) → (EndId → Entry) → Type 0

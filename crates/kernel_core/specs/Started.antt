@@ -1,9 +1,11 @@
 -- What an event may take for granted as it begins: what it is about, and its room.
 use Rattle.std.specs.Prelude.{◌≡◌, ℕ, ◌<◌, List, length, if◌then◌else◌}
-use Rattle.charlotte_calls.specs.Packets.{is_addressed}
+use Rattle.charlotte_calls.specs.Packets.{is_addressed, what_picture}
 use Rattle.charlotte_calls.specs.declared.names.EndId.{EndId}
 use Rattle.charlotte_calls.specs.declared.packet.What.{What}
 use Rattle.charlotte_calls.specs.declared.picture.PictureWhat.{PictureWhat}
+use Rattle.end_table.specs.Table.{entries, IsHere}
+use Rattle.kernel_core.specs.Finishing.{HavePlaceFor, touched_by}
 use Rattle.kernel_core.specs.Stepping.{Begins, AreListedFor}
 use Rattle.kernel_core.specs.declared.state.Request.{Request}
 use Rattle.kernel_core.specs.declared.state.State.{State}
@@ -11,6 +13,7 @@ use Rattle.kernel_event.specs.Places.{ArePlaced, IsPlacedFor, brought}
 use Rattle.kernel_event.specs.Room.{and_ends, room_of_call, room_of_packet}
 use Rattle.kernel_process.specs.Closing.{HaveSpare, HavePlace, IsBegun}
 use Rattle.kernel_process.specs.declared.event.Event.{Event}
+use Rattle.kernel_sound.specs.Sound.{addressee}
 use Rattle.kernel_step.specs.Progress.{Progress}
 use Rattle.kernel_step.specs.Rows.{row}
 
@@ -24,14 +27,14 @@ pub record IsRequest (s : State) (r : Request) (mine : List EndId) : Type 0 wher
 pub record IsReadyToCall (s : State) (r : Request) (mine : List EndId) (event : Event) : Type 0 where
   pub begun : IsBegun (and_ends (length mine) (room_of_call r.call)) 1 event
   pub begins : Begins s.table event.work.stamp event.work
-  pub place : HavePlace s.processes
+  pub place : HavePlaceFor (touched_by (entries s.table) r.call) s.processes
 
--- all room that the event of a packet needs was reserved
+-- all room that the event of a packet needs was reserved; only an end that is here has reports and activities
 pub record IsReadyToTake (s : State) (what : What) (event : Event) : Type 0 where
   pub begun : IsBegun (room_of_packet what) 0 event
   pub placed : ArePlaced s.table (brought what)
-  pub spare : 0 < (room_of_packet what).reports → HaveSpare (room_of_packet what).reports s.processes
-  pub place : HavePlace s.processes
+  pub spare : IsHere (entries s.table (addressee (what_picture what))) → 0 < (room_of_packet what).reports → HaveSpare (room_of_packet what).reports s.processes
+  pub place : IsHere (entries s.table (addressee (what_picture what))) → HavePlace s.processes
 
 -- what a kernel does with a packet: one that names a kernel that is not there is dropped
 abbrev pub takes_addressed : ℕ → ℕ → ℕ → ℕ → PictureWhat → Progress → Progress

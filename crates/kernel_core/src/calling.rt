@@ -7,11 +7,11 @@ ghost use Rattle.end_table.specs.declared.entry.Entry.{Entry};
 ghost use Rattle.kernel_sound.specs.Acts.{acts, made_after};
 ghost use Rattle.kernel_sound.specs.Sound.{IsSound};
 ghost use Rattle.kernel_process.specs.Active.{Tells};
-ghost use Rattle.kernel_process.specs.Closing.{HavePlace, CanClose};
+ghost use Rattle.kernel_process.specs.Closing.{CanClose};
 ghost use Rattle.kernel_process.specs.Parts.{with_parts, ended, process_state, HasPlaces};
 ghost use Rattle.kernel_process.specs.Steady.{StaysCalm, TakesAtMost};
 ghost use Rattle.kernel_core.specs.Consistent.{IsConsistent};
-ghost use Rattle.kernel_core.specs.Finishing.{finishes, finished, ending_of, touched_by, turned, turned_on, turned_to, AreOwnersBelow, IsCalmAfter};
+ghost use Rattle.kernel_core.specs.Finishing.{finishes, finished, ending_of, touched_by, turned, turned_on, turned_to, AreOwnersBelow, HavePlaceFor, IsCalmAfter};
 ghost use Rattle.kernel_core.specs.Started.{IsRequest, IsReadyToCall};
 ghost use Rattle.kernel_step.specs.Calls.{link_limit, refusal};
 ghost use Rattle.kernel_step.specs.Kernel.{Kernel, closes};
@@ -234,7 +234,7 @@ pub(crate) fn touched_by(table: &Table, call: &Call) -> Touched
 pub(crate) fn refresh_touched(table: &Table, processes: &mut Processes, p: Pid, touched: Touched)
     requires process { p.0 < length processes.old }
     requires owners { AreOwnersBelow (length processes.old) (entries table.now) touched }
-    requires place { HavePlace processes.old }
+    requires place { HavePlaceFor touched processes.old }
     ensures told { (t : EndId → Entry) → Tells t processes.old → IsCalmAfter p touched t (entries table.now) → Tells (entries table.now) processes.new }
     ensures kept { map process_state processes.new ≡ map process_state processes.old }
     ensures length { length processes.new ≡ length processes.old }

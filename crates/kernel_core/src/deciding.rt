@@ -8,7 +8,7 @@ ghost use Rattle.kernel_core.specs.Stepping.{IsCalled, AreListedFor, IsRefusedFo
 
 use crate::calling::{act_and_close, close_step, links_after, refresh_touched, touched_by};
 use crate::refusal::refusal;
-use crate::room::{reserve_made, room_of_call};
+use crate::room::{reserve_active, reserve_made, room_of_call};
 use crate::state::{Request, State};
 use charlotte_calls::{Answer, Call, Cause, Effect, EndId, NoMemory, Pid, ServiceStep};
 use end_table::Table;
@@ -136,7 +136,7 @@ fn reserve_calling(
     ensures stamp { IfOk result (λ r. r.1.work.stamp ≡ stamp) }
     ensures same { OnlyReserves state.old state.new }
 {
-    state.processes.reserve_places()?;
+    reserve_active(&mut state.processes, &request.call)?;
     reserve_places(&mut state.table, state.made, &request.call)?;
     let mine = list_ends(alloc, &state.table, request.p, &request.call)?;
     let event = Event::begin(alloc, stamp, room_of_call(&request.call), mine.len(), 1)?;

@@ -1,10 +1,13 @@
 //! The room that an event takes before it changes anything, so that nothing after it can fail for want of memory.
-ghost use Rattle.std.specs.Prelude.{◌≡◌, ◌<◌, [], ◌∷◌, map, length, MatchOption, OnOk};
+ghost use Rattle.std.specs.Prelude.{◌≡◌, ◌<◌, true, [], ◌∷◌, map, length, MatchOption, OnOk};
 ghost use Rattle.charlotte_calls.specs.Names.{opposite};
+ghost use Rattle.charlotte_calls.specs.declared.names.EndId.{EndId};
 ghost use Rattle.charlotte_calls.specs.declared.picture.MovingPicture.{MovingPicture};
 ghost use Rattle.end_table.specs.Table.{entries, HasPlace, KeepsPlaces};
 ghost use Rattle.kernel_step.specs.Calls.{made_end};
-ghost use Rattle.kernel_process.specs.Closing.{HaveSpare};
+ghost use Rattle.end_table.specs.declared.entry.Entry.{Entry};
+ghost use Rattle.kernel_core.specs.Finishing.{HavePlaceFor, touched_by};
+ghost use Rattle.kernel_process.specs.Closing.{HaveSpare, HavePlace};
 ghost use Rattle.kernel_event.specs.Room.{room_of_packet, room_of_call};
 ghost use Rattle.kernel_process.specs.Active.{started_ends};
 ghost use Rattle.kernel_event.specs.Places.{brought, ArePlaced};
@@ -56,8 +59,43 @@ pub(crate) fn room_of_call(call: &Call) -> Room
     }
 }
 
+/// Where a call is on an end, each process gets room for one more end with a started activity.
+pub(crate) fn reserve_active(processes: &mut Processes, call: &Call) -> Result<(), NoMemory>
+    ensures kept { map process_state processes.new ≡ map process_state processes.old }
+    ensures active { map started_ends processes.new ≡ map started_ends processes.old }
+    ensures place { OnOk result ((t : EndId → Entry) → HavePlaceFor (touched_by t call.now) processes.new) }
+    ensures length { length processes.new ≡ length processes.old }
+{
+    match call {
+        Call::Destroy { .. } | Call::Send { .. } | Call::Receive { .. } | Call::Cancel { .. } => {
+            processes.reserve_places()
+        }
+        Call::Make | Call::Wait | Call::Print { .. } | Call::Exit => Ok(()),
+    }
+}
+
+/// Where a packet is to an end that is here, each process gets room for so many reports, and for one more end with a started
+/// activity.
+pub(crate) fn reserve_processes(
+    processes: &mut Processes,
+    here: bool,
+    most: u32,
+) -> Result<(), NoMemory>
+    ensures kept { map process_state processes.new ≡ map process_state processes.old }
+    ensures active { map started_ends processes.new ≡ map started_ends processes.old }
+    ensures spare { OnOk result (here ≡ true → 0 < most → HaveSpare most processes.new) }
+    ensures place { OnOk result (here ≡ true → HavePlace processes.new) }
+    ensures length { length processes.new ≡ length processes.old }
+{
+    if !here {
+        return Ok(());
+    }
+    reserve_reports(processes, most)?;
+    processes.reserve_places()
+}
+
 /// Each process gets room for so many reports, if there may be any.
-pub(crate) fn reserve_reports(processes: &mut Processes, most: u32) -> Result<(), NoMemory>
+fn reserve_reports(processes: &mut Processes, most: u32) -> Result<(), NoMemory>
     ensures kept { map process_state processes.new ≡ map process_state processes.old }
     ensures active { map started_ends processes.new ≡ map started_ends processes.old }
     ensures room { OnOk result (0 < most → HaveSpare most processes.new) }
@@ -78,8 +116,7 @@ pub(crate) fn reserve_brought(table: &mut Table, what: &What) -> Result<(), NoMe
 {
     match what {
         What::Parcel { moving, .. } | What::Back { moving, .. } => {
-            let values = moving.picture();
-            reserve_values(table, values.as_slice())
+            reserve_values(table, moving.values())
         }
         _ => Ok(()),
     }

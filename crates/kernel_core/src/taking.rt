@@ -1,19 +1,28 @@
-ghost use Rattle.std.specs.Prelude.{◌≡◌, IfOk, IfErr, OnErr};
+ghost use Rattle.std.specs.Prelude.{◌≡◌, ◌<◌, ◌↔◌, true, false, length, map, IfOk, IfErr, IfSome, IsTrue, OnErr};
 ghost use Rattle.charlotte_calls.specs.Packets.{what_picture};
-ghost use Rattle.end_table.specs.Table.{entries};
+ghost use Rattle.charlotte_calls.specs.declared.names.EndId.{EndId};
+ghost use Rattle.charlotte_calls.specs.declared.names.Pid.{Pid};
+ghost use Rattle.end_table.specs.Owned.{owned};
+ghost use Rattle.end_table.specs.Table.{entries, IsHere};
+ghost use Rattle.end_table.specs.declared.entry.Entry.{Entry};
+ghost use Rattle.kernel_process.specs.Active.{Tells};
+ghost use Rattle.kernel_process.specs.Closing.{HavePlace};
+ghost use Rattle.kernel_sound.specs.Owners.{owner_of, IsCalmBut};
+ghost use Rattle.kernel_step.specs.Calls.{is_active};
 ghost use Rattle.kernel_sound.specs.Sound.{addressee};
-ghost use Rattle.kernel_process.specs.Parts.{with_parts, ended};
+ghost use Rattle.kernel_process.specs.Parts.{with_parts, ended, process_state};
 ghost use Rattle.kernel_core.specs.Consistent.{IsConsistent, Keeps, OnlyReserves};
 ghost use Rattle.kernel_core.specs.Started.{IsReadyToTake, takes_addressed};
 ghost use Rattle.kernel_step.specs.Kernel.{Kernel, begins, closes};
 ghost use Rattle.kernel_step.specs.Progress.{progress};
 ghost use Rattle.kernel_step.specs.Rows.{row};
 
-use crate::room::{reserve_brought, reserve_reports, room_of_packet};
+use crate::room::{reserve_brought, reserve_processes, room_of_packet};
 use crate::state::State;
-use charlotte_calls::{Effect, EndId, NoMemory, Packet, What};
+use charlotte_calls::{Effect, EndId, NoMemory, Packet, Pid, What};
+use end_table::{Lent, Table};
 use kernel_event::row;
-use kernel_process::{Event, close, owner, refresh_owner};
+use kernel_process::{Event, Processes, close, owner, refresh_owner};
 use std::alloc::Global;
 
 /// The packet that a kernel could not take for want of memory.
@@ -32,11 +41,44 @@ fn take(state: &mut State, from: u8, what: What, mut event: Event) -> Effect
     ensures made { state.new.made ≡ state.old.made }
 {
     let to = addressee(&what);
+    let here = is_here(&state.table, to);
     let before = owner(&state.table, to);
     row(&mut state.table, state.made, from, what, &mut event.work);
     let effect = close(&mut state.table, &mut state.processes, event);
-    refresh_owner(&state.table, &mut state.processes, before, to);
+    refresh_if_here(&state.table, &mut state.processes, here, before, to);
     effect
+}
+
+/// Whether an end is here.
+fn is_here(table: &Table, end: EndId) -> bool
+    ensures { IsTrue result ↔ IsHere (entries table.now end) }
+{
+    match table.lend(end) {
+        Lent::Here(_) => true,
+        Lent::Nothing | Lent::Left { .. } | Lent::Destroyed(_) => false,
+    }
+}
+
+/// The sets of active ends tell again of an end that was here, with the process that owned it; of no other end has an event of a
+/// packet changed the activities.
+fn refresh_if_here(
+    table: &Table,
+    processes: &mut Processes,
+    here: bool,
+    before: Option<Pid>,
+    end: EndId,
+)
+    requires before { IfSome before (λ p. p.0 < length processes.old) }
+    requires after { IfSome (owner_of (entries table.now end)) (λ p. p.0 < length processes.old) }
+    requires place { here ≡ true → HavePlace processes.old }
+    ensures told { (t : EndId → Entry) → before ≡ owner_of (t end) → Tells t processes.old → IsCalmBut end t (entries table.now)
+        → (here ≡ false → (p : Pid) (e : EndId) → is_active (owned p (entries table.now e)) ≡ is_active (owned p (t e))) → Tells (entries table.now) processes.new }
+    ensures kept { map process_state processes.new ≡ map process_state processes.old }
+    ensures length { length processes.new ≡ length processes.old }
+{
+    if here {
+        refresh_owner(table, processes, before, end);
+    }
 }
 
 /// The end that a packet is addressed to.
@@ -101,8 +143,8 @@ fn reserve_taking(
 {
     let room = room_of_packet(what);
     let event = Event::begin(alloc, stamp, room, 0, 0)?;
-    reserve_reports(&mut state.processes, room.reports)?;
-    state.processes.reserve_places()?;
+    let here = is_here(&state.table, addressee(what));
+    reserve_processes(&mut state.processes, here, room.reports)?;
     reserve_brought(&mut state.table, what)?;
     Ok(event)
 }

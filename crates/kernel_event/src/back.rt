@@ -13,7 +13,7 @@ use crate::death::notice_first;
 use crate::order::put_behind;
 use charlotte_calls::{Cargo, EndId, ServiceStep, Work};
 use end_table::{HereView, Outward, Table};
-use kernel_step::{awaiting, is_withdrawing, push_step};
+use kernel_step::{is_withdrawing, push_step, sender};
 use move_core::give_back;
 
 /// The message of a packet back, without its values, and the kernel that sent the packet.
@@ -35,8 +35,11 @@ pub(crate) fn back(table: &mut Table, made: u32, returned: Returned, moving: Car
     ensures room { AddsAtMost 17 3 1 1 out.old out.new }
     ensures kernel { table.new.kernel ≡ table.old.kernel }
 {
-    match awaiting(table, returned.to, returned.n) {
-        Some(view) => take_back(table, made, returned, view, moving, out),
+    match sender(table, returned.to, returned.n) {
+        Some(living) => {
+            let view = living.view();
+            take_back(table, made, returned, view, moving, out)
+        }
         None => end_brought(table, made, returned, moving, out),
     }
 }

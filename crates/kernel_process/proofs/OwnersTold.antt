@@ -7,6 +7,7 @@ use Rattle.end_table.specs.Owned.{owned, is_owner}
 use Rattle.end_table.specs.Place.{end_eq, put}
 use Rattle.end_table.specs.declared.entry.Entry.{Entry}
 use Rattle.end_table.specs.declared.entry.Entry.TheVariants as entry
+use Rattle.end_table.specs.declared.entry.HereView.{HereView}
 use Rattle.end_table.specs.declared.entry.Holder.{Holder}
 use Rattle.end_table.specs.declared.entry.Holder.TheVariants as holder
 use Rattle.kernel_process.proofs.ActiveSets.{tells_same, tells_refreshed}
@@ -40,6 +41,25 @@ none_some p is = cc
 
 some_pid : (p q : Pid) → Some p ≡ Some q → p.0 ≡ q.0
 some_pid p q is = cc
+
+-- who owns an end is its owner
+pub owned-owner : (p : Pid) (x : Entry) (v : HereView) → Some v ≡ owned p x → owner_of x ≡ Some p
+owned-owner p entry.Nothing v is = cc
+owned-owner p (entry.Here w) v is = by (is_owner p w.holder) refl is
+  where
+    by : (b : Bool) → is_owner p w.holder ≡ b → Some v ≡ (if b then Some w else None) → owner_in w.holder ≡ Some p
+    by true mine is = ap owner_in (owner-is_owner p w.holder mine)
+    by false other is = cc
+owned-owner p (entry.Left to hops) v is = cc
+owned-owner p (entry.Destroyed m) v is = cc
+
+-- an end stays with its owner, whose set tells of it again
+pub refreshed-same : (t : EndId → Entry) (end : EndId) (u : EndId → Entry) → IsCalmBut end t u → (xs zs : List ControlBlock) (p : Pid) → Some p ≡ owner_of (t end) → owner_of (u end) ≡ Some p
+    → Tells t xs → Refreshes p end (is_active (owned p (u end))) xs zs → Tells u zs
+refreshed-same t end u calm xs zs p before after told refreshed =
+    tells_refreshed t u xs xs zs p end told refl calm
+    (λ q other. not_owner q (u end) (Some p) after (λ r some e. other (e ∙ sym (some_pid p r some))) ∙ sym (not_owner q (t end) (Some p) (sym before) (λ r some e. other (e ∙ sym (some_pid p r some)))))
+    refreshed
 
 -- at the end nothing is told after it was released
 module _ (t : EndId → Entry) (end : EndId) where

@@ -18,15 +18,14 @@ use charlotte_calls::{EndId, Pid};
 use end_table::{Inward, Living, Outward, Table};
 use indexmap::IndexSet;
 
-/// The set of process `p` has this end exactly where it has a started activity on it.
-pub fn refresh(table: &Table, processes: &mut Processes, p: Pid, end: EndId)
+/// The set of process `p` has this end exactly where `started` says so.
+pub fn refresh(processes: &mut Processes, p: Pid, end: EndId, started: bool)
     requires process { p.0 < length processes.old }
     requires place { HavePlace processes.old }
     ensures kept { map process_state processes.new ≡ map process_state processes.old }
     ensures length { length processes.new ≡ length processes.old }
-    ensures active { Refreshes p end (is_active (owned p (entries table.now end))) processes.old processes.new }
+    ensures active { Refreshes p end started processes.old processes.new }
 {
-    let started = is_active(table, p, end);
     let process = processes.at_mut(usize::from(p.0));
     note(&mut process.active, end, started);
 }
@@ -87,7 +86,7 @@ fn remove(active: &mut IndexSet<EndId>, end: EndId)
 }
 
 /// Whether a process owns this end, with a started activity on it.
-fn is_active(table: &Table, p: Pid, end: EndId) -> bool
+pub fn is_active(table: &Table, p: Pid, end: EndId) -> bool
     ensures { result ≡ is_active (owned p (entries table.now end)) }
 {
     match table.owned(p, end) {
@@ -96,7 +95,8 @@ fn is_active(table: &Table, p: Pid, end: EndId) -> bool
     }
 }
 
-fn has_activity(living: &Living) -> bool
+/// Whether an activity is started on an end that is here.
+pub fn has_activity(living: &Living) -> bool
     ensures { result ≡ is_active (Some living.now) }
 {
     is_started_outward(living.outward()) || is_started_inward(living.inward())

@@ -1,15 +1,15 @@
-ghost use Rattle.std.specs.Prelude.{◌≡◌, ◌<◌, false, IfSome, length, map};
+ghost use Rattle.std.specs.Prelude.{◌≡◌, ◌<◌, false, Some, IfSome, length, map};
 ghost use Rattle.charlotte_calls.specs.declared.names.EndId.{EndId};
 ghost use Rattle.end_table.specs.Place.{put};
 ghost use Rattle.end_table.specs.Table.{entries};
 ghost use Rattle.end_table.specs.declared.entry.Entry.{Entry};
 ghost use Rattle.end_table.specs.declared.entry.Entry.TheVariants.{Here, Nothing};
 ghost use Rattle.kernel_process.specs.Closing.{HavePlace};
-ghost use Rattle.kernel_process.specs.Active.{Tells, Refreshes};
+ghost use Rattle.kernel_process.specs.Active.{Tells};
 ghost use Rattle.kernel_sound.specs.Owners.{owner_in, owner_of, IsCalmBut};
 ghost use Rattle.kernel_process.specs.Parts.{process_state};
 
-use crate::activity::{forget, refresh};
+use crate::activity::{forget, has_activity, is_active, refresh};
 use crate::process::Processes;
 use charlotte_calls::{EndId, Pid};
 use end_table::{Holder, Lent, Table};
@@ -43,22 +43,27 @@ pub fn refresh_owner(table: &Table, processes: &mut Processes, before: Option<Pi
     ensures kept { map process_state processes.new ≡ map process_state processes.old }
     ensures length { length processes.new ≡ length processes.old }
 {
-    release(processes, before, end);
-    enlist(table, processes, end);
+    match before {
+        Some(p) => refresh_owned(table, processes, p, end),
+        None => enlist(table, processes, end),
+    }
 }
 
-/// No set has the end, which this process owned.
-fn release(processes: &mut Processes, before: Option<Pid>, end: EndId)
-    requires before { IfSome before (λ p. p.0 < length processes.old) }
+/// An end changed, which this process owned before.
+fn refresh_owned(table: &Table, processes: &mut Processes, p: Pid, end: EndId)
+    requires process { p.0 < length processes.old }
+    requires after { IfSome (owner_of (entries table.now end)) (λ q. q.0 < length processes.old) }
     requires place { HavePlace processes.old }
-    ensures told { (t : EndId → Entry) → before ≡ owner_of (t end) → Tells t processes.old → Tells (put t end Nothing) processes.new }
+    ensures told { (t : EndId → Entry) → Some p ≡ owner_of (t end) → Tells t processes.old → IsCalmBut end t (entries table.now) → Tells (entries table.now) processes.new }
     ensures kept { map process_state processes.new ≡ map process_state processes.old }
     ensures length { length processes.new ≡ length processes.old }
-    ensures place { HavePlace processes.new }
 {
-    match before {
-        Some(p) => forget(processes, p, end),
-        None => {}
+    match table.owned(p, end) {
+        Some(living) => refresh(processes, p, end, has_activity(living)),
+        None => {
+            forget(processes, p, end);
+            enlist(table, processes, end);
+        }
     }
 }
 
@@ -71,7 +76,7 @@ fn enlist(table: &Table, processes: &mut Processes, end: EndId)
     ensures length { length processes.new ≡ length processes.old }
 {
     match owner(table, end) {
-        Some(p) => refresh(table, processes, p, end),
+        Some(p) => refresh(processes, p, end, is_active(table, p, end)),
         None => {}
     }
 }

@@ -1,5 +1,6 @@
 pub mod Actions
 pub mod Acts
+pub mod Away
 pub mod Calls
 pub mod Events
 pub mod Goes

@@ -12,6 +12,7 @@ use charlotte_calls::{EndId, Moving, MovingPicture};
 use end_table::{Holder, Inward, Outward, Table};
 
 /// Keeps other fields and another receive of an end that is here.
+#[inline(always)]
 pub fn keep_inward(table: &mut Table, on: EndId, value: MovingPicture, inward: Inward)
     requires here { IsHere (entries table.old on) }
     requires same_end { value.end ≡ on }
@@ -24,6 +25,7 @@ pub fn keep_inward(table: &mut Table, on: EndId, value: MovingPicture, inward: I
 }
 
 /// Keeps other fields and another send of an end that is here. It answers what the send was, with its message.
+#[inline(always)]
 pub fn keep_outward(table: &mut Table, on: EndId, value: MovingPicture, outward: Outward) -> Outward
     requires here { IsHere (entries table.old on) }
     requires same_end { value.end ≡ on }

@@ -17,6 +17,6 @@ pub use ends::{first_of, hear, hold, keep_inward, keep_outward, leave};
 pub use news::{listen, resend_on_news, tell_moved};
 pub use owners::{answer, no_bytes, no_ends, report, send_report};
 pub use phase::Phase;
-pub use started::{asking, awaiting, is_withdrawing, receiver, sender};
+pub use started::{is_withdrawing, receiver, sender};
 pub use trail::forget;
 pub use writers::{push_answer, push_packet, push_report, push_step};

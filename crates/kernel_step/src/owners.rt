@@ -9,6 +9,7 @@ use charlotte_calls::{Answer, Bytes, EndId, Ends, Outcome, Report, Way, Work};
 use end_table::Holder;
 
 /// Reports to the owner of an end.
+#[inline(always)]
 pub fn report(out: &mut Work, holder: Holder, report: Report)
     requires { HasRoom 0 1 0 0 out.old }
     ensures part { (t : EndId → Entry) → progress t out.new ≡ reports holder report (progress t out.old) }
@@ -21,6 +22,7 @@ pub fn report(out: &mut Work, holder: Holder, report: Report)
 }
 
 /// Answers the Cancel of the owner of an end.
+#[inline(always)]
 pub fn answer(out: &mut Work, holder: Holder, answer: Answer)
     requires { HasRoom 0 0 1 0 out.old }
     ensures part { (t : EndId → Entry) → progress t out.new ≡ answers holder answer (progress t out.old) }
@@ -33,6 +35,7 @@ pub fn answer(out: &mut Work, holder: Holder, answer: Answer)
 }
 
 /// The report of a send that is over.
+#[inline(always)]
 pub fn send_report(on: EndId, outcome: Outcome, enclosed: Ends) -> Report
     ensures { result ≡ send_report on outcome enclosed }
 {

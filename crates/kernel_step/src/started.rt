@@ -5,7 +5,7 @@ ghost use Rattle.kernel_step.specs.Actions.{is_withdrawing};
 ghost use Rattle.kernel_step.specs.Rows.{asks, awaits};
 
 use charlotte_calls::EndId;
-use end_table::{Entry, HereView, Inward, Lent, Living, Outward, Table};
+use end_table::{Inward, Lent, Living, Outward, Table};
 
 /// An end whose receive w is started, lent.
 pub fn receiver(table: &Table, to: EndId, w: u32) -> Option<&Living>
@@ -27,6 +27,7 @@ pub fn receiver(table: &Table, to: EndId, w: u32) -> Option<&Living>
 pub fn sender(table: &Table, to: EndId, n: u32) -> Option<&Living>
     ensures view { option_copied result ≡ awaits n (entries table.now to) }
     ensures here { IfSome result (λ l. entries table.now to ≡ Here l.now) }
+    ensures own { IfSome result (λ l. l.now.value.end ≡ to) }
 {
     match table.lend(to) {
         Lent::Here(living) => match living.outward() {
@@ -42,34 +43,4 @@ pub fn is_withdrawing(inward: Inward) -> bool
     ensures { result ≡ is_withdrawing inward }
 {
     matches!(inward, Inward::Withdrawing { .. })
-}
-
-/// The view of an end whose receive w is started.
-pub fn asking(table: &Table, to: EndId, w: u32) -> Option<HereView>
-    ensures view { result ≡ asks w (entries table.now to) }
-    ensures here { IfSome result (λ v. entries table.now v.value.end ≡ Here v) }
-{
-    match table.look(to) {
-        Entry::Here(view) => match view.inward {
-            Inward::Posted { w: asked } | Inward::Withdrawing { w: asked } if asked == w => Some(
-                view,
-            ),
-            _ => None,
-        },
-        _ => None,
-    }
-}
-
-/// The view of an end whose send n is matched.
-pub fn awaiting(table: &Table, to: EndId, n: u32) -> Option<HereView>
-    ensures view { result ≡ awaits n (entries table.now to) }
-    ensures here { IfSome result (λ v. entries table.now v.value.end ≡ Here v) }
-{
-    match table.look(to) {
-        Entry::Here(view) => match view.outward {
-            Outward::Matched { n: matched } if matched == n => Some(view),
-            _ => None,
-        },
-        _ => None,
-    }
 }

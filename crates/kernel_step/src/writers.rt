@@ -8,6 +8,7 @@ use charlotte_calls::{Answer, Packet, Pid, Report, ServiceStep, What, Work};
 
 /// Adds a packet to a kernel, with the stamp of the event.
 #[tactic(auto, unfolding(crate::specs::Progress::progress, crate::specs::Progress::sends))]
+#[inline(always)]
 pub fn push_packet(out: &mut Work, to: u8, what: What)
     requires { HasRoom 1 0 0 0 out.old }
     ensures part { (t : EndId → Entry) → progress t out.new ≡ sends to (what_picture what) (progress t out.old) }
@@ -19,6 +20,7 @@ pub fn push_packet(out: &mut Work, to: u8, what: What)
 
 /// Adds a report for a process.
 #[tactic(auto, unfolding(crate::specs::Progress::progress, crate::specs::Progress::reports_to))]
+#[inline(always)]
 pub fn push_report(out: &mut Work, p: Pid, report: Report)
     requires { HasRoom 0 1 0 0 out.old }
     ensures part { (t : EndId → Entry) → progress t out.new ≡ reports_to p report (progress t out.old) }
@@ -29,6 +31,7 @@ pub fn push_report(out: &mut Work, p: Pid, report: Report)
 
 /// Adds the answer to a Cancel that waited.
 #[tactic(auto, unfolding(crate::specs::Progress::progress, crate::specs::Progress::answers_to))]
+#[inline(always)]
 pub fn push_answer(out: &mut Work, p: Pid, answer: Answer)
     requires { HasRoom 0 0 1 0 out.old }
     ensures part { (t : EndId → Entry) → progress t out.new ≡ answers_to p answer (progress t out.old) }
@@ -39,6 +42,7 @@ pub fn push_answer(out: &mut Work, p: Pid, answer: Answer)
 
 /// Adds what the event means to the link service.
 #[tactic(auto, unfolding(crate::specs::Progress::progress, crate::specs::Progress::means))]
+#[inline(always)]
 pub fn push_step(out: &mut Work, step: ServiceStep)
     requires { HasRoom 0 0 0 1 out.old }
     ensures part { (t : EndId → Entry) → progress t out.new ≡ means step (progress t out.old) }

@@ -1,9 +1,9 @@
 -- The call does its part, its event closes, and the sets of active ends tell again of what the call touched.
 use Rattle.end_table.specs.Table.{entries}
-use Rattle.kernel_core.proofs.Callings.{owners-below}
-use Rattle.kernel_core.specs.Finishing.{AreOwnersBelow, IsCalmAfter, touched_by}
+use Rattle.kernel_core.proofs.Callings.{HavePlaceFor-moved, owners-below}
+use Rattle.kernel_core.specs.Finishing.{AreOwnersBelow, HavePlaceFor, IsCalmAfter, touched_by}
 use Rattle.kernel_process.proofs.ActiveSets.{tells_same}
-use Rattle.kernel_process.proofs.KeptMoved.{HavePlace-moved, keys-moved}
+use Rattle.kernel_process.proofs.KeptMoved.{keys-moved}
 use Rattle.kernel_process.proofs.OneProcess.{with_parts-kept}
 use Rattle.kernel_process.specs.Parts.{ended}
 use Rattle.kernel_sound.specs.Acts.{made_after}
@@ -22,7 +22,9 @@ refresh_touched-requires-clause-owners c =
     (owners-below c.args.state.now.table.kernel c.act_and_close-effect.new.state.table.kernel c.args.state.now.made (made_after c.args.request.call c.args.state.now.made) (length c.args.state.now.processes) (entries c.args.state.now.table) (entries c.act_and_close-effect.new.state.table) c.requires.consistent.sound c.act_and_close-effect.ensures.sound c.args.request.call))
 
 pub refresh_touched-requires-clause-place : goal.refresh_touched-requires-clause-place
-refresh_touched-requires-clause-place c = HavePlace-moved c.args.state.now.processes c.act_and_close-effect.new.state.processes c.act_and_close-effect.ensures.kept.active c.requires.ready.place
+refresh_touched-requires-clause-place c =
+    subst (λ x. HavePlaceFor x c.act_and_close-effect.new.state.processes) (sym c.touched_by-touched.ensures)
+    (HavePlaceFor-moved (touched_by (entries c.args.state.now.table) c.args.request.call) c.args.state.now.processes c.act_and_close-effect.new.state.processes c.act_and_close-effect.ensures.kept.active c.requires.ready.place)
 
 pub act_and_close-effect-requires-clause-granted : goal.act_and_close-effect-requires-clause-granted
 act_and_close-effect-requires-clause-granted c =

@@ -1,11 +1,14 @@
 -- The row goes well, the event closes, and the set of the end's owner is made anew.
 use Rattle.charlotte_calls.specs.Packets.{what_picture}
 use Rattle.end_table.specs.Place.{end_eq}
-use Rattle.end_table.specs.Table.{entries}
+use Rattle.charlotte_calls.specs.declared.names.EndId.{EndId}
+use Rattle.end_table.specs.Table.{entries, IsHere}
 use Rattle.kernel_process.proofs.ActiveSets.{tells_same}
 use Rattle.kernel_process.proofs.KeptMoved.{keys-moved, HavePlace-moved}
 use Rattle.kernel_process.proofs.OneProcess.{with_parts-kept, closes-table}
 use Rattle.kernel_process.specs.Parts.{ended, with_parts}
+use Rattle.kernel_process.specs.Closing.{HaveSpareFor}
+use Rattle.kernel_sound.proofs.Away.{away-calm, away-reports}
 use Rattle.kernel_sound.proofs.Events.{row-goes, well-reports, well-answers, row-sound, row-calm, owner-below}
 use Rattle.kernel_sound.proofs.Needs.{IsReady-sound}
 use Rattle.kernel_sound.specs.Owners.{owner_of}
@@ -13,7 +16,7 @@ use Rattle.kernel_sound.specs.Sound.{IsSound, GoesWell, addressee}
 use Rattle.kernel_step.specs.Kernel.{closes}
 use Rattle.kernel_step.specs.Progress.{progress}
 use Rattle.kernel_step.specs.Rows.{row}
-use Rattle.std.proofs.Common.{arith, ◌<◌, IfSome, length, refl, sym, ap, subst, ◌∙◌}
+use Rattle.std.proofs.Common.{arith, ◌≡◌, ◌<◌, Bool, true, false, true≢false, IfSome, length, refl, sym, ap, subst, ◌∙◌}
 use Rattle.kernel_core.proofs.Begun.{part-closes, part-spare}
 use Rattle.kernel_event.specs.Room.{room_of_packet}
 use Rattle.kernel_core.proofs.taking.take.Goals as goal
@@ -33,7 +36,15 @@ pub close-effect-requires-clause-answers : goal.close-effect-requires-clause-ans
 close-effect-requires-clause-answers c = well-answers _ _ _ _ _ (entries c.row.new.table) c.row.new.out _ c.row.ensures.part (goes c)
 
 pub close-effect-requires-clause-spare : goal.close-effect-requires-clause-spare
-close-effect-requires-clause-spare c = part-spare (room_of_packet c.args.what) 0 c.args.event c.row.new.out c.args.state.now.processes c.requires.ready.begun c.row.ensures.room c.requires.ready.spare
+close-effect-requires-clause-spare c = by c.is_here-here.result refl
+  where
+    by : (b : Bool) → c.is_here-here.result ≡ b → HaveSpareFor c.row.new.out.reports.items c.args.state.now.processes
+    by true is = part-spare (room_of_packet c.args.what) 0 c.args.event c.row.new.out c.args.state.now.processes c.requires.ready.begun c.row.ensures.room
+        (c.requires.ready.spare (subst (λ (e : EndId). IsHere (entries c.args.state.now.table e)) c.addressee-to.ensures (c.is_here-here.ensures.0 is)))
+    by false is = subst (λ rs. HaveSpareFor rs c.args.state.now.processes)
+        (sym (away-reports c.args.state.now.table.kernel c.args.state.now.made (length c.args.state.now.processes) c.args.from (what_picture c.args.what) (entries c.args.state.now.table) (entries c.row.new.table) c.args.event.work c.row.new.out
+        c.requires.ready.begun.reports c.requires.ready.begun.answers c.requires.consistent.sound c.row.ensures.part
+        (λ here. true≢false (sym (c.is_here-here.ensures.1 (subst (λ (e : EndId). IsHere (entries c.args.state.now.table e)) (sym c.addressee-to.ensures) here)) ∙ is)))) tt
 
 pub close-effect-requires-clause-room : goal.close-effect-requires-clause-room
 close-effect-requires-clause-room c = part-closes (room_of_packet c.args.what) 0 c.args.event c.row.new.out c.requires.ready.begun c.row.ensures.room
@@ -42,19 +53,21 @@ pub row-requires-clause-room : goal.row-requires-clause-room
 row-requires-clause-room c =
     record { packets = c.requires.ready.begun.room.packets; reports = c.requires.ready.begun.room.reports; answers = c.requires.ready.begun.room.answers; steps = omega (arith, c.requires.ready.begun.room.steps) }
 
-pub refresh_owner-requires-clause-after : goal.refresh_owner-requires-clause-after
-refresh_owner-requires-clause-after c =
+pub refresh_if_here-requires-clause-after : goal.refresh_if_here-requires-clause-after
+refresh_if_here-requires-clause-after c =
     let sound = c.close-effect.ensures.calm.sound c.args.state.now.made (length c.args.state.now.processes)
     (subst (λ k. IsSound k c.args.state.now.made (length c.args.state.now.processes) (entries c.row.new.table)) (sym c.row.ensures.kernel) (row-sound c.args.state.now.table.kernel c.args.state.now.made (length c.args.state.now.processes) c.args.from (what_picture c.args.what) (entries c.args.state.now.table) (entries c.row.new.table) c.args.event.work c.row.new.out c.requires.ready.begun.reports c.requires.ready.begun.answers c.requires.consistent.sound c.row.ensures.part)) in
     subst (λ n. IfSome (owner_of (entries c.close-effect.new.table c.addressee-to.result)) (λ p. p.0 < n)) (sym c.close-effect.ensures.kept.length)
     (owner-below c.close-effect.new.table.kernel c.args.state.now.made (length c.args.state.now.processes) (entries c.close-effect.new.table) sound c.addressee-to.result)
 
-pub refresh_owner-requires-clause-place : goal.refresh_owner-requires-clause-place
-refresh_owner-requires-clause-place c = HavePlace-moved c.args.state.now.processes c.close-effect.new.processes c.close-effect.ensures.kept.active c.requires.ready.place
+pub refresh_if_here-requires-clause-place : goal.refresh_if_here-requires-clause-place
+refresh_if_here-requires-clause-place c = λ is.
+    HavePlace-moved c.args.state.now.processes c.close-effect.new.processes c.close-effect.ensures.kept.active
+    (c.requires.ready.place (subst (λ (e : EndId). IsHere (entries c.args.state.now.table e)) c.addressee-to.ensures (c.is_here-here.ensures.0 is)))
 
 pub returns-clause-part : goal.returns-clause-part
 returns-clause-part c = λ s.
-    ap (λ u. ended u c.close-effect.result) (with_parts-kept (entries c.close-effect.new.table) c.close-effect.new.processes c.refresh_owner.new.processes (record s { stamp = c.close-effect.result.stamp }) c.refresh_owner.ensures.kept)
+    ap (λ u. ended u c.close-effect.result) (with_parts-kept (entries c.close-effect.new.table) c.close-effect.new.processes c.refresh_if_here.new.processes (record s { stamp = c.close-effect.result.stamp }) c.refresh_if_here.ensures.kept)
     ∙ ap (λ n. ended (with_parts (entries c.close-effect.new.table) c.close-effect.new.processes (record s { stamp = n })) c.close-effect.result) c.close-effect.ensures.stamp
     ∙ c.close-effect.ensures.part s
     ∙ closes-table (entries c.row.new.table) (entries c.args.state.now.table) c.args.state.now.processes s (progress (entries c.row.new.table) c.row.new.out)
@@ -66,12 +79,14 @@ returns-clause-keeps c =
     (subst (λ k. IsSound k c.args.state.now.made (length c.args.state.now.processes) (entries c.row.new.table)) (sym c.row.ensures.kernel) (row-sound c.args.state.now.table.kernel c.args.state.now.made (length c.args.state.now.processes) c.args.from (what_picture c.args.what) (entries c.args.state.now.table) (entries c.row.new.table) c.args.event.work c.row.new.out c.requires.ready.begun.reports c.requires.ready.begun.answers c.requires.consistent.sound c.row.ensures.part)) in
     record {
       consistent = record {
-        sound = subst (λ n. IsSound c.close-effect.new.table.kernel c.args.state.now.made n (entries c.close-effect.new.table)) (sym (c.refresh_owner.ensures.length ∙ c.close-effect.ensures.kept.length)) sound;
+        sound = subst (λ n. IsSound c.close-effect.new.table.kernel c.args.state.now.made n (entries c.close-effect.new.table)) (sym (c.refresh_if_here.ensures.length ∙ c.close-effect.ensures.kept.length)) sound;
         active =
-            c.refresh_owner.ensures.told (entries c.args.state.now.table) c.owner-before.ensures
+            c.refresh_if_here.ensures.told (entries c.args.state.now.table) c.owner-before.ensures
             (tells_same (entries c.args.state.now.table) (entries c.args.state.now.table) c.args.state.now.processes c.close-effect.new.processes c.requires.consistent.active (keys-moved c.args.state.now.processes c.close-effect.new.processes c.close-effect.ensures.kept.active) (λ p e. refl))
-            (λ p e apart. c.close-effect.ensures.calm.calm p e ∙ row-calm c.args.state.now.table.kernel c.args.state.now.made (length c.args.state.now.processes) c.args.from (what_picture c.args.what) (entries c.args.state.now.table) (entries c.row.new.table) c.args.event.work c.row.new.out c.requires.ready.begun.reports c.requires.ready.begun.answers c.requires.consistent.sound c.row.ensures.part p e (ap (λ to. end_eq to e) (sym c.addressee-to.ensures) ∙ apart));
+            (λ p e apart. c.close-effect.ensures.calm.calm p e ∙ row-calm c.args.state.now.table.kernel c.args.state.now.made (length c.args.state.now.processes) c.args.from (what_picture c.args.what) (entries c.args.state.now.table) (entries c.row.new.table) c.args.event.work c.row.new.out c.requires.ready.begun.reports c.requires.ready.begun.answers c.requires.consistent.sound c.row.ensures.part p e (ap (λ to. end_eq to e) (sym c.addressee-to.ensures) ∙ apart))
+            (λ is p e. c.close-effect.ensures.calm.calm p e ∙ away-calm c.args.state.now.table.kernel c.args.state.now.made (length c.args.state.now.processes) c.args.from (what_picture c.args.what) (entries c.args.state.now.table) (entries c.row.new.table) c.args.event.work c.row.new.out c.requires.ready.begun.reports c.requires.ready.begun.answers c.requires.consistent.sound c.row.ensures.part
+            (λ here. true≢false (sym (c.is_here-here.ensures.1 (subst (λ (e : EndId). IsHere (entries c.args.state.now.table e)) (sym c.addressee-to.ensures) here)) ∙ is)) p e);
       };
       kernel = c.close-effect.ensures.calm.kernel ∙ c.row.ensures.kernel;
-      length = c.refresh_owner.ensures.length ∙ c.close-effect.ensures.kept.length;
+      length = c.refresh_if_here.ensures.length ∙ c.close-effect.ensures.kept.length;
     }
