@@ -1,10 +1,9 @@
-ghost use Rattle.std.specs.Prelude.{◌≡◌, ◌+◌, ◌≤◌, false, [], ◌∷◌, ◌++◌, length, MatchOption};
+ghost use Rattle.std.specs.Prelude.{◌≡◌, ◌+◌, ◌≤◌, ◌++◌, length};
 ghost use Rattle.kernel_step.specs.Enclosed.{AreEnclosed};
 ghost use Rattle.charlotte_calls.specs.declared.names.EndId.{EndId};
 ghost use Rattle.charlotte_calls.specs.declared.work.Work.{Work};
-ghost use Rattle.end_table.specs.Place.{end_eq};
-ghost use Rattle.end_table.specs.Table.{entries, IsHereAnd, IsIdle};
-ghost use Rattle.kernel_step.specs.Actions.{here, held, hold_each, leave_each, leaves_here, value_leaving, values_leaving};
+ghost use Rattle.end_table.specs.Table.{entries};
+ghost use Rattle.kernel_step.specs.Actions.{hold_each, leave_each, values_leaving};
 ghost use Rattle.kernel_step.specs.Progress.{progress};
 
 use charlotte_calls::{Cargo, EndId};

@@ -1,4 +1,4 @@
-ghost use Rattle.std.specs.Prelude.{◌≡◌, Some, IfSome};
+ghost use Rattle.std.specs.Prelude.{◌≡◌, Some};
 ghost use Rattle.charlotte_calls.specs.declared.names.EndId.{EndId};
 ghost use Rattle.end_table.specs.Table.{entries, IsHere, IsHereAnd, IfHere};
 ghost use Rattle.end_table.specs.declared.entry.Entry.{Entry};
@@ -13,7 +13,7 @@ use charlotte_calls::{
 };
 use end_table::{Holder, Inward, Lent, Table};
 use kernel_step::{
-    answer, hear, is_withdrawing, keep_inward, push_packet, push_step, receiver, report,
+    answer, learn_value, is_withdrawing, keep_inward, push_packet, push_step, receiver, report,
     resend_on_news,
 };
 
@@ -90,25 +90,25 @@ fn receive(
     let holder = living.holder();
     let late = is_withdrawing(living.inward());
     push_take(out, on, n, late, holder);
-    let taken = Report {
+    let done = Report {
         on,
         way: Way::Inward,
         outcome: Outcome::Done,
         bytes,
         enclosed,
     };
-    report(out, holder, taken);
+    report(out, holder, done);
     if late {
         answer(out, holder, Answer::Refused(Cause::Late));
     }
-    let told = What::Taken {
+    let taken = What::Taken {
         to: on.opposite(),
         n,
         at: kernel,
         hops: value.hops,
     };
-    push_packet(out, at, told);
-    let news = hear(&mut value, at, hops);
+    push_packet(out, at, taken);
+    let news = learn_value(&mut value, at, hops);
     resend_on_news(out, kernel, news, value, Inward::Unreported);
     keep_inward(table, on, value, Inward::Unreported);
 }
@@ -176,7 +176,7 @@ fn free(table: &mut Table, on: EndId, at: u8, hops: u32, out: &mut Work)
     let mut value = living.value();
     push_step(out, ServiceStep::Free { on });
     answer(out, living.holder(), Answer::Ok);
-    let news = hear(&mut value, at, hops);
+    let news = learn_value(&mut value, at, hops);
     resend_on_news(out, kernel, news, value, Inward::Idle);
     keep_inward(table, on, value, Inward::Idle);
 }

@@ -1,4 +1,4 @@
-ghost use Rattle.std.specs.Prelude.{◌≡◌, false, Some, IfSome};
+ghost use Rattle.std.specs.Prelude.{◌≡◌, false, Some};
 ghost use Rattle.std.specs.List.{list_any};
 ghost use Rattle.kernel_step.specs.Enclosed.{AreEnclosed};
 ghost use Rattle.end_table.specs.Place.{end_eq};
@@ -13,7 +13,7 @@ use crate::matching::{match_waiting, send_parcel};
 use charlotte_calls::{Bytes, EndId, Ends, Outcome, ServiceStep, Way, What, Work};
 use end_table::{Lent, Outward, Table};
 use kernel_step::{
-    enclosed_ends, hear, keep_inward, keep_outward, listen, no_ends, push_packet, push_step,
+    enclosed_ends, learn_value, keep_inward, keep_outward, learn, no_ends, push_packet, push_step,
     report, resend_on_news, send_report, sender,
 };
 
@@ -117,7 +117,7 @@ fn want_here(table: &mut Table, on: EndId, w: u32, at: u8, hops: u32, out: &mut 
     if value.served < w {
         serve(table, on, w, at, hops, out);
     } else {
-        listen(table, on, at, hops, out);
+        learn(table, on, at, hops, out);
     }
 }
 
@@ -137,11 +137,11 @@ fn serve(table: &mut Table, on: EndId, w: u32, at: u8, hops: u32, out: &mut Work
     let living = table.here(on);
     let mut value = living.value();
     let inward = living.inward();
-    let news = hear(&mut value, at, hops);
-    let heard = value;
+    let news = learn_value(&mut value, at, hops);
+    let informed = value;
     value.want = w;
     match_waiting(table, on, value, out);
-    resend_on_news(out, kernel, news, heard, inward);
+    resend_on_news(out, kernel, news, informed, inward);
 }
 
 /// The row taken: the send n is completed, where it is matched.
@@ -174,7 +174,7 @@ fn complete(table: &mut Table, on: EndId, n: u32, at: u8, hops: u32, out: &mut W
     let inward = living.inward();
     push_step(out, ServiceStep::Complete { on, n });
     report(out, holder, send_report(on, Outcome::Done, no_ends()));
-    let news = hear(&mut value, at, hops);
+    let news = learn_value(&mut value, at, hops);
     resend_on_news(out, kernel, news, value, inward);
     keep_outward(table, on, value, Outward::Unreported);
 }
@@ -211,7 +211,7 @@ fn withdraw(table: &mut Table, on: EndId, w: u32, at: u8, hops: u32, out: &mut W
     if value.served < w {
         void(table, on, w, at, hops, out);
     } else {
-        listen(table, on, at, hops, out);
+        learn(table, on, at, hops, out);
     }
 }
 
@@ -231,14 +231,14 @@ fn void(table: &mut Table, on: EndId, w: u32, at: u8, hops: u32, out: &mut Work)
     let inward = living.inward();
     let asking = on.opposite();
     push_step(out, ServiceStep::Withdraw { on: asking });
-    let told = What::Unwanted {
+    let unwanted = What::Unwanted {
         to: asking,
         w,
         at: kernel,
         hops: value.hops,
     };
-    push_packet(out, at, told);
-    let news = hear(&mut value, at, hops);
+    push_packet(out, at, unwanted);
+    let news = learn_value(&mut value, at, hops);
     resend_on_news(out, kernel, news, value, inward);
     value.served = w;
     value.want = 0;

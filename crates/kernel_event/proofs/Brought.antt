@@ -21,7 +21,7 @@ use Rattle.kernel_sound.specs.Ready.{IsReady}
 use Rattle.kernel_event.specs.Order.{put_behind}
 use Rattle.kernel_event.proofs.Away.{AreAway-passing, AreAway-arriving, AreApart-arriving, HavePlaces-placed}
 use Rattle.kernel_event.proofs.Prefixed.{Adds, Stays, receives-adds, receives-stays, receives-one, resends_on_news-adds, notices_first-adds, notices_first-stays, settle_each-silent, gives_back-silent, order, order-length}
-use Rattle.kernel_sound.proofs.Tells.{tell_arrivals-tells, tells-same}
+use Rattle.kernel_sound.proofs.Sends.{tell_arrivals-only, only-same}
 use Rattle.kernel_sound.proofs.Parcels.{asks-here, gives_back-table}
 use Rattle.kernel_sound.proofs.Values.{settle_each-others}
 use Rattle.kernel_step.specs.Actions.{enclosed_of, is_withdrawing, resends_on_news, settle_each, tell_arrivals}
@@ -54,7 +54,7 @@ apart-away t e (m ∷ ms) here away = by (end_eq e m.end) refl (apart-away t e m
 
 -- the table after arrivals were told
 told-table : (k : ℕ) (ms : List MovingPicture) (d : Progress) → (tell_arrivals k ms d).table ≡ d.table
-told-table k ms d = (tell_arrivals-tells k ms d (tells-same d)).table
+told-table k ms d = (tell_arrivals-only k ms d (only-same d)).table
 
 -- how many packets a `Work` has, as its pictures
 pictures-length : (t : EndId → Entry) (out : Work) → length (progress t out).packets ≡ length out.packets.items

@@ -26,7 +26,7 @@ use Rattle.end_table.specs.declared.entry.Outward.TheVariants as outward
 use Rattle.std.proofs.lemmas.List.{append-nil}
 use Rattle.kernel_event.specs.Order.{put_behind}
 use Rattle.kernel_event.proofs.Behind.{behind-parts}
-use Rattle.kernel_step.specs.Actions.{here, held, hold_each, reports, answers, forgets, forget_at, kernel_numbers, notice_send, notice_receive, notices, is_withdrawing, resends_receive, tells_moved, resends, resends_on_news, tells_arrival, tell_arrivals, hears, receive_report, settle_each}
+use Rattle.kernel_step.specs.Actions.{here, held, hold_each, reports, answers, forgets, forget_at, kernel_numbers, notice_send, notice_receive, notices, is_withdrawing, resends_receive, tells_moved, resends, resends_on_news, tells_arrival, tell_arrivals, learned_view, receive_report, settle_each}
 use Rattle.kernel_step.specs.Progress.{Progress, sends, reports_to, answers_to, means, keeps}
 use Rattle.kernel_step.specs.Rows.{takes, receives, notices_first, gives_back}
 
@@ -167,7 +167,7 @@ receives-adds k n at hops bytes xs v ps d =
     late = is_withdrawing v.inward
 
     taken : HereView
-    taken = record (hears v at hops) { inward = inward.Unreported }
+    taken = record (learned_view v at hops) { inward = inward.Unreported }
 
     kept : Progress
     kept = keeps e (entry.Here taken) d

@@ -1,11 +1,10 @@
-ghost use Rattle.std.specs.Prelude.{◌≡◌, ◌+◌, ◌*◌, ℕ, Bool, None, length};
+ghost use Rattle.std.specs.Prelude.{◌≡◌, ◌*◌, ℕ, Bool, None, length};
 ghost use Rattle.charlotte_calls.specs.Names.{opposite};
 ghost use Rattle.charlotte_calls.specs.declared.calls.ServiceStep.TheVariants as step;
 ghost use Rattle.charlotte_calls.specs.declared.names.EndId.{EndId};
 ghost use Rattle.charlotte_calls.specs.declared.work.Work.{Work};
-ghost use Rattle.end_table.specs.Entries.{settled};
 ghost use Rattle.end_table.specs.Owned.{owned};
-ghost use Rattle.end_table.specs.Table.{entries, HasPlace, IsHere, IsOfEnd, Puts};
+ghost use Rattle.end_table.specs.Table.{entries, HasPlace, IsHere, IsOfEnd};
 ghost use Rattle.end_table.specs.declared.entry.Entry.TheVariants.{Here};
 ghost use Rattle.kernel_sound.specs.Acts.{acts, acts_on, withdraws, withdraws_posted, AreOfOne};
 ghost use Rattle.kernel_event.specs.Places.{IsPlacedFor};
@@ -15,7 +14,7 @@ ghost use Rattle.kernel_sound.specs.Sound.{IsSound};
 ghost use Rattle.kernel_step.specs.Actions.{ends, here};
 ghost use Rattle.kernel_step.specs.Calls.{made_end, makes, posts, withdraws_send, starts_send, encloses, ends_each, ends_here, on_owned, send_causes, refusal, IsCallWith};
 ghost use Rattle.kernel_step.specs.Enclosed.{AreEnclosed};
-ghost use Rattle.kernel_step.specs.Progress.{progress, keeps, means, HasRoom, AddsAtMost};
+ghost use Rattle.kernel_step.specs.Progress.{progress, means, HasRoom, AddsAtMost};
 
 use cancel_core::{post, start_send, withdraw_receive, withdraw_send};
 use charlotte_calls::{Bytes, Call, EndId, Ends, LinkId, Moving, Pid, ServiceStep, Way, Work};

@@ -1,16 +1,12 @@
 -- What the parts of an event may take for granted of an end.
-use Rattle.std.specs.Prelude.{◌≡◌, ℕ, true, false, List, [], ◌∷◌}
+use Rattle.std.specs.Prelude.{◌≡◌, false}
 use Rattle.std.specs.List.{list_any}
 use Rattle.charlotte_calls.specs.declared.names.EndId.{EndId}
-use Rattle.charlotte_calls.specs.declared.picture.MovingPicture.{MovingPicture}
-use Rattle.charlotte_calls.specs.declared.packet.What.{What}
-use Rattle.charlotte_calls.specs.declared.packet.What.TheVariants as packet
 use Rattle.end_table.specs.Place.{end_eq}
-use Rattle.end_table.specs.Table.{TableView, entries, HasPlace, IfHere}
+use Rattle.end_table.specs.Table.{IfHere}
 use Rattle.end_table.specs.declared.entry.Entry.{Entry}
 use Rattle.kernel_step.specs.Actions.{enclosed_of}
 use Rattle.kernel_step.specs.Enclosed.{AreEnclosed}
-use Rattle.kernel_step.specs.Rows.{is_carried}
 
 -- the ends that a waiting message of e encloses are here and idle, and e is none of them
 pub record IsReady (t : EndId → Entry) (e : EndId) : Type 0 where

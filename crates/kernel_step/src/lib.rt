@@ -13,8 +13,8 @@ mod trail;
 mod writers;
 
 pub use enclosed::{enclosed_ends, ends_in};
-pub use ends::{first_of, hear, hold, keep_inward, keep_outward, leave};
-pub use news::{listen, resend_on_news, tell_moved};
+pub use ends::{first_of, learn_value, hold, keep_inward, keep_outward, leave};
+pub use news::{learn, resend_on_news, tell_moved};
 pub use owners::{answer, no_bytes, no_ends, report, send_report};
 pub use phase::Phase;
 pub use started::{asking, awaiting, is_withdrawing, receiver, sender};
