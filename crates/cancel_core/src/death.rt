@@ -1,6 +1,5 @@
 ghost use Rattle.std.specs.Prelude.{◌≡◌, false};
-ghost use Rattle.std.specs.List.{list_any};
-ghost use Rattle.kernel_step.specs.Enclosed.{AreEnclosed};
+ghost use Rattle.kernel_step.specs.Enclosed.{AreEnclosed, IsReady};
 ghost use Rattle.charlotte_calls.specs.declared.names.EndId.{EndId};
 ghost use Rattle.end_table.specs.Place.{end_eq};
 ghost use Rattle.end_table.specs.Table.{entries, IsHere, IfHere};
@@ -20,8 +19,7 @@ use kernel_step::{answer, forget, no_bytes, no_ends, report, send_report};
 #[tactic(auto, unfolding(kernel_step::specs::Actions::notices))]
 pub fn notice(table: &mut Table, on: EndId, out: &mut Work)
     requires here { IsHere (entries table.old on) }
-    requires enclosed { IfHere (entries table.old on) (λ v. AreEnclosed (entries table.old) (enclosed_of v.outward)) }
-    requires apart { IfHere (entries table.old on) (λ v. list_any (end_eq on) (enclosed_of v.outward) ≡ false) }
+    requires ready { IsReady (entries table.old) on }
     requires room { HasRoom 8 2 1 0 out.old }
     ensures part { IfHere (entries table.old on) (λ v. progress (entries table.new) out.new
         ≡ notices table.old.kernel v (progress (entries table.old) out.old)) }

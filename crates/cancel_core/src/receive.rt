@@ -61,29 +61,44 @@ pub fn arrived(
     ensures kernel { table.new.kernel ≡ table.old.kernel }
 {
     if let Some(_) = receiver(table, to, w) {
-        receive(table, to, n, at, hops, bytes, enclosed, out);
+        let message = Arrival {
+            n,
+            at,
+            hops,
+            bytes,
+            enclosed,
+        };
+        receive(table, to, message, out);
     }
 }
 
-/// The message n is taken by the started receive of an end that is here.
-#[tactic(auto, unfolding(kernel_step::specs::Rows::receives, kernel_step::specs::Actions::resends_on_news))]
-fn receive(
-    table: &mut Table,
-    on: EndId,
+/// A message that came in a parcel, with the kernel and the hops of the end that sent it.
+#[derive(Drop)]
+struct Arrival {
     n: u32,
     at: u8,
     hops: u32,
     bytes: Bytes,
     enclosed: Ends,
-    out: &mut Work,
-)
+}
+
+/// A message is taken by the started receive of an end that is here.
+#[tactic(auto, unfolding(kernel_step::specs::Rows::receives, kernel_step::specs::Actions::resends_on_news))]
+fn receive(table: &mut Table, on: EndId, message: Arrival, out: &mut Work)
     requires here { IsHere (entries table.old on) }
     requires room { HasRoom 3 1 1 1 out.old }
     ensures part { IfHere (entries table.old on) (λ v. progress (entries table.new) out.new
-        ≡ arrived_row table.old.kernel n at hops bytes enclosed (Some v) (progress (entries table.old) out.old)) }
+        ≡ arrived_row table.old.kernel message.n message.at message.hops message.bytes message.enclosed (Some v) (progress (entries table.old) out.old)) }
     ensures room { AddsAtMost 3 1 1 1 out.old out.new }
     ensures kernel { table.new.kernel ≡ table.old.kernel }
 {
+    let Arrival {
+        n,
+        at,
+        hops,
+        bytes,
+        enclosed,
+    } = message;
     let kernel = table.kernel();
     let living = table.here(on);
     let mut value = living.value();

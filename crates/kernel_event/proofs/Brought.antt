@@ -17,7 +17,7 @@ use Rattle.end_table.specs.declared.entry.Holder.{Holder}
 use Rattle.end_table.specs.declared.entry.Inward.TheVariants as inward
 use Rattle.end_table.specs.declared.entry.Outward.TheVariants as outward
 use Rattle.kernel_event.specs.Places.{ArePlaced}
-use Rattle.kernel_sound.specs.Ready.{IsReady}
+use Rattle.kernel_step.specs.Enclosed.{IsReady}
 use Rattle.kernel_event.specs.Order.{put_behind}
 use Rattle.kernel_event.proofs.Away.{AreAway-passing, AreAway-arriving, AreApart-arriving, HavePlaces-placed}
 use Rattle.kernel_event.proofs.Prefixed.{Adds, Stays, receives-adds, receives-stays, receives-one, resends_on_news-adds, notices_first-adds, notices_first-stays, settle_each-silent, gives_back-silent, order, order-length}
@@ -87,7 +87,6 @@ IsReady-empty t e v is none =
     record {
       enclosed = subst (λ x. IfHere x (λ u. AreEnclosed t (enclosed_of u.outward))) (sym is) (subst (AreEnclosed t) (sym none) tt);
       apart = subst (λ x. IfHere x (λ u. list_any (end_eq e) (enclosed_of u.outward) ≡ false)) (sym is) (ap (list_any (end_eq e)) none);
-      apart_by_value = subst (λ x. IfHere x (λ u. list_any (end_eq u.value.end) (enclosed_of u.outward) ≡ false)) (sym is) (ap (list_any (end_eq v.value.end)) none);
     }
 
 -- The parts of a parcel that is taken are its row.

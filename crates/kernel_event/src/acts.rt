@@ -9,11 +9,10 @@ ghost use Rattle.end_table.specs.declared.entry.Entry.TheVariants.{Here};
 ghost use Rattle.kernel_sound.specs.Acts.{acts, acts_on, withdraws, withdraws_posted, AreOfOne};
 ghost use Rattle.kernel_event.specs.Places.{IsPlacedFor};
 ghost use Rattle.kernel_event.specs.Room.{and_ends, room_of_call, Fits, Adds};
-ghost use Rattle.kernel_sound.specs.Ready.{IsReady};
 ghost use Rattle.kernel_sound.specs.Sound.{IsSound};
 ghost use Rattle.kernel_step.specs.Actions.{ends, here};
 ghost use Rattle.kernel_step.specs.Calls.{made_end, makes, posts, withdraws_send, starts_send, encloses, ends_each, ends_here, on_owned, send_causes, refusal, IsCallWith};
-ghost use Rattle.kernel_step.specs.Enclosed.{AreEnclosed};
+ghost use Rattle.kernel_step.specs.Enclosed.{AreEnclosed, IsReady};
 ghost use Rattle.kernel_step.specs.Progress.{progress, means, HasRoom, AddsAtMost};
 
 use cancel_core::{post, start_send, withdraw_receive, withdraw_send};

@@ -5,7 +5,7 @@ ghost use Rattle.charlotte_calls.specs.declared.picture.PictureWhat.TheVariants 
 ghost use Rattle.end_table.specs.Table.{entries};
 ghost use Rattle.end_table.specs.declared.entry.Entry.{Entry};
 ghost use Rattle.end_table.specs.declared.entry.Entry.TheVariants.{Here};
-ghost use Rattle.kernel_sound.specs.Ready.{IsReady};
+ghost use Rattle.kernel_step.specs.Enclosed.{IsReady};
 ghost use Rattle.kernel_step.specs.Progress.{progress, sends, HasRoom, AddsAtMost};
 ghost use Rattle.kernel_step.specs.Rows.{notices_first};
 

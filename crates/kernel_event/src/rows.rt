@@ -4,7 +4,7 @@ ghost use Rattle.charlotte_calls.specs.declared.names.EndId.{EndId};
 ghost use Rattle.end_table.specs.Table.{entries};
 ghost use Rattle.end_table.specs.declared.entry.Entry.{Entry};
 ghost use Rattle.end_table.specs.declared.entry.Entry.TheVariants.{Here};
-ghost use Rattle.kernel_sound.specs.Ready.{IsReady};
+ghost use Rattle.kernel_step.specs.Enclosed.{IsReady};
 ghost use Rattle.kernel_event.specs.Places.{ArePlaced, brought};
 ghost use Rattle.kernel_event.specs.Room.{room_of_packet, Fits, Adds};
 ghost use Rattle.kernel_step.specs.Progress.{progress, HasRoom, AddsAtMost};

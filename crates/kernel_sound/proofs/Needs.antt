@@ -19,13 +19,12 @@ use Rattle.end_table.specs.declared.entry.Inward.TheVariants as inward
 use Rattle.end_table.specs.declared.entry.Outward.{Outward}
 use Rattle.end_table.specs.declared.entry.Outward.TheVariants as outward
 use Rattle.kernel_sound.proofs.Put.{put-each}
-use Rattle.kernel_sound.specs.Ready.{IsReady}
 use Rattle.kernel_sound.specs.Sound.{AreHeldBy, IsSound}
 use Rattle.kernel_step.proofs.EnclosedEnds.{first_false, second_false}
 use Rattle.kernel_step.proofs.Steps.{IfHere-map}
 use Rattle.kernel_step.specs.Actions.{enclosed_of, here, held, hold_each}
 use Rattle.kernel_step.specs.Calls.{encloses, on_owned, first_of, inward_activity, is_busy, is_free, names_twice, outward_activity, same_link, send_causes}
-use Rattle.kernel_step.specs.Enclosed.{AreEnclosed}
+use Rattle.kernel_step.specs.Enclosed.{AreEnclosed, IsReady}
 use Rattle.kernel_step.specs.Progress.{Progress, keeps, progress}
 
 -- what follows from a fact of a view that is here follows of the entry
@@ -79,15 +78,6 @@ module _ (k made n : ℕ) (t : EndId → Entry) (sound : IsSound k made n t) (e 
   apart-sound =
       IfHere-map (λ v. AreEnclosed t (enclosed_of v.outward)) (λ v. list_any (end_eq e) (enclosed_of v.outward) ≡ false) (t e)
       (λ v is are. apart-enclosed e t v is are) enclosed-sound
-
-  -- by the name that its value has
-  pub apart_by_value-sound : IfHere (t e) (λ v. list_any (end_eq v.value.end) (enclosed_of v.outward) ≡ false)
-  apart_by_value-sound =
-      IfHere-map (λ v. list_any (end_eq e) (enclosed_of v.outward) ≡ false) (λ v. list_any (end_eq v.value.end) (enclosed_of v.outward) ≡ false) (t e)
-      (λ v is none. subst (λ z. list_any (end_eq z) (enclosed_of v.outward) ≡ false) (sym (own v is)) none) apart-sound
-    where
-      own : (v : HereView) → t e ≡ entry.Here v → v.value.end ≡ e
-      own v is = subst (IsOfEnd e) is (sound.own e)
 
   -- the same of a view that is here
   module _ (v : HereView) (is : t e ≡ entry.Here v) where
@@ -261,7 +251,7 @@ module _ (on : EndId) (xs : List EndId) (old new : EndId → Entry) (out : Work)
 -- all that the parts require of a table that is sound
 pub IsReady-sound : (k made n : ℕ) (t : EndId → Entry) → IsSound k made n t → (e : EndId) → IsReady t e
 IsReady-sound k made n t sound e =
-    record { enclosed = enclosed-sound k made n t sound e; apart = apart-sound k made n t sound e; apart_by_value = apart_by_value-sound k made n t sound e }
+    record { enclosed = enclosed-sound k made n t sound e; apart = apart-sound k made n t sound e }
 
 -- an end that p owns is here, and p holds it
 pub owned-here : (p : Pid) (x : Entry) (v : HereView) → owned p x ≡ Some v → (x ≡ entry.Here v) × (v.holder ≡ holder.Owner p)

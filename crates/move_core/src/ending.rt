@@ -1,5 +1,4 @@
 ghost use Rattle.std.specs.Prelude.{◌≡◌, false, length};
-ghost use Rattle.std.specs.List.{list_any};
 ghost use Rattle.charlotte_calls.specs.Names.{opposite};
 ghost use Rattle.charlotte_calls.specs.declared.names.EndId.{EndId};
 ghost use Rattle.charlotte_calls.specs.declared.picture.PictureWhat.TheVariants as packet;
@@ -9,8 +8,8 @@ ghost use Rattle.end_table.specs.Place.{end_eq};
 ghost use Rattle.end_table.specs.Table.{entries, IfHere, IsHere};
 ghost use Rattle.end_table.specs.declared.entry.Entry.{Entry};
 ghost use Rattle.end_table.specs.declared.entry.Entry.TheVariants.{Destroyed};
-ghost use Rattle.kernel_step.specs.Actions.{here, enclosed_of, tells_gone, ends_idle, ends_idle_here, end_each, ends};
-ghost use Rattle.kernel_step.specs.Enclosed.{AreEnclosed};
+ghost use Rattle.kernel_step.specs.Actions.{here, tells_gone, ends_idle, ends_idle_here, end_each, ends};
+ghost use Rattle.kernel_step.specs.Enclosed.{AreEnclosed, IsReady};
 ghost use Rattle.kernel_step.specs.Progress.{progress, sends, keeps, HasRoom, AddsAtMost};
 ghost use Rattle.kernel_step.specs.Rows.{goneseen_row, erases};
 
@@ -97,8 +96,7 @@ fn end_each(table: &mut Table, ends: &[EndId], out: &mut Work)
 #[tactic(auto, unfolding(kernel_step::specs::Actions::ends))]
 pub fn destroy(table: &mut Table, on: EndId, out: &mut Work)
     requires here { IsHere (entries table.old on) }
-    requires enclosed { IfHere (entries table.old on) (λ v. AreEnclosed (entries table.old) (enclosed_of v.outward)) }
-    requires apart { IfHere (entries table.old on) (λ v. list_any (end_eq on) (enclosed_of v.outward) ≡ false) }
+    requires ready { IsReady (entries table.old) on }
     requires room { HasRoom 9 0 0 0 out.old }
     ensures part { IfHere (entries table.old on) (λ v. progress (entries table.new) out.new
         ≡ ends table.old.kernel v (progress (entries table.old) out.old)) }
