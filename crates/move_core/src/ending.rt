@@ -12,6 +12,7 @@ ghost use Rattle.kernel_step.specs.Actions.{here, tells_gone, ends_idle, ends_id
 ghost use Rattle.kernel_step.specs.Enclosed.{AreEnclosed, IsReady};
 ghost use Rattle.kernel_step.specs.Progress.{progress, sends, keeps, HasRoom, AddsAtMost};
 ghost use Rattle.kernel_step.specs.Rows.{goneseen_row, erases};
+ghost use Rattle.kernel_step.specs.declared.bounds.TheConstants.{MOST_FORGETS, PACKETS_OF_END};
 
 use charlotte_calls::{EndId, Mark, MovingPicture, What, Work};
 use end_table::{Lent, Table};
@@ -97,10 +98,10 @@ fn end_each(table: &mut Table, ends: &[EndId], out: &mut Work)
 pub fn destroy(table: &mut Table, on: EndId, out: &mut Work)
     requires here { IsHere (entries table.old on) }
     requires ready { IsReady (entries table.old) on }
-    requires room { HasRoom 9 0 0 0 out.old }
+    requires room { HasRoom PACKETS_OF_END 0 0 0 out.old }
     ensures part { IfHere (entries table.old on) (λ v. progress (entries table.new) out.new
         ≡ ends table.old.kernel v (progress (entries table.old) out.old)) }
-    ensures room { AddsAtMost 9 0 0 0 out.old out.new }
+    ensures room { AddsAtMost PACKETS_OF_END 0 0 0 out.old out.new }
     ensures kernel { table.new.kernel ≡ table.old.kernel }
 {
     let kernel = table.kernel();
@@ -112,10 +113,10 @@ pub fn destroy(table: &mut Table, on: EndId, out: &mut Work)
 
 /// The row goneseen: the mark of a destroyed end is erased, and the traces of the end are forgotten.
 pub fn gone_seen(table: &mut Table, to: EndId, out: &mut Work)
-    requires room { HasRoom 8 0 0 0 out.old }
+    requires room { HasRoom MOST_FORGETS 0 0 0 out.old }
     ensures part { progress (entries table.new) out.new
         ≡ goneseen_row table.old.kernel (entries table.old to) (progress (entries table.old) out.old) }
-    ensures room { AddsAtMost 8 0 0 0 out.old out.new }
+    ensures room { AddsAtMost MOST_FORGETS 0 0 0 out.old out.new }
     ensures kernel { table.new.kernel ≡ table.old.kernel }
 {
     if let Lent::Destroyed(mark) = table.lend(to) {
@@ -127,10 +128,10 @@ pub fn gone_seen(table: &mut Table, to: EndId, out: &mut Work)
 #[tactic(auto, unfolding(kernel_step::specs::Rows::erases), using(kernel_step::proofs::Steps::progress_puts))]
 fn erase(table: &mut Table, mark: Mark, out: &mut Work)
     requires mark { entries table.old mark.end ≡ Destroyed mark }
-    requires room { HasRoom 8 0 0 0 out.old }
+    requires room { HasRoom MOST_FORGETS 0 0 0 out.old }
     ensures part { progress (entries table.new) out.new
         ≡ erases table.old.kernel mark (progress (entries table.old) out.old) }
-    ensures room { AddsAtMost 8 0 0 0 out.old out.new }
+    ensures room { AddsAtMost MOST_FORGETS 0 0 0 out.old out.new }
     ensures kernel { table.new.kernel ≡ table.old.kernel }
 {
     forget(out, table.kernel(), mark.picture());

@@ -3,6 +3,7 @@ ghost use Rattle.end_table.specs.Table.{entries, IfHere, IsHere};
 ghost use Rattle.end_table.specs.declared.entry.Entry.TheVariants.{Destroyed};
 ghost use Rattle.kernel_step.specs.Progress.{progress, HasRoom, AddsAtMost};
 ghost use Rattle.kernel_step.specs.Rows.{moved_row, moved_here, mark_learns, moved_mark, known_row, known_here, forget_row};
+ghost use Rattle.kernel_step.specs.declared.bounds.TheConstants.{MOST_FORGETS};
 
 use charlotte_calls::{EndId, Mark, What, Work};
 use end_table::{Lent, Table};
@@ -78,10 +79,10 @@ fn mark_learns(table: &mut Table, to: EndId, mark: Mark, at: u8, hops: u32)
 
 /// The row known: that an end has moved is known, so that its traces are forgotten.
 pub fn known(table: &mut Table, to: EndId, hops: u32, out: &mut Work)
-    requires room { HasRoom 8 0 0 0 out.old }
+    requires room { HasRoom MOST_FORGETS 0 0 0 out.old }
     ensures part { progress (entries table.new) out.new
         ≡ known_row table.old.kernel hops (entries table.old to) (progress (entries table.old) out.old) }
-    ensures room { AddsAtMost 8 0 0 0 out.old out.new }
+    ensures room { AddsAtMost MOST_FORGETS 0 0 0 out.old out.new }
     ensures kernel { table.new.kernel ≡ table.old.kernel }
 {
     if let Lent::Here(_) = table.lend(to) {
@@ -93,10 +94,10 @@ pub fn known(table: &mut Table, to: EndId, hops: u32, out: &mut Work)
 #[tactic(auto, unfolding(kernel_step::specs::Rows::known_here))]
 fn known_here(table: &mut Table, on: EndId, hops: u32, out: &mut Work)
     requires here { IsHere (entries table.old on) }
-    requires room { HasRoom 8 0 0 0 out.old }
+    requires room { HasRoom MOST_FORGETS 0 0 0 out.old }
     ensures part { IfHere (entries table.old on) (λ v. progress (entries table.new) out.new
         ≡ known_here table.old.kernel hops v (progress (entries table.old) out.old)) }
-    ensures room { AddsAtMost 8 0 0 0 out.old out.new }
+    ensures room { AddsAtMost MOST_FORGETS 0 0 0 out.old out.new }
     ensures kernel { table.new.kernel ≡ table.old.kernel }
 {
     let living = table.here(on);
