@@ -1,6 +1,5 @@
 ghost use Rattle.std.specs.Prelude.{◌≡◌, false};
-ghost use Rattle.std.specs.List.{list_any};
-ghost use Rattle.kernel_step.specs.Enclosed.{AreEnclosed};
+ghost use Rattle.kernel_step.specs.Enclosed.{AreEnclosed, IsReady};
 ghost use Rattle.charlotte_calls.specs.declared.names.EndId.{EndId};
 ghost use Rattle.end_table.specs.Place.{end_eq};
 ghost use Rattle.end_table.specs.Table.{entries, IsHere, IfHere};
@@ -9,6 +8,7 @@ ghost use Rattle.end_table.specs.declared.entry.Entry.TheVariants.{Here};
 ghost use Rattle.end_table.specs.declared.entry.Entry.{Entry};
 ghost use Rattle.kernel_step.specs.Actions.{enclosed_of, notices, notice_send, notice_receive, noticed_value, noticed_outward, noticed_inward, dead_receive_report};
 ghost use Rattle.kernel_step.specs.Progress.{progress, keeps, HasRoom, AddsAtMost};
+ghost use Rattle.kernel_step.specs.declared.bounds.TheConstants.{MOST_FORGETS};
 
 use crate::enclosed::hold_each;
 use charlotte_calls::{Answer, Cause, EndId, MovingPicture, Outcome, Report, Way, Work};
@@ -20,12 +20,11 @@ use kernel_step::{answer, forget, no_bytes, no_ends, report, send_report};
 #[tactic(auto, unfolding(kernel_step::specs::Actions::notices))]
 pub fn notice(table: &mut Table, on: EndId, out: &mut Work)
     requires here { IsHere (entries table.old on) }
-    requires enclosed { IfHere (entries table.old on) (λ v. AreEnclosed (entries table.old) (enclosed_of v.outward)) }
-    requires apart { IfHere (entries table.old on) (λ v. list_any (end_eq on) (enclosed_of v.outward) ≡ false) }
-    requires room { HasRoom 8 2 1 0 out.old }
+    requires ready { IsReady (entries table.old) on }
+    requires room { HasRoom MOST_FORGETS 2 1 0 out.old }
     ensures part { IfHere (entries table.old on) (λ v. progress (entries table.new) out.new
         ≡ notices table.old.kernel v (progress (entries table.old) out.old)) }
-    ensures room { AddsAtMost 8 2 1 0 out.old out.new }
+    ensures room { AddsAtMost MOST_FORGETS 2 1 0 out.old out.new }
     ensures kernel { table.new.kernel ≡ table.old.kernel }
 {
     let kernel = table.kernel();

@@ -1,11 +1,11 @@
 ghost use Rattle.std.specs.Prelude.{◌≡◌, false};
 ghost use Rattle.std.specs.List.{list_any};
-ghost use Rattle.kernel_step.specs.Enclosed.{AreEnclosed};
+ghost use Rattle.kernel_step.specs.Enclosed.{AreEnclosed, IsReady};
 ghost use Rattle.end_table.specs.Place.{end_eq};
 ghost use Rattle.end_table.specs.Table.{entries, IfHere, IsHere, IsHereAnd};
 ghost use Rattle.cancel_core.specs.Sends.{IsWaiting};
 ghost use Rattle.end_table.specs.declared.entry.Outward.{Outward};
-ghost use Rattle.kernel_step.specs.Actions.{matches, match_waiting, enclosed_of};
+ghost use Rattle.kernel_step.specs.Actions.{matches, match_waiting};
 ghost use Rattle.kernel_step.specs.Progress.{progress, HasRoom, AddsAtMost};
 
 use crate::enclosed::leave_each;
@@ -13,12 +13,19 @@ use charlotte_calls::{Bytes, Cargo, EndId, Ends, MovingPicture, ServiceStep, Wha
 use end_table::{Outward, Table};
 use kernel_step::{keep_inward, keep_outward, push_packet, push_step};
 
+/// A message that is sent: the send n of its end, and the ends that it encloses.
+#[derive(Drop)]
+pub(crate) struct Message {
+    pub(crate) n: u32,
+    pub(crate) bytes: Bytes,
+    pub(crate) enclosed: Ends,
+}
+
 /// MATCH where a send waits. The end has these fields in either case.
 pub(crate) fn match_waiting(table: &mut Table, on: EndId, value: MovingPicture, out: &mut Work)
     requires here { IsHere (entries table.old on) }
     requires same_end { value.end ≡ on }
-    requires enclosed { IfHere (entries table.old on) (λ v. AreEnclosed (entries table.old) (enclosed_of v.outward)) }
-    requires apart { IfHere (entries table.old on) (λ v. list_any (end_eq on) (enclosed_of v.outward) ≡ false) }
+    requires ready { IsReady (entries table.old) on }
     requires room { HasRoom 1 0 0 1 out.old }
     ensures part { IfHere (entries table.old on) (λ v. progress (entries table.new) out.new
         ≡ match_waiting table.old.kernel (record v { value = value }) v.outward (progress (entries table.old) out.old)) }
@@ -39,8 +46,7 @@ pub(crate) fn match_waiting(table: &mut Table, on: EndId, value: MovingPicture, 
 fn match_waited(table: &mut Table, on: EndId, value: MovingPicture, out: &mut Work)
     requires here { IsHereAnd (entries table.old on) (λ v. IsWaiting v.outward) }
     requires same_end { value.end ≡ on }
-    requires enclosed { IfHere (entries table.old on) (λ v. AreEnclosed (entries table.old) (enclosed_of v.outward)) }
-    requires apart { IfHere (entries table.old on) (λ v. list_any (end_eq on) (enclosed_of v.outward) ≡ false) }
+    requires ready { IsReady (entries table.old) on }
     requires room { HasRoom 1 0 0 1 out.old }
     ensures part { IfHere (entries table.old on) (λ v. progress (entries table.new) out.new
         ≡ match_waiting table.old.kernel (record v { value = value }) v.outward (progress (entries table.old) out.old)) }
@@ -49,33 +55,33 @@ fn match_waited(table: &mut Table, on: EndId, value: MovingPicture, out: &mut Wo
 {
     match keep_outward(table, on, value, Outward::Idle) {
         Outward::Waiting { n, bytes, enclosed } => {
-            send_parcel(table, on, value, n, bytes, &enclosed, out)
+            let message = Message { n, bytes, enclosed };
+            send_parcel(table, on, value, message, out)
         }
         _ => unreachable!(),
     }
 }
 
-/// MATCH of the send n of an end, which encloses these ends, with the receive that is wanted of it.
+/// MATCH of a send of an end with the receive that is wanted of it.
 #[tactic(auto, unfolding(kernel_step::specs::Actions::matches))]
 pub(crate) fn send_parcel(
     table: &mut Table,
     on: EndId,
     mut value: MovingPicture,
-    n: u32,
-    bytes: Bytes,
-    enclosed: &Ends,
+    message: Message,
     out: &mut Work,
 )
     requires here { IsHere (entries table.old on) }
     requires same_end { value.end ≡ on }
-    requires enclosed { AreEnclosed (entries table.old) enclosed.now }
-    requires apart { list_any (end_eq on) enclosed.now ≡ false }
+    requires enclosed { AreEnclosed (entries table.old) message.enclosed }
+    requires apart { list_any (end_eq on) message.enclosed ≡ false }
     requires room { HasRoom 1 0 0 1 out.old }
     ensures part { IfHere (entries table.old on) (λ v. (o : Outward) → progress (entries table.new) out.new
-        ≡ matches table.old.kernel (record v { value = value; outward = o }) n bytes enclosed.now (progress (entries table.old) out.old)) }
+        ≡ matches table.old.kernel (record v { value = value; outward = o }) message.n message.bytes message.enclosed (progress (entries table.old) out.old)) }
     ensures room { AddsAtMost 1 0 0 1 out.old out.new }
     ensures kernel { table.new.kernel ≡ table.old.kernel }
 {
+    let Message { n, bytes, enclosed } = message;
     let at = table.kernel();
     let hint_kernel = value.hint.0;
     let w = value.want;

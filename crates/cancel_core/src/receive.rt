@@ -1,4 +1,4 @@
-ghost use Rattle.std.specs.Prelude.{◌≡◌, Some, IfSome};
+ghost use Rattle.std.specs.Prelude.{◌≡◌, Some};
 ghost use Rattle.charlotte_calls.specs.declared.names.EndId.{EndId};
 ghost use Rattle.end_table.specs.Table.{entries, IsHere, IsHereAnd, IfHere};
 ghost use Rattle.end_table.specs.declared.entry.Entry.{Entry};
@@ -13,7 +13,7 @@ use charlotte_calls::{
 };
 use end_table::{Holder, Inward, Lent, Table};
 use kernel_step::{
-    answer, hear, is_withdrawing, keep_inward, push_packet, push_step, receiver, report,
+    answer, learn_value, is_withdrawing, keep_inward, push_packet, push_step, receiver, report,
     resend_on_news,
 };
 
@@ -61,54 +61,69 @@ pub fn arrived(
     ensures kernel { table.new.kernel ≡ table.old.kernel }
 {
     if let Some(_) = receiver(table, to, w) {
-        receive(table, to, n, at, hops, bytes, enclosed, out);
+        let message = Arrival {
+            n,
+            at,
+            hops,
+            bytes,
+            enclosed,
+        };
+        receive(table, to, message, out);
     }
 }
 
-/// The message n is taken by the started receive of an end that is here.
-#[tactic(auto, unfolding(kernel_step::specs::Rows::receives, kernel_step::specs::Actions::resends_on_news))]
-fn receive(
-    table: &mut Table,
-    on: EndId,
+/// A message that came in a parcel, with the kernel and the hops of the end that sent it.
+#[derive(Drop)]
+struct Arrival {
     n: u32,
     at: u8,
     hops: u32,
     bytes: Bytes,
     enclosed: Ends,
-    out: &mut Work,
-)
+}
+
+/// A message is taken by the started receive of an end that is here.
+#[tactic(auto, unfolding(kernel_step::specs::Rows::receives, kernel_step::specs::Actions::resends_on_news))]
+fn receive(table: &mut Table, on: EndId, message: Arrival, out: &mut Work)
     requires here { IsHere (entries table.old on) }
     requires room { HasRoom 3 1 1 1 out.old }
     ensures part { IfHere (entries table.old on) (λ v. progress (entries table.new) out.new
-        ≡ arrived_row table.old.kernel n at hops bytes enclosed (Some v) (progress (entries table.old) out.old)) }
+        ≡ arrived_row table.old.kernel message.n message.at message.hops message.bytes message.enclosed (Some v) (progress (entries table.old) out.old)) }
     ensures room { AddsAtMost 3 1 1 1 out.old out.new }
     ensures kernel { table.new.kernel ≡ table.old.kernel }
 {
+    let Arrival {
+        n,
+        at,
+        hops,
+        bytes,
+        enclosed,
+    } = message;
     let kernel = table.kernel();
     let living = table.here(on);
     let mut value = living.value();
     let holder = living.holder();
     let late = is_withdrawing(living.inward());
     push_take(out, on, n, late, holder);
-    let taken = Report {
+    let done = Report {
         on,
         way: Way::Inward,
         outcome: Outcome::Done,
         bytes,
         enclosed,
     };
-    report(out, holder, taken);
+    report(out, holder, done);
     if late {
         answer(out, holder, Answer::Refused(Cause::Late));
     }
-    let told = What::Taken {
+    let taken = What::Taken {
         to: on.opposite(),
         n,
         at: kernel,
         hops: value.hops,
     };
-    push_packet(out, at, told);
-    let news = hear(&mut value, at, hops);
+    push_packet(out, at, taken);
+    let news = learn_value(&mut value, at, hops);
     resend_on_news(out, kernel, news, value, Inward::Unreported);
     keep_inward(table, on, value, Inward::Unreported);
 }
@@ -176,7 +191,7 @@ fn free(table: &mut Table, on: EndId, at: u8, hops: u32, out: &mut Work)
     let mut value = living.value();
     push_step(out, ServiceStep::Free { on });
     answer(out, living.holder(), Answer::Ok);
-    let news = hear(&mut value, at, hops);
+    let news = learn_value(&mut value, at, hops);
     resend_on_news(out, kernel, news, value, Inward::Idle);
     keep_inward(table, on, value, Inward::Idle);
 }

@@ -1,19 +1,19 @@
-ghost use Rattle.std.specs.Prelude.{◌≡◌, false, Some, IfSome};
+ghost use Rattle.std.specs.Prelude.{◌≡◌, false, Some};
 ghost use Rattle.std.specs.List.{list_any};
-ghost use Rattle.kernel_step.specs.Enclosed.{AreEnclosed};
+ghost use Rattle.kernel_step.specs.Enclosed.{AreEnclosed, IsReady};
 ghost use Rattle.end_table.specs.Place.{end_eq};
 ghost use Rattle.end_table.specs.Table.{entries, IsHere, IfHere};
-ghost use Rattle.kernel_step.specs.Actions.{send_report, enclosed_of};
+ghost use Rattle.kernel_step.specs.Actions.{send_report};
 ghost use Rattle.kernel_step.specs.Calls.{starts_send, withdraws_send};
 ghost use Rattle.kernel_step.specs.Progress.{progress, HasRoom, AddsAtMost};
 ghost use Rattle.kernel_step.specs.Rows.{want_row, want_here, wants, awaits, taken_row, completes, unwant_row, unwant_here, voids};
 
 use crate::enclosed::hold_each;
-use crate::matching::{match_waiting, send_parcel};
+use crate::matching::{Message, match_waiting, send_parcel};
 use charlotte_calls::{Bytes, EndId, Ends, Outcome, ServiceStep, Way, What, Work};
 use end_table::{Lent, Outward, Table};
 use kernel_step::{
-    enclosed_ends, hear, keep_inward, keep_outward, listen, no_ends, push_packet, push_step,
+    enclosed_ends, learn_value, keep_inward, keep_outward, learn, no_ends, push_packet, push_step,
     report, resend_on_news, send_report, sender,
 };
 
@@ -43,7 +43,12 @@ pub fn start_send(table: &mut Table, on: EndId, bytes: Bytes, enclose: Ends, out
     );
     value.sent = n;
     if value.want != 0 {
-        send_parcel(table, on, value, n, bytes, &enclose, out);
+        let message = Message {
+            n,
+            bytes,
+            enclosed: enclose,
+        };
+        send_parcel(table, on, value, message, out);
         return;
     }
     let waiting = Outward::Waiting {
@@ -58,8 +63,7 @@ pub fn start_send(table: &mut Table, on: EndId, bytes: Bytes, enclose: Ends, out
 #[tactic(auto, unfolding(kernel_step::specs::Calls::withdraws_send))]
 pub fn withdraw_send(table: &mut Table, on: EndId, out: &mut Work)
     requires here { IsHere (entries table.old on) }
-    requires enclosed { IfHere (entries table.old on) (λ v. AreEnclosed (entries table.old) (enclosed_of v.outward)) }
-    requires apart { IfHere (entries table.old on) (λ v. list_any (end_eq on) (enclosed_of v.outward) ≡ false) }
+    requires ready { IsReady (entries table.old) on }
     requires room { HasRoom 0 0 0 1 out.old }
     ensures part { IfHere (entries table.old on) (λ v. progress (entries table.new) out.new
         ≡ withdraws_send v (progress (entries table.old) out.old)) }
@@ -83,8 +87,7 @@ pub fn withdraw_send(table: &mut Table, on: EndId, out: &mut Work)
 
 /// The row want: the receive w of the opposite end asks for a message, unless it was matched or withdrawn.
 pub fn want(table: &mut Table, to: EndId, w: u32, at: u8, hops: u32, out: &mut Work)
-    requires enclosed { IfHere (entries table.old to) (λ v. AreEnclosed (entries table.old) (enclosed_of v.outward)) }
-    requires apart { IfHere (entries table.old to) (λ v. list_any (end_eq v.value.end) (enclosed_of v.outward) ≡ false) }
+    requires ready { IsReady (entries table.old) to }
     requires room { HasRoom 3 0 0 1 out.old }
     ensures part { progress (entries table.new) out.new
         ≡ want_row table.old.kernel to w at hops (entries table.old to) (progress (entries table.old) out.old) }
@@ -102,8 +105,7 @@ pub fn want(table: &mut Table, to: EndId, w: u32, at: u8, hops: u32, out: &mut W
 #[tactic(auto, unfolding(kernel_step::specs::Rows::want_here))]
 fn want_here(table: &mut Table, on: EndId, w: u32, at: u8, hops: u32, out: &mut Work)
     requires here { IsHere (entries table.old on) }
-    requires enclosed { IfHere (entries table.old on) (λ v. AreEnclosed (entries table.old) (enclosed_of v.outward)) }
-    requires apart { IfHere (entries table.old on) (λ v. list_any (end_eq on) (enclosed_of v.outward) ≡ false) }
+    requires ready { IsReady (entries table.old) on }
     requires room { HasRoom 3 0 0 1 out.old }
     ensures part { IfHere (entries table.old on) (λ v. progress (entries table.new) out.new
         ≡ want_here table.old.kernel w at hops v (progress (entries table.old) out.old)) }
@@ -117,7 +119,7 @@ fn want_here(table: &mut Table, on: EndId, w: u32, at: u8, hops: u32, out: &mut 
     if value.served < w {
         serve(table, on, w, at, hops, out);
     } else {
-        listen(table, on, at, hops, out);
+        learn(table, on, at, hops, out);
     }
 }
 
@@ -125,8 +127,7 @@ fn want_here(table: &mut Table, on: EndId, w: u32, at: u8, hops: u32, out: &mut 
 #[tactic(auto, unfolding(kernel_step::specs::Rows::wants, kernel_step::specs::Actions::resends_on_news))]
 fn serve(table: &mut Table, on: EndId, w: u32, at: u8, hops: u32, out: &mut Work)
     requires here { IsHere (entries table.old on) }
-    requires enclosed { IfHere (entries table.old on) (λ v. AreEnclosed (entries table.old) (enclosed_of v.outward)) }
-    requires apart { IfHere (entries table.old on) (λ v. list_any (end_eq on) (enclosed_of v.outward) ≡ false) }
+    requires ready { IsReady (entries table.old) on }
     requires room { HasRoom 3 0 0 1 out.old }
     ensures part { IfHere (entries table.old on) (λ v. progress (entries table.new) out.new
         ≡ wants table.old.kernel w at hops v (progress (entries table.old) out.old)) }
@@ -137,11 +138,11 @@ fn serve(table: &mut Table, on: EndId, w: u32, at: u8, hops: u32, out: &mut Work
     let living = table.here(on);
     let mut value = living.value();
     let inward = living.inward();
-    let news = hear(&mut value, at, hops);
-    let heard = value;
+    let news = learn_value(&mut value, at, hops);
+    let informed = value;
     value.want = w;
     match_waiting(table, on, value, out);
-    resend_on_news(out, kernel, news, heard, inward);
+    resend_on_news(out, kernel, news, informed, inward);
 }
 
 /// The row taken: the send n is completed, where it is matched.
@@ -174,7 +175,7 @@ fn complete(table: &mut Table, on: EndId, n: u32, at: u8, hops: u32, out: &mut W
     let inward = living.inward();
     push_step(out, ServiceStep::Complete { on, n });
     report(out, holder, send_report(on, Outcome::Done, no_ends()));
-    let news = hear(&mut value, at, hops);
+    let news = learn_value(&mut value, at, hops);
     resend_on_news(out, kernel, news, value, inward);
     keep_outward(table, on, value, Outward::Unreported);
 }
@@ -211,7 +212,7 @@ fn withdraw(table: &mut Table, on: EndId, w: u32, at: u8, hops: u32, out: &mut W
     if value.served < w {
         void(table, on, w, at, hops, out);
     } else {
-        listen(table, on, at, hops, out);
+        learn(table, on, at, hops, out);
     }
 }
 
@@ -231,14 +232,14 @@ fn void(table: &mut Table, on: EndId, w: u32, at: u8, hops: u32, out: &mut Work)
     let inward = living.inward();
     let asking = on.opposite();
     push_step(out, ServiceStep::Withdraw { on: asking });
-    let told = What::Unwanted {
+    let unwanted = What::Unwanted {
         to: asking,
         w,
         at: kernel,
         hops: value.hops,
     };
-    push_packet(out, at, told);
-    let news = hear(&mut value, at, hops);
+    push_packet(out, at, unwanted);
+    let news = learn_value(&mut value, at, hops);
     resend_on_news(out, kernel, news, value, inward);
     value.served = w;
     value.want = 0;

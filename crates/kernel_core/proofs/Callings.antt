@@ -20,14 +20,15 @@ use Rattle.kernel_process.proofs.ActiveSets.{tells_same}
 use Rattle.kernel_core.proofs.ExitSilent.{exit-silent}
 use Rattle.kernel_process.proofs.KeptMoved.{HavePlace-moved, keys-moved}
 use Rattle.kernel_core.proofs.Performs.{acts-answers, acts-reports}
-use Rattle.kernel_sound.proofs.Acts.{acts-well}
+use Rattle.kernel_sound.proofs.Goes.{GoesWell}
+use Rattle.kernel_sound.proofs.Acts.{Covers, acts-well}
 use Rattle.kernel_sound.proofs.Events.{begun-well, owner-below, well-calm, well-sound}
 use Rattle.kernel_process.proofs.OneProcess.{closes-table}
-use Rattle.kernel_sound.specs.Acts.{Covers, acts, made_after}
+use Rattle.kernel_sound.specs.Acts.{acts, made_after}
 use Rattle.kernel_core.specs.Finishing.{AreOwnersBelow, HavePlaceFor, IsCalmAfter, ending_of, finished, finishes, touched_by, touches, turned, turned_by, turned_on}
 use Rattle.kernel_core.specs.Consistent.{AreConsistent, IsConsistent, Keeps}
 use Rattle.kernel_core.specs.declared.state.State.{State}
-use Rattle.kernel_sound.specs.Sound.{AreFor, GoesWell, IsSound}
+use Rattle.kernel_sound.specs.Sound.{AreFor, IsSound}
 use Rattle.kernel_process.specs.Parts.{with_parts}
 use Rattle.kernel_process.specs.Steady.{StaysCalm, TakesAtMost}
 use Rattle.kernel_core.specs.declared.calling.Ending.{Ending}

@@ -10,12 +10,12 @@ use Rattle.end_table.specs.Table.{IfHere, IsOfEnd}
 use Rattle.end_table.specs.declared.entry.Entry.{Entry}
 use Rattle.end_table.specs.declared.entry.Entry.TheVariants as entry
 use Rattle.end_table.specs.declared.entry.HereView.{HereView}
-use Rattle.kernel_sound.proofs.Calls.{IfHere-ends, end_each-stays, told-stays}
+use Rattle.kernel_sound.proofs.Calls.{IfHere-ends, end_each-stays, tells_gone-stays}
 use Rattle.kernel_sound.proofs.Put.{IfHere-away}
 use Rattle.kernel_step.specs.Actions.{enclosed_of, ends, here}
 use Rattle.kernel_step.specs.Calls.{ends_each, ends_here, is_active}
 use Rattle.kernel_step.specs.Progress.{Progress, keeps}
-use Rattle.kernel_sound.proofs.Put.{ended-IsHere}
+use Rattle.kernel_step.proofs.Departed.{ended-IsHere}
 
 -- p does not own the end, if it is here
 abbrev IsOfOther : Pid → Entry → Type 0
@@ -50,7 +50,7 @@ own-name e (entry.Destroyed m) own = tt
 ends-away : (P : HereView → Type 0) (k : ℕ) (e : EndId) (v : HereView) (d : Progress) → v.value.end ≡ e → IfHere ((ends k v d).table e) P
 unfolding ends keeps
 ends-away P k e v d same =
-    told-stays P k v.value _ e
+    tells_gone-stays P k v.value _ e
     (end_each-stays P k (enclosed_of v.outward) kept e (subst (λ q. IfHere (kept.table q) P) same (subst (λ x. IfHere x P) (sym (put-at d.table v.value.end (ended_entry v.value))) away)))
   where
     kept : Progress

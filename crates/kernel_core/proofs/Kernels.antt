@@ -17,7 +17,7 @@ use Rattle.end_table.specs.declared.entry.Holder.TheVariants as holder
 use Rattle.end_table.specs.declared.entry.Holder.{Holder}
 use Rattle.kernel_sound.proofs.Rows.{row-well}
 use Rattle.kernel_sound.specs.Owners.{owner_in, owner_of}
-use Rattle.kernel_sound.specs.Sound.{IsSound, IsHeldWell, AreFor, GoesWell, addressee}
+use Rattle.kernel_sound.specs.Sound.{IsSound, IsHeldWell, AreFor, addressee}
 use Rattle.kernel_core.specs.Started.{takes_addressed}
 use Rattle.kernel_core.specs.State.{KernelView, state_of}
 use Rattle.kernel_process.specs.Parts.{process_state, no_process, process_at, with_parts}

@@ -21,7 +21,7 @@ use Rattle.end_table.specs.declared.entry.HereView.{HereView}
 use Rattle.end_table.specs.declared.entry.Holder.{Holder}
 use Rattle.end_table.specs.declared.entry.Inward.{Inward}
 use Rattle.end_table.specs.declared.entry.Inward.TheVariants as inward
-use Rattle.kernel_sound.proofs.Tells.{either-keeps, fold-keeps}
+use Rattle.kernel_sound.proofs.Sends.{either-keeps, fold-keeps}
 use Rattle.kernel_sound.specs.Acts.{acts, acts_on, made_after, withdraws_posted}
 use Rattle.kernel_core.specs.Finishing.{finishes, turned, turned_by, turned_on}
 use Rattle.kernel_step.specs.Actions.{end_each, ends, ends_idle, ends_idle_here, enclosed_of, held, here, hold_each, leave_each, leaves_here, matches, tells_gone}

@@ -21,7 +21,7 @@ use Rattle.end_table.specs.declared.entry.Entry.TheVariants as entry
 use Rattle.kernel_step.specs.Actions.{enclosed_of}
 use Rattle.kernel_step.specs.Calls.{made_end}
 use Rattle.kernel_step.specs.Start.{Wired, home, keeps_at, nothing_wired, owned_from_start, wired, wires_one}
-use Rattle.kernel_sound.proofs.Needs.{IfHere-map}
+use Rattle.kernel_step.proofs.Steps.{IfHere-map}
 use Rattle.kernel_sound.proofs.Put.{put-each}
 use Rattle.kernel_sound.specs.Sound.{AreHeldBy, IsHeldWell, IsSound}
 use Rattle.kernel_core.specs.Wired.{HasWired, wired_first, with_link}
@@ -209,14 +209,14 @@ module _ (s : Setting) (valid : IsValid s) (k : ℕ) where
   wired-sound =
       record {
         own = well.own k;
-        held = λ e. IfHere-map ((wired s).table k e) (λ v. IsIdle v × IsHeldWell (length s.homes) v v.holder) (λ v. IsHeldWell (length s.homes) v v.holder) (λ v is h. h.1) (well.held k e);
-        enclosed = λ e. IfHere-map ((wired s).table k e) (λ v. IsIdle v × IsHeldWell (length s.homes) v v.holder) (λ v. AreHeldBy e ((wired s).table k) (enclosed_of v.outward))
+        held = λ e. IfHere-map (λ v. IsIdle v × IsHeldWell (length s.homes) v v.holder) (λ v. IsHeldWell (length s.homes) v v.holder) ((wired s).table k e) (λ v is h. h.1) (well.held k e);
+        enclosed = λ e. IfHere-map (λ v. IsIdle v × IsHeldWell (length s.homes) v v.holder) (λ v. AreHeldBy e ((wired s).table k) (enclosed_of v.outward)) ((wired s).table k e)
             (λ v is h. subst (AreHeldBy e ((wired s).table k)) (sym (ap enclosed_of h.0.outward)) tt) (well.held k e);
         unmade = λ e maker count here. well.unmade k e (subst (λ m. (wired s).made m ≤ e.link.count) (sym maker) count) here;
       }
 
   pub wired-idle : (e : EndId) → IfHere ((wired s).table k e) IsIdle
-  wired-idle e = IfHere-map ((wired s).table k e) (λ v. IsIdle v × IsHeldWell (length s.homes) v v.holder) IsIdle (λ v is h. h.0) (well.held k e)
+  wired-idle e = IfHere-map (λ v. IsIdle v × IsHeldWell (length s.homes) v v.holder) IsIdle ((wired s).table k e) (λ v is h. h.0) (well.held k e)
 
 -- a kernel that has each link of its setting has those of the definitions
 module _ (s : Setting) (x : Wiring) (k : ℕ) (kernel : x.table.kernel ≡ k) (had : HasWired s (length s.wires) x) where

@@ -19,11 +19,12 @@ use Rattle.end_table.specs.declared.entry.Entry.{Entry}
 use Rattle.end_table.specs.declared.entry.Entry.TheVariants as entry
 use Rattle.end_table.specs.declared.entry.HereView.{HereView}
 use Rattle.end_table.specs.declared.entry.Holder.TheVariants as holder
+use Rattle.kernel_sound.proofs.Goes.{GoesWell}
 use Rattle.kernel_sound.proofs.Needs.{IfHere-at, encloses-enclosed, encloses-on, granted-at, owned-here, send-apart, send-enclosed}
 use Rattle.kernel_sound.proofs.Calls.{IfHere-ends, ends_each-well}
-use Rattle.kernel_sound.proofs.Tells.{tells-same, tells_gone-tells}
+use Rattle.kernel_sound.proofs.Sends.{only-same, tells_gone-only}
 use Rattle.kernel_sound.specs.Acts.{AreOfOne, acts, acts_on, withdraws}
-use Rattle.kernel_sound.specs.Sound.{GoesWell, IsSound}
+use Rattle.kernel_sound.specs.Sound.{IsSound}
 use Rattle.kernel_step.specs.Actions.{enclosed_of, end_each, ends, ends_idle, ends_idle_here, held, here, hold_each, tells_gone}
 use Rattle.kernel_step.specs.Calls.{encloses, ends_each, ends_here, first_of, on_owned, send_causes, starts_send}
 use Rattle.kernel_step.specs.Enclosed.{AreEnclosed}
@@ -77,7 +78,7 @@ module _ (k : ℕ) where
   keeps-table e x d f same = ap (λ t. put t e x) same
 
   tells_gone-table : (m : MovingPicture) (d : Progress) → (tells_gone k m d).table ≡ d.table
-  tells_gone-table m d = (tells_gone-tells k m d (tells-same d)).table
+  tells_gone-table m d = (tells_gone-only k m d (only-same d)).table
 
   -- an opposite end is told after either
   told-table : (m : MovingPicture) (d f : Progress) → d.table ≡ f.table → (tells_gone k m d).table ≡ (tells_gone k m f).table

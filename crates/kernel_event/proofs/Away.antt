@@ -1,35 +1,26 @@
 -- The values of a packet that are carried: their ends are away, apart, and have places.
-use Rattle.std.proofs.Common.{◌≡◌, ℕ, Bool, true, false, true≢false, cond, not, ◌&&◌, ◌||◌, List, [], ◌∷◌, Some, None, is_none, refl, sym, ap, subst, ◌∙◌, if◌then◌else◌, rules}
+use Rattle.std.proofs.Common.{◌≡◌, ℕ, Bool, true, false, true≢false, cond, not, ◌&&◌, ◌||◌, List, [], ◌∷◌, refl, sym, subst, if◌then◌else◌}
 use Rattle.std.specs.List.{list_any}
-use Rattle.charlotte_calls.specs.declared.calls.Cause.{Cause}
 use Rattle.charlotte_calls.specs.declared.names.EndId.{EndId}
-use Rattle.charlotte_calls.specs.declared.names.Pid.{Pid}
 use Rattle.charlotte_calls.specs.declared.picture.MovingPicture.{MovingPicture}
-use Rattle.charlotte_calls.specs.declared.work.Work.{Work}
-use Rattle.end_table.proofs.EndEq.{end_eq-same, end_eq-sym, put-at, put-other}
-use Rattle.end_table.specs.Owned.{is_owner, owned}
+use Rattle.end_table.proofs.EndEq.{end_eq-same, put-at}
 use Rattle.end_table.specs.Place.{end_eq, put}
-use Rattle.end_table.specs.Table.{TableView, entries, IsHere, IsHereAnd, IfHere, IsIdle, IsOfEnd}
+use Rattle.end_table.specs.Table.{TableView, entries, HasPlace, IsHere}
 use Rattle.end_table.specs.declared.entry.Entry.{Entry}
 use Rattle.end_table.specs.declared.entry.Entry.TheVariants as entry
-use Rattle.end_table.specs.declared.entry.HereView.{HereView}
 use Rattle.end_table.specs.declared.entry.Holder.{Holder}
-use Rattle.end_table.specs.declared.entry.Holder.TheVariants as holder
-use Rattle.end_table.specs.declared.entry.Inward.{Inward}
 use Rattle.end_table.specs.declared.entry.Inward.TheVariants as inward
-use Rattle.end_table.specs.declared.entry.Outward.{Outward}
 use Rattle.end_table.specs.declared.entry.Outward.TheVariants as outward
 use Rattle.kernel_sound.proofs.Put.{put-each}
-use Rattle.kernel_event.specs.Places.{HavePlaces, ArePlaced}
-use Rattle.kernel_sound.specs.Ready.{IsReady}
-use Rattle.kernel_sound.specs.Sound.{AreHeldBy, IsSound}
-use Rattle.kernel_step.proofs.EnclosedEnds.{first_false, second_false}
-use Rattle.kernel_step.specs.Actions.{enclosed_of, here, held, hold_each}
-use Rattle.kernel_step.specs.Calls.{encloses, first_of, inward_activity, is_busy, is_free, names_twice, outward_activity, same_link, send_causes}
-use Rattle.kernel_step.specs.Enclosed.{AreEnclosed}
-use Rattle.kernel_step.specs.Progress.{Progress, keeps, progress}
+use Rattle.kernel_event.specs.Places.{ArePlaced}
+use Rattle.kernel_step.specs.Actions.{here}
 use Rattle.kernel_step.specs.Rows.{arriving, ends_in, is_carried, is_here, passing}
 use Rattle.move_core.specs.Arriving.{AreApart, AreAway}
+
+-- each of these values that is carried has a place
+abbrev pub HavePlaces : ℕ → ℕ → TableView → List MovingPicture → Type 0
+HavePlaces k made t [] = Unit {0}
+HavePlaces k made t (m ∷ ms) = (is_carried k made (entries t) m ≡ true → HasPlace t m.end) × HavePlaces k made t ms
 
 -- both of two tests that are true together are true
 first_true : (a b : Bool) → (a && b) ≡ true → a ≡ true

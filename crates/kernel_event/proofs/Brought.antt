@@ -17,11 +17,11 @@ use Rattle.end_table.specs.declared.entry.Holder.{Holder}
 use Rattle.end_table.specs.declared.entry.Inward.TheVariants as inward
 use Rattle.end_table.specs.declared.entry.Outward.TheVariants as outward
 use Rattle.kernel_event.specs.Places.{ArePlaced}
-use Rattle.kernel_sound.specs.Ready.{IsReady}
+use Rattle.kernel_step.specs.Enclosed.{IsReady}
 use Rattle.kernel_event.specs.Order.{put_behind}
 use Rattle.kernel_event.proofs.Away.{AreAway-passing, AreAway-arriving, AreApart-arriving, HavePlaces-placed}
-use Rattle.kernel_event.proofs.Prefixed.{Adds, Stays, receives-adds, receives-stays, receives-one, resends_on_news-adds, notices_first-adds, notices_first-stays, settle_each-silent, gives_back-silent, order, order-length}
-use Rattle.kernel_sound.proofs.Tells.{tell_arrivals-tells, tells-same}
+use Rattle.kernel_event.proofs.Prefixed.{Adds, Stays, receives-adds, receives-stays, receives-one, resends_on_news-adds, notices_first-adds, notices_first-stays, settle_each-sends, gives_back-sends, order, order-length}
+use Rattle.kernel_sound.proofs.Sends.{tell_arrivals-only, only-same}
 use Rattle.kernel_sound.proofs.Parcels.{asks-here, gives_back-table}
 use Rattle.kernel_sound.proofs.Values.{settle_each-others}
 use Rattle.kernel_step.specs.Actions.{enclosed_of, is_withdrawing, resends_on_news, settle_each, tell_arrivals}
@@ -54,7 +54,7 @@ apart-away t e (m ∷ ms) here away = by (end_eq e m.end) refl (apart-away t e m
 
 -- the table after arrivals were told
 told-table : (k : ℕ) (ms : List MovingPicture) (d : Progress) → (tell_arrivals k ms d).table ≡ d.table
-told-table k ms d = (tell_arrivals-tells k ms d (tells-same d)).table
+told-table k ms d = (tell_arrivals-only k ms d (only-same d)).table
 
 -- how many packets a `Work` has, as its pictures
 pictures-length : (t : EndId → Entry) (out : Work) → length (progress t out).packets ≡ length out.packets.items
@@ -87,38 +87,71 @@ IsReady-empty t e v is none =
     record {
       enclosed = subst (λ x. IfHere x (λ u. AreEnclosed t (enclosed_of u.outward))) (sym is) (subst (AreEnclosed t) (sym none) tt);
       apart = subst (λ x. IfHere x (λ u. list_any (end_eq e) (enclosed_of u.outward) ≡ false)) (sym is) (ap (list_any (end_eq e)) none);
-      apart_by_value = subst (λ x. IfHere x (λ u. list_any (end_eq u.value.end) (enclosed_of u.outward) ≡ false)) (sym is) (ap (list_any (end_eq v.value.end)) none);
     }
 
--- The parts of a parcel that is taken are its row.
-pub parcel-taken : (k made : ℕ) (to : EndId) (n at hops : ℕ) (bytes : List ℕ) (ms came : List MovingPicture) (xs : List EndId) (v : HereView) (t t1 t2 : EndId → Entry) (out0 out1 out2 out3 : Work) (m : ℕ)
-    → out0.packets.items ≡ [] → came ≡ arriving k made v.holder t ms → xs ≡ ends_in came → progress t1 out1 ≡ tell_arrivals k came (settle_each v.holder came (progress t out0))
-    → progress t2 out2 ≡ arrived_row k n at hops bytes xs (Some v) (progress t1 out1) → m ≡ length out1.packets.items → progress t2 out3 ≡ put_behind m (m + 1) (progress t2 out2)
-    → progress t2 out3 ≡ parcel_row k made to n at hops bytes ms (Some v) (progress t out0)
-unfolding progress
-parcel-taken k made to n at hops bytes ms came xs v t t1 t2 out0 out1 out2 out3 m none came_is xs_is arrived took count behind =
-    behind
-    ∙ ap (put_behind m (m + 1)) (took ∙ ap (λ u. again (take u)) arrived)
-    ∙ ap (λ j. put_behind j (j + 1) (again (take (tell_arrivals k came here)))) moves
-    ∙ ap (λ j. put_behind (length (tell_arrivals k came here).packets) (length (tell_arrivals k came here).packets + j) (again (take (tell_arrivals k came here)))) (sym (receives-one k n at hops bytes xs v here silent))
-    ∙ order k came take again (receives-adds k n at hops bytes xs v) (resends_on_news-adds k v.value hops (learned at hops v.value) inward.Unreported) (receives-stays k n at hops bytes xs v) here silent
-    ∙ ap (λ ys. again (tell_arrivals k came (receives k n at hops bytes ys v here))) xs_is
-    ∙ ap (λ l. again (tell_arrivals k l (receives k n at hops bytes (ends_in l) v (settle_each v.holder l (progress t out0))))) came_is
+-- a word that adds sends no fewer packets than were there
+adds-length : (word : Progress → Progress) → Adds word → (d : Progress) → length d.packets ≤ length (word d).packets
+adds-length word adds d = omega (arith, lengths)
   where
-    here : Progress
-    here = settle_each v.holder came (progress t out0)
+    bare : Progress
+    bare = record d { packets = [] }
 
-    take : Progress → Progress
-    take = receives k n at hops bytes xs v
+    lengths : length (word d).packets ≡ length d.packets + length (word bare).packets
+    lengths =
+        ap (λ l. length (word (record d { packets = l })).packets) (sym (append-nil d.packets))
+        ∙ ap (λ u. length u.packets) (adds d.packets bare) ∙ length-append d.packets (word bare).packets
 
-    again : Progress → Progress
-    again = resends_on_news k v.value hops (learned at hops v.value) inward.Unreported
+-- a parcel that is taken: its parts, before they are put in order
+module _ (k n at hops : ℕ) (bytes : List ℕ) (came : List MovingPicture) (xs : List EndId) (v : HereView) (t t1 t2 : EndId → Entry) (out0 out1 out2 : Work) (none : out0.packets.items ≡ [])
+    (arrived : progress t1 out1 ≡ tell_arrivals k came (settle_each v.holder came (progress t out0)))
+    (took : progress t2 out2 ≡ arrived_row k n at hops bytes xs (Some v) (progress t1 out1)) where
+  abbrev settled_first : Progress
+  settled_first = settle_each v.holder came (progress t out0)
 
-    silent : here.packets ≡ []
-    silent = settle_each-silent v.holder came (progress t out0) ∙ no_pictures t out0 none
+  abbrev take_message : Progress → Progress
+  take_message = receives k n at hops bytes xs v
 
-    moves : m ≡ length (tell_arrivals k came here).packets
-    moves = count ∙ sym (pictures-length t1 out1) ∙ ap (λ d. length d.packets) arrived
+  abbrev tell_news : Progress → Progress
+  tell_news = resends_on_news k v.value hops (learned at hops v.value) inward.Unreported
+
+  tell_news-adds : Adds tell_news
+  tell_news-adds = resends_on_news-adds k v.value hops (learned at hops v.value) inward.Unreported
+
+  silent : settled_first.packets ≡ []
+  silent = settle_each-sends v.holder came (progress t out0) ∙ no_pictures t out0 none
+
+  -- they are the row
+  pub parcel-taken : (made : ℕ) (to : EndId) (ms : List MovingPicture) (out3 : Work) (m : ℕ) → came ≡ arriving k made v.holder t ms → xs ≡ ends_in came → m ≡ length out1.packets.items
+      → progress t2 out3 ≡ put_behind m (m + 1) (progress t2 out2) → progress t2 out3 ≡ parcel_row k made to n at hops bytes ms (Some v) (progress t out0)
+  unfolding progress
+  parcel-taken made to ms out3 m came_is xs_is count behind =
+      behind
+      ∙ ap (put_behind m (m + 1)) (took ∙ ap (λ u. tell_news (take_message u)) arrived)
+      ∙ ap (λ j. put_behind j (j + 1) (tell_news (take_message (tell_arrivals k came settled_first)))) moves
+      ∙ ap (λ j. put_behind (length (tell_arrivals k came settled_first).packets) (length (tell_arrivals k came settled_first).packets + j) (tell_news (take_message (tell_arrivals k came settled_first)))) (sym (receives-one k n at hops bytes xs v settled_first silent))
+      ∙ order k came take_message tell_news (receives-adds k n at hops bytes xs v) tell_news-adds (receives-stays k n at hops bytes xs v) settled_first silent
+      ∙ ap (λ ys. tell_news (tell_arrivals k came (receives k n at hops bytes ys v settled_first))) xs_is
+      ∙ ap (λ l. tell_news (tell_arrivals k l (receives k n at hops bytes (ends_in l) v (settle_each v.holder l (progress t out0))))) came_is
+    where
+      moves : m ≡ length (tell_arrivals k came settled_first).packets
+      moves = count ∙ sym (pictures-length t1 out1) ∙ ap (λ d. length d.packets) arrived
+
+  -- and the packets that go behind are there
+  pub parcel-behind : length out1.packets.items + 1 ≤ length out2.packets.items
+  unfolding progress
+  parcel-behind = omega (arith, more, count, after)
+    where
+      more : length (take_message (tell_arrivals k came settled_first)).packets ≤ length (tell_news (take_message (tell_arrivals k came settled_first))).packets
+      more = adds-length tell_news tell_news-adds (take_message (tell_arrivals k came settled_first))
+
+      count : length (take_message (tell_arrivals k came settled_first)).packets ≡ length out1.packets.items + 1
+      count =
+          order-length k came take_message (λ d. d) (receives-adds k n at hops bytes xs v) (λ ps d. refl) (receives-stays k n at hops bytes xs v) settled_first silent
+          ∙ ap (λ j. length (tell_arrivals k came settled_first).packets + j) (receives-one k n at hops bytes xs v settled_first silent)
+          ∙ ap (λ d. length d.packets + 1) (sym arrived) ∙ ap (λ j. j + 1) (pictures-length t1 out1)
+
+      after : length (tell_news (take_message (tell_arrivals k came settled_first))).packets ≡ length out2.packets.items
+      after = ap (λ d. length d.packets) (ap (λ u. tell_news (take_message u)) (sym arrived) ∙ sym took) ∙ pictures-length t2 out2
 
 -- The parts of a message that comes back to its matched send are its row.
 pub back-taken : (k made from : ℕ) (to : EndId) (n : ℕ) (ms came : List MovingPicture) (v : HereView) (dead : Bool) (t t2 t3 : EndId → Entry) (out0 out1 out2 out3 out4 : Work) (m sent : ℕ)
@@ -149,7 +182,7 @@ back-taken k made from to n ms came v dead t t2 t3 out0 out1 out2 out3 out4 m se
     back = gives_back came v (means (step.Back to n dead) (progress t out0))
 
     silent : back.packets ≡ []
-    silent = gives_back-silent came v (means (step.Back to n dead) (progress t out0)) ∙ no_pictures t out0 none
+    silent = gives_back-sends came v (means (step.Back to n dead) (progress t out0)) ∙ no_pictures t out0 none
 
     given_is : progress t2 out2 ≡ tell_arrivals k came back
     given_is = given ∙ ap (λ u. tell_arrivals k came (gives_back came v u)) (meant t)
@@ -162,49 +195,6 @@ back-taken k made from to n ms came v dead t t2 t3 out0 out1 out2 out3 out4 m se
 
     sent_is : sent ≡ length (word (tell_arrivals k came back)).packets
     sent_is = all ∙ sym (pictures-length t3 out3) ∙ ap (λ d. length d.packets) noticed_is
-
--- a word that adds sends no fewer packets than were there
-adds-length : (word : Progress → Progress) → Adds word → (d : Progress) → length d.packets ≤ length (word d).packets
-adds-length word adds d = omega (arith, lengths)
-  where
-    bare : Progress
-    bare = record d { packets = [] }
-
-    lengths : length (word d).packets ≡ length d.packets + length (word bare).packets
-    lengths =
-        ap (λ l. length (word (record d { packets = l })).packets) (sym (append-nil d.packets))
-        ∙ ap (λ u. length u.packets) (adds d.packets bare) ∙ length-append d.packets (word bare).packets
-
--- so the packets that go behind are there
-pub parcel-behind : (k n at hops : ℕ) (bytes : List ℕ) (came : List MovingPicture) (xs : List EndId) (v : HereView) (t t1 t2 : EndId → Entry) (out0 out1 out2 : Work)
-    → out0.packets.items ≡ [] → progress t1 out1 ≡ tell_arrivals k came (settle_each v.holder came (progress t out0))
-    → progress t2 out2 ≡ arrived_row k n at hops bytes xs (Some v) (progress t1 out1) → length out1.packets.items + 1 ≤ length out2.packets.items
-unfolding progress
-parcel-behind k n at hops bytes came xs v t t1 t2 out0 out1 out2 none arrived took = omega (arith, more, count, after)
-  where
-    here : Progress
-    here = settle_each v.holder came (progress t out0)
-
-    take : Progress → Progress
-    take = receives k n at hops bytes xs v
-
-    again : Progress → Progress
-    again = resends_on_news k v.value hops (learned at hops v.value) inward.Unreported
-
-    silent : here.packets ≡ []
-    silent = settle_each-silent v.holder came (progress t out0) ∙ no_pictures t out0 none
-
-    more : length (take (tell_arrivals k came here)).packets ≤ length (again (take (tell_arrivals k came here))).packets
-    more = adds-length again (resends_on_news-adds k v.value hops (learned at hops v.value) inward.Unreported) (take (tell_arrivals k came here))
-
-    count : length (take (tell_arrivals k came here)).packets ≡ length out1.packets.items + 1
-    count =
-        order-length k came take (λ d. d) (receives-adds k n at hops bytes xs v) (λ ps d. refl) (receives-stays k n at hops bytes xs v) here silent
-        ∙ ap (λ j. length (tell_arrivals k came here).packets + j) (receives-one k n at hops bytes xs v here silent)
-        ∙ ap (λ d. length d.packets + 1) (sym arrived) ∙ ap (λ j. j + 1) (pictures-length t1 out1)
-
-    after : length (again (take (tell_arrivals k came here))).packets ≡ length out2.packets.items
-    after = ap (λ d. length d.packets) (ap (λ u. again (take u)) (sym arrived) ∙ sym took) ∙ pictures-length t2 out2
 
 pub back-behind : (k from : ℕ) (v : HereView) (t2 t3 : EndId → Entry) (out2 out3 : Work) → progress t3 out3 ≡ notices_first k from v (progress t2 out2) → length out2.packets.items ≤ length out3.packets.items
 back-behind k from v t2 t3 out2 out3 noticed =

@@ -26,7 +26,7 @@ use Rattle.end_table.specs.declared.entry.Outward.TheVariants as outward
 use Rattle.std.proofs.lemmas.List.{append-nil}
 use Rattle.kernel_event.specs.Order.{put_behind}
 use Rattle.kernel_event.proofs.Behind.{behind-parts}
-use Rattle.kernel_step.specs.Actions.{here, held, hold_each, reports, answers, forgets, forget_at, kernel_numbers, notice_send, notice_receive, notices, is_withdrawing, resends_receive, tells_moved, resends, resends_on_news, tells_arrival, tell_arrivals, hears, receive_report, settle_each}
+use Rattle.kernel_step.specs.Actions.{here, held, hold_each, reports, answers, forgets, forget_at, kernel_numbers, notice_send, notice_receive, notices, is_withdrawing, resends_receive, tells_moved, resends, resends_on_news, tells_arrival, tell_arrivals, learned_view, receive_report, settle_each}
 use Rattle.kernel_step.specs.Progress.{Progress, sends, reports_to, answers_to, means, keeps}
 use Rattle.kernel_step.specs.Rows.{takes, receives, notices_first, gives_back}
 
@@ -167,7 +167,7 @@ receives-adds k n at hops bytes xs v ps d =
     late = is_withdrawing v.inward
 
     taken : HereView
-    taken = record (hears v at hops) { inward = inward.Unreported }
+    taken = record (learned_view v at hops) { inward = inward.Unreported }
 
     kept : Progress
     kept = keeps e (entry.Here taken) d
@@ -181,6 +181,80 @@ receives-adds k n at hops bytes xs v ps d =
     told : PictureWhat
     told = packet.Taken (opposite e) n k v.value.hops
 
+-- the event came so far with no packet, at the same stamp
+pub record Silent (old new : Progress) : Type 0 where
+  pub stamp : new.stamp ≡ old.stamp
+  pub packets : new.packets ≡ old.packets
+
+silent-same : (d : Progress) → Silent d d
+silent-same d = record { stamp = refl; packets = refl }
+
+silent-then : {a b c : Progress} → Silent a b → Silent b c → Silent a c
+silent-then first second = record { stamp = second.stamp ∙ first.stamp; packets = second.packets ∙ first.packets }
+
+if-silent : (b : Bool) (d x y : Progress) → Silent d x → Silent d y → Silent d (cond b x y)
+if-silent true d x y x_is y_is = x_is
+if-silent false d x y x_is y_is = y_is
+
+means-silent : (step : ServiceStep) (d : Progress) → Silent d (means step d)
+unfolding means
+means-silent step d = record { stamp = refl; packets = refl }
+
+keeps-silent : (e : EndId) (x : Entry) (d : Progress) → Silent d (keeps e x d)
+unfolding keeps
+keeps-silent e x d = record { stamp = refl; packets = refl }
+
+reports-silent : (h : Holder) (r : Report) (d : Progress) → Silent d (reports h r d)
+unfolding reports_to
+reports-silent (holder.Owner p) r d = record { stamp = refl; packets = refl }
+reports-silent (holder.EnclosedIn on) r d = silent-same d
+
+answers-silent : (h : Holder) (a : Answer) (d : Progress) → Silent d (answers h a d)
+unfolding answers_to
+answers-silent (holder.Owner p) a d = record { stamp = refl; packets = refl }
+answers-silent (holder.EnclosedIn on) a d = silent-same d
+
+takes-silent : (e : EndId) (n : ℕ) (late : Bool) (h : Holder) (d : Progress) → Silent d (takes e n late h d)
+takes-silent e n late (holder.Owner p) d = means-silent _ d
+takes-silent e n late (holder.EnclosedIn on) d = silent-same d
+
+held-silent : (h : Holder) (x : Option HereView) (d : Progress) → Silent d (held h x d)
+held-silent h None d = silent-same d
+held-silent h (Some v) d = keeps-silent v.value.end (entry.Here (record v { holder = h })) d
+
+hold_each-silent : (h : Holder) (xs : List EndId) (d : Progress) → Silent d (hold_each h xs d)
+unfolding hold_each
+hold_each-silent h [] d = silent-same d
+hold_each-silent h (x ∷ xs) d = silent-then (held-silent h (here (d.table x)) d) (hold_each-silent h xs (held h (here (d.table x)) d))
+
+notice_send-silent : (e : EndId) (h : Holder) (o : Outward) (d : Progress) → Silent d (notice_send e h o d)
+unfolding notice_send
+notice_send-silent e h outward.Idle d = silent-same d
+notice_send-silent e h (outward.Waiting n bytes xs) d = silent-then (reports-silent h _ d) (hold_each-silent h xs _)
+notice_send-silent e h (outward.Matched n) d = silent-same d
+notice_send-silent e h outward.Unreported d = silent-same d
+
+notice_receive-silent : (e : EndId) (h : Holder) (i : Inward) (d : Progress) → Silent d (notice_receive e h i d)
+unfolding notice_receive
+notice_receive-silent e h inward.Idle d = silent-same d
+notice_receive-silent e h (inward.Posted w) d = reports-silent h _ d
+notice_receive-silent e h (inward.Withdrawing w) d = silent-then (reports-silent h _ d) (answers-silent h _ _)
+notice_receive-silent e h inward.Unreported d = silent-same d
+
+settle_each-silent : (h : Holder) (ms : List MovingPicture) (d : Progress) → Silent d (settle_each h ms d)
+unfolding settle_each
+settle_each-silent h [] d = silent-same d
+settle_each-silent h (m ∷ ms) d = silent-then (keeps-silent m.end (entry.Here (settled h m)) d) (settle_each-silent h ms _)
+
+-- so values that become Here send nothing
+pub settle_each-sends : (h : Holder) (ms : List MovingPicture) (d : Progress) → (settle_each h ms d).packets ≡ d.packets
+settle_each-sends h ms d = (settle_each-silent h ms d).packets
+
+-- nor do those of a message that comes back
+pub gives_back-sends : (came : List MovingPicture) (v : HereView) (d : Progress) → (gives_back came v d).packets ≡ d.packets
+unfolding gives_back
+gives_back-sends came v d = (silent-then (silent-then (keeps-silent v.value.end _ d) (reports-silent v.holder _ _)) (settle_each-silent v.holder came _)).packets
+
 -- a word keeps the stamp
 abbrev pub Stays : (Progress → Progress) → Type 0
 Stays word = (d : Progress) → (word d).stamp ≡ d.stamp
@@ -188,28 +262,6 @@ Stays word = (d : Progress) → (word d).stamp ≡ d.stamp
 sends-stays : (to : ℕ) (what : PictureWhat) → Stays (sends to what)
 unfolding sends
 sends-stays to what d = refl
-
-means-stays : (step : ServiceStep) → Stays (means step)
-unfolding means
-means-stays step d = refl
-
-keeps-stays : (e : EndId) (x : Entry) → Stays (keeps e x)
-unfolding keeps
-keeps-stays e x d = refl
-
-reports-stays : (h : Holder) (r : Report) → Stays (reports h r)
-unfolding reports_to
-reports-stays (holder.Owner p) r d = refl
-reports-stays (holder.EnclosedIn on) r d = refl
-
-answers-stays : (h : Holder) (a : Answer) → Stays (answers h a)
-unfolding answers_to
-answers-stays (holder.Owner p) a d = refl
-answers-stays (holder.EnclosedIn on) a d = refl
-
-takes-stays : (e : EndId) (n : ℕ) (late : Bool) (h : Holder) → Stays (takes e n late h)
-takes-stays e n late (holder.Owner p) d = means-stays _ d
-takes-stays e n late (holder.EnclosedIn on) d = refl
 
 if-stays : (b : Bool) (f g : Progress → Progress) → Stays f → Stays g → Stays (λ d. cond b (f d) (g d))
 if-stays true f g f_stays g_stays d = f_stays d
@@ -221,34 +273,11 @@ forget_each-stays k m (j ∷ js) d =
     forget_each-stays k m js (forget_at k m j d)
     ∙ if-stays (nat_eq (bit_at m.trail j) 1 && not (nat_eq j k)) (sends j (packet.Forget m.end m.hops)) (λ u. u) (sends-stays j (packet.Forget m.end m.hops)) (λ u. refl) d
 
-held-stays : (h : Holder) (x : Option HereView) → Stays (held h x)
-held-stays h None d = refl
-held-stays h (Some v) d = keeps-stays v.value.end (entry.Here (record v { holder = h })) d
-
-hold_each-stays : (h : Holder) (xs : List EndId) → Stays (hold_each h xs)
-unfolding hold_each
-hold_each-stays h [] d = refl
-hold_each-stays h (x ∷ xs) d = hold_each-stays h xs (held h (here (d.table x)) d) ∙ held-stays h (here (d.table x)) d
-
-notice_send-stays : (e : EndId) (h : Holder) (o : Outward) → Stays (notice_send e h o)
-unfolding notice_send
-notice_send-stays e h outward.Idle d = refl
-notice_send-stays e h (outward.Waiting n bytes xs) d = hold_each-stays h xs _ ∙ reports-stays h _ d
-notice_send-stays e h (outward.Matched n) d = refl
-notice_send-stays e h outward.Unreported d = refl
-
-notice_receive-stays : (e : EndId) (h : Holder) (i : Inward) → Stays (notice_receive e h i)
-unfolding notice_receive
-notice_receive-stays e h inward.Idle d = refl
-notice_receive-stays e h (inward.Posted w) d = reports-stays h _ d
-notice_receive-stays e h (inward.Withdrawing w) d = answers-stays h _ _ ∙ reports-stays h _ d
-notice_receive-stays e h inward.Unreported d = refl
-
 notices-stays : (k : ℕ) (v : HereView) → Stays (notices k v)
 unfolding notices forgets
 notices-stays k v d =
-    forget_each-stays k v.value kernel_numbers _ ∙ notice_receive-stays v.value.end v.holder v.inward _
-    ∙ notice_send-stays v.value.end v.holder v.outward _ ∙ keeps-stays v.value.end _ d
+    forget_each-stays k v.value kernel_numbers _
+    ∙ (silent-then (silent-then (keeps-silent v.value.end _ d) (notice_send-silent v.value.end v.holder v.outward _)) (notice_receive-silent v.value.end v.holder v.inward _)).stamp
 
 pub notices_first-stays : (k from : ℕ) (v : HereView) → Stays (notices_first k from v)
 unfolding notices_first
@@ -256,63 +285,32 @@ notices_first-stays k from v =
     if-stays v.value.dead (λ d. d) (λ d. sends from (packet.GoneSeen (opposite v.value.end)) (notices k v d)) (λ d. refl)
     (λ d. sends-stays from (packet.GoneSeen (opposite v.value.end)) (notices k v d) ∙ notices-stays k v d)
 
-pub receives-stays : (k n at hops : ℕ) (bytes : List ℕ) (xs : List EndId) (v : HereView) → Stays (receives k n at hops bytes xs v)
-unfolding receives
-receives-stays k n at hops bytes xs v d =
-    sends-stays at _ _
-    ∙ if-stays (is_withdrawing v.inward) (answers v.holder (answer.Refused cause.Late)) (λ u. u) (answers-stays v.holder (answer.Refused cause.Late)) (λ u. refl) _
-    ∙ reports-stays v.holder _ _ ∙ takes-stays v.value.end n (is_withdrawing v.inward) v.holder _ ∙ keeps-stays v.value.end _ d
-
--- no packet is sent
-abbrev pub Silent : (Progress → Progress) → Type 0
-Silent word = (d : Progress) → (word d).packets ≡ d.packets
-
-means-silent : (step : ServiceStep) → Silent (means step)
-unfolding means
-means-silent step d = refl
-
-keeps-silent : (e : EndId) (x : Entry) → Silent (keeps e x)
-unfolding keeps
-keeps-silent e x d = refl
-
-reports-silent : (h : Holder) (r : Report) → Silent (reports h r)
-unfolding reports_to
-reports-silent (holder.Owner p) r d = refl
-reports-silent (holder.EnclosedIn on) r d = refl
-
-answers-silent : (h : Holder) (a : Answer) → Silent (answers h a)
-unfolding answers_to
-answers-silent (holder.Owner p) a d = refl
-answers-silent (holder.EnclosedIn on) a d = refl
-
-takes-silent : (e : EndId) (n : ℕ) (late : Bool) (h : Holder) → Silent (takes e n late h)
-takes-silent e n late (holder.Owner p) d = means-silent _ d
-takes-silent e n late (holder.EnclosedIn on) d = refl
-
-if-silent : (b : Bool) (f g : Progress → Progress) → Silent f → Silent g → Silent (λ d. cond b (f d) (g d))
-if-silent true f g f_silent g_silent d = f_silent d
-if-silent false f g f_silent g_silent d = g_silent d
-
-pub settle_each-silent : (h : Holder) (ms : List MovingPicture) → Silent (settle_each h ms)
-unfolding settle_each
-settle_each-silent h [] d = refl
-settle_each-silent h (m ∷ ms) d = settle_each-silent h ms _ ∙ keeps-silent m.end (entry.Here (settled h m)) d
-
-pub gives_back-silent : (came : List MovingPicture) (v : HereView) → Silent (gives_back came v)
-unfolding gives_back
-gives_back-silent came v d = settle_each-silent v.holder came _ ∙ reports-silent v.holder _ _ ∙ keeps-silent v.value.end _ d
-
 -- one packet more than none
 one_more : (l : Sent) (p : ℕ × Picture) → l ≡ [] → length (l ++ p ∷ []) ≡ 1
 one_more l p none = ap (λ m. length (m ++ p ∷ [])) none
 
--- of a message that is taken one packet is sent
-pub receives-one : (k n at hops : ℕ) (bytes : List ℕ) (xs : List EndId) (v : HereView) (d : Progress) → d.packets ≡ [] → length (receives k n at hops bytes xs v d).packets ≡ 1
-unfolding receives sends
-receives-one k n at hops bytes xs v d none =
-    one_more _ _
-    (if-silent (is_withdrawing v.inward) (answers v.holder (answer.Refused cause.Late)) (λ u. u) (answers-silent v.holder (answer.Refused cause.Late)) (λ u. refl) _
-    ∙ reports-silent v.holder _ _ ∙ takes-silent v.value.end n (is_withdrawing v.inward) v.holder _ ∙ keeps-silent v.value.end _ d ∙ none)
+-- of a message that is taken
+module _ (k n at hops : ℕ) (bytes : List ℕ) (xs : List EndId) (v : HereView) (d : Progress) where
+  abbrev reported : Progress
+  reported =
+      reports v.holder (receive_report v.value.end bytes xs)
+      (takes v.value.end n (is_withdrawing v.inward) v.holder (keeps v.value.end (entry.Here (record (learned_view v at hops) { inward = inward.Unreported })) d))
+
+  -- nothing is sent before its packet
+  before_sent : Silent d (cond (is_withdrawing v.inward) (answers v.holder (answer.Refused cause.Late) reported) reported)
+  before_sent =
+      silent-then
+      (silent-then (silent-then (keeps-silent v.value.end _ d) (takes-silent v.value.end n (is_withdrawing v.inward) v.holder _)) (reports-silent v.holder _ _))
+      (if-silent (is_withdrawing v.inward) reported _ reported (answers-silent v.holder (answer.Refused cause.Late) reported) (silent-same reported))
+
+  pub receives-stays : (receives k n at hops bytes xs v d).stamp ≡ d.stamp
+  unfolding receives
+  receives-stays = sends-stays at _ _ ∙ before_sent.stamp
+
+  -- so one packet is sent
+  pub receives-one : d.packets ≡ [] → length (receives k n at hops bytes xs v d).packets ≡ 1
+  unfolding receives sends
+  receives-one none = one_more _ _ (before_sent.packets ∙ none)
 
 -- ---- the arrivals that are told
 
@@ -344,55 +342,43 @@ tell_arrivals-moves k (m ∷ ms) d =
     first b = if b then [] else (m.hint.0, record { stamp = d.stamp; what = packet.Moved (opposite m.end) k m.hops }) ∷ []
 
 -- What is told of arrivals before a word and another word after it goes behind what the word sends.
-module _ (k : ℕ) (ms : List MovingPicture) (word more : Progress → Progress) (word_adds : Adds word) (more_adds : Adds more) (word_stays : Stays word) where
-  pub order : (d : Progress) → d.packets ≡ [] → put_behind (length (tell_arrivals k ms d).packets) (length (tell_arrivals k ms d).packets + length (word d).packets) (more (word (tell_arrivals k ms d))) ≡ more (tell_arrivals k ms (word d))
+module _ (k : ℕ) (ms : List MovingPicture) (word more : Progress → Progress) (word_adds : Adds word) (more_adds : Adds more) (word_stays : Stays word) (d : Progress) (none : d.packets ≡ []) where
+  abbrev moves_told : Sent
+  moves_told = moves k d.stamp ms
+
+  abbrev word_sent : Sent
+  word_sent = (word d).packets
+
+  abbrev word_bare : Progress
+  word_bare = record (word d) { packets = [] }
+
+  told_is : tell_arrivals k ms d ≡ prefixed moves_told d
+  told_is = tell_arrivals-moves k ms d ∙ ap {A = Sent} {B = Progress} (λ l. record d { packets = l }) (ap (λ l. l ++ moves_told) none ∙ sym (append-nil moves_told) ∙ ap (λ l. moves_told ++ l) (sym none))
+
+  told_packets : (tell_arrivals k ms d).packets ≡ moves_told
+  told_packets = ap (λ u. u.packets) (tell_arrivals-moves k ms d) ∙ ap (λ l. l ++ moves_told) none
+
+  word_is : word d ≡ prefixed word_sent word_bare
+  word_is = ap {A = Sent} {B = Progress} (λ l. record (word d) { packets = l }) (sym (append-nil word_sent))
+
+  after_is : tell_arrivals k ms (word d) ≡ prefixed (word_sent ++ moves_told) word_bare
+  after_is =
+      tell_arrivals-moves k ms (word d)
+      ∙ ap {A = Sent} {B = Progress} (λ l. record (word d) { packets = l }) (ap (λ s. word_sent ++ moves k s ms) (word_stays d) ∙ sym (append-nil (word_sent ++ moves_told)))
+
+  pub order : put_behind (length (tell_arrivals k ms d).packets) (length (tell_arrivals k ms d).packets + length (word d).packets) (more (word (tell_arrivals k ms d))) ≡ more (tell_arrivals k ms (word d))
   unfolding put_behind
-  order d none =
+  order =
       ap (λ n. put_behind n (n + length (word d).packets) (more (word (tell_arrivals k ms d)))) (ap length told_packets)
-      ∙ ap (put_behind (length told) (length told + length sent)) (ap (λ u. more (word u)) told_is ∙ ap more (word_adds told d) ∙ more_adds told (word d) ∙ ap (λ u. prefixed told (more u)) word_is ∙ ap (prefixed told) (more_adds sent (bare (word d))))
-      ∙ ap {A = Sent} {B = Progress} (λ l. record last { packets = l }) (behind-parts told sent last.packets)
-      ∙ sym (more_adds (sent ++ told) (bare (word d)))
+      ∙ ap (put_behind (length moves_told) (length moves_told + length word_sent)) (ap (λ u. more (word u)) told_is ∙ ap more (word_adds moves_told d) ∙ more_adds moves_told (word d) ∙ ap (λ u. prefixed moves_told (more u)) word_is ∙ ap (prefixed moves_told) (more_adds word_sent word_bare))
+      ∙ ap {A = Sent} {B = Progress} (λ l. record (more word_bare) { packets = l }) (behind-parts moves_told word_sent (more word_bare).packets)
+      ∙ sym (more_adds (word_sent ++ moves_told) word_bare)
       ∙ ap more (sym after_is)
-    where
-      bare : Progress → Progress
-      bare u = record u { packets = [] }
-
-      told : Sent
-      told = moves k d.stamp ms
-
-      sent : Sent
-      sent = (word d).packets
-
-      last : Progress
-      last = more (bare (word d))
-
-      told_is : tell_arrivals k ms d ≡ prefixed told d
-      told_is = tell_arrivals-moves k ms d ∙ ap {A = Sent} {B = Progress} (λ l. record d { packets = l }) (ap (λ l. l ++ told) none ∙ sym (append-nil told) ∙ ap (λ l. told ++ l) (sym none))
-
-      told_packets : (tell_arrivals k ms d).packets ≡ told
-      told_packets = ap (λ u. u.packets) (tell_arrivals-moves k ms d) ∙ ap (λ l. l ++ told) none
-
-      word_is : word d ≡ prefixed sent (bare (word d))
-      word_is = ap {A = Sent} {B = Progress} (λ l. record (word d) { packets = l }) (sym (append-nil sent))
-
-      after_is : tell_arrivals k ms (word d) ≡ prefixed (sent ++ told) (bare (word d))
-      after_is =
-          tell_arrivals-moves k ms (word d)
-          ∙ ap {A = Sent} {B = Progress} (λ l. record (word d) { packets = l }) (ap (λ s. sent ++ moves k s ms) (word_stays d) ∙ sym (append-nil (sent ++ told)))
 
   -- how many packets there are then
-  pub order-length : (d : Progress) → d.packets ≡ [] → length (word (tell_arrivals k ms d)).packets ≡ length (tell_arrivals k ms d).packets + length (word d).packets
-  order-length d none =
+  pub order-length : length (word (tell_arrivals k ms d)).packets ≡ length (tell_arrivals k ms d).packets + length (word d).packets
+  order-length =
       ap (λ u. length (word u).packets) told_is
-      ∙ ap (λ u. length u.packets) (word_adds told d)
-      ∙ length-append told (word d).packets
+      ∙ ap (λ u. length u.packets) (word_adds moves_told d)
+      ∙ length-append moves_told (word d).packets
       ∙ ap (λ l. length l + length (word d).packets) (sym told_packets)
-    where
-      told : Sent
-      told = moves k d.stamp ms
-
-      told_is : tell_arrivals k ms d ≡ prefixed told d
-      told_is = tell_arrivals-moves k ms d ∙ ap {A = Sent} {B = Progress} (λ l. record d { packets = l }) (ap (λ l. l ++ told) none ∙ sym (append-nil told) ∙ ap (λ l. told ++ l) (sym none))
-
-      told_packets : (tell_arrivals k ms d).packets ≡ told
-      told_packets = ap (λ u. u.packets) (tell_arrivals-moves k ms d) ∙ ap (λ l. l ++ told) none

@@ -1,21 +1,20 @@
-ghost use Rattle.std.specs.Prelude.{◌≡◌, ◌+◌, ◌*◌, ℕ, Bool, None, length};
+ghost use Rattle.std.specs.Prelude.{◌≡◌, ◌*◌, ℕ, Bool, None, length};
 ghost use Rattle.charlotte_calls.specs.Names.{opposite};
 ghost use Rattle.charlotte_calls.specs.declared.calls.ServiceStep.TheVariants as step;
 ghost use Rattle.charlotte_calls.specs.declared.names.EndId.{EndId};
 ghost use Rattle.charlotte_calls.specs.declared.work.Work.{Work};
-ghost use Rattle.end_table.specs.Entries.{settled};
 ghost use Rattle.end_table.specs.Owned.{owned};
-ghost use Rattle.end_table.specs.Table.{entries, HasPlace, IsHere, IsOfEnd, Puts};
+ghost use Rattle.end_table.specs.Table.{entries, HasPlace, IsHere, IsOfEnd};
 ghost use Rattle.end_table.specs.declared.entry.Entry.TheVariants.{Here};
 ghost use Rattle.kernel_sound.specs.Acts.{acts, acts_on, withdraws, withdraws_posted, AreOfOne};
 ghost use Rattle.kernel_event.specs.Places.{IsPlacedFor};
 ghost use Rattle.kernel_event.specs.Room.{and_ends, room_of_call, Fits, Adds};
-ghost use Rattle.kernel_sound.specs.Ready.{IsReady};
 ghost use Rattle.kernel_sound.specs.Sound.{IsSound};
 ghost use Rattle.kernel_step.specs.Actions.{ends, here};
 ghost use Rattle.kernel_step.specs.Calls.{made_end, makes, posts, withdraws_send, starts_send, encloses, ends_each, ends_here, on_owned, send_causes, refusal, IsCallWith};
-ghost use Rattle.kernel_step.specs.Enclosed.{AreEnclosed};
-ghost use Rattle.kernel_step.specs.Progress.{progress, keeps, means, HasRoom, AddsAtMost};
+ghost use Rattle.kernel_step.specs.Enclosed.{AreEnclosed, IsReady};
+ghost use Rattle.kernel_step.specs.Progress.{progress, means, HasRoom, AddsAtMost};
+ghost use Rattle.kernel_step.specs.declared.bounds.TheConstants.{PACKETS_OF_END};
 
 use cancel_core::{post, start_send, withdraw_receive, withdraw_send};
 use charlotte_calls::{Bytes, Call, EndId, Ends, LinkId, Moving, Pid, ServiceStep, Way, Work};
@@ -79,10 +78,10 @@ fn make(table: &mut Table, made: u32, p: Pid, out: &mut Work)
 /// Destroy: the end is destroyed.
 fn destroy(table: &mut Table, p: Pid, on: EndId, out: &mut Work)
     requires ready { IsReady (entries table.old) on }
-    requires room { HasRoom 9 0 0 1 out.old }
+    requires room { HasRoom PACKETS_OF_END 0 0 1 out.old }
     ensures part { progress (entries table.new) out.new
         ≡ acts_on (owned p (entries table.old on)) (λ v so_far. ends table.old.kernel v (means (step.Destroy on) so_far)) (progress (entries table.old) out.old) }
-    ensures room { AddsAtMost 9 0 0 1 out.old out.new }
+    ensures room { AddsAtMost PACKETS_OF_END 0 0 1 out.old out.new }
     ensures kernel { table.new.kernel ≡ table.old.kernel }
 {
     if let Some(_living) = table.owned(p, on) {
@@ -183,10 +182,10 @@ fn enclose_each(table: &mut Table, on: EndId, ends: &[EndId], out: &mut Work)
 /// Exit: each end of the caller is destroyed.
 fn exit(table: &mut Table, p: Pid, mine: &[EndId], out: &mut Work)
     requires ends { AreOfOne table.old.kernel (entries table.old) mine.now }
-    requires room { HasRoom (9 * length mine.now) 0 0 1 out.old }
+    requires room { HasRoom (PACKETS_OF_END * length mine.now) 0 0 1 out.old }
     ensures part { progress (entries table.new) out.new
         ≡ ends_each table.old.kernel mine.now (means (step.Exit p) (progress (entries table.old) out.old)) }
-    ensures room { AddsAtMost (9 * length mine.now) 0 0 1 out.old out.new }
+    ensures room { AddsAtMost (PACKETS_OF_END * length mine.now) 0 0 1 out.old out.new }
     ensures kernel { table.new.kernel ≡ table.old.kernel }
 {
     push_step(out, ServiceStep::Exit { p });
@@ -196,10 +195,10 @@ fn exit(table: &mut Table, p: Pid, mine: &[EndId], out: &mut Work)
 /// END of each of these ends, in order.
 fn destroy_each(table: &mut Table, ends: &[EndId], out: &mut Work)
     requires ends { AreOfOne table.old.kernel (entries table.old) ends.now }
-    requires room { HasRoom (9 * length ends.now) 0 0 0 out.old }
+    requires room { HasRoom (PACKETS_OF_END * length ends.now) 0 0 0 out.old }
     ensures part { progress (entries table.new) out.new
         ≡ ends_each table.old.kernel ends.now (progress (entries table.old) out.old) }
-    ensures room { AddsAtMost (9 * length ends.now) 0 0 0 out.old out.new }
+    ensures room { AddsAtMost (PACKETS_OF_END * length ends.now) 0 0 0 out.old out.new }
     ensures kernel { table.new.kernel ≡ table.old.kernel }
 {
     match first_of(ends) {
@@ -214,10 +213,10 @@ fn destroy_each(table: &mut Table, ends: &[EndId], out: &mut Work)
 /// END of an end that may be here.
 fn destroy_here(table: &mut Table, on: EndId, out: &mut Work)
     requires ready { IsReady (entries table.old) on }
-    requires room { HasRoom 9 0 0 0 out.old }
+    requires room { HasRoom PACKETS_OF_END 0 0 0 out.old }
     ensures part { progress (entries table.new) out.new
         ≡ ends_here table.old.kernel (here (entries table.old on)) (progress (entries table.old) out.old) }
-    ensures room { AddsAtMost 9 0 0 0 out.old out.new }
+    ensures room { AddsAtMost PACKETS_OF_END 0 0 0 out.old out.new }
     ensures kernel { table.new.kernel ≡ table.old.kernel }
 {
     if let Lent::Here(_) = table.lend(on) {

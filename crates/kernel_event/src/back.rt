@@ -1,4 +1,4 @@
-ghost use Rattle.std.specs.Prelude.{◌≡◌, ℕ, ◌&&◌, not, [], Some, None};
+ghost use Rattle.std.specs.Prelude.{◌≡◌, ◌&&◌, not, [], Some, None};
 ghost use Rattle.charlotte_calls.specs.declared.names.EndId.{EndId};
 ghost use Rattle.end_table.specs.Table.{entries};
 ghost use Rattle.end_table.specs.declared.entry.Entry.{Entry};
@@ -7,6 +7,7 @@ ghost use Rattle.kernel_event.specs.Places.{ArePlaced};
 ghost use Rattle.kernel_step.specs.Actions.{is_withdrawing};
 ghost use Rattle.kernel_step.specs.Progress.{progress, HasRoom, AddsAtMost};
 ghost use Rattle.kernel_step.specs.Rows.{awaits, back_row, means_back};
+ghost use Rattle.kernel_step.specs.declared.bounds.TheConstants.{MOST_ENDS, PACKETS_OF_BACK};
 
 use crate::carried::{arriving, is_here, passing};
 use crate::death::notice_first;
@@ -29,10 +30,10 @@ pub(crate) struct Returned {
 pub(crate) fn back(table: &mut Table, made: u32, returned: Returned, moving: Cargo, out: &mut Work)
     requires placed { ArePlaced table.old moving }
     requires first { out.old.packets.items ≡ [] }
-    requires room { HasRoom 17 3 1 1 out.old }
+    requires room { HasRoom PACKETS_OF_BACK 3 1 1 out.old }
     ensures part { progress (entries table.new) out.new
         ≡ back_row table.old.kernel made returned.from returned.to returned.n moving (awaits returned.n (entries table.old returned.to)) (progress (entries table.old) out.old) }
-    ensures room { AddsAtMost 17 3 1 1 out.old out.new }
+    ensures room { AddsAtMost PACKETS_OF_BACK 3 1 1 out.old out.new }
     ensures kernel { table.new.kernel ≡ table.old.kernel }
 {
     match sender(table, returned.to, returned.n) {
@@ -48,10 +49,10 @@ pub(crate) fn back(table: &mut Table, made: u32, returned: Returned, moving: Car
 fn end_brought(table: &mut Table, made: u32, returned: Returned, moving: Cargo, out: &mut Work)
     requires unmatched { awaits returned.n (entries table.old returned.to) ≡ None }
     requires placed { ArePlaced table.old moving }
-    requires room { HasRoom 8 1 0 1 out.old }
+    requires room { HasRoom MOST_ENDS 1 0 1 out.old }
     ensures part { progress (entries table.new) out.new
         ≡ back_row table.old.kernel made returned.from returned.to returned.n moving None (progress (entries table.old) out.old) }
-    ensures room { AddsAtMost 8 1 0 1 out.old out.new }
+    ensures room { AddsAtMost MOST_ENDS 1 0 1 out.old out.new }
     ensures kernel { table.new.kernel ≡ table.old.kernel }
 {
     let Returned { to, n, .. } = returned;
@@ -100,10 +101,10 @@ fn take_back(
     requires here { entries table.old view.value.end ≡ Here view }
     requires placed { ArePlaced table.old moving }
     requires first { out.old.packets.items ≡ [] }
-    requires room { HasRoom 17 3 1 1 out.old }
+    requires room { HasRoom PACKETS_OF_BACK 3 1 1 out.old }
     ensures part { progress (entries table.new) out.new
         ≡ back_row table.old.kernel made returned.from returned.to returned.n moving (Some view) (progress (entries table.old) out.old) }
-    ensures room { AddsAtMost 17 3 1 1 out.old out.new }
+    ensures room { AddsAtMost PACKETS_OF_BACK 3 1 1 out.old out.new }
     ensures kernel { table.new.kernel ≡ table.old.kernel }
 {
     let Returned { from, to, n } = returned;

@@ -5,6 +5,7 @@ ghost use Rattle.end_table.specs.Table.{entries};
 ghost use Rattle.end_table.specs.declared.entry.Holder.{Holder};
 ghost use Rattle.kernel_step.specs.Rows.{is_carried, passing, arriving, ends_in, is_here as here_now};
 ghost use Rattle.kernel_event.specs.Arrived.{with_here};
+ghost use Rattle.kernel_step.specs.declared.bounds.TheConstants.{MOST_ENDS};
 
 use charlotte_calls::{Cargo, EndId, Moving};
 use end_table::{Lent, Table};
@@ -21,7 +22,7 @@ pub(crate) fn passing(table: &Table, made: u32, moving: Cargo) -> Cargo
 }
 
 fn add_passing(table: &Table, made: u32, mut moving: Cargo, passed: &mut Cargo)
-    requires { length passed.old + length moving ≤ 8 }
+    requires { length passed.old + length moving ≤ MOST_ENDS }
     ensures { passed.new ≡ passed.old ++ passing table.now.kernel made (entries table.now) moving }
 {
     match moving.next() {
@@ -45,7 +46,7 @@ pub(crate) fn arriving(table: &Table, made: u32, moving: Cargo) -> Cargo
 
 #[tactic(auto, using(crate::proofs::CarriedValues::arrivings))]
 fn add_arriving(table: &Table, made: u32, mut moving: Cargo, came: &mut Cargo)
-    requires { length came.old + length moving ≤ 8 }
+    requires { length came.old + length moving ≤ MOST_ENDS }
     ensures { (h : Holder) → came.new ≡ came.old ++ arriving table.now.kernel made h (with_here h came.old (entries table.now)) moving }
 {
     match moving.next() {
@@ -94,7 +95,7 @@ fn has_end(cargo: &Cargo, end: EndId) -> bool
 
 /// Adds a value that is carried, and spends another.
 fn add_if(carried: bool, value: Moving, cargo: &mut Cargo)
-    requires { length cargo.old < 8 }
+    requires { length cargo.old < MOST_ENDS }
     ensures { cargo.new ≡ (if carried then cargo.old ++ value ∷ [] else cargo.old) }
 {
     if carried {

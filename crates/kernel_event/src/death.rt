@@ -5,9 +5,10 @@ ghost use Rattle.charlotte_calls.specs.declared.picture.PictureWhat.TheVariants 
 ghost use Rattle.end_table.specs.Table.{entries};
 ghost use Rattle.end_table.specs.declared.entry.Entry.{Entry};
 ghost use Rattle.end_table.specs.declared.entry.Entry.TheVariants.{Here};
-ghost use Rattle.kernel_sound.specs.Ready.{IsReady};
+ghost use Rattle.kernel_step.specs.Enclosed.{IsReady};
 ghost use Rattle.kernel_step.specs.Progress.{progress, sends, HasRoom, AddsAtMost};
 ghost use Rattle.kernel_step.specs.Rows.{notices_first};
+ghost use Rattle.kernel_step.specs.declared.bounds.TheConstants.{PACKETS_OF_NOTICE};
 
 use cancel_core::notice;
 use charlotte_calls::{EndId, What, Work};
@@ -20,10 +21,10 @@ use kernel_step::push_packet;
 pub(crate) fn notice_first(table: &mut Table, from: u8, view: HereView, out: &mut Work)
     requires here { entries table.old view.value.end ≡ Here view }
     requires ready { IsReady (entries table.old) view.value.end }
-    requires room { HasRoom 9 2 1 0 out.old }
+    requires room { HasRoom PACKETS_OF_NOTICE 2 1 0 out.old }
     ensures part { progress (entries table.new) out.new
         ≡ notices_first table.old.kernel from view (progress (entries table.old) out.old) }
-    ensures room { AddsAtMost 9 2 1 0 out.old out.new }
+    ensures room { AddsAtMost PACKETS_OF_NOTICE 2 1 0 out.old out.new }
     ensures kernel { table.new.kernel ≡ table.old.kernel }
 {
     if view.value.dead {

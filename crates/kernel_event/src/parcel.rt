@@ -3,6 +3,7 @@ ghost use Rattle.end_table.specs.Table.{entries};
 ghost use Rattle.kernel_event.specs.Places.{ArePlaced};
 ghost use Rattle.kernel_step.specs.Progress.{progress, HasRoom, AddsAtMost};
 ghost use Rattle.kernel_step.specs.Rows.{asks, parcel_row};
+ghost use Rattle.kernel_step.specs.declared.bounds.TheConstants.{MOST_ENDS, PACKETS_OF_PARCEL};
 
 use crate::carried::{arriving, passing};
 use crate::order::put_behind;
@@ -30,10 +31,10 @@ pub(crate) struct Message {
 pub(crate) fn parcel(table: &mut Table, made: u32, message: Message, moving: Cargo, out: &mut Work)
     requires placed { ArePlaced table.old moving }
     requires first { out.old.packets.items ≡ [] }
-    requires room { HasRoom 11 1 1 1 out.old }
+    requires room { HasRoom PACKETS_OF_PARCEL 1 1 1 out.old }
     ensures part { progress (entries table.new) out.new
         ≡ parcel_row table.old.kernel made message.to message.n message.at message.hops message.bytes moving (asks message.w (entries table.old message.to)) (progress (entries table.old) out.old) }
-    ensures room { AddsAtMost 11 1 1 1 out.old out.new }
+    ensures room { AddsAtMost PACKETS_OF_PARCEL 1 1 1 out.old out.new }
     ensures kernel { table.new.kernel ≡ table.old.kernel }
 {
     match receiver(table, message.to, message.w) {
@@ -46,10 +47,10 @@ pub(crate) fn parcel(table: &mut Table, made: u32, message: Message, moving: Car
 fn pass_parcel(table: &mut Table, made: u32, message: &Message, moving: Cargo, out: &mut Work)
     requires unasked { asks message.now.w (entries table.old message.now.to) ≡ None }
     requires placed { ArePlaced table.old moving }
-    requires room { HasRoom 8 0 0 0 out.old }
+    requires room { HasRoom MOST_ENDS 0 0 0 out.old }
     ensures part { (hops : ℕ) (bytes : List ℕ) → progress (entries table.new) out.new
         ≡ parcel_row table.old.kernel made message.now.to message.now.n message.now.at hops bytes moving None (progress (entries table.old) out.old) }
-    ensures room { AddsAtMost 8 0 0 0 out.old out.new }
+    ensures room { AddsAtMost MOST_ENDS 0 0 0 out.old out.new }
     ensures kernel { table.new.kernel ≡ table.old.kernel }
 {
     let passed = passing(table, made, moving);
@@ -63,10 +64,10 @@ fn take_parcel(table: &mut Table, made: u32, message: Message, moving: Cargo, ou
     requires asked { IsSome (asks message.w (entries table.old message.to)) }
     requires placed { ArePlaced table.old moving }
     requires first { out.old.packets.items ≡ [] }
-    requires room { HasRoom 11 1 1 1 out.old }
+    requires room { HasRoom PACKETS_OF_PARCEL 1 1 1 out.old }
     ensures part { progress (entries table.new) out.new
         ≡ parcel_row table.old.kernel made message.to message.n message.at message.hops message.bytes moving (asks message.w (entries table.old message.to)) (progress (entries table.old) out.old) }
-    ensures room { AddsAtMost 11 1 1 1 out.old out.new }
+    ensures room { AddsAtMost PACKETS_OF_PARCEL 1 1 1 out.old out.new }
     ensures kernel { table.new.kernel ≡ table.old.kernel }
 {
     let Message {

@@ -4,11 +4,12 @@ ghost use Rattle.charlotte_calls.specs.declared.names.EndId.{EndId};
 ghost use Rattle.end_table.specs.Table.{entries};
 ghost use Rattle.end_table.specs.declared.entry.Entry.{Entry};
 ghost use Rattle.end_table.specs.declared.entry.Entry.TheVariants.{Here};
-ghost use Rattle.kernel_sound.specs.Ready.{IsReady};
+ghost use Rattle.kernel_step.specs.Enclosed.{IsReady};
 ghost use Rattle.kernel_event.specs.Places.{ArePlaced, brought};
 ghost use Rattle.kernel_event.specs.Room.{room_of_packet, Fits, Adds};
 ghost use Rattle.kernel_step.specs.Progress.{progress, HasRoom, AddsAtMost};
 ghost use Rattle.kernel_step.specs.Rows.{row, gone_row, gone_here};
+ghost use Rattle.kernel_step.specs.declared.bounds.TheConstants.{PACKETS_OF_NOTICE};
 
 use crate::back::{Returned, back};
 use crate::death::{notice_first, tell_seen};
@@ -66,10 +67,10 @@ pub fn row(table: &mut Table, made: u32, from: u8, what: What, out: &mut Work)
 /// The row gone: the opposite end, at kernel `at`, is destroyed.
 fn gone(table: &mut Table, to: EndId, at: u8, out: &mut Work)
     requires ready { IsReady (entries table.old) to }
-    requires room { HasRoom 9 2 1 1 out.old }
+    requires room { HasRoom PACKETS_OF_NOTICE 2 1 1 out.old }
     ensures part { progress (entries table.new) out.new
         ≡ gone_row table.old.kernel to at (entries table.old to) (progress (entries table.old) out.old) }
-    ensures room { AddsAtMost 9 2 1 1 out.old out.new }
+    ensures room { AddsAtMost PACKETS_OF_NOTICE 2 1 1 out.old out.new }
     ensures kernel { table.new.kernel ≡ table.old.kernel }
 {
     match table.look(to) {
@@ -88,10 +89,10 @@ fn gone(table: &mut Table, to: EndId, at: u8, out: &mut Work)
 fn gone_here(table: &mut Table, view: HereView, at: u8, out: &mut Work)
     requires here { entries table.old view.value.end ≡ Here view }
     requires ready { IsReady (entries table.old) view.value.end }
-    requires room { HasRoom 9 2 1 1 out.old }
+    requires room { HasRoom PACKETS_OF_NOTICE 2 1 1 out.old }
     ensures part { progress (entries table.new) out.new
         ≡ gone_here table.old.kernel at view (progress (entries table.old) out.old) }
-    ensures room { AddsAtMost 9 2 1 1 out.old out.new }
+    ensures room { AddsAtMost PACKETS_OF_NOTICE 2 1 1 out.old out.new }
     ensures kernel { table.new.kernel ≡ table.old.kernel }
 {
     let on = view.value.end;

@@ -14,7 +14,7 @@ use Rattle.end_table.specs.declared.entry.Holder.TheVariants as holder
 use Rattle.end_table.specs.declared.entry.Holder.{Holder}
 use Rattle.kernel_sound.proofs.Rows.{row-well}
 use Rattle.kernel_sound.specs.Owners.{owner_in, owner_of}
-use Rattle.kernel_sound.specs.Sound.{IsSound, IsHeldWell, AreFor, GoesWell, addressee}
+use Rattle.kernel_sound.specs.Sound.{IsSound, IsHeldWell, AreFor, addressee}
 use Rattle.kernel_process.specs.Parts.{process_state, no_process, process_at, with_parts}
 use Rattle.kernel_process.specs.Parts.{process_state, process_at, with_parts}
 use Rattle.kernel_process.specs.declared.process.ControlBlock.{ControlBlock}

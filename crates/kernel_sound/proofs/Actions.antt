@@ -1,5 +1,5 @@
 -- What goes well of the actions of which calls and packets are made.
-use Rattle.std.proofs.Common.{◌≡◌, ℕ, Bool, true, false, inl, inr, List, [], refl, sym, ap, subst, ◌∙◌, if◌then◌else◌}
+use Rattle.std.proofs.Common.{◌≡◌, ℕ, Bool, true, false, inl, inr, List, [], refl, ap, subst, ◌∙◌, if◌then◌else◌}
 use Rattle.charlotte_calls.specs.Names.{opposite}
 use Rattle.charlotte_calls.specs.declared.calls.Answer.TheVariants as answer
 use Rattle.charlotte_calls.specs.declared.calls.Cause.TheVariants as cause
@@ -9,25 +9,23 @@ use Rattle.charlotte_calls.specs.declared.names.Outcome.TheVariants as outcome
 use Rattle.charlotte_calls.specs.declared.names.Pid.{Pid}
 use Rattle.charlotte_calls.specs.declared.picture.MovingPicture.{MovingPicture}
 use Rattle.charlotte_calls.specs.declared.picture.PictureWhat.TheVariants as packet
-use Rattle.end_table.specs.Entries.{learned, is_news, ended_entry}
+use Rattle.end_table.specs.Entries.{learned, is_news}
 use Rattle.end_table.specs.Table.{IfHere, IsOfEnd}
 use Rattle.end_table.specs.declared.entry.Entry.{Entry}
 use Rattle.end_table.specs.declared.entry.Entry.TheVariants as entry
 use Rattle.end_table.specs.declared.entry.HereView.{HereView}
 use Rattle.end_table.specs.declared.entry.Holder.{Holder}
-use Rattle.end_table.specs.declared.entry.Holder.TheVariants as holder
 use Rattle.end_table.specs.declared.entry.Inward.{Inward}
 use Rattle.end_table.specs.declared.entry.Inward.TheVariants as inward
 use Rattle.end_table.specs.declared.entry.Outward.{Outward}
 use Rattle.end_table.specs.declared.entry.Outward.TheVariants as outward
-use Rattle.kernel_step.specs.Actions.{enclosed_of, forgets, send_report, dead_receive_report, hint_kernel, values_leaving, leave_each, matches, match_waiting, end_each, ends, noticed_value, noticed_outward, noticed_inward, notice_send, notice_receive, notices, hears, resends_on_news, listens, reports}
+use Rattle.kernel_step.specs.Actions.{enclosed_of, forgets, send_report, dead_receive_report, hint_kernel, values_leaving, leave_each, matches, match_waiting, noticed_value, noticed_outward, noticed_inward, notice_send, notice_receive, notices, learned_view, resends_on_news, learns, reports}
 use Rattle.kernel_step.specs.Progress.{Progress, keeps, means}
-use Rattle.kernel_sound.proofs.Put.{ended-IsHere}
-use Rattle.kernel_sound.specs.Sound.{IsHeldWell, GoesWell}
-use Rattle.kernel_sound.proofs.Put.{IsHolder, IsViewAfter, IsHolder-held, IsFreeFor-owned, IfHere-away, put-sound}
-use Rattle.kernel_sound.proofs.Tells.{forgets-tells, tells_gone-tells, resends_on_news-tells, tells-same}
-use Rattle.kernel_sound.proofs.Goes.{IsOfEnd-ended, tells-well, sends-well, means-well, reports-well, answers-well, keeps-well-touched, keeps-well-view}
-use Rattle.kernel_sound.proofs.Lists.{IsReleasing, reports-releasing, releasing-first, leave_each-well, end_each-well, hold_each-well}
+use Rattle.kernel_sound.specs.Sound.{IsHeldWell}
+use Rattle.kernel_sound.proofs.Put.{IsHolder, IsViewAfter, IsHolder-held}
+use Rattle.kernel_sound.proofs.Sends.{forgets-only, resends_on_news-only, only-same}
+use Rattle.kernel_sound.proofs.Goes.{GoesWell, only-well, sends-well, means-well, reports-well, answers-well, keeps-well-view}
+use Rattle.kernel_sound.proofs.Lists.{IsReleasing, reports-releasing, releasing-first, leave_each-well, hold_each-well}
 
 -- news of the opposite end changes no name
 pub learned-end : (at hops : ℕ) (m : MovingPicture) → (learned at hops m).end ≡ m.end
@@ -38,8 +36,8 @@ learned-end at hops m = by (is_news m hops)
     by false = refl
 
 -- nor any activity
-pub IsViewAfter-hears : (v : HereView) (at hops : ℕ) → IsViewAfter v (hears v at hops)
-IsViewAfter-hears v at hops = record { end = learned-end at hops v.value; holder = refl; idle = λ is. record { outward = is.outward; inward = is.inward }; message = inl refl }
+pub IsViewAfter-learned : (v : HereView) (at hops : ℕ) → IsViewAfter v (learned_view v at hops)
+IsViewAfter-learned v at hops = record { end = learned-end at hops v.value; holder = refl; idle = λ is. record { outward = is.outward; inward = is.inward }; message = inl refl }
 
 -- an end whose death is noticed has no message that waits
 pub enclosed_of-noticed : (o : Outward) → enclosed_of (noticed_outward o) ≡ []
@@ -69,11 +67,11 @@ module _ {k made n : ℕ} {touches : Pid → EndId → Bool} {before : EndId →
 
   -- its traces are forgotten
   pub forgets-well : (m : MovingPicture) (d : Progress) → GoesWell k made n touches before d → GoesWell k made n touches before (forgets k m d)
-  forgets-well m d w = tells-well (forgets-tells k m d (tells-same d)) w
+  forgets-well m d w = only-well (forgets-only k m d (only-same d)) w
 
   -- its live packets go again
   pub news-well : (was : MovingPicture) (hops : ℕ) (m : MovingPicture) (i : Inward) (d : Progress) → GoesWell k made n touches before d → GoesWell k made n touches before (resends_on_news k was hops m i d)
-  news-well was hops m i d w = tells-well (resends_on_news-tells k was hops m i d (tells-same d)) w
+  news-well was hops m i d w = only-well (resends_on_news-only k was hops m i d (only-same d)) w
 
   -- the view of an end changes that its packet or its process touches
   pub view-well : (e : EndId) (v u : HereView) (d : Progress) → d.table e ≡ entry.Here v → ((p : Pid) → touches p e ≡ true) → IsViewAfter v u → GoesWell k made n touches before d → GoesWell k made n touches before (keeps u.value.end (entry.Here u) d)
@@ -83,7 +81,7 @@ module _ {k made n : ℕ} {touches : Pid → EndId → Bool} {before : EndId →
   pub view-well-own : (e : EndId) (v u : HereView) (d : Progress) → d.table e ≡ entry.Here v → ((p : Pid) → touches p e ≡ true) → IsViewAfter v u → GoesWell k made n touches before d → GoesWell k made n touches before (keeps v.value.end (entry.Here u) d)
   view-well-own e v u d here touched after w = keeps-well-view e v.value.end v u d (end-here e v d w here) here touched after w
 
-  -- MATCH; u is the view with what was heard last
+  -- MATCH; u is the view with what was learned last
   pub matches-well : (e : EndId) (v u : HereView) (m : ℕ) (bytes : List ℕ) (xs : List EndId) (d : Progress) → d.table e ≡ entry.Here v → v.outward ≡ outward.Waiting m bytes xs → u.value.end ≡ v.value.end → u.holder ≡ v.holder → ((p : Pid) → touches p e ≡ true) → GoesWell k made n touches before d → GoesWell k made n touches before (matches k u m bytes xs d)
   unfolding matches
   matches-well e v u m bytes xs d here waits end holds touched w =
@@ -110,19 +108,6 @@ module _ {k made n : ℕ} {touches : Pid → EndId → Bool} {before : EndId →
       by (outward.Waiting m bytes xs) is = matches-well e v u m bytes xs d here is after.end after.holder touched w
       by (outward.Matched m) is = view-well e v u d here touched after w
       by outward.Unreported is = view-well e v u d here touched after w
-
-  -- END of an end that a process owns
-  pub ends-well : (e : EndId) (v : HereView) (p : Pid) (d : Progress) → d.table e ≡ entry.Here v → v.holder ≡ holder.Owner p → ((p : Pid) → touches p e ≡ true) → GoesWell k made n touches before d → GoesWell k made n touches before (ends k v d)
-  unfolding ends
-  ends-well e v p d here owner touched w =
-      let own : v.value.end ≡ e = end-here e v d w here in
-      let gone = ended-IsHere v.value in
-      let x : Entry = ended_entry v.value in
-      let kept : Progress = keeps v.value.end x d in
-      let sound = put-sound e x w.sound (IsFreeFor-owned d.table e x v p here owner) (IsOfEnd-ended v.value e own) (IfHere-away x _ gone) (IfHere-away x _ gone) (λ maker count is. gone is) in
-      let well : GoesWell k made n touches before kept = subst (λ z. GoesWell k made n touches before (keeps z x d)) (sym own) (keeps-well-touched e x d sound touched w) in
-      let ended : GoesWell k made n touches before (end_each k (enclosed_of v.outward) kept) = end_each-well e (enclosed_of v.outward) kept (releasing-first e v.value.end v x d own here (IfHere-away x _ gone) w well) in
-      tells-well (tells_gone-tells k v.value (end_each k (enclosed_of v.outward) kept) (tells-same _)) ended
 
   -- NOTICE of a send
   pub notice_send-well : (e f : EndId) (h : Holder) (o : Outward) (d : Progress) → IsHolder n h → IsReleasing k made n touches before e (enclosed_of o) d → GoesWell k made n touches before (notice_send f h o d)
@@ -157,9 +142,9 @@ module _ {k made n : ℕ} {touches : Pid → EndId → Bool} {before : EndId →
       forgets-well v.value received (notice_receive-well v.value.end v.holder v.inward sent holds (notice_send-well e v.value.end v.holder v.outward kept holds releasing))
 
   -- LEARN
-  pub listens-well : (e : EndId) (at hops : ℕ) (v : HereView) (d : Progress) → d.table e ≡ entry.Here v → ((p : Pid) → touches p e ≡ true) → GoesWell k made n touches before d → GoesWell k made n touches before (listens k at hops v d)
-  unfolding listens
-  listens-well e at hops v d here touched w =
-      let heard : HereView = hears v at hops in
-      let kept : Progress = keeps v.value.end (entry.Here heard) d in
-      news-well v.value hops heard.value v.inward kept (view-well-own e v heard d here touched (IsViewAfter-hears v at hops) w)
+  pub learns-well : (e : EndId) (at hops : ℕ) (v : HereView) (d : Progress) → d.table e ≡ entry.Here v → ((p : Pid) → touches p e ≡ true) → GoesWell k made n touches before d → GoesWell k made n touches before (learns k at hops v d)
+  unfolding learns
+  learns-well e at hops v d here touched w =
+      let informed : HereView = learned_view v at hops in
+      let kept : Progress = keeps v.value.end (entry.Here informed) d in
+      news-well v.value hops informed.value v.inward kept (view-well-own e v informed d here touched (IsViewAfter-learned v at hops) w)

@@ -1,5 +1,5 @@
 -- A call that is not refused goes well.
-use Rattle.std.proofs.Common.{◌≡◌, ℕ, ◌<◌, Bool, List, Option, Some, None, refl, sym}
+use Rattle.std.proofs.Common.{◌≡◌, ℕ, ◌<◌, Bool, true, nat_eq, List, Option, Some, None, refl, sym}
 use Rattle.charlotte_calls.specs.declared.calls.Call.{Call}
 use Rattle.charlotte_calls.specs.declared.calls.Call.TheVariants as call
 use Rattle.charlotte_calls.specs.declared.calls.ServiceStep.TheVariants as step
@@ -13,14 +13,23 @@ use Rattle.end_table.specs.declared.entry.HereView.{HereView}
 use Rattle.end_table.specs.declared.entry.Holder.TheVariants as holder
 use Rattle.end_table.specs.declared.entry.Inward.{Inward}
 use Rattle.end_table.specs.declared.entry.Inward.TheVariants as inward
-use Rattle.kernel_sound.proofs.Needs.{granted-at}
-use Rattle.kernel_sound.proofs.Needs.{owned-here}
+use Rattle.kernel_sound.proofs.Needs.{granted-at, owned-here}
 use Rattle.kernel_sound.proofs.Calls.{AreOwnedBy-all, destroys-well, ends_each-well, makes-well, posts-well, starts_send-well, withdraws_receive-well, withdraws_send-well}
-use Rattle.kernel_sound.proofs.Goes.{means-well}
-use Rattle.kernel_sound.specs.Acts.{Covers, acts, acts_on, made_after, withdraws_posted}
-use Rattle.kernel_sound.specs.Sound.{GoesWell}
+use Rattle.kernel_sound.proofs.Goes.{GoesWell, means-well}
+use Rattle.kernel_sound.specs.Acts.{acts, acts_on, made_after, withdraws_posted}
 use Rattle.kernel_step.specs.Calls.{IsCallWith, refusal}
 use Rattle.kernel_step.specs.Progress.{Progress, means}
+
+-- these touches have the end that the call is on, and for an Exit all that its process has
+abbrev pub Covers : (Pid → EndId → Bool) → Pid → Call → Type 0
+Covers touches p call.Make = Unit {0}
+Covers touches p (call.Destroy on) = (q : Pid) → touches q on ≡ true
+Covers touches p (call.Send on bytes xs) = (q : Pid) → touches q on ≡ true
+Covers touches p (call.Receive on) = (q : Pid) → touches q on ≡ true
+Covers touches p (call.Cancel on w) = (q : Pid) → touches q on ≡ true
+Covers touches p call.Wait = Unit {0}
+Covers touches p (call.Print bytes) = Unit {0}
+Covers touches p call.Exit = (q : Pid) (e : EndId) → touches q e ≡ nat_eq p.0 q.0
 
 -- a call on an end that its process owns goes well where its part does
 on-well : (P : Progress → Type 0) (part : HereView → Progress → Progress) (p : Pid) (on : EndId) (d : Progress)

@@ -20,15 +20,15 @@ use Rattle.end_table.specs.declared.entry.HereView.{HereView}
 use Rattle.end_table.specs.declared.entry.Holder.TheVariants as holder
 use Rattle.end_table.specs.declared.entry.Outward.TheVariants as outward
 use Rattle.kernel_sound.proofs.Needs.{owner-is_owner, AreFree, AreFree-others, IfHere-at, apart_at-sound, held-other, held-own, hold_each-other, send-apart, send-free}
-use Rattle.kernel_sound.proofs.Goes.{IsOfEnd-ended, keeps-well, keeps-well-quiet, keeps-well-settled, means-well, sends-well, tells-well}
-use Rattle.kernel_sound.proofs.Lists.{IsReleasing, end_each-well, hold_each-well, leave_each-well, tells-releasing}
+use Rattle.kernel_sound.proofs.Goes.{GoesWell, IsOfEnd-ended, keeps-well, keeps-well-quiet, keeps-well-settled, means-well, sends-well, only-well}
+use Rattle.kernel_sound.proofs.Lists.{IsReleasing, end_each-well, hold_each-well, leave_each-well, only-releasing}
 use Rattle.kernel_sound.proofs.Put.{AreHeldBy-others, HasNoMessage, IfHere-away, IsFreeFor-owned, IsHeldBy, IsHolder, IsHolder-held, IsQuiet, made-here, put-each, put-sound}
-use Rattle.kernel_sound.proofs.Tells.{means-tells, tells-same, tells_gone-tells}
-use Rattle.kernel_sound.specs.Sound.{AreHeldBy, GoesWell, IsHeldWell, IsSound}
+use Rattle.kernel_sound.proofs.Sends.{means-only, only-same, tells_gone-only}
+use Rattle.kernel_sound.specs.Sound.{AreHeldBy, IsHeldWell, IsSound}
 use Rattle.kernel_step.specs.Actions.{enclosed_of, end_each, ends, ends_idle, ends_idle_here, here, held, hold_each, matches, tells_gone}
 use Rattle.kernel_step.specs.Calls.{encloses, ends_each, ends_here, first_of, is_active, made_end, makes, posts, send_causes, starts_send, withdraws_receive, withdraws_send}
 use Rattle.kernel_step.specs.Progress.{Progress, keeps, means}
-use Rattle.kernel_sound.proofs.Put.{ended-IsHere}
+use Rattle.kernel_step.proofs.Departed.{ended-IsHere}
 
 -- the process of an owner is one of the first
 below-owned : (n : ℕ) (x : Entry) (v : HereView) (p : Pid) → x ≡ entry.Here v → v.holder ≡ holder.Owner p → IfHere x (λ u. IsHeldWell n u u.holder) → p.0 < n
@@ -157,7 +157,7 @@ module _ {k made n : ℕ} {touches : Pid → EndId → Bool} {before : EndId →
   ends-owned : (on : EndId) (v : HereView) (p : Pid) (d : Progress) → IsOwnedAt k made n touches before on v p d → GoesWell k made n touches before (ends k v d)
   unfolding ends
   ends-owned on v p d o =
-      tells-well (tells_gone-tells k v.value _ (tells-same _))
+      only-well (tells_gone-only k v.value _ (only-same _))
       (end_each-well on (enclosed_of v.outward) (keeps v.value.end (ended_entry v.value) d)
       (kept-released on v p d (ended_entry v.value) o (IsOwnAfter-ended on v o.well.sound o.at) (IfHere-away (ended_entry v.value) _ (ended-IsHere v.value))))
 
@@ -172,7 +172,7 @@ module _ {k made n : ℕ} {touches : Pid → EndId → Bool} {before : EndId →
   unfolding withdraws_send
   withdraws_send-owned on v p d o =
       hold_each-well v.holder on (enclosed_of v.outward) _ (IsHolder-held n v v.holder (IfHere-at (d.table on) v (λ u. IsHeldWell n u u.holder) o.at (o.well.sound.held on)))
-      (tells-releasing on (enclosed_of v.outward) (means-tells _ _ (tells-same _))
+      (only-releasing on (enclosed_of v.outward) (means-only _ _ (only-same _))
       (kept-released on v p d _ o (IsOwnAfter-none on v (record v { outward = outward.Idle }) o.well.sound o.at refl refl refl) refl))
 
   -- Cancel of a receive
@@ -359,14 +359,14 @@ module _ (P : HereView → Type 0) (k : ℕ) where
   ended-stays m d q h = put-each (λ _ z. IfHere z P) d.table m.end (ended_entry m) (IfHere-away (ended_entry m) P (ended-IsHere m)) q (λ apart. h)
 
   -- what tells the opposite end changes no entry
-  pub told-stays : (m : MovingPicture) (d : Progress) (q : EndId) → IfHere (d.table q) P → IfHere ((tells_gone k m d).table q) P
-  told-stays m d q h = subst (λ t. IfHere (t q) P) (sym (tells_gone-tells k m d (tells-same d)).table) h
+  pub tells_gone-stays : (m : MovingPicture) (d : Progress) (q : EndId) → IfHere (d.table q) P → IfHere ((tells_gone k m d).table q) P
+  tells_gone-stays m d q h = subst (λ t. IfHere (t q) P) (sym (tells_gone-only k m d (only-same d)).table) h
 
   -- END of an end without a message
   idle-stays : (y : Entry) (d : Progress) (q : EndId) → IfHere (d.table q) P → IfHere ((ends_idle_here k (here y) d).table q) P
   unfolding ends_idle
   idle-stays entry.Nothing d q h = h
-  idle-stays (entry.Here v) d q h = told-stays v.value (keeps v.value.end (ended_entry v.value) d) q (ended-stays v.value d q h)
+  idle-stays (entry.Here v) d q h = tells_gone-stays v.value (keeps v.value.end (ended_entry v.value) d) q (ended-stays v.value d q h)
   idle-stays (entry.Left to hops) d q h = h
   idle-stays (entry.Destroyed m) d q h = h
 
@@ -381,7 +381,7 @@ module _ (P : HereView → Type 0) (k : ℕ) where
   unfolding ends
   IfHere-ends v d q h =
       let kept : Progress = keeps v.value.end (ended_entry v.value) d in
-      told-stays v.value (end_each k (enclosed_of v.outward) kept) q (end_each-stays (enclosed_of v.outward) kept q (ended-stays v.value d q h))
+      tells_gone-stays v.value (end_each k (enclosed_of v.outward) kept) q (end_each-stays (enclosed_of v.outward) kept q (ended-stays v.value d q h))
 
 -- each of these ends that is here is owned by p
 abbrev pub AreOwnedBy : Pid → (EndId → Entry) → List EndId → Type 0

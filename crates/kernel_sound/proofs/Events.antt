@@ -1,5 +1,5 @@
 -- What an event leaves true of the table, from its beginning on.
-use Rattle.std.proofs.Common.{◌<◌, IfSome, ◌≡◌, ℕ, Bool, false, List, [], map, refl, sym, ap, subst, ◌∙◌}
+use Rattle.std.proofs.Common.{◌<◌, IfSome, ◌≡◌, ℕ, Bool, false, [], refl, sym, ap, subst, ◌∙◌}
 use Rattle.charlotte_calls.specs.declared.names.EndId.{EndId}
 use Rattle.charlotte_calls.specs.declared.names.Pid.{Pid}
 use Rattle.charlotte_calls.specs.declared.picture.PictureWhat.{PictureWhat}
@@ -7,17 +7,17 @@ use Rattle.charlotte_calls.specs.declared.work.Work.{Work}
 use Rattle.end_table.proofs.EndEq.{end_eq-refl}
 use Rattle.end_table.specs.Owned.{owned}
 use Rattle.end_table.specs.Place.{end_eq}
-use Rattle.end_table.specs.Table.{entries, IfHere}
+use Rattle.end_table.specs.Table.{IfHere}
 use Rattle.end_table.specs.declared.entry.Entry.TheVariants as entry
 use Rattle.end_table.specs.declared.entry.HereView.{HereView}
 use Rattle.end_table.specs.declared.entry.Holder.{Holder}
 use Rattle.end_table.specs.declared.entry.Holder.TheVariants as holder
 use Rattle.end_table.specs.declared.entry.Entry.{Entry}
+use Rattle.kernel_sound.proofs.Goes.{GoesWell}
 use Rattle.kernel_sound.proofs.Rows.{row-well}
 use Rattle.kernel_sound.specs.Owners.{owner_in, owner_of}
-use Rattle.kernel_sound.specs.Sound.{IsSound, IsHeldWell, AreFor, GoesWell, addressee}
+use Rattle.kernel_sound.specs.Sound.{IsSound, IsHeldWell, AreFor, addressee}
 use Rattle.kernel_step.specs.Calls.{is_active}
-use Rattle.kernel_step.specs.Kernel.{Kernel, Process, closes}
 use Rattle.kernel_step.specs.Progress.{Progress, progress}
 use Rattle.kernel_step.specs.Rows.{row}
 

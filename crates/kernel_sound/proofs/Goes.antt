@@ -19,9 +19,16 @@ use Rattle.end_table.specs.declared.entry.Holder.TheVariants as holder
 use Rattle.kernel_step.specs.Actions.{reports, answers}
 use Rattle.kernel_step.specs.Calls.{is_active}
 use Rattle.kernel_step.specs.Progress.{Progress, sends, means, keeps, reports_to, answers_to}
-use Rattle.kernel_sound.specs.Sound.{IsSound, AreFor, GoesWell}
+use Rattle.kernel_sound.specs.Sound.{IsSound, AreFor}
 use Rattle.kernel_sound.proofs.Put.{IsHolder, IsQuiet, IsFreeFor, IsFreeFor-away, IsViewAfter, IfHere-away, put-each, put-sound-quiet, put-sound-view}
-use Rattle.kernel_sound.proofs.Tells.{TellsOnly, sends-tells, means-tells, tells-same}
+use Rattle.kernel_sound.proofs.Sends.{SendsOnly, sends-only, means-only, only-same}
+
+-- how far an event has come from a table on, which changes whether a process has an activity at the ends that it touches alone
+pub record GoesWell (k made n : ℕ) (touches : Pid → EndId → Bool) (before : EndId → Entry) (d : Progress) : Type 0 where
+  pub sound : IsSound k made n d.table
+  pub reports : AreFor n d.reports
+  pub answers : AreFor n d.answers
+  pub calm : (p : Pid) (e : EndId) → touches p e ≡ false → is_active (owned p (d.table e)) ≡ is_active (owned p (before e))
 
 -- one more of a list is for a process
 pub AreFor-more : {X : Type 0} (n : ℕ) (xs : List (Pid × X)) (x : Pid × X) → x.0.0 < n → AreFor n xs → AreFor n (xs ++ x ∷ [])
@@ -60,8 +67,8 @@ IsOfEnd-ended m e same = by m.dead
 
 module _ {k made n : ℕ} {touches : Pid → EndId → Bool} {before : EndId → Entry} where
   -- packets and steps change nothing of it
-  pub tells-well : {old new : Progress} → TellsOnly old new → GoesWell k made n touches before old → GoesWell k made n touches before new
-  tells-well {old} {new} s w =
+  pub only-well : {old new : Progress} → SendsOnly old new → GoesWell k made n touches before old → GoesWell k made n touches before new
+  only-well {old} {new} s w =
       record {
         sound = subst (IsSound k made n) (sym s.table) w.sound;
         reports = subst (AreFor n) (sym s.reports) w.reports;
@@ -71,11 +78,11 @@ module _ {k made n : ℕ} {touches : Pid → EndId → Bool} {before : EndId →
 
   -- one packet more
   pub sends-well : (to : ℕ) (what : PictureWhat) (d : Progress) → GoesWell k made n touches before d → GoesWell k made n touches before (sends to what d)
-  sends-well to what d w = tells-well (sends-tells to what d (tells-same d)) w
+  sends-well to what d w = only-well (sends-only to what d (only-same d)) w
 
   -- one service step more
   pub means-well : (step : ServiceStep) (d : Progress) → GoesWell k made n touches before d → GoesWell k made n touches before (means step d)
-  means-well step d w = tells-well (means-tells step d (tells-same d)) w
+  means-well step d w = only-well (means-only step d (only-same d)) w
 
   -- a report or an answer for one of the first n processes
   pub reports_to-well : (p : Pid) (r : Report) (d : Progress) → p.0 < n → GoesWell k made n touches before d → GoesWell k made n touches before (reports_to p r d)

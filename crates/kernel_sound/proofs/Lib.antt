@@ -10,5 +10,5 @@ pub mod Parcels
 pub mod Put
 pub mod Reports
 pub mod Rows
-pub mod Tells
+pub mod Sends
 pub mod Values

@@ -17,11 +17,11 @@ use Rattle.end_table.specs.declared.entry.Outward.{Outward}
 use Rattle.end_table.specs.declared.entry.Outward.TheVariants as outward
 use Rattle.kernel_step.specs.Actions.{here, enclosed_of, reports, leaves_here, leave_each, ends_idle, ends_idle_here, end_each, held, hold_each}
 use Rattle.kernel_step.specs.Progress.{Progress, keeps, reports_to}
-use Rattle.kernel_sound.proofs.Put.{left-IsHere, ended-IsHere}
-use Rattle.kernel_sound.specs.Sound.{AreHeldBy, GoesWell}
+use Rattle.kernel_step.proofs.Departed.{left-IsHere, ended-IsHere}
+use Rattle.kernel_sound.specs.Sound.{AreHeldBy}
 use Rattle.kernel_sound.proofs.Put.{IsHeldBy, HasNoMessage, IsQuiet, IsHolder, IsFreeFor-released, HasNoMessage-quiet, IfHere-away, IsHere-held, AreHeldBy-others, put-each, made-here}
-use Rattle.kernel_sound.proofs.Tells.{TellsOnly, tells_gone-tells, tells-same}
-use Rattle.kernel_sound.proofs.Goes.{IsOfEnd-left, IsOfEnd-ended, tells-well, reports_to-well, keeps-well-quiet}
+use Rattle.kernel_sound.proofs.Sends.{SendsOnly, tells_gone-only, only-same}
+use Rattle.kernel_sound.proofs.Goes.{GoesWell, IsOfEnd-left, IsOfEnd-ended, only-well, reports_to-well, keeps-well-quiet}
 
 -- an event that goes well, while s holds each of xs and has no message any more that encloses them
 pub record IsReleasing (k made n : ℕ) (touches : Pid → EndId → Bool) (before : EndId → Entry) (s : EndId) (xs : List EndId) (d : Progress) : Type 0 where
@@ -62,12 +62,12 @@ AreHeldBy-own e v t y here are = by v.outward refl are
 
 module _ {k made n : ℕ} {touches : Pid → EndId → Bool} {before : EndId → Entry} where
   -- packets and steps release nothing
-  pub tells-releasing : {old new : Progress} (s : EndId) (xs : List EndId) → TellsOnly old new → IsReleasing k made n touches before s xs old → IsReleasing k made n touches before s xs new
-  tells-releasing {old} {new} s xs tells r =
+  pub only-releasing : {old new : Progress} (s : EndId) (xs : List EndId) → SendsOnly old new → IsReleasing k made n touches before s xs old → IsReleasing k made n touches before s xs new
+  only-releasing {old} {new} s xs only r =
       record {
-        well = tells-well tells r.well;
-        none = subst (λ t. HasNoMessage (t s)) (sym tells.table) r.none;
-        are = subst (λ t. AreHeldBy s t xs) (sym tells.table) r.are;
+        well = only-well only r.well;
+        none = subst (λ t. HasNoMessage (t s)) (sym only.table) r.none;
+        are = subst (λ t. AreHeldBy s t xs) (sym only.table) r.are;
       }
 
   -- nor do reports
@@ -123,7 +123,7 @@ module _ {k made n : ℕ} {touches : Pid → EndId → Bool} {before : EndId →
       by : (y : Entry) → IsOfEnd x y → IsHeldBy s y → IsReleasing k made n touches before s xs (ends_idle_here k (here y) d)
       by (entry.Here v) own is =
           let gone = ended-IsHere v.value in
-          tells-releasing s xs (tells_gone-tells k v.value _ (tells-same _))
+          only-releasing s xs (tells_gone-only k v.value _ (only-same _))
           (keeps-releasing s x v.value.end xs (ended_entry v.value) d own (IsOfEnd-ended v.value x own) (IfHere-away _ IsIdle gone) (IfHere-away _ (λ u. IsHolder n u.holder) gone) r)
       by entry.Nothing own is = absurd is
       by (entry.Left there hops) own is = absurd is

@@ -1,15 +1,14 @@
 -- What the parts of an event require follows from what is true of the table.
-use Rattle.std.proofs.Common.{◌≡◌, ℕ, Bool, true, false, true≢false, cond, not, ◌&&◌, ◌||◌, List, [], ◌∷◌, Some, None, is_none, refl, sym, ap, subst, ◌∙◌, if◌then◌else◌, rules}
+use Rattle.std.proofs.Common.{◌≡◌, ℕ, Bool, true, false, true≢false, not, ◌&&◌, ◌||◌, List, [], ◌∷◌, Some, None, is_none, refl, sym, ap, subst, ◌∙◌, if◌then◌else◌, rules}
 use Rattle.std.specs.List.{list_any}
 use Rattle.charlotte_calls.specs.declared.calls.Cause.{Cause}
 use Rattle.charlotte_calls.specs.declared.names.EndId.{EndId}
 use Rattle.charlotte_calls.specs.declared.names.Pid.{Pid}
-use Rattle.charlotte_calls.specs.declared.picture.MovingPicture.{MovingPicture}
 use Rattle.charlotte_calls.specs.declared.work.Work.{Work}
-use Rattle.end_table.proofs.EndEq.{end_eq-same, end_eq-sym, put-at, put-other}
+use Rattle.end_table.proofs.EndEq.{end_eq-same, end_eq-sym, put-other}
 use Rattle.end_table.specs.Owned.{is_owner, owned}
 use Rattle.end_table.specs.Place.{end_eq, put}
-use Rattle.end_table.specs.Table.{TableView, entries, IsHere, IsHereAnd, IfHere, IsIdle, IsOfEnd}
+use Rattle.end_table.specs.Table.{IsHereAnd, IfHere, IsIdle, IsOfEnd}
 use Rattle.end_table.specs.declared.entry.Entry.{Entry}
 use Rattle.end_table.specs.declared.entry.Entry.TheVariants as entry
 use Rattle.end_table.specs.declared.entry.HereView.{HereView}
@@ -20,14 +19,13 @@ use Rattle.end_table.specs.declared.entry.Inward.TheVariants as inward
 use Rattle.end_table.specs.declared.entry.Outward.{Outward}
 use Rattle.end_table.specs.declared.entry.Outward.TheVariants as outward
 use Rattle.kernel_sound.proofs.Put.{put-each}
-use Rattle.kernel_sound.specs.Ready.{IsReady}
 use Rattle.kernel_sound.specs.Sound.{AreHeldBy, IsSound}
 use Rattle.kernel_step.proofs.EnclosedEnds.{first_false, second_false}
+use Rattle.kernel_step.proofs.Steps.{IfHere-map}
 use Rattle.kernel_step.specs.Actions.{enclosed_of, here, held, hold_each}
 use Rattle.kernel_step.specs.Calls.{encloses, on_owned, first_of, inward_activity, is_busy, is_free, names_twice, outward_activity, same_link, send_causes}
-use Rattle.kernel_step.specs.Enclosed.{AreEnclosed}
+use Rattle.kernel_step.specs.Enclosed.{AreEnclosed, IsReady}
 use Rattle.kernel_step.specs.Progress.{Progress, keeps, progress}
-use Rattle.kernel_step.specs.Rows.{arriving, ends_in, is_carried, is_here, passing}
 
 -- what follows from a fact of a view that is here follows of the entry
 pub IsHereAnd-map : (x : Entry) (p q : HereView → Type 0) → ((v : HereView) → p v → q v) → IsHereAnd x p → IsHereAnd x q
@@ -35,13 +33,6 @@ IsHereAnd-map entry.Nothing p q f h = absurd h
 IsHereAnd-map (entry.Here v) p q f h = f v h
 IsHereAnd-map (entry.Left to hops) p q f h = absurd h
 IsHereAnd-map (entry.Destroyed m) p q f h = absurd h
-
--- so it does where the entry need not be here
-pub IfHere-map : (x : Entry) (p q : HereView → Type 0) → ((v : HereView) → x ≡ entry.Here v → p v → q v) → IfHere x p → IfHere x q
-IfHere-map entry.Nothing p q f h = tt
-IfHere-map (entry.Here v) p q f h = f v refl h
-IfHere-map (entry.Left to hops) p q f h = tt
-IfHere-map (entry.Destroyed m) p q f h = tt
 
 -- what is true where the entry is here is true of the view that is here
 pub IfHere-at : (x : Entry) (v : HereView) (p : HereView → Type 0) → x ≡ entry.Here v → IfHere x p → p v
@@ -79,23 +70,14 @@ module _ (k made n : ℕ) (t : EndId → Entry) (sound : IsSound k made n t) (e 
   -- the ends that a waiting message encloses are idle
   pub enclosed-sound : IfHere (t e) (λ v. AreEnclosed t (enclosed_of v.outward))
   enclosed-sound =
-      IfHere-map (t e) (λ v. AreHeldBy e t (enclosed_of v.outward)) (λ v. AreEnclosed t (enclosed_of v.outward))
+      IfHere-map (λ v. AreHeldBy e t (enclosed_of v.outward)) (λ v. AreEnclosed t (enclosed_of v.outward)) (t e)
       (λ v is held. AreEnclosed-held e t (enclosed_of v.outward) held) (sound.enclosed e)
 
   -- and the end is none of them
   pub apart-sound : IfHere (t e) (λ v. list_any (end_eq e) (enclosed_of v.outward) ≡ false)
   apart-sound =
-      IfHere-map (t e) (λ v. AreEnclosed t (enclosed_of v.outward)) (λ v. list_any (end_eq e) (enclosed_of v.outward) ≡ false)
+      IfHere-map (λ v. AreEnclosed t (enclosed_of v.outward)) (λ v. list_any (end_eq e) (enclosed_of v.outward) ≡ false) (t e)
       (λ v is are. apart-enclosed e t v is are) enclosed-sound
-
-  -- by the name that its value has
-  pub apart_by_value-sound : IfHere (t e) (λ v. list_any (end_eq v.value.end) (enclosed_of v.outward) ≡ false)
-  apart_by_value-sound =
-      IfHere-map (t e) (λ v. list_any (end_eq e) (enclosed_of v.outward) ≡ false) (λ v. list_any (end_eq v.value.end) (enclosed_of v.outward) ≡ false)
-      (λ v is none. subst (λ z. list_any (end_eq z) (enclosed_of v.outward) ≡ false) (sym (own v is)) none) apart-sound
-    where
-      own : (v : HereView) → t e ≡ entry.Here v → v.value.end ≡ e
-      own v is = subst (IsOfEnd e) is (sound.own e)
 
   -- the same of a view that is here
   module _ (v : HereView) (is : t e ≡ entry.Here v) where
@@ -104,9 +86,6 @@ module _ (k made n : ℕ) (t : EndId → Entry) (sound : IsSound k made n t) (e 
 
     pub apart_at-sound : list_any (end_eq e) (enclosed_of v.outward) ≡ false
     apart_at-sound = apart-enclosed e t v is enclosed_at-sound
-
-    pub apart_by_value_at-sound : list_any (end_eq v.value.end) (enclosed_of v.outward) ≡ false
-    apart_by_value_at-sound = IfHere-at (t e) v (λ v. list_any (end_eq v.value.end) (enclosed_of v.outward) ≡ false) is apart_by_value-sound
 
 -- each of these ends is here and idle, and owned by p; no two are the same
 abbrev pub AreFree : Pid → (EndId → Entry) → List EndId → Type 0
@@ -190,25 +169,10 @@ apart-same_link e (x ∷ xs) none = by (end_eq e x) refl (apart-same_link e xs (
     by true same others = absurd (true≢false (sym (same_link-refl e) ∙ ap (same_link e) (end_eq-same e x same) ∙ first_false _ _ none))
     by false apart others = others
 
--- an activity outward that is free is idle
-pub Idle-is_free : (o : Outward) → not (is_free (outward_activity o)) ≡ false → o ≡ outward.Idle
-Idle-is_free outward.Idle h = refl
-Idle-is_free (outward.Waiting n bytes xs) h = cc
-Idle-is_free (outward.Matched n) h = cc
-Idle-is_free outward.Unreported h = cc
-
--- a send that is not refused has nothing before it, a link that is alive, and free ends of other links
+-- a send that is not refused encloses free ends of other links
 module _ (p : Pid) (t : EndId → Entry) (on : EndId) (xs : List EndId) (v : HereView) (granted : first_of (send_causes p t on xs v) ≡ None) where
   fail : AllFail (send_causes p t on xs v)
   fail = first_of-none (send_causes p t on xs v) granted
-
-  -- no other send is on the end
-  pub send-idle : v.outward ≡ outward.Idle
-  send-idle = Idle-is_free v.outward fail.0
-
-  -- its link is alive
-  pub send-alive : v.value.dead ≡ false
-  send-alive = fail.1.0
 
   -- the ends that it encloses are free
   pub send-free : AreFree p t xs
@@ -287,7 +251,7 @@ module _ (on : EndId) (xs : List EndId) (old new : EndId → Entry) (out : Work)
 -- all that the parts require of a table that is sound
 pub IsReady-sound : (k made n : ℕ) (t : EndId → Entry) → IsSound k made n t → (e : EndId) → IsReady t e
 IsReady-sound k made n t sound e =
-    record { enclosed = enclosed-sound k made n t sound e; apart = apart-sound k made n t sound e; apart_by_value = apart_by_value-sound k made n t sound e }
+    record { enclosed = enclosed-sound k made n t sound e; apart = apart-sound k made n t sound e }
 
 -- an end that p owns is here, and p holds it
 pub owned-here : (p : Pid) (x : Entry) (v : HereView) → owned p x ≡ Some v → (x ≡ entry.Here v) × (v.holder ≡ holder.Owner p)

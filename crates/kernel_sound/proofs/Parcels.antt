@@ -22,13 +22,12 @@ use Rattle.end_table.specs.declared.entry.Holder.{Holder}
 use Rattle.end_table.specs.declared.entry.Holder.TheVariants as holder
 use Rattle.end_table.specs.declared.entry.Inward.TheVariants as inward
 use Rattle.end_table.specs.declared.entry.Outward.TheVariants as outward
-use Rattle.kernel_step.specs.Actions.{answers, reports, send_report, receive_report, notices, is_withdrawing, hears, settle_each, tell_arrivals}
+use Rattle.kernel_step.specs.Actions.{answers, reports, send_report, receive_report, notices, is_withdrawing, learned_view, settle_each, tell_arrivals}
 use Rattle.kernel_step.specs.Progress.{Progress, sends, means, keeps, reports_to}
 use Rattle.kernel_step.specs.Rows.{is_here, passing, arriving, ends_in, takes, receives, pass_each, sends_back, is_asked, asks, parcel_row, completes, is_matched, awaits, taken_row, gives_back, notices_first, means_back, back_row}
-use Rattle.kernel_sound.specs.Sound.{GoesWell}
 use Rattle.kernel_sound.proofs.Put.{IsHolder, IsViewAfter}
-use Rattle.kernel_sound.proofs.Tells.{TellsOnly, either-keeps, means-tells, tell_arrivals-tells, tells-same}
-use Rattle.kernel_sound.proofs.Goes.{tells-well, sends-well, means-well, reports-well, answers-well}
+use Rattle.kernel_sound.proofs.Sends.{SendsOnly, either-keeps, means-only, tell_arrivals-only, only-same}
+use Rattle.kernel_sound.proofs.Goes.{GoesWell, only-well, sends-well, means-well, reports-well, answers-well}
 use Rattle.kernel_sound.proofs.Values.{AreComing, AreGone, AreComing-others, apart-AreComing, AreComing-arriving, AreGone-passing, settle_each-others, settle_each-well, pass_each-well, end_arrivals-well}
 use Rattle.kernel_sound.proofs.Actions.{learned-end, IsHolder-here, end-here, news-well, view-well-own, notices-well}
 
@@ -36,28 +35,26 @@ use Rattle.kernel_sound.proofs.Actions.{learned-end, IsHolder-here, end-here, ne
 none-some : (v : HereView) → None ≡ Some v → ⊥
 none-some v is = cc
 
+-- a view that was chosen by a test is here, and passed it
+chosen : (test : HereView → Bool) (u v : HereView) → (if test u then Some u else None) ≡ Some v → (u ≡ v) × (test v ≡ true)
+chosen test u v is = by (test u) refl is
+  where
+    by : (b : Bool) → test u ≡ b → (if b then Some u else None) ≡ Some v → (u ≡ v) × (test v ≡ true)
+    by true passed is = let same : u ≡ v = cc in (same, ap test (sym same) ∙ passed)
+    by false passed is = absurd (none-some v is)
+
 -- an end that a parcel was sent for is here, and not idle
 pub asks-here : (w : ℕ) (y : Entry) (v : HereView) → asks w y ≡ Some v → (y ≡ entry.Here v) × (IsIdle v → ⊥)
-asks-here w (entry.Here u) v is = by (is_asked w u.inward) refl is
-  where
-    by : (b : Bool) → is_asked w u.inward ≡ b → (if b then Some u else None) ≡ Some v → (entry.Here u ≡ entry.Here v) × (IsIdle v → ⊥)
-    by true asked is =
-        let same : u ≡ v = cc in
-        (ap entry.Here same, (λ idle. true≢false (sym asked ∙ ap (λ x. is_asked w x.inward) same ∙ ap (is_asked w) idle.inward)))
-    by false asked is = absurd (none-some v is)
+asks-here w (entry.Here u) v is =
+    let found = chosen (λ x. is_asked w x.inward) u v is in (ap entry.Here found.0, (λ idle. true≢false (sym found.1 ∙ ap (is_asked w) idle.inward)))
 asks-here w entry.Nothing v is = absurd (none-some v is)
 asks-here w (entry.Left to hops) v is = absurd (none-some v is)
 asks-here w (entry.Destroyed m) v is = absurd (none-some v is)
 
 -- so is an end whose send was matched
 pub awaits-here : (m : ℕ) (y : Entry) (v : HereView) → awaits m y ≡ Some v → (y ≡ entry.Here v) × (IsIdle v → ⊥)
-awaits-here m (entry.Here u) v is = by (is_matched m u.outward) refl is
-  where
-    by : (b : Bool) → is_matched m u.outward ≡ b → (if b then Some u else None) ≡ Some v → (entry.Here u ≡ entry.Here v) × (IsIdle v → ⊥)
-    by true matched is =
-        let same : u ≡ v = cc in
-        (ap entry.Here same, (λ idle. true≢false (sym matched ∙ ap (λ x. is_matched m x.outward) same ∙ ap (is_matched m) idle.outward)))
-    by false matched is = absurd (none-some v is)
+awaits-here m (entry.Here u) v is =
+    let found = chosen (λ x. is_matched m x.outward) u v is in (ap entry.Here found.0, (λ idle. true≢false (sym found.1 ∙ ap (is_matched m) idle.outward)))
 awaits-here m entry.Nothing v is = absurd (none-some v is)
 awaits-here m (entry.Left to hops) v is = absurd (none-some v is)
 awaits-here m (entry.Destroyed x) v is = absurd (none-some v is)
@@ -74,10 +71,10 @@ unfolding keeps
 keeps-table e f x d same = ap (λ z. put d.table z x) same
 
 -- what a back means to the link service is a step or nothing
-pub means_back-tells : (to : EndId) (m : ℕ) (b : Bool) (ms : List MovingPicture) (d : Progress) → TellsOnly d (means_back to m b ms d)
-means_back-tells to m true [] d = tells-same d
-means_back-tells to m true (x ∷ xs) d = means-tells (step.Back to m false) d (tells-same d)
-means_back-tells to m false ms d = means-tells (step.Back to m false) d (tells-same d)
+pub means_back-only : (to : EndId) (m : ℕ) (b : Bool) (ms : List MovingPicture) (d : Progress) → SendsOnly d (means_back to m b ms d)
+means_back-only to m true [] d = only-same d
+means_back-only to m true (x ∷ xs) d = means-only (step.Back to m false) d (only-same d)
+means_back-only to m false ms d = means-only (step.Back to m false) d (only-same d)
 
 module _ {k made n : ℕ} {touches : Pid → EndId → Bool} {before : EndId → Entry} where
   -- the message is taken
@@ -91,7 +88,7 @@ module _ {k made n : ℕ} {touches : Pid → EndId → Bool} {before : EndId →
   receives-well e m at hops bytes xs v d here busy touched w =
       let f : EndId = v.value.end in
       let late : Bool = is_withdrawing v.inward in
-      let taken : HereView = record (hears v at hops) { inward = inward.Unreported } in
+      let taken : HereView = record (learned_view v at hops) { inward = inward.Unreported } in
       let after : IsViewAfter v taken = record { end = learned-end at hops v.value; holder = refl; idle = λ idle. absurd (busy idle); message = inl refl } in
       let holds : IsHolder n v.holder = IsHolder-here e v d w here in
       let kept : Progress = keeps f (entry.Here taken) d in
@@ -125,7 +122,7 @@ module _ {k made n : ℕ} {touches : Pid → EndId → Bool} {before : EndId →
           let there : settled.table to ≡ entry.Here v = settle_each-others v.holder to came d apart ∙ asked.0 in
           let received : Progress = receives k m at hops bytes (ends_in came) v settled in
           news-well v.value hops (learned at hops v.value) inward.Unreported (tell_arrivals k came received)
-          (tells-well (tell_arrivals-tells k came received (tells-same received))
+          (only-well (tell_arrivals-only k came received (only-same received))
           (receives-well to m at hops bytes (ends_in came) v settled there asked.1 touched
           (settle_each-well v.holder came d (IsHolder-here to v d well asked.0) come well)))
 
@@ -135,7 +132,7 @@ module _ {k made n : ℕ} {touches : Pid → EndId → Bool} {before : EndId →
   unfolding completes
   completes-well e m at hops v d here busy touched w =
       let f : EndId = v.value.end in
-      let done : HereView = record (hears v at hops) { outward = outward.Unreported } in
+      let done : HereView = record (learned_view v at hops) { outward = outward.Unreported } in
       let after : IsViewAfter v done = record { end = learned-end at hops v.value; holder = refl; idle = λ idle. absurd (busy idle); message = inr refl } in
       let kept : Progress = keeps f (entry.Here done) d in
       let meant : Progress = means (step.Complete f m) kept in
@@ -205,8 +202,8 @@ module _ {k made n : ℕ} {touches : Pid → EndId → Bool} {before : EndId →
       by None is =
           let passed : List MovingPicture = passing k made d.table ms in
           let meant : Progress = means_back to m (is_here (d.table to)) passed d in
-          let told : TellsOnly d meant = means_back-tells to m (is_here (d.table to)) passed d in
-          end_arrivals-well passed meant (subst (λ t. AreGone t passed) (sym told.table) (AreGone-passing k made d.table ms)) (tells-well told w)
+          let only : SendsOnly d meant = means_back-only to m (is_here (d.table to)) passed d in
+          end_arrivals-well passed meant (subst (λ t. AreGone t passed) (sym only.table) (AreGone-passing k made d.table ms)) (only-well only w)
       by (Some v) is =
           let awaited = awaits-here m (d.table to) v is in
           let came : List MovingPicture = arriving k made v.holder d.table ms in
@@ -215,10 +212,10 @@ module _ {k made n : ℕ} {touches : Pid → EndId → Bool} {before : EndId →
           let apart : list_any (end_eq to) (ends_in came) ≡ false = apart-AreComing k made d.table to came (subst IsHere (sym awaited.0) tt) come in
           let answers_cancel : Bool = not v.value.dead && is_withdrawing v.inward in
           let meant : Progress = means (step.Back to m answers_cancel) d in
-          let told : TellsOnly d meant = means-tells (step.Back to m answers_cancel) d (tells-same d) in
-          let there : meant.table to ≡ entry.Here v = ap (λ t. t to) told.table ∙ awaited.0 in
+          let only : SendsOnly d meant = means-only (step.Back to m answers_cancel) d (only-same d) in
+          let there : meant.table to ≡ entry.Here v = ap (λ t. t to) only.table ∙ awaited.0 in
           let back : Progress = gives_back came v meant in
           let noticed : Progress = notices_first k from (returned v) back in
-          tells-well (tell_arrivals-tells k came noticed (tells-same noticed))
+          only-well (tell_arrivals-only k came noticed (only-same noticed))
           (notices_first-well to from (returned v) back (gives_back-table to v came meant own apart) touched
-          (gives_back-well to v came meant there awaited.1 touched (subst (λ t. AreComing k made t came) (sym told.table) come) (tells-well told w)))
+          (gives_back-well to v came meant there awaited.1 touched (subst (λ t. AreComing k made t came) (sym only.table) come) (only-well only w)))

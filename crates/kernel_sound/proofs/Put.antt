@@ -1,11 +1,9 @@
 -- What `put` leaves true of a table that is sound.
-use Rattle.std.proofs.Common.{◌≡◌, ℕ, ◌<◌, ◌≤◌, if◌then◌else◌, Bool, true, false, ◌⊎◌, inl, inr, List, [], ◌∷◌, refl, sym, ap, subst, ◌∙◌, true≢false}
+use Rattle.std.proofs.Common.{◌≡◌, ℕ, ◌<◌, ◌≤◌, Bool, true, false, ◌⊎◌, inl, inr, List, [], ◌∷◌, refl, sym, ap, subst, ◌∙◌, true≢false}
 use Rattle.std.specs.List.{list_any}
 use Rattle.charlotte_calls.specs.declared.names.EndId.{EndId}
 use Rattle.charlotte_calls.specs.declared.names.Pid.{Pid}
-use Rattle.charlotte_calls.specs.declared.picture.MovingPicture.{MovingPicture}
 use Rattle.end_table.proofs.EndEq.{end_eq-same, end_eq-refl, put-at, put-other}
-use Rattle.end_table.specs.Entries.{left_value, left_entry, ended_entry}
 use Rattle.end_table.specs.Place.{end_eq, put}
 use Rattle.end_table.specs.Table.{IsHere, IsHereAnd, IfHere, IsIdle, IsOfEnd}
 use Rattle.end_table.specs.declared.entry.Entry.{Entry}
@@ -16,21 +14,6 @@ use Rattle.end_table.specs.declared.entry.Holder.TheVariants as holder
 use Rattle.kernel_step.specs.Actions.{enclosed_of}
 use Rattle.kernel_step.proofs.EnclosedEnds.{first_false, second_false}
 use Rattle.kernel_sound.specs.Sound.{AreHeldBy, IsHeldWell, IsSound}
-
--- what an end that left or was destroyed leaves is not here
-pub left-IsHere : (to : ℕ) (m : MovingPicture) → IsHere (left_entry to m) → ⊥
-left-IsHere to m = by m.dead
-  where
-    by : (b : Bool) → IsHere (if b then entry.Nothing else entry.Left to (left_value 0 m).hops) → ⊥
-    by true h = h
-    by false h = h
-
-pub ended-IsHere : (m : MovingPicture) → IsHere (ended_entry m) → ⊥
-ended-IsHere m = by m.dead
-  where
-    by : (b : Bool) → IsHere (if b then entry.Nothing else entry.Destroyed m) → ⊥
-    by true h = h
-    by false h = h
 
 -- the entry is Here and idle, and held by the send of q
 abbrev pub IsHeldBy : EndId → Entry → Type 0
@@ -191,6 +174,11 @@ put-sound-quiet {k} {made} {n} {t} e x s free own quiet holds unmade =
     none entry.Nothing empty = tt
     none (entry.Left to hops) empty = tt
     none (entry.Destroyed m) empty = tt
+
+-- an entry that is not Here is put where none was
+pub put-sound-away : {k made n : ℕ} {t : EndId → Entry} (e : EndId) (x : Entry) → IsSound k made n t → (IsHere (t e) → ⊥) → (IsHere x → ⊥) → IsOfEnd e x → IsSound k made n (put t e x)
+put-sound-away {k} {made} {n} {t} e x s was away own =
+    put-sound-quiet e x s (IsFreeFor-away t e x was) own (IfHere-away x _ away) (IfHere-away x _ away) (λ maker count here. away here)
 
 -- an end that is here is of a link that was made
 pub made-here : {k made n : ℕ} {t : EndId → Entry} (e : EndId) → IsSound k made n t → IsHere (t e) → (x : Entry) → e.link.maker ≡ k → made ≤ e.link.count → IsHere x → ⊥

@@ -16,11 +16,10 @@ use Rattle.kernel_step.proofs.EnclosedEnds.{first_false, second_false}
 use Rattle.kernel_step.specs.Actions.{leaves, ends_idle, settle_each}
 use Rattle.kernel_step.specs.Progress.{Progress, keeps}
 use Rattle.kernel_step.specs.Rows.{is_unmade, is_here, is_carried, passing, arriving, ends_in, pass_each, end_arrivals}
-use Rattle.kernel_sound.proofs.Put.{left-IsHere, ended-IsHere}
-use Rattle.kernel_sound.specs.Sound.{GoesWell}
+use Rattle.kernel_step.proofs.Departed.{left-IsHere, ended-IsHere}
 use Rattle.kernel_sound.proofs.Put.{IsHolder, put-each}
-use Rattle.kernel_sound.proofs.Tells.{tells_gone-tells, tells-same}
-use Rattle.kernel_sound.proofs.Goes.{IsOfEnd-left, IsOfEnd-ended, tells-well, keeps-well-away, keeps-well-settled}
+use Rattle.kernel_sound.proofs.Sends.{tells_gone-only, only-same}
+use Rattle.kernel_sound.proofs.Goes.{GoesWell, IsOfEnd-left, IsOfEnd-ended, only-well, keeps-well-away, keeps-well-settled}
 
 -- none of these values' ends is here
 abbrev pub AreGone : (EndId → Entry) → List MovingPicture → Type 0
@@ -131,7 +130,7 @@ module _ {k made n : ℕ} {touches : Pid → EndId → Bool} {before : EndId →
   end_arrivals-well [] d are w = w
   end_arrivals-well (m ∷ ms) d are w =
       let ended = keeps m.end (ended_entry m) d in
-      let told = tells_gone-tells k m ended (tells-same ended) in
+      let only = tells_gone-only k m ended (only-same ended) in
       end_arrivals-well ms (ends_idle k m d)
-      (subst (λ t. AreGone t ms) (sym told.table) (AreGone-put d.table m.end (ended_entry m) ms (ended-IsHere m) are.1))
-      (tells-well told (keeps-well-away m.end (ended_entry m) d are.0 (ended-IsHere m) (IsOfEnd-ended m m.end refl) w))
+      (subst (λ t. AreGone t ms) (sym only.table) (AreGone-put d.table m.end (ended_entry m) ms (ended-IsHere m) are.1))
+      (only-well only (keeps-well-away m.end (ended_entry m) d are.0 (ended-IsHere m) (IsOfEnd-ended m m.end refl) w))

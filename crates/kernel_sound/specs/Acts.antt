@@ -1,6 +1,5 @@
 -- What a call that is not refused does with the table and adds, before the event closes.
-use Rattle.std.specs.Prelude.{◌≡◌, ℕ, ◌+◌, Bool, true, nat_eq, List, Contains, Option, Some, None}
-use Rattle.charlotte_calls.specs.Names.{opposite}
+use Rattle.std.specs.Prelude.{◌≡◌, ℕ, ◌+◌, List, Contains, Option, Some, None}
 use Rattle.charlotte_calls.specs.declared.calls.Call.{Call}
 use Rattle.charlotte_calls.specs.declared.calls.Call.TheVariants as call
 use Rattle.charlotte_calls.specs.declared.calls.ServiceStep.TheVariants as step
@@ -9,14 +8,14 @@ use Rattle.charlotte_calls.specs.declared.names.Pid.{Pid}
 use Rattle.charlotte_calls.specs.declared.names.Way.{Way}
 use Rattle.charlotte_calls.specs.declared.names.Way.TheVariants as way
 use Rattle.end_table.specs.Owned.{owned}
-use Rattle.end_table.specs.Table.{TableView, HasPlace, IfHere}
+use Rattle.end_table.specs.Table.{IfHere}
 use Rattle.end_table.specs.declared.entry.Entry.{Entry}
 use Rattle.end_table.specs.declared.entry.HereView.{HereView}
 use Rattle.end_table.specs.declared.entry.Holder.TheVariants as holder
 use Rattle.end_table.specs.declared.entry.Inward.{Inward}
 use Rattle.end_table.specs.declared.entry.Inward.TheVariants as inward
 use Rattle.kernel_step.specs.Actions.{ends}
-use Rattle.kernel_step.specs.Calls.{made_end, makes, starts_send, encloses, posts, withdraws_send, withdraws_receive, ends_each}
+use Rattle.kernel_step.specs.Calls.{makes, starts_send, encloses, posts, withdraws_send, withdraws_receive, ends_each}
 use Rattle.kernel_sound.specs.Sound.{IsSound}
 use Rattle.kernel_step.specs.Progress.{Progress, means}
 
@@ -61,14 +60,3 @@ pub record AreOfOne (k : ℕ) (t : EndId → Entry) (xs : List EndId) : Type 0 w
   pub p : Pid
   pub sound : IsSound k made n t
   pub owned : (e : EndId) → Contains xs e → IfHere (t e) (λ v. v.holder ≡ holder.Owner p)
-
--- these touches have the end that the call is on, and for an Exit all that its process has
-abbrev pub Covers : (Pid → EndId → Bool) → Pid → Call → Type 0
-Covers touches p call.Make = Unit {0}
-Covers touches p (call.Destroy on) = (q : Pid) → touches q on ≡ true
-Covers touches p (call.Send on bytes xs) = (q : Pid) → touches q on ≡ true
-Covers touches p (call.Receive on) = (q : Pid) → touches q on ≡ true
-Covers touches p (call.Cancel on w) = (q : Pid) → touches q on ≡ true
-Covers touches p call.Wait = Unit {0}
-Covers touches p (call.Print bytes) = Unit {0}
-Covers touches p call.Exit = (q : Pid) (e : EndId) → touches q e ≡ nat_eq p.0 q.0

@@ -1,4 +1,3 @@
 pub mod Acts
 pub mod Owners
-pub mod Ready
 pub mod Sound

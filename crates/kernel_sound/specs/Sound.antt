@@ -1,11 +1,10 @@
 -- What is true of the table of every kernel: who holds each end, what a waiting message encloses, and which links are made.
-use Rattle.std.specs.Prelude.{◌≡◌, ℕ, ◌<◌, ◌≤◌, Bool, false, List, [], ◌∷◌}
+use Rattle.std.specs.Prelude.{◌≡◌, ℕ, ◌<◌, ◌≤◌, false, List, [], ◌∷◌}
 use Rattle.std.specs.List.{list_any}
 use Rattle.charlotte_calls.specs.declared.names.EndId.{EndId}
 use Rattle.charlotte_calls.specs.declared.names.Pid.{Pid}
 use Rattle.charlotte_calls.specs.declared.picture.PictureWhat.{PictureWhat}
 use Rattle.charlotte_calls.specs.declared.picture.PictureWhat.TheVariants as packet
-use Rattle.end_table.specs.Owned.{owned}
 use Rattle.end_table.specs.Place.{end_eq}
 use Rattle.end_table.specs.Table.{IsHere, IsHereAnd, IfHere, IsIdle, IsOfEnd}
 use Rattle.end_table.specs.declared.entry.Entry.{Entry}
@@ -13,8 +12,6 @@ use Rattle.end_table.specs.declared.entry.HereView.{HereView}
 use Rattle.end_table.specs.declared.entry.Holder.{Holder}
 use Rattle.end_table.specs.declared.entry.Holder.TheVariants as holder
 use Rattle.kernel_step.specs.Actions.{enclosed_of}
-use Rattle.kernel_step.specs.Calls.{is_active}
-use Rattle.kernel_step.specs.Progress.{Progress}
 
 -- each of these ends is here and idle, and held by the send of e; no two are the same
 abbrev pub AreHeldBy : EndId → (EndId → Entry) → List EndId → Type 0
@@ -39,13 +36,6 @@ pub record IsSound (k made n : ℕ) (t : EndId → Entry) : Type 0 where
 abbrev pub AreFor : {X : Type 0} → ℕ → List (Pid × X) → Type 0
 AreFor n [] = Unit {0}
 AreFor n (x ∷ xs) = (x.0.0 < n) × AreFor n xs
-
--- How far an event has come from a table on, which changes whether a process has an activity at the ends that it touches alone
-pub record GoesWell (k made n : ℕ) (touches : Pid → EndId → Bool) (before : EndId → Entry) (d : Progress) : Type 0 where
-  pub sound : IsSound k made n d.table
-  pub reports : AreFor n d.reports
-  pub answers : AreFor n d.answers
-  pub calm : (p : Pid) (e : EndId) → touches p e ≡ false → is_active (owned p (d.table e)) ≡ is_active (owned p (before e))
 
 -- the end that a packet is addressed to
 abbrev pub addressee : PictureWhat → EndId

@@ -1,5 +1,5 @@
 -- How changes of a table and of a `Work` make the words of the kernel step.
-use Rattle.std.proofs.Common.{◌≡◌, ℕ, Bool, true, false, [], ◌∷◌, ap, subst, sym, ◌∙◌, refl}
+use Rattle.std.proofs.Common.{◌≡◌, ℕ, false, [], ◌∷◌, ap, sym, ◌∙◌, refl}
 use Rattle.charlotte_calls.specs.declared.names.EndId.{EndId}
 use Rattle.charlotte_calls.specs.declared.work.Work.{Work}
 use Rattle.charlotte_calls.specs.declared.picture.MovingPicture.{MovingPicture}

@@ -192,8 +192,8 @@ is_withdrawing (inward.Withdrawing w) = true
 is_withdrawing inward.Unreported = false
 
 -- LEARN: the view after news of the opposite end
-abbrev pub hears : HereView → ℕ → ℕ → HereView
-hears v at hops = record v { value = learned at hops v.value }
+abbrev pub learned_view : HereView → ℕ → ℕ → HereView
+learned_view v at hops = record v { value = learned at hops v.value }
 
 -- the live packet of a receive
 abbrev pub resends_receive : ℕ → MovingPicture → Inward → Progress → Progress
@@ -212,15 +212,15 @@ resends k m inward d =
     let asked = resends_receive k m inward d in
     if nat_eq m.trail 0 then asked else tells_moved k m asked
 
--- they go again where the hint rose: before is the value that heard of the hops, m and inward are what the packet leaves
+-- they go again where the hint rose: before is the value to which the news came, m and inward are what the packet leaves
 unfoldable pub resends_on_news : ℕ → MovingPicture → ℕ → MovingPicture → Inward → Progress → Progress
 resends_on_news k before hops m inward d = if is_news before hops then resends k m inward d else d
 
 -- LEARN, where nothing else happens to the end
-unfoldable pub listens : ℕ → ℕ → ℕ → HereView → Progress → Progress
-listens k at hops v d =
-    let heard = hears v at hops in
-    resends_on_news k v.value hops heard.value v.inward (keeps v.value.end (entry.Here heard) d)
+unfoldable pub learns : ℕ → ℕ → ℕ → HereView → Progress → Progress
+learns k at hops v d =
+    let informed = learned_view v at hops in
+    resends_on_news k v.value hops informed.value v.inward (keeps v.value.end (entry.Here informed) d)
 
 -- each of these values becomes an end that is here
 unfoldable pub settle_each : Holder → List MovingPicture → Progress → Progress

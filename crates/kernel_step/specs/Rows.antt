@@ -24,18 +24,18 @@ use Rattle.end_table.specs.declared.entry.Outward.{Outward}
 use Rattle.end_table.specs.declared.entry.Outward.TheVariants as outward
 use Rattle.end_table.specs.Place.{put}
 use Rattle.kernel_step.specs.Progress.{Progress, sends, means, keeps}
-use Rattle.kernel_step.specs.Actions.{answers, reports, send_report, receive_report, forgets, leaves, match_waiting, ends_idle, notices, is_withdrawing, hears, listens, resends_on_news, settle_each, tell_arrivals}
+use Rattle.kernel_step.specs.Actions.{answers, reports, send_report, receive_report, forgets, leaves, match_waiting, ends_idle, notices, is_withdrawing, learned_view, learns, resends_on_news, settle_each, tell_arrivals}
 
 -- want: the receive w of the opposite end asks for a message, unless it was matched or withdrawn
 unfoldable pub wants : ℕ → ℕ → ℕ → ℕ → HereView → Progress → Progress
 wants k w at hops v d =
-    let heard = hears v at hops in
-    resends_on_news k v.value hops heard.value v.inward
-    (match_waiting k (record heard { value = record heard.value { want = w } }) v.outward d)
+    let informed = learned_view v at hops in
+    resends_on_news k v.value hops informed.value v.inward
+    (match_waiting k (record informed { value = record informed.value { want = w } }) v.outward d)
 
 unfoldable pub want_here : ℕ → ℕ → ℕ → ℕ → HereView → Progress → Progress
 want_here k w at hops v d =
-    if v.value.dead then d else if nat_lt v.value.served w then wants k w at hops v d else listens k at hops v d
+    if v.value.dead then d else if nat_lt v.value.served w then wants k w at hops v d else learns k at hops v d
 
 abbrev pub want_row : ℕ → EndId → ℕ → ℕ → ℕ → Entry → Progress → Progress
 want_row k to w at hops entry.Nothing d = d
@@ -47,14 +47,14 @@ want_row k to w at hops (entry.Destroyed m) d = d
 unfoldable pub voids : ℕ → ℕ → ℕ → ℕ → HereView → Progress → Progress
 voids k w at hops v d =
     let e = v.value.end in
-    let heard = hears v at hops in
-    let voided = record heard { value = record heard.value { served = w; want = 0 } } in
-    resends_on_news k v.value hops heard.value v.inward
+    let informed = learned_view v at hops in
+    let voided = record informed { value = record informed.value { served = w; want = 0 } } in
+    resends_on_news k v.value hops informed.value v.inward
     (sends at (packet.Unwanted (opposite e) w k v.value.hops) (means (step.Withdraw (opposite e)) (keeps e (entry.Here voided) d)))
 
 unfoldable pub unwant_here : ℕ → ℕ → ℕ → ℕ → HereView → Progress → Progress
 unwant_here k w at hops v d =
-    if v.value.dead then d else if nat_lt v.value.served w then voids k w at hops v d else listens k at hops v d
+    if v.value.dead then d else if nat_lt v.value.served w then voids k w at hops v d else learns k at hops v d
 
 abbrev pub unwant_row : ℕ → EndId → ℕ → ℕ → ℕ → Entry → Progress → Progress
 unwant_row k to w at hops entry.Nothing d = d
@@ -65,7 +65,7 @@ unwant_row k to w at hops (entry.Destroyed m) d = d
 -- unwanted: the Cancel of the receive w is answered
 unfoldable pub frees : ℕ → ℕ → ℕ → HereView → Progress → Progress
 frees k at hops v d =
-    let freed = record (hears v at hops) { inward = inward.Idle } in
+    let freed = record (learned_view v at hops) { inward = inward.Idle } in
     resends_on_news k v.value hops freed.value inward.Idle
     (answers v.holder answer.Ok (means (step.Free v.value.end) (keeps v.value.end (entry.Here freed) d)))
 
@@ -120,7 +120,7 @@ unfoldable pub receives : ℕ → ℕ → ℕ → ℕ → List ℕ → List EndI
 receives k n at hops bytes xs v d =
     let e = v.value.end in
     let late = is_withdrawing v.inward in
-    let taken = record (hears v at hops) { inward = inward.Unreported } in
+    let taken = record (learned_view v at hops) { inward = inward.Unreported } in
     let reported = reports v.holder (receive_report e bytes xs) (takes e n late v.holder (keeps e (entry.Here taken) d)) in
     sends at (packet.Taken (opposite e) n k v.value.hops)
     (if late then answers v.holder (answer.Refused cause.Late) reported else reported)
@@ -168,7 +168,7 @@ arrive_row k to n at ms (Some v) d = tell_arrivals k ms (settle_each v.holder ms
 unfoldable pub completes : ℕ → ℕ → ℕ → ℕ → HereView → Progress → Progress
 completes k n at hops v d =
     let e = v.value.end in
-    let done = record (hears v at hops) { outward = outward.Unreported } in
+    let done = record (learned_view v at hops) { outward = outward.Unreported } in
     resends_on_news k v.value hops done.value v.inward
     (reports v.holder (send_report e outcome.Done []) (means (step.Complete e n) (keeps e (entry.Here done) d)))
 
@@ -245,14 +245,14 @@ gone_row k to at (entry.Destroyed m) d = erases k m (sends at (packet.GoneSeen (
 -- moved: the opposite end is at kernel `at` now
 unfoldable pub moved_here : ℕ → ℕ → ℕ → HereView → Progress → Progress
 moved_here k at hops v d =
-    if v.value.dead then d else sends at (packet.Known (opposite v.value.end) hops) (listens k at hops v d)
+    if v.value.dead then d else sends at (packet.Known (opposite v.value.end) hops) (learns k at hops v d)
 
--- a destroyed end hears it too, and its opposite is told of the destruction
-abbrev pub mark_hears : EndId → ℕ → ℕ → MovingPicture → Progress → Progress
-mark_hears to at hops m d = if is_news m hops then keeps to (entry.Destroyed (learned at hops m)) d else d
+-- a destroyed end learns it too, and its opposite is told of the destruction
+abbrev pub mark_learns : EndId → ℕ → ℕ → MovingPicture → Progress → Progress
+mark_learns to at hops m d = if is_news m hops then keeps to (entry.Destroyed (learned at hops m)) d else d
 
 unfoldable pub moved_mark : ℕ → EndId → ℕ → ℕ → MovingPicture → Progress → Progress
-moved_mark k to at hops m d = sends at (packet.Gone (opposite to) k) (mark_hears to at hops m d)
+moved_mark k to at hops m d = sends at (packet.Gone (opposite to) k) (mark_learns to at hops m d)
 
 abbrev pub moved_row : ℕ → EndId → ℕ → ℕ → Entry → Progress → Progress
 moved_row k to at hops entry.Nothing d = d

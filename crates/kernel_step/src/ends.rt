@@ -39,9 +39,9 @@ pub fn keep_outward(table: &mut Table, on: EndId, value: MovingPicture, outward:
     table.set_outward(on, value, outward)
 }
 
-/// LEARN: an end hears that its opposite is at a kernel with these hops. It answers whether that was news.
-pub fn hear(value: &mut MovingPicture, at: u8, hops: u32) -> bool
-    ensures heard { value.new ≡ learned at hops value.old }
+/// LEARN: an end learns that its opposite is at a kernel with these hops. It answers whether that was news.
+pub fn learn_value(value: &mut MovingPicture, at: u8, hops: u32) -> bool
+    ensures learned_value { value.new ≡ learned at hops value.old }
     ensures news { result ≡ is_news value.old hops }
     ensures end { value.new.end ≡ value.old.end }
 {

@@ -3,6 +3,7 @@
 //! the parts of an event add to a `Work`.
 #![tactic(auto)]
 
+mod bounds;
 mod enclosed;
 mod ends;
 mod news;
@@ -12,9 +13,13 @@ mod started;
 mod trail;
 mod writers;
 
+pub use bounds::{
+    MOST_ENDS, MOST_FORGETS, MOST_RESENT, PACKETS_OF_BACK, PACKETS_OF_END, PACKETS_OF_NOTICE,
+    PACKETS_OF_PARCEL,
+};
 pub use enclosed::{enclosed_ends, ends_in};
-pub use ends::{first_of, hear, hold, keep_inward, keep_outward, leave};
-pub use news::{listen, resend_on_news, tell_moved};
+pub use ends::{first_of, learn_value, hold, keep_inward, keep_outward, leave};
+pub use news::{learn, resend_on_news, tell_moved};
 pub use owners::{answer, no_bytes, no_ends, report, send_report};
 pub use phase::Phase;
 pub use started::{is_withdrawing, receiver, sender};

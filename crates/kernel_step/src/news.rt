@@ -2,10 +2,10 @@ ghost use Rattle.std.specs.Prelude.{◌≡◌, nat_eq, if◌then◌else◌};
 ghost use Rattle.charlotte_calls.specs.declared.names.EndId.{EndId};
 ghost use Rattle.end_table.specs.Table.{entries, IfHere, IsHere};
 ghost use Rattle.end_table.specs.declared.entry.Entry.{Entry};
-ghost use Rattle.kernel_step.specs.Actions.{resends, resends_receive, listens, tells_moved};
+ghost use Rattle.kernel_step.specs.Actions.{resends, resends_receive, learns, tells_moved};
 ghost use Rattle.kernel_step.specs.Progress.{progress, HasRoom, AddsAtMost};
 
-use crate::ends::{hear, keep_inward};
+use crate::ends::{learn_value, keep_inward};
 use crate::writers::push_packet;
 use charlotte_calls::{EndId, MovingPicture, What, Work};
 use end_table::{Inward, Table};
@@ -69,13 +69,13 @@ pub fn resend_on_news(out: &mut Work, kernel: u8, news: bool, value: MovingPictu
     }
 }
 
-/// An end that is here hears that its opposite is at a kernel with these hops, and nothing else happens to it.
-#[tactic(auto, unfolding(crate::specs::Actions::listens, crate::specs::Actions::resends_on_news))]
-pub fn listen(table: &mut Table, on: EndId, at: u8, hops: u32, out: &mut Work)
+/// An end that is here learns that its opposite is at a kernel with these hops, and nothing else happens to it.
+#[tactic(auto, unfolding(crate::specs::Actions::learns, crate::specs::Actions::resends_on_news))]
+pub fn learn(table: &mut Table, on: EndId, at: u8, hops: u32, out: &mut Work)
     requires here { IsHere (entries table.old on) }
     requires room { HasRoom 2 0 0 0 out.old }
     ensures part { IfHere (entries table.old on) (λ v. progress (entries table.new) out.new
-        ≡ listens table.old.kernel at hops v (progress (entries table.old) out.old)) }
+        ≡ learns table.old.kernel at hops v (progress (entries table.old) out.old)) }
     ensures room { AddsAtMost 2 0 0 0 out.old out.new }
     ensures kernel { table.new.kernel ≡ table.old.kernel }
 {
@@ -83,7 +83,7 @@ pub fn listen(table: &mut Table, on: EndId, at: u8, hops: u32, out: &mut Work)
     let living = table.here(on);
     let mut value = living.value();
     let inward = living.inward();
-    let news = hear(&mut value, at, hops);
+    let news = learn_value(&mut value, at, hops);
     resend_on_news(out, kernel, news, value, inward);
     keep_inward(table, on, value, inward);
 }

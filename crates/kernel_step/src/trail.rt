@@ -3,6 +3,7 @@ ghost use Rattle.charlotte_calls.specs.declared.names.EndId.{EndId};
 ghost use Rattle.end_table.specs.declared.entry.Entry.{Entry};
 ghost use Rattle.kernel_step.specs.Actions.{forgets, forget_at};
 ghost use Rattle.kernel_step.specs.Progress.{progress, HasRoom, AddsAtMost};
+ghost use Rattle.kernel_step.specs.declared.bounds.TheConstants.{MOST_FORGETS};
 
 use crate::writers::push_packet;
 use charlotte_calls::{MovingPicture, What, Work};
@@ -13,9 +14,9 @@ const KERNELS: [u8; 8] = [0, 1, 2, 3, 4, 5, 6, 7];
 /// Each other kernel of the trail is told to forget the end.
 #[tactic(auto, unfolding(crate::specs::Actions::forgets))]
 pub fn forget(out: &mut Work, kernel: u8, value: MovingPicture)
-    requires { HasRoom 8 0 0 0 out.old }
+    requires { HasRoom MOST_FORGETS 0 0 0 out.old }
     ensures part { (t : EndId → Entry) → progress t out.new ≡ forgets kernel value (progress t out.old) }
-    ensures room { AddsAtMost 8 0 0 0 out.old out.new }
+    ensures room { AddsAtMost MOST_FORGETS 0 0 0 out.old out.new }
 {
     for to in &KERNELS {
         forget_at(out, kernel, value, *to);

@@ -1,9 +1,9 @@
 -- The packets of a world after an event.
-use Rattle.std.proofs.Common.{◌≡◌, ◌≢◌, inl, inr, ℕ, Bool, true, false, nat_eq, ◌&&◌, List, [], ◌∷◌, ◌++◌, map, cond, ap, sym, ◌∙◌, refl, append_assoc, append-nil}
+use Rattle.std.proofs.Common.{◌≡◌, inl, inr, ℕ, Bool, true, false, nat_eq, ◌&&◌, List, [], ◌∷◌, ◌++◌, map, cond, ap, sym, ◌∙◌, refl, append_assoc, append-nil}
 use Rattle.std.specs.List.{filter}
 use Rattle.std.proofs.lemmas.Bool.Decides.{eqb_tells}
 use Rattle.charlotte_calls.specs.declared.picture.Picture.{Picture}
-use Rattle.kernel_world.specs.World.{World, Event, Calls, Takes, kernel_of, outcome, rest, removes, adds, adds_all, happens, to_kernel, takes_at, sends_at, left_at, packets_after}
+use Rattle.kernel_world.specs.World.{World, Event, Calls, Takes, kernel_of, outcome, rest, removes, adds, adds_all, happens, to_kernel, takes_at, left_at, packets_after}
 
 -- packets from another kernel change no list of this one
 pub adds_all-other : (k : ℕ) (sent : List (ℕ × Picture)) (ps : ℕ → ℕ → List Picture) (from to : ℕ) → nat_eq from k ≡ false → adds_all k sent ps from to ≡ ps from to

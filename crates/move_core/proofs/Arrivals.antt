@@ -1,13 +1,13 @@
 -- Values that a packet brings, while the entry of one end changes, and what each adds to the event.
-use Rattle.std.proofs.Common.{◌≡◌, ℕ, ◌+◌, Bool, true, false, List, [], ◌∷◌, arith, ap, sym, subst, ◌∙◌, refl, if◌then◌else◌}
+use Rattle.std.proofs.Common.{◌≡◌, ℕ, ◌+◌, Bool, true, false, List, [], ◌∷◌, arith, ap, sym, subst, ◌∙◌, refl}
 use Rattle.std.specs.List.{list_any}
 use Rattle.charlotte_calls.specs.declared.picture.MovingPicture.{MovingPicture}
 use Rattle.charlotte_calls.specs.declared.names.EndId.{EndId}
 use Rattle.charlotte_calls.specs.declared.work.Work.{Work}
 use Rattle.end_table.proofs.EndEq.{end_eq-same}
-use Rattle.end_table.specs.Entries.{settled, left_value, left_entry, ended_entry}
+use Rattle.end_table.specs.Entries.{settled}
 use Rattle.end_table.specs.Place.{end_eq}
-use Rattle.end_table.specs.Table.{TableView, entries, HasPlace, IsHere, Puts}
+use Rattle.end_table.specs.Table.{TableView, entries, IsHere, Puts}
 use Rattle.end_table.specs.declared.entry.Entry.{Entry}
 use Rattle.end_table.specs.declared.entry.Entry.TheVariants as entry
 use Rattle.end_table.specs.declared.entry.Holder.{Holder}
@@ -16,21 +16,6 @@ use Rattle.kernel_step.specs.Actions.{here, end_each, ends_idle, ends_idle_here,
 use Rattle.kernel_step.specs.Progress.{Progress, progress, keeps, HasRoom, AddsAtMost}
 use Rattle.kernel_step.specs.Rows.{ends_in, pass_each, end_arrivals}
 use Rattle.move_core.specs.Arriving.{AreAway, AreApart}
-
--- what leaves or ends at a kernel is not here any more
-pub left-IsHere : (to : ℕ) (m : MovingPicture) → IsHere (left_entry to m) → ⊥
-left-IsHere to m = by m.dead
-  where
-    by : (b : Bool) → IsHere (if b then entry.Nothing else entry.Left to (left_value 0 m).hops) → ⊥
-    by true h = h
-    by false h = h
-
-pub ended-IsHere : (m : MovingPicture) → IsHere (ended_entry m) → ⊥
-ended-IsHere m = by m.dead
-  where
-    by : (b : Bool) → IsHere (if b then entry.Nothing else entry.Destroyed m) → ⊥
-    by true h = h
-    by false h = h
 
 module _ (old new : TableView) (e : EndId) (x : Entry) (puts : Puts old new e x) where
   -- ends stay away where the entry of one of them becomes none that is here

@@ -1,4 +1,4 @@
-ghost use Rattle.std.specs.Prelude.{◌≡◌, length, IfSome, false};
+ghost use Rattle.std.specs.Prelude.{◌≡◌, length, IfSome};
 ghost use Rattle.charlotte_calls.specs.declared.names.EndId.{EndId};
 ghost use Rattle.charlotte_calls.specs.declared.work.Work.{Work};
 ghost use Rattle.end_table.specs.Entries.{ended_entry};
@@ -7,6 +7,7 @@ ghost use Rattle.kernel_step.specs.Actions.{ends_idle, tell_arrivals};
 ghost use Rattle.kernel_step.specs.Progress.{progress, keeps, HasRoom, AddsAtMost};
 ghost use Rattle.kernel_step.specs.Rows.{awaits, give_back_row, gives_back, end_arrivals};
 ghost use Rattle.move_core.specs.Arriving.{AreAway, AreApart};
+ghost use Rattle.kernel_step.specs.declared.bounds.TheConstants.{MOST_ENDS};
 
 use crate::ending::tell_gone;
 use crate::parcel::settle_and_tell;
@@ -20,10 +21,10 @@ use kernel_step::{ends_in, keep_outward, report, send_report, sender};
 pub fn give_back(table: &mut Table, to: EndId, n: u32, moving: Cargo, out: &mut Work)
     requires away { AreAway table.old moving }
     requires apart { IfSome (awaits n (entries table.old to)) (λ _. AreApart moving) }
-    requires room { HasRoom 8 1 0 0 out.old }
+    requires room { HasRoom MOST_ENDS 1 0 0 out.old }
     ensures part { progress (entries table.new) out.new
         ≡ give_back_row table.old.kernel moving (awaits n (entries table.old to)) (progress (entries table.old) out.old) }
-    ensures room { AddsAtMost 8 1 0 0 out.old out.new }
+    ensures room { AddsAtMost MOST_ENDS 1 0 0 out.old out.new }
     ensures kernel { table.new.kernel ≡ table.old.kernel }
 {
     match sender(table, to, n) {
@@ -38,10 +39,10 @@ fn return_ends(table: &mut Table, on: EndId, moving: Cargo, out: &mut Work)
     requires here { IsHere (entries table.old on) }
     requires away { AreAway table.old moving }
     requires apart { AreApart moving }
-    requires room { HasRoom 8 1 0 0 out.old }
+    requires room { HasRoom MOST_ENDS 1 0 0 out.old }
     ensures part { IfHere (entries table.old on) (λ v. progress (entries table.new) out.new
         ≡ tell_arrivals table.old.kernel moving (gives_back moving v (progress (entries table.old) out.old))) }
-    ensures room { AddsAtMost 8 1 0 0 out.old out.new }
+    ensures room { AddsAtMost MOST_ENDS 1 0 0 out.old out.new }
     ensures kernel { table.new.kernel ≡ table.old.kernel }
 {
     let living = table.here(on);

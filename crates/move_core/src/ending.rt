@@ -1,5 +1,4 @@
 ghost use Rattle.std.specs.Prelude.{◌≡◌, false, length};
-ghost use Rattle.std.specs.List.{list_any};
 ghost use Rattle.charlotte_calls.specs.Names.{opposite};
 ghost use Rattle.charlotte_calls.specs.declared.names.EndId.{EndId};
 ghost use Rattle.charlotte_calls.specs.declared.picture.PictureWhat.TheVariants as packet;
@@ -9,10 +8,11 @@ ghost use Rattle.end_table.specs.Place.{end_eq};
 ghost use Rattle.end_table.specs.Table.{entries, IfHere, IsHere};
 ghost use Rattle.end_table.specs.declared.entry.Entry.{Entry};
 ghost use Rattle.end_table.specs.declared.entry.Entry.TheVariants.{Destroyed};
-ghost use Rattle.kernel_step.specs.Actions.{here, enclosed_of, tells_gone, ends_idle, ends_idle_here, end_each, ends};
-ghost use Rattle.kernel_step.specs.Enclosed.{AreEnclosed};
+ghost use Rattle.kernel_step.specs.Actions.{here, tells_gone, ends_idle, ends_idle_here, end_each, ends};
+ghost use Rattle.kernel_step.specs.Enclosed.{AreEnclosed, IsReady};
 ghost use Rattle.kernel_step.specs.Progress.{progress, sends, keeps, HasRoom, AddsAtMost};
 ghost use Rattle.kernel_step.specs.Rows.{goneseen_row, erases};
+ghost use Rattle.kernel_step.specs.declared.bounds.TheConstants.{MOST_FORGETS, PACKETS_OF_END};
 
 use charlotte_calls::{EndId, Mark, MovingPicture, What, Work};
 use end_table::{Lent, Table};
@@ -97,12 +97,11 @@ fn end_each(table: &mut Table, ends: &[EndId], out: &mut Work)
 #[tactic(auto, unfolding(kernel_step::specs::Actions::ends))]
 pub fn destroy(table: &mut Table, on: EndId, out: &mut Work)
     requires here { IsHere (entries table.old on) }
-    requires enclosed { IfHere (entries table.old on) (λ v. AreEnclosed (entries table.old) (enclosed_of v.outward)) }
-    requires apart { IfHere (entries table.old on) (λ v. list_any (end_eq on) (enclosed_of v.outward) ≡ false) }
-    requires room { HasRoom 9 0 0 0 out.old }
+    requires ready { IsReady (entries table.old) on }
+    requires room { HasRoom PACKETS_OF_END 0 0 0 out.old }
     ensures part { IfHere (entries table.old on) (λ v. progress (entries table.new) out.new
         ≡ ends table.old.kernel v (progress (entries table.old) out.old)) }
-    ensures room { AddsAtMost 9 0 0 0 out.old out.new }
+    ensures room { AddsAtMost PACKETS_OF_END 0 0 0 out.old out.new }
     ensures kernel { table.new.kernel ≡ table.old.kernel }
 {
     let kernel = table.kernel();
@@ -114,10 +113,10 @@ pub fn destroy(table: &mut Table, on: EndId, out: &mut Work)
 
 /// The row goneseen: the mark of a destroyed end is erased, and the traces of the end are forgotten.
 pub fn gone_seen(table: &mut Table, to: EndId, out: &mut Work)
-    requires room { HasRoom 8 0 0 0 out.old }
+    requires room { HasRoom MOST_FORGETS 0 0 0 out.old }
     ensures part { progress (entries table.new) out.new
         ≡ goneseen_row table.old.kernel (entries table.old to) (progress (entries table.old) out.old) }
-    ensures room { AddsAtMost 8 0 0 0 out.old out.new }
+    ensures room { AddsAtMost MOST_FORGETS 0 0 0 out.old out.new }
     ensures kernel { table.new.kernel ≡ table.old.kernel }
 {
     if let Lent::Destroyed(mark) = table.lend(to) {
@@ -129,10 +128,10 @@ pub fn gone_seen(table: &mut Table, to: EndId, out: &mut Work)
 #[tactic(auto, unfolding(kernel_step::specs::Rows::erases), using(kernel_step::proofs::Steps::progress_puts))]
 fn erase(table: &mut Table, mark: Mark, out: &mut Work)
     requires mark { entries table.old mark.end ≡ Destroyed mark }
-    requires room { HasRoom 8 0 0 0 out.old }
+    requires room { HasRoom MOST_FORGETS 0 0 0 out.old }
     ensures part { progress (entries table.new) out.new
         ≡ erases table.old.kernel mark (progress (entries table.old) out.old) }
-    ensures room { AddsAtMost 8 0 0 0 out.old out.new }
+    ensures room { AddsAtMost MOST_FORGETS 0 0 0 out.old out.new }
     ensures kernel { table.new.kernel ≡ table.old.kernel }
 {
     forget(out, table.kernel(), mark.picture());

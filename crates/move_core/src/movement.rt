@@ -2,11 +2,12 @@ ghost use Rattle.std.specs.Prelude.{◌≡◌};
 ghost use Rattle.end_table.specs.Table.{entries, IfHere, IsHere};
 ghost use Rattle.end_table.specs.declared.entry.Entry.TheVariants.{Destroyed};
 ghost use Rattle.kernel_step.specs.Progress.{progress, HasRoom, AddsAtMost};
-ghost use Rattle.kernel_step.specs.Rows.{moved_row, moved_here, mark_hears, moved_mark, known_row, known_here, forget_row};
+ghost use Rattle.kernel_step.specs.Rows.{moved_row, moved_here, mark_learns, moved_mark, known_row, known_here, forget_row};
+ghost use Rattle.kernel_step.specs.declared.bounds.TheConstants.{MOST_FORGETS};
 
 use charlotte_calls::{EndId, Mark, What, Work};
 use end_table::{Lent, Table};
-use kernel_step::{keep_inward, listen, push_packet};
+use kernel_step::{keep_inward, learn, push_packet};
 
 /// The row moved: the opposite of an end is at kernel `at` now.
 pub fn moved(table: &mut Table, to: EndId, at: u8, hops: u32, out: &mut Work)
@@ -37,7 +38,7 @@ fn moved_here(table: &mut Table, on: EndId, at: u8, hops: u32, out: &mut Work)
     if table.here(on).value().dead {
         return;
     }
-    listen(table, on, at, hops, out);
+    learn(table, on, at, hops, out);
     let known = What::Known {
         to: on.opposite(),
         hops,
@@ -55,7 +56,7 @@ fn moved_mark(table: &mut Table, to: EndId, mark: Mark, at: u8, hops: u32, out: 
     ensures room { AddsAtMost 1 0 0 0 out.old out.new }
     ensures kernel { table.new.kernel ≡ table.old.kernel }
 {
-    mark_hears(table, to, mark, at, hops);
+    mark_learns(table, to, mark, at, hops);
     let gone = What::Gone {
         to: to.opposite(),
         at: table.kernel(),
@@ -65,10 +66,10 @@ fn moved_mark(table: &mut Table, to: EndId, mark: Mark, at: u8, hops: u32, out: 
 
 /// LEARN at the mark of a destroyed end.
 #[tactic(auto, using(kernel_step::proofs::Steps::progress_puts))]
-fn mark_hears(table: &mut Table, to: EndId, mark: Mark, at: u8, hops: u32)
+fn mark_learns(table: &mut Table, to: EndId, mark: Mark, at: u8, hops: u32)
     requires mark { entries table.old to ≡ Destroyed mark }
     ensures part { (out : Work) → progress (entries table.new) out
-        ≡ mark_hears to at hops mark (progress (entries table.old) out) }
+        ≡ mark_learns to at hops mark (progress (entries table.old) out) }
     ensures kernel { table.new.kernel ≡ table.old.kernel }
 {
     if mark.hint().1 < hops {
@@ -78,10 +79,10 @@ fn mark_hears(table: &mut Table, to: EndId, mark: Mark, at: u8, hops: u32)
 
 /// The row known: that an end has moved is known, so that its traces are forgotten.
 pub fn known(table: &mut Table, to: EndId, hops: u32, out: &mut Work)
-    requires room { HasRoom 8 0 0 0 out.old }
+    requires room { HasRoom MOST_FORGETS 0 0 0 out.old }
     ensures part { progress (entries table.new) out.new
         ≡ known_row table.old.kernel hops (entries table.old to) (progress (entries table.old) out.old) }
-    ensures room { AddsAtMost 8 0 0 0 out.old out.new }
+    ensures room { AddsAtMost MOST_FORGETS 0 0 0 out.old out.new }
     ensures kernel { table.new.kernel ≡ table.old.kernel }
 {
     if let Lent::Here(_) = table.lend(to) {
@@ -93,10 +94,10 @@ pub fn known(table: &mut Table, to: EndId, hops: u32, out: &mut Work)
 #[tactic(auto, unfolding(kernel_step::specs::Rows::known_here))]
 fn known_here(table: &mut Table, on: EndId, hops: u32, out: &mut Work)
     requires here { IsHere (entries table.old on) }
-    requires room { HasRoom 8 0 0 0 out.old }
+    requires room { HasRoom MOST_FORGETS 0 0 0 out.old }
     ensures part { IfHere (entries table.old on) (λ v. progress (entries table.new) out.new
         ≡ known_here table.old.kernel hops v (progress (entries table.old) out.old)) }
-    ensures room { AddsAtMost 8 0 0 0 out.old out.new }
+    ensures room { AddsAtMost MOST_FORGETS 0 0 0 out.old out.new }
     ensures kernel { table.new.kernel ≡ table.old.kernel }
 {
     let living = table.here(on);

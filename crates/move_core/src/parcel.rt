@@ -7,6 +7,7 @@ ghost use Rattle.kernel_step.specs.Actions.{leaves, settle_each, tell_arrivals};
 ghost use Rattle.kernel_step.specs.Progress.{progress, HasRoom, AddsAtMost};
 ghost use Rattle.kernel_step.specs.Rows.{asks, arrive_row, pass_each, sends_back};
 ghost use Rattle.move_core.specs.Arriving.{AreAway, AreApart};
+ghost use Rattle.kernel_step.specs.declared.bounds.TheConstants.{MOST_ENDS};
 
 use crate::settling::{settle, settle_each, tell_arrivals};
 use charlotte_calls::{Cargo, EndId, Moving, What, Work};
@@ -18,10 +19,10 @@ use kernel_step::{push_packet, receiver};
 pub fn arrive(table: &mut Table, to: EndId, n: u32, w: u32, at: u8, moving: Cargo, out: &mut Work)
     requires away { AreAway table.old moving }
     requires apart { IfSome (asks w (entries table.old to)) (λ _. AreApart moving) }
-    requires room { HasRoom 8 0 0 0 out.old }
+    requires room { HasRoom MOST_ENDS 0 0 0 out.old }
     ensures part { progress (entries table.new) out.new
         ≡ arrive_row table.old.kernel to n at moving (asks w (entries table.old to)) (progress (entries table.old) out.old) }
-    ensures room { AddsAtMost 8 0 0 0 out.old out.new }
+    ensures room { AddsAtMost MOST_ENDS 0 0 0 out.old out.new }
     ensures kernel { table.new.kernel ≡ table.old.kernel }
 {
     match receiver(table, to, w) {
@@ -37,10 +38,10 @@ pub fn arrive(table: &mut Table, to: EndId, n: u32, w: u32, at: u8, moving: Carg
 pub(crate) fn settle_and_tell(table: &mut Table, holder: Holder, moving: Cargo, out: &mut Work)
     requires away { AreAway table.old moving }
     requires apart { AreApart moving }
-    requires room { HasRoom 8 0 0 0 out.old }
+    requires room { HasRoom MOST_ENDS 0 0 0 out.old }
     ensures part { progress (entries table.new) out.new
         ≡ tell_arrivals table.old.kernel moving (settle_each holder moving (progress (entries table.old) out.old)) }
-    ensures room { AddsAtMost 8 0 0 0 out.old out.new }
+    ensures room { AddsAtMost MOST_ENDS 0 0 0 out.old out.new }
     ensures kernel { table.new.kernel ≡ table.old.kernel }
 {
     let kernel = table.kernel();
@@ -66,7 +67,7 @@ fn pass(table: &mut Table, on: EndId, moving: Moving, at: u8) -> Moving
 /// send encloses them.
 fn pass_each(table: &mut Table, on: EndId, mut moving: Cargo, at: u8, left: &mut Cargo)
     requires away { AreAway table.old moving }
-    requires few { length left.old + length moving ≤ 8 }
+    requires few { length left.old + length moving ≤ MOST_ENDS }
     ensures cargo { left.new ≡ left.old ++ map (left_value table.old.kernel) moving }
     ensures part { (out : Work) → progress (entries table.new) out ≡ pass_each at moving (progress (entries table.old) out) }
     ensures kernel { table.new.kernel ≡ table.old.kernel }

@@ -2,13 +2,14 @@ ghost use Rattle.std.specs.Prelude.{◌≡◌};
 
 use charlotte_calls::{EndId, Room};
 use end_table::Table;
+use kernel_step::PACKETS_OF_END;
 
 /// Spare room that is enough for any one action of this crate: the packets about an end and eight enclosed ones.
 pub fn room(_table: &Table, _end: EndId) -> Room
-    ensures { result ≡ record { packets = 9; reports = 1; answers = 0; steps = 0 } }
+    ensures { result ≡ record { packets = PACKETS_OF_END; reports = 1; answers = 0; steps = 0 } }
 {
     Room {
-        packets: 9,
+        packets: PACKETS_OF_END,
         reports: 1,
         answers: 0,
         steps: 0,

@@ -30,7 +30,7 @@ use Rattle.end_table.specs.declared.entry.Inward.TheVariants as inward
 use Rattle.end_table.specs.declared.entry.Outward.{Outward}
 use Rattle.end_table.specs.declared.entry.Outward.TheVariants as outward
 use Rattle.journal_text.specs.TranscriptText.{IsFew, HasFewPacket, IsShownStep}
-use Rattle.kernel_step.specs.Actions.{here, hint_kernel, enclosed_of, reports, answers, send_report, dead_receive_report, kernel_numbers, forget_at, forgets, leaves, leaves_here, leave_each, value_leaving, values_leaving, matches, match_waiting, tells_gone, ends_idle, ends_idle_here, end_each, ends, held, hold_each, noticed_outward, notice_send, notice_receive, notices, hears, resends_receive, tells_moved, resends, resends_on_news, listens, settle_each, tells_arrival, tell_arrivals}
+use Rattle.kernel_step.specs.Actions.{here, hint_kernel, enclosed_of, reports, answers, send_report, dead_receive_report, kernel_numbers, forget_at, forgets, leaves, leaves_here, leave_each, value_leaving, values_leaving, matches, match_waiting, tells_gone, ends_idle, ends_idle_here, end_each, ends, held, hold_each, noticed_outward, notice_send, notice_receive, notices, learned_view, resends_receive, tells_moved, resends, resends_on_news, learns, settle_each, tells_arrival, tell_arrivals}
 use Rattle.kernel_step.specs.Progress.{Progress, sends, reports_to, answers_to, means, keeps}
 use Rattle.kernel_world.specs.declared.entry.Happened.{Happened}
 use Rattle.kernel_world.specs.declared.entry.Happened.TheVariants.{Asked, Took}
@@ -276,10 +276,10 @@ unfolding resends_on_news
 resends_on_news-kept {v} {n} {w} {d} k before hops m i kept =
     elim (is_news before hops) as (λ b. Kept v n w (cond b (resends k m i d) d)) [ true ↦ resends-kept k m i kept | false ↦ kept ]
 
-pub listens-kept : {v n : ℕ} {w : Happened} {d : Progress} (k at hops : ℕ) (view : HereView) → HasFewEnds v view.outward → Kept v n w d → Kept v n w (listens k at hops view d)
-unfolding listens
-listens-kept k at hops view few kept =
-    resends_on_news-kept k view.value hops (hears view at hops).value view.inward (keeps-kept view.value.end (entry.Here (hears view at hops)) few kept)
+pub learns-kept : {v n : ℕ} {w : Happened} {d : Progress} (k at hops : ℕ) (view : HereView) → HasFewEnds v view.outward → Kept v n w d → Kept v n w (learns k at hops view d)
+unfolding learns
+learns-kept k at hops view few kept =
+    resends_on_news-kept k view.value hops (learned_view view at hops).value view.inward (keeps-kept view.value.end (entry.Here (learned_view view at hops)) few kept)
 
 pub settle_each-kept : {v n : ℕ} {w : Happened} (h : Holder) (ms : List MovingPicture) {d : Progress} → Kept v n w d → Kept v n w (settle_each h ms d)
 unfolding settle_each

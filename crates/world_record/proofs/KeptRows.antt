@@ -22,12 +22,12 @@ use Rattle.end_table.specs.declared.entry.Inward.{Inward}
 use Rattle.end_table.specs.declared.entry.Inward.TheVariants as inward
 use Rattle.end_table.specs.declared.entry.Outward.TheVariants as outward
 use Rattle.journal_text.specs.TranscriptText.{IsFew, HasFewPacket}
-use Rattle.kernel_step.specs.Actions.{send_report, receive_report, reports, answers, notices, is_withdrawing, hears, listens, forgets}
+use Rattle.kernel_step.specs.Actions.{send_report, receive_report, reports, answers, notices, is_withdrawing, learned_view, learns, forgets}
 use Rattle.kernel_step.specs.Progress.{Progress, sends, means, keeps}
-use Rattle.kernel_step.specs.Rows.{wants, want_here, want_row, voids, unwant_here, unwant_row, frees, unwanted_here, unwanted_row, is_carried, passing, arriving, ends_in, takes, receives, pass_each, sends_back, is_asked, asks, parcel_row, completes, is_matched, awaits, taken_row, gives_back, notices_first, end_arrivals, means_back, is_here, back_row, erases, gone_here, gone_row, moved_here, mark_hears, moved_mark, moved_row, known_here, known_row, forget_row, goneseen_row, row}
+use Rattle.kernel_step.specs.Rows.{wants, want_here, want_row, voids, unwant_here, unwant_row, frees, unwanted_here, unwanted_row, is_carried, passing, arriving, ends_in, takes, receives, pass_each, sends_back, is_asked, asks, parcel_row, completes, is_matched, awaits, taken_row, gives_back, notices_first, end_arrivals, means_back, is_here, back_row, erases, gone_here, gone_row, moved_here, mark_learns, moved_mark, moved_row, known_here, known_row, forget_row, goneseen_row, row}
 use Rattle.kernel_world.specs.declared.entry.Happened.{Happened}
 use Rattle.world_record.specs.Told.{HasFewEnds, IsFewEntry}
-use Rattle.world_record.proofs.Kept.{Kept, IsFewView, few_none, few_fewer, sends-kept, says-kept, keeps-kept, reports-kept, answers-kept, forgets-kept, leaves-kept, match_waiting-kept, ends_idle-kept, notices-kept, resends_on_news-kept, listens-kept, settle_each-kept, tell_arrivals-kept}
+use Rattle.world_record.proofs.Kept.{Kept, IsFewView, few_none, few_fewer, sends-kept, says-kept, keeps-kept, reports-kept, answers-kept, forgets-kept, leaves-kept, match_waiting-kept, ends_idle-kept, notices-kept, resends_on_news-kept, learns-kept, settle_each-kept, tell_arrivals-kept}
 
 -- v is the version, n the stamp of the event, w what happened
 
@@ -36,15 +36,15 @@ use Rattle.world_record.proofs.Kept.{Kept, IsFewView, few_none, few_fewer, sends
 wants-kept : {v n : ℕ} {w : Happened} {d : Progress} (k x at hops : ℕ) (view : HereView) → HasFewEnds v view.outward → Kept v n w d → Kept v n w (wants k x at hops view d)
 unfolding wants
 wants-kept k x at hops view few kept =
-    resends_on_news-kept k view.value hops (hears view at hops).value view.inward
-    (match_waiting-kept k (record (hears view at hops) { value = record (hears view at hops).value { want = x } }) view.outward few few kept)
+    resends_on_news-kept k view.value hops (learned_view view at hops).value view.inward
+    (match_waiting-kept k (record (learned_view view at hops) { value = record (learned_view view at hops).value { want = x } }) view.outward few few kept)
 
 want_here-kept : {v n : ℕ} {w : Happened} {d : Progress} (k x at hops : ℕ) (view : HereView) → HasFewEnds v view.outward → Kept v n w d → Kept v n w (want_here k x at hops view d)
 unfolding want_here
 want_here-kept {v} {n} {w} {d} k x at hops view few kept =
-    elim view.value.dead as (λ b. Kept v n w (cond b d (cond (nat_lt view.value.served x) (wants k x at hops view d) (listens k at hops view d)))) [
+    elim view.value.dead as (λ b. Kept v n w (cond b d (cond (nat_lt view.value.served x) (wants k x at hops view d) (learns k at hops view d)))) [
       | true ↦ kept
-      | false ↦ elim (nat_lt view.value.served x) as (λ b. Kept v n w (cond b (wants k x at hops view d) (listens k at hops view d))) [ true ↦ wants-kept k x at hops view few kept | false ↦ listens-kept k at hops view few kept ]
+      | false ↦ elim (nat_lt view.value.served x) as (λ b. Kept v n w (cond b (wants k x at hops view d) (learns k at hops view d))) [ true ↦ wants-kept k x at hops view few kept | false ↦ learns-kept k at hops view few kept ]
     ]
 
 want_row-kept : {v n : ℕ} {w : Happened} {d : Progress} (k : ℕ) (to : EndId) (x at hops : ℕ) (e : Entry) → IsFewEntry v e → Kept v n w d → Kept v n w (want_row k to x at hops e d)
@@ -58,17 +58,17 @@ want_row-kept k to x at hops (entry.Destroyed m) few kept = kept
 voids-kept : {v n : ℕ} {w : Happened} {d : Progress} (k x at hops : ℕ) (view : HereView) → HasFewEnds v view.outward → Kept v n w d → Kept v n w (voids k x at hops view d)
 unfolding voids
 voids-kept k x at hops view few kept =
-    resends_on_news-kept k view.value hops (hears view at hops).value view.inward
+    resends_on_news-kept k view.value hops (learned_view view at hops).value view.inward
     (sends-kept at (packet.Unwanted (opposite view.value.end) x k view.value.hops) tt
     (says-kept (step.Withdraw (opposite view.value.end)) tt
-    (keeps-kept view.value.end (entry.Here (record (hears view at hops) { value = record (hears view at hops).value { served = x; want = 0 } })) few kept)))
+    (keeps-kept view.value.end (entry.Here (record (learned_view view at hops) { value = record (learned_view view at hops).value { served = x; want = 0 } })) few kept)))
 
 unwant_here-kept : {v n : ℕ} {w : Happened} {d : Progress} (k x at hops : ℕ) (view : HereView) → HasFewEnds v view.outward → Kept v n w d → Kept v n w (unwant_here k x at hops view d)
 unfolding unwant_here
 unwant_here-kept {v} {n} {w} {d} k x at hops view few kept =
-    elim view.value.dead as (λ b. Kept v n w (cond b d (cond (nat_lt view.value.served x) (voids k x at hops view d) (listens k at hops view d)))) [
+    elim view.value.dead as (λ b. Kept v n w (cond b d (cond (nat_lt view.value.served x) (voids k x at hops view d) (learns k at hops view d)))) [
       | true ↦ kept
-      | false ↦ elim (nat_lt view.value.served x) as (λ b. Kept v n w (cond b (voids k x at hops view d) (listens k at hops view d))) [ true ↦ voids-kept k x at hops view few kept | false ↦ listens-kept k at hops view few kept ]
+      | false ↦ elim (nat_lt view.value.served x) as (λ b. Kept v n w (cond b (voids k x at hops view d) (learns k at hops view d))) [ true ↦ voids-kept k x at hops view few kept | false ↦ learns-kept k at hops view few kept ]
     ]
 
 unwant_row-kept : {v n : ℕ} {w : Happened} {d : Progress} (k : ℕ) (to : EndId) (x at hops : ℕ) (e : Entry) → IsFewEntry v e → Kept v n w d → Kept v n w (unwant_row k to x at hops e d)
@@ -82,9 +82,9 @@ unwant_row-kept k to x at hops (entry.Destroyed m) few kept = kept
 frees-kept : {v n : ℕ} {w : Happened} {d : Progress} (k at hops : ℕ) (view : HereView) → HasFewEnds v view.outward → Kept v n w d → Kept v n w (frees k at hops view d)
 unfolding frees
 frees-kept k at hops view few kept =
-    resends_on_news-kept k view.value hops (hears view at hops).value inward.Idle
+    resends_on_news-kept k view.value hops (learned_view view at hops).value inward.Idle
     (answers-kept view.holder answer.Ok (says-kept (step.Free view.value.end) tt
-    (keeps-kept view.value.end (entry.Here (record (hears view at hops) { inward = inward.Idle })) few kept)))
+    (keeps-kept view.value.end (entry.Here (record (learned_view view at hops) { inward = inward.Idle })) few kept)))
 
 unwanted_here-kept : {v n : ℕ} {w : Happened} {d : Progress} (k x at hops : ℕ) (view : HereView) (i : Inward) → HasFewEnds v view.outward → Kept v n w d → Kept v n w (unwanted_here k x at hops view i d)
 unwanted_here-kept k x at hops view inward.Idle few kept = kept
@@ -141,9 +141,9 @@ unfolding receives
 receives-kept {v} {n} {w} {d} k send at hops bytes xs view few few_xs kept =
     let e : EndId = view.value.end in
     let late : Bool = is_withdrawing view.inward in
-    let now : Progress = reports view.holder (receive_report e bytes xs) (takes e send late view.holder (keeps e (entry.Here (record (hears view at hops) { inward = inward.Unreported })) d)) in
+    let now : Progress = reports view.holder (receive_report e bytes xs) (takes e send late view.holder (keeps e (entry.Here (record (learned_view view at hops) { inward = inward.Unreported })) d)) in
     let reported : Kept v n w now =
-    reports-kept view.holder (receive_report e bytes xs) few_xs (takes-kept e send late view.holder (keeps-kept e (entry.Here (record (hears view at hops) { inward = inward.Unreported })) few kept)) in
+    reports-kept view.holder (receive_report e bytes xs) few_xs (takes-kept e send late view.holder (keeps-kept e (entry.Here (record (learned_view view at hops) { inward = inward.Unreported })) few kept)) in
     sends-kept at (packet.Taken (opposite e) send k view.value.hops) tt
     (elim late as (λ b. Kept v n w (cond b (answers view.holder (answer.Refused cause.Late) now) now)) [ true ↦ answers-kept view.holder (answer.Refused cause.Late) reported | false ↦ reported ])
 
@@ -184,7 +184,7 @@ completes-kept : {v n : ℕ} {w : Happened} {d : Progress} (k send at hops : ℕ
 unfolding completes
 completes-kept {v} k send at hops view kept =
     let e : EndId = view.value.end in
-    let done : HereView = record (hears view at hops) { outward = outward.Unreported } in
+    let done : HereView = record (learned_view view at hops) { outward = outward.Unreported } in
     resends_on_news-kept k view.value hops done.value view.inward
     (reports-kept view.holder (send_report e outcome.Done []) (refl, refl)
     (says-kept (step.Complete e send) tt (keeps-kept e (entry.Here done) (few_none v) kept)))
@@ -253,18 +253,18 @@ gone_row-kept k to at (entry.Destroyed m) few kept = erases-kept k m (sends-kept
 moved_here-kept : {v n : ℕ} {w : Happened} {d : Progress} (k at hops : ℕ) (view : HereView) → HasFewEnds v view.outward → Kept v n w d → Kept v n w (moved_here k at hops view d)
 unfolding moved_here
 moved_here-kept {v} {n} {w} {d} k at hops view few kept =
-    elim view.value.dead as (λ b. Kept v n w (cond b d (sends at (packet.Known (opposite view.value.end) hops) (listens k at hops view d)))) [
+    elim view.value.dead as (λ b. Kept v n w (cond b d (sends at (packet.Known (opposite view.value.end) hops) (learns k at hops view d)))) [
       | true ↦ kept
-      | false ↦ sends-kept at (packet.Known (opposite view.value.end) hops) tt (listens-kept k at hops view few kept)
+      | false ↦ sends-kept at (packet.Known (opposite view.value.end) hops) tt (learns-kept k at hops view few kept)
     ]
 
-mark_hears-kept : {v n : ℕ} {w : Happened} {d : Progress} (to : EndId) (at hops : ℕ) (m : MovingPicture) → Kept v n w d → Kept v n w (mark_hears to at hops m d)
-mark_hears-kept {v} {n} {w} {d} to at hops m kept =
+mark_learns-kept : {v n : ℕ} {w : Happened} {d : Progress} (to : EndId) (at hops : ℕ) (m : MovingPicture) → Kept v n w d → Kept v n w (mark_learns to at hops m d)
+mark_learns-kept {v} {n} {w} {d} to at hops m kept =
     elim (is_news m hops) as (λ b. Kept v n w (cond b (keeps to (entry.Destroyed (learned at hops m)) d) d)) [ true ↦ keeps-kept to (entry.Destroyed (learned at hops m)) tt kept | false ↦ kept ]
 
 moved_mark-kept : {v n : ℕ} {w : Happened} {d : Progress} (k : ℕ) (to : EndId) (at hops : ℕ) (m : MovingPicture) → Kept v n w d → Kept v n w (moved_mark k to at hops m d)
 unfolding moved_mark
-moved_mark-kept k to at hops m kept = sends-kept at (packet.Gone (opposite to) k) tt (mark_hears-kept to at hops m kept)
+moved_mark-kept k to at hops m kept = sends-kept at (packet.Gone (opposite to) k) tt (mark_learns-kept to at hops m kept)
 
 moved_row-kept : {v n : ℕ} {w : Happened} {d : Progress} (k : ℕ) (to : EndId) (at hops : ℕ) (e : Entry) → IsFewEntry v e → Kept v n w d → Kept v n w (moved_row k to at hops e d)
 moved_row-kept k to at hops entry.Nothing few kept = kept

@@ -11,8 +11,8 @@ pub send_parcel-requires-clause-enclosed : goal.send_parcel-requires-clause-encl
 send_parcel-requires-clause-enclosed c =
     let here = IsHere-waiting _ c.requires.here in
     AreEnclosed-others _ _ c.args.on _ c.in-Waiting.ensures.others
-    (waited (λ xs. list_any (end_eq c.args.on) xs ≡ false) _ _ _ _ here c.requires.apart c.in-Waiting.ensures.was)
-    (waited (AreEnclosed (entries c.args.table.now)) _ _ _ _ here c.requires.enclosed c.in-Waiting.ensures.was)
+    (waited (λ xs. list_any (end_eq c.args.on) xs ≡ false) _ _ _ _ here c.requires.ready.apart c.in-Waiting.ensures.was)
+    (waited (AreEnclosed (entries c.args.table.now)) _ _ _ _ here c.requires.ready.enclosed c.in-Waiting.ensures.was)
 
 pub returns-clause-part : goal.returns-clause-part
 returns-clause-part c =

@@ -5,8 +5,8 @@ use Rattle.cancel_core.proofs.send.withdraw_send.Goals as goal
 
 pub hold_each-requires : goal.hold_each-requires
 hold_each-requires c =
-    let are = rw c.here-living.ensures.view at c.requires.enclosed in
-    let apart = rw c.here-living.ensures.view at c.requires.apart in
+    let are = rw c.here-living.ensures.view at c.requires.ready.enclosed in
+    let apart = rw c.here-living.ensures.view at c.requires.ready.apart in
     let was = rw c.here-living.ensures.view at c.keep_outward-sent.ensures.was in
     let ends : c.as_slice.result.now ≡ enclosed_of c.here-living.result.now.outward =
     c.as_slice.ensures.same ∙ c.enclosed_ends-enclosed.ensures ∙ ap enclosed_of was in

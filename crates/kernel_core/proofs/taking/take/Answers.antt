@@ -9,10 +9,11 @@ use Rattle.kernel_process.proofs.OneProcess.{with_parts-kept, closes-table}
 use Rattle.kernel_process.specs.Parts.{ended, with_parts}
 use Rattle.kernel_process.specs.Closing.{HaveSpareFor}
 use Rattle.kernel_sound.proofs.Away.{away-calm, away-reports}
+use Rattle.kernel_sound.proofs.Goes.{GoesWell}
 use Rattle.kernel_sound.proofs.Events.{row-goes, well-reports, well-answers, row-sound, row-calm, owner-below}
 use Rattle.kernel_sound.proofs.Needs.{IsReady-sound}
 use Rattle.kernel_sound.specs.Owners.{owner_of}
-use Rattle.kernel_sound.specs.Sound.{IsSound, GoesWell, addressee}
+use Rattle.kernel_sound.specs.Sound.{IsSound, addressee}
 use Rattle.kernel_step.specs.Kernel.{closes}
 use Rattle.kernel_step.specs.Progress.{progress}
 use Rattle.kernel_step.specs.Rows.{row}

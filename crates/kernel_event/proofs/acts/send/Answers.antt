@@ -1,8 +1,7 @@
 use Rattle.std.proofs.Common.{sym, subst}
 use Rattle.end_table.specs.Table.{entries, IsHere}
-use Rattle.kernel_sound.proofs.Needs.{granted-at}
 use Rattle.kernel_event.proofs.ActsParts.{enclosed-after, on-after, sent-after}
-use Rattle.kernel_sound.proofs.Needs.{send-apart, send-enclosed}
+use Rattle.kernel_sound.proofs.Needs.{granted-at, send-apart, send-enclosed}
 use Rattle.kernel_step.specs.Enclosed.{AreEnclosed}
 use Rattle.kernel_step.specs.Progress.{progress}
 use Rattle.kernel_event.proofs.acts.send.Goals as goal

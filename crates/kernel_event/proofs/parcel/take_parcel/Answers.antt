@@ -38,8 +38,9 @@ returns-clause-part c = by (asks c.args.message.w (entries c.args.table.now c.ar
         → progress (entries c.arrived.new.table) c.put_behind.new.out ≡ parcel_row c.args.table.now.kernel c.args.made c.args.message.to c.args.message.n c.args.message.at c.args.message.hops c.args.message.bytes c.args.moving o (progress (entries c.args.table.now) c.args.out.now)
     by None is some = cc
     by (Some v) is some =
-        parcel-taken c.args.table.now.kernel c.args.made c.args.message.to c.args.message.n c.args.message.at c.args.message.hops c.args.message.bytes c.args.moving c.arriving-came.result c.ends_in-ends.result v (entries c.args.table.now) (entries c.arrive.new.table) (entries c.arrived.new.table) c.args.out.now c.arrive.new.out c.arrived.new.out c.put_behind.new.out c.len-moves.result c.requires.first (c.arriving-came.ensures v.holder) c.ends_in-ends.ensures
+        parcel-taken c.args.table.now.kernel c.args.message.n c.args.message.at c.args.message.hops c.args.message.bytes c.arriving-came.result c.ends_in-ends.result v (entries c.args.table.now) (entries c.arrive.new.table) (entries c.arrived.new.table) c.args.out.now c.arrive.new.out c.arrived.new.out c.requires.first
         (parcel-arrives c.args.table.now c.arrive.new.table c.arrived.new.table c.args.made c.args.message.to c.args.message.n c.args.message.w c.args.message.at c.args.message.hops c.args.message.bytes c.args.moving c.arriving-came.result c.ends_in-ends.result c.args.out.now c.arrive.new.out c.arrived.new.out v is c.requires.placed c.arriving-came.ensures c.arrive.ensures.part c.arrive.ensures.kernel c.arrived.ensures.part)
         (parcel-takes c.args.table.now c.arrive.new.table c.arrived.new.table c.args.made c.args.message.to c.args.message.n c.args.message.w c.args.message.at c.args.message.hops c.args.message.bytes c.args.moving c.arriving-came.result c.ends_in-ends.result c.args.out.now c.arrive.new.out c.arrived.new.out v is c.requires.placed c.arriving-came.ensures c.arrive.ensures.part c.arrive.ensures.kernel c.arrived.ensures.part)
+        c.args.made c.args.message.to c.args.moving c.put_behind.new.out c.len-moves.result (c.arriving-came.ensures v.holder) c.ends_in-ends.ensures
         (c.len-moves.ensures ∙ c.arrive.new.out.packets.ok.0)
         (c.put_behind.ensures.part (entries c.arrived.new.table))

@@ -1,8 +1,9 @@
-use Rattle.std.proofs.Common.{◌≡◌, ◌+◌, ◌∷◌, [], length, arith, ap, sym, ◌∙◌}
+use Rattle.std.proofs.Common.{◌≡◌, ◌+◌, ◌∷◌, length, arith, ap, sym, ◌∙◌}
 use Rattle.end_table.specs.Table.{entries}
 use Rattle.kernel_step.specs.Progress.{progress}
 use Rattle.kernel_step.specs.Rows.{end_arrivals}
-use Rattle.move_core.proofs.Arrivals.{AreAway-first, AreAway-left, HasRoom-others, ended-IsHere, end_arrivals-more}
+use Rattle.move_core.proofs.Arrivals.{AreAway-first, AreAway-left, HasRoom-others, end_arrivals-more}
+use Rattle.kernel_step.proofs.Departed.{ended-IsHere}
 use Rattle.move_core.specs.Arriving.{AreAway}
 use Rattle.move_core.proofs.back.+end_arrivals.Goals as goal
 

@@ -1,5 +1,3 @@
-use Rattle.std.proofs.Common.{subst, sym}
-use Rattle.end_table.specs.Table.{entries, IsHere}
 use Rattle.move_core.proofs.Arrivals.{AreAway-kept}
 use Rattle.move_core.proofs.back.return_ends.Goals as goal
 

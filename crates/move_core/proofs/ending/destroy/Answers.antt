@@ -5,8 +5,8 @@ use Rattle.move_core.proofs.ending.destroy.Goals as goal
 
 pub end_each-requires-clause-enclosed : goal.end_each-requires-clause-enclosed
 end_each-requires-clause-enclosed c =
-    let are = rw c.here.ensures.view at c.requires.enclosed in
-    let apart = rw c.here.ensures.view at c.requires.apart in
+    let are = rw c.here.ensures.view at c.requires.ready.enclosed in
+    let apart = rw c.here.ensures.view at c.requires.ready.apart in
     let ends : c.as_slice.result.now ≡ enclosed_of c.here.result.now.outward =
     c.as_slice.ensures.same ∙ c.enclosed_ends-enclosed.ensures ∙ ap enclosed_of c.outward.ensures in
     rw ends (AreEnclosed-others _ _ c.args.on _ c.end_entry-value.ensures.others apart are)

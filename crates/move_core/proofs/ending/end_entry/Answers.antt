@@ -1,8 +1,6 @@
 use Rattle.std.proofs.Common.{ap, ◌∙◌}
-use Rattle.charlotte_calls.specs.declared.work.Work.{Work}
 use Rattle.end_table.specs.Entries.{ended_entry}
-use Rattle.end_table.specs.Table.{entries, Puts}
-use Rattle.end_table.specs.declared.entry.HereView.{HereView}
+use Rattle.end_table.specs.Table.{Puts}
 use Rattle.kernel_step.specs.Progress.{progress}
 use Rattle.kernel_step.proofs.Steps.{IfHere-map, others-IfHere, kernel-IfHere, progress-put}
 use Rattle.move_core.proofs.ending.end_entry.Goals as goal

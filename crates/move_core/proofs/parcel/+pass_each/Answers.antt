@@ -2,7 +2,8 @@ use Rattle.std.proofs.Common.{◌≡◌, ◌++◌, ◌∷◌, [], length, arith,
 use Rattle.end_table.specs.Table.{entries}
 use Rattle.kernel_step.specs.Progress.{progress}
 use Rattle.kernel_step.specs.Rows.{pass_each}
-use Rattle.move_core.proofs.Arrivals.{AreAway-first, AreAway-left, left-IsHere, pass_each-more}
+use Rattle.move_core.proofs.Arrivals.{AreAway-first, AreAway-left, pass_each-more}
+use Rattle.kernel_step.proofs.Departed.{left-IsHere}
 use Rattle.move_core.specs.Arriving.{AreAway}
 use Rattle.move_core.proofs.parcel.+pass_each.Goals as goal
 

@@ -1,4 +1,4 @@
-use Rattle.std.proofs.Common.{◌≡◌, ◌∷◌, [], length, arith, ap, sym, ◌∙◌}
+use Rattle.std.proofs.Common.{◌≡◌, ◌∷◌, length, arith, ap, sym, ◌∙◌}
 use Rattle.end_table.specs.Table.{entries}
 use Rattle.kernel_step.specs.Actions.{settle_each}
 use Rattle.kernel_step.specs.Progress.{progress}

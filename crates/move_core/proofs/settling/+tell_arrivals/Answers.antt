@@ -1,4 +1,4 @@
-use Rattle.std.proofs.Common.{◌≡◌, ◌∷◌, [], length, arith, ap, sym, ◌∙◌}
+use Rattle.std.proofs.Common.{ap, sym, ◌∙◌}
 use Rattle.kernel_step.specs.Actions.{tell_arrivals}
 use Rattle.kernel_step.specs.Progress.{progress}
 use Rattle.move_core.proofs.Arrivals.{tell_arrivals-more}
