@@ -1,5 +1,9 @@
+//! Calls, their answers and causes, and service steps.
+
 use crate::samples::{end, same_text, some_bytes, two_ends};
 use charlotte_calls::{Answer, Call, Cause, Outcome, Pid, Report, ServiceStep, Side, Way};
+use std::alloc::Global;
+use std::process::Abort;
 use std::test::Fail;
 
 fn send() -> Result<Call, Fail> {
@@ -54,15 +58,15 @@ const CAUSES: [Cause; 10] = [
     Cause::EncloseTwice,
 ];
 
-#[test]
-fn calls_have_their_own_causes_and_answers(rt: HostRuntime) -> Result<(), Fail> {
+/// Each call fits its own causes and answers, and no other.
+fn calls_fit(rt: &impl Abort, alloc: Global) -> Result<(), Fail> {
     let made = Answer::Made(end(3, Side::A), end(3, Side::B));
     let reported = Answer::Reported(report()?);
     for (cause, number) in CAUSES.iter().zip(1..=10) {
         assert_eq!(rt; cause.number(), number, "{cause:?}");
     }
     for (call, causes, fits) in &calls()? {
-        assert!(rt; same_text(rt.alloc(), &call.copy(), call)?, "{call:?}");
+        assert!(rt; same_text(alloc, &call.copy(), call)?, "{call:?}");
         let answered = [
             call.fits(&Answer::Ok),
             call.fits(&made),
@@ -117,7 +121,8 @@ fn steps() -> Result<[ServiceStep; 16], Fail> {
 }
 
 #[test]
-fn copies_are_equal(rt: HostRuntime) -> Result<(), Fail> {
+fn calls_answers_and_steps(rt: HostRuntime) -> Result<(), Fail> {
+    calls_fit(&rt, rt.alloc())?;
     for step in steps()? {
         assert!(rt; same_text(rt.alloc(), &step.copy(), &step)?, "{step:?}");
     }
@@ -127,10 +132,8 @@ fn copies_are_equal(rt: HostRuntime) -> Result<(), Fail> {
         Answer::Reported(report()?),
         Answer::Refused(Cause::EncloseSame),
     ] {
-        assert!(rt;
-            same_text(rt.alloc(), &answer.copy(), &answer)?,
-            "{answer:?}"
-        );
+        let copied = answer.copy();
+        assert!(rt; same_text(rt.alloc(), &copied, &answer)?, "{answer:?}");
     }
     Ok(())
 }

@@ -10,6 +10,8 @@ mod messages;
 #[cfg(test)]
 mod moves;
 #[cfg(test)]
+mod node;
+#[cfg(test)]
 mod packets;
 #[cfg(test)]
 mod programs;
@@ -21,5 +23,3 @@ mod settings;
 mod table;
 #[cfg(test)]
 mod values;
-#[cfg(test)]
-mod world;

@@ -1,10 +1,11 @@
+//! Each call of `move_core` once. What follows from them is shown by the rows of .ci/rows/runs.
 ghost use Rattle.std.specs.Prelude.{◌≡◌, true, IfOk, [], ◌∷◌};
 ghost use Rattle.charlotte_calls.specs.Moving.{new_end};
 ghost use Rattle.end_table.specs.Table.{entries, HasPlace, IsHere};
 ghost use Rattle.kernel_step.specs.Progress.{HasRoom};
 
-use crate::samples::{END, OWNER, ample, end_a, kept, view};
-use charlotte_calls::{Cargo, EndId, LinkId, NoMemory, Packet, Side, What, Work};
+use crate::samples::{END, OWNER, ample, end_a, kept, sends, view};
+use charlotte_calls::{Cargo, EndId, LinkId, NoMemory, PictureWhat, Side, Work};
 use end_table::{Holder, Inward, Lent, Outward, Table};
 use move_core::{
     Route, arrive, destroy, enclose, forget, give_back, gone_seen, known, leave, moved, room, route,
@@ -52,168 +53,62 @@ fn is_expected(table: &mut Table) -> Result<bool, NoMemory>
     Ok(matches!(table.lend(CARRIED), Lent::Nothing))
 }
 
+/// Who holds an end that is here.
+fn holder_of(table: &Table, end: EndId) -> Option<Holder> {
+    match table.lend(end) {
+        Lent::Here(living) => Some(living.holder()),
+        _ => None,
+    }
+}
+
 #[test]
-fn an_end_arrives_with_its_message(rt: HostRuntime) -> Result<(), Fail> {
+fn an_end_arrives_and_another_comes_back(rt: HostRuntime) -> Result<(), Fail> {
+    let (to, at, hops) = (CARRIED.opposite(), 0, 0);
     let mut table = kept(rt.alloc(), view(0, Outward::Idle, Inward::Posted { w: 1 }))?;
     let mut out = ample(rt.alloc())?;
     if is_expected(&mut table)? {
         arrive_once(&mut table, &mut out);
     }
-    assert!(rt;
-        matches!(
-            out.packets.first(),
-            Some((
-                3,
-                Packet {
-                    stamp: 5,
-                    what: What::Moved { at: 0, hops: 0, .. }
-                }
-            ))
-        )
-    );
-    match table.lend(CARRIED) {
-        Lent::Here(living) => assert_eq!(rt; living.holder(), Holder::Owner(OWNER)),
-        _ => panic!(rt; "the end did not arrive"),
-    }
+    sends(&rt, rt.alloc(), &out, 3, &PictureWhat::Moved { to, at, hops })?;
+    assert_eq!(rt; holder_of(&table, CARRIED), Some(Holder::Owner(OWNER)));
     assert_eq!(rt; route(&table, CARRIED), Route::Here);
-    Ok(())
-}
-
-#[test]
-fn a_late_parcel_goes_back_with_its_end(rt: HostRuntime) -> Result<(), Fail> {
-    let mut table = kept(rt.alloc(), view(0, Outward::Idle, Inward::Idle))?;
-    let mut out = ample(rt.alloc())?;
-    if is_expected(&mut table)? {
-        arrive_once(&mut table, &mut out);
-    }
-    match out.packets.first() {
-        Some(
-            (
-                3,
-                Packet {
-                    what: What::Back { n, moving, .. },
-                    ..
-                },
-            ),
-        ) => {
-            assert_eq!(rt; (*n, moving.len()), (4, 1));
-        }
-        _ => panic!(rt; "nothing goes back"),
-    }
-    assert_eq!(rt; route(&table, CARRIED), Route::Forward(3));
-    forget(&mut table, CARRIED, 1, &mut out);
-    assert_eq!(rt; route(&table, CARRIED), Route::Stale);
-    Ok(())
-}
-
-#[test]
-fn a_message_comes_back_with_its_end(rt: HostRuntime) -> Result<(), Fail> {
     let mut table = kept(rt.alloc(), view(0, Outward::Matched { n: 4 }, Inward::Idle))?;
     let mut out = ample(rt.alloc())?;
     if is_expected(&mut table)? {
         return_once(&mut table, &mut out);
     }
-    match out.reports.first() {
-        Some((p, report)) => assert_eq!(rt;
-            (*p, report.enclosed.as_slice().first().copied()),
-            (OWNER, Some(CARRIED))
-        ),
-        None => panic!(rt; "no report"),
-    }
-    assert_eq!(rt;
-        (out.packets.len(), route(&table, CARRIED)),
-        (1, Route::Here)
-    );
+    let (p, report) = out.reports.first().ok_or("no report")?;
+    assert_eq!(rt; (*p, report.enclosed.as_slice()), (OWNER, [CARRIED].as_slice()));
+    assert_eq!(rt; route(&table, CARRIED), Route::Here);
     Ok(())
 }
 
 #[test]
-fn an_end_of_a_stray_back_is_destroyed(rt: HostRuntime) -> Result<(), Fail> {
+fn an_end_leaves_and_another_is_destroyed(rt: HostRuntime) -> Result<(), Fail> {
+    let (to, at) = (END.opposite(), 0);
     let mut table = kept(rt.alloc(), view(0, Outward::Idle, Inward::Idle))?;
     let mut out = ample(rt.alloc())?;
-    if is_expected(&mut table)? {
-        return_once(&mut table, &mut out);
-    }
-    assert!(rt;
-        matches!(
-            out.packets.first(),
-            Some((
-                3,
-                Packet {
-                    stamp: 5,
-                    what: What::Gone { at: 0, .. }
-                }
-            ))
-        )
-    );
-    assert!(rt; matches!(table.lend(CARRIED), Lent::Destroyed(_)));
-    let mut out = ample(rt.alloc())?;
-    gone_seen(&mut table, CARRIED, &mut out);
-    assert!(rt; matches!(table.lend(CARRIED), Lent::Nothing));
-    Ok(())
-}
-
-#[test]
-fn an_enclosed_end_leaves(rt: HostRuntime) -> Result<(), Fail> {
+    enclose(&mut table, END, CARRIED, &mut out);
+    assert_eq!(rt; holder_of(&table, END), Some(Holder::EnclosedIn(CARRIED)));
     let mut table = kept(rt.alloc(), view(0, Outward::Idle, Inward::Idle))?;
     let left = leave(&mut table, END, 3).destroy();
     assert_eq!(rt; (left.hops(), left.trail()), (1, 1));
     assert_eq!(rt; route(&table, END), Route::Forward(3));
-    let mut table = kept(rt.alloc(), view(0, Outward::Idle, Inward::Idle))?;
-    let mut out = ample(rt.alloc())?;
-    enclose(&mut table, END, CARRIED, &mut out);
-    match table.lend(END) {
-        Lent::Here(living) => assert_eq!(rt; living.holder(), Holder::EnclosedIn(CARRIED)),
-        _ => panic!(rt; "the end is not here"),
-    }
-    Ok(())
-}
-
-#[test]
-fn an_end_learns_where_its_opposite_is_and_then_is_destroyed(rt: HostRuntime) -> Result<(), Fail> {
+    forget(&mut table, END, 1, &mut out);
+    assert_eq!(rt; route(&table, END), Route::Stale);
     let mut table = kept(rt.alloc(), view(0, Outward::Idle, Inward::Idle))?;
     let mut out = ample(rt.alloc())?;
     moved(&mut table, END, 2, 1, &mut out);
-    assert!(rt;
-        matches!(
-            out.packets.first(),
-            Some((
-                2,
-                Packet {
-                    stamp: 5,
-                    what: What::Known { hops: 1, .. }
-                }
-            ))
-        )
-    );
+    sends(&rt, rt.alloc(), &out, 2, &PictureWhat::Known { to, hops: 1 })?;
     let mut out = ample(rt.alloc())?;
     known(&mut table, END, 0, &mut out);
-    assert_eq!(rt; out.packets.len(), 0);
-    match table.lend(END) {
-        Lent::Here(living) => assert_eq!(rt;
-            (living.value().hint, living.value().trail),
-            ((2, 1), 0)
-        ),
-        _ => panic!(rt; "the end is not here"),
-    }
+    assert_eq!(rt; (out.packets.len(), room(&table, END).packets), (0, 9));
     let mut table = kept(rt.alloc(), view(0, Outward::Idle, Inward::Idle))?;
     let mut out = ample(rt.alloc())?;
     destroy(&mut table, END, &mut out);
-    assert!(rt;
-        matches!(
-            out.packets.first(),
-            Some((
-                3,
-                Packet {
-                    stamp: 5,
-                    what: What::Gone { at: 0, .. }
-                }
-            ))
-        )
-    );
-    assert_eq!(rt;
-        (route(&table, END), room(&table, END).packets),
-        (Route::Stale, 9)
-    );
+    sends(&rt, rt.alloc(), &out, 3, &PictureWhat::Gone { to, at })?;
+    let mut out = ample(rt.alloc())?;
+    gone_seen(&mut table, END, &mut out);
+    assert!(rt; matches!(table.lend(END), Lent::Nothing));
     Ok(())
 }

@@ -1,5 +1,8 @@
+//! Packets and their pictures.
+
 use crate::samples::{same_text, some_bytes};
 use charlotte_calls::{Cargo, EndId, LinkId, Moving, Packet, PictureWhat, Side, What};
+use std::process::Abort;
 use std::test::Fail;
 
 const TO: EndId = EndId {
@@ -61,8 +64,7 @@ fn packets(at: u8) -> Result<[Packet; 11], Fail> {
 }
 
 /// A packet names kernels that are there: its own, and those of hints and trails.
-#[test]
-fn packets_name_kernels(rt: HostRuntime) -> Result<(), Fail> {
+fn packets_name_kernels(rt: &impl Abort) -> Result<(), Fail> {
     for (at, kernels, want) in [(0, 1, true), (0, 0, false), (7, 8, true), (7, 7, false)] {
         for (packet, named) in packets(at)?.iter().zip(0..11) {
             let addressed = packet.addressed(kernels);
@@ -92,6 +94,7 @@ fn packets_name_kernels(rt: HostRuntime) -> Result<(), Fail> {
 /// A packet without values and its picture are printed alike, since their fields have the same names.
 #[test]
 fn a_picture_has_the_fields_of_its_packet(rt: HostRuntime) -> Result<(), Fail> {
+    packets_name_kernels(&rt)?;
     for packet in packets(4)? {
         let picture = packet.picture();
         let copied = picture.copy();

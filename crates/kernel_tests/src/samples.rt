@@ -6,10 +6,13 @@ ghost use Rattle.end_table.specs.Table.{entries};
 ghost use Rattle.end_table.specs.declared.entry.Entry.TheVariants.{Here};
 ghost use Rattle.kernel_step.specs.Progress.{HasRoom};
 
-use charlotte_calls::{Bytes, EndId, Ends, LinkId, Moving, NoMemory, Pid, Side, Work};
+use charlotte_calls::{
+    Bytes, EndId, Ends, LinkId, Moving, NoMemory, PictureWhat, Pid, Side, Work,
+};
 use end_table::{HereView, Holder, Inward, NotStored, Outward, Table};
 use std::alloc::Global;
 use std::fmt::Debug;
+use std::process::Abort;
 use std::test::Fail;
 
 /// The end on which the cores are tried.
@@ -42,6 +45,21 @@ pub(crate) fn same_text<A: Debug, B: Debug>(alloc: Global, a: &A, b: &B) -> Resu
     let first = format!(in alloc; "{a:?}")?;
     let second = format!(in alloc; "{b:?}")?;
     Ok(first.as_str() == second.as_str())
+}
+
+/// The first packet of these lists goes to this kernel, is this one and has their stamp.
+pub(crate) fn sends(
+    rt: &impl Abort,
+    alloc: Global,
+    out: &Work,
+    kernel: u8,
+    want: &PictureWhat,
+) -> Result<(), Fail> {
+    let (to, packet) = out.packets.first().ok_or("no packet")?;
+    let picture = packet.picture();
+    assert_eq!(rt; (*to, picture.stamp), (kernel, out.stamp));
+    assert!(rt; same_text(alloc, &picture.what, want)?, "not {want:?}");
+    Ok(())
 }
 
 /// Lists with ample room, at stamp 5.

@@ -6,8 +6,6 @@ mod forms;
 #[cfg(test)]
 mod journals;
 #[cfg(test)]
-mod plans;
-#[cfg(test)]
 mod scripts;
 #[cfg(test)]
 mod texts;
