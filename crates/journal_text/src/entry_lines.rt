@@ -2,12 +2,13 @@ ghost use Rattle.std.specs.Prelude.{◌≡◌, ◌++◌, IfOk, OnOk, map};
 ghost use Rattle.std.specs.List.{flat_map};
 ghost use Rattle.journal_text.specs.Transcript.{line, happened_text, entry_text, step_text, entry_lines};
 
+use crate::call::push_kept_call;
 use crate::header_lines::empty_line;
 use crate::packet::push_packet;
 use crate::step::{push_of, push_step};
 use crate::{Happened, Placed};
 use charlotte_calls::NoMemory;
-use charlotte_text::{push_call, push_number};
+use charlotte_text::push_number;
 use compact_calls::CompactStep;
 use std::alloc::Global;
 
@@ -18,13 +19,13 @@ fn push_happened(out: &mut Vec<u8>, what: &Happened) -> Result<(), NoMemory>
         Happened::Asked { p, call } => {
             push_of(out, b" ", *p)?;
             out.push(b' ')?;
-            push_call(out, &call.call())?;
+            push_kept_call(out, call.stored())?;
         }
         Happened::Took { from, picture } => {
             out.extend_from_slice(b" from ")?;
             push_number(out, u64::from(*from))?;
             out.push(b' ')?;
-            push_packet(out, &picture.picture().what)?;
+            push_packet(out, picture.stored())?;
         }
     }
     Ok(())
@@ -52,7 +53,7 @@ fn entry_line(alloc: Global, placed: &Placed) -> Result<Vec<u8>, NoMemory>
 pub(crate) fn push_step_line(out: &mut Vec<u8>, step: &CompactStep) -> Result<(), NoMemory>
     ensures { OnOk result (out.new.items ≡ out.old.items ++ line (step_text step.now)) }
 {
-    push_step(out, &step.step())?;
+    push_step(out, step.stored())?;
     out.push(b'\n')?;
     Ok(())
 }

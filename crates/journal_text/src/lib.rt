@@ -1,6 +1,7 @@
 //! Journals of kernels, their merge, and the transcript of a run.
 #![tactic(auto)]
 
+mod call;
 mod end_lines;
 mod entry_lines;
 mod header_lines;
