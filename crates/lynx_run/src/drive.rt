@@ -67,13 +67,12 @@ fn perform_script(alloc: Global, bytes: Vec<u8>, script: Script) -> Result<Trans
     ensures { IfOk result (IsDriven bytes.items) }
 {
     drop(bytes);
-    let performance = perform(alloc, &script)?;
-    let Script { setting, lines: _ } = script;
+    let Script { setting, lines } = script;
     let Performance {
         merged,
         notes,
         last,
-    } = performance;
+    } = perform(alloc, &setting, lines)?;
     let lines = TranscriptLines::of(alloc, setting, merged, notes, last);
     Ok(Transcript { lines })
 }
