@@ -16,7 +16,8 @@ ghost use Rattle.kernel_world.specs.declared.entry.Happened.TheVariants.{Asked, 
 ghost use Rattle.script_run.specs.Nodes.{sent_to, IsNodeOf, IsStamped, IsAfter, IsPopped, IsUnpopped};
 ghost use Rattle.world_record.specs.Told.{IsTold};
 
-use charlotte_calls::{Call, Effect, NoMemory, Packet, Pid, Setting};
+use charlotte_calls::{Effect, NoMemory, Packet, Pid, Setting};
+use compact_calls::CompactCall;
 use journal_text::{Entry, Happened, Journal};
 use kernel_core::{Kernel, NotTaken};
 use std::alloc::Global;
@@ -52,7 +53,7 @@ impl Node {
     }
 
     /// A process that runs makes a call; the answer that stood is let go.
-    pub(crate) fn call(&mut self, p: Pid, call: Call) -> Result<(), NoMemory>
+    pub(crate) fn call(&mut self, p: Pid, call: CompactCall) -> Result<(), NoMemory>
         requires process { p.0 < length self.old.kernel.processes }
         requires running { (process_of p (state_of self.old.kernel)).phase ≡ Running }
         requires lists { length self.old.sent.items ≡ 256 }
@@ -63,10 +64,10 @@ impl Node {
             × IsAfter (Asked p call) (call_step (without_answer p (state_of self.old.kernel)) p mine call) self.old self.new) }
     {
         self.journal.reserve(1)?;
-        let asked = Happened::asked(self.alloc(), p, &call)?;
         let _ = self.kernel.answer(p);
-        let effect = self.kernel.call(p, call)?;
-        self.note(asked, effect)
+        let asked = call.call();
+        let effect = self.kernel.call(p, asked)?;
+        self.note(Happened::Asked { p, call }, effect)
     }
 
     /// Takes the first packet that a kernel sent to this one.

@@ -1,7 +1,7 @@
 //! A script, from its text to its transcript. The others are performed by the program (.ci/rows).
 
 use charlotte_calls::{Call, Pid, Way};
-use journal_text::{TranscriptLines, print_transcript};
+use journal_text::TranscriptLines;
 use lynx_plan::{CompactScriptCall, PlanFault, Script, ScriptCall, read_script};
 use script_run::{Performance, perform};
 use std::alloc::Global;
@@ -72,24 +72,20 @@ fn is_read(rt: &impl Abort, alloc: Global, script: &Script) -> Result<(), Fail> 
     Ok(())
 }
 
-/// The lines are those of the transcript, printed at once and line by line.
+/// The lines are those of the transcript, given line by line.
 fn is_performed(rt: &impl Abort, alloc: Global, script: Script) -> Result<(), Fail> {
+    let Script { setting, lines } = script;
     let Performance {
         merged,
         notes,
         last,
-    } = perform(alloc, &script)?;
-    let Script { setting, lines: _ } = script;
-    let lines = print_transcript(alloc, &setting, merged.as_slice(), notes.as_slice(), last)?;
-    let mut text = Vec::new(alloc);
+    } = perform(alloc, &setting, lines)?;
     let mut rest = TranscriptLines::of(alloc, setting, merged, notes, last);
     let mut next = Vec::new(alloc);
-    for line in &lines {
-        text.extend_from_slice(line.as_slice())?;
-        assert!(rt; rest.next_line(&mut next)?);
-        assert_eq!(rt; next.as_slice(), line.as_slice());
+    let mut text = Vec::new(alloc);
+    while rest.next_line(&mut next)? {
+        text.extend_from_slice(next.as_slice())?;
     }
-    assert!(rt; !rest.next_line(&mut next)?);
     assert_eq!(rt; text.as_slice(), TRANSCRIPT.as_bytes());
     Ok(())
 }
