@@ -13,7 +13,7 @@ use charlotte_calls::{
 };
 use end_table::{Holder, Inward, Lent, Table};
 use kernel_step::{
-    answer, learn_value, is_withdrawing, keep_inward, push_packet, push_step, receiver, report,
+    answer, is_withdrawing, keep_inward, learn_value, push_packet, push_step, receiver, report,
     resend_on_news,
 };
 

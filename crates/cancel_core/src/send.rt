@@ -13,7 +13,7 @@ use crate::matching::{Message, match_waiting, send_parcel};
 use charlotte_calls::{Bytes, EndId, Ends, Outcome, ServiceStep, Way, What, Work};
 use end_table::{Lent, Outward, Table};
 use kernel_step::{
-    enclosed_ends, learn_value, keep_inward, keep_outward, learn, no_ends, push_packet, push_step,
+    enclosed_ends, keep_inward, keep_outward, learn, learn_value, no_ends, push_packet, push_step,
     report, resend_on_news, send_report, sender,
 };
 

@@ -5,7 +5,7 @@ ghost use Rattle.end_table.specs.declared.entry.Entry.{Entry};
 ghost use Rattle.kernel_step.specs.Actions.{resends, resends_receive, learns, tells_moved};
 ghost use Rattle.kernel_step.specs.Progress.{progress, HasRoom, AddsAtMost};
 
-use crate::ends::{learn_value, keep_inward};
+use crate::ends::{keep_inward, learn_value};
 use crate::writers::push_packet;
 use charlotte_calls::{EndId, MovingPicture, What, Work};
 use end_table::{Inward, Table};
