@@ -16,13 +16,13 @@ use Rattle.end_table.specs.declared.entry.HereView.{HereView}
 use Rattle.kernel_step.specs.Actions.{ends_idle, forgets, leaves}
 use Rattle.kernel_step.specs.Calls.{is_active}
 use Rattle.kernel_step.specs.Progress.{Progress, progress, sends, keeps}
-use Rattle.kernel_step.specs.Rows.{want_row, unwant_row, unwanted_row, is_here, passing, asks, pass_each, sends_back, parcel_row, awaits, taken_row, end_arrivals, means_back, back_row, erases, gone_row, mark_hears, moved_mark, moved_row, known_row, forget_row, goneseen_row, row}
-use Rattle.kernel_sound.specs.Sound.{IsSound, GoesWell, addressee}
+use Rattle.kernel_step.specs.Rows.{want_row, unwant_row, unwanted_row, is_here, passing, asks, pass_each, sends_back, parcel_row, awaits, taken_row, end_arrivals, means_back, back_row, erases, gone_row, mark_learns, moved_mark, moved_row, known_row, forget_row, goneseen_row, row}
+use Rattle.kernel_sound.specs.Sound.{IsSound, addressee}
 use Rattle.kernel_sound.proofs.Events.{begun-well, well-calm}
-use Rattle.kernel_sound.proofs.Goes.{sends-well, tells-well}
-use Rattle.kernel_sound.proofs.Parcels.{asks-here, awaits-here, means_back-tells, sends_back-well}
+use Rattle.kernel_sound.proofs.Goes.{GoesWell, sends-well, only-well}
+use Rattle.kernel_sound.proofs.Parcels.{asks-here, awaits-here, means_back-only, sends_back-well}
 use Rattle.kernel_sound.proofs.Rows.{erases-well, forget_row-well, goneseen_row-well, moved_mark-well}
-use Rattle.kernel_sound.proofs.Tells.{TellsOnly, either-keeps, fold-keeps, forgets-tells, sends-tells, tells_gone-tells, tells-same}
+use Rattle.kernel_sound.proofs.Sends.{SendsOnly, either-keeps, fold-keeps, forgets-only, sends-only, tells_gone-only, only-same}
 use Rattle.kernel_sound.proofs.Values.{AreGone, AreGone-passing, end_arrivals-well}
 
 -- an entry that is not Here is not of this view
@@ -32,7 +32,7 @@ not-here x v away is = absurd (away (subst IsHere (sym is) tt))
 -- a mark that is erased gives no report
 erases-reports : (k : ℕ) (m : MovingPicture) (d : Progress) → (erases k m d).reports ≡ d.reports
 unfolding erases keeps
-erases-reports k m d = (forgets-tells k m d (tells-same d)).reports
+erases-reports k m d = (forgets-only k m d (only-same d)).reports
 
 -- nor does one that hears of its opposite
 moved_mark-reports : (k : ℕ) (to : EndId) (at hops : ℕ) (m : MovingPicture) (d : Progress) → (moved_mark k to at hops m d).reports ≡ d.reports
@@ -54,7 +54,7 @@ end_arrivals-reports : (k : ℕ) (ms : List MovingPicture) (d : Progress) → (e
 unfolding end_arrivals ends_idle keeps
 end_arrivals-reports k ms d =
     fold-keeps (λ e. e.reports ≡ d.reports) (λ so_far m. ends_idle k m so_far)
-    (λ e m same. (tells_gone-tells k m (keeps m.end (ended_entry m) e) (tells-same (keeps m.end (ended_entry m) e))).reports ∙ same) ms d refl
+    (λ e m same. (tells_gone-only k m (keeps m.end (ended_entry m) e) (only-same (keeps m.end (ended_entry m) e))).reports ∙ same) ms d refl
 
 -- what is true of the event before such a packet, and of packets and entries that are not here, is true of it afterwards
 module _ (P : Progress → Type 0) (k made from : ℕ) (d : Progress) (before : P d)
@@ -144,7 +144,7 @@ row-reports k made from what d away =
     (λ to hops. forgot to hops (d.table to))
     (λ to n at ms. sends_back-reports k to n at (passing k made d.table ms) d)
     (λ to n ms. end_arrivals-reports k (passing k made d.table ms) (means_back to n (is_here (d.table to)) (passing k made d.table ms) d)
-    ∙ (means_back-tells to n (is_here (d.table to)) (passing k made d.table ms) d).reports)
+    ∙ (means_back-only to n (is_here (d.table to)) (passing k made d.table ms) d).reports)
     what away
   where
     forgot : (to : EndId) (hops : ℕ) (y : Entry) → (forget_row to hops y d).reports ≡ d.reports
@@ -160,19 +160,19 @@ row-well-away k made n from touches before what d away well =
     row-away (GoesWell k made n touches before) k made from d well
     (λ to what. sends-well to what d well)
     (λ to m is. erases-well to m d is well)
-    (λ to at m is. erases-well to m (sends at (packet.GoneSeen (opposite to)) d) (ap (λ t. t to) (seen to at).table ∙ is) (tells-well (seen to at) well))
+    (λ to at m is. erases-well to m (sends at (packet.GoneSeen (opposite to)) d) (ap (λ t. t to) (seen to at).table ∙ is) (only-well (seen to at) well))
     (λ to at hops m is. moved_mark-well to at hops m d is well)
     (λ to hops. forget_row-well to hops d well)
     (λ to m at ms. sends_back-well to m at (passing k made d.table ms) d (AreGone-passing k made d.table ms) well)
     (λ to m ms. end_arrivals-well (passing k made d.table ms) (means_back to m (is_here (d.table to)) (passing k made d.table ms) d)
-    (subst (λ t. AreGone t (passing k made d.table ms)) (sym (meant to m ms).table) (AreGone-passing k made d.table ms)) (tells-well (meant to m ms) well))
+    (subst (λ t. AreGone t (passing k made d.table ms)) (sym (meant to m ms).table) (AreGone-passing k made d.table ms)) (only-well (meant to m ms) well))
     what away
   where
-    seen : (to : EndId) (at : ℕ) → TellsOnly d (sends at (packet.GoneSeen (opposite to)) d)
-    seen to at = sends-tells at (packet.GoneSeen (opposite to)) d (tells-same d)
+    seen : (to : EndId) (at : ℕ) → SendsOnly d (sends at (packet.GoneSeen (opposite to)) d)
+    seen to at = sends-only at (packet.GoneSeen (opposite to)) d (only-same d)
 
-    meant : (to : EndId) (m : ℕ) (ms : List MovingPicture) → TellsOnly d (means_back to m (is_here (d.table to)) (passing k made d.table ms) d)
-    meant to m ms = means_back-tells to m (is_here (d.table to)) (passing k made d.table ms) d
+    meant : (to : EndId) (m : ℕ) (ms : List MovingPicture) → SendsOnly d (means_back to m (is_here (d.table to)) (passing k made d.table ms) d)
+    meant to m ms = means_back-only to m (is_here (d.table to)) (passing k made d.table ms) d
 
 -- so from the beginning of an event on
 module _ (k made n from : ℕ) (what : PictureWhat) (t u : EndId → Entry) (work out : Work) (reports : work.reports.items ≡ []) (answers : work.answers.items ≡ []) (sound : IsSound k made n t)
