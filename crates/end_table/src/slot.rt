@@ -153,7 +153,8 @@ impl Slot {
     {
         match mem::replace(&mut self.content, Content::Nothing) {
             Content::Here(living) => living,
-            Content::Nothing | Content::Left { to: _, hops: _ } | Content::Destroyed(_) => unreachable!(),
+            Content::Nothing | Content::Left { to: _, hops: _ } | Content::Destroyed(_) =>
+                unreachable!(),
         }
     }
 
