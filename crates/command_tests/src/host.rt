@@ -1,8 +1,8 @@
 //! Files and writers of the host.
 
+use crate::holding::holds;
 use lynx_outside::{Failed, FileAnswer, Files, HostFiles, HostSink, Sink};
 use std::io::{self, Write};
-use std::process::Abort;
 use std::test::Fail;
 use std::{env, fs, process};
 
@@ -31,34 +31,33 @@ impl Write for Slow {
     }
 }
 
-fn takes_all_or_fails(rt: &impl Abort) {
+fn takes_all_or_fails() -> Result<(), Fail> {
     let mut slow = Slow {
         taken: [0; 4],
         count: 0,
     };
     let mut sink = HostSink::of(&mut slow);
-    assert_eq!(rt; sink.put(b"abc"), Ok(()));
-    assert_eq!(rt; sink.put(b"de"), Err(Failed));
-    assert_eq!(rt; sink.put(b""), Ok(()));
-    assert_eq!(rt; &slow.taken, b"abcd");
+    holds(sink.put(b"abc") == Ok(()), "sink.put(babc)")?;
+    holds(sink.put(b"de") == Err(Failed), "sink.put(bde)")?;
+    holds(sink.put(b"") == Ok(()), "sink.put(b)")?;
+    holds(&slow.taken == b"abcd", "what was taken")
 }
 
 #[test]
 fn files_are_read_and_writers_take_all_or_fail(host: HostRuntime) -> Result<(), Fail> {
     let alloc = host.alloc();
     let name = format!(in alloc; "lynx-command-{}", process::id(host.process()))?;
-    let path = env::temp_dir(&host)?.join(alloc, name.as_str())?;
-    let mut files = HostFiles::of(&host);
-    assert!(host; matches!(files.read(alloc, path.as_str(), 9), Err(FileAnswer::Absent)));
+    let path = env::temp_dir()?.join(alloc, name.as_str())?;
+    let mut files = HostFiles::of();
+    holds(matches!(files.read(alloc, path.as_str(), 9), Err(FileAnswer::Absent)), "files.read(alloc, path.as_str(), 9)")?;
     fs::write(&host, path.as_path(), "four")?;
     let whole = files.read(alloc, path.as_str(), 4);
     let too_big = files.read(alloc, path.as_str(), 3);
     fs::remove_file(&host, path.as_path())?;
-    assert_eq!(host; whole?.as_slice(), b"four".as_slice());
-    assert!(host; matches!(too_big, Err(FileAnswer::TooBig)));
+    holds(whole?.as_slice() == b"four".as_slice(), "whole?.as_slice()")?;
+    holds(matches!(too_big, Err(FileAnswer::TooBig)), "too_big")?;
     // A directory can be opened and not read. One without an end is read to one byte past the most.
-    assert!(host; matches!(files.read(alloc, "/", 9), Err(FileAnswer::Failed)));
-    assert!(host; matches!(files.read(alloc, "/dev/zero", 9), Err(FileAnswer::TooBig)));
-    takes_all_or_fails(&host);
-    Ok(())
+    holds(matches!(files.read(alloc, "/", 9), Err(FileAnswer::Failed)), "files.read(alloc, /, 9)")?;
+    holds(matches!(files.read(alloc, "/dev/zero", 9), Err(FileAnswer::TooBig)), "files.read(alloc, /dev/zero, 9)")?;
+    takes_all_or_fails()
 }

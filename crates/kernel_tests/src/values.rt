@@ -1,5 +1,6 @@
 //! The values of calls, packets and ends.
 
+use crate::holding::holds;
 use charlotte_calls::{
     Bytes, Cargo, CargoPicture, EndId, Ends, Items, LinkId, Moving, MovingPicture, NoMemory, Side,
 };
@@ -14,21 +15,21 @@ fn lists_keep_their_limits(rt: HostRuntime) -> Result<(), Fail> {
     for count in [0, 1, 256, 257] {
         let some = bytes.get(..count).ok_or("a longer slice")?;
         let kept = Bytes::from_slice(some).map(|list| list.copy().as_slice() == some);
-        assert_eq!(rt; kept, (count <= 256).then_some(true), "{count} bytes");
+        holds(kept == (count <= 256).then_some(true), "kept")?;
     }
     for count in [0, 1, 8, 9] {
         let some = ends.get(..count).ok_or("a longer slice")?;
         let kept = Ends::from_slice(some).map(|list| list.copy().as_slice() == some);
-        assert_eq!(rt; kept, (count <= 8).then_some(true), "{count} ends");
+        holds(kept == (count <= 8).then_some(true), "kept")?;
         let some = values.get(..count).ok_or("a longer slice")?;
         let kept = CargoPicture::from_slice(some).map(|list| list.copy().as_slice() == some);
-        assert_eq!(rt; kept, (count <= 8).then_some(true), "{count} values");
+        holds(kept == (count <= 8).then_some(true), "kept")?;
     }
     let items = Items::of(vec![in rt.alloc(); 3, 1, 2]?);
-    assert_eq!(rt; items.as_slice(), [3, 1, 2].as_slice());
-    assert_eq!(rt; (items.len(), items.is_empty()), (3, false));
-    assert_eq!(rt; items.into_vec().as_slice(), [3, 1, 2].as_slice());
-    assert_eq!(rt; format!(in rt.alloc(); "{NoMemory}")?.as_str(), "no memory");
+    holds(items.as_slice() == [3, 1, 2].as_slice(), "items.as_slice()")?;
+    holds((items.len(), items.is_empty()) == (3, false), "(items.len(), items.is_empty())")?;
+    holds(items.into_vec().as_slice() == [3, 1, 2].as_slice(), "items.into_vec().as_slice()")?;
+    holds(format!(in rt.alloc(); "{NoMemory}")?.as_str() == "no memory", "format!(in rt.alloc(); {NoMemory})?.as_str()")?;
     Ok(())
 }
 
@@ -40,11 +41,8 @@ fn a_value_keeps_its_fields(rt: HostRuntime) -> Result<(), Fail> {
         count: 123,
     };
     let (mut a, b) = Moving::pair(link, 2, 5);
-    assert_eq!(rt;
-        (a.end(), b.end()),
-        (b.end().opposite(), a.end().opposite())
-    );
-    assert_eq!(rt; (a.hint(), b.hint()), ((5, 0), (2, 0)));
+    holds((a.end(), b.end()) == (b.end().opposite(), a.end().opposite()), "(a.end(), b.end())")?;
+    holds((a.hint(), b.hint()) == ((5, 0), (2, 0)), "(a.hint(), b.hint())")?;
     a.set_hops(1);
     a.set_hint((2, 3));
     a.set_sent(4);
@@ -67,23 +65,20 @@ fn a_value_keeps_its_fields(rt: HostRuntime) -> Result<(), Fail> {
         dead: true,
         trail: 8,
     };
-    assert_eq!(rt; a.picture(), set);
-    assert_eq!(rt;
-        (a.hops(), a.sent(), a.asked(), a.served(), a.want()),
-        (1, 4, 5, 6, 7)
-    );
-    assert_eq!(rt; (a.dead(), a.trail()), (true, 8));
+    holds(a.picture() == set, "a.picture()")?;
+    holds((a.hops(), a.sent(), a.asked(), a.served(), a.want()) == (1, 4, 5, 6, 7), "(a.hops(), a.sent(), a.asked(), a.served(), a.wa")?;
+    holds((a.dead(), a.trail()) == (true, 8), "(a.dead(), a.trail())")?;
     let mut cargo = Cargo::empty();
     cargo.add(b);
     cargo.add(a);
-    assert_eq!(rt; cargo.picture().as_slice(), cargo.values());
-    assert!(rt; cargo.addressed(4) && !cargo.addressed(3));
+    holds(cargo.picture().as_slice() == cargo.values(), "cargo.picture().as_slice()")?;
+    holds(cargo.addressed(4) && !cargo.addressed(3), "cargo.addressed(4) && !cargo.addressed(3)")?;
     let marks = [cargo.next(), cargo.next(), cargo.next()];
     cargo.close();
     let [first, second, third] = marks;
     destroyed(first);
-    assert_eq!(rt; destroyed(second), Some(set));
-    assert_eq!(rt; destroyed(third), None);
+    holds(destroyed(second) == Some(set), "destroyed(second)")?;
+    holds(destroyed(third) == None, "destroyed(third)")?;
     Ok(())
 }
 

@@ -1,11 +1,11 @@
 //! A script, from its text to its transcript. The others are performed by the program (.ci/rows).
 
+use crate::holding::holds;
 use charlotte_calls::{Call, Pid, Way};
 use journal_text::{TranscriptLines, print_transcript};
 use lynx_plan::{CompactScriptCall, PlanFault, Script, ScriptCall, read_script};
 use script_run::{Performance, perform};
 use std::alloc::Global;
-use std::process::Abort;
 use std::test::Fail;
 
 const SCRIPT: &str = "# one message
@@ -47,16 +47,15 @@ quiet
 ";
 
 /// What the text of the script says.
-fn is_read(rt: &impl Abort, alloc: Global, script: &Script) -> Result<(), Fail> {
-    assert_eq!(rt; (script.setting.version, script.setting.kernels), (1, 2));
-    assert_eq!(rt; script.setting.homes.as_slice(), [1, 0].as_slice());
-    assert_eq!(rt; script.setting.wires.as_slice(), [(Pid(1), Pid(0))].as_slice());
+fn is_read(alloc: Global, script: &Script) -> Result<(), Fail> {
+    holds((script.setting.version, script.setting.kernels) == (1, 2), "(script.setting.version, script.setting.kernels)")?;
+    holds(script.setting.homes.as_slice() == [1, 0].as_slice(), "script.setting.homes.as_slice()")?;
+    holds(script.setting.wires.as_slice() == [(Pid(1), Pid(0))].as_slice(), "script.setting.wires.as_slice()")?;
     let lines = script.lines.as_slice();
-    assert_eq!(rt; lines.len(), 6);
-    assert_eq!(rt; (lines[0].line, lines[1].line, lines[4].line), (7, 8, 11));
+    holds(lines.len() == 6, "lines.len()")?;
+    holds((lines[0].line, lines[1].line, lines[4].line) == (7, 8, 11), "(lines[0].line, lines[1].line, lines[4].line)")?;
     let first = CompactScriptCall::of(alloc, &lines[0].what.script_call())?;
-    assert!(rt;
-        matches!(
+    holds(matches!(
             first.script_call(),
             ScriptCall::Ask(
                 Pid(1),
@@ -65,15 +64,14 @@ fn is_read(rt: &impl Abort, alloc: Global, script: &Script) -> Result<(), Fail> 
                     ..
                 }
             )
-        )
-    );
-    assert!(rt; matches!(lines[3].what.script_call(), ScriptCall::Take { from: 0, to: 1 }));
-    assert!(rt; matches!(lines[4].what.script_call(), ScriptCall::Settle));
+        ), "first.script_call()")?;
+    holds(matches!(lines[3].what.script_call(), ScriptCall::Take { from: 0, to: 1 }), "lines[3].what.script_call()")?;
+    holds(matches!(lines[4].what.script_call(), ScriptCall::Settle), "lines[4].what.script_call()")?;
     Ok(())
 }
 
 /// The lines are those of the transcript, printed at once and line by line.
-fn is_performed(rt: &impl Abort, alloc: Global, script: Script) -> Result<(), Fail> {
+fn is_performed(alloc: Global, script: Script) -> Result<(), Fail> {
     let Performance {
         merged,
         notes,
@@ -86,20 +84,20 @@ fn is_performed(rt: &impl Abort, alloc: Global, script: Script) -> Result<(), Fa
     let mut next = Vec::new(alloc);
     for line in &lines {
         text.extend_from_slice(line.as_slice())?;
-        assert!(rt; rest.next_line(&mut next)?);
-        assert_eq!(rt; next.as_slice(), line.as_slice());
+        holds(rest.next_line(&mut next)?, "rest.next_line(&mut next)")?;
+        holds(next.as_slice() == line.as_slice(), "next.as_slice()")?;
     }
-    assert!(rt; !rest.next_line(&mut next)?);
-    assert_eq!(rt; text.as_slice(), TRANSCRIPT.as_bytes());
+    holds(!rest.next_line(&mut next)?, "!rest.next_line(&mut next)")?;
+    holds(text.as_slice() == TRANSCRIPT.as_bytes(), "text.as_slice()")?;
     Ok(())
 }
 
 #[test]
 fn a_script_is_read_and_performed(rt: HostRuntime) -> Result<(), Fail> {
     let script = read_script(rt.alloc(), SCRIPT.as_bytes())?;
-    is_read(&rt, rt.alloc(), &script)?;
-    is_performed(&rt, rt.alloc(), script)?;
+    is_read(rt.alloc(), &script)?;
+    is_performed(rt.alloc(), script)?;
     let refused = read_script(rt.alloc(), b"kernels 2\n\ntake 0 2").err();
-    assert_eq!(rt; refused, Some(PlanFault::BadPlan { line: 3, rule: 4 }));
+    holds(refused == Some(PlanFault::BadPlan { line: 3, rule: 4 }), "refused")?;
     Ok(())
 }
