@@ -14,9 +14,9 @@ fn ends(alloc: Global, end: End, status: Status) -> Result<(), Fail> {
     let lines = vec![in alloc; b"a\n".to_vec(alloc)?, b"bc\n".to_vec(alloc)?]?;
     let text = Lines::of(lines);
     let output = Ok(Output { text, end });
-    holds(end_with(alloc, "p", output, &mut out, &mut err) == status, "end_with(alloc, p, output, &mut out, &mut err)")?;
-    holds(out.held() == b"a\nbc\n".as_slice(), "out.held()")?;
-    holds(err.held() == b"".as_slice(), "err.held()")?;
+    holds(end_with(alloc, "p", output, &mut out, &mut err) == status, "the status of an end")?;
+    holds(out.held() == b"a\nbc\n".as_slice(), "what out holds")?;
+    holds(err.held() == b"".as_slice(), "what err holds")?;
     Ok(())
 }
 
@@ -40,8 +40,8 @@ fn commands_end_and_fail(rt: HostRuntime) -> Result<(), Fail> {
         (Failure::NoMemory, "lynx: no memory\n"),
     ] {
         let mut err = ListSink::with(rt.alloc(), 100, Vec::new(rt.alloc()))?;
-        holds(tell(rt.alloc(), "a/s", failure, &mut err) == failure.status(), "tell(rt.alloc(), a/s, failure, &mut err)")?;
-        holds(err.held() == text.as_bytes(), "err.held()")?;
+        holds(tell(rt.alloc(), "a/s", failure, &mut err) == failure.status(), "the status of a failure")?;
+        holds(err.held() == text.as_bytes(), "what err holds")?;
     }
     Ok(())
 }

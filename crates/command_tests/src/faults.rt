@@ -54,8 +54,8 @@ fn end_so(
     let words = words_of(alloc, line)?;
     let ended = lynx(alloc, words, &mut files, &mut out, &mut err);
     holds(ended == status, line)?;
-    holds(out.held() == held.0.as_bytes(), "out.held()")?;
-    holds(err.held() == held.1.as_bytes(), "err.held()")?;
+    holds(out.held() == held.0.as_bytes(), "what out holds")?;
+    holds(err.held() == held.1.as_bytes(), "what err holds")?;
     Ok(())
 }
 

@@ -37,9 +37,9 @@ fn takes_all_or_fails() -> Result<(), Fail> {
         count: 0,
     };
     let mut sink = HostSink::of(&mut slow);
-    holds(sink.put(b"abc") == Ok(()), "sink.put(babc)")?;
-    holds(sink.put(b"de") == Err(Failed), "sink.put(bde)")?;
-    holds(sink.put(b"") == Ok(()), "sink.put(b)")?;
+    holds(sink.put(b"abc") == Ok(()), "a put")?;
+    holds(sink.put(b"de") == Err(Failed), "a put past the room")?;
+    holds(sink.put(b"") == Ok(()), "a put of nothing")?;
     holds(&slow.taken == b"abcd", "what was taken")
 }
 
@@ -47,17 +47,17 @@ fn takes_all_or_fails() -> Result<(), Fail> {
 fn files_are_read_and_writers_take_all_or_fail(host: HostRuntime) -> Result<(), Fail> {
     let alloc = host.alloc();
     let name = format!(in alloc; "lynx-command-{}", process::id(host.process()))?;
-    let path = env::temp_dir()?.join(alloc, name.as_str())?;
-    let mut files = HostFiles::of();
-    holds(matches!(files.read(alloc, path.as_str(), 9), Err(FileAnswer::Absent)), "files.read(alloc, path.as_str(), 9)")?;
+    let path = env::temp_dir(&host)?.join(alloc, name.as_str())?;
+    let mut files = HostFiles::of(&host);
+    holds(matches!(files.read(alloc, path.as_str(), 9), Err(FileAnswer::Absent)), "a file that is absent")?;
     fs::write(&host, path.as_path(), "four")?;
     let whole = files.read(alloc, path.as_str(), 4);
     let too_big = files.read(alloc, path.as_str(), 3);
     fs::remove_file(&host, path.as_path())?;
-    holds(whole?.as_slice() == b"four".as_slice(), "whole?.as_slice()")?;
-    holds(matches!(too_big, Err(FileAnswer::TooBig)), "too_big")?;
+    holds(whole?.as_slice() == b"four".as_slice(), "a file of four bytes")?;
+    holds(matches!(too_big, Err(FileAnswer::TooBig)), "a file too big")?;
     // A directory can be opened and not read. One without an end is read to one byte past the most.
-    holds(matches!(files.read(alloc, "/", 9), Err(FileAnswer::Failed)), "files.read(alloc, /, 9)")?;
-    holds(matches!(files.read(alloc, "/dev/zero", 9), Err(FileAnswer::TooBig)), "files.read(alloc, /dev/zero, 9)")?;
+    holds(matches!(files.read(alloc, "/", 9), Err(FileAnswer::Failed)), "a folder")?;
+    holds(matches!(files.read(alloc, "/dev/zero", 9), Err(FileAnswer::TooBig)), "a file without an end")?;
     takes_all_or_fails()
 }

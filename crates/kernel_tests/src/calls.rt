@@ -63,19 +63,19 @@ fn calls_fit(alloc: Global) -> Result<(), Fail> {
     let made = Answer::Made(end(3, Side::A), end(3, Side::B));
     let reported = Answer::Reported(report()?);
     for (cause, number) in CAUSES.iter().zip(1..=10) {
-        holds(cause.number() == number, "cause.number()")?;
+        holds(cause.number() == number, "the number of a cause")?;
     }
     for (call, causes, fits) in &calls()? {
-        holds(same_text(alloc, &call.copy(), call)?, "same_text(alloc, &call.copy(), call)")?;
+        holds(same_text(alloc, &call.copy(), call)?, "the copy of a call")?;
         let answered = [
             call.fits(&Answer::Ok),
             call.fits(&made),
             call.fits(&reported),
         ];
-        holds(answered == *fits, "answered")?;
+        holds(answered == *fits, "the answers to a call")?;
         for cause in CAUSES {
             let refused = call.fits(&Answer::Refused(cause));
-            holds(refused == causes.contains(&cause.number()), "refused")?;
+            holds(refused == causes.contains(&cause.number()), "the causes of a call")?;
         }
     }
     Ok(())
@@ -120,7 +120,7 @@ fn steps() -> Result<[ServiceStep; 16], Fail> {
 fn calls_answers_and_steps(rt: HostRuntime) -> Result<(), Fail> {
     calls_fit(rt.alloc())?;
     for step in steps()? {
-        holds(same_text(rt.alloc(), &step.copy(), &step)?, "same_text(rt.alloc(), &step.copy(), &step)")?;
+        holds(same_text(rt.alloc(), &step.copy(), &step)?, "the copy of a step")?;
     }
     for answer in [
         Answer::Ok,
@@ -129,7 +129,7 @@ fn calls_answers_and_steps(rt: HostRuntime) -> Result<(), Fail> {
         Answer::Refused(Cause::EncloseSame),
     ] {
         let copied = answer.copy();
-        holds(same_text(rt.alloc(), &copied, &answer)?, "same_text(rt.alloc(), &copied, &answer)")?;
+        holds(same_text(rt.alloc(), &copied, &answer)?, "the copy of an answer")?;
     }
     Ok(())
 }

@@ -42,7 +42,7 @@ fn a_message_is_sent(node: &mut Node) -> Result<(), Fail> {
     receive.gives(1, &[P1], &[want], &[ServiceStep::Receive { on }])?;
     let wait = node.call(P1, Call::Wait)?;
     wait.gives(2, &[], &[], &[ServiceStep::Wait { p: P1 }])?;
-    holds(node.phase(P1)? == (false, true), "node.phase(P1)")?;
+    holds(node.phase(P1)? == (false, true), "whether a process waits")?;
     node.answers(P1, None)?;
     let send = node.call(
         P0,
@@ -94,7 +94,7 @@ fn a_message_is_taken(node: &mut Node) -> Result<(), Fail> {
     };
     let taken = PictureWhat::Taken { to: on, n, at, hops };
     node.take()?.gives(5, &[P1], &[taken], &[take, told])?;
-    holds(node.phase(P1)? == (true, false), "node.phase(P1)")?;
+    holds(node.phase(P1)? == (true, false), "whether a process waits")?;
     node.answers(P1, Some(Answer::Reported(report)))?;
     node.take()?.gives(6, &[], &[], &[ServiceStep::Complete { on, n }])
 }
@@ -121,11 +121,11 @@ fn strays_are_dropped(node: &mut Node) -> Result<(), Fail> {
     let mut nowhere = B;
     nowhere.link.count = 9;
     node.take_this(stray(41, nowhere, 0))?.gives(42, &[], &[], &[])?;
-    holds(matches!(node.look(nowhere), Entry::Nothing), "node.look(nowhere)")?;
+    holds(matches!(node.look(nowhere), Entry::Nothing), "an end that is nowhere")?;
     node.take_this(stray(7, A, 1))?.gives(43, &[], &[], &[])?;
-    holds(wanted(node) == Some(0), "wanted(node)")?;
+    holds(wanted(node) == Some(0), "the receive that is wanted")?;
     node.take_this(stray(7, A, 0))?.gives(44, &[], &[], &[])?;
-    holds(wanted(node) == Some(3), "wanted(node)")?;
+    holds(wanted(node) == Some(3), "the receive that is wanted")?;
     Ok(())
 }
 
@@ -141,7 +141,7 @@ fn a_kernel_does_calls_and_takes_packets(rt: HostRuntime) -> Result<(), Fail> {
     node.answers(P0, Some(Answer::Made(made, made.opposite())))?;
     node.call(P0, Call::Destroy { on: A })?;
     node.answers(P0, Some(Answer::Ok))?;
-    holds(matches!(node.look(A), Entry::Destroyed(_)), "node.look(A)")?;
+    holds(matches!(node.look(A), Entry::Destroyed(_)), "a destroyed end")?;
     node.call(P0, Call::Destroy { on: A })?;
     node.answers(P0, Some(Answer::Refused(Cause::NoEnd)))
 }

@@ -104,7 +104,7 @@ impl Node {
             return Err("no such process".into());
         }
         let answer = self.kernel.answer(p);
-        holds(same_text(self.alloc, &answer, &want)?, "same_text(self.alloc, &answer, &want)")?;
+        holds(same_text(self.alloc, &answer, &want)?, "the standing answer")?;
         Ok(())
     }
 
@@ -141,10 +141,10 @@ impl Event {
         packets: &[PictureWhat],
         steps: &[ServiceStep],
     ) -> Result<(), Fail> {
-        holds(self.stamp == stamp, "self.stamp")?;
-        holds(self.answered.as_slice() == answered, "self.answered.as_slice()")?;
-        holds(same_text(self.alloc, &self.packets.as_slice(), &packets)?, "same_text(self.alloc, &self.packets.as_slice(), ")?;
-        holds(same_text(self.alloc, &self.steps.as_slice(), &steps)?, "same_text(self.alloc, &self.steps.as_slice(), &s")?;
+        holds(self.stamp == stamp, "the stamp of an event")?;
+        holds(self.answered.as_slice() == answered, "the processes that an event answers")?;
+        holds(same_text(self.alloc, &self.packets.as_slice(), &packets)?, "the packets of an event")?;
+        holds(same_text(self.alloc, &self.steps.as_slice(), &steps)?, "the steps of an event")?;
         Ok(())
     }
 }

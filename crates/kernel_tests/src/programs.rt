@@ -106,6 +106,6 @@ fn a_program_asks_its_calls_and_ends(rt: HostRuntime) -> Result<(), Fail> {
     holds(matches!(
             done.as_slice(),
             [Next::Ask(Call::Make), Next::Ask(Call::Exit), Next::Ended]
-        ), "done.as_slice()")?;
+        ), "what the program did")?;
     Ok(())
 }

@@ -23,7 +23,7 @@ pub(crate) const END: EndId = EndId {
 
 /// Its opposite.
 pub(crate) const TO: EndId = EndId {
-    link: END.link,
+    link: LinkId { maker: 0, count: 7 },
     side: Side::B,
 };
 

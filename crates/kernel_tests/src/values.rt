@@ -15,21 +15,21 @@ fn lists_keep_their_limits(rt: HostRuntime) -> Result<(), Fail> {
     for count in [0, 1, 256, 257] {
         let some = bytes.get(..count).ok_or("a longer slice")?;
         let kept = Bytes::from_slice(some).map(|list| list.copy().as_slice() == some);
-        holds(kept == (count <= 256).then_some(true), "kept")?;
+        holds(kept == (count <= 256).then_some(true), "what a list keeps")?;
     }
     for count in [0, 1, 8, 9] {
         let some = ends.get(..count).ok_or("a longer slice")?;
         let kept = Ends::from_slice(some).map(|list| list.copy().as_slice() == some);
-        holds(kept == (count <= 8).then_some(true), "kept")?;
+        holds(kept == (count <= 8).then_some(true), "what a list keeps")?;
         let some = values.get(..count).ok_or("a longer slice")?;
         let kept = CargoPicture::from_slice(some).map(|list| list.copy().as_slice() == some);
-        holds(kept == (count <= 8).then_some(true), "kept")?;
+        holds(kept == (count <= 8).then_some(true), "what a list keeps")?;
     }
     let items = Items::of(vec![in rt.alloc(); 3, 1, 2]?);
-    holds(items.as_slice() == [3, 1, 2].as_slice(), "items.as_slice()")?;
-    holds((items.len(), items.is_empty()) == (3, false), "(items.len(), items.is_empty())")?;
-    holds(items.into_vec().as_slice() == [3, 1, 2].as_slice(), "items.into_vec().as_slice()")?;
-    holds(format!(in rt.alloc(); "{NoMemory}")?.as_str() == "no memory", "format!(in rt.alloc(); {NoMemory})?.as_str()")?;
+    holds(items.as_slice() == [3, 1, 2].as_slice(), "items")?;
+    holds((items.len(), items.is_empty()) == (3, false), "how many items there are")?;
+    holds(items.into_vec().as_slice() == [3, 1, 2].as_slice(), "items that are handed back")?;
+    holds(format!(in rt.alloc(); "{NoMemory}")?.as_str() == "no memory", "the text of a want of memory")?;
     Ok(())
 }
 
@@ -41,8 +41,8 @@ fn a_value_keeps_its_fields(rt: HostRuntime) -> Result<(), Fail> {
         count: 123,
     };
     let (mut a, b) = Moving::pair(link, 2, 5);
-    holds((a.end(), b.end()) == (b.end().opposite(), a.end().opposite()), "(a.end(), b.end())")?;
-    holds((a.hint(), b.hint()) == ((5, 0), (2, 0)), "(a.hint(), b.hint())")?;
+    holds((a.end(), b.end()) == (b.end().opposite(), a.end().opposite()), "the ends of a pair")?;
+    holds((a.hint(), b.hint()) == ((5, 0), (2, 0)), "the hints of a pair")?;
     a.set_hops(1);
     a.set_hint((2, 3));
     a.set_sent(4);
@@ -65,20 +65,20 @@ fn a_value_keeps_its_fields(rt: HostRuntime) -> Result<(), Fail> {
         dead: true,
         trail: 8,
     };
-    holds(a.picture() == set, "a.picture()")?;
-    holds((a.hops(), a.sent(), a.asked(), a.served(), a.want()) == (1, 4, 5, 6, 7), "(a.hops(), a.sent(), a.asked(), a.served(), a.wa")?;
-    holds((a.dead(), a.trail()) == (true, 8), "(a.dead(), a.trail())")?;
+    holds(a.picture() == set, "the picture of a value")?;
+    holds((a.hops(), a.sent(), a.asked(), a.served(), a.want()) == (1, 4, 5, 6, 7), "the numbers of a value")?;
+    holds((a.dead(), a.trail()) == (true, 8), "the death and trail of a value")?;
     let mut cargo = Cargo::empty();
     cargo.add(b);
     cargo.add(a);
-    holds(cargo.picture().as_slice() == cargo.values(), "cargo.picture().as_slice()")?;
-    holds(cargo.addressed(4) && !cargo.addressed(3), "cargo.addressed(4) && !cargo.addressed(3)")?;
+    holds(cargo.picture().as_slice() == cargo.values(), "the picture of a cargo")?;
+    holds(cargo.addressed(4) && !cargo.addressed(3), "the kernels that a cargo names")?;
     let marks = [cargo.next(), cargo.next(), cargo.next()];
     cargo.close();
     let [first, second, third] = marks;
     destroyed(first);
-    holds(destroyed(second) == Some(set), "destroyed(second)")?;
-    holds(destroyed(third) == None, "destroyed(third)")?;
+    holds(destroyed(second) == Some(set), "the mark of a value")?;
+    holds(destroyed(third) == None, "the end of a cargo")?;
     Ok(())
 }
 

@@ -28,10 +28,10 @@ fn answer(alloc: Global, source: &[u8]) -> Result<String, AllocError> {
 fn tokens_have_places(alloc: Global) -> Result<(), Fail> {
     let source = b"module m;\n  begin end.";
     let reading = read_source(alloc, source).map_err(|_| "a fault")?;
-    holds(reading.tokens.len() == 6, "reading.tokens.len()")?;
+    holds(reading.tokens.len() == 6, "how many tokens there are")?;
     for (token, line, column) in [(0, 1, 1), (2, 1, 9), (3, 2, 3), (5, 2, 12), (6, 2, 13)] {
         let at = token_place(source, &reading.tokens, token);
-        holds((at.line, at.column) == (line, column), "(at.line, at.column)")?;
+        holds((at.line, at.column) == (line, column), "the place of a token")?;
     }
     Ok(())
 }

@@ -40,8 +40,8 @@ fn answer(alloc: Global, source: &str) -> Result<String, AllocError> {
 
 /// Reads and prints a module, and what is printed too.
 fn prints(alloc: Global, source: &str, printed: &str) -> Result<(), Fail> {
-    holds(answer(alloc, source)?.as_str() == printed, "answer(alloc, source)?.as_str()")?;
-    holds(answer(alloc, printed)?.as_str() == printed, "answer(alloc, printed)?.as_str()")?;
+    holds(answer(alloc, source)?.as_str() == printed, source)?;
+    holds(answer(alloc, printed)?.as_str() == printed, printed)?;
     Ok(())
 }
 
@@ -202,6 +202,6 @@ fn modules_are_printed_and_read_again(rt: HostRuntime) -> Result<(), Fail> {
         holds(answer(rt.alloc(), source)?.as_str() == want, source)?;
     }
     let long = long_chain(rt.alloc())?;
-    holds(answer(rt.alloc(), long.as_str())?.as_str() == long.as_str(), "answer(rt.alloc(), long.as_str())?.as_str() == l")?;
+    holds(answer(rt.alloc(), long.as_str())?.as_str() == long.as_str(), "a long sum")?;
     Ok(())
 }

@@ -38,7 +38,7 @@ fn has_line(alloc: Global, step: &ServiceStep, line: &str) -> Result<(), Fail> {
 fn has_text(alloc: Global, what: PictureWhat, want: &str) -> Result<(), Fail> {
     let picture = CompactPicture::of(alloc, &Picture { stamp: 9, what })?;
     let same = picture.copy(alloc)?.picture();
-    holds(same.stamp == 9, "same.stamp")?;
+    holds(same.stamp == 9, "the stamp of a picture")?;
     let printed = print_picture(alloc, &same)?;
     holds(printed.as_slice() == want.as_bytes(), want)?;
     Ok(())

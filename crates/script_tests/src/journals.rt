@@ -42,7 +42,7 @@ fn took(alloc: Global, stamp: u64, what: PictureWhat) -> Result<Entry, Fail>
 }
 
 pub(crate) fn same_lines(lines: &[Vec<u8>], wanted: &[&str]) -> Result<(), Fail> {
-    holds(lines.len() == wanted.len(), "lines.len()")?;
+    holds(lines.len() == wanted.len(), "how many lines there are")?;
     for (line, want) in lines.iter().zip(wanted) {
         holds(line.as_slice() == want.as_bytes(), want)?;
     }
@@ -51,7 +51,7 @@ pub(crate) fn same_lines(lines: &[Vec<u8>], wanted: &[&str]) -> Result<(), Fail>
 
 /// The journal of a Make and a packet with these stamps.
 fn of_two(alloc: Global, first: u64, second: u64) -> Result<Journal, Fail> {
-    holds(first < second, "first < second")?;
+    holds(first < second, "rising stamps")?;
     let end = EndId::default();
     let mut journal = Journal::start(alloc);
     journal.reserve(2)?;
@@ -62,7 +62,7 @@ fn of_two(alloc: Global, first: u64, second: u64) -> Result<Journal, Fail> {
     };
     journal.push(asked(alloc, first, 0, &Call::Make, &[make])?)?;
     journal.push(took(alloc, second, PictureWhat::GoneSeen { to: end })?)?;
-    holds(journal.entries().len() == 2, "journal.entries().len()")?;
+    holds(journal.entries().len() == 2, "how many entries a journal has")?;
     Ok(journal.copy(alloc)?)
 }
 
@@ -122,7 +122,7 @@ fn journals_are_merged_by_stamp_and_then_by_kernel(rt: HostRuntime) -> Result<()
         of_two(alloc, 1, 2)?,
         of_two(alloc, 2, 3)?,
     ]?;
-    holds(journals.len() <= 8, "journals.len() <= 8")?;
+    holds(journals.len() <= 8, "at most eight journals")?;
     let wanted = [(1, 0), (1, 1), (2, 1), (2, 2), (3, 2), (4, 0)];
     let merged = merge(alloc, &journals)?;
     same_order(&merged, &wanted)?;

@@ -48,12 +48,12 @@ quiet
 
 /// What the text of the script says.
 fn is_read(alloc: Global, script: &Script) -> Result<(), Fail> {
-    holds((script.setting.version, script.setting.kernels) == (1, 2), "(script.setting.version, script.setting.kernels)")?;
-    holds(script.setting.homes.as_slice() == [1, 0].as_slice(), "script.setting.homes.as_slice()")?;
-    holds(script.setting.wires.as_slice() == [(Pid(1), Pid(0))].as_slice(), "script.setting.wires.as_slice()")?;
+    holds((script.setting.version, script.setting.kernels) == (1, 2), "the version and the kernels")?;
+    holds(script.setting.homes.as_slice() == [1, 0].as_slice(), "the homes")?;
+    holds(script.setting.wires.as_slice() == [(Pid(1), Pid(0))].as_slice(), "the wires")?;
     let lines = script.lines.as_slice();
-    holds(lines.len() == 6, "lines.len()")?;
-    holds((lines[0].line, lines[1].line, lines[4].line) == (7, 8, 11), "(lines[0].line, lines[1].line, lines[4].line)")?;
+    holds(lines.len() == 6, "how many lines there are")?;
+    holds((lines[0].line, lines[1].line, lines[4].line) == (7, 8, 11), "the numbers of lines")?;
     let first = CompactScriptCall::of(alloc, &lines[0].what.script_call())?;
     holds(matches!(
             first.script_call(),
@@ -64,9 +64,9 @@ fn is_read(alloc: Global, script: &Script) -> Result<(), Fail> {
                     ..
                 }
             )
-        ), "first.script_call()")?;
-    holds(matches!(lines[3].what.script_call(), ScriptCall::Take { from: 0, to: 1 }), "lines[3].what.script_call()")?;
-    holds(matches!(lines[4].what.script_call(), ScriptCall::Settle), "lines[4].what.script_call()")?;
+        ), "a call")?;
+    holds(matches!(lines[3].what.script_call(), ScriptCall::Take { from: 0, to: 1 }), "a take")?;
+    holds(matches!(lines[4].what.script_call(), ScriptCall::Settle), "a settle")?;
     Ok(())
 }
 
@@ -84,11 +84,11 @@ fn is_performed(alloc: Global, script: Script) -> Result<(), Fail> {
     let mut next = Vec::new(alloc);
     for line in &lines {
         text.extend_from_slice(line.as_slice())?;
-        holds(rest.next_line(&mut next)?, "rest.next_line(&mut next)")?;
-        holds(next.as_slice() == line.as_slice(), "next.as_slice()")?;
+        holds(rest.next_line(&mut next)?, "a next line")?;
+        holds(next.as_slice() == line.as_slice(), "the next line")?;
     }
-    holds(!rest.next_line(&mut next)?, "!rest.next_line(&mut next)")?;
-    holds(text.as_slice() == TRANSCRIPT.as_bytes(), "text.as_slice()")?;
+    holds(!rest.next_line(&mut next)?, "a line behind the last")?;
+    holds(text.as_slice() == TRANSCRIPT.as_bytes(), "the transcript")?;
     Ok(())
 }
 
@@ -98,6 +98,6 @@ fn a_script_is_read_and_performed(rt: HostRuntime) -> Result<(), Fail> {
     is_read(rt.alloc(), &script)?;
     is_performed(rt.alloc(), script)?;
     let refused = read_script(rt.alloc(), b"kernels 2\n\ntake 0 2").err();
-    holds(refused == Some(PlanFault::BadPlan { line: 3, rule: 4 }), "refused")?;
+    holds(refused == Some(PlanFault::BadPlan { line: 3, rule: 4 }), "the causes of a call")?;
     Ok(())
 }
