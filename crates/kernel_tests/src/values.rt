@@ -33,53 +33,49 @@ fn lists_keep_their_limits(rt: HostRuntime) -> Result<(), Fail> {
     Ok(())
 }
 
-/// What was set is read, goes through a cargo, and is left in the mark.
-#[test]
-fn a_value_keeps_its_fields(rt: HostRuntime) -> Result<(), Fail> {
-    let link = LinkId {
-        maker: 4,
-        count: 123,
-    };
-    let (mut a, b) = Moving::pair(link, 2, 5);
-    holds((a.end(), b.end()) == (b.end().opposite(), a.end().opposite()), "the ends of a pair")?;
-    holds((a.hint(), b.hint()) == ((5, 0), (2, 0)), "the hints of a pair")?;
-    a.set_hops(1);
-    a.set_hint((2, 3));
-    a.set_sent(4);
-    a.set_asked(5);
-    a.set_served(6);
-    a.set_want(7);
-    a.set_dead(true);
-    a.set_trail(8);
-    let set = MovingPicture {
-        end: EndId {
-            link,
-            side: Side::A,
+/// What is set in a value.
+const SET: MovingPicture = MovingPicture {
+    end: EndId {
+        link: LinkId {
+            maker: 4,
+            count: 123,
         },
-        hops: 1,
-        hint: (2, 3),
-        sent: 4,
-        asked: 5,
-        served: 6,
-        want: 7,
-        dead: true,
-        trail: 8,
-    };
-    holds(a.picture() == set, "the picture of a value")?;
-    holds((a.hops(), a.sent(), a.asked(), a.served(), a.want()) == (1, 4, 5, 6, 7), "the numbers of a value")?;
-    holds((a.dead(), a.trail()) == (true, 8), "the death and trail of a value")?;
-    let mut cargo = Cargo::empty();
-    cargo.add(b);
-    cargo.add(a);
-    holds(cargo.picture().as_slice() == cargo.values(), "the picture of a cargo")?;
-    holds(cargo.addressed(4) && !cargo.addressed(3), "the kernels that a cargo names")?;
-    let marks = [cargo.next(), cargo.next(), cargo.next()];
-    cargo.close();
-    let [first, second, third] = marks;
-    destroyed(first);
-    holds(destroyed(second) == Some(set), "the mark of a value")?;
-    holds(destroyed(third) == None, "the end of a cargo")?;
-    Ok(())
+        side: Side::A,
+    },
+    hops: 1,
+    hint: (2, 3),
+    sent: 4,
+    asked: 5,
+    served: 6,
+    want: 7,
+    dead: true,
+    trail: 8,
+};
+
+fn set(a: &mut Moving) {
+    a.set_hops(SET.hops);
+    a.set_hint(SET.hint);
+    a.set_sent(SET.sent);
+    a.set_asked(SET.asked);
+    a.set_served(SET.served);
+    a.set_want(SET.want);
+    a.set_dead(SET.dead);
+    a.set_trail(SET.trail);
+}
+
+/// The fields of a value, by its readers.
+fn read(a: &Moving) -> MovingPicture {
+    MovingPicture {
+        end: a.end(),
+        hops: a.hops(),
+        hint: a.hint(),
+        sent: a.sent(),
+        asked: a.asked(),
+        served: a.served(),
+        want: a.want(),
+        dead: a.dead(),
+        trail: a.trail(),
+    }
 }
 
 /// The fields that a value had, by the readers of its mark.
@@ -99,4 +95,27 @@ fn destroyed(value: Option<Moving>) -> Option<MovingPicture> {
         dead: mark.dead(),
         trail: mark.trail(),
     })
+}
+
+/// What was set is read, goes through a cargo, and is left in the mark.
+#[test]
+fn a_value_keeps_its_fields(_rt: HostRuntime) -> Result<(), Fail> {
+    let (mut a, b) = Moving::pair(SET.end.link, 2, 5);
+    let opposites = a.end() == b.end().opposite();
+    let hints = (a.hint(), b.hint());
+    set(&mut a);
+    let (seen, picture) = (read(&a), a.picture());
+    let mut cargo = Cargo::empty();
+    cargo.add(b);
+    cargo.add(a);
+    let carried = cargo.picture().as_slice() == cargo.values();
+    let named = (cargo.addressed(4), cargo.addressed(3));
+    let first = destroyed(cargo.next());
+    let second = destroyed(cargo.next());
+    let third = destroyed(cargo.next());
+    cargo.close();
+    holds(opposites && hints == ((5, 0), (2, 0)), "a pair")?;
+    holds(seen == SET && picture == SET, "the fields of a value")?;
+    holds(carried && named == (true, false), "a cargo")?;
+    holds(first.is_some() && second == Some(SET) && third.is_none(), "the marks of a cargo")
 }
