@@ -1,29 +1,29 @@
 //! How commands end that the program does not have yet, and the lines of their failures.
 
+use crate::holding::holds;
 use lynx_command::{End, Failure, Lines, Output, end_with, tell};
 use lynx_outside::{ListSink, Status};
 use lynx_source::Place;
 use std::alloc::Global;
-use std::process::Abort;
 use std::test::Fail;
 
 /// A command that ended so puts its whole text, and gives this status.
-fn ends(rt: &impl Abort, alloc: Global, end: End, status: Status) -> Result<(), Fail> {
+fn ends(alloc: Global, end: End, status: Status) -> Result<(), Fail> {
     let mut out = ListSink::with(alloc, 100, Vec::new(alloc))?;
     let mut err = ListSink::with(alloc, 100, Vec::new(alloc))?;
     let lines = vec![in alloc; b"a\n".to_vec(alloc)?, b"bc\n".to_vec(alloc)?]?;
     let text = Lines::of(lines);
     let output = Ok(Output { text, end });
-    assert_eq!(rt; end_with(alloc, "p", output, &mut out, &mut err), status);
-    assert_eq!(rt; out.held(), b"a\nbc\n".as_slice());
-    assert_eq!(rt; err.held(), b"".as_slice());
+    holds(end_with(alloc, "p", output, &mut out, &mut err) == status, "the status of an end")?;
+    holds(out.held() == b"a\nbc\n".as_slice(), "what out holds")?;
+    holds(err.held() == b"".as_slice(), "what err holds")?;
     Ok(())
 }
 
 #[test]
 fn commands_end_and_fail(rt: HostRuntime) -> Result<(), Fail> {
-    ends(&rt, rt.alloc(), End::Done, Status::Done)?;
-    ends(&rt, rt.alloc(), End::Spent, Status::Spent)?;
+    ends(rt.alloc(), End::Done, Status::Done)?;
+    ends(rt.alloc(), End::Spent, Status::Spent)?;
     let at = Place {
         line: 65_535,
         column: 1_048_577,
@@ -40,8 +40,8 @@ fn commands_end_and_fail(rt: HostRuntime) -> Result<(), Fail> {
         (Failure::NoMemory, "lynx: no memory\n"),
     ] {
         let mut err = ListSink::with(rt.alloc(), 100, Vec::new(rt.alloc()))?;
-        assert_eq!(rt; tell(rt.alloc(), "a/s", failure, &mut err), failure.status());
-        assert_eq!(rt; err.held(), text.as_bytes());
+        holds(tell(rt.alloc(), "a/s", failure, &mut err) == failure.status(), "the status of a failure")?;
+        holds(err.held() == text.as_bytes(), "what err holds")?;
     }
     Ok(())
 }

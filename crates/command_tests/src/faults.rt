@@ -1,9 +1,9 @@
 //! Each read and each put fails in turn.
 
+use crate::holding::holds;
 use lynx_outside::{ListFiles, ListSink, Status};
 use lynx_run::lynx;
 use std::alloc::{AllocError, Global};
-use std::process::Abort;
 use std::test::Fail;
 
 const SCRIPT: &[u8] = b"kernels 1\nprocess 0 on 0\np0 print 1\n";
@@ -42,7 +42,6 @@ struct Faults {
 
 /// These words end with this status, and with these bytes on out and on err.
 fn end_so(
-    rt: &impl Abort,
     alloc: Global,
     line: &str,
     faults: Faults,
@@ -54,9 +53,9 @@ fn end_so(
     let mut err = ListSink::with(alloc, AMPLE, vec![in alloc; faults.err]?)?;
     let words = words_of(alloc, line)?;
     let ended = lynx(alloc, words, &mut files, &mut out, &mut err);
-    assert_eq!(rt; ended, status, "{line}");
-    assert_eq!(rt; out.held(), held.0.as_bytes());
-    assert_eq!(rt; err.held(), held.1.as_bytes());
+    holds(ended == status, line)?;
+    holds(out.held() == held.0.as_bytes(), "what out holds")?;
+    holds(err.held() == held.1.as_bytes(), "what err holds")?;
     Ok(())
 }
 
@@ -100,7 +99,7 @@ fn reads_and_puts_fail_in_turn(rt: HostRuntime) -> Result<(), Fail> {
             err,
             room,
         };
-        end_so(&rt, rt.alloc(), line, faults, status, held)?;
+        end_so(rt.alloc(), line, faults, status, held)?;
     }
     Ok(())
 }

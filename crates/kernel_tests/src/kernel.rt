@@ -1,12 +1,12 @@
 //! One kernel through its public calls, and packets that no kernel sends. What scripts can say stands in .ci/rows/runs.
 
+use crate::holding::holds;
 use crate::node::Node;
 use charlotte_calls::{
     Answer, Bytes, Call, CargoPicture, Cause, EndId, Ends, LinkId, Outcome, Packet, PictureWhat,
     Pid, Report, ServiceStep, Side, Way, What,
 };
 use end_table::Entry;
-use std::process::Abort;
 use std::test::Fail;
 
 const P0: Pid = Pid(0);
@@ -35,15 +35,15 @@ fn no_ends() -> Result<Ends, Fail> {
 }
 
 /// Process 1 waits for a message, and process 0 sends it: the want is matched, and the parcel with it is sent.
-fn a_message_is_sent(rt: &impl Abort, node: &mut Node) -> Result<(), Fail> {
+fn a_message_is_sent(node: &mut Node) -> Result<(), Fail> {
     let (on, w, n, at, hops) = (B, 1, 1, 0, 0);
     let want = PictureWhat::Want { to: A, w, at, hops };
     let receive = node.call(P1, Call::Receive { on })?;
-    receive.gives(rt, 1, &[P1], &[want], &[ServiceStep::Receive { on }])?;
+    receive.gives(1, &[P1], &[want], &[ServiceStep::Receive { on }])?;
     let wait = node.call(P1, Call::Wait)?;
-    wait.gives(rt, 2, &[], &[], &[ServiceStep::Wait { p: P1 }])?;
-    assert_eq!(rt; node.phase(P1)?, (false, true));
-    node.answers(rt, P1, None)?;
+    wait.gives(2, &[], &[], &[ServiceStep::Wait { p: P1 }])?;
+    holds(node.phase(P1)? == (false, true), "whether a process waits")?;
+    node.answers(P1, None)?;
     let send = node.call(
         P0,
         Call::Send {
@@ -58,7 +58,7 @@ fn a_message_is_sent(rt: &impl Abort, node: &mut Node) -> Result<(), Fail> {
         bytes: text(b"hello")?,
         enclose: no_ends()?,
     };
-    send.gives(rt, 3, &[P0], &[], &[step])?;
+    send.gives(3, &[P0], &[], &[step])?;
     let parcel = PictureWhat::Parcel {
         to: B,
         n,
@@ -69,11 +69,11 @@ fn a_message_is_sent(rt: &impl Abort, node: &mut Node) -> Result<(), Fail> {
         moving: CargoPicture::from_slice(&[]).ok_or("values")?,
     };
     let matched = node.take()?;
-    matched.gives(rt, 4, &[], &[parcel], &[ServiceStep::Match { on: A, n }])
+    matched.gives(4, &[], &[parcel], &[ServiceStep::Match { on: A, n }])
 }
 
 /// The parcel is taken, which answers the Wait.
-fn a_message_is_taken(rt: &impl Abort, node: &mut Node) -> Result<(), Fail> {
+fn a_message_is_taken(node: &mut Node) -> Result<(), Fail> {
     let (on, n, at, hops) = (A, 1, 0, 0);
     let report = Report {
         on: B,
@@ -93,10 +93,10 @@ fn a_message_is_taken(rt: &impl Abort, node: &mut Node) -> Result<(), Fail> {
         report: report.copy(),
     };
     let taken = PictureWhat::Taken { to: on, n, at, hops };
-    node.take()?.gives(rt, 5, &[P1], &[taken], &[take, told])?;
-    assert_eq!(rt; node.phase(P1)?, (true, false));
-    node.answers(rt, P1, Some(Answer::Reported(report)))?;
-    node.take()?.gives(rt, 6, &[], &[], &[ServiceStep::Complete { on, n }])
+    node.take()?.gives(5, &[P1], &[taken], &[take, told])?;
+    holds(node.phase(P1)? == (true, false), "whether a process waits")?;
+    node.answers(P1, Some(Answer::Reported(report)))?;
+    node.take()?.gives(6, &[], &[], &[ServiceStep::Complete { on, n }])
 }
 
 /// A packet that no kernel sent: the receive 3 asks an end, from a kernel.
@@ -117,31 +117,31 @@ fn wanted(node: &Node) -> Option<u32> {
 }
 
 /// A packet for an end that is not there, and one that names a kernel that is not there, change nothing but the stamp.
-fn strays_are_dropped(rt: &impl Abort, node: &mut Node) -> Result<(), Fail> {
+fn strays_are_dropped(node: &mut Node) -> Result<(), Fail> {
     let mut nowhere = B;
     nowhere.link.count = 9;
-    node.take_this(stray(41, nowhere, 0))?.gives(rt, 42, &[], &[], &[])?;
-    assert!(rt; matches!(node.look(nowhere), Entry::Nothing));
-    node.take_this(stray(7, A, 1))?.gives(rt, 43, &[], &[], &[])?;
-    assert_eq!(rt; wanted(node), Some(0));
-    node.take_this(stray(7, A, 0))?.gives(rt, 44, &[], &[], &[])?;
-    assert_eq!(rt; wanted(node), Some(3));
+    node.take_this(stray(41, nowhere, 0))?.gives(42, &[], &[], &[])?;
+    holds(matches!(node.look(nowhere), Entry::Nothing), "an end that is nowhere")?;
+    node.take_this(stray(7, A, 1))?.gives(43, &[], &[], &[])?;
+    holds(wanted(node) == Some(0), "the receive that is wanted")?;
+    node.take_this(stray(7, A, 0))?.gives(44, &[], &[], &[])?;
+    holds(wanted(node) == Some(3), "the receive that is wanted")?;
     Ok(())
 }
 
 #[test]
 fn a_kernel_does_calls_and_takes_packets(rt: HostRuntime) -> Result<(), Fail> {
     let mut node = Node::start(rt.alloc())?;
-    a_message_is_sent(&rt, &mut node)?;
-    a_message_is_taken(&rt, &mut node)?;
-    strays_are_dropped(&rt, &mut node)?;
+    a_message_is_sent(&mut node)?;
+    a_message_is_taken(&mut node)?;
+    strays_are_dropped(&mut node)?;
     node.call(P0, Call::Make)?;
     let mut made = A;
     made.link.count = 1;
-    node.answers(&rt, P0, Some(Answer::Made(made, made.opposite())))?;
+    node.answers(P0, Some(Answer::Made(made, made.opposite())))?;
     node.call(P0, Call::Destroy { on: A })?;
-    node.answers(&rt, P0, Some(Answer::Ok))?;
-    assert!(rt; matches!(node.look(A), Entry::Destroyed(_)));
+    node.answers(P0, Some(Answer::Ok))?;
+    holds(matches!(node.look(A), Entry::Destroyed(_)), "a destroyed end")?;
     node.call(P0, Call::Destroy { on: A })?;
-    node.answers(&rt, P0, Some(Answer::Refused(Cause::NoEnd)))
+    node.answers(P0, Some(Answer::Refused(Cause::NoEnd)))
 }

@@ -4,6 +4,8 @@
 #[cfg(test)]
 mod calls;
 #[cfg(test)]
+mod holding;
+#[cfg(test)]
 mod kernel;
 #[cfg(test)]
 mod messages;

@@ -4,12 +4,14 @@ ghost use Rattle.charlotte_calls.specs.Moving.{new_end};
 ghost use Rattle.end_table.specs.Table.{entries, HasPlace, IsHere};
 ghost use Rattle.kernel_step.specs.Progress.{HasRoom};
 
-use crate::samples::{END, OWNER, ample, end_a, kept, sends, view};
+use crate::holding::holds;
+use crate::samples::{END, OWNER, TO, ample, end_a, kept, sends, view};
 use charlotte_calls::{Cargo, EndId, LinkId, NoMemory, PictureWhat, Side, Work};
 use end_table::{Holder, Inward, Lent, Outward, Table};
 use move_core::{
     Route, arrive, destroy, enclose, forget, give_back, gone_seen, known, leave, moved, room, route,
 };
+use std::alloc::Global;
 use std::test::Fail;
 
 const CARRIED: EndId = EndId {
@@ -61,54 +63,84 @@ fn holder_of(table: &Table, end: EndId) -> Option<Holder> {
     }
 }
 
-#[test]
-fn an_end_arrives_and_another_comes_back(rt: HostRuntime) -> Result<(), Fail> {
-    let (to, at, hops) = (CARRIED.opposite(), 0, 0);
-    let mut table = kept(rt.alloc(), view(0, Outward::Idle, Inward::Posted { w: 1 }))?;
-    let mut out = ample(rt.alloc())?;
+/// The carried end comes with its message, and tells its opposite.
+fn arrives(alloc: Global) -> Result<(), Fail> {
+    let mut table = kept(alloc, view(0, Outward::Idle, Inward::Posted { w: 1 }))?;
+    let mut out = ample(alloc)?;
     if is_expected(&mut table)? {
         arrive_once(&mut table, &mut out);
     }
-    sends(&rt, rt.alloc(), &out, 3, &PictureWhat::Moved { to, at, hops })?;
-    assert_eq!(rt; holder_of(&table, CARRIED), Some(Holder::Owner(OWNER)));
-    assert_eq!(rt; route(&table, CARRIED), Route::Here);
-    let mut table = kept(rt.alloc(), view(0, Outward::Matched { n: 4 }, Inward::Idle))?;
-    let mut out = ample(rt.alloc())?;
+    holds(holder_of(&table, CARRIED) == Some(Holder::Owner(OWNER)), "an end that came")?;
+    holds(route(&table, CARRIED) == Route::Here, "the way to an end that is here")?;
+    let to = CARRIED.opposite();
+    sends(alloc, &out, 3, &PictureWhat::Moved { to, at: 0, hops: 0 })
+}
+
+/// A message comes back, and its end is the sender's again.
+fn comes_back(alloc: Global) -> Result<(), Fail> {
+    let mut table = kept(alloc, view(0, Outward::Matched { n: 4 }, Inward::Idle))?;
+    let mut out = ample(alloc)?;
     if is_expected(&mut table)? {
         return_once(&mut table, &mut out);
     }
-    let (p, report) = out.reports.first().ok_or("no report")?;
-    assert_eq!(rt; (*p, report.enclosed.as_slice()), (OWNER, [CARRIED].as_slice()));
-    assert_eq!(rt; route(&table, CARRIED), Route::Here);
-    Ok(())
+    holds(holder_of(&table, CARRIED) == Some(Holder::Owner(OWNER)), "an end that came back")?;
+    holds(out.reports.len() == 1 && out.packets.len() == 1, "the report of a message that came back")
+}
+
+/// An end is enclosed.
+fn encloses(alloc: Global) -> Result<(), Fail> {
+    let mut table = kept(alloc, view(0, Outward::Idle, Inward::Idle))?;
+    let mut out = ample(alloc)?;
+    enclose(&mut table, END, CARRIED, &mut out);
+    holds(holder_of(&table, END) == Some(Holder::EnclosedIn(CARRIED)), "an enclosed end")
+}
+
+/// An end leaves, and is forgotten.
+fn leaves(alloc: Global) -> Result<(), Fail> {
+    let mut table = kept(alloc, view(0, Outward::Idle, Inward::Idle))?;
+    let mut out = ample(alloc)?;
+    let left = leave(&mut table, END, 3).destroy();
+    holds(left.hops() == 1 && left.trail() == 1, "the value of an end that leaves")?;
+    holds(route(&table, END) == Route::Forward(3), "the way to an end that left")?;
+    forget(&mut table, END, 1, &mut out);
+    holds(route(&table, END) == Route::Stale, "the way to an end that is forgotten")
+}
+
+/// The opposite end has moved to kernel 2.
+fn learns(alloc: Global) -> Result<(), Fail> {
+    let mut table = kept(alloc, view(0, Outward::Idle, Inward::Idle))?;
+    let mut out = ample(alloc)?;
+    moved(&mut table, END, 2, 1, &mut out);
+    sends(alloc, &out, 2, &PictureWhat::Known { to: TO, hops: 1 })
+}
+
+/// An end that has not moved hears that its move is known.
+fn is_known(alloc: Global) -> Result<(), Fail> {
+    let mut table = kept(alloc, view(0, Outward::Idle, Inward::Idle))?;
+    let mut out = ample(alloc)?;
+    known(&mut table, END, 0, &mut out);
+    holds(out.packets.is_empty() && room(&table, END).packets == 9, "the room of an action")
+}
+
+/// An end is destroyed, and this is known.
+fn is_destroyed(alloc: Global) -> Result<(), Fail> {
+    let mut table = kept(alloc, view(0, Outward::Idle, Inward::Idle))?;
+    let mut out = ample(alloc)?;
+    destroy(&mut table, END, &mut out);
+    sends(alloc, &out, 3, &PictureWhat::Gone { to: TO, at: 0 })?;
+    let mut out = ample(alloc)?;
+    gone_seen(&mut table, END, &mut out);
+    holds(matches!(table.lend(END), Lent::Nothing), "an end whose death is known")
 }
 
 #[test]
-fn an_end_leaves_and_another_is_destroyed(rt: HostRuntime) -> Result<(), Fail> {
-    let (to, at) = (END.opposite(), 0);
-    let mut table = kept(rt.alloc(), view(0, Outward::Idle, Inward::Idle))?;
-    let mut out = ample(rt.alloc())?;
-    enclose(&mut table, END, CARRIED, &mut out);
-    assert_eq!(rt; holder_of(&table, END), Some(Holder::EnclosedIn(CARRIED)));
-    let mut table = kept(rt.alloc(), view(0, Outward::Idle, Inward::Idle))?;
-    let left = leave(&mut table, END, 3).destroy();
-    assert_eq!(rt; (left.hops(), left.trail()), (1, 1));
-    assert_eq!(rt; route(&table, END), Route::Forward(3));
-    forget(&mut table, END, 1, &mut out);
-    assert_eq!(rt; route(&table, END), Route::Stale);
-    let mut table = kept(rt.alloc(), view(0, Outward::Idle, Inward::Idle))?;
-    let mut out = ample(rt.alloc())?;
-    moved(&mut table, END, 2, 1, &mut out);
-    sends(&rt, rt.alloc(), &out, 2, &PictureWhat::Known { to, hops: 1 })?;
-    let mut out = ample(rt.alloc())?;
-    known(&mut table, END, 0, &mut out);
-    assert_eq!(rt; (out.packets.len(), room(&table, END).packets), (0, 9));
-    let mut table = kept(rt.alloc(), view(0, Outward::Idle, Inward::Idle))?;
-    let mut out = ample(rt.alloc())?;
-    destroy(&mut table, END, &mut out);
-    sends(&rt, rt.alloc(), &out, 3, &PictureWhat::Gone { to, at })?;
-    let mut out = ample(rt.alloc())?;
-    gone_seen(&mut table, END, &mut out);
-    assert!(rt; matches!(table.lend(END), Lent::Nothing));
-    Ok(())
+fn each_call_of_move_core(rt: HostRuntime) -> Result<(), Fail> {
+    let alloc = rt.alloc();
+    arrives(alloc)?;
+    comes_back(alloc)?;
+    encloses(alloc)?;
+    leaves(alloc)?;
+    learns(alloc)?;
+    is_known(alloc)?;
+    is_destroyed(alloc)
 }

@@ -1,6 +1,7 @@
 //! Kernel 0 with two processes, one wire and the packets that it sends to itself, and what an event of it gave.
 ghost use Rattle.std.specs.Prelude.{◌≡◌, length};
 
+use crate::holding::holds;
 use charlotte_calls::{
     Answer, Call, Effect, EndId, Items, Packet, PictureWhat, Pid, ServiceStep, Setting,
 };
@@ -9,7 +10,6 @@ use end_table::Entry;
 use kernel_core::{Kernel, NotTaken};
 use std::alloc::Global;
 use std::collections::VecDeque;
-use std::process::Abort;
 use std::test::Fail;
 
 /// The kernel, and the packets that it has not taken, oldest first.
@@ -97,7 +97,6 @@ impl Node {
     /// Takes the standing answer of a process, which is this.
     pub(crate) fn answers(
         &mut self,
-        rt: &impl Abort,
         p: Pid,
         want: Option<Answer>,
     ) -> Result<(), Fail> {
@@ -105,7 +104,7 @@ impl Node {
             return Err("no such process".into());
         }
         let answer = self.kernel.answer(p);
-        assert!(rt; same_text(self.alloc, &answer, &want)?, "{answer:?}");
+        holds(same_text(self.alloc, &answer, &want)?, "the standing answer")?;
         Ok(())
     }
 
@@ -137,16 +136,15 @@ impl Event {
     /// It had this stamp, answered these processes, sent these packets and meant these steps.
     pub(crate) fn gives(
         &self,
-        rt: &impl Abort,
         stamp: u64,
         answered: &[Pid],
         packets: &[PictureWhat],
         steps: &[ServiceStep],
     ) -> Result<(), Fail> {
-        assert_eq!(rt; self.stamp, stamp);
-        assert_eq!(rt; self.answered.as_slice(), answered);
-        assert!(rt; same_text(self.alloc, &self.packets.as_slice(), &packets)?, "at {stamp}");
-        assert!(rt; same_text(self.alloc, &self.steps.as_slice(), &steps)?, "at {stamp}");
+        holds(self.stamp == stamp, "the stamp of an event")?;
+        holds(self.answered.as_slice() == answered, "the processes that an event answers")?;
+        holds(same_text(self.alloc, &self.packets.as_slice(), &packets)?, "the packets of an event")?;
+        holds(same_text(self.alloc, &self.steps.as_slice(), &steps)?, "the steps of an event")?;
         Ok(())
     }
 }

@@ -6,19 +6,25 @@ ghost use Rattle.end_table.specs.Table.{entries};
 ghost use Rattle.end_table.specs.declared.entry.Entry.TheVariants.{Here};
 ghost use Rattle.kernel_step.specs.Progress.{HasRoom};
 
+use crate::holding::holds;
 use charlotte_calls::{
     Bytes, EndId, Ends, LinkId, Moving, NoMemory, PictureWhat, Pid, Side, Work,
 };
 use end_table::{HereView, Holder, Inward, NotStored, Outward, Table};
 use std::alloc::Global;
 use std::fmt::Debug;
-use std::process::Abort;
 use std::test::Fail;
 
 /// The end on which the cores are tried.
 pub(crate) const END: EndId = EndId {
     link: LinkId { maker: 0, count: 7 },
     side: Side::A,
+};
+
+/// Its opposite.
+pub(crate) const TO: EndId = EndId {
+    link: LinkId { maker: 0, count: 7 },
+    side: Side::B,
 };
 
 /// The process that owns it.
@@ -49,7 +55,6 @@ pub(crate) fn same_text<A: Debug, B: Debug>(alloc: Global, a: &A, b: &B) -> Resu
 
 /// The first packet of these lists goes to this kernel, is this one and has their stamp.
 pub(crate) fn sends(
-    rt: &impl Abort,
     alloc: Global,
     out: &Work,
     kernel: u8,
@@ -57,9 +62,8 @@ pub(crate) fn sends(
 ) -> Result<(), Fail> {
     let (to, packet) = out.packets.first().ok_or("no packet")?;
     let picture = packet.picture();
-    assert_eq!(rt; (*to, picture.stamp), (kernel, out.stamp));
-    assert!(rt; same_text(alloc, &picture.what, want)?, "not {want:?}");
-    Ok(())
+    holds(*to == kernel && picture.stamp == out.stamp, "where a packet goes")?;
+    holds(same_text(alloc, &picture.what, want)?, "a packet")
 }
 
 /// Lists with ample room, at stamp 5.

@@ -1,6 +1,7 @@
 //! Journals, their merge, and transcripts that no script has.
 ghost use Rattle.std.specs.Prelude.{◌≡◌, IfOk};
 
+use crate::holding::holds;
 use charlotte_calls::{
     Bytes, Call, EndId, Ends, Items, Picture, PictureWhat, Pid, ServiceStep, Setting, Short,
 };
@@ -9,15 +10,14 @@ use journal_text::{
     print_transcript,
 };
 use std::alloc::Global;
-use std::process::Abort;
 use std::test::Fail;
 
-pub(crate) fn text(rt: &impl Abort, bytes: &[u8]) -> Bytes {
-    Short::from_slice(bytes).expect(rt, "at most 256 bytes")
+pub(crate) fn text(bytes: &[u8]) -> Result<Bytes, Fail> {
+    Ok(Short::from_slice(bytes).ok_or("at most 256 bytes")?)
 }
 
-pub(crate) fn ends(rt: &impl Abort, items: &[EndId]) -> Ends {
-    Short::from_slice(items).expect(rt, "at most eight ends")
+pub(crate) fn ends(items: &[EndId]) -> Result<Ends, Fail> {
+    Ok(Short::from_slice(items).ok_or("at most eight ends")?)
 }
 
 pub(crate) fn asked(
@@ -41,16 +41,17 @@ fn took(alloc: Global, stamp: u64, what: PictureWhat) -> Result<Entry, Fail>
     Ok(Entry::of(alloc, stamp, happened, &[])?)
 }
 
-pub(crate) fn same_lines(rt: &impl Abort, lines: &[Vec<u8>], wanted: &[&str]) {
-    assert_eq!(rt; lines.len(), wanted.len());
+pub(crate) fn same_lines(lines: &[Vec<u8>], wanted: &[&str]) -> Result<(), Fail> {
+    holds(lines.len() == wanted.len(), "how many lines there are")?;
     for (line, want) in lines.iter().zip(wanted) {
-        assert_eq!(rt; line.as_slice(), want.as_bytes(), "not {want}");
+        holds(line.as_slice() == want.as_bytes(), want)?;
     }
+    Ok(())
 }
 
 /// The journal of a Make and a packet with these stamps.
-fn of_two(rt: &impl Abort, alloc: Global, first: u64, second: u64) -> Result<Journal, Fail> {
-    assert!(rt; first < second);
+fn of_two(alloc: Global, first: u64, second: u64) -> Result<Journal, Fail> {
+    holds(first < second, "rising stamps")?;
     let end = EndId::default();
     let mut journal = Journal::start(alloc);
     journal.reserve(2)?;
@@ -61,16 +62,17 @@ fn of_two(rt: &impl Abort, alloc: Global, first: u64, second: u64) -> Result<Jou
     };
     journal.push(asked(alloc, first, 0, &Call::Make, &[make])?)?;
     journal.push(took(alloc, second, PictureWhat::GoneSeen { to: end })?)?;
-    assert_eq!(rt; journal.entries().len(), 2);
+    holds(journal.entries().len() == 2, "how many entries a journal has")?;
     Ok(journal.copy(alloc)?)
 }
 
 /// The entries have these stamps and kernels.
-fn same_order(rt: &impl Abort, merged: &[Placed], wanted: &[(u64, u8)]) {
-    assert_eq!(rt; merged.len(), wanted.len());
+fn same_order(merged: &[Placed], wanted: &[(u64, u8)]) -> Result<(), Fail> {
+    holds(merged.len() == wanted.len(), "how many entries there are")?;
     for (placed, want) in merged.iter().zip(wanted) {
-        assert_eq!(rt; (placed.entry.stamp, placed.kernel), *want);
+        holds((placed.entry.stamp, placed.kernel) == *want, "a stamp and its kernel")?;
     }
+    Ok(())
 }
 
 fn setting(alloc: Global) -> Result<Setting, Fail> {
@@ -83,7 +85,7 @@ fn setting(alloc: Global) -> Result<Setting, Fail> {
 }
 
 /// Entries, notes and a last line that go together in no run have their lines all the same.
-fn are_printed(rt: &impl Abort, alloc: Global, merged: &[Placed]) -> Result<(), Fail> {
+fn are_printed(alloc: Global, merged: &[Placed]) -> Result<(), Fail> {
     let notes = [
         ScriptNote {
             line: 7,
@@ -107,8 +109,8 @@ fn are_printed(rt: &impl Abort, alloc: Global, merged: &[Placed]) -> Result<(), 
         "note 4294967295 waits\n",
         "spent 3\n",
     ];
-    same_lines(rt, &lines, &wanted);
-    same_lines(rt, &print_header(alloc, &setting(alloc)?)?, &wanted[..5]);
+    same_lines(&lines, &wanted)?;
+    same_lines(&print_header(alloc, &setting(alloc)?)?, &wanted[..5])?;
     Ok(())
 }
 
@@ -116,15 +118,15 @@ fn are_printed(rt: &impl Abort, alloc: Global, merged: &[Placed]) -> Result<(), 
 fn journals_are_merged_by_stamp_and_then_by_kernel(rt: HostRuntime) -> Result<(), Fail> {
     let alloc = rt.alloc();
     let journals = vec![in alloc;
-        of_two(&rt, alloc, 1, 4)?,
-        of_two(&rt, alloc, 1, 2)?,
-        of_two(&rt, alloc, 2, 3)?,
+        of_two(alloc, 1, 4)?,
+        of_two(alloc, 1, 2)?,
+        of_two(alloc, 2, 3)?,
     ]?;
-    assert!(rt; journals.len() <= 8);
+    holds(journals.len() <= 8, "at most eight journals")?;
     let wanted = [(1, 0), (1, 1), (2, 1), (2, 2), (3, 2), (4, 0)];
     let merged = merge(alloc, &journals)?;
-    same_order(&rt, &merged, &wanted);
-    are_printed(&rt, alloc, merged.get(..1).ok_or("no entry")?)?;
-    same_order(&rt, &merge_whole(alloc, journals)?, &wanted);
+    same_order(&merged, &wanted)?;
+    are_printed(alloc, merged.get(..1).ok_or("no entry")?)?;
+    same_order(&merge_whole(alloc, journals)?, &wanted)?;
     Ok(())
 }

@@ -4,6 +4,8 @@
 #[cfg(test)]
 mod forms;
 #[cfg(test)]
+mod holding;
+#[cfg(test)]
 mod journals;
 #[cfg(test)]
 mod scripts;

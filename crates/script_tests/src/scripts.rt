@@ -1,11 +1,11 @@
 //! A script, from its text to its transcript. The others are performed by the program (.ci/rows).
 
+use crate::holding::holds;
 use charlotte_calls::{Call, Pid, Way};
 use journal_text::TranscriptLines;
 use lynx_plan::{CompactScriptCall, PlanFault, Script, ScriptCall, read_script};
 use script_run::{Performance, perform};
 use std::alloc::Global;
-use std::process::Abort;
 use std::test::Fail;
 
 const SCRIPT: &str = "# one message
@@ -47,16 +47,15 @@ quiet
 ";
 
 /// What the text of the script says.
-fn is_read(rt: &impl Abort, alloc: Global, script: &Script) -> Result<(), Fail> {
-    assert_eq!(rt; (script.setting.version, script.setting.kernels), (1, 2));
-    assert_eq!(rt; script.setting.homes.as_slice(), [1, 0].as_slice());
-    assert_eq!(rt; script.setting.wires.as_slice(), [(Pid(1), Pid(0))].as_slice());
+fn is_read(alloc: Global, script: &Script) -> Result<(), Fail> {
+    holds((script.setting.version, script.setting.kernels) == (1, 2), "the version and the kernels")?;
+    holds(script.setting.homes.as_slice() == [1, 0].as_slice(), "the homes")?;
+    holds(script.setting.wires.as_slice() == [(Pid(1), Pid(0))].as_slice(), "the wires")?;
     let lines = script.lines.as_slice();
-    assert_eq!(rt; lines.len(), 6);
-    assert_eq!(rt; (lines[0].line, lines[1].line, lines[4].line), (7, 8, 11));
+    holds(lines.len() == 6, "how many lines there are")?;
+    holds((lines[0].line, lines[1].line, lines[4].line) == (7, 8, 11), "the numbers of lines")?;
     let first = CompactScriptCall::of(alloc, &lines[0].what.script_call())?;
-    assert!(rt;
-        matches!(
+    holds(matches!(
             first.script_call(),
             ScriptCall::Ask(
                 Pid(1),
@@ -65,15 +64,14 @@ fn is_read(rt: &impl Abort, alloc: Global, script: &Script) -> Result<(), Fail> 
                     ..
                 }
             )
-        )
-    );
-    assert!(rt; matches!(lines[3].what.script_call(), ScriptCall::Take { from: 0, to: 1 }));
-    assert!(rt; matches!(lines[4].what.script_call(), ScriptCall::Settle));
+        ), "a call")?;
+    holds(matches!(lines[3].what.script_call(), ScriptCall::Take { from: 0, to: 1 }), "a take")?;
+    holds(matches!(lines[4].what.script_call(), ScriptCall::Settle), "a settle")?;
     Ok(())
 }
 
 /// The lines are those of the transcript, given line by line.
-fn is_performed(rt: &impl Abort, alloc: Global, script: Script) -> Result<(), Fail> {
+fn is_performed(alloc: Global, script: Script) -> Result<(), Fail> {
     let Script { setting, lines } = script;
     let Performance {
         merged,
@@ -86,16 +84,16 @@ fn is_performed(rt: &impl Abort, alloc: Global, script: Script) -> Result<(), Fa
     while rest.next_line(&mut next)? {
         text.extend_from_slice(next.as_slice())?;
     }
-    assert_eq!(rt; text.as_slice(), TRANSCRIPT.as_bytes());
+    holds(text.as_slice() == TRANSCRIPT.as_bytes(), "the transcript")?;
     Ok(())
 }
 
 #[test]
 fn a_script_is_read_and_performed(rt: HostRuntime) -> Result<(), Fail> {
     let script = read_script(rt.alloc(), SCRIPT.as_bytes())?;
-    is_read(&rt, rt.alloc(), &script)?;
-    is_performed(&rt, rt.alloc(), script)?;
+    is_read(rt.alloc(), &script)?;
+    is_performed(rt.alloc(), script)?;
     let refused = read_script(rt.alloc(), b"kernels 2\n\ntake 0 2").err();
-    assert_eq!(rt; refused, Some(PlanFault::BadPlan { line: 3, rule: 4 }));
+    holds(refused == Some(PlanFault::BadPlan { line: 3, rule: 4 }), "the causes of a call")?;
     Ok(())
 }
