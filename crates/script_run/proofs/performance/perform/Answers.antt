@@ -1,15 +1,19 @@
-use Rattle.std.proofs.Common.{◌≡◌, List, length, map, sym, subst, ◌∙◌, rules}
+use Rattle.std.proofs.Common.{◌≡◌, ◌≤◌, All, List, arith, length, map, sym, subst, ◌∙◌, rules}
 use Rattle.std.proofs.lemmas.List.{with_items_is}
+use Rattle.std.proofs.lemmas.List.Elements.{All-weaker}
 use Rattle.charlotte_calls.specs.declared.setting.Setting.{Setting}
 use Rattle.journal_text.specs.declared.last.ScriptNote.{ScriptNote}
+use Rattle.journal_text.specs.TranscriptText.{IsNoteInRange}
+use Rattle.kernel_world.specs.Ranges.{IsPlacedInRange}
 use Rattle.kernel_world.specs.Run.{IsMerge}
 use Rattle.kernel_world.specs.declared.entry.Placed.{Placed}
 use Rattle.lynx_plan.specs.declared.script.ScriptLine.{ScriptLine}
-use Rattle.script_run.specs.Nodes.{AreLinesDone, world_of}
+use Rattle.script_run.specs.Nodes.{AreLinesDone, IsInRange, IsNodeOf, world_of}
 use Rattle.script_run.specs.Performing.{IsLast, IsPerformance}
 use Rattle.script_run.specs.declared.node.Node.{Node}
 use Rattle.script_run.proofs.Nodes.{entries_of}
 use Rattle.script_run.proofs.Performances.{performance, performance-told}
+use Rattle.script_run.proofs.Ranges.{merged_in_range}
 use Rattle.script_run.proofs.performance.perform.Goals as goal
 
 performed : goal.returns-clause-performed
@@ -33,4 +37,15 @@ pub returns-clause-performed : goal.returns-clause-performed
 returns-clause-performed c = performed c
 
 pub returns-clause-told : goal.returns-clause-told
-returns-clause-told c = performance-told c.args.script.now.setting c.args.script.now.lines c.of.result c.of-2.result c.last_of-last.result c.requires.valid c.requires.rising (performed c)
+returns-clause-told c =
+    let s : Setting = c.args.script.now.setting in
+    let b : List Node = c.do_lines.new.nodes in
+    let held : length b ≡ c.in_ok-nodes.nodes.len = search rules in
+    let merge : IsMerge (map entries_of b) c.in_ok-merged.merged.items =
+    subst (λ (ns : List Node). IsMerge (map entries_of ns) c.in_ok-merged.merged.items) (with_items_is c.in_ok-nodes.nodes b held) c.in_ok-merged.ensures in
+    let count : length b ≡ s.kernels = held ∙ c.in_ok-nodes.ensures.ready.count in
+    let few : s.kernels ≤ 8 = c.requires.valid.limits.kernels in
+    let kept : All IsInRange b = All-weaker (IsNodeOf s) IsInRange (λ n h. h.in_range) b c.in_ok-notes.ensures.goes.nodes in
+    let entries : All IsPlacedInRange c.of.result = subst (All IsPlacedInRange) (sym c.of.ensures) (merged_in_range b c.in_ok-merged.merged.items kept (omega (arith, count, few)) merge) in
+    let note_lines : All IsNoteInRange c.of-2.result = search rules in
+    performance-told s c.args.script.now.lines c.of.result c.of-2.result c.last_of-last.result c.requires.valid c.requires.rising entries note_lines (performed c)
