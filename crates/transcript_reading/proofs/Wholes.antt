@@ -25,13 +25,15 @@ use Rattle.kernel_world.specs.declared.entry.Happened.{Happened}
 use Rattle.kernel_world.specs.declared.entry.Happened.TheVariants.{Asked, Took}
 use Rattle.kernel_world.specs.declared.entry.Placed.{Placed}
 use Rattle.transcript_reading.specs.Forms.{kind_of}
-use Rattle.transcript_reading.specs.Kinds.{without_stamp, unstamped_what, unstamped, shown_step, happened_kind, entry_kinds, process_kinds, wire_kinds, transcript_kinds}
-use Rattle.transcript_reading.specs.Reading.{Told, full_step, full_steps, with_entry, with_line, with_lines, nothing_told, lines_of, kinds_of, whole_of, told_by}
+use Rattle.transcript_reading.specs.Kinds.{without_stamp, unstamped_what, unstamped, shown_step, full_step, happened_kind, entry_kinds, process_kinds, wire_kinds, transcript_kinds}
+use Rattle.transcript_reading.specs.Reading.{Told, full_steps, with_entry, with_line, with_lines, nothing_told, lines_of, kinds_of, whole_of, told_by}
 use Rattle.transcript_reading.specs.declared.line.LineKind.{LineKind}
 use Rattle.transcript_reading.specs.declared.line.LineKind.TheVariants as kind
 use Rattle.transcript_reading.specs.declared.line.ServiceLine.{ServiceLine}
 use Rattle.transcript_reading.specs.declared.line.ServiceLine.TheVariants as service
 use Rattle.transcript_reading.proofs.Lines.{IsLineOf, AreLinesOf, IsWireInRange, lines_append, entry_lines_of, first_free, first_reads, kernels_line, process_lines_of, wire_lines_of, note_lines_of, last_line}
+use Rattle.transcript_reading.specs.Order.{Place, Start, follows, is_whole}
+use Rattle.transcript_reading.proofs.Order.{full_shown, in_order}
 use Rattle.transcript_reading.proofs.Texts.{AreReadAs, read_lines, split_more}
 
 -- ---- lines before others
@@ -57,58 +59,6 @@ then_told : (ks js : List LineKind) (t u v : Told) → with_lines js t ≡ Ok u 
 then_told ks js t u v a b = with_append ks js t ∙ ap (λ (r : Result Told Fault). r >>= with_lines ks) a ∙ b
 
 -- ---- steps
-
--- what a step of a call leaves out stands in the line of the call
-sent_full : (v : ℕ) (p : Pid) (c : Call) (on : EndId) (n : ℕ) (bytes : List ℕ) (ends : List EndId) → IsShownStep v (Asked p c) (step.Send on n bytes ends) → full_step (Asked p c) (service.Send on n ends) ≡ Ok (step.Send on n bytes ends)
-sent_full v p (call.Send to sent enclose) on n bytes ends shown = ap (λ (bs : List ℕ). Ok (step.Send on n bs ends)) (sym shown.0)
-sent_full v p call.Make on n bytes ends shown = absurd shown
-sent_full v p (call.Destroy to) on n bytes ends shown = absurd shown
-sent_full v p (call.Receive to) on n bytes ends shown = absurd shown
-sent_full v p (call.Cancel to way) on n bytes ends shown = absurd shown
-sent_full v p call.Wait on n bytes ends shown = absurd shown
-sent_full v p (call.Print text) on n bytes ends shown = absurd shown
-sent_full v p call.Exit on n bytes ends shown = absurd shown
-
-asked_full : (v : ℕ) (p : Pid) (c : Call) (s : ServiceStep) → IsShownStep v (Asked p c) s → full_step (Asked p c) (shown_step s) ≡ Ok s
-asked_full v p c (step.Make q a b) shown = ap (λ (x : Pid). Ok (step.Make x a b)) (sym shown)
-asked_full v p c (step.Refuse q refused cause) shown = ap (λ (x : Call). Ok (step.Refuse q x cause)) (sym shown)
-asked_full v p c (step.Send on n bytes ends) shown = sent_full v p c on n bytes ends shown
-asked_full v p c (step.Destroy on) shown = refl
-asked_full v p c (step.Receive on) shown = refl
-asked_full v p c (step.Cancel on way) shown = refl
-asked_full v p c (step.Wait q) shown = refl
-asked_full v p c (step.Report q r) shown = refl
-asked_full v p c (step.Exit q) shown = refl
-asked_full v p c (step.Match on n) shown = refl
-asked_full v p c (step.Take on n q late) shown = refl
-asked_full v p c (step.Complete on n) shown = refl
-asked_full v p c (step.Withdraw on) shown = refl
-asked_full v p c (step.Free on) shown = refl
-asked_full v p c (step.Notice on dead) shown = refl
-asked_full v p c (step.Back on n dead) shown = refl
-
--- that of a taking leaves nothing out
-took_full : (v from : ℕ) (picture : Picture) (s : ServiceStep) → IsShownStep v (Took from picture) s → full_step (Took from (without_stamp picture)) (shown_step s) ≡ Ok s
-took_full v from picture (step.Make q a b) shown = absurd shown
-took_full v from picture (step.Refuse q refused cause) shown = absurd shown
-took_full v from picture (step.Send on n bytes ends) shown = absurd shown
-took_full v from picture (step.Destroy on) shown = refl
-took_full v from picture (step.Receive on) shown = refl
-took_full v from picture (step.Cancel on way) shown = refl
-took_full v from picture (step.Wait q) shown = refl
-took_full v from picture (step.Report q r) shown = refl
-took_full v from picture (step.Exit q) shown = refl
-took_full v from picture (step.Match on n) shown = refl
-took_full v from picture (step.Take on n q late) shown = refl
-took_full v from picture (step.Complete on n) shown = refl
-took_full v from picture (step.Withdraw on) shown = refl
-took_full v from picture (step.Free on) shown = refl
-took_full v from picture (step.Notice on dead) shown = refl
-took_full v from picture (step.Back on n dead) shown = refl
-
-full_shown : (v : ℕ) (what : Happened) (s : ServiceStep) → IsShownStep v what s → full_step (unstamped_what what) (shown_step s) ≡ Ok s
-full_shown v (Asked p c) s shown = asked_full v p c s shown
-full_shown v (Took from picture) s shown = took_full v from picture s shown
 
 full_all : (v : ℕ) (what : Happened) (ss : List ServiceStep) → All (IsShownStep v what) ss → full_steps (unstamped_what what) (map shown_step ss) ≡ Ok ss
 unfolding full_steps
@@ -264,8 +214,9 @@ read_again text s merged notes last is =
     read_lines s.version (other_lines s merged notes last) (other_kinds s merged notes last) (others_read s merged notes last is.told) in
     let first : List ℕ = codes "transcript " ++ number_text s.version in
     let split : lines_of text ≡ Ok (first ∷ more.lines) = ap lines_of is.lines ∙ split_more first (concat (other_lines s merged notes last)) more.lines (first_free s.version lt) more.split in
-    ap (λ (r : Result (List (List ℕ)) Fault). r >>= λ lines. whole_of lines >>= λ ks. with_lines ks nothing_told) split
-    ∙ ap (λ (r : Result (List LineKind) Fault). r >>= λ ks. with_lines ks nothing_told) (first_read s.version more.lines (other_kinds s merged notes last) lt more.reads)
+    ap (λ (r : Result (List (List ℕ)) Fault). r >>= λ lines. whole_of lines >>= λ ks. follows ks Start >>= is_whole >>= λ u. with_lines ks nothing_told) split
+    ∙ ap (λ (r : Result (List LineKind) Fault). r >>= λ ks. follows ks Start >>= is_whole >>= λ u. with_lines ks nothing_told) (first_read s.version more.lines (other_kinds s merged notes last) lt more.reads)
+    ∙ ap (λ (r : Result Place Fault). r >>= is_whole >>= λ u. with_lines (transcript_kinds s merged notes last) nothing_told) (in_order s merged notes last is.told)
     ∙ all_told s merged notes last is.told.shown
 
 -- so a text tells one thing

@@ -1,11 +1,14 @@
 -- The lines of a transcript, each as what its form shows.
-use Rattle.std.specs.Prelude.{ℕ, ◌+◌, List, [], ◌∷◌, ◌++◌, map}
+use Rattle.std.specs.Prelude.{ℕ, ◌+◌, List, [], ◌∷◌, ◌++◌, map, Result, Ok, Err}
 use Rattle.std.specs.List.{flat_map}
+use Rattle.charlotte_calls.specs.declared.calls.Call.TheVariants as call
 use Rattle.charlotte_calls.specs.declared.calls.ServiceStep.{ServiceStep}
 use Rattle.charlotte_calls.specs.declared.calls.ServiceStep.TheVariants as step
 use Rattle.charlotte_calls.specs.declared.names.Pid.{Pid}
 use Rattle.charlotte_calls.specs.declared.picture.Picture.{Picture}
 use Rattle.charlotte_calls.specs.declared.setting.Setting.{Setting}
+use Rattle.charlotte_text.specs.declared.fault.Fault.{Fault}
+use Rattle.charlotte_text.specs.declared.fault.Fault.TheVariants.{Form}
 use Rattle.journal_text.specs.declared.last.Last.{Last}
 use Rattle.journal_text.specs.declared.last.ScriptNote.{ScriptNote}
 use Rattle.kernel_world.specs.declared.entry.Happened.{Happened}
@@ -46,6 +49,28 @@ shown_step (step.Withdraw on) = service.Withdraw on
 shown_step (step.Free on) = service.Free on
 shown_step (step.Notice on dead) = service.Notice on dead
 shown_step (step.Back on n dead) = service.Back on n dead
+
+-- a step, with what its line leaves out and the entry above it says
+abbrev pub full_step : Happened → ServiceLine → Result ServiceStep Fault
+full_step (Asked p c) (service.Make a b) = Ok (step.Make p a b)
+full_step (Asked p c) (service.Refuse q cause) = Ok (step.Refuse q c cause)
+full_step (Asked p (call.Send on bytes enclose)) (service.Send from n ends) = Ok (step.Send from n bytes ends)
+full_step what (service.Make a b) = Err Form
+full_step what (service.Refuse q cause) = Err Form
+full_step what (service.Send from n ends) = Err Form
+full_step what (service.Destroy on) = Ok (step.Destroy on)
+full_step what (service.Receive on) = Ok (step.Receive on)
+full_step what (service.Cancel on way) = Ok (step.Cancel on way)
+full_step what (service.Wait p) = Ok (step.Wait p)
+full_step what (service.Report p report) = Ok (step.Report p report)
+full_step what (service.Exit p) = Ok (step.Exit p)
+full_step what (service.Match on n) = Ok (step.Match on n)
+full_step what (service.Take on n p late) = Ok (step.Take on n p late)
+full_step what (service.Complete on n) = Ok (step.Complete on n)
+full_step what (service.Withdraw on) = Ok (step.Withdraw on)
+full_step what (service.Free on) = Ok (step.Free on)
+full_step what (service.Notice on dead) = Ok (step.Notice on dead)
+full_step what (service.Back on n dead) = Ok (step.Back on n dead)
 
 -- what the line of an entry shows
 abbrev pub happened_kind : ℕ → ℕ → Happened → LineKind

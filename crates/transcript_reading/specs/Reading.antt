@@ -1,8 +1,6 @@
 -- Reading a transcript: its lines, and what they tell.
 use Rattle.std.specs.Prelude.{ℕ, ◌==◌, if◌then◌else◌, List, [], ◌∷◌, length, Result, Ok, Err}
-use Rattle.charlotte_calls.specs.declared.calls.Call.TheVariants as call
 use Rattle.charlotte_calls.specs.declared.calls.ServiceStep.{ServiceStep}
-use Rattle.charlotte_calls.specs.declared.calls.ServiceStep.TheVariants as step
 use Rattle.charlotte_calls.specs.declared.setting.Setting.{Setting}
 use Rattle.charlotte_text.specs.declared.fault.Fault.{Fault}
 use Rattle.charlotte_text.specs.declared.fault.Fault.TheVariants.{Form}
@@ -14,10 +12,11 @@ use Rattle.kernel_world.specs.declared.entry.Happened.{Happened}
 use Rattle.kernel_world.specs.declared.entry.Happened.TheVariants.{Asked, Took}
 use Rattle.kernel_world.specs.declared.entry.Placed.{Placed}
 use Rattle.transcript_reading.specs.Forms.{kind_of}
+use Rattle.transcript_reading.specs.Kinds.{full_step}
+use Rattle.transcript_reading.specs.Order.{Start, follows, is_whole}
 use Rattle.transcript_reading.specs.declared.line.LineKind.{LineKind}
 use Rattle.transcript_reading.specs.declared.line.LineKind.TheVariants as line
 use Rattle.transcript_reading.specs.declared.line.ServiceLine.{ServiceLine}
-use Rattle.transcript_reading.specs.declared.line.ServiceLine.TheVariants as service
 
 -- ---- from a text to its lines
 
@@ -56,28 +55,6 @@ pub record Told : Type 0 where
   pub notes : List ScriptNote
   pub last : Last
 
--- a step, with what its line leaves out and the entry above it says
-abbrev pub full_step : Happened → ServiceLine → Result ServiceStep Fault
-full_step (Asked p c) (service.Make a b) = Ok (step.Make p a b)
-full_step (Asked p c) (service.Refuse q cause) = Ok (step.Refuse q c cause)
-full_step (Asked p (call.Send on bytes enclose)) (service.Send from n ends) = Ok (step.Send from n bytes ends)
-full_step what (service.Make a b) = Err Form
-full_step what (service.Refuse q cause) = Err Form
-full_step what (service.Send from n ends) = Err Form
-full_step what (service.Destroy on) = Ok (step.Destroy on)
-full_step what (service.Receive on) = Ok (step.Receive on)
-full_step what (service.Cancel on way) = Ok (step.Cancel on way)
-full_step what (service.Wait p) = Ok (step.Wait p)
-full_step what (service.Report p report) = Ok (step.Report p report)
-full_step what (service.Exit p) = Ok (step.Exit p)
-full_step what (service.Match on n) = Ok (step.Match on n)
-full_step what (service.Take on n p late) = Ok (step.Take on n p late)
-full_step what (service.Complete on n) = Ok (step.Complete on n)
-full_step what (service.Withdraw on) = Ok (step.Withdraw on)
-full_step what (service.Free on) = Ok (step.Free on)
-full_step what (service.Notice on dead) = Ok (step.Notice on dead)
-full_step what (service.Back on n dead) = Ok (step.Back on n dead)
-
 unfoldable pub full_steps : Happened → List ServiceLine → Result (List ServiceStep) Fault
 full_steps what [] = Ok []
 full_steps what (s ∷ ss) = full_step what s >>= λ x. full_steps what ss >>= λ xs. Ok (x ∷ xs)
@@ -109,9 +86,10 @@ with_lines (k ∷ ks) t = with_lines ks t >>= with_line k
 abbrev pub nothing_told : Told
 nothing_told = record { setting = record { version = 0; kernels = 0; homes = []; wires = [] }; steps = []; entries = []; notes = []; last = Quiet }
 
--- what a text tells
+-- what a text tells, each of whose lines may stand where it stands
 unfoldable pub told_by : List ℕ → Result Told Fault
 told_by text = do
   lines ← lines_of text
   kinds ← whole_of lines
+  last ← follows kinds Start >>= is_whole
   with_lines kinds nothing_told
