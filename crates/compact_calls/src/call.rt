@@ -8,9 +8,9 @@ use std::marker::Model;
 
 /// What is sent: the bytes, and the ends that go with them.
 #[derive(Debug, Drop)]
-pub(crate) struct Message {
-    bytes: Trimmed<u8, 256>,
-    enclose: Trimmed<EndId, 8>,
+pub struct Message {
+    pub(crate) bytes: Trimmed<u8, 256>,
+    pub(crate) enclose: Trimmed<EndId, 8>,
 }
 
 impl Message {
@@ -25,22 +25,24 @@ impl Message {
         Ok(Box::new(alloc, message)?)
     }
 
-    pub(crate) fn bytes(&self) -> Bytes
-        ensures { result ≡ self.now.bytes }
+    /// The bytes, lent.
+    pub fn bytes(&self) -> &[u8]
+        ensures { result.now ≡ self.now.bytes }
     {
-        self.bytes.short()
+        self.bytes.as_slice()
     }
 
-    pub(crate) fn enclose(&self) -> Ends
-        ensures { result ≡ self.now.enclose }
+    /// The ends that go with them, lent.
+    pub fn enclose(&self) -> &[EndId]
+        ensures { result.now ≡ self.now.enclose }
     {
-        self.enclose.short()
+        self.enclose.as_slice()
     }
 }
 
-/// A call; what has no fixed length stands apart.
+/// A call as it is kept: what has no fixed length stands apart.
 #[derive(Debug, Drop)]
-pub(crate) enum StoredCall {
+pub enum StoredCall {
     Make,
     Destroy { on: EndId },
     Send { on: EndId, message: Box<Message> },
@@ -83,6 +85,13 @@ impl CompactCall {
         restore(&self.stored)
     }
 
+    /// The call as it is kept, lent.
+    pub fn stored(&self) -> &StoredCall
+        ensures { call_of result.now ≡ self.now }
+    {
+        &self.stored
+    }
+
     /// An equal call.
     pub fn copy(&self, alloc: Global) -> Result<CompactCall, NoMemory>
         ensures { IfOk result (λ c. c ≡ self.now) }
@@ -119,8 +128,8 @@ fn restore(stored: &StoredCall) -> Call
         StoredCall::Destroy { on } => Call::Destroy { on: *on },
         StoredCall::Send { on, message } => Call::Send {
             on: *on,
-            bytes: message.bytes(),
-            enclose: message.enclose(),
+            bytes: message.bytes.short(),
+            enclose: message.enclose.short(),
         },
         StoredCall::Receive { on } => Call::Receive { on: *on },
         StoredCall::Cancel { on, way } => Call::Cancel { on: *on, way: *way },

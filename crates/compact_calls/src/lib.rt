@@ -7,6 +7,8 @@ mod report;
 mod step;
 mod trimmed;
 
-pub use call::CompactCall;
-pub use packet::CompactPicture;
-pub use step::CompactStep;
+pub use call::{CompactCall, Message, StoredCall};
+pub use packet::{Carried, CompactPicture, StoredWhat};
+pub use report::StoredReport;
+pub use step::{CompactStep, StoredStep};
+pub use trimmed::Trimmed;

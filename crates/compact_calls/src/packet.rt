@@ -8,7 +8,7 @@ use std::marker::Model;
 
 /// What a parcel carries: the bytes, and the values of the ends that move with them.
 #[derive(Debug, Drop)]
-pub(crate) struct Carried {
+pub struct Carried {
     bytes: Trimmed<u8, 256>,
     moving: Trimmed<MovingPicture, 8>,
 }
@@ -25,22 +25,24 @@ impl Carried {
         Ok(Box::new(alloc, carried)?)
     }
 
-    fn bytes(&self) -> Bytes
-        ensures { result ≡ self.now.bytes }
+    /// The bytes, lent.
+    pub fn bytes(&self) -> &[u8]
+        ensures { result.now ≡ self.now.bytes }
     {
-        self.bytes.short()
+        self.bytes.as_slice()
     }
 
-    fn moving(&self) -> CargoPicture
-        ensures { result ≡ self.now.moving }
+    /// The values, lent.
+    pub fn moving(&self) -> &[MovingPicture]
+        ensures { result.now ≡ self.now.moving }
     {
-        self.moving.short()
+        self.moving.as_slice()
     }
 }
 
-/// What a packet tells; what has no fixed length stands apart.
+/// What a packet tells, as it is kept: what has no fixed length stands apart.
 #[derive(Debug, Drop)]
-pub(crate) enum StoredWhat {
+pub enum StoredWhat {
     Want {
         to: EndId,
         w: u32,
@@ -137,6 +139,13 @@ impl CompactPicture {
             stamp: self.stamp,
             what: restore(&self.stored),
         }
+    }
+
+    /// What the packet tells, as it is kept, lent.
+    pub fn stored(&self) -> &StoredWhat
+        ensures { what_of result.now ≡ self.now.what }
+    {
+        &self.stored
     }
 
     /// An equal picture.
@@ -250,8 +259,8 @@ fn restore(stored: &StoredWhat) -> PictureWhat
             w: *w,
             at: *at,
             hops: *hops,
-            bytes: carried.bytes(),
-            moving: carried.moving(),
+            bytes: carried.bytes.short(),
+            moving: carried.moving.short(),
         },
         StoredWhat::Taken { to, n, at, hops } => PictureWhat::Taken {
             to: *to,

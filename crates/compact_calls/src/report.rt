@@ -5,13 +5,13 @@ use crate::call::Message;
 use charlotte_calls::{EndId, NoMemory, Outcome, Report, Way};
 use std::alloc::Global;
 
-/// A report; what has no fixed length stands apart.
+/// A report as it is kept: what has no fixed length stands apart.
 #[derive(Debug, Drop)]
-pub(crate) struct StoredReport {
-    on: EndId,
-    way: Way,
-    outcome: Outcome,
-    message: Box<Message>,
+pub struct StoredReport {
+    pub on: EndId,
+    pub way: Way,
+    pub outcome: Outcome,
+    pub message: Box<Message>,
 }
 
 impl StoredReport {
@@ -33,8 +33,8 @@ impl StoredReport {
             on: self.on,
             way: self.way,
             outcome: self.outcome,
-            bytes: self.message.bytes(),
-            enclosed: self.message.enclose(),
+            bytes: self.message.bytes.short(),
+            enclosed: self.message.enclose.short(),
         }
     }
 }

@@ -8,9 +8,9 @@ use charlotte_calls::{Cause, EndId, NoMemory, Pid, ServiceStep, Way};
 use std::alloc::Global;
 use std::marker::Model;
 
-/// A step of the link service; what has no fixed length stands apart.
+/// A step of the link service as it is kept: what has no fixed length stands apart.
 #[derive(Debug, Drop)]
-pub(crate) enum StoredStep {
+pub enum StoredStep {
     Make {
         p: Pid,
         a: EndId,
@@ -109,6 +109,13 @@ impl CompactStep {
         restore(&self.stored)
     }
 
+    /// The step as it is kept, lent.
+    pub fn stored(&self) -> &StoredStep
+        ensures { step_of result.now ≡ self.now }
+    {
+        &self.stored
+    }
+
     /// An equal step.
     pub fn copy(&self, alloc: Global) -> Result<CompactStep, NoMemory>
         ensures { IfOk result (λ s. s ≡ self.now) }
@@ -191,8 +198,8 @@ fn restore(stored: &StoredStep) -> ServiceStep
         StoredStep::Send { on, n, message } => ServiceStep::Send {
             on: *on,
             n: *n,
-            bytes: message.bytes(),
-            enclose: message.enclose(),
+            bytes: message.bytes.short(),
+            enclose: message.enclose.short(),
         },
         StoredStep::Receive { on } => ServiceStep::Receive { on: *on },
         StoredStep::Cancel { on, way } => ServiceStep::Cancel { on: *on, way: *way },

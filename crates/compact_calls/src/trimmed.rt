@@ -6,7 +6,7 @@ use std::marker::Model;
 
 /// A list of at most `CAP` items, which takes the memory of those that it has.
 #[derive(Debug, Drop)]
-pub(crate) struct Trimmed<T, const CAP: usize> {
+pub struct Trimmed<T, const CAP: usize> {
     items: Vec<T>,
 }
 
@@ -37,5 +37,14 @@ impl<T: Copy + Default, const CAP: usize> Trimmed<T, CAP> {
             Some(list) => list,
             None => unreachable!(),
         }
+    }
+}
+
+impl<T, const CAP: usize> Trimmed<T, CAP> {
+    /// The items, lent.
+    pub fn as_slice(&self) -> &[T]
+        ensures { result.now ≡ self.now }
+    {
+        self.items.as_slice()
     }
 }

@@ -1,5 +1,5 @@
 -- Merges: there is one of given journals, and placing the first head each time makes it.
-use Rattle.std.proofs.Common.{◌≡◌, ℕ, ◌+◌, ◌<◌, ◌≤◌, ◌≢◌, ◌⊎◌, inl, inr, true, false, IsTrue, nat_lt, nat_eq, ◌||◌, ◌&&◌, List, [], ◌∷◌, ◌++◌, length, set, Some, Decides, refl, sym, ap, ◌∙◌, subst, append_assoc, append-nil, get_or-set_same, get_or-set_other, arith}
+use Rattle.std.proofs.Common.{◌≡◌, ℕ, zero, suc, map, ◌+◌, ◌<◌, ◌≤◌, ◌≢◌, ◌⊎◌, inl, inr, true, false, IsTrue, nat_lt, nat_eq, ◌||◌, ◌&&◌, List, [], ◌∷◌, ◌++◌, length, set, Some, Decides, refl, sym, ap, ◌∙◌, subst, append_assoc, append-nil, get_or-set_same, get_or-set_other, arith}
 use Rattle.std.proofs.lemmas.Bool.Decides.{Decides-or, Decides-and, Decides-ltb, Decides-eqb, eqb_tells, leb_tells}
 use Rattle.std.proofs.lemmas.List.Sums.{sum_by-set}
 use Rattle.std.specs.List.{sum_by}
@@ -8,7 +8,7 @@ use Rattle.std.specs.declared.collections.VecDeque.{VecDeque}
 use Rattle.kernel_world.specs.declared.entry.Entry.{Entry}
 use Rattle.kernel_world.specs.declared.entry.Placed.{Placed}
 use Rattle.kernel_world.specs.Run.{stands_before, AreInOrder, of_kernel, IsMerge}
-use Rattle.journal_text.specs.Journal.{AreRising}
+use Rattle.journal_text.specs.Journal.{AreRising, placed_at}
 use Rattle.journal_text.specs.Heads.{queued, entries_at, first_stamp, IsNoLater, IsFirstBelow, StandsBeforeHeads, IsPopped}
 use Rattle.journal_text.specs.declared.merging.Head.{Head}
 use Rattle.journal_text.proofs.Heads.{entries_at-none}
@@ -261,3 +261,25 @@ IsMerging-more journals before after merged placed long popped merging =
 pub IsMerging-end : (journals : List (List Entry)) (queues : List (VecDeque Entry Global)) (merged : List Placed) → ((k : ℕ) → entries_at (queued queues) k ≡ []) → IsMerging journals queues merged → IsMerge journals merged
 IsMerging-end journals queues merged nothing merging =
     record { order = merging.so_far.order; entries = IsSoFar-end (entries_at journals) (entries_at (queued queues)) merged merging.so_far nothing }
+
+-- ---- the journal of a single kernel is the merge
+
+alone-in_order : (es : List Entry) → AreRising es → AreInOrder (map (placed_at 0) es)
+alone-in_order [] r = tt
+alone-in_order (e ∷ []) r = tt
+alone-in_order (e ∷ f ∷ es) r = (before-if (placed_at 0 e) (placed_at 0 f) (inl r.0), alone-in_order (f ∷ es) r.1)
+
+alone-entries : (es : List Entry) → of_kernel 0 (map (placed_at 0) es) ≡ es
+alone-entries [] = refl
+alone-entries (e ∷ es) = of_kernel-same (placed_at 0 e) (map (placed_at 0) es) 0 refl ∙ ap (λ fs. e ∷ fs) (alone-entries es)
+
+none-of_others : (es : List Entry) (k : ℕ) → 0 ≢ k → of_kernel k (map (placed_at 0) es) ≡ []
+none-of_others [] k other = refl
+none-of_others (e ∷ es) k other = of_kernel-other (placed_at 0 e) (map (placed_at 0) es) k other ∙ none-of_others es k other
+
+alone-at : (es : List Entry) (k : ℕ) → of_kernel k (map (placed_at 0) es) ≡ entries_at (es ∷ []) k
+alone-at es zero = alone-entries es
+alone-at es (suc k) = none-of_others es (suc k) (λ e. omega (arith, e))
+
+pub IsMerge_alone : (es : List Entry) → AreRising es → IsMerge (es ∷ []) (map (placed_at 0) es)
+IsMerge_alone es r = record { order = alone-in_order es r; entries = alone-at es }

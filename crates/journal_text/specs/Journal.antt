@@ -1,6 +1,7 @@
 -- Journals: the entries of one kernel, in the order of its events.
 use Rattle.std.specs.Prelude.{ℕ, ◌<◌, List, [], ◌∷◌}
 use Rattle.kernel_world.specs.declared.entry.Entry.{Entry}
+use Rattle.kernel_world.specs.declared.entry.Placed.{Placed}
 
 -- what contracts see of a journal
 pub record Kept : Type 0 where
@@ -19,3 +20,7 @@ abbrev pub AreRising : List Entry → Type 0
 AreRising [] = Unit {0}
 AreRising (e ∷ []) = Unit {0}
 AreRising (e ∷ f ∷ es) = (e.stamp < f.stamp) × AreRising (f ∷ es)
+
+-- an entry of the journal of this kernel
+abbrev pub placed_at : ℕ → Entry → Placed
+placed_at kernel e = record { kernel = kernel; entry = e }

@@ -1,13 +1,15 @@
 ghost use Rattle.std.specs.Prelude.{◌≡◌, ◌++◌, IfOk, OnOk, map};
 ghost use Rattle.std.specs.List.{flat_map};
+ghost use Rattle.journal_text.specs.Journal.{placed_at};
 ghost use Rattle.journal_text.specs.Transcript.{line, happened_text, entry_text, step_text, entry_lines};
 
+use crate::call::push_kept_call;
 use crate::header_lines::empty_line;
 use crate::packet::push_packet;
 use crate::step::{push_of, push_step};
-use crate::{Happened, Placed};
+use crate::{Entry, Happened, Placed};
 use charlotte_calls::NoMemory;
-use charlotte_text::{push_call, push_number};
+use charlotte_text::push_number;
 use compact_calls::CompactStep;
 use std::alloc::Global;
 
@@ -18,25 +20,30 @@ fn push_happened(out: &mut Vec<u8>, what: &Happened) -> Result<(), NoMemory>
         Happened::Asked { p, call } => {
             push_of(out, b" ", *p)?;
             out.push(b' ')?;
-            push_call(out, &call.call())?;
+            push_kept_call(out, call.stored())?;
         }
         Happened::Took { from, picture } => {
             out.extend_from_slice(b" from ")?;
             push_number(out, u64::from(*from))?;
             out.push(b' ')?;
-            push_packet(out, &picture.picture().what)?;
+            push_packet(out, picture.stored())?;
         }
     }
     Ok(())
 }
 
-pub(crate) fn push_entry_line(out: &mut Vec<u8>, placed: &Placed) -> Result<(), NoMemory>
-    ensures { OnOk result (out.new.items ≡ out.old.items ++ line (entry_text placed.now)) }
+/// Appends the line of an entry of this kernel.
+pub(crate) fn push_entry_line(
+    out: &mut Vec<u8>,
+    kernel: u8,
+    entry: &Entry,
+) -> Result<(), NoMemory>
+    ensures { OnOk result (out.new.items ≡ out.old.items ++ line (entry_text (placed_at kernel entry.now))) }
 {
-    push_number(out, placed.entry.stamp)?;
+    push_number(out, entry.stamp)?;
     out.extend_from_slice(b" k")?;
-    push_number(out, u64::from(placed.kernel))?;
-    push_happened(out, &placed.entry.what)?;
+    push_number(out, u64::from(kernel))?;
+    push_happened(out, &entry.what)?;
     out.push(b'\n')?;
     Ok(())
 }
@@ -45,14 +52,14 @@ fn entry_line(alloc: Global, placed: &Placed) -> Result<Vec<u8>, NoMemory>
     ensures { IfOk result (λ text. text.items ≡ line (entry_text placed.now)) }
 {
     let mut text = empty_line(alloc)?;
-    push_entry_line(&mut text, placed)?;
+    push_entry_line(&mut text, placed.kernel, &placed.entry)?;
     Ok(text)
 }
 
 pub(crate) fn push_step_line(out: &mut Vec<u8>, step: &CompactStep) -> Result<(), NoMemory>
     ensures { OnOk result (out.new.items ≡ out.old.items ++ line (step_text step.now)) }
 {
-    push_step(out, &step.step())?;
+    push_step(out, step.stored())?;
     out.push(b'\n')?;
     Ok(())
 }

@@ -1,9 +1,11 @@
-ghost use Rattle.std.specs.Prelude.{◌≡◌, ◌++◌, OnOk};
-ghost use Rattle.charlotte_text.specs.Spelling.{end_text};
+ghost use Rattle.std.specs.Prelude.{◌≡◌, ◌++◌, ◌∷◌, [], OnOk, codes};
+ghost use Rattle.charlotte_text.specs.Spelling.{end_text, bytes_text};
+ghost use Rattle.compact_calls.specs.Stored.{what_of};
 ghost use Rattle.journal_text.specs.Transcript.{numbers_behind, numbers_text, value_text, values_text, packet_text};
 
-use charlotte_calls::{EndId, MovingPicture, NoMemory, PictureWhat};
+use charlotte_calls::{EndId, MovingPicture, NoMemory};
 use charlotte_text::{push_bytes, push_end, push_number};
+use compact_calls::{Carried, StoredWhat};
 
 /// Appends numbers, each behind this byte.
 pub(crate) fn push_numbers(out: &mut Vec<u8>, mark: u8, numbers: &[u64]) -> Result<(), NoMemory>
@@ -68,43 +70,67 @@ fn push_values(out: &mut Vec<u8>, values: &[MovingPicture]) -> Result<(), NoMemo
     Ok(())
 }
 
+/// Appends a word with its blank, an end, and one number.
+pub(crate) fn push_numbered(out: &mut Vec<u8>, word: &[u8], end: EndId, number: u32) -> Result<(), NoMemory>
+    ensures { OnOk result (out.new.items ≡ out.old.items ++ word.now ++ end_text end ++ numbers_text (number ∷ [])) }
+{
+    push_form(out, word, end, &[u64::from(number)])
+}
+
+/// Appends a word with its blank, an end, the kernel of its opposite end and the hops of that.
+fn push_place(out: &mut Vec<u8>, word: &[u8], to: EndId, at: u8, hops: u32) -> Result<(), NoMemory>
+    ensures { OnOk result (out.new.items ≡ out.old.items ++ word.now ++ end_text to ++ numbers_text (at ∷ hops ∷ [])) }
+{
+    push_form(out, word, to, &[u64::from(at), u64::from(hops)])
+}
+
+/// Appends a word with its blank, an end, the number of an activity, and where its opposite end is.
+fn push_about(out: &mut Vec<u8>, word: &[u8], to: EndId, number: u32, at: u8, hops: u32) -> Result<(), NoMemory>
+    ensures { OnOk result (out.new.items ≡ out.old.items ++ word.now ++ end_text to ++ numbers_text (number ∷ at ∷ hops ∷ [])) }
+{
+    push_form(out, word, to, &[u64::from(number), u64::from(at), u64::from(hops)])
+}
+
+/// Appends what a parcel carries: its bytes, and its values.
+fn push_carried(out: &mut Vec<u8>, carried: &Carried) -> Result<(), NoMemory>
+    ensures { OnOk result (out.new.items ≡ out.old.items ++ codes " " ++ bytes_text carried.now.bytes ++ values_text carried.now.moving) }
+{
+    out.push(b' ')?;
+    push_bytes(out, carried.bytes())?;
+    push_values(out, carried.moving())
+}
+
+fn push_parcel(out: &mut Vec<u8>, to: EndId, numbers: &[u64], carried: &Carried) -> Result<(), NoMemory>
+    ensures { OnOk result (out.new.items ≡ out.old.items ++ codes "parcel " ++ end_text to ++ numbers_text numbers.now ++ codes " " ++ bytes_text carried.now.bytes ++ values_text carried.now.moving) }
+{
+    push_form(out, b"parcel ", to, numbers)?;
+    push_carried(out, carried)
+}
+
+fn push_back(out: &mut Vec<u8>, to: EndId, n: u32, values: &[MovingPicture]) -> Result<(), NoMemory>
+    ensures { OnOk result (out.new.items ≡ out.old.items ++ codes "back " ++ end_text to ++ numbers_text (n ∷ []) ++ values_text values.now) }
+{
+    push_numbered(out, b"back ", to, n)?;
+    push_values(out, values)
+}
+
 /// Appends a packet, as `want 0.0a 1 0 0`.
-pub(crate) fn push_packet(out: &mut Vec<u8>, what: &PictureWhat) -> Result<(), NoMemory>
-    ensures { OnOk result (out.new.items ≡ out.old.items ++ packet_text what.now) }
+pub(crate) fn push_packet(out: &mut Vec<u8>, what: &StoredWhat) -> Result<(), NoMemory>
+    ensures { OnOk result (out.new.items ≡ out.old.items ++ packet_text (what_of what.now)) }
 {
     match what {
-        PictureWhat::Want { to, w, at, hops } => {
-            push_form(
-                out,
-                b"want ",
-                *to,
-                &[u64::from(*w), u64::from(*at), u64::from(*hops)],
-            )?
+        StoredWhat::Want { to, w, at, hops } => push_about(out, b"want ", *to, *w, *at, *hops),
+        StoredWhat::Unwant { to, w, at, hops } => push_about(out, b"unwant ", *to, *w, *at, *hops),
+        StoredWhat::Unwanted { to, w, at, hops } => {
+            push_about(out, b"unwanted ", *to, *w, *at, *hops)
         }
-        PictureWhat::Unwant { to, w, at, hops } => {
-            push_form(
-                out,
-                b"unwant ",
-                *to,
-                &[u64::from(*w), u64::from(*at), u64::from(*hops)],
-            )?
-        }
-        PictureWhat::Unwanted { to, w, at, hops } => {
-            push_form(
-                out,
-                b"unwanted ",
-                *to,
-                &[u64::from(*w), u64::from(*at), u64::from(*hops)],
-            )?
-        }
-        PictureWhat::Parcel {
+        StoredWhat::Parcel {
             to,
             n,
             w,
             at,
             hops,
-            bytes,
-            moving,
+            carried,
         } => {
             let numbers = [
                 u64::from(*n),
@@ -112,30 +138,14 @@ pub(crate) fn push_packet(out: &mut Vec<u8>, what: &PictureWhat) -> Result<(), N
                 u64::from(*at),
                 u64::from(*hops),
             ];
-            push_form(out, b"parcel ", *to, &numbers)?;
-            out.push(b' ')?;
-            push_bytes(out, bytes.as_slice())?;
-            push_values(out, moving.as_slice())?;
+            push_parcel(out, *to, &numbers, carried)
         }
-        PictureWhat::Taken { to, n, at, hops } => {
-            push_form(
-                out,
-                b"taken ",
-                *to,
-                &[u64::from(*n), u64::from(*at), u64::from(*hops)],
-            )?
-        }
-        PictureWhat::Back { to, n, moving } => {
-            push_form(out, b"back ", *to, &[u64::from(*n)])?;
-            push_values(out, moving.as_slice())?;
-        }
-        PictureWhat::Gone { to, at } => push_form(out, b"gone ", *to, &[u64::from(*at)])?,
-        PictureWhat::Moved { to, at, hops } => {
-            push_form(out, b"moved ", *to, &[u64::from(*at), u64::from(*hops)])?
-        }
-        PictureWhat::Known { to, hops } => push_form(out, b"known ", *to, &[u64::from(*hops)])?,
-        PictureWhat::Forget { to, hops } => push_form(out, b"forget ", *to, &[u64::from(*hops)])?,
-        PictureWhat::GoneSeen { to } => push_on(out, b"goneseen ", *to)?,
+        StoredWhat::Taken { to, n, at, hops } => push_about(out, b"taken ", *to, *n, *at, *hops),
+        StoredWhat::Back { to, n, moving } => push_back(out, *to, *n, moving.as_slice()),
+        StoredWhat::Gone { to, at } => push_form(out, b"gone ", *to, &[u64::from(*at)]),
+        StoredWhat::Moved { to, at, hops } => push_place(out, b"moved ", *to, *at, *hops),
+        StoredWhat::Known { to, hops } => push_numbered(out, b"known ", *to, *hops),
+        StoredWhat::Forget { to, hops } => push_numbered(out, b"forget ", *to, *hops),
+        StoredWhat::GoneSeen { to } => push_on(out, b"goneseen ", *to),
     }
-    Ok(())
 }

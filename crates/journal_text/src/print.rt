@@ -9,6 +9,7 @@ use crate::header_lines::{number_line, push_process_lines, push_wire_lines};
 use crate::packet::push_packet;
 use crate::{Last, Placed, ScriptNote};
 use charlotte_calls::{NoMemory, Picture, Setting};
+use compact_calls::CompactPicture;
 use std::alloc::Global;
 
 /// The text of a packet, as `want 0.0a 1 0 0`, without a line feed. It does not show the stamp.
@@ -16,7 +17,8 @@ pub fn print_picture(alloc: Global, picture: &Picture) -> Result<Vec<u8>, NoMemo
     ensures { IfOk result (λ text. text.items ≡ packet_text picture.now.what) }
 {
     let mut text = Vec::new(alloc);
-    push_packet(&mut text, &picture.what)?;
+    let picture = CompactPicture::of(alloc, picture)?;
+    push_packet(&mut text, picture.stored())?;
     Ok(text)
 }
 

@@ -7,7 +7,7 @@ ghost use Rattle.journal_text.specs.Transcript.{entry_lines, process_lines, tran
 use crate::end_lines::{push_last_line, push_note_line};
 use crate::entry_lines::{push_entry_line, push_step_line};
 use crate::header_lines::{push_number_line, push_process_line, push_wire_line};
-use crate::{Entry, Last, Placed, ScriptNote};
+use crate::{Entry, Last, Merged, ScriptNote};
 use charlotte_calls::{Items, NoMemory, Pid, Setting};
 use compact_calls::CompactStep;
 use std::alloc::Global;
@@ -26,7 +26,7 @@ pub struct TranscriptLines {
     wires: VecDeque<(Pid, Pid)>,
     /// The steps of an entry whose own line is given.
     steps: VecDeque<CompactStep>,
-    entries: VecDeque<Placed>,
+    entries: Merged,
     notes: VecDeque<ScriptNote>,
     last: Option<Last>,
 }
@@ -41,7 +41,7 @@ impl Model for TranscriptLines {
 
     ghost view = { λ t. number_line (codes "transcript ") t.version ++ number_line (codes "kernels ") t.kernels
         ++ process_lines t.number (drop t.number t.homes.items) ++ wire_lines t.wires.items ++ step_lines t.steps.items
-        ++ flat_map entry_lines t.entries.items ++ note_lines t.notes.items ++ last_line t.last };
+        ++ flat_map entry_lines t.entries ++ note_lines t.notes.items ++ last_line t.last };
 }
 
 impl TranscriptLines {
@@ -49,7 +49,7 @@ impl TranscriptLines {
     pub fn of(
         alloc: Global,
         setting: Setting,
-        merged: Items<Placed>,
+        merged: Merged,
         notes: Items<ScriptNote>,
         last: Last,
     ) -> TranscriptLines
@@ -68,7 +68,7 @@ impl TranscriptLines {
             number: 0,
             wires: VecDeque::from(wires.into_vec()),
             steps: VecDeque::new(alloc),
-            entries: VecDeque::from(merged.into_vec()),
+            entries: merged,
             notes: VecDeque::from(notes.into_vec()),
             last: Some(last),
         }
@@ -168,20 +168,20 @@ fn next_step(steps: &mut VecDeque<CompactStep>, out: &mut Vec<u8>) -> Result<boo
 
 /// The line of the next entry, whose steps are the next after it.
 fn next_entry(
-    entries: &mut VecDeque<Placed>,
+    entries: &mut Merged,
     steps: &mut VecDeque<CompactStep>,
     out: &mut Vec<u8>,
 ) -> Result<bool, NoMemory>
     requires empty { out.old.items ≡ [] }
     requires given { steps.old.items ≡ [] }
-    ensures given { IfOk result (λ some. GivesFirst some (flat_map entry_lines entries.old.items) (step_lines steps.new.items ++ flat_map entry_lines entries.new.items) out.new.items) }
-    ensures same { OnErr result ((entries.new.items ≡ entries.old.items) × (steps.new.items ≡ [])) }
+    ensures given { IfOk result (λ some. GivesFirst some (flat_map entry_lines entries.old) (step_lines steps.new.items ++ flat_map entry_lines entries.new) out.new.items) }
+    ensures same { OnErr result ((entries.new ≡ entries.old) × (steps.new.items ≡ [])) }
 {
-    match entries.front() {
-        Some(placed) => push_entry_line(out, placed)?,
+    match entries.first() {
+        Some((kernel, entry)) => push_entry_line(out, kernel, entry)?,
         None => return Ok(false),
     }
-    if let Some(Placed { kernel: _, entry }) = entries.pop_front() {
+    if let Some(entry) = entries.take_first() {
         let Entry {
             stamp: _,
             what: _,

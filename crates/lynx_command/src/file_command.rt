@@ -25,10 +25,10 @@ pub trait FileCommand {
     /// What is found in the bytes of its file.
     ghost finds: { List ℕ → Found → Type 0 };
 
-    /// The text for the bytes of the file, or why there is none.
-    fn find(alloc: Global, bytes: &[u8]) -> Result<Output<Self::Text>, Failure>
-        requires { length bytes.now ≤ MOST }
-        ensures { finds bytes.now (found_of Self.Text.lines_left result) };
+    /// The text for the bytes of the file, or why there is none. The bytes need not be held until it ends.
+    fn find(alloc: Global, bytes: Vec<u8>) -> Result<Output<Self::Text>, Failure>
+        requires { length bytes.items ≤ MOST }
+        ensures { finds bytes.items (found_of Self.Text.lines_left result) };
 }
 
 // What is found in the file of that name.
@@ -41,7 +41,7 @@ fn find_at<C: FileCommand, F: Files>(
         × FindsAt C.finds C.MOST name.now reads (found_of C.Text.lines_left result) }
 {
     let bytes = read_file(alloc, name, C::MOST, files)?;
-    C::find(alloc, bytes.as_slice())
+    C::find(alloc, bytes)
 }
 
 /// Reads the file of that name, and puts on out what the command finds in it; the line of a failure is put on err. After a put

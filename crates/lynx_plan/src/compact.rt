@@ -7,9 +7,9 @@ use compact_calls::CompactCall;
 use std::alloc::Global;
 use std::marker::Model;
 
-/// What a line asks; a call stands at its own length.
+/// What a line asks, as it is kept: a call stands at its own length.
 #[derive(Debug, Drop)]
-pub(crate) enum StoredScriptCall {
+pub enum StoredScriptCall {
     Ask(Pid, CompactCall),
     Take { from: u8, to: u8 },
     Settle,
@@ -59,5 +59,12 @@ impl CompactScriptCall {
             },
             StoredScriptCall::Settle => ScriptCall::Settle,
         }
+    }
+
+    /// What the line asks, as it is kept.
+    pub fn into_stored(self) -> StoredScriptCall
+        ensures { script_call_of result ≡ self }
+    {
+        self.stored
     }
 }

@@ -13,7 +13,7 @@ mod rules;
 mod script;
 mod stage;
 
-pub use compact::CompactScriptCall;
+pub use compact::{CompactScriptCall, StoredScriptCall};
 pub use fault::PlanFault;
 pub use law::one_script;
 pub use read::read_script;

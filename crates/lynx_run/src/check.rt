@@ -21,8 +21,8 @@ impl FileCommand for CheckCommand {
 
     ghost finds = { Checks };
 
-    fn find(alloc: Global, bytes: &[u8]) -> Result<Output<Lines>, Failure> {
-        let module = read_module(alloc, bytes)?;
+    fn find(alloc: Global, bytes: Vec<u8>) -> Result<Output<Lines>, Failure> {
+        let module = read_module(alloc, bytes.as_slice())?;
         let lines = checked_lines(alloc, module.name.as_slice())?;
         Ok(Output {
             text: Lines::of(lines),

@@ -48,8 +48,8 @@ impl FileCommand for DriveCommand {
 
     ghost finds = { Drives };
 
-    fn find(alloc: Global, bytes: &[u8]) -> Result<Output<Transcript>, Failure> {
-        let script = read_script(alloc, bytes).map_err(Failure::of_script)?;
+    fn find(alloc: Global, bytes: Vec<u8>) -> Result<Output<Transcript>, Failure> {
+        let script = read_script(alloc, bytes.as_slice()).map_err(Failure::of_script)?;
         let text = perform_script(alloc, bytes, script)?;
         Ok(Output {
             text,
@@ -58,21 +58,21 @@ impl FileCommand for DriveCommand {
     }
 }
 
-// The transcript of a script.
-fn perform_script(alloc: Global, bytes: &[u8], script: Script) -> Result<Transcript, NoMemory>
-    requires within { length bytes.now ≤ 1048576 }
-    requires given { IsScriptOf bytes.now script }
+// The transcript of the script that these bytes are. They are let go before it is performed.
+fn perform_script(alloc: Global, bytes: Vec<u8>, script: Script) -> Result<Transcript, NoMemory>
+    requires within { length bytes.items ≤ 1048576 }
+    requires given { IsScriptOf bytes.items script }
     requires rising { AreRisingLines script.lines }
-    requires few { 7 * length script.lines ≤ length bytes.now + 1 }
-    ensures { IfOk result (IsDriven bytes.now) }
+    requires few { 7 * length script.lines ≤ length bytes.items + 1 }
+    ensures { IfOk result (IsDriven bytes.items) }
 {
-    let performance = perform(alloc, &script)?;
-    let Script { setting, lines: _ } = script;
+    drop(bytes);
+    let Script { setting, lines } = script;
     let Performance {
         merged,
         notes,
         last,
-    } = performance;
+    } = perform(alloc, &setting, lines)?;
     let lines = TranscriptLines::of(alloc, setting, merged, notes, last);
     Ok(Transcript { lines })
 }

@@ -22,7 +22,7 @@ use Rattle.kernel_world.specs.Ranges.{IsPlacedInRange}
 use Rattle.kernel_world.specs.Run.{AllTaken, AreAllowed, IsMerge, of_kernel}
 use Rattle.kernel_world.specs.World.{World, Event, after, start, noted}
 use Rattle.kernel_world.specs.declared.entry.Placed.{Placed}
-use Rattle.lynx_plan.specs.ScriptText.{AreRisingLines}
+use Rattle.lynx_plan.specs.ScriptText.{AreRisingLines, FitsWhat}
 use Rattle.lynx_plan.specs.declared.script.ScriptLine.{ScriptLine}
 use Rattle.lynx_plan.specs.declared.script.ScriptCall.{ScriptCall}
 use Rattle.lynx_plan.specs.declared.script.ScriptCall.TheVariants.{Ask, Take, Settle}
@@ -83,6 +83,13 @@ lines-more s ls l notes note a b c so_far one =
       goes = Goes-then s a b c so_far.events one.events so_far.goes one.goes;
       few = omega (arith, length-append so_far.events one.events, length-append ls (l ∷ []), so_far.few, one.few);
     }
+
+-- these lines were done first of all, and the others fit
+pub record AreLinesSoFar (s : Setting) (all others : List ScriptLine) (notes : List ScriptNote) (a b : List Node) : Type 0 where
+  pub done : List ScriptLine
+  pub all_are : all ≡ done ++ others
+  pub are_done : AreLinesDone s done notes a b
+  pub fit : All (λ l. FitsWhat s l.what) others
 
 -- ---- notes rise with their lines
 

@@ -9,9 +9,10 @@ ghost use Rattle.script_run.specs.Nodes.{AreReady, Goes, IsLineDone, IsTakenFirs
 ghost use Rattle.script_run.specs.Performing.{most_settled, settled};
 
 use crate::node::Node;
-use charlotte_calls::{Call, NoMemory, Pid, Setting};
+use charlotte_calls::{NoMemory, Pid, Setting};
+use compact_calls::CompactCall;
 use journal_text::ScriptNote;
-use lynx_plan::{ScriptCall, ScriptLine};
+use lynx_plan::{ScriptLine, StoredScriptCall};
 
 /// The packets that one settling takes at most.
 const MOST_SETTLED: u32 = 10_000;
@@ -20,17 +21,18 @@ const MOST_SETTLED: u32 = 10_000;
 pub(crate) fn do_line(
     setting: &Setting,
     nodes: &mut [Node],
-    line: &ScriptLine,
+    line: ScriptLine,
 ) -> Result<Option<ScriptNote>, NoMemory>
     requires valid { IsValid setting.now }
     requires ready { (n : ℕ) × (n + most_settled < 2 ^ 32) × AreReady setting.now n nodes.old }
-    requires fits { FitsWhat setting.now line.now.what }
-    ensures { IfOk result (λ note. IsLineDone setting.now line.now.line line.now.what note nodes.old nodes.new) }
+    requires fits { FitsWhat setting.now line.what }
+    ensures { IfOk result (λ note. IsLineDone setting.now line.line line.what note nodes.old nodes.new) }
 {
-    match line.what.script_call() {
-        ScriptCall::Ask(p, call) => ask(setting, nodes, line.line, p, call),
-        ScriptCall::Take { from, to } => take(setting, nodes, line.line, from, to),
-        ScriptCall::Settle => {
+    let ScriptLine { line, what } = line;
+    match what.into_stored() {
+        StoredScriptCall::Ask(p, call) => ask(setting, nodes, line, p, call),
+        StoredScriptCall::Take { from, to } => take(setting, nodes, line, from, to),
+        StoredScriptCall::Settle => {
             settle(setting, nodes)?;
             Ok(None)
         }
@@ -43,7 +45,7 @@ fn ask(
     nodes: &mut [Node],
     line: u32,
     p: Pid,
-    call: Call,
+    call: CompactCall,
 ) -> Result<Option<ScriptNote>, NoMemory>
     requires valid { IsValid setting.now }
     requires ready { (n : ℕ) × (n < 2 ^ 32) × AreReady setting.now n nodes.old }

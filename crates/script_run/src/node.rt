@@ -1,5 +1,6 @@
 ghost use Rattle.std.specs.Prelude.{◌≡◌, ◌↔◌, ◌^◌, ◌<◌, ◌-◌, max, ℕ, nat_eq, not, ◌++◌, ◌∷◌, [], All, IfOk, IsTrue, OnOk, List, MatchOption, length, map};
 ghost use Rattle.charlotte_calls.specs.Packets.{packet_picture, what_picture};
+ghost use Rattle.charlotte_calls.specs.Ranges.{IsCallInRange};
 ghost use Rattle.charlotte_calls.specs.Setting.{IsValid};
 ghost use Rattle.charlotte_calls.specs.declared.names.EndId.{EndId};
 ghost use Rattle.end_table.specs.Table.{entries};
@@ -17,7 +18,8 @@ ghost use Rattle.kernel_world.specs.declared.entry.Happened.TheVariants.{Asked, 
 ghost use Rattle.script_run.specs.Nodes.{sent_to, IsNodeOf, IsInRange, IsStamped, IsAfter, IsPopped, IsUnpopped};
 ghost use Rattle.world_record.specs.Told.{IsTold};
 
-use charlotte_calls::{Call, Effect, NoMemory, Packet, Pid, Setting};
+use charlotte_calls::{Effect, NoMemory, Packet, Pid, Setting};
+use compact_calls::CompactCall;
 use journal_text::{Entry, Happened, Journal};
 use kernel_core::{Kernel, NotTaken};
 use std::alloc::Global;
@@ -53,7 +55,7 @@ impl Node {
     }
 
     /// A process that runs makes a call; the answer that stood is let go.
-    pub(crate) fn call(&mut self, p: Pid, call: Call) -> Result<(), NoMemory>
+    pub(crate) fn call(&mut self, p: Pid, call: CompactCall) -> Result<(), NoMemory>
         requires process { p.0 < length self.old.kernel.processes }
         requires running { (process_of p (state_of self.old.kernel)).phase ≡ Running }
         requires lists { length self.old.sent.items ≡ 256 }
@@ -61,14 +63,15 @@ impl Node {
         requires in_range { IsInRange self.old }
         requires time { self.old.kernel.stamp < 2 ^ 64 - 1 }
         requires told { (version : ℕ) × IsTold version (state_of self.old.kernel) × HasFewCall version call }
+        requires fits { IsCallInRange call }
         ensures after { OnOk result ((mine : List EndId) × IsCallWith p (entries self.old.kernel.table) mine call
             × IsAfter (Asked p call) (call_step (without_answer p (state_of self.old.kernel)) p mine call) self.old self.new) }
     {
         self.journal.reserve(1)?;
-        let asked = Happened::asked(self.alloc(), p, &call)?;
         let _ = self.kernel.answer(p);
-        let effect = self.kernel.call(p, call)?;
-        self.note(asked, effect)
+        let asked = call.call();
+        let effect = self.kernel.call(p, asked)?;
+        self.note(Happened::Asked { p, call }, effect)
     }
 
     /// Takes the first packet that a kernel sent to this one.

@@ -13,38 +13,43 @@ ghost use Rattle.script_run.specs.Performing.{IsLast, IsPerformance};
 use crate::lines::do_line;
 use crate::node::Node;
 use charlotte_calls::{Items, NoMemory, Setting};
-use journal_text::{Last, Placed, ScriptNote, merge_whole};
-use lynx_plan::{Script, ScriptLine};
+use journal_text::{Last, Merged, ScriptNote};
+use lynx_plan::ScriptLine;
 use std::alloc::Global;
+use std::collections::VecDeque;
 
 /// What was done as a script was performed.
 #[derive(Debug, Drop)]
 pub struct Performance {
     /// The entries of the events, in the order of a merge.
-    pub merged: Items<Placed>,
+    pub merged: Merged,
     /// What the lines did not do.
     pub notes: Items<ScriptNote>,
     /// Whether a packet is left.
     pub last: Last,
 }
 
-/// Performs the lines of a script in order.
-pub fn perform(alloc: Global, script: &Script) -> Result<Performance, NoMemory>
-    requires valid { IsValid script.now.setting }
-    requires calls { All (λ l. FitsWhat script.now.setting l.what) script.now.lines }
-    requires rising { AreRisingLines script.now.lines }
+/// Performs the lines of a script of this setting in order.
+pub fn perform(
+    alloc: Global,
+    setting: &Setting,
+    lines: Items<ScriptLine>,
+) -> Result<Performance, NoMemory>
+    requires valid { IsValid setting.now }
+    requires calls { All (λ l. FitsWhat setting.now l.what) lines }
+    requires rising { AreRisingLines lines }
     // So no number of events runs out.
-    requires few { length script.now.lines ≤ 200000 }
-    ensures performed { IfOk result (λ p. IsPerformance script.now.setting script.now.lines p.merged p.notes p.last) }
-    ensures told { IfOk result (λ p. AreOfTranscript script.now.setting p.merged p.notes p.last) }
+    requires few { length lines ≤ 200000 }
+    ensures performed { IfOk result (λ p. IsPerformance setting.now lines p.merged p.notes p.last) }
+    ensures told { IfOk result (λ p. AreOfTranscript setting.now p.merged p.notes p.last) }
 {
-    let mut nodes = start_nodes(alloc, &script.setting)?;
-    let notes = do_lines(alloc, &script.setting, &mut nodes, script.lines.as_slice())?;
+    let mut nodes = start_nodes(alloc, setting)?;
+    let notes = do_lines(alloc, setting, &mut nodes, VecDeque::from(lines.into_vec()))?;
     tell_notes(&notes);
     let last = last_of(&nodes);
     let merged = merge_journals(alloc, nodes)?;
     Ok(Performance {
-        merged: Items::of(merged),
+        merged,
         notes: Items::of(notes),
         last,
     })
@@ -69,16 +74,16 @@ fn do_lines(
     alloc: Global,
     setting: &Setting,
     nodes: &mut [Node],
-    lines: &[ScriptLine],
+    mut lines: VecDeque<ScriptLine>,
 ) -> Result<Vec<ScriptNote>, NoMemory>
     requires valid { IsValid setting.now }
     requires ready { AreReady setting.now 0 nodes.old }
-    requires calls { All (λ l. FitsWhat setting.now l.what) lines.now }
-    requires few { length lines.now ≤ 200000 }
-    ensures { IfOk result (λ notes. AreLinesDone setting.now lines.now notes.items nodes.old nodes.new) }
+    requires calls { All (λ l. FitsWhat setting.now l.what) lines.items }
+    requires few { length lines.items ≤ 200000 }
+    ensures { IfOk result (λ notes. AreLinesDone setting.now lines.items notes.items nodes.old nodes.new) }
 {
     let mut notes = Vec::new(alloc);
-    for line in lines {
+    while let Some(line) = lines.pop_front() {
         let note = do_line(setting, nodes, line)?;
         push_note(&mut notes, note)?;
     }
@@ -122,9 +127,9 @@ fn are_quiet(nodes: &[Node]) -> bool
 }
 
 /// What was noted at the nodes, in the order of a merge.
-fn merge_journals(alloc: Global, nodes: Vec<Node>) -> Result<Vec<Placed>, NoMemory>
+fn merge_journals(alloc: Global, nodes: Vec<Node>) -> Result<Merged, NoMemory>
     requires { length nodes.items ≤ 8 }
-    ensures { IfOk result (λ merged. IsMerge (map (λ n. n.journal.entries) nodes.items) merged.items) }
+    ensures { IfOk result (IsMerge (map (λ n. n.journal.entries) nodes.items)) }
 {
     let mut journals = Vec::new(alloc);
     for node in nodes {
@@ -135,5 +140,5 @@ fn merge_journals(alloc: Global, nodes: Vec<Node>) -> Result<Vec<Placed>, NoMemo
         } = node;
         journals.push(journal)?;
     }
-    merge_whole(alloc, journals)
+    Merged::of_journals(alloc, journals)
 }

@@ -1,13 +1,13 @@
 //! Worked scripts, from their text to their transcript.
 
-use journal_text::{TranscriptLines, print_transcript};
+use journal_text::TranscriptLines;
 use lynx_plan::{Script, read_script};
 use script_run::{Performance, perform};
 use std::alloc::Global;
 use std::process::Abort;
 use std::test::Fail;
 
-/// The text is what a script's transcript is, printed at once and line by line.
+/// The text is what a script's transcript is, given line by line.
 fn has_transcript(
     rt: &impl Abort,
     alloc: Global,
@@ -16,32 +16,23 @@ fn has_transcript(
 ) -> Result<(), Fail> {
     let bytes = script.as_bytes();
     assert!(rt; bytes.len() < 100_000);
-    let script = read_script(alloc, bytes)?;
+    let Script { setting, lines } = read_script(alloc, bytes)?;
     let Performance {
         merged,
         notes,
         last,
-    } = perform(alloc, &script)?;
-    let lines = print_transcript(
-        alloc,
-        &script.setting,
-        merged.as_slice(),
-        notes.as_slice(),
-        last,
-    )?;
-    let mut text = Vec::new(alloc);
-    for line in &lines {
-        text.extend_from_slice(line.as_slice())?;
-    }
-    assert_eq!(rt; text.as_slice(), transcript.as_bytes(), "not {transcript}");
-    let Script { setting, lines: _ } = script;
+    } = perform(alloc, &setting, lines)?;
     let mut rest = TranscriptLines::of(alloc, setting, merged, notes, last);
     let mut next = Vec::new(alloc);
-    for line in &lines {
-        assert!(rt; rest.next_line(&mut next)?);
-        assert_eq!(rt; next.as_slice(), line.as_slice());
+    let mut text = Vec::new(alloc);
+    for byte in transcript.as_bytes() {
+        if *byte == b'\n' {
+            assert!(rt; rest.next_line(&mut next)?);
+            text.extend_from_slice(next.as_slice())?;
+        }
     }
     assert!(rt; !rest.next_line(&mut next)?);
+    assert_eq!(rt; text.as_slice(), transcript.as_bytes(), "not {transcript}");
     Ok(())
 }
 

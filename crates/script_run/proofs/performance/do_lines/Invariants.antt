@@ -1,6 +1,11 @@
-use Rattle.std.proofs.Common.{take}
-use Rattle.script_run.specs.Nodes.{AreLinesDone}
+use Rattle.std.proofs.Common.{◌≡◌, ◌++◌, All, length}
+use Rattle.lynx_plan.specs.ScriptText.{FitsWhat}
+use Rattle.lynx_plan.specs.declared.script.ScriptLine.{ScriptLine}
+use Rattle.script_run.proofs.Performances.{AreLinesSoFar}
 use Rattle.script_run.proofs.performance.do_lines.Given as goal
 
 abbrev pub invariant-loop-line : goal.invariant-loop-line
-invariant-loop-line l = AreLinesDone l.setting (take l.line-index l.lines) l.notes.items l.fn.nodes l.nodes
+invariant-loop-line l = AreLinesSoFar l.setting l.fn.lines.items l.lines.items l.notes.items l.fn.nodes l.nodes
+
+abbrev pub decreases-loop-line : goal.decreases-loop-line
+decreases-loop-line l = length l.lines.items

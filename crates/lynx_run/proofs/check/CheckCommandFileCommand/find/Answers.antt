@@ -25,4 +25,4 @@ fault_found bytes faults.NoMemory h = tt
 pub returns-in_err-module : goal.returns-in_err-module
 returns-in_err-module c =
     let p = err_from_is_err_and c.from_residual.result c.from_residual.ensures.1 in
-    rw (p.1, p.2) (fault_found c.args.bytes.now c.in_err-module.field-0.0 c.in_err-module.ensures)
+    rw (p.1, p.2) (fault_found c.args.bytes.items c.in_err-module.field-0.0 c.in_err-module.ensures)

@@ -3,7 +3,9 @@ use Rattle.charlotte_calls.specs.declared.calls.Call.{Call}
 use Rattle.charlotte_calls.specs.declared.names.EndId.{EndId}
 use Rattle.end_table.specs.Table.{entries}
 use Rattle.end_table.specs.declared.entry.Entry.{Entry as TableEntry}
-use Rattle.kernel_core.specs.State.{KernelView, state_of}
+use Rattle.charlotte_calls.specs.declared.names.Pid.{Pid}
+use Rattle.charlotte_calls.specs.declared.work.Effect.{Effect}
+use Rattle.kernel_core.specs.State.{KernelView, state_of, ended}
 use Rattle.journal_text.specs.Journal.{IsAfterLast}
 use Rattle.kernel_step.specs.Calls.{IsCallWith}
 use Rattle.kernel_step.specs.Kernel.{Kernel, Outcome, call_step, without_answer}
@@ -14,10 +16,15 @@ use Rattle.script_run.proofs.Events.{IsEffectOf, effect_of, table-without_answer
 use Rattle.script_run.proofs.Stamps.{after_last}
 use Rattle.script_run.proofs.node.Node.call.Goals as goal
 
+-- the kernel did what the step of this call is
+abbrev HasStep : KernelView → KernelView → Pid → Effect → Call → Type 0
+HasStep old new p effect call =
+    (mine : List EndId) × IsCallWith p (entries old.table) mine call × (ended (state_of new) effect ≡ call_step (state_of old) p mine call)
+
 pub note-requires-clause-after_last : goal.note-requires-clause-after_last
 note-requires-clause-after_last c =
     let k : KernelView = c.args.self.now.kernel in
-    let step = c.in_ok-effect.ensures.step in
+    let step = subst (HasStep c.answer.new.self c.call.new.self c.args.p c.in_ok-effect.effect) c.call-asked.ensures c.in_ok-effect.ensures.step in
     let o : Outcome = call_step (without_answer c.args.p (state_of k)) c.args.p step.0 c.args.call in
     let same : call_step (state_of c.answer.new.self) c.args.p step.0 c.args.call ≡ o =
     ap (λ (s : Kernel). call_step s c.args.p step.0 c.args.call) c.answer.ensures.state in
@@ -28,7 +35,7 @@ note-requires-clause-after_last c =
 pub returns : goal.returns
 returns c =
     let k : KernelView = c.args.self.now.kernel in
-    let step = c.in_ok-effect.ensures.step in
+    let step = subst (HasStep c.answer.new.self c.call.new.self c.args.p c.in_ok-effect.effect) c.call-asked.ensures c.in_ok-effect.ensures.step in
     let mine : List EndId = step.0 in
     let asked : Call = c.args.call in
     let o : Outcome = call_step (without_answer c.args.p (state_of k)) c.args.p mine asked in
@@ -39,7 +46,6 @@ returns c =
     let table : entries c.answer.new.self.table ≡ entries k.table = table-without_answer c.answer.new.self k c.args.p c.answer.ensures.state in
     let with : IsCallWith c.args.p (entries k.table) mine asked =
     subst (λ (t : EndId → TableEntry). IsCallWith c.args.p t mine asked) table step.1 in
-    let said : Happened → Entry = λ x. record { stamp = c.in_ok-effect.effect.stamp; what = x; steps = c.in_ok-effect.effect.steps.items } in
     record {
       after = on_ok_all c.note.result
           (λ entries sent in_range. (
@@ -47,7 +53,7 @@ returns c =
             with,
             noted-after c.args.self.now c.note.new.self c.call.new.self (Asked c.args.p asked) c.in_ok-effect.effect c.reserve.new.self.entries o is
                 c.note.ensures.kernel (c.in_ok-effect.ensures.processes ∙ c.answer.ensures.processes) c.note.ensures.lists up c.requires.stamped in_range c.in_ok-reserve.ensures.same
-                (entries ∙ ap (λ (x : Happened). c.reserve.new.self.entries ++ said x ∷ []) c.in_ok-asked.ensures.same) sent,
+                entries sent,
           ))
           c.note.ensures.entries c.note.ensures.sent c.note.ensures.in_range;
     }
