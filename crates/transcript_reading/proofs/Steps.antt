@@ -21,7 +21,6 @@ use Rattle.charlotte_text.specs.declared.fault.Fault.TheVariants.{Form}
 use Rattle.charlotte_text.specs.Reading.{◌>>=◌}
 use Rattle.charlotte_text.proofs.Calls.{way_again}
 use Rattle.charlotte_text.proofs.Names.{end_again, ends_again}
-use Rattle.charlotte_text.proofs.Steps.{not_ok}
 use Rattle.journal_text.specs.Transcript.{cause_text, result_text, report_text, step_text, suffix_text}
 use Rattle.journal_text.specs.TranscriptText.{IsFew, IsShownReport, IsShownStep}
 use Rattle.kernel_world.specs.declared.entry.Happened.{Happened}
@@ -215,31 +214,43 @@ abbrev result_from : ℕ → EndId → Way → List (List ℕ) → Result Report
 result_from v on way [] = Err Form
 result_from v on way (w ∷ ws) = outcome_of w >>= λ outcome. result_of v on way outcome ws
 
-bare : (on : EndId) (way : Way) (outcome : Outcome) (bytes : List ℕ) (ends : List EndId) → bytes ≡ [] → ends ≡ [] → bare_report on way outcome ≡ record { on = on; way = way; outcome = outcome; bytes = bytes; enclosed = ends }
+abbrev report : EndId → Way → Outcome → List ℕ → List EndId → Report
+report on way outcome bytes ends = record { on = on; way = way; outcome = outcome; bytes = bytes; enclosed = ends }
+
+bare : (on : EndId) (way : Way) (outcome : Outcome) (bytes : List ℕ) (ends : List EndId) → bytes ≡ [] → ends ≡ [] → bare_report on way outcome ≡ report on way outcome bytes ends
 bare on way outcome bytes ends b e = rw (b, e) refl
 
-no_bytes : (on : EndId) (way : Way) (outcome : Outcome) (bytes : List ℕ) (ends : List EndId) → bytes ≡ [] → record { on = on; way = way; outcome = outcome; bytes = []; enclosed = ends } ≡ record { on = on; way = way; outcome = outcome; bytes = bytes; enclosed = ends }
+no_bytes : (on : EndId) (way : Way) (outcome : Outcome) (bytes : List ℕ) (ends : List EndId) → bytes ≡ [] → report on way outcome [] ends ≡ report on way outcome bytes ends
 no_bytes on way outcome bytes ends b = rw b refl
 
 result_again : (v : ℕ) (on : EndId) (way : Way) (outcome : Outcome) (bytes : List ℕ) (ends : List EndId) → AreBytesInRange bytes → AllByRecursion IsEnd ends → IsShownReport v way outcome bytes ends
-    → result_from v on way (result_words way outcome bytes ends) ≡ Ok (record { on = on; way = way; outcome = outcome; bytes = bytes; enclosed = ends })
+    → result_from v on way (result_words way outcome bytes ends) ≡ Ok (report on way outcome bytes ends)
 unfolding outcome_of result_of
 result_again v on Outward Done bytes ends text each shown = ap Ok (bare on Outward Done bytes ends shown.0 shown.1)
 result_again v on Outward Destroyed bytes ends text each shown = rw (ends_again (most_ends v) ends each shown.1) (ap Ok (no_bytes on Outward Destroyed bytes ends shown.0))
 result_again v on Inward Done bytes ends text each shown = rw (text_again bytes text, ends_again (most_ends v) ends each shown) refl
 result_again v on Inward Destroyed bytes ends text each shown = ap Ok (bare on Inward Destroyed bytes ends shown.0 shown.1)
 
+abbrev with_report : Pid → Result Report Fault → Result ServiceLine Fault
+with_report p read = read >>= λ r. Ok (service.Report p r)
+
+-- the outcome is a word of its own
+abbrev read_result : ℕ → EndId → Way → Pid → Result (Outcome × List (List ℕ)) Fault → Result ServiceLine Fault
+read_result v on way p read = read >>= λ outcome. with_report p (result_of v on way outcome.0 outcome.1)
+
+outcome_first : (v : ℕ) (on : EndId) (way : Way) (p : Pid) (ws : List (List ℕ)) (x : Result Outcome Fault) → read_result v on way p (x >>= λ o. Ok (o, ws)) ≡ with_report p (x >>= λ o. result_of v on way o ws)
+outcome_first v on way p ws (Ok o) = refl
+outcome_first v on way p ws (Err f) = refl
+
+outcome_read : (v : ℕ) (on : EndId) (way : Way) (p : Pid) (ws : List (List ℕ)) → read_result v on way p (first_of outcome_of ws) ≡ with_report p (result_from v on way ws)
+outcome_read v on way p [] = refl
+outcome_read v on way p (w ∷ ws) = outcome_first v on way p ws (outcome_of w)
+
 report_again : (v : ℕ) (p : Pid) (r : Report) → IsPid p → IsReportInRange r → IsShownReport v r.way r.outcome r.bytes r.enclosed → report_of v (step_rest (step.Report p r)) ≡ Ok (service.Report p r)
 unfolding report_of
-report_again v p r fits is shown = rw (pid_again p fits, end_again r.on is.on, way_again r.way) (through (result_words r.way r.outcome r.bytes r.enclosed) (result_again v r.on r.way r.outcome r.bytes r.enclosed is.bytes is.enclosed.each shown))
-  where
-    through : (ws : List (List ℕ)) → result_from v r.on r.way ws ≡ Ok r → (first_of outcome_of ws >>= λ outcome. result_of v r.on r.way outcome.0 outcome.1 >>= λ report. Ok (service.Report p report)) ≡ Ok (service.Report p r)
-    through [] e = absurd (not_ok r Form e)
-    through (w ∷ ws) e = two (outcome_of w) e
-      where
-        two : (x : Result Outcome Fault) → (x >>= λ outcome. result_of v r.on r.way outcome ws) ≡ Ok r → ((x >>= λ o. Ok (o, ws)) >>= λ outcome. result_of v r.on r.way outcome.0 outcome.1 >>= λ report. Ok (service.Report p report)) ≡ Ok (service.Report p r)
-        two (Ok o) e = rw e refl
-        two (Err f) e = absurd (not_ok r f e)
+report_again v p r fits is shown =
+    rw (pid_again p fits, end_again r.on is.on, way_again r.way)
+    (outcome_read v r.on r.way p (result_words r.way r.outcome r.bytes r.enclosed) ∙ ap (with_report p) (result_again v r.on r.way r.outcome r.bytes r.enclosed is.bytes is.enclosed.each shown))
 
 few_sent : (v : ℕ) (what : Happened) (on : EndId) (n : ℕ) (bytes : List ℕ) (enclose : List EndId) → IsShownStep v what (step.Send on n bytes enclose) → length enclose ≤ most_ends v
 few_sent v (Asked p (call.Send to sent ends)) on n bytes enclose shown = shown.1
@@ -252,18 +263,8 @@ few_sent v (Asked p (call.Print text)) on n bytes enclose shown = absurd shown
 few_sent v (Asked p call.Exit) on n bytes enclose shown = absurd shown
 few_sent v (Took from picture) on n bytes enclose shown = absurd shown
 
-asked_report : (v : ℕ) (q : Pid) (c : Call) (p : Pid) (r : Report) → IsShownStep v (Asked q c) (step.Report p r) → IsShownReport v r.way r.outcome r.bytes r.enclosed
-asked_report v q call.Make p r shown = shown
-asked_report v q (call.Destroy to) p r shown = shown
-asked_report v q (call.Send to sent ends) p r shown = shown
-asked_report v q (call.Receive to) p r shown = shown
-asked_report v q (call.Cancel to way) p r shown = shown
-asked_report v q call.Wait p r shown = shown
-asked_report v q (call.Print text) p r shown = shown
-asked_report v q call.Exit p r shown = shown
-
 shown_report : (v : ℕ) (what : Happened) (p : Pid) (r : Report) → IsShownStep v what (step.Report p r) → IsShownReport v r.way r.outcome r.bytes r.enclosed
-shown_report v (Asked q c) p r shown = asked_report v q c p r shown
+shown_report v (Asked q c) p r shown = shown
 shown_report v (Took from picture) p r shown = shown
 
 pub step_again : (v : ℕ) (what : Happened) (s : ServiceStep) → IsStepInRange s → IsShownStep v what s → step_of v (step_name s ∷ step_rest s) ≡ Ok (shown_step s)

@@ -164,42 +164,25 @@ other_kinds s merged notes last =
 others_read : (s : Setting) (merged : List Placed) (notes : List ScriptNote) (last : Last) → AreOfTranscript s merged notes last
     → AreLinesOf s.version (other_lines s merged notes last) (other_kinds s merged notes last)
 others_read s merged notes last is =
-    lines_append v (kernels ++ wires ++ entries ++ note_lines) (line (last_text last) ∷ []) (a ++ b ++ c ++ d) (kind.End last ∷ [])
-    (lines_append v (kernels ++ wires ++ entries) note_lines (a ++ b ++ c) d
-    (lines_append v (kernels ++ wires) entries (a ++ b) c
-    (lines_append v kernels wires a b
-    (kernels_line v s.kernels (kernels_small s is.setting), process_lines_of v 0 s.homes (let le : length s.homes ≤ 64 = is.setting.limits.processes in omega arith) (homes_small s is.setting))
+    let v : ℕ = s.version in
+    let le : length s.homes ≤ 64 = is.setting.limits.processes in
+    let header : List (List ℕ) = line (codes "kernels " ++ number_text s.kernels) ∷ process_lines 0 s.homes in
+    let wires : List (List ℕ) = map (λ wire. line (wire_text wire)) s.wires in
+    let entries : List (List ℕ) = flat_map entry_lines merged in
+    let note_lines : List (List ℕ) = map (λ n. line (note_text n)) notes in
+    let a : List LineKind = kind.Kernels s.kernels ∷ process_kinds 0 s.homes in
+    let b : List LineKind = wire_kinds s.wires in
+    let c : List LineKind = flat_map entry_kinds merged in
+    let d : List LineKind = map (λ n. kind.Note n) notes in
+    lines_append v (header ++ wires ++ entries ++ note_lines) (line (last_text last) ∷ []) (a ++ b ++ c ++ d) (kind.End last ∷ [])
+    (lines_append v (header ++ wires ++ entries) note_lines (a ++ b ++ c) d
+    (lines_append v (header ++ wires) entries (a ++ b) c
+    (lines_append v header wires a b
+    (kernels_line v s.kernels (kernels_small s is.setting), process_lines_of v 0 s.homes (omega arith) (homes_small s is.setting))
     (wire_lines_of v s.wires (wires_small s is.setting)))
     (entry_lines_of v merged is.values.entries is.shown))
     (note_lines_of v notes is.values.lines))
     (last_line v last is.values.ending, tt)
-  where
-    v : ℕ
-    v = s.version
-
-    abbrev kernels : List (List ℕ)
-    kernels = line (codes "kernels " ++ number_text s.kernels) ∷ process_lines 0 s.homes
-
-    abbrev wires : List (List ℕ)
-    wires = map (λ wire. line (wire_text wire)) s.wires
-
-    abbrev entries : List (List ℕ)
-    entries = flat_map entry_lines merged
-
-    abbrev note_lines : List (List ℕ)
-    note_lines = map (λ n. line (note_text n)) notes
-
-    abbrev a : List LineKind
-    a = kind.Kernels s.kernels ∷ process_kinds 0 s.homes
-
-    abbrev b : List LineKind
-    b = wire_kinds s.wires
-
-    abbrev c : List LineKind
-    c = flat_map entry_kinds merged
-
-    abbrev d : List LineKind
-    d = map (λ n. kind.Note n) notes
 
 first_read : (v : ℕ) (lines : List (List ℕ)) (ks : List LineKind) → IsU8 v → kinds_of v lines ≡ Ok ks → whole_of ((codes "transcript " ++ number_text v) ∷ lines) ≡ Ok (kind.First v ∷ ks)
 unfolding whole_of kinds_of

@@ -150,17 +150,17 @@ end_number_of ws = do
 -- the packet of a name
 unfoldable pub named_packet_of : ℕ → List ℕ → List (List ℕ) → Result PictureWhat Fault
 named_packet_of version word ws =
-    if bytes_eq word (codes "want") then wanted_of ws >>= λ x. Ok (packet.Want x.0 x.1 x.2 x.3)
-    else if bytes_eq word (codes "unwant") then wanted_of ws >>= λ x. Ok (packet.Unwant x.0 x.1 x.2 x.3)
-    else if bytes_eq word (codes "unwanted") then wanted_of ws >>= λ x. Ok (packet.Unwanted x.0 x.1 x.2 x.3)
+    if bytes_eq word (codes "want") then (wanted_of ws >>= λ x. Ok (packet.Want x.0 x.1 x.2 x.3))
+    else if bytes_eq word (codes "unwant") then (wanted_of ws >>= λ x. Ok (packet.Unwant x.0 x.1 x.2 x.3))
+    else if bytes_eq word (codes "unwanted") then (wanted_of ws >>= λ x. Ok (packet.Unwanted x.0 x.1 x.2 x.3))
     else if bytes_eq word (codes "parcel") then parcel_of version ws
-    else if bytes_eq word (codes "taken") then wanted_of ws >>= λ x. Ok (packet.Taken x.0 x.1 x.2 x.3)
+    else if bytes_eq word (codes "taken") then (wanted_of ws >>= λ x. Ok (packet.Taken x.0 x.1 x.2 x.3))
     else if bytes_eq word (codes "back") then back_of version ws
     else if bytes_eq word (codes "gone") then gone_of ws
     else if bytes_eq word (codes "moved") then moved_of ws
-    else if bytes_eq word (codes "known") then end_number_of ws >>= λ x. Ok (packet.Known x.0 x.1)
-    else if bytes_eq word (codes "forget") then end_number_of ws >>= λ x. Ok (packet.Forget x.0 x.1)
-    else if bytes_eq word (codes "goneseen") then only_of end_of ws >>= λ to. Ok (packet.GoneSeen to)
+    else if bytes_eq word (codes "known") then (end_number_of ws >>= λ x. Ok (packet.Known x.0 x.1))
+    else if bytes_eq word (codes "forget") then (end_number_of ws >>= λ x. Ok (packet.Forget x.0 x.1))
+    else if bytes_eq word (codes "goneseen") then (only_of end_of ws >>= λ to. Ok (packet.GoneSeen to))
     else Err Form
 
 unfoldable pub packet_of : ℕ → List (List ℕ) → Result PictureWhat Fault
@@ -267,18 +267,18 @@ unfoldable pub named_step_of : ℕ → List ℕ → List (List ℕ) → Result S
 named_step_of version word ws =
     if bytes_eq word (codes "make") then make_of ws
     else if bytes_eq word (codes "refuse") then refuse_of ws
-    else if bytes_eq word (codes "destroy") then only_of end_of ws >>= λ on. Ok (service.Destroy on)
+    else if bytes_eq word (codes "destroy") then (only_of end_of ws >>= λ on. Ok (service.Destroy on))
     else if bytes_eq word (codes "send") then send_of version ws
-    else if bytes_eq word (codes "receive") then only_of end_of ws >>= λ on. Ok (service.Receive on)
+    else if bytes_eq word (codes "receive") then (only_of end_of ws >>= λ on. Ok (service.Receive on))
     else if bytes_eq word (codes "cancel") then cancel_of ws
-    else if bytes_eq word (codes "wait") then only_of pid_of ws >>= λ p. Ok (service.Wait p)
+    else if bytes_eq word (codes "wait") then (only_of pid_of ws >>= λ p. Ok (service.Wait p))
     else if bytes_eq word (codes "report") then report_of version ws
-    else if bytes_eq word (codes "exit") then only_of pid_of ws >>= λ p. Ok (service.Exit p)
-    else if bytes_eq word (codes "match") then end_number_of ws >>= λ x. Ok (service.Match x.0 x.1)
+    else if bytes_eq word (codes "exit") then (only_of pid_of ws >>= λ p. Ok (service.Exit p))
+    else if bytes_eq word (codes "match") then (end_number_of ws >>= λ x. Ok (service.Match x.0 x.1))
     else if bytes_eq word (codes "take") then take_of ws
-    else if bytes_eq word (codes "complete") then end_number_of ws >>= λ x. Ok (service.Complete x.0 x.1)
-    else if bytes_eq word (codes "withdraw") then only_of end_of ws >>= λ on. Ok (service.Withdraw on)
-    else if bytes_eq word (codes "free") then only_of end_of ws >>= λ on. Ok (service.Free on)
+    else if bytes_eq word (codes "complete") then (end_number_of ws >>= λ x. Ok (service.Complete x.0 x.1))
+    else if bytes_eq word (codes "withdraw") then (only_of end_of ws >>= λ on. Ok (service.Withdraw on))
+    else if bytes_eq word (codes "free") then (only_of end_of ws >>= λ on. Ok (service.Free on))
     else if bytes_eq word (codes "notice") then notice_of ws
     else if bytes_eq word (codes "back") then back_step_of ws
     else Err Form
@@ -347,15 +347,15 @@ note_of ws = do
 -- a line that begins with a name
 unfoldable pub named_line_of : ℕ → List ℕ → List (List ℕ) → Result LineKind Fault
 named_line_of version word ws =
-    if bytes_eq word (codes ".") then step_of version ws >>= λ s. Ok (line.Service s)
-    else if bytes_eq word (codes "transcript") then only_of u8_of ws >>= λ n. Ok (line.First n)
-    else if bytes_eq word (codes "kernels") then only_of u8_of ws >>= λ n. Ok (line.Kernels n)
+    if bytes_eq word (codes ".") then (step_of version ws >>= λ s. Ok (line.Service s))
+    else if bytes_eq word (codes "transcript") then (only_of u8_of ws >>= λ n. Ok (line.First n))
+    else if bytes_eq word (codes "kernels") then (only_of u8_of ws >>= λ n. Ok (line.Kernels n))
     else if bytes_eq word (codes "process") then home_of ws
     else if bytes_eq word (codes "wire") then wire_of ws
     else if bytes_eq word (codes "note") then note_of ws
-    else if bytes_eq word (codes "quiet") then ended ws >>= λ u. Ok (line.End Quiet)
-    else if bytes_eq word (codes "open") then ended ws >>= λ u. Ok (line.End Unsettled)
-    else if bytes_eq word (codes "spent") then only_of u8_of ws >>= λ k. Ok (line.End (Spent k))
+    else if bytes_eq word (codes "quiet") then (ended ws >>= λ u. Ok (line.End Quiet))
+    else if bytes_eq word (codes "open") then (ended ws >>= λ u. Ok (line.End Unsettled))
+    else if bytes_eq word (codes "spent") then (only_of u8_of ws >>= λ k. Ok (line.End (Spent k)))
     else Err Form
 
 -- a line of a transcript of a version, by its words
