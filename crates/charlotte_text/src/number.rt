@@ -24,8 +24,22 @@ pub fn push_number(out: &mut Vec<u8>, number: u64) -> Result<(), NoMemory>
     ensures ok { OnOk result (out.new.items ≡ out.old.items ++ number_text number) }
     ensures err { OnErr result (out.new.items ≡ out.old.items) }
 {
+    if number < 10 {
+        return push_digit(out, number as u8);
+    }
     let mut buffer = Buffer::new();
     out.extend_from_slice(buffer.format(number).as_bytes())?;
+    Ok(())
+}
+
+// Most numbers of a line have one digit, for which no buffer is made.
+#[tactic(auto, using(std::proofs::lemmas::Fmt::decimal_digit))]
+fn push_digit(out: &mut Vec<u8>, digit: u8) -> Result<(), NoMemory>
+    requires { digit < 10 }
+    ensures ok { OnOk result (out.new.items ≡ out.old.items ++ number_text digit) }
+    ensures err { OnErr result (out.new.items ≡ out.old.items) }
+{
+    out.push(b'0' + digit)?;
     Ok(())
 }
 

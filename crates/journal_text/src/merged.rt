@@ -52,7 +52,6 @@ impl Merged {
         }
     }
 
-    #[tactic(auto, using(crate::proofs::Merges::IsMerge_alone))]
     fn of_journal(alloc: Global, journal: Journal) -> Merged
         ensures { IsMerge (journal.entries ∷ []) result }
     {
