@@ -227,7 +227,7 @@ in_order s merged notes last is =
     let entries = entries_follow s.version merged wires.0 is.shown wires.2 in
     let front : follows (header ++ wire_kinds s.wires ++ flat_map entry_kinds merged) Start ≡ Ok entries.0 =
     then_follows (header ++ wire_kinds s.wires) (flat_map entry_kinds merged) Start wires.0 entries.0
-        (then_follows header (wire_kinds s.wires) Start (Processes s.kernels (length s.homes)) wires.0 (header_follows s is.setting) wires.1) entries.1 in
+    (then_follows header (wire_kinds s.wires) Start (Processes s.kernels (length s.homes)) wires.0 (header_follows s is.setting) wires.1) entries.1 in
     ap (λ ks. follows ks Start) (append_assoc (header ++ wire_kinds s.wires ++ flat_map entry_kinds merged) (map (λ x. kind.Note x) notes) (kind.End last ∷ []))
     ∙ then_follows (header ++ wire_kinds s.wires ++ flat_map entry_kinds merged) (map (λ x. kind.Note x) notes ++ kind.End last ∷ []) Start entries.0 Over front
-        (ending_follows entries.0 notes last entries.2 is.in_order is.spent)
+    (ending_follows entries.0 notes last entries.2 is.in_order is.spent)

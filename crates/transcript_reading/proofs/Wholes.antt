@@ -78,7 +78,7 @@ steps_told (x ∷ xs) s entries notes last = rw (steps_told xs s entries notes l
 
 happened_told : (v stamp kernel : ℕ) (what : Happened) (ss : List ServiceStep) (s : Setting) (entries : List Placed) (notes : List ScriptNote) (last : Last) → All (IsShownStep v what) ss
     → with_line (happened_kind stamp kernel what) (tell s (map shown_step ss) entries notes last)
-        ≡ Ok (tell s [] (record { kernel = kernel; entry = record { stamp = stamp; what = unstamped_what what; steps = ss } } ∷ entries) notes last)
+    ≡ Ok (tell s [] (record { kernel = kernel; entry = record { stamp = stamp; what = unstamped_what what; steps = ss } } ∷ entries) notes last)
 unfolding with_line with_entry
 happened_told v stamp kernel (Asked p c) ss s entries notes last shown = rw (full_all v (Asked p c) ss shown) refl
 happened_told v stamp kernel (Took from picture) ss s entries notes last shown = rw (full_all v (Took from picture) ss shown) refl

@@ -63,7 +63,7 @@ full_steps what (s ∷ ss) = full_step what s >>= λ x. full_steps what ss >>= �
 unfoldable pub with_entry : ℕ → ℕ → Happened → Told → Result Told Fault
 with_entry stamp kernel what t =
     full_steps what t.steps >>= λ steps.
-      Ok (record t { steps = []; entries = record { kernel = kernel; entry = record { stamp = stamp; what = what; steps = steps } } ∷ t.entries })
+    Ok (record t { steps = []; entries = record { kernel = kernel; entry = record { stamp = stamp; what = what; steps = steps } } ∷ t.entries })
 
 -- a line before others
 unfoldable pub with_line : LineKind → Told → Result Told Fault

@@ -5,13 +5,21 @@ use journal_text::{Last, ScriptNote};
 #[derive(Debug, Drop)]
 pub enum LineKind {
     /// `transcript 1`.
-    First { version: u8 },
+    First {
+        version: u8,
+    },
     /// `kernels N`.
     Kernels(u8),
     /// `process I on K`.
-    Process { p: Pid, kernel: u8 },
+    Process {
+        p: Pid,
+        kernel: u8,
+    },
     /// `wire I J`.
-    Wire { first: Pid, second: Pid },
+    Wire {
+        first: Pid,
+        second: Pid,
+    },
     /// A call of a process at its kernel.
     CallEntry {
         stamp: u64,
