@@ -45,19 +45,19 @@ fn ask(
     nodes: &mut [Node],
     line: u32,
     p: Pid,
-    call: CompactCall,
+    asked: CompactCall,
 ) -> Result<Option<ScriptNote>, NoMemory>
     requires valid { IsValid setting.now }
     requires ready { (n : ℕ) × (n < 2 ^ 32) × AreReady setting.now n nodes.old }
-    requires fits { FitsWhat setting.now (Ask p call) }
-    ensures { IfOk result (λ note. IsLineDone setting.now line (Ask p call) note nodes.old nodes.new) }
+    requires fits { FitsWhat setting.now (Ask p asked) }
+    ensures { IfOk result (λ note. IsLineDone setting.now line (Ask p asked) note nodes.old nodes.new) }
 {
     let home = setting.homes.as_slice()[usize::from(p.0)];
     let node = &mut nodes[usize::from(home)];
     if !node.kernel.running(p) {
         return Ok(Some(ScriptNote { line, waits: true }));
     }
-    node.call(p, call)?;
+    node.call(p, asked)?;
     Ok(None)
 }
 

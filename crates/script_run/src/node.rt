@@ -55,23 +55,23 @@ impl Node {
     }
 
     /// A process that runs makes a call; the answer that stood is let go.
-    pub(crate) fn call(&mut self, p: Pid, call: CompactCall) -> Result<(), NoMemory>
+    pub(crate) fn call(&mut self, p: Pid, asked: CompactCall) -> Result<(), NoMemory>
         requires process { p.0 < length self.old.kernel.processes }
         requires running { (process_of p (state_of self.old.kernel)).phase ≡ Running }
         requires lists { length self.old.sent.items ≡ 256 }
         requires stamped { IsStamped self.old }
         requires in_range { IsInRange self.old }
         requires time { self.old.kernel.stamp < 2 ^ 64 - 1 }
-        requires told { (version : ℕ) × IsTold version (state_of self.old.kernel) × HasFewCall version call }
-        requires fits { IsCallInRange call }
-        ensures after { OnOk result ((mine : List EndId) × IsCallWith p (entries self.old.kernel.table) mine call
-            × IsAfter (Asked p call) (call_step (without_answer p (state_of self.old.kernel)) p mine call) self.old self.new) }
+        requires told { (version : ℕ) × IsTold version (state_of self.old.kernel) × HasFewCall version asked }
+        requires fits { IsCallInRange asked }
+        ensures after { OnOk result ((mine : List EndId) × IsCallWith p (entries self.old.kernel.table) mine asked
+            × IsAfter (Asked p asked) (call_step (without_answer p (state_of self.old.kernel)) p mine asked) self.old self.new) }
     {
         self.journal.reserve(1)?;
         let _ = self.kernel.answer(p);
-        let asked = call.call();
-        let effect = self.kernel.call(p, asked)?;
-        self.note(Happened::Asked { p, call }, effect)
+        let call = asked.call();
+        let effect = self.kernel.call(p, call)?;
+        self.note(Happened::Asked { p, call: asked }, effect)
     }
 
     /// Takes the first packet that a kernel sent to this one.

@@ -1,4 +1,5 @@
-use Rattle.std.proofs.Common.{None, sym, subst, ◌∙◌, IfOk, refl}
+use Rattle.std.proofs.Common.{None, ap, sym, subst, ◌∙◌, IfOk, refl}
+use Rattle.lynx_plan.specs.Stored.{script_call_of}
 use Rattle.lynx_plan.specs.declared.script.ScriptCall.{ScriptCall}
 use Rattle.script_run.specs.Nodes.{IsLineDone, world_of}
 use Rattle.script_run.specs.Performing.{settled, most_settled}
@@ -7,11 +8,11 @@ use Rattle.script_run.proofs.lines.do_line.Goals as goal
 
 pub returns-in-Ask : goal.returns-in-Ask
 returns-in-Ask c =
-    subst (λ (what : ScriptCall). IfOk c.ask.result (λ note. IsLineDone c.args.setting.now c.args.line.line what note c.args.nodes.now c.ask.new.nodes)) (sym (sym c.into_stored.ensures ∙ c.in-Ask.is)) c.ask.ensures
+    subst (λ (what : ScriptCall). IfOk c.ask.result (λ note. IsLineDone c.args.setting.now c.args.line.line what note c.args.nodes.now c.ask.new.nodes)) (sym (sym c.into_stored.ensures ∙ ap script_call_of c.in-Ask.is)) c.ask.ensures
 
 pub returns-in_ok-settle-in-Settle : goal.returns-in_ok-settle-in-Settle
 returns-in_ok-settle-in-Settle c =
-    subst (λ (what : ScriptCall). IsLineDone c.args.setting.now c.args.line.line what None c.args.nodes.now c.settle.new.nodes) (sym (sym c.into_stored.ensures ∙ c.in-Settle.is))
+    subst (λ (what : ScriptCall). IsLineDone c.args.setting.now c.args.line.line what None c.args.nodes.now c.settle.new.nodes) (sym (sym c.into_stored.ensures ∙ ap script_call_of c.in-Settle.is))
     (record {
       events = settled c.args.setting.now.kernels most_settled (world_of c.args.setting.now c.args.nodes.now);
       does = (refl, refl);

@@ -1,4 +1,4 @@
-use Rattle.std.proofs.Common.{◌≡◌, ℕ, ◌+◌, ◌*◌, ◌<◌, ◌≤◌, List, [], ◌∷◌, ◌++◌, All, length, append_assoc, append-nil, length-append, ap, sym, subst, refl, ◌∙◌, arith}
+use Rattle.std.proofs.Common.{◌≡◌, ℕ, ◌+◌, ◌*◌, ◌<◌, ◌≤◌, List, [], ◌∷◌, ◌++◌, All, length, append_assoc, append-nil, length-append, ap, sym, subst, refl, ◌∙◌, arith, rules}
 use Rattle.std.proofs.lemmas.List.Elements.{All-same, All-head, All-tail}
 use Rattle.charlotte_calls.specs.declared.setting.Setting.{Setting}
 use Rattle.journal_text.specs.declared.last.ScriptNote.{ScriptNote}
@@ -54,5 +54,5 @@ loop-line-preserved c =
 pub returns : goal.returns
 returns c =
     let so_far = c.loop-line.invariant in
-    let none : c.loop-line.lines.items ≡ [] = c.in_default.ensures.items in
+    let none : c.loop-line.lines.items ≡ [] = search rules in
     subst (λ (ls : List ScriptLine). AreLinesDone c.args.setting.now ls c.loop-line.notes.items c.args.nodes.now c.loop-line.nodes) (sym (so_far.all_are ∙ ap (λ ls. so_far.done ++ ls) none ∙ append-nil so_far.done)) so_far.are_done

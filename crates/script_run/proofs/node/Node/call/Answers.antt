@@ -24,20 +24,20 @@ HasStep old new p effect call =
 pub note-requires-clause-after_last : goal.note-requires-clause-after_last
 note-requires-clause-after_last c =
     let k : KernelView = c.args.self.now.kernel in
-    let step = subst (HasStep c.answer.new.self c.call.new.self c.args.p c.in_ok-effect.effect) c.call-asked.ensures c.in_ok-effect.ensures.step in
-    let o : Outcome = call_step (without_answer c.args.p (state_of k)) c.args.p step.0 c.args.call in
-    let same : call_step (state_of c.answer.new.self) c.args.p step.0 c.args.call ≡ o =
-    ap (λ (s : Kernel). call_step s c.args.p step.0 c.args.call) c.answer.ensures.state in
+    let step = subst (HasStep c.answer.new.self c.call.new.self c.args.p c.in_ok-effect.effect) c.call-call.ensures c.in_ok-effect.ensures.step in
+    let o : Outcome = call_step (without_answer c.args.p (state_of k)) c.args.p step.0 c.args.asked in
+    let same : call_step (state_of c.answer.new.self) c.args.p step.0 c.args.asked ≡ o =
+    ap (λ (s : Kernel). call_step s c.args.p step.0 c.args.asked) c.answer.ensures.state in
     let is : IsEffectOf c.call.new.self c.in_ok-effect.effect o = effect_of c.call.new.self c.in_ok-effect.effect o (step.2 ∙ same) c.in_ok-effect.ensures.stamp in
-    let up = call-later k c.args.p step.0 c.args.call c.requires.told c.requires.time in
+    let up = call-later k c.args.p step.0 c.args.asked c.requires.told c.requires.time in
     subst (λ n. IsAfterLast c.reserve.new.self.entries n) (sym is.stamp) (subst (λ (es : List Entry). IsAfterLast es o.kernel.stamp) (sym c.in_ok-reserve.ensures.same) (after_last c.args.self.now.journal.entries k.stamp o.kernel.stamp c.requires.stamped up))
 
 pub returns : goal.returns
 returns c =
     let k : KernelView = c.args.self.now.kernel in
-    let step = subst (HasStep c.answer.new.self c.call.new.self c.args.p c.in_ok-effect.effect) c.call-asked.ensures c.in_ok-effect.ensures.step in
+    let step = subst (HasStep c.answer.new.self c.call.new.self c.args.p c.in_ok-effect.effect) c.call-call.ensures c.in_ok-effect.ensures.step in
     let mine : List EndId = step.0 in
-    let asked : Call = c.args.call in
+    let asked : Call = c.args.asked in
     let o : Outcome = call_step (without_answer c.args.p (state_of k)) c.args.p mine asked in
     let same : call_step (state_of c.answer.new.self) c.args.p mine asked ≡ o =
     ap (λ (s : Kernel). call_step s c.args.p mine asked) c.answer.ensures.state in
