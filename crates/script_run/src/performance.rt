@@ -45,8 +45,8 @@ pub fn perform(
 {
     let mut nodes = start_nodes(alloc, setting)?;
     let notes = do_lines(alloc, setting, &mut nodes, VecDeque::from(lines.into_vec()))?;
-    tell_notes(&notes);
     let last = last_of(&nodes);
+    tell_notes(&notes);
     let merged = merge_journals(alloc, nodes)?;
     Ok(Performance {
         merged,

@@ -43,7 +43,7 @@ call-requires-clause-told c =
     (c.args.setting.now.version, node-told c.args.setting.now ready.0 c.args.nodes.now c.from-2.result node ready.2 below at, told_call c.args.setting.now.version c.args.asked c.requires.fits.1)
 
 pub call-requires-clause-fits : goal.call-requires-clause-fits
-call-requires-clause-fits c = call-in_range c.args.setting.now.version c.args.call c.requires.fits.1
+call-requires-clause-fits c = call-in_range c.args.setting.now.version c.args.asked c.requires.fits.1
 
 pub returns : goal.returns
 returns c =

@@ -45,5 +45,5 @@ returns-clause-told c =
     let few : s.kernels ≤ 8 = c.requires.valid.limits.kernels in
     let kept : All IsInRange b = All-weaker (IsNodeOf s) IsInRange (λ n h. h.in_range) b c.in_ok-notes.ensures.goes.nodes in
     let entries : All IsPlacedInRange c.in_ok-merged.merged = merged_in_range b c.in_ok-merged.merged kept (omega (arith, count, few)) merge in
-    let note_lines : All IsNoteInRange c.of.result = search rules in
+    let note_lines : All IsNoteInRange c.of.result = subst (All IsNoteInRange) (c.deref-2.ensures.value ∙ sym c.of.ensures) c.tell_notes.ensures in
     performance-told s c.args.lines c.in_ok-merged.merged c.of.result c.last_of-last.result c.requires.valid c.requires.rising entries note_lines (performed c)
