@@ -4,3 +4,4 @@ pub mod Setting
 pub mod Moving
 pub mod Packets
 pub mod Program
+pub mod Ranges

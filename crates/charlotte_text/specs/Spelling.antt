@@ -1,6 +1,7 @@
 -- How scripts and transcripts spell names, bytes and calls. Each value has one spelling.
 use Rattle.std.specs.Prelude.{ℕ, List, [], ◌∷◌, ◌++◌, Bool, ◌&&◌, ◌||◌, nat_le, ◌==◌, ◌+◌, ◌^◌, ◌<◌, ◌≤◌, length, ◌/◌, ◌%◌, if◌then◌else◌, codes, decimal}
 use Rattle.std.specs.List.{flat_map, AllByRecursion}
+pub use Rattle.charlotte_calls.specs.Ranges.{IsEnd, AreBytes}
 use Rattle.charlotte_calls.specs.declared.names.Side.{Side}
 use Rattle.charlotte_calls.specs.declared.names.Side.TheVariants.{A, B}
 use Rattle.charlotte_calls.specs.declared.names.Way.{Way}
@@ -67,15 +68,6 @@ call_text (Cancel on way) = codes "cancel " ++ end_text on ++ codes " " ++ way_t
 call_text Wait = codes "wait"
 call_text (Print bytes) = codes "print " ++ bytes_text bytes
 call_text Exit = codes "exit"
-
--- an end whose numbers are within their types
-pub record IsEnd (e : EndId) : Type 0 where
-  pub maker : e.link.maker < 2 ^ 8
-  pub count : e.link.count < 2 ^ 32
-
--- numbers of one byte each
-abbrev pub AreBytes : List ℕ → Type 0
-AreBytes bytes = AllByRecursion (λ b. b < 256) bytes
 
 -- how many ends a message may enclose: one in version 1, else eight
 abbrev pub most_ends : ℕ → ℕ

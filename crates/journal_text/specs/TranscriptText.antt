@@ -1,6 +1,7 @@
 -- Transcripts: texts that tell a setting, the entries of its events, notes and how it ended.
 use Rattle.std.specs.Prelude.{◌≡◌, ℕ, ◌<◌, ◌≤◌, nat_eq, List, [], ◌∷◌, length, All, if◌then◌else◌}
 use Rattle.std.specs.List.{concat}
+use Rattle.charlotte_calls.specs.Ranges.{IsU8, IsU32}
 use Rattle.charlotte_calls.specs.Setting.{IsValid}
 use Rattle.charlotte_calls.specs.declared.calls.Call.{Call}
 use Rattle.charlotte_calls.specs.declared.calls.Call.TheVariants as call
@@ -18,6 +19,7 @@ use Rattle.journal_text.specs.Transcript.{transcript_lines}
 use Rattle.journal_text.specs.declared.last.Last.{Last}
 use Rattle.journal_text.specs.declared.last.Last.TheVariants.{Spent}
 use Rattle.journal_text.specs.declared.last.ScriptNote.{ScriptNote}
+use Rattle.kernel_world.specs.Ranges.{IsPlacedInRange}
 use Rattle.kernel_world.specs.declared.entry.Happened.{Happened}
 use Rattle.kernel_world.specs.declared.entry.Happened.TheVariants.{Asked, Took}
 use Rattle.kernel_world.specs.declared.entry.Placed.{Placed}
@@ -73,9 +75,24 @@ abbrev pub HasNotesOf : Last → List ScriptNote → Type 0
 HasNotesOf (Spent kernel) notes = notes ≡ []
 HasNotesOf _ notes = Unit {0}
 
+-- the line of a note, and the kernel whose turns are used up, are numbers of their types
+abbrev pub IsNoteInRange : ScriptNote → Type 0
+IsNoteInRange n = IsU32 n.line
+
+abbrev pub IsLastInRange : Last → Type 0
+IsLastInRange (Spent kernel) = IsU8 kernel
+IsLastInRange _ = Unit {0}
+
+-- all are values of their types; those of a setting that is valid are
+pub record AreInRange (merged : List Placed) (notes : List ScriptNote) (last : Last) : Type 0 where
+  pub entries : All IsPlacedInRange merged
+  pub lines : All IsNoteInRange notes
+  pub ending : IsLastInRange last
+
 -- these can be told by a transcript
 pub record AreOfTranscript (s : Setting) (merged : List Placed) (notes : List ScriptNote) (last : Last) : Type 0 where
   pub setting : IsValid s
+  pub values : AreInRange merged notes last
   pub shown : All (IsShown s.version) merged
   pub in_order : AreRisingNotes notes
   pub spent : HasNotesOf last notes

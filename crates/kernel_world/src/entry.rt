@@ -1,6 +1,8 @@
 ghost use Rattle.std.specs.Prelude.{◌≡◌, IfOk};
+ghost use Rattle.kernel_world.specs.Ranges.{IsHappenedInRange, IsEntryInRange};
 ghost use Rattle.kernel_world.specs.declared.entry.Happened.TheVariants.{Asked, Took};
 
+use crate::ranges::{tell_call, tell_picture, tell_pid, tell_steps, tell_u8, tell_u64};
 use charlotte_calls::{Call, Items, NoMemory, Picture, Pid, ServiceStep};
 use compact_calls::{CompactCall, CompactPicture, CompactStep};
 use std::alloc::Global;
@@ -17,8 +19,11 @@ pub enum Happened {
 impl Happened {
     /// That a process made this call.
     pub fn asked(alloc: Global, p: Pid, call: &Call) -> Result<Happened, NoMemory>
-        ensures { IfOk result (λ h. h ≡ Asked p call.now) }
+        ensures same { IfOk result (λ h. h ≡ Asked p call.now) }
+        ensures in_range { IfOk result IsHappenedInRange }
     {
+        tell_pid(p);
+        tell_call(call);
         Ok(Happened::Asked {
             p,
             call: CompactCall::of(alloc, call)?,
@@ -27,8 +32,11 @@ impl Happened {
 
     /// That a kernel took this packet from a kernel.
     pub fn took(alloc: Global, from: u8, picture: &Picture) -> Result<Happened, NoMemory>
-        ensures { IfOk result (λ h. h ≡ Took from picture.now) }
+        ensures same { IfOk result (λ h. h ≡ Took from picture.now) }
+        ensures in_range { IfOk result IsHappenedInRange }
     {
+        tell_u8(from);
+        tell_picture(picture);
         Ok(Happened::Took {
             from,
             picture: CompactPicture::of(alloc, picture)?,
@@ -68,8 +76,11 @@ impl Entry {
         what: Happened,
         steps: &[ServiceStep],
     ) -> Result<Entry, NoMemory>
-        ensures { IfOk result (λ e. e ≡ record { stamp = stamp; what = what; steps = steps.now }) }
+        ensures same { IfOk result (λ e. e ≡ record { stamp = stamp; what = what; steps = steps.now }) }
+        ensures in_range { IsHappenedInRange what → IfOk result IsEntryInRange }
     {
+        tell_u64(stamp);
+        tell_steps(steps);
         let steps = store_steps(alloc, steps)?;
         Ok(Entry {
             stamp,

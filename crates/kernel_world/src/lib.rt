@@ -3,6 +3,7 @@
 
 mod entry;
 mod law;
+mod ranges;
 
 pub use entry::{Entry, Happened, Placed};
 pub use law::packets_after_an_event;

@@ -16,7 +16,7 @@ use Rattle.kernel_world.specs.declared.entry.Entry.{Entry}
 use Rattle.kernel_world.specs.declared.entry.Happened.{Happened}
 use Rattle.kernel_world.specs.declared.entry.Happened.TheVariants.{Took}
 use Rattle.kernel_world.specs.World.{to_kernel}
-use Rattle.script_run.specs.Nodes.{sent_to, IsStamped, IsAfter}
+use Rattle.script_run.specs.Nodes.{sent_to, IsInRange, IsStamped, IsAfter}
 use Rattle.world_record.specs.Told.{IsTold}
 use Rattle.script_run.specs.declared.node.Node.{Node}
 use Rattle.world_record.proofs.KeptSteps.{call_step-gives, take_step-gives, told-without_answer}
@@ -75,8 +75,8 @@ take-later k from q told early =
     omega arith
 
 -- an event was noted
-pub noted-after : (old new : Node) (k : KernelView) (what : Happened) (effect : Effect) (before : List Entry) (o : Outcome) → IsEffectOf k effect o → new.kernel ≡ k → length k.processes ≡ length old.kernel.processes → length new.sent.items ≡ length old.sent.items → old.kernel.stamp < o.kernel.stamp → IsStamped old → before ≡ old.journal.entries → new.journal.entries ≡ before ++ record { stamp = effect.stamp; what = what; steps = effect.steps.items } ∷ [] → ((to : ℕ) → sent_to new to ≡ sent_to old to ++ to_kernel to (map sent_picture effect.packets.items)) → IsAfter what o old new
-noted-after old new k what effect before o is kernel processes lists up stamped same entries sent =
+pub noted-after : (old new : Node) (k : KernelView) (what : Happened) (effect : Effect) (before : List Entry) (o : Outcome) → IsEffectOf k effect o → new.kernel ≡ k → length k.processes ≡ length old.kernel.processes → length new.sent.items ≡ length old.sent.items → old.kernel.stamp < o.kernel.stamp → IsStamped old → IsInRange new → before ≡ old.journal.entries → new.journal.entries ≡ before ++ record { stamp = effect.stamp; what = what; steps = effect.steps.items } ∷ [] → ((to : ℕ) → sent_to new to ≡ sent_to old to ++ to_kernel to (map sent_picture effect.packets.items)) → IsAfter what o old new
+noted-after old new k what effect before o is kernel processes lists up stamped in_range same entries sent =
     record {
       kernel = ap state_of kernel ∙ is.kernel;
       entries = all;
@@ -84,6 +84,7 @@ noted-after old new k what effect before o is kernel processes lists up stamped 
       processes = ap (λ (x : KernelView). length x.processes) kernel ∙ processes;
       lists = lists;
       stamped = subst (λ es. All (IsUpTo new.kernel.stamp) es) (sym all) (up_to-push old.journal.entries here old.kernel.stamp new.kernel.stamp stamped (omega (arith, now)) (omega (arith, now)));
+      in_range = in_range;
     }
   where
     here : Entry
@@ -98,7 +99,7 @@ noted-after old new k what effect before o is kernel processes lists up stamped 
     now : new.kernel.stamp ≡ o.kernel.stamp
     now = ap (λ (x : KernelView). x.stamp) kernel ∙ sym (state_of-stamp k) ∙ ap (λ (x : Kernel). x.stamp) is.kernel
 
--- what two facts about a success give
-pub on_ok_both : {T E : Type 0} {P Q R : Type 0} (r : Result T E) → (P → Q → R) → OnOk r P → OnOk r Q → OnOk r R
-on_ok_both (Ok x) f p q = f p q
-on_ok_both (Err e) f p q = tt
+-- what three facts about a success give
+pub on_ok_all : {T E : Type 0} {P Q R S : Type 0} (r : Result T E) → (P → Q → R → S) → OnOk r P → OnOk r Q → OnOk r R → OnOk r S
+on_ok_all (Ok x) f p q s = f p q s
+on_ok_all (Err e) f p q s = tt

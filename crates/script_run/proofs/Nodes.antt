@@ -10,6 +10,7 @@ use Rattle.kernel_core.specs.State.{KernelView, state_of}
 use Rattle.journal_text.specs.Journal.{Kept}
 use Rattle.kernel_step.specs.Kernel.{Kernel, Outcome}
 use Rattle.kernel_step.specs.Start.{start_kernel}
+use Rattle.kernel_world.specs.Ranges.{IsEntryInRange}
 use Rattle.kernel_world.specs.Run.{IsAllowed, AreAllowed, of_kernel}
 use Rattle.kernel_world.specs.World.{World, Event, kernel_of, outcome, removes, adds_all, happens, asked_or_took, noted_as, after, noted, to_kernel}
 use Rattle.kernel_world.proofs.Packets.{adds_all-own, adds_all-other}
@@ -94,6 +95,7 @@ with_sent s ns k node new below at all kernel journal lists =
       processes = ap (λ (x : KernelView). length x.processes) kernel ∙ was.processes;
       lists = lists ∙ was.lists;
       stamped = subst (λ (x : KernelView). P x new.journal) (sym kernel) (subst (P node.kernel) (sym journal) was.stamped);
+      in_range = subst (λ (j : Kept). All IsEntryInRange j.entries) (sym journal) was.in_range;
     }
 
 -- nothing happened
@@ -152,7 +154,7 @@ event_goes s ns ms mid new e below at is event allowed =
     was = subst (IsNodeOf s) (sym at) (All-get_or (IsNodeOf s) ms k mid below is.nodes)
 
     here : IsNodeOf s new
-    here = record { processes = event.processes ∙ was.processes; lists = event.lists ∙ was.lists; stamped = event.stamped }
+    here = record { processes = event.processes ∙ was.processes; lists = event.lists ∙ was.lists; stamped = event.stamped; in_range = event.in_range }
 
     kernel : (q : ℕ) → (world_of s (set ms k new)).kernel q ≡ cond (nat_eq q k) o.kernel (w.kernel q)
     kernel q = kernel-set s ms k new q below ∙ ap (λ (x : Kernel). cond (nat_eq q k) x ((world_of s ms).kernel q)) event.kernel ∙ ap (λ (x : Kernel). cond (nat_eq q k) o.kernel x) (is.kernel q)

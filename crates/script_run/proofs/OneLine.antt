@@ -10,7 +10,8 @@ use Rattle.charlotte_calls.specs.declared.packet.Packet.{Packet}
 use Rattle.charlotte_calls.specs.declared.picture.Picture.{Picture}
 use Rattle.charlotte_calls.specs.declared.setting.Setting.{Setting}
 use Rattle.charlotte_calls.specs.Packets.{packet_picture}
-use Rattle.charlotte_text.specs.Spelling.{IsCall}
+use Rattle.charlotte_calls.specs.Ranges.{IsCallInRange}
+use Rattle.charlotte_text.specs.Spelling.{IsCall, most_ends}
 use Rattle.end_table.specs.Table.{entries}
 use Rattle.kernel_core.specs.State.{KernelView, state_of}
 use Rattle.journal_text.specs.TranscriptText.{HasFewCall}
@@ -73,6 +74,19 @@ told_call v (call.Cancel on w) h = tt
 told_call v call.Wait h = tt
 told_call v (call.Print bytes) h = tt
 told_call v call.Exit h = tt
+
+most_eight : (v n : ℕ) → n ≤ most_ends v → n ≤ 8
+most_eight v n le = elim (nat_eq v 1) as (λ b. n ≤ cond b 1 8 → n ≤ 8) [ true ↦ λ h. omega arith | false ↦ λ h. h ] le
+
+pub call-in_range : (v : ℕ) (c : Call) → IsCall v c → IsCallInRange c
+call-in_range v call.Make h = tt
+call-in_range v (call.Destroy on) h = h
+call-in_range v (call.Send on bytes xs) h = (h.0, record { each = h.1; few = h.2 }, record { each = h.3; few = most_eight v (length xs) h.4 })
+call-in_range v (call.Receive on) h = h
+call-in_range v (call.Cancel on w) h = h
+call-in_range v call.Wait h = tt
+call-in_range v (call.Print bytes) h = record { each = h.0; few = h.1 }
+call-in_range v call.Exit h = tt
 
 asks-waits : (s : Setting) (w : World) (line : ℕ) (p : Pid) (c : Call) (phase : Phase) → phase ≢ Running → Asks s w line p c phase [] (waits_note line ∷ [])
 asks-waits s w line p c Running ne = absurd (ne refl)

@@ -11,13 +11,14 @@ use Rattle.charlotte_calls.specs.declared.setting.Setting.{Setting}
 use Rattle.charlotte_calls.specs.Packets.{packet_picture}
 use Rattle.charlotte_calls.specs.Setting.{IsValid}
 use Rattle.kernel_core.specs.State.{state_of}
-use Rattle.journal_text.specs.TranscriptText.{AreOfTranscript, AreRisingNotes, HasNotesOf, IsShown}
+use Rattle.journal_text.specs.TranscriptText.{AreOfTranscript, AreRisingNotes, HasNotesOf, IsLastInRange, IsNoteInRange, IsShown}
 use Rattle.journal_text.specs.declared.last.Last.{Last}
 use Rattle.journal_text.specs.declared.last.Last.TheVariants.{Quiet, Unsettled, Spent}
 use Rattle.journal_text.specs.declared.last.ScriptNote.{ScriptNote}
 use Rattle.kernel_step.specs.Start.{start_kernel}
 use Rattle.kernel_step.specs.declared.phase.Phase.{Phase}
 use Rattle.kernel_step.specs.declared.phase.Phase.TheVariants.{Running, Waiting, Cancelling, Exited}
+use Rattle.kernel_world.specs.Ranges.{IsPlacedInRange}
 use Rattle.kernel_world.specs.Run.{AllTaken, AreAllowed, IsMerge, of_kernel}
 use Rattle.kernel_world.specs.World.{World, Event, after, start, noted}
 use Rattle.kernel_world.specs.declared.entry.Placed.{Placed}
@@ -207,11 +208,18 @@ performance s lines merged notes last a b ready begins none done merge ends few 
     at_kernel : (k : ℕ) → of_kernel k merged ≡ of_kernel k (noted (start s) es)
     at_kernel k = merge.entries k ∙ done.goes.entries k ∙ ap (λ xs. xs ++ of_kernel k (noted (world_of s a) es)) (none k) ∙ ap (λ (w : World). of_kernel k (noted w es)) begins
 
+-- a script does not end with turns used up
+last-in_range : (w : World) (last : Last) → IsLast w last → IsLastInRange last
+last-in_range w Quiet h = tt
+last-in_range w Unsettled h = tt
+last-in_range w (Spent k) h = absurd h
+
 -- what was performed can be told
-pub performance-told : (s : Setting) (lines : List ScriptLine) (merged : List Placed) (notes : List ScriptNote) (last : Last) → IsValid s → AreRisingLines lines → IsPerformance s lines merged notes last → AreOfTranscript s merged notes last
-performance-told s lines merged notes last valid rising p =
+pub performance-told : (s : Setting) (lines : List ScriptLine) (merged : List Placed) (notes : List ScriptNote) (last : Last) → IsValid s → AreRisingLines lines → All IsPlacedInRange merged → All IsNoteInRange notes → IsPerformance s lines merged notes last → AreOfTranscript s merged notes last
+performance-told s lines merged notes last valid rising entries note_lines p =
     record {
       setting = valid;
+      values = record { entries = entries; lines = note_lines; ending = last-in_range (after (start s) p.named) last p.last_world };
       shown = record-shown s p.recorded.run merged p.recorded.recorded;
       in_order = notes-rise s (start s) lines p.named notes rising p.performed;
       spent = last-notes (after (start s) p.named) last notes p.last_world;

@@ -8,6 +8,7 @@ use Rattle.charlotte_calls.specs.declared.setting.Setting.{Setting}
 use Rattle.kernel_core.specs.State.{state_of}
 use Rattle.kernel_step.specs.Kernel.{Outcome}
 use Rattle.kernel_step.specs.Start.{start_kernel}
+use Rattle.kernel_world.specs.Ranges.{IsEntryInRange}
 use Rattle.kernel_world.specs.World.{World, Event, Takes, after, noted, to_kernel}
 use Rattle.kernel_world.specs.Run.{AreAllowed, of_kernel}
 use Rattle.kernel_world.specs.declared.entry.Entry.{Entry}
@@ -26,12 +27,17 @@ sent_to node to = slice_index_or (map (λ list. map packet_picture list.items) n
 abbrev pub IsStamped : Node → Type 0
 IsStamped node = All (λ e. e.stamp ≤ node.kernel.stamp) node.journal.entries
 
+-- its entries are values of their types
+abbrev pub IsInRange : Node → Type 0
+IsInRange node = All IsEntryInRange node.journal.entries
+
 -- a node of a setting: it has a place for each process and a list for each number of a kernel, and no entry has a stamp that its
 -- kernel has not reached
 pub record IsNodeOf (s : Setting) (node : Node) : Type 0 where
   pub processes : length node.kernel.processes ≡ length s.homes
   pub lists : length node.sent.items ≡ 256
   pub stamped : IsStamped node
+  pub in_range : IsInRange node
 
 -- an event happened at a node: the kernel, the entry and the packets are those of the outcome
 pub record IsAfter (what : Happened) (o : Outcome) (old new : Node) : Type 0 where
@@ -41,6 +47,7 @@ pub record IsAfter (what : Happened) (o : Outcome) (old new : Node) : Type 0 whe
   pub processes : length new.kernel.processes ≡ length old.kernel.processes
   pub lists : length new.sent.items ≡ length old.sent.items
   pub stamped : IsStamped new
+  pub in_range : IsInRange new
 
 -- ---- all nodes, by the numbers of their kernels
 

@@ -1,5 +1,6 @@
 ghost use Rattle.std.specs.Prelude.{◌≡◌, ◌↔◌, ◌^◌, ◌<◌, ◌-◌, max, ℕ, nat_eq, not, ◌++◌, ◌∷◌, [], All, IfOk, IsTrue, OnOk, List, MatchOption, length, map};
 ghost use Rattle.charlotte_calls.specs.Packets.{packet_picture, what_picture};
+ghost use Rattle.charlotte_calls.specs.Ranges.{IsCallInRange};
 ghost use Rattle.charlotte_calls.specs.Setting.{IsValid};
 ghost use Rattle.charlotte_calls.specs.declared.names.EndId.{EndId};
 ghost use Rattle.end_table.specs.Table.{entries};
@@ -11,9 +12,10 @@ ghost use Rattle.kernel_step.specs.Kernel.{call_step, take_step, process_of, wit
 ghost use Rattle.kernel_step.specs.Progress.{sent_picture};
 ghost use Rattle.kernel_step.specs.Start.{start_kernel};
 ghost use Rattle.kernel_step.specs.declared.phase.Phase.TheVariants.{Running};
+ghost use Rattle.kernel_world.specs.Ranges.{IsHappenedInRange};
 ghost use Rattle.kernel_world.specs.World.{to_kernel};
 ghost use Rattle.kernel_world.specs.declared.entry.Happened.TheVariants.{Asked, Took};
-ghost use Rattle.script_run.specs.Nodes.{sent_to, IsNodeOf, IsStamped, IsAfter, IsPopped, IsUnpopped};
+ghost use Rattle.script_run.specs.Nodes.{sent_to, IsNodeOf, IsInRange, IsStamped, IsAfter, IsPopped, IsUnpopped};
 ghost use Rattle.world_record.specs.Told.{IsTold};
 
 use charlotte_calls::{Effect, NoMemory, Packet, Pid, Setting};
@@ -58,8 +60,10 @@ impl Node {
         requires running { (process_of p (state_of self.old.kernel)).phase ≡ Running }
         requires lists { length self.old.sent.items ≡ 256 }
         requires stamped { IsStamped self.old }
+        requires in_range { IsInRange self.old }
         requires time { self.old.kernel.stamp < 2 ^ 64 - 1 }
         requires told { (version : ℕ) × IsTold version (state_of self.old.kernel) × HasFewCall version asked }
+        requires fits { IsCallInRange asked }
         ensures after { OnOk result ((mine : List EndId) × IsCallWith p (entries self.old.kernel.table) mine asked
             × IsAfter (Asked p asked) (call_step (without_answer p (state_of self.old.kernel)) p mine asked) self.old self.new) }
     {
@@ -74,6 +78,7 @@ impl Node {
     pub(crate) fn take(&mut self, from: u8, packet: Packet) -> Result<(), NoMemory>
         requires lists { length self.old.sent.items ≡ 256 }
         requires stamped { IsStamped self.old }
+        requires in_range { IsInRange self.old }
         requires time { max self.old.kernel.stamp packet.stamp < 2 ^ 64 - 1 }
         requires told { (version : ℕ) × IsTold version (state_of self.old.kernel) × HasFewPacket version (what_picture packet.what) }
         ensures after { OnOk result (IsAfter (Took from (packet_picture packet)) (take_step (state_of self.old.kernel) from (packet_picture packet)) self.old self.new) }
@@ -96,10 +101,12 @@ impl Node {
     fn note(&mut self, what: Happened, effect: Effect) -> Result<(), NoMemory>
         requires lists { length self.old.sent.items ≡ 256 }
         requires after_last { IsAfterLast self.old.journal.entries effect.stamp }
+        requires in_range { IsInRange self.old × IsHappenedInRange what }
         ensures kernel { self.new.kernel ≡ self.old.kernel }
         ensures entries { OnOk result (self.new.journal.entries ≡ self.old.journal.entries ++ record { stamp = effect.stamp; what = what; steps = effect.steps.items } ∷ []) }
         ensures sent { OnOk result ((to : ℕ) → sent_to self.new to ≡ sent_to self.old to ++ to_kernel to (map sent_picture effect.packets.items)) }
         ensures lists { length self.new.sent.items ≡ length self.old.sent.items }
+        ensures in_range { OnOk result (IsInRange self.new) }
     {
         let Effect {
             stamp,

@@ -3,7 +3,7 @@ ghost use Rattle.std.specs.Prelude.{◌≡◌, ◌↔◌, ◌≤◌, ◌++◌, �
 ghost use Rattle.std.specs.Option.{option_to_list};
 ghost use Rattle.charlotte_calls.specs.Setting.{IsValid};
 ghost use Rattle.charlotte_calls.specs.declared.setting.Setting.{Setting as ASetting};
-ghost use Rattle.journal_text.specs.TranscriptText.{AreOfTranscript};
+ghost use Rattle.journal_text.specs.TranscriptText.{AreOfTranscript, IsNoteInRange};
 ghost use Rattle.kernel_world.specs.Run.{IsMerge};
 ghost use Rattle.kernel_world.specs.World.{start};
 ghost use Rattle.lynx_plan.specs.ScriptText.{AreRisingLines, FitsWhat};
@@ -46,6 +46,7 @@ pub fn perform(
     let mut nodes = start_nodes(alloc, setting)?;
     let notes = do_lines(alloc, setting, &mut nodes, VecDeque::from(lines.into_vec()))?;
     let last = last_of(&nodes);
+    tell_notes(&notes);
     let merged = merge_journals(alloc, nodes)?;
     Ok(Performance {
         merged,
@@ -96,6 +97,15 @@ fn push_note(notes: &mut Vec<ScriptNote>, note: Option<ScriptNote>) -> Result<()
         notes.push(note)?;
     }
     Ok(())
+}
+
+/// Each note is a value of its type. This reads, and does nothing else.
+fn tell_notes(notes: &[ScriptNote])
+    ensures { All IsNoteInRange notes.now }
+{
+    for note in notes {
+        let _ = note.line;
+    }
 }
 
 /// Whether a packet is left.

@@ -8,7 +8,7 @@ use Rattle.kernel_step.specs.declared.phase.Phase.TheVariants.{Running}
 use Rattle.lynx_plan.specs.declared.script.ScriptCall.TheVariants.{Ask}
 use Rattle.script_run.specs.Nodes.{IsLineDone}
 use Rattle.script_run.specs.declared.node.Node.{Node}
-use Rattle.script_run.proofs.OneLine.{ask-waits, ask-runs, node-told, node-early, told_call}
+use Rattle.script_run.proofs.OneLine.{ask-waits, ask-runs, node-told, node-early, told_call, call-in_range}
 use Rattle.script_run.proofs.lines.ask.Goals as goal
 
 pub returns-then-not-running : goal.returns-then-not-running
@@ -41,6 +41,9 @@ call-requires-clause-told c =
     let below : c.from-2.result < length c.args.nodes.now = search rules in
     let at : node ≡ get_or c.args.nodes.now c.from-2.result node = ap (λ (x : Node). get_or c.args.nodes.now c.from-2.result x) c.index-nodes-from.is in
     (c.args.setting.now.version, node-told c.args.setting.now ready.0 c.args.nodes.now c.from-2.result node ready.2 below at, told_call c.args.setting.now.version c.args.asked c.requires.fits.1)
+
+pub call-requires-clause-fits : goal.call-requires-clause-fits
+call-requires-clause-fits c = call-in_range c.args.setting.now.version c.args.asked c.requires.fits.1
 
 pub returns : goal.returns
 returns c =

@@ -12,7 +12,7 @@ use Rattle.kernel_step.specs.Kernel.{Kernel, Outcome, call_step, without_answer}
 use Rattle.kernel_world.specs.declared.entry.Entry.{Entry}
 use Rattle.kernel_world.specs.declared.entry.Happened.{Happened}
 use Rattle.kernel_world.specs.declared.entry.Happened.TheVariants.{Asked}
-use Rattle.script_run.proofs.Events.{IsEffectOf, effect_of, table-without_answer, call-later, noted-after, on_ok_both}
+use Rattle.script_run.proofs.Events.{IsEffectOf, effect_of, table-without_answer, call-later, noted-after, on_ok_all}
 use Rattle.script_run.proofs.Stamps.{after_last}
 use Rattle.script_run.proofs.node.Node.call.Goals as goal
 
@@ -47,13 +47,13 @@ returns c =
     let with : IsCallWith c.args.p (entries k.table) mine asked =
     subst (λ (t : EndId → TableEntry). IsCallWith c.args.p t mine asked) table step.1 in
     record {
-      after = on_ok_both c.note.result
-          (λ entries sent. (
+      after = on_ok_all c.note.result
+          (λ entries sent in_range. (
             mine,
             with,
             noted-after c.args.self.now c.note.new.self c.call.new.self (Asked c.args.p asked) c.in_ok-effect.effect c.reserve.new.self.entries o is
-                c.note.ensures.kernel (c.in_ok-effect.ensures.processes ∙ c.answer.ensures.processes) c.note.ensures.lists up c.requires.stamped c.in_ok-reserve.ensures.same
+                c.note.ensures.kernel (c.in_ok-effect.ensures.processes ∙ c.answer.ensures.processes) c.note.ensures.lists up c.requires.stamped in_range c.in_ok-reserve.ensures.same
                 entries sent,
           ))
-          c.note.ensures.entries c.note.ensures.sent;
+          c.note.ensures.entries c.note.ensures.sent c.note.ensures.in_range;
     }

@@ -7,7 +7,7 @@ use Rattle.kernel_step.specs.Kernel.{Outcome, take_step}
 use Rattle.kernel_world.specs.declared.entry.Entry.{Entry}
 use Rattle.kernel_world.specs.declared.entry.Happened.{Happened}
 use Rattle.kernel_world.specs.declared.entry.Happened.TheVariants.{Took}
-use Rattle.script_run.proofs.Events.{IsEffectOf, effect_of, take-later, noted-after, on_ok_both}
+use Rattle.script_run.proofs.Events.{IsEffectOf, effect_of, take-later, noted-after, on_ok_all}
 use Rattle.script_run.proofs.Stamps.{after_last}
 use Rattle.script_run.proofs.node.Node.take.Goals as goal
 
@@ -28,9 +28,9 @@ returns-in-Ok c =
     let up = take-later k c.args.from q c.requires.told c.requires.time in
     let said : Happened → Entry = λ x. record { stamp = c.in-Ok.effect.stamp; what = x; steps = c.in-Ok.effect.steps.items } in
     record {
-      after = on_ok_both c.note.result
-          (λ entries sent. noted-after c.args.self.now c.note.new.self c.take.new.self (Took c.args.from q) c.in-Ok.effect c.reserve.new.self.entries o is
-          c.note.ensures.kernel c.in-Ok.ensures.processes c.note.ensures.lists up c.requires.stamped c.in_ok-reserve.ensures.same
-          (entries ∙ ap (λ (x : Happened). c.reserve.new.self.entries ++ said x ∷ []) (c.in_ok-took.ensures ∙ ap (λ (x : Picture). Took c.args.from x) c.picture.ensures)) sent)
-          c.note.ensures.entries c.note.ensures.sent;
+      after = on_ok_all c.note.result
+          (λ entries sent in_range. noted-after c.args.self.now c.note.new.self c.take.new.self (Took c.args.from q) c.in-Ok.effect c.reserve.new.self.entries o is
+          c.note.ensures.kernel c.in-Ok.ensures.processes c.note.ensures.lists up c.requires.stamped in_range c.in_ok-reserve.ensures.same
+          (entries ∙ ap (λ (x : Happened). c.reserve.new.self.entries ++ said x ∷ []) (c.in_ok-took.ensures.same ∙ ap (λ (x : Picture). Took c.args.from x) c.picture.ensures)) sent)
+          c.note.ensures.entries c.note.ensures.sent c.note.ensures.in_range;
     }

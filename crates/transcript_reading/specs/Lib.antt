@@ -1,0 +1,4 @@
+pub mod Forms
+pub mod Kinds
+pub mod Order
+pub mod Reading
