@@ -8,10 +8,10 @@ use Rattle.charlotte_calls.specs.declared.names.Outcome.{Outcome}
 use Rattle.charlotte_calls.specs.declared.names.Outcome.TheVariants as outcome
 use Rattle.charlotte_calls.specs.declared.names.Pid.{Pid}
 use Rattle.charlotte_calls.specs.declared.names.Way.TheVariants as way
-use Rattle.link_service.specs.Ends.{end_eq}
-use Rattle.link_service.specs.End.{End}
-use Rattle.link_service.specs.Phase.{Phase}
-use Rattle.link_service.specs.Phase as phase
+use Rattle.service_step.specs.Ends.{end_eq}
+use Rattle.service_step.specs.declared.state.End.{End}
+use Rattle.service_step.specs.declared.state.Phase.{Phase}
+use Rattle.service_step.specs.declared.state.Phase.TheVariants as phase
 
 -- what a process is doing, and what it is still to be told
 pub record Process : Type 0 where

@@ -14,14 +14,15 @@ use Rattle.charlotte_calls.specs.declared.names.Pid.{Pid}
 use Rattle.charlotte_calls.specs.declared.names.Side.TheVariants.{A}
 use Rattle.charlotte_calls.specs.declared.names.Way.{Way}
 use Rattle.charlotte_calls.specs.declared.names.Way.TheVariants as way
-use Rattle.link_service.specs.Causes.{first_of, send_causes, receive_causes, HasActivity, IsRefusedFor}
-use Rattle.link_service.specs.Ends.{end_eq, is_made, is_destroyed, is_living, owner, is_owned_by, waiting_message, matched_message, is_taken, is_posted, is_withdrawn, is_matched_with, is_matched_inward, is_started_inward, makes, destroys, destroys_each, starts_send, turns_inward, turns_outward, idles, withdraws_send, matches, takes, notices, returns}
-use Rattle.link_service.specs.State.{State, Process, is_running, is_waiting, is_cancelling, owner_cancels, turns, gains, given, ends_process, wakes, tells, send_report, receive_report, dead_receive_report, next_link, link_limit, counts}
-use Rattle.link_service.specs.End.{End}
-use Rattle.link_service.specs.Inward as inward
-use Rattle.link_service.specs.Outward.{Message, Outward}
-use Rattle.link_service.specs.Outward as outward
-use Rattle.link_service.specs.Phase as phase
+use Rattle.service_step.specs.Causes.{first_of, send_causes, receive_causes, HasActivity, IsRefusedFor}
+use Rattle.service_step.specs.Ends.{end_eq, is_made, is_destroyed, is_living, owner, is_owned_by, waiting_message, matched_message, is_taken, is_posted, is_withdrawn, is_matched_with, is_matched_inward, is_started_inward, makes, destroys, destroys_each, starts_send, turns_inward, turns_outward, idles, withdraws_send, matches, takes, notices, returns}
+use Rattle.service_step.specs.State.{State, Process, is_running, is_waiting, is_cancelling, owner_cancels, turns, gains, given, ends_process, wakes, tells, send_report, receive_report, dead_receive_report, next_link, link_limit, counts}
+use Rattle.service_step.specs.declared.state.End.{End}
+use Rattle.service_step.specs.declared.state.Inward.TheVariants as inward
+use Rattle.service_step.specs.declared.state.Message.{Message}
+use Rattle.service_step.specs.declared.state.Outward.{Outward}
+use Rattle.service_step.specs.declared.state.Outward.TheVariants as outward
+use Rattle.service_step.specs.declared.state.Phase.TheVariants as phase
 
 -- the steps by number. The numbers before definitions are these
 abbrev pub step_number : ServiceStep → ℕ

@@ -11,15 +11,16 @@ use Rattle.charlotte_calls.specs.declared.names.EndId.{EndId}
 use Rattle.charlotte_calls.specs.declared.names.Pid.{Pid}
 use Rattle.charlotte_calls.specs.declared.names.Way.{Way}
 use Rattle.charlotte_calls.specs.declared.names.Way.TheVariants as way
-use Rattle.link_service.specs.Ends.{end_eq}
-use Rattle.link_service.specs.Run.{state_after}
-use Rattle.link_service.specs.State.{State, receive_report}
-use Rattle.link_service.specs.Steps.{is_matched}
-use Rattle.link_service.specs.Outward.{Message, Outward}
-use Rattle.link_service.specs.Outward as outward
-use Rattle.link_service.specs.Phase.{Ended}
-use Rattle.link_service.specs.Place.{Place}
-use Rattle.link_service.specs.Place as place
+use Rattle.service_step.specs.Ends.{end_eq}
+use Rattle.service_step.specs.Run.{state_after}
+use Rattle.service_step.specs.State.{State, receive_report}
+use Rattle.service_step.specs.Steps.{is_matched}
+use Rattle.service_step.specs.declared.state.Message.{Message}
+use Rattle.service_step.specs.declared.state.Outward.{Outward}
+use Rattle.service_step.specs.declared.state.Outward.TheVariants as outward
+use Rattle.service_step.specs.declared.state.Phase.TheVariants.{Ended}
+use Rattle.service_step.specs.declared.state.Place.{Place}
+use Rattle.service_step.specs.declared.state.Place.TheVariants as place
 
 -- the message of a send that is Waiting or Matched
 abbrev pub message_of : Outward → Option Message

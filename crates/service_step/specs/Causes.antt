@@ -11,11 +11,11 @@ use Rattle.charlotte_calls.specs.declared.names.LinkId.{LinkId}
 use Rattle.charlotte_calls.specs.declared.names.Pid.{Pid}
 use Rattle.charlotte_calls.specs.declared.names.Way.{Way}
 use Rattle.charlotte_calls.specs.declared.names.Way.TheVariants as way
-use Rattle.link_service.specs.Ends.{end_eq, is_owned_by, is_idle, is_active, is_idle_outward, is_reported_outward, is_taken, is_idle_inward, is_reported_inward}
-use Rattle.link_service.specs.State.{State, next_link, link_limit}
-use Rattle.link_service.specs.End.{End}
-use Rattle.link_service.specs.Outward.{Outward}
-use Rattle.link_service.specs.Outward as outward
+use Rattle.service_step.specs.Ends.{end_eq, is_owned_by, is_idle, is_active, is_idle_outward, is_reported_outward, is_taken, is_idle_inward, is_reported_inward}
+use Rattle.service_step.specs.State.{State, next_link, link_limit}
+use Rattle.service_step.specs.declared.state.End.{End}
+use Rattle.service_step.specs.declared.state.Outward.{Outward}
+use Rattle.service_step.specs.declared.state.Outward.TheVariants as outward
 
 -- the first of some tests that holds
 abbrev pub first_of : List (Bool × Cause) → Option Cause

@@ -8,13 +8,14 @@ use Rattle.charlotte_calls.specs.declared.names.Way.{Way}
 use Rattle.charlotte_calls.specs.declared.names.Way.TheVariants as way
 use Rattle.charlotte_calls.specs.contracts.names.EndIdPartialEq.TheImpl as derived
 use Rattle.charlotte_calls.specs.Names.{opposite}
-use Rattle.link_service.specs.End.{End}
-use Rattle.link_service.specs.Place.{Place}
-use Rattle.link_service.specs.Place as place
-use Rattle.link_service.specs.Outward.{Message, Outward}
-use Rattle.link_service.specs.Outward as outward
-use Rattle.link_service.specs.Inward.{Inward}
-use Rattle.link_service.specs.Inward as inward
+use Rattle.service_step.specs.declared.state.End.{End}
+use Rattle.service_step.specs.declared.state.Place.{Place}
+use Rattle.service_step.specs.declared.state.Place.TheVariants as place
+use Rattle.service_step.specs.declared.state.Message.{Message}
+use Rattle.service_step.specs.declared.state.Outward.{Outward}
+use Rattle.service_step.specs.declared.state.Outward.TheVariants as outward
+use Rattle.service_step.specs.declared.state.Inward.{Inward}
+use Rattle.service_step.specs.declared.state.Inward.TheVariants as inward
 
 -- two ends are the same, as `==` of ends tells: they have the same maker, count and side
 unfoldable pub end_eq : EndId → EndId → Bool

@@ -7,12 +7,12 @@ use Rattle.charlotte_calls.specs.declared.names.EndId.{EndId}
 use Rattle.charlotte_calls.specs.declared.names.Pid.{Pid}
 use Rattle.charlotte_calls.specs.declared.names.Side.TheVariants.{A}
 use Rattle.charlotte_calls.specs.declared.setting.Setting.{Setting}
-use Rattle.link_service.specs.Ends.{fresh, put, unmade}
-use Rattle.link_service.specs.State.{State, Process, no_process, counts}
-use Rattle.link_service.specs.Steps.{IsServiceStep}
-use Rattle.link_service.specs.End.{End}
-use Rattle.link_service.specs.Phase.{Running}
-use Rattle.link_service.specs.Place.{Owned}
+use Rattle.service_step.specs.Ends.{fresh, put, unmade}
+use Rattle.service_step.specs.State.{State, Process, no_process, counts}
+use Rattle.service_step.specs.Steps.{IsServiceStep}
+use Rattle.service_step.specs.declared.state.End.{End}
+use Rattle.service_step.specs.declared.state.Phase.TheVariants.{Running}
+use Rattle.service_step.specs.declared.state.Place.TheVariants.{Owned}
 
 -- the links wired so far
 pub record Wired : Type 0 where
