@@ -1,12 +1,12 @@
 -- How a service keeps its state.
-use Rattle.std.specs.Prelude.{◌≡◌, ℕ, IsTrue, All, List}
+use Rattle.std.specs.Prelude.{◌≡◌, ℕ, ◌-◌, ◌&&◌, IsTrue, All, List, Some, length, slice_get}
 use Rattle.charlotte_calls.specs.declared.calls.ServiceStep.{ServiceStep}
 use Rattle.charlotte_calls.specs.declared.names.EndId.{EndId}
 use Rattle.charlotte_calls.specs.declared.names.Pid.{Pid}
 use Rattle.link_service.specs.declared.service.ApplyFault.{ApplyFault}
 use Rattle.link_service.specs.declared.service.ApplyFault.TheVariants as fault
 use Rattle.service_links.specs.Links.{ends_of}
-use Rattle.service_processes.specs.Known.{Known, known_of, IsKnown}
+use Rattle.service_processes.specs.Known.{Known, known_of, active_of, IsKnown}
 use Rattle.service_processes.specs.Processes.{process_of}
 use Rattle.service_processes.specs.declared.processes.ControlBlock.{ControlBlock}
 use Rattle.service_step.specs.Ends.{is_owned_by, is_active}
@@ -53,3 +53,13 @@ IsFault s made fault.NoMemory = Unit {0}
 -- these ends are known to be the process's that owns an end
 pub record OwnerKnows (v : ServiceView) (e : EndId) (xs : List EndId) : Type 0 where
   pub all : (p : Pid) → IsTrue (is_owned_by p (ends_of v.links e).place) → All (IsKnown (known_of v.processes) p) xs
+
+-- the last end on which p is known to have an activity
+abbrev pub IsLastActive : Pid → ServiceView → EndId → Type 0
+IsLastActive p v e = slice_get (active_of v.processes p.0) (length (active_of v.processes p.0) - 1) ≡ Some e
+
+-- p has no activity on the last end on which it is known to have one
+pub record HasIdleLast (p : Pid) (v : ServiceView) : Type 0 where
+  pub last : EndId
+  pub is : IsLastActive p v last
+  pub idle : IsTrue (is_owned_by p (ends_of v.links last).place && is_active (ends_of v.links last)) → ⊥

@@ -37,7 +37,7 @@ impl Service {
         ensures started { IsTrue result ↔ HasStarted (state_of self.old).ends p }
         ensures same { state_of self.new ≡ state_of self.old }
     {
-        while let Some(e) = self.processes().last_active(p) {
+        while let Some(e) = self.last_active(p) {
             if self.is_started_on(p, e) {
                 return true;
             }

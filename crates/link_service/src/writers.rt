@@ -1,13 +1,15 @@
 //! The parts of steps: each writer makes of the state what its word makes of it.
-ghost use Rattle.std.specs.Prelude.{◌≡◌, ◌++◌, ◌∷◌, [], All, IsTrue, OnOk, OnErr, option_to_list};
-ghost use Rattle.service_processes.specs.Known.{known_of, held_by, IsKnown};
+ghost use Rattle.std.specs.Prelude.{◌≡◌, ◌++◌, ◌∷◌, [], ◌&&◌, ◌<◌, All, Contains, IfSome, IsNone, IsTrue, OnOk, OnErr, length, option_to_list};
+ghost use Rattle.charlotte_calls.specs.declared.names.EndId.{EndId};
+ghost use Rattle.service_processes.specs.Known.{known_of, held_by, active_of, IsKnown};
 ghost use Rattle.service_processes.specs.Processes.{HasProcess};
-ghost use Rattle.service_step.specs.Ends.{owner, is_posted, is_started_outward, waiting_message, matched_message, carried_by, destroys, destroys_each, starts_send, turns_inward, turns_outward, idles, withdraws_send, matches, takes, notices, returns};
+ghost use Rattle.service_step.specs.Ends.{owner, is_owned_by, is_posted, is_started_outward, waiting_message, matched_message, carried_by, destroys, destroys_each, starts_send, turns_inward, turns_outward, idles, withdraws_send, matches, takes, notices, returns};
+ghost use Rattle.service_step.specs.Causes.{HasStarted};
 ghost use Rattle.service_step.specs.State.{turns, given, ends_process, tells};
 ghost use Rattle.service_step.specs.Steps.{gains_owner, wakes_owner, may_match};
 ghost use Rattle.service_step.specs.declared.state.Inward.TheVariants as inward;
 ghost use Rattle.service_step.specs.declared.state.Outward.TheVariants as outward;
-ghost use Rattle.link_service.specs.Service.{state_of, OwnerKnows};
+ghost use Rattle.link_service.specs.Service.{state_of, OwnerKnows, HasIdleLast, IsLastActive};
 
 use crate::service::Service;
 use charlotte_calls::{EndId, NoMemory, Pid, Report, Way};
@@ -105,11 +107,19 @@ impl Service {
         }
     }
 
+    /// The last end on which a process is known to have an activity.
+    #[tactic(auto, unfolding(crate::specs::Service::state_of))]
+    pub(crate) fn last_active(&self, p: Pid) -> Option<EndId>
+        ensures last { IfSome result (λ e. IsLastActive p self.now e) }
+        ensures none { IsNone result → HasStarted (state_of self.now).ends p → ⊥ }
+    {
+        self.processes.last_active(p)
+    }
+
     /// The last end on which a process is known to have an activity is forgotten, where it has none.
     #[tactic(auto, unfolding(crate::specs::Service::state_of))]
     pub(crate) fn forget_last_active(&mut self, p: Pid)
-        requires there { HasProcess self.old.processes p }
-        requires idle { HasIdleLast p self.old }
+        requires { HasIdleLast p self.old }
         ensures same { state_of self.new ≡ state_of self.old }
         ensures fewer { length (active_of self.new.processes p.0) < length (active_of self.old.processes p.0) }
     {
@@ -128,6 +138,7 @@ impl Service {
     #[tactic(auto, unfolding(crate::specs::Service::state_of))]
     pub(crate) fn destroy_ends_of(&mut self, p: Pid)
         ensures ends { state_of self.new ≡ record (state_of self.old) { ends = destroys_each p (held_by self.old.processes p.0) (state_of self.old).ends } }
+        ensures all { (e : EndId) → IsTrue (is_owned_by p ((state_of self.old).ends e).place) → Contains (held_by self.old.processes p.0) e }
         ensures processes { self.new.processes ≡ self.old.processes }
     {
         self.links.destroy_each(p, self.processes.held(p));

@@ -20,7 +20,8 @@ impl Processes {
         ensures known { OnOk result (IsKnown (known_of self.new) p e) }
     {
         let block = self.at_mut(usize::from(p.0));
-        note(block, e)
+        note(block, e)?;
+        Ok(())
     }
 
     /// Each of these ends is noted among those of a process, also as one with an activity.

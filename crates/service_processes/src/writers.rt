@@ -33,7 +33,8 @@ impl Processes {
         ensures count { length self.new ≡ length self.old }
     {
         let block = self.at_mut(usize::from(p.0));
-        gain_reports(block, first, second)
+        gain_reports(block, first, second)?;
+        Ok(())
     }
 
     /// A process is given its oldest report, and runs.
