@@ -1,9 +1,11 @@
 -- From what a map says of its keys to what the table of ends says of its ends.
-use Rattle.std.proofs.Common.{◌≡◌, Bool, true, false, cond, List, [], Option, None, Some, is_some, unwrap_or, refl, sym, ap, ◌∙◌, if◌then◌else◌, rules}
+use Rattle.std.proofs.Common.{◌≡◌, ℕ, ◌+◌, ◌<◌, take, length, get_or, Bool, true, false, cond, List, [], Option, None, Some, is_some, unwrap_or, refl, sym, ap, ◌∙◌, if◌then◌else◌, rules}
+use Rattle.std.proofs.lemmas.List.Sums.{fold_more}
 use Rattle.std.specs.Map.{lookup}
 use Rattle.std.specs.HashMap.{HashMap, WritesThrough, get_by}
 use Rattle.charlotte_calls.specs.declared.names.EndId.{EndId}
-use Rattle.service_step.specs.Ends.{end_eq, is_made, put, puts, unmade}
+use Rattle.charlotte_calls.specs.declared.names.Pid.{Pid}
+use Rattle.service_step.specs.Ends.{end_eq, is_made, put, puts, unmade, destroys_each, destroys_owned}
 use Rattle.service_step.specs.declared.state.End.{End}
 use Rattle.service_links.specs.Links.{ends_of}
 
@@ -77,3 +79,9 @@ module _ (old new : List (EndId × End)) (e : EndId) (x end : End)
 pub puts-none : (places : List (EndId × End)) (e : EndId) (end : End) → None ≡ lookup (end_eq e) places → ends_of places ≡ puts e end (ends_of places)
 unfolding puts
 puts-none places e end none = sym (ap (λ z. if is_made z.place then put (ends_of places) e end else ends_of places) (ends_of-none places e none))
+
+-- one end more is destroyed
+pub destroys_each_more : (p : Pid) (mine : List EndId) (t : EndId → End) (i : ℕ) (d : EndId) → i < length mine
+    → destroys_each p (take (i + 1) mine) t ≡ destroys_owned p (get_or mine i d) (destroys_each p (take i mine) t)
+unfolding destroys_each
+destroys_each_more p mine t i d below = fold_more (λ so_far e. destroys_owned p e so_far) t mine i d below

@@ -52,7 +52,7 @@ impl Links {
     }
 
     /// Each of these ends that a process owns is destroyed, in their order.
-    #[tactic(auto, unfolding(service_step::specs::Ends::destroys_each))]
+    #[tactic(auto, using(crate::proofs::Changed::destroys_each_more), unfolding(service_step::specs::Ends::destroys_each))]
     pub fn destroy_each(&mut self, p: Pid, mine: &[EndId])
         ensures { ends_of self.new ≡ destroys_each p mine.now (ends_of self.old) }
     {

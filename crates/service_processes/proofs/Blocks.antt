@@ -1,5 +1,5 @@
 -- One process of a list is set.
-use Rattle.std.proofs.Common.{◌≡◌, ◌≢◌, ◌⊎◌, inl, inr, ℕ, ◌<◌, Bool, true, false, nat_eq, ◌&&◌, List, [], length, slice_set, map, ap, sym, subst, ◌∙◌, refl, get_or, cond, if◌then◌else◌}
+use Rattle.std.proofs.Common.{◌≡◌, ◌≢◌, ◌⊎◌, inl, inr, ℕ, zero, suc, ◌<◌, Bool, true, false, true≢false, nat_eq, nat_lt, ◌&&◌, ◌++◌, All, Option, Some, None, IsSome, option_to_list, List, [], ◌∷◌, arith, slice_get, length, slice_set, map, ap, sym, subst, ◌∙◌, refl, get_or, cond, if◌then◌else◌}
 use Rattle.std.specs.List.{list_any}
 use Rattle.std.proofs.lemmas.Bool.Decides.{eqb_tells}
 use Rattle.std.proofs.lemmas.Grind.{get_or-set_at}
@@ -7,8 +7,9 @@ use Rattle.std.proofs.lemmas.List.{get_or-set_other, map-set, set-get_or, get_or
 use Rattle.charlotte_calls.specs.declared.names.EndId.{EndId}
 use Rattle.charlotte_calls.specs.declared.names.Pid.{Pid}
 use Rattle.service_step.specs.Ends.{end_eq}
+use Rattle.service_step.specs.Run.{new_process, new_processes}
 use Rattle.service_step.specs.State.{Process, put_process, no_process}
-use Rattle.service_processes.specs.Known.{known_of, held_by, active_of, held_ends, active_ends, without, IsKnown, Grows, Forgets}
+use Rattle.service_processes.specs.Known.{Known, known_of, held_by, active_of, held_ends, active_ends, without, IsKnown, Grows, Forgets, LosesLast}
 use Rattle.service_processes.specs.Processes.{process_of, process_state}
 use Rattle.service_processes.specs.declared.processes.ControlBlock.{ControlBlock}
 
@@ -140,3 +141,93 @@ module _ (xs : List ControlBlock) (i : ℕ) (d y : ControlBlock) (p : Pid)
         held = lacks (known_of xs).held (known_of (slice_set xs i y)).held (λ g. list_any (end_eq g) (held_ends d)) (λ g. list_any (end_eq g) (held_ends y)) e held_was held_at held;
         active = lacks (known_of xs).active (known_of (slice_set xs i y)).active (λ g. list_any (end_eq g) (active_ends d)) (λ g. list_any (end_eq g) (active_ends y)) e active_was active_at active;
       }
+
+  -- the last end with an activity is lost
+  pub loses-last : held_ends y ≡ held_ends d → (gone : Option EndId) → active_ends d ≡ active_ends y ++ option_to_list gone → (0 < length (active_ends d) → IsSome gone)
+      → LosesLast p xs (slice_set xs i y)
+  unfolding known_of held_by active_of
+  loses-last held gone active some =
+      record {
+        held = λ j q e. list_any (end_eq e) (get_or ((same_map held_ends xs i d y (held ∙ ap held_ends lent)) j) q []);
+        others = λ q other. set_at active_ends [] q ∙ ap (λ b. cond b (active_ends y) (get_or (map active_ends xs) q [])) other;
+        gone = gone;
+        active = here active_ends [] ∙ active ∙ ap (λ l. l ++ option_to_list gone) (sym (set_at active_ends [] p.0 ∙ ap (λ b. cond b (active_ends y) (get_or (map active_ends xs) p.0 [])) number));
+        some = λ any. some (subst (λ (l : List EndId). 0 < length l) (here active_ends []) any);
+      }
+
+-- Reading a process by its number.
+
+-- what f sees of a process that is there, and where there is none
+pub map-found : {X A : Type 0} (f : X → A) (xs : List X) (q : ℕ) (x : X) (z : A) → Some x ≡ slice_get xs q → get_or (map f xs) q z ≡ f x
+map-found f [] q x z is = absurd cc
+map-found f (y ∷ ys) zero x z is = let one : x ≡ y = cc in ap f (sym one)
+map-found f (y ∷ ys) (suc q) x z is = map-found f ys q x z is
+
+pub map-missing : {X A : Type 0} (f : X → A) (xs : List X) (q : ℕ) (z : A) → None ≡ slice_get xs q → get_or (map f xs) q z ≡ z
+map-missing f [] q z is = refl
+map-missing f (y ∷ ys) zero z is = absurd cc
+map-missing f (y ∷ ys) (suc q) z is = map-missing f ys q z is
+
+module _ (xs : List ControlBlock) (q : ℕ) where
+  pub process_of-found : (x : ControlBlock) → Some x ≡ slice_get xs q → process_of xs q ≡ process_state x
+  unfolding process_of
+  process_of-found x is = map-found process_state xs q x no_process is
+
+  pub process_of-missing : None ≡ slice_get xs q → process_of xs q ≡ no_process
+  unfolding process_of
+  process_of-missing is = map-missing process_state xs q no_process is
+
+  pub held_by-found : (x : ControlBlock) → Some x ≡ slice_get xs q → held_by xs q ≡ held_ends x
+  unfolding held_by
+  held_by-found x is = map-found held_ends xs q x [] is
+
+  pub held_by-missing : None ≡ slice_get xs q → held_by xs q ≡ []
+  unfolding held_by
+  held_by-missing is = map-missing held_ends xs q [] is
+
+  pub active_of-found : (x : ControlBlock) → Some x ≡ slice_get xs q → active_of xs q ≡ active_ends x
+  unfolding active_of
+  active_of-found x is = map-found active_ends xs q x [] is
+
+  pub active_of-missing : None ≡ slice_get xs q → active_of xs q ≡ []
+  unfolding active_of
+  active_of-missing is = map-missing active_ends xs q [] is
+
+-- so many new processes
+pub process_of-new : (xs : List ControlBlock) (count : ℕ) → length xs ≡ count → All (λ x. process_state x ≡ new_process) xs → process_of xs ≡ new_processes count
+unfolding process_of new_processes
+process_of-new xs count long fresh = λ i q. (at xs q fresh ∙ ap (λ n. cond (nat_lt q n) new_process no_process) long) i
+  where
+    at : (xs : List ControlBlock) (q : ℕ) → All (λ x. process_state x ≡ new_process) xs → get_or (map process_state xs) q no_process ≡ cond (nat_lt q (length xs)) new_process no_process
+    at [] zero fresh = refl
+    at [] (suc q) fresh = refl
+    at (x ∷ xs) zero fresh = fresh 0 x (omega arith)
+    at (x ∷ xs) (suc q) fresh = at xs q (λ k d below. fresh (suc k) d (omega arith))
+
+-- a process that has an end is there
+pub there : (xs : List ControlBlock) (q : ℕ) (e : EndId) → (known_of xs).held q e ≡ true → q < length xs
+unfolding known_of held_by
+there [] zero e h = absurd (true≢false (sym h))
+there [] (suc q) e h = absurd (true≢false (sym h))
+there (x ∷ xs) zero e h = omega arith
+there (x ∷ xs) (suc q) e h = let below : q < length xs = there xs q e h in omega arith
+
+-- a process with an end on which it has an activity is there
+pub there-active : (xs : List ControlBlock) (q : ℕ) → 0 < length (active_of xs q) → q < length xs
+unfolding active_of
+there-active [] zero h = absurd (omega arith)
+there-active [] (suc q) h = absurd (omega arith)
+there-active (x ∷ xs) zero h = omega arith
+there-active (x ∷ xs) (suc q) h = let below : q < length xs = there-active xs q h in omega arith
+
+-- what is known grows from one state to the next and the one after
+pub Grows-then : (a b c : Known) → Grows a b → Grows b c → Grows a c
+Grows-then a b c first second = record { held = λ q e h. second.held q e (first.held q e h); active = λ q e h. second.active q e (first.active q e h) }
+
+pub IsKnown-grown : (a b : Known) (p : Pid) (e : EndId) → Grows a b → IsKnown a p e → IsKnown b p e
+IsKnown-grown a b p e grows known = record { held = grows.held p.0 e known.held; active = grows.active p.0 e known.active }
+
+-- the first end and the others are known
+pub AreKnown-first : (k : Known) (p : Pid) (e : EndId) (es : List EndId) → IsKnown k p e → All (IsKnown k p) es → All (IsKnown k p) (e ∷ es)
+AreKnown-first k p e es first others zero d below = first
+AreKnown-first k p e es first others (suc i) d below = others i d (omega arith)

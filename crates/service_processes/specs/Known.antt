@@ -1,5 +1,5 @@
 -- What is known of the ends of processes: those that a process owns are among them, and perhaps others.
-use Rattle.std.specs.Prelude.{◌≡◌, ℕ, Bool, false, nat_eq, ◌-◌, ◌&&◌, IsTrue, List, [], length, map, slice_index_or, take, if◌then◌else◌}
+use Rattle.std.specs.Prelude.{◌≡◌, ℕ, Bool, false, nat_eq, ◌<◌, ◌&&◌, ◌++◌, IsTrue, IsSome, Option, List, [], length, map, option_to_list, slice_index_or, if◌then◌else◌}
 use Rattle.std.specs.List.{list_any}
 use Rattle.charlotte_calls.specs.declared.names.EndId.{EndId}
 use Rattle.charlotte_calls.specs.declared.names.Pid.{Pid}
@@ -49,12 +49,10 @@ pub record Forgets (p : Pid) (e : EndId) (old new : Known) : Type 0 where
   pub held : new.held ≡ without p e old.held
   pub active : new.active ≡ without p e old.active
 
--- a list without its last
-abbrev pub but_last : List EndId → List EndId
-but_last xs = take (length xs - 1) xs
-
--- the last end on which p is known to have an activity is lost, and all else stays
+-- an end of p with an activity is lost, the last where there is one, and all else stays
 pub record LosesLast (p : Pid) (old new : List ControlBlock) : Type 0 where
   pub held : (known_of new).held ≡ (known_of old).held
-  pub others : (q : ℕ) → (nat_eq p.0 q ≡ false) → active_of new q ≡ active_of old q
-  pub active : active_of new p.0 ≡ but_last (active_of old p.0)
+  pub others : (q : ℕ) → nat_eq p.0 q ≡ false → active_of new q ≡ active_of old q
+  pub gone : Option EndId
+  pub active : active_of old p.0 ≡ active_of new p.0 ++ option_to_list gone
+  pub some : 0 < length (active_of old p.0) → IsSome gone

@@ -32,10 +32,13 @@ impl Processes {
         ensures grows { Grows (known_of self.old) (known_of self.new) }
         ensures known { OnOk result (All (IsKnown (known_of self.new) p) ends.now) }
     {
-        for e in ends {
-            self.learn(p, *e)?;
+        match ends {
+            [] => Ok(()),
+            [first, others @ ..] => {
+                self.learn(p, *first)?;
+                self.learn_each(p, others)
+            }
         }
-        Ok(())
     }
 
     /// An end is no more among those of a process.
