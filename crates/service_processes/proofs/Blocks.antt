@@ -1,7 +1,9 @@
 -- One process of a list is set.
-use Rattle.std.proofs.Common.{◌≡◌, ◌≢◌, ◌⊎◌, inl, inr, ℕ, zero, suc, ◌<◌, Bool, true, false, true≢false, nat_eq, nat_lt, ◌&&◌, ◌++◌, All, Option, Some, None, IsSome, option_to_list, List, [], ◌∷◌, arith, slice_get, length, slice_set, map, ap, sym, subst, ◌∙◌, refl, get_or, cond, if◌then◌else◌}
+use Rattle.std.proofs.Common.{◌≡◌, ◌≢◌, ◌⊎◌, inl, inr, ℕ, zero, suc, ◌<◌, Bool, true, false, true≢false, nat_eq, nat_lt, ◌&&◌, ◌++◌, All, ◌↔◌, ◌≤◌, nat_le, Option, Some, None, IsSome, is_some, Result, Ok, Err, OnErr, Bor, option_copied, option_to_list, List, [], ◌∷◌, arith, slice_get, length, slice_set, map, ap, sym, subst, ◌∙◌, refl, get_or, cond, if◌then◌else◌}
 use Rattle.std.specs.List.{list_any}
-use Rattle.std.proofs.lemmas.Bool.Decides.{eqb_tells}
+use Rattle.std.specs.Slice.{IsItemAt}
+use Rattle.charlotte_calls.specs.declared.calls.Report.{Report}
+use Rattle.std.proofs.lemmas.Bool.Decides.{eqb_tells, leb_tells}
 use Rattle.std.proofs.lemmas.Grind.{get_or-set_at}
 use Rattle.std.proofs.lemmas.List.{get_or-set_other, map-set, set-get_or, get_or-map, length-map}
 use Rattle.charlotte_calls.specs.declared.names.EndId.{EndId}
@@ -194,15 +196,43 @@ module _ (xs : List ControlBlock) (q : ℕ) where
   active_of-missing is = map-missing active_ends xs q [] is
 
 -- so many new processes
+new-here : (xs : List ControlBlock) (q : ℕ) → q < length xs → All (λ x. process_state x ≡ new_process) xs → get_or (map process_state xs) q no_process ≡ new_process
+new-here [] q below fresh = absurd (omega arith)
+new-here (x ∷ xs) zero below fresh = fresh 0 x (omega arith)
+new-here (x ∷ xs) (suc q) below fresh = new-here xs q (omega arith) (λ k d within. fresh (suc k) d (omega arith))
+
+none-beyond : (xs : List ControlBlock) (q : ℕ) → length xs ≤ q → get_or (map process_state xs) q no_process ≡ no_process
+none-beyond [] q beyond = refl
+none-beyond (x ∷ xs) zero beyond = absurd (omega arith)
+none-beyond (x ∷ xs) (suc q) beyond = none-beyond xs q (omega arith)
+
 pub process_of-new : (xs : List ControlBlock) (count : ℕ) → length xs ≡ count → All (λ x. process_state x ≡ new_process) xs → process_of xs ≡ new_processes count
 unfolding process_of new_processes
-process_of-new xs count long fresh = λ i q. (at xs q fresh ∙ ap (λ n. cond (nat_lt q n) new_process no_process) long) i
+process_of-new xs count long fresh = λ i q. (by q (leb_tells (suc q) (length xs)) ∙ ap (λ n. cond (nat_lt q n) new_process no_process) long) i
   where
-    at : (xs : List ControlBlock) (q : ℕ) → All (λ x. process_state x ≡ new_process) xs → get_or (map process_state xs) q no_process ≡ cond (nat_lt q (length xs)) new_process no_process
-    at [] zero fresh = refl
-    at [] (suc q) fresh = refl
-    at (x ∷ xs) zero fresh = fresh 0 x (omega arith)
-    at (x ∷ xs) (suc q) fresh = at xs q (λ k d below. fresh (suc k) d (omega arith))
+    by : (q : ℕ) → ((nat_le (suc q) (length xs) ≡ true) × (suc q ≤ length xs)) ⊎ ((nat_le (suc q) (length xs) ≡ false) × (length xs < suc q))
+        → get_or (map process_state xs) q no_process ≡ cond (nat_lt q (length xs)) new_process no_process
+    by q (inl t) = new-here xs q (let below : suc q ≤ length xs = t.1 in omega arith) fresh ∙ sym (ap (λ b. cond b new_process no_process) t.0)
+    by q (inr t) = none-beyond xs q (let beyond : length xs < suc q = t.1 in omega arith) ∙ sym (ap (λ b. cond b new_process no_process) t.0)
+
+-- what is so stands after an error too
+pub on_err : {T E : Type 0} {P : Type 0} (r : Result T E) → P → OnErr r P
+on_err (Ok x) holds = tt
+on_err (Err e) holds = holds
+
+-- the first of a list, lent
+pub first-lent : (rs : List Report) (o : Option (Bor Report)) → IsItemAt rs 0 o → option_copied o ≡ slice_get rs 0
+first-lent [] None item = refl
+first-lent [] (Some x) item = absurd (true≢false item.0)
+first-lent (r ∷ rs) None item = absurd (omega arith)
+first-lent (r ∷ rs) (Some x) item = ap Some item.3.1
+
+-- there is a first of a list where it is not empty
+pub first-some : (rs : List Report) (o : Option (Bor Report)) → option_copied o ≡ slice_get rs 0 → (is_some o ≡ true) ↔ (rs ≡ [] → ⊥)
+first-some [] None is = (λ some. absurd (true≢false (sym some)), λ none. absurd (none refl))
+first-some [] (Some x) is = absurd cc
+first-some (r ∷ rs) None is = absurd cc
+first-some (r ∷ rs) (Some x) is = (λ some no. absurd cc, λ none. refl)
 
 -- a process that has an end is there
 pub there : (xs : List ControlBlock) (q : ℕ) (e : EndId) → (known_of xs).held q e ≡ true → q < length xs

@@ -86,10 +86,7 @@ impl Processes {
     pub fn has_report(&self, p: Pid) -> bool
         ensures { IsTrue result ↔ ((process_of self.now p.0).reports ≡ [] → ⊥) }
     {
-        match self.at(p) {
-            Some(block) => !block.reports.is_empty(),
-            None => false,
-        }
+        self.oldest(p).is_some()
     }
 
     /// The oldest report of a process, lent.

@@ -7,4 +7,4 @@ pub returns-clause-process : goal.returns-clause-process
 returns-clause-process c = state-same c.args.self.now c.from.result c.at_mut-block.result.now _ c.args.p (c.at_mut-block.ensures.value _) c.from.ensures c.requires refl
 
 pub returns-clause-loses : goal.returns-clause-loses
-returns-clause-loses c = loses-last c.args.self.now c.from.result c.at_mut-block.result.now _ c.args.p (c.at_mut-block.ensures.value _) c.from.ensures c.requires refl c.pop-_last.result c.pop-_last.ensures.keys c.pop-_last.ensures.found.1
+returns-clause-loses c = loses-last c.args.self.now c.from.result c.at_mut-block.result.now _ c.args.p (c.at_mut-block.ensures.value _) c.from.ensures c.requires refl c.pop-last.result c.pop-last.ensures.keys c.pop-last.ensures.found.1

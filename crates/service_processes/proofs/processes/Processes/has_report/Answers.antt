@@ -1,10 +1,8 @@
-use Rattle.std.proofs.Common.{sym, ◌∙◌, ap, slice_get}
-use Rattle.service_step.specs.State.{Process}
-use Rattle.service_processes.proofs.Blocks.{process_of-found, process_of-missing}
+use Rattle.std.proofs.Common.{subst, sym, ◌↔◌, ◌≡◌, true, Bool, [], IsTrue}
+use Rattle.service_processes.proofs.Blocks.{first-some}
+use Rattle.service_processes.specs.Processes.{process_of}
 use Rattle.service_processes.proofs.processes.Processes.has_report.Goals as goal
 
-pub returns-in-Some : goal.returns-in-Some
-returns-in-Some c = rw (process_of-found _ _ _ c.in-Some.ensures) ?
-
-pub returns-in-None : goal.returns-in-None
-returns-in-None c = rw (process_of-missing _ _ c.in-None.ensures) (λ no. absurd (cc), λ some. absurd (some refl))
+pub returns : goal.returns
+returns c =
+    subst (λ (b : Bool). IsTrue b ↔ ((process_of c.args.self.now c.args.p.0).reports ≡ [] → ⊥)) (sym c.is_some.ensures) (first-some _ c.oldest.result c.oldest.ensures)
