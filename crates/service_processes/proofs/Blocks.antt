@@ -225,7 +225,7 @@ pub first-lent : (rs : List Report) (o : Option (Bor Report)) → IsItemAt rs 0 
 first-lent [] None item = refl
 first-lent [] (Some x) item = absurd (true≢false item.0)
 first-lent (r ∷ rs) None item = absurd (omega arith)
-first-lent (r ∷ rs) (Some x) item = ap Some item.3.1
+first-lent (r ∷ rs) (Some x) item = ap Some (item.3.1 r)
 
 -- there is a first of a list where it is not empty
 pub first-some : (rs : List Report) (o : Option (Bor Report)) → option_copied o ≡ slice_get rs 0 → (is_some o ≡ true) ↔ (rs ≡ [] → ⊥)
