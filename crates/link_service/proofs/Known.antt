@@ -1,5 +1,5 @@
 -- The ends that processes own stay known over what the steps do with the ends.
-use Rattle.std.proofs.Common.{◌≡◌, ◌≢◌, ◌⊎◌, inl, inr, ℕ, zero, suc, ◌+◌, ◌<◌, Bool, true, false, true≢false, cond, nat_eq, ◌&&◌, ◌||◌, not, IsTrue, All, List, [], ◌∷◌, length, get_or, Option, None, Some, refl, sym, ap, subst, ◌∙◌, if◌then◌else◌, arith}
+use Rattle.std.proofs.Common.{◌≡◌, ◌≢◌, ◌⊎◌, inl, inr, ℕ, zero, suc, ◌+◌, ◌<◌, Bool, true, false, true≢false, cond, nat_eq, ◌&&◌, ◌||◌, not, IsTrue, All, List, [], ◌∷◌, length, get_or, Option, None, Some, is_some, refl, sym, ap, subst, ◌∙◌, if◌then◌else◌, arith}
 use Rattle.std.proofs.lemmas.Bool.Decides.{eqb_tells}
 use Rattle.std.specs.List.{fold}
 use Rattle.charlotte_calls.specs.Names.{opposite}
@@ -7,10 +7,14 @@ use Rattle.charlotte_calls.specs.declared.names.EndId.{EndId}
 use Rattle.charlotte_calls.specs.declared.names.Pid.{Pid}
 use Rattle.charlotte_calls.specs.declared.names.Way.{Way}
 use Rattle.charlotte_calls.specs.declared.names.Way.TheVariants as way
-use Rattle.link_service.specs.Service.{MayBe, AreKnown}
+use Rattle.link_service.specs.Service.{ServiceView, MayBe, AreKnown, OwnerKnows, IsWellKept}
+use Rattle.service_links.specs.Links.{ends_of}
 use Rattle.service_links.proofs.Changed.{end_eq-same}
-use Rattle.service_processes.specs.Known.{Known, IsKnown, Grows}
+use Rattle.service_processes.specs.Known.{Known, known_of, IsKnown, Grows}
+use Rattle.service_processes.proofs.Blocks.{there}
+use Rattle.service_step.specs.Steps.{may_match, may_take, is_matched}
 use Rattle.service_step.specs.Ends.{end_eq, fresh, owner, put, puts, places, is_made, is_destroyed, is_owned_by, is_active, is_started_outward, is_started_inward, is_posted, waiting_message, matched_message, carried_by, dropped, destroys, destroys_owned, destroys_each, starts_send, turns_inward, turns_outward, idles, withdraws_send, matches, matched_outward, takes, notices, noticed_end, noticed_outward, noticed_inward, to_owner, returned_end, returns}
+use Rattle.service_step.specs.State.{State}
 use Rattle.service_step.specs.declared.state.End.{End}
 use Rattle.service_step.specs.declared.state.Inward.{Inward}
 use Rattle.service_step.specs.declared.state.Inward.TheVariants as inward
@@ -139,12 +143,14 @@ AreKnown-destroys_each k p (e ∷ es) t known = AreKnown-destroys_each k p es (d
 pub AreKnown-starts_send : (k : Known) (e : EndId) (n : ℕ) (m : Message) (t : EndId → End) → AreKnown k t → ((p : Pid) → is_owned_by p (t e).place ≡ true → IsKnown k p e) → AreKnown k (starts_send e n m t)
 unfolding starts_send
 AreKnown-starts_send k e n m t known own =
-    AreKnown-places k (place.InMessage e n) m.carried _ (AreKnown-puts k t known e _ (MayBe-known k e _ own)) (All-to_unowned k (place.InMessage e n) _ (λ p. refl))
+    let x : End = record (t e) { outward = outward.Waiting m; sent = n } in
+    AreKnown-places k (place.InMessage e n) m.carried (puts e x t) (AreKnown-puts k t known e x (MayBe-known k e x own)) (All-to_unowned k (place.InMessage e n) m.carried (λ p. refl))
 
 -- a receive is started
 pub AreKnown-posts : (k : Known) (e : EndId) (t : EndId → End) → AreKnown k t → ((p : Pid) → is_owned_by p (t e).place ≡ true → IsKnown k p e) → AreKnown k (turns_inward inward.Posted e t)
 unfolding turns_inward
-AreKnown-posts k e t known own = AreKnown-puts k t known e _ (MayBe-known k e _ own)
+AreKnown-posts k e t known own =
+    let x : End = record (t e) { inward = inward.Posted } in AreKnown-puts k t known e x (MayBe-known k e x own)
 
 pub AreKnown-idles : (k : Known) (w : Way) (e : EndId) (t : EndId → End) → AreKnown k t → AreKnown k (idles w e t)
 unfolding idles
@@ -248,3 +254,44 @@ AreKnown-returns k e t known own = by (is_destroyed (t e).place)
     by : (b : Bool) → AreKnown k (if b then places place.Destroyed xs (turns_outward outward.Idle e t) else to_owner (owner (t e).place) xs (puts e (returned_end (t e)) t))
     by true = AreKnown-places k place.Destroyed xs _ (AreKnown-turns_outward k t known outward.Idle e (λ f. absurd (true≢false (sym f)))) (All-to_unowned k place.Destroyed xs (λ p. refl))
     by false = AreKnown-to_owner k (owner (t e).place) xs _ (AreKnown-puts k t known e (returned_end (t e)) (over (t e).noticed)) (λ p is. own p (owned-owner p (t e).place is))
+
+-- what an owner is known to have, of one end
+pub owner-first : (v : ServiceView) (e : EndId) → OwnerKnows v e (e ∷ []) → (p : Pid) → is_owned_by p (ends_of v.links e).place ≡ true → IsKnown (known_of v.processes) p e
+owner-first v e knows p own = knows.all p own 0 e (omega arith)
+
+-- the last of four tests that hold
+last_of_four : (a b c d : Bool) → (a && b && c && d) ≡ true → d ≡ true
+last_of_four true true true d h = h
+last_of_four true true false d h = absurd (true≢false (sym h))
+last_of_four true false c d h = absurd (true≢false (sym h))
+last_of_four false b c d h = absurd (true≢false (sym h))
+
+pub match-posted : (t : EndId → End) (e : EndId) (n : ℕ) → may_match t e n ≡ true → is_posted (t (opposite e)).inward ≡ true
+match-posted t e n may = last_of_four (is_some (waiting_message (t e).outward)) (nat_eq (t e).sent n) (not (t e).noticed) (is_posted (t (opposite e)).inward) may
+
+-- a process that owns an end is there
+pub owner-there : (v : ServiceView) (e : EndId) (p : Pid) → IsWellKept v → Some p ≡ owner (ends_of v.links e).place → p.0 < length v.processes
+owner-there v e p well is = there v.processes p.0 e (well.all e p (owned-owner p (ends_of v.links e).place (sym is))).0
+
+-- what a take asks
+pub take-started : (s : State) (e : EndId) (n : ℕ) (p : Pid) (late : Bool) → may_take s e n p late ≡ true → is_started_outward (s.ends e).outward ≡ true
+take-started s e n p late may = by (s.ends e).outward (first_of_two (is_some (matched_message (s.ends e).outward)) _ (first_of_two (is_matched s.ends e n) _ may))
+  where
+    first_of_two : (a b : Bool) → (a && b) ≡ true → a ≡ true
+    first_of_two true b h = refl
+    first_of_two false b h = h
+
+    by : (o : Outward) → is_some (matched_message o) ≡ true → is_started_outward o ≡ true
+    by (outward.Matched m) h = refl
+    by outward.Idle h = absurd (true≢false (sym h))
+    by (outward.Waiting m) h = absurd (true≢false (sym h))
+    by outward.Taken h = absurd (true≢false (sym h))
+    by outward.Reported h = absurd (true≢false (sym h))
+
+pub take-owned : (s : State) (e : EndId) (n : ℕ) (p : Pid) (late : Bool) → may_take s e n p late ≡ true → is_owned_by p (s.ends (opposite e)).place ≡ true
+take-owned s e n p late may = second_of_many (is_matched s.ends e n) (is_owned_by p (s.ends (opposite e)).place) _ may
+  where
+    second_of_many : (a b c : Bool) → (a && b && c) ≡ true → b ≡ true
+    second_of_many true true c h = refl
+    second_of_many true false c h = h
+    second_of_many false b c h = absurd (true≢false (sym h))

@@ -12,7 +12,7 @@ ghost use Rattle.link_service.specs.Service.{state_of};
 use crate::service::Service;
 use charlotte_calls::{Bytes, EndId, Ends, NoMemory, Outcome, Pid, Report, Way};
 use service_links::{matched_ends, no_ends, waiting_ends};
-use service_step::{End, Message, Outward, Phase};
+use service_step::{End, Message, Outward};
 
 impl Service {
     /// 1: the home of a process makes its next link.
@@ -56,21 +56,11 @@ impl Service {
     {
         let end = self.links().look(e);
         self.learn_for_owner(e, waiting_ends(&end.outward).as_slice())?;
-        match end.place.owner() {
-            Some(p) => self.withdraw_send(p, e),
-            None => {}
-        }
+        let Some(p) = end.place.owner() else {
+            return Ok(());
+        };
+        self.withdraw_send(p, e);
         Ok(())
-    }
-
-    /// 6, inward: the owner of an end waits for the answer to the Cancel of its receive.
-    pub(crate) fn cancel_receive(&mut self, e: EndId)
-        ensures { state_of self.new ≡ steps.after_cancel (owner ((state_of self.old).ends e).place) e way.Inward (state_of self.old) }
-    {
-        match self.links().look(e).place.owner() {
-            Some(p) => self.turn(p, Phase::Cancelling(e)),
-            None => {}
-        }
     }
 
     /// 8: a process is given its oldest report.
@@ -97,9 +87,10 @@ impl Service {
         ensures ok { OnOk result (state_of self.new ≡ steps.after_take e p (state_of self.old)) }
         ensures err { OnErr result (state_of self.new ≡ state_of self.old) }
     {
-        let outward = self.links().look(e).outward;
-        self.learn_for_owner(e.opposite(), matched_ends(&outward).as_slice())?;
-        self.tell_owner(e.opposite(), done_report(e.opposite(), outward), None)?;
+        let to = e.opposite();
+        let end = self.links().look(e);
+        self.learn_for_owner(to, matched_ends(&end.outward).as_slice())?;
+        self.tell_owner(to, done_report(to, end.outward), None)?;
         self.take_message(e, p);
         Ok(())
     }

@@ -4,6 +4,7 @@ ghost use Rattle.service_step.specs.Run.{start_state};
 ghost use Rattle.service_step.specs.State.{next_link, counted};
 ghost use Rattle.service_step.specs.Steps.{IsServiceStep};
 ghost use Rattle.link_service.specs.Service.{state_of, IsFault};
+ghost use Rattle.link_service.specs.declared.service.ApplyFault.TheVariants as fault;
 
 use charlotte_calls::{EndId, LinkId, NoMemory, Pid, ServiceStep, Setting};
 use service_links::Links;
@@ -25,9 +26,13 @@ pub struct Service {
 }
 
 impl Model for Service {
+    ghost use Rattle.service_processes.specs.contracts.processes.ControlBlock as block;
+    ghost use Rattle.std.specs.Coded.{codes};
     ghost use Rattle.link_service.specs.Service.{ServiceView, IsWellKept};
 
     ghost Value = { ServiceView };
+
+    ghost coded = { Prim.hlevel (codes, block.the_row.coded) };
 
     ghost view = { λ s. record { version = s.version; homes = s.homes.items; made = s.made.items; links = s.links; processes = s.processes } };
 
@@ -43,6 +48,8 @@ pub enum ApplyFault {
 }
 
 impl From<NoMemory> for ApplyFault {
+    ghost from_gives = { λ _ e. e ≡ fault.NoMemory };
+
     fn from(_error: NoMemory) -> ApplyFault {
         ApplyFault::NoMemory
     }

@@ -6,7 +6,8 @@ ghost use Rattle.service_processes.specs.Processes.{HasProcess};
 ghost use Rattle.service_step.specs.Ends.{owner, is_owned_by, is_posted, is_started_outward, waiting_message, matched_message, carried_by, destroys, destroys_each, starts_send, turns_inward, turns_outward, idles, withdraws_send, matches, takes, notices, returns};
 ghost use Rattle.service_step.specs.Causes.{HasStarted};
 ghost use Rattle.service_step.specs.State.{turns, given, ends_process, tells};
-ghost use Rattle.service_step.specs.Steps.{gains_owner, wakes_owner, may_match};
+ghost use Rattle.service_step.specs.Steps.{after_cancel, gains_owner, wakes_owner, may_match};
+ghost use Rattle.charlotte_calls.specs.declared.names.Way.TheVariants as way;
 ghost use Rattle.service_step.specs.declared.state.Inward.TheVariants as inward;
 ghost use Rattle.service_step.specs.declared.state.Outward.TheVariants as outward;
 ghost use Rattle.link_service.specs.Service.{state_of, OwnerKnows, HasIdleLast, IsLastActive};
@@ -65,6 +66,17 @@ impl Service {
     {
         match self.links.look(e).place.owner() {
             Some(p) => self.processes.wake(p, e),
+            None => {}
+        }
+    }
+
+    /// The owner of an end waits for the answer to the Cancel of its receive.
+    #[tactic(auto, unfolding(crate::specs::Service::state_of))]
+    pub(crate) fn cancel_receive(&mut self, e: EndId)
+        ensures { state_of self.new ≡ after_cancel (owner ((state_of self.old).ends e).place) e way.Inward (state_of self.old) }
+    {
+        match self.links.look(e).place.owner() {
+            Some(p) => self.processes.turn(p, Phase::Cancelling(e)),
             None => {}
         }
     }

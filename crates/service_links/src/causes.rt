@@ -89,7 +89,10 @@ fn is_late(way: Way, end: &End) -> bool
     ensures { result ≡ is_late way end.now }
 {
     match way {
-        Way::Outward => matches!(end.outward, Outward::Matched(_) | Outward::Taken | Outward::Reported),
+        Way::Outward => matches!(
+            end.outward,
+            Outward::Matched(_) | Outward::Taken | Outward::Reported
+        ),
         Way::Inward => matches!(end.inward, Inward::Reported),
     }
 }
@@ -107,7 +110,8 @@ fn has_no_activity(way: Way, end: &End) -> bool
 fn is_missing_one(links: &Links, p: Pid, ends: &[EndId]) -> bool
     ensures { result ≡ is_missing_one p (ends_of links.now) ends.now }
 {
-    ends.iter().any(|end| !links.look(*end).place.is_owned_by(p))
+    ends.iter()
+        .any(|end| !links.look(*end).place.is_owned_by(p))
 }
 
 /// Whether an activity on one of these ends is started or unreported.

@@ -25,7 +25,12 @@ impl Processes {
 
     /// A process gains reports, at most two, behind those that it has. After want of memory it has gained none.
     #[tactic(auto, unfolding(service_step::specs::State::gains))]
-    pub fn gain(&mut self, p: Pid, first: Option<Report>, second: Option<Report>) -> Result<(), NoMemory>
+    pub fn gain(
+        &mut self,
+        p: Pid,
+        first: Option<Report>,
+        second: Option<Report>,
+    ) -> Result<(), NoMemory>
         requires { HasProcess self.old p }
         ensures ok { OnOk result (process_of self.new ≡ gains p (option_to_list first ++ option_to_list second) (process_of self.old)) }
         ensures err { OnErr result (process_of self.new ≡ process_of self.old) }
@@ -77,7 +82,13 @@ impl Processes {
 
     /// A process gains reports, at most two, and runs again where it is in a Cancel of the receive on this end. After want of
     /// memory nothing has changed for it.
-    pub fn tell(&mut self, p: Pid, e: EndId, first: Option<Report>, second: Option<Report>) -> Result<(), NoMemory>
+    pub fn tell(
+        &mut self,
+        p: Pid,
+        e: EndId,
+        first: Option<Report>,
+        second: Option<Report>,
+    ) -> Result<(), NoMemory>
         requires { HasProcess self.old p }
         ensures ok { OnOk result (process_of self.new ≡ wakes p e (gains p (option_to_list first ++ option_to_list second) (process_of self.old))) }
         ensures err { OnErr result (process_of self.new ≡ process_of self.old) }
@@ -90,7 +101,11 @@ impl Processes {
     }
 }
 
-fn gain_reports(block: &mut ControlBlock, first: Option<Report>, second: Option<Report>) -> Result<(), NoMemory>
+fn gain_reports(
+    block: &mut ControlBlock,
+    first: Option<Report>,
+    second: Option<Report>,
+) -> Result<(), NoMemory>
     ensures ok { OnOk result (block.new.reports.items ≡ block.old.reports.items ++ (option_to_list first ++ option_to_list second)) }
     ensures err { OnErr result (block.new.reports.items ≡ block.old.reports.items) }
     ensures phase { block.new.phase ≡ block.old.phase }

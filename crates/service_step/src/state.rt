@@ -141,7 +141,10 @@ impl Outward {
     pub fn is_started(&self) -> bool
         ensures { result ≡ ends.is_started_outward self.now }
     {
-        matches!(self, Outward::Waiting(_) | Outward::Matched(_) | Outward::Taken)
+        matches!(
+            self,
+            Outward::Waiting(_) | Outward::Matched(_) | Outward::Taken
+        )
     }
 }
 
@@ -203,7 +206,10 @@ impl Inward {
     pub fn is_started(self) -> bool
         ensures { result ≡ ends.is_started_inward self }
     {
-        matches!(self, Inward::Posted | Inward::Withdrawn | Inward::Matched(_))
+        matches!(
+            self,
+            Inward::Posted | Inward::Withdrawn | Inward::Matched(_)
+        )
     }
 }
 
