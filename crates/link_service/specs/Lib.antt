@@ -1,11 +1,1 @@
-pub mod Place
-pub mod Outward
-pub mod Inward
-pub mod End
-pub mod Phase
-pub mod Ends
-pub mod State
-pub mod Causes
-pub mod Steps
-pub mod Run
-pub mod Lawful
+pub mod Service

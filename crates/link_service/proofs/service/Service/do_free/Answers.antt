@@ -1,0 +1,10 @@
+use Rattle.std.proofs.Common.{◌≡◌, ◌∙◌, ap, sym, refl, true}
+use Rattle.service_processes.proofs.Blocks.{on_err}
+use Rattle.service_step.specs.Ends.{carried_by, waiting_message, matched_message}
+use Rattle.service_step.specs.declared.state.End.{End}
+use Rattle.link_service.specs.Service.{state_of}
+use Rattle.link_service.proofs.After.{after_free-by}
+use Rattle.link_service.proofs.service.Service.do_free.Goals as goal
+
+pub returns : goal.returns
+returns c = after_free-by (state_of c.args.self.now) (state_of c.wake_owner.new.self) (state_of c.free_receive.new.self) c.args.e c.wake_owner.ensures c.free_receive.ensures
