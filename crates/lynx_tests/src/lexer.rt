@@ -78,51 +78,18 @@ fn sources_have_their_tokens_or_first_fault(rt: HostRuntime) -> Result<(), Fail>
             "'xxxxxxxxxxxxxxxxxxxxxxxxxxxxxxxxxxxxxxxxxxxxxxxxxxxxxxxxxxxxxxxx'",
             "'xxxxxxxxxxxxxxxxxxxxxxxxxxxxxxxxxxxxxxxxxxxxxxxxxxxxxxxxxxxxxxxx'@0-66 ",
         ),
-        // each fault, and the first one
+        // each fault; more of them are tried on the program (.ci/rows/modules)
         ("module m; begin n := 2 # 3; end.", "fault 1 at 23"),
         ("module m;\nbegin\n  x := 'ab;\nend.\n", "fault 2 at 23"),
-        (
-            "module m; begin n := 9223372036854775808; end.",
-            "fault 3 at 21",
-        ),
-        ("'", "fault 2 at 0"),
-        ("_a", "fault 1 at 0"),
-        ("a_ _", "fault 1 at 3"),
-        ("x 'é'", "fault 2 at 2"),
-        ("é", "fault 1 at 0"),
-        ("'a\tb'", "fault 2 at 0"),
         ("a 00000000000000000009223372036854775808 #", "fault 3 at 2"),
-        ("99999999999999999999999999999999999999", "fault 3 at 0"),
         (
             "; 'xxxxxxxxxxxxxxxxxxxxxxxxxxxxxxxxxxxxxxxxxxxxxxxxxxxxxxxxxxxxxxxxy'",
             "fault 4 at 2",
         ),
-        (
-            "; 'xxxxxxxxxxxxxxxxxxxxxxxxxxxxxxxxxxxxxxxxxxxxxxxxxxxxxxxxxxxxxxxxyy",
-            "fault 2 at 2",
-        ),
         ("(aaaaaaaaaaaaaaaaaaaaaaaaaaaaaaaab)", "fault 5 at 1"),
-        ("a\n#\n'", "fault 1 at 2"),
-        ("-- #\n#", "fault 1 at 5"),
-        ("a \"b\"", "fault 1 at 2"),
-        ("\u{c}", "fault 1 at 0"),
     ] {
         let found = answer(rt.alloc(), source)?;
         assert_eq!(rt; found.as_str(), want, "in {source}");
     }
-    Ok(())
-}
-
-#[test]
-fn many_lines_are_read(rt: HostRuntime) -> Result<(), Fail> {
-    let mut source = Vec::new(rt.alloc());
-    for _ in 0..65_535u32 {
-        source.extend_from_slice(b"a \t;\r\n")?;
-    }
-    assert!(rt; source.len() < 1_000_000);
-    let found = tokens(rt.alloc(), &source).map_err(|_| "a fault")?;
-    assert_eq!(rt; found.len(), 131_070);
-    let last = found.last().ok_or("no token")?;
-    assert_eq!(rt; last.from, 65_534 * 6 + 3);
     Ok(())
 }

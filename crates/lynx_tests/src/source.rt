@@ -1,6 +1,9 @@
+//! Sources as modules with their tokens, or as their first fault.
+
 use lynx_source::{SourceFault, read_module, read_source, token_place};
 use std::alloc::{AllocError, Global};
 use std::fmt::Write;
+use std::process::Abort;
 use std::str;
 use std::test::Fail;
 
@@ -21,98 +24,35 @@ fn answer(alloc: Global, source: &[u8]) -> Result<String, AllocError> {
     Ok(text)
 }
 
-#[test]
-fn sources_are_read(rt: HostRuntime) -> Result<(), Fail> {
-    for (source, want) in [
-        ("module m; begin end.", "m"),
-        ("module m; begin end.\n", "m"),
-        (
-            "-- a server\r\nmodule\tserver_2;\r\nbegin\r\nend.\r\n",
-            "server_2",
-        ),
-        // the tokens, each fault
-        ("module m; begin n := 2 # 3; end.\n", "1:24 lex 1"),
-        ("module m;\nbegin\n  x := 'ab;\nend.\n", "3:8 lex 2"),
-        (
-            "module m; begin n := 9223372036854775808; end.\n",
-            "1:22 lex 3",
-        ),
-        (
-            "module m; begin write 'aaaaaaaaaaaaaaaaaaaaaaaaaaaaaaaaaaaaaaaaaaaaaaaaaaaaaaaaaaaaaaaaa'; end.\n",
-            "1:23 lex 4",
-        ),
-        (
-            "module m; begin aaaaaaaaaaaaaaaaaaaaaaaaaaaaaaaaa := 1; end.\n",
-            "1:17 lex 5",
-        ),
-        // a fault of the tokens comes before one of the grammar
-        ("end\n_", "2:1 lex 1"),
-        // the grammar, up to the end of the source
-        ("module m;\nbegin\nend;\n", "3:4 syntax"),
-        ("", "1:1 syntax"),
-        ("\n", "2:1 syntax"),
-        ("module", "1:7 syntax"),
-        ("module -- m", "1:12 syntax"),
-        ("module -- m\n\n", "3:1 syntax"),
-        ("'", "1:1 lex 2"),
-        ("\u{80}", "1:1 lex 1"),
-        // columns count bytes, and carriage returns and tabs are bytes
-        ("-- é\n-- é é; begin\nmodule m;\r\n\t\tend.", "4:3 syntax"),
-        ("module m; begin\r end\r;", "1:22 syntax"),
-    ] {
-        assert_eq!(rt;
-            answer(rt.alloc(), source.as_bytes())?.as_str(),
-            want,
-            "in {source}"
-        );
-    }
-    Ok(())
-}
-
-/// `n := (( .. 1 .. ));` in so many brackets.
-fn brackets(alloc: Global, count: u8) -> Result<Vec<u8>, AllocError> {
-    let mut text = b"module m;\nvar n : int;\nbegin\nn := ".to_vec(alloc)?;
-    for _ in 0..count {
-        text.push(b'(')?;
-    }
-    text.push(b'1')?;
-    for _ in 0..count {
-        text.push(b')')?;
-    }
-    text.extend_from_slice(b";\nend.\n")?;
-    Ok(text)
-}
-
-/// A source of the greatest length, of bytes of one kind.
-fn blanks(alloc: Global) -> Result<Vec<u8>, AllocError> {
-    let mut text = Vec::with_capacity(alloc, 1_048_576)?;
-    for _ in 0..1_048_576u32 {
-        text.push(b' ')?;
-    }
-    Ok(text)
-}
-
-#[test]
-fn sources_at_their_limits(rt: HostRuntime) -> Result<(), Fail> {
-    let alloc = rt.alloc();
-    for (source, want) in [
-        (brackets(alloc, 63)?, "m"),
-        (brackets(alloc, 64)?, "4:69 deep"),
-        (blanks(alloc)?, "1:1048577 syntax"),
-    ] {
-        assert_eq!(rt; answer(alloc, source.as_slice())?.as_str(), want);
-    }
-    Ok(())
-}
-
-#[test]
-fn a_module_has_its_tokens(rt: HostRuntime) -> Result<(), Fail> {
+/// The tokens of a module have their places, and so has the end of its source.
+fn tokens_have_places(rt: &impl Abort, alloc: Global) -> Result<(), Fail> {
     let source = b"module m;\n  begin end.";
-    let reading = read_source(rt.alloc(), source).map_err(|_| "a fault")?;
+    let reading = read_source(alloc, source).map_err(|_| "a fault")?;
     assert_eq!(rt; reading.tokens.len(), 6);
     for (token, line, column) in [(0, 1, 1), (2, 1, 9), (3, 2, 3), (5, 2, 12), (6, 2, 13)] {
         let at = token_place(source, &reading.tokens, token);
         assert_eq!(rt; (at.line, at.column), (line, column), "of {token}");
     }
     Ok(())
+}
+
+/// One source of each kind of answer. More of them, and those at their limits, are tried on the program (.ci/checks/readings).
+#[test]
+fn sources_are_read(rt: HostRuntime) -> Result<(), Fail> {
+    for (source, want) in [
+        (
+            "-- a server\r\nmodule\tserver_2;\r\nbegin\r\nend.\r\n",
+            "server_2",
+        ),
+        ("module m;\nbegin\n  x := 'ab;\nend.\n", "3:8 lex 2"),
+        ("module m;\nbegin\nend;\n", "3:4 syntax"),
+        (
+            "module m; begin n :=\n((((((((((((((((((((((((((((((((((((((((((((((((((((((((((((((((1",
+            "2:64 deep",
+        ),
+    ] {
+        let found = answer(rt.alloc(), source.as_bytes())?;
+        assert_eq!(rt; found.as_str(), want, "in {source}");
+    }
+    tokens_have_places(&rt, rt.alloc())
 }

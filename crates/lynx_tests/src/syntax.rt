@@ -45,6 +45,118 @@ fn prints(rt: &impl Abort, alloc: Global, source: &str, printed: &str) -> Result
     Ok(())
 }
 
+/// A name server, a server that it names and a client of both, as they are read and as they are printed.
+const NAMES: &str = "module names;
+op register (link) : ();
+op find () : (link);
+op take (link) : ();
+param a : link; param b : link; param c : link; param d : link;
+var kept : link; var ready : bool;
+entry reg of register (l) begin kept := l; ready := true; reply (); end;
+entry get of find () var x : link; var y : link;
+begin
+  await ready; new x, y;
+  connect take on kept (x) : (); reply (y);
+end;
+begin bind a to reg; bind b to get; bind c to get; bind d to get; end.
+";
+
+const PRINTED_NAMES: &str = "module names ;
+op register ( link ) : ( ) ;
+op find ( ) : ( link ) ;
+op take ( link ) : ( ) ;
+param a : link ;
+param b : link ;
+param c : link ;
+param d : link ;
+var kept : link ;
+var ready : bool ;
+entry reg of register ( l ) begin kept := l ;
+ready := true ;
+reply ( ) ;
+end ;
+entry get of find ( ) var x : link ;
+var y : link ;
+begin await ready ;
+new x , y ;
+connect take on kept ( x ) : ( ) ;
+reply ( y ) ;
+end ;
+begin bind a to reg ;
+bind b to get ;
+bind c to get ;
+bind d to get ;
+end .
+";
+
+const ADDER: &str = "module adder;
+op register (link) : ();
+op take (link) : ();
+op add (int, int) : (int);
+param n : link;
+var mine : link; var theirs : link;
+entry sum of add (x, y) begin reply (x + y); end;
+entry more of take (l) begin bind l to sum; reply (); end;
+begin
+  new mine, theirs; bind mine to more;
+  connect register on n (theirs) : ();
+end.
+";
+
+const PRINTED_ADDER: &str = "module adder ;
+op register ( link ) : ( ) ;
+op take ( link ) : ( ) ;
+op add ( int , int ) : ( int ) ;
+param n : link ;
+var mine : link ;
+var theirs : link ;
+entry sum of add ( x , y ) begin reply ( x + y ) ;
+end ;
+entry more of take ( l ) begin bind l to sum ;
+reply ( ) ;
+end ;
+begin new mine , theirs ;
+bind mine to more ;
+connect register on n ( theirs ) : ( ) ;
+end .
+";
+
+const CLIENT: &str = "module client;
+op find () : (link);
+op add (int, int) : (int);
+param n : link;
+var l : link; var r : int;
+begin
+  connect find on n () : (l);
+  connect add on l (20, 22) : (r);
+  write r; destroy l;
+end.
+";
+
+const PRINTED_CLIENT: &str = "module client ;
+op find ( ) : ( link ) ;
+op add ( int , int ) : ( int ) ;
+param n : link ;
+var l : link ;
+var r : int ;
+begin connect find on n ( ) : ( l ) ;
+connect add on l ( 20 , 22 ) : ( r ) ;
+write r ;
+destroy l ;
+end .
+";
+
+/// A sum of many numbers, as it is printed.
+fn long_chain(alloc: Global) -> Result<String, AllocError> {
+    let mut text = String::from_str(alloc, "module m ;\nbegin n := 1 ")?;
+    for _ in 0..250_000u32 {
+        text.push_str("+ 1 ")?;
+    }
+    text.push_str(";\nend .\n")?;
+    Ok(text)
+}
+
+/// Modules are printed and read again, the longest ones too. Refused ones are tried on the program (.ci/rows/modules).
 #[test]
 fn modules_are_printed_and_read_again(rt: HostRuntime) -> Result<(), Fail> {
     for (source, want) in [
@@ -77,238 +189,22 @@ fn modules_are_printed_and_read_again(rt: HostRuntime) -> Result<(), Fail> {
             "module m; begin x := a - b - c < d * e / f; write a or b or c and d; end.",
             "module m ;\nbegin x := a - b - c < d * e / f ;\nwrite a or b or c and d ;\nend .\n",
         ),
+        (NAMES, PRINTED_NAMES),
+        (ADDER, PRINTED_ADDER),
+        (CLIENT, PRINTED_CLIENT),
     ] {
         prints(&rt, rt.alloc(), source, want)?;
     }
-    Ok(())
-}
-
-/// A name server, a server that it names and a client of both.
-#[test]
-fn a_name_server_is_read_and_printed(rt: HostRuntime) -> Result<(), Fail> {
-    let names = "module names;
-op register (link) : ();
-op find () : (link);
-op take (link) : ();
-param a : link; param b : link; param c : link; param d : link;
-var kept : link; var ready : bool;
-entry reg of register (l) begin kept := l; ready := true; reply (); end;
-entry get of find () var x : link; var y : link;
-begin
-  await ready; new x, y;
-  connect take on kept (x) : (); reply (y);
-end;
-begin bind a to reg; bind b to get; bind c to get; bind d to get; end.
-";
-    let printed_names = "module names ;
-op register ( link ) : ( ) ;
-op find ( ) : ( link ) ;
-op take ( link ) : ( ) ;
-param a : link ;
-param b : link ;
-param c : link ;
-param d : link ;
-var kept : link ;
-var ready : bool ;
-entry reg of register ( l ) begin kept := l ;
-ready := true ;
-reply ( ) ;
-end ;
-entry get of find ( ) var x : link ;
-var y : link ;
-begin await ready ;
-new x , y ;
-connect take on kept ( x ) : ( ) ;
-reply ( y ) ;
-end ;
-begin bind a to reg ;
-bind b to get ;
-bind c to get ;
-bind d to get ;
-end .
-";
-    let adder = "module adder;
-op register (link) : ();
-op take (link) : ();
-op add (int, int) : (int);
-param n : link;
-var mine : link; var theirs : link;
-entry sum of add (x, y) begin reply (x + y); end;
-entry more of take (l) begin bind l to sum; reply (); end;
-begin
-  new mine, theirs; bind mine to more;
-  connect register on n (theirs) : ();
-end.
-";
-    let printed_adder = "module adder ;
-op register ( link ) : ( ) ;
-op take ( link ) : ( ) ;
-op add ( int , int ) : ( int ) ;
-param n : link ;
-var mine : link ;
-var theirs : link ;
-entry sum of add ( x , y ) begin reply ( x + y ) ;
-end ;
-entry more of take ( l ) begin bind l to sum ;
-reply ( ) ;
-end ;
-begin new mine , theirs ;
-bind mine to more ;
-connect register on n ( theirs ) : ( ) ;
-end .
-";
-    let client = "module client;
-op find () : (link);
-op add (int, int) : (int);
-param n : link;
-var l : link; var r : int;
-begin
-  connect find on n () : (l);
-  connect add on l (20, 22) : (r);
-  write r; destroy l;
-end.
-";
-    let printed_client = "module client ;
-op find ( ) : ( link ) ;
-op add ( int , int ) : ( int ) ;
-param n : link ;
-var l : link ;
-var r : int ;
-begin connect find on n ( ) : ( l ) ;
-connect add on l ( 20 , 22 ) : ( r ) ;
-write r ;
-destroy l ;
-end .
-";
-    for (source, printed) in [
-        (names, printed_names),
-        (adder, printed_adder),
-        (client, printed_client),
-    ] {
-        prints(&rt, rt.alloc(), source, printed)?;
-    }
-    Ok(())
-}
-
-/// Each word of the grammar with a token that may not follow what stands before it.
-#[test]
-fn faults_are_at_the_first_token_that_does_not_fit(rt: HostRuntime) -> Result<(), Fail> {
     for (source, want) in [
-        ("", "at 0"),
-        ("begin", "at 0"),
-        ("module", "at 1"),
-        ("module end", "at 1"),
-        ("module m begin", "at 2"),
-        ("module m; begin end;", "at 5"),
-        ("module m; begin end", "at 5"),
-        ("module m; begin end. x", "at 6"),
-        ("module m; begin stop end.", "at 5"),
-        ("module m; var n : int; op", "at 8"),
-        ("module m; var n : 3", "at 6"),
-        ("module m; var n : row int", "at 7"),
-        ("module m; param a link", "at 5"),
-        ("module m; op p : ()", "at 5"),
-        ("module m; op p (int,) : ()", "at 8"),
-        ("module m; op p (int) ()", "at 8"),
-        ("module m; entry e p ()", "at 5"),
-        ("module m; entry e of p (1)", "at 8"),
-        ("module m; begin + end.", "at 4"),
-        ("module m; begin x = 1; end.", "at 5"),
-        ("module m; begin x[1 := 1; end.", "at 7"),
         ("module m; begin x := ; end.", "at 6"),
-        ("module m; begin x := 1 2; end.", "at 7"),
-        ("module m; begin x := a < b < c; end.", "at 9"),
-        ("module m; begin x := - - 1; end.", "at 7"),
-        ("module m; begin x := not not a; end.", "at 7"),
-        ("module m; begin x := a and; end.", "at 8"),
-        ("module m; begin x := (1; end.", "at 8"),
-        ("module m; begin x := (); end.", "at 7"),
-        ("module m; begin if a do end; end.", "at 6"),
-        ("module m; begin if a then else else end; end.", "at 8"),
-        ("module m; begin while a then end; end.", "at 6"),
-        ("module m; begin write; end.", "at 5"),
-        ("module m; begin raise 1; end.", "at 5"),
-        ("module m; begin new a b; end.", "at 6"),
-        ("module m; begin bind a from e; end.", "at 6"),
-        ("module m; begin unbind a to e; end.", "at 6"),
-        ("module m; begin connect p on a (); end.", "at 10"),
-        ("module m; begin accept p on a (1) do end; end.", "at 9"),
-        ("module m; begin reply 1; end.", "at 5"),
-        ("module m; begin try when do end; end.", "at 6"),
-        ("module m; begin else end.", "at 4"),
+        (
+            "module m; begin n := ((((((((((((((((((((((((((((((((((((((((((((((((((((((((((((((((1",
+            "deep 69",
+        ),
     ] {
         assert_eq!(rt; answer(rt.alloc(), source)?.as_str(), want, "in {source}");
     }
-    Ok(())
-}
-
-/// `n := (( .. 1 .. ));` in so many brackets.
-fn brackets(alloc: Global, count: u8, inside: &str) -> Result<String, AllocError> {
-    let mut text = String::from_str(alloc, "module m;\nvar n : int;\nbegin\nn := ")?;
-    for _ in 0..count {
-        text.push_str("(")?;
-    }
-    text.push_str(inside)?;
-    for _ in 0..count {
-        text.push_str(")")?;
-    }
-    text.push_str(";\nend.\n")?;
-    Ok(text)
-}
-
-/// Loops inside one another, so many.
-fn loops(alloc: Global, count: u8) -> Result<String, AllocError> {
-    let mut text = String::from_str(alloc, "module m;\nbegin\n")?;
-    for _ in 0..count {
-        text.push_str("while true do ")?;
-    }
-    for _ in 0..count {
-        text.push_str("end; ")?;
-    }
-    text.push_str("end.\n")?;
-    Ok(text)
-}
-
-#[test]
-fn at_most_64_may_be_open(rt: HostRuntime) -> Result<(), Fail> {
-    let alloc = rt.alloc();
-    // The statement is open too.
-    let read = answer(alloc, brackets(alloc, 63, "1")?.as_str())?;
-    assert!(rt; read.as_str().starts_with("module m ;"));
-    assert_eq!(rt;
-        answer(alloc, brackets(alloc, 64, "1")?.as_str())?.as_str(),
-        "deep 74"
-    );
-    assert_eq!(rt;
-        answer(alloc, brackets(alloc, 63, "x[1]")?.as_str())?.as_str(),
-        "deep 75"
-    );
-    // A fault that comes first is the answer, also inside.
-    assert_eq!(rt;
-        answer(alloc, brackets(alloc, 63, "x;")?.as_str())?.as_str(),
-        "at 75"
-    );
-    assert_eq!(rt;
-        answer(alloc, brackets(alloc, 63, "1 (")?.as_str())?.as_str(),
-        "at 75"
-    );
-    let nested = answer(alloc, loops(alloc, 64)?.as_str())?;
-    assert!(rt; nested.as_str().starts_with("module m ;"));
-    assert_eq!(rt;
-        answer(alloc, loops(alloc, 65)?.as_str())?.as_str(),
-        "deep 196"
-    );
-    Ok(())
-}
-
-#[test]
-fn long_chains_are_read(rt: HostRuntime) -> Result<(), Fail> {
-    let alloc = rt.alloc();
-    let mut text = String::from_str(alloc, "module m ;\nbegin n := 1 ")?;
-    for _ in 0..250_000u32 {
-        text.push_str("+ 1 ")?;
-    }
-    text.push_str(";\nend .\n")?;
-    assert!(rt; answer(alloc, text.as_str())?.as_str() == text.as_str());
+    let long = long_chain(rt.alloc())?;
+    assert!(rt; answer(rt.alloc(), long.as_str())?.as_str() == long.as_str());
     Ok(())
 }

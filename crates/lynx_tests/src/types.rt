@@ -42,31 +42,17 @@ fn signatures_have_no_blanks(rt: HostRuntime) -> Result<(), Fail> {
 }
 
 #[test]
-fn texts_have_at_most_64_bytes(rt: HostRuntime) -> Result<(), Fail> {
-    for length in 0..70_usize {
-        let text = ShortText::from_slice(&[b'x'; 70][..length]);
-        assert_eq!(rt; text.is_some(), length <= 64);
-        if let Some(text) = text {
-            assert_eq!(rt; text.copy().as_slice().len(), length);
-        }
+fn texts_rows_and_exceptions_have_their_limits(rt: HostRuntime) -> Result<(), Fail> {
+    for length in [0, 1, 64, 65] {
+        let text = ShortText::from_slice(&[b'x'; 65][..length]);
+        let kept = text.map(|text| text.copy().as_slice().len());
+        assert_eq!(rt; kept, (length <= 64).then_some(length));
     }
-    Ok(())
-}
-
-#[test]
-fn rows_have_1_to_16_numbers(rt: HostRuntime) -> Result<(), Fail> {
-    for length in 0..20_usize {
-        let row = Row16::from_slice(&[-7_i64; 20][..length]);
-        assert_eq!(rt; row.is_some(), length >= 1 && length <= 16);
-        if let Some(row) = row {
-            assert_eq!(rt; row.copy().as_slice().len(), length);
-        }
+    for length in [0, 1, 16, 17] {
+        let row = Row16::from_slice(&[-7_i64; 17][..length]);
+        let kept = row.map(|row| row.copy().as_slice().len());
+        assert_eq!(rt; kept, (1..=16).contains(&length).then_some(length));
     }
-    Ok(())
-}
-
-#[test]
-fn exceptions_are_named(rt: HostRuntime) -> Result<(), Fail> {
     for name in [
         "BUSYLINK",
         "DEADLINK",
@@ -81,7 +67,8 @@ fn exceptions_are_named(rt: HostRuntime) -> Result<(), Fail> {
         let spelled = Exception::from_slice(name.as_bytes()).map(|exception| exception.as_slice());
         assert_eq!(rt; spelled, Some(name.as_bytes()));
     }
-    assert_eq!(rt; Exception::from_slice(b"range".as_slice()), None);
-    assert_eq!(rt; Exception::from_slice(b"RANGES".as_slice()), None);
+    for name in ["range", "RANGES"] {
+        assert_eq!(rt; Exception::from_slice(name.as_bytes()), None);
+    }
     Ok(())
 }
