@@ -1,20 +1,17 @@
 //! Each read and each put fails in turn.
 
+use crate::holding::holds;
 use lynx_outside::{ListFiles, ListSink, Status};
 use lynx_run::lynx;
 use std::alloc::{AllocError, Global};
-use std::process::Abort;
 use std::test::Fail;
 
 const SCRIPT: &[u8] = b"kernels 1\nprocess 0 on 0\np0 print 1\n";
 
-const TRANSCRIPT: [&str; 5] = [
-    "transcript 1\n",
-    "kernels 1\n",
-    "process 0 on 0\n",
-    "1 k0 p0 print 1\n",
-    "quiet\n",
-];
+const TRANSCRIPT: &str = "transcript 1\nkernels 1\nprocess 0 on 0\n1 k0 p0 print 1\nquiet\n";
+
+/// Room for every text of these tests.
+const AMPLE: u32 = 100;
 
 fn words_of(alloc: Global, line: &str) -> Result<Vec<String>, AllocError> {
     let mut words = Vec::new(alloc);
@@ -24,7 +21,7 @@ fn words_of(alloc: Global, line: &str) -> Result<Vec<String>, AllocError> {
     Ok(words)
 }
 
-// The files `s`, a script, and `m`, a module. The read of this number fails.
+/// The files `s`, a script, and `m`, a module. The read of this number fails.
 fn files_of(alloc: Global, failing: u32) -> Result<ListFiles, AllocError> {
     let script = (String::from_str(alloc, "s")?, SCRIPT.to_vec(alloc)?);
     let module = (
@@ -34,100 +31,118 @@ fn files_of(alloc: Global, failing: u32) -> Result<ListFiles, AllocError> {
     Ok(ListFiles::of(vec![in alloc; script, module]?, vec![in alloc; failing]?))
 }
 
-// The first lines of the transcript.
-fn first_lines(alloc: Global, count: usize) -> Result<Vec<u8>, AllocError> {
-    let mut lines = Vec::new(alloc);
-    for line in TRANSCRIPT.iter().take(count) {
-        lines.extend_from_slice(line.as_bytes())?;
-    }
-    Ok(lines)
+/// The numbers, from 1, of the read, the put on out and the put on err that fail, and the room of out. 0 is none.
+#[derive(Clone, Copy)]
+struct Faults {
+    read: u32,
+    out: u32,
+    err: u32,
+    room: u32,
 }
 
-// Where the put of this number on out fails, the lines before it are held, and nothing is put on err.
-fn put_fails_at(rt: &impl Abort, alloc: Global, failing: u32, status: Status) -> Result<(), Fail> {
-    let mut files = files_of(alloc, 0)?;
-    let mut out = ListSink::with(alloc, 100, vec![in alloc; failing]?)?;
-    let mut err = ListSink::with(alloc, 100, vec![in alloc; 1]?)?;
-    let words = words_of(alloc, "drive s")?;
-    let ended = lynx(alloc, words, &mut files, &mut out, &mut err);
-    assert_eq!(rt; ended, status);
-    assert_eq!(rt; err.held(), b"".as_slice());
-    let held = first_lines(alloc, (failing as usize).saturating_sub(1))?;
-    assert_eq!(rt; out.held(), held.as_slice());
-    Ok(())
-}
-
-#[test]
-fn puts_on_out(rt: HostRuntime) -> Result<(), Fail> {
-    let alloc = rt.alloc();
-    for failing in 1..6_u32 {
-        put_fails_at(&rt, alloc, failing, Status::WriteFault)?;
-    }
-    put_fails_at(&rt, alloc, 6, Status::Done)
-}
-
-// These words end with this status and these bytes on out and on err, where the read and the put on err of these numbers fail.
+/// These words end with this status, and with these bytes on out and on err.
 fn end_so(
-    rt: &impl Abort,
     alloc: Global,
     line: &str,
-    failing: (u32, u32),
+    faults: Faults,
     status: Status,
     held: (&str, &str),
 ) -> Result<(), Fail> {
-    let mut files = files_of(alloc, failing.0)?;
-    let mut out = ListSink::with(alloc, 4, vec![in alloc; 0]?)?;
-    let mut err = ListSink::with(alloc, 100, vec![in alloc; failing.1]?)?;
-    let ended = lynx(
-        alloc,
-        words_of(alloc, line)?,
-        &mut files,
-        &mut out,
-        &mut err,
-    );
-    assert_eq!(rt; ended, status, "{line}");
-    assert_eq!(rt; out.held(), held.0.as_bytes());
-    assert_eq!(rt; err.held(), held.1.as_bytes());
+    let mut files = files_of(alloc, faults.read)?;
+    let mut out = ListSink::with(alloc, faults.room, vec![in alloc; faults.out]?)?;
+    let mut err = ListSink::with(alloc, AMPLE, vec![in alloc; faults.err]?)?;
+    let words = words_of(alloc, line)?;
+    let ended = lynx(alloc, words, &mut files, &mut out, &mut err);
+    holds(ended == status, line)?;
+    holds(out.held() == held.0.as_bytes(), "what out holds")?;
+    holds(err.held() == held.1.as_bytes(), "what err holds")?;
     Ok(())
 }
 
 #[test]
-fn reads_and_puts_on_err(rt: HostRuntime) -> Result<(), Fail> {
-    let alloc = rt.alloc();
-    for (line, failing, status, out, err) in [
-        ("help", (0, 0), Status::Usage, "", "lynx: usage\n"),
-        ("help", (0, 1), Status::WriteFault, "", ""),
+fn reads_and_puts_fail_in_turn(rt: HostRuntime) -> Result<(), Fail> {
+    for (line, (read, out, err, room), status, held) in [
+        ("help", (0, 0, 0, 4), Status::Usage, ("", "lynx: usage\n")),
+        ("help", (0, 0, 1, 4), Status::WriteFault, ("", "")),
         (
             "run p",
-            (0, 0),
+            (0, 0, 0, 4),
             Status::Refused,
-            "",
-            "lynx: run: not built\n",
+            ("", "lynx: run: not built\n"),
         ),
         (
             "drive s",
-            (1, 0),
+            (1, 0, 0, 4),
             Status::ReadFault,
-            "",
-            "lynx: s: read fault\n",
+            ("", "lynx: s: read fault\n"),
         ),
         (
             "check m",
-            (1, 0),
+            (1, 0, 0, 4),
             Status::ReadFault,
-            "",
-            "lynx: m: read fault\n",
+            ("", "lynx: m: read fault\n"),
         ),
-        ("drive s", (1, 1), Status::WriteFault, "", ""),
-        ("drive t", (0, 0), Status::NoFile, "", "lynx: t: absent\n"),
-        ("drive m", (2, 0), Status::Refused, "", "m:1: script 1\n"),
-        ("check s", (2, 0), Status::Refused, "", "s:1:1: syntax\n"),
-        ("check s", (0, 1), Status::WriteFault, "", ""),
+        ("drive s", (1, 0, 1, 4), Status::WriteFault, ("", "")),
+        (
+            "drive t",
+            (0, 0, 0, 4),
+            Status::NoFile,
+            ("", "lynx: t: absent\n"),
+        ),
+        (
+            "drive m",
+            (2, 0, 0, 4),
+            Status::Refused,
+            ("", "m:1: script 1\n"),
+        ),
+        (
+            "check s",
+            (2, 0, 0, 4),
+            Status::Refused,
+            ("", "s:1:1: syntax\n"),
+        ),
+        ("check s", (0, 0, 1, 4), Status::WriteFault, ("", "")),
         // out has room for four bytes
-        ("check m", (0, 0), Status::WriteFault, "ok m", ""),
-        ("drive s", (0, 0), Status::WriteFault, "tran", ""),
+        ("check m", (0, 0, 0, 4), Status::WriteFault, ("ok m", "")),
+        ("drive s", (0, 0, 0, 4), Status::WriteFault, ("tran", "")),
+        // each put on out, and nothing is put on err then
+        ("drive s", (0, 1, 1, AMPLE), Status::WriteFault, ("", "")),
+        (
+            "drive s",
+            (0, 2, 1, AMPLE),
+            Status::WriteFault,
+            ("transcript 1\n", ""),
+        ),
+        (
+            "drive s",
+            (0, 3, 1, AMPLE),
+            Status::WriteFault,
+            ("transcript 1\nkernels 1\n", ""),
+        ),
+        (
+            "drive s",
+            (0, 4, 1, AMPLE),
+            Status::WriteFault,
+            ("transcript 1\nkernels 1\nprocess 0 on 0\n", ""),
+        ),
+        (
+            "drive s",
+            (0, 5, 1, AMPLE),
+            Status::WriteFault,
+            (
+                "transcript 1\nkernels 1\nprocess 0 on 0\n1 k0 p0 print 1\n",
+                "",
+            ),
+        ),
+        ("drive s", (0, 6, 1, AMPLE), Status::Done, (TRANSCRIPT, "")),
     ] {
-        end_so(&rt, alloc, line, failing, status, (out, err))?;
+        let faults = Faults {
+            read,
+            out,
+            err,
+            room,
+        };
+        end_so(rt.alloc(), line, faults, status, held)?;
     }
     Ok(())
 }

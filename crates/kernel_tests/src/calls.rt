@@ -1,5 +1,9 @@
+//! Calls, their answers and causes, and service steps.
+
+use crate::holding::holds;
 use crate::samples::{end, same_text, some_bytes, two_ends};
 use charlotte_calls::{Answer, Call, Cause, Outcome, Pid, Report, ServiceStep, Side, Way};
+use std::alloc::Global;
 use std::test::Fail;
 
 fn send() -> Result<Call, Fail> {
@@ -54,28 +58,27 @@ const CAUSES: [Cause; 10] = [
     Cause::EncloseTwice,
 ];
 
-#[test]
-fn calls_have_their_own_causes_and_answers(rt: HostRuntime) -> Result<(), Fail> {
+/// Each call fits its own causes and answers, and no other.
+fn calls_fit(alloc: Global) -> Result<(), Fail> {
     let made = Answer::Made(end(3, Side::A), end(3, Side::B));
     let reported = Answer::Reported(report()?);
     for (cause, number) in CAUSES.iter().zip(1..=10) {
-        assert_eq!(rt; cause.number(), number, "{cause:?}");
+        holds(cause.number() == number, "the number of a cause")?;
     }
     for (call, causes, fits) in &calls()? {
-        assert!(rt; same_text(rt.alloc(), &call.copy(), call)?, "{call:?}");
+        holds(same_text(alloc, &call.copy(), call)?, "the copy of a call")?;
         let answered = [
             call.fits(&Answer::Ok),
             call.fits(&made),
             call.fits(&reported),
         ];
-        assert_eq!(rt; answered, *fits, "{call:?}");
+        holds(answered == *fits, "the answers to a call")?;
         for cause in CAUSES {
             let refused = call.fits(&Answer::Refused(cause));
-            assert_eq!(rt;
-                refused,
-                causes.contains(&cause.number()),
-                "{call:?} {cause:?}"
-            );
+            holds(
+                refused == causes.contains(&cause.number()),
+                "the causes of a call",
+            )?;
         }
     }
     Ok(())
@@ -117,9 +120,13 @@ fn steps() -> Result<[ServiceStep; 16], Fail> {
 }
 
 #[test]
-fn copies_are_equal(rt: HostRuntime) -> Result<(), Fail> {
+fn calls_answers_and_steps(rt: HostRuntime) -> Result<(), Fail> {
+    calls_fit(rt.alloc())?;
     for step in steps()? {
-        assert!(rt; same_text(rt.alloc(), &step.copy(), &step)?, "{step:?}");
+        holds(
+            same_text(rt.alloc(), &step.copy(), &step)?,
+            "the copy of a step",
+        )?;
     }
     for answer in [
         Answer::Ok,
@@ -127,10 +134,11 @@ fn copies_are_equal(rt: HostRuntime) -> Result<(), Fail> {
         Answer::Reported(report()?),
         Answer::Refused(Cause::EncloseSame),
     ] {
-        assert!(rt;
-            same_text(rt.alloc(), &answer.copy(), &answer)?,
-            "{answer:?}"
-        );
+        let copied = answer.copy();
+        holds(
+            same_text(rt.alloc(), &copied, &answer)?,
+            "the copy of an answer",
+        )?;
     }
     Ok(())
 }

@@ -4,11 +4,15 @@
 #[cfg(test)]
 mod calls;
 #[cfg(test)]
+mod holding;
+#[cfg(test)]
 mod kernel;
 #[cfg(test)]
 mod messages;
 #[cfg(test)]
 mod moves;
+#[cfg(test)]
+mod node;
 #[cfg(test)]
 mod packets;
 #[cfg(test)]
@@ -21,5 +25,3 @@ mod settings;
 mod table;
 #[cfg(test)]
 mod values;
-#[cfg(test)]
-mod world;

@@ -1,14 +1,17 @@
+//! Each call of `move_core` once. What follows from them is shown by the rows of .ci/rows/runs.
 ghost use Rattle.std.specs.Prelude.{◌≡◌, true, IfOk, [], ◌∷◌};
 ghost use Rattle.charlotte_calls.specs.Moving.{new_end};
 ghost use Rattle.end_table.specs.Table.{entries, HasPlace, IsHere};
 ghost use Rattle.kernel_step.specs.Progress.{HasRoom};
 
-use crate::samples::{END, OWNER, ample, end_a, kept, view};
-use charlotte_calls::{Cargo, EndId, LinkId, NoMemory, Packet, Side, What, Work};
+use crate::holding::holds;
+use crate::samples::{END, OWNER, TO, ample, end_a, kept, sends, view};
+use charlotte_calls::{Cargo, EndId, LinkId, NoMemory, PictureWhat, Side, Work};
 use end_table::{Holder, Inward, Lent, Outward, Table};
 use move_core::{
     Route, arrive, destroy, enclose, forget, give_back, gone_seen, known, leave, moved, room, route,
 };
+use std::alloc::Global;
 use std::test::Fail;
 
 const CARRIED: EndId = EndId {
@@ -52,168 +55,122 @@ fn is_expected(table: &mut Table) -> Result<bool, NoMemory>
     Ok(matches!(table.lend(CARRIED), Lent::Nothing))
 }
 
-#[test]
-fn an_end_arrives_with_its_message(rt: HostRuntime) -> Result<(), Fail> {
-    let mut table = kept(rt.alloc(), view(0, Outward::Idle, Inward::Posted { w: 1 }))?;
-    let mut out = ample(rt.alloc())?;
+/// Who holds an end that is here.
+fn holder_of(table: &Table, end: EndId) -> Option<Holder> {
+    match table.lend(end) {
+        Lent::Here(living) => Some(living.holder()),
+        _ => None,
+    }
+}
+
+/// The carried end comes with its message, and tells its opposite.
+fn arrives(alloc: Global) -> Result<(), Fail> {
+    let mut table = kept(alloc, view(0, Outward::Idle, Inward::Posted { w: 1 }))?;
+    let mut out = ample(alloc)?;
     if is_expected(&mut table)? {
         arrive_once(&mut table, &mut out);
     }
-    assert!(rt;
-        matches!(
-            out.packets.first(),
-            Some((
-                3,
-                Packet {
-                    stamp: 5,
-                    what: What::Moved { at: 0, hops: 0, .. }
-                }
-            ))
-        )
-    );
-    match table.lend(CARRIED) {
-        Lent::Here(living) => assert_eq!(rt; living.holder(), Holder::Owner(OWNER)),
-        _ => panic!(rt; "the end did not arrive"),
-    }
-    assert_eq!(rt; route(&table, CARRIED), Route::Here);
-    Ok(())
+    holds(
+        holder_of(&table, CARRIED) == Some(Holder::Owner(OWNER)),
+        "an end that came",
+    )?;
+    holds(
+        route(&table, CARRIED) == Route::Here,
+        "the way to an end that is here",
+    )?;
+    let to = CARRIED.opposite();
+    sends(alloc, &out, 3, &PictureWhat::Moved { to, at: 0, hops: 0 })
 }
 
-#[test]
-fn a_late_parcel_goes_back_with_its_end(rt: HostRuntime) -> Result<(), Fail> {
-    let mut table = kept(rt.alloc(), view(0, Outward::Idle, Inward::Idle))?;
-    let mut out = ample(rt.alloc())?;
-    if is_expected(&mut table)? {
-        arrive_once(&mut table, &mut out);
-    }
-    match out.packets.first() {
-        Some(
-            (
-                3,
-                Packet {
-                    what: What::Back { n, moving, .. },
-                    ..
-                },
-            ),
-        ) => {
-            assert_eq!(rt; (*n, moving.len()), (4, 1));
-        }
-        _ => panic!(rt; "nothing goes back"),
-    }
-    assert_eq!(rt; route(&table, CARRIED), Route::Forward(3));
-    forget(&mut table, CARRIED, 1, &mut out);
-    assert_eq!(rt; route(&table, CARRIED), Route::Stale);
-    Ok(())
-}
-
-#[test]
-fn a_message_comes_back_with_its_end(rt: HostRuntime) -> Result<(), Fail> {
-    let mut table = kept(rt.alloc(), view(0, Outward::Matched { n: 4 }, Inward::Idle))?;
-    let mut out = ample(rt.alloc())?;
+/// A message comes back, and its end is the sender's again.
+fn comes_back(alloc: Global) -> Result<(), Fail> {
+    let mut table = kept(alloc, view(0, Outward::Matched { n: 4 }, Inward::Idle))?;
+    let mut out = ample(alloc)?;
     if is_expected(&mut table)? {
         return_once(&mut table, &mut out);
     }
-    match out.reports.first() {
-        Some((p, report)) => assert_eq!(rt;
-            (*p, report.enclosed.as_slice().first().copied()),
-            (OWNER, Some(CARRIED))
-        ),
-        None => panic!(rt; "no report"),
-    }
-    assert_eq!(rt;
-        (out.packets.len(), route(&table, CARRIED)),
-        (1, Route::Here)
-    );
-    Ok(())
+    holds(
+        holder_of(&table, CARRIED) == Some(Holder::Owner(OWNER)),
+        "an end that came back",
+    )?;
+    holds(
+        out.reports.len() == 1 && out.packets.len() == 1,
+        "the report of a message that came back",
+    )
 }
 
-#[test]
-fn an_end_of_a_stray_back_is_destroyed(rt: HostRuntime) -> Result<(), Fail> {
-    let mut table = kept(rt.alloc(), view(0, Outward::Idle, Inward::Idle))?;
-    let mut out = ample(rt.alloc())?;
-    if is_expected(&mut table)? {
-        return_once(&mut table, &mut out);
-    }
-    assert!(rt;
-        matches!(
-            out.packets.first(),
-            Some((
-                3,
-                Packet {
-                    stamp: 5,
-                    what: What::Gone { at: 0, .. }
-                }
-            ))
-        )
-    );
-    assert!(rt; matches!(table.lend(CARRIED), Lent::Destroyed(_)));
-    let mut out = ample(rt.alloc())?;
-    gone_seen(&mut table, CARRIED, &mut out);
-    assert!(rt; matches!(table.lend(CARRIED), Lent::Nothing));
-    Ok(())
-}
-
-#[test]
-fn an_enclosed_end_leaves(rt: HostRuntime) -> Result<(), Fail> {
-    let mut table = kept(rt.alloc(), view(0, Outward::Idle, Inward::Idle))?;
-    let left = leave(&mut table, END, 3).destroy();
-    assert_eq!(rt; (left.hops(), left.trail()), (1, 1));
-    assert_eq!(rt; route(&table, END), Route::Forward(3));
-    let mut table = kept(rt.alloc(), view(0, Outward::Idle, Inward::Idle))?;
-    let mut out = ample(rt.alloc())?;
+/// An end is enclosed.
+fn encloses(alloc: Global) -> Result<(), Fail> {
+    let mut table = kept(alloc, view(0, Outward::Idle, Inward::Idle))?;
+    let mut out = ample(alloc)?;
     enclose(&mut table, END, CARRIED, &mut out);
-    match table.lend(END) {
-        Lent::Here(living) => assert_eq!(rt; living.holder(), Holder::EnclosedIn(CARRIED)),
-        _ => panic!(rt; "the end is not here"),
-    }
-    Ok(())
+    holds(
+        holder_of(&table, END) == Some(Holder::EnclosedIn(CARRIED)),
+        "an enclosed end",
+    )
+}
+
+/// An end leaves, and is forgotten.
+fn leaves(alloc: Global) -> Result<(), Fail> {
+    let mut table = kept(alloc, view(0, Outward::Idle, Inward::Idle))?;
+    let mut out = ample(alloc)?;
+    let left = leave(&mut table, END, 3).destroy();
+    holds(
+        left.hops() == 1 && left.trail() == 1,
+        "the value of an end that leaves",
+    )?;
+    holds(
+        route(&table, END) == Route::Forward(3),
+        "the way to an end that left",
+    )?;
+    forget(&mut table, END, 1, &mut out);
+    holds(
+        route(&table, END) == Route::Stale,
+        "the way to an end that is forgotten",
+    )
+}
+
+/// The opposite end has moved to kernel 2.
+fn learns(alloc: Global) -> Result<(), Fail> {
+    let mut table = kept(alloc, view(0, Outward::Idle, Inward::Idle))?;
+    let mut out = ample(alloc)?;
+    moved(&mut table, END, 2, 1, &mut out);
+    sends(alloc, &out, 2, &PictureWhat::Known { to: TO, hops: 1 })
+}
+
+/// An end that has not moved hears that its move is known.
+fn is_known(alloc: Global) -> Result<(), Fail> {
+    let mut table = kept(alloc, view(0, Outward::Idle, Inward::Idle))?;
+    let mut out = ample(alloc)?;
+    known(&mut table, END, 0, &mut out);
+    holds(
+        out.packets.is_empty() && room(&table, END).packets == 9,
+        "the room of an action",
+    )
+}
+
+/// An end is destroyed, and this is known.
+fn is_destroyed(alloc: Global) -> Result<(), Fail> {
+    let mut table = kept(alloc, view(0, Outward::Idle, Inward::Idle))?;
+    let mut out = ample(alloc)?;
+    destroy(&mut table, END, &mut out);
+    sends(alloc, &out, 3, &PictureWhat::Gone { to: TO, at: 0 })?;
+    let mut out = ample(alloc)?;
+    gone_seen(&mut table, END, &mut out);
+    holds(
+        matches!(table.lend(END), Lent::Nothing),
+        "an end whose death is known",
+    )
 }
 
 #[test]
-fn an_end_learns_where_its_opposite_is_and_then_is_destroyed(rt: HostRuntime) -> Result<(), Fail> {
-    let mut table = kept(rt.alloc(), view(0, Outward::Idle, Inward::Idle))?;
-    let mut out = ample(rt.alloc())?;
-    moved(&mut table, END, 2, 1, &mut out);
-    assert!(rt;
-        matches!(
-            out.packets.first(),
-            Some((
-                2,
-                Packet {
-                    stamp: 5,
-                    what: What::Known { hops: 1, .. }
-                }
-            ))
-        )
-    );
-    let mut out = ample(rt.alloc())?;
-    known(&mut table, END, 0, &mut out);
-    assert_eq!(rt; out.packets.len(), 0);
-    match table.lend(END) {
-        Lent::Here(living) => assert_eq!(rt;
-            (living.value().hint, living.value().trail),
-            ((2, 1), 0)
-        ),
-        _ => panic!(rt; "the end is not here"),
-    }
-    let mut table = kept(rt.alloc(), view(0, Outward::Idle, Inward::Idle))?;
-    let mut out = ample(rt.alloc())?;
-    destroy(&mut table, END, &mut out);
-    assert!(rt;
-        matches!(
-            out.packets.first(),
-            Some((
-                3,
-                Packet {
-                    stamp: 5,
-                    what: What::Gone { at: 0, .. }
-                }
-            ))
-        )
-    );
-    assert_eq!(rt;
-        (route(&table, END), room(&table, END).packets),
-        (Route::Stale, 9)
-    );
-    Ok(())
+fn each_call_of_move_core(rt: HostRuntime) -> Result<(), Fail> {
+    let alloc = rt.alloc();
+    arrives(alloc)?;
+    comes_back(alloc)?;
+    encloses(alloc)?;
+    leaves(alloc)?;
+    learns(alloc)?;
+    is_known(alloc)?;
+    is_destroyed(alloc)
 }

@@ -1,3 +1,6 @@
+//! Packets and their pictures.
+
+use crate::holding::holds;
 use crate::samples::{same_text, some_bytes};
 use charlotte_calls::{Cargo, EndId, LinkId, Moving, Packet, PictureWhat, Side, What};
 use std::test::Fail;
@@ -61,12 +64,14 @@ fn packets(at: u8) -> Result<[Packet; 11], Fail> {
 }
 
 /// A packet names kernels that are there: its own, and those of hints and trails.
-#[test]
-fn packets_name_kernels(rt: HostRuntime) -> Result<(), Fail> {
+fn packets_name_kernels() -> Result<(), Fail> {
     for (at, kernels, want) in [(0, 1, true), (0, 0, false), (7, 8, true), (7, 7, false)] {
         for (packet, named) in packets(at)?.iter().zip(0..11) {
             let addressed = packet.addressed(kernels);
-            assert_eq!(rt; addressed, want || named >= 8, "{at} {kernels} {packet:?}");
+            holds(
+                addressed == want || named >= 8,
+                "whether a packet names kernels that are there",
+            )?;
         }
     }
     for (hint, trail, kernels, want) in [
@@ -78,13 +83,15 @@ fn packets_name_kernels(rt: HostRuntime) -> Result<(), Fail> {
         (0, 128, 7, false),
         (7, 255, 8, true),
     ] {
-        assert_eq!(rt;
-            back(hint, trail).addressed(kernels),
-            want,
-            "{hint} {trail} {kernels}"
-        );
+        holds(
+            back(hint, trail).addressed(kernels) == want,
+            "whether a back names kernels that are there",
+        )?;
         let addressed = parcel(0, hint, trail)?.addressed(kernels);
-        assert_eq!(rt; addressed, want, "{hint} {trail} {kernels}");
+        holds(
+            addressed == want,
+            "whether a packet names kernels that are there",
+        )?;
     }
     Ok(())
 }
@@ -92,25 +99,32 @@ fn packets_name_kernels(rt: HostRuntime) -> Result<(), Fail> {
 /// A packet without values and its picture are printed alike, since their fields have the same names.
 #[test]
 fn a_picture_has_the_fields_of_its_packet(rt: HostRuntime) -> Result<(), Fail> {
+    packets_name_kernels()?;
     for packet in packets(4)? {
         let picture = packet.picture();
         let copied = picture.copy();
-        assert!(rt; same_text(rt.alloc(), &copied, &picture)?, "{packet:?}");
+        holds(
+            same_text(rt.alloc(), &copied, &picture)?,
+            "the copy of a picture",
+        )?;
         if let PictureWhat::Parcel { moving, .. }
         | PictureWhat::Back { moving, .. } = &picture.what
         {
             let values = moving.as_slice();
-            assert_eq!(rt; values.len(), 2);
-            assert_eq!(rt; (values[0].end, values[1].end), (TO.opposite(), TO));
+            holds(values.len() == 2, "how many values a picture has")?;
+            holds(
+                (values[0].end, values[1].end) == (TO.opposite(), TO),
+                "the order of values",
+            )?;
             continue;
         }
         let (stamp, what) = packet.open();
         let again = Packet { stamp, what };
-        assert_eq!(rt; (stamp, picture.stamp), (9, 9));
-        assert!(rt;
+        holds((stamp, picture.stamp) == (9, 9), "the stamp of a packet")?;
+        holds(
             same_text(rt.alloc(), &picture.what, &again.what)?,
-            "{again:?}"
-        );
+            "the picture of a packet",
+        )?;
     }
     Ok(())
 }

@@ -4,6 +4,7 @@ ghost use Rattle.charlotte_calls.specs.declared.calls.Call.TheVariants as call;
 ghost use Rattle.kernel_tests.specs.Listed.{Listed, listed_step, done_of, asked_of};
 ghost use Rattle.charlotte_calls.specs.Program.{steps, state_after, MayBeGiven, MayFollow, EndsAfterExit, IsOfVersion};
 
+use crate::holding::holds;
 use crate::samples::end;
 use charlotte_calls::{Answer, Call, Next, NoMemory, Program, Side};
 use std::alloc::Global;
@@ -102,11 +103,12 @@ fn a_program_asks_its_calls_and_ends(rt: HostRuntime) -> Result<(), Fail> {
         Some(Answer::Ok),
     ];
     let done = perform(rt.alloc(), &mut program, &given)?;
-    assert!(rt;
+    holds(
         matches!(
             done.as_slice(),
             [Next::Ask(Call::Make), Next::Ask(Call::Exit), Next::Ended]
-        )
-    );
+        ),
+        "what the program did",
+    )?;
     Ok(())
 }

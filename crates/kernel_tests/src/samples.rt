@@ -6,7 +6,8 @@ ghost use Rattle.end_table.specs.Table.{entries};
 ghost use Rattle.end_table.specs.declared.entry.Entry.TheVariants.{Here};
 ghost use Rattle.kernel_step.specs.Progress.{HasRoom};
 
-use charlotte_calls::{Bytes, EndId, Ends, LinkId, Moving, NoMemory, Pid, Side, Work};
+use crate::holding::holds;
+use charlotte_calls::{Bytes, EndId, Ends, LinkId, Moving, NoMemory, PictureWhat, Pid, Side, Work};
 use end_table::{HereView, Holder, Inward, NotStored, Outward, Table};
 use std::alloc::Global;
 use std::fmt::Debug;
@@ -16,6 +17,12 @@ use std::test::Fail;
 pub(crate) const END: EndId = EndId {
     link: LinkId { maker: 0, count: 7 },
     side: Side::A,
+};
+
+/// Its opposite.
+pub(crate) const TO: EndId = EndId {
+    link: LinkId { maker: 0, count: 7 },
+    side: Side::B,
 };
 
 /// The process that owns it.
@@ -42,6 +49,17 @@ pub(crate) fn same_text<A: Debug, B: Debug>(alloc: Global, a: &A, b: &B) -> Resu
     let first = format!(in alloc; "{a:?}")?;
     let second = format!(in alloc; "{b:?}")?;
     Ok(first.as_str() == second.as_str())
+}
+
+/// The first packet of these lists goes to this kernel, is this one and has their stamp.
+pub(crate) fn sends(alloc: Global, out: &Work, kernel: u8, want: &PictureWhat) -> Result<(), Fail> {
+    let (to, packet) = out.packets.first().ok_or("no packet")?;
+    let picture = packet.picture();
+    holds(
+        *to == kernel && picture.stamp == out.stamp,
+        "where a packet goes",
+    )?;
+    holds(same_text(alloc, &picture.what, want)?, "a packet")
 }
 
 /// Lists with ample room, at stamp 5.

@@ -1,3 +1,4 @@
+use crate::holding::holds;
 use charlotte_calls::{Items, Pid, Setting};
 use std::alloc::Global;
 use std::test::Fail;
@@ -41,7 +42,7 @@ fn settings_keep_the_limits_and_name_what_is_there(rt: HostRuntime) -> Result<()
     ];
     for (limits, homes, wires, want) in table {
         let valid = is_valid(rt.alloc(), limits, homes, wires)?;
-        assert_eq!(rt; valid, want, "{limits:?} {homes:?} {wires:?}");
+        holds(valid == want, "whether a setting is valid")?;
     }
     Ok(())
 }

@@ -4,6 +4,7 @@ ghost use Rattle.end_table.specs.Table.{entries, IsHere, Puts};
 ghost use Rattle.end_table.specs.declared.entry.Entry.TheVariants.{Here};
 ghost use Rattle.end_table.specs.declared.entry.Holder.TheVariants.{Owner};
 
+use crate::holding::holds;
 use crate::samples::{END, OWNER, end_a, some_bytes, two_ends};
 use charlotte_calls::{EndId, LinkId, Moving, NoMemory, Pid, Side};
 use end_table::{Entry, Holder, Inward, Lent, NotStored, Outward, Table};
@@ -26,27 +27,45 @@ fn settle(table: &mut Table, moving: Moving, p: Pid) -> Result<(), NoMemory>
 #[test]
 fn an_end_comes_and_goes(rt: HostRuntime) -> Result<(), Fail> {
     let mut table = Table::start(rt.alloc(), 1);
-    assert_eq!(rt; table.kernel(), 1);
+    holds(table.kernel() == 1, "the number of the kernel")?;
     table.reserve(END)?;
-    assert!(rt; matches!(table.look(END), Entry::Nothing));
+    holds(
+        matches!(table.look(END), Entry::Nothing),
+        "the entry of an end",
+    )?;
     settle(&mut table, end_a(END.link), OWNER)?;
     let moving = table.take_out(END, 3);
     let left = table.look(END);
     settle(&mut table, moving, Pid(5))?;
-    assert!(rt; matches!(left, Entry::Left { to: 3, hops: 1 }));
+    holds(
+        matches!(left, Entry::Left { to: 3, hops: 1 }),
+        "an end that left",
+    )?;
     let home = table.here(END);
     let value = home.value();
-    assert_eq!(rt; (value.hint, value.hops, value.trail), ((3, 0), 1, 2));
-    assert_eq!(rt;
-        (home.holder(), home.inward()),
-        (Holder::Owner(Pid(5)), Inward::Idle)
-    );
-    assert!(rt; matches!(home.outward(), Outward::Idle));
+    holds(
+        (value.hint, value.hops, value.trail) == ((3, 0), 1, 2),
+        "the value of an end that came home",
+    )?;
+    holds(
+        (home.holder(), home.inward()) == (Holder::Owner(Pid(5)), Inward::Idle),
+        "who holds an end that came home",
+    )?;
+    holds(
+        matches!(home.outward(), Outward::Idle),
+        "the sends of an end that came home",
+    )?;
     table.take_out(END, 4).destroy();
-    assert!(rt; !table.retire(END, 1));
-    assert!(rt; matches!(table.lend(END), Lent::Left { to: 4, hops: 2 }));
-    assert!(rt; table.retire(END, 2));
-    assert!(rt; matches!(table.lend(END), Lent::Nothing));
+    holds(!table.retire(END, 1), "an end that left later is retired")?;
+    holds(
+        matches!(table.lend(END), Lent::Left { to: 4, hops: 2 }),
+        "what is lent of an end",
+    )?;
+    holds(table.retire(END, 2), "an end is not retired")?;
+    holds(
+        matches!(table.lend(END), Lent::Nothing),
+        "what is lent of an end",
+    )?;
     Ok(())
 }
 
@@ -56,20 +75,29 @@ fn an_end_is_destroyed(rt: HostRuntime) -> Result<(), Fail> {
     let mut table = Table::start(rt.alloc(), 1);
     settle(&mut table, end_a(END.link), OWNER)?;
     let mut value = table.here(END).value();
-    assert_eq!(rt; table.end_here(END).hint(), (3, 0));
+    holds(table.end_here(END).hint() == (3, 0), "the mark of an end")?;
     table.hint_mark(END, (5, 2));
     match table.lend(END) {
-        Lent::Destroyed(mark) => assert_eq!(rt; (mark.end(), mark.hint()), (END, (5, 2))),
-        _ => panic!(rt; "the end is not destroyed"),
+        Lent::Destroyed(mark) => holds(
+            (mark.end(), mark.hint()) == (END, (5, 2)),
+            "the hint of a mark",
+        )?,
+        _ => return Err("the end is not destroyed".into()),
     }
     table.erase(END);
     settle(&mut table, end_a(END.link), OWNER)?;
     value.dead = true;
     table.set_inward(END, value, Inward::Unreported);
-    assert!(rt; table.end_here(END).dead());
-    assert!(rt; matches!(table.look(END), Entry::Nothing));
+    holds(table.end_here(END).dead(), "the mark of a dead end")?;
+    holds(
+        matches!(table.look(END), Entry::Nothing),
+        "the entry of an end",
+    )?;
     table.release(END);
-    assert!(rt; matches!(table.look(END), Entry::Nothing));
+    holds(
+        matches!(table.look(END), Entry::Nothing),
+        "the entry of an end",
+    )?;
     Ok(())
 }
 
@@ -79,7 +107,7 @@ fn an_end_that_is_here_is_set(rt: HostRuntime) -> Result<(), Fail> {
     let mut table = Table::start(rt.alloc(), 1);
     settle(&mut table, end_a(END.link), OWNER)?;
     let news = (table.hint(END, 6, 2), table.hint(END, 7, 2));
-    assert_eq!(rt; news, (true, false));
+    holds(news == (true, false), "news of the opposite end")?;
     let mut value = table.here(END).value();
     value.asked = 1;
     table.set_inward(END, value, Inward::Posted { w: 1 });
@@ -89,16 +117,28 @@ fn an_end_that_is_here_is_set(rt: HostRuntime) -> Result<(), Fail> {
         enclosed: two_ends()?,
     };
     let was = table.set_outward(END, value, waiting);
-    assert!(rt; matches!(was, Outward::Idle));
+    holds(
+        matches!(was, Outward::Idle),
+        "what the outward activity was",
+    )?;
     table.set_holder(END, Holder::Owner(Pid(9)));
-    assert!(rt; table.owned(OWNER, END).is_none());
+    holds(table.owned(OWNER, END).is_none(), "an end of another owner")?;
     match table.owned(Pid(9), END) {
         Some(living) => {
-            assert_eq!(rt; (living.value().hint, living.value().asked), ((6, 2), 1));
-            assert_eq!(rt; living.inward(), Inward::Posted { w: 1 });
-            assert!(rt; matches!(living.outward(), Outward::Waiting { n: 3, .. }));
+            holds(
+                (living.value().hint, living.value().asked) == ((6, 2), 1),
+                "the value that was set",
+            )?;
+            holds(
+                living.inward() == Inward::Posted { w: 1 },
+                "the receive that was set",
+            )?;
+            holds(
+                matches!(living.outward(), Outward::Waiting { n: 3, .. }),
+                "the send that was set",
+            )?;
         }
-        None => panic!(rt; "the end is not owned"),
+        None => return Err("the end is not owned".into()),
     }
     if let Entry::Here(mut view) = table.look(END) {
         view.outward = Outward::Matched { n: 3 };
@@ -106,9 +146,10 @@ fn an_end_that_is_here_is_set(rt: HostRuntime) -> Result<(), Fail> {
             table.change(END, view);
         }
     }
-    assert!(rt;
-        matches!(table.look(END), Entry::Here(view) if matches!(view.outward, Outward::Matched { n: 3 }))
-    );
+    holds(
+        matches!(table.look(END), Entry::Here(view) if matches!(view.outward, Outward::Matched { n: 3 })),
+        "the entry of an end",
+    )?;
     Ok(())
 }
 
@@ -142,13 +183,13 @@ fn the_ends_of_a_process_are_in_order(rt: HostRuntime) -> Result<(), Fail> {
         (2, 7, Side::A),
         (2, 7, Side::B),
     ];
-    assert_eq!(rt; ends.len(), 4);
+    holds(ends.len() == 4, "how many ends a process owns")?;
     for (end, (maker, count, side)) in ends.iter().zip(&names) {
         let link = LinkId {
             maker: *maker,
             count: *count,
         };
-        assert_eq!(rt; *end, EndId { link, side: *side });
+        holds(*end == EndId { link, side: *side }, "the order of ends")?;
     }
     Ok(())
 }

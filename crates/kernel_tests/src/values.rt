@@ -1,98 +1,90 @@
+//! The values of calls, packets and ends.
+
+use crate::holding::holds;
 use charlotte_calls::{
     Bytes, Cargo, CargoPicture, EndId, Ends, Items, LinkId, Moving, MovingPicture, NoMemory, Side,
 };
 use std::test::Fail;
 
-/// Lists in a value hold what they were made of up to their capacity, and no more.
+/// Lists in a value hold what they were made of up to their capacity, and no more. Items come back.
 #[test]
-fn short_lists_have_a_limit(rt: HostRuntime) -> Result<(), Fail> {
+fn lists_keep_their_limits(rt: HostRuntime) -> Result<(), Fail> {
     let bytes = [7; 257];
-    let mut ends = [EndId::default(); 9];
-    ends[7].side = Side::B;
-    let mut values = [MovingPicture::default(); 9];
-    values[7].hops = 1;
-    for count in [0, 1, 255, 256] {
+    let ends = [EndId::default(); 9];
+    let values = [MovingPicture::default(); 9];
+    for count in [0, 1, 256, 257] {
         let some = bytes.get(..count).ok_or("a longer slice")?;
-        let list = Bytes::from_slice(some).ok_or("bytes")?;
-        assert_eq!(rt; list.copy().as_slice(), some, "{count} bytes");
+        let kept = Bytes::from_slice(some).map(|list| list.copy().as_slice() == some);
+        holds(kept == (count <= 256).then_some(true), "what a list keeps")?;
     }
-    for count in [0, 1, 7, 8] {
+    for count in [0, 1, 8, 9] {
         let some = ends.get(..count).ok_or("a longer slice")?;
-        let list = Ends::from_slice(some).ok_or("ends")?;
-        assert_eq!(rt; list.copy().as_slice(), some, "{count} ends");
+        let kept = Ends::from_slice(some).map(|list| list.copy().as_slice() == some);
+        holds(kept == (count <= 8).then_some(true), "what a list keeps")?;
         let some = values.get(..count).ok_or("a longer slice")?;
-        let list = CargoPicture::from_slice(some).ok_or("values")?;
-        assert_eq!(rt; list.copy().as_slice(), some, "{count} values");
+        let kept = CargoPicture::from_slice(some).map(|list| list.copy().as_slice() == some);
+        holds(kept == (count <= 8).then_some(true), "what a list keeps")?;
     }
-    assert!(rt; Bytes::from_slice(&bytes).is_none());
-    assert!(rt; Ends::from_slice(&ends).is_none());
-    assert!(rt; CargoPicture::from_slice(&values).is_none());
-    Ok(())
-}
-
-#[test]
-fn items_come_back(rt: HostRuntime) -> Result<(), Fail> {
     let items = Items::of(vec![in rt.alloc(); 3, 1, 2]?);
-    assert_eq!(rt; items.as_slice(), [3, 1, 2].as_slice());
-    assert_eq!(rt; (items.len(), items.is_empty()), (3, false));
-    assert_eq!(rt; items.into_vec().as_slice(), [3, 1, 2].as_slice());
-    assert_eq!(rt; format!(in rt.alloc(); "{NoMemory}")?.as_str(), "no memory");
+    holds(items.as_slice() == [3, 1, 2].as_slice(), "items")?;
+    holds(
+        (items.len(), items.is_empty()) == (3, false),
+        "how many items there are",
+    )?;
+    holds(
+        items.into_vec().as_slice() == [3, 1, 2].as_slice(),
+        "items that are handed back",
+    )?;
+    holds(
+        format!(in rt.alloc(); "{NoMemory}")?.as_str() == "no memory",
+        "the text of a want of memory",
+    )?;
     Ok(())
 }
 
-/// What was set is read, goes through a cargo, and is left in the mark.
-#[test]
-fn a_value_keeps_its_fields(rt: HostRuntime) -> Result<(), Fail> {
-    let link = LinkId {
-        maker: 4,
-        count: 123,
-    };
-    let (mut a, b) = Moving::pair(link, 2, 5);
-    assert_eq!(rt;
-        (a.end(), b.end()),
-        (b.end().opposite(), a.end().opposite())
-    );
-    assert_eq!(rt; (a.hint(), b.hint()), ((5, 0), (2, 0)));
-    a.set_hops(1);
-    a.set_hint((2, 3));
-    a.set_sent(4);
-    a.set_asked(5);
-    a.set_served(6);
-    a.set_want(7);
-    a.set_dead(true);
-    a.set_trail(8);
-    let set = MovingPicture {
-        end: EndId {
-            link,
-            side: Side::A,
+/// What is set in a value.
+const SET: MovingPicture = MovingPicture {
+    end: EndId {
+        link: LinkId {
+            maker: 4,
+            count: 123,
         },
-        hops: 1,
-        hint: (2, 3),
-        sent: 4,
-        asked: 5,
-        served: 6,
-        want: 7,
-        dead: true,
-        trail: 8,
-    };
-    assert_eq!(rt; a.picture(), set);
-    assert_eq!(rt;
-        (a.hops(), a.sent(), a.asked(), a.served(), a.want()),
-        (1, 4, 5, 6, 7)
-    );
-    assert_eq!(rt; (a.dead(), a.trail()), (true, 8));
-    let mut cargo = Cargo::empty();
-    cargo.add(b);
-    cargo.add(a);
-    assert_eq!(rt; cargo.picture().as_slice(), cargo.values());
-    assert!(rt; cargo.addressed(4) && !cargo.addressed(3));
-    let marks = [cargo.next(), cargo.next(), cargo.next()];
-    cargo.close();
-    let [first, second, third] = marks;
-    destroyed(first);
-    assert_eq!(rt; destroyed(second), Some(set));
-    assert_eq!(rt; destroyed(third), None);
-    Ok(())
+        side: Side::A,
+    },
+    hops: 1,
+    hint: (2, 3),
+    sent: 4,
+    asked: 5,
+    served: 6,
+    want: 7,
+    dead: true,
+    trail: 8,
+};
+
+fn set(a: &mut Moving) {
+    a.set_hops(SET.hops);
+    a.set_hint(SET.hint);
+    a.set_sent(SET.sent);
+    a.set_asked(SET.asked);
+    a.set_served(SET.served);
+    a.set_want(SET.want);
+    a.set_dead(SET.dead);
+    a.set_trail(SET.trail);
+}
+
+/// The fields of a value, by its readers.
+fn read(a: &Moving) -> MovingPicture {
+    MovingPicture {
+        end: a.end(),
+        hops: a.hops(),
+        hint: a.hint(),
+        sent: a.sent(),
+        asked: a.asked(),
+        served: a.served(),
+        want: a.want(),
+        dead: a.dead(),
+        trail: a.trail(),
+    }
 }
 
 /// The fields that a value had, by the readers of its mark.
@@ -112,4 +104,30 @@ fn destroyed(value: Option<Moving>) -> Option<MovingPicture> {
         dead: mark.dead(),
         trail: mark.trail(),
     })
+}
+
+/// What was set is read, goes through a cargo, and is left in the mark.
+#[test]
+fn a_value_keeps_its_fields(_rt: HostRuntime) -> Result<(), Fail> {
+    let (mut a, b) = Moving::pair(SET.end.link, 2, 5);
+    let opposites = a.end() == b.end().opposite();
+    let hints = (a.hint(), b.hint());
+    set(&mut a);
+    let (seen, picture) = (read(&a), a.picture());
+    let mut cargo = Cargo::empty();
+    cargo.add(b);
+    cargo.add(a);
+    let carried = cargo.picture().as_slice() == cargo.values();
+    let named = (cargo.addressed(4), cargo.addressed(3));
+    let first = destroyed(cargo.next());
+    let second = destroyed(cargo.next());
+    let third = destroyed(cargo.next());
+    cargo.close();
+    holds(opposites && hints == ((5, 0), (2, 0)), "a pair")?;
+    holds(seen == SET && picture == SET, "the fields of a value")?;
+    holds(carried && named == (true, false), "a cargo")?;
+    holds(
+        first.is_some() && second == Some(SET) && third.is_none(),
+        "the marks of a cargo",
+    )
 }

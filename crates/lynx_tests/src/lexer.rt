@@ -1,3 +1,4 @@
+use crate::holding::holds;
 use lynx_lexer::{Kind, LexFault, Token, tokens};
 use std::alloc::{AllocError, Global};
 use std::fmt::Write;
@@ -89,7 +90,7 @@ fn sources_have_their_tokens_or_first_fault(rt: HostRuntime) -> Result<(), Fail>
         ("(aaaaaaaaaaaaaaaaaaaaaaaaaaaaaaaab)", "fault 5 at 1"),
     ] {
         let found = answer(rt.alloc(), source)?;
-        assert_eq!(rt; found.as_str(), want, "in {source}");
+        holds(found.as_str() == want, source)?;
     }
     Ok(())
 }

@@ -2,6 +2,8 @@
 #![tactic(auto)]
 
 #[cfg(test)]
+mod holding;
+#[cfg(test)]
 mod lexer;
 #[cfg(test)]
 mod source;

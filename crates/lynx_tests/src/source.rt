@@ -1,9 +1,9 @@
 //! Sources as modules with their tokens, or as their first fault.
 
+use crate::holding::holds;
 use lynx_source::{SourceFault, read_module, read_source, token_place};
 use std::alloc::{AllocError, Global};
 use std::fmt::Write;
-use std::process::Abort;
 use std::str;
 use std::test::Fail;
 
@@ -25,13 +25,16 @@ fn answer(alloc: Global, source: &[u8]) -> Result<String, AllocError> {
 }
 
 /// The tokens of a module have their places, and so has the end of its source.
-fn tokens_have_places(rt: &impl Abort, alloc: Global) -> Result<(), Fail> {
+fn tokens_have_places(alloc: Global) -> Result<(), Fail> {
     let source = b"module m;\n  begin end.";
     let reading = read_source(alloc, source).map_err(|_| "a fault")?;
-    assert_eq!(rt; reading.tokens.len(), 6);
+    holds(reading.tokens.len() == 6, "how many tokens there are")?;
     for (token, line, column) in [(0, 1, 1), (2, 1, 9), (3, 2, 3), (5, 2, 12), (6, 2, 13)] {
         let at = token_place(source, &reading.tokens, token);
-        assert_eq!(rt; (at.line, at.column), (line, column), "of {token}");
+        holds(
+            (at.line, at.column) == (line, column),
+            "the place of a token",
+        )?;
     }
     Ok(())
 }
@@ -52,7 +55,7 @@ fn sources_are_read(rt: HostRuntime) -> Result<(), Fail> {
         ),
     ] {
         let found = answer(rt.alloc(), source.as_bytes())?;
-        assert_eq!(rt; found.as_str(), want, "in {source}");
+        holds(found.as_str() == want, source)?;
     }
-    tokens_have_places(&rt, rt.alloc())
+    tokens_have_places(rt.alloc())
 }

@@ -1,10 +1,10 @@
 //! Modules through `tokens`, `parse` and `print`.
 
+use crate::holding::holds;
 use lynx_lexer::{LexFault, tokens};
 use lynx_syntax::{SyntaxFault, parse, print};
 use std::alloc::{AllocError, Global};
 use std::fmt::Write;
-use std::process::Abort;
 use std::str;
 use std::test::Fail;
 
@@ -39,9 +39,9 @@ fn answer(alloc: Global, source: &str) -> Result<String, AllocError> {
 }
 
 /// Reads and prints a module, and what is printed too.
-fn prints(rt: &impl Abort, alloc: Global, source: &str, printed: &str) -> Result<(), Fail> {
-    assert_eq!(rt; answer(alloc, source)?.as_str(), printed);
-    assert_eq!(rt; answer(alloc, printed)?.as_str(), printed);
+fn prints(alloc: Global, source: &str, printed: &str) -> Result<(), Fail> {
+    holds(answer(alloc, source)?.as_str() == printed, source)?;
+    holds(answer(alloc, printed)?.as_str() == printed, printed)?;
     Ok(())
 }
 
@@ -193,7 +193,7 @@ fn modules_are_printed_and_read_again(rt: HostRuntime) -> Result<(), Fail> {
         (ADDER, PRINTED_ADDER),
         (CLIENT, PRINTED_CLIENT),
     ] {
-        prints(&rt, rt.alloc(), source, want)?;
+        prints(rt.alloc(), source, want)?;
     }
     for (source, want) in [
         ("module m; begin x := ; end.", "at 6"),
@@ -202,9 +202,12 @@ fn modules_are_printed_and_read_again(rt: HostRuntime) -> Result<(), Fail> {
             "deep 69",
         ),
     ] {
-        assert_eq!(rt; answer(rt.alloc(), source)?.as_str(), want, "in {source}");
+        holds(answer(rt.alloc(), source)?.as_str() == want, source)?;
     }
     let long = long_chain(rt.alloc())?;
-    assert!(rt; answer(rt.alloc(), long.as_str())?.as_str() == long.as_str());
+    holds(
+        answer(rt.alloc(), long.as_str())?.as_str() == long.as_str(),
+        "a long sum",
+    )?;
     Ok(())
 }

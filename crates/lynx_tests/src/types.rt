@@ -1,5 +1,6 @@
 //! Signatures of operations, and values of texts and rows.
 
+use crate::holding::holds;
 use lynx_lexer::tokens;
 use lynx_syntax::parse;
 use lynx_types::{Exception, Row16, ShortText, signature};
@@ -34,10 +35,11 @@ fn signatures_have_no_blanks(rt: HostRuntime) -> Result<(), Fail> {
     let source =
         "module m; op add (int, int) : (int); op o () : (); op all (bool, text, link, row 16) : (row 9223372036854775807, text); begin end.";
     let text = signatures(rt.alloc(), source)?;
-    assert_eq!(rt;
-        text.as_str(),
-        "add(int,int):(int)\no():()\nall(bool,text,link,row16):(row9223372036854775807,text)\n"
-    );
+    holds(
+        text.as_str()
+            == "add(int,int):(int)\no():()\nall(bool,text,link,row16):(row9223372036854775807,text)\n",
+        "signatures",
+    )?;
     Ok(())
 }
 
@@ -46,12 +48,18 @@ fn texts_rows_and_exceptions_have_their_limits(rt: HostRuntime) -> Result<(), Fa
     for length in [0, 1, 64, 65] {
         let text = ShortText::from_slice(&[b'x'; 65][..length]);
         let kept = text.map(|text| text.copy().as_slice().len());
-        assert_eq!(rt; kept, (length <= 64).then_some(length));
+        holds(
+            kept == (length <= 64).then_some(length),
+            "what a list keeps",
+        )?;
     }
     for length in [0, 1, 16, 17] {
         let row = Row16::from_slice(&[-7_i64; 17][..length]);
         let kept = row.map(|row| row.copy().as_slice().len());
-        assert_eq!(rt; kept, (1..=16).contains(&length).then_some(length));
+        holds(
+            kept == (1..=16).contains(&length).then_some(length),
+            "what a list keeps",
+        )?;
     }
     for name in [
         "BUSYLINK",
@@ -65,10 +73,10 @@ fn texts_rows_and_exceptions_have_their_limits(rt: HostRuntime) -> Result<(), Fa
         "LINKSFULL",
     ] {
         let spelled = Exception::from_slice(name.as_bytes()).map(|exception| exception.as_slice());
-        assert_eq!(rt; spelled, Some(name.as_bytes()));
+        holds(spelled == Some(name.as_bytes()), name)?;
     }
     for name in ["range", "RANGES"] {
-        assert_eq!(rt; Exception::from_slice(name.as_bytes()), None);
+        holds(Exception::from_slice(name.as_bytes()) == None, name)?;
     }
     Ok(())
 }

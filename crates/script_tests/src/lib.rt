@@ -4,9 +4,9 @@
 #[cfg(test)]
 mod forms;
 #[cfg(test)]
-mod journals;
+mod holding;
 #[cfg(test)]
-mod plans;
+mod journals;
 #[cfg(test)]
 mod scripts;
 #[cfg(test)]
