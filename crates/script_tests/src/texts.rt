@@ -1,7 +1,7 @@
 //! Names, bytes and calls, each with its one spelling. Malformed ones are tried on the program too (.ci/rows/scripts).
 
 use crate::holding::holds;
-use charlotte_calls::{EndId, LinkId, NoMemory, Pid, Side, Way};
+use charlotte_calls::{EndId, LinkId, Pid, Side, Way};
 use charlotte_text::{
     Fault, Number, cut, end_of_line, next_word, push_bytes, push_call, push_end, push_ends,
     push_number, push_process, push_way, read_below, read_bytes, read_call, read_end, read_ends,
@@ -62,7 +62,7 @@ fn names_have_their_texts(rt: HostRuntime) -> Result<(), Fail> {
 }
 
 /// Whether a word spells these bytes, and they are spelled so.
-fn both_ways(alloc: Global, word: &[u8], bytes: &[u8]) -> Result<(), NoMemory> {
+fn both_ways(alloc: Global, word: &[u8], bytes: &[u8]) -> Result<(), Fail> {
     let read = read_bytes(word);
     holds(
         read.is_ok_and(|read| read.as_slice() == bytes),
