@@ -14,7 +14,10 @@ fn ends(alloc: Global, end: End, status: Status) -> Result<(), Fail> {
     let lines = vec![in alloc; b"a\n".to_vec(alloc)?, b"bc\n".to_vec(alloc)?]?;
     let text = Lines::of(lines);
     let output = Ok(Output { text, end });
-    holds(end_with(alloc, "p", output, &mut out, &mut err) == status, "the status of an end")?;
+    holds(
+        end_with(alloc, "p", output, &mut out, &mut err) == status,
+        "the status of an end",
+    )?;
     holds(out.held() == b"a\nbc\n".as_slice(), "what out holds")?;
     holds(err.held() == b"".as_slice(), "what err holds")?;
     Ok(())
@@ -33,14 +36,20 @@ fn commands_end_and_fail(rt: HostRuntime) -> Result<(), Fail> {
         (Failure::TooBig, "lynx: a/s: too big\n"),
         (Failure::Lex { at, no: 5 }, "a/s:65535:1048577: lex 5\n"),
         (Failure::Deep { at }, "a/s:65535:1048577: deep\n"),
-        (Failure::Rule { at, rule: 24 }, "a/s:65535:1048577: rule 24\n"),
+        (
+            Failure::Rule { at, rule: 24 },
+            "a/s:65535:1048577: rule 24\n",
+        ),
         (Failure::CodeTooLong, "a/s:1:1: code too long\n"),
         (Failure::Plan { line: 9, rule: 11 }, "a/s:9: plan 11\n"),
         (Failure::NoTranscript { line: 310_678 }, "a/s:310678: no\n"),
         (Failure::NoMemory, "lynx: no memory\n"),
     ] {
         let mut err = ListSink::with(rt.alloc(), 100, Vec::new(rt.alloc()))?;
-        holds(tell(rt.alloc(), "a/s", failure, &mut err) == failure.status(), "the status of a failure")?;
+        holds(
+            tell(rt.alloc(), "a/s", failure, &mut err) == failure.status(),
+            "the status of a failure",
+        )?;
         holds(err.held() == text.as_bytes(), "what err holds")?;
     }
     Ok(())

@@ -64,21 +64,61 @@ fn reads_and_puts_fail_in_turn(rt: HostRuntime) -> Result<(), Fail> {
     for (line, (read, out, err, room), status, held) in [
         ("help", (0, 0, 0, 4), Status::Usage, ("", "lynx: usage\n")),
         ("help", (0, 0, 1, 4), Status::WriteFault, ("", "")),
-        ("run p", (0, 0, 0, 4), Status::Refused, ("", "lynx: run: not built\n")),
-        ("drive s", (1, 0, 0, 4), Status::ReadFault, ("", "lynx: s: read fault\n")),
-        ("check m", (1, 0, 0, 4), Status::ReadFault, ("", "lynx: m: read fault\n")),
+        (
+            "run p",
+            (0, 0, 0, 4),
+            Status::Refused,
+            ("", "lynx: run: not built\n"),
+        ),
+        (
+            "drive s",
+            (1, 0, 0, 4),
+            Status::ReadFault,
+            ("", "lynx: s: read fault\n"),
+        ),
+        (
+            "check m",
+            (1, 0, 0, 4),
+            Status::ReadFault,
+            ("", "lynx: m: read fault\n"),
+        ),
         ("drive s", (1, 0, 1, 4), Status::WriteFault, ("", "")),
-        ("drive t", (0, 0, 0, 4), Status::NoFile, ("", "lynx: t: absent\n")),
-        ("drive m", (2, 0, 0, 4), Status::Refused, ("", "m:1: script 1\n")),
-        ("check s", (2, 0, 0, 4), Status::Refused, ("", "s:1:1: syntax\n")),
+        (
+            "drive t",
+            (0, 0, 0, 4),
+            Status::NoFile,
+            ("", "lynx: t: absent\n"),
+        ),
+        (
+            "drive m",
+            (2, 0, 0, 4),
+            Status::Refused,
+            ("", "m:1: script 1\n"),
+        ),
+        (
+            "check s",
+            (2, 0, 0, 4),
+            Status::Refused,
+            ("", "s:1:1: syntax\n"),
+        ),
         ("check s", (0, 0, 1, 4), Status::WriteFault, ("", "")),
         // out has room for four bytes
         ("check m", (0, 0, 0, 4), Status::WriteFault, ("ok m", "")),
         ("drive s", (0, 0, 0, 4), Status::WriteFault, ("tran", "")),
         // each put on out, and nothing is put on err then
         ("drive s", (0, 1, 1, AMPLE), Status::WriteFault, ("", "")),
-        ("drive s", (0, 2, 1, AMPLE), Status::WriteFault, ("transcript 1\n", "")),
-        ("drive s", (0, 3, 1, AMPLE), Status::WriteFault, ("transcript 1\nkernels 1\n", "")),
+        (
+            "drive s",
+            (0, 2, 1, AMPLE),
+            Status::WriteFault,
+            ("transcript 1\n", ""),
+        ),
+        (
+            "drive s",
+            (0, 3, 1, AMPLE),
+            Status::WriteFault,
+            ("transcript 1\nkernels 1\n", ""),
+        ),
         (
             "drive s",
             (0, 4, 1, AMPLE),
@@ -89,7 +129,10 @@ fn reads_and_puts_fail_in_turn(rt: HostRuntime) -> Result<(), Fail> {
             "drive s",
             (0, 5, 1, AMPLE),
             Status::WriteFault,
-            ("transcript 1\nkernels 1\nprocess 0 on 0\n1 k0 p0 print 1\n", ""),
+            (
+                "transcript 1\nkernels 1\nprocess 0 on 0\n1 k0 p0 print 1\n",
+                "",
+            ),
         ),
         ("drive s", (0, 6, 1, AMPLE), Status::Done, (TRANSCRIPT, "")),
     ] {

@@ -3,7 +3,7 @@ ghost use Rattle.std.specs.Prelude.{◌≡◌, true, OnOk};
 
 use std::test::Fail;
 
-/// Fails the test, and tells what was looked at, unless this holds. Proving it costs a tenth of what an assertion costs.
+/// Fails the test, and tells what was looked at, unless this holds.
 pub(crate) fn holds(is_so: bool, what: &str) -> Result<(), Fail>
     ensures { OnOk result (is_so ≡ true) }
 {

@@ -49,15 +49,27 @@ fn files_are_read_and_writers_take_all_or_fail(host: HostRuntime) -> Result<(), 
     let name = format!(in alloc; "lynx-command-{}", process::id(host.process()))?;
     let path = env::temp_dir(&host)?.join(alloc, name.as_str())?;
     let mut files = HostFiles::of(&host);
-    holds(matches!(files.read(alloc, path.as_str(), 9), Err(FileAnswer::Absent)), "a file that is absent")?;
+    holds(
+        matches!(files.read(alloc, path.as_str(), 9), Err(FileAnswer::Absent)),
+        "a file that is absent",
+    )?;
     fs::write(&host, path.as_path(), "four")?;
     let whole = files.read(alloc, path.as_str(), 4);
     let too_big = files.read(alloc, path.as_str(), 3);
     fs::remove_file(&host, path.as_path())?;
-    holds(whole?.as_slice() == b"four".as_slice(), "a file of four bytes")?;
+    holds(
+        whole?.as_slice() == b"four".as_slice(),
+        "a file of four bytes",
+    )?;
     holds(matches!(too_big, Err(FileAnswer::TooBig)), "a file too big")?;
     // A directory can be opened and not read. One without an end is read to one byte past the most.
-    holds(matches!(files.read(alloc, "/", 9), Err(FileAnswer::Failed)), "a folder")?;
-    holds(matches!(files.read(alloc, "/dev/zero", 9), Err(FileAnswer::TooBig)), "a file without an end")?;
+    holds(
+        matches!(files.read(alloc, "/", 9), Err(FileAnswer::Failed)),
+        "a folder",
+    )?;
+    holds(
+        matches!(files.read(alloc, "/dev/zero", 9), Err(FileAnswer::TooBig)),
+        "a file without an end",
+    )?;
     takes_all_or_fails()
 }

@@ -75,7 +75,10 @@ fn calls_fit(alloc: Global) -> Result<(), Fail> {
         holds(answered == *fits, "the answers to a call")?;
         for cause in CAUSES {
             let refused = call.fits(&Answer::Refused(cause));
-            holds(refused == causes.contains(&cause.number()), "the causes of a call")?;
+            holds(
+                refused == causes.contains(&cause.number()),
+                "the causes of a call",
+            )?;
         }
     }
     Ok(())
@@ -120,7 +123,10 @@ fn steps() -> Result<[ServiceStep; 16], Fail> {
 fn calls_answers_and_steps(rt: HostRuntime) -> Result<(), Fail> {
     calls_fit(rt.alloc())?;
     for step in steps()? {
-        holds(same_text(rt.alloc(), &step.copy(), &step)?, "the copy of a step")?;
+        holds(
+            same_text(rt.alloc(), &step.copy(), &step)?,
+            "the copy of a step",
+        )?;
     }
     for answer in [
         Answer::Ok,
@@ -129,7 +135,10 @@ fn calls_answers_and_steps(rt: HostRuntime) -> Result<(), Fail> {
         Answer::Refused(Cause::EncloseSame),
     ] {
         let copied = answer.copy();
-        holds(same_text(rt.alloc(), &copied, &answer)?, "the copy of an answer")?;
+        holds(
+            same_text(rt.alloc(), &copied, &answer)?,
+            "the copy of an answer",
+        )?;
     }
     Ok(())
 }

@@ -92,11 +92,17 @@ fn a_message_is_taken(node: &mut Node) -> Result<(), Fail> {
         p: P1,
         report: report.copy(),
     };
-    let taken = PictureWhat::Taken { to: on, n, at, hops };
+    let taken = PictureWhat::Taken {
+        to: on,
+        n,
+        at,
+        hops,
+    };
     node.take()?.gives(5, &[P1], &[taken], &[take, told])?;
     holds(node.phase(P1)? == (true, false), "whether a process waits")?;
     node.answers(P1, Some(Answer::Reported(report)))?;
-    node.take()?.gives(6, &[], &[], &[ServiceStep::Complete { on, n }])
+    node.take()?
+        .gives(6, &[], &[], &[ServiceStep::Complete { on, n }])
 }
 
 /// A packet that no kernel sent: the receive 3 asks an end, from a kernel.
@@ -120,8 +126,12 @@ fn wanted(node: &Node) -> Option<u32> {
 fn strays_are_dropped(node: &mut Node) -> Result<(), Fail> {
     let mut nowhere = B;
     nowhere.link.count = 9;
-    node.take_this(stray(41, nowhere, 0))?.gives(42, &[], &[], &[])?;
-    holds(matches!(node.look(nowhere), Entry::Nothing), "an end that is nowhere")?;
+    node.take_this(stray(41, nowhere, 0))?
+        .gives(42, &[], &[], &[])?;
+    holds(
+        matches!(node.look(nowhere), Entry::Nothing),
+        "an end that is nowhere",
+    )?;
     node.take_this(stray(7, A, 1))?.gives(43, &[], &[], &[])?;
     holds(wanted(node) == Some(0), "the receive that is wanted")?;
     node.take_this(stray(7, A, 0))?.gives(44, &[], &[], &[])?;
@@ -141,7 +151,10 @@ fn a_kernel_does_calls_and_takes_packets(rt: HostRuntime) -> Result<(), Fail> {
     node.answers(P0, Some(Answer::Made(made, made.opposite())))?;
     node.call(P0, Call::Destroy { on: A })?;
     node.answers(P0, Some(Answer::Ok))?;
-    holds(matches!(node.look(A), Entry::Destroyed(_)), "a destroyed end")?;
+    holds(
+        matches!(node.look(A), Entry::Destroyed(_)),
+        "a destroyed end",
+    )?;
     node.call(P0, Call::Destroy { on: A })?;
     node.answers(P0, Some(Answer::Refused(Cause::NoEnd)))
 }

@@ -44,8 +44,21 @@ fn posted(alloc: Global) -> Result<(), Fail> {
     let mut table = kept(alloc, view(0, Outward::Idle, Inward::Idle))?;
     let mut out = ample(alloc)?;
     post(&mut table, END, &mut out);
-    holds(inward_of(&table) == Inward::Posted { w: 1 }, "a posted receive")?;
-    sends(alloc, &out, 3, &PictureWhat::Want { to: TO, w: 1, at: 0, hops: 0 })
+    holds(
+        inward_of(&table) == Inward::Posted { w: 1 },
+        "a posted receive",
+    )?;
+    sends(
+        alloc,
+        &out,
+        3,
+        &PictureWhat::Want {
+            to: TO,
+            w: 1,
+            at: 0,
+            hops: 0,
+        },
+    )
 }
 
 /// The message 4 is taken by the receive 1.
@@ -53,9 +66,25 @@ fn taken(alloc: Global) -> Result<(), Fail> {
     let mut table = kept(alloc, view(0, Outward::Idle, Inward::Posted { w: 1 }))?;
     let mut out = ample(alloc)?;
     arrived(&mut table, END, 4, 1, 3, 0, no_bytes(), no_ends(), &mut out);
-    holds(inward_of(&table) == Inward::Unreported, "a receive that is over")?;
-    holds(out.reports.len() == 1 && out.answers.is_empty(), "the report of a receive")?;
-    sends(alloc, &out, 3, &PictureWhat::Taken { to: TO, n: 4, at: 0, hops: 0 })
+    holds(
+        inward_of(&table) == Inward::Unreported,
+        "a receive that is over",
+    )?;
+    holds(
+        out.reports.len() == 1 && out.answers.is_empty(),
+        "the report of a receive",
+    )?;
+    sends(
+        alloc,
+        &out,
+        3,
+        &PictureWhat::Taken {
+            to: TO,
+            n: 4,
+            at: 0,
+            hops: 0,
+        },
+    )
 }
 
 /// The receive 1 is to be withdrawn.
@@ -63,8 +92,21 @@ fn withdrawn(alloc: Global) -> Result<(), Fail> {
     let mut table = kept(alloc, view(0, Outward::Idle, Inward::Posted { w: 1 }))?;
     let mut out = ample(alloc)?;
     withdraw_receive(&mut table, END, &mut out);
-    holds(inward_of(&table) == Inward::Withdrawing { w: 1 }, "a receive that is cancelled")?;
-    sends(alloc, &out, 3, &PictureWhat::Unwant { to: TO, w: 1, at: 0, hops: 0 })
+    holds(
+        inward_of(&table) == Inward::Withdrawing { w: 1 },
+        "a receive that is cancelled",
+    )?;
+    sends(
+        alloc,
+        &out,
+        3,
+        &PictureWhat::Unwant {
+            to: TO,
+            w: 1,
+            at: 0,
+            hops: 0,
+        },
+    )
 }
 
 /// The receive 1 is withdrawn, and its Cancel is answered.
@@ -72,8 +114,14 @@ fn freed(alloc: Global) -> Result<(), Fail> {
     let mut table = kept(alloc, view(0, Outward::Idle, Inward::Withdrawing { w: 1 }))?;
     let mut out = ample(alloc)?;
     unwanted(&mut table, END, 1, 3, 0, &mut out);
-    holds(inward_of(&table) == Inward::Idle, "a receive that is withdrawn")?;
-    holds(matches!(out.answers.first(), Some((Pid(1), Answer::Ok))), "the answer to a Cancel")
+    holds(
+        inward_of(&table) == Inward::Idle,
+        "a receive that is withdrawn",
+    )?;
+    holds(
+        matches!(out.answers.first(), Some((Pid(1), Answer::Ok))),
+        "the answer to a Cancel",
+    )
 }
 
 /// A send waits where no receive has asked.
@@ -81,8 +129,14 @@ fn started(alloc: Global) -> Result<(), Fail> {
     let mut table = kept(alloc, view(0, Outward::Idle, Inward::Idle))?;
     let mut out = ample(alloc)?;
     start_send(&mut table, END, no_bytes(), no_ends(), &mut out);
-    holds(matches!(outward_of(&table), Outward::Waiting { n: 1, .. }), "a send that waits")?;
-    holds(out.packets.is_empty() && out.steps.len() == 1, "the step of a send")
+    holds(
+        matches!(outward_of(&table), Outward::Waiting { n: 1, .. }),
+        "a send that waits",
+    )?;
+    holds(
+        out.packets.is_empty() && out.steps.len() == 1,
+        "the step of a send",
+    )
 }
 
 /// A want matches the send that waits.
@@ -90,7 +144,10 @@ fn matched(alloc: Global) -> Result<(), Fail> {
     let mut table = kept(alloc, view(0, waiting(), Inward::Idle))?;
     let mut out = ample(alloc)?;
     want(&mut table, END, 1, 3, 0, &mut out);
-    holds(matches!(outward_of(&table), Outward::Matched { n: 1 }), "a send that is matched")?;
+    holds(
+        matches!(outward_of(&table), Outward::Matched { n: 1 }),
+        "a send that is matched",
+    )?;
     holds(out.packets.len() == 1 && out.steps.len() == 1, "the parcel")
 }
 
@@ -99,7 +156,10 @@ fn completed(alloc: Global) -> Result<(), Fail> {
     let mut table = kept(alloc, view(0, Outward::Matched { n: 1 }, Inward::Idle))?;
     let mut out = ample(alloc)?;
     finished(&mut table, END, 1, 3, 0, &mut out);
-    holds(matches!(outward_of(&table), Outward::Unreported), "a send that is over")?;
+    holds(
+        matches!(outward_of(&table), Outward::Unreported),
+        "a send that is over",
+    )?;
     holds(out.reports.len() == 1, "the report of a send")
 }
 
@@ -108,8 +168,14 @@ fn taken_back(alloc: Global) -> Result<(), Fail> {
     let mut table = kept(alloc, view(0, waiting(), Inward::Idle))?;
     let mut out = ample(alloc)?;
     withdraw_send(&mut table, END, &mut out);
-    holds(matches!(outward_of(&table), Outward::Idle), "a send that is taken back")?;
-    holds(out.packets.is_empty() && out.steps.len() == 1, "the step of a Cancel")
+    holds(
+        matches!(outward_of(&table), Outward::Idle),
+        "a send that is taken back",
+    )?;
+    holds(
+        out.packets.is_empty() && out.steps.len() == 1,
+        "the step of a Cancel",
+    )
 }
 
 /// The receive 1 of the opposite end is withdrawn here.
@@ -117,7 +183,17 @@ fn refused(alloc: Global) -> Result<(), Fail> {
     let mut table = kept(alloc, view(1, Outward::Idle, Inward::Idle))?;
     let mut out = ample(alloc)?;
     unwant(&mut table, END, 1, 3, 0, &mut out);
-    sends(alloc, &out, 3, &PictureWhat::Unwanted { to: TO, w: 1, at: 0, hops: 0 })
+    sends(
+        alloc,
+        &out,
+        3,
+        &PictureWhat::Unwanted {
+            to: TO,
+            w: 1,
+            at: 0,
+            hops: 0,
+        },
+    )
 }
 
 /// The death of the link ends both activities.
@@ -125,8 +201,14 @@ fn noticed(alloc: Global) -> Result<(), Fail> {
     let mut table = kept(alloc, view(3, waiting(), Inward::Withdrawing { w: 1 }))?;
     let mut out = ample(alloc)?;
     notice(&mut table, END, &mut out);
-    holds(out.reports.len() == 2 && out.answers.len() == 1, "two reports and an answer")?;
-    holds(out.packets.is_empty() && room(&table, END).packets == 10, "the room of an action")
+    holds(
+        out.reports.len() == 2 && out.answers.len() == 1,
+        "two reports and an answer",
+    )?;
+    holds(
+        out.packets.is_empty() && room(&table, END).packets == 10,
+        "the room of an action",
+    )
 }
 
 #[test]

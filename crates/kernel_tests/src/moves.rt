@@ -70,8 +70,14 @@ fn arrives(alloc: Global) -> Result<(), Fail> {
     if is_expected(&mut table)? {
         arrive_once(&mut table, &mut out);
     }
-    holds(holder_of(&table, CARRIED) == Some(Holder::Owner(OWNER)), "an end that came")?;
-    holds(route(&table, CARRIED) == Route::Here, "the way to an end that is here")?;
+    holds(
+        holder_of(&table, CARRIED) == Some(Holder::Owner(OWNER)),
+        "an end that came",
+    )?;
+    holds(
+        route(&table, CARRIED) == Route::Here,
+        "the way to an end that is here",
+    )?;
     let to = CARRIED.opposite();
     sends(alloc, &out, 3, &PictureWhat::Moved { to, at: 0, hops: 0 })
 }
@@ -83,8 +89,14 @@ fn comes_back(alloc: Global) -> Result<(), Fail> {
     if is_expected(&mut table)? {
         return_once(&mut table, &mut out);
     }
-    holds(holder_of(&table, CARRIED) == Some(Holder::Owner(OWNER)), "an end that came back")?;
-    holds(out.reports.len() == 1 && out.packets.len() == 1, "the report of a message that came back")
+    holds(
+        holder_of(&table, CARRIED) == Some(Holder::Owner(OWNER)),
+        "an end that came back",
+    )?;
+    holds(
+        out.reports.len() == 1 && out.packets.len() == 1,
+        "the report of a message that came back",
+    )
 }
 
 /// An end is enclosed.
@@ -92,7 +104,10 @@ fn encloses(alloc: Global) -> Result<(), Fail> {
     let mut table = kept(alloc, view(0, Outward::Idle, Inward::Idle))?;
     let mut out = ample(alloc)?;
     enclose(&mut table, END, CARRIED, &mut out);
-    holds(holder_of(&table, END) == Some(Holder::EnclosedIn(CARRIED)), "an enclosed end")
+    holds(
+        holder_of(&table, END) == Some(Holder::EnclosedIn(CARRIED)),
+        "an enclosed end",
+    )
 }
 
 /// An end leaves, and is forgotten.
@@ -100,10 +115,19 @@ fn leaves(alloc: Global) -> Result<(), Fail> {
     let mut table = kept(alloc, view(0, Outward::Idle, Inward::Idle))?;
     let mut out = ample(alloc)?;
     let left = leave(&mut table, END, 3).destroy();
-    holds(left.hops() == 1 && left.trail() == 1, "the value of an end that leaves")?;
-    holds(route(&table, END) == Route::Forward(3), "the way to an end that left")?;
+    holds(
+        left.hops() == 1 && left.trail() == 1,
+        "the value of an end that leaves",
+    )?;
+    holds(
+        route(&table, END) == Route::Forward(3),
+        "the way to an end that left",
+    )?;
     forget(&mut table, END, 1, &mut out);
-    holds(route(&table, END) == Route::Stale, "the way to an end that is forgotten")
+    holds(
+        route(&table, END) == Route::Stale,
+        "the way to an end that is forgotten",
+    )
 }
 
 /// The opposite end has moved to kernel 2.
@@ -119,7 +143,10 @@ fn is_known(alloc: Global) -> Result<(), Fail> {
     let mut table = kept(alloc, view(0, Outward::Idle, Inward::Idle))?;
     let mut out = ample(alloc)?;
     known(&mut table, END, 0, &mut out);
-    holds(out.packets.is_empty() && room(&table, END).packets == 9, "the room of an action")
+    holds(
+        out.packets.is_empty() && room(&table, END).packets == 9,
+        "the room of an action",
+    )
 }
 
 /// An end is destroyed, and this is known.
@@ -130,7 +157,10 @@ fn is_destroyed(alloc: Global) -> Result<(), Fail> {
     sends(alloc, &out, 3, &PictureWhat::Gone { to: TO, at: 0 })?;
     let mut out = ample(alloc)?;
     gone_seen(&mut table, END, &mut out);
-    holds(matches!(table.lend(END), Lent::Nothing), "an end whose death is known")
+    holds(
+        matches!(table.lend(END), Lent::Nothing),
+        "an end whose death is known",
+    )
 }
 
 #[test]

@@ -2,10 +2,10 @@
 ghost use Rattle.std.specs.Prelude.{◌≡◌, length};
 
 use crate::holding::holds;
+use crate::samples::same_text;
 use charlotte_calls::{
     Answer, Call, Effect, EndId, Items, Packet, PictureWhat, Pid, ServiceStep, Setting,
 };
-use crate::samples::same_text;
 use end_table::Entry;
 use kernel_core::{Kernel, NotTaken};
 use std::alloc::Global;
@@ -95,16 +95,15 @@ impl Node {
     }
 
     /// Takes the standing answer of a process, which is this.
-    pub(crate) fn answers(
-        &mut self,
-        p: Pid,
-        want: Option<Answer>,
-    ) -> Result<(), Fail> {
+    pub(crate) fn answers(&mut self, p: Pid, want: Option<Answer>) -> Result<(), Fail> {
         if p.0 >= 2 {
             return Err("no such process".into());
         }
         let answer = self.kernel.answer(p);
-        holds(same_text(self.alloc, &answer, &want)?, "the standing answer")?;
+        holds(
+            same_text(self.alloc, &answer, &want)?,
+            "the standing answer",
+        )?;
         Ok(())
     }
 
@@ -142,9 +141,18 @@ impl Event {
         steps: &[ServiceStep],
     ) -> Result<(), Fail> {
         holds(self.stamp == stamp, "the stamp of an event")?;
-        holds(self.answered.as_slice() == answered, "the processes that an event answers")?;
-        holds(same_text(self.alloc, &self.packets.as_slice(), &packets)?, "the packets of an event")?;
-        holds(same_text(self.alloc, &self.steps.as_slice(), &steps)?, "the steps of an event")?;
+        holds(
+            self.answered.as_slice() == answered,
+            "the processes that an event answers",
+        )?;
+        holds(
+            same_text(self.alloc, &self.packets.as_slice(), &packets)?,
+            "the packets of an event",
+        )?;
+        holds(
+            same_text(self.alloc, &self.steps.as_slice(), &steps)?,
+            "the steps of an event",
+        )?;
         Ok(())
     }
 }

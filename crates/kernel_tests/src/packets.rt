@@ -68,7 +68,10 @@ fn packets_name_kernels() -> Result<(), Fail> {
     for (at, kernels, want) in [(0, 1, true), (0, 0, false), (7, 8, true), (7, 7, false)] {
         for (packet, named) in packets(at)?.iter().zip(0..11) {
             let addressed = packet.addressed(kernels);
-            holds(addressed == want || named >= 8, "whether a packet names kernels that are there")?;
+            holds(
+                addressed == want || named >= 8,
+                "whether a packet names kernels that are there",
+            )?;
         }
     }
     for (hint, trail, kernels, want) in [
@@ -80,9 +83,15 @@ fn packets_name_kernels() -> Result<(), Fail> {
         (0, 128, 7, false),
         (7, 255, 8, true),
     ] {
-        holds(back(hint, trail).addressed(kernels) == want, "whether a back names kernels that are there")?;
+        holds(
+            back(hint, trail).addressed(kernels) == want,
+            "whether a back names kernels that are there",
+        )?;
         let addressed = parcel(0, hint, trail)?.addressed(kernels);
-        holds(addressed == want, "whether a packet names kernels that are there")?;
+        holds(
+            addressed == want,
+            "whether a packet names kernels that are there",
+        )?;
     }
     Ok(())
 }
@@ -94,19 +103,28 @@ fn a_picture_has_the_fields_of_its_packet(rt: HostRuntime) -> Result<(), Fail> {
     for packet in packets(4)? {
         let picture = packet.picture();
         let copied = picture.copy();
-        holds(same_text(rt.alloc(), &copied, &picture)?, "the copy of a picture")?;
+        holds(
+            same_text(rt.alloc(), &copied, &picture)?,
+            "the copy of a picture",
+        )?;
         if let PictureWhat::Parcel { moving, .. }
         | PictureWhat::Back { moving, .. } = &picture.what
         {
             let values = moving.as_slice();
             holds(values.len() == 2, "how many values a picture has")?;
-            holds((values[0].end, values[1].end) == (TO.opposite(), TO), "the order of values")?;
+            holds(
+                (values[0].end, values[1].end) == (TO.opposite(), TO),
+                "the order of values",
+            )?;
             continue;
         }
         let (stamp, what) = packet.open();
         let again = Packet { stamp, what };
         holds((stamp, picture.stamp) == (9, 9), "the stamp of a packet")?;
-        holds(same_text(rt.alloc(), &picture.what, &again.what)?, "the picture of a packet")?;
+        holds(
+            same_text(rt.alloc(), &picture.what, &again.what)?,
+            "the picture of a packet",
+        )?;
     }
     Ok(())
 }

@@ -103,9 +103,12 @@ fn a_program_asks_its_calls_and_ends(rt: HostRuntime) -> Result<(), Fail> {
         Some(Answer::Ok),
     ];
     let done = perform(rt.alloc(), &mut program, &given)?;
-    holds(matches!(
+    holds(
+        matches!(
             done.as_slice(),
             [Next::Ask(Call::Make), Next::Ask(Call::Exit), Next::Ended]
-        ), "what the program did")?;
+        ),
+        "what the program did",
+    )?;
     Ok(())
 }

@@ -7,9 +7,7 @@ ghost use Rattle.end_table.specs.declared.entry.Entry.TheVariants.{Here};
 ghost use Rattle.kernel_step.specs.Progress.{HasRoom};
 
 use crate::holding::holds;
-use charlotte_calls::{
-    Bytes, EndId, Ends, LinkId, Moving, NoMemory, PictureWhat, Pid, Side, Work,
-};
+use charlotte_calls::{Bytes, EndId, Ends, LinkId, Moving, NoMemory, PictureWhat, Pid, Side, Work};
 use end_table::{HereView, Holder, Inward, NotStored, Outward, Table};
 use std::alloc::Global;
 use std::fmt::Debug;
@@ -54,15 +52,13 @@ pub(crate) fn same_text<A: Debug, B: Debug>(alloc: Global, a: &A, b: &B) -> Resu
 }
 
 /// The first packet of these lists goes to this kernel, is this one and has their stamp.
-pub(crate) fn sends(
-    alloc: Global,
-    out: &Work,
-    kernel: u8,
-    want: &PictureWhat,
-) -> Result<(), Fail> {
+pub(crate) fn sends(alloc: Global, out: &Work, kernel: u8, want: &PictureWhat) -> Result<(), Fail> {
     let (to, packet) = out.packets.first().ok_or("no packet")?;
     let picture = packet.picture();
-    holds(*to == kernel && picture.stamp == out.stamp, "where a packet goes")?;
+    holds(
+        *to == kernel && picture.stamp == out.stamp,
+        "where a packet goes",
+    )?;
     holds(same_text(alloc, &picture.what, want)?, "a packet")
 }
 

@@ -29,22 +29,43 @@ fn an_end_comes_and_goes(rt: HostRuntime) -> Result<(), Fail> {
     let mut table = Table::start(rt.alloc(), 1);
     holds(table.kernel() == 1, "the number of the kernel")?;
     table.reserve(END)?;
-    holds(matches!(table.look(END), Entry::Nothing), "the entry of an end")?;
+    holds(
+        matches!(table.look(END), Entry::Nothing),
+        "the entry of an end",
+    )?;
     settle(&mut table, end_a(END.link), OWNER)?;
     let moving = table.take_out(END, 3);
     let left = table.look(END);
     settle(&mut table, moving, Pid(5))?;
-    holds(matches!(left, Entry::Left { to: 3, hops: 1 }), "an end that left")?;
+    holds(
+        matches!(left, Entry::Left { to: 3, hops: 1 }),
+        "an end that left",
+    )?;
     let home = table.here(END);
     let value = home.value();
-    holds((value.hint, value.hops, value.trail) == ((3, 0), 1, 2), "the value of an end that came home")?;
-    holds((home.holder(), home.inward()) == (Holder::Owner(Pid(5)), Inward::Idle), "who holds an end that came home")?;
-    holds(matches!(home.outward(), Outward::Idle), "the sends of an end that came home")?;
+    holds(
+        (value.hint, value.hops, value.trail) == ((3, 0), 1, 2),
+        "the value of an end that came home",
+    )?;
+    holds(
+        (home.holder(), home.inward()) == (Holder::Owner(Pid(5)), Inward::Idle),
+        "who holds an end that came home",
+    )?;
+    holds(
+        matches!(home.outward(), Outward::Idle),
+        "the sends of an end that came home",
+    )?;
     table.take_out(END, 4).destroy();
     holds(!table.retire(END, 1), "an end that left later is retired")?;
-    holds(matches!(table.lend(END), Lent::Left { to: 4, hops: 2 }), "what is lent of an end")?;
+    holds(
+        matches!(table.lend(END), Lent::Left { to: 4, hops: 2 }),
+        "what is lent of an end",
+    )?;
     holds(table.retire(END, 2), "an end is not retired")?;
-    holds(matches!(table.lend(END), Lent::Nothing), "what is lent of an end")?;
+    holds(
+        matches!(table.lend(END), Lent::Nothing),
+        "what is lent of an end",
+    )?;
     Ok(())
 }
 
@@ -57,7 +78,10 @@ fn an_end_is_destroyed(rt: HostRuntime) -> Result<(), Fail> {
     holds(table.end_here(END).hint() == (3, 0), "the mark of an end")?;
     table.hint_mark(END, (5, 2));
     match table.lend(END) {
-        Lent::Destroyed(mark) => holds((mark.end(), mark.hint()) == (END, (5, 2)), "the hint of a mark")?,
+        Lent::Destroyed(mark) => holds(
+            (mark.end(), mark.hint()) == (END, (5, 2)),
+            "the hint of a mark",
+        )?,
         _ => return Err("the end is not destroyed".into()),
     }
     table.erase(END);
@@ -65,9 +89,15 @@ fn an_end_is_destroyed(rt: HostRuntime) -> Result<(), Fail> {
     value.dead = true;
     table.set_inward(END, value, Inward::Unreported);
     holds(table.end_here(END).dead(), "the mark of a dead end")?;
-    holds(matches!(table.look(END), Entry::Nothing), "the entry of an end")?;
+    holds(
+        matches!(table.look(END), Entry::Nothing),
+        "the entry of an end",
+    )?;
     table.release(END);
-    holds(matches!(table.look(END), Entry::Nothing), "the entry of an end")?;
+    holds(
+        matches!(table.look(END), Entry::Nothing),
+        "the entry of an end",
+    )?;
     Ok(())
 }
 
@@ -87,14 +117,26 @@ fn an_end_that_is_here_is_set(rt: HostRuntime) -> Result<(), Fail> {
         enclosed: two_ends()?,
     };
     let was = table.set_outward(END, value, waiting);
-    holds(matches!(was, Outward::Idle), "what the outward activity was")?;
+    holds(
+        matches!(was, Outward::Idle),
+        "what the outward activity was",
+    )?;
     table.set_holder(END, Holder::Owner(Pid(9)));
     holds(table.owned(OWNER, END).is_none(), "an end of another owner")?;
     match table.owned(Pid(9), END) {
         Some(living) => {
-            holds((living.value().hint, living.value().asked) == ((6, 2), 1), "the value that was set")?;
-            holds(living.inward() == Inward::Posted { w: 1 }, "the receive that was set")?;
-            holds(matches!(living.outward(), Outward::Waiting { n: 3, .. }), "the send that was set")?;
+            holds(
+                (living.value().hint, living.value().asked) == ((6, 2), 1),
+                "the value that was set",
+            )?;
+            holds(
+                living.inward() == Inward::Posted { w: 1 },
+                "the receive that was set",
+            )?;
+            holds(
+                matches!(living.outward(), Outward::Waiting { n: 3, .. }),
+                "the send that was set",
+            )?;
         }
         None => return Err("the end is not owned".into()),
     }
@@ -104,7 +146,10 @@ fn an_end_that_is_here_is_set(rt: HostRuntime) -> Result<(), Fail> {
             table.change(END, view);
         }
     }
-    holds(matches!(table.look(END), Entry::Here(view) if matches!(view.outward, Outward::Matched { n: 3 })), "the entry of an end")?;
+    holds(
+        matches!(table.look(END), Entry::Here(view) if matches!(view.outward, Outward::Matched { n: 3 })),
+        "the entry of an end",
+    )?;
     Ok(())
 }
 

@@ -27,9 +27,18 @@ fn lists_keep_their_limits(rt: HostRuntime) -> Result<(), Fail> {
     }
     let items = Items::of(vec![in rt.alloc(); 3, 1, 2]?);
     holds(items.as_slice() == [3, 1, 2].as_slice(), "items")?;
-    holds((items.len(), items.is_empty()) == (3, false), "how many items there are")?;
-    holds(items.into_vec().as_slice() == [3, 1, 2].as_slice(), "items that are handed back")?;
-    holds(format!(in rt.alloc(); "{NoMemory}")?.as_str() == "no memory", "the text of a want of memory")?;
+    holds(
+        (items.len(), items.is_empty()) == (3, false),
+        "how many items there are",
+    )?;
+    holds(
+        items.into_vec().as_slice() == [3, 1, 2].as_slice(),
+        "items that are handed back",
+    )?;
+    holds(
+        format!(in rt.alloc(); "{NoMemory}")?.as_str() == "no memory",
+        "the text of a want of memory",
+    )?;
     Ok(())
 }
 
@@ -117,5 +126,8 @@ fn a_value_keeps_its_fields(_rt: HostRuntime) -> Result<(), Fail> {
     holds(opposites && hints == ((5, 0), (2, 0)), "a pair")?;
     holds(seen == SET && picture == SET, "the fields of a value")?;
     holds(carried && named == (true, false), "a cargo")?;
-    holds(first.is_some() && second == Some(SET) && third.is_none(), "the marks of a cargo")
+    holds(
+        first.is_some() && second == Some(SET) && third.is_none(),
+        "the marks of a cargo",
+    )
 }

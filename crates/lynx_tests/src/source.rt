@@ -31,7 +31,10 @@ fn tokens_have_places(alloc: Global) -> Result<(), Fail> {
     holds(reading.tokens.len() == 6, "how many tokens there are")?;
     for (token, line, column) in [(0, 1, 1), (2, 1, 9), (3, 2, 3), (5, 2, 12), (6, 2, 13)] {
         let at = token_place(source, &reading.tokens, token);
-        holds((at.line, at.column) == (line, column), "the place of a token")?;
+        holds(
+            (at.line, at.column) == (line, column),
+            "the place of a token",
+        )?;
     }
     Ok(())
 }
@@ -40,7 +43,10 @@ fn tokens_have_places(alloc: Global) -> Result<(), Fail> {
 #[test]
 fn sources_are_read(rt: HostRuntime) -> Result<(), Fail> {
     for (source, want) in [
-        ("-- a server\r\nmodule\tserver_2;\r\nbegin\r\nend.\r\n", "server_2"),
+        (
+            "-- a server\r\nmodule\tserver_2;\r\nbegin\r\nend.\r\n",
+            "server_2",
+        ),
         ("module m;\nbegin\n  x := 'ab;\nend.\n", "3:8 lex 2"),
         ("module m;\nbegin\nend;\n", "3:4 syntax"),
         (

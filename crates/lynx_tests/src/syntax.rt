@@ -197,11 +197,17 @@ fn modules_are_printed_and_read_again(rt: HostRuntime) -> Result<(), Fail> {
     }
     for (source, want) in [
         ("module m; begin x := ; end.", "at 6"),
-        ("module m; begin n := ((((((((((((((((((((((((((((((((((((((((((((((((((((((((((((((((1", "deep 69"),
+        (
+            "module m; begin n := ((((((((((((((((((((((((((((((((((((((((((((((((((((((((((((((((1",
+            "deep 69",
+        ),
     ] {
         holds(answer(rt.alloc(), source)?.as_str() == want, source)?;
     }
     let long = long_chain(rt.alloc())?;
-    holds(answer(rt.alloc(), long.as_str())?.as_str() == long.as_str(), "a long sum")?;
+    holds(
+        answer(rt.alloc(), long.as_str())?.as_str() == long.as_str(),
+        "a long sum",
+    )?;
     Ok(())
 }

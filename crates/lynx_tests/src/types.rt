@@ -35,7 +35,11 @@ fn signatures_have_no_blanks(rt: HostRuntime) -> Result<(), Fail> {
     let source =
         "module m; op add (int, int) : (int); op o () : (); op all (bool, text, link, row 16) : (row 9223372036854775807, text); begin end.";
     let text = signatures(rt.alloc(), source)?;
-    holds(text.as_str() == "add(int,int):(int)\no():()\nall(bool,text,link,row16):(row9223372036854775807,text)\n", "signatures")?;
+    holds(
+        text.as_str()
+            == "add(int,int):(int)\no():()\nall(bool,text,link,row16):(row9223372036854775807,text)\n",
+        "signatures",
+    )?;
     Ok(())
 }
 
@@ -44,12 +48,18 @@ fn texts_rows_and_exceptions_have_their_limits(rt: HostRuntime) -> Result<(), Fa
     for length in [0, 1, 64, 65] {
         let text = ShortText::from_slice(&[b'x'; 65][..length]);
         let kept = text.map(|text| text.copy().as_slice().len());
-        holds(kept == (length <= 64).then_some(length), "what a list keeps")?;
+        holds(
+            kept == (length <= 64).then_some(length),
+            "what a list keeps",
+        )?;
     }
     for length in [0, 1, 16, 17] {
         let row = Row16::from_slice(&[-7_i64; 17][..length]);
         let kept = row.map(|row| row.copy().as_slice().len());
-        holds(kept == (1..=16).contains(&length).then_some(length), "what a list keeps")?;
+        holds(
+            kept == (1..=16).contains(&length).then_some(length),
+            "what a list keeps",
+        )?;
     }
     for name in [
         "BUSYLINK",

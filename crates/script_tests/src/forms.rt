@@ -78,7 +78,11 @@ fn steps_and_packets_have_their_lines(rt: HostRuntime) -> Result<(), Fail> {
             enclosed: ends(&[B, A])?,
         },
     };
-    has_line(alloc, &report, ". report p3 0.1a in done a%20b +12.345b +0.1a\n")?;
+    has_line(
+        alloc,
+        &report,
+        ". report p3 0.1a in done a%20b +12.345b +0.1a\n",
+    )?;
     let parcel = PictureWhat::Parcel {
         to: A,
         n: 1,
@@ -88,7 +92,8 @@ fn steps_and_packets_have_their_lines(rt: HostRuntime) -> Result<(), Fail> {
         bytes: text(b"\x00~")?,
         moving: CargoPicture::from_slice(&[value(false), value(true)]).ok_or("values")?,
     };
-    let want = "parcel 0.1a 1 2 3 4 %00%7E +12.345b:1:2:3:4:5:6:7:0:255 +12.345b:1:2:3:4:5:6:7:1:255";
+    let want =
+        "parcel 0.1a 1 2 3 4 %00%7E +12.345b:1:2:3:4:5:6:7:0:255 +12.345b:1:2:3:4:5:6:7:1:255";
     has_text(alloc, parcel, want)?;
     has_text(alloc, PictureWhat::Gone { to: B, at: 2 }, "gone 12.345b 2")
 }

@@ -62,7 +62,10 @@ fn of_two(alloc: Global, first: u64, second: u64) -> Result<Journal, Fail> {
     };
     journal.push(asked(alloc, first, 0, &Call::Make, &[make])?)?;
     journal.push(took(alloc, second, PictureWhat::GoneSeen { to: end })?)?;
-    holds(journal.entries().len() == 2, "how many entries a journal has")?;
+    holds(
+        journal.entries().len() == 2,
+        "how many entries a journal has",
+    )?;
     Ok(journal.copy(alloc)?)
 }
 
@@ -70,7 +73,10 @@ fn of_two(alloc: Global, first: u64, second: u64) -> Result<Journal, Fail> {
 fn same_order(merged: &[Placed], wanted: &[(u64, u8)]) -> Result<(), Fail> {
     holds(merged.len() == wanted.len(), "how many entries there are")?;
     for (placed, want) in merged.iter().zip(wanted) {
-        holds((placed.entry.stamp, placed.kernel) == *want, "a stamp and its kernel")?;
+        holds(
+            (placed.entry.stamp, placed.kernel) == *want,
+            "a stamp and its kernel",
+        )?;
     }
     Ok(())
 }

@@ -48,14 +48,27 @@ quiet
 
 /// What the text of the script says.
 fn is_read(alloc: Global, script: &Script) -> Result<(), Fail> {
-    holds((script.setting.version, script.setting.kernels) == (1, 2), "the version and the kernels")?;
-    holds(script.setting.homes.as_slice() == [1, 0].as_slice(), "the homes")?;
-    holds(script.setting.wires.as_slice() == [(Pid(1), Pid(0))].as_slice(), "the wires")?;
+    holds(
+        (script.setting.version, script.setting.kernels) == (1, 2),
+        "the version and the kernels",
+    )?;
+    holds(
+        script.setting.homes.as_slice() == [1, 0].as_slice(),
+        "the homes",
+    )?;
+    holds(
+        script.setting.wires.as_slice() == [(Pid(1), Pid(0))].as_slice(),
+        "the wires",
+    )?;
     let lines = script.lines.as_slice();
     holds(lines.len() == 6, "how many lines there are")?;
-    holds((lines[0].line, lines[1].line, lines[4].line) == (7, 8, 11), "the numbers of lines")?;
+    holds(
+        (lines[0].line, lines[1].line, lines[4].line) == (7, 8, 11),
+        "the numbers of lines",
+    )?;
     let first = CompactScriptCall::of(alloc, &lines[0].what.script_call())?;
-    holds(matches!(
+    holds(
+        matches!(
             first.script_call(),
             ScriptCall::Ask(
                 Pid(1),
@@ -64,9 +77,20 @@ fn is_read(alloc: Global, script: &Script) -> Result<(), Fail> {
                     ..
                 }
             )
-        ), "a call")?;
-    holds(matches!(lines[3].what.script_call(), ScriptCall::Take { from: 0, to: 1 }), "a take")?;
-    holds(matches!(lines[4].what.script_call(), ScriptCall::Settle), "a settle")?;
+        ),
+        "a call",
+    )?;
+    holds(
+        matches!(
+            lines[3].what.script_call(),
+            ScriptCall::Take { from: 0, to: 1 }
+        ),
+        "a take",
+    )?;
+    holds(
+        matches!(lines[4].what.script_call(), ScriptCall::Settle),
+        "a settle",
+    )?;
     Ok(())
 }
 
@@ -94,6 +118,9 @@ fn a_script_is_read_and_performed(rt: HostRuntime) -> Result<(), Fail> {
     is_read(rt.alloc(), &script)?;
     is_performed(rt.alloc(), script)?;
     let refused = read_script(rt.alloc(), b"kernels 2\n\ntake 0 2").err();
-    holds(refused == Some(PlanFault::BadPlan { line: 3, rule: 4 }), "the causes of a call")?;
+    holds(
+        refused == Some(PlanFault::BadPlan { line: 3, rule: 4 }),
+        "the causes of a call",
+    )?;
     Ok(())
 }
