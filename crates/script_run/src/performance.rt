@@ -104,8 +104,14 @@ fn tell_notes(notes: &[ScriptNote])
     ensures { All IsNoteInRange notes.now }
 {
     for note in notes {
-        let _ = note.line;
+        tell_note(*note);
     }
+}
+
+fn tell_note(note: ScriptNote)
+    ensures { IsNoteInRange note }
+{
+    let _ = note.line;
 }
 
 /// Whether a packet is left.

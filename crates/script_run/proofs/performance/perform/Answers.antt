@@ -1,4 +1,5 @@
 use Rattle.std.proofs.Common.{◌≡◌, ◌≤◌, All, List, arith, length, map, sym, subst, ◌∙◌, rules}
+use Rattle.std.proofs.lemmas.Grind.{common_steps}
 use Rattle.std.proofs.lemmas.List.{with_items_is}
 use Rattle.std.proofs.lemmas.List.Elements.{All-weaker}
 use Rattle.charlotte_calls.specs.declared.setting.Setting.{Setting}
@@ -41,7 +42,8 @@ returns-clause-told c =
     let held : length b ≡ c.in_ok-nodes.nodes.len = search rules in
     let merge : IsMerge (map entries_of b) c.in_ok-merged.merged =
     subst (λ (ns : List Node). IsMerge (map entries_of ns) c.in_ok-merged.merged) (with_items_is c.in_ok-nodes.nodes b held) c.in_ok-merged.ensures in
-    let count : length b ≡ s.kernels = held ∙ c.in_ok-nodes.ensures.ready.count in
+    let same : length b ≡ length c.in_ok-nodes.nodes.items = first_of (search rules, grind (arith, common_steps)) in
+    let count : length b ≡ s.kernels = same ∙ c.in_ok-nodes.ensures.ready.count in
     let few : s.kernels ≤ 8 = c.requires.valid.limits.kernels in
     let kept : All IsInRange b = All-weaker (IsNodeOf s) IsInRange (λ n h. h.in_range) b c.in_ok-notes.ensures.goes.nodes in
     let entries : All IsPlacedInRange c.in_ok-merged.merged = merged_in_range b c.in_ok-merged.merged kept (omega (arith, count, few)) merge in
