@@ -5,13 +5,17 @@ use Rattle.std.proofs.lemmas.Option.{slice_get_within, slice_get-get_or}
 use Rattle.charlotte_calls.specs.declared.names.EndId.{EndId}
 use Rattle.charlotte_calls.specs.declared.names.Pid.{Pid}
 use Rattle.link_service.proofs.Known.{same_pid}
-use Rattle.link_service.specs.Service.{ServiceView, AreKnown, IsWellKept, IsLastActive, HasIdleLast}
+use Rattle.link_service.specs.Service.{ServiceView, AreKnown, IsWellKept, IsLastActive, HasIdleLast, state_of}
 use Rattle.service_links.proofs.Changed.{end_eq-same}
 use Rattle.service_links.specs.Links.{ends_of}
 use Rattle.service_processes.specs.Known.{known_of, held_by, active_of, LosesLast}
 use Rattle.service_processes.proofs.Blocks.{there-active}
 use Rattle.service_processes.specs.declared.processes.ControlBlock.{ControlBlock}
+use Rattle.charlotte_calls.specs.declared.calls.Report.{Report}
+use Rattle.service_processes.specs.Processes.{process_of}
 use Rattle.service_step.specs.Causes.{HasStarted}
+use Rattle.service_step.specs.State.{is_running}
+use Rattle.service_step.specs.Steps.{IsOldest}
 use Rattle.service_step.specs.Ends.{end_eq, is_owned_by, is_active}
 
 -- what an answer that is there is
@@ -129,3 +133,23 @@ module _ (p : Pid) (v : ServiceView) (new : List ControlBlock) (well : IsWellKep
       by (Some g) is some =
           let pushed : active_of v.processes p.0 ≡ active_of new p.0 ++ g ∷ [] = loses.active ∙ ap (λ o. active_of new p.0 ++ option_to_list o) is in
           omega (arith, ap length pushed, length-append (active_of new p.0) (g ∷ []))
+
+-- a process with a report is there
+reports-there : (xs : List ControlBlock) (q : ℕ) (r : Report) → slice_get (process_of xs q).reports 0 ≡ Some r → q < length xs
+unfolding process_of
+reports-there [] zero r h = absurd cc
+reports-there [] (suc q) r h = absurd cc
+reports-there (x ∷ xs) zero r h = omega arith
+reports-there (x ∷ xs) (suc q) r h = let below : q < length xs = reports-there xs q r h in omega arith
+
+pub oldest-there : (v : ServiceView) (p : Pid) (r : Report) → IsOldest (state_of v) p r → p.0 < length v.processes
+unfolding state_of
+oldest-there v p r oldest = reports-there v.processes p.0 r oldest.1
+
+-- a process that runs is there
+pub running-there : (xs : List ControlBlock) (q : ℕ) → is_running (process_of xs q).phase ≡ true → q < length xs
+unfolding process_of
+running-there [] zero h = absurd (true≢false (sym h))
+running-there [] (suc q) h = absurd (true≢false (sym h))
+running-there (x ∷ xs) zero h = omega arith
+running-there (x ∷ xs) (suc q) h = let below : q < length xs = running-there xs q h in omega arith
