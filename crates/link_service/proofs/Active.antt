@@ -1,5 +1,5 @@
 -- The last end on which a process is known to have an activity.
-use Rattle.std.proofs.Common.{◌≡◌, ℕ, zero, suc, ◌+◌, ◌-◌, ◌<◌, Bool, true, false, true≢false, nat_eq, ◌&&◌, ◌||◌, ◌++◌, List, [], ◌∷◌, length, slice_get, get_or, Contains, Option, None, Some, IfSome, IsSome, option_to_list, refl, sym, ap, subst, ◌∙◌, arith, append-nil, length-append}
+use Rattle.std.proofs.Common.{◌≡◌, ℕ, zero, suc, ◌+◌, ◌-◌, ◌<◌, Bool, true, false, true≢false, nat_eq, ◌&&◌, ◌||◌, ◌++◌, List, [], ◌∷◌, length, slice_get, get_or, Contains, Option, None, Some, IfSome, IsSome, IsNone, option_to_list, refl, sym, ap, subst, ◌∙◌, arith, append-nil, length-append}
 use Rattle.std.specs.List.{list_any}
 use Rattle.std.proofs.lemmas.Option.{slice_get_within, slice_get-get_or}
 use Rattle.charlotte_calls.specs.declared.names.EndId.{EndId}
@@ -40,15 +40,15 @@ any_push f [] g h other = by (f g) h other
     by : (b : Bool) → (b || false) ≡ true → b ≡ false → false ≡ true
     by true h other = sym other
     by false h other = h
-any_push f (x ∷ xs) g h other = by (f x) h
+any_push f (x ∷ xs) g h other = by (f x) (λ k. any_push f xs g k other) h
   where
-    by : (b : Bool) → (b || list_any f (xs ++ g ∷ [])) ≡ true → (b || list_any f xs) ≡ true
-    by true h = refl
-    by false h = any_push f xs g h other
+    by : (b : Bool) → (list_any f (xs ++ g ∷ []) ≡ true → list_any f xs ≡ true) → (b || list_any f (xs ++ g ∷ [])) ≡ true → (b || list_any f xs) ≡ true
+    by true others h = refl
+    by false others h = others h
 
-pub is_none : {X : Type 0} (o : Option X) → IsNone o → None ≡ o
-is_none None none = refl
-is_none (Some x) none = absurd cc
+pub none_of : {X : Type 0} (o : Option X) → IsNone o → None ≡ o
+none_of None none = refl
+none_of (Some x) none = absurd cc
 
 -- a process with a last end is there
 pub last-there : (p : Pid) (v : ServiceView) → HasIdleLast p v → p.0 < length v.processes
@@ -59,11 +59,11 @@ last-there p v idle =
 -- the ends that a process owns are among those that it is known to have
 Contains-any : (e : EndId) (xs : List EndId) → list_any (end_eq e) xs ≡ true → Contains xs e
 Contains-any e [] h = absurd (true≢false (sym h))
-Contains-any e (x ∷ xs) h = by (end_eq e x) refl h
+Contains-any e (x ∷ xs) h = by (end_eq e x) refl (λ k. Contains-any e xs k) h
   where
-    by : (b : Bool) → end_eq e x ≡ b → (b || list_any (end_eq e) xs) ≡ true → Contains (x ∷ xs) e
-    by true same h = (0, omega arith, sym (end_eq-same e x same))
-    by false apart h = let found : Contains xs e = Contains-any e xs h in (suc found.0, (let below : found.0 < length xs = found.1 in omega arith), found.2)
+    by : (b : Bool) → end_eq e x ≡ b → (list_any (end_eq e) xs ≡ true → Contains xs e) → (b || list_any (end_eq e) xs) ≡ true → Contains (x ∷ xs) e
+    by true same others h = (0, omega arith, sym (end_eq-same e x same))
+    by false apart others h = let found : Contains xs e = others h in (suc found.0, (let below : found.0 < length xs = found.1 in omega arith), found.2)
 
 pub owned-held : (p : Pid) (v : ServiceView) → IsWellKept v → (e : EndId) → is_owned_by p (ends_of v.links e).place ≡ true → Contains (held_by v.processes p.0) e
 unfolding known_of
@@ -97,8 +97,8 @@ module _ (p : Pid) (v : ServiceView) (new : List ControlBlock) (well : IsWellKep
       (apart (end_eq e g) (λ same. other (ap (end_eq e) (sym (gone-is g is)) ∙ same)))
     where
       apart : (b : Bool) → (b ≡ true → ⊥) → b ≡ false
-      apart true no = absurd (no refl)
-      apart false no = refl
+      apart true never = absurd (never refl)
+      apart false never = refl
 
   both : (a b : Bool) → a ≡ true → b ≡ true → (a && b) ≡ true
   both true b h k = k
