@@ -1,17 +1,21 @@
 -- The last end on which a process is known to have an activity.
-use Rattle.std.proofs.Common.{◌≡◌, ℕ, zero, suc, ◌+◌, ◌-◌, ◌<◌, Bool, true, false, true≢false, nat_eq, ◌&&◌, ◌||◌, ◌++◌, List, [], ◌∷◌, length, slice_get, get_or, Contains, Option, None, Some, IfSome, IsSome, option_to_list, refl, sym, ap, subst, ◌∙◌, arith, append-nil, length-append}
+use Rattle.std.proofs.Common.{◌≡◌, ℕ, zero, suc, ◌+◌, ◌-◌, ◌<◌, Bool, true, false, true≢false, nat_eq, ◌&&◌, ◌||◌, ◌++◌, List, [], ◌∷◌, length, slice_get, get_or, Contains, Option, None, Some, IfSome, IsSome, IsNone, option_to_list, refl, sym, ap, subst, ◌∙◌, arith, append-nil, length-append}
 use Rattle.std.specs.List.{list_any}
 use Rattle.std.proofs.lemmas.Option.{slice_get_within, slice_get-get_or}
 use Rattle.charlotte_calls.specs.declared.names.EndId.{EndId}
 use Rattle.charlotte_calls.specs.declared.names.Pid.{Pid}
 use Rattle.link_service.proofs.Known.{same_pid}
-use Rattle.link_service.specs.Service.{ServiceView, AreKnown, IsWellKept, IsLastActive, HasIdleLast}
+use Rattle.link_service.specs.Service.{ServiceView, AreKnown, IsWellKept, IsLastActive, HasIdleLast, state_of}
 use Rattle.service_links.proofs.Changed.{end_eq-same}
 use Rattle.service_links.specs.Links.{ends_of}
 use Rattle.service_processes.specs.Known.{known_of, held_by, active_of, LosesLast}
 use Rattle.service_processes.proofs.Blocks.{there-active}
 use Rattle.service_processes.specs.declared.processes.ControlBlock.{ControlBlock}
+use Rattle.charlotte_calls.specs.declared.calls.Report.{Report}
+use Rattle.service_processes.specs.Processes.{process_of}
 use Rattle.service_step.specs.Causes.{HasStarted}
+use Rattle.service_step.specs.State.{is_running}
+use Rattle.service_step.specs.Steps.{IsOldest}
 use Rattle.service_step.specs.Ends.{end_eq, is_owned_by, is_active}
 
 -- what an answer that is there is
@@ -36,15 +40,15 @@ any_push f [] g h other = by (f g) h other
     by : (b : Bool) → (b || false) ≡ true → b ≡ false → false ≡ true
     by true h other = sym other
     by false h other = h
-any_push f (x ∷ xs) g h other = by (f x) h
+any_push f (x ∷ xs) g h other = by (f x) (λ k. any_push f xs g k other) h
   where
-    by : (b : Bool) → (b || list_any f (xs ++ g ∷ [])) ≡ true → (b || list_any f xs) ≡ true
-    by true h = refl
-    by false h = any_push f xs g h other
+    by : (b : Bool) → (list_any f (xs ++ g ∷ []) ≡ true → list_any f xs ≡ true) → (b || list_any f (xs ++ g ∷ [])) ≡ true → (b || list_any f xs) ≡ true
+    by true others h = refl
+    by false others h = others h
 
-pub is_none : {X : Type 0} (o : Option X) → IsNone o → None ≡ o
-is_none None none = refl
-is_none (Some x) none = absurd cc
+pub none_of : {X : Type 0} (o : Option X) → IsNone o → None ≡ o
+none_of None none = refl
+none_of (Some x) none = absurd cc
 
 -- a process with a last end is there
 pub last-there : (p : Pid) (v : ServiceView) → HasIdleLast p v → p.0 < length v.processes
@@ -55,11 +59,11 @@ last-there p v idle =
 -- the ends that a process owns are among those that it is known to have
 Contains-any : (e : EndId) (xs : List EndId) → list_any (end_eq e) xs ≡ true → Contains xs e
 Contains-any e [] h = absurd (true≢false (sym h))
-Contains-any e (x ∷ xs) h = by (end_eq e x) refl h
+Contains-any e (x ∷ xs) h = by (end_eq e x) refl (λ k. Contains-any e xs k) h
   where
-    by : (b : Bool) → end_eq e x ≡ b → (b || list_any (end_eq e) xs) ≡ true → Contains (x ∷ xs) e
-    by true same h = (0, omega arith, sym (end_eq-same e x same))
-    by false apart h = let found : Contains xs e = Contains-any e xs h in (suc found.0, (let below : found.0 < length xs = found.1 in omega arith), found.2)
+    by : (b : Bool) → end_eq e x ≡ b → (list_any (end_eq e) xs ≡ true → Contains xs e) → (b || list_any (end_eq e) xs) ≡ true → Contains (x ∷ xs) e
+    by true same others h = (0, omega arith, sym (end_eq-same e x same))
+    by false apart others h = let found : Contains xs e = others h in (suc found.0, (let below : found.0 < length xs = found.1 in omega arith), found.2)
 
 pub owned-held : (p : Pid) (v : ServiceView) → IsWellKept v → (e : EndId) → is_owned_by p (ends_of v.links e).place ≡ true → Contains (held_by v.processes p.0) e
 unfolding known_of
@@ -93,8 +97,8 @@ module _ (p : Pid) (v : ServiceView) (new : List ControlBlock) (well : IsWellKep
       (apart (end_eq e g) (λ same. other (ap (end_eq e) (sym (gone-is g is)) ∙ same)))
     where
       apart : (b : Bool) → (b ≡ true → ⊥) → b ≡ false
-      apart true no = absurd (no refl)
-      apart false no = refl
+      apart true never = absurd (never refl)
+      apart false never = refl
 
   both : (a b : Bool) → a ≡ true → b ≡ true → (a && b) ≡ true
   both true b h k = k
@@ -129,3 +133,23 @@ module _ (p : Pid) (v : ServiceView) (new : List ControlBlock) (well : IsWellKep
       by (Some g) is some =
           let pushed : active_of v.processes p.0 ≡ active_of new p.0 ++ g ∷ [] = loses.active ∙ ap (λ o. active_of new p.0 ++ option_to_list o) is in
           omega (arith, ap length pushed, length-append (active_of new p.0) (g ∷ []))
+
+-- a process with a report is there
+reports-there : (xs : List ControlBlock) (q : ℕ) (r : Report) → slice_get (process_of xs q).reports 0 ≡ Some r → q < length xs
+unfolding process_of
+reports-there [] zero r h = absurd cc
+reports-there [] (suc q) r h = absurd cc
+reports-there (x ∷ xs) zero r h = omega arith
+reports-there (x ∷ xs) (suc q) r h = let below : q < length xs = reports-there xs q r h in omega arith
+
+pub oldest-there : (v : ServiceView) (p : Pid) (r : Report) → IsOldest (state_of v) p r → p.0 < length v.processes
+unfolding state_of
+oldest-there v p r oldest = reports-there v.processes p.0 r oldest.1
+
+-- a process that runs is there
+pub running-there : (xs : List ControlBlock) (q : ℕ) → is_running (process_of xs q).phase ≡ true → q < length xs
+unfolding process_of
+running-there [] zero h = absurd (true≢false (sym h))
+running-there [] (suc q) h = absurd (true≢false (sym h))
+running-there (x ∷ xs) zero h = omega arith
+running-there (x ∷ xs) (suc q) h = let below : q < length xs = running-there xs q h in omega arith

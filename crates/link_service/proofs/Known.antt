@@ -12,9 +12,9 @@ use Rattle.service_links.specs.Links.{ends_of}
 use Rattle.service_links.proofs.Changed.{end_eq-same}
 use Rattle.service_processes.specs.Known.{Known, known_of, IsKnown, Grows}
 use Rattle.service_processes.proofs.Blocks.{there}
-use Rattle.service_step.specs.Steps.{may_match, may_take, is_matched}
-use Rattle.service_step.specs.Ends.{end_eq, fresh, owner, put, puts, places, is_made, is_destroyed, is_owned_by, is_active, is_started_outward, is_started_inward, is_posted, waiting_message, matched_message, carried_by, dropped, destroys, destroys_owned, destroys_each, starts_send, turns_inward, turns_outward, idles, withdraws_send, matches, matched_outward, takes, notices, noticed_end, noticed_outward, noticed_inward, to_owner, returned_end, returns}
-use Rattle.service_step.specs.State.{State}
+use Rattle.service_step.specs.Steps.{may_match, may_take, is_matched, agree}
+use Rattle.service_step.specs.Ends.{end_eq, fresh, owner, put, puts, places, is_made, is_destroyed, is_owned_by, is_active, is_started_outward, is_started_inward, is_posted, is_matched_with, waiting_message, matched_message, carried_by, dropped, destroys, destroys_owned, destroys_each, starts_send, turns_inward, turns_outward, idles, withdraws_send, matches, matched_outward, takes, notices, noticed_end, noticed_outward, noticed_inward, to_owner, returned_end, returns}
+use Rattle.service_step.specs.State.{State, is_cancelling}
 use Rattle.service_step.specs.declared.state.End.{End}
 use Rattle.service_step.specs.declared.state.Inward.{Inward}
 use Rattle.service_step.specs.declared.state.Inward.TheVariants as inward
@@ -273,25 +273,31 @@ match-posted t e n may = last_of_four (is_some (waiting_message (t e).outward)) 
 pub owner-there : (v : ServiceView) (e : EndId) (p : Pid) → IsWellKept v → Some p ≡ owner (ends_of v.links e).place → p.0 < length v.processes
 owner-there v e p well is = there v.processes p.0 e (well.all e p (owned-owner p (ends_of v.links e).place (sym is))).0
 
+-- the first two of five tests that hold
+two_of_five : (a b c d e : Bool) → (a && b && c && d && e) ≡ true → (a ≡ true) × (b ≡ true)
+two_of_five true true c d e h = (refl, refl)
+two_of_five true false c d e h = absurd (true≢false (sym h))
+two_of_five false b c d e h = absurd (true≢false (sym h))
+
+first_of_two : (a b : Bool) → (a && b) ≡ true → a ≡ true
+first_of_two true b h = refl
+first_of_two false b h = h
+
+matched-started : (o : Outward) → is_some (matched_message o) ≡ true → is_started_outward o ≡ true
+matched-started (outward.Matched m) h = refl
+matched-started outward.Idle h = absurd (true≢false (sym h))
+matched-started (outward.Waiting m) h = absurd (true≢false (sym h))
+matched-started outward.Taken h = absurd (true≢false (sym h))
+matched-started outward.Reported h = absurd (true≢false (sym h))
+
 -- what a take asks
-pub take-started : (s : State) (e : EndId) (n : ℕ) (p : Pid) (late : Bool) → may_take s e n p late ≡ true → is_started_outward (s.ends e).outward ≡ true
-take-started s e n p late may = by (s.ends e).outward (first_of_two (is_some (matched_message (s.ends e).outward)) _ (first_of_two (is_matched s.ends e n) _ may))
-  where
-    first_of_two : (a b : Bool) → (a && b) ≡ true → a ≡ true
-    first_of_two true b h = refl
-    first_of_two false b h = h
+module _ (s : State) (e : EndId) (n : ℕ) (p : Pid) (late : Bool) (may : may_take s e n p late ≡ true) where
+  take-asks : (is_matched s.ends e n ≡ true) × (is_owned_by p (s.ends (opposite e)).place ≡ true)
+  take-asks = two_of_five (is_matched s.ends e n) (is_owned_by p (s.ends (opposite e)).place) (not (s.ends (opposite e)).noticed) (is_matched_with n (s.ends (opposite e)).inward)
+      (agree late (is_cancelling (opposite e) (s.process p.0).phase)) may
 
-    by : (o : Outward) → is_some (matched_message o) ≡ true → is_started_outward o ≡ true
-    by (outward.Matched m) h = refl
-    by outward.Idle h = absurd (true≢false (sym h))
-    by (outward.Waiting m) h = absurd (true≢false (sym h))
-    by outward.Taken h = absurd (true≢false (sym h))
-    by outward.Reported h = absurd (true≢false (sym h))
+  pub take-started : is_started_outward (s.ends e).outward ≡ true
+  take-started = matched-started (s.ends e).outward (first_of_two (is_some (matched_message (s.ends e).outward)) (nat_eq (s.ends e).sent n) take-asks.0)
 
-pub take-owned : (s : State) (e : EndId) (n : ℕ) (p : Pid) (late : Bool) → may_take s e n p late ≡ true → is_owned_by p (s.ends (opposite e)).place ≡ true
-take-owned s e n p late may = second_of_many (is_matched s.ends e n) (is_owned_by p (s.ends (opposite e)).place) _ may
-  where
-    second_of_many : (a b c : Bool) → (a && b && c) ≡ true → b ≡ true
-    second_of_many true true c h = refl
-    second_of_many true false c h = h
-    second_of_many false b c h = absurd (true≢false (sym h))
+  pub take-owned : is_owned_by p (s.ends (opposite e)).place ≡ true
+  take-owned = take-asks.1

@@ -47,6 +47,7 @@ impl Service {
     }
 
     /// Whether a process owns an end with a started activity.
+    #[tactic(auto, unfolding(crate::specs::Service::state_of))]
     fn is_started_on(&self, p: Pid, e: EndId) -> bool
         ensures { result ≡ (is_owned_by p ((state_of self.now).ends e).place && is_active ((state_of self.now).ends e)) }
     {

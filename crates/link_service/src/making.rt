@@ -56,11 +56,13 @@ impl Service {
     {
         let end = self.links().look(e);
         self.learn_for_owner(e, waiting_ends(&end.outward).as_slice())?;
-        let Some(p) = end.place.owner() else {
-            return Ok(());
-        };
-        self.withdraw_send(p, e);
-        Ok(())
+        match end.place.owner() {
+            Some(p) => {
+                self.withdraw_send(p, e);
+                Ok(())
+            }
+            None => Ok(()),
+        }
     }
 
     /// 8: a process is given its oldest report.

@@ -108,17 +108,6 @@ impl Service {
         self.processes.end(p);
     }
 
-    /// An end that a process no longer owns is forgotten. What an end is known for takes memory and no more.
-    #[tactic(auto, unfolding(crate::specs::Service::state_of))]
-    pub(crate) fn forget(&mut self, p: Pid, e: EndId)
-        ensures same { state_of self.new ≡ state_of self.old }
-        ensures processes { HasProcess self.old.processes p → HasProcess self.new.processes p }
-    {
-        if !self.links.look(e).place.is_owned_by(p) {
-            self.processes.forget(p, e);
-        }
-    }
-
     /// The last end on which a process is known to have an activity.
     #[tactic(auto, unfolding(crate::specs::Service::state_of))]
     pub(crate) fn last_active(&self, p: Pid) -> Option<EndId>

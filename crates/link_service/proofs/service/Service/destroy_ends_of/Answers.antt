@@ -12,4 +12,4 @@ invariant_of-self c =
 
 pub returns-clause-all : goal.returns-clause-all
 unfolding state_of
-returns-clause-all c = rw (← c.self.view_is) (owned-held c.args.p _ c.self.invariant)
+returns-clause-all c = rw (← c.self.view_is) (owned-held c.args.p (record { version = c.self.inside.version; homes = c.self.inside.homes.items; made = c.self.inside.made.items; links = c.self.inside.links; processes = c.self.inside.processes }) c.self.invariant)

@@ -1,5 +1,4 @@
 use Rattle.std.proofs.Common.{◌≡◌, ◌∙◌, ap, sym, refl, true}
-use Rattle.service_processes.proofs.Blocks.{on_err}
 use Rattle.service_step.specs.Ends.{carried_by, waiting_message, matched_message}
 use Rattle.service_step.specs.declared.state.End.{End}
 use Rattle.link_service.specs.Service.{state_of}
@@ -18,6 +17,3 @@ unfolding state_of
 returns-clause-ok c =
     after_notice-by (state_of c.args.self.now) (state_of c.learn_for_owner.new.self) (state_of c.tell_owner.new.self) (state_of c.notice_end.new.self) c.args.e c.learn_for_owner.ensures.same
     _ _ c.look-end.result (c.look-end.ensures ∙ ap (λ l. ends_of l c.args.e) c.links.ensures) c.dropped_report.ensures c.dead_report.ensures c.in_ok-tell_owner.ensures.ok c.notice_end.ensures
-
-pub returns-in_err-tell_owner-clause-err : goal.returns-in_err-tell_owner-clause-err
-returns-in_err-tell_owner-clause-err c = on_err _ (c.in_err-tell_owner.ensures.err ∙ c.learn_for_owner.ensures.same)

@@ -1,5 +1,4 @@
 use Rattle.std.proofs.Common.{◌≡◌, ◌∙◌, ap, sym, refl, true}
-use Rattle.service_processes.proofs.Blocks.{on_err}
 use Rattle.service_step.specs.Ends.{carried_by, waiting_message, matched_message}
 use Rattle.service_step.specs.declared.state.End.{End}
 use Rattle.link_service.specs.Service.{state_of}
@@ -18,6 +17,3 @@ unfolding state_of
 returns-clause-ok c =
     after_return-by (state_of c.args.self.now) (state_of c.learn_for_owner.new.self) (state_of c.tell_returned.new.self) (state_of c.return_message.new.self) c.args.e c.learn_for_owner.ensures.same
     c.look-end.result (c.look-end.ensures ∙ ap (λ l. ends_of l c.args.e) c.links.ensures) c.in_ok-tell_returned.ensures.ok c.return_message.ensures
-
-pub returns-in_err-tell_returned-clause-err : goal.returns-in_err-tell_returned-clause-err
-returns-in_err-tell_returned-clause-err c = on_err _ (c.in_err-tell_returned.ensures.err ∙ c.learn_for_owner.ensures.same)

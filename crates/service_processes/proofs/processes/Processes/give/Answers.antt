@@ -1,5 +1,4 @@
 -- The process that is set runs without its oldest report, and nothing else changes.
-use Rattle.std.proofs.Common.{refl}
 use Rattle.service_step.specs.State.{later, given}
 use Rattle.service_step.specs.declared.state.Phase.TheVariants.{Running}
 use Rattle.service_processes.proofs.Blocks.{sets-by, known-same}

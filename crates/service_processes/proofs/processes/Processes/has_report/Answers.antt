@@ -1,4 +1,4 @@
-use Rattle.std.proofs.Common.{subst, sym, ◌↔◌, ◌≡◌, true, Bool, [], IsTrue}
+use Rattle.std.proofs.Common.{subst, sym, ◌↔◌, ◌≡◌, Bool, [], IsTrue}
 use Rattle.service_processes.proofs.Blocks.{first-some}
 use Rattle.service_processes.specs.Processes.{process_of}
 use Rattle.service_processes.proofs.processes.Processes.has_report.Goals as goal

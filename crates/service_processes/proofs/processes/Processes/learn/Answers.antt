@@ -1,5 +1,4 @@
 -- The process that is set has the end, and nothing else changes.
-use Rattle.std.proofs.Common.{refl}
 use Rattle.service_processes.proofs.Blocks.{state-same, known-grows, known-noted}
 use Rattle.service_processes.proofs.processes.Processes.learn.Goals as goal
 
