@@ -1,4 +1,5 @@
 pub mod ActiveSets
+pub mod Away
 pub mod Closes
 pub mod KeptMoved
 pub mod OwnersTold

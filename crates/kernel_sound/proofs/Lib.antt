@@ -1,6 +1,5 @@
 pub mod Actions
 pub mod Acts
-pub mod Away
 pub mod Calls
 pub mod Events
 pub mod Goes

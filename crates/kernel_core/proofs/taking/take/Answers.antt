@@ -8,7 +8,7 @@ use Rattle.kernel_process.proofs.KeptMoved.{keys-moved, HavePlace-moved}
 use Rattle.kernel_process.proofs.OneProcess.{with_parts-kept, closes-table}
 use Rattle.kernel_process.specs.Parts.{ended, with_parts}
 use Rattle.kernel_process.specs.Closing.{HaveSpareFor}
-use Rattle.kernel_sound.proofs.Away.{away-calm, away-reports}
+use Rattle.kernel_process.proofs.Away.{away-calm, away-reports}
 use Rattle.kernel_sound.proofs.Goes.{GoesWell}
 use Rattle.kernel_sound.proofs.Events.{row-goes, well-reports, well-answers, row-sound, row-calm, owner-below}
 use Rattle.kernel_sound.proofs.Needs.{IsReady-sound}
