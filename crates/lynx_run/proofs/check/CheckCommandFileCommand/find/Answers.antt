@@ -1,5 +1,5 @@
 -- The module that was read has the name in the line.
-use Rattle.std.proofs.Common.{ℕ, List, [], ◌∷◌, ap, refl, ◌∙◌, Err}
+use Rattle.std.proofs.Common.{ℕ, List, [], ◌∷◌, ap, subst, refl, ◌∙◌, Ok, Err}
 use Rattle.std.proofs.lemmas.Result.{err_from_is_err_and}
 use Rattle.lynx_command.specs.Failures.{failure_of_source}
 use Rattle.lynx_source.specs.Sources.{IsReadAs}
@@ -11,7 +11,8 @@ use Rattle.lynx_run.proofs.check.CheckCommandFileCommand.find.Goals as goal
 
 pub returns : goal.returns
 returns c =
-    (module_tree c.in_ok-module.module, c.in_ok-module.ensures, c.of.ensures ∙ (c.in_ok-lines.ensures ∙ ap (λ name. checked_text name ∷ []) c.as_slice.ensures.value), refl)
+    let read = subst (λ (bytes : List ℕ). IsReadAs bytes (Ok (module_tree c.in_ok-module.module))) c.as_slice.ensures.value c.in_ok-module.ensures in
+    (module_tree c.in_ok-module.module, read, c.of.ensures ∙ (c.in_ok-lines.ensures ∙ ap (λ name. checked_text name ∷ []) c.as_slice-2.ensures.value), refl)
 
 -- a fault of the source is the failure of the command
 fault_found : (bytes : List ℕ) (fault : SourceFault) → IsReadAs bytes (Err fault) → Checks bytes (Err (failure_of_source fault))
@@ -25,4 +26,5 @@ fault_found bytes faults.NoMemory h = tt
 pub returns-in_err-module : goal.returns-in_err-module
 returns-in_err-module c =
     let p = err_from_is_err_and c.from_residual.result c.from_residual.ensures.1 in
-    rw (p.1, p.2) (fault_found c.args.bytes.items c.in_err-module.field-0.0 c.in_err-module.ensures)
+    let read = subst (λ (bytes : List ℕ). IsReadAs bytes (Err c.in_err-module.field-0.0)) c.as_slice.ensures.value c.in_err-module.ensures in
+    rw (p.1, p.2) (fault_found c.args.bytes.items c.in_err-module.field-0.0 read)
