@@ -1,11 +1,12 @@
 -- Reading bytes one after the other, as a loop does.
 use Rattle.std.proofs.Common.{◌≡◌, ℕ, zero, suc, ◌<◌, ◌≤◌, ◌↔◌, Bool, true, false, cond, eqb, leb, inl, inr, Option, Some, None, List, [], ◌∷◌, ◌++◌, length, take, Result, Ok, Err, refl, sym, ap, ◌∙◌, arith}
-use Rattle.std.specs.Prelude.{IsNone, IfSome, ok_or}
+use Rattle.std.specs.Prelude.{IsNone, IfSome, ok_or, ◌&&◌}
+use Rattle.std.specs.List.{flat_map, list_all}
 use Rattle.std.proofs.lemmas.Bool.{leb-true, leb-false, eqb-true, eqb-false, cases_lt}
 use Rattle.std.proofs.lemmas.List.{length-append, length-take, take_all, take-append-le, nil_from_length}
 use Rattle.charlotte_text.specs.declared.fault.Fault.{Fault}
 use Rattle.charlotte_text.specs.declared.fault.Fault.TheVariants.{Form, Long}
-use Rattle.charlotte_text.specs.Spelling.{is_plain}
+use Rattle.charlotte_text.specs.Spelling.{is_plain, byte_text}
 use Rattle.charlotte_text.specs.Reading.{◌>>=◌, escaped, byte_at, with_first, decoded, limited}
 use Rattle.charlotte_text.proofs.Ends.{with_front, regroup, front_done}
 
@@ -82,3 +83,35 @@ unfolding decoded
 all_read front rest word empty e t so_far =
     let none : rest ≡ [] = nil_from_length rest (eqb-true _ _ (sym e ∙ t)) in
     sym so_far ∙ rw none (front_done front)
+
+-- ---- bytes that all stand for themselves
+
+both : (a b : Bool) → (a && b) ≡ true → (a ≡ true) × (b ≡ true)
+both true b h = (refl, h)
+both false b h = absurd (cc)
+
+pub plain_text : (bs : List ℕ) → list_all is_plain bs ≡ true → flat_map byte_text bs ≡ bs
+plain_text [] h = refl
+plain_text (b ∷ bs) h =
+    let p = both (is_plain b) (list_all is_plain bs) h in
+    rw p.0 (ap (λ xs. b ∷ xs) (plain_text bs p.1))
+
+pub decoded_plain : (word : List ℕ) → list_all is_plain word ≡ true → decoded word ≡ Ok word
+unfolding decoded
+decoded_plain [] h = refl
+decoded_plain (b ∷ []) h = rw (both (is_plain b) true h).0 refl
+decoded_plain (b ∷ i ∷ []) h =
+    let p = both (is_plain b) (list_all is_plain (i ∷ [])) h in
+    rw p.0 (ap (with_first b) (decoded_plain (i ∷ []) p.1))
+decoded_plain (b ∷ i ∷ l ∷ rest) h =
+    let p = both (is_plain b) (list_all is_plain (i ∷ l ∷ rest)) h in
+    rw p.0 (ap (with_first b) (decoded_plain (i ∷ l ∷ rest) p.1))
+
+within : (word : List ℕ) (t : Bool) → leb (length word) 256 ≡ t → (length word ≤ 256 → Ok word ≡ cond t (Ok word) (Err Long)) × (256 < length word → Err Long ≡ cond t (Ok word) (Err Long))
+within word true h = (λ le. refl, λ lt. absurd (omega (arith, leb-true _ _ h)))
+within word false h = (λ le. absurd (omega (arith, leb-false _ _ h)), λ lt. refl)
+
+-- at most 256 bytes are kept whole
+pub kept_whole : (word : List ℕ) (r : Option (List ℕ)) → (IsNone r ↔ (256 < length word)) → IfSome r (λ s. s ≡ word) → ok_or r Long ≡ limited word
+kept_whole word None long same = (within word (leb (length word) 256) refl).1 (long.0 refl)
+kept_whole word (Some s) long same = ap Ok same ∙ (within word (leb (length word) 256) refl).0 (not_long (length word) (λ lt. let none : IsNone (Some s) = long.1 lt in cc))

@@ -1,7 +1,7 @@
-ghost use Rattle.std.specs.Prelude.{◌≡◌, ◌<◌, ◌++◌, ℕ, List, OnOk, OnErr, IfOk, if◌then◌else◌, nat_le, length, take};
+ghost use Rattle.std.specs.Prelude.{◌≡◌, ◌<◌, ◌++◌, ℕ, List, OnOk, OnErr, IfOk, if◌then◌else◌, true, nat_le, length, take};
 ghost use Rattle.charlotte_text.specs.Spelling.{is_plain, hex_digit, byte_text, bytes_text, AreBytes};
 ghost use Rattle.charlotte_text.specs.Reading.{Gives, hex_value, escaped, byte_at, spelled, bytes_of};
-ghost use Rattle.std.specs.List.{flat_map};
+ghost use Rattle.std.specs.List.{flat_map, list_all};
 
 use crate::fault::Fault;
 use arrayvec::ArrayVec;
@@ -17,12 +17,25 @@ pub fn push_bytes(out: &mut Vec<u8>, bytes: &[u8]) -> Result<(), NoMemory>
         out.push(b'-')?;
         return Ok(());
     }
+    if all_plain(bytes) {
+        return push_plain(out, bytes);
+    }
     let start = out.len();
     let pushed = push_each(out, bytes);
     if pushed.is_err() {
         out.truncate(start);
     }
     pushed
+}
+
+// Bytes that all stand for themselves are appended at once.
+fn push_plain(out: &mut Vec<u8>, bytes: &[u8]) -> Result<(), NoMemory>
+    requires { list_all is_plain bytes.now ≡ true }
+    ensures ok { OnOk result (out.new.items ≡ out.old.items ++ flat_map byte_text bytes.now) }
+    ensures err { OnErr result (out.new.items ≡ out.old.items) }
+{
+    out.extend_from_slice(bytes)?;
+    Ok(())
 }
 
 fn push_each(out: &mut Vec<u8>, bytes: &[u8]) -> Result<(), NoMemory>
@@ -52,6 +65,13 @@ pub(crate) fn plain(byte: u8) -> bool
     ensures { result ≡ is_plain byte }
 {
     matches!(byte, b'0'..=b'9' | b'A'..=b'Z' | b'a'..=b'z' | b'_' | b'.')
+}
+
+/// Whether each byte stands for itself.
+fn all_plain(bytes: &[u8]) -> bool
+    ensures { result ≡ list_all is_plain bytes.now }
+{
+    bytes.iter().all(|byte| plain(*byte))
 }
 
 fn digit(value: u8) -> u8
@@ -88,9 +108,20 @@ fn parse_bytes(word: &[u8]) -> Result<Bytes, Fault>
     decode(word)
 }
 
+// A word whose bytes all stand for themselves spells them.
+fn read_plain(word: &[u8]) -> Result<Bytes, Fault>
+    requires { list_all is_plain word.now ≡ true }
+    ensures { result ≡ spelled word.now }
+{
+    Bytes::from_slice(word).ok_or(Fault::Long)
+}
+
 fn decode(word: &[u8]) -> Result<Bytes, Fault>
     ensures { result ≡ spelled word.now }
 {
+    if all_plain(word) {
+        return read_plain(word);
+    }
     // One byte more than a text may have shows that it is too long.
     let mut kept = ArrayVec::<u8, 257>::new();
     let mut rest = word;

@@ -33,11 +33,7 @@ fn push_happened(out: &mut Vec<u8>, what: &Happened) -> Result<(), NoMemory>
 }
 
 /// Appends the line of an entry of this kernel.
-pub(crate) fn push_entry_line(
-    out: &mut Vec<u8>,
-    kernel: u8,
-    entry: &Entry,
-) -> Result<(), NoMemory>
+pub(crate) fn push_entry_line(out: &mut Vec<u8>, kernel: u8, entry: &Entry) -> Result<(), NoMemory>
     ensures { OnOk result (out.new.items ≡ out.old.items ++ line (entry_text (placed_at kernel entry.now))) }
 {
     push_number(out, entry.stamp)?;

@@ -71,7 +71,12 @@ fn push_values(out: &mut Vec<u8>, values: &[MovingPicture]) -> Result<(), NoMemo
 }
 
 /// Appends a word with its blank, an end, and one number.
-pub(crate) fn push_numbered(out: &mut Vec<u8>, word: &[u8], end: EndId, number: u32) -> Result<(), NoMemory>
+pub(crate) fn push_numbered(
+    out: &mut Vec<u8>,
+    word: &[u8],
+    end: EndId,
+    number: u32,
+) -> Result<(), NoMemory>
     ensures { OnOk result (out.new.items ≡ out.old.items ++ word.now ++ end_text end ++ numbers_text (number ∷ [])) }
 {
     push_form(out, word, end, &[u64::from(number)])
@@ -85,10 +90,22 @@ fn push_place(out: &mut Vec<u8>, word: &[u8], to: EndId, at: u8, hops: u32) -> R
 }
 
 /// Appends a word with its blank, an end, the number of an activity, and where its opposite end is.
-fn push_about(out: &mut Vec<u8>, word: &[u8], to: EndId, number: u32, at: u8, hops: u32) -> Result<(), NoMemory>
+fn push_about(
+    out: &mut Vec<u8>,
+    word: &[u8],
+    to: EndId,
+    number: u32,
+    at: u8,
+    hops: u32,
+) -> Result<(), NoMemory>
     ensures { OnOk result (out.new.items ≡ out.old.items ++ word.now ++ end_text to ++ numbers_text (number ∷ at ∷ hops ∷ [])) }
 {
-    push_form(out, word, to, &[u64::from(number), u64::from(at), u64::from(hops)])
+    push_form(
+        out,
+        word,
+        to,
+        &[u64::from(number), u64::from(at), u64::from(hops)],
+    )
 }
 
 /// Appends what a parcel carries: its bytes, and its values.
@@ -100,7 +117,12 @@ fn push_carried(out: &mut Vec<u8>, carried: &Carried) -> Result<(), NoMemory>
     push_values(out, carried.moving())
 }
 
-fn push_parcel(out: &mut Vec<u8>, to: EndId, numbers: &[u64], carried: &Carried) -> Result<(), NoMemory>
+fn push_parcel(
+    out: &mut Vec<u8>,
+    to: EndId,
+    numbers: &[u64],
+    carried: &Carried,
+) -> Result<(), NoMemory>
     ensures { OnOk result (out.new.items ≡ out.old.items ++ codes "parcel " ++ end_text to ++ numbers_text numbers.now ++ codes " " ++ bytes_text carried.now.bytes ++ values_text carried.now.moving) }
 {
     push_form(out, b"parcel ", to, numbers)?;
