@@ -10,7 +10,7 @@ use Rattle.lynx_types.specs.Modules.{IsWellTyped, IsFirstFault, is_no_later, fir
 abbrev pub NoLater : Fault → Fault → Type 0
 NoLater a b = (a.place < b.place) ⊎ ((a.place ≡ b.place) × (a.rule ≤ b.rule))
 
-true_is_no_later : (a b : Fault) (x y z : Bool) → ltb a.place b.place ≡ x → eqb a.place b.place ≡ y → leb a.rule b.rule ≡ z → (x || (y && z)) ≡ true → NoLater a b
+pub true_is_no_later : (a b : Fault) (x y z : Bool) → ltb a.place b.place ≡ x → eqb a.place b.place ≡ y → leb a.rule b.rule ≡ z → (x || (y && z)) ≡ true → NoLater a b
 true_is_no_later a b true y z ex ey ez e = inl (ltb-true a.place b.place ex)
 true_is_no_later a b false true true ex ey ez e = inr (eqb-true a.place b.place ey, leb-true a.rule b.rule ez)
 true_is_no_later a b false true false ex ey ez e = absurd (passes false e)
@@ -22,7 +22,7 @@ false_is_later a b false true true ex ey ez e = absurd (fails true e)
 false_is_later a b false true false ex ey ez e = inr (sym (eqb-true a.place b.place ey), omega (arith, leb-false a.rule b.rule ez))
 false_is_later a b false false z ex ey ez e = inl (omega (arith, ltb-false a.place b.place ex, eqb-false a.place b.place ey))
 
-goes_on : (a b c : Fault) → NoLater a b → NoLater b c → NoLater a c
+pub goes_on : (a b c : Fault) → NoLater a b → NoLater b c → NoLater a c
 goes_on a b c (inl x) (inl y) = inl (omega (arith, x, y))
 goes_on a b c (inl x) (inr y) = inl (omega (arith, x, y.0))
 goes_on a b c (inr x) (inl y) = inl (omega (arith, x.0, y))

@@ -6,3 +6,6 @@ pub mod Rules
 pub mod Expressions
 pub mod Statements
 pub mod Modules
+pub mod Progress
+pub mod Found
+pub mod Meanings

@@ -25,6 +25,10 @@ abbrev pub is_number_of : ℕ → Option (List TypeName) → Bool
 is_number_of n None = true
 is_number_of n (Some ts) = n == length ts
 
+-- the rule demands that a value is of this type
+abbrev pub wants : ℕ → TypeName → ℕ → Held → List Fault
+wants rule t at value = demand rule at (fits t value)
+
 -- ---- declarations
 
 -- 1: a module-level name is declared once; it is none of those before it
