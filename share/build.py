@@ -22,6 +22,14 @@ LINES_A_SECOND = 40
 KEPT = 0.3
 
 
+# The signals that end a build.
+ENDING = (signal.SIGINT, signal.SIGTERM, signal.SIGHUP)
+
+
+def unblock():
+    signal.pthread_sigmask(signal.SIG_UNBLOCK, ENDING)
+
+
 def say(text):
     print(f"lynx: {text}", file=sys.stderr, flush=True)
 
@@ -91,15 +99,21 @@ class Build:
     def begin(self, crate):
         words = ["rt", "run", "--", "drive", os.devnull] if crate == PROGRAM else ["rt", "lib"]
         self.begun[crate] = time.time()
-        with open(self.log_of(crate), "wb") as log:
-            self.running[crate] = subprocess.Popen(
-                words,
-                cwd=f"{self.top}/crates/{crate}",
-                stdin=subprocess.DEVNULL,
-                stdout=log,
-                stderr=subprocess.STDOUT,
-                start_new_session=True,
-            )
+        # so no run is under way that `stop` does not know of
+        signal.pthread_sigmask(signal.SIG_BLOCK, ENDING)
+        try:
+            with open(self.log_of(crate), "wb") as log:
+                self.running[crate] = subprocess.Popen(
+                    words,
+                    cwd=f"{self.top}/crates/{crate}",
+                    stdin=subprocess.DEVNULL,
+                    stdout=log,
+                    stderr=subprocess.STDOUT,
+                    start_new_session=True,
+                    preexec_fn=unblock,
+                )
+        finally:
+            unblock()
 
     def begin_all(self):
         for crate in list(self.next_ones(self.proved, self.running)):
@@ -195,7 +209,7 @@ def interrupted(number, _frame):
 
 def main():
     needs = {crate: others for crate, *others in (line.split() for line in sys.stdin)}
-    for number in (signal.SIGINT, signal.SIGTERM, signal.SIGHUP):
+    for number in ENDING:
         signal.signal(number, interrupted)
     build = Build(sys.argv[1], needs)
     if "--minutes" in sys.argv:
