@@ -1,17 +1,17 @@
 -- The lines of a transcript: each is read as what its form shows.
-use Rattle.std.proofs.Common.{◌≡◌, ℕ, zero, suc, ◌+◌, ◌<◌, ◌≤◌, Bool, true, false, cond, codes, eqb, List, [], ◌∷◌, ◌++◌, length, map, All, Result, Ok, refl, sym, ap, ◌∙◌, append_assoc, append-nil, arith}
+use Rattle.std.proofs.Common.{◌≡◌, ℕ, ◌+◌, ◌≤◌, Bool, true, false, cond, codes, List, [], ◌∷◌, ◌++◌, length, map, All, Ok, refl, ap, ◌∙◌, append_assoc, append-nil, arith}
 use Rattle.std.specs.List.{flat_map}
 use Rattle.std.proofs.lemmas.List.Elements.{All-head, All-tail}
-use Rattle.charlotte_calls.specs.Ranges.{IsPid, IsU8, IsU32, IsU64, IsCallInRange, IsStepInRange}
+use Rattle.charlotte_calls.specs.Ranges.{IsPid, IsU8, IsU64, IsStepInRange}
 use Rattle.charlotte_calls.specs.declared.calls.Call.{Call}
 use Rattle.charlotte_calls.specs.declared.calls.Call.TheVariants as call
 use Rattle.charlotte_calls.specs.declared.calls.ServiceStep.{ServiceStep}
 use Rattle.charlotte_calls.specs.declared.names.Pid.{Pid}
 use Rattle.charlotte_text.specs.Spelling.{number_text, process_text, call_text}
-use Rattle.charlotte_text.specs.Reading.{words, number_below, call_of}
+use Rattle.charlotte_text.specs.Reading.{words, call_of}
 use Rattle.charlotte_text.proofs.Calls.{call_words, call_again}
 use Rattle.charlotte_text.proofs.Numbers.{is_number_text}
-use Rattle.journal_text.specs.Transcript.{line, numbers_text, happened_text, entry_text, entry_lines, process_home_text, process_lines, wire_text, note_text, last_text, packet_text, step_text}
+use Rattle.journal_text.specs.Transcript.{line, happened_text, entry_lines, process_home_text, process_lines, wire_text, note_text, last_text, packet_text, step_text}
 use Rattle.journal_text.specs.TranscriptText.{HasFew, IsShown, IsShownStep, IsNoteInRange, IsLastInRange}
 use Rattle.journal_text.specs.declared.last.Last.{Last}
 use Rattle.journal_text.specs.declared.last.Last.TheVariants.{Quiet, Unsettled, Spent}
@@ -21,13 +21,13 @@ use Rattle.kernel_world.specs.declared.entry.Happened.{Happened}
 use Rattle.kernel_world.specs.declared.entry.Happened.TheVariants.{Asked, Took}
 use Rattle.kernel_world.specs.declared.entry.Placed.{Placed}
 use Rattle.transcript_reading.specs.Forms.{took_of, asked_of, happened_of, entry_of, home_of, wire_of, waits_of, note_of, named_line_of, kind_of}
-use Rattle.transcript_reading.specs.Kinds.{without_stamp, shown_step, happened_kind, entry_kinds, process_kinds, wire_kinds}
+use Rattle.transcript_reading.specs.Kinds.{shown_step, happened_kind, entry_kinds, process_kinds, wire_kinds}
 use Rattle.transcript_reading.specs.declared.line.LineKind.{LineKind}
 use Rattle.transcript_reading.specs.declared.line.LineKind.TheVariants as kind
 use Rattle.transcript_reading.proofs.Names.{number_word, wide8, wide32, u8_again, u32_again, u64_again, numbered_again, pid_again, pid_wide, kernel_again, letter_word, spelled_call, call_spelled}
 use Rattle.transcript_reading.proofs.Packets.{packet_name, packet_rest, packet_spelled, packet_again}
 use Rattle.transcript_reading.proofs.Steps.{step_name, step_rest, step_spelled, step_again}
-use Rattle.transcript_reading.proofs.Words.{IsMark, IsWord, AreWords, IsFree, IsSpelled, word_codes, spelled_words, spelled_free, same_text, one_word, word_before, words_behind}
+use Rattle.transcript_reading.proofs.Words.{IsWord, IsFree, IsSpelled, word_codes, spelled_words, spelled_free, same_text, one_word, word_before}
 
 -- a line of a text is read as this, in a transcript of a version
 pub record IsLineOf (v : ℕ) (ended : List ℕ) (k : LineKind) : Type 0 where

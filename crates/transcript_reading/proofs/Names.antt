@@ -1,12 +1,12 @@
 -- Names, numbers, bytes and calls: each is spelled by words and read again.
-use Rattle.std.proofs.Common.{◌≡◌, ℕ, ◌^◌, ◌<◌, ◌≤◌, Bool, true, false, cond, codes, ◌+◌, ◌/◌, ◌%◌, eqb, leb, List, [], ◌∷◌, ◌++◌, map, Result, Ok, refl, sym, ap, ◌∙◌, arith, inr}
+use Rattle.std.proofs.Common.{◌≡◌, ℕ, ◌^◌, ◌<◌, true, false, cond, codes, ◌+◌, ◌/◌, ◌%◌, leb, List, [], ◌∷◌, ◌++◌, map, Ok, refl, ◌∙◌, arith}
 use Rattle.std.specs.Char.{is_ascii_digit}
-use Rattle.std.specs.List.{All, AllByRecursion, list_all, flat_map}
+use Rattle.std.specs.List.{AllByRecursion, list_all, flat_map}
 use Rattle.std.proofs.lemmas.Bool.{and_parts}
 use Rattle.std.proofs.lemmas.Bool.Decides.{nat_tests}
 use Rattle.std.proofs.lemmas.Fmt.{digits_decimal}
 use Rattle.std.proofs.lemmas.List.Elements.{All-append, All-cons, All-nil}
-use Rattle.charlotte_calls.specs.Ranges.{IsEnd, IsPid, IsU8, IsU32, IsU64, AreBytesInRange, AreEndsInRange, IsCallInRange}
+use Rattle.charlotte_calls.specs.Ranges.{IsEnd, IsPid, IsU8, IsU32, IsU64, AreBytesInRange, IsCallInRange}
 use Rattle.charlotte_calls.specs.declared.calls.Call.{Call}
 use Rattle.charlotte_calls.specs.declared.calls.Call.TheVariants as call
 use Rattle.charlotte_calls.specs.declared.names.EndId.{EndId}
@@ -15,13 +15,13 @@ use Rattle.charlotte_calls.specs.declared.names.Side.{Side}
 use Rattle.charlotte_calls.specs.declared.names.Side.TheVariants.{A, B}
 use Rattle.charlotte_calls.specs.declared.names.Way.{Way}
 use Rattle.charlotte_calls.specs.declared.names.Way.TheVariants.{Inward, Outward}
-use Rattle.charlotte_text.specs.Spelling.{number_text, side_text, end_text, plus_text, process_text, is_plain, hex_digit, byte_text, bytes_text, way_text, call_text, most_ends, IsCall}
+use Rattle.charlotte_text.specs.Spelling.{number_text, side_text, end_text, plus_text, process_text, is_plain, hex_digit, byte_text, bytes_text, way_text, call_text, IsCall}
 use Rattle.charlotte_text.specs.Reading.{number_below, bytes_of}
 use Rattle.charlotte_text.proofs.Numbers.{own, below_again}
 use Rattle.charlotte_text.proofs.Texts.{bytes_again, short_text}
 use Rattle.charlotte_text.proofs.Calls.{call_words, joined}
 use Rattle.journal_text.specs.TranscriptText.{HasFewCall}
-use Rattle.transcript_reading.specs.Forms.{numbered_of, pid_of, kernel_of, bit_of}
+use Rattle.transcript_reading.specs.Forms.{numbered_of, pid_of, kernel_of}
 use Rattle.transcript_reading.proofs.Words.{IsMark, IsWord, AreWords, IsSpelled, word_codes}
 
 -- ---- numbers

@@ -1,5 +1,5 @@
 -- The lines of a transcript stand in order.
-use Rattle.std.proofs.Common.{◌≡◌, ◌⊎◌, inl, inr, ℕ, zero, suc, ◌+◌, ◌<◌, ◌≤◌, List, [], ◌∷◌, ◌++◌, length, map, All, Result, Ok, Err, refl, sym, ap, subst, ◌∙◌, append_assoc, arith}
+use Rattle.std.proofs.Common.{◌≡◌, ◌⊎◌, inl, inr, ℕ, ◌+◌, ◌<◌, ◌≤◌, List, [], ◌∷◌, ◌++◌, length, map, All, Result, Ok, Err, refl, sym, ap, ◌∙◌, append_assoc, arith}
 use Rattle.std.specs.List.{flat_map}
 use Rattle.std.proofs.lemmas.Bool.{eq-eqb, lt-ltb, le-leb}
 use Rattle.std.proofs.lemmas.List.Elements.{All-head, All-tail}
@@ -10,18 +10,17 @@ use Rattle.charlotte_calls.specs.declared.calls.ServiceStep.{ServiceStep}
 use Rattle.charlotte_calls.specs.declared.calls.ServiceStep.TheVariants as step
 use Rattle.charlotte_calls.specs.declared.names.EndId.{EndId}
 use Rattle.charlotte_calls.specs.declared.names.Pid.{Pid}
-use Rattle.charlotte_calls.specs.declared.picture.Picture.{Picture}
 use Rattle.charlotte_calls.specs.declared.setting.Setting.{Setting}
 use Rattle.charlotte_text.specs.declared.fault.Fault.{Fault}
 use Rattle.charlotte_text.specs.Reading.{◌>>=◌}
-use Rattle.journal_text.specs.TranscriptText.{IsShown, IsShownStep, AreOfTranscript, AreRisingNotes, HasNotesOf}
+use Rattle.journal_text.specs.TranscriptText.{IsShownStep, AreOfTranscript, AreRisingNotes, HasNotesOf}
 use Rattle.journal_text.specs.declared.last.Last.{Last}
 use Rattle.journal_text.specs.declared.last.Last.TheVariants.{Quiet, Unsettled, Spent}
 use Rattle.journal_text.specs.declared.last.ScriptNote.{ScriptNote}
 use Rattle.kernel_world.specs.declared.entry.Happened.{Happened}
 use Rattle.kernel_world.specs.declared.entry.Happened.TheVariants.{Asked, Took}
 use Rattle.kernel_world.specs.declared.entry.Placed.{Placed}
-use Rattle.transcript_reading.specs.Kinds.{without_stamp, unstamped_what, shown_step, full_step, happened_kind, entry_kinds, process_kinds, wire_kinds, transcript_kinds}
+use Rattle.transcript_reading.specs.Kinds.{unstamped_what, shown_step, full_step, happened_kind, entry_kinds, process_kinds, wire_kinds, transcript_kinds}
 use Rattle.transcript_reading.specs.Order.{Place, Start, Version, Processes, Wires, Entry, Noted, Over, next, follows}
 use Rattle.transcript_reading.specs.declared.line.LineKind.{LineKind}
 use Rattle.transcript_reading.specs.declared.line.LineKind.TheVariants as kind
@@ -54,51 +53,31 @@ sent_full v p call.Wait on n bytes ends shown = absurd shown
 sent_full v p (call.Print text) on n bytes ends shown = absurd shown
 sent_full v p call.Exit on n bytes ends shown = absurd shown
 
-asked_full : (v : ℕ) (p : Pid) (c : Call) (s : ServiceStep) → IsShownStep v (Asked p c) s → full_step (Asked p c) (shown_step s) ≡ Ok s
-asked_full v p c (step.Make q a b) shown = ap (λ (x : Pid). Ok (step.Make x a b)) (sym shown)
-asked_full v p c (step.Refuse q refused cause) shown = ap (λ (x : Call). Ok (step.Refuse q x cause)) (sym shown)
-asked_full v p c (step.Send on n bytes ends) shown = sent_full v p c on n bytes ends shown
-asked_full v p c (step.Destroy on) shown = refl
-asked_full v p c (step.Receive on) shown = refl
-asked_full v p c (step.Cancel on way) shown = refl
-asked_full v p c (step.Wait q) shown = refl
-asked_full v p c (step.Report q r) shown = refl
-asked_full v p c (step.Exit q) shown = refl
-asked_full v p c (step.Match on n) shown = refl
-asked_full v p c (step.Take on n q late) shown = refl
-asked_full v p c (step.Complete on n) shown = refl
-asked_full v p c (step.Withdraw on) shown = refl
-asked_full v p c (step.Free on) shown = refl
-asked_full v p c (step.Notice on dead) shown = refl
-asked_full v p c (step.Back on n dead) shown = refl
-
--- that of a taking leaves nothing out
-took_full : (v from : ℕ) (picture : Picture) (s : ServiceStep) → IsShownStep v (Took from picture) s → full_step (Took from (without_stamp picture)) (shown_step s) ≡ Ok s
-took_full v from picture (step.Make q a b) shown = absurd shown
-took_full v from picture (step.Refuse q refused cause) shown = absurd shown
-took_full v from picture (step.Send on n bytes ends) shown = absurd shown
-took_full v from picture (step.Destroy on) shown = refl
-took_full v from picture (step.Receive on) shown = refl
-took_full v from picture (step.Cancel on way) shown = refl
-took_full v from picture (step.Wait q) shown = refl
-took_full v from picture (step.Report q r) shown = refl
-took_full v from picture (step.Exit q) shown = refl
-took_full v from picture (step.Match on n) shown = refl
-took_full v from picture (step.Take on n q late) shown = refl
-took_full v from picture (step.Complete on n) shown = refl
-took_full v from picture (step.Withdraw on) shown = refl
-took_full v from picture (step.Free on) shown = refl
-took_full v from picture (step.Notice on dead) shown = refl
-took_full v from picture (step.Back on n dead) shown = refl
-
 pub full_shown : (v : ℕ) (what : Happened) (s : ServiceStep) → IsShownStep v what s → full_step (unstamped_what what) (shown_step s) ≡ Ok s
-full_shown v (Asked p c) s shown = asked_full v p c s shown
-full_shown v (Took from picture) s shown = took_full v from picture s shown
+full_shown v (Asked p c) (step.Make q a b) shown = ap (λ (x : Pid). Ok (step.Make x a b)) (sym shown)
+full_shown v (Asked p c) (step.Refuse q refused cause) shown = ap (λ (x : Call). Ok (step.Refuse q x cause)) (sym shown)
+full_shown v (Asked p c) (step.Send on n bytes ends) shown = sent_full v p c on n bytes ends shown
+full_shown v (Took from picture) (step.Make q a b) shown = absurd shown
+full_shown v (Took from picture) (step.Refuse q refused cause) shown = absurd shown
+full_shown v (Took from picture) (step.Send on n bytes ends) shown = absurd shown
+full_shown v what (step.Destroy on) shown = refl
+full_shown v what (step.Receive on) shown = refl
+full_shown v what (step.Cancel on way) shown = refl
+full_shown v what (step.Wait q) shown = refl
+full_shown v what (step.Report q r) shown = refl
+full_shown v what (step.Exit q) shown = refl
+full_shown v what (step.Match on n) shown = refl
+full_shown v what (step.Take on n q late) shown = refl
+full_shown v what (step.Complete on n) shown = refl
+full_shown v what (step.Withdraw on) shown = refl
+full_shown v what (step.Free on) shown = refl
+full_shown v what (step.Notice on dead) shown = refl
+full_shown v what (step.Back on n dead) shown = refl
 
-steps_follow : (v : ℕ) (what : Happened) (ss : List ServiceStep) → All (IsShownStep v what) ss → follows (map (λ s. kind.Service (shown_step s)) ss) (Entry (unstamped_what what)) ≡ Ok (Entry (unstamped_what what))
+steps_follow : (ss : List ServiceStep) → follows (map (λ s. kind.Service (shown_step s)) ss) Entry ≡ Ok Entry
 unfolding follows next
-steps_follow v what [] all = refl
-steps_follow v what (s ∷ ss) all = rw (full_shown v what s (All-head (IsShownStep v what) s ss all)) (steps_follow v what ss (All-tail (IsShownStep v what) s ss all))
+steps_follow [] = refl
+steps_follow (s ∷ ss) = steps_follow ss
 
 -- ---- entries
 
@@ -108,11 +87,11 @@ IsOpen Start = ⊥
 IsOpen Version = ⊥
 IsOpen (Processes kernels processes) = Unit {0}
 IsOpen (Wires processes wires) = Unit {0}
-IsOpen (Entry what) = Unit {0}
+IsOpen Entry = Unit {0}
 IsOpen (Noted line) = ⊥
 IsOpen Over = ⊥
 
-open_happened : (p : Place) (stamp kernel : ℕ) (what : Happened) → IsOpen p → next p (happened_kind stamp kernel what) ≡ Ok (Entry (unstamped_what what))
+open_happened : (p : Place) (stamp kernel : ℕ) (what : Happened) → IsOpen p → next p (happened_kind stamp kernel what) ≡ Ok Entry
 unfolding next
 open_happened Start stamp kernel what is = absurd is
 open_happened Version stamp kernel what is = absurd is
@@ -120,8 +99,8 @@ open_happened (Processes n i) stamp kernel (Asked p c) is = refl
 open_happened (Processes n i) stamp kernel (Took from picture) is = refl
 open_happened (Wires n i) stamp kernel (Asked p c) is = refl
 open_happened (Wires n i) stamp kernel (Took from picture) is = refl
-open_happened (Entry w) stamp kernel (Asked p c) is = refl
-open_happened (Entry w) stamp kernel (Took from picture) is = refl
+open_happened Entry stamp kernel (Asked p c) is = refl
+open_happened Entry stamp kernel (Took from picture) is = refl
 open_happened (Noted line) stamp kernel what is = absurd is
 open_happened Over stamp kernel what is = absurd is
 
@@ -131,7 +110,7 @@ open_note Start n is = absurd is
 open_note Version n is = absurd is
 open_note (Processes m i) n is = refl
 open_note (Wires m i) n is = refl
-open_note (Entry w) n is = refl
+open_note Entry n is = refl
 open_note (Noted line) n is = absurd is
 open_note Over n is = absurd is
 
@@ -141,7 +120,7 @@ open_end Start last is = absurd is
 open_end Version last is = absurd is
 open_end (Processes m i) last is = refl
 open_end (Wires m i) last is = refl
-open_end (Entry w) last is = refl
+open_end Entry last is = refl
 open_end (Noted line) last is = absurd is
 open_end Over last is = absurd is
 
@@ -149,17 +128,16 @@ open_end Over last is = absurd is
 abbrev GoesOn : List LineKind → Place → Type 0
 GoesOn ks p = (q : Place) × (follows ks p ≡ Ok q) × IsOpen q
 
-entry_follows : (v : ℕ) (p : Placed) (at : Place) → IsShown v p → IsOpen at → follows (entry_kinds p) at ≡ Ok (Entry (unstamped_what p.entry.what))
+entry_follows : (p : Placed) (at : Place) → IsOpen at → follows (entry_kinds p) at ≡ Ok Entry
 unfolding follows
-entry_follows v p at shown is = rw (open_happened at p.entry.stamp p.kernel p.entry.what is) (steps_follow v p.entry.what p.entry.steps shown.1)
+entry_follows p at is = rw (open_happened at p.entry.stamp p.kernel p.entry.what is) (steps_follow p.entry.steps)
 
-entries_follow : (v : ℕ) (ps : List Placed) (at : Place) → All (IsShown v) ps → IsOpen at → GoesOn (flat_map entry_kinds ps) at
+entries_follow : (ps : List Placed) (at : Place) → IsOpen at → GoesOn (flat_map entry_kinds ps) at
 unfolding follows
-entries_follow v [] at all is = (at, refl, is)
-entries_follow v (p ∷ ps) at all is =
-    let here : Place = Entry (unstamped_what p.entry.what) in
-    let more = entries_follow v ps here (All-tail (IsShown v) p ps all) tt in
-    (more.0, then_follows (entry_kinds p) (flat_map entry_kinds ps) at here more.0 (entry_follows v p at (All-head (IsShown v) p ps all) is) more.1, more.2)
+entries_follow [] at is = (at, refl, is)
+entries_follow (p ∷ ps) at is =
+    let more = entries_follow ps Entry tt in
+    (more.0, then_follows (entry_kinds p) (flat_map entry_kinds ps) at Entry more.0 (entry_follows p at is) more.1, more.2)
 
 -- ---- notes and the end
 
@@ -224,7 +202,7 @@ pub in_order : (s : Setting) (merged : List Placed) (notes : List ScriptNote) (l
 in_order s merged notes last is =
     let header : List LineKind = kind.First s.version ∷ kind.Kernels s.kernels ∷ process_kinds 0 s.homes in
     let wires = wires_follow s.kernels (length s.homes) s.wires is.setting.limits.wires is.setting.wires in
-    let entries = entries_follow s.version merged wires.0 is.shown wires.2 in
+    let entries = entries_follow merged wires.0 wires.2 in
     let front : follows (header ++ wire_kinds s.wires ++ flat_map entry_kinds merged) Start ≡ Ok entries.0 =
     then_follows (header ++ wire_kinds s.wires) (flat_map entry_kinds merged) Start wires.0 entries.0
     (then_follows header (wire_kinds s.wires) Start (Processes s.kernels (length s.homes)) wires.0 (header_follows s is.setting) wires.1) entries.1 in

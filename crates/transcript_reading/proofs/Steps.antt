@@ -1,8 +1,7 @@
 -- Service steps: each is spelled by words, which say what its line shows.
 use Rattle.std.proofs.Common.{◌≡◌, ℕ, ◌≤◌, Bool, true, false, codes, List, [], ◌∷◌, ◌++◌, length, map, Result, Ok, Err, refl, sym, ap, ◌∙◌, append_assoc, append-nil, arith}
 use Rattle.std.specs.List.{AllByRecursion}
-use Rattle.charlotte_calls.specs.Ranges.{IsEnd, IsPid, IsU32, AreBytesInRange, AreEndsInRange, IsReportInRange, IsStepInRange}
-use Rattle.charlotte_calls.specs.declared.calls.Call.{Call}
+use Rattle.charlotte_calls.specs.Ranges.{IsEnd, IsPid, IsU32, AreBytesInRange, IsReportInRange, IsStepInRange}
 use Rattle.charlotte_calls.specs.declared.calls.Call.TheVariants as call
 use Rattle.charlotte_calls.specs.declared.calls.Cause.{Cause}
 use Rattle.charlotte_calls.specs.declared.calls.Cause.TheVariants as cause
@@ -22,16 +21,16 @@ use Rattle.charlotte_text.specs.Reading.{◌>>=◌}
 use Rattle.charlotte_text.proofs.Calls.{way_again}
 use Rattle.charlotte_text.proofs.Names.{end_again, ends_again}
 use Rattle.journal_text.specs.Transcript.{cause_text, result_text, report_text, step_text, suffix_text}
-use Rattle.journal_text.specs.TranscriptText.{IsFew, IsShownReport, IsShownStep}
+use Rattle.journal_text.specs.TranscriptText.{IsShownReport, IsShownStep}
 use Rattle.kernel_world.specs.declared.entry.Happened.{Happened}
 use Rattle.kernel_world.specs.declared.entry.Happened.TheVariants.{Asked, Took}
-use Rattle.transcript_reading.specs.Forms.{first_of, bare_report, pid_of, cause_of, outcome_of, suffix_of, result_of, report_of, make_of, refuse_of, send_of, cancel_of, take_of, notice_of, back_step_of, end_number_of, named_step_of, step_of}
+use Rattle.transcript_reading.specs.Forms.{first_of, bare_report, cause_of, outcome_of, suffix_of, result_of, report_of, make_of, refuse_of, send_of, cancel_of, take_of, notice_of, back_step_of, named_step_of, step_of}
 use Rattle.transcript_reading.specs.Kinds.{shown_step}
 use Rattle.transcript_reading.specs.declared.line.ServiceLine.{ServiceLine}
 use Rattle.transcript_reading.specs.declared.line.ServiceLine.TheVariants as service
 use Rattle.transcript_reading.proofs.Names.{number_word, wide32, u32_again, pid_again, pid_wide, letter_word, end_word, ends_words, bytes_word, way_word, text_again}
 use Rattle.transcript_reading.proofs.Packets.{end_numbers, numbered_spelled, end_number_again}
-use Rattle.transcript_reading.proofs.Words.{IsMark, IsWord, AreWords, IsSpelled, word_codes, same_text, one_word, word_before, words_behind}
+use Rattle.transcript_reading.proofs.Words.{IsWord, IsSpelled, word_codes, same_text, one_word, word_before, words_behind}
 
 -- ---- the words of a step
 

@@ -1,12 +1,11 @@
 -- A text of lines is split into them, and they are read.
-use Rattle.std.proofs.Common.{◌≡◌, ℕ, true, eqb, List, [], ◌∷◌, ◌++◌, Result, Ok, refl, sym, ap, ◌∙◌, append_assoc}
+use Rattle.std.proofs.Common.{◌≡◌, ℕ, eqb, List, [], ◌∷◌, ◌++◌, Result, Ok, refl, ap, ◌∙◌, append_assoc}
 use Rattle.std.specs.List.{concat}
 use Rattle.std.proofs.lemmas.List.Splits.{slice_split_at}
 use Rattle.charlotte_text.specs.declared.fault.Fault.{Fault}
-use Rattle.charlotte_text.specs.Reading.{◌>>=◌, parts, words}
+use Rattle.charlotte_text.specs.Reading.{◌>>=◌, parts}
 use Rattle.charlotte_text.proofs.Parts.{first_part}
 use Rattle.journal_text.specs.Transcript.{line}
-use Rattle.transcript_reading.specs.Forms.{kind_of}
 use Rattle.transcript_reading.specs.Reading.{ended_lines, lines_of, kinds_of}
 use Rattle.transcript_reading.specs.declared.line.LineKind.{LineKind}
 use Rattle.transcript_reading.proofs.Lines.{IsLineOf, AreLinesOf}

@@ -1,16 +1,11 @@
 -- What the lines of a transcript tell is what it was made of.
-use Rattle.std.proofs.Common.{◌≡◌, ◌⊎◌, inl, inr, ℕ, zero, suc, ◌+◌, ◌<◌, ◌≤◌, List, [], ◌∷◌, ◌++◌, length, map, All, codes, Result, Ok, Err, refl, sym, ap, subst, ◌∙◌, arith}
+use Rattle.std.proofs.Common.{◌≡◌, inl, inr, ℕ, ◌+◌, ◌<◌, ◌≤◌, List, [], ◌∷◌, ◌++◌, length, map, All, codes, Result, Ok, Err, refl, sym, ap, ◌∙◌, arith}
 use Rattle.std.specs.List.{concat, flat_map}
 use Rattle.std.proofs.lemmas.List.Elements.{All-head, All-tail, All-weaker}
-use Rattle.charlotte_calls.specs.Ranges.{IsU8, IsPid}
+use Rattle.charlotte_calls.specs.Ranges.{IsU8}
 use Rattle.charlotte_calls.specs.Setting.{IsValid}
-use Rattle.charlotte_calls.specs.declared.calls.Call.{Call}
-use Rattle.charlotte_calls.specs.declared.calls.Call.TheVariants as call
 use Rattle.charlotte_calls.specs.declared.calls.ServiceStep.{ServiceStep}
-use Rattle.charlotte_calls.specs.declared.calls.ServiceStep.TheVariants as step
-use Rattle.charlotte_calls.specs.declared.names.EndId.{EndId}
 use Rattle.charlotte_calls.specs.declared.names.Pid.{Pid}
-use Rattle.charlotte_calls.specs.declared.picture.Picture.{Picture}
 use Rattle.charlotte_calls.specs.declared.setting.Setting.{Setting}
 use Rattle.charlotte_text.specs.declared.fault.Fault.{Fault}
 use Rattle.charlotte_text.specs.Reading.{◌>>=◌}
@@ -19,19 +14,16 @@ use Rattle.charlotte_text.proofs.Steps.{ok_is}
 use Rattle.journal_text.specs.Transcript.{entry_lines, process_lines, wire_text, line, note_text, last_text}
 use Rattle.journal_text.specs.TranscriptText.{IsShown, IsShownStep, AreOfTranscript, IsTranscript}
 use Rattle.journal_text.specs.declared.last.Last.{Last}
-use Rattle.journal_text.specs.declared.last.Last.TheVariants.{Quiet}
 use Rattle.journal_text.specs.declared.last.ScriptNote.{ScriptNote}
 use Rattle.kernel_world.specs.declared.entry.Happened.{Happened}
 use Rattle.kernel_world.specs.declared.entry.Happened.TheVariants.{Asked, Took}
 use Rattle.kernel_world.specs.declared.entry.Placed.{Placed}
-use Rattle.transcript_reading.specs.Forms.{kind_of}
-use Rattle.transcript_reading.specs.Kinds.{without_stamp, unstamped_what, unstamped, shown_step, full_step, happened_kind, entry_kinds, process_kinds, wire_kinds, transcript_kinds}
+use Rattle.transcript_reading.specs.Kinds.{unstamped_what, unstamped, shown_step, happened_kind, entry_kinds, process_kinds, wire_kinds, transcript_kinds}
 use Rattle.transcript_reading.specs.Reading.{Told, full_steps, with_entry, with_line, with_lines, nothing_told, lines_of, kinds_of, whole_of, told_by}
 use Rattle.transcript_reading.specs.declared.line.LineKind.{LineKind}
 use Rattle.transcript_reading.specs.declared.line.LineKind.TheVariants as kind
 use Rattle.transcript_reading.specs.declared.line.ServiceLine.{ServiceLine}
-use Rattle.transcript_reading.specs.declared.line.ServiceLine.TheVariants as service
-use Rattle.transcript_reading.proofs.Lines.{IsLineOf, AreLinesOf, IsWireInRange, lines_append, entry_lines_of, first_free, first_reads, kernels_line, process_lines_of, wire_lines_of, note_lines_of, last_line}
+use Rattle.transcript_reading.proofs.Lines.{AreLinesOf, IsWireInRange, lines_append, entry_lines_of, first_free, first_reads, kernels_line, process_lines_of, wire_lines_of, note_lines_of, last_line}
 use Rattle.transcript_reading.specs.Order.{Place, Start, follows, is_whole}
 use Rattle.transcript_reading.proofs.Order.{full_shown, in_order}
 use Rattle.transcript_reading.proofs.Texts.{AreReadAs, read_lines, split_more}

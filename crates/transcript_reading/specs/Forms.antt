@@ -16,7 +16,7 @@ use Rattle.charlotte_calls.specs.declared.picture.PictureWhat.TheVariants as pac
 use Rattle.charlotte_text.specs.declared.fault.Fault.{Fault}
 use Rattle.charlotte_text.specs.declared.fault.Fault.TheVariants.{Form}
 use Rattle.charlotte_text.specs.Spelling.{most_ends}
-use Rattle.charlotte_text.specs.Reading.{◌>>=◌, parts, ended, is_number, below, number_below, process_of, end_of, ends_of, only_end_of, bytes_of, way_of, call_of}
+use Rattle.charlotte_text.specs.Reading.{◌>>=◌, parts, part_at, ended, is_number, number_below, end_of, ends_of, bytes_of, way_of, call_of}
 use Rattle.journal_text.specs.declared.last.Last.TheVariants.{Quiet, Unsettled, Spent}
 use Rattle.transcript_reading.specs.declared.line.LineKind.{LineKind}
 use Rattle.transcript_reading.specs.declared.line.LineKind.TheVariants as line
@@ -27,8 +27,7 @@ use Rattle.transcript_reading.specs.declared.line.ServiceLine.TheVariants as ser
 
 -- what the first word says, and the words behind it
 abbrev pub first_of : {A : Type 0} → (List ℕ → Result A Fault) → List (List ℕ) → Result (A × List (List ℕ)) Fault
-first_of read [] = Err Form
-first_of read (w ∷ ws) = read w >>= λ x. Ok (x, ws)
+first_of read ws = part_at ws >>= λ w. read w.0 >>= λ x. Ok (x, w.1)
 
 -- what the only word says
 abbrev pub only_of : {A : Type 0} → (List ℕ → Result A Fault) → List (List ℕ) → Result A Fault
@@ -48,16 +47,16 @@ u32_of word = number_below (2 ^ 32) word
 abbrev pub u64_of : List ℕ → Result ℕ Fault
 u64_of word = number_below (2 ^ 64) word
 
--- a process that a number names
+-- a process that a number of 16 bits names
 abbrev pub numbered_of : List ℕ → Result Pid Fault
 numbered_of word = number_below (2 ^ 16) word >>= λ n. Ok (record { 0 = n })
 
--- a process, as `p7`
+-- a process, as `p7`, that a number of 16 bits names
 unfoldable pub pid_of : List ℕ → Result Pid Fault
 pid_of [] = Err Form
 pid_of (b ∷ bs) = if b == 112 then numbered_of bs else Err Form
 
--- a kernel, as `k0`
+-- a kernel, as `k0`, that a number of 8 bits names
 unfoldable pub kernel_of : List ℕ → Result ℕ Fault
 kernel_of [] = Err Form
 kernel_of (b ∷ bs) = if b == 107 then u8_of bs else Err Form
@@ -96,7 +95,7 @@ values_of (suc most) (w ∷ ws) = plus_value_of w >>= λ v. values_of most ws >>
 
 -- ---- packets
 
--- `T W J H`
+-- `T W J H`, and `T N J H`, whose numbers have as many bits
 unfoldable pub wanted_of : List (List ℕ) → Result (EndId × ℕ × ℕ × ℕ) Fault
 wanted_of ws = do
   to ← first_of end_of ws

@@ -50,14 +50,8 @@ shown_step (step.Free on) = service.Free on
 shown_step (step.Notice on dead) = service.Notice on dead
 shown_step (step.Back on n dead) = service.Back on n dead
 
--- a step, with what its line leaves out and the entry above it says
+-- a step, with what its line leaves out and the entry above it says: the process of a call, the call, the bytes of a send
 abbrev pub full_step : Happened → ServiceLine → Result ServiceStep Fault
-full_step (Asked p c) (service.Make a b) = Ok (step.Make p a b)
-full_step (Asked p c) (service.Refuse q cause) = Ok (step.Refuse q c cause)
-full_step (Asked p (call.Send on bytes enclose)) (service.Send from n ends) = Ok (step.Send from n bytes ends)
-full_step what (service.Make a b) = Err Form
-full_step what (service.Refuse q cause) = Err Form
-full_step what (service.Send from n ends) = Err Form
 full_step what (service.Destroy on) = Ok (step.Destroy on)
 full_step what (service.Receive on) = Ok (step.Receive on)
 full_step what (service.Cancel on way) = Ok (step.Cancel on way)
@@ -71,6 +65,12 @@ full_step what (service.Withdraw on) = Ok (step.Withdraw on)
 full_step what (service.Free on) = Ok (step.Free on)
 full_step what (service.Notice on dead) = Ok (step.Notice on dead)
 full_step what (service.Back on n dead) = Ok (step.Back on n dead)
+full_step (Asked p c) (service.Make a b) = Ok (step.Make p a b)
+full_step (Asked p c) (service.Refuse q cause) = Ok (step.Refuse q c cause)
+full_step (Asked p (call.Send on bytes enclose)) (service.Send from n ends) = Ok (step.Send from n bytes ends)
+full_step what (service.Make a b) = Err Form
+full_step what (service.Refuse q cause) = Err Form
+full_step what (service.Send from n ends) = Err Form
 
 -- what the line of an entry shows
 abbrev pub happened_kind : ℕ → ℕ → Happened → LineKind

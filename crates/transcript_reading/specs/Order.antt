@@ -5,9 +5,6 @@ use Rattle.charlotte_text.specs.declared.fault.Fault.{Fault}
 use Rattle.charlotte_text.specs.declared.fault.Fault.TheVariants.{Form}
 use Rattle.charlotte_text.specs.Reading.{◌>>=◌}
 use Rattle.journal_text.specs.declared.last.Last.TheVariants.{Quiet, Unsettled}
-use Rattle.kernel_world.specs.declared.entry.Happened.{Happened}
-use Rattle.kernel_world.specs.declared.entry.Happened.TheVariants.{Asked, Took}
-use Rattle.transcript_reading.specs.Kinds.{full_step}
 use Rattle.transcript_reading.specs.declared.line.LineKind.{LineKind}
 use Rattle.transcript_reading.specs.declared.line.LineKind.TheVariants as line
 
@@ -15,20 +12,20 @@ use Rattle.transcript_reading.specs.declared.line.LineKind.TheVariants as line
 pub data Place : Type 0 where
   Start : Place
   Version : Place
-  -- so many kernels, and so many processes so far
+  -- `kernels N` or a process: so many kernels, and so many processes so far
   Processes : (kernels processes : ℕ) → Place
-  -- so many processes, and so many wires so far
+  -- a wire: so many processes, and so many wires so far
   Wires : (processes wires : ℕ) → Place
-  -- an entry, and steps of it
-  Entry : (what : Happened) → Place
+  -- an entry, or a step below it
+  Entry : Place
   -- a note of a line of the script
   Noted : (line : ℕ) → Place
   Over : Place
 
 -- what may stand behind the header and behind an entry
 abbrev pub body : LineKind → Result Place Fault
-body (line.CallEntry stamp kernel p c) = Ok (Entry (Asked p c))
-body (line.PacketEntry stamp kernel from picture) = Ok (Entry (Took from picture))
+body (line.CallEntry stamp kernel p c) = Ok Entry
+body (line.PacketEntry stamp kernel from picture) = Ok Entry
 body (line.Note note) = Ok (Noted note.line)
 body (line.End last) = Ok Over
 body _ = Err Form
@@ -43,7 +40,7 @@ abbrev pub housed : ℕ → ℕ → Pid → ℕ → Result Place Fault
 housed kernels processes p kernel =
     if p.0 == processes && nat_lt processes 64 && nat_lt kernel kernels then Ok (Processes kernels (processes + 1)) else Err Form
 
--- where a line may stand: a step where the entry above it says what its line leaves out, a note behind notes of earlier lines
+-- where a line may stand: any step below any entry, a note behind notes of earlier lines
 unfoldable pub next : Place → LineKind → Result Place Fault
 next Start (line.First version) = if version == 1 || version == 2 then Ok Version else Err Form
 next Version (line.Kernels kernels) = if nat_le 1 kernels && nat_le kernels 8 then Ok (Processes kernels 0) else Err Form
@@ -52,8 +49,8 @@ next (Processes kernels processes) (line.Wire first second) = wired processes 0 
 next (Processes kernels processes) k = body k
 next (Wires processes wires) (line.Wire first second) = wired processes wires first second
 next (Wires processes wires) k = body k
-next (Entry what) (line.Service s) = full_step what s >>= λ full. Ok (Entry what)
-next (Entry what) k = body k
+next Entry (line.Service s) = Ok Entry
+next Entry k = body k
 next (Noted before) (line.Note note) = if nat_lt before note.line then Ok (Noted note.line) else Err Form
 next (Noted before) (line.End Quiet) = Ok Over
 next (Noted before) (line.End Unsettled) = Ok Over

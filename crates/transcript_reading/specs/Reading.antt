@@ -86,10 +86,10 @@ with_lines (k ∷ ks) t = with_lines ks t >>= with_line k
 abbrev pub nothing_told : Told
 nothing_told = record { setting = record { version = 0; kernels = 0; homes = []; wires = [] }; steps = []; entries = []; notes = []; last = Quiet }
 
--- what a text tells, each of whose lines may stand where it stands
+-- what a text tells: each line may stand where it stands, and what the line of a step leaves out, the entry above it says
 unfoldable pub told_by : List ℕ → Result Told Fault
 told_by text = do
   lines ← lines_of text
   kinds ← whole_of lines
-  last ← follows kinds Start >>= is_whole
+  whole ← follows kinds Start >>= is_whole
   with_lines kinds nothing_told

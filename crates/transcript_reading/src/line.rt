@@ -20,7 +20,7 @@ pub enum LineKind {
         first: Pid,
         second: Pid,
     },
-    /// A call of a process at its kernel.
+    /// A call of a process at a kernel.
     CallEntry {
         stamp: u64,
         kernel: u8,
