@@ -105,9 +105,13 @@ fn is_performed(alloc: Global, script: Script) -> Result<(), Fail> {
     let mut rest = TranscriptLines::of(alloc, setting, merged, notes, last);
     let mut next = Vec::new(alloc);
     let mut text = Vec::new(alloc);
-    while rest.next_line(&mut next)? {
-        text.extend_from_slice(next.as_slice())?;
+    for byte in TRANSCRIPT.as_bytes() {
+        if *byte == b'\n' {
+            holds(rest.next_line(&mut next)?, "a line")?;
+            text.extend_from_slice(next.as_slice())?;
+        }
     }
+    holds(!rest.next_line(&mut next)?, "nothing behind the last line")?;
     holds(text.as_slice() == TRANSCRIPT.as_bytes(), "the transcript")?;
     Ok(())
 }
