@@ -1,0 +1,154 @@
+//! The ends of two links, and each call of `service_links` on them.
+
+use crate::holding::holds;
+use charlotte_calls::{Bytes, Cause, EndId, Ends, LinkId, Pid, Side, Way};
+use service_links::{
+    Links, cancel_cause, destroy_cause, matched_ends, no_ends, receive_cause, send_cause,
+    waiting_ends,
+};
+use service_step::{Inward, Message, Outward, Place};
+use std::alloc::Global;
+use std::test::Fail;
+
+const P0: Pid = Pid(0);
+
+const P1: Pid = Pid(1);
+
+const LINK: LinkId = LinkId { maker: 0, count: 0 };
+
+const OTHER: LinkId = LinkId { maker: 0, count: 1 };
+
+/// The ends of the first link.
+const A: EndId = EndId {
+    link: LINK,
+    side: Side::A,
+};
+
+const B: EndId = EndId {
+    link: LINK,
+    side: Side::B,
+};
+
+/// The ends of the second link; the messages carry end a of it.
+const C: EndId = EndId {
+    link: OTHER,
+    side: Side::A,
+};
+
+const D: EndId = EndId {
+    link: OTHER,
+    side: Side::B,
+};
+
+fn message() -> Result<Message, Fail> {
+    Ok(Message {
+        bytes: Bytes::from_slice(b"hi").ok_or("bytes")?,
+        carried: Ends::from_slice(&[C]).ok_or("ends")?,
+    })
+}
+
+/// Both links are made: process 0 owns their ends a, process 1 their ends b.
+fn made(alloc: Global) -> Result<Links, Fail> {
+    let mut links = Links::empty(alloc);
+    holds(!links.look(A).place.is_made(), "an end of no link")?;
+    links.add((A, P0), (B, P1))?;
+    links.add((C, P0), (D, P1))?;
+    holds(links.look(D).place == Place::Owned(P1), "an end of a new link")?;
+    Ok(links)
+}
+
+/// Nothing is refused but what is not a process's own, and a Cancel of nothing.
+fn has_causes(links: &Links) -> Result<(), Fail> {
+    holds(
+        destroy_cause(links, P0, A) == None && destroy_cause(links, P1, A) == Some(Cause::NoEnd),
+        "the cause of a Destroy",
+    )?;
+    holds(
+        send_cause(links, P0, A, &[C]) == None
+            && send_cause(links, P0, A, &[D]) == Some(Cause::EncloseNoEnd),
+        "the cause of a Send",
+    )?;
+    holds(receive_cause(links, P1, B) == None, "the cause of a Receive")?;
+    holds(
+        cancel_cause(links, P0, A, Way::Outward) == Some(Cause::NoActivity),
+        "the cause of a Cancel",
+    )
+}
+
+/// The send 1 is taken back, and the send 2 is matched and taken.
+fn carries(links: &mut Links) -> Result<(), Fail> {
+    links.start_send(A, 1, message()?);
+    holds(
+        waiting_ends(&links.look(A).outward).as_slice() == [C].as_slice(),
+        "the ends of a message that waits",
+    )?;
+    holds(
+        links.look(C).place == Place::InMessage(A, 1),
+        "an end in a message",
+    )?;
+    links.withdraw_send(P0, A);
+    holds(
+        links.look(C).place == Place::Owned(P0) && links.look(A).is_idle(),
+        "a send that is taken back",
+    )?;
+    links.start_send(A, 2, message()?);
+    links.turn_inward(Inward::Posted, B);
+    links.match_send(A, 2);
+    holds(
+        matched_ends(&links.look(A).outward).as_slice() == [C].as_slice(),
+        "the ends of a message that is matched",
+    )?;
+    holds(links.look(B).inward == Inward::Matched(2), "a matched receive")?;
+    links.take_message(A, P1);
+    holds(
+        links.look(C).place == Place::Owned(P1) && links.look(A).outward.is_taken(),
+        "a message that is taken",
+    )?;
+    links.turn_outward(Outward::Reported, A);
+    holds(
+        cancel_cause(links, P0, A, Way::Outward) == Some(Cause::Late),
+        "the cause of a Cancel",
+    )?;
+    links.idle(Way::Outward, A);
+    links.idle(Way::Inward, B);
+    holds(
+        links.look(A).is_idle() && links.look(B).is_idle(),
+        "ends that are idle again",
+    )
+}
+
+/// A matched message comes back, the death of its link is noticed, and ends are destroyed.
+fn dies(links: &mut Links) -> Result<(), Fail> {
+    let message = Message {
+        bytes: Bytes::from_slice(b"hi").ok_or("bytes")?,
+        carried: no_ends(),
+    };
+    links.start_send(A, 3, message);
+    links.match_send(A, 3);
+    links.return_message(A);
+    holds(
+        links.look(A).noticed && matches!(links.look(A).outward, Outward::Reported),
+        "a message that came back",
+    )?;
+    links.notice(D);
+    holds(
+        receive_cause(links, P1, D) == Some(Cause::Dead),
+        "the cause of a Receive",
+    )?;
+    links.destroy(A);
+    links.destroy_each(P1, &[B, C]);
+    holds(
+        links.look(A).place.is_destroyed()
+            && links.look(B).place.is_destroyed()
+            && links.look(C).place.is_destroyed(),
+        "ends that are destroyed",
+    )
+}
+
+#[test]
+fn each_call_of_service_links(rt: HostRuntime) -> Result<(), Fail> {
+    let mut links = made(rt.alloc())?;
+    has_causes(&links)?;
+    carries(&mut links)?;
+    dies(&mut links)
+}
