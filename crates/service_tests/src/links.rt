@@ -53,7 +53,10 @@ fn made(alloc: Global) -> Result<Links, Fail> {
     holds(!links.look(A).place.is_made(), "an end of no link")?;
     links.add((A, P0), (B, P1))?;
     links.add((C, P0), (D, P1))?;
-    holds(links.look(D).place == Place::Owned(P1), "an end of a new link")?;
+    holds(
+        links.look(D).place == Place::Owned(P1),
+        "an end of a new link",
+    )?;
     Ok(links)
 }
 
@@ -68,7 +71,10 @@ fn has_causes(links: &Links) -> Result<(), Fail> {
             && send_cause(links, P0, A, &[D]) == Some(Cause::EncloseNoEnd),
         "the cause of a Send",
     )?;
-    holds(receive_cause(links, P1, B) == None, "the cause of a Receive")?;
+    holds(
+        receive_cause(links, P1, B) == None,
+        "the cause of a Receive",
+    )?;
     holds(
         cancel_cause(links, P0, A, Way::Outward) == Some(Cause::NoActivity),
         "the cause of a Cancel",
@@ -98,7 +104,10 @@ fn carries(links: &mut Links) -> Result<(), Fail> {
         matched_ends(&links.look(A).outward).as_slice() == [C].as_slice(),
         "the ends of a message that is matched",
     )?;
-    holds(links.look(B).inward == Inward::Matched(2), "a matched receive")?;
+    holds(
+        links.look(B).inward == Inward::Matched(2),
+        "a matched receive",
+    )?;
     links.take_message(A, P1);
     holds(
         links.look(C).place == Place::Owned(P1) && links.look(A).outward.is_taken(),

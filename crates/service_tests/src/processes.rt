@@ -52,7 +52,10 @@ fn each_call_of_service_processes(rt: HostRuntime) -> Result<(), Fail> {
     )?;
     processes.turn(P, Phase::Cancelling(a));
     processes.wake(P, b);
-    holds(processes.phase(P).is_cancelling(a), "a Cancel of another end")?;
+    holds(
+        processes.phase(P).is_cancelling(a),
+        "a Cancel of another end",
+    )?;
     processes.tell(P, a, Some(report(0)?), None)?;
     holds(
         processes.phase(P).is_running() && processes.has_report(P),
