@@ -6,6 +6,7 @@ use journal_text::TranscriptLines;
 use lynx_plan::{CompactScriptCall, PlanFault, Script, ScriptCall, read_script};
 use script_run::{Performance, perform};
 use std::alloc::Global;
+use std::process::Abort;
 use std::test::Fail;
 
 const SCRIPT: &str = "# one message
@@ -94,9 +95,11 @@ fn is_read(alloc: Global, script: &Script) -> Result<(), Fail> {
     Ok(())
 }
 
-/// The lines are those of the transcript, given line by line.
-fn is_performed(alloc: Global, script: Script) -> Result<(), Fail> {
-    let Script { setting, lines } = script;
+/// The lines that the script gives are those of the transcript.
+fn has_transcript(rt: &impl Abort, alloc: Global) -> Result<(), Fail> {
+    let bytes = SCRIPT.as_bytes();
+    assert!(rt; bytes.len() < 100_000);
+    let Script { setting, lines } = read_script(alloc, bytes)?;
     let Performance {
         merged,
         notes,
@@ -120,7 +123,7 @@ fn is_performed(alloc: Global, script: Script) -> Result<(), Fail> {
 fn a_script_is_read_and_performed(rt: HostRuntime) -> Result<(), Fail> {
     let script = read_script(rt.alloc(), SCRIPT.as_bytes())?;
     is_read(rt.alloc(), &script)?;
-    is_performed(rt.alloc(), script)?;
+    has_transcript(&rt, rt.alloc())?;
     let refused = read_script(rt.alloc(), b"kernels 2\n\ntake 0 2").err();
     holds(
         refused == Some(PlanFault::BadPlan { line: 3, rule: 4 }),
