@@ -20,8 +20,6 @@ BUILT = 4
 LINES_A_SECOND = 40
 # A crate that takes less than this part of its time had its proofs kept from an earlier run, and tells nothing of the machine.
 KEPT = 0.3
-
-
 # The signals that end a build.
 ENDING = (signal.SIGINT, signal.SIGTERM, signal.SIGHUP)
 
@@ -45,8 +43,9 @@ class Build:
         # each crate with all that it stands on
         self.below = {}
         for crate in needs:
-            self.note_below(crate)
-        self.seconds = self.measured() | {crate: self.lines_of(crate) / LINES_A_SECOND for crate in needs if crate not in self.measured()}
+            self.find_below(crate)
+        measured = self.measured()
+        self.seconds = {crate: measured.get(crate) or self.lines_of(crate) / LINES_A_SECOND for crate in needs}
         self.at_once = max(1, (os.cpu_count() or 1) // 2)
         self.proved = set()
         self.running = {}
@@ -59,9 +58,9 @@ class Build:
         self.out = f"{top}/crates/{PROGRAM}/out"
         os.makedirs(self.out, exist_ok=True)
 
-    def note_below(self, crate):
+    def find_below(self, crate):
         if crate not in self.below:
-            self.below[crate] = {crate}.union(*(self.note_below(other) for other in self.needs[crate]))
+            self.below[crate] = {crate}.union(*(self.find_below(other) for other in self.needs[crate]))
         return self.below[crate]
 
     def measured(self):

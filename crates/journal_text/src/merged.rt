@@ -11,7 +11,7 @@ use std::alloc::Global;
 use std::collections::VecDeque;
 use std::marker::Model;
 
-/// The entries of journals in the order of their merge, from which the first is taken each time. Contracts see them as a list.
+/// Entries in the order of a transcript, from which the first is taken each time. Contracts see them as a list.
 #[derive(Debug, Drop)]
 pub struct Merged {
     /// The entries of kernel 0, where it is the only one: its journal is the merge.

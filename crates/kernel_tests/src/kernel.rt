@@ -105,6 +105,87 @@ fn a_message_is_taken(node: &mut Node) -> Result<(), Fail> {
         .gives(6, &[], &[], &[ServiceStep::Complete { on, n }])
 }
 
+/// The call of a process is answered so at once.
+fn is_answered(node: &mut Node, p: Pid, call: Call, want: Answer) -> Result<(), Fail> {
+    node.call(p, call)?;
+    node.answers(p, Some(want))
+}
+
+/// A Cancel by process 1 of its receive waits.
+fn a_cancel_waits(node: &mut Node) -> Result<(), Fail> {
+    let (on, way) = (B, Way::Inward);
+    node.call(P1, Call::Cancel { on, way })?;
+    holds(node.phase(P1)? == (false, true), "whether a process waits")?;
+    node.answers(P1, None)
+}
+
+fn send() -> Result<Call, Fail> {
+    Ok(Call::Send {
+        on: A,
+        bytes: text(b"hello")?,
+        enclose: no_ends()?,
+    })
+}
+
+/// The report Done of an activity.
+fn done(on: EndId, way: Way, bytes: &[u8]) -> Result<Answer, Fail> {
+    Ok(Answer::Reported(Report {
+        on,
+        way,
+        outcome: Outcome::Done,
+        bytes: text(bytes)?,
+        enclosed: no_ends()?,
+    }))
+}
+
+/// A Cancel is answered when the opposite end has heard it, when a message was faster, and when the link died.
+fn cancels_are_answered(node: &mut Node) -> Result<(), Fail> {
+    is_answered(node, P1, Call::Receive { on: B }, Answer::Ok)?;
+    a_cancel_waits(node)?;
+    // want, unwant, unwanted
+    node.take()?;
+    node.take()?;
+    node.take()?;
+    node.answers(P1, Some(Answer::Ok))?;
+    is_answered(node, P1, Call::Receive { on: B }, Answer::Ok)?;
+    is_answered(node, P0, send()?, Answer::Ok)?;
+    // want
+    node.take()?;
+    a_cancel_waits(node)?;
+    // parcel
+    node.take()?;
+    node.answers(P1, Some(Answer::Refused(Cause::Late)))?;
+    // unwant, taken
+    node.take()?;
+    node.take()?;
+    let received = done(B, Way::Inward, b"hello")?;
+    is_answered(node, P1, Call::Wait, received)?;
+    is_answered(node, P1, Call::Receive { on: B }, Answer::Ok)?;
+    a_cancel_waits(node)?;
+    is_answered(node, P0, Call::Destroy { on: A }, Answer::Ok)?;
+    // want, unwant, gone
+    node.take()?;
+    node.take()?;
+    node.take()?;
+    node.answers(P1, Some(Answer::Refused(Cause::Dead)))
+}
+
+/// The answers that stand after the calls of the processes, behind a message that was taken.
+fn calls_are_answered(node: &mut Node) -> Result<(), Fail> {
+    let sent = done(A, Way::Outward, b"")?;
+    is_answered(node, P0, Call::Wait, sent)?;
+    is_answered(node, P0, Call::Wait, Answer::Refused(Cause::NoActivity))?;
+    let bytes = text(b"hi")?;
+    is_answered(node, P0, Call::Print { bytes }, Answer::Ok)?;
+    is_answered(node, P0, send()?, Answer::Ok)?;
+    is_answered(node, P0, send()?, Answer::Refused(Cause::Busy))?;
+    let (on, way) = (A, Way::Outward);
+    is_answered(node, P0, Call::Cancel { on, way }, Answer::Ok)?;
+    cancels_are_answered(node)?;
+    is_answered(node, P0, Call::Exit, Answer::Ok)?;
+    holds(node.phase(P0)? == (false, false), "whether a process runs")
+}
+
 /// A packet that no kernel sent: the receive 3 asks an end, from a kernel.
 fn stray(stamp: u64, to: EndId, at: u8) -> Packet {
     let (w, hops) = (3, 0);
@@ -156,5 +237,9 @@ fn a_kernel_does_calls_and_takes_packets(rt: HostRuntime) -> Result<(), Fail> {
         "a destroyed end",
     )?;
     node.call(P0, Call::Destroy { on: A })?;
-    node.answers(P0, Some(Answer::Refused(Cause::NoEnd)))
+    node.answers(P0, Some(Answer::Refused(Cause::NoEnd)))?;
+    let mut other = Node::start(rt.alloc())?;
+    a_message_is_sent(&mut other)?;
+    a_message_is_taken(&mut other)?;
+    calls_are_answered(&mut other)
 }

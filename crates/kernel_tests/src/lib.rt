@@ -8,10 +8,6 @@ mod holding;
 #[cfg(test)]
 mod kernel;
 #[cfg(test)]
-mod messages;
-#[cfg(test)]
-mod moves;
-#[cfg(test)]
 mod node;
 #[cfg(test)]
 mod packets;
@@ -21,7 +17,5 @@ mod programs;
 mod samples;
 #[cfg(test)]
 mod settings;
-#[cfg(test)]
-mod table;
 #[cfg(test)]
 mod values;

@@ -10,8 +10,10 @@ use std::test::Fail;
 #[test]
 fn lists_keep_their_limits(rt: HostRuntime) -> Result<(), Fail> {
     let bytes = [7; 257];
-    let ends = [EndId::default(); 9];
-    let values = [MovingPicture::default(); 9];
+    let mut ends = [EndId::default(); 9];
+    ends[7].side = Side::B;
+    let mut values = [MovingPicture::default(); 9];
+    values[7].hops = 1;
     for count in [0, 1, 256, 257] {
         let some = bytes.get(..count).ok_or("a longer slice")?;
         let kept = Bytes::from_slice(some).map(|list| list.copy().as_slice() == some);
@@ -117,7 +119,7 @@ fn a_value_keeps_its_fields(_rt: HostRuntime) -> Result<(), Fail> {
     let mut cargo = Cargo::empty();
     cargo.add(b);
     cargo.add(a);
-    let carried = cargo.picture().as_slice() == cargo.values();
+    let carried = cargo.len() == 2 && cargo.picture().as_slice() == cargo.values();
     let named = (cargo.addressed(4), cargo.addressed(3));
     let first = destroyed(cargo.next());
     let second = destroyed(cargo.next());

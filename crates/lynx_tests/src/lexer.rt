@@ -1,5 +1,5 @@
 use crate::holding::holds;
-use lynx_lexer::{Kind, LexFault, Token, tokens};
+use lynx_lexer::{Ident, Kind, LexFault, TextLit, Token, tokens};
 use std::alloc::{AllocError, Global};
 use std::fmt::Write;
 use std::str;
@@ -48,8 +48,30 @@ fn answer(alloc: Global, source: &str) -> Result<String, AllocError> {
     Ok(text)
 }
 
+/// Names have 1 to 32 bytes, texts at most 64.
+fn names_and_texts_have_limits() -> Result<(), Fail> {
+    for length in [0, 1, 32, 33] {
+        let name = Ident::from_slice(&[b'x'; 33][..length]);
+        let kept = name.map(|name| name.as_slice().len());
+        holds(
+            kept == (1..=32).contains(&length).then_some(length),
+            "what a name keeps",
+        )?;
+    }
+    for length in [0, 1, 64, 65] {
+        let text = TextLit::from_slice(&[b'x'; 65][..length]);
+        let kept = text.map(|text| text.as_slice().len());
+        holds(
+            kept == (length <= 64).then_some(length),
+            "what a text keeps",
+        )?;
+    }
+    Ok(())
+}
+
 #[test]
 fn sources_have_their_tokens_or_first_fault(rt: HostRuntime) -> Result<(), Fail> {
+    names_and_texts_have_limits()?;
     for (source, want) in [
         ("module m;", "module@0-6 <m>@7-8 ;@8-9 "),
         ("x:=7-2", "<x>@0-1 :=@1-3 7@3-4 -@4-5 2@5-6 "),

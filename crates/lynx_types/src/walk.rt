@@ -1,4 +1,4 @@
-//! A walk over the tokens of a module.
+//! A walk over the tokens of a module. It and the files that cite it are the beginning of `check`; nothing calls them yet.
 
 ghost use Rattle.std.specs.Prelude.{◌≡◌, ◌+◌, ◌<◌, None};
 ghost use Rattle.lynx_types.specs.Rules.{demand};

@@ -1,10 +1,11 @@
-//! Service lines and packets with several ends or values, and the greatest numbers. Each other form is shown by the rows of .ci/rows/runs.
+//! Service lines and packets: those with several ends or values, the greatest numbers, and one of each kind, copied. Other forms of
+//! them are shown by the rows of .ci/rows/runs.
 
 use crate::holding::holds;
 use crate::journals::{asked, ends, same_lines, text};
 use charlotte_calls::{
-    Call, CargoPicture, EndId, LinkId, MovingPicture, Outcome, Picture, PictureWhat, Pid, Report,
-    ServiceStep, Side, Way,
+    Call, CargoPicture, Cause, EndId, LinkId, MovingPicture, Outcome, Picture, PictureWhat, Pid,
+    Report, ServiceStep, Side, Way,
 };
 use compact_calls::{CompactPicture, CompactStep};
 use journal_text::{Placed, print_entry, print_picture};
@@ -58,6 +59,68 @@ fn value(dead: bool) -> MovingPicture {
     }
 }
 
+/// The kinds of steps without bytes and lists.
+fn short_steps() -> [(ServiceStep, &'static str); 14] {
+    let (on, n, p, way) = (A, 2, Pid(1), Way::Outward);
+    let (call, cause) = (Call::Make, Cause::NoEnd);
+    [
+        (ServiceStep::Make { p, a: A, b: B }, ". make 0.1a 12.345b\n"),
+        (
+            ServiceStep::Refuse { p, call, cause },
+            ". refuse p1 NoEnd\n",
+        ),
+        (ServiceStep::Destroy { on: B }, ". destroy 12.345b\n"),
+        (ServiceStep::Receive { on }, ". receive 0.1a\n"),
+        (ServiceStep::Cancel { on, way }, ". cancel 0.1a out\n"),
+        (ServiceStep::Wait { p: Pid(9) }, ". wait p9\n"),
+        (ServiceStep::Exit { p: Pid(10) }, ". exit p10\n"),
+        (ServiceStep::Match { on, n }, ". match 0.1a 2\n"),
+        (
+            ServiceStep::Take {
+                on,
+                n,
+                p,
+                late: true,
+            },
+            ". take 0.1a 2 p1 late\n",
+        ),
+        (ServiceStep::Complete { on, n }, ". complete 0.1a 2\n"),
+        (ServiceStep::Withdraw { on }, ". withdraw 0.1a\n"),
+        (ServiceStep::Free { on }, ". free 0.1a\n"),
+        (
+            ServiceStep::Notice { on, dead: true },
+            ". notice 0.1a dead\n",
+        ),
+        (
+            ServiceStep::Back { on, n, dead: true },
+            ". back 0.1a 2 dead\n",
+        ),
+    ]
+}
+
+/// The kinds of packets without bytes.
+fn short_packets() -> Result<[(PictureWhat, &'static str); 9], Fail> {
+    let (to, w, n, at, hops) = (A, 1, 1, 2, 3);
+    let moving = CargoPicture::from_slice(&[value(true)]).ok_or("values")?;
+    Ok([
+        (PictureWhat::Want { to, w, at, hops }, "want 0.1a 1 2 3"),
+        (PictureWhat::Unwant { to, w, at, hops }, "unwant 0.1a 1 2 3"),
+        (
+            PictureWhat::Unwanted { to, w, at, hops },
+            "unwanted 0.1a 1 2 3",
+        ),
+        (PictureWhat::Taken { to, n, at, hops }, "taken 0.1a 1 2 3"),
+        (
+            PictureWhat::Back { to, n, moving },
+            "back 0.1a 1 +12.345b:1:2:3:4:5:6:7:1:255",
+        ),
+        (PictureWhat::Moved { to, at, hops }, "moved 0.1a 2 3"),
+        (PictureWhat::Known { to, hops }, "known 0.1a 3"),
+        (PictureWhat::Forget { to, hops }, "forget 0.1a 3"),
+        (PictureWhat::GoneSeen { to }, "goneseen 0.1a"),
+    ])
+}
+
 #[test]
 fn steps_and_packets_have_their_lines(rt: HostRuntime) -> Result<(), Fail> {
     let alloc = rt.alloc();
@@ -95,5 +158,12 @@ fn steps_and_packets_have_their_lines(rt: HostRuntime) -> Result<(), Fail> {
     let want =
         "parcel 0.1a 1 2 3 4 %00%7E +12.345b:1:2:3:4:5:6:7:0:255 +12.345b:1:2:3:4:5:6:7:1:255";
     has_text(alloc, parcel, want)?;
-    has_text(alloc, PictureWhat::Gone { to: B, at: 2 }, "gone 12.345b 2")
+    has_text(alloc, PictureWhat::Gone { to: B, at: 2 }, "gone 12.345b 2")?;
+    for (step, line) in &short_steps() {
+        has_line(alloc, step, line)?;
+    }
+    for (what, want) in short_packets()? {
+        has_text(alloc, what, want)?;
+    }
+    Ok(())
 }

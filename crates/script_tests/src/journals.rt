@@ -111,6 +111,9 @@ fn are_printed(alloc: Global, merged: &[Placed]) -> Result<(), Fail> {
         "wire 0 1\n",
         "1 k0 p0 make\n",
         ". make 0.0a 0.0b\n",
+        "1 k1 p0 make\n",
+        ". make 0.0a 0.0b\n",
+        "2 k1 from 0 goneseen 0.0a\n",
         "note 7 nothing\n",
         "note 4294967295 waits\n",
         "spent 3\n",
@@ -132,7 +135,7 @@ fn journals_are_merged_by_stamp_and_then_by_kernel(rt: HostRuntime) -> Result<()
     let wanted = [(1, 0), (1, 1), (2, 1), (2, 2), (3, 2), (4, 0)];
     let merged = merge(alloc, &journals)?;
     same_order(&merged, &wanted)?;
-    are_printed(alloc, merged.get(..1).ok_or("no entry")?)?;
+    are_printed(alloc, merged.get(..3).ok_or("no entry")?)?;
     same_order(&merge_whole(alloc, journals)?, &wanted)?;
     Ok(())
 }

@@ -127,7 +127,7 @@ fn a_script_is_read_and_performed(rt: HostRuntime) -> Result<(), Fail> {
     let refused = read_script(rt.alloc(), b"kernels 2\n\ntake 0 2").err();
     holds(
         refused == Some(PlanFault::BadPlan { line: 3, rule: 4 }),
-        "the causes of a call",
+        "the line and the rule of a script that is refused",
     )?;
     Ok(())
 }

@@ -24,7 +24,8 @@ impl Processes {
         Ok(())
     }
 
-    /// Each of these ends is noted among those of a process, also as one with an activity.
+    /// Each of these ends is noted among those of a process, also as one with an activity. After want of memory some of them may be
+    /// noted.
     pub fn learn_each(&mut self, p: Pid, ends: &[EndId]) -> Result<(), NoMemory>
         requires { HasProcess self.old p }
         ensures process { process_of self.new ≡ process_of self.old }

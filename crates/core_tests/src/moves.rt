@@ -6,7 +6,7 @@ ghost use Rattle.kernel_step.specs.Progress.{HasRoom};
 
 use crate::holding::holds;
 use crate::samples::{END, OWNER, TO, ample, end_a, kept, sends, view};
-use charlotte_calls::{Cargo, EndId, LinkId, NoMemory, PictureWhat, Side, Work};
+use charlotte_calls::{Cargo, EndId, LinkId, NoMemory, Packet, PictureWhat, Side, What, Work};
 use end_table::{Holder, Inward, Lent, Outward, Table};
 use move_core::{
     Route, arrive, destroy, enclose, forget, give_back, gone_seen, known, leave, moved, room, route,
@@ -99,6 +99,46 @@ fn comes_back(alloc: Global) -> Result<(), Fail> {
     )
 }
 
+/// The carried end comes with a message that is not asked for, and goes back with it.
+fn goes_back(alloc: Global) -> Result<(), Fail> {
+    let mut table = kept(alloc, view(0, Outward::Idle, Inward::Idle))?;
+    let mut out = ample(alloc)?;
+    if is_expected(&mut table)? {
+        arrive_once(&mut table, &mut out);
+    }
+    holds(
+        route(&table, CARRIED) == Route::Forward(3),
+        "the way to an end that went back",
+    )?;
+    match out.packets.first() {
+        Some(
+            (
+                3,
+                Packet {
+                    what: What::Back { n, moving, .. },
+                    ..
+                },
+            ),
+        ) => holds(*n == 4 && moving.len() == 1, "a message that goes back"),
+        _ => Err("nothing goes back".into()),
+    }
+}
+
+/// A message comes back that was not sent, and its end is destroyed.
+fn comes_back_to_nobody(alloc: Global) -> Result<(), Fail> {
+    let mut table = kept(alloc, view(0, Outward::Idle, Inward::Idle))?;
+    let mut out = ample(alloc)?;
+    if is_expected(&mut table)? {
+        return_once(&mut table, &mut out);
+    }
+    holds(
+        matches!(table.lend(CARRIED), Lent::Destroyed(_)),
+        "an end that came back to nobody",
+    )?;
+    let to = CARRIED.opposite();
+    sends(alloc, &out, 3, &PictureWhat::Gone { to, at: 0 })
+}
+
 /// An end is enclosed.
 fn encloses(alloc: Global) -> Result<(), Fail> {
     let mut table = kept(alloc, view(0, Outward::Idle, Inward::Idle))?;
@@ -168,6 +208,8 @@ fn each_call_of_move_core(rt: HostRuntime) -> Result<(), Fail> {
     let alloc = rt.alloc();
     arrives(alloc)?;
     comes_back(alloc)?;
+    goes_back(alloc)?;
+    comes_back_to_nobody(alloc)?;
     encloses(alloc)?;
     leaves(alloc)?;
     learns(alloc)?;
