@@ -1,9 +1,10 @@
 //! Reading expressions.
 
 ghost use Rattle.std.specs.Prelude.{◌≡◌, ℕ, map, option_map};
-ghost use Rattle.lynx_descent.specs.Reading.{Reads};
+ghost use Rattle.lynx_descent.specs.Reading.{Reads, and_then, number, pure, text};
 ghost use Rattle.lynx_descent.specs.ReadingExpressions as spec;
 ghost use Rattle.lynx_descent.specs.ReadingExpressions.{inside};
+ghost use Rattle.lynx_tree.specs.Trees as trees;
 ghost use Rattle.lynx_tree.specs.Trees.{expr_tree, boxed_tree};
 
 use crate::make_expression::{
@@ -54,6 +55,18 @@ impl<'t, 'a> Reader<'t, 'a> {
             Ahead::Keyword(Keyword::Mod) => Some(TermSign::Mod),
             _ => None,
         }
+    }
+
+    fn number_expr(&mut self) -> Result<Expr<'a>, Refusal>
+        ensures { Reads expr_tree (and_then (number self.old) (λ n. pure (trees.Number n))) result self.new }
+    {
+        Ok(Expr::Number(self.number()?))
+    }
+
+    fn text_expr(&mut self) -> Result<Expr<'a>, Refusal>
+        ensures { Reads expr_tree (and_then (text self.old) (λ inside. pure (trees.Text inside))) result self.new }
+    {
+        Ok(Expr::Text(self.text()?))
     }
 
     /// Reads an expression, inside which `room` more brackets may be open.
@@ -245,8 +258,8 @@ impl<'t, 'a> Reader<'t, 'a> {
                 bracket_of(self.alloc(), inner)
             }
             Ahead::Name => self.named(room),
-            Ahead::Number => Ok(Expr::Number(self.number()?)),
-            Ahead::Text => Ok(Expr::Text(self.text()?)),
+            Ahead::Number => self.number_expr(),
+            Ahead::Text => self.text_expr(),
             _ => Err(self.refuse()),
         }
     }

@@ -1,6 +1,6 @@
 //! Reading statements.
 
-ghost use Rattle.std.specs.Prelude.{◌≡◌, ℕ, map, option_map};
+ghost use Rattle.std.specs.Prelude.{◌≡◌, ℕ, drop, map, option_map};
 ghost use Rattle.lynx_descent.specs.Reading.{Reads, and_then, name, pure};
 ghost use Rattle.lynx_descent.specs.ReadingExpressions.{inside, expr};
 ghost use Rattle.lynx_descent.specs.ReadingStatements as spec;
@@ -42,8 +42,9 @@ impl<'t, 'a> Reader<'t, 'a> {
 
     #[tactic(auto, unfolding(lynx_descent::specs::ReadingStatements::new))]
     fn new_link(&mut self) -> Result<Stmt<'a>, Refusal>
-        ensures { Reads stmt_tree (spec.new self.old) result self.new }
+        ensures { Reads stmt_tree (spec.new (drop 1 self.old)) result self.new }
     {
+        self.advance();
         let first = self.name()?;
         self.sign(Sign::Comma)?;
         let second = self.name()?;
@@ -52,8 +53,9 @@ impl<'t, 'a> Reader<'t, 'a> {
 
     #[tactic(auto, unfolding(lynx_descent::specs::ReadingStatements::connect))]
     fn connect(&mut self, room: usize) -> Result<Stmt<'a>, Refusal>
-        ensures { Reads stmt_tree (spec.connect room self.old) result self.new }
+        ensures { Reads stmt_tree (spec.connect room (drop 1 self.old)) result self.new }
     {
+        self.advance();
         let (op, link) = self.pair(Keyword::On)?;
         let values = self.values(room)?;
         self.sign(Sign::Colon)?;
@@ -63,45 +65,52 @@ impl<'t, 'a> Reader<'t, 'a> {
 
     #[tactic(auto, unfolding(lynx_descent::specs::ReadingStatements::reply))]
     fn reply(&mut self, room: usize) -> Result<Stmt<'a>, Refusal>
-        ensures { Reads stmt_tree (spec.reply room self.old) result self.new }
+        ensures { Reads stmt_tree (spec.reply room (drop 1 self.old)) result self.new }
     {
+        self.advance();
         Ok(reply_of(self.values(room)?))
     }
 
     fn write(&mut self, room: usize) -> Result<Stmt<'a>, Refusal>
-        ensures { Reads stmt_tree (and_then (expr (inside room) self.old) (λ e. pure (trees.Write e))) result self.new }
+        ensures { Reads stmt_tree (and_then (expr (inside room) (drop 1 self.old)) (λ e. pure (trees.Write e))) result self.new }
     {
+        self.advance();
         Ok(Stmt::Write(self.expr(room)?))
     }
 
     fn await_stmt(&mut self, room: usize) -> Result<Stmt<'a>, Refusal>
-        ensures { Reads stmt_tree (and_then (expr (inside room) self.old) (λ e. pure (trees.Await e))) result self.new }
+        ensures { Reads stmt_tree (and_then (expr (inside room) (drop 1 self.old)) (λ e. pure (trees.Await e))) result self.new }
     {
+        self.advance();
         Ok(Stmt::Await(self.expr(room)?))
     }
 
     fn raise(&mut self) -> Result<Stmt<'a>, Refusal>
-        ensures { Reads stmt_tree (and_then (name self.old) (λ n. pure (trees.Raise n))) result self.new }
+        ensures { Reads stmt_tree (and_then (name (drop 1 self.old)) (λ n. pure (trees.Raise n))) result self.new }
     {
+        self.advance();
         Ok(Stmt::Raise(self.name()?))
     }
 
     fn destroy(&mut self) -> Result<Stmt<'a>, Refusal>
-        ensures { Reads stmt_tree (and_then (name self.old) (λ n. pure (trees.Destroy n))) result self.new }
+        ensures { Reads stmt_tree (and_then (name (drop 1 self.old)) (λ n. pure (trees.Destroy n))) result self.new }
     {
+        self.advance();
         Ok(Stmt::Destroy(self.name()?))
     }
 
     fn bind(&mut self) -> Result<Stmt<'a>, Refusal>
-        ensures { Reads stmt_tree (and_then (spec.pair keywords.To self.old) (λ p. pure (trees.Bind p.0 p.1))) result self.new }
+        ensures { Reads stmt_tree (and_then (spec.pair keywords.To (drop 1 self.old)) (λ p. pure (trees.Bind p.0 p.1))) result self.new }
     {
+        self.advance();
         let (link, entry) = self.pair(Keyword::To)?;
         Ok(Stmt::Bind { link, entry })
     }
 
     fn unbind(&mut self) -> Result<Stmt<'a>, Refusal>
-        ensures { Reads stmt_tree (and_then (spec.pair keywords.From self.old) (λ p. pure (trees.Unbind p.0 p.1))) result self.new }
+        ensures { Reads stmt_tree (and_then (spec.pair keywords.From (drop 1 self.old)) (λ p. pure (trees.Unbind p.0 p.1))) result self.new }
     {
+        self.advance();
         let (link, entry) = self.pair(Keyword::From)?;
         Ok(Stmt::Unbind { link, entry })
     }
@@ -178,62 +187,23 @@ impl<'t, 'a> Reader<'t, 'a> {
     {
         match self.peek() {
             Ahead::Name => self.assign(room),
-            Ahead::Keyword(Keyword::If) => {
-                self.advance();
-                self.choice(room)
-            }
-            Ahead::Keyword(Keyword::While) => {
-                self.advance();
-                self.repetition(room)
-            }
-            Ahead::Keyword(Keyword::Write) => {
-                self.advance();
-                self.write(room)
-            }
-            Ahead::Keyword(Keyword::Await) => {
-                self.advance();
-                self.await_stmt(room)
-            }
+            Ahead::Keyword(Keyword::If) => self.choice(room),
+            Ahead::Keyword(Keyword::While) => self.repetition(room),
+            Ahead::Keyword(Keyword::Write) => self.write(room),
+            Ahead::Keyword(Keyword::Await) => self.await_stmt(room),
             Ahead::Keyword(Keyword::Stop) => {
                 self.advance();
                 Ok(Stmt::Stop)
             }
-            Ahead::Keyword(Keyword::Raise) => {
-                self.advance();
-                self.raise()
-            }
-            Ahead::Keyword(Keyword::New) => {
-                self.advance();
-                self.new_link()
-            }
-            Ahead::Keyword(Keyword::Destroy) => {
-                self.advance();
-                self.destroy()
-            }
-            Ahead::Keyword(Keyword::Bind) => {
-                self.advance();
-                self.bind()
-            }
-            Ahead::Keyword(Keyword::Unbind) => {
-                self.advance();
-                self.unbind()
-            }
-            Ahead::Keyword(Keyword::Connect) => {
-                self.advance();
-                self.connect(room)
-            }
-            Ahead::Keyword(Keyword::Accept) => {
-                self.advance();
-                self.accept(room)
-            }
-            Ahead::Keyword(Keyword::Reply) => {
-                self.advance();
-                self.reply(room)
-            }
-            Ahead::Keyword(Keyword::Try) => {
-                self.advance();
-                self.attempt(room)
-            }
+            Ahead::Keyword(Keyword::Raise) => self.raise(),
+            Ahead::Keyword(Keyword::New) => self.new_link(),
+            Ahead::Keyword(Keyword::Destroy) => self.destroy(),
+            Ahead::Keyword(Keyword::Bind) => self.bind(),
+            Ahead::Keyword(Keyword::Unbind) => self.unbind(),
+            Ahead::Keyword(Keyword::Connect) => self.connect(room),
+            Ahead::Keyword(Keyword::Accept) => self.accept(room),
+            Ahead::Keyword(Keyword::Reply) => self.reply(room),
+            Ahead::Keyword(Keyword::Try) => self.attempt(room),
             _ => Err(self.refuse()),
         }
     }
@@ -241,8 +211,9 @@ impl<'t, 'a> Reader<'t, 'a> {
     #[cycle(read_statement)]
     #[tactic(auto, unfolding(lynx_descent::specs::ReadingStatements::choice))]
     fn choice(&mut self, room: usize) -> Result<Stmt<'a>, Refusal>
-        ensures { Reads stmt_tree (spec.choice room (stmts room) self.old) result self.new }
+        ensures { Reads stmt_tree (spec.choice room (stmts room) (drop 1 self.old)) result self.new }
     {
+        self.advance();
         let condition = self.condition(room)?;
         self.keyword(Keyword::Then)?;
         let then = self.stmts(room)?;
@@ -267,8 +238,9 @@ impl<'t, 'a> Reader<'t, 'a> {
     #[cycle(read_statement)]
     #[tactic(auto, unfolding(lynx_descent::specs::ReadingStatements::repetition))]
     fn repetition(&mut self, room: usize) -> Result<Stmt<'a>, Refusal>
-        ensures { Reads stmt_tree (spec.repetition room (stmts room) self.old) result self.new }
+        ensures { Reads stmt_tree (spec.repetition room (stmts room) (drop 1 self.old)) result self.new }
     {
+        self.advance();
         let condition = self.expr(room)?;
         self.keyword(Keyword::Do)?;
         let body = self.stmts(room)?;
@@ -279,8 +251,9 @@ impl<'t, 'a> Reader<'t, 'a> {
     #[cycle(read_statement)]
     #[tactic(auto, unfolding(lynx_descent::specs::ReadingStatements::accept))]
     fn accept(&mut self, room: usize) -> Result<Stmt<'a>, Refusal>
-        ensures { Reads stmt_tree (spec.accept room (stmts room) self.old) result self.new }
+        ensures { Reads stmt_tree (spec.accept room (stmts room) (drop 1 self.old)) result self.new }
     {
+        self.advance();
         let (op, link) = self.pair(Keyword::On)?;
         let names = self.names(room)?;
         self.keyword(Keyword::Do)?;
@@ -292,8 +265,9 @@ impl<'t, 'a> Reader<'t, 'a> {
     #[cycle(read_statement)]
     #[tactic(auto, unfolding(lynx_descent::specs::ReadingStatements::attempt))]
     fn attempt(&mut self, room: usize) -> Result<Stmt<'a>, Refusal>
-        ensures { Reads stmt_tree (spec.attempt (stmts room) self.old) result self.new }
+        ensures { Reads stmt_tree (spec.attempt (stmts room) (drop 1 self.old)) result self.new }
     {
+        self.advance();
         let body = self.stmts(room)?;
         let handlers = self.handlers(room)?;
         self.keyword(Keyword::End)?;
