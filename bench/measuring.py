@@ -51,6 +51,14 @@ def plain(name):
     return compiled(os.path.join('plain', name + '.rs'), ['rustc', '-O', '--edition', '2021'])
 
 
+def tests_types(program, folder):
+    """Whether a program for `check` tests the typing rules: a name that is nowhere declared tells."""
+    name = os.path.join(folder, 'm')
+    with open(name, 'w') as file:
+        file.write('module m; begin write undeclared; end.\n')
+    return subprocess.run([*program, name], stdin=subprocess.DEVNULL, capture_output=True).returncode != 0
+
+
 def stay_on_one_processor():
     """This process and those that it starts keep to one processor, where the system has that."""
     if hasattr(os, 'sched_setaffinity'):

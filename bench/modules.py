@@ -1,8 +1,8 @@
 """Random modules of the language: well typed ones, and ones with slips.
 
-A module without slips obeys all rules. A slip is a choice that goes wrong: a name of another kind or type, a value of another type, one more or
-one less in a list, a row or a message that is too long, a reply where there is no request. `broken` changes a token or two, so that also the
-tokens, the grammar and the nesting fail.
+A module without slips obeys all rules. A slip is a choice that goes wrong: a name of another kind or type, a value of another type, one
+more or one less in a list, a row or a message that is too long, a reply where there is no request. `broken` changes a token or two, so that
+also the tokens, the grammar and the nesting fail.
 """
 from random import Random
 
@@ -12,7 +12,7 @@ LONG = 'a_name_that_has_32_bytes_as_most_'
 NAMES = [*'abcdefghijklmnpqrs', 'x1', 'x_', 'int1', 'End', 'divide', 'DIVIDE', LONG[:32], LONG[:31], LONG[:31] + 'S']
 TEXTS = ["''", "'a'", "'--'", "'two words'", "'" + 'x' * 64 + "'"]
 NUMBERS = ['0', '1', '7', '007', '9223372036854775807']
-SIGNS = [';', ',', '(', ')', '[', ']', ':', ':=', '=', '<', '+', '-', '*', '.', 'and', 'not', 'end', 'begin', 'var', 'true', '1', "'t'", '#', "'"]
+SIGNS = [*';,()[]:=<+-*.', ':=', 'and', 'not', 'end', 'begin', 'var', 'true', '1', "'t'", '#', "'"]
 # Pairs of tokens that are read as another token where nothing stands between them.
 JOINED = {':=', '<>', '<=', '>=', '--'}
 WIDTHS = {INT: 9, BOOL: 2, TEXT: 66, LINK: 1}
@@ -31,6 +31,11 @@ def width(kind):
 
 def spelled(kind):
     return ['row', str(kind)] if is_row(kind) else [kind]
+
+
+def signature(name, kinds, results):
+    both = (','.join(''.join(spelled(kind)) for kind in kinds) for kinds in (kinds, results))
+    return name + ':'.join(f'({kinds})' for kinds in both)
 
 
 def with_commas(items):
@@ -105,8 +110,7 @@ class Maker:
         results = self.kinds(MOST_PACKET - 6)
         kinds = self.kinds(MOST_PACKET)
         name = self.declare(self.names, 'op', (kinds, results))
-        signature = lambda: f'{name}({",".join("".join(spelled(kind)) for kind in kinds)}):({",".join("".join(spelled(kind)) for kind in results)})'
-        while 6 + len(signature()) + sum(map(width, kinds)) > MOST_PACKET and not self.slips():
+        while 6 + len(signature(name, kinds, results)) + sum(map(width, kinds)) > MOST_PACKET and not self.slips():
             (kinds or results).pop()
         return ['op', name, *with_commas(map(spelled, kinds)), ':', *with_commas(map(spelled, results)), ';']
 
@@ -123,7 +127,8 @@ class Maker:
         self.locals = {}
         count = max(len(kinds) + (self.pick([-1, 1]) if self.slips() else 0), 0)
         parameters = [self.declare(self.locals, 'var', kinds[i] if i < len(kinds) else INT) for i in range(count)]
-        head = ['entry', name, 'of', op, *with_commas([parameter] for parameter in parameters), *self.variables(self.locals, self.random.randint(0, 3))]
+        head = ['entry', name, 'of', op, *with_commas([parameter] for parameter in parameters)]
+        head += self.variables(self.locals, self.random.randint(0, 3))
         body = self.statements(DEPTH, results if results is not None else [])
         self.locals = {}
         return [*head, 'begin', *body, 'end', ';']
@@ -138,9 +143,9 @@ class Maker:
         tokens += self.variables(self.names, self.random.randint(0, 7))
         ops = [name for name in self.names if self.names[name][0] == 'op'] or ([self.any_name()] if self.slips() else [])
         # entries are declared first, since an entry may name a later one
-        heads = [(self.declare(self.names, 'entry', None), self.any_name() if self.slips() else self.pick(ops)) for _ in range(len(ops) and self.random.randint(0, 3))]
-        for name, op in heads:
-            tokens += self.entry(name, op)
+        entries = [self.declare(self.names, 'entry', None) for _ in range(self.random.randint(0, 3) if ops else 0)]
+        for name in entries:
+            tokens += self.entry(name, self.any_name() if self.slips() else self.pick(ops))
         return [*tokens, 'begin', *self.statements(DEPTH, None), 'end', '.']
 
     # ------------------------------------------------------------ statements
@@ -292,8 +297,8 @@ class Maker:
     def truth(self, depth):
         member = lambda: self.relation(depth) if self.one_in(2) else self.member(BOOL, depth)
         both = lambda: self.chain(BOOL, ['and'], depth, member)
-        forms = [lambda: self.relation(depth), lambda: ['not', *self.member(BOOL, depth)], both, lambda: self.chain(BOOL, ['or'], depth, both)]
-        return self.pick(forms)()
+        either = lambda: self.chain(BOOL, ['or'], depth, both)
+        return self.pick([lambda: self.relation(depth), lambda: ['not', *self.member(BOOL, depth)], both, either])()
 
     # ------------------------------------------------------------ texts
 
