@@ -815,6 +815,11 @@ enum Meaning {
 
 type Names<'a> = HashMap<&'a [u8], Meaning, BuildHasherDefault<NameHasher>>;
 
+/// A table with room for so many names.
+fn names<'a>(count: usize) -> Names<'a> {
+    Names::with_capacity_and_hasher(count, BuildHasherDefault::default())
+}
+
 /// Whether a name is there already; where it is not, it gets its meaning.
 fn is_there<'a>(names: &mut Names<'a>, text: &'a [u8], meaning: Meaning) -> bool {
     let before = names.len();
@@ -904,7 +909,7 @@ impl<'a> Typing<'a> {
         for entry in &module.entries {
             self.entry(entry);
         }
-        self.locals = Names::default();
+        self.locals = names(0);
         self.statements(&module.body, Answers::Nothing);
     }
 
@@ -927,7 +932,7 @@ impl<'a> Typing<'a> {
     }
 
     fn entry(&mut self, entry: &'a EntryDecl) {
-        self.locals = Names::default();
+        self.locals = names(entry.parameters.len() + entry.vars.len());
         let op = match self.names.get(self.text(entry.op)) {
             Some(&Meaning::Op(number)) => Some(&self.module.ops[number as usize]),
             _ => None,
@@ -1172,7 +1177,8 @@ fn widest(types: &[TypeName]) -> u64 {
 }
 
 fn typing(source: &[u8], module: &Module) -> Answer<()> {
-    let mut typing = Typing { source, module, names: Names::default(), locals: Names::default(), first: None };
+    let count = module.ops.len() + module.params.len() + module.vars.len() + module.entries.len();
+    let mut typing = Typing { source, module, names: names(count), locals: names(0), first: None };
     typing.module();
     typing.first.map_or(Ok(()), |(at, rule)| Err(Fault { at, what: What::Rule(rule) }))
 }
