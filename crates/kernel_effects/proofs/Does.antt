@@ -105,6 +105,19 @@ module _ {f : Effect} {a b c : Progress} where
         steps = second.steps ∙ append-nil b.steps ∙ first.steps;
       }
 
+  -- entries change and packets are sent after it
+  pub does-placed : {entry : EndId → Entry → Entry} {ps : List (ℕ × PictureWhat)} → Does f a b → Does (record (changed entry) { packets = ps }) b c
+      → Does (record f { entry = λ q y. entry q (f.entry q y); packets = f.packets ++ ps }) a c
+  does-placed {entry} {ps} first second =
+      record {
+        table = λ q. second.table q ∙ ap (entry q) (first.table q);
+        stamp = second.stamp ∙ first.stamp;
+        packets = (does-then first second).packets;
+        reports = second.reports ∙ append-nil b.reports ∙ first.reports;
+        answers = second.answers ∙ append-nil b.answers ∙ first.answers;
+        steps = second.steps ∙ append-nil b.steps ∙ first.steps;
+      }
+
   -- packets are sent after it
   pub does-sent : {ps : List (ℕ × PictureWhat)} → Does f a b → Does (sent ps) b c → Does (record f { packets = f.packets ++ ps }) a c
   does-sent {ps} first second =

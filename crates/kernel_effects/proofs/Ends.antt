@@ -196,3 +196,85 @@ ends-does k e v d s =
         ap (λ ps. ps ++ gone_packets k v.value) (flat_map-none (gone_of k) d.table kept.table (e ∷ []) xs same (AreNone-one e xs s.apart))
         ∙ ap (λ ps. flat_map (λ x. gone_of k (d.table x)) xs ++ ps) (sym (append-nil (gone_packets k v.value)) ∙ ap (λ y. gone_of k y ++ []) (sym s.here))
         ∙ sym (flat_map-append (λ x. gone_of k (d.table x)) xs (e ∷ []))
+
+-- none of some ends is one of the first in each part
+AreNone-parts : (xs ys zs : List EndId) → AreNone xs (ys ++ zs) → AreNone xs ys × AreNone xs zs
+AreNone-parts xs [] zs none = (tt, none)
+AreNone-parts xs (y ∷ ys) zs none = let rest = AreNone-parts xs ys zs none.1 in ((none.0, rest.0), rest.1)
+
+-- ends in two parts that differ
+AreDifferent-parts : (xs ys : List EndId) → AreDifferent (xs ++ ys) → AreDifferent xs × AreDifferent ys × AreNone xs ys
+AreDifferent-parts [] ys different = (tt, different, all ys)
+  where
+    all : (ys : List EndId) → AreNone [] ys
+    all [] = tt
+    all (y ∷ ys) = (refl, all ys)
+AreDifferent-parts (x ∷ xs) ys different =
+    let rest = AreDifferent-parts xs ys different.1 in
+    let apart : (list_any (end_eq x) xs || list_any (end_eq x) ys) ≡ false = sym (list_any-append (end_eq x) xs ys) ∙ different.0 in
+    ((first_false _ _ apart, rest.0), rest.1, more ys (second_false _ _ apart) rest.2)
+  where
+    more : (ys : List EndId) → list_any (end_eq x) ys ≡ false → AreNone xs ys → AreNone (x ∷ xs) ys
+    more [] apart none = tt
+    more (y ∷ ys) apart none =
+        (ap (λ b. b || list_any (end_eq y) xs) (end_eq-sym y x ∙ first_false _ _ apart) ∙ none.0, more ys (second_false _ _ apart) none.1)
+
+-- what an end is destroyed with stays where none of it ended before
+ended_list-others : (t u : EndId → Entry) (xs zs : List EndId) → ((q : EndId) → u q ≡ turns xs ended_of stays q (t q)) → AreNone xs (ended_list t zs) → ended_list u zs ≡ ended_list t zs
+ended_list-others t u xs [] is none = refl
+ended_list-others t u xs (z ∷ zs) is none =
+    let parts = AreNone-parts xs (ended_with z (t z)) (ended_list t zs) none in
+    ap (λ y. ended_with z y ++ ended_list u zs) (is z ∙ same (t z) parts.0) ∙ ap (λ l. ended_with z (t z) ++ l) (ended_list-others t u xs zs is parts.1)
+  where
+    same : (y : Entry) → AreNone xs (ended_with z y) → turns xs ended_of stays z y ≡ y
+    same entry.Nothing none = by (list_any (end_eq z) xs)
+      where
+        by : (b : Bool) → (if b then entry.Nothing else entry.Nothing) ≡ entry.Nothing
+        by true = refl
+        by false = refl
+    same (entry.Here v) none = ap (λ b. if b then ended_of (entry.Here v) else entry.Here v) (AreNone-parts xs (enclosed_of v.outward) (z ∷ []) none).1.0
+    same (entry.Left to hops) none = by (list_any (end_eq z) xs)
+      where
+        by : (b : Bool) → (if b then entry.Left to hops else entry.Left to hops) ≡ entry.Left to hops
+        by true = refl
+        by false = refl
+    same (entry.Destroyed m) none = by (list_any (end_eq z) xs)
+      where
+        by : (b : Bool) → (if b then entry.Destroyed m else entry.Destroyed m) ≡ entry.Destroyed m
+        by true = refl
+        by false = refl
+
+-- END of each of these ends with its message
+pub ends_each-does : (k : ℕ) (xs : List EndId) (d : Progress) → AreOwn d.table → AreDifferent (ended_list d.table xs) → Does (ends_all k d.table (ended_list d.table xs)) d (ends_each k xs d)
+unfolding ends_each
+ends_each-does k [] d own different = does-nothing d
+ends_each-does k (x ∷ xs) d own different =
+    ends_all-then k now later d next (ends_each k xs next) parts.2 first
+    (subst (λ l. Does (ends_all k next.table l) next (ends_each k xs next)) same
+    (ends_each-does k xs next (AreOwn-ended k now d next own first) (subst AreDifferent (sym same) parts.1)))
+  where
+    now : List EndId
+    now = ended_with x (d.table x)
+
+    later : List EndId
+    later = ended_list d.table xs
+
+    next : Progress
+    next = ends_here k (here (d.table x)) d
+
+    parts : AreDifferent now × AreDifferent later × AreNone now later
+    parts = AreDifferent-parts now later different
+
+    go : (y : Entry) → d.table x ≡ y → AreDifferent (ended_with x y) → Does (ends_all k d.table (ended_with x y)) d (ends_here k (here y) d)
+    go entry.Nothing at apart = does-nothing d
+    go (entry.Here v) at apart =
+        let own_parts = AreDifferent-parts (enclosed_of v.outward) (x ∷ []) apart in
+        ends-does k x v d (record { here = at; own = own; different = own_parts.0; apart = own_parts.2.0 })
+    go (entry.Left to hops) at apart = does-nothing d
+    go (entry.Destroyed m) at apart = does-nothing d
+
+    first : Does (ends_all k d.table now) d next
+    first = go (d.table x) refl parts.0
+
+    same : ended_list next.table xs ≡ later
+    same = ended_list-others d.table next.table now xs first.table parts.2

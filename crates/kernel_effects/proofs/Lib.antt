@@ -5,3 +5,5 @@ pub mod Ends
 pub mod Actions
 pub mod Calls
 pub mod Rows
+pub mod Closing
+pub mod Retiring

@@ -2,3 +2,4 @@ pub mod Effect
 pub mod Actions
 pub mod Calls
 pub mod Rows
+pub mod Closing
