@@ -12,10 +12,11 @@ use Rattle.charlotte_calls.specs.declared.picture.Picture.{Picture}
 use Rattle.end_table.proofs.EndEq.{end_eq-same, put-at, put-other}
 use Rattle.end_table.specs.Place.{end_eq, put}
 use Rattle.end_table.specs.declared.entry.Entry.{Entry}
-use Rattle.kernel_step.specs.Kernel.{Kernel, Outcome, Process, answers_wait, closes, is_waiting, join_answers, join_reports, joins, process_of, reported_entry, stands, with_process}
+use Rattle.kernel_step.specs.Kernel.{Kernel, Outcome, Process, answers_wait, begins, closes, is_waiting, join_answers, join_reports, joins, process_of, reported_entry, stands, with_process}
 use Rattle.kernel_step.specs.Progress.{Progress}
 use Rattle.kernel_step.specs.declared.phase.Phase.TheVariants.{Running}
-use Rattle.kernel_effects.specs.Closing.{AtMostOne, Closes, Gives, process_after, told, told_entry}
+use Rattle.kernel_effects.specs.Closing.{AtMostOne, Closes, EffectGives, Gives, process_after, told, told_entry}
+use Rattle.kernel_effects.specs.Effect.{Effect, Does}
 
 -- a process is itself
 same-process : (p : Pid) → nat_eq p.0 p.0 ≡ true
@@ -38,7 +39,7 @@ module _ (s : Kernel) (p : Pid) where
   module _ (entry : EndId → Entry) (now : ℕ) (packets : List (ℕ × Picture)) (answered : List Pid) (steps : List ServiceStep) where
     -- an answer comes to stand
     pub stands-gives : (x : Process) (a : Answer) (o : Outcome) → Gives s p x entry now packets answered steps o
-        → Gives s p (record x { phase = Running; answer = Some a }) entry packets (answered ++ p ∷ []) steps (stands p a o)
+        → Gives s p (record x { phase = Running; answer = Some a }) entry now packets (answered ++ p ∷ []) steps (stands p a o)
     stands-gives x a o g =
         record {
           process =
@@ -189,3 +190,22 @@ module _ (s : Kernel) (p : Pid) where
     unfolding closes begun
     closes-gives given rs one answers reports =
         subst (Closes s d p given rs) (sym (ap (λ l. join_reports l (join_answers d.answers begun)) reports ∙ ap (λ l. join_reports (map (λ r. (p, r)) rs) (join_answers l begun)) answers)) (by_lists given rs one)
+
+-- what an event of kernel s gives that began with this stamp and came so far by an effect, where p alone has reports and answers
+pub effect-gives : (s : Kernel) (p : Pid) (stamp : ℕ) (f : Effect) (d : Progress) (given : List Answer) (rs : List Report) → Does f (begins s stamp) d → AtMostOne given
+    → f.answers ≡ map (λ a. (p, a)) given → f.reports ≡ map (λ r. (p, r)) rs → EffectGives s p stamp f given rs (closes s d)
+effect-gives s p stamp f d given rs does one answers reports =
+    let g = closes-gives s p d given rs one (does.answers ∙ answers) (does.reports ∙ reports) in
+    let now = told (s.process p.0).phase given rs in
+    record {
+      process = g.process;
+      table = λ q. g.table q ∙ ap (told_entry now q) (does.table q);
+      stamp = g.stamp ∙ does.stamp;
+      packets = g.packets ∙ does.packets;
+      answered = g.answered;
+      steps = g.steps ∙ ap (λ l. l ++ map (step.Report p) now) does.steps;
+      number = g.number;
+      kernels = g.kernels;
+      version = g.version;
+      made = g.made;
+    }

@@ -7,3 +7,5 @@ pub mod Calls
 pub mod Rows
 pub mod Closing
 pub mod Retiring
+pub mod Sound
+pub mod Events

@@ -249,3 +249,9 @@ row_effect k made from t (packet.Moved to at hops) = moved_effect k to at hops (
 row_effect k made from t (packet.Known to hops) = known_effect k hops (t to)
 row_effect k made from t (packet.Forget to hops) = forget_effect to hops (t to)
 row_effect k made from t (packet.GoneSeen to) = goneseen_effect k (t to)
+
+-- the values that a packet carries
+abbrev pub values_in : PictureWhat → List MovingPicture
+values_in (packet.Parcel to n w at hops bytes ms) = ms
+values_in (packet.Back to n ms) = ms
+values_in what = []
