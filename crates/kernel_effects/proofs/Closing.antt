@@ -15,7 +15,7 @@ use Rattle.end_table.specs.declared.entry.Entry.{Entry}
 use Rattle.kernel_step.specs.Kernel.{Kernel, Outcome, Process, answers_wait, begins, closes, is_waiting, join_answers, join_reports, joins, process_of, reported_entry, stands, with_process}
 use Rattle.kernel_step.specs.Progress.{Progress}
 use Rattle.kernel_step.specs.declared.phase.Phase.TheVariants.{Running}
-use Rattle.kernel_effects.specs.Closing.{AtMostOne, Closes, EffectGives, Gives, process_after, told, told_entry}
+use Rattle.kernel_effects.specs.Closing.{AtMostOne, Closes, EffectGives, Gives, told, told_entry}
 use Rattle.kernel_effects.specs.Effect.{Effect, Does}
 
 -- a process is itself
