@@ -31,16 +31,16 @@ use Rattle.kernel_step.specs.Kernel.{Kernel, begins, closes, next_stamp, take_st
 use Rattle.kernel_step.specs.Progress.{Progress, means}
 use Rattle.kernel_step.specs.Rows.{arriving, back_row, ends_in, is_here, parcel_row, passing, row}
 use Rattle.kernel_effects.specs.Calls.{act_effect, effect_on, send_effect, withdraw_posted_effect}
-use Rattle.kernel_effects.specs.Closing.{AtMostOne, EffectGives}
+use Rattle.kernel_outcomes.specs.Closing.{AtMostOne, EffectGives}
 use Rattle.kernel_effects.specs.Effect.{Effect, Does, nothing}
 use Rattle.kernel_effects.specs.Rows.{back_effect, parcel_effect, row_effect, values_in}
 use Rattle.kernel_effects.proofs.Calls.{makes-does, posts-does, sends-call-does, withdraws_receive-does, withdraws_send-does}
-use Rattle.kernel_effects.proofs.Closing.{effect-gives}
+use Rattle.kernel_outcomes.proofs.Closing.{effect-gives}
 use Rattle.kernel_effects.proofs.Does.{does-nothing, does-then, means-does}
 use Rattle.kernel_effects.proofs.Ends.{ends-does, ends_each-does, stands-end}
 use Rattle.kernel_effects.proofs.Retiring.{ends_back-does, forget-does, gone-does, goneseen-does, known-does, moved-does, returns-does}
 use Rattle.kernel_effects.proofs.Rows.{receives-does, sends_back-does, taken-does, unwant-does, unwanted-does, want-does}
-use Rattle.kernel_effects.proofs.Sound.{AreDifferent-coming, AreDifferent-exit, AreDifferent-free, AreDifferent-passing, stands-sound}
+use Rattle.kernel_outcomes.proofs.Sound.{AreDifferent-coming, AreDifferent-exit, AreDifferent-free, AreDifferent-passing, stands-sound}
 use Rattle.kernel_step.proofs.Folds.{AreDifferent}
 
 module _ (k made n : ℕ) (d : Progress) (sound : IsSound k made n d.table) where
