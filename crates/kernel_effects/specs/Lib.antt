@@ -1,0 +1,4 @@
+pub mod Effect
+pub mod Actions
+pub mod Calls
+pub mod Rows

@@ -1,0 +1,6 @@
+pub mod Closing
+pub mod Sound
+pub mod Events
+pub mod Called
+pub mod Touched
+pub mod ForOne
