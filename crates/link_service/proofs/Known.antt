@@ -10,10 +10,10 @@ use Rattle.charlotte_calls.specs.declared.names.Way.TheVariants as way
 use Rattle.link_service.specs.Service.{ServiceView, MayBe, AreKnown, OwnerKnows, IsWellKept}
 use Rattle.service_links.specs.Links.{ends_of}
 use Rattle.service_links.proofs.Changed.{end_eq-same}
-use Rattle.service_processes.specs.Known.{Known, known_of, IsKnown, Grows}
+use Rattle.service_processes.specs.Known.{Known, known_of, without, IsKnown, Forgets, Grows}
 use Rattle.service_processes.proofs.Blocks.{there}
 use Rattle.service_step.specs.Steps.{may_match, may_take, is_matched, agree}
-use Rattle.service_step.specs.Ends.{end_eq, fresh, owner, put, puts, places, is_made, is_destroyed, is_owned_by, is_active, is_started_outward, is_started_inward, is_posted, is_matched_with, waiting_message, matched_message, carried_by, dropped, destroys, destroys_owned, destroys_each, starts_send, turns_inward, turns_outward, idles, withdraws_send, matches, matched_outward, takes, notices, noticed_end, noticed_outward, noticed_inward, to_owner, returned_end, returns}
+use Rattle.service_step.specs.Ends.{end_eq, fresh, unmade, owner, put, puts, places, is_made, is_destroyed, is_owned_by, is_active, is_started_outward, is_started_inward, is_posted, is_matched_with, waiting_message, matched_message, carried_by, dropped, destroys, destroys_owned, destroys_each, starts_send, turns_inward, turns_outward, idles, withdraws_send, matches, matched_outward, takes, notices, noticed_end, noticed_outward, noticed_inward, to_owner, returned_end, returns}
 use Rattle.service_step.specs.State.{State, is_cancelling}
 use Rattle.service_step.specs.declared.state.End.{End}
 use Rattle.service_step.specs.declared.state.Inward.{Inward}
@@ -301,3 +301,35 @@ module _ (s : State) (e : EndId) (n : ℕ) (p : Pid) (late : Bool) (may : may_ta
 
   pub take-owned : is_owned_by p (s.ends (opposite e)).place ≡ true
   take-owned = take-asks.1
+
+-- an end that a process does not own is forgotten
+pub AreKnown-forgets : (p : Pid) (e : EndId) (old new : Known) (t : EndId → End) → Forgets p e old new → is_owned_by p (t e).place ≡ false → AreKnown old t → AreKnown new t
+AreKnown-forgets p e old new t forgets lost known =
+    record {
+      all = λ g q own. (
+        ap (λ f. f q.0 g) forgets.held ∙ stays g q own old.held (known.all g q own).0,
+        λ started. ap (λ f. f q.0 g) forgets.active ∙ stays g q own old.active ((known.all g q own).1 started),
+      );
+    }
+  where
+    -- what is known of another end or another process
+    stays : (g : EndId) (q : Pid) → is_owned_by q (t g).place ≡ true → (f : ℕ → EndId → Bool) → f q.0 g ≡ true → without p e f q.0 g ≡ true
+    stays g q own f is = by (nat_eq p.0 q.0) refl (end_eq e g) refl
+      where
+        by : (a : Bool) → nat_eq p.0 q.0 ≡ a → (b : Bool) → end_eq e g ≡ b → cond (nat_eq p.0 q.0 && end_eq e g) false (f q.0 g) ≡ true
+        by true same true one =
+            absurd (true≢false (sym ((λ i. is_owned_by (same_pid p q same i) (t (end_eq-same e g one i)).place) ∙ own) ∙ lost))
+        by true same false apart = (λ i. cond (same i && apart i) false (f q.0 g)) ∙ is
+        by false other b one = (λ i. cond (other i && end_eq e g) false (f q.0 g)) ∙ is
+
+-- where no link is made, nobody owns an end
+pub AreKnown-unmade : (k : Known) (t : EndId → End) → t ≡ (λ _. unmade) → AreKnown k t
+AreKnown-unmade k t none = record { all = λ e p own. absurd (true≢false (sym own ∙ ap (λ (f : EndId → End). is_owned_by p (f e).place) none)) }
+
+-- both ends of a new link are owned by processes that are known to have them
+pub AreKnown-adds : (k : Known) (a b : EndId) (p q : Pid) (t : EndId → End) → AreKnown k t → IsKnown k p a → IsKnown k q b → AreKnown k (put (put t a (fresh (place.Owned p))) b (fresh (place.Owned q)))
+AreKnown-adds k a b p q t known first second =
+    AreKnown-put k (put t a (fresh (place.Owned p))) (AreKnown-put k t known a (fresh (place.Owned p)) (MayBe-new a p first)) b (fresh (place.Owned q)) (MayBe-new b q second)
+  where
+    MayBe-new : (e : EndId) (r : Pid) → IsKnown k r e → MayBe k e (fresh (place.Owned r))
+    MayBe-new e r is = MayBe-known k e (fresh (place.Owned r)) (λ o own. subst (λ (x : Pid). IsKnown k x e) (sym (same_pid o r own)) is)

@@ -1,18 +1,24 @@
 -- How a service keeps its state.
-use Rattle.std.specs.Prelude.{◌≡◌, ℕ, ◌-◌, ◌&&◌, IsTrue, All, List, Some, length, slice_get}
+use Rattle.std.specs.Prelude.{◌≡◌, ℕ, ◌+◌, ◌-◌, ◌<◌, ◌&&◌, IsTrue, All, List, Some, length, slice_get, slice_index, slice_set}
 use Rattle.charlotte_calls.specs.declared.calls.ServiceStep.{ServiceStep}
+use Rattle.charlotte_calls.specs.Names.{opposite}
 use Rattle.charlotte_calls.specs.declared.names.EndId.{EndId}
+use Rattle.charlotte_calls.specs.declared.names.LinkId.{LinkId}
 use Rattle.charlotte_calls.specs.declared.names.Pid.{Pid}
+use Rattle.charlotte_calls.specs.declared.names.Side.TheVariants.{A}
+use Rattle.charlotte_calls.specs.declared.setting.Setting.{Setting}
 use Rattle.link_service.specs.declared.service.ApplyFault.{ApplyFault}
 use Rattle.link_service.specs.declared.service.ApplyFault.TheVariants as fault
 use Rattle.service_links.specs.Links.{ends_of}
 use Rattle.service_processes.specs.Known.{Known, known_of, active_of, IsKnown}
 use Rattle.service_processes.specs.Processes.{process_of}
 use Rattle.service_processes.specs.declared.processes.ControlBlock.{ControlBlock}
-use Rattle.service_step.specs.Ends.{is_owned_by, is_active}
-use Rattle.service_step.specs.State.{State}
+use Rattle.service_step.specs.Ends.{is_owned_by, is_active, put, fresh}
+use Rattle.service_step.specs.Run.{Wired, wires_one, new_processes}
+use Rattle.service_step.specs.State.{State, link_limit}
 use Rattle.service_step.specs.Steps.{IsAllowed, step_number}
 use Rattle.service_step.specs.declared.state.End.{End}
+use Rattle.service_step.specs.declared.state.Place.TheVariants.{Owned}
 
 -- what contracts see of a service
 pub record ServiceView : Type 0 where
@@ -63,3 +69,28 @@ pub record HasIdleLast (p : Pid) (v : ServiceView) : Type 0 where
   pub last : EndId
   pub is : IsLastActive p v last
   pub idle : IsTrue (is_owned_by p (ends_of v.links last).place && is_active (ends_of v.links last)) → ⊥
+
+-- a link is made, and its ends are owned by two processes
+abbrev pub adds_link : LinkId → Pid × Pid → State → State
+adds_link link owners s =
+    let a : EndId = record { link = link; side = A } in
+    record s {
+      made = slice_set s.made link.maker (link.count + 1);
+      ends = put (put s.ends a (fresh (Owned owners.0))) (opposite a) (fresh (Owned owners.1));
+    }
+
+-- the state before any step, with the links wired so far
+abbrev pub wired_state : Setting → Wired → State
+wired_state s so_far =
+    record { version = s.version; homes = s.homes; made = so_far.made; ends = so_far.ends; process = new_processes (length s.homes) }
+
+-- a wire of the start
+abbrev pub wires : Pid × Pid → State → State
+wires wire s =
+    let after : Wired = wires_one s.homes (record { made = s.made; ends = s.ends }) wire in record s { made = after.made; ends = after.ends }
+
+-- the home of a process is there, and may make one link more
+pub record HasRoom (v : ServiceView) (p : Pid) : Type 0 where
+  pub there : p.0 < length v.homes
+  pub home : slice_index v.homes p.0 < length v.made
+  pub room : slice_index v.made (slice_index v.homes p.0) < link_limit

@@ -1,5 +1,6 @@
 //! Whether a process has an activity, by which a Wait is allowed.
 ghost use Rattle.std.specs.Prelude.{◌≡◌, ◌↔◌, ◌&&◌, IsTrue};
+ghost use Rattle.charlotte_calls.specs.declared.calls.Call.TheVariants as call;
 ghost use Rattle.service_step.specs.Causes.{IsRefusedFor, HasActivity, HasStarted};
 ghost use Rattle.service_step.specs.Ends.{is_active, is_owned_by};
 ghost use Rattle.link_service.specs.Service.{state_of};
@@ -14,9 +15,20 @@ impl Service {
         ensures same { state_of self.new ≡ state_of self.old }
     {
         match call {
-            Call::Wait => cause.number() == Cause::NoActivity.number() && !self.has_activity(p),
+            Call::Wait => self.is_wait_refused(p, cause),
             _ => self.is_first_cause(p, call, cause),
         }
+    }
+
+    /// Whether a Wait is refused for this cause: it is NoActivity, and the process has none.
+    fn is_wait_refused(&mut self, p: Pid, cause: Cause) -> bool
+        ensures refused { IsTrue result ↔ IsRefusedFor (state_of self.old) p call.Wait cause }
+        ensures same { state_of self.new ≡ state_of self.old }
+    {
+        if cause.number() != Cause::NoActivity.number() {
+            return false;
+        }
+        !self.has_activity(p)
     }
 
     /// Whether a report of a process stands, or an activity is started on an end that it owns.

@@ -10,7 +10,7 @@ ghost use Rattle.service_processes.specs.Processes.{HasProcess};
 ghost use Rattle.link_service.specs.Service.{state_of};
 
 use crate::service::Service;
-use charlotte_calls::{Call, Cause, EndId, LinkId, Pid, Report, Side, Way};
+use charlotte_calls::{Call, Cause, EndId, LinkId, Pid, Side, Way};
 use service_links::{Links, cancel_cause, destroy_cause, receive_cause, send_cause};
 use service_step::End;
 
@@ -209,17 +209,6 @@ impl Service {
             _ => None,
         }
     }
-
-    /// Whether this is the oldest report of a process, which waits.
-    #[tactic(auto, unfolding(crate::specs::Service::state_of))]
-    pub(crate) fn is_oldest(&self, p: Pid, report: &Report) -> bool
-        ensures { IsTrue result ↔ steps.IsOldest (state_of self.now) p report.now }
-    {
-        match self.processes().oldest(p) {
-            Some(oldest) => self.processes().phase(p).is_waiting() && is_same_report(oldest, report),
-            None => false,
-        }
-    }
 }
 
 /// Whether these are the two ends of this link, which has no ends yet.
@@ -230,7 +219,10 @@ fn is_new_pair(links: &Links, link: Option<LinkId>, a: EndId, b: EndId) -> bool
     match link {
         Some(link) => {
             link.count < LINK_LIMIT
-                && a == EndId { link, side: Side::A }
+                && a == EndId {
+                    link,
+                    side: Side::A,
+                }
                 && b == a.opposite()
                 && !links.look(a).place.is_made()
                 && !links.look(b).place.is_made()
@@ -263,15 +255,4 @@ fn agree(a: bool, b: bool) -> bool
     ensures { result ≡ steps.agree a b }
 {
     a == b
-}
-
-/// Whether two reports tell the same.
-fn is_same_report(a: &Report, b: &Report) -> bool
-    ensures { IsTrue result ↔ (a.now ≡ b.now) }
-{
-    a.on == b.on
-        && a.way == b.way
-        && a.outcome == b.outcome
-        && a.bytes.as_slice() == b.bytes.as_slice()
-        && a.enclosed.as_slice() == b.enclosed.as_slice()
 }

@@ -4,7 +4,9 @@
 
 mod activity;
 mod conditions;
+mod linking;
 mod making;
+mod reports;
 mod service;
 mod steps;
 mod wires;

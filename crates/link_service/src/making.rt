@@ -1,7 +1,7 @@
 //! What the steps do with the service, where they are allowed.
 ghost use Rattle.std.specs.Prelude.{◌≡◌, [], IsTrue, OnOk, OnErr, option_to_list};
 ghost use Rattle.charlotte_calls.specs.declared.names.Way.TheVariants as way;
-ghost use Rattle.service_step.specs.Ends.{owner, starts_send, turns_inward, waiting_message, matched_message};
+ghost use Rattle.service_step.specs.Ends.{owner, destroys, starts_send, turns_inward, waiting_message, matched_message};
 ghost use Rattle.service_step.specs.State.{send_report as sent_report};
 ghost use Rattle.service_step.specs.Steps as steps;
 ghost use Rattle.service_step.specs.declared.state.Inward.TheVariants as inward;
@@ -22,20 +22,30 @@ impl Service {
         ensures ok { OnOk result (state_of self.new ≡ steps.after_make p a b (state_of self.old)) }
         ensures err { OnErr result (state_of self.new ≡ state_of self.old) }
     {
-        self.processes.learn(p, a)?;
-        self.processes.learn(p, b)?;
-        self.links.add((a, p), (b, p))?;
-        self.made[usize::from(a.link.maker)] = a.link.count + 1;
+        self.add_link(a.link, (p, p))?;
         Ok(())
     }
 
-    /// 4: a send is started. The ends that it carries are forgotten.
+    /// 3: an end is destroyed, and forgotten among those of its owner.
+    #[tactic(auto, unfolding(crate::specs::Service::state_of))]
+    pub(crate) fn do_destroy(&mut self, e: EndId)
+        ensures { state_of self.new ≡ record (state_of self.old) { ends = destroys e (state_of self.old).ends } }
+    {
+        let owner = self.links().look(e).place.owner();
+        self.destroy_end(e);
+        self.forget_lost(owner, &[e]);
+    }
+
+    /// 4: a send is started, and the ends that it carries are forgotten among those of the sender.
     pub(crate) fn do_send(&mut self, e: EndId, n: u32, message: Message) -> Result<(), NoMemory>
         ensures ok { OnOk result (state_of self.new ≡ record (state_of self.old) { ends = starts_send e n message (state_of self.old).ends }) }
         ensures err { OnErr result (state_of self.new ≡ state_of self.old) }
     {
+        let owner = self.links().look(e).place.owner();
+        let carried = message.carried.copy();
         self.learn_for_owner(e, &[e])?;
         self.start_send(e, n, message);
+        self.forget_lost(owner, carried.as_slice());
         Ok(())
     }
 
@@ -188,7 +198,11 @@ fn dropped_report(e: EndId, outward: &Outward) -> Option<Report>
     ensures { option_to_list result ≡ steps.returned_reports e (waiting_message outward.now) }
 {
     match outward {
-        Outward::Waiting(message) => Some(send_report(e, Outcome::Destroyed, message.carried.copy())),
+        Outward::Waiting(message) => Some(send_report(
+            e,
+            Outcome::Destroyed,
+            message.carried.copy(),
+        )),
         Outward::Idle | Outward::Matched(_) | Outward::Taken | Outward::Reported => None,
     }
 }
@@ -198,7 +212,11 @@ fn returned_report(e: EndId, outward: &Outward) -> Option<Report>
     ensures { option_to_list result ≡ steps.returned_reports e (matched_message outward.now) }
 {
     match outward {
-        Outward::Matched(message) => Some(send_report(e, Outcome::Destroyed, message.carried.copy())),
+        Outward::Matched(message) => Some(send_report(
+            e,
+            Outcome::Destroyed,
+            message.carried.copy(),
+        )),
         Outward::Idle | Outward::Waiting(_) | Outward::Taken | Outward::Reported => None,
     }
 }

@@ -5,8 +5,8 @@ ghost use Rattle.service_step.specs.Steps.{IsServiceStep};
 ghost use Rattle.link_service.specs.Service.{state_of, IsFault};
 
 use crate::service::{ApplyFault, Service};
-use service_step::{Message, Phase};
 use charlotte_calls::{Call, Cause, EndId, Pid, Report, Way};
+use service_step::{Message, Phase};
 
 impl Service {
     /// A process makes the next link of its home.
@@ -43,7 +43,7 @@ impl Service {
         if !self.may_destroy(e) {
             return Err(ApplyFault::NotAllowed(3));
         }
-        self.destroy_end(e);
+        self.do_destroy(e);
         Ok(())
     }
 

@@ -30,10 +30,37 @@ impl Service {
         }
     }
 
+    /// Those of these ends that a process, where it runs, does not own are forgotten among its ends.
+    pub(crate) fn forget_lost(&mut self, owner: Option<Pid>, ends: &[EndId])
+        ensures { state_of self.new ≡ state_of self.old }
+    {
+        if let Some(p) = owner {
+            for end in ends {
+                self.forget_one(p, *end);
+            }
+        }
+    }
+
+    /// An end that a process, where it runs, does not own is forgotten among its ends.
+    #[tactic(auto, unfolding(crate::specs::Service::state_of))]
+    fn forget_one(&mut self, p: Pid, e: EndId)
+        ensures { state_of self.new ≡ state_of self.old }
+    {
+        if !self.runs(p) || self.links.look(e).place.is_owned_by(p) {
+            return;
+        }
+        self.processes.forget(p, e);
+    }
+
     /// The owner of an end, where there is one, gains reports, at most two, and runs again where it is in a Cancel of the receive
     /// on it.
     #[tactic(auto, unfolding(crate::specs::Service::state_of))]
-    pub(crate) fn tell_owner(&mut self, e: EndId, first: Option<Report>, second: Option<Report>) -> Result<(), NoMemory>
+    pub(crate) fn tell_owner(
+        &mut self,
+        e: EndId,
+        first: Option<Report>,
+        second: Option<Report>,
+    ) -> Result<(), NoMemory>
         ensures ok { OnOk result (state_of self.new ≡ record (state_of self.old) { process = tells (owner ((state_of self.old).ends e).place) e (option_to_list first ++ option_to_list second) (state_of self.old).process }) }
         ensures err { OnErr result (state_of self.new ≡ state_of self.old) }
         ensures links { self.new.links ≡ self.old.links }
