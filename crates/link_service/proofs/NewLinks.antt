@@ -1,5 +1,6 @@
 -- A link is made, by a step and at the start.
 use Rattle.std.proofs.Common.{◌≡◌, ℕ, zero, suc, ◌+◌, ◌<◌, ◌≤◌, Bool, true, false, true≢false, nat_lt, ◌&&◌, not, All, List, [], ◌∷◌, length, take, slice_get, slice_index, slice_set, get_or, Option, Some, None, refl, sym, ap, subst, ◌∙◌, arith, replicate}
+use Rattle.std.proofs.Math.Seq.{take-length}
 use Rattle.std.proofs.lemmas.Bool.{ltb-true}
 use Rattle.std.proofs.lemmas.List.{length-set, length-replicate, length-take-le}
 use Rattle.std.proofs.lemmas.List.Elements.{All-set, All-replicate}
@@ -13,10 +14,10 @@ use Rattle.charlotte_calls.specs.declared.names.LinkId.{LinkId}
 use Rattle.charlotte_calls.specs.declared.names.Pid.{Pid}
 use Rattle.charlotte_calls.specs.declared.names.Side.TheVariants.{A}
 use Rattle.charlotte_calls.specs.declared.setting.Setting.{Setting}
-use Rattle.link_service.specs.Service.{ServiceView, HasRoom, adds_link, state_of, wired_state, wires}
+use Rattle.link_service.specs.Service.{ServiceView, HasRoom, HasWired, adds_link, state_of, wired_links, wired_state, wires}
 use Rattle.service_links.proofs.Changed.{end_eq-same}
 use Rattle.service_step.specs.Ends.{end_eq, fresh, is_made, makes, put}
-use Rattle.service_step.specs.Run.{Wired, nothing_wired, wires_one}
+use Rattle.service_step.specs.Run.{Wired, nothing_wired, start_state, wires_one}
 use Rattle.service_step.specs.State.{State, counts, counted, is_running, link_limit, next_at, next_link}
 use Rattle.service_step.specs.Steps.{after_make, is_new_pair, may_make, runs}
 use Rattle.service_step.specs.declared.state.End.{End}
@@ -36,11 +37,11 @@ first_two : (a b : Bool) → (a && b) ≡ true → (a ≡ true) × (b ≡ true)
 first_two true b h = (refl, h)
 first_two false b h = absurd (true≢false (sym h))
 
-first_three : (a b c d : Bool) → (a && b && c && d) ≡ true → (a ≡ true) × (b ≡ true) × (c ≡ true)
-first_three true true true d h = (refl, refl, refl)
-first_three true true false d h = absurd (true≢false (sym h))
-first_three true false c d h = absurd (true≢false (sym h))
-first_three false b c d h = absurd (true≢false (sym h))
+first_three : (a b c d e : Bool) → (a && b && c && d && e) ≡ true → (a ≡ true) × (b ≡ true) × (c ≡ true)
+first_three true true true d e h = (refl, refl, refl)
+first_three true true false d e h = absurd (true≢false (sym h))
+first_three true false c d e h = absurd (true≢false (sym h))
+first_three false b c d e h = absurd (true≢false (sym h))
 
 -- what a pair of new ends is
 pub record IsPairOf (link : LinkId) (a b : EndId) : Type 0 where
@@ -50,7 +51,7 @@ pub record IsPairOf (link : LinkId) (a b : EndId) : Type 0 where
 
 pair-of : (t : EndId → End) (link : LinkId) (a b : EndId) → is_new_pair t (Some link) a b ≡ true → IsPairOf link a b
 pair-of t link a b h =
-    let tests = first_three (nat_lt link.count link_limit) (end_eq a (record { link = link; side = A })) (end_eq b (opposite a)) (not (is_made (t a).place) && not (is_made (t b).place)) h in
+    let tests = first_three (nat_lt link.count link_limit) (end_eq a (record { link = link; side = A })) (end_eq b (opposite a)) (not (is_made (t a).place)) (not (is_made (t b).place)) h in
     record {
       room = ltb-true link.count link_limit tests.0;
       first = end_eq-same a (record { link = link; side = A }) tests.1;
@@ -103,13 +104,6 @@ pub wires-by : (s : State) (wire : Pid × Pid) (link : LinkId) → link.maker �
 unfolding wires_one
 wires-by s wire link maker count = λ i. adds_link (record { maker = maker i; count = count i }) wire s
 
--- the state after so many wires
-abbrev pub wired_after : Setting → ℕ → State
-wired_after s i = wired_state s (fold (wires_one s.homes) (nothing_wired s.kernels) (take i s.wires))
-
-pub wired_after-more : (s : Setting) (i : ℕ) (d : Pid × Pid) → i < length s.wires → wires (get_or s.wires i d) (wired_after s i) ≡ wired_after s (i + 1)
-wired_after-more s i d below = ap (wired_state s) (sym (fold_more (wires_one s.homes) (nothing_wired s.kernels) s.wires i d below))
-
 -- as many kernels as before
 long-made : (homes : List ℕ) (ws : List (Pid × Pid)) (w : Wired) → length (fold (wires_one homes) w ws).made ≡ length w.made
 unfolding wires_one
@@ -137,41 +131,52 @@ few-made homes (x ∷ xs) w n few =
     λ i d below. let at : get_or (fold (wires_one homes) (wires_one homes w x) xs).made i d ≤ n + 1 + length xs = more i d below in omega arith
 
 -- the home of a process may make a link more, at each wire of the start
-module _ (s : Setting) (valid : IsValid s) (i : ℕ) (below : i < length s.wires) (v : ServiceView) (is : state_of v ≡ wired_after s i) (p : Pid) (there : p.0 < length s.homes) where
-  so_far : Wired
-  so_far = fold (wires_one s.homes) (nothing_wired s.kernels) (take i s.wires)
-
+module _ (s : Setting) (valid : IsValid s) (i : ℕ) (below : i < length s.wires) (v : ServiceView) (wired : HasWired s i v) (p : Pid) (there : p.0 < length s.homes) where
   same-homes : v.homes ≡ s.homes
   unfolding state_of
-  same-homes = ap (λ (t : State). t.homes) is
+  same-homes = ap (λ (t : State). t.homes) wired.state
 
-  same-made : v.made ≡ so_far.made
+  same-made : v.made ≡ (wired_links s i).made
   unfolding state_of
-  same-made = ap (λ (t : State). t.made) is
+  same-made = ap (λ (t : State). t.made) wired.state
 
-  kernels : length so_far.made ≡ s.kernels
+  kernels : length (wired_links s i).made ≡ s.kernels
   kernels = long-made s.homes (take i s.wires) (nothing_wired s.kernels) ∙ length-replicate s.kernels 0
 
   home : slice_index s.homes p.0 < s.kernels
   home = valid.homes p.0 0 there
 
-  few : slice_index so_far.made (slice_index s.homes p.0) ≤ 0 + length (take i s.wires)
+  few : slice_index (wired_links s i).made (slice_index s.homes p.0) ≤ 0 + length (take i s.wires)
   few =
-      few-at so_far.made (slice_index s.homes p.0) (0 + length (take i s.wires))
+      few-at (wired_links s i).made (slice_index s.homes p.0) (0 + length (take i s.wires))
       (few-made s.homes (take i s.wires) (nothing_wired s.kernels) 0 (All-replicate (λ c. c ≤ 0) s.kernels 0 (omega arith)))
+
+  below-limit : slice_index (wired_links s i).made (slice_index s.homes p.0) < link_limit
+  below-limit =
+      let short : length (take i s.wires) ≡ i = length-take-le i s.wires (omega arith) in
+      let most : length s.wires ≤ 4096 = valid.limits.wires in
+      let at : slice_index (wired_links s i).made (slice_index s.homes p.0) ≤ 0 + length (take i s.wires) = few in omega (arith, short)
 
   pub has-room : HasRoom v p
   has-room =
       record {
         there = subst (λ (l : List ℕ). p.0 < length l) (sym same-homes) there;
-        home = subst (λ (l : List ℕ). slice_index l p.0 < length v.made) (sym same-homes) (subst (λ (l : List ℕ). slice_index s.homes p.0 < length l) (sym same-made) (subst (λ n. slice_index s.homes p.0 < n) (sym kernels) home));
+        home = subst (λ (l : List ℕ). slice_index l p.0 < length v.made) (sym same-homes)
+            (subst (λ (l : List ℕ). slice_index s.homes p.0 < length l) (sym same-made) (subst (λ n. slice_index s.homes p.0 < n) (sym kernels) home));
         room = subst (λ (l : List ℕ). slice_index v.made (slice_index l p.0) < link_limit) (sym same-homes)
-            (subst (λ (l : List ℕ). slice_index l (slice_index s.homes p.0) < link_limit) (sym same-made)
-            (let short : length (take i s.wires) ≡ i = length-take-le i s.wires (omega arith) in
-            let most : length s.wires ≤ 4096 = valid.limits.wires in
-            let at : slice_index so_far.made (slice_index s.homes p.0) ≤ 0 + length (take i s.wires) = few in omega (arith, short)));
+            (subst (λ (l : List ℕ). slice_index l (slice_index s.homes p.0) < link_limit) (sym same-made) below-limit);
       }
 
-  -- what the state says of the processes of the wire
-  pub wire-there : (w : Pid × Pid) → w ≡ get_or s.wires i w → (w.0.0 < length s.homes) × (w.1.0 < length s.homes)
-  wire-there w at = subst (λ (x : Pid × Pid). (x.0.0 < length s.homes) × (x.1.0 < length s.homes)) (sym at) (valid.wires i w below)
+-- one wire more is made
+pub wired-more : (s : Setting) (i : ℕ) (v w : ServiceView) (wire : Pid × Pid) → i < length s.wires → HasWired s i v → wire ≡ get_or s.wires i wire → state_of w ≡ wires wire (state_of v)
+    → length w.processes ≡ length v.processes → HasWired s (i + 1) w
+wired-more s i v w wire below wired at is count =
+    record {
+      state = is ∙ ap (wires wire) wired.state ∙ ap (λ (x : Pid × Pid). wires x (wired_state s (wired_links s i))) at
+          ∙ ap (wired_state s) (sym (fold_more (wires_one s.homes) (nothing_wired s.kernels) s.wires i wire below));
+      count = count ∙ wired.count;
+    }
+
+-- all wires are made
+pub wired_all : (s : Setting) (v : ServiceView) → HasWired s (length s.wires) v → state_of v ≡ start_state s
+wired_all s v wired = wired.state ∙ ap (λ (ws : List (Pid × Pid)). wired_state s (fold (wires_one s.homes) (nothing_wired s.kernels) ws)) (take-length s.wires)

@@ -1,5 +1,6 @@
 -- How a service keeps its state.
-use Rattle.std.specs.Prelude.{◌≡◌, ℕ, ◌+◌, ◌-◌, ◌<◌, ◌&&◌, IsTrue, All, List, Some, length, slice_get, slice_index, slice_set}
+use Rattle.std.specs.Prelude.{◌≡◌, ℕ, ◌+◌, ◌-◌, ◌<◌, ◌&&◌, IsTrue, All, List, Some, length, slice_get, slice_index, slice_set, take}
+use Rattle.std.specs.List.{fold}
 use Rattle.charlotte_calls.specs.declared.calls.ServiceStep.{ServiceStep}
 use Rattle.charlotte_calls.specs.Names.{opposite}
 use Rattle.charlotte_calls.specs.declared.names.EndId.{EndId}
@@ -14,7 +15,7 @@ use Rattle.service_processes.specs.Known.{Known, known_of, active_of, IsKnown}
 use Rattle.service_processes.specs.Processes.{process_of}
 use Rattle.service_processes.specs.declared.processes.ControlBlock.{ControlBlock}
 use Rattle.service_step.specs.Ends.{is_owned_by, is_active, put, fresh}
-use Rattle.service_step.specs.Run.{Wired, wires_one, new_processes}
+use Rattle.service_step.specs.Run.{Wired, wires_one, nothing_wired, new_processes}
 use Rattle.service_step.specs.State.{State, link_limit}
 use Rattle.service_step.specs.Steps.{IsAllowed, step_number}
 use Rattle.service_step.specs.declared.state.End.{End}
@@ -83,6 +84,15 @@ adds_link link owners s =
 abbrev pub wired_state : Setting → Wired → State
 wired_state s so_far =
     record { version = s.version; homes = s.homes; made = so_far.made; ends = so_far.ends; process = new_processes (length s.homes) }
+
+-- the links of so many wires of a setting
+abbrev pub wired_links : Setting → ℕ → Wired
+wired_links s count = fold (wires_one s.homes) (nothing_wired s.kernels) (take count s.wires)
+
+-- so many wires of a setting are made, and nothing else
+pub record HasWired (s : Setting) (made : ℕ) (v : ServiceView) : Type 0 where
+  pub state : state_of v ≡ wired_state s (wired_links s made)
+  pub count : length v.processes ≡ length s.homes
 
 -- a wire of the start
 abbrev pub wires : Pid × Pid → State → State
