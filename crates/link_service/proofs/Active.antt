@@ -1,11 +1,11 @@
 -- The last end on which a process is known to have an activity.
-use Rattle.std.proofs.Common.{◌≡◌, ℕ, zero, suc, ◌+◌, ◌-◌, ◌<◌, Bool, true, false, true≢false, nat_eq, ◌&&◌, ◌||◌, ◌++◌, List, [], ◌∷◌, length, slice_get, get_or, Contains, Option, None, Some, IfSome, IsSome, IsNone, option_to_list, refl, sym, ap, subst, ◌∙◌, arith, append-nil, length-append}
+use Rattle.std.proofs.Common.{◌≡◌, ℕ, zero, suc, ◌-◌, ◌<◌, Bool, true, false, true≢false, nat_eq, ◌&&◌, ◌||◌, ◌++◌, List, [], ◌∷◌, length, slice_get, get_or, Contains, Option, None, Some, IfSome, IsSome, IsNone, option_to_list, refl, sym, ap, subst, ◌∙◌, arith, append-nil, length-append}
 use Rattle.std.specs.List.{list_any}
 use Rattle.std.proofs.lemmas.Option.{slice_get_within, slice_get-get_or}
 use Rattle.charlotte_calls.specs.declared.names.EndId.{EndId}
 use Rattle.charlotte_calls.specs.declared.names.Pid.{Pid}
 use Rattle.link_service.proofs.Known.{same_pid}
-use Rattle.link_service.specs.Service.{ServiceView, AreKnown, IsWellKept, IsLastActive, HasIdleLast, state_of}
+use Rattle.link_service.specs.Service.{ServiceView, AreKnown, IsWellKept, HasIdleLast, state_of}
 use Rattle.service_links.proofs.Changed.{end_eq-same}
 use Rattle.service_links.specs.Links.{ends_of}
 use Rattle.service_processes.specs.Known.{known_of, held_by, active_of, LosesLast}

@@ -1,5 +1,5 @@
 -- When two reports are the same, and which is the oldest.
-use Rattle.std.proofs.Common.{◌≡◌, Bool, true, false, true≢false, ◌&&◌, ◌↔◌, IsTrue, not, List, [], ◌∷◌, Option, Some, None, slice_get, refl, sym, ap, ◌∙◌, rules}
+use Rattle.std.proofs.Common.{◌≡◌, Bool, true, false, true≢false, ◌&&◌, ◌↔◌, IsTrue, not, List, [], ◌∷◌, refl, sym, ap, ◌∙◌, rules}
 use Rattle.std.specs.Cmp.Lexicographic.{pointwise}
 use Rattle.charlotte_calls.specs.declared.calls.Report.{Report}
 use Rattle.charlotte_calls.specs.declared.names.EndId.{EndId}

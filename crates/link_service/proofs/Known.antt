@@ -1,7 +1,6 @@
 -- The ends that processes own stay known over what the steps do with the ends.
-use Rattle.std.proofs.Common.{◌≡◌, ◌≢◌, ◌⊎◌, inl, inr, ℕ, zero, suc, ◌+◌, ◌<◌, Bool, true, false, true≢false, cond, nat_eq, ◌&&◌, ◌||◌, not, IsTrue, All, List, [], ◌∷◌, length, get_or, Option, None, Some, is_some, refl, sym, ap, subst, ◌∙◌, if◌then◌else◌, arith}
+use Rattle.std.proofs.Common.{◌≡◌, ◌≢◌, ◌⊎◌, inl, inr, ℕ, suc, ◌<◌, Bool, true, false, true≢false, cond, nat_eq, ◌&&◌, ◌||◌, not, All, List, [], ◌∷◌, length, get_or, Option, None, Some, is_some, refl, sym, ap, subst, ◌∙◌, if◌then◌else◌, arith}
 use Rattle.std.proofs.lemmas.Bool.Decides.{eqb_tells}
-use Rattle.std.specs.List.{fold}
 use Rattle.charlotte_calls.specs.Names.{opposite}
 use Rattle.charlotte_calls.specs.declared.names.EndId.{EndId}
 use Rattle.charlotte_calls.specs.declared.names.Pid.{Pid}
@@ -13,7 +12,7 @@ use Rattle.service_links.proofs.Changed.{end_eq-same}
 use Rattle.service_processes.specs.Known.{Known, known_of, without, IsKnown, Forgets, Grows}
 use Rattle.service_processes.proofs.Blocks.{there}
 use Rattle.service_step.specs.Steps.{may_match, may_take, is_matched, agree}
-use Rattle.service_step.specs.Ends.{end_eq, fresh, unmade, owner, put, puts, places, is_made, is_destroyed, is_owned_by, is_active, is_started_outward, is_started_inward, is_posted, is_matched_with, waiting_message, matched_message, carried_by, dropped, destroys, destroys_owned, destroys_each, starts_send, turns_inward, turns_outward, idles, withdraws_send, matches, matched_outward, takes, notices, noticed_end, noticed_outward, noticed_inward, to_owner, returned_end, returns}
+use Rattle.service_step.specs.Ends.{end_eq, fresh, unmade, owner, put, puts, places, is_made, is_destroyed, is_owned_by, is_active, is_started_outward, is_started_inward, is_posted, is_matched_with, waiting_message, matched_message, carried_by, destroys, destroys_owned, destroys_each, starts_send, turns_inward, turns_outward, idles, withdraws_send, matches, matched_outward, takes, notices, noticed_end, noticed_outward, noticed_inward, to_owner, returned_end, returns}
 use Rattle.service_step.specs.State.{State, is_cancelling}
 use Rattle.service_step.specs.declared.state.End.{End}
 use Rattle.service_step.specs.declared.state.Inward.{Inward}

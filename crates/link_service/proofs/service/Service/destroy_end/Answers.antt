@@ -1,6 +1,6 @@
-use Rattle.std.proofs.Common.{sym, subst, ap, true≢false, refl}
+use Rattle.std.proofs.Common.{sym, subst}
 use Rattle.service_processes.specs.Known.{known_of}
-use Rattle.link_service.specs.Service.{AreKnown, state_of}
+use Rattle.link_service.specs.Service.{AreKnown}
 use Rattle.link_service.proofs.Known.{AreKnown-destroys}
 use Rattle.link_service.proofs.service.Service.destroy_end.Goals as goal
 

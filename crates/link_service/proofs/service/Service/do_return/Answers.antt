@@ -1,5 +1,5 @@
-use Rattle.std.proofs.Common.{◌≡◌, ◌∙◌, ap, sym, refl, true}
-use Rattle.service_step.specs.Ends.{carried_by, waiting_message, matched_message}
+use Rattle.std.proofs.Common.{◌∙◌, ap}
+use Rattle.service_step.specs.Ends.{carried_by, matched_message}
 use Rattle.service_step.specs.declared.state.End.{End}
 use Rattle.link_service.specs.Service.{state_of}
 use Rattle.service_links.specs.Links.{ends_of}

@@ -1,12 +1,11 @@
-use Rattle.std.proofs.Common.{◌≡◌, ◌∙◌, [], ap, sym, subst, refl, true}
-use Rattle.charlotte_calls.specs.Names.{opposite}
+use Rattle.std.proofs.Common.{◌≡◌, ◌∙◌, ap, sym, subst, refl, true}
 use Rattle.charlotte_calls.specs.declared.names.EndId.{EndId}
 use Rattle.service_links.specs.Links.{ends_of}
-use Rattle.service_step.specs.Ends.{carried_by, matched_message, is_owned_by, is_started_outward}
+use Rattle.service_step.specs.Ends.{carried_by, matched_message, is_owned_by}
 use Rattle.service_step.specs.Steps.{done_reports}
 use Rattle.service_step.specs.declared.state.End.{End}
 use Rattle.link_service.specs.Service.{state_of}
-use Rattle.link_service.proofs.Known.{take-owned, take-started}
+use Rattle.link_service.proofs.Known.{take-owned}
 use Rattle.link_service.proofs.After.{after_take-to, process-needs}
 use Rattle.link_service.proofs.service.Service.do_take.Goals as goal
 

@@ -1,6 +1,6 @@
-use Rattle.std.proofs.Common.{sym, subst, ap, true≢false, refl}
+use Rattle.std.proofs.Common.{sym, subst, true≢false}
 use Rattle.service_processes.specs.Known.{known_of}
-use Rattle.link_service.specs.Service.{AreKnown, state_of}
+use Rattle.link_service.specs.Service.{AreKnown}
 use Rattle.link_service.proofs.Known.{AreKnown-turns_outward}
 use Rattle.link_service.proofs.service.Service.finish_send.Goals as goal
 

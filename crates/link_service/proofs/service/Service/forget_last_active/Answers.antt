@@ -1,6 +1,5 @@
-use Rattle.std.proofs.Common.{sym, subst, ap, ◌<◌, length}
-use Rattle.service_processes.specs.Known.{active_of}
-use Rattle.link_service.specs.Service.{ServiceView, HasIdleLast, IsLastActive, state_of}
+use Rattle.std.proofs.Common.{sym, subst}
+use Rattle.link_service.specs.Service.{ServiceView, HasIdleLast}
 use Rattle.link_service.proofs.Active.{loses-known, loses-one, last-there}
 use Rattle.link_service.proofs.service.Service.forget_last_active.Goals as goal
 

@@ -1,4 +1,4 @@
-use Rattle.std.proofs.Common.{sym, subst, ap, ◌∙◌}
+use Rattle.std.proofs.Common.{◌∙◌}
 use Rattle.link_service.specs.Service.{state_of}
 use Rattle.link_service.proofs.Active.{if_some, none_of, none-started}
 use Rattle.link_service.proofs.service.Service.last_active.Goals as goal

@@ -1,9 +1,8 @@
-use Rattle.std.proofs.Common.{◌≡◌, ◌∷◌, [], true, All, sym, subst, true≢false}
+use Rattle.std.proofs.Common.{◌≡◌, true, sym, subst}
 use Rattle.service_links.specs.Links.{ends_of}
-use Rattle.service_processes.specs.Known.{known_of, IsKnown}
-use Rattle.service_step.specs.Ends.{is_posted, is_started_outward, waiting_message, matched_message, carried_by}
+use Rattle.service_processes.specs.Known.{known_of}
 use Rattle.service_step.specs.Steps.{may_match}
-use Rattle.link_service.specs.Service.{ServiceView, AreKnown, OwnerKnows, state_of}
+use Rattle.link_service.specs.Service.{ServiceView, AreKnown, state_of}
 use Rattle.link_service.proofs.Known.{AreKnown-matches, match-posted}
 use Rattle.link_service.proofs.service.Service.match_ends.Goals as goal
 

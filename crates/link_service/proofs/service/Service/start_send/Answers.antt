@@ -1,7 +1,5 @@
-use Rattle.std.proofs.Common.{◌≡◌, ◌∷◌, [], true, All, sym, subst, true≢false}
-use Rattle.service_processes.specs.Known.{known_of, IsKnown}
-use Rattle.service_step.specs.Ends.{is_posted, is_started_outward, waiting_message, matched_message, carried_by}
-use Rattle.service_step.specs.Steps.{may_match}
+use Rattle.std.proofs.Common.{◌∷◌, [], sym, subst}
+use Rattle.service_processes.specs.Known.{known_of}
 use Rattle.link_service.specs.Service.{ServiceView, AreKnown, OwnerKnows, state_of}
 use Rattle.link_service.proofs.Known.{AreKnown-starts_send, owner-first}
 use Rattle.link_service.proofs.service.Service.start_send.Goals as goal
