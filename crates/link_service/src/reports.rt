@@ -4,7 +4,7 @@ ghost use Rattle.service_step.specs.Steps as steps;
 ghost use Rattle.link_service.specs.Service.{state_of};
 
 use crate::service::Service;
-use charlotte_calls::{Bytes, EndId, Ends, Outcome, Pid, Report, Way};
+use charlotte_calls::{Bytes, EndId, Ends, Pid, Report};
 
 impl Service {
     /// Whether this is the oldest report of a process, which waits.
@@ -26,14 +26,14 @@ impl Service {
 fn is_same_report(a: &Report, b: &Report) -> bool
     ensures { IsTrue result ↔ (a.now ≡ b.now) }
 {
-    is_same_activity(a, b) && is_same_outcome(a.outcome, b.outcome) && is_same_content(a, b)
+    is_same_activity(a, b) && a.outcome == b.outcome && is_same_content(a, b)
 }
 
 /// Whether two reports tell of the same way of the same end.
 fn is_same_activity(a: &Report, b: &Report) -> bool
     ensures { IsTrue result ↔ ((a.now.on ≡ b.now.on) × (a.now.way ≡ b.now.way)) }
 {
-    is_same_end(a.on, b.on) && is_same_way(a.way, b.way)
+    is_same_end(a.on, b.on) && a.way == b.way
 }
 
 /// Whether two reports tell of the same bytes and ends.
@@ -44,18 +44,6 @@ fn is_same_content(a: &Report, b: &Report) -> bool
 }
 
 fn is_same_end(a: EndId, b: EndId) -> bool
-    ensures { IsTrue result ↔ (a ≡ b) }
-{
-    a == b
-}
-
-fn is_same_way(a: Way, b: Way) -> bool
-    ensures { IsTrue result ↔ (a ≡ b) }
-{
-    a == b
-}
-
-fn is_same_outcome(a: Outcome, b: Outcome) -> bool
     ensures { IsTrue result ↔ (a ≡ b) }
 {
     a == b
