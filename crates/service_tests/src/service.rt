@@ -13,32 +13,63 @@ pub(crate) const P: Pid = Pid(0);
 
 pub(crate) const Q: Pid = Pid(1);
 
-const fn end(count: u32, side: Side) -> EndId {
-    EndId {
-        link: LinkId { maker: 0, count },
-        side,
-    }
-}
+/// Three links from process 0 to process 1, the next link, and one that comes later.
+const FIRST: LinkId = LinkId { maker: 0, count: 0 };
 
-/// The ends of three links, each end a of which is process 0's at the start, and each end b process 1's.
-pub(crate) const A: EndId = end(0, Side::A);
+const SECOND: LinkId = LinkId { maker: 0, count: 1 };
 
-pub(crate) const B: EndId = end(0, Side::B);
+const THIRD: LinkId = LinkId { maker: 0, count: 2 };
 
-pub(crate) const C: EndId = end(1, Side::A);
+const NEXT: LinkId = LinkId { maker: 0, count: 3 };
 
-pub(crate) const D: EndId = end(1, Side::B);
+const AFTER: LinkId = LinkId { maker: 0, count: 4 };
 
-pub(crate) const E: EndId = end(2, Side::A);
+/// Their ends: each end a is process 0's at the start, and each end b process 1's.
+pub(crate) const A: EndId = EndId {
+    link: FIRST,
+    side: Side::A,
+};
 
-pub(crate) const F: EndId = end(2, Side::B);
+pub(crate) const B: EndId = EndId {
+    link: FIRST,
+    side: Side::B,
+};
 
-/// The ends of the next link, and one of that which comes after it.
-pub(crate) const M: EndId = end(3, Side::A);
+pub(crate) const C: EndId = EndId {
+    link: SECOND,
+    side: Side::A,
+};
 
-pub(crate) const N: EndId = end(3, Side::B);
+pub(crate) const D: EndId = EndId {
+    link: SECOND,
+    side: Side::B,
+};
 
-pub(crate) const LATER: EndId = end(4, Side::A);
+pub(crate) const E: EndId = EndId {
+    link: THIRD,
+    side: Side::A,
+};
+
+pub(crate) const F: EndId = EndId {
+    link: THIRD,
+    side: Side::B,
+};
+
+/// The ends of the next link, and one of the later.
+pub(crate) const M: EndId = EndId {
+    link: NEXT,
+    side: Side::A,
+};
+
+pub(crate) const N: EndId = EndId {
+    link: NEXT,
+    side: Side::B,
+};
+
+pub(crate) const LATER: EndId = EndId {
+    link: AFTER,
+    side: Side::A,
+};
 
 /// A call that is refused.
 #[derive(Clone, Copy)]
@@ -164,16 +195,22 @@ fn step(service: &mut Service, act: Act) -> Result<Option<u8>, Fail> {
     }
 }
 
-/// Makes these steps. Each but the last is allowed; the last is allowed, or not and of this number.
+/// Makes these steps, one list after the other. Each but the last is allowed; the last is allowed, or not and of this number.
 pub(crate) fn row(
     alloc: Global,
     version: u8,
-    acts: &[Act],
+    acts: (&[Act], &[Act]),
     refused: Option<u8>,
 ) -> Result<Service, Fail> {
     let mut service = start(alloc, version)?;
+    for act in acts.0 {
+        holds(
+            step(&mut service, *act)? == None,
+            "each step before is allowed",
+        )?;
+    }
     let mut answer = None;
-    for act in acts {
+    for act in acts.1 {
         holds(answer == None, "each step before the last is allowed")?;
         answer = step(&mut service, *act)?;
     }
