@@ -1,4 +1,5 @@
-//! Tests of the link service's ends and processes through their public calls.
+//! Tests of the link service by direct calls: each step once allowed, and once refused for each of its conditions; and each call of
+//! the parts that keep its ends and processes.
 #![tactic(auto)]
 
 #[cfg(test)]
@@ -7,3 +8,7 @@ mod holding;
 mod links;
 #[cfg(test)]
 mod processes;
+#[cfg(test)]
+mod rows;
+#[cfg(test)]
+mod service;

@@ -1,0 +1,5 @@
+pub mod Known
+pub mod After
+pub mod Active
+pub mod NewLinks
+pub mod Compared
