@@ -1,0 +1,4 @@
+pub mod Packets
+pub mod StandsFor
+pub mod Fields
+pub mod Invariant
