@@ -1,0 +1,4 @@
+pub mod Sums
+pub mod Ends
+pub mod Wired
+pub mod Start

@@ -1,0 +1,191 @@
+-- The world with which a run starts stands for the state with which the service starts, and what is true of every world is true of it.
+use Rattle.std.proofs.Common.{◌≡◌, ◌≢◌, ◌⊎◌, ◌↔◌, inl, inr, ℕ, ◌+◌, ◌<◌, ◌≤◌, ◌^◌, Bool, true, false, nat_eq, nat_lt, ◌&&◌, cond, List, [], length, All, Contains, Option, Some, None, slice_get, slice_index, get_or, refl, sym, ap, subst, ◌∙◌, arith, true≢false, lt-ltb, le-ltb, pow_pos}
+use Rattle.std.proofs.lemmas.Bool.Decides.{eqb_tells}
+use Rattle.std.proofs.lemmas.List.Elements.{All-nil, All-weaker, All-get_or}
+use Rattle.std.proofs.lemmas.Option.{slice_get_within}
+use Rattle.charlotte_calls.specs.Names.{opposite}
+use Rattle.charlotte_calls.specs.Moving.{new_end}
+use Rattle.charlotte_calls.specs.Packets.{names_kernels_below}
+use Rattle.charlotte_calls.specs.Setting.{IsValid}
+use Rattle.charlotte_calls.specs.declared.names.EndId.{EndId}
+use Rattle.charlotte_calls.specs.declared.names.Pid.{Pid}
+use Rattle.charlotte_calls.specs.declared.picture.MovingPicture.{MovingPicture}
+use Rattle.charlotte_calls.specs.declared.picture.Picture.{Picture}
+use Rattle.charlotte_calls.specs.declared.picture.PictureWhat.{PictureWhat}
+use Rattle.charlotte_calls.specs.declared.setting.Setting.{Setting}
+use Rattle.end_table.specs.Entries.{settled}
+use Rattle.end_table.specs.Table.{IsHere, IsHereAnd, IfHere, IsOfEnd}
+use Rattle.end_table.specs.declared.entry.Entry.{Entry}
+use Rattle.end_table.specs.declared.entry.Entry.TheVariants as entry
+use Rattle.end_table.specs.declared.entry.HereView.{HereView}
+use Rattle.end_table.specs.declared.entry.Holder.TheVariants as holder
+use Rattle.kernel_sound.specs.Sound.{IsSound, IsHeldWell, AreHeldBy}
+use Rattle.kernel_step.specs.Actions.{enclosed_of}
+use Rattle.kernel_step.specs.Rows.{is_here}
+use Rattle.kernel_step.specs.Start.{home, owned_from_start, wired}
+use Rattle.kernel_world.specs.World.{World, start}
+use Rattle.service_lawful.proofs.Fresh.{IsFresh, IsFreshEnd, fresh-consistent, fresh-inward, fresh-outward, fresh-noticed, fresh-sent, fresh-nowhere, fresh-phase, fresh-running, fresh-reports, fresh-lives}
+use Rattle.service_step.specs.Ends.{unmade, fresh, is_made, is_living, is_taken, matched_message}
+use Rattle.service_step.specs.Run.{start_state, new_processes, new_process, wired as served}
+use Rattle.service_step.specs.State.{State, Process}
+use Rattle.service_step.specs.declared.state.End.{End}
+use Rattle.service_step.specs.declared.state.Phase.TheVariants as phase
+use Rattle.service_step.specs.declared.state.Place.{Place}
+use Rattle.service_step.specs.declared.state.Place.TheVariants as place
+use Rattle.world_meaning.specs.Fields.{Stand, At, Flying, HasFields, IsHeard, IsHinted, IsNoMore, IsAsking, IsUnwantOf, IsUnserved, IsAskedAs, value_of}
+use Rattle.world_meaning.specs.Invariant.{IsOfSetting, NamesBelow, IsFew, AreMarked, AreCounted, IsHonest, AreAsked, AreWaiting, IsServed, AreWanted, AreVoided, AreSentOnce, IsPacketRight, IsVoidRight, Invariant, is_unwanted_to, is_message_of, is_taken_of}
+use Rattle.world_meaning.specs.Packets.{IsUnderWay, over_kernels, sum_over, one_if, how_many, values_for, values_of}
+use Rattle.world_meaning.specs.StandsFor.{StandsFor, IsEndOf, IsOwnedHere, IsInMessage, IsProcessOf, entry_at, standing}
+use Rattle.world_meaning.proofs.Ends.{opposite-twice}
+use Rattle.world_meaning.proofs.Sums.{over-none, over-one, sum_over-none}
+use Rattle.world_meaning.proofs.Wired.{IsLoose, IsTied, IsLinked, AreWired, are-wired}
+
+module _ (g : Setting) (valid : IsValid g) where
+  abbrev w : World
+  w = start g
+
+  abbrev s : State
+  s = start_state g
+
+  aw : AreWired g (wired g) (served g)
+  aw = are-wired g valid
+
+  home-below : (p : Pid) → p.0 < length g.homes → home g p < g.kernels
+  home-below p below = All-get_or (λ h. h < g.kernels) g.homes p.0 0 below valid.homes
+
+  -- ---- the service
+
+  pub starts-fresh : IsFresh s
+  starts-fresh = record { each = λ e. each e (aw.each e); made = λ e. made e (aw.each e); processes = refl }
+    where
+      each : (e : EndId) → IsLoose (wired g) (served g) e ⊎ IsLinked g (wired g) (served g) e → (s.ends e ≡ unmade) ⊎ IsFreshEnd s e
+      each e (inl l) = inl l.end
+      each e (inr l) = inr (record { p = l.p; end = l.own.end; process = l.own.owner })
+
+      made : (e : EndId) → IsLoose (wired g) (served g) e ⊎ IsLinked g (wired g) (served g) e → is_made (s.ends e).place ≡ nat_lt e.link.count (slice_index s.made e.link.maker)
+      made e (inl l) = ap (λ (x : End). is_made x.place) l.end ∙ sym (le-ltb _ _ l.count)
+      made e (inr l) = ap (λ (x : End). is_made x.place) l.own.end ∙ sym (lt-ltb _ _ l.own.count)
+
+  -- ---- the kernels
+
+  -- what a kernel has of an end at the start
+  record IsThere (k : ℕ) (e : EndId) : Type 0 where
+    p : Pid
+    q : Pid
+    entry_is : entry_at w k e ≡ owned_from_start p e (home g q)
+    at : k ≡ home g p
+    own : IsTied g (wired g) (served g) p q e
+    other : IsTied g (wired g) (served g) q p (opposite e)
+
+  there : (k : ℕ) (e : EndId) → (entry_at w k e ≡ entry.Nothing) ⊎ IsThere k e
+  there k e = by (aw.each e)
+    where
+      tied : (l : IsLinked g (wired g) (served g) e) → ((nat_eq k (home g l.p) ≡ true) × (k ≡ home g l.p)) ⊎ ((nat_eq k (home g l.p) ≡ false) × (k ≢ home g l.p)) → (entry_at w k e ≡ entry.Nothing) ⊎ IsThere k e
+      tied l (inl is) = inr (record { p = l.p; q = l.q; entry_is = ap (λ z. entry_at w z e) is.1 ∙ l.own.here; at = is.1; own = l.own; other = l.other })
+      tied l (inr is) = inl (l.own.away k is.1)
+
+      by : IsLoose (wired g) (served g) e ⊎ IsLinked g (wired g) (served g) e → (entry_at w k e ≡ entry.Nothing) ⊎ IsThere k e
+      by (inl l) = inl (l.away k)
+      by (inr l) = tied l (eqb_tells k (home g l.p))
+
+  -- what is true of no entry and of an end that a process owns from the start is true of each entry
+  each-entry : (P : Entry → Type 0) (k : ℕ) (e : EndId) → P entry.Nothing → ((x : IsThere k e) → P (owned_from_start x.p e (home g x.q))) → P (entry_at w k e)
+  each-entry P k e none own = by (there k e)
+    where
+      by : (entry_at w k e ≡ entry.Nothing) ⊎ IsThere k e → P (entry_at w k e)
+      by (inl is) = subst P (sym is) none
+      by (inr x) = subst P (sym x.entry_is) (own x)
+
+  -- no packet is under way
+  no_packets : (P : PictureWhat → Type 0) → IsUnderWay w P → ⊥
+  no_packets P u = let has : Contains {X = Picture} [] u.packet = u.there in omega (arith, has.1)
+
+  -- the fields of an end
+  record AreNew (e : EndId) (at : Stand) (m : MovingPicture) : Type 0 where
+    k : ℕ
+    stand : at ≡ At k
+    x : IsThere k e
+    is : m ≡ new_end e (home g x.q)
+
+  fields : (e : EndId) (at : Stand) (m : MovingPicture) → HasFields w e at m → AreNew e at m
+  fields e Flying m has = absurd (no_packets (λ q. Contains (values_of q) m) has.0)
+  fields e (At k) m has = by (there k e)
+    where
+      by : (entry_at w k e ≡ entry.Nothing) ⊎ IsThere k e → AreNew e (At k) m
+      by (inl is) = absurd (let none : value_of (entry_at w k e) ≡ None = ap value_of is in cc)
+      by (inr x) = record { k = k; stand = refl; x = x; is = let some : value_of (entry_at w k e) ≡ Some (new_end e (home g x.q)) = ap value_of x.entry_is in cc }
+
+  view : (k : ℕ) (e : EndId) (v : HereView) → entry_at w k e ≡ entry.Here v → (x : IsThere k e) × (v ≡ settled (holder.Owner x.p) (new_end e (home g x.q)))
+  view k e v is = by (there k e)
+    where
+      by : (entry_at w k e ≡ entry.Nothing) ⊎ IsThere k e → (x : IsThere k e) × (v ≡ settled (holder.Owner x.p) (new_end e (home g x.q)))
+      by (inl none) = absurd cc
+      by (inr x) = (x, let here : entry_at w k e ≡ owned_from_start x.p e (home g x.q) = x.entry_is in cc)
+
+  -- ---- standing for
+
+  starts-once : (e : EndId) → standing w e ≡ one_if (is_living (s.ends e).place)
+  unfolding standing
+  starts-once e = by (aw.each e)
+    where
+      here : ℕ → ℕ
+      here k = one_if (is_here (entry_at w k e))
+
+      nothing : sum_over (λ q. values_for e (values_of q)) w ≡ 0
+      nothing = sum_over-none (λ q. values_for e (values_of q)) w (λ from to. refl)
+
+      by : IsLoose (wired g) (served g) e ⊎ IsLinked g (wired g) (served g) e → over_kernels (λ k. one_if (is_here (entry_at w k e))) + sum_over (λ q. values_for e (values_of q)) w ≡ one_if (is_living (s.ends e).place)
+      by (inl l) =
+          let none : over_kernels (λ k. one_if (is_here (entry_at w k e))) ≡ 0 = over-none (λ k. one_if (is_here (entry_at w k e))) (λ k. ap (λ x. one_if (is_here x)) (l.away k)) in
+          let dead : one_if (is_living (s.ends e).place) ≡ 0 = ap (λ (x : End). one_if (is_living x.place)) l.end in
+          omega (arith, nothing)
+      by (inr l) =
+          let below : home g l.p < 8 = omega (arith, home-below l.p l.own.owner, valid.limits.kernels) in
+          let one : over_kernels (λ k. one_if (is_here (entry_at w k e))) ≡ one_if (is_here (entry_at w (home g l.p) e)) = over-one (λ k. one_if (is_here (entry_at w k e))) (home g l.p) below (λ k off. ap (λ x. one_if (is_here x)) (l.own.away k off)) in
+          let is : one_if (is_here (entry_at w (home g l.p) e)) ≡ 1 = ap (λ x. one_if (is_here x)) l.own.here in
+          let alive : one_if (is_living (s.ends e).place) ≡ 1 = ap (λ (x : End). one_if (is_living x.place)) l.own.end in
+          omega (arith, nothing)
+
+  starts-owned : (e : EndId) (p : Pid) → ((s.ends e).place ≡ place.Owned p) ↔ IsOwnedHere p (entry_at w (home g p) e)
+  starts-owned e p = (to (aw.each e), from (there (home g p) e))
+    where
+      to : IsLoose (wired g) (served g) e ⊎ IsLinked g (wired g) (served g) e → (s.ends e).place ≡ place.Owned p → IsOwnedHere p (entry_at w (home g p) e)
+      to (inl l) at = absurd (let is : (s.ends e).place ≡ place.Unmade = ap (λ (x : End). x.place) l.end in cc)
+      to (inr l) at =
+          let is : (s.ends e).place ≡ place.Owned l.p = ap (λ (x : End). x.place) l.own.end in
+          let same : l.p ≡ p = cc in
+          subst (λ z. IsOwnedHere z (entry_at w (home g z) e)) same (subst (IsOwnedHere l.p) (sym l.own.here) refl)
+
+      from : (entry_at w (home g p) e ≡ entry.Nothing) ⊎ IsThere (home g p) e → IsOwnedHere p (entry_at w (home g p) e) → (s.ends e).place ≡ place.Owned p
+      from (inl is) has = absurd (subst (IsOwnedHere p) is has)
+      from (inr x) has =
+          let same : holder.Owner x.p ≡ holder.Owner p = subst (IsOwnedHere p) x.entry_is has in
+          let is : (s.ends e).place ≡ place.Owned x.p = ap (λ (y : End). y.place) x.own.end in
+          cc
+
+  starts-free : (e f : EndId) (n : ℕ) → IsInMessage w e f n → ⊥
+  starts-free e f n (inl is) = each-entry (λ x. IsHereAnd x (λ v. v.holder ≡ holder.EnclosedIn f) → ⊥) is.at e (λ has. has) (λ x has. differ x.p has) is.enclosed
+    where
+      differ : (p : Pid) → holder.Owner p ≡ holder.EnclosedIn f → ⊥
+      differ p is = cc
+  starts-free e f n (inr (inl u)) = no_packets _ u
+  starts-free e f n (inr (inr u)) = no_packets _ u
+
+  starts-agree : (e : EndId) (p : Pid) (v : HereView) → (s.ends e).place ≡ place.Owned p → entry_at w (home g p) e ≡ entry.Here v → IsEndOf w e v (s.ends e)
+  starts-agree e p v at is =
+      let x = view (home g p) e v is in
+      subst (IsEndOf w e v) (sym x.0.own.end) (subst (λ u. IsEndOf w e u (fresh (place.Owned x.0.p))) (sym x.1) (record { sent = refl; noticed = refl; outward = tt; inward = tt }))
+
+  starts-process : (p : Pid) → p.0 < length s.homes → IsProcessOf ((w.kernel (home g p)).process p.0) (s.process p.0)
+  starts-process p below = record { phase = fresh-running s starts-fresh p below; unanswered = λ is. refl; reports = fresh-reports s starts-fresh p }
+
+  -- the world of the start stands for the state of the start
+  pub starts-standing : StandsFor w s
+  starts-standing =
+      record {
+        processes = starts-process;
+        once = starts-once;
+        owned = starts-owned;
+        in_message = λ e f n. (λ at. absurd (fresh-nowhere s starts-fresh e f n at), λ is. absurd (starts-free e f n is));
+        agree = starts-agree;
+      }
