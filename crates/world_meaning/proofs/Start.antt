@@ -34,16 +34,19 @@ use Rattle.service_step.specs.declared.state.Phase.TheVariants as phase
 use Rattle.service_step.specs.declared.state.Place.{Place}
 use Rattle.service_step.specs.declared.state.Place.TheVariants as place
 use Rattle.world_meaning.specs.Fields.{Stand, At, Flying, HasFields, IsHeard, IsHinted, IsNoMore, IsAsking, IsUnwantOf, IsUnserved, IsAskedAs, value_of}
-use Rattle.world_meaning.specs.Invariant.{IsOfSetting, NamesBelow, IsFew, AreMarked, AreCounted, IsHonest, AreAsked, AreWaiting, IsServed, AreWanted, AreVoided, AreSentOnce, IsPacketRight, IsVoidRight, Invariant, is_unwanted_to, is_message_of, is_taken_of}
-use Rattle.world_meaning.specs.Packets.{IsUnderWay, over_kernels, sum_over, one_if, how_many, values_for, values_of}
-use Rattle.world_meaning.specs.StandsFor.{StandsFor, IsEndOf, IsOwnedHere, IsInMessage, IsProcessOf, entry_at, standing}
+use Rattle.world_meaning.specs.Invariant.{IsOfSetting, NamesBelow, IsFew, AreMarked, AreCounted, IsHonest, AreAsked, AreCancelling, AreNamed, AreRight, IsServed, AreWanted, AreVoided, AreSentOnce, IsPacketRight, IsVoidRight, Invariant, is_unwanted_to, is_message_of, is_taken_of}
+use Rattle.world_meaning.specs.Packets.{Links, links_of, IsUnderWay, over_kernels, sum_over, one_if, how_many, values_for, values_of}
+use Rattle.world_meaning.specs.StandsFor.{StandsFor, AreLinksOf, IsEndOf, IsOwnedHere, IsInMessage, IsProcessOf, entry_at, standing}
 use Rattle.world_meaning.proofs.Ends.{opposite-twice}
 use Rattle.world_meaning.proofs.Sums.{over-none, over-one, sum_over-none}
 use Rattle.world_meaning.proofs.Wired.{IsLoose, IsTied, IsLinked, AreWired, are-wired}
 
 module _ (g : Setting) (valid : IsValid g) where
-  abbrev w : World
-  w = start g
+  abbrev world : World
+  world = start g
+
+  abbrev w : Links
+  w = links_of world
 
   abbrev s : State
   s = start_state g
@@ -177,18 +180,21 @@ module _ (g : Setting) (valid : IsValid g) where
       let x = view (home g p) e v is in
       subst (IsEndOf w e v) (sym x.0.own.end) (subst (λ u. IsEndOf w e u (fresh (place.Owned x.0.p))) (sym x.1) (record { sent = refl; noticed = refl; outward = tt; inward = tt }))
 
-  starts-process : (p : Pid) → p.0 < length s.homes → IsProcessOf ((w.kernel (home g p)).process p.0) (s.process p.0)
+  starts-process : (p : Pid) → p.0 < length s.homes → IsProcessOf ((world.kernel (home g p)).process p.0) (s.process p.0)
   starts-process p below = record { phase = fresh-running s starts-fresh p below; unanswered = λ is. refl; reports = fresh-reports s starts-fresh p }
 
   -- the world of the start stands for the state of the start
-  pub starts-standing : StandsFor w s
+  pub starts-standing : StandsFor world s
   starts-standing =
       record {
         processes = starts-process;
-        once = starts-once;
-        owned = starts-owned;
-        in_message = λ e f n. (λ at. absurd (fresh-nowhere s starts-fresh e f n at), λ is. absurd (starts-free e f n is));
-        agree = starts-agree;
+        links =
+            record {
+              once = starts-once;
+              owned = starts-owned;
+              in_message = λ e f n. (λ at. absurd (fresh-nowhere s starts-fresh e f n at), λ is. absurd (starts-free e f n is));
+              agree = starts-agree;
+            };
       }
 
   -- ---- what is true of every world
@@ -212,44 +218,31 @@ module _ (g : Setting) (valid : IsValid g) where
       by (inl is) = is
       by (inr x) = absurd (let at : k ≡ home g x.p = x.at in omega (arith, home-below x.p x.own.owner, made-length))
 
-  starts-sound : (k : ℕ) → IsSound k (w.kernel k).made (length s.homes) (w.kernel k).table
+  starts-sound : (k : ℕ) → IsSound k (world.kernel k).made (length s.homes) (world.kernel k).table
   starts-sound k =
       record {
         own = λ e. each-entry (IsOfEnd e) k e tt (λ x. refl);
         held = λ e. each-entry (λ x. IfHere x (λ v. IsHeldWell (length s.homes) v v.holder)) k e tt (λ x. x.own.owner);
-        enclosed = λ e. each-entry (λ x. IfHere x (λ v. AreHeldBy e (w.kernel k).table (enclosed_of v.outward))) k e tt (λ x. tt);
+        enclosed = λ e. each-entry (λ x. IfHere x (λ v. AreHeldBy e (world.kernel k).table (enclosed_of v.outward))) k e tt (λ x. tt);
         unmade = λ e maker above. each-entry (λ x. IsHere x → ⊥) k e (λ is. is) (λ x is. counted e x maker above);
       }
     where
-      counted : (e : EndId) → IsThere k e → e.link.maker ≡ k → (w.kernel k).made ≤ e.link.count → ⊥
+      counted : (e : EndId) → IsThere k e → e.link.maker ≡ k → (world.kernel k).made ≤ e.link.count → ⊥
       counted e x maker above =
           let low : e.link.count < slice_index s.made e.link.maker = x.own.count in
           let at : slice_index s.made e.link.maker ≡ slice_index s.made k = ap (slice_index s.made) maker in
           omega (arith, aw.made k)
 
-  starts-made : (k : ℕ) → k < length s.made → slice_get s.made k ≡ Some (w.kernel k).made
-  starts-made k below = got s.made k below ∙ ap Some (aw.made k)
-    where
-      got : (xs : List ℕ) (k : ℕ) → k < length xs → slice_get xs k ≡ Some (slice_index xs k)
-      got [] k below = absurd (omega arith)
-      got (x ∷ xs) zero below = refl
-      got (x ∷ xs) (suc k) below = got xs k (omega arith)
-
-  starts-setting : IsOfSetting w s
+  starts-setting : IsOfSetting world s
   starts-setting =
       record {
         few = omega (arith, made-length, valid.limits.kernels);
         numbers = λ k. refl;
         kernels = λ k. sym made-length;
         version = λ k. refl;
-        made = starts-made;
+        made = aw.made;
         homes = subst (λ z. All (λ h. h < z) s.homes) (sym made-length) valid.homes;
         sound = starts-sound;
-        names = starts-names;
-        tables = starts-away;
-        lists = λ from to above. refl;
-        addressed = λ from to. All-nil _;
-        addressees = λ from to. All-nil _;
       }
 
   new-value : (e : EndId) (at : Stand) (m : MovingPicture) → HasFields w e at m → (k : ℕ) × (q : Pid) × (m ≡ new_end e (home g q))
@@ -307,13 +300,10 @@ module _ (g : Setting) (valid : IsValid g) where
       by (inl h) = cc
       by (inr h) = cc
 
-  -- what is true of every world that a run reaches is true of the start
-  pub starts-well : Invariant 0 w s
-  starts-well =
+  starts-links : AreRight 0 w s
+  starts-links =
       record {
-        stands = starts-standing;
-        service = fresh-consistent s starts-fresh;
-        setting = starts-setting;
+        named = record { entries = starts-names; away = starts-away; lists = λ from to above. refl; addressed = λ from to. All-nil _; addressees = λ from to. All-nil _ };
         few = λ e at m has. let f = new-value e at m has in subst (IsFew 0) (sym f.2) (record { hops = omega arith; sent = omega arith; asked = omega arith });
         marked = record { destroyed = λ k e m is. absurd (no-mark k e m is); once = λ j k e m l is. absurd (no-mark j e m is) };
         counted =
@@ -323,7 +313,7 @@ module _ (g : Setting) (valid : IsValid g) where
             };
         honest = starts-honest;
         asked = record { last = λ k e v i is asked. absurd (not-asked k e v i is asked); cancelled = λ k e v i p is withdrawing held. absurd (idle k e v i is withdrawing) };
-        waiting = record { cancelling = λ p e is. absurd (not-cancelling p e is); waiting = not-waiting };
+        cancelling = λ p e is. absurd (not-cancelling p e is);
         served = λ e k v i at m is asked. absurd (not-asked k e v i is asked);
         wanted =
             record {
@@ -345,3 +335,14 @@ module _ (g : Setting) (valid : IsValid g) where
     where
       idle : (k : ℕ) (e : EndId) (v : HereView) (i : ℕ) → entry_at w k e ≡ entry.Here v → v.inward ≡ inward.Withdrawing i → ⊥
       idle k e v i is withdrawing = let x = view k e v is in let quiet : v.inward ≡ inward.Idle = ap (λ (u : HereView). u.inward) x.1 in cc
+
+  -- what is true of every world that a run reaches is true of the start
+  pub starts-well : Invariant 0 world s
+  starts-well =
+      record {
+        stands = starts-standing;
+        service = fresh-consistent s starts-fresh;
+        setting = starts-setting;
+        links = starts-links;
+        waiting = not-waiting;
+      }
