@@ -5,3 +5,4 @@ pub mod Start
 pub mod Calm
 pub mod Refused
 pub mod Run
+pub mod Lists
