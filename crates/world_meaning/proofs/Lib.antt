@@ -4,5 +4,6 @@ pub mod Wired
 pub mod Start
 pub mod Calm
 pub mod Refused
-pub mod Run
 pub mod Lists
+pub mod Waits
+pub mod Run
