@@ -7,3 +7,4 @@ pub mod Refused
 pub mod Lists
 pub mod Waits
 pub mod Run
+pub mod Rows
