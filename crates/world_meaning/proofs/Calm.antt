@@ -32,9 +32,9 @@ AreRight-later i w s r =
       cancelling = r.cancelling;
       served = r.served;
       wanted = r.wanted;
-      voided = r.voided;
-      packets = r.packets;
+      unwanted = r.unwanted;
       once = r.once;
+      packets = r.packets;
     }
   where
     later : (m : MovingPicture) → IsFew i m → IsFew (i + 1) m

@@ -63,13 +63,13 @@ module _ (s : State) (p : Pid) (to : Phase) (ran : (s.process p.0).phase ≡ pha
         marked = r.marked;
         counted = r.counted;
         honest = r.honest;
-        asked = record { last = r.asked.last; cancelled = λ k e v n q is withdrawing held. still-cancelling q e (r.asked.cancelled k e v n q is withdrawing held) };
+        asked = λ e. record { last = (r.asked e).last; cancelled = λ k v n q is withdrawing held. still-cancelling q e ((r.asked e).cancelled k v n q is withdrawing held) };
         cancelling = λ q e is. r.cancelling q e (was-cancelling q e is);
         served = r.served;
         wanted = r.wanted;
-        voided = r.voided;
-        packets = r.packets;
+        unwanted = r.unwanted;
         once = r.once;
+        packets = r.packets;
       }
 
 -- ---- the kernel
