@@ -8,3 +8,4 @@ pub mod Lists
 pub mod Waits
 pub mod Run
 pub mod Rows
+pub mod Frame
