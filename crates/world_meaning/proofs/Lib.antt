@@ -1,0 +1,11 @@
+pub mod Sums
+pub mod Ends
+pub mod Wired
+pub mod Start
+pub mod Calm
+pub mod Refused
+pub mod Lists
+pub mod Waits
+pub mod Run
+pub mod Rows
+pub mod Frame

@@ -1,0 +1,5 @@
+pub mod Packets
+pub mod StandsFor
+pub mod Fields
+pub mod Invariant
+pub mod Law
