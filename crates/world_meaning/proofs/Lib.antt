@@ -1,11 +1,6 @@
 pub mod Sums
 pub mod Ends
-pub mod Wired
-pub mod Start
-pub mod Calm
-pub mod Refused
 pub mod Lists
-pub mod Waits
-pub mod Run
+pub mod Goes
 pub mod Rows
 pub mod Frame

@@ -2,4 +2,3 @@ pub mod Packets
 pub mod StandsFor
 pub mod Fields
 pub mod Invariant
-pub mod Law

@@ -26,23 +26,14 @@ use Rattle.service_step.specs.State.{State}
 use Rattle.service_lawful.proofs.History.{history-calm, history-none, history-refused, state_after-append}
 use Rattle.service_lawful.proofs.Turned.{turned, turned-held, turned-reports}
 use Rattle.service_lawful.specs.History.{HasHistory}
-use Rattle.world_meaning.proofs.Calm.{IsAnswered, answered-invariant}
-use Rattle.world_meaning.proofs.Refused.{IsCaller, caller-process, caller-runs, refused-for, wait-granted}
-use Rattle.world_meaning.proofs.Start.{starts-well, starts-fresh}
-use Rattle.world_meaning.proofs.Waits.{IsWaiting, wait-is, waits-invariant}
+use Rattle.world_meaning.proofs.Goes.{Goes}
+use Rattle.world_law.proofs.Calm.{IsAnswered, answered-invariant}
+use Rattle.world_law.proofs.Refused.{IsCaller, caller-process, caller-runs, refused-for, wait-granted}
+use Rattle.world_law.proofs.Start.{starts-well, starts-fresh}
+use Rattle.world_law.proofs.Waits.{IsWaiting, wait-is, waits-invariant}
 use Rattle.world_meaning.specs.Invariant.{Invariant}
-use Rattle.world_meaning.specs.Law.{GoesWithEach, joined, IsServedLawfully, IsCovered, IsCoveredCall, AreCovered}
+use Rattle.world_law.specs.Law.{GoesWithEach, joined, IsServedLawfully, IsCovered, IsCoveredCall, AreCovered}
 use Rattle.world_meaning.specs.StandsFor.{home_of, service_phase}
-
--- the service goes with an event, and what is true of every world is true afterwards
-pub record Goes (i : ℕ) (w : World) (s : State) (e : Event) : Type 0 where
-  pub part : List (ServiceStep × State)
-  pub steps : map (λ made. made.0) part ≡ (outcome w e).steps
-  pub run : IsRunFrom s part
-  pub after : Invariant (i + 1) (happens w e) (state_after s part)
-  pub homes : (state_after s part).homes ≡ s.homes
-  -- a lawful run of the service goes on lawfully
-  pub lawful : (t : State) (run : List (ServiceStep × State)) → state_after t run ≡ s → HasHistory t run → HasHistory t (run ++ part)
 
 -- ---- calls that only answer their process
 

@@ -35,7 +35,7 @@ use Rattle.world_meaning.specs.Invariant.{IsOfSetting, NamesBelow, IsFew, IsHone
 use Rattle.world_meaning.specs.Packets.{Links, links_of, IsUnderWay, over_kernels, sum_over, one_if, how_many, values_for, values_of}
 use Rattle.world_meaning.specs.StandsFor.{StandsFor, IsEndOf, IsOwnedHere, IsInMessage, IsProcessOf, entry_at, standing}
 use Rattle.world_meaning.proofs.Sums.{over-none, over-one, sum_over-none}
-use Rattle.world_meaning.proofs.Wired.{IsLoose, IsTied, IsLinked, AreWired, are-wired}
+use Rattle.world_law.proofs.Wired.{IsLoose, IsTied, IsLinked, AreWired, are-wired}
 
 -- the hint of an end that never moved
 hint-of : (m : MovingPicture) (e : EndId) (k j h : ℕ) → m ≡ new_end e k → m.hint ≡ (j, h) → (j ≡ k) × (h ≡ 0)

@@ -1,0 +1,6 @@
+pub mod Wired
+pub mod Start
+pub mod Refused
+pub mod Calm
+pub mod Waits
+pub mod Run
