@@ -1,0 +1,11 @@
+pub mod Does
+pub mod Packets
+pub mod Folds
+pub mod Ends
+pub mod Actions
+pub mod Calls
+pub mod Rows
+pub mod Closing
+pub mod Retiring
+pub mod Sound
+pub mod Events

@@ -1,0 +1,5 @@
+pub mod Effect
+pub mod Actions
+pub mod Calls
+pub mod Rows
+pub mod Closing
