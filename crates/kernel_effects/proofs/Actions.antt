@@ -1,5 +1,5 @@
 -- MATCH and NOTICE.
-use Rattle.std.proofs.Common.{◌≡◌, ℕ, Bool, true, false, List, [], ◌∷◌, ◌++◌, map, refl, sym, ap, subst, ◌∙◌, if◌then◌else◌}
+use Rattle.std.proofs.Common.{◌≡◌, ℕ, Bool, true, false, List, [], ◌∷◌, ◌++◌, refl, sym, ap, subst, if◌then◌else◌}
 use Rattle.std.proofs.lemmas.List.{map-append}
 use Rattle.std.specs.List.{list_any}
 use Rattle.charlotte_calls.specs.Names.{opposite}
@@ -8,11 +8,9 @@ use Rattle.charlotte_calls.specs.declared.calls.Cause.TheVariants as cause
 use Rattle.charlotte_calls.specs.declared.calls.ServiceStep.TheVariants as step
 use Rattle.charlotte_calls.specs.declared.names.EndId.{EndId}
 use Rattle.charlotte_calls.specs.declared.names.Outcome.TheVariants as outcome
-use Rattle.charlotte_calls.specs.declared.names.Pid.{Pid}
-use Rattle.charlotte_calls.specs.declared.picture.MovingPicture.{MovingPicture}
 use Rattle.charlotte_calls.specs.declared.picture.PictureWhat.TheVariants as packet
 use Rattle.end_table.proofs.EndEq.{end_eq-same, put-other}
-use Rattle.end_table.specs.Place.{end_eq, put}
+use Rattle.end_table.specs.Place.{end_eq}
 use Rattle.end_table.specs.declared.entry.Entry.{Entry}
 use Rattle.end_table.specs.declared.entry.Entry.TheVariants as entry
 use Rattle.end_table.specs.declared.entry.HereView.{HereView}
@@ -24,11 +22,11 @@ use Rattle.end_table.specs.declared.entry.Outward.{Outward}
 use Rattle.end_table.specs.declared.entry.Outward.TheVariants as outward
 use Rattle.kernel_step.proofs.EnclosedEnds.{values_leaving-others}
 use Rattle.kernel_step.proofs.Folds.{AreDifferent, AreOwn, AreOwn-put, held_entry, left_of}
-use Rattle.kernel_step.specs.Actions.{dead_receive_report, enclosed_of, forgets, hint_kernel, hold_each, leave_each, matches, match_waiting, notice_receive, notice_send, notices, reports, send_report, values_leaving}
+use Rattle.kernel_step.specs.Actions.{dead_receive_report, enclosed_of, hint_kernel, leave_each, matches, match_waiting, notice_receive, notice_send, notices, reports, send_report, values_leaving}
 use Rattle.kernel_step.specs.Progress.{Progress, keeps, means, reports_to}
-use Rattle.kernel_effects.specs.Actions.{cancel_notice, forget_packets, holds_each, leaves_each, match_effect, match_waiting_effect, matched_view, notice_effect, noticed_view, parcel_packets, receive_notice, send_notice}
-use Rattle.kernel_effects.specs.Effect.{Effect, Does, changed, for_holder, nothing, puts, stays, turns}
-use Rattle.kernel_effects.proofs.Does.{answers-does, does-answered, does-entry, does-meant, does-nothing, does-reported, does-same, does-sent, does-then, does-turned, keeps-does, means-does, reports-does, sends-does}
+use Rattle.kernel_effects.specs.Actions.{cancel_notice, forget_packets, match_effect, match_waiting_effect, matched_view, notice_effect, noticed_view, parcel_packets, receive_notice, send_notice}
+use Rattle.kernel_effects.specs.Effect.{Effect, Does, for_holder, nothing, puts, stays, turns}
+use Rattle.kernel_effects.proofs.Does.{answers-does, does-answered, does-entry, does-meant, does-nothing, does-same, does-sent, does-then, does-turned, keeps-does, means-does, reports-does, sends-does}
 use Rattle.kernel_effects.proofs.Folds.{hold_each-does, leave_each-does}
 use Rattle.kernel_effects.proofs.Packets.{forgets-does}
 

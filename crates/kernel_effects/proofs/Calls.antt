@@ -1,5 +1,5 @@
 -- What each call does.
-use Rattle.std.proofs.Common.{◌≡◌, ℕ, Bool, true, false, nat_eq, List, [], ◌∷◌, ◌++◌, Option, Some, None, refl, sym, ap, subst, ◌∙◌, if◌then◌else◌}
+use Rattle.std.proofs.Common.{◌≡◌, ℕ, Bool, true, false, nat_eq, List, [], ◌∷◌, refl, sym, ap, subst, ◌∙◌, if◌then◌else◌}
 use Rattle.std.specs.List.{flat_map, list_any}
 use Rattle.charlotte_calls.specs.Moving.{new_end}
 use Rattle.charlotte_calls.specs.Names.{opposite}
@@ -24,7 +24,7 @@ use Rattle.kernel_step.specs.Calls.{encloses, made_end, makes, posts, starts_sen
 use Rattle.kernel_step.specs.Progress.{Progress, keeps, means}
 use Rattle.kernel_effects.specs.Actions.{holds_each, match_effect, matched_view, parcel_packets}
 use Rattle.kernel_effects.specs.Calls.{make_effect, post_effect, send_effect, sending_view, withdraw_receive_effect, withdraw_send_effect}
-use Rattle.kernel_effects.specs.Effect.{Effect, Does, changed, nothing, puts, stays, turns}
+use Rattle.kernel_effects.specs.Effect.{Effect, Does, nothing, puts, stays, turns}
 use Rattle.kernel_effects.proofs.Actions.{matches-does, turns-puts}
 use Rattle.kernel_effects.proofs.Does.{does-entry, does-meant, does-same, does-sent, does-then, does-turned, keeps-does, means-does, sends-does}
 use Rattle.kernel_effects.proofs.Ends.{StandsAt, stands-end}

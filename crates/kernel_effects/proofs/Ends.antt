@@ -4,18 +4,16 @@ use Rattle.std.proofs.lemmas.Grind.{flat_map-append}
 use Rattle.std.proofs.lemmas.List.Folds.{list_any-append}
 use Rattle.std.specs.List.{flat_map, list_any}
 use Rattle.charlotte_calls.specs.declared.names.EndId.{EndId}
-use Rattle.charlotte_calls.specs.declared.picture.MovingPicture.{MovingPicture}
-use Rattle.charlotte_calls.specs.declared.picture.PictureWhat.{PictureWhat}
 use Rattle.end_table.proofs.EndEq.{end_eq-same, end_eq-sym, put-other}
 use Rattle.end_table.specs.Entries.{ended_entry}
-use Rattle.end_table.specs.Place.{end_eq, put}
+use Rattle.end_table.specs.Place.{end_eq}
 use Rattle.end_table.specs.Table.{IsOfEnd}
 use Rattle.end_table.specs.declared.entry.Entry.{Entry}
 use Rattle.end_table.specs.declared.entry.Entry.TheVariants as entry
 use Rattle.end_table.specs.declared.entry.HereView.{HereView}
 use Rattle.kernel_step.proofs.EnclosedEnds.{first_false, second_false}
 use Rattle.kernel_step.proofs.Folds.{AreDifferent, AreOwn, AreOwn-put, ended_of}
-use Rattle.kernel_step.specs.Actions.{enclosed_of, here, ends, ends_idle, ends_idle_here, end_each, tells_gone}
+use Rattle.kernel_step.specs.Actions.{enclosed_of, here, ends, ends_idle_here, end_each}
 use Rattle.kernel_step.specs.Calls.{ends_each, ends_here}
 use Rattle.kernel_step.specs.Progress.{Progress, keeps}
 use Rattle.kernel_effects.specs.Actions.{ends_all, gone_of, gone_packets}

@@ -1,5 +1,5 @@
 -- Words on several ends, one after another.
-use Rattle.std.proofs.Common.{◌≡◌, ℕ, Bool, true, false, ◌||◌, List, [], ◌∷◌, ◌++◌, refl, sym, ap, subst, ◌∙◌, if◌then◌else◌}
+use Rattle.std.proofs.Common.{◌≡◌, ℕ, Bool, true, false, List, [], ◌∷◌, refl, ap, subst, ◌∙◌, if◌then◌else◌}
 use Rattle.std.specs.List.{fold, flat_map, list_any}
 use Rattle.charlotte_calls.specs.declared.names.EndId.{EndId}
 use Rattle.charlotte_calls.specs.declared.picture.MovingPicture.{MovingPicture}
@@ -7,14 +7,12 @@ use Rattle.charlotte_calls.specs.declared.picture.PictureWhat.{PictureWhat}
 use Rattle.end_table.proofs.EndEq.{end_eq-same, end_eq-sym}
 use Rattle.end_table.specs.Entries.{settled, left_entry, ended_entry}
 use Rattle.end_table.specs.Place.{end_eq}
-use Rattle.end_table.specs.Table.{IsOfEnd}
 use Rattle.end_table.specs.declared.entry.Entry.{Entry}
 use Rattle.end_table.specs.declared.entry.Entry.TheVariants as entry
-use Rattle.end_table.specs.declared.entry.HereView.{HereView}
 use Rattle.end_table.specs.declared.entry.Holder.{Holder}
 use Rattle.kernel_step.proofs.EnclosedEnds.{first_false, second_false}
-use Rattle.kernel_step.proofs.Folds.{AreDifferent, AreOwn, AreOwn-put, hold_each-table, leave_each-table, end_each-table, left_of, ended_of, held_entry}
-use Rattle.kernel_step.specs.Actions.{here, held, hold_each, leaves, leaves_here, leave_each, ends_idle, ends_idle_here, end_each, settle_each}
+use Rattle.kernel_step.proofs.Folds.{AreDifferent, AreOwn, hold_each-table, leave_each-table, left_of, held_entry}
+use Rattle.kernel_step.specs.Actions.{here, held, hold_each, leaves_here, leave_each, ends_idle, settle_each}
 use Rattle.kernel_step.specs.Progress.{Progress, keeps}
 use Rattle.kernel_step.specs.Rows.{ends_in, pass_each, end_arrivals}
 use Rattle.kernel_effects.specs.Effect.{Effect, Does, and_then, brings, changed, puts, stays, turns}

@@ -5,7 +5,4 @@ pub mod Ends
 pub mod Actions
 pub mod Calls
 pub mod Rows
-pub mod Closing
 pub mod Retiring
-pub mod Sound
-pub mod Events

@@ -1,19 +1,19 @@
 -- The words that add packets alone, and LEARN.
-use Rattle.std.proofs.Common.{◌≡◌, ℕ, Bool, true, false, nat_eq, not, ◌&&◌, List, [], ◌∷◌, ◌++◌, refl, if◌then◌else◌}
+use Rattle.std.proofs.Common.{ℕ, nat_eq, not, ◌&&◌, List, [], ◌∷◌}
 use Rattle.std.specs.Int.{bit_at}
 use Rattle.std.specs.List.{fold, flat_map}
 use Rattle.charlotte_calls.specs.Names.{opposite}
 use Rattle.charlotte_calls.specs.declared.picture.MovingPicture.{MovingPicture}
 use Rattle.charlotte_calls.specs.declared.picture.PictureWhat.{PictureWhat}
 use Rattle.charlotte_calls.specs.declared.picture.PictureWhat.TheVariants as packet
-use Rattle.end_table.specs.Entries.{is_news, learned}
+use Rattle.end_table.specs.Entries.{is_news}
 use Rattle.end_table.specs.declared.entry.Entry.TheVariants as entry
 use Rattle.end_table.specs.declared.entry.HereView.{HereView}
 use Rattle.end_table.specs.declared.entry.Inward.{Inward}
 use Rattle.end_table.specs.declared.entry.Inward.TheVariants as inward
 use Rattle.kernel_step.specs.Actions.{forget_at, forgets, kernel_numbers, tells_gone, tells_moved, resends_receive, resends, resends_on_news, tells_arrival, tell_arrivals, learned_view, learns}
-use Rattle.kernel_step.specs.Progress.{Progress, keeps, sends}
-use Rattle.kernel_effects.specs.Effect.{Effect, Does, sent, puts, stays}
+use Rattle.kernel_step.specs.Progress.{Progress, keeps}
+use Rattle.kernel_effects.specs.Effect.{Does, sent}
 use Rattle.kernel_effects.specs.Actions.{arrival_packets, forget_packet, forget_packets, gone_packets, learn_effect, live_packets, moved_packets, news_packets, receive_packets}
 use Rattle.kernel_effects.proofs.Does.{does-nothing, does-then, keeps-does, sends-does, sent-either}
 

@@ -1,5 +1,5 @@
 -- What the packets back, gone, moved, known, forget and goneseen do.
-use Rattle.std.proofs.Common.{◌≡◌, ℕ, Bool, true, false, nat_eq, nat_le, not, ◌&&◌, List, [], ◌∷◌, ◌++◌, Option, Some, None, refl, sym, ap, subst, ◌∙◌, append_assoc, if◌then◌else◌}
+use Rattle.std.proofs.Common.{◌≡◌, ℕ, Bool, true, false, nat_eq, nat_le, not, ◌&&◌, List, [], ◌∷◌, ◌++◌, refl, sym, ap, subst, ◌∙◌, append_assoc, if◌then◌else◌}
 use Rattle.std.specs.List.{flat_map, list_any}
 use Rattle.charlotte_calls.specs.Names.{opposite}
 use Rattle.charlotte_calls.specs.declared.calls.ServiceStep.TheVariants as step
@@ -16,14 +16,14 @@ use Rattle.end_table.specs.declared.entry.Entry.{Entry}
 use Rattle.end_table.specs.declared.entry.Entry.TheVariants as entry
 use Rattle.end_table.specs.declared.entry.HereView.{HereView}
 use Rattle.kernel_step.proofs.Folds.{AreDifferent, AreOwn, AreOwn-put}
-use Rattle.kernel_step.specs.Actions.{enclosed_of, forgets, is_withdrawing, learns, notices, reports, send_report, settle_each, tell_arrivals}
+use Rattle.kernel_step.specs.Actions.{enclosed_of, forgets, is_withdrawing, learns, notices, reports, send_report, tell_arrivals}
 use Rattle.kernel_step.specs.Progress.{Progress, keeps, means, sends}
 use Rattle.kernel_step.specs.Rows.{end_arrivals, ends_in, erases, forget_row, gives_back, gone_here, gone_row, goneseen_row, known_here, known_row, mark_learns, means_back, moved_here, moved_mark, moved_row, notices_first}
-use Rattle.kernel_effects.specs.Actions.{arrival_packets, cancel_notice, ends_arrivals, forget_packets, learn_effect, notice_effect, receive_notice}
+use Rattle.kernel_effects.specs.Actions.{arrival_packets, ends_arrivals, forget_packets, learn_effect, notice_effect, receive_notice}
 use Rattle.kernel_effects.specs.Effect.{Effect, Does, brings, changed, for_holder, nothing, puts, sent, stays}
 use Rattle.kernel_effects.specs.Rows.{back_steps, erase_effect, forget_effect, gone_effect, goneseen_effect, known_effect, moved_effect, returned_view, returns_effect, returns_first_effect, view_news}
 use Rattle.kernel_effects.proofs.Actions.{for_holder-append, notices-does}
-use Rattle.kernel_effects.proofs.Does.{does-changed, does-either, does-entry, does-meant, does-nothing, does-placed, does-reported, does-same, does-sent, does-then, does-turned, keeps-does, means-does, only_table, reports-does, sends-does}
+use Rattle.kernel_effects.proofs.Does.{does-changed, does-either, does-entry, does-nothing, does-placed, does-reported, does-same, does-sent, does-then, does-turned, keeps-does, means-does, only_table, reports-does, sends-does}
 use Rattle.kernel_effects.proofs.Ends.{StandsAt, stands-end}
 use Rattle.kernel_effects.proofs.Folds.{brings-others, end_arrivals-does, settle_each-does}
 use Rattle.kernel_effects.proofs.Packets.{forgets-does, learns-does, tell_arrivals-does}

@@ -1,6 +1,6 @@
 -- What each packet does.
-use Rattle.std.proofs.Common.{◌≡◌, ℕ, Bool, true, false, nat_eq, nat_lt, nat_le, not, ◌&&◌, List, [], ◌∷◌, ◌++◌, map, Option, Some, None, refl, sym, ap, subst, ◌∙◌, append_assoc, if◌then◌else◌}
-use Rattle.std.specs.List.{flat_map, list_any}
+use Rattle.std.proofs.Common.{◌≡◌, ℕ, Bool, true, false, nat_eq, nat_lt, List, [], ◌∷◌, map, Option, Some, None, refl, sym, subst, ◌∙◌, if◌then◌else◌}
+use Rattle.std.specs.List.{list_any}
 use Rattle.charlotte_calls.specs.Names.{opposite}
 use Rattle.charlotte_calls.specs.declared.calls.Answer.TheVariants as answer
 use Rattle.charlotte_calls.specs.declared.calls.Cause.TheVariants as cause
@@ -8,9 +8,8 @@ use Rattle.charlotte_calls.specs.declared.calls.ServiceStep.TheVariants as step
 use Rattle.charlotte_calls.specs.declared.names.EndId.{EndId}
 use Rattle.charlotte_calls.specs.declared.names.Outcome.TheVariants as outcome
 use Rattle.charlotte_calls.specs.declared.picture.MovingPicture.{MovingPicture}
-use Rattle.charlotte_calls.specs.declared.picture.PictureWhat.{PictureWhat}
 use Rattle.charlotte_calls.specs.declared.picture.PictureWhat.TheVariants as packet
-use Rattle.end_table.specs.Entries.{is_news, learned, left_value, settled}
+use Rattle.end_table.specs.Entries.{learned, left_value}
 use Rattle.end_table.specs.Place.{end_eq}
 use Rattle.end_table.specs.declared.entry.Entry.{Entry}
 use Rattle.end_table.specs.declared.entry.Entry.TheVariants as entry
@@ -21,15 +20,15 @@ use Rattle.end_table.specs.declared.entry.Inward.{Inward}
 use Rattle.end_table.specs.declared.entry.Inward.TheVariants as inward
 use Rattle.end_table.specs.declared.entry.Outward.TheVariants as outward
 use Rattle.kernel_sound.proofs.Actions.{learned-end}
-use Rattle.kernel_step.proofs.Folds.{AreDifferent, AreOwn}
+use Rattle.kernel_step.proofs.Folds.{AreDifferent}
 use Rattle.kernel_step.specs.Actions.{answers, enclosed_of, is_withdrawing, learned_view, learns, match_waiting, receive_report, reports, resends_on_news, send_report, settle_each, tell_arrivals}
 use Rattle.kernel_step.specs.Progress.{Progress, keeps, means, sends}
-use Rattle.kernel_step.specs.Rows.{arriving, completes, ends_in, frees, pass_each, passing, parcel_row, receives, sends_back, taken_row, takes, unwant_here, unwant_row, unwanted_here, unwanted_row, voids, want_here, want_row, wants}
-use Rattle.kernel_effects.specs.Actions.{arrival_packets, learn_effect, match_waiting_effect, passes_each}
-use Rattle.kernel_effects.specs.Effect.{Effect, Does, brings, changed, for_holder, nothing, puts, sent, stays}
-use Rattle.kernel_effects.specs.Rows.{asked_view, completes_effect, frees_effect, parcel_effect, receives_effect, sends_back_effect, take_steps, taken_effect, taken_view, unserved, unwant_effect, unwanted_effect, unwanted_here_effect, view_news, voided_view, voids_effect, want_effect, wants_effect}
+use Rattle.kernel_step.specs.Rows.{completes, ends_in, frees, pass_each, receives, sends_back, taken_row, takes, unwant_here, unwant_row, unwanted_here, unwanted_row, voids, want_here, want_row, wants}
+use Rattle.kernel_effects.specs.Actions.{learn_effect}
+use Rattle.kernel_effects.specs.Effect.{Effect, Does, for_holder, nothing}
+use Rattle.kernel_effects.specs.Rows.{asked_view, completes_effect, frees_effect, receives_effect, sends_back_effect, take_steps, taken_effect, taken_view, unserved, unwant_effect, unwanted_effect, unwanted_here_effect, voided_view, voids_effect, want_effect, wants_effect}
 use Rattle.kernel_effects.proofs.Actions.{match_waiting-does}
-use Rattle.kernel_effects.proofs.Does.{answers-does, does-answered, does-either, does-entry, does-meant, does-nothing, does-reported, does-same, does-sent, does-then, does-turned, keeps-does, means-does, reports-does, sends-does}
+use Rattle.kernel_effects.proofs.Does.{answers-does, does-answered, does-either, does-meant, does-nothing, does-reported, does-sent, does-turned, keeps-does, means-does, reports-does, sends-does}
 use Rattle.kernel_effects.proofs.Ends.{StandsAt, stands-end}
 use Rattle.kernel_effects.proofs.Folds.{pass_each-does, settle_each-does}
 use Rattle.kernel_effects.proofs.Packets.{learns-does, resends_on_news-does, tell_arrivals-does}

@@ -23,7 +23,7 @@ use Rattle.end_table.specs.declared.entry.Outward.TheVariants as outward
 use Rattle.kernel_step.proofs.Folds.{held_entry}
 use Rattle.kernel_step.specs.Actions.{hint_kernel, enclosed_of}
 use Rattle.kernel_step.specs.Calls.{made_end}
-use Rattle.kernel_effects.specs.Effect.{Effect, changed, nothing, puts, stays, turns}
+use Rattle.kernel_effects.specs.Effect.{Effect, nothing, puts, stays, turns}
 use Rattle.kernel_effects.specs.Actions.{ends_all, match_effect}
 
 -- Make

@@ -2,4 +2,3 @@ pub mod Effect
 pub mod Actions
 pub mod Calls
 pub mod Rows
-pub mod Closing

@@ -15,20 +15,20 @@ use Rattle.end_table.specs.declared.entry.Entry.{Entry}
 use Rattle.kernel_step.specs.Kernel.{Kernel, Outcome, Process, answers_wait, begins, closes, is_waiting, join_answers, join_reports, joins, process_of, reported_entry, stands, with_process}
 use Rattle.kernel_step.specs.Progress.{Progress}
 use Rattle.kernel_step.specs.declared.phase.Phase.TheVariants.{Running}
-use Rattle.kernel_effects.specs.Closing.{AtMostOne, Closes, EffectGives, Gives, process_after, told, told_entry}
+use Rattle.kernel_outcomes.specs.Closing.{AtMostOne, Closes, EffectGives, Gives, told, told_entry}
 use Rattle.kernel_effects.specs.Effect.{Effect, Does}
 
 -- a process is itself
-same-process : (p : Pid) → nat_eq p.0 p.0 ≡ true
+pub same-process : (p : Pid) → nat_eq p.0 p.0 ≡ true
 same-process p = eq-eqb p.0 p.0 refl
 
 module _ (s : Kernel) (p : Pid) where
   -- the state of p
-  own-process : (x : Process) (entry : EndId → Entry) (now : ℕ) (packets : List (ℕ × Picture)) (answered : List Pid) (steps : List ServiceStep) (o : Outcome) → Gives s p x entry now packets answered steps o → process_of p o.kernel ≡ x
+  pub own-process : (x : Process) (entry : EndId → Entry) (now : ℕ) (packets : List (ℕ × Picture)) (answered : List Pid) (steps : List ServiceStep) (o : Outcome) → Gives s p x entry now packets answered steps o → process_of p o.kernel ≡ x
   own-process x entry now packets answered steps o g = g.process p.0 ∙ ap (λ b. if b then x else s.process p.0) (same-process p)
 
   -- p comes to another state
-  changes : (x y z : Process) (entry : EndId → Entry) (now : ℕ) (packets : List (ℕ × Picture)) (answered : List Pid) (steps : List ServiceStep) (o : Outcome) → Gives s p x entry now packets answered steps o → y ≡ z
+  pub changes : (x y z : Process) (entry : EndId → Entry) (now : ℕ) (packets : List (ℕ × Picture)) (answered : List Pid) (steps : List ServiceStep) (o : Outcome) → Gives s p x entry now packets answered steps o → y ≡ z
       → (q : ℕ) → (with_process p y o.kernel).process q ≡ (if nat_eq p.0 q then z else s.process q)
   changes x y z entry now packets answered steps o g same q = by (nat_eq p.0 q) refl
     where

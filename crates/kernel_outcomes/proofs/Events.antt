@@ -1,5 +1,5 @@
 -- What each packet and each call does with a table that is sound, and what the kernel step gives.
-use Rattle.std.proofs.Common.{◌≡◌, ℕ, Bool, true, false, max, List, [], ◌∷◌, ◌++◌, map, Option, Some, None, refl, sym, ap, subst, ◌∙◌, if◌then◌else◌}
+use Rattle.std.proofs.Common.{◌≡◌, ℕ, Bool, true, false, max, List, [], map, Option, Some, None, refl, sym, subst, if◌then◌else◌}
 use Rattle.std.specs.List.{list_any}
 use Rattle.charlotte_calls.specs.Packets.{is_addressed}
 use Rattle.charlotte_calls.specs.declared.calls.Call.{Call}
@@ -17,33 +17,30 @@ use Rattle.charlotte_calls.specs.declared.picture.PictureWhat.TheVariants as pac
 use Rattle.end_table.specs.Owned.{owned}
 use Rattle.end_table.specs.Place.{end_eq}
 use Rattle.end_table.specs.Table.{IsHere}
-use Rattle.end_table.specs.declared.entry.Entry.{Entry}
 use Rattle.end_table.specs.declared.entry.Entry.TheVariants as entry
 use Rattle.end_table.specs.declared.entry.HereView.{HereView}
 use Rattle.end_table.specs.declared.entry.Inward.{Inward}
 use Rattle.end_table.specs.declared.entry.Inward.TheVariants as inward
 use Rattle.kernel_sound.proofs.Needs.{granted-at, owned-here, send-apart, send-free}
-use Rattle.kernel_sound.proofs.Parcels.{asks-here, awaits-here}
+use Rattle.kernel_sound.proofs.Parcels.{awaits-here}
 use Rattle.kernel_sound.proofs.Values.{AreComing-arriving, apart-AreComing}
 use Rattle.kernel_sound.specs.Acts.{acts, acts_on, withdraws_posted}
 use Rattle.kernel_sound.specs.Sound.{IsSound}
-use Rattle.kernel_step.specs.Actions.{enclosed_of, ends}
 use Rattle.kernel_step.specs.Calls.{IsCallWith, encloses, refusal, starts_send}
 use Rattle.kernel_step.specs.Kernel.{Kernel, begins, closes, next_stamp, take_step}
 use Rattle.kernel_step.specs.Progress.{Progress, means}
 use Rattle.kernel_step.specs.Rows.{arriving, back_row, ends_in, is_here, parcel_row, passing, row}
-use Rattle.kernel_effects.specs.Actions.{ends_all}
-use Rattle.kernel_effects.specs.Calls.{act_effect, effect_on, ended_list, ended_with, post_effect, send_effect, withdraw_posted_effect, withdraw_receive_effect, withdraw_send_effect}
-use Rattle.kernel_effects.specs.Closing.{AtMostOne, EffectGives}
+use Rattle.kernel_effects.specs.Calls.{act_effect, effect_on, send_effect, withdraw_posted_effect}
+use Rattle.kernel_outcomes.specs.Closing.{AtMostOne, EffectGives}
 use Rattle.kernel_effects.specs.Effect.{Effect, Does, nothing}
 use Rattle.kernel_effects.specs.Rows.{back_effect, parcel_effect, row_effect, values_in}
 use Rattle.kernel_effects.proofs.Calls.{makes-does, posts-does, sends-call-does, withdraws_receive-does, withdraws_send-does}
-use Rattle.kernel_effects.proofs.Closing.{effect-gives}
+use Rattle.kernel_outcomes.proofs.Closing.{effect-gives}
 use Rattle.kernel_effects.proofs.Does.{does-nothing, does-then, means-does}
 use Rattle.kernel_effects.proofs.Ends.{ends-does, ends_each-does, stands-end}
 use Rattle.kernel_effects.proofs.Retiring.{ends_back-does, forget-does, gone-does, goneseen-does, known-does, moved-does, returns-does}
 use Rattle.kernel_effects.proofs.Rows.{receives-does, sends_back-does, taken-does, unwant-does, unwanted-does, want-does}
-use Rattle.kernel_effects.proofs.Sound.{AreDifferent-coming, AreDifferent-exit, AreDifferent-free, AreDifferent-passing, stands-sound}
+use Rattle.kernel_outcomes.proofs.Sound.{AreDifferent-coming, AreDifferent-exit, AreDifferent-free, AreDifferent-passing, stands-sound}
 use Rattle.kernel_step.proofs.Folds.{AreDifferent}
 
 module _ (k made n : ℕ) (d : Progress) (sound : IsSound k made n d.table) where
@@ -108,10 +105,10 @@ module _ (k made n : ℕ) (d : Progress) (sound : IsSound k made n d.table) wher
         on-does on _ _ (λ v is here. does-then (means-does (step.Destroy on) d) (ends-does k on v (means (step.Destroy on) d) (stands-sound k made n d.table sound on v here)))
     acts-does mine reported (call.Send on bytes xs) granted with_ends =
         on-does on _ _ (λ v is here.
-          let causes = granted-at p d.table on xs v (sym is) granted in
-          let end : v.value.end ≡ on = stands-end d.table on v (stands-sound k made n d.table sound on v here) in
-          subst (λ z. Does (send_effect k d.table bytes xs v) d (starts_send k bytes xs v (encloses z xs d))) end
-          (sends-call-does k bytes xs v d (AreDifferent-free p d.table xs (send-free p d.table on xs v causes)) (subst (λ z. list_any (end_eq z) xs ≡ false) (sym end) (send-apart p d.table on xs v causes)) sound.own))
+        let causes = granted-at p d.table on xs v (sym is) granted in
+        let end : v.value.end ≡ on = stands-end d.table on v (stands-sound k made n d.table sound on v here) in
+        subst (λ z. Does (send_effect k d.table bytes xs v) d (starts_send k bytes xs v (encloses z xs d))) end
+        (sends-call-does k bytes xs v d (AreDifferent-free p d.table xs (send-free p d.table on xs v causes)) (subst (λ z. list_any (end_eq z) xs ≡ false) (sym end) (send-apart p d.table on xs v causes)) sound.own))
     acts-does mine reported (call.Receive on) granted with_ends = on-does on _ _ (λ v is here. posts-does k v d)
     acts-does mine reported (call.Cancel on way.Outward) granted with_ends = on-does on _ _ (λ v is here. withdraws_send-does on v d (stands-sound k made n d.table sound on v here))
     acts-does mine reported (call.Cancel on way.Inward) granted with_ends = on-does on _ _ (λ v is here. withdraws_posted-does v v.inward)

@@ -1,0 +1,4 @@
+pub mod Closing
+pub mod Sound
+pub mod Events
+pub mod Called
