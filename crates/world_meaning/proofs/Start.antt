@@ -1,5 +1,5 @@
 -- The world with which a run starts stands for the state with which the service starts, and what is true of every world is true of it.
-use Rattle.std.proofs.Common.{◌≡◌, ◌≢◌, ◌⊎◌, ◌↔◌, inl, inr, ℕ, ◌+◌, ◌<◌, ◌≤◌, ◌^◌, Bool, true, false, nat_eq, nat_lt, ◌&&◌, cond, List, [], length, All, Contains, Option, Some, None, slice_get, slice_index, get_or, refl, sym, ap, subst, ◌∙◌, arith, true≢false, lt-ltb, le-ltb, pow_pos}
+use Rattle.std.proofs.Common.{◌≡◌, ◌≢◌, ◌⊎◌, ◌↔◌, inl, inr, ℕ, zero, suc, ◌+◌, ◌<◌, ◌≤◌, ◌^◌, Bool, true, false, nat_eq, nat_lt, ◌&&◌, cond, List, [], ◌∷◌, length, All, Contains, Option, Some, None, is_some, slice_get, slice_index, get_or, refl, sym, ap, subst, ◌∙◌, arith, true≢false, lt-ltb, le-ltb, pow_pos}
 use Rattle.std.proofs.lemmas.Bool.Decides.{eqb_tells}
 use Rattle.std.proofs.lemmas.List.Elements.{All-nil, All-weaker, All-get_or}
 use Rattle.std.proofs.lemmas.Option.{slice_get_within}
@@ -19,6 +19,7 @@ use Rattle.end_table.specs.declared.entry.Entry.{Entry}
 use Rattle.end_table.specs.declared.entry.Entry.TheVariants as entry
 use Rattle.end_table.specs.declared.entry.HereView.{HereView}
 use Rattle.end_table.specs.declared.entry.Holder.TheVariants as holder
+use Rattle.end_table.specs.declared.entry.Inward.TheVariants as inward
 use Rattle.kernel_sound.specs.Sound.{IsSound, IsHeldWell, AreHeldBy}
 use Rattle.kernel_step.specs.Actions.{enclosed_of}
 use Rattle.kernel_step.specs.Rows.{is_here}
@@ -33,16 +34,19 @@ use Rattle.service_step.specs.declared.state.Phase.TheVariants as phase
 use Rattle.service_step.specs.declared.state.Place.{Place}
 use Rattle.service_step.specs.declared.state.Place.TheVariants as place
 use Rattle.world_meaning.specs.Fields.{Stand, At, Flying, HasFields, IsHeard, IsHinted, IsNoMore, IsAsking, IsUnwantOf, IsUnserved, IsAskedAs, value_of}
-use Rattle.world_meaning.specs.Invariant.{IsOfSetting, NamesBelow, IsFew, AreMarked, AreCounted, IsHonest, AreAsked, AreWaiting, IsServed, AreWanted, AreVoided, AreSentOnce, IsPacketRight, IsVoidRight, Invariant, is_unwanted_to, is_message_of, is_taken_of}
-use Rattle.world_meaning.specs.Packets.{IsUnderWay, over_kernels, sum_over, one_if, how_many, values_for, values_of}
-use Rattle.world_meaning.specs.StandsFor.{StandsFor, IsEndOf, IsOwnedHere, IsInMessage, IsProcessOf, entry_at, standing}
+use Rattle.world_meaning.specs.Invariant.{IsOfSetting, NamesBelow, IsFew, AreMarked, AreCounted, IsHonest, AreAsked, AreCancelling, AreNamed, AreRight, IsServed, AreWanted, AreVoided, AreSentOnce, IsPacketRight, IsVoidRight, Invariant, is_unwanted_to, is_message_of, is_taken_of}
+use Rattle.world_meaning.specs.Packets.{Links, links_of, IsUnderWay, over_kernels, sum_over, one_if, how_many, values_for, values_of}
+use Rattle.world_meaning.specs.StandsFor.{StandsFor, AreLinksOf, IsEndOf, IsOwnedHere, IsInMessage, IsProcessOf, entry_at, standing}
 use Rattle.world_meaning.proofs.Ends.{opposite-twice}
 use Rattle.world_meaning.proofs.Sums.{over-none, over-one, sum_over-none}
 use Rattle.world_meaning.proofs.Wired.{IsLoose, IsTied, IsLinked, AreWired, are-wired}
 
 module _ (g : Setting) (valid : IsValid g) where
-  abbrev w : World
-  w = start g
+  abbrev world : World
+  world = start g
+
+  abbrev w : Links
+  w = links_of world
 
   abbrev s : State
   s = start_state g
@@ -176,16 +180,169 @@ module _ (g : Setting) (valid : IsValid g) where
       let x = view (home g p) e v is in
       subst (IsEndOf w e v) (sym x.0.own.end) (subst (λ u. IsEndOf w e u (fresh (place.Owned x.0.p))) (sym x.1) (record { sent = refl; noticed = refl; outward = tt; inward = tt }))
 
-  starts-process : (p : Pid) → p.0 < length s.homes → IsProcessOf ((w.kernel (home g p)).process p.0) (s.process p.0)
+  starts-process : (p : Pid) → p.0 < length s.homes → IsProcessOf ((world.kernel (home g p)).process p.0) (s.process p.0)
   starts-process p below = record { phase = fresh-running s starts-fresh p below; unanswered = λ is. refl; reports = fresh-reports s starts-fresh p }
 
   -- the world of the start stands for the state of the start
-  pub starts-standing : StandsFor w s
+  pub starts-standing : StandsFor world s
   starts-standing =
       record {
         processes = starts-process;
-        once = starts-once;
-        owned = starts-owned;
-        in_message = λ e f n. (λ at. absurd (fresh-nowhere s starts-fresh e f n at), λ is. absurd (starts-free e f n is));
-        agree = starts-agree;
+        links =
+            record {
+              once = starts-once;
+              owned = starts-owned;
+              in_message = λ e f n. (λ at. absurd (fresh-nowhere s starts-fresh e f n at), λ is. absurd (starts-free e f n is));
+              agree = starts-agree;
+            };
+      }
+
+  -- ---- what is true of every world
+
+  abbrev n : ℕ
+  n = g.kernels
+
+  made-length : length s.made ≡ n
+  made-length = aw.length
+
+  starts-names : (k : ℕ) (e : EndId) → NamesBelow (length s.made) (entry_at w k e)
+  starts-names k e = subst (λ z. NamesBelow z (entry_at w k e)) (sym made-length) (each-entry (NamesBelow n) k e tt (λ x. both x.q x.other.owner))
+    where
+      both : (q : Pid) → q.0 < length g.homes → (nat_lt (home g q) n && nat_lt 0 (2 ^ n)) ≡ true
+      both q owner = ap (λ z. z && nat_lt 0 (2 ^ n)) (lt-ltb _ _ (home-below q owner)) ∙ lt-ltb _ _ (pow_pos n)
+
+  starts-away : (k : ℕ) (e : EndId) → length s.made ≤ k → entry_at w k e ≡ entry.Nothing
+  starts-away k e above = by (there k e)
+    where
+      by : (entry_at w k e ≡ entry.Nothing) ⊎ IsThere k e → entry_at w k e ≡ entry.Nothing
+      by (inl is) = is
+      by (inr x) = absurd (let at : k ≡ home g x.p = x.at in omega (arith, home-below x.p x.own.owner, made-length))
+
+  starts-sound : (k : ℕ) → IsSound k (world.kernel k).made (length s.homes) (world.kernel k).table
+  starts-sound k =
+      record {
+        own = λ e. each-entry (IsOfEnd e) k e tt (λ x. refl);
+        held = λ e. each-entry (λ x. IfHere x (λ v. IsHeldWell (length s.homes) v v.holder)) k e tt (λ x. x.own.owner);
+        enclosed = λ e. each-entry (λ x. IfHere x (λ v. AreHeldBy e (world.kernel k).table (enclosed_of v.outward))) k e tt (λ x. tt);
+        unmade = λ e maker above. each-entry (λ x. IsHere x → ⊥) k e (λ is. is) (λ x is. counted e x maker above);
+      }
+    where
+      counted : (e : EndId) → IsThere k e → e.link.maker ≡ k → (world.kernel k).made ≤ e.link.count → ⊥
+      counted e x maker above =
+          let low : e.link.count < slice_index s.made e.link.maker = x.own.count in
+          let at : slice_index s.made e.link.maker ≡ slice_index s.made k = ap (slice_index s.made) maker in
+          omega (arith, aw.made k)
+
+  starts-setting : IsOfSetting world s
+  starts-setting =
+      record {
+        few = omega (arith, made-length, valid.limits.kernels);
+        numbers = λ k. refl;
+        kernels = λ k. sym made-length;
+        version = λ k. refl;
+        made = aw.made;
+        homes = subst (λ z. All (λ h. h < z) s.homes) (sym made-length) valid.homes;
+        sound = starts-sound;
+      }
+
+  new-value : (e : EndId) (at : Stand) (m : MovingPicture) → HasFields w e at m → (k : ℕ) × (q : Pid) × (m ≡ new_end e (home g q))
+  new-value e at m has = let f = fields e at m has in (f.k, f.x.q, f.is)
+
+  starts-honest : IsHonest w
+  starts-honest e at m j h has (inr u) = absurd (no_packets _ u)
+  starts-honest e at m j h has (inl hinted) =
+      let f = fields e at m has in
+      subst (λ z. IsNoMore z m.hops j h) (sym f.stand) (subst (λ (z : MovingPicture). IsNoMore (At f.k) z.hops j h) (sym f.is) (near f.k f.x (fields (opposite e) hinted.stand hinted.fields hinted.are) hinted.hint))
+    where
+      near : (k : ℕ) (x : IsThere k e) → AreNew (opposite e) hinted.stand hinted.fields → hinted.fields.hint ≡ (j, h) → (h ≤ 0) × (h ≡ 0 → j ≡ k)
+      near k x o hint = by (eqb_tells o.k (home g x.q))
+        where
+          by : ((nat_eq o.k (home g x.q) ≡ true) × (o.k ≡ home g x.q)) ⊎ ((nat_eq o.k (home g x.q) ≡ false) × (o.k ≢ home g x.q)) → (h ≤ 0) × (h ≡ 0 → j ≡ k)
+          by (inl is) =
+              let mine : entry_at w (home g x.q) (opposite e) ≡ owned_from_start x.q (opposite e) (home g x.p) = x.other.here in
+              let its : entry_at w o.k (opposite e) ≡ owned_from_start o.x.p (opposite e) (home g o.x.q) = o.x.entry_is in
+              let one : entry_at w o.k (opposite e) ≡ entry_at w (home g x.q) (opposite e) = ap (λ z. entry_at w z (opposite e)) is.1 in
+              let some : Some (new_end (opposite e) (home g o.x.q)) ≡ Some (new_end (opposite e) (home g x.p)) = ap value_of (sym its ∙ one ∙ mine) in
+              let same : new_end (opposite e) (home g o.x.q) ≡ new_end (opposite e) (home g x.p) = cc in
+              let hinted_at : (j, h) ≡ (home g x.p, 0) = sym hint ∙ ap (λ (z : MovingPicture). z.hint) (o.is ∙ same) in
+              let hops : h ≡ 0 = ap (λ (z : ℕ × ℕ). z.1) hinted_at in
+              let site : j ≡ home g x.p = ap (λ (z : ℕ × ℕ). z.0) hinted_at in
+              (omega arith, λ z. site ∙ sym x.at)
+          by (inr off) =
+              absurd (let none : entry_at w o.k (opposite e) ≡ entry.Nothing = x.other.away o.k off.1 in
+              let its : entry_at w o.k (opposite e) ≡ owned_from_start o.x.p (opposite e) (home g o.x.q) = o.x.entry_is in cc)
+
+  not-asked : (k : ℕ) (e : EndId) (v : HereView) (i : ℕ) → entry_at w k e ≡ entry.Here v → IsAskedAs i v.inward → ⊥
+  not-asked k e v i is asked = let x = view k e v is in subst (λ (u : HereView). IsAskedAs i u.inward) x.1 asked
+
+  no-mark : (k : ℕ) (e : EndId) (m : MovingPicture) → entry_at w k e ≡ entry.Destroyed m → ⊥
+  no-mark k e m = each-entry (λ x. x ≡ entry.Destroyed m → ⊥) k e (λ is. cc) (λ x is. cc)
+
+  no-want : (e : EndId) (at : Stand) (m : MovingPicture) (i j h : ℕ) → HasFields w e at m → IsUnserved w e m i j h → ⊥
+  no-want e at m i j h has (inl is) =
+      let f = new-value e at m has in
+      let zero_is : m.want ≡ 0 = ap (λ (z : MovingPicture). z.want) f.2 in
+      let wanted : m.want ≡ i = is.0 in
+      let some : 0 < i = is.1 in
+      omega arith
+  no-want e at m i j h has (inr is) = no_packets _ is.1
+
+  none-count : (f : PictureWhat → Bool) → how_many f w ≡ 0
+  none-count f = sum_over-none (λ q. one_if (f q)) w (λ from to. refl)
+
+  not-waiting : (p : Pid) → (s.process p.0).phase ≡ phase.Waiting → (s.process p.0).reports ≡ []
+  not-waiting p is = fresh-reports s starts-fresh p
+
+  not-cancelling : (p : Pid) (e : EndId) → (s.process p.0).phase ≡ phase.Cancelling e → ⊥
+  not-cancelling p e is = by (fresh-phase s starts-fresh p)
+    where
+      by : ((s.process p.0).phase ≡ phase.Running) ⊎ ((s.process p.0).phase ≡ phase.Ended) → ⊥
+      by (inl h) = cc
+      by (inr h) = cc
+
+  starts-links : AreRight 0 w s
+  starts-links =
+      record {
+        named = record { entries = starts-names; away = starts-away; lists = λ from to above. refl; addressed = λ from to. All-nil _; addressees = λ from to. All-nil _ };
+        few = λ e at m has. let f = new-value e at m has in subst (IsFew 0) (sym f.2) (record { hops = omega arith; sent = omega arith; asked = omega arith });
+        marked = record { destroyed = λ k e m is. absurd (no-mark k e m is); once = λ j k e m l is. absurd (no-mark j e m is) };
+        counted =
+            record {
+              sent = λ e at m lives has. ap (λ (z : MovingPicture). z.sent) (new-value e at m has).2 ∙ sym (fresh-sent s starts-fresh e);
+              dead = λ e at m lives has. ap (λ (z : MovingPicture). z.dead) (new-value e at m has).2 ∙ sym (fresh-noticed s starts-fresh e);
+            };
+        honest = starts-honest;
+        asked = record { last = λ k e v i is asked. absurd (not-asked k e v i is asked); cancelled = λ k e v i p is withdrawing held. absurd (idle k e v i is withdrawing) };
+        cancelling = λ p e is. absurd (not-cancelling p e is);
+        served = λ e k v i at m is asked. absurd (not-asked k e v i is asked);
+        wanted =
+            record {
+              kept = λ e at m open' has. inl (ap (λ (z : MovingPicture). z.want) (new-value e at m has).2);
+              same = λ e at m i j h o p q open' has is. absurd (no-want e at m i j h has is);
+              posted = λ e at m i j h open' has is. absurd (no-want e at m i j h has is);
+              site = λ e at m i j h open' has is. absurd (no-want e at m i j h has is);
+              unwanted = λ e at m i open' has low u. absurd (no_packets _ u);
+            };
+        voided = record { meets = λ from to. All-nil _; once = λ e is. omega (arith, none-count (is_unwanted_to e)) };
+        packets = λ from to. All-nil _;
+        once =
+            record {
+              message = λ f. none-count (is_message_of f) ∙ sym (ap (λ o. one_if (is_some (matched_message o))) (fresh-outward s starts-fresh f));
+              taken = λ f. omega (arith, none-count (is_taken_of f));
+              told = λ f lives. none-count (is_taken_of f) ∙ sym (ap (λ o. one_if (is_taken o)) (fresh-outward s starts-fresh f));
+            };
+      }
+    where
+      idle : (k : ℕ) (e : EndId) (v : HereView) (i : ℕ) → entry_at w k e ≡ entry.Here v → v.inward ≡ inward.Withdrawing i → ⊥
+      idle k e v i is withdrawing = let x = view k e v is in let quiet : v.inward ≡ inward.Idle = ap (λ (u : HereView). u.inward) x.1 in cc
+
+  -- what is true of every world that a run reaches is true of the start
+  pub starts-well : Invariant 0 world s
+  starts-well =
+      record {
+        stands = starts-standing;
+        service = fresh-consistent s starts-fresh;
+        setting = starts-setting;
+        links = starts-links;
+        waiting = not-waiting;
       }

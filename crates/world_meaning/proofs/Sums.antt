@@ -1,8 +1,7 @@
 -- The sum over the kernels.
 use Rattle.std.proofs.Common.{◌≡◌, ◌≢◌, ℕ, zero, suc, ◌+◌, ◌<◌, ◌≤◌, List, [], refl, ap, arith}
 use Rattle.charlotte_calls.specs.declared.picture.PictureWhat.{PictureWhat}
-use Rattle.kernel_world.specs.World.{World}
-use Rattle.world_meaning.specs.Packets.{over_kernels, sum_in, sum_over}
+use Rattle.world_meaning.specs.Packets.{Links, over_kernels, sum_in, sum_over}
 
 pub over-none : (f : ℕ → ℕ) → ((k : ℕ) → f k ≡ 0) → over_kernels f ≡ 0
 unfolding over_kernels
@@ -46,6 +45,6 @@ over-one f k below none =
     omega arith
 
 -- the sum over no packets
-pub sum_over-none : (f : PictureWhat → ℕ) (w : World) → ((from to : ℕ) → w.packets from to ≡ []) → sum_over f w ≡ 0
+pub sum_over-none : (f : PictureWhat → ℕ) (w : Links) → ((from to : ℕ) → w.packets from to ≡ []) → sum_over f w ≡ 0
 unfolding sum_over
 sum_over-none f w none = over-none _ (λ from. over-none _ (λ to. ap (sum_in f) (none from to)))

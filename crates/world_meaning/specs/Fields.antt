@@ -9,8 +9,7 @@ use Rattle.end_table.specs.declared.entry.Entry.{Entry}
 use Rattle.end_table.specs.declared.entry.Entry.TheVariants as entry
 use Rattle.end_table.specs.declared.entry.Inward.{Inward}
 use Rattle.end_table.specs.declared.entry.Inward.TheVariants as inward
-use Rattle.kernel_world.specs.World.{World}
-use Rattle.world_meaning.specs.Packets.{IsUnderWay, values_of}
+use Rattle.world_meaning.specs.Packets.{Links, IsUnderWay, values_of}
 use Rattle.world_meaning.specs.StandsFor.{entry_at}
 
 -- where the fields of an end stand: at a kernel that has it here or keeps its mark, or in a packet, which is no site
@@ -26,7 +25,7 @@ value_of (entry.Left to hops) = None
 value_of (entry.Destroyed m) = Some m
 
 -- these are fields of an end, and they stand there
-abbrev pub HasFields : World → EndId → Stand → MovingPicture → Type 0
+abbrev pub HasFields : Links → EndId → Stand → MovingPicture → Type 0
 HasFields w e (At k) m = value_of (entry_at w k e) ≡ Some m
 HasFields w e Flying m = IsUnderWay w (λ q. Contains (values_of q) m) × (m.end ≡ e)
 
@@ -43,14 +42,14 @@ IsNews t j h (packet.Moved to at hops) = (to ≡ t) × (at ≡ j) × (hops ≡ h
 IsNews t j h _ = ⊥
 
 -- the opposite of t has heard that t was at kernel j with h hops
-pub record IsHinted (w : World) (e : EndId) (j h : ℕ) : Type 0 where
+pub record IsHinted (w : Links) (e : EndId) (j h : ℕ) : Type 0 where
   pub stand : Stand
   pub fields : MovingPicture
   pub are : HasFields w (opposite e) stand fields
   pub hint : fields.hint ≡ (j, h)
 
 -- it was heard of e, or will be, that it was at kernel j with h hops
-abbrev pub IsHeard : World → EndId → ℕ → ℕ → Type 0
+abbrev pub IsHeard : Links → EndId → ℕ → ℕ → Type 0
 IsHeard w e j h = IsHinted w e j h ⊎ IsUnderWay w (IsNews (opposite e) j h)
 
 -- that an end was at kernel j with h hops is no more than true of an end that stands here with so many: it may be old, but
@@ -73,7 +72,7 @@ IsUnwantOf t n (packet.Unwant to w at hops) = (to ≡ t) × (w ≡ n)
 IsUnwantOf t n _ = ⊥
 
 -- the receive n is asked of s, whose fields are these, and not yet served: s keeps it, or will hear of it
-abbrev pub IsUnserved : World → EndId → MovingPicture → ℕ → ℕ → ℕ → Type 0
+abbrev pub IsUnserved : Links → EndId → MovingPicture → ℕ → ℕ → ℕ → Type 0
 IsUnserved w s m n j h =
     ((m.want ≡ n) × (0 < n) × (m.hint ≡ (j, h)))
     ⊎ ((m.served < n) × IsUnderWay w (IsAsking s n j h))

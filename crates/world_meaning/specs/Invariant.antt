@@ -1,6 +1,6 @@
 -- What is true of every world that a run reaches, and of the state of the service that it stands for. Each clause is about one
 -- link, or about one message and what it carries. s is the end that asks or sends, where e is its opposite.
-use Rattle.std.specs.Prelude.{◌≡◌, ℕ, ◌<◌, ◌≤◌, ◌⊎◌, Bool, true, false, List, [], All, Contains, Some, length, slice_get, is_some}
+use Rattle.std.specs.Prelude.{◌≡◌, ℕ, ◌<◌, ◌≤◌, ◌⊎◌, Bool, true, false, List, [], All, length, slice_index, is_some}
 use Rattle.charlotte_calls.specs.Names.{opposite}
 use Rattle.charlotte_calls.specs.Packets.{names_kernels_below, is_addressed}
 use Rattle.charlotte_calls.specs.declared.names.EndId.{EndId}
@@ -26,7 +26,7 @@ use Rattle.service_step.specs.declared.state.Outward.TheVariants as outward
 use Rattle.service_step.specs.declared.state.Phase.TheVariants as phase
 use Rattle.service_step.specs.declared.state.Place.TheVariants as place
 use Rattle.world_meaning.specs.Fields.{Stand, At, Flying, HasFields, IsHeard, IsNoMore, IsAsking, IsUnwantOf, IsUnserved, IsAskedAs}
-use Rattle.world_meaning.specs.Packets.{IsUnderWay, Each, one_if, how_many}
+use Rattle.world_meaning.specs.Packets.{Links, links_of, IsUnderWay, Each, one_if, how_many}
 use Rattle.service_lawful.specs.Consistent.{is_open, IsConsistent}
 use Rattle.world_meaning.specs.StandsFor.{StandsFor, home_of, entry_at}
 
@@ -39,20 +39,24 @@ NamesBelow n (entry.Here v) = names_kernels_below n v.value ≡ true
 NamesBelow n (entry.Left to hops) = to < n
 NamesBelow n (entry.Destroyed m) = names_kernels_below n m ≡ true
 
--- kernels, their numbers and what they name; there are as many as the service counts links of
+-- the kernels and their numbers; there are as many as the service counts links of
 pub record IsOfSetting (w : World) (s : State) : Type 0 where
   pub few : length s.made ≤ 8
   pub numbers : (k : ℕ) → (w.kernel k).number ≡ k
   pub kernels : (k : ℕ) → (w.kernel k).kernels ≡ length s.made
   pub version : (k : ℕ) → (w.kernel k).version ≡ s.version
-  pub made : (k : ℕ) → k < length s.made → slice_get s.made k ≡ Some (w.kernel k).made
+  pub made : (k : ℕ) → slice_index s.made k ≡ (w.kernel k).made
   pub homes : All (λ home. home < length s.made) s.homes
-  -- each table is sound, and names kernels that there are; others keep nothing
+  -- each table is sound
   pub sound : (k : ℕ) → IsSound k (w.kernel k).made (length s.homes) (w.kernel k).table
-  pub names : (k : ℕ) (e : EndId) → NamesBelow (length s.made) (entry_at w k e)
-  pub tables : (k : ℕ) (e : EndId) → length s.made ≤ k → entry_at w k e ≡ entry.Nothing
-  -- packets go between kernels that there are, name such, and are addressed to ends of made links
+
+-- no more is named than is there
+pub record AreNamed (w : Links) (s : State) : Type 0 where
+  pub entries : (k : ℕ) (e : EndId) → NamesBelow (length s.made) (entry_at w k e)
+  -- other kernels keep nothing, and no packets go from or to them
+  pub away : (k : ℕ) (e : EndId) → length s.made ≤ k → entry_at w k e ≡ entry.Nothing
   pub lists : (from to : ℕ) → (length s.made ≤ from) ⊎ (length s.made ≤ to) → w.packets from to ≡ []
+  -- packets name kernels that there are, and are addressed to ends of made links
   pub addressed : Each w (λ from to q. is_addressed q (length s.made) ≡ true)
   pub addressees : Each w (λ from to q. is_made (s.ends (addressee q)).place ≡ true)
 
@@ -65,44 +69,41 @@ pub record IsFew (i : ℕ) (m : MovingPicture) : Type 0 where
 -- ---- where ends are
 
 -- a mark is kept of a destroyed end alone, at one kernel at most
-pub record AreMarked (w : World) (s : State) : Type 0 where
+pub record AreMarked (w : Links) (s : State) : Type 0 where
   pub destroyed : (k : ℕ) (e : EndId) (m : MovingPicture) → entry_at w k e ≡ entry.Destroyed m → (s.ends e).place ≡ place.Destroyed
   pub once : (j k : ℕ) (e : EndId) (m l : MovingPicture) → entry_at w j e ≡ entry.Destroyed m → entry_at w k e ≡ entry.Destroyed l → j ≡ k
 
 -- the fields of a living end agree with the service, also while it is in a message
-pub record AreCounted (w : World) (s : State) : Type 0 where
+pub record AreCounted (w : Links) (s : State) : Type 0 where
   pub sent : (e : EndId) (at : Stand) (m : MovingPicture) → is_living (s.ends e).place ≡ true → HasFields w e at m → m.sent ≡ (s.ends e).sent
   pub dead : (e : EndId) (at : Stand) (m : MovingPicture) → is_living (s.ends e).place ≡ true → HasFields w e at m → m.dead ≡ (s.ends e).noticed
 
 -- ---- what was heard
 
 -- what was heard of an end is no more than true
-abbrev pub IsHonest : World → Type 0
+abbrev pub IsHonest : Links → Type 0
 IsHonest w = (e : EndId) (at : Stand) (m : MovingPicture) (j h : ℕ) → HasFields w e at m → IsHeard w e j h → IsNoMore at m.hops j h
 
 -- ---- receives
 
 -- the receive that an entry has started is the last that was asked for; only a Cancel of its owner withdraws it
-pub record AreAsked (w : World) (s : State) : Type 0 where
+pub record AreAsked (w : Links) (s : State) : Type 0 where
   pub last : (k : ℕ) (e : EndId) (v : HereView) (n : ℕ) → entry_at w k e ≡ entry.Here v → IsAskedAs n v.inward → n ≡ v.value.asked
   pub cancelled : (k : ℕ) (e : EndId) (v : HereView) (n : ℕ) (p : Pid) → entry_at w k e ≡ entry.Here v → v.inward ≡ kernel_inward.Withdrawing n → v.holder ≡ holder.Owner p
       → (s.process p.0).phase ≡ phase.Cancelling e
 
--- processes that wait
-pub record AreWaiting (w : World) (s : State) : Type 0 where
-  -- in a Cancel while its receive is withdrawn
-  pub cancelling : (p : Pid) (e : EndId) → (s.process p.0).phase ≡ phase.Cancelling e → IsHereAnd (entry_at w (home_of s p) e) (λ v. is_withdrawing v.inward ≡ true)
-  -- in a Wait while no report stands
-  pub waiting : (p : Pid) → (s.process p.0).phase ≡ phase.Waiting → (s.process p.0).reports ≡ []
+-- a process is in a Cancel while its receive is being withdrawn
+abbrev pub AreCancelling : Links → State → Type 0
+AreCancelling w s = (p : Pid) (e : EndId) → (s.process p.0).phase ≡ phase.Cancelling e → IsHereAnd (entry_at w (home_of s p) e) (λ v. is_withdrawing v.inward ≡ true)
 
 -- a receive that was matched or withdrawn is served at the opposite end
-abbrev pub IsServed : World → State → Type 0
+abbrev pub IsServed : Links → State → Type 0
 IsServed w s =
     (e : EndId) (k : ℕ) (v : HereView) (n : ℕ) (at : Stand) (m : MovingPicture) → entry_at w k e ≡ entry.Here v → IsAskedAs n v.inward → is_posted (s.ends e).inward ≡ false
     → is_living (s.ends (opposite e)).place ≡ true → HasFields w (opposite e) at m → n ≤ m.served
 
 -- what is asked of an open end and not yet served: it is one receive, which is posted, and where its end lives, that is where each asking says
-pub record AreWanted (w : World) (s : State) : Type 0 where
+pub record AreWanted (w : Links) (s : State) : Type 0 where
   pub kept : (e : EndId) (at : Stand) (m : MovingPicture) → is_open (s.ends e) ≡ true → HasFields w e at m → (m.want ≡ 0) ⊎ (m.served < m.want)
   pub same : (e : EndId) (at : Stand) (m : MovingPicture) (n j h o i g : ℕ) → is_open (s.ends e) ≡ true → HasFields w e at m → IsUnserved w e m n j h → IsUnserved w e m o i g → o ≡ n
   pub posted : (e : EndId) (at : Stand) (m : MovingPicture) (n j h : ℕ) → is_open (s.ends e) ≡ true → HasFields w e at m → IsUnserved w e m n j h → is_posted (s.ends (opposite e)).inward ≡ true
@@ -113,7 +114,7 @@ pub record AreWanted (w : World) (s : State) : Type 0 where
       → (k : ℕ) × IsHereAnd (entry_at w k (opposite e)) (λ v. is_withdrawing v.inward ≡ true)
 
 -- an unwanted meets the receive that is being withdrawn
-abbrev pub IsVoidRight : World → State → ℕ → PictureWhat → Type 0
+abbrev pub IsVoidRight : Links → State → ℕ → PictureWhat → Type 0
 IsVoidRight w s to (packet.Unwanted e n at hops) = (s.ends e).noticed ≡ false → IsHereAnd (entry_at w to e) (λ v. v.inward ≡ kernel_inward.Withdrawing n)
 IsVoidRight w s to _ = Unit {0}
 
@@ -122,7 +123,7 @@ is_unwanted_to e (packet.Unwanted to n at hops) = end_eq e to
 is_unwanted_to e _ = false
 
 -- and it is the only one, until the death is noticed there
-pub record AreVoided (w : World) (s : State) : Type 0 where
+pub record AreVoided (w : Links) (s : State) : Type 0 where
   pub meets : Each w (λ from to q. IsVoidRight w s to q)
   pub once : (e : EndId) → (s.ends e).noticed ≡ false → how_many (is_unwanted_to e) w ≤ 1
 
@@ -136,12 +137,12 @@ pub record IsMatchedAs (s : State) (f : EndId) (n : ℕ) (xs : List EndId) : Typ
   pub number : (s.ends f).sent ≡ n
 
 -- where the end lives, kernel k has it here
-abbrev pub IsHereIfLiving : World → State → ℕ → EndId → (HereView → Type 0) → Type 0
+abbrev pub IsHereIfLiving : Links → State → ℕ → EndId → (HereView → Type 0) → Type 0
 IsHereIfLiving w s k e P = is_living (s.ends e).place ≡ true → IsHereAnd (entry_at w k e) P
 
 -- a parcel to e: its message is matched and has these bytes and ends; it came from where its sender is; an open end has it meet
 -- the receive that it is for
-pub record IsParcelRight (w : World) (s : State) (from to : ℕ) (e : EndId) (n wanted at hops : ℕ) (bytes : List ℕ) (xs : List EndId) : Type 0 where
+pub record IsParcelRight (w : Links) (s : State) (from to : ℕ) (e : EndId) (n wanted at hops : ℕ) (bytes : List ℕ) (xs : List EndId) : Type 0 where
   pub matched : (s.ends (opposite e)).outward ≡ outward.Matched (record { bytes = bytes; carried = xs })
   pub number : (s.ends (opposite e)).sent ≡ n
   pub sender : at ≡ from
@@ -149,13 +150,13 @@ pub record IsParcelRight (w : World) (s : State) (from to : ℕ) (e : EndId) (n 
   pub meets : is_open (s.ends e) ≡ true → IsHereAnd (entry_at w to e) (λ v. IsAskedAs wanted v.inward)
 
 -- a back to f: its message is matched and carries these ends; it could not be taken; it goes to where f is
-pub record IsBackRight (w : World) (s : State) (to : ℕ) (f : EndId) (n : ℕ) (xs : List EndId) : Type 0 where
+pub record IsBackRight (w : Links) (s : State) (to : ℕ) (f : EndId) (n : ℕ) (xs : List EndId) : Type 0 where
   pub matched : IsMatchedAs s f n xs
   pub untaken : is_open (s.ends (opposite f)) ≡ false
   pub site : IsHereIfLiving w s to f (λ v. Unit {0})
 
 -- a taken to f: its message was taken; it came from where that was, and goes to where f is
-pub record IsTakenRight (w : World) (s : State) (from to : ℕ) (f : EndId) (n at : ℕ) : Type 0 where
+pub record IsTakenRight (w : Links) (s : State) (from to : ℕ) (f : EndId) (n at : ℕ) : Type 0 where
   pub taken : (s.ends f).outward ≡ outward.Taken
   pub number : (s.ends f).sent ≡ n
   pub taker : at ≡ from
@@ -165,7 +166,7 @@ pub record IsTakenRight (w : World) (s : State) (from to : ℕ) (f : EndId) (n a
 abbrev pub IsGoneRight : State → EndId → Type 0
 IsGoneRight s e = (s.ends (opposite e)).place ≡ place.Destroyed
 
-abbrev pub IsPacketRight : World → State → ℕ → ℕ → PictureWhat → Type 0
+abbrev pub IsPacketRight : Links → State → ℕ → ℕ → PictureWhat → Type 0
 IsPacketRight w s from to (packet.Parcel e n wanted at hops bytes ms) = IsParcelRight w s from to e n wanted at hops bytes (ends_in ms)
 IsPacketRight w s from to (packet.Back f n ms) = IsBackRight w s to f n (ends_in ms)
 IsPacketRight w s from to (packet.Taken f n at hops) = IsTakenRight w s from to f n at
@@ -183,25 +184,32 @@ is_taken_of f (packet.Taken to n at hops) = end_eq f to
 is_taken_of f _ = false
 
 -- a message that is matched is in one packet, and one that was taken is told by one taken, until its sender is destroyed
-pub record AreSentOnce (w : World) (s : State) : Type 0 where
+pub record AreSentOnce (w : Links) (s : State) : Type 0 where
   pub message : (f : EndId) → how_many (is_message_of f) w ≡ one_if (is_some (matched_message (s.ends f).outward))
   pub taken : (f : EndId) → how_many (is_taken_of f) w ≤ one_if (is_taken (s.ends f).outward)
   pub told : (f : EndId) → is_living (s.ends f).place ≡ true → how_many (is_taken_of f) w ≡ one_if (is_taken (s.ends f).outward)
 
--- ---- all of it, after i events
+-- ---- all of it
 
-pub record Invariant (i : ℕ) (w : World) (s : State) : Type 0 where
-  pub stands : StandsFor w s
-  pub service : IsConsistent s
-  pub setting : IsOfSetting w s
+-- what is true of links, after i events
+pub record AreRight (i : ℕ) (w : Links) (s : State) : Type 0 where
+  pub named : AreNamed w s
   pub few : (e : EndId) (at : Stand) (m : MovingPicture) → HasFields w e at m → IsFew i m
   pub marked : AreMarked w s
   pub counted : AreCounted w s
   pub honest : IsHonest w
   pub asked : AreAsked w s
-  pub waiting : AreWaiting w s
+  pub cancelling : AreCancelling w s
   pub served : IsServed w s
   pub wanted : AreWanted w s
   pub voided : AreVoided w s
   pub packets : Each w (λ from to q. IsPacketRight w s from to q)
   pub once : AreSentOnce w s
+
+pub record Invariant (i : ℕ) (w : World) (s : State) : Type 0 where
+  pub stands : StandsFor w s
+  pub service : IsConsistent s
+  pub setting : IsOfSetting w s
+  pub links : AreRight i (links_of w) s
+  -- a process is in a Wait while no report of it stands
+  pub waiting : (p : Pid) → (s.process p.0).phase ≡ phase.Waiting → (s.process p.0).reports ≡ []

@@ -1,4 +1,5 @@
--- Packets that are under way: whether one of a kind is, what is true of each, and how many there are.
+-- What the kernels of a world have of links: entries, and packets that are under way. Whether a packet of a kind is, what is true of
+-- each, and how many there are.
 use Rattle.std.specs.Prelude.{◌≡◌, ℕ, ◌+◌, Bool, true, false, if◌then◌else◌, List, [], ◌∷◌, All, Contains}
 use Rattle.charlotte_calls.specs.Names.{opposite}
 use Rattle.charlotte_calls.specs.declared.names.EndId.{EndId}
@@ -7,10 +8,19 @@ use Rattle.charlotte_calls.specs.declared.picture.Picture.{Picture}
 use Rattle.charlotte_calls.specs.declared.picture.PictureWhat.{PictureWhat}
 use Rattle.charlotte_calls.specs.declared.picture.PictureWhat.TheVariants as packet
 use Rattle.end_table.specs.Place.{end_eq}
+use Rattle.end_table.specs.declared.entry.Entry.{Entry}
 use Rattle.kernel_world.specs.World.{World}
 
+-- what each kernel keeps of each end, and the packets from one kernel to another, oldest first
+pub record Links : Type 0 where
+  pub entry : ℕ → EndId → Entry
+  pub packets : ℕ → ℕ → List Picture
+
+abbrev pub links_of : World → Links
+links_of w = record { entry = λ k. (w.kernel k).table; packets = w.packets }
+
 -- a packet of which this is true stands in a list, from one kernel to another
-pub record IsUnderWay (w : World) (P : PictureWhat → Type 0) : Type 0 where
+pub record IsUnderWay (w : Links) (P : PictureWhat → Type 0) : Type 0 where
   pub from : ℕ
   pub to : ℕ
   pub packet : Picture
@@ -18,7 +28,7 @@ pub record IsUnderWay (w : World) (P : PictureWhat → Type 0) : Type 0 where
   pub is : P packet.what
 
 -- this is true of each packet, with the kernel that sent it and the kernel that it goes to
-abbrev pub Each : World → (ℕ → ℕ → PictureWhat → Type 0) → Type 0
+abbrev pub Each : Links → (ℕ → ℕ → PictureWhat → Type 0) → Type 0
 Each w P = (from to : ℕ) → All (λ q. P from to q.what) (w.packets from to)
 
 -- ---- kinds of packets
@@ -66,7 +76,7 @@ sum_in f [] = 0
 sum_in f (q ∷ qs) = f q.what + sum_in f qs
 
 -- the sum over all packets that are under way
-unfoldable pub sum_over : (PictureWhat → ℕ) → World → ℕ
+unfoldable pub sum_over : (PictureWhat → ℕ) → Links → ℕ
 sum_over f w = over_kernels (λ from. over_kernels (λ to. sum_in f (w.packets from to)))
 
 -- 1 where a test is passed
@@ -74,7 +84,7 @@ abbrev pub one_if : Bool → ℕ
 one_if b = if b then 1 else 0
 
 -- how many packets pass a test
-abbrev pub how_many : (PictureWhat → Bool) → World → ℕ
+abbrev pub how_many : (PictureWhat → Bool) → Links → ℕ
 how_many test w = sum_over (λ q. one_if (test q)) w
 
 -- how many of these values are of an end

@@ -26,15 +26,15 @@ use Rattle.service_step.specs.declared.state.Outward.TheVariants as outward
 use Rattle.service_step.specs.declared.state.Phase.{Phase}
 use Rattle.service_step.specs.declared.state.Phase.TheVariants as phase
 use Rattle.service_step.specs.declared.state.Place.TheVariants as place
-use Rattle.world_meaning.specs.Packets.{IsUnderWay, IsParcelOf, IsParcelFor, IsBackOf, IsTakenOf, IsUnwantedOf, values_of, over_kernels, sum_over, one_if, values_for}
+use Rattle.world_meaning.specs.Packets.{Links, links_of, IsUnderWay, IsParcelOf, IsParcelFor, IsBackOf, IsTakenOf, IsUnwantedOf, values_of, over_kernels, sum_over, one_if, values_for}
 
 -- the kernel of a process
 abbrev pub home_of : State → Pid → ℕ
 home_of s p = slice_index s.homes p.0
 
 -- what kernel k keeps of an end
-abbrev pub entry_at : World → ℕ → EndId → Entry
-entry_at w k e = (w.kernel k).table e
+abbrev pub entry_at : Links → ℕ → EndId → Entry
+entry_at w k e = w.entry k e
 
 -- ---- 1: processes
 
@@ -61,7 +61,7 @@ pub record IsProcessOf (at : KernelProcess) (p : Process) : Type 0 where
 -- ---- 2: where ends are
 
 -- the Here entries of an end at all kernels, and the values of it in all packets
-unfoldable pub standing : World → EndId → ℕ
+unfoldable pub standing : Links → EndId → ℕ
 standing w e = over_kernels (λ k. one_if (is_here (entry_at w k e))) + sum_over (λ q. values_for e (values_of q)) w
 
 -- ---- 3: who holds them
@@ -76,13 +76,13 @@ IsWaitingWith n (kernel_outward.Waiting m bytes xs) = m ≡ n
 IsWaitingWith n _ = ⊥
 
 -- some kernel has e here, enclosed in the send of f, and there the send n of f waits
-pub record IsEnclosed (w : World) (e f : EndId) (n : ℕ) : Type 0 where
+pub record IsEnclosed (w : Links) (e f : EndId) (n : ℕ) : Type 0 where
   pub at : ℕ
   pub enclosed : IsHereAnd (entry_at w at e) (λ v. v.holder ≡ holder.EnclosedIn f)
   pub waiting : IsHereAnd (entry_at w at f) (λ v. IsWaitingWith n v.outward)
 
 -- the message n of f carries e: while it waits; in a parcel to the opposite of f; or on its way back
-abbrev pub IsInMessage : World → EndId → EndId → ℕ → Type 0
+abbrev pub IsInMessage : Links → EndId → EndId → ℕ → Type 0
 IsInMessage w e f n =
     IsEnclosed w e f n
     ⊎ IsUnderWay w (λ q. IsParcelOf f n q × Contains (ends_in (values_of q)) e)
@@ -91,7 +91,7 @@ IsInMessage w e f n =
 -- ---- 4: sends
 
 -- the activity outward of e, whose count of sends is n: a kernel's Matched is Taken where a taken for it is under way, else Matched
-abbrev pub IsOutwardOf : World → EndId → ℕ → KernelOutward → Outward → Type 0
+abbrev pub IsOutwardOf : Links → EndId → ℕ → KernelOutward → Outward → Type 0
 IsOutwardOf w e n kernel_outward.Idle outward.Idle = Unit {0}
 IsOutwardOf w e n (kernel_outward.Waiting m bytes xs) (outward.Waiting message) = (m ≡ n) × (message ≡ record { bytes = bytes; carried = xs })
 IsOutwardOf w e n (kernel_outward.Matched m) (outward.Matched message) = (m ≡ n) × (IsUnderWay w (IsTakenOf e m) → ⊥)
@@ -102,13 +102,13 @@ IsOutwardOf w e n _ _ = ⊥
 -- ---- 5: receives
 
 -- the receive v of e is Matched where a parcel for it is under way, Withdrawn where an unwanted for it is, else Posted
-abbrev pub IsAskedOf : World → EndId → ℕ → Inward → Type 0
+abbrev pub IsAskedOf : Links → EndId → ℕ → Inward → Type 0
 IsAskedOf w e v (inward.Matched n) = IsUnderWay w (IsParcelFor e v n)
 IsAskedOf w e v inward.Withdrawn = IsUnderWay w (IsUnwantedOf e v)
 IsAskedOf w e v inward.Posted = ((n : ℕ) → IsUnderWay w (IsParcelFor e v n) → ⊥) × (IsUnderWay w (IsUnwantedOf e v) → ⊥)
 IsAskedOf w e v _ = ⊥
 
-abbrev pub IsInwardOf : World → EndId → KernelInward → Inward → Type 0
+abbrev pub IsInwardOf : Links → EndId → KernelInward → Inward → Type 0
 IsInwardOf w e kernel_inward.Idle inward.Idle = Unit {0}
 IsInwardOf w e (kernel_inward.Posted v) i = IsAskedOf w e v i
 IsInwardOf w e (kernel_inward.Withdrawing v) i = IsAskedOf w e v i
@@ -116,7 +116,7 @@ IsInwardOf w e kernel_inward.Unreported inward.Reported = Unit {0}
 IsInwardOf w e _ _ = ⊥
 
 -- what the service says of an end, and what the kernel that has it keeps of it
-pub record IsEndOf (w : World) (e : EndId) (v : HereView) (x : End) : Type 0 where
+pub record IsEndOf (w : Links) (e : EndId) (v : HereView) (x : End) : Type 0 where
   pub sent : x.sent ≡ v.value.sent
   pub noticed : x.noticed ≡ v.value.dead
   pub outward : IsOutwardOf w e x.sent v.outward x.outward
@@ -124,9 +124,8 @@ pub record IsEndOf (w : World) (e : EndId) (v : HereView) (x : End) : Type 0 whe
 
 -- ---- all of it
 
-pub record StandsFor (w : World) (s : State) : Type 0 where
-  -- 1: each process is where its kernel has it
-  pub processes : (p : Pid) → p.0 < length s.homes → IsProcessOf ((w.kernel (home_of s p)).process p.0) (s.process p.0)
+-- clauses 2 to 5
+pub record AreLinksOf (w : Links) (s : State) : Type 0 where
   -- 2: a living end is at one place, and no other end is anywhere
   pub once : (e : EndId) → standing w e ≡ one_if (is_living (s.ends e).place)
   -- 3: an end is owned where its owner's kernel has it so, and in a message where that carries it
@@ -134,3 +133,8 @@ pub record StandsFor (w : World) (s : State) : Type 0 where
   pub in_message : (e f : EndId) (n : ℕ) → ((s.ends e).place ≡ place.InMessage f n) ↔ IsInMessage w e f n
   -- 4 and 5: the sends and receives of an owned end
   pub agree : (e : EndId) (p : Pid) (v : HereView) → (s.ends e).place ≡ place.Owned p → entry_at w (home_of s p) e ≡ entry.Here v → IsEndOf w e v (s.ends e)
+
+pub record StandsFor (w : World) (s : State) : Type 0 where
+  -- 1: each process is where its kernel has it
+  pub processes : (p : Pid) → p.0 < length s.homes → IsProcessOf ((w.kernel (home_of s p)).process p.0) (s.process p.0)
+  pub links : AreLinksOf (links_of w) s
