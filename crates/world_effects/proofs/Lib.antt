@@ -1,2 +1,4 @@
 pub mod Lists
 pub mod Packets
+pub mod Sums
+pub mod Happens

@@ -3,9 +3,8 @@ use Rattle.std.proofs.Common.{◌≡◌, ℕ, Bool, true, false, nat_eq, if◌th
 use Rattle.std.proofs.lemmas.List.Elements.{All-contains, Contains-append_left, Contains-append_right, Contains-append_cases}
 use Rattle.charlotte_calls.specs.declared.picture.Picture.{Picture}
 use Rattle.charlotte_calls.specs.declared.picture.PictureWhat.{PictureWhat}
-use Rattle.kernel_world.specs.World.{World}
-use Rattle.world_meaning.specs.Packets.{IsUnderWay, Each}
-use Rattle.world_effects.specs.Change.{Change, Becomes, taken_from, taken_at, sent_at}
+use Rattle.world_meaning.specs.Packets.{Links, IsUnderWay, Each}
+use Rattle.world_effects.specs.Change.{Change, Changes, taken_from, taken_at, sent_at}
 use Rattle.world_effects.specs.Under.{IsTaken, IsLeft, IsSent}
 use Rattle.world_effects.proofs.Lists.{none-there, only-there, first, All-there, going, going-sent, sent-going}
 
@@ -46,7 +45,7 @@ there-sent c to what has =
     subst (λ b. Contains (if b then going to c.stamp c.packets else []) (record { stamp = c.stamp; what = what })) (sym (eq-eqb c.kernel c.kernel refl))
     (sent-going to c.stamp c.packets what has)
 
-module _ {w u : World} {c : Change} (b : Becomes w c u) where
+module _ {w u : Links} {c : Change} (b : Changes w c u) where
   -- ---- one list
 
   -- a packet that stands in a list was left there or was sent
@@ -106,13 +105,13 @@ module _ {w u : World} {c : Change} (b : Becomes w c u) where
       where
         by : Contains (b.left x.from x.to) x.packet ⊎ ((c.taken ≡ Some (x.from, x.packet)) × (x.to ≡ c.kernel)) → IsLeft b P ⊎ IsTaken c P
         by (inl has) = inl (record { from = x.from; to = x.to; packet = x.packet; there = has; is = x.is })
-        by (inr has) = inr (x.from, x.packet, has.0, x.is)
+        by (inr has) = inr (record { from = x.from; packet = x.packet; taken = has.0; is = x.is })
 
     pub left-was : IsLeft b P → IsUnderWay w P
     left-was x = record { from = x.from; to = x.to; packet = x.packet; there = left-before x.from x.to x.packet x.there; is = x.is }
 
     pub taken-was : IsTaken c P → IsUnderWay w P
-    taken-was (from, q, taken, is) = record { from = from; to = c.kernel; packet = q; there = taken-before from q taken; is = is }
+    taken-was x = record { from = x.from; to = c.kernel; packet = x.packet; there = taken-before x.from x.packet x.taken; is = x.is }
 
     -- where no such packet was sent, one that is under way was so before
     pub under_way-was : (IsSent c P → ⊥) → IsUnderWay u P → IsUnderWay w P

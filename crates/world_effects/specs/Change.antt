@@ -9,7 +9,7 @@ use Rattle.end_table.specs.declared.entry.Entry.{Entry}
 use Rattle.kernel_effects.specs.Effect.{stamped}
 use Rattle.kernel_step.specs.Kernel.{Process}
 use Rattle.kernel_world.specs.World.{World, Event, happens, outcome, to_kernel}
-use Rattle.world_meaning.specs.StandsFor.{entry_at}
+use Rattle.world_meaning.specs.Packets.{Links, links_of}
 
 -- what an event does
 pub record Change : Type 0 where
@@ -46,10 +46,20 @@ taken_at c from to = if nat_eq to c.kernel then taken_from c.taken from else []
 abbrev pub sent_at : Change → ℕ → ℕ → List Picture
 sent_at c from to = if nat_eq from c.kernel then to_kernel to (map (stamped c.stamp) c.packets) else []
 
--- by an event that does this a world becomes another
+-- by an event that does this links become others
+pub record Changes (w : Links) (c : Change) (u : Links) : Type 0 where
+  -- entries at its kernel, and at others, where all stay
+  pub entry : (e : EndId) → u.entry c.kernel e ≡ c.entry e (w.entry c.kernel e)
+  pub others : (j : ℕ) (e : EndId) → nat_eq j c.kernel ≡ false → u.entry j e ≡ w.entry j e
+  -- what stays in each list: before it stands what is taken, and behind it comes what is sent
+  pub left : ℕ → ℕ → List Picture
+  pub before : (from to : ℕ) → w.packets from to ≡ taken_at c from to ++ left from to
+  pub after : (from to : ℕ) → u.packets from to ≡ left from to ++ sent_at c from to
+
+-- and a world becomes another
 pub record Becomes (w : World) (c : Change) (u : World) : Type 0 where
-  -- at its kernel
-  pub entry : (e : EndId) → entry_at u c.kernel e ≡ c.entry e (entry_at w c.kernel e)
+  pub links : Changes (links_of w) c (links_of u)
+  -- its kernel
   pub process : (q : ℕ) → (u.kernel c.kernel).process q ≡ (if nat_eq c.pid.0 q then c.process else (w.kernel c.kernel).process q)
   pub stamp : (u.kernel c.kernel).stamp ≡ c.stamp
   pub made : (u.kernel c.kernel).made ≡ c.made
@@ -58,10 +68,6 @@ pub record Becomes (w : World) (c : Change) (u : World) : Type 0 where
   pub version : (u.kernel c.kernel).version ≡ (w.kernel c.kernel).version
   -- other kernels stay as they were
   pub others : (j : ℕ) → nat_eq j c.kernel ≡ false → u.kernel j ≡ w.kernel j
-  -- what stays in each list: before it stands what is taken, and behind it comes what is sent
-  pub left : ℕ → ℕ → List Picture
-  pub before : (from to : ℕ) → w.packets from to ≡ taken_at c from to ++ left from to
-  pub after : (from to : ℕ) → u.packets from to ≡ left from to ++ sent_at c from to
 
 -- an event does this
 pub record Happens (w : World) (e : Event) (c : Change) : Type 0 where

@@ -1,2 +1,4 @@
 pub mod Change
+pub mod Events
+pub mod Sums
 pub mod Under
