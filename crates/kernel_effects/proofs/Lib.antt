@@ -6,3 +6,4 @@ pub mod Actions
 pub mod Calls
 pub mod Rows
 pub mod Retiring
+pub mod Uses

@@ -1,5 +1,5 @@
 -- What a call gives.
-use Rattle.std.proofs.Common.{◌≡◌, ℕ, Bool, true, false, nat_eq, List, [], ◌∷◌, ◌++◌, map, Option, Some, None, refl, sym, ap, subst, ◌∙◌, append-nil, if◌then◌else◌}
+use Rattle.std.proofs.Common.{◌≡◌, ℕ, Bool, true, false, nat_eq, List, [], ◌∷◌, ◌++◌, map, Option, Some, None, refl, sym, ap, subst, ◌∙◌, if◌then◌else◌}
 use Rattle.charlotte_calls.specs.Names.{opposite}
 use Rattle.charlotte_calls.specs.declared.calls.Answer.{Answer}
 use Rattle.charlotte_calls.specs.declared.calls.Answer.TheVariants as answer
@@ -25,14 +25,14 @@ use Rattle.kernel_effects.specs.Calls.{act_effect, effect_on, ended_with, post_e
 use Rattle.kernel_effects.specs.Effect.{Effect, Does, nothing, stamped}
 use Rattle.kernel_outcomes.proofs.Closing.{answers_wait-gives, changes, effect-gives, own-process, same-process, stands-gives}
 use Rattle.kernel_outcomes.proofs.Events.{acts-does}
-use Rattle.kernel_outcomes.specs.Closing.{CallGives, Gives, call_answered, call_told, called, cancelling, cancelling_on, oldest, ran, told_entry, waited}
+use Rattle.kernel_outcomes.specs.Closing.{CallGives, Gives, cancelling, cancelling_on, oldest, ran, told_entry, waited}
 use Rattle.kernel_sound.specs.Acts.{acts, acts_on, made_after, withdraws_posted}
 use Rattle.kernel_sound.specs.Sound.{IsSound}
 use Rattle.kernel_step.specs.Calls.{IsCallWith, made_end, on_owned, refusal, withdraws_send}
 use Rattle.kernel_step.specs.Kernel.{Kernel, Outcome, Process, begins, call_step, cancels, cancels_receive, closes, decides, exits, granted_on, has_report, next_stamp, performs, process_of, stands, turns, waits}
 use Rattle.kernel_step.specs.Progress.{Progress, means}
 use Rattle.kernel_step.specs.declared.phase.Phase.{Phase}
-use Rattle.kernel_step.specs.declared.phase.Phase.TheVariants.{Running, Waiting, Cancelling, Exited}
+use Rattle.kernel_step.specs.declared.phase.Phase.TheVariants.{Waiting, Cancelling, Exited}
 
 -- an event without reports and answers
 pub quiet-gives : (s : Kernel) (p : Pid) (stamp : ℕ) (f : Effect) (d : Progress) → Does f (begins s stamp) d → f.answers ≡ [] → f.reports ≡ []

@@ -2,3 +2,5 @@ pub mod Closing
 pub mod Sound
 pub mod Events
 pub mod Called
+pub mod Touched
+pub mod ForOne

@@ -69,7 +69,7 @@ passing-all k made t (m ∷ ms) come =
     ap (λ b. if b then m ∷ passing k made t ms else passing k made t ms) (carried-coming k made t m come.0 come.1) ∙ ap (λ l. m ∷ l) (passing-all k made t ms come.3)
 
 -- values that pass are some of all
-none-passing : (k made : ℕ) (t : EndId → Entry) (e : EndId) (ms : List MovingPicture) → list_any (end_eq e) (ends_in ms) ≡ false → list_any (end_eq e) (ends_in (passing k made t ms)) ≡ false
+pub none-passing : (k made : ℕ) (t : EndId → Entry) (e : EndId) (ms : List MovingPicture) → list_any (end_eq e) (ends_in ms) ≡ false → list_any (end_eq e) (ends_in (passing k made t ms)) ≡ false
 none-passing k made t e [] none = refl
 none-passing k made t e (m ∷ ms) none = by (is_carried k made t m) (none-passing k made t e ms (second_false _ _ none))
   where
