@@ -2,3 +2,4 @@ pub mod Packets
 pub mod StandsFor
 pub mod Fields
 pub mod Invariant
+pub mod Law

@@ -1,0 +1,180 @@
+-- The service goes with a run, event by event.
+use Rattle.std.proofs.Common.{◌≡◌, ◌≢◌, ◌⊎◌, inl, inr, ℕ, ◌+◌, ◌<◌, ◌≤◌, ◌^◌, Bool, true, false, nat_eq, cond, IsTrue, List, [], ◌∷◌, ◌++◌, map, length, slice_index, Option, Some, None, refl, sym, ap, subst, ◌∙◌, arith, true≢false}
+use Rattle.charlotte_calls.specs.Setting.{IsValid}
+use Rattle.charlotte_calls.specs.declared.calls.Answer.{Answer}
+use Rattle.charlotte_calls.specs.declared.calls.Answer.TheVariants as answer
+use Rattle.charlotte_calls.specs.declared.calls.Call.{Call}
+use Rattle.charlotte_calls.specs.declared.calls.Call.TheVariants as call
+use Rattle.charlotte_calls.specs.declared.calls.Cause.{Cause}
+use Rattle.charlotte_calls.specs.declared.calls.ServiceStep.{ServiceStep}
+use Rattle.charlotte_calls.specs.declared.calls.ServiceStep.TheVariants as step
+use Rattle.charlotte_calls.specs.declared.names.EndId.{EndId}
+use Rattle.charlotte_calls.specs.declared.names.Pid.{Pid}
+use Rattle.charlotte_calls.specs.declared.setting.Setting.{Setting}
+use Rattle.kernel_step.specs.Calls.{refusal, IsCallWith}
+use Rattle.kernel_step.specs.Kernel.{Kernel, Outcome, Process as KernelProcess, begins, call_step, closes, decides, granted, has_report, join_answers, join_reports, next_stamp, performs, process_of, refuses, stands, without_answer}
+use Rattle.kernel_step.specs.Progress.{means}
+use Rattle.kernel_step.specs.declared.phase.Phase.TheVariants as kernel_phase
+use Rattle.kernel_world.specs.Run.{IsAllowed, AreAllowed, IsRun}
+use Rattle.kernel_world.specs.World.{World, Event, Calls, Takes, happens, outcome, start}
+use Rattle.service_step.specs.Run.{IsRunFrom, IsServiceRun, state_after, start_state}
+use Rattle.service_step.specs.Causes.{IsRefusedFor}
+use Rattle.service_step.specs.Steps.{runs}
+use Rattle.service_step.specs.State.{State}
+use Rattle.world_meaning.proofs.Calm.{IsAnswered, IsCalm, answered-invariant}
+use Rattle.world_meaning.proofs.Refused.{IsCaller, caller-runs, refused-for}
+use Rattle.world_meaning.proofs.Start.{starts-well}
+use Rattle.world_meaning.specs.Invariant.{Invariant}
+use Rattle.world_meaning.specs.Law.{GoesWith, GoesWithEach, joined, IsServed, IsCovered, IsCoveredCall, AreCovered}
+use Rattle.world_meaning.specs.StandsFor.{StandsFor, home_of}
+
+-- the service goes with an event, and what is true of every world is true afterwards
+pub record Goes (i : ℕ) (w : World) (s : State) (e : Event) : Type 0 where
+  pub part : List (ServiceStep × State)
+  pub steps : map (λ made. made.0) part ≡ (outcome w e).steps
+  pub run : IsRunFrom s part
+  pub after : Invariant (i + 1) (happens w e) (state_after s part)
+  pub homes : (state_after s part).homes ≡ s.homes
+
+-- ---- calls that only answer their process
+
+-- a process after its standing answer was taken away and another came to stand
+twice : (b c : Bool) (own other : KernelProcess) (a : Answer)
+    → cond b (record (cond c (record own { answer = None }) own) { phase = kernel_phase.Running; answer = Some a }) (cond b (record own { answer = None }) other)
+    ≡ cond b (record { phase = kernel_phase.Running; reports = own.reports; answer = Some a }) other
+twice true true own other a = refl
+twice true false own other a = refl
+twice false true own other a = refl
+twice false false own other a = refl
+
+-- a Print answers its process, and no more
+print-is : (k : Kernel) (p : Pid) (mine : List EndId) (bytes : List ℕ) → IsAnswered k p (call_step (without_answer p k) p mine (call.Print bytes))
+unfolding call_step performs closes join_reports join_answers
+print-is k p mine bytes =
+    record {
+      calm = record { number = refl; kernels = refl; version = refl; table = refl; made = refl };
+      packets = refl;
+      answer = answer.Ok;
+      process = λ q. twice (nat_eq p.0 q) (nat_eq p.0 p.0) (k.process p.0) (k.process q) answer.Ok;
+    }
+
+print-steps : (k : Kernel) (p : Pid) (mine : List EndId) (bytes : List ℕ) → (call_step (without_answer p k) p mine (call.Print bytes)).steps ≡ []
+unfolding call_step performs closes join_reports join_answers
+print-steps k p mine bytes = refl
+
+-- so does a call that is refused
+refuses-is : (k : Kernel) (p : Pid) (c : Call) (cause : Cause) (stamp : ℕ) → IsAnswered k p (refuses p (without_answer p k) c cause (begins (without_answer p k) stamp))
+unfolding closes join_reports join_answers means
+refuses-is k p c cause stamp =
+    record {
+      calm = record { number = refl; kernels = refl; version = refl; table = refl; made = refl };
+      packets = refl;
+      answer = answer.Refused cause;
+      process = λ q. twice (nat_eq p.0 q) (nat_eq p.0 p.0) (k.process p.0) (k.process q) (answer.Refused cause);
+    }
+
+refuses-steps : (k : Kernel) (p : Pid) (c : Call) (cause : Cause) (stamp : ℕ) → (refuses p (without_answer p k) c cause (begins (without_answer p k) stamp)).steps ≡ step.Refuse p c cause ∷ []
+unfolding closes join_reports join_answers means
+refuses-steps k p c cause stamp = refl
+
+same-reports : (k : Kernel) (p : Pid) → has_report (process_of p (without_answer p k)) ≡ has_report (process_of p k)
+same-reports k p = by (nat_eq p.0 p.0)
+  where
+    by : (b : Bool) → has_report (cond b (record (k.process p.0) { answer = None }) (k.process p.0)) ≡ has_report (k.process p.0)
+    by true = refl
+    by false = refl
+
+-- what a call does that is refused
+refused-is : (k : Kernel) (p : Pid) (mine : List EndId) (c : Call) (cause : Cause) → refusal p k.table k.made mine (has_report (process_of p k)) c ≡ Some cause
+    → call_step (without_answer p k) p mine c ≡ refuses p (without_answer p k) c cause (begins (without_answer p k) (next_stamp k.stamp))
+unfolding call_step
+refused-is k p mine c cause is =
+    ap (λ r. decides p (without_answer p k) mine c r (begins (without_answer p k) (next_stamp k.stamp))) (ap (λ b. refusal p k.table k.made mine b c) (same-reports k p) ∙ is)
+
+module _ (i : ℕ) (w : World) (s : State) (k : ℕ) (p : Pid) (mine : List EndId) (is : Invariant i w s) (running : ((w.kernel k).process p.0).phase ≡ kernel_phase.Running) where
+  goes-print : (bytes : List ℕ) → Goes i w s (Calls k p (call.Print bytes) mine)
+  goes-print bytes =
+      record {
+        part = [];
+        steps = sym (print-steps (w.kernel k) p mine bytes);
+        run = tt;
+        after = answered-invariant i w s k p (call.Print bytes) mine is (print-is (w.kernel k) p mine bytes) running;
+        homes = refl;
+      }
+
+  goes-refused : (c : Call) (cause : Cause) → refusal p (w.kernel k).table (w.kernel k).made mine (has_report (process_of p (w.kernel k))) c ≡ Some cause
+      → IsTrue (runs s p) → IsRefusedFor s p c cause → Goes i w s (Calls k p c mine)
+  goes-refused c cause refused runs_is for =
+      record {
+        part = (step.Refuse p c cause, s) ∷ [];
+        steps = sym (ap (λ (o : Outcome). o.steps) did ∙ refuses-steps (w.kernel k) p c cause (next_stamp (w.kernel k).stamp));
+        run = (record { allowed = (runs_is, for); after = refl }, tt);
+        after = answered-invariant i w s k p c mine is (subst (IsAnswered (w.kernel k) p) (sym did) (refuses-is (w.kernel k) p c cause (next_stamp (w.kernel k).stamp))) running;
+        homes = refl;
+      }
+    where
+      did : call_step (without_answer p (w.kernel k)) p mine c ≡ refuses p (without_answer p (w.kernel k)) c cause (begins (without_answer p (w.kernel k)) (next_stamp (w.kernel k).stamp))
+      did = refused-is (w.kernel k) p mine c cause refused
+
+-- ---- all events of a run
+
+run-append : (s : State) (xs ys : List (ServiceStep × State)) → IsRunFrom s xs → IsRunFrom (state_after s xs) ys → IsRunFrom s (xs ++ ys)
+run-append s [] ys first rest = rest
+run-append s (x ∷ xs) ys first rest = (first.0, run-append x.1 xs ys first.1 rest)
+
+-- the service goes with the rest of a run
+record GoesOn (w : World) (s : State) (es : List Event) : Type 0 where
+  parts : List (List (ServiceStep × State))
+  each : GoesWithEach w s es parts
+  run : IsRunFrom s (joined parts)
+
+-- the service goes with an event that is covered
+goes-event : (g : Setting) (i : ℕ) (w : World) (s : State) (e : Event) → Invariant i w s → s.homes ≡ g.homes → IsAllowed g w e → IsCovered w e → Goes i w s e
+goes-event g i w s (Takes k from) is homes allowed covered = absurd covered
+goes-event g i w s (Calls k p c mine) is homes allowed covered = by c (refusal p (w.kernel k).table (w.kernel k).made mine (has_report (process_of p (w.kernel k))) c) refl covered
+  where
+    below : p.0 < length s.homes
+    below = subst (λ hs. p.0 < length hs) (sym homes) allowed.0
+
+    at : home_of s p ≡ k
+    at = ap (λ hs. slice_index hs p.0) homes ∙ allowed.1
+
+    running : ((w.kernel k).process p.0).phase ≡ kernel_phase.Running
+    running = allowed.2
+
+    calls : IsCaller w s p k mine
+    calls = record { below = below; at = at; running = running }
+
+    refused : (c : Call) (cause : Cause) → IsCallWith p (w.kernel k).table mine c → refusal p (w.kernel k).table (w.kernel k).made mine (has_report (process_of p (w.kernel k))) c ≡ Some cause → Goes i w s (Calls k p c mine)
+    refused c cause with_mine is_refused = goes-refused i w s k p mine is running c cause is_refused (caller-runs w s p k mine is.stands calls) (refused-for i w s p k mine is calls c cause with_mine is_refused)
+
+    by : (d : Call) (r : Option Cause) → refusal p (w.kernel k).table (w.kernel k).made mine (has_report (process_of p (w.kernel k))) c ≡ r → IsCoveredCall r c → Goes i w s (Calls k p c mine)
+    by d (Some cause) is_refused in_is = refused c cause allowed.4 is_refused
+    by d None is_refused in_is = granted_is c in_is
+      where
+        granted_is : (c : Call) → IsCoveredCall None c → Goes i w s (Calls k p c mine)
+        granted_is (call.Print bytes) in_is = goes-print i w s k p mine is running bytes
+        granted_is call.Make in_is = absurd in_is
+        granted_is (call.Destroy on) in_is = absurd in_is
+        granted_is (call.Send on bytes xs) in_is = absurd in_is
+        granted_is (call.Receive on) in_is = absurd in_is
+        granted_is (call.Cancel on way) in_is = absurd in_is
+        granted_is call.Wait in_is = absurd in_is
+        granted_is call.Exit in_is = absurd in_is
+
+goes-on : (g : Setting) (i : ℕ) (w : World) (s : State) (es : List Event) → Invariant i w s → s.homes ≡ g.homes → AreAllowed g w es → AreCovered w es → GoesOn w s es
+goes-on g i w s [] is homes allowed covered = record { parts = []; each = tt; run = tt }
+goes-on g i w s (e ∷ es) is homes allowed covered =
+    let first = goes-event g i w s e is homes allowed.0 covered.0 in
+    let rest = goes-on g (i + 1) (happens w e) (state_after s first.part) es first.after (first.homes ∙ homes) allowed.1 covered.1 in
+    record {
+      parts = first.part ∷ rest.parts;
+      each = (record { steps = first.steps; run = first.run; stands = first.after.stands }, rest.each);
+      run = run-append s first.part (joined rest.parts) first.run rest.run;
+    }
+
+-- the service goes with each run of a valid setting, as far as its events are covered
+pub run_is_served : (g : Setting) (es : List Event) → IsValid g → IsRun g es → AreCovered (start g) es → IsServed g es
+run_is_served g es valid run covered =
+    let on = goes-on g 0 (start g) (start_state g) es (starts-well g valid) refl run.allowed covered in
+    record { parts = on.parts; begins = (starts-well g valid).stands; each = on.each; run = on.run }
