@@ -21,10 +21,10 @@ use Rattle.end_table.specs.declared.entry.Inward.TheVariants as inward
 use Rattle.end_table.specs.declared.entry.Outward.{Outward}
 use Rattle.end_table.specs.declared.entry.Outward.TheVariants as outward
 use Rattle.kernel_step.proofs.EnclosedEnds.{values_leaving-others}
-use Rattle.kernel_step.proofs.Folds.{AreDifferent, AreOwn, AreOwn-put, held_entry, left_of}
+use Rattle.kernel_step.proofs.Folds.{AreDifferent, AreOwn, AreOwn-put}
 use Rattle.kernel_step.specs.Actions.{dead_receive_report, enclosed_of, hint_kernel, leave_each, matches, match_waiting, notice_receive, notice_send, notices, reports, send_report, values_leaving}
 use Rattle.kernel_step.specs.Progress.{Progress, keeps, means, reports_to}
-use Rattle.kernel_effects.specs.Actions.{cancel_notice, forget_packets, match_effect, match_waiting_effect, matched_view, notice_effect, noticed_view, parcel_packets, receive_notice, send_notice}
+use Rattle.kernel_effects.specs.Actions.{cancel_notice, forget_packets, held_entry, left_of, match_effect, match_waiting_effect, matched_view, notice_effect, noticed_view, parcel_packets, receive_notice, send_notice}
 use Rattle.kernel_effects.specs.Effect.{Effect, Does, for_holder, nothing, puts, stays, turns}
 use Rattle.kernel_effects.proofs.Does.{answers-does, does-answered, does-entry, does-meant, does-nothing, does-same, does-sent, does-then, does-turned, keeps-does, means-does, reports-does, sends-does}
 use Rattle.kernel_effects.proofs.Folds.{hold_each-does, leave_each-does}

@@ -18,11 +18,11 @@ use Rattle.end_table.specs.declared.entry.Holder.{Holder}
 use Rattle.end_table.specs.declared.entry.Holder.TheVariants as holder
 use Rattle.end_table.specs.declared.entry.Inward.TheVariants as inward
 use Rattle.end_table.specs.declared.entry.Outward.TheVariants as outward
-use Rattle.kernel_step.proofs.Folds.{AreDifferent, AreOwn, AreOwn-put, held_entry, left_of}
+use Rattle.kernel_step.proofs.Folds.{AreDifferent, AreOwn, AreOwn-put}
 use Rattle.kernel_step.specs.Actions.{enclosed_of, here, hint_kernel, hold_each, matches, value_leaving, values_leaving}
 use Rattle.kernel_step.specs.Calls.{encloses, made_end, makes, posts, starts_send, withdraws_receive, withdraws_send}
 use Rattle.kernel_step.specs.Progress.{Progress, keeps, means}
-use Rattle.kernel_effects.specs.Actions.{holds_each, match_effect, matched_view, parcel_packets}
+use Rattle.kernel_effects.specs.Actions.{held_entry, holds_each, left_of, match_effect, matched_view, parcel_packets}
 use Rattle.kernel_effects.specs.Calls.{make_effect, post_effect, send_effect, sending_view, withdraw_receive_effect, withdraw_send_effect}
 use Rattle.kernel_effects.specs.Effect.{Effect, Does, nothing, puts, stays, turns}
 use Rattle.kernel_effects.proofs.Actions.{matches-does, turns-puts}

@@ -12,11 +12,11 @@ use Rattle.end_table.specs.declared.entry.Entry.{Entry}
 use Rattle.end_table.specs.declared.entry.Entry.TheVariants as entry
 use Rattle.end_table.specs.declared.entry.HereView.{HereView}
 use Rattle.kernel_step.proofs.EnclosedEnds.{first_false, second_false}
-use Rattle.kernel_step.proofs.Folds.{AreDifferent, AreOwn, AreOwn-put, ended_of}
+use Rattle.kernel_step.proofs.Folds.{AreDifferent, AreOwn, AreOwn-put}
 use Rattle.kernel_step.specs.Actions.{enclosed_of, here, ends, ends_idle_here, end_each}
 use Rattle.kernel_step.specs.Calls.{ends_each, ends_here}
 use Rattle.kernel_step.specs.Progress.{Progress, keeps}
-use Rattle.kernel_effects.specs.Actions.{ends_all, gone_of, gone_packets}
+use Rattle.kernel_effects.specs.Actions.{ended_of, ends_all, gone_of, gone_packets}
 use Rattle.kernel_effects.specs.Calls.{ended_list, ended_with}
 use Rattle.kernel_effects.specs.Effect.{Effect, Does, and_then, changed, puts, stays, turns}
 use Rattle.kernel_effects.proofs.Does.{does-entry, does-nothing, does-same, does-sent, does-then, keeps-does}

@@ -11,12 +11,12 @@ use Rattle.end_table.specs.declared.entry.Entry.{Entry}
 use Rattle.end_table.specs.declared.entry.Entry.TheVariants as entry
 use Rattle.end_table.specs.declared.entry.Holder.{Holder}
 use Rattle.kernel_step.proofs.EnclosedEnds.{first_false, second_false}
-use Rattle.kernel_step.proofs.Folds.{AreDifferent, AreOwn, hold_each-table, leave_each-table, left_of, held_entry}
+use Rattle.kernel_step.proofs.Folds.{AreDifferent, AreOwn, hold_each-table, leave_each-table, held_entry as step_held, left_of as step_left}
 use Rattle.kernel_step.specs.Actions.{here, held, hold_each, leaves_here, leave_each, ends_idle, settle_each}
 use Rattle.kernel_step.specs.Progress.{Progress, keeps}
 use Rattle.kernel_step.specs.Rows.{ends_in, pass_each, end_arrivals}
 use Rattle.kernel_effects.specs.Effect.{Effect, Does, and_then, brings, changed, puts, stays, turns}
-use Rattle.kernel_effects.specs.Actions.{ends_arrivals, gone_packets, holds_each, leaves_each, passes_each, settles_each}
+use Rattle.kernel_effects.specs.Actions.{ends_arrivals, gone_packets, held_entry, holds_each, leaves_each, left_of, passes_each, settles_each}
 use Rattle.kernel_effects.proofs.Does.{OnlyTable, does-changed, does-entry, does-nothing, does-same, does-sent, does-then, keeps-does, keeps-only, only_table, only_table-fold}
 use Rattle.kernel_effects.proofs.Packets.{tells_gone-does}
 
@@ -29,10 +29,17 @@ held-only h (entry.Here v) d = keeps-only v.value.end (entry.Here (record v { ho
 held-only h (entry.Left to hops) d = only_table d
 held-only h (entry.Destroyed m) d = only_table d
 
+-- the word of it
+held-word : (h : Holder) (y : Entry) → step_held h y ≡ held_entry h y
+held-word h entry.Nothing = refl
+held-word h (entry.Here v) = refl
+held-word h (entry.Left to hops) = refl
+held-word h (entry.Destroyed m) = refl
+
 pub hold_each-does : (h : Holder) (xs : List EndId) (d : Progress) → AreDifferent xs → AreOwn d.table → Does (holds_each h xs) d (hold_each h xs d)
 unfolding hold_each
 hold_each-does h xs d apart own =
-    does-changed (turns xs (held_entry h) stays) d (hold_each h xs d) (λ q. hold_each-table h xs d q apart own)
+    does-changed (turns xs (held_entry h) stays) d (hold_each h xs d) (λ q. hold_each-table h xs d q apart own ∙ ap (λ z. if list_any (end_eq q) xs then z else d.table q) (held-word h (d.table q)))
     (only_table-fold (λ so_far x. held h (here (so_far.table x)) so_far) (λ d x. held-only h (d.table x) d) xs d)
 
 -- an end that is here leaves
@@ -42,10 +49,17 @@ left-only to (entry.Here v) d = keeps-only v.value.end (left_entry to v.value) d
 left-only to (entry.Left there hops) d = only_table d
 left-only to (entry.Destroyed m) d = only_table d
 
+-- the word of it
+left-word : (to : ℕ) (y : Entry) → step_left to y ≡ left_of to y
+left-word to entry.Nothing = refl
+left-word to (entry.Here v) = refl
+left-word to (entry.Left there hops) = refl
+left-word to (entry.Destroyed m) = refl
+
 pub leave_each-does : (to : ℕ) (xs : List EndId) (d : Progress) → AreDifferent xs → AreOwn d.table → Does (leaves_each to xs) d (leave_each to xs d)
 unfolding leave_each
 leave_each-does to xs d apart own =
-    does-changed (turns xs (left_of to) stays) d (leave_each to xs d) (λ q. leave_each-table to xs d q apart own)
+    does-changed (turns xs (left_of to) stays) d (leave_each to xs d) (λ q. leave_each-table to xs d q apart own ∙ ap (λ z. if list_any (end_eq q) xs then z else d.table q) (left-word to (d.table q)))
     (only_table-fold (λ so_far x. leaves_here to (here (so_far.table x)) so_far) (λ d x. left-only to (d.table x) d) xs d)
 
 -- ---- values

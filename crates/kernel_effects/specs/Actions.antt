@@ -22,7 +22,6 @@ use Rattle.end_table.specs.declared.entry.Inward.{Inward}
 use Rattle.end_table.specs.declared.entry.Inward.TheVariants as inward
 use Rattle.end_table.specs.declared.entry.Outward.{Outward}
 use Rattle.end_table.specs.declared.entry.Outward.TheVariants as outward
-use Rattle.kernel_step.proofs.Folds.{left_of, ended_of, held_entry}
 use Rattle.kernel_step.specs.Actions.{hint_kernel, enclosed_of, kernel_numbers, values_leaving, send_report, dead_receive_report, noticed_value, noticed_outward, noticed_inward, learned_view}
 use Rattle.kernel_effects.specs.Effect.{Effect, changed, sent, puts, stays, turns, brings, for_holder}
 
@@ -75,6 +74,27 @@ abbrev pub parcel_packets : ℕ → HereView → ℕ → List ℕ → List Movin
 parcel_packets k v n bytes ms = (hint_kernel v, packet.Parcel (opposite v.value.end) n v.value.want k v.value.hops bytes ms) ∷ []
 
 -- ---- entries of several ends
+
+-- the entry of an end after LEAVE
+abbrev pub left_of : ℕ → Entry → Entry
+left_of to entry.Nothing = entry.Nothing
+left_of to (entry.Here v) = left_entry to v.value
+left_of to (entry.Left there hops) = entry.Left there hops
+left_of to (entry.Destroyed m) = entry.Destroyed m
+
+-- the entry of an idle end after END
+abbrev pub ended_of : Entry → Entry
+ended_of entry.Nothing = entry.Nothing
+ended_of (entry.Here v) = ended_entry v.value
+ended_of (entry.Left there hops) = entry.Left there hops
+ended_of (entry.Destroyed m) = entry.Destroyed m
+
+-- the entry of an end that gets another holder
+abbrev pub held_entry : Holder → Entry → Entry
+held_entry h entry.Nothing = entry.Nothing
+held_entry h (entry.Here v) = entry.Here (record v { holder = h })
+held_entry h (entry.Left there hops) = entry.Left there hops
+held_entry h (entry.Destroyed m) = entry.Destroyed m
 
 -- LEAVE of each of these ends
 abbrev pub leaves_each : ℕ → List EndId → Effect

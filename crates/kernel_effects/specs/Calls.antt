@@ -20,11 +20,10 @@ use Rattle.end_table.specs.declared.entry.Holder.TheVariants as holder
 use Rattle.end_table.specs.declared.entry.Inward.{Inward}
 use Rattle.end_table.specs.declared.entry.Inward.TheVariants as inward
 use Rattle.end_table.specs.declared.entry.Outward.TheVariants as outward
-use Rattle.kernel_step.proofs.Folds.{held_entry}
 use Rattle.kernel_step.specs.Actions.{hint_kernel, enclosed_of}
 use Rattle.kernel_step.specs.Calls.{made_end}
 use Rattle.kernel_effects.specs.Effect.{Effect, nothing, puts, stays, turns}
-use Rattle.kernel_effects.specs.Actions.{ends_all, match_effect}
+use Rattle.kernel_effects.specs.Actions.{ends_all, held_entry, match_effect}
 
 -- Make
 abbrev pub make_effect : ℕ → ℕ → Pid → Effect

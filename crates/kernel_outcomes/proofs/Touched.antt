@@ -26,7 +26,7 @@ use Rattle.end_table.specs.declared.entry.Inward.TheVariants as inward
 use Rattle.end_table.specs.declared.entry.Outward.{Outward}
 use Rattle.end_table.specs.declared.entry.Outward.TheVariants as outward
 use Rattle.kernel_effects.proofs.Folds.{brings-others}
-use Rattle.kernel_effects.specs.Actions.{learn_effect, match_waiting_effect}
+use Rattle.kernel_effects.specs.Actions.{ended_of, held_entry, learn_effect, left_of, match_waiting_effect}
 use Rattle.kernel_effects.specs.Effect.{Effect, brings, changed, nothing, puts, stays, turns}
 use Rattle.kernel_effects.specs.Rows.{asked_view, back_effect, forget_effect, frees_effect, gone_effect, goneseen_effect, known_effect, moved_effect, parcel_effect, returns_effect, returns_first_effect, row_effect, taken_effect, unwant_effect, unwanted_effect, unwanted_here_effect, voids_effect, want_effect, wants_effect}
 use Rattle.kernel_effects.specs.Calls.{act_effect, effect_on, ended_list, withdraw_posted_effect}
@@ -36,7 +36,7 @@ use Rattle.kernel_sound.proofs.Parcels.{asks-here, awaits-here}
 use Rattle.kernel_sound.proofs.Actions.{learned-end}
 use Rattle.kernel_sound.proofs.Needs.{owned-here}
 use Rattle.kernel_step.proofs.EnclosedEnds.{first_false, second_false}
-use Rattle.kernel_step.proofs.Folds.{AreOwn, ended_of, held_entry, left_of}
+use Rattle.kernel_step.proofs.Folds.{AreOwn}
 use Rattle.kernel_step.specs.Actions.{enclosed_of, hint_kernel}
 use Rattle.kernel_step.specs.Calls.{made_end}
 use Rattle.kernel_step.specs.Rows.{arriving, asks, awaits, ends_in, is_carried, passing}
