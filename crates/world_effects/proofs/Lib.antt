@@ -1,4 +1,5 @@
 pub mod Lists
 pub mod Packets
 pub mod Sums
+pub mod Aside
 pub mod Happens

@@ -2,3 +2,4 @@ pub mod Change
 pub mod Events
 pub mod Sums
 pub mod Under
+pub mod Aside

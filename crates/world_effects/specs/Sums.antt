@@ -1,13 +1,13 @@
 -- What an event takes of sums over packets and adds to them.
 use Rattle.std.specs.Prelude.{ℕ, ◌+◌, ◌<◌, List, [], ◌∷◌, IfSome, Option, None, Some}
+use Rattle.std.specs.List.{AllByRecursion}
 use Rattle.charlotte_calls.specs.declared.picture.Picture.{Picture}
 use Rattle.charlotte_calls.specs.declared.picture.PictureWhat.{PictureWhat}
 use Rattle.world_effects.specs.Change.{Change}
 
 -- this is true of each packet that is sent, with the kernel that it goes to
 abbrev pub AllSent : (ℕ → PictureWhat → Type 0) → List (ℕ × PictureWhat) → Type 0
-AllSent P [] = Unit {0}
-AllSent P (p ∷ ps) = P p.0 p.1 × AllSent P ps
+AllSent P ps = AllByRecursion (λ s. P s.0 s.1) ps
 
 -- an event takes and sends packets between the first n kernels alone, and happens at one of them
 pub record IsWithin (n : ℕ) (c : Change) : Type 0 where
