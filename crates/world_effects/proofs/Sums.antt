@@ -99,3 +99,48 @@ standing-after {w} {u} {c} b within e =
     let now : one_if (is_here (u.entry c.kernel e)) ≡ one_if (is_here (c.entry e (w.entry c.kernel e))) = ap (λ x. one_if (is_here x)) (b.entry e) in
     let values = sum_over-after (λ q. values_for e (values_of q)) b within in
     omega (arith, here, now, values)
+
+-- ---- where nothing that was taken or sent counts
+
+module _ (f : PictureWhat → ℕ) where
+  going-none : (to stamp : ℕ) (ps : List (ℕ × PictureWhat)) → AllSent (λ to what. f what ≡ 0) ps → sum_in f (going to stamp ps) ≡ 0
+  going-none to stamp [] none = refl
+  going-none to stamp (p ∷ ps) none = by (nat_eq to p.0) refl (going-none to stamp ps none.1)
+    where
+      by : (b : Bool) → nat_eq to p.0 ≡ b → sum_in f (going to stamp ps) ≡ 0 → sum_in f (going to stamp (p ∷ ps)) ≡ 0
+      by true is rest = let more : sum_in f (going to stamp (p ∷ ps)) ≡ f p.1 + sum_in f (going to stamp ps) = ap (sum_in f) (going-first to stamp p ps true is) in omega (arith, more, rest, none.0)
+      by false is rest = ap (sum_in f) (going-first to stamp p ps false is) ∙ rest
+
+  sent-none : (c : Change) → AllSent (λ to what. f what ≡ 0) c.packets → (from to : ℕ) → sum_in f (sent_at c from to) ≡ 0
+  sent-none c none from to = by (nat_eq from c.kernel)
+    where
+      by : (b : Bool) → sum_in f (if b then going to c.stamp c.packets else []) ≡ 0
+      by true = going-none to c.stamp c.packets none
+      by false = refl
+
+  taken-none : (c : Change) → IfSome c.taken (λ t. f t.1.what ≡ 0) → (from to : ℕ) → sum_in f (taken_at c from to) ≡ 0
+  taken-none c none from to = by (nat_eq to c.kernel)
+    where
+      at : (t : Option (ℕ × Picture)) → IfSome t (λ t. f t.1.what ≡ 0) → sum_in f (taken_from t from) ≡ 0
+      at None none = refl
+      at (Some t) none = by (nat_eq from t.0)
+        where
+          by : (b : Bool) → sum_in f (if b then t.1 ∷ [] else []) ≡ 0
+          by true = omega (arith, none)
+          by false = refl
+
+      by : (b : Bool) → sum_in f (if b then taken_from c.taken from else []) ≡ 0
+      by true = at c.taken none
+      by false = refl
+
+  pub sum_over-same : {w u : Links} {c : Change} → Changes w c u → IfSome c.taken (λ t. f t.1.what ≡ 0) → AllSent (λ to what. f what ≡ 0) c.packets → sum_over f u ≡ sum_over f w
+  unfolding sum_over
+  sum_over-same {w} {u} {c} b taken sent =
+      over-same (λ from. over_kernels (λ to. sum_in f (w.packets from to))) (λ from. over_kernels (λ to. sum_in f (u.packets from to)))
+      (λ from. over-same (λ to. sum_in f (w.packets from to)) (λ to. sum_in f (u.packets from to)) (λ to. at from to))
+    where
+      at : (from to : ℕ) → sum_in f (u.packets from to) ≡ sum_in f (w.packets from to)
+      at from to =
+          let now : sum_in f (u.packets from to) ≡ sum_in f (b.left from to) + sum_in f (sent_at c from to) = ap (sum_in f) (b.after from to) ∙ sum_in-append f (b.left from to) (sent_at c from to) in
+          let was : sum_in f (w.packets from to) ≡ sum_in f (taken_at c from to) + sum_in f (b.left from to) = ap (sum_in f) (b.before from to) ∙ sum_in-append f (taken_at c from to) (b.left from to) in
+          omega (arith, now, was, sent-none c sent from to, taken-none c taken from to)
