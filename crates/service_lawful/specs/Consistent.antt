@@ -60,11 +60,11 @@ pub record AreKept (s : State) : Type 0 where
   pub resting : (e f : EndId) (n : ℕ) → (s.ends e).place ≡ place.InMessage f n → is_idle (s.ends e) ≡ true
 
 -- when the death of a link was noticed
-pub record AreNoticed (s : State) : Type 0 where
-  pub opposite : (e : EndId) → (s.ends e).noticed ≡ true → (s.ends (opposite e)).place ≡ place.Destroyed
+pub record AreNoticed (t : EndId → End) : Type 0 where
+  pub opposite : (e : EndId) → (t e).noticed ≡ true → (t (opposite e)).place ≡ place.Destroyed
   -- then no send waits, and no receive is started
-  pub outward : (e : EndId) → (s.ends e).noticed ≡ true → is_living (s.ends e).place ≡ true → waiting_message (s.ends e).outward ≡ None
-  pub inward : (e : EndId) → (s.ends e).noticed ≡ true → is_living (s.ends e).place ≡ true → is_started_inward (s.ends e).inward ≡ false
+  pub outward : (e : EndId) → (t e).noticed ≡ true → is_living (t e).place ≡ true → waiting_message (t e).outward ≡ None
+  pub inward : (e : EndId) → (t e).noticed ≡ true → is_living (t e).place ≡ true → is_started_inward (t e).inward ≡ false
 
 -- which reports stand
 pub record AreReported (s : State) : Type 0 where
@@ -88,6 +88,6 @@ pub record AreProcesses (s : State) : Type 0 where
 
 pub record IsConsistent (s : State) : Type 0 where
   pub kept : AreKept s
-  pub noticed : AreNoticed s
+  pub noticed : AreNoticed s.ends
   pub reported : AreReported s
   pub processes : AreProcesses s

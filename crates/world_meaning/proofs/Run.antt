@@ -1,5 +1,5 @@
 -- The service goes with a run, event by event.
-use Rattle.std.proofs.Common.{◌≡◌, ◌≢◌, ◌⊎◌, inl, inr, ℕ, ◌+◌, ◌<◌, ◌≤◌, ◌^◌, Bool, true, false, nat_eq, cond, IsTrue, List, [], ◌∷◌, ◌++◌, map, length, slice_index, Option, Some, None, refl, sym, ap, subst, ◌∙◌, arith, true≢false}
+use Rattle.std.proofs.Common.{◌≡◌, ◌≢◌, ◌⊎◌, inl, inr, ℕ, ◌+◌, ◌<◌, ◌≤◌, ◌^◌, Bool, true, false, nat_eq, cond, IsTrue, List, [], ◌∷◌, ◌++◌, map, length, slice_index, Option, Some, None, refl, sym, ap, subst, ◌∙◌, arith, true≢false, append_assoc, append-nil}
 use Rattle.charlotte_calls.specs.Setting.{IsValid}
 use Rattle.charlotte_calls.specs.declared.calls.Answer.{Answer}
 use Rattle.charlotte_calls.specs.declared.calls.Answer.TheVariants as answer
@@ -21,11 +21,13 @@ use Rattle.service_step.specs.Run.{IsRunFrom, IsServiceRun, state_after, start_s
 use Rattle.service_step.specs.Causes.{IsRefusedFor}
 use Rattle.service_step.specs.Steps.{runs}
 use Rattle.service_step.specs.State.{State}
+use Rattle.service_lawful.proofs.History.{history-none, history-refused, state_after-append}
+use Rattle.service_lawful.specs.History.{HasHistory}
 use Rattle.world_meaning.proofs.Calm.{IsAnswered, IsCalm, answered-invariant}
 use Rattle.world_meaning.proofs.Refused.{IsCaller, caller-runs, refused-for}
-use Rattle.world_meaning.proofs.Start.{starts-well}
+use Rattle.world_meaning.proofs.Start.{starts-well, starts-fresh}
 use Rattle.world_meaning.specs.Invariant.{Invariant}
-use Rattle.world_meaning.specs.Law.{GoesWith, GoesWithEach, joined, IsServed, IsCovered, IsCoveredCall, AreCovered}
+use Rattle.world_meaning.specs.Law.{GoesWith, GoesWithEach, joined, IsServed, IsServedLawfully, IsCovered, IsCoveredCall, AreCovered}
 use Rattle.world_meaning.specs.StandsFor.{StandsFor, home_of}
 
 -- the service goes with an event, and what is true of every world is true afterwards
@@ -35,6 +37,8 @@ pub record Goes (i : ℕ) (w : World) (s : State) (e : Event) : Type 0 where
   pub run : IsRunFrom s part
   pub after : Invariant (i + 1) (happens w e) (state_after s part)
   pub homes : (state_after s part).homes ≡ s.homes
+  -- a lawful run of the service goes on lawfully
+  pub lawful : (t : State) (run : List (ServiceStep × State)) → state_after t run ≡ s → HasHistory t run → HasHistory t (run ++ part)
 
 -- ---- calls that only answer their process
 
@@ -100,6 +104,7 @@ module _ (i : ℕ) (w : World) (s : State) (k : ℕ) (p : Pid) (mine : List EndI
         run = tt;
         after = answered-invariant i w s k p (call.Print bytes) mine is (print-is (w.kernel k) p mine bytes) running;
         homes = refl;
+        lawful = λ t run at h. subst (HasHistory t) (sym (append-nil run)) h;
       }
 
   goes-refused : (c : Call) (cause : Cause) → refusal p (w.kernel k).table (w.kernel k).made mine (has_report (process_of p (w.kernel k))) c ≡ Some cause
@@ -111,6 +116,7 @@ module _ (i : ℕ) (w : World) (s : State) (k : ℕ) (p : Pid) (mine : List EndI
         run = (record { allowed = (runs_is, for); after = refl }, tt);
         after = answered-invariant i w s k p c mine is (subst (IsAnswered (w.kernel k) p) (sym did) (refuses-is (w.kernel k) p c cause (next_stamp (w.kernel k).stamp))) running;
         homes = refl;
+        lawful = λ t run at h. history-refused t run h p c cause s (sym at) (subst (λ z. IsRefusedFor z p c cause) (sym at) for);
       }
     where
       did : call_step (without_answer p (w.kernel k)) p mine c ≡ refuses p (without_answer p (w.kernel k)) c cause (begins (without_answer p (w.kernel k)) (next_stamp (w.kernel k).stamp))
@@ -122,11 +128,12 @@ run-append : (s : State) (xs ys : List (ServiceStep × State)) → IsRunFrom s x
 run-append s [] ys first rest = rest
 run-append s (x ∷ xs) ys first rest = (first.0, run-append x.1 xs ys first.1 rest)
 
--- the service goes with the rest of a run
+-- the service goes with the rest of a run, lawfully
 record GoesOn (w : World) (s : State) (es : List Event) : Type 0 where
   parts : List (List (ServiceStep × State))
   each : GoesWithEach w s es parts
   run : IsRunFrom s (joined parts)
+  lawful : (t : State) (so_far : List (ServiceStep × State)) → state_after t so_far ≡ s → HasHistory t so_far → HasHistory t (so_far ++ joined parts)
 
 -- the service goes with an event that is covered
 goes-event : (g : Setting) (i : ℕ) (w : World) (s : State) (e : Event) → Invariant i w s → s.homes ≡ g.homes → IsAllowed g w e → IsCovered w e → Goes i w s e
@@ -163,7 +170,7 @@ goes-event g i w s (Calls k p c mine) is homes allowed covered = by c (refusal p
         granted_is call.Exit in_is = absurd in_is
 
 goes-on : (g : Setting) (i : ℕ) (w : World) (s : State) (es : List Event) → Invariant i w s → s.homes ≡ g.homes → AreAllowed g w es → AreCovered w es → GoesOn w s es
-goes-on g i w s [] is homes allowed covered = record { parts = []; each = tt; run = tt }
+goes-on g i w s [] is homes allowed covered = record { parts = []; each = tt; run = tt; lawful = λ t so_far at h. subst (HasHistory t) (sym (append-nil so_far)) h }
 goes-on g i w s (e ∷ es) is homes allowed covered =
     let first = goes-event g i w s e is homes allowed.0 covered.0 in
     let rest = goes-on g (i + 1) (happens w e) (state_after s first.part) es first.after (first.homes ∙ homes) allowed.1 covered.1 in
@@ -171,10 +178,14 @@ goes-on g i w s (e ∷ es) is homes allowed covered =
       parts = first.part ∷ rest.parts;
       each = (record { steps = first.steps; run = first.run; stands = first.after.stands }, rest.each);
       run = run-append s first.part (joined rest.parts) first.run rest.run;
+      lawful = λ t so_far at h.
+          subst (HasHistory t) (append_assoc so_far first.part (joined rest.parts))
+          (rest.lawful t (so_far ++ first.part) (state_after-append t so_far first.part ∙ ap (λ z. state_after z first.part) at) (first.lawful t so_far at h));
     }
 
--- the service goes with each run of a valid setting, as far as its events are covered
-pub run_is_served : (g : Setting) (es : List Event) → IsValid g → IsRun g es → AreCovered (start g) es → IsServed g es
-run_is_served g es valid run covered =
+-- the service goes lawfully with each run of a valid setting, as far as its events are covered
+pub run_is_lawful : (g : Setting) (es : List Event) → IsValid g → IsRun g es → AreCovered (start g) es → IsServedLawfully g es
+run_is_lawful g es valid run covered =
     let on = goes-on g 0 (start g) (start_state g) es (starts-well g valid) refl run.allowed covered in
-    record { parts = on.parts; begins = (starts-well g valid).stands; each = on.each; run = on.run }
+    let history = on.lawful (start_state g) [] refl (history-none (start_state g) (starts-fresh g valid)) in
+    record { served = record { parts = on.parts; begins = (starts-well g valid).stands; each = on.each; run = on.run }; lawful = history.lawful }

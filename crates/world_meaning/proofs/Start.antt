@@ -310,6 +310,7 @@ module _ (g : Setting) (valid : IsValid g) where
             record {
               sent = λ e at m lives has. ap (λ (z : MovingPicture). z.sent) (new-value e at m has).2 ∙ sym (fresh-sent s starts-fresh e);
               dead = λ e at m lives has. ap (λ (z : MovingPicture). z.dead) (new-value e at m has).2 ∙ sym (fresh-noticed s starts-fresh e);
+              unwanted = λ e at m lives is has. ap (λ (z : MovingPicture). z.want) (new-value e at m has).2;
             };
         honest = starts-honest;
         asked = record { last = λ k e v i is asked. absurd (not-asked k e v i is asked); cancelled = λ k e v i p is withdrawing held. absurd (idle k e v i is withdrawing) };

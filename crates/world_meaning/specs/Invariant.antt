@@ -21,6 +21,7 @@ use Rattle.kernel_step.specs.Rows.{ends_in}
 use Rattle.kernel_world.specs.World.{World}
 use Rattle.service_step.specs.Ends.{is_made, is_destroyed, is_living, is_posted, is_taken, matched_message}
 use Rattle.service_step.specs.State.{State}
+use Rattle.service_step.specs.declared.state.End.{End}
 use Rattle.service_step.specs.declared.state.Message.{Message}
 use Rattle.service_step.specs.declared.state.Outward.TheVariants as outward
 use Rattle.service_step.specs.declared.state.Phase.TheVariants as phase
@@ -50,15 +51,15 @@ pub record IsOfSetting (w : World) (s : State) : Type 0 where
   -- each table is sound
   pub sound : (k : ℕ) → IsSound k (w.kernel k).made (length s.homes) (w.kernel k).table
 
--- no more is named than is there
-pub record AreNamed (w : Links) (s : State) : Type 0 where
-  pub entries : (k : ℕ) (e : EndId) → NamesBelow (length s.made) (entry_at w k e)
+-- of n kernels and made links, no more is named than is there
+pub record AreNamed (n : ℕ) (w : Links) (t : EndId → End) : Type 0 where
+  pub entries : (k : ℕ) (e : EndId) → NamesBelow n (entry_at w k e)
   -- other kernels keep nothing, and no packets go from or to them
-  pub away : (k : ℕ) (e : EndId) → length s.made ≤ k → entry_at w k e ≡ entry.Nothing
-  pub lists : (from to : ℕ) → (length s.made ≤ from) ⊎ (length s.made ≤ to) → w.packets from to ≡ []
+  pub away : (k : ℕ) (e : EndId) → n ≤ k → entry_at w k e ≡ entry.Nothing
+  pub lists : (from to : ℕ) → (n ≤ from) ⊎ (n ≤ to) → w.packets from to ≡ []
   -- packets name kernels that there are, and are addressed to ends of made links
-  pub addressed : Each w (λ from to q. is_addressed q (length s.made) ≡ true)
-  pub addressees : Each w (λ from to q. is_made (s.ends (addressee q)).place ≡ true)
+  pub addressed : Each w (λ from to q. is_addressed q n ≡ true)
+  pub addressees : Each w (λ from to q. is_made (t (addressee q)).place ≡ true)
 
 -- after i events no number is greater than i, so none has come to its end
 pub record IsFew (i : ℕ) (m : MovingPicture) : Type 0 where
@@ -69,14 +70,16 @@ pub record IsFew (i : ℕ) (m : MovingPicture) : Type 0 where
 -- ---- where ends are
 
 -- a mark is kept of a destroyed end alone, at one kernel at most
-pub record AreMarked (w : Links) (s : State) : Type 0 where
-  pub destroyed : (k : ℕ) (e : EndId) (m : MovingPicture) → entry_at w k e ≡ entry.Destroyed m → (s.ends e).place ≡ place.Destroyed
+pub record AreMarked (w : Links) (t : EndId → End) : Type 0 where
+  pub destroyed : (k : ℕ) (e : EndId) (m : MovingPicture) → entry_at w k e ≡ entry.Destroyed m → (t e).place ≡ place.Destroyed
   pub once : (j k : ℕ) (e : EndId) (m l : MovingPicture) → entry_at w j e ≡ entry.Destroyed m → entry_at w k e ≡ entry.Destroyed l → j ≡ k
 
 -- the fields of a living end agree with the service, also while it is in a message
-pub record AreCounted (w : Links) (s : State) : Type 0 where
-  pub sent : (e : EndId) (at : Stand) (m : MovingPicture) → is_living (s.ends e).place ≡ true → HasFields w e at m → m.sent ≡ (s.ends e).sent
-  pub dead : (e : EndId) (at : Stand) (m : MovingPicture) → is_living (s.ends e).place ≡ true → HasFields w e at m → m.dead ≡ (s.ends e).noticed
+pub record AreCounted (w : Links) (t : EndId → End) : Type 0 where
+  pub sent : (e : EndId) (at : Stand) (m : MovingPicture) → is_living (t e).place ≡ true → HasFields w e at m → m.sent ≡ (t e).sent
+  pub dead : (e : EndId) (at : Stand) (m : MovingPicture) → is_living (t e).place ≡ true → HasFields w e at m → m.dead ≡ (t e).noticed
+  -- one that knows of the death of its link is asked for nothing
+  pub unwanted : (e : EndId) (at : Stand) (m : MovingPicture) → is_living (t e).place ≡ true → (t e).noticed ≡ true → HasFields w e at m → m.want ≡ 0
 
 -- ---- what was heard
 
@@ -97,81 +100,81 @@ abbrev pub AreCancelling : Links → State → Type 0
 AreCancelling w s = (p : Pid) (e : EndId) → (s.process p.0).phase ≡ phase.Cancelling e → IsHereAnd (entry_at w (home_of s p) e) (λ v. is_withdrawing v.inward ≡ true)
 
 -- a receive that was matched or withdrawn is served at the opposite end
-abbrev pub IsServed : Links → State → Type 0
-IsServed w s =
-    (e : EndId) (k : ℕ) (v : HereView) (n : ℕ) (at : Stand) (m : MovingPicture) → entry_at w k e ≡ entry.Here v → IsAskedAs n v.inward → is_posted (s.ends e).inward ≡ false
-    → is_living (s.ends (opposite e)).place ≡ true → HasFields w (opposite e) at m → n ≤ m.served
+abbrev pub IsServed : Links → (EndId → End) → Type 0
+IsServed w t =
+    (e : EndId) (k : ℕ) (v : HereView) (n : ℕ) (at : Stand) (m : MovingPicture) → entry_at w k e ≡ entry.Here v → IsAskedAs n v.inward → is_posted (t e).inward ≡ false
+    → is_living (t (opposite e)).place ≡ true → HasFields w (opposite e) at m → n ≤ m.served
 
 -- what is asked of an open end and not yet served: it is one receive, which is posted, and where its end lives, that is where each asking says
-pub record AreWanted (w : Links) (s : State) : Type 0 where
-  pub kept : (e : EndId) (at : Stand) (m : MovingPicture) → is_open (s.ends e) ≡ true → HasFields w e at m → (m.want ≡ 0) ⊎ (m.served < m.want)
-  pub same : (e : EndId) (at : Stand) (m : MovingPicture) (n j h o i g : ℕ) → is_open (s.ends e) ≡ true → HasFields w e at m → IsUnserved w e m n j h → IsUnserved w e m o i g → o ≡ n
-  pub posted : (e : EndId) (at : Stand) (m : MovingPicture) (n j h : ℕ) → is_open (s.ends e) ≡ true → HasFields w e at m → IsUnserved w e m n j h → is_posted (s.ends (opposite e)).inward ≡ true
-  pub site : (e : EndId) (at : Stand) (m : MovingPicture) (n j h : ℕ) → is_open (s.ends e) ≡ true → HasFields w e at m → IsUnserved w e m n j h
-      → is_living (s.ends (opposite e)).place ≡ true → IsHereAnd (entry_at w j (opposite e)) (λ v. (v.value.hops ≡ h) × (v.value.asked ≡ n))
+pub record AreWanted (w : Links) (t : EndId → End) : Type 0 where
+  pub kept : (e : EndId) (at : Stand) (m : MovingPicture) → is_open (t e) ≡ true → HasFields w e at m → (m.want ≡ 0) ⊎ (m.served < m.want)
+  pub same : (e : EndId) (at : Stand) (m : MovingPicture) (n j h o i g : ℕ) → is_open (t e) ≡ true → HasFields w e at m → IsUnserved w e m n j h → IsUnserved w e m o i g → o ≡ n
+  pub posted : (e : EndId) (at : Stand) (m : MovingPicture) (n j h : ℕ) → is_open (t e) ≡ true → HasFields w e at m → IsUnserved w e m n j h → is_posted (t (opposite e)).inward ≡ true
+  pub site : (e : EndId) (at : Stand) (m : MovingPicture) (n j h : ℕ) → is_open (t e) ≡ true → HasFields w e at m → IsUnserved w e m n j h
+      → is_living (t (opposite e)).place ≡ true → IsHereAnd (entry_at w j (opposite e)) (λ v. (v.value.hops ≡ h) × (v.value.asked ≡ n))
   -- one that is taken back is being withdrawn there
-  pub unwanted : (e : EndId) (at : Stand) (m : MovingPicture) (n : ℕ) → is_open (s.ends e) ≡ true → HasFields w e at m → m.served < n → IsUnderWay w (IsUnwantOf e n)
+  pub unwanted : (e : EndId) (at : Stand) (m : MovingPicture) (n : ℕ) → is_open (t e) ≡ true → HasFields w e at m → m.served < n → IsUnderWay w (IsUnwantOf e n)
       → (k : ℕ) × IsHereAnd (entry_at w k (opposite e)) (λ v. is_withdrawing v.inward ≡ true)
 
 -- an unwanted meets the receive that is being withdrawn
-abbrev pub IsVoidRight : Links → State → ℕ → PictureWhat → Type 0
-IsVoidRight w s to (packet.Unwanted e n at hops) = (s.ends e).noticed ≡ false → IsHereAnd (entry_at w to e) (λ v. v.inward ≡ kernel_inward.Withdrawing n)
-IsVoidRight w s to _ = Unit {0}
+abbrev pub IsVoidRight : Links → (EndId → End) → ℕ → PictureWhat → Type 0
+IsVoidRight w t to (packet.Unwanted e n at hops) = (t e).noticed ≡ false → IsHereAnd (entry_at w to e) (λ v. v.inward ≡ kernel_inward.Withdrawing n)
+IsVoidRight w t to _ = Unit {0}
 
 abbrev pub is_unwanted_to : EndId → PictureWhat → Bool
 is_unwanted_to e (packet.Unwanted to n at hops) = end_eq e to
 is_unwanted_to e _ = false
 
 -- and it is the only one, until the death is noticed there
-pub record AreVoided (w : Links) (s : State) : Type 0 where
-  pub meets : Each w (λ from to q. IsVoidRight w s to q)
-  pub once : (e : EndId) → (s.ends e).noticed ≡ false → how_many (is_unwanted_to e) w ≤ 1
+pub record AreVoided (w : Links) (t : EndId → End) : Type 0 where
+  pub meets : Each w (λ from to q. IsVoidRight w t to q)
+  pub once : (e : EndId) → (t e).noticed ≡ false → how_many (is_unwanted_to e) w ≤ 1
 
 -- ---- messages
 
 -- the message n of f is matched, and carries these ends in this order
-pub record IsMatchedAs (s : State) (f : EndId) (n : ℕ) (xs : List EndId) : Type 0 where
+pub record IsMatchedAs (t : EndId → End) (f : EndId) (n : ℕ) (xs : List EndId) : Type 0 where
   pub message : Message
-  pub matched : (s.ends f).outward ≡ outward.Matched message
+  pub matched : (t f).outward ≡ outward.Matched message
   pub carries : message.carried ≡ xs
-  pub number : (s.ends f).sent ≡ n
+  pub number : (t f).sent ≡ n
 
 -- where the end lives, kernel k has it here
-abbrev pub IsHereIfLiving : Links → State → ℕ → EndId → (HereView → Type 0) → Type 0
-IsHereIfLiving w s k e P = is_living (s.ends e).place ≡ true → IsHereAnd (entry_at w k e) P
+abbrev pub IsHereIfLiving : Links → (EndId → End) → ℕ → EndId → (HereView → Type 0) → Type 0
+IsHereIfLiving w t k e P = is_living (t e).place ≡ true → IsHereAnd (entry_at w k e) P
 
 -- a parcel to e: its message is matched and has these bytes and ends; it came from where its sender is; an open end has it meet
 -- the receive that it is for
-pub record IsParcelRight (w : Links) (s : State) (from to : ℕ) (e : EndId) (n wanted at hops : ℕ) (bytes : List ℕ) (xs : List EndId) : Type 0 where
-  pub matched : (s.ends (opposite e)).outward ≡ outward.Matched (record { bytes = bytes; carried = xs })
-  pub number : (s.ends (opposite e)).sent ≡ n
+pub record IsParcelRight (w : Links) (t : EndId → End) (from to : ℕ) (e : EndId) (n wanted at hops : ℕ) (bytes : List ℕ) (xs : List EndId) : Type 0 where
+  pub matched : (t (opposite e)).outward ≡ outward.Matched (record { bytes = bytes; carried = xs })
+  pub number : (t (opposite e)).sent ≡ n
   pub sender : at ≡ from
-  pub site : IsHereIfLiving w s from (opposite e) (λ v. v.value.hops ≡ hops)
-  pub meets : is_open (s.ends e) ≡ true → IsHereAnd (entry_at w to e) (λ v. IsAskedAs wanted v.inward)
+  pub site : IsHereIfLiving w t from (opposite e) (λ v. v.value.hops ≡ hops)
+  pub meets : is_open (t e) ≡ true → IsHereAnd (entry_at w to e) (λ v. IsAskedAs wanted v.inward)
 
 -- a back to f: its message is matched and carries these ends; it could not be taken; it goes to where f is
-pub record IsBackRight (w : Links) (s : State) (to : ℕ) (f : EndId) (n : ℕ) (xs : List EndId) : Type 0 where
-  pub matched : IsMatchedAs s f n xs
-  pub untaken : is_open (s.ends (opposite f)) ≡ false
-  pub site : IsHereIfLiving w s to f (λ v. Unit {0})
+pub record IsBackRight (w : Links) (t : EndId → End) (to : ℕ) (f : EndId) (n : ℕ) (xs : List EndId) : Type 0 where
+  pub matched : IsMatchedAs t f n xs
+  pub untaken : is_open (t (opposite f)) ≡ false
+  pub site : IsHereIfLiving w t to f (λ v. Unit {0})
 
 -- a taken to f: its message was taken; it came from where that was, and goes to where f is
-pub record IsTakenRight (w : Links) (s : State) (from to : ℕ) (f : EndId) (n at : ℕ) : Type 0 where
-  pub taken : (s.ends f).outward ≡ outward.Taken
-  pub number : (s.ends f).sent ≡ n
+pub record IsTakenRight (w : Links) (t : EndId → End) (from to : ℕ) (f : EndId) (n at : ℕ) : Type 0 where
+  pub taken : (t f).outward ≡ outward.Taken
+  pub number : (t f).sent ≡ n
   pub taker : at ≡ from
-  pub site : IsHereIfLiving w s to f (λ v. Unit {0})
+  pub site : IsHereIfLiving w t to f (λ v. Unit {0})
 
 -- a gone tells of an end that is destroyed
-abbrev pub IsGoneRight : State → EndId → Type 0
-IsGoneRight s e = (s.ends (opposite e)).place ≡ place.Destroyed
+abbrev pub IsGoneRight : (EndId → End) → EndId → Type 0
+IsGoneRight t e = (t (opposite e)).place ≡ place.Destroyed
 
-abbrev pub IsPacketRight : Links → State → ℕ → ℕ → PictureWhat → Type 0
-IsPacketRight w s from to (packet.Parcel e n wanted at hops bytes ms) = IsParcelRight w s from to e n wanted at hops bytes (ends_in ms)
-IsPacketRight w s from to (packet.Back f n ms) = IsBackRight w s to f n (ends_in ms)
-IsPacketRight w s from to (packet.Taken f n at hops) = IsTakenRight w s from to f n at
-IsPacketRight w s from to (packet.Gone e at) = IsGoneRight s e
-IsPacketRight w s from to _ = Unit {0}
+abbrev pub IsPacketRight : Links → (EndId → End) → ℕ → ℕ → PictureWhat → Type 0
+IsPacketRight w t from to (packet.Parcel e n wanted at hops bytes ms) = IsParcelRight w t from to e n wanted at hops bytes (ends_in ms)
+IsPacketRight w t from to (packet.Back f n ms) = IsBackRight w t to f n (ends_in ms)
+IsPacketRight w t from to (packet.Taken f n at hops) = IsTakenRight w t from to f n at
+IsPacketRight w t from to (packet.Gone e at) = IsGoneRight t e
+IsPacketRight w t from to _ = Unit {0}
 
 -- a packet carries the message of f, there or back
 abbrev pub is_message_of : EndId → PictureWhat → Bool
@@ -184,27 +187,27 @@ is_taken_of f (packet.Taken to n at hops) = end_eq f to
 is_taken_of f _ = false
 
 -- a message that is matched is in one packet, and one that was taken is told by one taken, until its sender is destroyed
-pub record AreSentOnce (w : Links) (s : State) : Type 0 where
-  pub message : (f : EndId) → how_many (is_message_of f) w ≡ one_if (is_some (matched_message (s.ends f).outward))
-  pub taken : (f : EndId) → how_many (is_taken_of f) w ≤ one_if (is_taken (s.ends f).outward)
-  pub told : (f : EndId) → is_living (s.ends f).place ≡ true → how_many (is_taken_of f) w ≡ one_if (is_taken (s.ends f).outward)
+pub record AreSentOnce (w : Links) (t : EndId → End) : Type 0 where
+  pub message : (f : EndId) → how_many (is_message_of f) w ≡ one_if (is_some (matched_message (t f).outward))
+  pub taken : (f : EndId) → how_many (is_taken_of f) w ≤ one_if (is_taken (t f).outward)
+  pub told : (f : EndId) → is_living (t f).place ≡ true → how_many (is_taken_of f) w ≡ one_if (is_taken (t f).outward)
 
 -- ---- all of it
 
 -- what is true of links, after i events
 pub record AreRight (i : ℕ) (w : Links) (s : State) : Type 0 where
-  pub named : AreNamed w s
+  pub named : AreNamed (length s.made) w s.ends
   pub few : (e : EndId) (at : Stand) (m : MovingPicture) → HasFields w e at m → IsFew i m
-  pub marked : AreMarked w s
-  pub counted : AreCounted w s
+  pub marked : AreMarked w s.ends
+  pub counted : AreCounted w s.ends
   pub honest : IsHonest w
   pub asked : AreAsked w s
   pub cancelling : AreCancelling w s
-  pub served : IsServed w s
-  pub wanted : AreWanted w s
-  pub voided : AreVoided w s
-  pub packets : Each w (λ from to q. IsPacketRight w s from to q)
-  pub once : AreSentOnce w s
+  pub served : IsServed w s.ends
+  pub wanted : AreWanted w s.ends
+  pub voided : AreVoided w s.ends
+  pub packets : Each w (λ from to q. IsPacketRight w s.ends from to q)
+  pub once : AreSentOnce w s.ends
 
 pub record Invariant (i : ℕ) (w : World) (s : State) : Type 0 where
   pub stands : StandsFor w s
