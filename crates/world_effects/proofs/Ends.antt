@@ -45,10 +45,10 @@ taken-weaker P Q gives (Some t) is = gives t.1.what is
 -- an end that is none of some values counts nothing there
 values-none : (e : EndId) (ms : List MovingPicture) → list_any (end_eq e) (ends_in ms) ≡ false → values_for e ms ≡ 0
 values-none e [] none = refl
-values-none e (m ∷ ms) none =
-    let first : one_if (end_eq e m.end) ≡ 0 = ap one_if (first_false _ _ none) in
-    let rest : values_for e ms ≡ 0 = values-none e ms (second_false _ _ none) in
-    omega (arith, first, rest)
+values-none e (m ∷ ms) none = both (one_if (end_eq e m.end)) (values_for e ms) (ap one_if (first_false _ _ none)) (values-none e ms (second_false _ _ none))
+  where
+    both : (a b : ℕ) → a ≡ 0 → b ≡ 0 → a + b ≡ 0
+    both a b first rest = omega arith
 
 module _ {w u : Links} {c : Change} (b : Changes w c u) (e : EndId) where
   -- packets that pass a test of packets that are addressed to the end

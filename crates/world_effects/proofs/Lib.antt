@@ -5,3 +5,4 @@ pub mod Addressees
 pub mod Aside
 pub mod Happens
 pub mod Ends
+pub mod Allowed
