@@ -6,3 +6,5 @@ pub mod Aside
 pub mod Happens
 pub mod Ends
 pub mod Allowed
+pub mod NamedParts
+pub mod NamedRows
