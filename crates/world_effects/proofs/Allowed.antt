@@ -1,12 +1,11 @@
 -- What each allowed event does in a world of which all is true that is true of every world of a run.
-use Rattle.std.proofs.Common.{◌≡◌, ◌⊎◌, inl, inr, ℕ, ◌+◌, ◌<◌, ◌≤◌, Bool, true, false, nat_le, ◌||◌, if◌then◌else◌, List, [], ◌∷◌, length, map, All, Contains, Option, Some, None, refl, sym, ap, subst, ◌∙◌, max, arith, true≢false}
+use Rattle.std.proofs.Common.{◌≡◌, ◌⊎◌, inl, inr, ℕ, ◌+◌, ◌<◌, ◌≤◌, Bool, true, false, nat_le, ◌||◌, List, [], ◌∷◌, length, map, Contains, None, refl, sym, ap, subst, ◌∙◌, max, arith, true≢false}
 use Rattle.std.proofs.lemmas.Bool.Decides.{leb_tells}
 use Rattle.std.proofs.lemmas.List.Elements.{All-contains}
 use Rattle.std.specs.List.{list_any}
 use Rattle.charlotte_calls.specs.Packets.{is_addressed}
 use Rattle.charlotte_calls.specs.declared.calls.Answer.{Answer}
 use Rattle.charlotte_calls.specs.declared.calls.Call.{Call}
-use Rattle.charlotte_calls.specs.declared.calls.Cause.{Cause}
 use Rattle.charlotte_calls.specs.declared.calls.Report.{Report}
 use Rattle.charlotte_calls.specs.declared.names.EndId.{EndId}
 use Rattle.charlotte_calls.specs.declared.names.Pid.{Pid}
@@ -25,7 +24,7 @@ use Rattle.kernel_outcomes.specs.Closing.{AtMostOne, EffectGives}
 use Rattle.kernel_sound.specs.Sound.{IsSound}
 use Rattle.kernel_step.proofs.Folds.{AreDifferent}
 use Rattle.kernel_step.specs.Calls.{IsCallWith, refusal}
-use Rattle.kernel_step.specs.Kernel.{Kernel, has_report, next_stamp, process_of, take_step}
+use Rattle.kernel_step.specs.Kernel.{has_report, next_stamp, process_of, take_step}
 use Rattle.kernel_step.specs.Rows.{ends_in}
 use Rattle.kernel_world.specs.World.{World, Calls, Takes}
 use Rattle.service_step.specs.Ends.{is_living}

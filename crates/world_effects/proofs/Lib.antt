@@ -8,3 +8,5 @@ pub mod Ends
 pub mod Allowed
 pub mod NamedParts
 pub mod NamedRows
+pub mod NamedCalls
+pub mod NamedAfter

@@ -1,5 +1,5 @@
 -- The words of effects name no other kernels than those before: values, entries and packets.
-use Rattle.std.proofs.Common.{◌≡◌, ◌⊎◌, ◌≢◌, inl, inr, ℕ, ◌<◌, ◌≤◌, ◌^◌, Bool, true, false, nat_eq, nat_lt, nat_le, ◌&&◌, if◌then◌else◌, List, [], ◌∷◌, ◌++◌, map, Option, Some, None, refl, sym, ap, subst, ◌∙◌, arith, lt-ltb, ltb-true, pow_pos}
+use Rattle.std.proofs.Common.{◌≡◌, ◌⊎◌, inl, inr, ℕ, ◌<◌, ◌≤◌, ◌^◌, Bool, true, false, nat_lt, nat_le, ◌&&◌, if◌then◌else◌, List, [], ◌∷◌, map, refl, ap, ◌∙◌, arith, lt-ltb, ltb-true, pow_pos}
 use Rattle.std.proofs.Math.Pow.{pow-lt}
 use Rattle.std.proofs.lemmas.Bool.{and_parts}
 use Rattle.std.proofs.lemmas.Bool.Decides.{leb_tells}
@@ -7,7 +7,7 @@ use Rattle.std.proofs.lemmas.Nat.{or_lt}
 use Rattle.std.proofs.lemmas.Nat.Bits.{bit_at_above}
 use Rattle.std.specs.Int.{bit_at}
 use Rattle.std.specs.List.{AllByRecursion, flat_map, list_all}
-use Rattle.charlotte_calls.specs.Packets.{is_addressed, names_kernels_below}
+use Rattle.charlotte_calls.specs.Packets.{names_kernels_below}
 use Rattle.charlotte_calls.specs.declared.names.EndId.{EndId}
 use Rattle.charlotte_calls.specs.declared.picture.MovingPicture.{MovingPicture}
 use Rattle.charlotte_calls.specs.declared.picture.PictureWhat.{PictureWhat}
@@ -15,10 +15,9 @@ use Rattle.end_table.specs.Entries.{ended_entry, gains_one, is_news, learned, le
 use Rattle.end_table.specs.Place.{put}
 use Rattle.end_table.specs.declared.entry.Entry.{Entry}
 use Rattle.end_table.specs.declared.entry.Entry.TheVariants as entry
-use Rattle.end_table.specs.declared.entry.HereView.{HereView}
 use Rattle.end_table.specs.declared.entry.Holder.{Holder}
 use Rattle.end_table.specs.declared.entry.Inward.{Inward}
-use Rattle.kernel_effects.proofs.Uses.{all-append, all-flat_map, arrival-each, brings-each, forget-each, gone-each, live-each, news-each, puts-each, turns-each}
+use Rattle.kernel_effects.proofs.Uses.{all-append, arrival-each, brings-each, forget-each, gone-each, live-each, news-each, puts-each, turns-each}
 use Rattle.kernel_effects.specs.Actions.{arrival_packets, ended_of, forget_packets, gone_of, gone_packets, held_entry, left_of, news_packets}
 use Rattle.kernel_effects.specs.Effect.{Effect, brings, puts, stays, turns}
 use Rattle.kernel_step.specs.Actions.{here, value_leaving, values_leaving}

@@ -1,8 +1,7 @@
 -- A packet that names the first kernels alone makes a kernel name no others.
-use Rattle.std.proofs.Common.{◌≡◌, ℕ, ◌<◌, ◌^◌, Bool, true, false, nat_eq, nat_le, nat_lt, not, ◌&&◌, if◌then◌else◌, List, [], ◌∷◌, ◌++◌, map, Option, Some, None, refl, sym, ap, subst, ◌∙◌, lt-ltb, ltb-true}
+use Rattle.std.proofs.Common.{◌≡◌, ℕ, ◌<◌, true, nat_eq, nat_le, nat_lt, not, ◌&&◌, if◌then◌else◌, List, map, Option, Some, None, refl, ap, subst, ◌∙◌, lt-ltb, ltb-true}
 use Rattle.std.proofs.lemmas.Bool.{and_parts}
-use Rattle.std.specs.List.{AllByRecursion, flat_map, list_all}
-use Rattle.charlotte_calls.specs.Names.{opposite}
+use Rattle.std.specs.List.{AllByRecursion, list_all}
 use Rattle.charlotte_calls.specs.Packets.{is_addressed, names_kernels_below}
 use Rattle.charlotte_calls.specs.declared.names.EndId.{EndId}
 use Rattle.charlotte_calls.specs.declared.picture.MovingPicture.{MovingPicture}
