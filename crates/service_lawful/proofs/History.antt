@@ -177,21 +177,30 @@ module _ (s : State) (run : Run) (made : ServiceStep × State) (silent : IsSilen
         completes = subst (λ ns. All (λ n. n < unused_from (is_some (waiting_message x.outward) || is_some (matched_message x.outward) || is_taken x.outward) x.sent) ns) (sym (numbers-silent (complete_number f) run made (silent.completes f))) is.completes;
       }
 
-  -- a silent step that changes nothing
-  pub history-same : HasHistory s run → made.1 ≡ state_after s run → IsRightStep s longer run made.0 → HasHistory s longer
-  history-same is same right =
+  -- a silent step that changes no end and no reports
+  pub history-calm : HasHistory s run → made.1.ends ≡ (state_after s run).ends → ((p : ℕ) → (made.1.process p).reports ≡ ((state_after s run).process p).reports) → AreHeldOnce made.1
+      → IsRightStep s longer run made.0 → HasHistory s longer
+  history-calm is ends reports held right =
       record {
-        lawful = lawful-longer is.lawful (subst AreHeldOnce (sym same) (is.lawful.held run [] (sym (append-nil run)))) right;
-        numbered = λ f. subst (λ (t : State). AreNumbered f longer (t.ends f)) (sym last) (numbered-still f ((state_after s run).ends f) (is.numbered f));
-        taken = λ f. subst (λ (t : State). is_taken (t.ends f).outward ≡ true → WasTakenOnce s longer longer f (t.ends f).sent) (sym last) (λ h. taken-still f ((state_after s run).ends f).sent (is.taken f h));
-        matched = λ f p. subst (λ (t : State). (t.ends f).place ≡ place.Owned p → (t.ends f).noticed ≡ false → is_late way.Outward (t.ends f) ≡ true → WasMatched longer f (t.ends f).sent) (sym last)
+        lawful = lawful-longer is.lawful held right;
+        numbered = λ f. subst (λ (t : EndId → End). AreNumbered f longer (t f)) (sym now) (numbered-still f ((state_after s run).ends f) (is.numbered f));
+        taken = λ f. subst (λ (t : EndId → End). is_taken (t f).outward ≡ true → WasTakenOnce s longer longer f (t f).sent) (sym now) (λ h. taken-still f ((state_after s run).ends f).sent (is.taken f h));
+        matched = λ f p. subst (λ (t : EndId → End). (t f).place ≡ place.Owned p → (t f).noticed ≡ false → is_late way.Outward (t f) ≡ true → WasMatched longer f (t f).sent) (sym now)
             (λ at open' h. matched-still run f ((state_after s run).ends f).sent (is.matched f p at open' h));
-        told = λ e p. subst (λ (t : State). (t.ends e).place ≡ place.Owned p → (t.ends e).noticed ≡ false → is_late way.Inward (t.ends e) ≡ true → HasMatchedReport s longer p e) (sym last)
-            (λ at open' h. told-still p e (ap (λ (t : State). (t.process p.0).reports) last) (is.told e p at open' h));
+        told = λ e p. subst (λ (t : EndId → End). (t e).place ≡ place.Owned p → (t e).noticed ≡ false → is_late way.Inward (t e) ≡ true → HasMatchedReport s longer p e) (sym now)
+            (λ at open' h. told-still p e (ap (λ (t : State). (t.process p.0).reports) last ∙ reports p.0) (is.told e p at open' h));
       }
     where
-      last : state_after s longer ≡ state_after s run
-      last = state_after-append s run (made ∷ []) ∙ same
+      last : state_after s longer ≡ made.1
+      last = state_after-append s run (made ∷ [])
+
+      now : (state_after s longer).ends ≡ (state_after s run).ends
+      now = ap (λ (t : State). t.ends) last ∙ ends
+
+  -- and one that changes nothing
+  pub history-same : HasHistory s run → made.1 ≡ state_after s run → IsRightStep s longer run made.0 → HasHistory s longer
+  history-same is same right =
+      history-calm is (ap (λ (t : State). t.ends) same) (λ p. ap (λ (t : State). (t.process p).reports) same) (subst AreHeldOnce (sym same) (is.lawful.held run [] (sym (append-nil run)))) right
 
 -- ---- the start
 

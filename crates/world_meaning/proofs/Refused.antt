@@ -1,5 +1,5 @@
 -- A call is refused by its kernel for the cause for which the service refuses it.
-use Rattle.std.proofs.Common.{◌≡◌, ◌≢◌, ◌⊎◌, inl, inr, ℕ, ◌+◌, ◌<◌, ◌≤◌, Bool, true, false, nat_eq, nat_le, ◌&&◌, ◌||◌, not, is_none, zero, suc, All, IsSome, cond, IsTrue, List, [], ◌∷◌, length, Contains, Option, Some, None, slice_get, slice_index, refl, sym, ap, subst, ◌∙◌, arith, true≢false, eqb-true, eq-eqb}
+use Rattle.std.proofs.Common.{◌≡◌, ◌≢◌, ◌⊎◌, inl, inr, ℕ, ◌+◌, ◌<◌, ◌≤◌, Bool, true, false, nat_eq, nat_le, ◌&&◌, ◌||◌, not, is_none, is_some, zero, suc, All, IsSome, cond, IsTrue, List, [], ◌∷◌, length, Contains, Option, Some, None, slice_get, slice_index, refl, sym, ap, subst, ◌∙◌, arith, true≢false, eqb-true, eq-eqb}
 use Rattle.std.specs.List.{list_any}
 use Rattle.std.proofs.lemmas.Bool.Decides.{eqb_tells}
 use Rattle.std.proofs.lemmas.List.Elements.{All-get_or}
@@ -282,6 +282,14 @@ got [] k below = absurd (omega arith)
 got (x ∷ xs) zero below = refl
 got (x ∷ xs) (suc k) below = got xs k (omega arith)
 
+any-contains : {X : Type 0} (f : X → Bool) (xs : List X) → list_any f xs ≡ true → (x : X) × Contains xs x × (f x ≡ true)
+any-contains f [] is = absurd (true≢false (sym is))
+any-contains {X} f (y ∷ ys) is = by (f y) refl (any-contains f ys) is
+  where
+    by : (b : Bool) → f y ≡ b → (list_any f ys ≡ true → (x : X) × Contains ys x × (f x ≡ true)) → (b || list_any f ys) ≡ true → (x : X) × Contains (y ∷ ys) x × (f x ≡ true)
+    by true first later is = (y, (zero, omega arith, refl), first)
+    by false first later is = let x = later is in (x.0, (suc x.1.0, omega (arith, x.1.1), x.1.2), x.2)
+
 module _ (i : ℕ) (w : World) (s : State) (p : Pid) (k : ℕ) (mine : List EndId) (is : Invariant i w s) (calls : IsCaller w s p k mine) where
   abbrev l : Links
   l = links_of w
@@ -355,3 +363,27 @@ module _ (i : ℕ) (w : World) (s : State) (p : Pid) (k : ℕ) (mine : List EndI
     where
       none_some : (why : Cause) → None ≡ Some why → ⊥
       none_some why h = cc
+
+  -- a Wait that its kernel does not refuse finds a report or a started activity in the service
+  pub wait-granted : AreEndsOf p (w.kernel k).table mine → at_kernel.refusal p (w.kernel k).table (w.kernel k).made mine (has_report (process_of p (w.kernel k))) call.Wait ≡ None → in_service.HasActivity s p
+  wait-granted ends granted = by (has_report (process_of p (w.kernel k))) (list_any (λ e. at_kernel.is_active (here (entry_at l k e))) mine) refl refl granted
+    where
+      reports-same : (s.process p.0).reports ≡ ((w.kernel k).process p.0).reports
+      reports-same = (caller-process w s p k mine is.stands calls).reports
+
+      started : (e : EndId) → IsSome (owned p (entry_at l k e)) → at_kernel.is_active (here (entry_at l k e)) ≡ true → IsOthers l s p k calls.at links e ⊎ IsOwn l s p k calls.at links e → in_service.HasStarted s.ends p
+      started e some active (inl o) = absurd (true≢false (sym some ∙ ap is_some o.owned))
+      started e some active (inr o) =
+          (e, ap (is_owned_by p) o.place ∙ eq-eqb p.0 p.0 refl,
+          (λ j. sym (sends-agree l e (s.ends e).sent o.view.outward (s.ends e).outward o.end.outward).started j || sym (receives-agree l e o.view.inward (s.ends e).inward o.end.inward).started j)
+          ∙ sym (ap (λ x. at_kernel.is_active (here x)) o.entry) ∙ active)
+
+      by : (b c : Bool) → has_report (process_of p (w.kernel k)) ≡ b → list_any (λ e. at_kernel.is_active (here (entry_at l k e))) mine ≡ c → cond (b || c) None (Some cause.NoActivity) ≡ None → in_service.HasActivity s p
+      by true c reported active granted = inl (λ none. true≢false (sym reported ∙ ap (λ rs. not (nat_eq (length rs) 0)) (sym reports-same ∙ none)))
+      by false true reported active granted =
+          let one = any-contains (λ e. at_kernel.is_active (here (entry_at l k e))) mine active in
+          inr (started one.0 ((ends.all one.0).0 one.1) one.2 (own l s p k calls.at links one.0))
+      by false false reported active granted = absurd (some_none granted)
+        where
+          some_none : Some cause.NoActivity ≡ None → ⊥
+          some_none h = cc

@@ -34,7 +34,7 @@ use Rattle.service_step.specs.declared.state.Phase.TheVariants as phase
 use Rattle.service_step.specs.declared.state.Place.{Place}
 use Rattle.service_step.specs.declared.state.Place.TheVariants as place
 use Rattle.world_meaning.specs.Fields.{Stand, At, Flying, HasFields, IsHeard, IsHinted, IsNoMore, IsAsking, IsUnwantOf, IsUnserved, IsAskedAs, value_of}
-use Rattle.world_meaning.specs.Invariant.{IsOfSetting, NamesBelow, IsFew, AreMarked, AreCounted, IsHonest, AreAsked, AreCancelling, AreNamed, AreRight, IsServed, AreWanted, AreVoided, AreSentOnce, IsPacketRight, IsVoidRight, Invariant, is_unwanted_to, is_message_of, is_taken_of}
+use Rattle.world_meaning.specs.Invariant.{IsOfSetting, NamesBelow, IsFew, AreMarked, AreCounted, IsHonest, AreAsked, AreCancelling, AreNamed, AreRight, IsServed, AreWanted, AreSentOnce, IsPacketRight, Invariant, is_unwanted_to, is_message_of, is_taken_of}
 use Rattle.world_meaning.specs.Packets.{Links, links_of, IsUnderWay, over_kernels, sum_over, one_if, how_many, values_for, values_of}
 use Rattle.world_meaning.specs.StandsFor.{StandsFor, AreLinksOf, IsEndOf, IsOwnedHere, IsInMessage, IsProcessOf, entry_at, standing}
 use Rattle.world_meaning.proofs.Ends.{opposite-twice}
@@ -248,7 +248,7 @@ module _ (g : Setting) (valid : IsValid g) where
   new-value : (e : EndId) (at : Stand) (m : MovingPicture) → HasFields w e at m → (k : ℕ) × (q : Pid) × (m ≡ new_end e (home g q))
   new-value e at m has = let f = fields e at m has in (f.k, f.x.q, f.is)
 
-  starts-honest : IsHonest w
+  starts-honest : (e : EndId) → IsHonest w e
   starts-honest e at m j h has (inr u) = absurd (no_packets _ u)
   starts-honest e at m j h has (inl hinted) =
       let f = fields e at m has in
@@ -305,32 +305,32 @@ module _ (g : Setting) (valid : IsValid g) where
       record {
         named = record { entries = starts-names; away = starts-away; lists = λ from to above. refl; addressed = λ from to. All-nil _; addressees = λ from to. All-nil _ };
         few = λ e at m has. let f = new-value e at m has in subst (IsFew 0) (sym f.2) (record { hops = omega arith; sent = omega arith; asked = omega arith });
-        marked = record { destroyed = λ k e m is. absurd (no-mark k e m is); once = λ j k e m l is. absurd (no-mark j e m is) };
-        counted =
+        marked = λ e. record { destroyed = λ k m is. absurd (no-mark k e m is); once = λ j k m l is. absurd (no-mark j e m is) };
+        counted = λ e.
             record {
-              sent = λ e at m lives has. ap (λ (z : MovingPicture). z.sent) (new-value e at m has).2 ∙ sym (fresh-sent s starts-fresh e);
-              dead = λ e at m lives has. ap (λ (z : MovingPicture). z.dead) (new-value e at m has).2 ∙ sym (fresh-noticed s starts-fresh e);
-              unwanted = λ e at m lives is has. ap (λ (z : MovingPicture). z.want) (new-value e at m has).2;
+              sent = λ at m lives has. ap (λ (z : MovingPicture). z.sent) (new-value e at m has).2 ∙ sym (fresh-sent s starts-fresh e);
+              dead = λ at m lives has. ap (λ (z : MovingPicture). z.dead) (new-value e at m has).2 ∙ sym (fresh-noticed s starts-fresh e);
+              unwanted = λ at m lives is has. ap (λ (z : MovingPicture). z.want) (new-value e at m has).2;
             };
         honest = starts-honest;
-        asked = record { last = λ k e v i is asked. absurd (not-asked k e v i is asked); cancelled = λ k e v i p is withdrawing held. absurd (idle k e v i is withdrawing) };
+        asked = λ e. record { last = λ k v i is asked. absurd (not-asked k e v i is asked); cancelled = λ k v i p is withdrawing held. absurd (idle k e v i is withdrawing) };
         cancelling = λ p e is. absurd (not-cancelling p e is);
         served = λ e k v i at m is asked. absurd (not-asked k e v i is asked);
-        wanted =
+        wanted = λ e.
             record {
-              kept = λ e at m open' has. inl (ap (λ (z : MovingPicture). z.want) (new-value e at m has).2);
-              same = λ e at m i j h o p q open' has is. absurd (no-want e at m i j h has is);
-              posted = λ e at m i j h open' has is. absurd (no-want e at m i j h has is);
-              site = λ e at m i j h open' has is. absurd (no-want e at m i j h has is);
-              unwanted = λ e at m i open' has low u. absurd (no_packets _ u);
+              kept = λ at m open' has. inl (ap (λ (z : MovingPicture). z.want) (new-value e at m has).2);
+              same = λ at m i j h o p q open' has is. absurd (no-want e at m i j h has is);
+              posted = λ at m i j h open' has is. absurd (no-want e at m i j h has is);
+              site = λ at m i j h open' has is. absurd (no-want e at m i j h has is);
+              unwanted = λ at m i open' has low u. absurd (no_packets _ u);
             };
-        voided = record { meets = λ from to. All-nil _; once = λ e is. omega (arith, none-count (is_unwanted_to e)) };
+        unwanted = λ e is. omega (arith, none-count (is_unwanted_to e));
         packets = λ from to. All-nil _;
-        once =
+        once = λ f.
             record {
-              message = λ f. none-count (is_message_of f) ∙ sym (ap (λ o. one_if (is_some (matched_message o))) (fresh-outward s starts-fresh f));
-              taken = λ f. omega (arith, none-count (is_taken_of f));
-              told = λ f lives. none-count (is_taken_of f) ∙ sym (ap (λ o. one_if (is_taken o)) (fresh-outward s starts-fresh f));
+              message = none-count (is_message_of f) ∙ sym (ap (λ o. one_if (is_some (matched_message o))) (fresh-outward s starts-fresh f));
+              taken = omega (arith, none-count (is_taken_of f));
+              told = λ lives. none-count (is_taken_of f) ∙ sym (ap (λ o. one_if (is_taken o)) (fresh-outward s starts-fresh f));
             };
       }
     where

@@ -4,6 +4,7 @@ use Rattle.std.specs.Prelude.{◌≡◌, ℕ, List, [], ◌∷◌, ◌++◌, map
 use Rattle.charlotte_calls.specs.declared.calls.Call.{Call}
 use Rattle.charlotte_calls.specs.declared.calls.Call.TheVariants as call
 use Rattle.charlotte_calls.specs.declared.calls.Cause.{Cause}
+use Rattle.charlotte_calls.specs.declared.calls.Report.{Report}
 use Rattle.charlotte_calls.specs.declared.calls.ServiceStep.{ServiceStep}
 use Rattle.charlotte_calls.specs.declared.names.EndId.{EndId}
 use Rattle.charlotte_calls.specs.declared.names.Pid.{Pid}
@@ -48,14 +49,15 @@ pub record IsServedLawfully (g : Setting) (es : List Event) : Type 0 where
 
 -- ---- as far as it is proved
 
--- calls that are refused, and a Print
-abbrev pub IsCoveredCall : Option Cause → Call → Type 0
-IsCoveredCall (Some cause) c = Unit {0}
-IsCoveredCall None (call.Print bytes) = Unit {0}
-IsCoveredCall None _ = ⊥
+-- calls that are refused, a Print, and a Wait that finds no report; rs are the reports of the caller
+abbrev pub IsCoveredCall : List Report → Option Cause → Call → Type 0
+IsCoveredCall rs (Some cause) c = Unit {0}
+IsCoveredCall rs None (call.Print bytes) = Unit {0}
+IsCoveredCall rs None call.Wait = rs ≡ []
+IsCoveredCall rs None _ = ⊥
 
 abbrev pub IsCovered : World → Event → Type 0
-IsCovered w (Calls k p c mine) = IsCoveredCall (refusal p (w.kernel k).table (w.kernel k).made mine (has_report (process_of p (w.kernel k))) c) c
+IsCovered w (Calls k p c mine) = IsCoveredCall (process_of p (w.kernel k)).reports (refusal p (w.kernel k).table (w.kernel k).made mine (has_report (process_of p (w.kernel k))) c) c
 IsCovered w (Takes k from) = ⊥
 
 -- each of these events, in the world that those before it leave
