@@ -79,7 +79,7 @@ values-different (m ∷ ms) few = (by (list_any (end_eq m.end) (ends_in ms)) ref
         absurd (omega (arith, own, other, one))
     by false none = refl
 
-same-values : (q : PictureWhat) → values_in q ≡ values_of q
+pub same-values : (q : PictureWhat) → values_in q ≡ values_of q
 same-values (packet.Parcel to n w at hops bytes ms) = refl
 same-values (packet.Back to n ms) = refl
 same-values _ = refl

@@ -1,5 +1,5 @@
 -- The words of effects name no other kernels than those before: values, entries and packets.
-use Rattle.std.proofs.Common.{◌≡◌, ◌⊎◌, inl, inr, ℕ, ◌<◌, ◌≤◌, ◌^◌, Bool, true, false, nat_lt, nat_le, ◌&&◌, if◌then◌else◌, List, [], ◌∷◌, map, refl, ap, ◌∙◌, arith, lt-ltb, ltb-true, pow_pos}
+use Rattle.std.proofs.Common.{subst, ◌≡◌, ◌⊎◌, inl, inr, ℕ, ◌<◌, ◌≤◌, ◌^◌, Bool, true, false, nat_lt, nat_le, ◌&&◌, if◌then◌else◌, List, [], ◌∷◌, refl, ap, ◌∙◌, arith, lt-ltb, ltb-true, pow_pos}
 use Rattle.std.proofs.Math.Pow.{pow-lt}
 use Rattle.std.proofs.lemmas.Bool.{and_parts}
 use Rattle.std.proofs.lemmas.Bool.Decides.{leb_tells}
@@ -11,19 +11,19 @@ use Rattle.charlotte_calls.specs.Packets.{names_kernels_below}
 use Rattle.charlotte_calls.specs.declared.names.EndId.{EndId}
 use Rattle.charlotte_calls.specs.declared.picture.MovingPicture.{MovingPicture}
 use Rattle.charlotte_calls.specs.declared.picture.PictureWhat.{PictureWhat}
-use Rattle.end_table.specs.Entries.{ended_entry, gains_one, is_news, learned, left_entry, left_value, settled}
-use Rattle.end_table.specs.Place.{put}
+use Rattle.end_table.specs.Entries.{ended_entry, gains_one, is_news, learned, left_entry, left_value}
 use Rattle.end_table.specs.declared.entry.Entry.{Entry}
 use Rattle.end_table.specs.declared.entry.Entry.TheVariants as entry
+use Rattle.end_table.specs.declared.entry.HereView.{HereView}
 use Rattle.end_table.specs.declared.entry.Holder.{Holder}
 use Rattle.end_table.specs.declared.entry.Inward.{Inward}
 use Rattle.kernel_effects.proofs.Uses.{all-append, arrival-each, brings-each, forget-each, gone-each, live-each, news-each, puts-each, turns-each}
 use Rattle.kernel_effects.specs.Actions.{arrival_packets, ended_of, forget_packets, gone_of, gone_packets, held_entry, left_of, news_packets}
 use Rattle.kernel_effects.specs.Effect.{Effect, brings, puts, stays, turns}
-use Rattle.kernel_step.specs.Actions.{here, value_leaving, values_leaving}
-use Rattle.kernel_step.specs.Rows.{arriving, is_carried, passing}
+use Rattle.kernel_step.specs.Actions.{here, values_leaving}
 use Rattle.world_meaning.specs.Invariant.{NamesBelow}
 use Rattle.world_effects.specs.Named.{IsSentWithin, NamesWithin}
+use Rattle.world_effects.proofs.Values.{leaving-each}
 
 both : (a b : Bool) → a ≡ true → b ≡ true → (a && b) ≡ true
 both a b first second = ap (λ z. z && b) first ∙ second
@@ -65,39 +65,12 @@ module _ (n : ℕ) where
   named-values [] are = refl
   named-values (m ∷ ms) are = both _ _ are.0 (named-values ms are.1)
 
-  pub left-values : (k : ℕ) (ms : List MovingPicture) → k < n → AllByRecursion IsNamed ms → AllByRecursion IsNamed (map (left_value k) ms)
-  left-values k [] below are = tt
-  left-values k (m ∷ ms) below are = (left-named k m below are.0, left-values k ms below are.1)
-
-  pub passing-named : (k made : ℕ) (t : EndId → Entry) (ms : List MovingPicture) → AllByRecursion IsNamed ms → AllByRecursion IsNamed (passing k made t ms)
-  passing-named k made t [] are = tt
-  passing-named k made t (m ∷ ms) are = by (is_carried k made t m) (passing-named k made t ms are.1)
-    where
-      by : (b : Bool) → AllByRecursion IsNamed (passing k made t ms) → AllByRecursion IsNamed (if b then m ∷ passing k made t ms else passing k made t ms)
-      by true rest = (are.0, rest)
-      by false rest = rest
-
-  pub arriving-named : (k made : ℕ) (h : Holder) (t : EndId → Entry) (ms : List MovingPicture) → AllByRecursion IsNamed ms → AllByRecursion IsNamed (arriving k made h t ms)
-  arriving-named k made h t [] are = tt
-  arriving-named k made h t (m ∷ ms) are = by (is_carried k made t m) (arriving-named k made h (put t m.end (entry.Here (settled h m))) ms are.1) (arriving-named k made h t ms are.1)
-    where
-      later : List MovingPicture
-      later = arriving k made h (put t m.end (entry.Here (settled h m))) ms
-
-      by : (b : Bool) → AllByRecursion IsNamed later → AllByRecursion IsNamed (arriving k made h t ms) → AllByRecursion IsNamed (if b then m ∷ later else arriving k made h t ms)
-      by true rest same = (are.0, rest)
-      by false rest same = same
-
   pub leaving-named : (k : ℕ) (t : EndId → Entry) (xs : List EndId) → k < n → ((e : EndId) → NamesBelow n (t e)) → AllByRecursion IsNamed (values_leaving k t xs)
-  unfolding values_leaving
-  leaving-named k t [] below names = tt
-  leaving-named k t (x ∷ xs) below names = all-append IsNamed (value_leaving k (here (t x))) (flat_map (λ x. value_leaving k (here (t x))) xs) (by (t x) (names x)) (leaving-named k t xs below names)
+  leaving-named k t xs below names = leaving-each IsNamed k t xs (each xs)
     where
-      by : (y : Entry) → NamesBelow n y → AllByRecursion IsNamed (value_leaving k (here y))
-      by entry.Nothing is = tt
-      by (entry.Here v) is = (left-named k v.value below is, tt)
-      by (entry.Left to hops) is = tt
-      by (entry.Destroyed m) is = tt
+      each : (xs : List EndId) → AllByRecursion (λ x. (v : HereView) → t x ≡ entry.Here v → IsNamed (left_value k v.value)) xs
+      each [] = tt
+      each (x ∷ xs) = (λ v is. left-named k v.value below (subst (NamesBelow n) is (names x)), each xs)
 
   -- ---- entries
 
@@ -152,10 +125,6 @@ module _ (n : ℕ) where
       each [] are = tt
       each (m ∷ ms) are = (λ same. are.0, each ms are.1)
 
-  pub each-names : (ms : List MovingPicture) (word : MovingPicture → Entry) → ((m : MovingPicture) → IsNamed m → NamesBelow n (word m)) → AllByRecursion IsNamed ms → AllByRecursion (λ m. NamesBelow n (word m)) ms
-  each-names [] word gives are = tt
-  each-names (m ∷ ms) word gives are = (gives m are.0, each-names ms word gives are.1)
-
   -- ---- packets
 
   abbrev pub IsWithin : ℕ × PictureWhat → Type 0
@@ -188,10 +157,6 @@ module _ (n : ℕ) where
     news-within before hops m i is =
         news-each IsWithin k before hops m i
         (λ news. live-each IsWithin k m i (λ w posted. (hint-below m is, here-below)) (λ w withdrawing. (hint-below m is, here-below)) (hint-below m is, here-below))
-
-    pub each-within : (ms : List MovingPicture) (packets : MovingPicture → List (ℕ × PictureWhat)) → ((m : MovingPicture) → IsNamed m → AllByRecursion IsWithin (packets m)) → AllByRecursion IsNamed ms → AllByRecursion IsWithin (flat_map packets ms)
-    each-within [] packets gives are = tt
-    each-within (m ∷ ms) packets gives are = all-append IsWithin (packets m) (flat_map packets ms) (gives m are.0) (each-within ms packets gives are.1)
 
     pub gone_all-within : (t : EndId → Entry) (xs : List EndId) → ((e : EndId) → NamesBelow n (t e)) → AllByRecursion IsWithin (flat_map (λ x. gone_of k (t x)) xs)
     gone_all-within t [] names = tt

@@ -24,7 +24,8 @@ use Rattle.kernel_step.specs.Actions.{enclosed_of, hint_kernel, values_leaving}
 use Rattle.kernel_step.specs.Rows.{arriving, asks, awaits, passing}
 use Rattle.world_meaning.specs.Invariant.{NamesBelow}
 use Rattle.world_effects.specs.Named.{NamesWithin}
-use Rattle.world_effects.proofs.NamedParts.{IsNamed, IsWithin, arrival-within, arriving-named, brings-names, cleared-named, each-names, each-within, either-names, ended_entry-names, forgets-within, gone-within, held_entry-names, hint-below, learned-named, left-values, left_entry-names, left_of-names, leaving-named, named-values, news-within, passing-named, puts-names, stays-names, turns-names, values-named}
+use Rattle.world_effects.proofs.NamedParts.{IsNamed, IsWithin, arrival-within, brings-names, cleared-named, either-names, ended_entry-names, forgets-within, gone-within, held_entry-names, hint-below, learned-named, left-named, left_entry-names, left_of-names, leaving-named, named-values, news-within, puts-names, stays-names, turns-names, values-named}
+use Rattle.world_effects.proofs.Values.{arriving-each, each-weaker, left-each, packets-each, passing-each}
 
 module _ (n k made from : ℕ) (t : EndId → Entry) (below : k < n) (sender : from < n) (names : (e : EndId) → NamesBelow n (t e)) where
   nothing-names : NamesWithin n nothing
@@ -112,19 +113,19 @@ module _ (n k made from : ℕ) (t : EndId → Entry) (below : k < n) (sender : f
 
     parcel-names : (to : EndId) (m : ℕ) (bytes : List ℕ) (ms : List MovingPicture) (o : Option HereView) → AllByRecursion (IsNamed n) ms → ((v : HereView) → o ≡ Some v → IsNamed n v.value) → NamesWithin n (parcel_effect k made t to m at hops bytes ms o)
     parcel-names to m bytes ms None are is =
-        let passed = passing-named n k made t ms are in
+        let passed = passing-each (IsNamed n) k made t ms are in
         record {
-          entries = brings-names n (passing k made t ms) (left_entry at) stays (each-names n (passing k made t ms) (left_entry at) (λ m m_is. left_entry-names n at m there) passed) (stays-names n);
-          sent = ((there, named-values n (map (left_value k) (passing k made t ms)) (left-values n k (passing k made t ms) below passed)), tt);
+          entries = brings-names n (passing k made t ms) (left_entry at) stays (each-weaker (IsNamed n) (λ m. NamesBelow n (left_entry at m)) (λ m m_is. left_entry-names n at m there) (passing k made t ms) passed) (stays-names n);
+          sent = ((there, named-values n (map (left_value k) (passing k made t ms)) (left-each (IsNamed n) k (λ m m_is. left-named n k m below m_is) (passing k made t ms) passed)), tt);
         }
     parcel-names to m bytes ms (Some v) are is =
         let came = arriving k made v.holder t ms in
-        let named = arriving-named n k made v.holder t ms are in
+        let named = arriving-each (IsNamed n) k made v.holder t ms are in
         record {
           entries =
               puts-names n v.value.end _ (brings came (λ m. entry.Here (settled v.holder m)) stays) (learned-named n at hops v.value there (is v refl))
-              (brings-names n came (λ m. entry.Here (settled v.holder m)) stays (each-names n came (λ m. entry.Here (settled v.holder m)) (λ m m_is. m_is) named) (stays-names n));
-          sent = ((there, lt-ltb k n below), all-append (IsWithin n) _ (view_news k at hops v inward.Unreported) (each-within n k below came (arrival_packets k) (arrival-within n k below) named) (news-sent v inward.Unreported (is v refl)));
+              (brings-names n came (λ m. entry.Here (settled v.holder m)) stays (each-weaker (IsNamed n) (IsNamed n) (λ m m_is. m_is) came named) (stays-names n));
+          sent = ((there, lt-ltb k n below), all-append (IsWithin n) _ (view_news k at hops v inward.Unreported) (packets-each (IsNamed n) (IsWithin n) (arrival_packets k) (arrival-within n k below) came named) (news-sent v inward.Unreported (is v refl)));
         }
 
     taken-names : (m : ℕ) (o : Option HereView) → ((v : HereView) → o ≡ Some v → IsNamed n v.value) → NamesWithin n (taken_effect k m at hops o)
@@ -151,16 +152,16 @@ module _ (n k made from : ℕ) (t : EndId → Entry) (below : k < n) (sender : f
 
   back-names : (to : EndId) (m : ℕ) (ms : List MovingPicture) (o : Option HereView) → AllByRecursion (IsNamed n) ms → ((v : HereView) → o ≡ Some v → IsNamed n v.value) → NamesWithin n (back_effect k made t from to m ms o)
   back-names to m ms None are is =
-      let passed = passing-named n k made t ms are in
+      let passed = passing-each (IsNamed n) k made t ms are in
       record {
-        entries = brings-names n (passing k made t ms) ended_entry stays (each-names n (passing k made t ms) ended_entry (λ m m_is. ended_entry-names n m m_is) passed) (stays-names n);
-        sent = each-within n k below (passing k made t ms) (gone_packets k) (gone-within n k below) passed;
+        entries = brings-names n (passing k made t ms) ended_entry stays (each-weaker (IsNamed n) (λ m. NamesBelow n (ended_entry m)) (λ m m_is. ended_entry-names n m m_is) (passing k made t ms) passed) (stays-names n);
+        sent = packets-each (IsNamed n) (IsWithin n) (gone_packets k) (gone-within n k below) (passing k made t ms) passed;
       }
   back-names to m ms (Some v) are is =
       let came = arriving k made v.holder t ms in
-      let named = arriving-named n k made v.holder t ms are in
-      let here = brings-names n came (λ m. entry.Here (settled v.holder m)) stays (each-names n came (λ m. entry.Here (settled v.holder m)) (λ m m_is. m_is) named) (stays-names n) in
-      let told = each-within n k below came (arrival_packets k) (arrival-within n k below) named in
+      let named = arriving-each (IsNamed n) k made v.holder t ms are in
+      let here = brings-names n came (λ m. entry.Here (settled v.holder m)) stays (each-weaker (IsNamed n) (IsNamed n) (λ m m_is. m_is) came named) (stays-names n) in
+      let told = packets-each (IsNamed n) (IsWithin n) (arrival_packets k) (arrival-within n k below) came named in
       either-names n v.value.dead (returns_effect k to m came v) (returns_first_effect k from to m came v)
       (record { entries = puts-names n v.value.end (entry.Here (returned_view v)) (brings came (λ m. entry.Here (settled v.holder m)) stays) (is v refl) here; sent = told })
       (record {
