@@ -1,5 +1,5 @@
 -- One step more in a run of the service.
-use Rattle.std.proofs.Common.{◌≡◌, ◌≢◌, ◌⊎◌, inl, inr, ℕ, ◌+◌, ◌<◌, ◌≤◌, Bool, true, false, nat_eq, ◌||◌, not, cond, IsTrue, is_some, List, [], ◌∷◌, ◌++◌, map, length, Contains, All, Option, Some, None, refl, sym, ap, subst, ◌∙◌, arith, true≢false, append_assoc, append-nil, eqb-true}
+use Rattle.std.proofs.Common.{◌≡◌, ◌⊎◌, inl, inr, ℕ, ◌<◌, ◌≤◌, Bool, true, false, nat_eq, ◌||◌, not, is_some, List, [], ◌∷◌, ◌++◌, map, length, Contains, All, refl, sym, ap, subst, ◌∙◌, true≢false, append_assoc, append-nil, eqb-true}
 use Rattle.std.proofs.lemmas.List.Elements.{All-nil, Contains-append_left}
 use Rattle.std.specs.List.{filter, flat_map}
 use Rattle.charlotte_calls.specs.Names.{opposite}
@@ -13,14 +13,13 @@ use Rattle.charlotte_calls.specs.declared.names.EndId.{EndId}
 use Rattle.charlotte_calls.specs.declared.names.Pid.{Pid}
 use Rattle.charlotte_calls.specs.declared.names.Way.{Way}
 use Rattle.charlotte_calls.specs.declared.names.Way.TheVariants as way
-use Rattle.service_lawful.proofs.Fresh.{IsFresh, fresh-consistent, fresh_at, fresh-outward, fresh-inward}
+use Rattle.service_lawful.proofs.Fresh.{IsFresh, fresh-consistent, fresh_at, fresh-outward}
 use Rattle.service_lawful.specs.History.{unused_from, AreNumbered, HasHistory}
-use Rattle.service_step.specs.Causes.{IsRefusedFor, first_of, is_cause, is_late, no_end, cancel_causes}
+use Rattle.service_step.specs.Causes.{IsRefusedFor, first_of, is_cause, is_late}
 use Rattle.service_step.specs.Ends.{waiting_message, matched_message, is_owned_by, is_taken}
 use Rattle.service_step.specs.Lawful.{AreHeldOnce, AreInOrder, AreRising, HasMatchedReport, IsLawful, IsRightStep, IsRightlyLate, WasMatched, WasTakenOnce, complete_number, match_number, send_number, take_number}
 use Rattle.service_step.specs.Run.{state_after}
 use Rattle.service_step.specs.State.{State, receive_report}
-use Rattle.service_step.specs.Steps.{IsServiceStep}
 use Rattle.service_step.specs.declared.state.End.{End}
 use Rattle.service_step.specs.declared.state.Place.{Place}
 use Rattle.service_step.specs.declared.state.Place.TheVariants as place

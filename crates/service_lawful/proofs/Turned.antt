@@ -1,14 +1,13 @@
 -- A process that runs begins to wait: the state stays consistent.
-use Rattle.std.proofs.Common.{◌≡◌, ◌≢◌, ◌⊎◌, inl, inr, ℕ, ◌<◌, ◌≤◌, Bool, true, false, nat_eq, cond, List, [], length, Contains, refl, sym, ap, subst, ◌∙◌, arith, true≢false}
+use Rattle.std.proofs.Common.{◌≡◌, ◌≢◌, ◌⊎◌, inl, inr, ℕ, ◌<◌, ◌≤◌, true, false, nat_eq, cond, [], length, Contains, sym, ap, subst, ◌∙◌, arith}
 use Rattle.std.proofs.lemmas.Bool.Decides.{eqb_tells}
 use Rattle.charlotte_calls.specs.declared.calls.Report.{Report}
 use Rattle.charlotte_calls.specs.declared.names.EndId.{EndId}
 use Rattle.charlotte_calls.specs.declared.names.Pid.{Pid}
-use Rattle.charlotte_calls.specs.declared.names.Way.{Way}
-use Rattle.service_lawful.specs.Consistent.{reports_on, AreKept, AreReported, AreProcesses, IsConsistent}
+use Rattle.service_lawful.specs.Consistent.{reports_on, IsConsistent}
 use Rattle.service_step.specs.Ends.{is_started_inward}
-use Rattle.service_step.specs.Lawful.{AreHeldOnce, IsCarried, IsHeldAt}
-use Rattle.service_step.specs.State.{State, Process, no_process, turns}
+use Rattle.service_step.specs.Lawful.{AreHeldOnce, IsHeldAt}
+use Rattle.service_step.specs.State.{State, Process, turns}
 use Rattle.service_step.specs.declared.state.Phase.{Phase}
 use Rattle.service_step.specs.declared.state.Phase.TheVariants as phase
 use Rattle.service_step.specs.declared.state.Place.{Place}

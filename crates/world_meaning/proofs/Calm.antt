@@ -1,5 +1,5 @@
 -- Events that change no link: what is true of the world stays true.
-use Rattle.std.proofs.Common.{◌≡◌, ◌≢◌, ◌⊎◌, inl, inr, ℕ, ◌+◌, ◌<◌, ◌≤◌, Bool, true, false, nat_eq, cond, List, [], ◌∷◌, length, Option, Some, None, refl, sym, ap, subst, ◌∙◌, arith, true≢false}
+use Rattle.std.proofs.Common.{◌≡◌, ◌≢◌, ◌⊎◌, inl, inr, ℕ, ◌+◌, ◌<◌, true, false, nat_eq, cond, List, [], length, Some, refl, sym, ap, subst, ◌∙◌, arith}
 use Rattle.std.proofs.lemmas.Bool.Decides.{eqb_tells}
 use Rattle.charlotte_calls.specs.declared.calls.Answer.{Answer}
 use Rattle.charlotte_calls.specs.declared.calls.Call.{Call}
@@ -7,17 +7,14 @@ use Rattle.charlotte_calls.specs.declared.names.EndId.{EndId}
 use Rattle.charlotte_calls.specs.declared.names.Pid.{Pid}
 use Rattle.charlotte_calls.specs.declared.picture.MovingPicture.{MovingPicture}
 use Rattle.charlotte_calls.specs.declared.picture.Picture.{Picture}
-use Rattle.end_table.specs.declared.entry.Entry.{Entry}
 use Rattle.kernel_sound.specs.Sound.{IsSound}
-use Rattle.kernel_step.specs.Kernel.{Kernel, Outcome, Process as KernelProcess}
+use Rattle.kernel_step.specs.Kernel.{Kernel, Outcome}
 use Rattle.kernel_step.specs.declared.phase.Phase.TheVariants as kernel_phase
-use Rattle.kernel_world.specs.World.{World, Event, Calls, Takes, happens, outcome, adds_all}
-use Rattle.service_step.specs.State.{State, Process}
-use Rattle.service_step.specs.declared.state.Phase.TheVariants as phase
-use Rattle.world_meaning.specs.Fields.{Stand, HasFields}
+use Rattle.kernel_world.specs.World.{World, Event, Calls, happens, outcome, adds_all}
+use Rattle.service_step.specs.State.{State}
 use Rattle.world_meaning.specs.Invariant.{IsOfSetting, IsFew, AreRight, Invariant}
 use Rattle.world_meaning.specs.Packets.{Links, links_of}
-use Rattle.world_meaning.specs.StandsFor.{StandsFor, AreLinksOf, IsProcessOf, home_of, service_phase}
+use Rattle.world_meaning.specs.StandsFor.{AreLinksOf, IsProcessOf, home_of, service_phase}
 
 -- after one event more, numbers are few for one more
 pub AreRight-later : (i : ℕ) (w : Links) (s : State) → AreRight i w s → AreRight (i + 1) w s

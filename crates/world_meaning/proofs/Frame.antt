@@ -1,13 +1,12 @@
 -- What is true of a link stays true while nothing of it changes: neither its two ends, nor a packet that is addressed to one of them or
 -- carries one. w and t are the links of kernels and the ends of the service before an event, v and u after it.
-use Rattle.std.proofs.Common.{◌≡◌, ◌⊎◌, inl, inr, ℕ, zero, suc, ◌<◌, ◌≤◌, Bool, true, false, List, [], ◌∷◌, map, Contains, is_some, Some, refl, sym, ap, subst, ◌∙◌, arith}
+use Rattle.std.proofs.Common.{◌≡◌, ◌⊎◌, inl, inr, ℕ, zero, suc, ◌≤◌, true, false, List, [], ◌∷◌, Contains, is_some, refl, sym, ap, subst, ◌∙◌, arith}
 use Rattle.charlotte_calls.specs.Names.{opposite}
 use Rattle.charlotte_calls.specs.declared.names.EndId.{EndId}
 use Rattle.charlotte_calls.specs.declared.picture.MovingPicture.{MovingPicture}
 use Rattle.charlotte_calls.specs.declared.picture.PictureWhat.{PictureWhat}
 use Rattle.charlotte_calls.specs.declared.picture.PictureWhat.TheVariants as packet
 use Rattle.end_table.specs.Table.{IsHereAnd}
-use Rattle.end_table.specs.declared.entry.Entry.TheVariants as entry
 use Rattle.end_table.specs.declared.entry.HereView.{HereView}
 use Rattle.end_table.specs.declared.entry.Inward.TheVariants as kernel_inward
 use Rattle.kernel_sound.specs.Sound.{addressee}
@@ -19,8 +18,8 @@ use Rattle.service_step.specs.declared.state.End.{End}
 use Rattle.service_step.specs.declared.state.Outward.TheVariants as outward
 use Rattle.service_step.specs.declared.state.Place.TheVariants as place
 use Rattle.world_meaning.proofs.Ends.{opposite-twice}
-use Rattle.world_meaning.specs.Fields.{Stand, At, Flying, HasFields, IsHeard, IsHinted, IsNews, IsNoMore, IsAsking, IsUnwantOf, IsUnserved, IsAskedAs, value_of}
-use Rattle.world_meaning.specs.Invariant.{AreMarked, AreCounted, IsHonest, IsServed, AreWanted, AreSentOnce, IsUnwantedOnce, IsPacketRight, IsParcelRight, IsBackRight, IsTakenRight, IsMatchedAs, is_message_of, is_taken_of, is_unwanted_to}
+use Rattle.world_meaning.specs.Fields.{Stand, At, Flying, HasFields, IsHeard, IsNews, IsAsking, IsUnwantOf, IsUnserved, IsAskedAs, value_of}
+use Rattle.world_meaning.specs.Invariant.{AreMarked, AreCounted, IsHonest, IsServed, AreWanted, AreSentOnce, IsUnwantedOnce, IsPacketRight, IsParcelRight, IsBackRight, IsTakenRight, is_message_of, is_taken_of, is_unwanted_to}
 use Rattle.world_meaning.specs.Packets.{Links, IsUnderWay, how_many, one_if, values_of}
 use Rattle.world_meaning.specs.StandsFor.{entry_at}
 

@@ -1,14 +1,14 @@
 -- What an event makes of sums over all packets, and of what is true of each or of some packet.
-use Rattle.std.proofs.Common.{◌≡◌, ◌≢◌, ◌⊎◌, inl, inr, ℕ, zero, suc, ◌+◌, ◌<◌, ◌≤◌, Bool, true, false, nat_eq, ◌&&◌, cond, List, [], ◌∷◌, ◌++◌, All, Contains, map, refl, sym, ap, subst, ◌∙◌, arith, true≢false, append-nil}
+use Rattle.std.proofs.Common.{◌≡◌, ◌≢◌, ◌⊎◌, inl, inr, ℕ, zero, suc, ◌+◌, ◌<◌, Bool, true, false, nat_eq, ◌&&◌, cond, List, [], ◌∷◌, ◌++◌, All, Contains, map, refl, sym, ap, subst, ◌∙◌, arith}
 use Rattle.std.proofs.lemmas.Bool.Decides.{eqb_tells}
-use Rattle.std.proofs.lemmas.List.Elements.{All-nil, All-cons, All-head, All-tail, All-weaker, All-append, All-contains, Contains-append_cases, Contains-append_left, Contains-append_right}
-use Rattle.std.specs.List.{fold, filter}
+use Rattle.std.proofs.lemmas.List.Elements.{All-nil, All-cons, All-tail, All-weaker, All-append, All-contains, Contains-append_cases, Contains-append_left}
+use Rattle.std.specs.List.{filter}
 use Rattle.charlotte_calls.specs.declared.names.EndId.{EndId}
 use Rattle.charlotte_calls.specs.declared.picture.Picture.{Picture}
 use Rattle.charlotte_calls.specs.declared.picture.PictureWhat.{PictureWhat}
 use Rattle.end_table.specs.declared.entry.Entry.{Entry}
 use Rattle.kernel_world.proofs.Packets.{happens-packets}
-use Rattle.kernel_world.specs.World.{World, Event, Calls, Takes, kernel_of, outcome, happens, rest, removes, adds, adds_all, first_or, nothing_sent, to_kernel, takes_at, left_at, sends_at, packets_after}
+use Rattle.kernel_world.specs.World.{World, Event, Takes, kernel_of, outcome, happens, rest, removes, adds, adds_all, to_kernel, takes_at, left_at, sends_at}
 use Rattle.world_meaning.proofs.Sums.{over-change, over-same}
 use Rattle.world_meaning.specs.Packets.{Links, links_of, Each, IsUnderWay, over_kernels, sum_in, sum_over}
 
@@ -32,10 +32,10 @@ total-change : (f : PictureWhat → ℕ) (old new : ℕ → ℕ → List Picture
 unfolding total
 total-change f old new j k j_below k_below same =
     let inner : over_kernels (λ to. sum_in f (new j to)) + sum_in f (old j k) ≡ over_kernels (λ to. sum_in f (old j to)) + sum_in f (new j k) =
-        over-change (λ to. sum_in f (old j to)) (λ to. sum_in f (new j to)) k k_below (λ to off. ap (sum_in f) (same j to (inr off))) in
+    over-change (λ to. sum_in f (old j to)) (λ to. sum_in f (new j to)) k k_below (λ to off. ap (sum_in f) (same j to (inr off))) in
     let outer : over_kernels (λ from. over_kernels (λ to. sum_in f (new from to))) + over_kernels (λ to. sum_in f (old j to)) ≡ over_kernels (λ from. over_kernels (λ to. sum_in f (old from to))) + over_kernels (λ to. sum_in f (new j to)) =
-        over-change (λ from. over_kernels (λ to. sum_in f (old from to))) (λ from. over_kernels (λ to. sum_in f (new from to))) j j_below
-        (λ from off. over-same (λ to. sum_in f (old from to)) (λ to. sum_in f (new from to)) (λ to. ap (sum_in f) (same from to (inl off)))) in
+    over-change (λ from. over_kernels (λ to. sum_in f (old from to))) (λ from. over_kernels (λ to. sum_in f (new from to))) j j_below
+    (λ from off. over-same (λ to. sum_in f (old from to)) (λ to. sum_in f (new from to)) (λ to. ap (sum_in f) (same from to (inl off)))) in
     omega arith
 
 eq-self : (n : ℕ) → nat_eq n n ≡ true
@@ -62,7 +62,7 @@ both j k = ap (λ x. x && nat_eq k k) (eq-self j) ∙ eq-self k
 total-adds : (f : PictureWhat → ℕ) (k : ℕ) (sent : ℕ × Picture) (ps : ℕ → ℕ → List Picture) → k < 8 → sent.0 < 8 → total f (adds k sent ps) ≡ total f ps + f sent.1.what
 total-adds f k sent ps below there =
     let change : total f (adds k sent ps) + sum_in f (ps k sent.0) ≡ total f ps + sum_in f (adds k sent ps k sent.0) =
-        total-change f ps (adds k sent ps) k sent.0 below there (λ from to off. ap (λ b. cond b (ps from to ++ sent.1 ∷ []) (ps from to)) (not-both from to k sent.0 off)) in
+    total-change f ps (adds k sent ps) k sent.0 below there (λ from to off. ap (λ b. cond b (ps from to ++ sent.1 ∷ []) (ps from to)) (not-both from to k sent.0 off)) in
     let here : adds k sent ps k sent.0 ≡ ps k sent.0 ++ sent.1 ∷ [] = ap (λ b. cond b (ps k sent.0 ++ sent.1 ∷ []) (ps k sent.0)) (both k sent.0) in
     let more : sum_in f (adds k sent ps k sent.0) ≡ sum_in f (ps k sent.0) + sum_in f (sent.1 ∷ []) = ap (sum_in f) here ∙ sum_in-append f (ps k sent.0) (sent.1 ∷ []) in
     omega arith
@@ -88,7 +88,7 @@ total-adds_all f k (x ∷ xs) ps below there =
 total-removes : (f : PictureWhat → ℕ) (k j : ℕ) (ps : ℕ → ℕ → List Picture) (q : Picture) (qs : List Picture) → k < 8 → j < 8 → ps j k ≡ q ∷ qs → total f (removes (Takes k j) ps) + f q.what ≡ total f ps
 total-removes f k j ps q qs below there is =
     let change : total f (removes (Takes k j) ps) + sum_in f (ps j k) ≡ total f ps + sum_in f (removes (Takes k j) ps j k) =
-        total-change f ps (removes (Takes k j) ps) j k there below (λ from to off. ap (λ b. cond b (rest (ps from to)) (ps from to)) (not-both from to j k off)) in
+    total-change f ps (removes (Takes k j) ps) j k there below (λ from to off. ap (λ b. cond b (rest (ps from to)) (ps from to)) (not-both from to j k off)) in
     let here : removes (Takes k j) ps j k ≡ qs = ap (λ b. cond b (rest (ps j k)) (ps j k)) (both j k) ∙ ap rest is in
     let was : sum_in f (ps j k) ≡ f q.what + sum_in f qs = ap (sum_in f) is in
     let now : sum_in f (removes (Takes k j) ps j k) ≡ sum_in f qs = ap (sum_in f) here in
@@ -107,7 +107,7 @@ pub sum_over-takes : (f : PictureWhat → ℕ) (w : World) (k j : ℕ) (q : Pict
 sum_over-takes f w k j q qs is below there sent =
     let now : sum_over f (links_of (happens w (Takes k j))) ≡ total f (adds_all k (outcome w (Takes k j)).packets (removes (Takes k j) w.packets)) = sum_over-is f (links_of (happens w (Takes k j))) in
     let added : total f (adds_all k (outcome w (Takes k j)).packets (removes (Takes k j) w.packets)) ≡ total f (removes (Takes k j) w.packets) + sum_sent f (outcome w (Takes k j)).packets =
-        total-adds_all f k (outcome w (Takes k j)).packets (removes (Takes k j) w.packets) below sent in
+    total-adds_all f k (outcome w (Takes k j)).packets (removes (Takes k j) w.packets) below sent in
     let taken : total f (removes (Takes k j) w.packets) + f q.what ≡ total f w.packets = total-removes f k j w.packets q qs below there is in
     let was : sum_over f (links_of w) ≡ total f w.packets = sum_over-is f (links_of w) in
     omega arith

@@ -1,5 +1,5 @@
 -- The service goes with a run, event by event.
-use Rattle.std.proofs.Common.{◌≡◌, ◌≢◌, ◌⊎◌, inl, inr, ℕ, ◌+◌, ◌<◌, ◌≤◌, ◌^◌, Bool, true, false, nat_eq, cond, IsTrue, List, [], ◌∷◌, ◌++◌, map, length, slice_index, Option, Some, None, refl, sym, ap, subst, ◌∙◌, arith, true≢false, append_assoc, append-nil}
+use Rattle.std.proofs.Common.{◌≡◌, ◌≢◌, ℕ, ◌+◌, ◌<◌, Bool, true, false, nat_eq, cond, IsTrue, List, [], ◌∷◌, ◌++◌, map, length, slice_index, Option, Some, None, refl, sym, ap, subst, ◌∙◌, append_assoc, append-nil}
 use Rattle.charlotte_calls.specs.Setting.{IsValid}
 use Rattle.charlotte_calls.specs.declared.calls.Answer.{Answer}
 use Rattle.charlotte_calls.specs.declared.calls.Answer.TheVariants as answer
@@ -12,12 +12,12 @@ use Rattle.charlotte_calls.specs.declared.names.EndId.{EndId}
 use Rattle.charlotte_calls.specs.declared.names.Pid.{Pid}
 use Rattle.charlotte_calls.specs.declared.setting.Setting.{Setting}
 use Rattle.kernel_step.specs.Calls.{refusal, IsCallWith}
-use Rattle.kernel_step.specs.Kernel.{Kernel, Outcome, Process as KernelProcess, begins, call_step, closes, decides, granted, has_report, join_answers, join_reports, next_stamp, performs, process_of, refuses, stands, without_answer}
+use Rattle.kernel_step.specs.Kernel.{Kernel, Outcome, Process as KernelProcess, begins, call_step, closes, decides, granted, has_report, join_answers, join_reports, next_stamp, performs, process_of, refuses, without_answer}
 use Rattle.kernel_step.specs.Progress.{means}
 use Rattle.kernel_step.specs.declared.phase.Phase.TheVariants as kernel_phase
 use Rattle.kernel_world.specs.Run.{IsAllowed, AreAllowed, IsRun}
 use Rattle.kernel_world.specs.World.{World, Event, Calls, Takes, happens, outcome, start}
-use Rattle.service_step.specs.Run.{IsRunFrom, IsServiceRun, state_after, start_state}
+use Rattle.service_step.specs.Run.{IsRunFrom, state_after, start_state}
 use Rattle.service_step.specs.Causes.{IsRefusedFor}
 use Rattle.service_step.specs.Steps.{runs}
 use Rattle.service_step.specs.declared.state.Phase.TheVariants as phase
@@ -26,13 +26,13 @@ use Rattle.service_step.specs.State.{State}
 use Rattle.service_lawful.proofs.History.{history-calm, history-none, history-refused, state_after-append}
 use Rattle.service_lawful.proofs.Turned.{turned, turned-held, turned-reports}
 use Rattle.service_lawful.specs.History.{HasHistory}
-use Rattle.world_meaning.proofs.Calm.{IsAnswered, IsCalm, answered-invariant}
+use Rattle.world_meaning.proofs.Calm.{IsAnswered, answered-invariant}
 use Rattle.world_meaning.proofs.Refused.{IsCaller, caller-process, caller-runs, refused-for, wait-granted}
 use Rattle.world_meaning.proofs.Start.{starts-well, starts-fresh}
 use Rattle.world_meaning.proofs.Waits.{IsWaiting, wait-is, waits-invariant}
 use Rattle.world_meaning.specs.Invariant.{Invariant}
-use Rattle.world_meaning.specs.Law.{GoesWith, GoesWithEach, joined, IsServed, IsServedLawfully, IsCovered, IsCoveredCall, AreCovered}
-use Rattle.world_meaning.specs.StandsFor.{StandsFor, home_of, service_phase}
+use Rattle.world_meaning.specs.Law.{GoesWithEach, joined, IsServedLawfully, IsCovered, IsCoveredCall, AreCovered}
+use Rattle.world_meaning.specs.StandsFor.{home_of, service_phase}
 
 -- the service goes with an event, and what is true of every world is true afterwards
 pub record Goes (i : ℕ) (w : World) (s : State) (e : Event) : Type 0 where

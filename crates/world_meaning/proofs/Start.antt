@@ -1,11 +1,9 @@
 -- The world with which a run starts stands for the state with which the service starts, and what is true of every world is true of it.
-use Rattle.std.proofs.Common.{◌≡◌, ◌≢◌, ◌⊎◌, ◌↔◌, inl, inr, ℕ, zero, suc, ◌+◌, ◌<◌, ◌≤◌, ◌^◌, Bool, true, false, nat_eq, nat_lt, ◌&&◌, cond, List, [], ◌∷◌, length, All, Contains, Option, Some, None, is_some, slice_get, slice_index, get_or, refl, sym, ap, subst, ◌∙◌, arith, true≢false, lt-ltb, le-ltb, pow_pos}
+use Rattle.std.proofs.Common.{◌≡◌, ◌≢◌, ◌⊎◌, ◌↔◌, inl, inr, ℕ, ◌+◌, ◌<◌, ◌≤◌, ◌^◌, Bool, true, false, nat_eq, nat_lt, ◌&&◌, [], length, All, Contains, Some, None, is_some, slice_index, refl, sym, ap, subst, ◌∙◌, arith, lt-ltb, le-ltb, pow_pos}
 use Rattle.std.proofs.lemmas.Bool.Decides.{eqb_tells}
-use Rattle.std.proofs.lemmas.List.Elements.{All-nil, All-weaker, All-get_or}
-use Rattle.std.proofs.lemmas.Option.{slice_get_within}
+use Rattle.std.proofs.lemmas.List.Elements.{All-nil, All-get_or}
 use Rattle.charlotte_calls.specs.Names.{opposite}
 use Rattle.charlotte_calls.specs.Moving.{new_end}
-use Rattle.charlotte_calls.specs.Packets.{names_kernels_below}
 use Rattle.charlotte_calls.specs.Setting.{IsValid}
 use Rattle.charlotte_calls.specs.declared.names.EndId.{EndId}
 use Rattle.charlotte_calls.specs.declared.names.Pid.{Pid}
@@ -25,21 +23,25 @@ use Rattle.kernel_step.specs.Actions.{enclosed_of}
 use Rattle.kernel_step.specs.Rows.{is_here}
 use Rattle.kernel_step.specs.Start.{home, owned_from_start, wired}
 use Rattle.kernel_world.specs.World.{World, start}
-use Rattle.service_lawful.proofs.Fresh.{IsFresh, IsFreshEnd, fresh-consistent, fresh-inward, fresh-outward, fresh-noticed, fresh-sent, fresh-nowhere, fresh-phase, fresh-running, fresh-reports, fresh-lives}
+use Rattle.service_lawful.proofs.Fresh.{IsFresh, IsFreshEnd, fresh-consistent, fresh-outward, fresh-noticed, fresh-sent, fresh-nowhere, fresh-phase, fresh-running, fresh-reports}
 use Rattle.service_step.specs.Ends.{unmade, fresh, is_made, is_living, is_taken, matched_message}
-use Rattle.service_step.specs.Run.{start_state, new_processes, new_process, wired as served}
-use Rattle.service_step.specs.State.{State, Process}
+use Rattle.service_step.specs.Run.{start_state, wired as served}
+use Rattle.service_step.specs.State.{State}
 use Rattle.service_step.specs.declared.state.End.{End}
 use Rattle.service_step.specs.declared.state.Phase.TheVariants as phase
-use Rattle.service_step.specs.declared.state.Place.{Place}
 use Rattle.service_step.specs.declared.state.Place.TheVariants as place
-use Rattle.world_meaning.specs.Fields.{Stand, At, Flying, HasFields, IsHeard, IsHinted, IsNoMore, IsAsking, IsUnwantOf, IsUnserved, IsAskedAs, value_of}
-use Rattle.world_meaning.specs.Invariant.{IsOfSetting, NamesBelow, IsFew, AreMarked, AreCounted, IsHonest, AreAsked, AreCancelling, AreNamed, AreRight, IsServed, AreWanted, AreSentOnce, IsPacketRight, Invariant, is_unwanted_to, is_message_of, is_taken_of}
+use Rattle.world_meaning.specs.Fields.{Stand, At, Flying, HasFields, IsNoMore, IsUnserved, IsAskedAs, value_of}
+use Rattle.world_meaning.specs.Invariant.{IsOfSetting, NamesBelow, IsFew, IsHonest, AreRight, Invariant, is_unwanted_to, is_message_of, is_taken_of}
 use Rattle.world_meaning.specs.Packets.{Links, links_of, IsUnderWay, over_kernels, sum_over, one_if, how_many, values_for, values_of}
-use Rattle.world_meaning.specs.StandsFor.{StandsFor, AreLinksOf, IsEndOf, IsOwnedHere, IsInMessage, IsProcessOf, entry_at, standing}
-use Rattle.world_meaning.proofs.Ends.{opposite-twice}
+use Rattle.world_meaning.specs.StandsFor.{StandsFor, IsEndOf, IsOwnedHere, IsInMessage, IsProcessOf, entry_at, standing}
 use Rattle.world_meaning.proofs.Sums.{over-none, over-one, sum_over-none}
 use Rattle.world_meaning.proofs.Wired.{IsLoose, IsTied, IsLinked, AreWired, are-wired}
+
+-- the hint of an end that never moved
+hint-of : (m : MovingPicture) (e : EndId) (k j h : ℕ) → m ≡ new_end e k → m.hint ≡ (j, h) → (j ≡ k) × (h ≡ 0)
+hint-of m e k j h is hint =
+    let both : (j, h) ≡ (k, 0) = sym hint ∙ ap (λ (z : MovingPicture). z.hint) is in
+    (ap (λ (z : ℕ × ℕ). z.0) both, ap (λ (z : ℕ × ℕ). z.1) both)
 
 module _ (g : Setting) (valid : IsValid g) where
   abbrev world : World
@@ -264,10 +266,9 @@ module _ (g : Setting) (valid : IsValid g) where
               let one : entry_at w o.k (opposite e) ≡ entry_at w (home g x.q) (opposite e) = ap (λ z. entry_at w z (opposite e)) is.1 in
               let some : Some (new_end (opposite e) (home g o.x.q)) ≡ Some (new_end (opposite e) (home g x.p)) = ap value_of (sym its ∙ one ∙ mine) in
               let same : new_end (opposite e) (home g o.x.q) ≡ new_end (opposite e) (home g x.p) = cc in
-              let hinted_at : (j, h) ≡ (home g x.p, 0) = sym hint ∙ ap (λ (z : MovingPicture). z.hint) (o.is ∙ same) in
-              let hops : h ≡ 0 = ap (λ (z : ℕ × ℕ). z.1) hinted_at in
-              let site : j ≡ home g x.p = ap (λ (z : ℕ × ℕ). z.0) hinted_at in
-              (omega arith, λ z. site ∙ sym x.at)
+              let told = hint-of hinted.fields (opposite e) (home g x.p) j h (o.is ∙ same) hint in
+              let hops : h ≡ 0 = told.1 in
+              (omega arith, λ z. told.0 ∙ sym x.at)
           by (inr off) =
               absurd (let none : entry_at w o.k (opposite e) ≡ entry.Nothing = x.other.away o.k off.1 in
               let its : entry_at w o.k (opposite e) ≡ owned_from_start o.x.p (opposite e) (home g o.x.q) = o.x.entry_is in cc)

@@ -1,24 +1,16 @@
 -- A Wait that finds no report: the process waits, and no link changes.
-use Rattle.std.proofs.Common.{◌≡◌, ◌≢◌, ◌⊎◌, inl, inr, ℕ, ◌+◌, ◌<◌, ◌≤◌, Bool, true, false, nat_eq, not, cond, slice_index, List, [], ◌∷◌, length, Option, Some, None, refl, sym, ap, subst, ◌∙◌, arith, true≢false, eq-eqb}
+use Rattle.std.proofs.Common.{◌≡◌, ◌≢◌, ◌⊎◌, inl, inr, ℕ, ◌+◌, ◌<◌, Bool, true, false, nat_eq, not, cond, slice_index, List, [], ◌∷◌, length, None, refl, sym, ap, subst, ◌∙◌, eq-eqb}
 use Rattle.std.proofs.lemmas.Bool.Decides.{eqb_tells}
-use Rattle.charlotte_calls.specs.declared.calls.Answer.{Answer}
 use Rattle.charlotte_calls.specs.declared.calls.Call.TheVariants as call
 use Rattle.charlotte_calls.specs.declared.calls.Report.{Report}
 use Rattle.charlotte_calls.specs.declared.calls.ServiceStep.TheVariants as step
 use Rattle.charlotte_calls.specs.declared.names.EndId.{EndId}
 use Rattle.charlotte_calls.specs.declared.names.Pid.{Pid}
-use Rattle.charlotte_calls.specs.declared.picture.Picture.{Picture}
-use Rattle.end_table.specs.Table.{IsHereAnd}
-use Rattle.end_table.specs.declared.entry.Entry.TheVariants as entry
-use Rattle.end_table.specs.declared.entry.HereView.{HereView}
-use Rattle.end_table.specs.declared.entry.Holder.TheVariants as holder
-use Rattle.end_table.specs.declared.entry.Inward.TheVariants as kernel_inward
-use Rattle.kernel_step.specs.Actions.{is_withdrawing}
 use Rattle.kernel_step.specs.Calls.{refusal}
 use Rattle.kernel_step.specs.Kernel.{Kernel, Outcome, Process as KernelProcess, begins, call_step, closes, decides, has_report, join_answers, join_reports, next_stamp, performs, process_of, waits, without_answer}
 use Rattle.kernel_step.specs.Progress.{means}
 use Rattle.kernel_step.specs.declared.phase.Phase.TheVariants as kernel_phase
-use Rattle.kernel_world.specs.World.{World, Event, Calls, happens, outcome, adds_all}
+use Rattle.kernel_world.specs.World.{World, Event, Calls, happens, outcome}
 use Rattle.service_lawful.proofs.Turned.{turned, turned-consistent, turned-own, turned-other, turned-phase, turned-reports}
 use Rattle.service_step.specs.State.{State, Process}
 use Rattle.service_step.specs.declared.state.Phase.{Phase}
@@ -26,7 +18,7 @@ use Rattle.service_step.specs.declared.state.Phase.TheVariants as phase
 use Rattle.world_meaning.proofs.Calm.{AreRight-later, IsCalm, IsCalmWorld, calm-links, calm-setting, calm-world}
 use Rattle.world_meaning.specs.Invariant.{AreRight, Invariant, IsOfSetting}
 use Rattle.world_meaning.specs.Packets.{Links, links_of}
-use Rattle.world_meaning.specs.StandsFor.{AreLinksOf, IsProcessOf, StandsFor, home_of, service_phase}
+use Rattle.world_meaning.specs.StandsFor.{AreLinksOf, IsProcessOf, home_of}
 
 -- ---- p, which ran, is in a phase that is no Cancel
 

@@ -19,14 +19,14 @@ use Rattle.kernel_sound.specs.Sound.{IsSound, addressee}
 use Rattle.kernel_step.specs.Actions.{is_withdrawing}
 use Rattle.kernel_step.specs.Rows.{ends_in}
 use Rattle.kernel_world.specs.World.{World}
-use Rattle.service_step.specs.Ends.{is_made, is_destroyed, is_living, is_posted, is_taken, matched_message}
+use Rattle.service_step.specs.Ends.{is_made, is_living, is_posted, is_taken, matched_message}
 use Rattle.service_step.specs.State.{State}
 use Rattle.service_step.specs.declared.state.End.{End}
 use Rattle.service_step.specs.declared.state.Message.{Message}
 use Rattle.service_step.specs.declared.state.Outward.TheVariants as outward
 use Rattle.service_step.specs.declared.state.Phase.TheVariants as phase
 use Rattle.service_step.specs.declared.state.Place.TheVariants as place
-use Rattle.world_meaning.specs.Fields.{Stand, At, Flying, HasFields, IsHeard, IsNoMore, IsAsking, IsUnwantOf, IsUnserved, IsAskedAs}
+use Rattle.world_meaning.specs.Fields.{Stand, HasFields, IsHeard, IsNoMore, IsUnwantOf, IsUnserved, IsAskedAs}
 use Rattle.world_meaning.specs.Packets.{Links, links_of, IsUnderWay, Each, one_if, how_many}
 use Rattle.service_lawful.specs.Consistent.{is_open, IsConsistent}
 use Rattle.world_meaning.specs.StandsFor.{StandsFor, home_of, entry_at}
