@@ -1,6 +1,5 @@
 pub mod Sums
 pub mod Ends
-pub mod Lists
 pub mod Goes
 pub mod Rows
 pub mod Frame
