@@ -9,7 +9,7 @@ use Rattle.lynx_types.specs.declared.fault.TypeFault.TheVariants as faults
 
 -- the answer is this module, unless memory ran out
 abbrev pub GivesModule : ModuleTree → Result Checked TypeFault → Type 0
-GivesModule m (Ok checked) = module_tree checked.module ≡ m
+GivesModule m (Ok checked) = module_tree checked ≡ m
 GivesModule m (Err (faults.At place rule)) = ⊥
 GivesModule m (Err faults.NoMemory) = ⊤
 

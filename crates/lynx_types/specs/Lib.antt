@@ -1,4 +1,5 @@
 pub mod Parts
 pub mod Requests
 pub mod News
+pub mod WellTyped
 pub mod Answers

@@ -1,39 +1,44 @@
 //! Modules that break no rule.
 
-ghost use Rattle.std.specs.List.{AllByRecursion};
-ghost use Rattle.lynx_tree.specs.Grammar.{HasTokens, kinds_of};
-ghost use Rattle.lynx_tree.specs.Printing.{IsPrintable};
+ghost use Rattle.std.specs.Prelude.{◌≡◌};
 ghost use Rattle.lynx_tree.specs.Trees.{module_tree};
-ghost use Rattle.lynx_typing.specs.Modules.{IsWellTyped};
+ghost use Rattle.lynx_types.specs.WellTyped.{IsChecked};
 
 use lynx_tree::Module;
+use std::marker::Model;
 
-/// A module that breaks no typing rule, which `check` alone makes. It has a list of tokens by the grammar, and can be printed.
+/// A module that breaks no typing rule, which `check` alone makes. Contracts see it as the module.
 #[derive(Drop)]
 pub struct Checked<'a> {
-    module: Module<'a>,
-    pub ghost grammar: { HasTokens (module_tree module) },
-    pub ghost printable: { AllByRecursion IsPrintable (kinds_of (module_tree module)) },
-    pub ghost well_typed: { IsWellTyped (module_tree module) },
+    tree: Module<'a>,
+}
+
+impl<'a> Model for Checked<'a> {
+    ghost use Rattle.lynx_tree.specs.declared.module.Module.{Module};
+    ghost use Rattle.lynx_tree.specs.Trees.{module_tree};
+    ghost use Rattle.lynx_types.specs.WellTyped.{IsChecked};
+
+    ghost Value = { Module };
+
+    ghost view = { λ a. a.tree };
+
+    ghost invariant = { λ a. IsChecked (module_tree a.tree) };
 }
 
 impl<'a> Checked<'a> {
-    ghost use Rattle.std.specs.Prelude.{◌≡◌};
-
     /// The module, of which this was found.
-    pub(crate) fn new(module: Module<'a>) -> Checked<'a>
-        requires grammar { HasTokens (module_tree module.entry) }
-        requires printable { AllByRecursion IsPrintable (kinds_of (module_tree module.entry)) }
-        requires well_typed { IsWellTyped (module_tree module.entry) }
-        ensures { result.module ≡ module.entry }
+    pub(crate) fn new(tree: Module<'a>) -> Checked<'a>
+        requires { IsChecked (module_tree tree.entry) }
+        ensures { result ≡ tree.entry }
     {
-        Checked { module }
+        Checked { tree }
     }
 
-    /// The module.
+    /// The module. It has a list of tokens by the grammar, can be printed, and breaks no rule.
     pub fn module(&self) -> &Module<'a>
-        ensures { result.now ≡ self.now.module }
+        ensures module { result.now ≡ self.now }
+        ensures checked { IsChecked (module_tree self.now) }
     {
-        &self.module
+        &self.tree
     }
 }

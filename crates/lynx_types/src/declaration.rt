@@ -64,13 +64,13 @@ fn declared<'m>(
     walk: &mut Walk,
     names: &mut Names<'m>,
     rule: u8,
-    name: &IdentRef<'m>,
+    name: &'m IdentRef,
     meaning: Named<'m>,
 ) -> Result<(), NoMemory>
     requires { walk.old.at + 2 < 4294967296 }
     ensures at { OnOk result (walk.new.at ≡ walk.old.at + 2) }
-    ensures first { OnOk result (walk.new.first ≡ first_with walk.old.first (news_faults rule (look names.old) (record { place = walk.old.at + 1; name = name.now; meaning = meaning_of meaning } ∷ []))) }
-    ensures names { OnOk result ((q : List ℕ) → look names.new q ≡ then_declared (look names.old) (record { place = walk.old.at + 1; name = name.now; meaning = meaning_of meaning } ∷ []) q) }
+    ensures first { OnOk result (walk.new.first ≡ first_with walk.old.first (news_faults rule (look names.old) (record { place = walk.old.at + 1; name = name.now; meaning = meaning_of meaning.entry } ∷ []))) }
+    ensures names { OnOk result ((q : List ℕ) → look names.new q ≡ then_declared (look names.old) (record { place = walk.old.at + 1; name = name.now; meaning = meaning_of meaning.entry } ∷ []) q) }
 {
     walk.skip(1);
     let new = names.declare(name, meaning)?;
@@ -84,7 +84,7 @@ fn op<'m>(
     alloc: Global,
     walk: &mut Walk,
     names: &mut Names<'m>,
-    op: &'m OpDecl<'m>,
+    op: &'m OpDecl,
 ) -> Result<(), NoMemory>
     requires { walk.old.at + op_size (op_tree op.now) < 4294967296 }
     ensures at { OnOk result (walk.new.at ≡ walk.old.at + op_size (op_tree op.now)) }
@@ -112,7 +112,7 @@ pub(crate) fn ops<'m>(
     alloc: Global,
     walk: &mut Walk,
     names: &mut Names<'m>,
-    ops: &'m [OpDecl<'m>],
+    ops: &'m [OpDecl],
 ) -> Result<(), NoMemory>
     requires { walk.old.at + length (flat_map op_marks (map op_tree ops.now)) < 4294967296 }
     ensures at { OnOk result (walk.new.at ≡ walk.old.at + length (flat_map op_marks (map op_tree ops.now))) }
@@ -130,7 +130,7 @@ fn var<'m>(
     walk: &mut Walk,
     names: &mut Names<'m>,
     rule: u8,
-    var: &VarDecl<'m>,
+    var: &'m VarDecl,
 ) -> Result<(), NoMemory>
     requires { walk.old.at + var_size (var_tree var.now) < 4294967296 }
     ensures at { OnOk result (walk.new.at ≡ walk.old.at + var_size (var_tree var.now)) }
@@ -149,7 +149,7 @@ pub(crate) fn vars<'m>(
     walk: &mut Walk,
     names: &mut Names<'m>,
     rule: u8,
-    vars: &[VarDecl<'m>],
+    vars: &'m [VarDecl],
 ) -> Result<(), NoMemory>
     requires { walk.old.at + length (vars_marks (map var_tree vars.now)) < 4294967296 }
     ensures at { OnOk result (walk.new.at ≡ walk.old.at + length (vars_marks (map var_tree vars.now))) }
@@ -166,7 +166,7 @@ pub(crate) fn vars<'m>(
 pub(crate) fn params<'m>(
     walk: &mut Walk,
     names: &mut Names<'m>,
-    params: &[VarDecl<'m>],
+    params: &'m [VarDecl],
 ) -> Result<(), NoMemory>
     requires { walk.old.at + length (flat_map (var_marks keywords.Param) (map var_tree params.now)) < 4294967296 }
     ensures at { OnOk result (walk.new.at ≡ walk.old.at + length (flat_map (var_marks keywords.Param) (map var_tree params.now))) }

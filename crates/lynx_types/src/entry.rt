@@ -28,7 +28,7 @@ use std::alloc::Global;
 pub(crate) fn declare_entries<'m>(
     alloc: Global,
     names: &mut Names<'m>,
-    entries: &[EntryDecl<'m>],
+    entries: &'m [EntryDecl],
 ) -> Result<Vec<bool>, NoMemory>
     ensures news { (at : ℕ) → IfOk result (λ news. news.items ≡ are_new (look names.old) (each_at entry_size entry_named at (map entry_tree entries.now))) }
     ensures names { (at : ℕ) (q : List ℕ) → OnOk result (look names.new q ≡ then_declared (look names.old) (each_at entry_size entry_named at (map entry_tree entries.now)) q) }
@@ -67,7 +67,7 @@ fn parameter_type(types: &[TypeName]) -> TypeName {
 fn parameters<'m>(
     walk: &mut Walk,
     names: &mut Names<'m>,
-    parameters: &[IdentRef<'m>],
+    parameters: &'m [IdentRef],
     types: &[TypeName],
 ) -> Result<(), NoMemory>
     requires { walk.old.at + length (names_marks 0 parameters.now) < 4294967296 }
@@ -95,7 +95,7 @@ fn parameters<'m>(
 fn locals<'m>(
     alloc: Global,
     walk: &mut Walk,
-    entry: &EntryDecl<'m>,
+    entry: &'m EntryDecl,
     types: &[TypeName],
 ) -> Result<Names<'m>, NoMemory>
     requires { walk.old.at + length (names_marks 0 (entry_tree entry.now).parameters) + length (vars_marks (entry_tree entry.now).vars) < 4294967296 }
@@ -113,23 +113,20 @@ fn locals<'m>(
 fn entry<'m>(
     alloc: Global,
     walk: &mut Walk,
-    module: &Names<'m>,
+    outside: &Names<'m>,
     new: bool,
-    entry: &'m EntryDecl<'m>,
+    entry: &'m EntryDecl,
 ) -> Result<(), NoMemory>
     requires { walk.old.at + entry_size (entry_tree entry.now) < 4294967296 }
     ensures at { OnOk result (walk.new.at ≡ walk.old.at + entry_size (entry_tree entry.now)) }
-    ensures first { OnOk result (walk.new.first ≡ first_with walk.old.first (demand 1 (walk.old.at + 1) new ++ entry_faults (look module.now) walk.old.at (entry_tree entry.now))) }
+    ensures first { OnOk result (walk.new.first ≡ first_with walk.old.first (demand 1 (walk.old.at + 1) new ++ entry_faults (look outside.now) walk.old.at (entry_tree entry.now))) }
 {
-    let meaning = module.look(&entry.op);
+    let meaning = outside.look(&entry.op);
     let arguments = arguments_of(meaning);
     heading(walk, new, entry.parameters.len(), arguments);
     let locals = locals(alloc, walk, entry, known(arguments))?;
     walk.skip(1);
-    let scope = Scope {
-        locals: Some(&locals),
-        module,
-    };
+    let scope = Scope::inside(&locals, outside);
     statements(
         walk,
         &scope,
@@ -144,17 +141,17 @@ fn entry<'m>(
 pub(crate) fn entries<'m>(
     alloc: Global,
     walk: &mut Walk,
-    module: &Names<'m>,
+    outside: &Names<'m>,
     news: &[bool],
-    entries: &'m [EntryDecl<'m>],
+    entries: &'m [EntryDecl],
 ) -> Result<(), NoMemory>
     requires each { length news.now ≡ length entries.now }
     requires fits { walk.old.at + length (flat_map entry_marks (map entry_tree entries.now)) < 4294967296 }
     ensures at { OnOk result (walk.new.at ≡ walk.old.at + length (flat_map entry_marks (map entry_tree entries.now))) }
-    ensures first { OnOk result (walk.new.first ≡ first_with walk.old.first (told_faults 1 news.now (each_at entry_size entry_named walk.old.at (map entry_tree entries.now)) ++ each_at entry_size (entry_faults (look module.now)) walk.old.at (map entry_tree entries.now))) }
+    ensures first { OnOk result (walk.new.first ≡ first_with walk.old.first (told_faults 1 news.now (each_at entry_size entry_named walk.old.at (map entry_tree entries.now)) ++ each_at entry_size (entry_faults (look outside.now)) walk.old.at (map entry_tree entries.now))) }
 {
     for (new, item) in news.iter().zip(entries) {
-        entry(alloc, walk, module, *new, item)?;
+        entry(alloc, walk, outside, *new, item)?;
     }
     Ok(())
 }

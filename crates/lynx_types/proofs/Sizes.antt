@@ -1,0 +1,64 @@
+-- How many tokens statements and lists in brackets have: their nesting does not matter.
+use Rattle.std.proofs.Common.{◌≡◌, ℕ, suc, ◌+◌, ◌*◌, ◌<◌, List, [], ◌∷◌, ◌++◌, length, map, refl, ap, arith, length-append}
+use Rattle.std.specs.List.{flat_map}
+use Rattle.lynx_lexer.specs.declared.sign.Sign.TheVariants as signs
+use Rattle.lynx_tree.specs.declared.expression.Expr as expr
+use Rattle.lynx_tree.specs.Trees.{ExprTrees, StmtTree, StmtTrees, HandlerTrees, expr_list}
+use Rattle.lynx_tree.specs.Trees as trees
+use Rattle.lynx_tree.specs.Grammar.{Mark, mark, name, chain_marks, exprs_marks, names_marks, stmt_marks, stmts_marks, handlers_marks}
+use Rattle.lynx_typing.proofs.Members.{bools_left}
+use Rattle.lynx_typing.proofs.Sizes.{expr-size, chain-size, behind-size}
+
+-- ---- names in brackets
+
+more_names : (d : ℕ) (ns : List (List ℕ)) → length (flat_map (λ next. mark d signs.Comma ∷ next) (map (λ n. name d n ∷ []) ns)) ≡ 2 * length ns
+more_names d [] = refl
+more_names d (n ∷ ns) = omega (arith, length-append {A = Mark}, more_names d ns)
+
+pub names-size : (d : ℕ) (ns : List (List ℕ)) → length (names_marks d ns) ≡ length (names_marks 0 ns)
+names-size d [] = refl
+names-size d (n ∷ ns) = omega (arith, length-append {A = Mark}, more_names (suc d) ns, more_names 1 ns)
+
+-- where there is a name, each takes a sign behind it
+pub some_names : (ns : List (List ℕ)) → 0 < length ns → length (names_marks 0 ns) ≡ 1 + 2 * length ns
+some_names [] h = absurd (omega (arith, h))
+some_names (n ∷ ns) h = omega (arith, length-append {A = Mark}, more_names 1 ns)
+
+-- ---- values in brackets
+
+pub exprs-size : (d : ℕ) (es : ExprTrees) → length (exprs_marks d es) ≡ length (exprs_marks 0 es)
+exprs-size d es = omega (arith, length-append {A = Mark}, chain-size (suc d) (mark (suc d) signs.Comma) (mark 0 signs.Comma) es, chain-size 1 (mark 1 signs.Comma) (mark 0 signs.Comma) es)
+
+pub some_exprs : (es : List expr.Expr) → 0 < length es → length (exprs_marks 0 (expr_list es)) ≡ 1 + bools_left es
+some_exprs [] h = absurd (omega (arith, h))
+some_exprs (e ∷ es) h = omega (arith, length-append {A = Mark}, expr-size 1 (trees.expr_tree e), behind-size 1 (mark 1 signs.Comma) (mark 0 signs.Comma) (expr_list es), behind-size 0 (mark 0 signs.Comma) (mark 0 signs.Comma) (expr_list es))
+
+-- ---- statements
+
+mutual
+  pub stmt-size : (d : ℕ) (s : StmtTree) → length (stmt_marks d s) ≡ length (stmt_marks 0 s)
+  stmt-size d (trees.Assign n value) = omega (arith, expr-size d value)
+  stmt-size d (trees.AssignMember n index value) = omega (arith, length-append {A = Mark}, expr-size (suc d) index, expr-size 1 index, expr-size d value)
+  stmt-size d (trees.If condition then) = omega (arith, length-append {A = Mark}, expr-size d condition, stmts-size d then)
+  stmt-size d (trees.IfElse condition then otherwise) = omega (arith, length-append {A = Mark}, expr-size d condition, stmts-size d then, stmts-size d otherwise)
+  stmt-size d (trees.While condition body) = omega (arith, length-append {A = Mark}, expr-size d condition, stmts-size d body)
+  stmt-size d (trees.Write value) = omega (arith, expr-size d value)
+  stmt-size d (trees.Await condition) = omega (arith, expr-size d condition)
+  stmt-size d trees.Stop = refl
+  stmt-size d (trees.Raise n) = refl
+  stmt-size d (trees.New first second) = refl
+  stmt-size d (trees.Destroy n) = refl
+  stmt-size d (trees.Bind link entry) = refl
+  stmt-size d (trees.Unbind link entry) = refl
+  stmt-size d (trees.Connect op link values results) = omega (arith, length-append {A = Mark}, exprs-size d values, names-size d results)
+  stmt-size d (trees.Accept op link names body) = omega (arith, length-append {A = Mark}, names-size d names, stmts-size d body)
+  stmt-size d (trees.Reply values) = omega (arith, exprs-size d values)
+  stmt-size d (trees.Try body handlers) = omega (arith, length-append {A = Mark}, stmts-size d body, handlers-size d handlers)
+
+  pub stmts-size : (d : ℕ) (ss : StmtTrees) → length (stmts_marks d ss) ≡ length (stmts_marks 0 ss)
+  stmts-size d trees.no_stmts = refl
+  stmts-size d (trees.more_stmts s rest) = omega (arith, length-append {A = Mark}, stmt-size (suc d) s, stmt-size 1 s, stmts-size d rest)
+
+  pub handlers-size : (d : ℕ) (hs : HandlerTrees) → length (handlers_marks d hs) ≡ length (handlers_marks 0 hs)
+  handlers-size d trees.no_handlers = refl
+  handlers-size d (trees.more_handlers n body rest) = omega (arith, length-append {A = Mark}, stmts-size d body, handlers-size d rest)
