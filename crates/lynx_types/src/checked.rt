@@ -15,10 +15,17 @@ pub struct Checked<'a> {
 
 impl<'a> Model for Checked<'a> {
     ghost use Rattle.lynx_tree.specs.declared.module.Module.{Module};
-    ghost use Rattle.lynx_tree.specs.Trees.{module_tree};
-    ghost use Rattle.lynx_types.specs.WellTyped.{IsChecked};
+    ghost use Rattle.lynx_tree.specs.contracts.statement.Stmt as statements;
+    ghost use Rattle.std.specs.Coded.{codes};
+    ghost use Rattle.std.specs.Prelude.{[]};
+    ghost use mir.Syntax.{named};
 
     ghost Value = { Module };
+
+    ghost coded = { Prim.hlevel (codes, (statements.the_row (record { mir = named 0; lft = [] })).coded) };
+
+    ghost use Rattle.lynx_tree.specs.Trees.{module_tree};
+    ghost use Rattle.lynx_types.specs.WellTyped.{IsChecked};
 
     ghost view = { λ a. a.tree };
 
@@ -28,7 +35,7 @@ impl<'a> Model for Checked<'a> {
 impl<'a> Checked<'a> {
     /// The module, of which this was found.
     pub(crate) fn new(tree: Module<'a>) -> Checked<'a>
-        requires { IsChecked (module_tree tree.entry) }
+        requires { IsChecked (module_tree tree) }
         ensures { result ≡ tree.entry }
     {
         Checked { tree }

@@ -44,9 +44,9 @@ fn first_fault(alloc: Global, tree: &Module) -> Result<Option<Found>, NoMemory>
 /// Tries the 24 typing rules on a module, and answers it as one that breaks none; else the first place at which a rule fails, and the least
 /// rule that fails there.
 pub fn check<'a>(alloc: Global, tree: Module<'a>) -> Result<Checked<'a>, TypeFault>
-    requires grammar { HasTokens (module_tree tree.entry) }
-    requires printable { AllByRecursion IsPrintable (kinds_of (module_tree tree.entry)) }
-    requires fits { length (module_marks (module_tree tree.entry)) < 4294967296 }
+    requires grammar { HasTokens (module_tree tree) }
+    requires printable { AllByRecursion IsPrintable (kinds_of (module_tree tree)) }
+    requires fits { length (module_marks (module_tree tree)) < 4294967296 }
 
     // A module is found to break no rule exactly where it breaks none.
     ensures same { IfOk result (λ checked. checked ≡ tree.entry) }
