@@ -25,7 +25,7 @@ value-split rule s i a es e ts c lt is at_c =
 next_named : (rule : ℕ) (s : Scope) (a : ℕ) (n : List ℕ) (ns : List (List ℕ)) (ts : List TypeName)
     → names_faults (wants rule) s a (n ∷ ns) ts ≡ typed_name rule s a n ts ++ names_faults (wants rule) s (a + 2) ns (drop 1 ts)
 next_named rule s a n ns [] = refl
-next_named rule s a n ns (t ∷ ts) = sym (append_assoc (is_variable a (s n)) (wants rule t a (type_of_variable (s n))) (names_faults (wants rule) s (a + 2) ns ts))
+next_named rule s a n ns (t ∷ ts) = refl
 
 pub name-split : (rule : ℕ) (s : Scope) (i a : ℕ) (ns : List (List ℕ)) (n : List ℕ) (ts : List TypeName) (c : ℕ) → i < length ns → n ≡ get_or ns i n → c ≡ a + 2
     → names_faults (wants rule) s a (drop i ns) ts ≡ typed_name rule s a n ts ++ names_faults (wants rule) s c (drop (i + 1) ns) (drop 1 ts)
