@@ -1,12 +1,12 @@
 -- The next item of a list in brackets, and those behind it.
-use Rattle.std.proofs.Common.{◌≡◌, ℕ, ◌+◌, ◌*◌, ◌<◌, List, [], ◌∷◌, ◌++◌, length, drop, get_or, refl, sym, ap, ◌∙◌, append_assoc, arith}
+use Rattle.std.proofs.Common.{◌≡◌, ℕ, ◌+◌, ◌<◌, List, [], ◌∷◌, ◌++◌, length, drop, get_or, refl, sym, ap, ◌∙◌}
 use Rattle.lynx_tree.specs.declared.declaration.TypeName.{TypeName}
 use Rattle.lynx_tree.specs.declared.expression.Expr as expr
 use Rattle.lynx_tree.specs.Trees.{ExprTree, ExprTrees, expr_tree, expr_list}
 use Rattle.lynx_tree.specs.Trees as trees
 use Rattle.lynx_typing.specs.Expressions.{expr_size, values_faults}
-use Rattle.lynx_typing.specs.Names.{Scope, type_of_variable}
-use Rattle.lynx_typing.specs.Rules.{Fault, wants, is_variable}
+use Rattle.lynx_typing.specs.Names.{Scope}
+use Rattle.lynx_typing.specs.Rules.{wants}
 use Rattle.lynx_typing.specs.Statements.{names_faults}
 use Rattle.lynx_typing.proofs.Members.{at_place}
 use Rattle.lynx_types.specs.Parts.{typed_value, typed_name}

@@ -6,7 +6,7 @@ use Rattle.lynx_lexer.specs.declared.sign.Sign.TheVariants as signs
 use Rattle.lynx_tree.specs.declared.expression.Expr as expr
 use Rattle.lynx_tree.specs.Trees.{ExprTree, ExprTrees, StmtTree, StmtTrees, HandlerTrees, expr_list}
 use Rattle.lynx_tree.specs.Trees as trees
-use Rattle.lynx_tree.specs.Grammar.{Mark, mark, word, name, expr_marks, chain_marks, behind_marks, exprs_marks, names_marks, accept_marks, stmt_marks, stmts_marks, handlers_marks}
+use Rattle.lynx_tree.specs.Grammar.{Mark, mark, word, name, expr_marks, behind_marks, exprs_marks, names_marks, accept_marks, stmt_marks, stmts_marks, handlers_marks}
 use Rattle.lynx_typing.proofs.Members.{bools_left}
 use Rattle.lynx_typing.proofs.Sizes.{expr-size, chain-size, behind-size}
 

@@ -1,4 +1,4 @@
-use Rattle.std.proofs.Common.{rules, ◌≡◌, ◌+◌, ◌<◌, length, drop, sym, ◌∙◌, arith}
+use Rattle.std.proofs.Common.{◌+◌, drop, sym, ◌∙◌, arith}
 use Rattle.std.proofs.lemmas.Bool.{eqb-false}
 use Rattle.lynx_typing.specs.Meanings.{scope_of}
 use Rattle.lynx_typing.specs.Progress.{first_with}

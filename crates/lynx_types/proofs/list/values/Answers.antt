@@ -1,4 +1,4 @@
-use Rattle.std.proofs.Common.{rules, ◌≡◌, ◌+◌, ◌<◌, length, drop, sym, ◌∙◌, arith}
+use Rattle.std.proofs.Common.{◌+◌, drop, sym, ◌∙◌, arith}
 use Rattle.std.proofs.lemmas.Bool.{eqb-false}
 use Rattle.lynx_tree.specs.Trees.{expr_tree, expr_list}
 use Rattle.lynx_typing.specs.Expressions.{values_faults}
