@@ -1,5 +1,5 @@
 -- What a walk over the parts of a statement says of it, where others stand inside.
-use Rattle.std.proofs.Common.{◌≡◌, ℕ, ◌+◌, ◌<◌, ◌≤◌, List, [], ◌∷◌, ◌++◌, Option, Some, None, length, drop, get_or, refl, sym, ap, ◌∙◌, arith, length-append}
+use Rattle.std.proofs.Common.{◌≡◌, ℕ, ◌+◌, ◌<◌, ◌≤◌, List, [], ◌∷◌, ◌++◌, Option, Some, None, length, drop, get_or, sym, ap, ◌∙◌, arith, length-append}
 use Rattle.std.specs.Global.{Vec, Box}
 use Rattle.lynx_lexer.specs.declared.keyword.Keyword.TheVariants as keywords
 use Rattle.lynx_lexer.specs.declared.sign.Sign.TheVariants as signs
@@ -56,8 +56,12 @@ if-size c then = omega (arith, length-append (expr_marks 0 c) (word 0 keywords.T
 
 pub if_else-size : (c : ExprTree) (then otherwise : StmtTrees) → length (stmt_marks 0 (trees.IfElse c then otherwise)) ≡ expr_size c + stmts_size then + stmts_size otherwise + 4
 if_else-size c then otherwise =
-    omega (arith, length-append (expr_marks 0 c) (word 0 keywords.Then ∷ (stmts_marks 0 then ++ word 0 keywords.Else ∷ (stmts_marks 0 otherwise ++ word 0 keywords.End ∷ []))),
-    length-append (stmts_marks 0 then) (word 0 keywords.Else ∷ (stmts_marks 0 otherwise ++ word 0 keywords.End ∷ [])), length-append (stmts_marks 0 otherwise) (word 0 keywords.End ∷ []))
+    omega (
+      arith,
+      length-append (expr_marks 0 c) (word 0 keywords.Then ∷ (stmts_marks 0 then ++ word 0 keywords.Else ∷ (stmts_marks 0 otherwise ++ word 0 keywords.End ∷ []))),
+      length-append (stmts_marks 0 then) (word 0 keywords.Else ∷ (stmts_marks 0 otherwise ++ word 0 keywords.End ∷ [])),
+      length-append (stmts_marks 0 otherwise) (word 0 keywords.End ∷ []),
+    )
 
 pub while-size : (c : ExprTree) (body : StmtTrees) → length (stmt_marks 0 (trees.While c body)) ≡ expr_size c + stmts_size body + 3
 while-size c body = omega (arith, length-append (expr_marks 0 c) (word 0 keywords.Do ∷ (stmts_marks 0 body ++ word 0 keywords.End ∷ [])), length-append (stmts_marks 0 body) (word 0 keywords.End ∷ []))

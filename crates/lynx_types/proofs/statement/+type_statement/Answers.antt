@@ -1,5 +1,4 @@
-use Rattle.std.proofs.Common.{rules, ◌≡◌, ◌+◌, ◌<◌, ◌++◌, length, drop, subst, refl, sym, ap, ◌∙◌, arith}
-use Rattle.lynx_tree.specs.declared.statement.Stmt.TheViews.{the_lemmas}
+use Rattle.std.proofs.Common.{◌≡◌, ◌+◌, ◌<◌, ◌++◌, length, drop, subst, refl, sym, ap, ◌∙◌, arith}
 use Rattle.lynx_tree.specs.Grammar.{stmt_marks}
 use Rattle.lynx_tree.specs.Trees.{StmtTree, expr_tree, stmt_tree, stmt_list, handler_list, else_list}
 use Rattle.lynx_tree.specs.Trees as trees
@@ -24,7 +23,7 @@ choice-statements-requires-in-Some t c =
     let e = expr_tree c.args.test.now in
     let b = stmt_list c.args.then.now in
     let is : choice_tree e b (else_list c.args.otherwise.now) ≡ trees.IfElse e b (stmt_list c.deref.result.now) =
-        ap (λ o. choice_tree e b (else_list o)) c.in-Some.is ∙ ap (λ xs. trees.IfElse e b (stmt_list xs)) (sym c.deref.ensures.value) in
+    ap (λ o. choice_tree e b (else_list o)) c.in-Some.is ∙ ap (λ xs. trees.IfElse e b (stmt_list xs)) (sym c.deref.ensures.value) in
     (omega (arith, ap (λ (x : StmtTree). length (stmt_marks 0 x)) is, if_else-size e b (stmt_list c.deref.result.now), c.decreases), omega (arith, ap (λ (x : StmtTree). length (stmt_marks 0 x)) is, if_else-size e b (stmt_list c.deref.result.now)))
 
 pub choice-returns-in-Some-clause-first : goal.choice-returns-in-Some-clause-first
@@ -36,7 +35,7 @@ choice-returns-in-Some-clause-first t c =
     let b = stmt_list c.args.then.now in
     let d = stmt_list c.deref.result.now in
     let is : choice_tree e b (else_list c.args.otherwise.now) ≡ trees.IfElse e b d =
-        ap (λ o. choice_tree e b (else_list o)) c.in-Some.is ∙ ap (λ xs. trees.IfElse e b (stmt_list xs)) (sym c.deref.ensures.value) in
+    ap (λ o. choice_tree e b (else_list o)) c.in-Some.is ∙ ap (λ xs. trees.IfElse e b (stmt_list xs)) (sym c.deref.ensures.value) in
     stmt_first (trees.IfElse e b d) (choice_tree e b (else_list c.args.otherwise.now)) is s r a c.args.walk.now.first c.skip-in-Some.new.self.first
     (c.skip-in-Some.ensures.first
     ∙ if_else_first s r a e b d c.skip.new.self.at c.skip-2.new.self.at c.args.walk.now.first c.condition.new.walk.first c.statements.new.walk.first c.statements-in-Some.new.walk.first (omega arith) (omega arith) c.condition.ensures.first
