@@ -1,6 +1,7 @@
 -- Types and declarations, one and those behind it.
 use Rattle.std.proofs.Common.{◌≡◌, ℕ, suc, ◌+◌, ◌<◌, List, [], ◌∷◌, ◌++◌, Option, length, map, drop, get_or, refl, sym, ap, ◌∙◌, append_assoc, arith, length-append}
 use Rattle.std.specs.List.{flat_map}
+use Rattle.std.proofs.lemmas.List.{drop_more}
 use Rattle.lynx_lexer.specs.declared.sign.Sign.TheVariants as signs
 use Rattle.lynx_tree.specs.declared.declaration.TypeName.{TypeName}
 use Rattle.lynx_tree.specs.declared.declaration.TypeName.TheVariants as types
@@ -32,26 +33,35 @@ types_left (t ∷ ts) = length (type_marks 0 t) + 1 + types_left ts
 
 more_types : (ts : List TypeName) → length (flat_map (λ next. mark 1 signs.Comma ∷ next) (map (type_marks 1) ts)) ≡ types_left ts
 more_types [] = refl
-more_types (t ∷ ts) = omega (arith, length-append {A = Mark}, type-size 1 t, more_types ts)
+more_types (t ∷ ts) = omega (arith, length-append (type_marks 1 t) (flat_map (λ next. mark 1 signs.Comma ∷ next) (map (type_marks 1) ts)), type-size 1 t, more_types ts)
+
+in_brackets : (xs ys : List Mark) (a b : Mark) → length (a ∷ ((xs ++ ys) ++ b ∷ [])) ≡ 2 + length xs + length ys
+in_brackets xs ys a b = omega (arith, length-append {A = Mark})
 
 -- where there is a type, each takes a sign behind it
 pub some_types : (ts : List TypeName) → 0 < length ts → length (types_marks ts) ≡ 1 + types_left ts
 some_types [] h = absurd (omega (arith, h))
-some_types (t ∷ ts) h = omega (arith, length-append {A = Mark}, type-size 1 t, more_types ts)
+some_types (t ∷ ts) h = in_brackets (type_marks 1 t) (flat_map (λ next. mark 1 signs.Comma ∷ next) (map (type_marks 1) ts)) _ _ ∙ omega (arith, type-size 1 t, more_types ts)
 
-pub next_type : (ts : List TypeName) (i : ℕ) (t : TypeName) → i < length ts → t ≡ get_or ts i t → types_left (drop i ts) ≡ length (type_marks 0 t) + 1 + types_left (drop (i + 1) ts)
-next_type ts i t lt is = ap types_left (at_place ts i t lt is)
+from_place : {X : Type 0} (xs : List X) (i : ℕ) (d x : X) → i < length xs → x ≡ get_or xs i d → drop i xs ≡ x ∷ drop (i + 1) xs
+from_place xs i d x lt is = drop_more xs i d lt ∙ (λ j. sym is j ∷ drop (i + 1) xs)
 
-pub type-split : (ts : List TypeName) (i : ℕ) (t : TypeName) (a b : ℕ) → i < length ts → t ≡ get_or ts i t → b ≡ a + length (type_marks 0 t)
+pub next_type : (ts : List TypeName) (i : ℕ) (d t : TypeName) → i < length ts → t ≡ get_or ts i d → types_left (drop i ts) ≡ length (type_marks 0 t) + 1 + types_left (drop (i + 1) ts)
+next_type ts i d t lt is = ap types_left (from_place ts i d t lt is)
+
+pub type-split : (ts : List TypeName) (i : ℕ) (d t : TypeName) (a b : ℕ) → i < length ts → t ≡ get_or ts i d → b ≡ a + length (type_marks 0 t)
     → types_faults a (drop i ts) ≡ type_faults a t ++ types_faults (b + 1) (drop (i + 1) ts)
-type-split ts i t a b lt is at_b =
-    ap (types_faults a) (at_place ts i t lt is)
+type-split ts i d t a b lt is at_b =
+    ap (types_faults a) (from_place ts i d t lt is)
     ∙ ap (λ n. type_faults a t ++ types_faults n (drop (i + 1) ts)) (omega (arith, at_b))
 
 -- ---- an operation
 
+two_lists : (xs ys : List Mark) (a b c d : Mark) → length (a ∷ b ∷ (xs ++ c ∷ (ys ++ d ∷ []))) ≡ 4 + length xs + length ys
+two_lists xs ys a b c d = omega (arith, length-append {A = Mark})
+
 pub op-size : (op : OpTree) → op_size op ≡ 4 + length (types_marks op.arguments) + length (types_marks op.results)
-op-size op = omega (arith, length-append {A = Mark})
+op-size op = two_lists (types_marks op.arguments) (types_marks op.results) _ _ _ _
 
 pub op_first : (a b c : ℕ) (ts us : List TypeName) (o o1 o2 o3 o4 o5 : Option Fault) (news few fits : List Fault) → b ≡ a + 3 → c ≡ a + length (types_marks ts) + 4
     → o1 ≡ first_with o news → o2 ≡ first_with o1 few → o3 ≡ first_with o2 fits → o4 ≡ first_with o3 (types_faults b ts) → o5 ≡ first_with o4 (types_faults c us)
