@@ -1,4 +1,5 @@
 use Rattle.std.proofs.Common.{rules, ◌≡◌, ◌+◌, ◌++◌, slice_index_or, refl, sym, ap, ◌∙◌, arith, drop, length}
+use Rattle.std.proofs.lemmas.Grind.{common_steps}
 use Rattle.lynx_tree.specs.declared.declaration.TypeName.TheVariants as types
 use Rattle.lynx_tree.specs.Grammar.{type_marks}
 use Rattle.lynx_typing.specs.Modules.{type_faults, types_faults}
@@ -32,7 +33,7 @@ loop-kind-preserved c =
 
 pub returns-clause-at : goal.returns-clause-at
 returns-clause-at c =
-    omega (arith, some_types c.args.types.now (omega arith), c.loop-kind.invariant.at, none_left types_left c.args.types.now c.loop-kind.kind-index c.loop-kind-test.false)
+    omega (arith, some_types c.args.types.now (grind (arith, common_steps, c.is_empty.ensures, c.if-is_empty.false, c.if-is_empty.ensures)), c.loop-kind.invariant.at, none_left types_left c.args.types.now c.loop-kind.kind-index c.loop-kind-test.false)
 
 pub returns-clause-first : goal.returns-clause-first
 returns-clause-first c =
