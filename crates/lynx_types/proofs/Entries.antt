@@ -1,13 +1,15 @@
 -- Entries: their parameters, their locals, and one entry and those behind it.
-use Rattle.std.proofs.Common.{◌≡◌, ℕ, ◌+◌, ◌*◌, ◌<◌, List, [], ◌∷◌, ◌++◌, Bool, not, Option, is_some, length, map, drop, get_or, refl, sym, ap, ◌∙◌, append_assoc, append_nil, arith, length-append}
+use Rattle.std.proofs.Common.{◌≡◌, ℕ, ◌+◌, ◌*◌, ◌<◌, List, [], ◌∷◌, ◌++◌, Bool, not, Option, Some, cond, is_some, length, map, drop, get_or, refl, sym, ap, ◌∙◌, append_assoc, append_nil, arith, length-append}
 use Rattle.std.proofs.lemmas.List.{drop_more}
 use Rattle.lynx_lexer.specs.declared.keyword.Keyword.TheVariants as keywords
 use Rattle.lynx_lexer.specs.declared.sign.Sign.TheVariants as signs
 use Rattle.lynx_tree.specs.declared.declaration.TypeName.{TypeName}
 use Rattle.lynx_tree.specs.Grammar.{Mark, word, name, mark, names_marks, vars_marks, stmts_marks, entry_marks}
-use Rattle.lynx_tree.specs.Trees.{EntryTree}
+use Rattle.lynx_tree.specs.Trees.{EntryTree, entry_tree}
+use Rattle.std.specs.Str.{bytes_eq}
+use Rattle.lynx_tree.specs.declared.declaration.EntryDecl.{EntryDecl}
 use Rattle.lynx_typing.specs.Modules.{names_are_new, var_faults, entry_faults}
-use Rattle.lynx_typing.specs.Names.{Variable, Declared, Scope, meaning_in, inside, known, arguments_of, results_of, each_at, var_size, var_named, entry_size, entry_named, entry_body_at, locals_at, local_names, parameters_named}
+use Rattle.lynx_typing.specs.Names.{Variable, Entry, Declared, Scope, or_outside, meaning_in, inside, known, arguments_of, results_of, each_at, var_size, var_named, entry_size, entry_named, entry_body_at, locals_at, local_names, parameters_named}
 use Rattle.lynx_typing.specs.Rules.{Fault, Asks, demand, local_name_is_new, entry_has_parameters, entry_is_of_op}
 use Rattle.lynx_typing.specs.Statements.{stmts_faults, stmts_size}
 use Rattle.lynx_typing.specs.Progress.{first_with}
@@ -15,6 +17,7 @@ use Rattle.lynx_typing.proofs.Members.{at_place}
 use Rattle.lynx_typing.proofs.Progress.{first_with-append, joined}
 use Rattle.lynx_types.specs.News.{nowhere, then_declared, news_faults, are_new, told_faults, first_or_int, locals_named}
 use Rattle.lynx_types.specs.Parts.{heading_faults}
+use Rattle.lynx_types.proofs.Declarations.{next_names}
 use Rattle.lynx_types.proofs.News.{or_none, news-append, declared-append, meaning-append, same_scope, news_are_new, in_order}
 
 -- ---- parameters
@@ -105,6 +108,27 @@ module _ (outside : Scope) (a : ℕ) (e : EntryTree) where
 pub same_news : (s : Scope) (es : List EntryTree) (a b : ℕ) → are_new s (each_at entry_size entry_named a es) ≡ are_new s (each_at entry_size entry_named b es)
 same_news s [] a b = refl
 same_news s (e ∷ es) a b = ap (λ bs. not (is_some (s e.name)) ∷ bs) (same_news (then_declared s (entry_named a e)) es (a + entry_size e) (b + entry_size e))
+
+same_meaning : (es : List EntryTree) (a b : ℕ) (q : List ℕ) → meaning_in (each_at entry_size entry_named a es) q ≡ meaning_in (each_at entry_size entry_named b es) q
+same_meaning [] a b q = refl
+same_meaning (e ∷ es) a b q = ap (cond (bytes_eq e.name q) (Some Entry)) (same_meaning es (a + entry_size e) (b + entry_size e) q)
+
+module _ (s t : Scope) (ds : List EntryDecl) (i : ℕ) (d : EntryDecl) (a : ℕ) (lt : i < length ds) (is : d ≡ get_or ds i d) (means : (q : List ℕ) → t q ≡ then_declared s (entry_named a (entry_tree d)) q) where
+  abbrev rest : List EntryTree
+  rest = map entry_tree (drop (i + 1) ds)
+
+  pub news-told : (items more : List Bool) (new : Bool) → more ≡ items ++ new ∷ [] → new ≡ not (is_some (s d.name))
+      → more ++ are_new t (each_at entry_size entry_named a rest) ≡ items ++ are_new s (each_at entry_size entry_named a (map entry_tree (drop i ds)))
+  news-told items more new pushed is_new =
+      ap (λ x. x ++ are_new t (each_at entry_size entry_named a rest)) pushed ∙ append_assoc items (new ∷ []) (are_new t (each_at entry_size entry_named a rest))
+      ∙ ap (λ x. items ++ x) ((λ j. is_new j ∷ are_new (same_scope t (then_declared s (entry_named a (entry_tree d))) means j) (each_at entry_size entry_named a rest))
+      ∙ ap (λ bs. not (is_some (s d.name)) ∷ bs) (same_news (then_declared s (entry_named a (entry_tree d))) rest a (a + entry_size (entry_tree d)))
+      ∙ ap (λ xs. are_new s (each_at entry_size entry_named a (map entry_tree xs))) (sym (at_place ds i d lt is)))
+
+  pub names-told : (q : List ℕ) → then_declared t (each_at entry_size entry_named a rest) q ≡ then_declared s (each_at entry_size entry_named a (map entry_tree (drop i ds))) q
+  names-told q =
+      ap (or_outside (t q)) (same_meaning rest a (a + entry_size (entry_tree d)) q)
+      ∙ next_names entry_tree entry_size entry_named ds i d a (a + entry_size (entry_tree d)) lt is refl s t means q
 
 -- of one entry it is told whether its name is new, and then of those behind it
 pub entries-step : (o o1 : Option Fault) (s : Scope) (new : Bool) (news : List Bool) (a b : ℕ) (e : EntryTree) (es : List EntryTree) → b ≡ a + entry_size e → o1 ≡ first_with o (demand 1 (a + 1) new ++ entry_faults s a e)
