@@ -1,11 +1,12 @@
 -- How many tokens statements and lists in brackets have: their nesting does not matter.
-use Rattle.std.proofs.Common.{◌≡◌, ℕ, suc, ◌+◌, ◌*◌, ◌<◌, List, [], ◌∷◌, ◌++◌, length, map, refl, ap, arith, length-append}
+use Rattle.std.proofs.Common.{◌≡◌, ℕ, suc, ◌+◌, ◌*◌, ◌<◌, List, [], ◌∷◌, ◌++◌, length, map, refl, sym, ap, ◌∙◌, arith, length-append}
 use Rattle.std.specs.List.{flat_map}
+use Rattle.lynx_lexer.specs.declared.keyword.Keyword.TheVariants as keywords
 use Rattle.lynx_lexer.specs.declared.sign.Sign.TheVariants as signs
 use Rattle.lynx_tree.specs.declared.expression.Expr as expr
-use Rattle.lynx_tree.specs.Trees.{ExprTrees, StmtTree, StmtTrees, HandlerTrees, expr_list}
+use Rattle.lynx_tree.specs.Trees.{ExprTree, ExprTrees, StmtTree, StmtTrees, HandlerTrees, expr_list}
 use Rattle.lynx_tree.specs.Trees as trees
-use Rattle.lynx_tree.specs.Grammar.{Mark, mark, name, chain_marks, exprs_marks, names_marks, stmt_marks, stmts_marks, handlers_marks}
+use Rattle.lynx_tree.specs.Grammar.{Mark, mark, word, name, expr_marks, behind_marks, exprs_marks, names_marks, accept_marks, stmt_marks, stmts_marks, handlers_marks}
 use Rattle.lynx_typing.proofs.Members.{bools_left}
 use Rattle.lynx_typing.proofs.Sizes.{expr-size, chain-size, behind-size}
 
@@ -15,25 +16,51 @@ more_names : (d : ℕ) (ns : List (List ℕ)) → length (flat_map (λ next. mar
 more_names d [] = refl
 more_names d (n ∷ ns) = omega (arith, length-append {A = Mark}, more_names d ns)
 
+names-count : (d : ℕ) (n : List ℕ) (ns : List (List ℕ)) → length (names_marks d (n ∷ ns)) ≡ 3 + 2 * length ns
+names-count d n ns =
+    omega (arith, length-append (flat_map (λ next. mark (suc d) signs.Comma ∷ next) (map (λ m. name (suc d) m ∷ []) ns)) (mark (suc d) signs.Close ∷ []), more_names (suc d) ns)
+
 pub names-size : (d : ℕ) (ns : List (List ℕ)) → length (names_marks d ns) ≡ length (names_marks 0 ns)
 names-size d [] = refl
-names-size d (n ∷ ns) = omega (arith, length-append {A = Mark}, more_names (suc d) ns, more_names 1 ns)
+names-size d (n ∷ ns) = names-count d n ns ∙ sym (names-count 0 n ns)
 
 -- where there is a name, each takes a sign behind it
 pub some_names : (ns : List (List ℕ)) → 0 < length ns → length (names_marks 0 ns) ≡ 1 + 2 * length ns
 some_names [] h = absurd (omega (arith, h))
-some_names (n ∷ ns) h = omega (arith, length-append {A = Mark}, more_names 1 ns)
+some_names (n ∷ ns) h = names-count 0 n ns ∙ omega arith
 
 -- ---- values in brackets
 
 pub exprs-size : (d : ℕ) (es : ExprTrees) → length (exprs_marks d es) ≡ length (exprs_marks 0 es)
 exprs-size d es = omega (arith, length-append {A = Mark}, chain-size (suc d) (mark (suc d) signs.Comma) (mark 0 signs.Comma) es, chain-size 1 (mark 1 signs.Comma) (mark 0 signs.Comma) es)
 
+exprs-more : (e : ExprTree) (es : ExprTrees) → length (exprs_marks 0 (trees.more_exprs e es)) ≡ 2 + (length (expr_marks 1 e) + length (behind_marks 1 (mark 1 signs.Comma) es))
+exprs-more e es =
+    ap suc (length-append (expr_marks 1 e ++ behind_marks 1 (mark 1 signs.Comma) es) (mark 1 signs.Close ∷ []) ∙ ap (λ n. n + 1) (length-append (expr_marks 1 e) (behind_marks 1 (mark 1 signs.Comma) es))) ∙ omega arith
+
+behind-more : (e : ExprTree) (es : ExprTrees) → length (behind_marks 0 (word 0 keywords.Or) (trees.more_exprs e es)) ≡ 1 + (length (expr_marks 0 e) + length (behind_marks 0 (word 0 keywords.Or) es))
+behind-more e es = ap suc (length-append (expr_marks 0 e) (behind_marks 0 (word 0 keywords.Or) es)) ∙ omega arith
+
 pub some_exprs : (es : List expr.Expr) → 0 < length es → length (exprs_marks 0 (expr_list es)) ≡ 1 + bools_left es
 some_exprs [] h = absurd (omega (arith, h))
-some_exprs (e ∷ es) h = omega (arith, length-append {A = Mark}, expr-size 1 (trees.expr_tree e), behind-size 1 (mark 1 signs.Comma) (mark 0 signs.Comma) (expr_list es), behind-size 0 (mark 0 signs.Comma) (mark 0 signs.Comma) (expr_list es))
+some_exprs (e ∷ es) h =
+    let t = trees.expr_tree e in
+    let ts = expr_list es in
+    let same : 2 + (length (expr_marks 1 t) + length (behind_marks 1 (mark 1 signs.Comma) ts)) ≡ 1 + (1 + (length (expr_marks 0 t) + length (behind_marks 0 (word 0 keywords.Or) ts))) =
+        omega (arith, expr-size 1 t, behind-size 1 (mark 1 signs.Comma) (word 0 keywords.Or) ts) in
+    exprs-more t ts ∙ same ∙ ap (λ n. 1 + n) (sym (behind-more t ts))
 
 -- ---- statements
+
+pub connect-size : (d : ℕ) (op link : List ℕ) (values : ExprTrees) (results : List (List ℕ)) → length (stmt_marks d (trees.Connect op link values results)) ≡ 5 + length (exprs_marks d values) + length (names_marks d results)
+connect-size d op link values results = omega (arith, length-append (exprs_marks d values) (mark d signs.Colon ∷ names_marks d results))
+
+pub accept-size : (d : ℕ) (op link : List ℕ) (names : List (List ℕ)) (body : StmtTrees) → length (stmt_marks d (trees.Accept op link names body)) ≡ 6 + length (names_marks d names) + length (stmts_marks d body)
+accept-size d op link names body =
+    omega (arith, length-append (names_marks d names) (word d keywords.Do ∷ (stmts_marks d body ++ word d keywords.End ∷ [])), length-append (stmts_marks d body) (word d keywords.End ∷ []))
+
+pub head-size : (d : ℕ) (op link : List ℕ) (names : List (List ℕ)) → length (accept_marks d op link names) ≡ 5 + length (names_marks d names)
+head-size d op link names = omega (arith, length-append (names_marks d names) (word d keywords.Do ∷ []))
 
 mutual
   pub stmt-size : (d : ℕ) (s : StmtTree) → length (stmt_marks d s) ≡ length (stmt_marks 0 s)
@@ -50,8 +77,8 @@ mutual
   stmt-size d (trees.Destroy n) = refl
   stmt-size d (trees.Bind link entry) = refl
   stmt-size d (trees.Unbind link entry) = refl
-  stmt-size d (trees.Connect op link values results) = omega (arith, length-append {A = Mark}, exprs-size d values, names-size d results)
-  stmt-size d (trees.Accept op link names body) = omega (arith, length-append {A = Mark}, names-size d names, stmts-size d body)
+  stmt-size d (trees.Connect op link values results) = connect-size d op link values results ∙ (λ i. 5 + exprs-size d values i + names-size d results i) ∙ sym (connect-size 0 op link values results)
+  stmt-size d (trees.Accept op link names body) = accept-size d op link names body ∙ (λ i. 6 + names-size d names i + stmts-size d body i) ∙ sym (accept-size 0 op link names body)
   stmt-size d (trees.Reply values) = omega (arith, exprs-size d values)
   stmt-size d (trees.Try body handlers) = omega (arith, length-append {A = Mark}, stmts-size d body, handlers-size d handlers)
 
