@@ -89,7 +89,7 @@ pub next_tokens : {D X : Type 0} (tree : D → X) (marks : X → List Mark) (ds 
 next_tokens tree marks ds i d lt is = ap (λ xs. length (flat_map marks (map tree xs))) (at_place ds i d lt is) ∙ length-append (marks (tree d)) (flat_map marks (map tree (drop (i + 1) ds)))
 
 -- what was found and declared in one, and what will be in those behind it
-news-step : (rule : ℕ) (o o1 : Option Fault) (s t : Scope) (all here rest : List Declared) (faults found others : List Fault) → all ≡ here ++ rest → faults ≡ found ++ others
+pub news-step : (rule : ℕ) (o o1 : Option Fault) (s t : Scope) (all here rest : List Declared) (faults found others : List Fault) → all ≡ here ++ rest → faults ≡ found ++ others
     → o1 ≡ first_with o (news_faults rule s here ++ found) → ((q : List ℕ) → t q ≡ then_declared s here q) → first_with o1 (news_faults rule t rest ++ others) ≡ first_with o (news_faults rule s all ++ faults)
 news-step rule o o1 s t all here rest faults found others are fare h means =
     (λ i. first_with (h i) (news_faults rule (same_scope t (then_declared s here) means i) rest ++ others))

@@ -17,12 +17,12 @@ use Rattle.lynx_types.proofs.entry.entries.Goals as goal
 
 pub entry-requires : goal.entry-requires
 entry-requires c =
-    let turn = zip_turn c.args.news.now c.args.entries.now c.loop-new.yielded _ _ _ c.next.result (search rules) (search rules) c.loop-new.yielded_by (c.in-Some.new, c.in-Some.item) c.in-Some.is c.next.ensures.steps in
-    omega (arith, c.requires.fits, c.loop-new.invariant.at, next_tokens entry_tree entry_marks c.args.entries.now (length c.loop-new.yielded) c.in-Some.item.now turn.1.0 (turn.1.1.1 c.in-Some.item.now))
+    let turn = zip_turn c.args.news.now c.args.entries.now c.loop-new.yielded c.into_iter-new-iterator.result c.loop-new.new-iterator c.next.new.self c.next.result (search rules) (search rules) c.loop-new.yielded_by (c.in-Some.new, c.in-Some.item) c.in-Some.is c.next.ensures.steps in
+    omega (arith, c.requires.fits, c.loop-new.invariant.at, next_tokens entry_tree entry_marks c.args.entries.now (length c.loop-new.yielded) c.in-Some.item.now turn.1 (turn.3 c.in-Some.item.now))
 
 pub loop-new-preserved : goal.loop-new-preserved
 loop-new-preserved c =
-    let turn = zip_turn c.args.news.now c.args.entries.now c.loop-new.yielded _ _ _ c.next.result (search rules) (search rules) c.loop-new.yielded_by (c.in-Some.new, c.in-Some.item) c.in-Some.is c.next.ensures.steps in
+    let turn = zip_turn c.args.news.now c.args.entries.now c.loop-new.yielded c.into_iter-new-iterator.result c.loop-new.new-iterator c.next.new.self c.next.result (search rules) (search rules) c.loop-new.yielded_by (c.in-Some.new, c.in-Some.item) c.in-Some.is c.next.ensures.steps in
     let k = length c.loop-new.yielded in
     let grown : length (c.loop-new.yielded ++ (c.in-Some.new, c.in-Some.item) ∷ []) ≡ k + 1 = length-append c.loop-new.yielded ((c.in-Some.new, c.in-Some.item) ∷ []) in
     let ns = c.args.news.now in
@@ -34,10 +34,10 @@ loop-new-preserved c =
     let b = c.entry.new.walk.at in
     let o = c.loop-new.walk.first in
     let o1 = c.entry.new.walk.first in
-    let here = at_place ds k d turn.1.0 (turn.1.1.1 d) in
-    let told = at_place ns k new turn.0 (turn.1.1.0 new) in
+    let here = at_place ds k d turn.1 (turn.3 d) in
+    let told = at_place ns k new turn.0 (turn.2 new) in
     let left : b + length (flat_map entry_marks (map entry_tree (drop (k + 1) ds))) ≡ c.args.walk.now.at + length (flat_map entry_marks (map entry_tree ds))
-          = omega (arith, c.loop-new.invariant.at, c.in_ok-entry.ensures.at, next_tokens entry_tree entry_marks ds k d turn.1.0 (turn.1.1.1 d)) in
+          = omega (arith, c.loop-new.invariant.at, c.in_ok-entry.ensures.at, next_tokens entry_tree entry_marks ds k d turn.1 (turn.3 d)) in
     record {
       at = ap (λ n. b + length (flat_map entry_marks (map entry_tree (drop n ds)))) grown ∙ left;
       first = ap (λ n. first_with o1 (told_faults 1 (drop n ns) (each_at entry_size entry_named b (map entry_tree (drop n ds))) ++ each_at entry_size (entry_faults s) b (map entry_tree (drop n ds)))) grown
@@ -48,12 +48,12 @@ loop-new-preserved c =
 
 pub returns-clause-at : goal.returns-clause-at
 returns-clause-at c =
-    let ended = zip_end c.args.news.now c.args.entries.now c.loop-new.yielded _ _ _ c.next.result (search rules) (search rules) c.loop-new.yielded_by c.in-None.is c.next.ensures.steps in
+    let ended = zip_end c.args.news.now c.args.entries.now c.loop-new.yielded c.into_iter-new-iterator.result c.loop-new.new-iterator c.next.new.self c.next.result (search rules) (search rules) c.loop-new.yielded_by c.in-None.is c.next.ensures.steps in
     omega (arith, c.loop-new.invariant.at, none_left (λ xs. length (flat_map entry_marks (map entry_tree xs))) c.args.entries.now (length c.loop-new.yielded) (omega (arith, ended, c.requires.each)))
 
 pub returns-clause-first : goal.returns-clause-first
 returns-clause-first c =
-    let ended = zip_end c.args.news.now c.args.entries.now c.loop-new.yielded _ _ _ c.next.result (search rules) (search rules) c.loop-new.yielded_by c.in-None.is c.next.ensures.steps in
+    let ended = zip_end c.args.news.now c.args.entries.now c.loop-new.yielded c.into_iter-new-iterator.result c.loop-new.new-iterator c.next.new.self c.next.result (search rules) (search rules) c.loop-new.yielded_by c.in-None.is c.next.ensures.steps in
     let k = length c.loop-new.yielded in
     let told = drop_all k c.args.news.now (omega (arith, ended, c.requires.each)) in
     let left = drop_all k c.args.entries.now (omega (arith, ended, c.requires.each)) in
