@@ -47,7 +47,7 @@ some_exprs (e ∷ es) h =
     let t = trees.expr_tree e in
     let ts = expr_list es in
     let same : 2 + (length (expr_marks 1 t) + length (behind_marks 1 (mark 1 signs.Comma) ts)) ≡ 1 + (1 + (length (expr_marks 0 t) + length (behind_marks 0 (word 0 keywords.Or) ts))) =
-        omega (arith, expr-size 1 t, behind-size 1 (mark 1 signs.Comma) (word 0 keywords.Or) ts) in
+    omega (arith, expr-size 1 t, behind-size 1 (mark 1 signs.Comma) (word 0 keywords.Or) ts) in
     exprs-more t ts ∙ same ∙ ap (λ n. 1 + n) (sym (behind-more t ts))
 
 -- ---- statements

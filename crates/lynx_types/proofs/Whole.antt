@@ -24,8 +24,8 @@ module-size m =
     all_marks (flat_map op_marks m.ops) (flat_map (var_marks keywords.Param) m.params) (vars_marks m.vars) (flat_map entry_marks m.entries) (stmts_marks 0 m.body)
     (word 0 keywords.Module) (name 0 m.name) (mark 0 signs.Semicolon) (word 0 keywords.Begin) (word 0 keywords.End) (mark 0 signs.Dot)
 
-then_more : (s t u : Scope) (xs ys : List Declared) → ((q : List ℕ) → s q ≡ then_declared nowhere xs q) → ((q : List ℕ) → t q ≡ then_declared s ys q) → (q : List ℕ) → t q ≡ then_declared nowhere (xs ++ ys) q
-then_more s t u xs ys before means q = means q ∙ ap (λ w. then_declared w ys q) (same_scope s (then_declared nowhere xs) before) ∙ ap (λ w. w q) (sym (declared-append nowhere xs ys))
+then_more : (s t : Scope) (xs ys : List Declared) → ((q : List ℕ) → s q ≡ then_declared nowhere xs q) → ((q : List ℕ) → t q ≡ then_declared s ys q) → (q : List ℕ) → t q ≡ then_declared nowhere (xs ++ ys) q
+then_more s t xs ys before means q = means q ∙ ap (λ w. then_declared w ys q) (same_scope s (then_declared nowhere xs) before) ∙ ap (λ w. w q) (sym (declared-append nowhere xs ys))
 
 news_more : (o o1 : Option Fault) (s : Scope) (xs ys : List Declared) (fs gs : List Fault) → o ≡ first_with None (news_faults 1 nowhere xs ++ fs) → ((q : List ℕ) → s q ≡ then_declared nowhere xs q) → o1 ≡ first_with o (news_faults 1 s ys ++ gs)
     → o1 ≡ first_with None (news_faults 1 nowhere (xs ++ ys) ++ (fs ++ gs))
@@ -51,7 +51,7 @@ module _ (m : ModuleTree) where
       → ((q : List ℕ) → s4 q ≡ then_declared s3 es q) → (q : List ℕ) → s4 q ≡ module_scope m q
   module_names-are s0 s1 s2 s3 s4 n0 n1 n2 n3 n4 =
       let m1 : (q : List ℕ) → s1 q ≡ then_declared nowhere os q = λ q. n1 q ∙ ap (λ w. then_declared w os q) (same_scope s0 nowhere n0) in
-      then_more s3 s4 s4 (os ++ ps ++ vs) es (then_more s2 s3 s3 (os ++ ps) vs (then_more s1 s2 s2 os ps m1 n2) n3) n4
+      then_more s3 s4 (os ++ ps ++ vs) es (then_more s2 s3 (os ++ ps) vs (then_more s1 s2 os ps m1 n2) n3) n4
 
   pub module_first : (s0 s1 s2 s3 s4 : Scope) (o1 o2 o3 o4 o5 : Option Fault) (news : List Bool) → ((q : List ℕ) → s0 q ≡ nowhere q) → ((q : List ℕ) → s1 q ≡ then_declared s0 os q) → ((q : List ℕ) → s2 q ≡ then_declared s1 ps q)
       → ((q : List ℕ) → s3 q ≡ then_declared s2 vs q) → ((q : List ℕ) → s4 q ≡ then_declared s3 es q) → news ≡ are_new s3 es
@@ -68,8 +68,8 @@ module _ (m : ModuleTree) where
       let body = stmts_faults (module_scope m) Outside (body_at m) m.body in
       let scope = same_scope s4 (module_scope m) (module_names-are s0 s1 s2 s3 s4 n0 n1 n2 n3 n4) in
       let m1 : (q : List ℕ) → s1 q ≡ then_declared nowhere os q = λ q. n1 q ∙ ap (λ w. then_declared w os q) (same_scope s0 nowhere n0) in
-      let m2 = then_more s1 s2 s2 os ps m1 n2 in
-      let m3 = then_more s2 s3 s3 (os ++ ps) vs m2 n3 in
+      let m2 = then_more s1 s2 os ps m1 n2 in
+      let m3 = then_more s2 s3 (os ++ ps) vs m2 n3 in
       let f1 : o1 ≡ first_with None (news_faults 1 nowhere os ++ ops) = e1 ∙ ap (λ w. first_with None (news_faults 1 w os ++ ops)) (same_scope s0 nowhere n0) in
       let f2 = news_more o1 o2 s1 os ps ops params f1 m1 e2 in
       let f3 = news_more o2 o3 s2 (os ++ ps) vs (ops ++ params) vars f2 m2 e3 in

@@ -27,8 +27,20 @@ entries-requires-clause-each c =
 pub statements-requires : goal.statements-requires
 statements-requires c =
     let m = module_tree c.args.tree.now in
-    omega (arith, c.requires, module-size m, c.in_ok-ops.ensures.at, c.in_ok-params.ensures.at, c.in_ok-vars.ensures.at, c.in_ok-entries.ensures.at, ap (λ xs. length (flat_map op_marks (map op_tree xs))) c.deref.ensures.value,
-      ap (λ xs. length (flat_map (var_marks keywords.Param) (map var_tree xs))) c.deref-2.ensures.value, ap (λ xs. length (vars_marks (map var_tree xs))) c.deref-3.ensures.value, ap (λ xs. length (flat_map entry_marks (map entry_tree xs))) c.deref-6.ensures.value, ap (λ xs. stmts_size (stmt_list xs)) c.deref-7.ensures.value)
+    omega (
+      arith,
+      c.requires,
+      module-size m,
+      c.in_ok-ops.ensures.at,
+      c.in_ok-params.ensures.at,
+      c.in_ok-vars.ensures.at,
+      c.in_ok-entries.ensures.at,
+      ap (λ xs. length (flat_map op_marks (map op_tree xs))) c.deref.ensures.value,
+      ap (λ xs. length (flat_map (var_marks keywords.Param) (map var_tree xs))) c.deref-2.ensures.value,
+      ap (λ xs. length (vars_marks (map var_tree xs))) c.deref-3.ensures.value,
+      ap (λ xs. length (flat_map entry_marks (map entry_tree xs))) c.deref-6.ensures.value,
+      ap (λ xs. stmts_size (stmt_list xs)) c.deref-7.ensures.value,
+    )
 
 pub returns : goal.returns
 returns c =
@@ -53,13 +65,13 @@ returns c =
     let scope : scope_of c.outside-scope.result ≡ s4 = same_scope (scope_of c.outside-scope.result) s4 c.outside-scope.ensures in
     c.first.ensures
     ∙ module_first m s0 s1 s2 s3 s4 c.ops.new.walk.first c.params.new.walk.first c.vars.new.walk.first c.entries.new.walk.first c.statements.new.walk.first news c.new-names.ensures
-      (λ q. c.in_ok-ops.ensures.names q ∙ (λ j. then_declared s0 (each_at op_size op_named (at1 j) (map op_tree (ops j))) q))
-      (λ q. c.in_ok-params.ensures.names q ∙ (λ j. then_declared s1 (each_at var_size var_named (at2 j) (map var_tree (params j))) q))
-      (λ q. c.in_ok-vars.ensures.names q ∙ (λ j. then_declared s2 (each_at var_size var_named (at3 j) (map var_tree (vars j))) q))
-      (λ q. c.in_ok-news.ensures.names (entries_at m) q ∙ (λ j. then_declared s3 (each_at entry_size entry_named (entries_at m) (map entry_tree (named j))) q))
-      (c.deref-5.ensures.value ∙ c.in_ok-news.ensures.news (entries_at m) ∙ (λ j. are_new s3 (each_at entry_size entry_named (entries_at m) (map entry_tree (named j)))))
-      (c.in_ok-ops.ensures.first ∙ (λ j. first_with (start j) (news_faults 1 s0 (each_at op_size op_named (at1 j) (map op_tree (ops j))) ++ each_at op_size op_faults (at1 j) (map op_tree (ops j)))))
-      (c.in_ok-params.ensures.first ∙ (λ j. first_with c.ops.new.walk.first (news_faults 1 s1 (each_at var_size var_named (at2 j) (map var_tree (params j))) ++ each_at var_size param_faults (at2 j) (map var_tree (params j)))))
-      (c.in_ok-vars.ensures.first ∙ (λ j. first_with c.params.new.walk.first (news_faults 1 s2 (each_at var_size var_named (at3 j) (map var_tree (vars j))) ++ each_at var_size var_faults (at3 j) (map var_tree (vars j)))))
-      (c.in_ok-entries.ensures.first ∙ (λ j. first_with c.vars.new.walk.first (told_faults 1 news (each_at entry_size entry_named (at4 j) (map entry_tree (entries j))) ++ each_at entry_size (entry_faults s4) (at4 j) (map entry_tree (entries j)))))
-      (c.statements.ensures.first ∙ (λ j. first_with (c.skip-2.ensures.first j) (stmts_faults (scope j) Outside (at5 j) (stmt_list (c.deref-7.ensures.value j)))))
+    (λ q. c.in_ok-ops.ensures.names q ∙ (λ j. then_declared s0 (each_at op_size op_named (at1 j) (map op_tree (ops j))) q))
+    (λ q. c.in_ok-params.ensures.names q ∙ (λ j. then_declared s1 (each_at var_size var_named (at2 j) (map var_tree (params j))) q))
+    (λ q. c.in_ok-vars.ensures.names q ∙ (λ j. then_declared s2 (each_at var_size var_named (at3 j) (map var_tree (vars j))) q))
+    (λ q. c.in_ok-news.ensures.names (entries_at m) q ∙ (λ j. then_declared s3 (each_at entry_size entry_named (entries_at m) (map entry_tree (named j))) q))
+    (c.deref-5.ensures.value ∙ c.in_ok-news.ensures.news (entries_at m) ∙ (λ j. are_new s3 (each_at entry_size entry_named (entries_at m) (map entry_tree (named j)))))
+    (c.in_ok-ops.ensures.first ∙ (λ j. first_with (start j) (news_faults 1 s0 (each_at op_size op_named (at1 j) (map op_tree (ops j))) ++ each_at op_size op_faults (at1 j) (map op_tree (ops j)))))
+    (c.in_ok-params.ensures.first ∙ (λ j. first_with c.ops.new.walk.first (news_faults 1 s1 (each_at var_size var_named (at2 j) (map var_tree (params j))) ++ each_at var_size param_faults (at2 j) (map var_tree (params j)))))
+    (c.in_ok-vars.ensures.first ∙ (λ j. first_with c.params.new.walk.first (news_faults 1 s2 (each_at var_size var_named (at3 j) (map var_tree (vars j))) ++ each_at var_size var_faults (at3 j) (map var_tree (vars j)))))
+    (c.in_ok-entries.ensures.first ∙ (λ j. first_with c.vars.new.walk.first (told_faults 1 news (each_at entry_size entry_named (at4 j) (map entry_tree (entries j))) ++ each_at entry_size (entry_faults s4) (at4 j) (map entry_tree (entries j)))))
+    (c.statements.ensures.first ∙ (λ j. first_with (c.skip-2.ensures.first j) (stmts_faults (scope j) Outside (at5 j) (stmt_list (c.deref-7.ensures.value j)))))

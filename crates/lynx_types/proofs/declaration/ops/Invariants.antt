@@ -14,6 +14,6 @@ abbrev pub invariant-loop-item : goal.invariant-loop-item
 invariant-loop-item l = record {
   at : l.walk.at + length (flat_map op_marks (map op_tree (drop l.item-index l.ops))) ≡ l.initial.walk.at + length (flat_map op_marks (map op_tree l.ops));
   first : first_with l.walk.first (news_faults 1 (look l.names) (each_at op_size op_named l.walk.at (map op_tree (drop l.item-index l.ops))) ++ each_at op_size op_faults l.walk.at (map op_tree (drop l.item-index l.ops)))
-    ≡ first_with l.initial.walk.first (news_faults 1 (look l.initial.names) (each_at op_size op_named l.initial.walk.at (map op_tree l.ops)) ++ each_at op_size op_faults l.initial.walk.at (map op_tree l.ops));
+      ≡ first_with l.initial.walk.first (news_faults 1 (look l.initial.names) (each_at op_size op_named l.initial.walk.at (map op_tree l.ops)) ++ each_at op_size op_faults l.initial.walk.at (map op_tree l.ops));
   names : (q : List ℕ) → then_declared (look l.names) (each_at op_size op_named l.walk.at (map op_tree (drop l.item-index l.ops))) q ≡ then_declared (look l.initial.names) (each_at op_size op_named l.initial.walk.at (map op_tree l.ops)) q;
 }

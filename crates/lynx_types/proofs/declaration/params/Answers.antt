@@ -24,7 +24,7 @@ loop-param-preserved c =
     let is = c.param-item.is in
     let at_b = c.demand.ensures.at ∙ c.in_ok-var.ensures.at in
     let found : c.demand.new.self.first ≡ first_with c.var.new.walk.first (param_is_link (a + 3) d.kind)
-          = c.demand.ensures.first ∙ (λ j. first_with c.var.new.walk.first (demand 3 (c.at-place.ensures j + 3) (c.is_link.ensures j))) in
+    = c.demand.ensures.first ∙ (λ j. first_with c.var.new.walk.first (demand 3 (c.at-place.ensures j + 3) (c.is_link.ensures j))) in
     record {
       at = omega (arith, c.loop-param.invariant.at, at_b, next_tokens var_tree (var_marks keywords.Param) ds i d lt is);
       first = next_first var_tree var_size var_named ds i d a b lt is at_b s t c.in_ok-var.ensures.names param_faults 1 c.loop-param.walk.first c.demand.new.self.first (param_first c.loop-param.walk.first c.var.new.walk.first c.demand.new.self.first (news_faults 1 s (var_named a (var_tree d))) (param_is_link (a + 3) d.kind) (var_faults a (var_tree d)) c.in_ok-var.ensures.first found) ∙ c.loop-param.invariant.first;

@@ -15,6 +15,6 @@ abbrev pub invariant-loop-param : goal.invariant-loop-param
 invariant-loop-param l = record {
   at : l.walk.at + length (flat_map (var_marks keywords.Param) (map var_tree (drop l.param-index l.params))) ≡ l.initial.walk.at + length (flat_map (var_marks keywords.Param) (map var_tree l.params));
   first : first_with l.walk.first (news_faults 1 (look l.names) (each_at var_size var_named l.walk.at (map var_tree (drop l.param-index l.params))) ++ each_at var_size param_faults l.walk.at (map var_tree (drop l.param-index l.params)))
-    ≡ first_with l.initial.walk.first (news_faults 1 (look l.initial.names) (each_at var_size var_named l.initial.walk.at (map var_tree l.params)) ++ each_at var_size param_faults l.initial.walk.at (map var_tree l.params));
+      ≡ first_with l.initial.walk.first (news_faults 1 (look l.initial.names) (each_at var_size var_named l.initial.walk.at (map var_tree l.params)) ++ each_at var_size param_faults l.initial.walk.at (map var_tree l.params));
   names : (q : List ℕ) → then_declared (look l.names) (each_at var_size var_named l.walk.at (map var_tree (drop l.param-index l.params))) q ≡ then_declared (look l.initial.names) (each_at var_size var_named l.initial.walk.at (map var_tree l.params)) q;
 }

@@ -28,7 +28,7 @@ loop-kind-preserved c =
     record {
       at = omega (arith, c.loop-kind.invariant.at, next_type ts i types.Int t c.loop-kind-test.true refl);
       first = left_first c.loop-kind.walk.first c.skip-in-loop-kind.new.self.first _ _ (type_faults c.loop-kind.walk.at t) (types_faults c.skip-in-loop-kind.new.self.at (drop (i + 1) ts))
-        (split ∙ ap (λ n. type_faults c.loop-kind.walk.at t ++ types_faults n (drop (i + 1) ts)) (sym c.skip-in-loop-kind.ensures.at)) (c.skip-in-loop-kind.ensures.first ∙ c.type_name.ensures.first) c.loop-kind.invariant.first;
+          (split ∙ ap (λ n. type_faults c.loop-kind.walk.at t ++ types_faults n (drop (i + 1) ts)) (sym c.skip-in-loop-kind.ensures.at)) (c.skip-in-loop-kind.ensures.first ∙ c.type_name.ensures.first) c.loop-kind.invariant.first;
     }
 
 pub returns-clause-at : goal.returns-clause-at

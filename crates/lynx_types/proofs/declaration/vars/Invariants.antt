@@ -15,6 +15,6 @@ abbrev pub invariant-loop-item : goal.invariant-loop-item
 invariant-loop-item l = record {
   at : l.walk.at + length (flat_map (var_marks keywords.Var) (map var_tree (drop l.item-index l.vars))) ≡ l.initial.walk.at + length (flat_map (var_marks keywords.Var) (map var_tree l.vars));
   first : first_with l.walk.first (news_faults l.rule (look l.names) (each_at var_size var_named l.walk.at (map var_tree (drop l.item-index l.vars))) ++ each_at var_size var_faults l.walk.at (map var_tree (drop l.item-index l.vars)))
-    ≡ first_with l.initial.walk.first (news_faults l.rule (look l.initial.names) (each_at var_size var_named l.initial.walk.at (map var_tree l.vars)) ++ each_at var_size var_faults l.initial.walk.at (map var_tree l.vars));
+      ≡ first_with l.initial.walk.first (news_faults l.rule (look l.initial.names) (each_at var_size var_named l.initial.walk.at (map var_tree l.vars)) ++ each_at var_size var_faults l.initial.walk.at (map var_tree l.vars));
   names : (q : List ℕ) → then_declared (look l.names) (each_at var_size var_named l.walk.at (map var_tree (drop l.item-index l.vars))) q ≡ then_declared (look l.initial.names) (each_at var_size var_named l.initial.walk.at (map var_tree l.vars)) q;
 }

@@ -37,13 +37,13 @@ loop-new-preserved c =
     let here = at_place ds k d turn.1 (turn.3 d) in
     let told = at_place ns k new turn.0 (turn.2 new) in
     let left : b + length (flat_map entry_marks (map entry_tree (drop (k + 1) ds))) ≡ c.args.walk.now.at + length (flat_map entry_marks (map entry_tree ds))
-          = omega (arith, c.loop-new.invariant.at, c.in_ok-entry.ensures.at, next_tokens entry_tree entry_marks ds k d turn.1 (turn.3 d)) in
+    = omega (arith, c.loop-new.invariant.at, c.in_ok-entry.ensures.at, next_tokens entry_tree entry_marks ds k d turn.1 (turn.3 d)) in
     record {
       at = ap (λ n. b + length (flat_map entry_marks (map entry_tree (drop n ds)))) grown ∙ left;
       first = ap (λ n. first_with o1 (told_faults 1 (drop n ns) (each_at entry_size entry_named b (map entry_tree (drop n ds))) ++ each_at entry_size (entry_faults s) b (map entry_tree (drop n ds)))) grown
-        ∙ entries-step o o1 s new (drop (k + 1) ns) a b (entry_tree d) (map entry_tree (drop (k + 1) ds)) c.in_ok-entry.ensures.at c.in_ok-entry.ensures.first
-        ∙ (λ j. first_with o (told_faults 1 (sym told j) (each_at entry_size entry_named a (map entry_tree (sym here j))) ++ each_at entry_size (entry_faults s) a (map entry_tree (sym here j))))
-        ∙ c.loop-new.invariant.first;
+          ∙ entries-step o o1 s new (drop (k + 1) ns) a b (entry_tree d) (map entry_tree (drop (k + 1) ds)) c.in_ok-entry.ensures.at c.in_ok-entry.ensures.first
+          ∙ (λ j. first_with o (told_faults 1 (sym told j) (each_at entry_size entry_named a (map entry_tree (sym here j))) ++ each_at entry_size (entry_faults s) a (map entry_tree (sym here j))))
+          ∙ c.loop-new.invariant.first;
     }
 
 pub returns-clause-at : goal.returns-clause-at

@@ -14,5 +14,5 @@ abbrev pub invariant-loop-new : goal.invariant-loop-new
 invariant-loop-new l = record {
   at : l.walk.at + length (flat_map entry_marks (map entry_tree (drop (length l.yielded) l.entries))) ≡ l.initial.walk.at + length (flat_map entry_marks (map entry_tree l.entries));
   first : first_with l.walk.first (told_faults 1 (drop (length l.yielded) l.news) (each_at entry_size entry_named l.walk.at (map entry_tree (drop (length l.yielded) l.entries))) ++ each_at entry_size (entry_faults (look l.outside)) l.walk.at (map entry_tree (drop (length l.yielded) l.entries)))
-    ≡ first_with l.initial.walk.first (told_faults 1 l.news (each_at entry_size entry_named l.initial.walk.at (map entry_tree l.entries)) ++ each_at entry_size (entry_faults (look l.outside)) l.initial.walk.at (map entry_tree l.entries));
+      ≡ first_with l.initial.walk.first (told_faults 1 l.news (each_at entry_size entry_named l.initial.walk.at (map entry_tree l.entries)) ++ each_at entry_size (entry_faults (look l.outside)) l.initial.walk.at (map entry_tree l.entries));
 }

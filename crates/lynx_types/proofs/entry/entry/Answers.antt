@@ -26,10 +26,10 @@ returns-clause-first c =
     let kinds : c.known.result.now ≡ known (arguments_of (outside e.op)) = c.known.ensures ∙ ap known arguments in
     let body_at : c.skip.new.self.at ≡ entry_body_at a e = omega (arith, c.in_ok-locals.ensures.at, c.heading.ensures.at, c.skip.ensures.at) in
     let scope : scope_of c.inside-scope.result ≡ inside (local_names outside a e) outside
-          = same_scope (scope_of c.inside-scope.result) (inside (local_names outside a e) outside)
-            (λ q. c.inside-scope.ensures q ∙ ap (λ m. or_outside m (outside q)) (c.in_ok-locals.ensures.names q ∙ (λ j. meaning_in (locals_named (c.heading.ensures.at j) e (kinds j)) q) ∙ ap (λ ds. meaning_in ds q) (same_locals outside a e))) in
+    = same_scope (scope_of c.inside-scope.result) (inside (local_names outside a e) outside)
+    (λ q. c.inside-scope.ensures q ∙ ap (λ m. or_outside m (outside q)) (c.in_ok-locals.ensures.names q ∙ (λ j. meaning_in (locals_named (c.heading.ensures.at j) e (kinds j)) q) ∙ ap (λ ds. meaning_in ds q) (same_locals outside a e))) in
     c.skip-2.ensures.first
     ∙ entry_first outside a e c.args.new o o1 c.locals.new.walk.first c.statements.new.walk.first
-      (c.heading.ensures.first ∙ (λ j. first_with o (heading_faults a c.args.new (many j) (arguments j))))
-      (c.in_ok-locals.ensures.first ∙ (λ j. first_with o1 (news_faults 2 nowhere (locals_named (c.heading.ensures.at j) e (kinds j)) ++ each_at var_size var_faults (c.heading.ensures.at j + length (names_marks 0 e.parameters)) e.vars)))
-      (c.statements.ensures.first ∙ (λ j. first_with (c.skip.ensures.first j) (stmts_faults (scope j) (Asks (results j)) (body_at j) (stmt_list (c.deref.ensures.value j)))))
+    (c.heading.ensures.first ∙ (λ j. first_with o (heading_faults a c.args.new (many j) (arguments j))))
+    (c.in_ok-locals.ensures.first ∙ (λ j. first_with o1 (news_faults 2 nowhere (locals_named (c.heading.ensures.at j) e (kinds j)) ++ each_at var_size var_faults (c.heading.ensures.at j + length (names_marks 0 e.parameters)) e.vars)))
+    (c.statements.ensures.first ∙ (λ j. first_with (c.skip.ensures.first j) (stmts_faults (scope j) (Asks (results j)) (body_at j) (stmt_list (c.deref.ensures.value j)))))

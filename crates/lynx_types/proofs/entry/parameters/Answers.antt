@@ -31,7 +31,7 @@ loop-parameter-preserved c =
     record {
       at = omega (arith, c.loop-parameter.invariant.at, length-drop i ns, length-drop (i + 1) ns);
       first = parameter_first a n ns i ts us b kind lt is at_b c.behind_first-left.ensures c.parameter_type-kind.ensures s t c.in_ok-new.ensures.means o c.skip-in-loop-parameter.new.self.first c.in_ok-new.new c.in_ok-new.ensures.new
-        (c.skip-in-loop-parameter.ensures.first ∙ c.demand.ensures.first ∙ ap (λ m. first_with o (demand 2 m c.in_ok-new.new)) c.at.ensures) ∙ c.loop-parameter.invariant.first;
+          (c.skip-in-loop-parameter.ensures.first ∙ c.demand.ensures.first ∙ ap (λ m. first_with o (demand 2 m c.in_ok-new.new)) c.at.ensures) ∙ c.loop-parameter.invariant.first;
       names = λ q. parameter_names a n ns i ts us b kind lt is at_b c.behind_first-left.ensures c.parameter_type-kind.ensures s t c.in_ok-new.ensures.means q ∙ c.loop-parameter.invariant.names q;
     }
 
