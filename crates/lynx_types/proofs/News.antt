@@ -17,7 +17,7 @@ or_assoc : (a b c : Option Meaning) → or_outside (or_outside a b) c ≡ or_out
 or_assoc None b c = refl
 or_assoc (Some x) b c = refl
 
-or_none : (a : Option Meaning) → or_outside a None ≡ a
+pub or_none : (a : Option Meaning) → or_outside a None ≡ a
 or_none None = refl
 or_none (Some x) = refl
 

@@ -1,6 +1,7 @@
 -- Which names are new where names already stand, and what they all mean afterwards.
 use Rattle.std.specs.Prelude.{ℕ, ◌+◌, List, [], ◌∷◌, ◌++◌, length, Bool, not, is_some, Option, None}
 use Rattle.lynx_tree.specs.declared.declaration.TypeName.{TypeName}
+use Rattle.lynx_tree.specs.declared.declaration.TypeName.TheVariants as types
 use Rattle.lynx_tree.specs.Grammar.{names_marks}
 use Rattle.lynx_tree.specs.Trees.{EntryTree}
 use Rattle.lynx_typing.specs.Names.{Meaning, Declared, Scope, or_outside, meaning_in, parameters_named, each_at, var_size, var_named}
@@ -29,6 +30,11 @@ abbrev pub told_faults : ℕ → List Bool → List Declared → List Fault
 told_faults rule [] ds = []
 told_faults rule (new ∷ news) [] = []
 told_faults rule (new ∷ news) (d ∷ ds) = demand rule d.place new ++ told_faults rule news ds
+
+-- the first of the types, and int where there is none
+abbrev pub first_or_int : List TypeName → TypeName
+first_or_int [] = types.Int
+first_or_int (t ∷ ts) = t
 
 -- the names of an entry whose parameters have these types, and whose `(` is this token
 abbrev pub locals_named : ℕ → EntryTree → List TypeName → List Declared

@@ -9,7 +9,7 @@ ghost use Rattle.lynx_typing.specs.Modules.{var_faults, entry_faults};
 ghost use Rattle.lynx_typing.specs.Names.{meaning_in, each_at, var_size, entry_size, entry_named, parameters_named};
 ghost use Rattle.lynx_typing.specs.Progress.{first_with};
 ghost use Rattle.lynx_typing.specs.Rules.{demand};
-ghost use Rattle.lynx_types.specs.News.{nowhere, then_declared, news_faults, are_new, told_faults, locals_named};
+ghost use Rattle.lynx_types.specs.News.{nowhere, then_declared, news_faults, are_new, told_faults, first_or_int, locals_named};
 ghost use Rattle.lynx_types.specs.Parts.{heading_faults};
 
 use crate::declaration::vars;
@@ -59,7 +59,9 @@ fn heading(walk: &mut Walk, new: bool, parameters: usize, arguments: Option<&[Ty
 }
 
 /// The type of a parameter, by those that are left for it and the ones behind it.
-fn parameter_type(types: &[TypeName]) -> TypeName {
+fn parameter_type(types: &[TypeName]) -> TypeName
+    ensures { result ≡ first_or_int types.now }
+{
     types.first().copied().unwrap_or(TypeName::Int)
 }
 
