@@ -11,3 +11,5 @@ mod source;
 mod syntax;
 #[cfg(test)]
 mod types;
+#[cfg(test)]
+mod typing;

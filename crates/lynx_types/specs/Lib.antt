@@ -1,11 +1,5 @@
-pub mod Types
-pub mod Signatures
-pub mod Names
-pub mod Exceptions
-pub mod Rules
-pub mod Expressions
-pub mod Statements
-pub mod Modules
-pub mod Progress
-pub mod Found
-pub mod Meanings
+pub mod Parts
+pub mod Requests
+pub mod News
+pub mod WellTyped
+pub mod Answers

@@ -1,20 +1,19 @@
-//! Typing of LYNX modules: the rules that a module obeys, the values of texts and rows, exceptions, and the signatures of operations.
+//! Typing of LYNX modules: `check` tells whether a module breaks a rule, and which is the first; exceptions, the values of texts and rows,
+//! and the signatures of operations.
 #![tactic(auto)]
 
-mod compare;
-mod exception;
-mod expression;
-mod held;
-mod names;
-mod row;
-mod rule;
-mod scope;
-mod short_text;
-mod spelling;
-mod variable;
-mod walk;
+mod action;
+mod checked;
+mod checking;
+mod declaration;
+mod entry;
+mod fault;
+mod list;
+mod request;
+mod statement;
+mod width;
 
-pub use exception::Exception;
-pub use row::Row16;
-pub use short_text::ShortText;
-pub use spelling::signature;
+pub use checked::Checked;
+pub use checking::check;
+pub use fault::TypeFault;
+pub use lynx_typing::{Exception, Row16, ShortText, signature};

@@ -1,0 +1,67 @@
+//! The rules of typing, tried on a module.
+
+ghost use Rattle.std.specs.Prelude.{◌≡◌, ◌<◌, length, IfOk, IfErr};
+ghost use Rattle.std.specs.List.{AllByRecursion};
+ghost use Rattle.lynx_tree.specs.Grammar.{HasTokens, kinds_of, module_marks};
+ghost use Rattle.lynx_tree.specs.Printing.{IsPrintable};
+ghost use Rattle.lynx_tree.specs.Trees.{module_tree};
+ghost use Rattle.lynx_typing.specs.Found.{first_found};
+ghost use Rattle.lynx_typing.specs.Modules.{IsWellTyped, IsFirstFault, first_fault, module_faults};
+ghost use Rattle.lynx_typing.specs.Rules.{Fault};
+ghost use Rattle.lynx_types.specs.Answers.{GivesModule, GivesFault, IsFaultOf};
+
+use crate::checked::Checked;
+use crate::declaration::{ops, params, vars};
+use crate::entry::{declare_entries, entries};
+use crate::fault::TypeFault;
+use crate::request::Request;
+use crate::statement::statements;
+use lynx_lexer::NoMemory;
+use lynx_tree::Module;
+use lynx_typing::rule::MODULE_NAME_IS_NEW;
+use lynx_typing::{Found, Names, Scope, Walk};
+use std::alloc::Global;
+
+/// The first fault of a module.
+fn first_fault(alloc: Global, tree: &Module) -> Result<Option<Found>, NoMemory>
+    requires { length (module_marks (module_tree tree.now)) < 4294967296 }
+    ensures { IfOk result (λ found. first_found found ≡ first_fault (module_faults (module_tree tree.now))) }
+{
+    let mut walk = Walk::start();
+    let mut names = Names::new(alloc);
+    walk.skip(3);
+    ops(alloc, &mut walk, &mut names, &tree.ops)?;
+    params(&mut walk, &mut names, &tree.params)?;
+    vars(&mut walk, &mut names, MODULE_NAME_IS_NEW, &tree.vars)?;
+    let news = declare_entries(alloc, &mut names, &tree.entries)?;
+    entries(alloc, &mut walk, &names, &news, &tree.entries)?;
+    walk.skip(1);
+    let scope = Scope::outside(&names);
+    statements(&mut walk, &scope, Request::Outside, &tree.body);
+    Ok(walk.first())
+}
+
+/// Tries the 24 typing rules on a module, and answers it as one that breaks none; else the first place at which a rule fails, and the least
+/// rule that fails there.
+pub fn check<'a>(alloc: Global, tree: Module<'a>) -> Result<Checked<'a>, TypeFault>
+    requires grammar { HasTokens (module_tree tree) }
+    requires printable { AllByRecursion IsPrintable (kinds_of (module_tree tree)) }
+    requires fits { length (module_marks (module_tree tree)) < 4294967296 }
+
+    // A module is found to break no rule exactly where it breaks none.
+    ensures same { IfOk result (λ checked. checked ≡ tree.entry) }
+    ensures well_typed { IfOk result (λ _. IsWellTyped (module_tree tree.entry)) }
+    ensures only { IsWellTyped (module_tree tree.entry) → GivesModule (module_tree tree.entry) result }
+
+    // A fault is the first one, and where there is a first one it is the answer.
+    ensures fault { IfErr result (IsFaultOf (module_tree tree.entry)) }
+    ensures only_fault { (first : Fault) → IsFirstFault (module_tree tree.entry) first → GivesFault first result }
+{
+    match first_fault(alloc, &tree)? {
+        None => Ok(Checked::new(tree)),
+        Some(found) => Err(TypeFault::At {
+            place: found.place,
+            rule: found.rule,
+        }),
+    }
+}

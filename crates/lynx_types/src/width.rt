@@ -1,0 +1,79 @@
+//! The links and the widest packets of operations.
+
+ghost use Rattle.std.specs.Prelude.{◌≡◌, ◌+◌, ◌≤◌, ◌&&◌, nat_le, IfOk, min};
+ghost use Rattle.std.specs.List.{sum_by};
+ghost use Rattle.lynx_tree.specs.Trees.{op_tree};
+ghost use Rattle.lynx_typing.specs.Signatures.{widest, widest_request, widest_reply, links_among};
+
+use lynx_lexer::NoMemory;
+use lynx_tree::{OpDecl, TypeName};
+use lynx_typing::{is_link, signature};
+use std::alloc::Global;
+
+/// The most links among an operation's arguments, and among its results.
+const MOST_LINKS: usize = 8;
+
+/// The most bytes of a packet.
+const MOST_BYTES: u64 = 256;
+
+/// The bytes of a packet before the signature and the values.
+const HEAD_BYTES: u64 = 6;
+
+/// How many of the types are links.
+fn links_among(types: &[TypeName]) -> usize
+    ensures { result ≡ links_among types.now }
+{
+    let mut links = 0;
+    for kind in types {
+        if is_link(*kind) {
+            links += 1;
+        }
+    }
+    links
+}
+
+/// Whether few enough links are among an operation's arguments and among its results.
+pub(crate) fn has_few_links(op: &OpDecl) -> bool
+    ensures { result ≡ (nat_le (links_among (op_tree op.now).arguments) 8 && nat_le (links_among (op_tree op.now).results) 8) }
+{
+    links_among(&op.arguments) <= MOST_LINKS && links_among(&op.results) <= MOST_LINKS
+}
+
+/// The bytes of the widest value of a type, behind so many others. What passes the bytes of a packet counts as one more than they.
+fn behind(bytes: u64, kind: TypeName) -> u64
+    requires { bytes ≤ 257 }
+    ensures { result ≡ min (bytes + widest kind) 257 }
+{
+    let more = match kind {
+        TypeName::Int => 9,
+        TypeName::Bool => 2,
+        TypeName::Text => 66,
+        TypeName::Link => 1,
+        TypeName::Row(length) => 2 + 8 * length.unsigned_abs().min(MOST_BYTES),
+    };
+    (bytes + more).min(MOST_BYTES + 1)
+}
+
+/// The bytes of the widest values of these types behind so many others, with the same limit.
+fn width(bytes: u64, types: &[TypeName]) -> u64
+    requires { bytes ≤ 257 }
+    ensures { result ≡ min (bytes + sum_by widest types.now) 257 }
+{
+    let mut sum = bytes;
+    for kind in types {
+        sum = behind(sum, *kind);
+    }
+    sum
+}
+
+/// Whether the widest request and the widest reply of an operation are packets.
+pub(crate) fn fits_packets(alloc: Global, op: &OpDecl) -> Result<bool, NoMemory>
+    ensures { IfOk result (λ fits. fits ≡ (nat_le (widest_request (op_tree op.now)) 256 && nat_le (widest_reply (op_tree op.now)) 256)) }
+{
+    let signature = signature(alloc, op)?;
+    let bytes = (signature.len() as u64).min(MOST_BYTES - HEAD_BYTES + 1);
+    Ok(
+        width(HEAD_BYTES + bytes, &op.arguments) <= MOST_BYTES
+            && width(HEAD_BYTES, &op.results) <= MOST_BYTES,
+    )
+}

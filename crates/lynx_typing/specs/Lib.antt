@@ -1,0 +1,11 @@
+pub mod Types
+pub mod Signatures
+pub mod Names
+pub mod Exceptions
+pub mod Rules
+pub mod Expressions
+pub mod Statements
+pub mod Modules
+pub mod Progress
+pub mod Found
+pub mod Meanings
