@@ -4,3 +4,4 @@ pub mod Change
 pub mod Shapes
 pub mod Facts
 pub mod StepsOfCalls
+pub mod StepsOfMessages
