@@ -4,4 +4,3 @@ pub mod Change
 pub mod Shapes
 pub mod Facts
 pub mod StepsOfCalls
-pub mod StepsOfMessages

@@ -125,7 +125,8 @@ consistent-match s e n k may =
 pub consistent-withdraw : (s : State) (e : EndId) → IsConsistent s → may_withdraw s e ≡ true → IsConsistent (record s { ends = turns_inward inward.Withdrawn e s.ends })
 consistent-withdraw s e k may = posted-goes s e inward.Withdrawn k (posted-Posted (s.ends e).inward (and-true _ _ may).0) refl refl
 
-owned-lives : (s : State) (e : EndId) (p : Pid) → IsConsistent s → (s.ends e).place ≡ place.Owned p → (s.process p.0).phase ≢ phase.Ended
+-- an owner has not ended
+pub owned-lives : (s : State) (e : EndId) (p : Pid) → IsConsistent s → (s.ends e).place ≡ place.Owned p → (s.process p.0).phase ≢ phase.Ended
 owned-lives s e p k owned = subst (IsHeldAt s e) owned (k.kept.held.held e)
 
 -- free

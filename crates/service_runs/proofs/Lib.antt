@@ -1,0 +1,2 @@
+pub mod StepsOfMessages
+pub mod StepsOfDeaths
