@@ -1,2 +1,6 @@
 pub mod StepsOfMessages
 pub mod StepsOfDeaths
+pub mod Makes
+pub mod Exits
+pub mod Starts
+pub mod Laws
