@@ -4,3 +4,7 @@ pub mod Makes
 pub mod Exits
 pub mod Starts
 pub mod Laws
+pub mod Moves
+pub mod MovesOfSteps
+pub mod ReportsOfSteps
+pub mod History

@@ -264,6 +264,11 @@ module _ (s : State) (n : ℕ) (homes : length s.homes ≡ n) (process : s.proce
         processes = record { cancelling = λ p e is. absurd (no-cancel p e is); ended = λ p is. no-reports p; others = beyond-first };
       }
 
+pub start-idle : (s : Setting) → IsValid s → (e : EndId) → is_idle ((start_state s).ends e) ≡ true
+start-idle s valid e =
+    let k = wires-well s.homes s.kernels s.wires (nothing_wired s.kernels) valid.homes valid.wires (nothing-well s.kernels (length s.homes)) in
+    idle-first (start_state s) (length s.homes) refl refl k.first k.made e
+
 pub consistent_start : (s : Setting) → IsValid s → IsConsistent (start_state s)
 consistent_start s valid =
     let k = wires-well s.homes s.kernels s.wires (nothing_wired s.kernels) valid.homes valid.wires (nothing-well s.kernels (length s.homes)) in

@@ -315,7 +315,7 @@ module _ (s : State) (e : EndId) (n : ℕ) (p : Pid) (late : Bool) (k : IsConsis
   pub take-matched : (m : Message) × ((s.ends e).outward ≡ outward.Matched m)
   take-matched = matched-Matched (s.ends e).outward (and-true _ _ (and-true _ _ (and-true _ _ (and-true _ _ (and-true _ _ may).0).0).0).0).0
 
-  take-inward : (i : ℕ) × ((s.ends (opposite e)).inward ≡ inward.Matched i)
+  pub take-inward : (i : ℕ) × ((s.ends (opposite e)).inward ≡ inward.Matched i)
   take-inward = matched_with-Matched n (s.ends (opposite e)).inward (and-true _ _ (and-true _ _ may).0).1
 
   took : (m : Message) → (s.ends e).outward ≡ outward.Matched m
