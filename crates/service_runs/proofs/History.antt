@@ -42,16 +42,16 @@ use Rattle.service_step.specs.declared.state.Place.TheVariants as place
 
 pub flat_map-append : (g : ServiceStep × State → List ℕ) (a b : List (ServiceStep × State)) → flat_map g (a ++ b) ≡ flat_map g a ++ flat_map g b
 flat_map-append g [] b = refl
-flat_map-append g (x ∷ a) b = ap (λ l. g x ++ l) (flat_map-append g a b) ∙ sym (append_assoc {l = g x})
+flat_map-append g (x ∷ a) b = ap (λ l. g x ++ l) (flat_map-append g a b) ∙ sym (append_assoc (g x) (flat_map g a) (flat_map g b))
 
-flat_map-more : (g : ServiceStep × State → List ℕ) (past : List (ServiceStep × State)) (y : ServiceStep × State) (ns : List ℕ) → g y ≡ ns → flat_map g (past ++ y ∷ []) ≡ flat_map g past ++ ns
+pub flat_map-more : (g : ServiceStep × State → List ℕ) (past : List (ServiceStep × State)) (y : ServiceStep × State) (ns : List ℕ) → g y ≡ ns → flat_map g (past ++ y ∷ []) ≡ flat_map g past ++ ns
 flat_map-more g past y ns is = flat_map-append g past (y ∷ []) ∙ ap (λ l. flat_map g past ++ l) (append-nil (g y) ∙ is)
 
 map-more : (past : List (ServiceStep × State)) (y : ServiceStep × State) → map (λ made. made.0) (past ++ y ∷ []) ≡ map (λ made. made.0) past ++ y.0 ∷ []
 map-more [] y = refl
 map-more (x ∷ past) y = ap (λ l. x.0 ∷ l) (map-more past y)
 
-was-more : (past : List (ServiceStep × State)) (y : ServiceStep × State) (f : EndId) (n : ℕ) → WasMatched past f n → WasMatched (past ++ y ∷ []) f n
+pub was-more : (past : List (ServiceStep × State)) (y : ServiceStep × State) (f : EndId) (n : ℕ) → WasMatched past f n → WasMatched (past ++ y ∷ []) f n
 was-more past y f n was = subst (λ l. Contains l (step.Match f n)) (sym (map-more past y)) (Contains-append_left (map (λ made. made.0) past) (y.0 ∷ []) (step.Match f n) was)
 
 was-now : (past : List (ServiceStep × State)) (x : ServiceStep) (t : State) (f : EndId) (n : ℕ) → x ≡ step.Match f n → WasMatched (past ++ (x, t) ∷ []) f n
@@ -188,7 +188,7 @@ taken-more s past y f (outward.Waiting m) n is = tt
 taken-more s past y f (outward.Matched m) n is = tt
 taken-more s past y f outward.Reported n is = tt
 taken-more s past y f outward.Taken n is =
-    record { earlier = is.earlier; later = is.later ++ y ∷ []; p = is.p; late = is.late; left = is.left; stands = ap (λ l. l ++ y ∷ []) is.stands ∙ append_assoc {l = is.earlier}; owned = is.owned }
+    record { earlier = is.earlier; later = is.later ++ y ∷ []; p = is.p; late = is.late; left = is.left; stands = ap (λ l. l ++ y ∷ []) is.stands ∙ append_assoc is.earlier ((step.Take f n is.p is.late, is.left) ∷ is.later) (y ∷ []); owned = is.owned }
 
 bound-match : (out : Outward) (n : ℕ) → match_bound out n ≤ n + 1
 bound-match outward.Idle n = omega arith
@@ -219,7 +219,7 @@ module _ (s0 : State) (past : List (ServiceStep × State)) (s : State) (x : Serv
       subst (λ o. IsPast s0 (past ++ (x, t) ∷ []) f o (t.ends f).sent (t.ends f).noticed) (sym out)
       (subst (λ i. IsPast s0 (past ++ (x, t) ∷ []) f new i (t.ends f).noticed) (sym number) (subst (λ c. IsPast s0 (past ++ (x, t) ∷ []) f new k c) (sym noticed) is))
 
-  next-past : IsPast s0 past f (s.ends f).outward (s.ends f).sent (s.ends f).noticed → Move s x t f → IsPast s0 (past ++ (x, t) ∷ []) f (t.ends f).outward (t.ends f).sent (t.ends f).noticed
+  pub next-past : IsPast s0 past f (s.ends f).outward (s.ends f).sent (s.ends f).noticed → Move s x t f → IsPast s0 (past ++ (x, t) ∷ []) f (t.ends f).outward (t.ends f).sent (t.ends f).noticed
   next-past h (still out number noticed ns) =
       next-by (s.ends f).outward (s.ends f).outward (s.ends f).sent (s.ends f).sent (s.ends f).noticed (t.ends f).noticed out number refl
       (record {
