@@ -1,6 +1,3 @@
-pub mod EndEq
-pub mod Counts
-pub mod Change
-pub mod Shapes
-pub mod Facts
-pub mod StepsOfCalls
+pub mod Fresh
+pub mod History
+pub mod Turned

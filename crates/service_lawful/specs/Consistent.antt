@@ -31,7 +31,7 @@ abbrev pub is_over : Way → End → Bool
 is_over way.Outward x = is_reported_outward x.outward
 is_over way.Inward x = is_reported_inward x.inward
 
--- 1 where a report is of that way of an end
+-- whether a report is of that way of an end
 abbrev pub is_report_on : EndId → Way → Report → Bool
 is_report_on e w r = end_eq e r.on && way_eq w r.way
 
@@ -60,11 +60,11 @@ pub record AreKept (s : State) : Type 0 where
   pub resting : (e f : EndId) (n : ℕ) → (s.ends e).place ≡ place.InMessage f n → is_idle (s.ends e) ≡ true
 
 -- when the death of a link was noticed
-pub record AreNoticed (s : State) : Type 0 where
-  pub opposite : (e : EndId) → (s.ends e).noticed ≡ true → (s.ends (opposite e)).place ≡ place.Destroyed
+pub record AreNoticed (t : EndId → End) : Type 0 where
+  pub opposite : (e : EndId) → (t e).noticed ≡ true → (t (opposite e)).place ≡ place.Destroyed
   -- then no send waits, and no receive is started
-  pub outward : (e : EndId) → (s.ends e).noticed ≡ true → is_living (s.ends e).place ≡ true → waiting_message (s.ends e).outward ≡ None
-  pub inward : (e : EndId) → (s.ends e).noticed ≡ true → is_living (s.ends e).place ≡ true → is_started_inward (s.ends e).inward ≡ false
+  pub outward : (e : EndId) → (t e).noticed ≡ true → is_living (t e).place ≡ true → waiting_message (t e).outward ≡ None
+  pub inward : (e : EndId) → (t e).noticed ≡ true → is_living (t e).place ≡ true → is_started_inward (t e).inward ≡ false
 
 -- which reports stand
 pub record AreReported (s : State) : Type 0 where
@@ -88,6 +88,6 @@ pub record AreProcesses (s : State) : Type 0 where
 
 pub record IsConsistent (s : State) : Type 0 where
   pub kept : AreKept s
-  pub noticed : AreNoticed s
+  pub noticed : AreNoticed s.ends
   pub reported : AreReported s
   pub processes : AreProcesses s

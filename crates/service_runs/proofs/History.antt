@@ -14,14 +14,14 @@ use Rattle.std.proofs.lemmas.List.Elements.{Contains-append_left, Contains-appen
 use Rattle.std.specs.List.{filter, flat_map}
 use Rattle.charlotte_calls.specs.declared.calls.ServiceStep.{ServiceStep}
 use Rattle.charlotte_calls.specs.declared.calls.ServiceStep.TheVariants as step
-use Rattle.service_lawful.proofs.Counts.{and-true}
-use Rattle.service_lawful.proofs.EndEq.{end_eq-refl}
+use Rattle.service_change.proofs.Counts.{and-true}
+use Rattle.service_change.proofs.EndEq.{end_eq-refl}
 use Rattle.service_lawful.specs.Consistent.{IsConsistent}
-use Rattle.service_runs.proofs.Laws.{consistent_after}
+use Rattle.service_consistent.proofs.Laws.{consistent_after}
 use Rattle.service_runs.proofs.Moves.{HasNumbers, Move, completed, matched, over, sent, still, taken}
 use Rattle.service_runs.proofs.MovesOfSteps.{move, take-number}
 use Rattle.service_runs.proofs.ReportsOfSteps.{IsOfTake, reports-from}
-use Rattle.service_runs.proofs.StepsOfMessages.{take-inward}
+use Rattle.service_consistent.proofs.StepsOfMessages.{take-inward}
 use Rattle.service_step.specs.Ends.{end_eq, is_reported_inward}
 use Rattle.service_step.specs.Lawful.{AreRising, WasMatched, complete_number, match_number, number_on, send_number, take_number}
 use Rattle.service_step.specs.Run.{state_after}

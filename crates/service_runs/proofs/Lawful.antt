@@ -14,14 +14,14 @@ use Rattle.std.proofs.lemmas.List.Elements.{Contains-append_left, Contains-appen
 use Rattle.std.specs.List.{filter, flat_map}
 use Rattle.charlotte_calls.specs.declared.calls.ServiceStep.{ServiceStep}
 use Rattle.charlotte_calls.specs.declared.calls.ServiceStep.TheVariants as step
-use Rattle.service_lawful.proofs.Counts.{and-true}
-use Rattle.service_lawful.proofs.EndEq.{end_eq-refl}
+use Rattle.service_change.proofs.Counts.{and-true}
+use Rattle.service_change.proofs.EndEq.{end_eq-refl}
 use Rattle.service_lawful.specs.Consistent.{IsConsistent}
-use Rattle.service_runs.proofs.Laws.{consistent_after}
+use Rattle.service_consistent.proofs.Laws.{consistent_after}
 use Rattle.service_runs.proofs.Moves.{HasNumbers, Move, completed, matched, over, sent, still, taken}
 use Rattle.service_runs.proofs.MovesOfSteps.{complete-number, move, take-number}
 use Rattle.service_runs.proofs.ReportsOfSteps.{IsOfTake, reports-from}
-use Rattle.service_runs.proofs.StepsOfMessages.{take-inward}
+use Rattle.service_consistent.proofs.StepsOfMessages.{take-inward}
 use Rattle.service_step.specs.Ends.{end_eq, is_reported_inward}
 use Rattle.service_step.specs.Lawful.{AreRising, WasMatched, complete_number, match_number, number_on, send_number, take_number}
 use Rattle.service_step.specs.Run.{state_after}
@@ -38,11 +38,11 @@ use Rattle.service_step.specs.declared.state.Phase.TheVariants as phase
 use Rattle.service_step.specs.declared.state.Place.{Place}
 use Rattle.service_step.specs.declared.state.Place.TheVariants as place
 use Rattle.service_runs.proofs.History.{IsInOrder, IsMatchedFor, IsPast, IsTakenFor, WasTaken, after-more, flat_map-append, flat_map-more, next-past, once, was-more}
-use Rattle.service_runs.proofs.Starts.{consistent_start, start-idle}
-use Rattle.service_lawful.proofs.Change.{idle-parts}
-use Rattle.service_lawful.proofs.Counts.{Contains-count, count-Contains, counted-reported}
-use Rattle.service_lawful.proofs.EndEq.{opposite-opposite}
-use Rattle.service_lawful.proofs.Facts.{not-false, owned_by-Owned, taken-Taken}
+use Rattle.service_consistent.proofs.Starts.{consistent_start, start-idle}
+use Rattle.service_change.proofs.Change.{idle-parts}
+use Rattle.service_change.proofs.Counts.{Contains-count, count-Contains, counted-reported}
+use Rattle.service_change.proofs.EndEq.{opposite-opposite}
+use Rattle.service_change.proofs.Facts.{not-false, owned_by-Owned, taken-Taken}
 use Rattle.service_lawful.specs.Consistent.{is_open, is_over, reports_on}
 use Rattle.charlotte_calls.specs.Setting.{IsValid}
 use Rattle.charlotte_calls.specs.declared.calls.Call.TheVariants as call

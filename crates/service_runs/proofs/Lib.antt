@@ -1,9 +1,3 @@
-pub mod StepsOfMessages
-pub mod StepsOfDeaths
-pub mod Makes
-pub mod Exits
-pub mod Starts
-pub mod Laws
 pub mod Moves
 pub mod MovesOfSteps
 pub mod ReportsOfSteps

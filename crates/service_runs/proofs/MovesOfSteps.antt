@@ -14,10 +14,10 @@ use Rattle.std.proofs.lemmas.List.Elements.{Contains-append_right}
 use Rattle.charlotte_calls.specs.declared.calls.Cause.TheVariants as cause
 use Rattle.charlotte_calls.specs.declared.calls.ServiceStep.{ServiceStep}
 use Rattle.charlotte_calls.specs.declared.calls.ServiceStep.TheVariants as step
-use Rattle.service_lawful.proofs.Change.{none-some}
-use Rattle.service_lawful.proofs.Counts.{and-true, pid_tells}
-use Rattle.service_lawful.proofs.EndEq.{end_eq-apart, end_eq-refl, end_eq-same, opposite-apart, put-at, put-other, puts-at, puts-other}
-use Rattle.service_lawful.proofs.Facts.{busy-made, busy-outward, made-owned, matched-Matched, none-first, not-false, not-true, owner-Owned, put_process-at, put_process-other, taken-Taken, waiting-Waiting, wakes-woken}
+use Rattle.service_change.proofs.Change.{none-some}
+use Rattle.service_change.proofs.Counts.{and-true, pid_tells}
+use Rattle.service_change.proofs.EndEq.{end_eq-apart, end_eq-refl, end_eq-same, opposite-apart, put-at, put-other, puts-at, puts-other}
+use Rattle.service_change.proofs.Facts.{busy-made, busy-outward, made-owned, matched-Matched, none-first, not-false, not-true, owner-Owned, put_process-at, put_process-other, taken-Taken, waiting-Waiting, wakes-woken}
 use Rattle.service_lawful.specs.Consistent.{IsConsistent}
 use Rattle.service_step.specs.Causes.{first_of, send_causes, is_missing_one, has_busy_one, names_twice, same_link}
 use Rattle.service_step.specs.Ends.{end_eq, fresh, unmade, carried_by, destroys, destroys_each, destroys_owned, dropped, idles, is_destroyed, is_idle, is_idle_outward, is_made, is_owned_by, is_taken, makes, matched_message, matched_outward, matches, noticed_end, noticed_outward, notices, owner, places, put, puts, returned_end, returns, starts_send, takes, to_owner, turns_inward, turns_outward, waiting_message, withdraws_send}
@@ -35,9 +35,9 @@ use Rattle.service_step.specs.declared.state.Phase.{Phase}
 use Rattle.service_step.specs.declared.state.Phase.TheVariants as phase
 use Rattle.service_step.specs.declared.state.Place.{Place}
 use Rattle.service_step.specs.declared.state.Place.TheVariants as place
-use Rattle.service_lawful.proofs.EndEq.{end_eq-sym}
+use Rattle.service_change.proofs.EndEq.{end_eq-sym}
 use Rattle.service_runs.proofs.Moves.{HasNumbers, Move, completed, destroys-ended, destroys_each-ended, makes-sends, matched, may-sent, move-by, move-ended, move-over, none, noticed-or, number-its, number-other, over, places-sends, puts-apart, same-number, sends_of, sent, still, still-as, taken, turns_inward-sends}
-use Rattle.service_runs.proofs.StepsOfMessages.{take-matched, take-owned}
+use Rattle.service_consistent.proofs.StepsOfMessages.{take-matched, take-owned}
 use Rattle.service_step.specs.Ends.{is_living}
 use Rattle.service_step.specs.State.{given, next_link, turns}
 use Rattle.service_step.specs.Steps.{is_new_pair, may_make}

@@ -11,10 +11,10 @@ use Rattle.charlotte_calls.specs.declared.names.Way.{Way}
 use Rattle.charlotte_calls.specs.declared.names.Way.TheVariants as way
 use Rattle.charlotte_calls.specs.declared.calls.ServiceStep.{ServiceStep}
 use Rattle.charlotte_calls.specs.declared.calls.ServiceStep.TheVariants as step
-use Rattle.service_lawful.proofs.Counts.{pid_tells}
-use Rattle.service_lawful.proofs.Facts.{put_process-at, put_process-other, wakes-woken}
+use Rattle.service_change.proofs.Counts.{pid_tells}
+use Rattle.service_change.proofs.Facts.{put_process-at, put_process-other, wakes-woken}
 use Rattle.service_lawful.specs.Consistent.{IsConsistent}
-use Rattle.service_runs.proofs.StepsOfMessages.{take-matched}
+use Rattle.service_consistent.proofs.StepsOfMessages.{take-matched}
 use Rattle.service_step.specs.Ends.{is_started_inward, matched_message, owner, waiting_message}
 use Rattle.service_step.specs.State.{State, Process, dead_receive_report, ends_process, gains, given, later, no_process, put_process, receive_report, send_report, tells, turns, wakes}
 use Rattle.service_step.specs.Steps.{IsServiceStep, after_cancel, dead_reports, done_reports, gains_owner, returned_reports, tells_returned, wakes_owner}

@@ -2,25 +2,14 @@
 
 ghost use Rattle.std.specs.Prelude.{List};
 ghost use Rattle.charlotte_calls.specs.Setting.{IsValid};
-ghost use Rattle.charlotte_calls.specs.declared.calls.ServiceStep.{ServiceStep};
-ghost use Rattle.charlotte_calls.specs.declared.setting.Setting.{Setting};
-ghost use Rattle.service_lawful.specs.Consistent.{IsConsistent};
+ghost use Rattle.charlotte_calls.specs.declared.calls.ServiceStep.{ServiceStep as AStep};
+ghost use Rattle.charlotte_calls.specs.declared.setting.Setting.{Setting as ASetting};
 ghost use Rattle.service_step.specs.Lawful.{IsLawful};
 ghost use Rattle.service_step.specs.Run.{IsServiceRun, start_state};
 ghost use Rattle.service_step.specs.State.{State};
-ghost use Rattle.service_step.specs.Steps.{IsServiceStep};
 
-/// The state at the start of a valid setting is consistent.
-pub fn the_start_is_consistent()
-    ensures { (s : Setting) → IsValid s → IsConsistent (start_state s) }
-{}
-
-/// Every step of the service leaves a consistent state consistent.
-pub fn every_step_is_consistent()
-    ensures { (s : State) (x : ServiceStep) (t : State) → IsConsistent s → IsServiceStep s x t → IsConsistent t }
-{}
-
-/// Every run of the service from the start of a valid setting is lawful.
+/// Every run of the service from the start of a valid setting is lawful: in each of its states each living end is held once, a send
+/// completes once its message was taken once, messages go in the order of their numbers, and a Cancel comes too late only after a match.
 pub fn every_service_run_is_lawful()
-    ensures { (s : Setting) (run : List (ServiceStep × State)) → IsValid s → IsServiceRun s run → IsLawful (start_state s) run }
+    ensures { (s : ASetting) (run : List (AStep × State)) → IsValid s → IsServiceRun s run → IsLawful (start_state s) run }
 {}

@@ -9,9 +9,9 @@ use Rattle.charlotte_calls.specs.declared.names.Outcome.TheVariants as outcome
 use Rattle.charlotte_calls.specs.declared.names.Pid.{Pid}
 use Rattle.charlotte_calls.specs.declared.names.Way.{Way}
 use Rattle.charlotte_calls.specs.declared.names.Way.TheVariants as way
-use Rattle.service_lawful.proofs.Change.{IsChange, IsGoing, IsMoving, IsTelling, IsWell, Part, IsWell-idle, change-consistent, idle-message, living-made, none-some, its, carried, other}
-use Rattle.service_lawful.proofs.Counts.{IsAfter, IsCounted, IsCountedAt, counted-reported, counted-same, counted-told, counts, is_report_on-other, pid_tells, reports_on-append}
-use Rattle.service_lawful.proofs.EndEq.{among, among-Contains, Contains-among, at_place, end_eq-apart, end_eq-refl, end_eq-same, places-among, places-other, puts-at, puts-other}
+use Rattle.service_change.proofs.Change.{IsChange, IsGoing, IsMoving, IsTelling, IsWell, Part, IsWell-idle, change-consistent, idle-message, living-made, none-some, its, carried, other}
+use Rattle.service_change.proofs.Counts.{IsAfter, IsCounted, IsCountedAt, counted-reported, counted-same, counted-told, counts, is_report_on-other, pid_tells, reports_on-append}
+use Rattle.service_change.proofs.EndEq.{among, among-Contains, Contains-among, at_place, end_eq-apart, end_eq-refl, end_eq-same, places-among, places-other, puts-at, puts-other}
 use Rattle.service_lawful.specs.Consistent.{IsConsistent, AreProcesses, is_over, is_open, reports_on}
 use Rattle.service_step.specs.Causes.{names_twice, same_link}
 use Rattle.service_step.specs.Ends.{end_eq, unmade, is_made, is_living, is_destroyed, owner, is_idle, is_started_inward, places, puts, waiting_message}

@@ -14,10 +14,10 @@ use Rattle.charlotte_calls.specs.declared.names.LinkId.{LinkId}
 use Rattle.charlotte_calls.specs.declared.names.Side.{Side}
 use Rattle.charlotte_calls.specs.declared.names.Side.TheVariants.{A, B}
 use Rattle.charlotte_calls.specs.Names.{other_side}
-use Rattle.service_lawful.proofs.Change.{IsWell, IsWell-idle, IsCarried-at, none-some, well-kept}
-use Rattle.service_lawful.proofs.Counts.{IsCountedAt, AreDone, and-true, counted-none, counted-reported, counted-same, counts-none, reported-counted}
-use Rattle.service_lawful.proofs.EndEq.{end_eq-apart, end_eq-refl, end_eq-same, put-at, put-other}
-use Rattle.service_lawful.proofs.Facts.{not-true, running-is}
+use Rattle.service_change.proofs.Change.{IsWell, IsWell-idle, IsCarried-at, none-some, well-kept}
+use Rattle.service_change.proofs.Counts.{IsCountedAt, AreDone, and-true, counted-none, counted-reported, counted-same, counts-none, reported-counted}
+use Rattle.service_change.proofs.EndEq.{end_eq-apart, end_eq-refl, end_eq-same, put-at, put-other}
+use Rattle.service_change.proofs.Facts.{not-true, running-is}
 use Rattle.service_lawful.specs.Consistent.{IsConsistent, AreKept, AreNoticed, AreProcesses, is_over, is_open, reports_on}
 use Rattle.service_step.specs.Ends.{end_eq, fresh, unmade, is_made, is_living, is_started_inward, makes, put}
 use Rattle.service_step.specs.Lawful.{AreHeldOnce, IsCarried, IsHeldAt, message_of}

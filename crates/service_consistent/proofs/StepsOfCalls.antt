@@ -10,13 +10,13 @@ use Rattle.charlotte_calls.specs.declared.names.Pid.{Pid}
 use Rattle.charlotte_calls.specs.declared.names.Way.{Way}
 use Rattle.charlotte_calls.specs.declared.names.Way.TheVariants as way
 use Rattle.charlotte_calls.specs.declared.calls.Cause.TheVariants as cause
-use Rattle.service_lawful.proofs.Change.{IsWell, IsMoving, Part, idle-message, idle-over, idle-parts, living-made, none-some, well-kept, IsCarried-at, other}
-use Rattle.service_lawful.proofs.Counts.{IsAfter, and-true, counted-reported, counted-same, pid_tells, reported-counted}
-use Rattle.service_lawful.proofs.EndEq.{end_eq-apart, end_eq-refl, opposite-apart, opposite-opposite}
-use Rattle.service_lawful.proofs.Shapes.{AreFor, IsHereFor, IsLed, IsNewly, IsNext, IsShape, IsTold, consistent-by, going-led, going-same, here-kept, here-woken, shape-dropped, shape-kept, shape-sent, telling-quiet, telling-told, told-same}
+use Rattle.service_change.proofs.Change.{IsWell, IsMoving, Part, idle-message, idle-over, idle-parts, living-made, none-some, well-kept, IsCarried-at, other}
+use Rattle.service_change.proofs.Counts.{IsAfter, and-true, counted-reported, counted-same, pid_tells, reported-counted}
+use Rattle.service_change.proofs.EndEq.{end_eq-apart, end_eq-refl, opposite-apart, opposite-opposite}
+use Rattle.service_change.proofs.Shapes.{AreFor, IsHereFor, IsLed, IsNewly, IsNext, IsShape, IsTold, consistent-by, going-led, going-same, here-kept, here-woken, shape-dropped, shape-kept, shape-sent, telling-quiet, telling-told, told-same}
 use Rattle.service_lawful.specs.Consistent.{IsConsistent, AreKept, AreNoticed, AreProcesses, is_over, is_open, reports_on}
-use Rattle.service_lawful.proofs.Facts.{IsAway, IsWell-changed, away-gone, away-owned, busy-made, made-owned, next-same, none-first, not-false, not-true, over-both, owned_by-Owned, owner-Owned, posted-started, put_process-at, put_process-other, running-is, running-owner, waiting-Waiting}
-use Rattle.service_lawful.proofs.EndEq.{among, end_eq-same}
+use Rattle.service_change.proofs.Facts.{IsAway, IsWell-changed, away-gone, away-owned, busy-made, made-owned, next-same, none-first, not-false, not-true, over-both, owned_by-Owned, owner-Owned, posted-started, put_process-at, put_process-other, running-is, running-owner, waiting-Waiting}
+use Rattle.service_change.proofs.EndEq.{among, end_eq-same}
 use Rattle.service_step.specs.Causes.{names_twice, same_link, first_of, send_causes, receive_causes, no_end, is_missing_one, has_busy_one}
 use Rattle.service_step.specs.Ends.{end_eq, unmade, is_made, is_living, is_destroyed, owner, is_owned_by, is_idle, is_idle_outward, is_idle_inward, is_posted, is_matched_inward, is_reported_outward, is_reported_inward, is_started_inward, waiting_message, carried_by, dropped, places, puts, destroys, starts_send, turns_inward, turns_outward, withdraws_send}
 use Rattle.service_step.specs.Lawful.{AreHeldOnce, IsCarried, IsHeldAt, message_of}

@@ -2,12 +2,12 @@
 use Rattle.std.proofs.Common.{◌≡◌, ℕ, List, [], ◌∷◌, refl, sym, ap, subst, ◌∙◌}
 use Rattle.charlotte_calls.specs.declared.calls.ServiceStep.{ServiceStep}
 use Rattle.charlotte_calls.specs.declared.calls.ServiceStep.TheVariants as step
-use Rattle.service_lawful.proofs.StepsOfCalls.{consistent-cancel, consistent-destroy, consistent-receive, consistent-send, consistent-wait}
+use Rattle.service_consistent.proofs.StepsOfCalls.{consistent-cancel, consistent-destroy, consistent-receive, consistent-send, consistent-wait}
 use Rattle.service_lawful.specs.Consistent.{IsConsistent}
-use Rattle.service_runs.proofs.Exits.{consistent-exit}
-use Rattle.service_runs.proofs.Makes.{consistent-make}
-use Rattle.service_runs.proofs.StepsOfDeaths.{consistent-notice, consistent-report, consistent-return}
-use Rattle.service_runs.proofs.StepsOfMessages.{consistent-complete, consistent-free, consistent-match, consistent-take, consistent-withdraw}
+use Rattle.service_consistent.proofs.Exits.{consistent-exit}
+use Rattle.service_consistent.proofs.Makes.{consistent-make}
+use Rattle.service_consistent.proofs.StepsOfDeaths.{consistent-notice, consistent-report, consistent-return}
+use Rattle.service_consistent.proofs.StepsOfMessages.{consistent-complete, consistent-free, consistent-match, consistent-take, consistent-withdraw}
 use Rattle.service_step.specs.State.{State}
 use Rattle.service_step.specs.Steps.{IsServiceStep}
 

@@ -17,11 +17,11 @@ use Rattle.charlotte_calls.specs.Setting.{IsValid}
 use Rattle.charlotte_calls.specs.declared.names.LinkId.{LinkId}
 use Rattle.charlotte_calls.specs.declared.names.Side.TheVariants.{A, B}
 use Rattle.charlotte_calls.specs.declared.setting.Setting.{Setting}
-use Rattle.service_lawful.proofs.Change.{idle-message, idle-over}
-use Rattle.service_lawful.proofs.Counts.{counted-none, reported-counted}
-use Rattle.service_lawful.proofs.EndEq.{end_eq-apart, end_eq-same, put-at, put-other}
+use Rattle.service_change.proofs.Change.{idle-message, idle-over}
+use Rattle.service_change.proofs.Counts.{counted-none, reported-counted}
+use Rattle.service_change.proofs.EndEq.{end_eq-apart, end_eq-same, put-at, put-other}
 use Rattle.service_lawful.specs.Consistent.{IsConsistent, is_over, reports_on}
-use Rattle.service_runs.proofs.Makes.{lt-same, same-link}
+use Rattle.service_consistent.proofs.Makes.{lt-same, same-link}
 use Rattle.service_step.specs.Ends.{end_eq, fresh, unmade, is_made, is_idle, put}
 use Rattle.service_step.specs.Lawful.{IsCarried, IsHeldAt, message_of}
 use Rattle.service_step.specs.Run.{Wired, first_end, new_process, new_processes, nothing_wired, start_state, wired, wires_one}

@@ -8,8 +8,8 @@ use Rattle.charlotte_calls.specs.declared.names.Outcome.TheVariants as outcome
 use Rattle.charlotte_calls.specs.declared.names.Pid.{Pid}
 use Rattle.charlotte_calls.specs.declared.names.Way.{Way}
 use Rattle.charlotte_calls.specs.declared.names.Way.TheVariants as way
-use Rattle.service_lawful.proofs.Counts.{IsAfter, IsCounted, IsCountedAt, AreDone, Contains-count, and-true, counted-none, counted-reported, counted-same, counts, counts-none, reported-counted}
-use Rattle.service_lawful.proofs.EndEq.{among, among-Contains, Contains-among, at_place, end_eq-apart, end_eq-refl, end_eq-same, opposite-apart}
+use Rattle.service_change.proofs.Counts.{IsAfter, IsCounted, IsCountedAt, AreDone, Contains-count, and-true, counted-none, counted-reported, counted-same, counts, counts-none, reported-counted}
+use Rattle.service_change.proofs.EndEq.{among, among-Contains, Contains-among, at_place, end_eq-apart, end_eq-refl, end_eq-same, opposite-apart}
 use Rattle.service_lawful.specs.Consistent.{IsConsistent, AreKept, AreNoticed, AreProcesses, is_over, is_open, reports_on}
 use Rattle.service_step.specs.Causes.{names_twice, same_link}
 use Rattle.service_step.specs.Ends.{end_eq, unmade, is_made, is_living, is_destroyed, owner, is_idle, is_idle_outward, is_idle_inward, is_started_inward, waiting_message}
@@ -90,7 +90,7 @@ IsWell-idle e x idle made =
     busy : (m : Message) → x.outward ≡ outward.Waiting m → ⊥
     busy m is = let none = (idle-parts x idle).0 in cc
 
-pub well-kept : (s : State) → AreKept s → AreNoticed s → (e : EndId) → IsWell e (s.ends e)
+pub well-kept : (s : State) → AreKept s → AreNoticed s.ends → (e : EndId) → IsWell e (s.ends e)
 well-kept s k d e =
     record {
       unmade = k.unmade e;
@@ -275,7 +275,7 @@ module _ (s t : State) (e : EndId) (xs : List EndId) (at : Place) (c : IsChange 
         resting = λ q f n is. (change-well q).resting f n is;
       }
 
-  change-AreNoticed : AreNoticed t
+  change-AreNoticed : AreNoticed t.ends
   change-AreNoticed = record { opposite = change-noticed; outward = λ q. (change-well q).silent; inward = λ q. (change-well q).deaf }
 
   change-processes : AreProcesses t

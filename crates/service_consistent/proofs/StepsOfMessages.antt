@@ -9,13 +9,13 @@ use Rattle.charlotte_calls.specs.declared.names.Outcome.TheVariants as outcome
 use Rattle.charlotte_calls.specs.declared.names.Pid.{Pid}
 use Rattle.charlotte_calls.specs.declared.names.Way.{Way}
 use Rattle.charlotte_calls.specs.declared.names.Way.TheVariants as way
-use Rattle.service_lawful.proofs.Change.{IsWell, IsMoving, Part, idle-message, idle-over, idle-parts, living-made, none-some, well-kept, IsCarried-at, other}
-use Rattle.service_lawful.proofs.Counts.{IsAfter, and-true, counted-reported, counted-same, pid_tells, reported-counted}
-use Rattle.service_lawful.proofs.EndEq.{end_eq-apart, end_eq-refl, opposite-apart, opposite-opposite}
-use Rattle.service_lawful.proofs.Shapes.{AreFor, IsHereFor, IsLed, IsNewly, IsNext, IsShape, IsTold, consistent-by, going-led, going-same, here-kept, here-woken, shape-dropped, shape-kept, shape-sent, telling-quiet, telling-told, told-same}
+use Rattle.service_change.proofs.Change.{IsWell, IsMoving, Part, idle-message, idle-over, idle-parts, living-made, none-some, well-kept, IsCarried-at, other}
+use Rattle.service_change.proofs.Counts.{IsAfter, and-true, counted-reported, counted-same, pid_tells, reported-counted}
+use Rattle.service_change.proofs.EndEq.{end_eq-apart, end_eq-refl, opposite-apart, opposite-opposite}
+use Rattle.service_change.proofs.Shapes.{AreFor, IsHereFor, IsLed, IsNewly, IsNext, IsShape, IsTold, consistent-by, going-led, going-same, here-kept, here-woken, shape-dropped, shape-kept, shape-sent, telling-quiet, telling-told, told-same}
 use Rattle.service_lawful.specs.Consistent.{IsConsistent, AreKept, AreNoticed, AreProcesses, is_over, is_open, reports_on}
-use Rattle.service_lawful.proofs.EndEq.{among, end_eq-same, end_eq-sym, puts-at, puts-other}
-use Rattle.service_lawful.proofs.Facts.{IsAway, IsWell-changed, away-gone, away-owned, busy-away, busy-inward, busy-made, busy-outward, led-wakes, made-owned, matched-Matched, matched_with-Matched, next-same, not-true, over-both, owned_by-Owned, owner-Owned, owner_cancels-is, posted-Posted, some-is, taken-Taken, told-gains, told-tells, waiting-Waiting, wakes-woken, withdrawn-Withdrawn}
+use Rattle.service_change.proofs.EndEq.{among, end_eq-same, end_eq-sym, puts-at, puts-other}
+use Rattle.service_change.proofs.Facts.{IsAway, IsWell-changed, away-gone, away-owned, busy-away, busy-inward, busy-made, busy-outward, led-wakes, made-owned, matched-Matched, matched_with-Matched, next-same, not-true, over-both, owned_by-Owned, owner-Owned, owner_cancels-is, posted-Posted, some-is, taken-Taken, told-gains, told-tells, waiting-Waiting, wakes-woken, withdrawn-Withdrawn}
 use Rattle.service_step.specs.Ends.{end_eq, unmade, is_made, is_living, is_destroyed, owner, is_owned_by, is_idle, is_posted, is_matched_inward, is_matched_with, is_reported_outward, is_reported_inward, is_started_inward, is_taken, is_withdrawn, matched_message, matched_outward, waiting_message, carried_by, places, puts, matches, takes, turns_inward, turns_outward}
 use Rattle.service_step.specs.Lawful.{AreHeldOnce, IsCarried, IsHeldAt, message_of}
 use Rattle.service_step.specs.State.{State, Process, is_cancelling, gains, owner_cancels, receive_report, send_report, tells, wakes}

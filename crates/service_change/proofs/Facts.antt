@@ -10,10 +10,10 @@ use Rattle.charlotte_calls.specs.declared.names.Pid.{Pid}
 use Rattle.charlotte_calls.specs.declared.names.Way.{Way}
 use Rattle.charlotte_calls.specs.declared.names.Way.TheVariants as way
 use Rattle.charlotte_calls.specs.declared.calls.Cause.{Cause}
-use Rattle.service_lawful.proofs.Change.{IsWell, idle-message, idle-over, idle-parts, none-some, well-kept}
-use Rattle.service_lawful.proofs.Counts.{pid_tells}
-use Rattle.service_lawful.proofs.EndEq.{end_eq-refl}
-use Rattle.service_lawful.proofs.Shapes.{IsLed, IsNext, IsTold}
+use Rattle.service_change.proofs.Change.{IsWell, idle-message, idle-over, idle-parts, none-some, well-kept}
+use Rattle.service_change.proofs.Counts.{pid_tells}
+use Rattle.service_change.proofs.EndEq.{end_eq-refl}
+use Rattle.service_change.proofs.Shapes.{IsLed, IsNext, IsTold}
 use Rattle.service_lawful.specs.Consistent.{IsConsistent, is_over}
 use Rattle.service_step.specs.Ends.{end_eq, unmade, is_made, is_living, is_destroyed, owner, is_owned_by, is_idle, is_posted, is_reported_outward, is_reported_inward, is_started_inward, is_taken, is_withdrawn, is_matched_with, is_matched_inward, matched_message, waiting_message}
 use Rattle.service_step.specs.Lawful.{message_of}

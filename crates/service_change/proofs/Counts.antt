@@ -8,7 +8,7 @@ use Rattle.charlotte_calls.specs.declared.names.Outcome.TheVariants as outcome
 use Rattle.charlotte_calls.specs.declared.names.Pid.{Pid}
 use Rattle.charlotte_calls.specs.declared.names.Way.{Way}
 use Rattle.charlotte_calls.specs.declared.names.Way.TheVariants as way
-use Rattle.service_lawful.proofs.EndEq.{end_eq-same, end_eq-refl}
+use Rattle.service_change.proofs.EndEq.{end_eq-same, end_eq-refl}
 use Rattle.service_lawful.specs.Consistent.{way_eq, is_over, is_open, is_report_on, reports_on, AreReported}
 use Rattle.service_step.specs.Ends.{end_eq, is_living}
 use Rattle.service_step.specs.State.{State}

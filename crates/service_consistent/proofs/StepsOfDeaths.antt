@@ -9,16 +9,16 @@ use Rattle.charlotte_calls.specs.declared.names.Outcome.TheVariants as outcome
 use Rattle.charlotte_calls.specs.declared.names.Pid.{Pid}
 use Rattle.charlotte_calls.specs.declared.names.Way.{Way}
 use Rattle.charlotte_calls.specs.declared.names.Way.TheVariants as way
-use Rattle.service_lawful.proofs.Change.{IsWell, IsMoving, Part, idle-message, idle-over, idle-parts, living-made, none-some, well-kept, IsCarried-at, other}
-use Rattle.service_lawful.proofs.Counts.{IsAfter, and-true, counted-reported, counted-same, pid_tells, reported-counted}
-use Rattle.service_lawful.proofs.EndEq.{end_eq-apart, end_eq-refl, opposite-apart, opposite-opposite}
-use Rattle.service_lawful.proofs.Shapes.{AreFor, IsHereFor, IsLed, IsNewly, IsNext, IsShape, IsTold, consistent-by, going-led, going-same, here-kept, here-woken, shape-dropped, shape-kept, shape-sent, telling-quiet, telling-told, told-same}
+use Rattle.service_change.proofs.Change.{IsWell, IsMoving, Part, idle-message, idle-over, idle-parts, living-made, none-some, well-kept, IsCarried-at, other}
+use Rattle.service_change.proofs.Counts.{IsAfter, and-true, counted-reported, counted-same, pid_tells, reported-counted}
+use Rattle.service_change.proofs.EndEq.{end_eq-apart, end_eq-refl, opposite-apart, opposite-opposite}
+use Rattle.service_change.proofs.Shapes.{AreFor, IsHereFor, IsLed, IsNewly, IsNext, IsShape, IsTold, consistent-by, going-led, going-same, here-kept, here-woken, shape-dropped, shape-kept, shape-sent, telling-quiet, telling-told, told-same}
 use Rattle.service_lawful.specs.Consistent.{IsConsistent, AreKept, AreNoticed, AreProcesses, is_over, is_open, reports_on}
-use Rattle.service_lawful.proofs.Counts.{IsCounted, IsCountedAt, Contains-count, counted-none, counts, is_report_on-its, is_report_on-other, reports_on-append}
-use Rattle.service_lawful.proofs.EndEq.{among, end_eq-same, end_eq-sym, puts-at, puts-other}
-use Rattle.service_lawful.proofs.Facts.{IsAway, IsWell-changed, away-gone, away-owned, busy-away, busy-inward, busy-made, busy-outward, made-owned, matched-Matched, next-same, not-true, over-both, owner-Owned, put_process-at, put_process-other, some-is, told-gains, told-tells, waiting-Waiting, waiting-is}
-use Rattle.service_runs.proofs.StepsOfMessages.{owned-lives}
-use Rattle.service_lawful.proofs.Change.{IsTelling, IsWell-idle}
+use Rattle.service_change.proofs.Counts.{IsCounted, IsCountedAt, Contains-count, counted-none, counts, is_report_on-its, is_report_on-other, reports_on-append}
+use Rattle.service_change.proofs.EndEq.{among, end_eq-same, end_eq-sym, puts-at, puts-other}
+use Rattle.service_change.proofs.Facts.{IsAway, IsWell-changed, away-gone, away-owned, busy-away, busy-inward, busy-made, busy-outward, made-owned, matched-Matched, next-same, not-true, over-both, owner-Owned, put_process-at, put_process-other, some-is, told-gains, told-tells, waiting-Waiting, waiting-is}
+use Rattle.service_consistent.proofs.StepsOfMessages.{owned-lives}
+use Rattle.service_change.proofs.Change.{IsTelling, IsWell-idle}
 use Rattle.service_lawful.specs.Consistent.{is_report_on}
 use Rattle.service_step.specs.Ends.{end_eq, unmade, is_made, is_living, is_destroyed, owner, is_idle, is_reported_outward, is_reported_inward, is_started_inward, matched_message, waiting_message, carried_by, noticed_end, noticed_inward, noticed_outward, places, puts, idles, notices, returned_end, returns, to_owner, turns_inward, turns_outward}
 use Rattle.service_step.specs.Lawful.{IsHeldAt, message_of}

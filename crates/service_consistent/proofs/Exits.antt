@@ -10,11 +10,11 @@ use Rattle.charlotte_calls.specs.declared.names.Pid.{Pid}
 use Rattle.charlotte_calls.specs.declared.names.Way.{Way}
 use Rattle.charlotte_calls.specs.declared.names.Way.TheVariants as way
 use Rattle.std.specs.List.{fold}
-use Rattle.service_lawful.proofs.Change.{IsCarried-at}
-use Rattle.service_lawful.proofs.Counts.{pid_tells}
-use Rattle.service_lawful.proofs.EndEq.{among, Contains-among, end_eq-same, put-at, put-other, puts-at, puts-other}
-use Rattle.service_lawful.proofs.Facts.{owned_by-Owned, put_process-at, put_process-other, running-is}
-use Rattle.service_lawful.proofs.StepsOfCalls.{IsOwnedRunning, consistent-destroys}
+use Rattle.service_change.proofs.Change.{IsCarried-at}
+use Rattle.service_change.proofs.Counts.{pid_tells}
+use Rattle.service_change.proofs.EndEq.{among, Contains-among, end_eq-same, put-at, put-other, puts-at, puts-other}
+use Rattle.service_change.proofs.Facts.{owned_by-Owned, put_process-at, put_process-other, running-is}
+use Rattle.service_consistent.proofs.StepsOfCalls.{IsOwnedRunning, consistent-destroys}
 use Rattle.service_lawful.specs.Consistent.{IsConsistent, is_over, is_open, reports_on}
 use Rattle.service_step.specs.Ends.{end_eq, is_idle, owner, unmade, carried_by, destroys, destroys_each, destroys_owned, dropped, is_made, is_owned_by, is_living, is_started_inward, places, put, puts, waiting_message}
 use Rattle.service_step.specs.Causes.{names_twice, same_link}

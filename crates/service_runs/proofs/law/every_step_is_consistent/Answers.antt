@@ -1,5 +1,0 @@
-use Rattle.service_runs.proofs.Laws.{consistent_after}
-use Rattle.service_runs.proofs.law.every_step_is_consistent.Goals as goal
-
-pub returns : goal.returns
-returns c = consistent_after
