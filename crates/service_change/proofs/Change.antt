@@ -1,5 +1,5 @@
 -- One end changes, and with it the ends that its message carries: why what is true of the state stays true.
-use Rattle.std.proofs.Common.{◌≡◌, ◌≢◌, ℕ, zero, suc, ◌+◌, ◌<◌, ◌≤◌, Bool, true, false, true≢false, nat_eq, nat_lt, ◌&&◌, not, ◌⊎◌, inl, inr, if◌then◌else◌, length, Option, Some, None, IsSome, List, [], ◌∷◌, ◌++◌, Contains, slice_index, refl, sym, ap, subst, ◌∙◌, arith, rules}
+use Rattle.std.proofs.Common.{◌≡◌, ◌≢◌, ℕ, ◌≤◌, Bool, true, false, true≢false, nat_lt, ◌&&◌, not, ◌⊎◌, inl, inr, if◌then◌else◌, length, Option, Some, None, IsSome, List, [], Contains, slice_index, refl, sym, ap, subst, ◌∙◌}
 use Rattle.std.specs.List.{list_any}
 use Rattle.charlotte_calls.specs.Names.{opposite}
 use Rattle.charlotte_calls.specs.declared.calls.Report.{Report}
@@ -8,13 +8,13 @@ use Rattle.charlotte_calls.specs.declared.names.Outcome.TheVariants as outcome
 use Rattle.charlotte_calls.specs.declared.names.Pid.{Pid}
 use Rattle.charlotte_calls.specs.declared.names.Way.{Way}
 use Rattle.charlotte_calls.specs.declared.names.Way.TheVariants as way
-use Rattle.service_change.proofs.Counts.{IsAfter, IsCounted, IsCountedAt, AreDone, Contains-count, and-true, counted-none, counted-reported, counted-same, counts, counts-none, reported-counted}
-use Rattle.service_change.proofs.EndEq.{among, among-Contains, Contains-among, at_place, end_eq-apart, end_eq-refl, end_eq-same, opposite-apart}
-use Rattle.service_lawful.specs.Consistent.{IsConsistent, AreKept, AreNoticed, AreProcesses, is_over, is_open, reports_on}
+use Rattle.service_change.proofs.Counts.{IsAfter, IsCountedAt, AreDone, and-true, counted-none, counted-reported, counted-same, counts, counts-none, reported-counted}
+use Rattle.service_change.proofs.EndEq.{among, at_place, end_eq-apart, end_eq-same}
+use Rattle.service_lawful.specs.Consistent.{IsConsistent, AreKept, AreNoticed, AreProcesses, is_over, is_open}
 use Rattle.service_step.specs.Causes.{names_twice, same_link}
-use Rattle.service_step.specs.Ends.{end_eq, unmade, is_made, is_living, is_destroyed, owner, is_idle, is_idle_outward, is_idle_inward, is_started_inward, waiting_message}
-use Rattle.service_step.specs.Lawful.{AreHeldOnce, IsCarried, IsHeldAt, message_of}
-use Rattle.service_step.specs.State.{State, Process, no_process}
+use Rattle.service_step.specs.Ends.{end_eq, unmade, is_made, is_living, owner, is_idle, is_idle_outward, is_idle_inward, is_started_inward, waiting_message}
+use Rattle.service_step.specs.Lawful.{IsCarried, IsHeldAt, message_of}
+use Rattle.service_step.specs.State.{State, no_process}
 use Rattle.service_step.specs.declared.state.End.{End}
 use Rattle.service_step.specs.declared.state.Inward.{Inward}
 use Rattle.service_step.specs.declared.state.Inward.TheVariants as inward

@@ -1,24 +1,20 @@
 -- What the conditions of the steps say, and what the words of the steps make of the processes and of one end.
-use Rattle.std.proofs.Common.{◌≡◌, ◌≢◌, ℕ, zero, suc, ◌+◌, ◌<◌, ◌≤◌, Bool, true, false, true≢false, nat_eq, ◌&&◌, ◌||◌, not, IsTrue, is_some, is_none, ◌⊎◌, inl, inr, if◌then◌else◌, length, Option, Some, None, IsSome, List, [], ◌∷◌, ◌++◌, append-nil, Contains, refl, sym, ap, subst, ◌∙◌, arith, rules}
-use Rattle.std.proofs.lemmas.List.Elements.{Contains-append_cases}
-use Rattle.std.specs.List.{list_any}
-use Rattle.charlotte_calls.specs.Names.{opposite}
+use Rattle.std.proofs.Common.{◌≡◌, ◌≢◌, ℕ, Bool, true, false, true≢false, nat_eq, ◌||◌, not, is_some, is_none, ◌⊎◌, inl, inr, if◌then◌else◌, Option, Some, None, List, ◌++◌, refl, sym, ap, subst, ◌∙◌}
 use Rattle.charlotte_calls.specs.declared.calls.Report.{Report}
 use Rattle.charlotte_calls.specs.declared.names.EndId.{EndId}
-use Rattle.charlotte_calls.specs.declared.names.Outcome.TheVariants as outcome
 use Rattle.charlotte_calls.specs.declared.names.Pid.{Pid}
 use Rattle.charlotte_calls.specs.declared.names.Way.{Way}
 use Rattle.charlotte_calls.specs.declared.names.Way.TheVariants as way
 use Rattle.charlotte_calls.specs.declared.calls.Cause.{Cause}
-use Rattle.service_change.proofs.Change.{IsWell, idle-message, idle-over, idle-parts, none-some, well-kept}
+use Rattle.service_change.proofs.Change.{IsWell, idle-parts, none-some}
 use Rattle.service_change.proofs.Counts.{pid_tells}
 use Rattle.service_change.proofs.EndEq.{end_eq-refl}
 use Rattle.service_change.proofs.Shapes.{IsLed, IsNext, IsTold}
 use Rattle.service_lawful.specs.Consistent.{IsConsistent, is_over}
-use Rattle.service_step.specs.Ends.{end_eq, unmade, is_made, is_living, is_destroyed, owner, is_owned_by, is_idle, is_posted, is_reported_outward, is_reported_inward, is_started_inward, is_taken, is_withdrawn, is_matched_with, is_matched_inward, matched_message, waiting_message}
+use Rattle.service_step.specs.Ends.{is_made, is_living, owner, is_owned_by, is_idle, is_posted, is_reported_outward, is_reported_inward, is_started_inward, is_taken, is_withdrawn, is_matched_with, is_matched_inward, matched_message, waiting_message}
 use Rattle.service_step.specs.Lawful.{message_of}
 use Rattle.service_step.specs.State.{State, Process, is_running, is_waiting, is_cancelling, owner_cancels, put_process, turns, gains, wakes}
-use Rattle.service_step.specs.Steps.{runs, is_running_owner}
+use Rattle.service_step.specs.Steps.{is_running_owner}
 use Rattle.service_step.specs.declared.state.End.{End}
 use Rattle.service_step.specs.declared.state.Inward.{Inward}
 use Rattle.service_step.specs.declared.state.Inward.TheVariants as inward
@@ -249,7 +245,6 @@ pub wakes-woken : (p : Pid) (e : EndId) (f : ℕ → Process) → IsWoken f (wak
 unfolding wakes turns
 wakes-woken p e f = by (is_cancelling e (f p.0).phase) refl
   where
-
     reports : (q : Pid) → ((nat_eq p.0 q.0 ≡ true) × (p ≡ q)) ⊎ ((nat_eq p.0 q.0 ≡ false) × (p.0 ≢ q.0)) → (put_process p (record (f p.0) { phase = phase.Running }) f q.0).reports ≡ (f q.0).reports
     reports q (inl same) = subst (λ z. (put_process p (record (f p.0) { phase = phase.Running }) f z.0).reports ≡ (f z.0).reports) same.1 (ap (λ z. z.reports) (put_process-at p _ f))
     reports q (inr apart) = ap (λ z. z.reports) (put_process-other p _ f q apart.0)
@@ -280,18 +275,19 @@ led-wakes s t p e after =
 
 pub told-tells : (s t : State) (p : Pid) (e : EndId) (rs : List Report) → t.process ≡ wakes p e (gains p rs s.process) → IsTold s t p rs × ((t.process p.0).phase ≡ phase.Cancelling e → ⊥)
 unfolding gains
-told-tells s t p e rs after =
-    (record {
-      led =
-          record {
-            others = λ q apart. ap (λ f. f q.0) after ∙ w.others q apart ∙ put_process-other p _ s.process q apart;
-            phase =
-                subst (λ g. ((g p.0).phase ≡ (s.process p.0).phase) ⊎ ((g p.0).phase ≡ phase.Running)) (sym after)
-                (subst (λ z. ((wakes p e (put_process p (record (s.process p.0) { reports = (s.process p.0).reports ++ rs }) s.process) p.0).phase ≡ z) ⊎ ((wakes p e (put_process p (record (s.process p.0) { reports = (s.process p.0).reports ++ rs }) s.process) p.0).phase ≡ phase.Running)) (ap (λ z. z.phase) at_p) w.phase);
-          };
-      reports = ap (λ f. (f p.0).reports) after ∙ w.reports p ∙ ap (λ z. z.reports) at_p;
-    },
-    λ is. w.woken (sym (ap (λ f. (f p.0).phase) after) ∙ is))
+told-tells s t p e rs after = (
+  record {
+    led =
+        record {
+          others = λ q apart. ap (λ f. f q.0) after ∙ w.others q apart ∙ put_process-other p _ s.process q apart;
+          phase =
+              subst (λ g. ((g p.0).phase ≡ (s.process p.0).phase) ⊎ ((g p.0).phase ≡ phase.Running)) (sym after)
+              (subst (λ z. ((wakes p e (put_process p (record (s.process p.0) { reports = (s.process p.0).reports ++ rs }) s.process) p.0).phase ≡ z) ⊎ ((wakes p e (put_process p (record (s.process p.0) { reports = (s.process p.0).reports ++ rs }) s.process) p.0).phase ≡ phase.Running)) (ap (λ z. z.phase) at_p) w.phase);
+        };
+    reports = ap (λ f. (f p.0).reports) after ∙ w.reports p ∙ ap (λ z. z.reports) at_p;
+  },
+  λ is. w.woken (sym (ap (λ f. (f p.0).phase) after) ∙ is),
+)
   where
     at_p : put_process p (record (s.process p.0) { reports = (s.process p.0).reports ++ rs }) s.process p.0 ≡ record (s.process p.0) { reports = (s.process p.0).reports ++ rs }
     at_p = put_process-at p _ s.process

@@ -1,29 +1,21 @@
 -- The forms that a change takes: what the message of the end becomes, what processes do, and which reports they gain.
-use Rattle.std.proofs.Common.{◌≡◌, ◌≢◌, ℕ, zero, suc, ◌+◌, ◌<◌, ◌≤◌, Bool, true, false, true≢false, nat_eq, ◌&&◌, ◌||◌, not, IsTrue, is_some, is_none, ◌⊎◌, inl, inr, if◌then◌else◌, length, Option, Some, None, IsSome, List, [], ◌∷◌, ◌++◌, append-nil, Contains, refl, sym, ap, subst, ◌∙◌, arith, rules}
+use Rattle.std.proofs.Common.{◌≡◌, ◌≢◌, ℕ, zero, suc, ◌+◌, Bool, true, false, true≢false, nat_eq, ◌⊎◌, inl, inr, if◌then◌else◌, Option, Some, None, List, [], ◌∷◌, ◌++◌, append-nil, Contains, refl, sym, ap, subst, ◌∙◌, arith}
 use Rattle.std.proofs.lemmas.List.Elements.{Contains-append_cases}
-use Rattle.std.specs.List.{list_any}
 use Rattle.charlotte_calls.specs.Names.{opposite}
 use Rattle.charlotte_calls.specs.declared.calls.Report.{Report}
 use Rattle.charlotte_calls.specs.declared.names.EndId.{EndId}
 use Rattle.charlotte_calls.specs.declared.names.Outcome.TheVariants as outcome
 use Rattle.charlotte_calls.specs.declared.names.Pid.{Pid}
 use Rattle.charlotte_calls.specs.declared.names.Way.{Way}
-use Rattle.charlotte_calls.specs.declared.names.Way.TheVariants as way
-use Rattle.service_change.proofs.Change.{IsChange, IsGoing, IsMoving, IsTelling, IsWell, Part, IsWell-idle, change-consistent, idle-message, living-made, none-some, its, carried, other}
-use Rattle.service_change.proofs.Counts.{IsAfter, IsCounted, IsCountedAt, counted-reported, counted-same, counted-told, counts, is_report_on-other, pid_tells, reports_on-append}
-use Rattle.service_change.proofs.EndEq.{among, among-Contains, Contains-among, at_place, end_eq-apart, end_eq-refl, end_eq-same, places-among, places-other, puts-at, puts-other}
+use Rattle.service_change.proofs.Change.{IsGoing, IsMoving, IsTelling, IsWell, Part, change-consistent, idle-message, none-some, its, carried, other}
+use Rattle.service_change.proofs.Counts.{IsAfter, IsCounted, counted-reported, counted-same, counted-told, counts, is_report_on-other, pid_tells, reports_on-append}
+use Rattle.service_change.proofs.EndEq.{among, among-Contains, Contains-among, at_place, end_eq-apart, end_eq-same, places-among, places-other, puts-at, puts-other}
 use Rattle.service_lawful.specs.Consistent.{IsConsistent, AreProcesses, is_over, is_open, reports_on}
-use Rattle.service_step.specs.Causes.{names_twice, same_link}
-use Rattle.service_step.specs.Ends.{end_eq, unmade, is_made, is_living, is_destroyed, owner, is_idle, is_started_inward, places, puts, waiting_message}
-use Rattle.service_step.specs.Lawful.{IsCarried, IsHeldAt, message_of}
-use Rattle.service_step.specs.State.{State, Process}
+use Rattle.service_step.specs.Ends.{end_eq, is_made, is_living, is_idle, is_started_inward, places, puts}
+use Rattle.service_step.specs.Lawful.{IsHeldAt, message_of}
+use Rattle.service_step.specs.State.{State}
 use Rattle.service_step.specs.declared.state.End.{End}
-use Rattle.service_step.specs.declared.state.Inward.{Inward}
-use Rattle.service_step.specs.declared.state.Inward.TheVariants as inward
 use Rattle.service_step.specs.declared.state.Message.{Message}
-use Rattle.service_step.specs.declared.state.Outward.{Outward}
-use Rattle.service_step.specs.declared.state.Outward.TheVariants as outward
-use Rattle.service_step.specs.declared.state.Phase.{Phase}
 use Rattle.service_step.specs.declared.state.Phase.TheVariants as phase
 use Rattle.service_step.specs.declared.state.Place.{Place}
 use Rattle.service_step.specs.declared.state.Place.TheVariants as place

@@ -1,33 +1,25 @@
 -- A step in which a process ends leaves a consistent state.
-use Rattle.std.proofs.Common.{◌≡◌, ◌≢◌, ℕ, zero, suc, ◌+◌, ◌<◌, ◌≤◌, Bool, true, false, true≢false, nat_eq, ◌&&◌, ◌||◌, not, IsTrue, is_some, is_none, ◌⊎◌, inl, inr, if◌then◌else◌, length, Option, Some, None, IsSome, List, [], ◌∷◌, ◌++◌, append-nil, Contains, nat_lt, slice_index, eq-eqb, refl, sym, ap, subst, ◌∙◌, arith, rules}
-use Rattle.std.proofs.lemmas.List.Elements.{Contains-append_cases}
+use Rattle.std.proofs.Common.{◌≡◌, ◌≢◌, ℕ, ◌≤◌, Bool, true, false, true≢false, nat_eq, ◌||◌, not, ◌⊎◌, inl, inr, if◌then◌else◌, length, Some, None, IsSome, List, [], ◌∷◌, Contains, nat_lt, slice_index, eq-eqb, refl, sym, ap, subst, ◌∙◌, arith}
 use Rattle.std.specs.List.{list_any}
 use Rattle.charlotte_calls.specs.Names.{opposite}
 use Rattle.charlotte_calls.specs.declared.calls.Report.{Report}
 use Rattle.charlotte_calls.specs.declared.names.EndId.{EndId}
 use Rattle.charlotte_calls.specs.declared.names.Outcome.TheVariants as outcome
 use Rattle.charlotte_calls.specs.declared.names.Pid.{Pid}
-use Rattle.charlotte_calls.specs.declared.names.Way.{Way}
-use Rattle.charlotte_calls.specs.declared.names.Way.TheVariants as way
-use Rattle.std.specs.List.{fold}
 use Rattle.service_change.proofs.Change.{IsCarried-at}
 use Rattle.service_change.proofs.Counts.{pid_tells}
-use Rattle.service_change.proofs.EndEq.{among, Contains-among, end_eq-same, put-at, put-other, puts-at, puts-other}
+use Rattle.service_change.proofs.EndEq.{among, Contains-among, end_eq-same, puts-at, puts-other}
 use Rattle.service_change.proofs.Facts.{owned_by-Owned, put_process-at, put_process-other, running-is}
-use Rattle.service_consistent.proofs.StepsOfCalls.{IsOwnedRunning, consistent-destroys}
+use Rattle.service_consistent.proofs.StepsOfCalls.{consistent-destroys}
 use Rattle.service_lawful.specs.Consistent.{IsConsistent, is_over, is_open, reports_on}
 use Rattle.service_step.specs.Ends.{end_eq, is_idle, owner, unmade, carried_by, destroys, destroys_each, destroys_owned, dropped, is_made, is_owned_by, is_living, is_started_inward, places, put, puts, waiting_message}
 use Rattle.service_step.specs.Causes.{names_twice, same_link}
-use Rattle.service_step.specs.Lawful.{IsCarried, IsHeldAt, message_of}
+use Rattle.service_step.specs.Lawful.{IsHeldAt, message_of}
 use Rattle.service_step.specs.State.{State, Process, ends_process, no_process, put_process}
 use Rattle.service_step.specs.Steps.{Exits, runs}
 use Rattle.service_step.specs.declared.state.End.{End}
-use Rattle.service_step.specs.declared.state.Inward.{Inward}
-use Rattle.service_step.specs.declared.state.Inward.TheVariants as inward
 use Rattle.service_step.specs.declared.state.Message.{Message}
-use Rattle.service_step.specs.declared.state.Outward.{Outward}
 use Rattle.service_step.specs.declared.state.Outward.TheVariants as outward
-use Rattle.service_step.specs.declared.state.Phase.{Phase}
 use Rattle.service_step.specs.declared.state.Phase.TheVariants as phase
 use Rattle.service_step.specs.declared.state.Place.{Place}
 use Rattle.service_step.specs.declared.state.Place.TheVariants as place

@@ -1,5 +1,5 @@
 -- What every service run keeps: its states are consistent, and it is lawful.
-use Rattle.std.proofs.Common.{◌≡◌, ℕ, List, [], ◌∷◌, refl, sym, ap, subst, ◌∙◌}
+use Rattle.std.proofs.Common.{sym, subst}
 use Rattle.charlotte_calls.specs.declared.calls.ServiceStep.{ServiceStep}
 use Rattle.charlotte_calls.specs.declared.calls.ServiceStep.TheVariants as step
 use Rattle.service_consistent.proofs.StepsOfCalls.{consistent-cancel, consistent-destroy, consistent-receive, consistent-send, consistent-wait}

@@ -1,9 +1,6 @@
 -- A step that makes a link leaves a consistent state.
-use Rattle.std.proofs.Common.{◌≡◌, ◌≢◌, ℕ, zero, suc, ◌+◌, ◌<◌, ◌≤◌, Bool, true, false, true≢false, nat_eq, ◌&&◌, ◌||◌, not, IsTrue, is_some, is_none, ◌⊎◌, inl, inr, if◌then◌else◌, length, Option, Some, None, IsSome, List, [], ◌∷◌, ◌++◌, append-nil, Contains, slice_get, slice_index, slice_set, get_or, nat_lt, get_or-set_same, get_or-set_other, refl, sym, ap, ap₂, subst, ◌∙◌, arith, rules}
-use Rattle.std.proofs.lemmas.List.Elements.{Contains-append_cases}
-use Rattle.std.specs.List.{list_any}
+use Rattle.std.proofs.Common.{◌≡◌, ◌≢◌, ℕ, zero, suc, ◌+◌, ◌<◌, ◌≤◌, Bool, true, false, true≢false, nat_eq, not, ◌⊎◌, inl, inr, length, Option, Some, None, List, [], ◌∷◌, Contains, slice_get, slice_index, slice_set, get_or, nat_lt, get_or-set_same, get_or-set_other, refl, sym, ap, ap₂, subst, ◌∙◌, arith}
 use Rattle.charlotte_calls.specs.Names.{opposite}
-use Rattle.charlotte_calls.specs.declared.calls.Report.{Report}
 use Rattle.charlotte_calls.specs.declared.names.EndId.{EndId}
 use Rattle.charlotte_calls.specs.declared.names.Outcome.TheVariants as outcome
 use Rattle.charlotte_calls.specs.declared.names.Pid.{Pid}
@@ -16,20 +13,16 @@ use Rattle.charlotte_calls.specs.declared.names.Side.TheVariants.{A, B}
 use Rattle.charlotte_calls.specs.Names.{other_side}
 use Rattle.service_change.proofs.Change.{IsWell, IsWell-idle, IsCarried-at, none-some, well-kept}
 use Rattle.service_change.proofs.Counts.{IsCountedAt, AreDone, and-true, counted-none, counted-reported, counted-same, counts-none, reported-counted}
-use Rattle.service_change.proofs.EndEq.{end_eq-apart, end_eq-refl, end_eq-same, put-at, put-other}
+use Rattle.service_change.proofs.EndEq.{end_eq-apart, end_eq-same, put-at, put-other}
 use Rattle.service_change.proofs.Facts.{not-true, running-is}
-use Rattle.service_lawful.specs.Consistent.{IsConsistent, AreKept, AreNoticed, AreProcesses, is_over, is_open, reports_on}
-use Rattle.service_step.specs.Ends.{end_eq, fresh, unmade, is_made, is_living, is_started_inward, makes, put}
-use Rattle.service_step.specs.Lawful.{AreHeldOnce, IsCarried, IsHeldAt, message_of}
-use Rattle.service_step.specs.State.{State, Process, counted, counts, link_limit, next_at, next_link}
-use Rattle.service_step.specs.Steps.{after_make, is_new_pair, may_make, runs}
+use Rattle.service_lawful.specs.Consistent.{IsConsistent, AreProcesses, is_over, is_open, reports_on}
+use Rattle.service_step.specs.Ends.{end_eq, fresh, unmade, is_made, is_started_inward, makes, put}
+use Rattle.service_step.specs.Lawful.{IsCarried, IsHeldAt, message_of}
+use Rattle.service_step.specs.State.{State, counted, next_at, next_link}
+use Rattle.service_step.specs.Steps.{after_make, is_new_pair, may_make}
 use Rattle.service_step.specs.declared.state.End.{End}
-use Rattle.service_step.specs.declared.state.Inward.{Inward}
-use Rattle.service_step.specs.declared.state.Inward.TheVariants as inward
 use Rattle.service_step.specs.declared.state.Message.{Message}
-use Rattle.service_step.specs.declared.state.Outward.{Outward}
 use Rattle.service_step.specs.declared.state.Outward.TheVariants as outward
-use Rattle.service_step.specs.declared.state.Phase.{Phase}
 use Rattle.service_step.specs.declared.state.Phase.TheVariants as phase
 use Rattle.service_step.specs.declared.state.Place.{Place}
 use Rattle.service_step.specs.declared.state.Place.TheVariants as place

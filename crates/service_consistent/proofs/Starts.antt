@@ -1,40 +1,28 @@
 -- The start of a setting is consistent: all ends are idle, and owned by processes that run.
-use Rattle.std.proofs.Common.{◌≡◌, ◌≢◌, ℕ, zero, suc, ◌+◌, ◌<◌, ◌≤◌, Bool, true, false, true≢false, nat_eq, ◌&&◌, ◌||◌, not, IsTrue, is_some, is_none, ◌⊎◌, inl, inr, if◌then◌else◌, length, Option, Some, None, IsSome, List, [], ◌∷◌, ◌++◌, append-nil, Contains, All, replicate, slice_index, slice_set, get_or, nat_lt, get_or-set_same, get_or-set_other, refl, sym, ap, ap₂, subst, ◌∙◌, arith, rules}
-use Rattle.std.proofs.lemmas.List.Elements.{Contains-append_cases}
-use Rattle.std.specs.List.{list_any}
+use Rattle.std.proofs.Common.{◌≡◌, ◌≢◌, ℕ, zero, suc, ◌+◌, ◌<◌, ◌≤◌, Bool, true, false, true≢false, nat_eq, not, ◌⊎◌, inl, inr, if◌then◌else◌, length, Some, List, [], ◌∷◌, Contains, All, replicate, slice_index, slice_set, get_or, nat_lt, get_or-set_same, get_or-set_other, refl, sym, ap, ap₂, subst, ◌∙◌, arith}
 use Rattle.charlotte_calls.specs.Names.{opposite}
 use Rattle.charlotte_calls.specs.declared.calls.Report.{Report}
 use Rattle.charlotte_calls.specs.declared.names.EndId.{EndId}
-use Rattle.charlotte_calls.specs.declared.names.Outcome.TheVariants as outcome
 use Rattle.charlotte_calls.specs.declared.names.Pid.{Pid}
-use Rattle.charlotte_calls.specs.declared.names.Way.{Way}
-use Rattle.charlotte_calls.specs.declared.names.Way.TheVariants as way
 use Rattle.std.proofs.Common.{length-set}
 use Rattle.std.proofs.lemmas.Bool.Decides.{Decides-ltb, eqb_tells}
 use Rattle.std.proofs.lemmas.List.Elements.{All-get_or, All-head, All-tail}
 use Rattle.std.specs.List.{fold}
 use Rattle.charlotte_calls.specs.Setting.{IsValid}
-use Rattle.charlotte_calls.specs.declared.names.LinkId.{LinkId}
-use Rattle.charlotte_calls.specs.declared.names.Side.TheVariants.{A, B}
 use Rattle.charlotte_calls.specs.declared.setting.Setting.{Setting}
 use Rattle.service_change.proofs.Change.{idle-message, idle-over}
 use Rattle.service_change.proofs.Counts.{counted-none, reported-counted}
 use Rattle.service_change.proofs.EndEq.{end_eq-apart, end_eq-same, put-at, put-other}
-use Rattle.service_lawful.specs.Consistent.{IsConsistent, is_over, reports_on}
+use Rattle.service_lawful.specs.Consistent.{IsConsistent, reports_on}
 use Rattle.service_consistent.proofs.Makes.{lt-same, same-link}
 use Rattle.service_step.specs.Ends.{end_eq, fresh, unmade, is_made, is_idle, put}
-use Rattle.service_step.specs.Lawful.{IsCarried, IsHeldAt, message_of}
-use Rattle.service_step.specs.Run.{Wired, first_end, new_process, new_processes, nothing_wired, start_state, wired, wires_one}
-use Rattle.service_step.specs.State.{State, Process, counts, no_process}
+use Rattle.service_step.specs.Lawful.{IsHeldAt, message_of}
+use Rattle.service_step.specs.Run.{Wired, first_end, new_process, new_processes, nothing_wired, start_state, wires_one}
+use Rattle.service_step.specs.State.{State, no_process}
 use Rattle.service_step.specs.declared.state.End.{End}
-use Rattle.service_step.specs.declared.state.Inward.{Inward}
-use Rattle.service_step.specs.declared.state.Inward.TheVariants as inward
 use Rattle.service_step.specs.declared.state.Message.{Message}
-use Rattle.service_step.specs.declared.state.Outward.{Outward}
 use Rattle.service_step.specs.declared.state.Outward.TheVariants as outward
-use Rattle.service_step.specs.declared.state.Phase.{Phase}
 use Rattle.service_step.specs.declared.state.Phase.TheVariants as phase
-use Rattle.service_step.specs.declared.state.Place.{Place}
 use Rattle.service_step.specs.declared.state.Place.TheVariants as place
 
 -- an end is of no made link, or one of the first n processes owns it

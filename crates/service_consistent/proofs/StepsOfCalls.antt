@@ -1,26 +1,21 @@
 -- The steps of calls leave a consistent state: destroy, send, receive, cancel and wait.
-use Rattle.std.proofs.Common.{◌≡◌, ◌≢◌, ℕ, zero, suc, ◌+◌, ◌<◌, ◌≤◌, Bool, true, false, true≢false, nat_eq, ◌&&◌, ◌||◌, not, IsTrue, is_some, is_none, ◌⊎◌, inl, inr, if◌then◌else◌, length, Option, Some, None, IsSome, List, [], ◌∷◌, ◌++◌, append-nil, Contains, refl, sym, ap, subst, ◌∙◌, eq-eqb, arith, rules}
-use Rattle.std.proofs.lemmas.List.Elements.{Contains-append_cases}
+use Rattle.std.proofs.Common.{◌≡◌, ◌≢◌, ℕ, ◌+◌, Bool, true, false, true≢false, nat_eq, ◌&&◌, ◌||◌, not, is_some, is_none, ◌⊎◌, inl, inr, Option, Some, None, List, [], ◌∷◌, Contains, refl, sym, ap, subst, ◌∙◌, eq-eqb}
 use Rattle.std.specs.List.{list_any}
-use Rattle.charlotte_calls.specs.Names.{opposite}
-use Rattle.charlotte_calls.specs.declared.calls.Report.{Report}
 use Rattle.charlotte_calls.specs.declared.names.EndId.{EndId}
-use Rattle.charlotte_calls.specs.declared.names.Outcome.TheVariants as outcome
 use Rattle.charlotte_calls.specs.declared.names.Pid.{Pid}
 use Rattle.charlotte_calls.specs.declared.names.Way.{Way}
 use Rattle.charlotte_calls.specs.declared.names.Way.TheVariants as way
 use Rattle.charlotte_calls.specs.declared.calls.Cause.TheVariants as cause
-use Rattle.service_change.proofs.Change.{IsWell, IsMoving, Part, idle-message, idle-over, idle-parts, living-made, none-some, well-kept, IsCarried-at, other}
+use Rattle.service_change.proofs.Change.{IsWell, none-some, well-kept, IsCarried-at}
 use Rattle.service_change.proofs.Counts.{IsAfter, and-true, counted-reported, counted-same, pid_tells, reported-counted}
-use Rattle.service_change.proofs.EndEq.{end_eq-apart, end_eq-refl, opposite-apart, opposite-opposite}
-use Rattle.service_change.proofs.Shapes.{AreFor, IsHereFor, IsLed, IsNewly, IsNext, IsShape, IsTold, consistent-by, going-led, going-same, here-kept, here-woken, shape-dropped, shape-kept, shape-sent, telling-quiet, telling-told, told-same}
-use Rattle.service_lawful.specs.Consistent.{IsConsistent, AreKept, AreNoticed, AreProcesses, is_over, is_open, reports_on}
-use Rattle.service_change.proofs.Facts.{IsAway, IsWell-changed, away-gone, away-owned, busy-made, made-owned, next-same, none-first, not-false, not-true, over-both, owned_by-Owned, owner-Owned, posted-started, put_process-at, put_process-other, running-is, running-owner, waiting-Waiting}
+use Rattle.service_change.proofs.Shapes.{IsNext, IsShape, consistent-by, going-same, here-woken, shape-dropped, shape-kept, shape-sent, telling-quiet, told-same}
+use Rattle.service_lawful.specs.Consistent.{IsConsistent, is_over, reports_on}
+use Rattle.service_change.proofs.Facts.{IsWell-changed, away-gone, away-owned, made-owned, next-same, none-first, not-false, over-both, owned_by-Owned, owner-Owned, posted-started, put_process-at, put_process-other, running-is, running-owner, waiting-Waiting}
 use Rattle.service_change.proofs.EndEq.{among, end_eq-same}
-use Rattle.service_step.specs.Causes.{names_twice, same_link, first_of, send_causes, receive_causes, no_end, is_missing_one, has_busy_one}
-use Rattle.service_step.specs.Ends.{end_eq, unmade, is_made, is_living, is_destroyed, owner, is_owned_by, is_idle, is_idle_outward, is_idle_inward, is_posted, is_matched_inward, is_reported_outward, is_reported_inward, is_started_inward, waiting_message, carried_by, dropped, places, puts, destroys, starts_send, turns_inward, turns_outward, withdraws_send}
-use Rattle.service_step.specs.Lawful.{AreHeldOnce, IsCarried, IsHeldAt, message_of}
-use Rattle.service_step.specs.State.{State, Process, no_process, put_process, turns}
+use Rattle.service_step.specs.Causes.{names_twice, same_link, first_of, send_causes, receive_causes, is_missing_one, has_busy_one}
+use Rattle.service_step.specs.Ends.{end_eq, is_made, owner, is_owned_by, is_idle, is_idle_outward, is_idle_inward, is_reported_outward, is_reported_inward, is_started_inward, waiting_message, carried_by, dropped, places, puts, destroys, starts_send, turns_inward, turns_outward, withdraws_send}
+use Rattle.service_step.specs.Lawful.{IsHeldAt, message_of}
+use Rattle.service_step.specs.State.{State, Process, put_process, turns}
 use Rattle.service_step.specs.Steps.{may_cancel, may_destroy, may_receive_as, may_receive, may_send_as, may_send, is_cancellable, is_running_owner, runs, after_cancel, fits_version}
 use Rattle.service_step.specs.declared.state.End.{End}
 use Rattle.service_step.specs.declared.state.Inward.{Inward}

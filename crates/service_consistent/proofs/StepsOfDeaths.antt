@@ -1,7 +1,6 @@
 -- The steps of deaths and of reports leave a consistent state: notice, back and report.
-use Rattle.std.proofs.Common.{◌≡◌, ◌≢◌, ℕ, zero, suc, ◌+◌, ◌<◌, ◌≤◌, Bool, true, false, true≢false, nat_eq, ◌&&◌, ◌||◌, not, IsTrue, is_some, is_none, ◌⊎◌, inl, inr, if◌then◌else◌, length, Option, Some, None, IsSome, List, [], ◌∷◌, ◌++◌, append-nil, Contains, refl, sym, ap, ap₂, subst, ◌∙◌, arith, rules}
-use Rattle.std.proofs.lemmas.List.Elements.{Contains-append_cases, Contains-append_right}
-use Rattle.std.specs.List.{list_any}
+use Rattle.std.proofs.Common.{◌≡◌, ◌≢◌, ℕ, zero, suc, ◌+◌, ◌≤◌, Bool, true, false, true≢false, nat_eq, ◌&&◌, ◌||◌, not, is_some, ◌⊎◌, inl, inr, if◌then◌else◌, Option, Some, None, List, [], ◌∷◌, ◌++◌, Contains, refl, sym, ap, ap₂, subst, ◌∙◌, arith}
+use Rattle.std.proofs.lemmas.List.Elements.{Contains-append_right}
 use Rattle.charlotte_calls.specs.Names.{opposite}
 use Rattle.charlotte_calls.specs.declared.calls.Report.{Report}
 use Rattle.charlotte_calls.specs.declared.names.EndId.{EndId}
@@ -9,21 +8,21 @@ use Rattle.charlotte_calls.specs.declared.names.Outcome.TheVariants as outcome
 use Rattle.charlotte_calls.specs.declared.names.Pid.{Pid}
 use Rattle.charlotte_calls.specs.declared.names.Way.{Way}
 use Rattle.charlotte_calls.specs.declared.names.Way.TheVariants as way
-use Rattle.service_change.proofs.Change.{IsWell, IsMoving, Part, idle-message, idle-over, idle-parts, living-made, none-some, well-kept, IsCarried-at, other}
-use Rattle.service_change.proofs.Counts.{IsAfter, and-true, counted-reported, counted-same, pid_tells, reported-counted}
-use Rattle.service_change.proofs.EndEq.{end_eq-apart, end_eq-refl, opposite-apart, opposite-opposite}
-use Rattle.service_change.proofs.Shapes.{AreFor, IsHereFor, IsLed, IsNewly, IsNext, IsShape, IsTold, consistent-by, going-led, going-same, here-kept, here-woken, shape-dropped, shape-kept, shape-sent, telling-quiet, telling-told, told-same}
-use Rattle.service_lawful.specs.Consistent.{IsConsistent, AreKept, AreNoticed, AreProcesses, is_over, is_open, reports_on}
-use Rattle.service_change.proofs.Counts.{IsCounted, IsCountedAt, Contains-count, counted-none, counts, is_report_on-its, is_report_on-other, reports_on-append}
-use Rattle.service_change.proofs.EndEq.{among, end_eq-same, end_eq-sym, puts-at, puts-other}
-use Rattle.service_change.proofs.Facts.{IsAway, IsWell-changed, away-gone, away-owned, busy-away, busy-inward, busy-made, busy-outward, made-owned, matched-Matched, next-same, not-true, over-both, owner-Owned, put_process-at, put_process-other, some-is, told-gains, told-tells, waiting-Waiting, waiting-is}
+use Rattle.service_change.proofs.Change.{IsWell, idle-over, idle-parts, none-some, well-kept}
+use Rattle.service_change.proofs.Counts.{and-true, counted-reported, counted-same, pid_tells}
+use Rattle.service_change.proofs.EndEq.{end_eq-refl, opposite-opposite}
+use Rattle.service_change.proofs.Shapes.{AreFor, IsHereFor, IsLed, IsShape, IsTold, consistent-by, going-led, going-same, here-kept, here-woken, shape-dropped, shape-kept, telling-quiet, telling-told}
+use Rattle.service_lawful.specs.Consistent.{IsConsistent, is_over, is_open, reports_on}
+use Rattle.service_change.proofs.Counts.{IsCounted, Contains-count, counted-none, counts, is_report_on-its, is_report_on-other, reports_on-append}
+use Rattle.service_change.proofs.EndEq.{end_eq-sym}
+use Rattle.service_change.proofs.Facts.{IsWell-changed, away-gone, away-owned, busy-away, busy-made, made-owned, matched-Matched, next-same, over-both, put_process-at, put_process-other, told-gains, told-tells, waiting-is}
 use Rattle.service_consistent.proofs.StepsOfMessages.{owned-lives}
 use Rattle.service_change.proofs.Change.{IsTelling, IsWell-idle}
 use Rattle.service_lawful.specs.Consistent.{is_report_on}
-use Rattle.service_step.specs.Ends.{end_eq, unmade, is_made, is_living, is_destroyed, owner, is_idle, is_reported_outward, is_reported_inward, is_started_inward, matched_message, waiting_message, carried_by, noticed_end, noticed_inward, noticed_outward, places, puts, idles, notices, returned_end, returns, to_owner, turns_inward, turns_outward}
-use Rattle.service_step.specs.Lawful.{IsHeldAt, message_of}
-use Rattle.service_step.specs.State.{State, Process, dead_receive_report, gains, given, is_waiting, later, owner_cancels, put_process, send_report, tells, wakes}
-use Rattle.service_step.specs.Steps.{IsOldest, after_notice, after_report, after_return, agree, dead_reports, gains_owner, is_matched, may_notice, may_return, returned_reports, tells_returned}
+use Rattle.service_step.specs.Ends.{is_made, is_living, is_destroyed, owner, is_idle, is_reported_outward, is_reported_inward, is_started_inward, matched_message, waiting_message, carried_by, noticed_end, noticed_inward, noticed_outward, places, puts, idles, notices, returned_end, returns, to_owner, turns_inward, turns_outward}
+use Rattle.service_step.specs.Lawful.{message_of}
+use Rattle.service_step.specs.State.{State, Process, dead_receive_report, gains, given, later, put_process, send_report, tells, wakes}
+use Rattle.service_step.specs.Steps.{IsOldest, after_notice, after_report, after_return, dead_reports, gains_owner, is_matched, may_notice, may_return, returned_reports}
 use Rattle.std.specs.Prelude.{slice_get}
 use Rattle.service_step.specs.declared.state.End.{End}
 use Rattle.service_step.specs.declared.state.Inward.{Inward}

@@ -1,34 +1,29 @@
 -- The steps between calls leave a consistent state: match, take, complete, withdraw and free.
-use Rattle.std.proofs.Common.{◌≡◌, ◌≢◌, ℕ, zero, suc, ◌+◌, ◌<◌, ◌≤◌, Bool, true, false, true≢false, nat_eq, ◌&&◌, ◌||◌, not, IsTrue, is_some, is_none, ◌⊎◌, inl, inr, if◌then◌else◌, length, Option, Some, None, IsSome, List, [], ◌∷◌, ◌++◌, append-nil, Contains, refl, sym, ap, subst, ◌∙◌, arith, rules}
-use Rattle.std.proofs.lemmas.List.Elements.{Contains-append_cases}
-use Rattle.std.specs.List.{list_any}
+use Rattle.std.proofs.Common.{◌≡◌, ◌≢◌, ℕ, ◌+◌, Bool, true, false, true≢false, nat_eq, ◌&&◌, not, is_some, ◌⊎◌, inl, inr, if◌then◌else◌, Some, None, [], ◌∷◌, refl, sym, ap, subst, ◌∙◌}
 use Rattle.charlotte_calls.specs.Names.{opposite}
-use Rattle.charlotte_calls.specs.declared.calls.Report.{Report}
 use Rattle.charlotte_calls.specs.declared.names.EndId.{EndId}
 use Rattle.charlotte_calls.specs.declared.names.Outcome.TheVariants as outcome
 use Rattle.charlotte_calls.specs.declared.names.Pid.{Pid}
 use Rattle.charlotte_calls.specs.declared.names.Way.{Way}
 use Rattle.charlotte_calls.specs.declared.names.Way.TheVariants as way
-use Rattle.service_change.proofs.Change.{IsWell, IsMoving, Part, idle-message, idle-over, idle-parts, living-made, none-some, well-kept, IsCarried-at, other}
-use Rattle.service_change.proofs.Counts.{IsAfter, and-true, counted-reported, counted-same, pid_tells, reported-counted}
-use Rattle.service_change.proofs.EndEq.{end_eq-apart, end_eq-refl, opposite-apart, opposite-opposite}
-use Rattle.service_change.proofs.Shapes.{AreFor, IsHereFor, IsLed, IsNewly, IsNext, IsShape, IsTold, consistent-by, going-led, going-same, here-kept, here-woken, shape-dropped, shape-kept, shape-sent, telling-quiet, telling-told, told-same}
-use Rattle.service_lawful.specs.Consistent.{IsConsistent, AreKept, AreNoticed, AreProcesses, is_over, is_open, reports_on}
-use Rattle.service_change.proofs.EndEq.{among, end_eq-same, end_eq-sym, puts-at, puts-other}
-use Rattle.service_change.proofs.Facts.{IsAway, IsWell-changed, away-gone, away-owned, busy-away, busy-inward, busy-made, busy-outward, led-wakes, made-owned, matched-Matched, matched_with-Matched, next-same, not-true, over-both, owned_by-Owned, owner-Owned, owner_cancels-is, posted-Posted, some-is, taken-Taken, told-gains, told-tells, waiting-Waiting, wakes-woken, withdrawn-Withdrawn}
-use Rattle.service_step.specs.Ends.{end_eq, unmade, is_made, is_living, is_destroyed, owner, is_owned_by, is_idle, is_posted, is_matched_inward, is_matched_with, is_reported_outward, is_reported_inward, is_started_inward, is_taken, is_withdrawn, matched_message, matched_outward, waiting_message, carried_by, places, puts, matches, takes, turns_inward, turns_outward}
-use Rattle.service_step.specs.Lawful.{AreHeldOnce, IsCarried, IsHeldAt, message_of}
-use Rattle.service_step.specs.State.{State, Process, is_cancelling, gains, owner_cancels, receive_report, send_report, tells, wakes}
-use Rattle.service_step.specs.Steps.{agree, after_complete, after_free, after_take, done_reports, gains_owner, is_matched, may_complete, may_free, may_match, may_take, may_withdraw, wakes_owner}
+use Rattle.service_change.proofs.Change.{none-some, well-kept}
+use Rattle.service_change.proofs.Counts.{IsAfter, and-true, pid_tells}
+use Rattle.service_change.proofs.EndEq.{end_eq-refl, opposite-apart}
+use Rattle.service_change.proofs.Shapes.{IsLed, IsNewly, IsNext, IsShape, IsTold, consistent-by, going-led, going-same, here-kept, here-woken, shape-dropped, shape-kept, telling-quiet, telling-told}
+use Rattle.service_lawful.specs.Consistent.{IsConsistent, is_over}
+use Rattle.service_change.proofs.EndEq.{end_eq-same, end_eq-sym, puts-at, puts-other}
+use Rattle.service_change.proofs.Facts.{IsWell-changed, away-owned, busy-away, busy-inward, busy-made, busy-outward, led-wakes, made-owned, matched-Matched, matched_with-Matched, next-same, over-both, owned_by-Owned, owner-Owned, owner_cancels-is, posted-Posted, some-is, taken-Taken, told-gains, told-tells, waiting-Waiting, wakes-woken, withdrawn-Withdrawn}
+use Rattle.service_step.specs.Ends.{end_eq, is_made, owner, is_idle, is_posted, is_reported_outward, is_reported_inward, is_started_inward, is_taken, is_withdrawn, matched_message, matched_outward, waiting_message, carried_by, places, puts, matches, takes, turns_inward, turns_outward}
+use Rattle.service_step.specs.Lawful.{IsHeldAt, message_of}
+use Rattle.service_step.specs.State.{State, gains, owner_cancels, receive_report, send_report, tells, wakes}
+use Rattle.service_step.specs.Steps.{after_complete, after_free, after_take, done_reports, gains_owner, may_complete, may_free, may_match, may_take, may_withdraw, wakes_owner}
 use Rattle.service_step.specs.declared.state.End.{End}
 use Rattle.service_step.specs.declared.state.Inward.{Inward}
 use Rattle.service_step.specs.declared.state.Inward.TheVariants as inward
 use Rattle.service_step.specs.declared.state.Message.{Message}
 use Rattle.service_step.specs.declared.state.Outward.{Outward}
 use Rattle.service_step.specs.declared.state.Outward.TheVariants as outward
-use Rattle.service_step.specs.declared.state.Phase.{Phase}
 use Rattle.service_step.specs.declared.state.Phase.TheVariants as phase
-use Rattle.service_step.specs.declared.state.Place.{Place}
 use Rattle.service_step.specs.declared.state.Place.TheVariants as place
 
 -- nobody is in a Cancel of the receive on an end that starts no receive, or else the receive stays started

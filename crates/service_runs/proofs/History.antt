@@ -1,41 +1,19 @@
 -- What the steps of a run so far tell of each end and of each report.
-use Rattle.std.proofs.Common.{◌≡◌, ◌≢◌, ℕ, zero, suc, ◌+◌, ◌<◌, ◌≤◌, Bool, true, false, true≢false, nat_eq, ◌&&◌, ◌||◌, not, IsTrue, is_some, is_none, ◌⊎◌, inl, inr, if◌then◌else◌, length, Option, Some, None, IsSome, List, [], ◌∷◌, ◌++◌, append-nil, Contains, map, cond, append_assoc, eq-eqb, refl, sym, ap, subst, ◌∙◌, arith, rules}
-use Rattle.std.proofs.lemmas.List.Elements.{Contains-append_cases}
-use Rattle.std.specs.List.{list_any}
+use Rattle.std.proofs.Common.{◌≡◌, ◌≢◌, ℕ, suc, ◌+◌, ◌<◌, ◌≤◌, Bool, true, false, true≢false, nat_eq, ◌⊎◌, inl, inr, length, List, [], ◌∷◌, ◌++◌, append-nil, Contains, map, cond, append_assoc, eq-eqb, refl, sym, ap, subst, ◌∙◌, arith}
 use Rattle.charlotte_calls.specs.Names.{opposite}
-use Rattle.charlotte_calls.specs.declared.calls.Report.{Report}
 use Rattle.charlotte_calls.specs.declared.names.EndId.{EndId}
-use Rattle.charlotte_calls.specs.declared.names.Outcome.TheVariants as outcome
 use Rattle.charlotte_calls.specs.declared.names.Pid.{Pid}
-use Rattle.charlotte_calls.specs.declared.names.Way.{Way}
-use Rattle.charlotte_calls.specs.declared.names.Way.TheVariants as way
 use Rattle.std.proofs.lemmas.Bool.Decides.{eqb_tells}
 use Rattle.std.proofs.lemmas.List.Elements.{Contains-append_left, Contains-append_right}
 use Rattle.std.specs.List.{filter, flat_map}
 use Rattle.charlotte_calls.specs.declared.calls.ServiceStep.{ServiceStep}
 use Rattle.charlotte_calls.specs.declared.calls.ServiceStep.TheVariants as step
-use Rattle.service_change.proofs.Counts.{and-true}
-use Rattle.service_change.proofs.EndEq.{end_eq-refl}
-use Rattle.service_lawful.specs.Consistent.{IsConsistent}
-use Rattle.service_consistent.proofs.Laws.{consistent_after}
-use Rattle.service_runs.proofs.Moves.{HasNumbers, Move, completed, matched, over, sent, still, taken}
-use Rattle.service_runs.proofs.MovesOfSteps.{move, take-number}
-use Rattle.service_runs.proofs.ReportsOfSteps.{IsOfTake, reports-from}
-use Rattle.service_consistent.proofs.StepsOfMessages.{take-inward}
-use Rattle.service_step.specs.Ends.{end_eq, is_reported_inward}
-use Rattle.service_step.specs.Lawful.{AreRising, WasMatched, complete_number, match_number, number_on, send_number, take_number}
+use Rattle.service_runs.proofs.Moves.{Move, completed, matched, over, sent, still, taken}
+use Rattle.service_step.specs.Lawful.{AreRising, WasMatched, complete_number, match_number, send_number, take_number}
 use Rattle.service_step.specs.Run.{state_after}
-use Rattle.service_step.specs.State.{State, Process, receive_report}
-use Rattle.service_step.specs.Steps.{IsServiceStep, may_take}
-use Rattle.service_step.specs.declared.state.End.{End}
-use Rattle.service_step.specs.declared.state.Inward.{Inward}
-use Rattle.service_step.specs.declared.state.Inward.TheVariants as inward
-use Rattle.service_step.specs.declared.state.Message.{Message}
+use Rattle.service_step.specs.State.{State}
 use Rattle.service_step.specs.declared.state.Outward.{Outward}
 use Rattle.service_step.specs.declared.state.Outward.TheVariants as outward
-use Rattle.service_step.specs.declared.state.Phase.{Phase}
-use Rattle.service_step.specs.declared.state.Phase.TheVariants as phase
-use Rattle.service_step.specs.declared.state.Place.{Place}
 use Rattle.service_step.specs.declared.state.Place.TheVariants as place
 
 -- lists

@@ -1,7 +1,5 @@
 -- Every run of the link service is lawful.
-use Rattle.std.proofs.Common.{◌≡◌, ◌≢◌, ℕ, zero, suc, ◌+◌, ◌<◌, ◌≤◌, Bool, true, false, true≢false, nat_eq, ◌&&◌, ◌||◌, not, IsTrue, is_some, is_none, ◌⊎◌, inl, inr, if◌then◌else◌, length, Option, Some, None, IsSome, List, [], ◌∷◌, ◌++◌, append-nil, Contains, map, cond, append_assoc, eq-eqb, refl, sym, ap, subst, ◌∙◌, arith, rules}
-use Rattle.std.proofs.lemmas.List.Elements.{Contains-append_cases}
-use Rattle.std.specs.List.{list_any}
+use Rattle.std.proofs.Common.{◌≡◌, ℕ, Bool, true, false, true≢false, nat_eq, ◌&&◌, ◌||◌, not, ◌⊎◌, inl, inr, if◌then◌else◌, length, Some, None, List, [], ◌∷◌, ◌++◌, append-nil, Contains, append_assoc, refl, sym, ap, subst, ◌∙◌, arith}
 use Rattle.charlotte_calls.specs.Names.{opposite}
 use Rattle.charlotte_calls.specs.declared.calls.Report.{Report}
 use Rattle.charlotte_calls.specs.declared.names.EndId.{EndId}
@@ -9,8 +7,6 @@ use Rattle.charlotte_calls.specs.declared.names.Outcome.TheVariants as outcome
 use Rattle.charlotte_calls.specs.declared.names.Pid.{Pid}
 use Rattle.charlotte_calls.specs.declared.names.Way.{Way}
 use Rattle.charlotte_calls.specs.declared.names.Way.TheVariants as way
-use Rattle.std.proofs.lemmas.Bool.Decides.{eqb_tells}
-use Rattle.std.proofs.lemmas.List.Elements.{Contains-append_left, Contains-append_right}
 use Rattle.std.specs.List.{filter, flat_map}
 use Rattle.charlotte_calls.specs.declared.calls.ServiceStep.{ServiceStep}
 use Rattle.charlotte_calls.specs.declared.calls.ServiceStep.TheVariants as step
@@ -18,40 +14,35 @@ use Rattle.service_change.proofs.Counts.{and-true}
 use Rattle.service_change.proofs.EndEq.{end_eq-refl}
 use Rattle.service_lawful.specs.Consistent.{IsConsistent}
 use Rattle.service_consistent.proofs.Laws.{consistent_after}
-use Rattle.service_runs.proofs.Moves.{HasNumbers, Move, completed, matched, over, sent, still, taken}
+use Rattle.service_runs.proofs.Moves.{Move, completed, matched, over, sent, still, taken}
 use Rattle.service_runs.proofs.MovesOfSteps.{complete-number, move, take-number}
 use Rattle.service_runs.proofs.ReportsOfSteps.{IsOfTake, reports-from}
 use Rattle.service_consistent.proofs.StepsOfMessages.{take-inward}
-use Rattle.service_step.specs.Ends.{end_eq, is_reported_inward}
-use Rattle.service_step.specs.Lawful.{AreRising, WasMatched, complete_number, match_number, number_on, send_number, take_number}
+use Rattle.service_step.specs.Ends.{is_reported_inward}
+use Rattle.service_step.specs.Lawful.{AreRising, WasMatched, take_number}
 use Rattle.service_step.specs.Run.{state_after}
-use Rattle.service_step.specs.State.{State, Process, receive_report}
-use Rattle.service_step.specs.Steps.{IsServiceStep, may_take}
+use Rattle.service_step.specs.State.{State, receive_report}
+use Rattle.service_step.specs.Steps.{IsServiceStep}
 use Rattle.service_step.specs.declared.state.End.{End}
-use Rattle.service_step.specs.declared.state.Inward.{Inward}
 use Rattle.service_step.specs.declared.state.Inward.TheVariants as inward
 use Rattle.service_step.specs.declared.state.Message.{Message}
 use Rattle.service_step.specs.declared.state.Outward.{Outward}
 use Rattle.service_step.specs.declared.state.Outward.TheVariants as outward
-use Rattle.service_step.specs.declared.state.Phase.{Phase}
-use Rattle.service_step.specs.declared.state.Phase.TheVariants as phase
-use Rattle.service_step.specs.declared.state.Place.{Place}
 use Rattle.service_step.specs.declared.state.Place.TheVariants as place
-use Rattle.service_runs.proofs.History.{IsInOrder, IsMatchedFor, IsPast, IsTakenFor, WasTaken, after-more, flat_map-append, flat_map-more, next-past, once, was-more}
+use Rattle.service_runs.proofs.History.{IsMatchedFor, IsPast, WasTaken, after-more, flat_map-append, flat_map-more, next-past, once, was-more}
 use Rattle.service_consistent.proofs.Starts.{consistent_start, start-idle}
 use Rattle.service_change.proofs.Change.{idle-parts}
-use Rattle.service_change.proofs.Counts.{Contains-count, count-Contains, counted-reported}
+use Rattle.service_change.proofs.Counts.{count-Contains}
 use Rattle.service_change.proofs.EndEq.{opposite-opposite}
 use Rattle.service_change.proofs.Facts.{not-false, owned_by-Owned, taken-Taken}
 use Rattle.service_lawful.specs.Consistent.{is_open, is_over, reports_on}
 use Rattle.charlotte_calls.specs.Setting.{IsValid}
 use Rattle.charlotte_calls.specs.declared.calls.Call.TheVariants as call
-use Rattle.charlotte_calls.specs.declared.calls.Cause.{Cause}
 use Rattle.charlotte_calls.specs.declared.calls.Cause.TheVariants as cause
 use Rattle.charlotte_calls.specs.declared.setting.Setting.{Setting}
-use Rattle.service_step.specs.Causes.{cancel_causes, first_of, has_no_activity, is_cause, is_late, is_matched_outward}
+use Rattle.service_step.specs.Causes.{cancel_causes, first_of, is_cause, is_late, is_matched_outward}
 use Rattle.service_step.specs.Ends.{is_living, is_owned_by, is_reported_outward, is_taken}
-use Rattle.service_step.specs.Lawful.{AreInOrder, HasMatchedReport, IsLawful, IsRightStep, IsRightlyLate, WasTakenOnce}
+use Rattle.service_step.specs.Lawful.{HasMatchedReport, IsLawful, IsRightStep, IsRightlyLate, WasTakenOnce}
 use Rattle.service_step.specs.Run.{IsRunFrom, IsServiceRun, start_state}
 use Rattle.service_step.specs.Steps.{is_matched}
 

@@ -1,39 +1,25 @@
 -- What one step does to the send of an end, and which reports it tells of.
-use Rattle.std.proofs.Common.{◌≡◌, ◌≢◌, ℕ, zero, suc, ◌+◌, ◌<◌, ◌≤◌, Bool, true, false, true≢false, nat_eq, ◌&&◌, ◌||◌, not, IsTrue, is_some, is_none, ◌⊎◌, inl, inr, if◌then◌else◌, length, Option, Some, None, IsSome, List, [], ◌∷◌, ◌++◌, append-nil, Contains, refl, sym, ap, subst, ◌∙◌, ap₂, slice_get, arith, rules}
-use Rattle.std.proofs.lemmas.List.Elements.{Contains-append_cases}
-use Rattle.std.specs.List.{list_any}
+use Rattle.std.proofs.Common.{◌≡◌, ◌≢◌, ℕ, ◌+◌, Bool, true, false, true≢false, nat_eq, not, ◌⊎◌, inl, inr, if◌then◌else◌, Option, Some, None, List, [], ◌∷◌, refl, sym, ap, subst, ◌∙◌}
 use Rattle.charlotte_calls.specs.Names.{opposite}
-use Rattle.charlotte_calls.specs.declared.calls.Report.{Report}
 use Rattle.charlotte_calls.specs.declared.names.EndId.{EndId}
-use Rattle.charlotte_calls.specs.declared.names.Outcome.TheVariants as outcome
 use Rattle.charlotte_calls.specs.declared.names.Pid.{Pid}
-use Rattle.charlotte_calls.specs.declared.names.Way.{Way}
-use Rattle.charlotte_calls.specs.declared.names.Way.TheVariants as way
 use Rattle.std.proofs.lemmas.Bool.Decides.{eqb_tells}
-use Rattle.std.proofs.lemmas.List.Elements.{Contains-append_right}
 use Rattle.charlotte_calls.specs.declared.calls.Cause.TheVariants as cause
 use Rattle.charlotte_calls.specs.declared.calls.ServiceStep.{ServiceStep}
 use Rattle.charlotte_calls.specs.declared.calls.ServiceStep.TheVariants as step
-use Rattle.service_change.proofs.Change.{none-some}
-use Rattle.service_change.proofs.Counts.{and-true, pid_tells}
-use Rattle.service_change.proofs.EndEq.{end_eq-apart, end_eq-refl, end_eq-same, opposite-apart, put-at, put-other, puts-at, puts-other}
-use Rattle.service_change.proofs.Facts.{busy-made, busy-outward, made-owned, matched-Matched, none-first, not-false, not-true, owner-Owned, put_process-at, put_process-other, taken-Taken, waiting-Waiting, wakes-woken}
-use Rattle.service_lawful.specs.Consistent.{IsConsistent}
-use Rattle.service_consistent.proofs.StepsOfMessages.{take-matched, take-owned}
-use Rattle.service_step.specs.Causes.{first_of, send_causes, is_missing_one, has_busy_one, names_twice, same_link}
-use Rattle.service_step.specs.Ends.{end_eq, fresh, unmade, carried_by, destroys, destroys_each, destroys_owned, dropped, idles, is_destroyed, is_idle, is_idle_outward, is_made, is_owned_by, is_taken, makes, matched_message, matched_outward, matches, noticed_end, noticed_outward, notices, owner, places, put, puts, returned_end, returns, starts_send, takes, to_owner, turns_inward, turns_outward, waiting_message, withdraws_send}
-use Rattle.service_step.specs.Lawful.{complete_number, match_number, message_of, number_on, send_number, take_number}
-use Rattle.service_step.specs.State.{State, Process}
-use Rattle.service_step.specs.Steps.{IsServiceStep, IsAllowed, after_cancel, after_complete, after_free, after_make, after_notice, after_report, after_return, after_take, may_send, may_send_as, may_match, may_take, may_complete, runs, fits_version}
-use Rattle.std.specs.List.{fold}
+use Rattle.service_change.proofs.Counts.{and-true}
+use Rattle.service_change.proofs.EndEq.{end_eq-apart, end_eq-refl, end_eq-same, put-at, put-other, puts-other}
+use Rattle.service_change.proofs.Facts.{made-owned, none-first, not-false, owner-Owned}
+use Rattle.service_step.specs.Ends.{end_eq, fresh, unmade, carried_by, destroys, destroys_each, destroys_owned, dropped, is_idle_outward, is_made, is_owned_by, makes, noticed_outward, owner, places, put, puts, turns_inward, waiting_message}
+use Rattle.service_step.specs.Lawful.{complete_number, match_number, number_on, send_number, take_number}
+use Rattle.service_step.specs.State.{State}
+use Rattle.service_step.specs.Steps.{may_send, may_send_as}
 use Rattle.service_step.specs.declared.state.End.{End}
 use Rattle.service_step.specs.declared.state.Inward.{Inward}
 use Rattle.service_step.specs.declared.state.Inward.TheVariants as inward
 use Rattle.service_step.specs.declared.state.Message.{Message}
 use Rattle.service_step.specs.declared.state.Outward.{Outward}
 use Rattle.service_step.specs.declared.state.Outward.TheVariants as outward
-use Rattle.service_step.specs.declared.state.Phase.{Phase}
-use Rattle.service_step.specs.declared.state.Phase.TheVariants as phase
 use Rattle.service_step.specs.declared.state.Place.{Place}
 use Rattle.service_step.specs.declared.state.Place.TheVariants as place
 
