@@ -1,0 +1,5 @@
+pub mod EndEq
+pub mod Counts
+pub mod Change
+pub mod Shapes
+pub mod Facts

@@ -1,0 +1,5 @@
+pub mod Moves
+pub mod MovesOfSteps
+pub mod ReportsOfSteps
+pub mod History
+pub mod Lawful
