@@ -1,4 +1,4 @@
-use Rattle.std.proofs.Common.{◌≡◌, ◌+◌, ap, ◌∙◌, length, arith}
+use Rattle.std.proofs.Common.{◌+◌, ap, ◌∙◌, length, arith}
 use Rattle.lynx_tree.specs.Grammar.{types_marks}
 use Rattle.lynx_tree.specs.Trees.{op_tree}
 use Rattle.lynx_typing.specs.Meanings.{look}

@@ -1,4 +1,4 @@
-use Rattle.std.proofs.Common.{◌≡◌, ◌+◌, ◌∙◌, arith}
+use Rattle.std.proofs.Common.{◌∙◌, arith}
 use Rattle.lynx_tree.specs.Grammar.{op_marks}
 use Rattle.lynx_tree.specs.Trees.{op_tree}
 use Rattle.lynx_typing.specs.Meanings.{look}

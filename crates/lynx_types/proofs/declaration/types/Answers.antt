@@ -1,7 +1,6 @@
-use Rattle.std.proofs.Common.{rules, ◌≡◌, ◌+◌, ◌++◌, slice_index_or, refl, sym, ap, ◌∙◌, arith, drop, length}
+use Rattle.std.proofs.Common.{◌+◌, ◌++◌, slice_index_or, refl, sym, ap, ◌∙◌, arith, drop}
 use Rattle.std.proofs.lemmas.Grind.{common_steps}
 use Rattle.lynx_tree.specs.declared.declaration.TypeName.TheVariants as types
-use Rattle.lynx_tree.specs.Grammar.{type_marks}
 use Rattle.lynx_typing.specs.Modules.{type_faults, types_faults}
 use Rattle.lynx_typing.specs.Progress.{first_with}
 use Rattle.lynx_typing.proofs.Members.{none_left}

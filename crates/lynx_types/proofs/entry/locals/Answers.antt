@@ -1,4 +1,4 @@
-use Rattle.std.proofs.Common.{◌≡◌, ℕ, ◌+◌, ◌++◌, List, length, map, ap, ◌∙◌}
+use Rattle.std.proofs.Common.{◌+◌, ◌++◌, length, map, ap, ◌∙◌}
 use Rattle.lynx_tree.specs.Grammar.{names_marks}
 use Rattle.lynx_tree.specs.Trees.{var_tree, entry_tree}
 use Rattle.lynx_typing.specs.Meanings.{look}
