@@ -1,3 +1,4 @@
 pub mod Alike
 pub mod Clauses
 pub mod Passing
+pub mod World
