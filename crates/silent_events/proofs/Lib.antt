@@ -2,3 +2,5 @@ pub mod Alike
 pub mod Clauses
 pub mod Passing
 pub mod World
+pub mod Rows
+pub mod Taking
