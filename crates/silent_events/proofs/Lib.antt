@@ -4,3 +4,4 @@ pub mod Passing
 pub mod World
 pub mod Rows
 pub mod Taking
+pub mod Places
