@@ -5,3 +5,4 @@ pub mod World
 pub mod Rows
 pub mod Taking
 pub mod Places
+pub mod Learning
