@@ -6,3 +6,4 @@ pub mod Rows
 pub mod Taking
 pub mod Places
 pub mod Learning
+pub mod Hearing

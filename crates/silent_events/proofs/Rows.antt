@@ -47,7 +47,7 @@ pub record IsTable (n : ℕ) (t : EndId → End) (k : ℕ) (y : EndId → Entry)
 closed : (x : End) → x.place ≡ place.Destroyed → is_open x ≡ false
 closed x is = ap (λ (p : Place). is_living p && (if x.noticed then false else true)) is
 
-alike-learned : (at hops : ℕ) (m : MovingPicture) → IsAlike m (learned at hops m)
+pub alike-learned : (at hops : ℕ) (m : MovingPicture) → IsAlike m (learned at hops m)
 alike-learned at hops m = by (is_news m hops)
   where
     by : (b : Bool) → IsAlike m (if b then record m { hint = (at, hops) } else m)
@@ -73,7 +73,7 @@ module _ (n : ℕ) (t : EndId → End) (k : ℕ) (y : EndId → Entry) (is : IsT
     passes well there below = sends ((there, q) ∷ []) (record { quiet = well.quiet; below = below; addressed = well.addressed; made = well.made; gone = well.gone }, tt) (inr refl, tt)
 
     -- an end gets an entry
-    put-each : (P : EndId → Entry → Type 0) (to : EndId) (x : Entry) → P to x → ((e : EndId) → P e (y e)) → (e : EndId) → P e (puts to x stays e (y e))
+    pub put-each : (P : EndId → Entry → Type 0) (to : EndId) (x : Entry) → P to x → ((e : EndId) → P e (y e)) → (e : EndId) → P e (puts to x stays e (y e))
     put-each P to x here others e = by (end_eq to e) refl
       where
         by : (b : Bool) → end_eq to e ≡ b → P e (if b then x else y e)
@@ -122,7 +122,7 @@ module _ (n : ℕ) (t : EndId → End) (k : ℕ) (y : EndId → Entry) (is : IsT
   mark-end : (to : EndId) (m : MovingPicture) → y to ≡ entry.Destroyed m → m.end ≡ to
   mark-end to m at = subst (IsOfEnd to) at (is.own to)
 
-  view-end : (to : EndId) (v : HereView) → y to ≡ entry.Here v → v.value.end ≡ to
+  pub view-end : (to : EndId) (v : HereView) → y to ≡ entry.Here v → v.value.end ≡ to
   view-end to v at = subst (IsOfEnd to) at (is.own to)
 
   left-below : (to : EndId) (there h : ℕ) → y to ≡ entry.Left there h → there < n

@@ -1,10 +1,10 @@
 -- Packets whose taking means nothing to the link service, and what such a taking does.
-use Rattle.std.specs.Prelude.{◌≡◌, ℕ, ◌⊎◌, true, false, [], Some}
+use Rattle.std.specs.Prelude.{◌≡◌, ℕ, ◌≤◌, ◌⊎◌, true, false, [], Some}
 use Rattle.charlotte_calls.specs.declared.names.EndId.{EndId}
 use Rattle.charlotte_calls.specs.declared.picture.MovingPicture.{MovingPicture}
 use Rattle.charlotte_calls.specs.declared.picture.PictureWhat.{PictureWhat}
 use Rattle.charlotte_calls.specs.declared.picture.PictureWhat.TheVariants as packet
-use Rattle.end_table.specs.Table.{IfHere}
+use Rattle.end_table.specs.Table.{IfHere, IsHereAnd}
 use Rattle.end_table.specs.declared.entry.Entry.{Entry}
 use Rattle.kernel_effects.specs.Effect.{Effect}
 use Rattle.service_lawful.specs.Consistent.{is_open}
@@ -41,3 +41,11 @@ IsSilentAt (packet.Known to hops) x = Unit {0}
 IsSilentAt (packet.Forget to hops) x = Unit {0}
 IsSilentAt (packet.GoneSeen to) x = Unit {0}
 IsSilentAt _ x = ⊥
+
+-- a packet by which the end that it is addressed to learns where its opposite is, and no more: a moved at an end that is here, and a
+-- want or unwant of a receive that the end served already
+abbrev pub IsLearnedAt : PictureWhat → Entry → Type 0
+IsLearnedAt (packet.Want to w at hops) x = IsHereAnd x (λ v. (v.value.dead ≡ false) × (w ≤ v.value.served))
+IsLearnedAt (packet.Unwant to w at hops) x = IsHereAnd x (λ v. (v.value.dead ≡ false) × (w ≤ v.value.served))
+IsLearnedAt (packet.Moved to at hops) x = IsHereAnd x (λ v. v.value.dead ≡ false)
+IsLearnedAt _ x = ⊥
