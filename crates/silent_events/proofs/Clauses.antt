@@ -1,44 +1,36 @@
 -- A quiet event keeps each clause on links, but for what was heard and what is asked, which are for each event.
-use Rattle.std.proofs.Common.{◌≡◌, ◌≢◌, ◌⊎◌, ◌↔◌, inl, inr, ℕ, ◌+◌, ◌<◌, ◌≤◌, Bool, true, false, nat_eq, List, [], ◌∷◌, length, Contains, IfSome, Option, Some, None, is_some, refl, sym, ap, subst, ◌∙◌, arith, true≢false, ne_eqb}
+use Rattle.std.proofs.Common.{◌≡◌, ◌≢◌, ◌⊎◌, ◌↔◌, inl, inr, ℕ, ◌+◌, ◌≤◌, Bool, true, false, nat_eq, List, [], ◌∷◌, length, Contains, refl, sym, ap, subst, ◌∙◌, arith, true≢false, ne_eqb}
 use Rattle.std.proofs.lemmas.Bool.Decides.{eqb_tells}
 use Rattle.charlotte_calls.specs.Names.{opposite}
 use Rattle.charlotte_calls.specs.Packets.{is_addressed}
 use Rattle.charlotte_calls.specs.declared.names.EndId.{EndId}
-use Rattle.charlotte_calls.specs.declared.names.Pid.{Pid}
 use Rattle.charlotte_calls.specs.declared.picture.MovingPicture.{MovingPicture}
 use Rattle.charlotte_calls.specs.declared.picture.Picture.{Picture}
 use Rattle.charlotte_calls.specs.declared.picture.PictureWhat.{PictureWhat}
 use Rattle.charlotte_calls.specs.declared.picture.PictureWhat.TheVariants as packet
 use Rattle.end_table.specs.Table.{IsHereAnd}
-use Rattle.end_table.specs.declared.entry.Entry.{Entry}
 use Rattle.end_table.specs.declared.entry.Entry.TheVariants as entry
 use Rattle.end_table.specs.declared.entry.HereView.{HereView}
 use Rattle.end_table.specs.declared.entry.Holder.{Holder}
 use Rattle.end_table.specs.declared.entry.Holder.TheVariants as holder
-use Rattle.end_table.specs.declared.entry.Inward.{Inward as KernelInward}
 use Rattle.end_table.specs.declared.entry.Inward.TheVariants as kernel_inward
-use Rattle.end_table.specs.declared.entry.Outward.{Outward as KernelOutward}
 use Rattle.kernel_sound.specs.Sound.{addressee}
 use Rattle.kernel_step.specs.Actions.{is_withdrawing}
 use Rattle.kernel_step.specs.Rows.{ends_in, is_here}
-use Rattle.service_lawful.specs.Consistent.{is_open}
-use Rattle.service_step.specs.Ends.{is_living, is_made, is_posted, is_taken, matched_message}
+use Rattle.service_step.specs.Ends.{is_made, is_taken}
 use Rattle.service_step.specs.State.{State}
 use Rattle.service_step.specs.declared.state.End.{End}
-use Rattle.service_step.specs.declared.state.Place.TheVariants as place
 use Rattle.world_effects.proofs.Aside.{none-taken, sent-each}
 use Rattle.world_effects.proofs.Ends.{all_sent-weaker, inward-same, outward-same, taken-weaker}
 use Rattle.world_effects.proofs.Lists.{first, none-there}
 use Rattle.world_effects.proofs.Packets.{each-after, left-before, left_or_sent, under_way-still, under_way-was}
 use Rattle.world_effects.proofs.Sums.{sum_over-same}
 use Rattle.world_effects.specs.Change.{Change, Changes}
-use Rattle.world_effects.specs.Sums.{AllSent}
-use Rattle.world_effects.specs.Under.{IsTaken}
 use Rattle.world_meaning.proofs.Sums.{over-same}
-use Rattle.world_meaning.specs.Fields.{Stand, At, Flying, HasFields, IsAskedAs, IsHeard, IsNoMore, value_of}
-use Rattle.world_meaning.specs.Invariant.{AreAsked, AreCancelling, AreCounted, AreMarked, AreNamed, AreRight, AreSentOnce, AreVoided, AreWanted, IsBackRight, IsFew, IsHereIfLiving, IsHonest, IsPacketRight, IsParcelRight, IsServed, IsTakenRight, IsVoidRight, NamesBelow, is_message_of, is_taken_of, is_unwanted_to}
+use Rattle.world_meaning.specs.Fields.{Stand, At, Flying, HasFields, IsAskedAs, IsHeard, IsNoMore}
+use Rattle.world_meaning.specs.Invariant.{AreAsked, AreCounted, AreMarked, AreNamed, AreRight, AreSentOnce, AreVoided, AreWanted, IsFew, IsHereIfLiving, IsHonest, IsPacketRight, IsServed, IsVoidRight, NamesBelow, is_message_of, is_taken_of, is_unwanted_to}
 use Rattle.world_meaning.specs.Packets.{Each, IsBackOf, IsParcelFor, IsParcelOf, IsTakenOf, IsUnderWay, IsUnwantedOf, Links, how_many, one_if, over_kernels, sum_over, values_for, values_of}
-use Rattle.world_meaning.specs.StandsFor.{AreLinksOf, IsEndOf, IsEnclosed, IsInMessage, IsInwardOf, IsOutwardOf, IsOwnedHere, IsWaitingWith, entry_at, home_of, standing}
+use Rattle.world_meaning.specs.StandsFor.{AreLinksOf, IsEndOf, IsInMessage, IsInwardOf, IsOutwardOf, IsWaitingWith, entry_at, home_of, standing}
 use Rattle.silent_events.specs.Quiet.{IsAlike, IsGoneWell, IsQuiet, IsQuietly, IsSentWell, IsViewAlike, is_telling}
 use Rattle.silent_events.proofs.Alike.{IsQuietly-same, back-tells, here-still, here-was, is_here-same, mark-was, message-quiet, parcel-tells, parcel_for-tells, taken-quiet, taken-tells, unwanted-quiet, unwanted-tells, value-tells, value-was, values-quiet, view-was}
 
@@ -76,9 +68,10 @@ module _ {w u : Links} {c : Change} (b : Changes w c u) (s : State) (quiet : IsQ
   well to what has = sent-each (IsSentWell n s.ends) c.packets to what quiet.sent has
 
   telling-same : (P : PictureWhat → Type 0) → ((q : PictureWhat) → P q → is_telling q ≡ true) → IsUnderWay u P ↔ IsUnderWay w P
-  telling-same P tells =
-      (under_way-was b P (λ x. no x.what (well x.to x.what x.there).quiet x.is),
-      under_way-still b P (none-taken c P (taken-weaker (λ what. is_telling what ≡ false) (λ what. P what → ⊥) no c.taken quiet.taken)))
+  telling-same P tells = (
+    under_way-was b P (λ x. no x.what (well x.to x.what x.there).quiet x.is),
+    under_way-still b P (none-taken c P (taken-weaker (λ what. is_telling what ≡ false) (λ what. P what → ⊥) no c.taken quiet.taken)),
+  )
     where
       no : (q : PictureWhat) → is_telling q ≡ false → P q → ⊥
       no q silent is = true≢false (sym (tells q is) ∙ silent)
@@ -132,9 +125,10 @@ module _ {w u : Links} {c : Change} (b : Changes w c u) (s : State) (quiet : IsQ
   held-still k e h = (is-still k e (λ v. v.holder ≡ h) (λ v x like is. holder-like v x like ∙ is), is-was k e (λ v. v.holder ≡ h) (λ v x like is. sym (holder-like v x like) ∙ is))
 
   waiting-still : (k : ℕ) (f : EndId) (m : ℕ) → IsHereAnd (entry_at w k f) (λ v. IsWaitingWith m v.outward) ↔ IsHereAnd (entry_at u k f) (λ v. IsWaitingWith m v.outward)
-  waiting-still k f m =
-      (is-still k f (λ v. IsWaitingWith m v.outward) (λ v x like is. subst (IsWaitingWith m) (sym (outward-like v x like)) is),
-      is-was k f (λ v. IsWaitingWith m v.outward) (λ v x like is. subst (IsWaitingWith m) (outward-like v x like) is))
+  waiting-still k f m = (
+    is-still k f (λ v. IsWaitingWith m v.outward) (λ v x like is. subst (IsWaitingWith m) (sym (outward-like v x like)) is),
+    is-was k f (λ v. IsWaitingWith m v.outward) (λ v x like is. subst (IsWaitingWith m) (outward-like v x like) is),
+  )
 
   in_message-still : (e f : EndId) (m : ℕ) → IsInMessage w e f m ↔ IsInMessage u e f m
   in_message-still e f m = (still, was)

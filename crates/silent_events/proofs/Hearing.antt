@@ -1,22 +1,18 @@
 -- The rows by which an end learns where its opposite is, and no more.
-use Rattle.std.proofs.Common.{◌≡◌, ◌⊎◌, inl, inr, ℕ, ◌+◌, ◌<◌, ◌≤◌, ◌^◌, Bool, true, false, nat_lt, ◌&&◌, if◌then◌else◌, List, [], ◌∷◌, ◌++◌, length, Some, refl, sym, ap, subst, ◌∙◌, arith, true≢false, ltb-true, lt-ltb, le-ltb, append-nil}
+use Rattle.std.proofs.Common.{◌≡◌, ◌⊎◌, inl, inr, ℕ, ◌<◌, ◌^◌, Bool, true, false, nat_lt, ◌&&◌, if◌then◌else◌, List, [], ◌∷◌, ◌++◌, length, Some, refl, sym, ap, subst, ◌∙◌, ltb-true, lt-ltb, le-ltb}
 use Rattle.std.proofs.lemmas.Bool.{and_parts}
 use Rattle.charlotte_calls.specs.Names.{opposite}
-use Rattle.charlotte_calls.specs.Packets.{is_addressed, names_kernels_below}
+use Rattle.charlotte_calls.specs.Packets.{names_kernels_below}
 use Rattle.charlotte_calls.specs.declared.names.EndId.{EndId}
 use Rattle.charlotte_calls.specs.declared.picture.MovingPicture.{MovingPicture}
 use Rattle.charlotte_calls.specs.declared.picture.Picture.{Picture}
 use Rattle.charlotte_calls.specs.declared.picture.PictureWhat.{PictureWhat}
 use Rattle.charlotte_calls.specs.declared.picture.PictureWhat.TheVariants as packet
 use Rattle.end_table.specs.Entries.{is_news, learned}
-use Rattle.end_table.specs.Table.{IsHereAnd}
 use Rattle.end_table.specs.declared.entry.Entry.{Entry}
 use Rattle.end_table.specs.declared.entry.Entry.TheVariants as entry
 use Rattle.end_table.specs.declared.entry.HereView.{HereView}
-use Rattle.end_table.specs.declared.entry.Inward.{Inward}
-use Rattle.end_table.specs.declared.entry.Inward.TheVariants as inward
 use Rattle.kernel_effects.proofs.Uses.{all-append, live-each, news-each}
-use Rattle.kernel_effects.specs.Actions.{live_packets}
 use Rattle.kernel_effects.specs.Effect.{Effect, nothing, puts, sent, stays}
 use Rattle.kernel_effects.specs.Rows.{moved_effect, row_effect, unwant_effect, view_news, voids_effect, want_effect, wants_effect}
 use Rattle.kernel_sound.specs.Sound.{addressee}
@@ -31,7 +27,7 @@ use Rattle.world_meaning.proofs.Run.{Goes}
 use Rattle.world_meaning.specs.Fields.{IsAskedAs, IsNews, value_of}
 use Rattle.world_meaning.specs.Invariant.{Invariant, NamesBelow}
 use Rattle.silent_events.specs.Learning.{IsLive}
-use Rattle.silent_events.specs.Quiet.{IsAlike, IsQuietly, IsSentWell, is_telling}
+use Rattle.silent_events.specs.Quiet.{IsQuietly, IsSentWell, is_telling}
 use Rattle.silent_events.specs.Silent.{IsLearnedAt, IsStill}
 use Rattle.silent_events.proofs.Alike.{IsQuietly-same, some-same}
 use Rattle.silent_events.proofs.Learning.{learning-right}
@@ -86,12 +82,14 @@ module _ (n : ℕ) (t : EndId → End) (k : ℕ) (y : EndId → Entry) (is : IsT
     news-said =
         news-each IsSaid k v.value hops (learned at hops v.value) v.inward
         (λ rise. live-each IsSaid k (learned at hops v.value) v.inward
-        (λ w posted.
-        (record { quiet = refl; below = hint-below; addressed = lt-ltb k n is.below; made = other-made; gone = tt },
-        (ap opposite own-end, refl, own-hops, subst (IsAskedAs w) (sym posted) refl)))
-        (λ w withdrawing.
-        (record { quiet = refl; below = hint-below; addressed = lt-ltb k n is.below; made = other-made; gone = tt },
-        (ap opposite own-end, refl, own-hops, subst (IsAskedAs w) (sym withdrawing) refl, ap is_withdrawing withdrawing)))
+        (λ w posted. (
+          record { quiet = refl; below = hint-below; addressed = lt-ltb k n is.below; made = other-made; gone = tt },
+          (ap opposite own-end, refl, own-hops, subst (IsAskedAs w) (sym posted) refl),
+        ))
+        (λ w withdrawing. (
+          record { quiet = refl; below = hint-below; addressed = lt-ltb k n is.below; made = other-made; gone = tt },
+          (ap opposite own-end, refl, own-hops, subst (IsAskedAs w) (sym withdrawing) refl, ap is_withdrawing withdrawing),
+        ))
         (record { quiet = refl; below = hint-below; addressed = lt-ltb k n is.below; made = other-made; gone = tt }, (ap opposite own-end, refl, own-hops)))
 
     known-said : IsSaid (at, packet.Known (opposite v.value.end) hops)
@@ -116,22 +114,23 @@ module _ (n : ℕ) (t : EndId → End) (k : ℕ) (y : EndId → Entry) (is : IsT
         by false low = inl refl
 
     pub hears-so : (ps : List (ℕ × PictureWhat)) → AllSent (λ to what. IsSaid (to, what)) ps → IsStill n t y (hears v at hops ps) × IsHearing k y q (hears v at hops ps)
-    hears-so ps all =
-        (record {
-          entry = put-each n t k y is q (λ e z. IsQuietly (y e) z) v.value.end new (subst (λ z. IsQuietly z new) (sym here) (refl, alike-learned at hops v.value)) (λ e. IsQuietly-same (y e));
-          names = put-each n t k y is q (λ e z. NamesBelow n z) v.value.end new (named (is_news v.value hops)) is.names;
-          sent = wells ps all;
-          answers = refl;
-          reports = refl;
-          steps = refl;
-        },
-        record {
-          view = v;
-          here = here;
-          hints = put-each n t k y is q (λ e z. (m l : MovingPicture) → value_of (y e) ≡ Some m → value_of z ≡ Some l → (l.hint ≡ m.hint) ⊎ (IsNews e l.hint.0 l.hint.1 q × (m.hint.1 < l.hint.1))) v.value.end new risen
-              (λ e m l had has. inl (ap (λ (z : MovingPicture). z.hint) (some-same l m (sym has ∙ had))));
-          sent = lives ps all;
-        })
+    hears-so ps all = (
+      record {
+        entry = put-each n t k y is q (λ e z. IsQuietly (y e) z) v.value.end new (subst (λ z. IsQuietly z new) (sym here) (refl, alike-learned at hops v.value)) (λ e. IsQuietly-same (y e));
+        names = put-each n t k y is q (λ e z. NamesBelow n z) v.value.end new (named (is_news v.value hops)) is.names;
+        sent = wells ps all;
+        answers = refl;
+        reports = refl;
+        steps = refl;
+      },
+      record {
+        view = v;
+        here = here;
+        hints = put-each n t k y is q (λ e z. (m l : MovingPicture) → value_of (y e) ≡ Some m → value_of z ≡ Some l → (l.hint ≡ m.hint) ⊎ (IsNews e l.hint.0 l.hint.1 q × (m.hint.1 < l.hint.1))) v.value.end new risen
+            (λ e m l had has. inl (ap (λ (z : MovingPicture). z.hint) (some-same l m (sym has ∙ had))));
+        sent = lives ps all;
+      },
+    )
 
     pub learns-so : IsStill n t y (hears v at hops (view_news k at hops v v.inward)) × IsHearing k y q (hears v at hops (view_news k at hops v v.inward))
     learns-so = hears-so (view_news k at hops v v.inward) news-said

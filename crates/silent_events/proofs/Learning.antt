@@ -1,5 +1,5 @@
 -- A quiet event by which an end learns: what was heard is no more than true, and what is asked is one receive that stands where each asking says.
-use Rattle.std.proofs.Common.{◌≡◌, ◌≢◌, ◌⊎◌, inl, inr, ℕ, ◌+◌, ◌<◌, ◌≤◌, Bool, true, false, nat_eq, ◌&&◌, List, [], ◌∷◌, length, Contains, Some, refl, sym, ap, subst, ◌∙◌, arith, true≢false}
+use Rattle.std.proofs.Common.{◌≡◌, ◌≢◌, ◌⊎◌, inl, inr, ℕ, ◌+◌, ◌<◌, ◌≤◌, Bool, true, false, nat_eq, ◌&&◌, length, Contains, Some, refl, sym, ap, subst, ◌∙◌, arith, true≢false}
 use Rattle.std.proofs.lemmas.Bool.Decides.{eqb_tells}
 use Rattle.charlotte_calls.specs.Names.{opposite}
 use Rattle.charlotte_calls.specs.declared.names.EndId.{EndId}
@@ -24,10 +24,10 @@ use Rattle.world_meaning.specs.Invariant.{AreRight, AreWanted}
 use Rattle.world_meaning.specs.Packets.{IsUnderWay, Links}
 use Rattle.world_meaning.specs.StandsFor.{AreLinksOf, entry_at}
 use Rattle.silent_events.specs.Learning.{IsLearning, IsLive}
-use Rattle.silent_events.specs.Quiet.{IsAlike, IsQuiet, IsViewAlike, tells_place}
+use Rattle.silent_events.specs.Quiet.{IsAlike, IsQuiet}
 use Rattle.silent_events.proofs.Alike.{some-same}
 use Rattle.silent_events.proofs.Clauses.{fields-was, flying-was, is-still, right-still, withdrawing-still}
-use Rattle.silent_events.proofs.Places.{fields-here, here-kernel, here-living}
+use Rattle.silent_events.proofs.Places.{fields-here, here-living}
 
 -- an end by its opposite
 turned : (e x : EndId) → opposite x ≡ opposite e → e ≡ x
@@ -68,9 +68,6 @@ module _ {w u : Links} {c : Change} (b : Changes w c u) (s : State) (quiet : IsQ
   fields-of : (at : Stand) (m : MovingPicture) → HasFields w v.value.end at m → (at ≡ At k) × (m ≡ v.value)
   fields-of at m has = fields-here (length s.made) w s.ends few is.named is.marked links.once v.value.end k v at m learning.here has
 
-  one-kernel : (j : ℕ) (x : HereView) → entry_at w j v.value.end ≡ entry.Here x → j ≡ k
-  one-kernel j x there = here-kernel (length s.made) w s.ends few is.named is.marked links.once v.value.end j k x v there learning.here
-
   living : is_living (s.ends v.value.end).place ≡ true
   living = here-living (length s.made) w s.ends few is.named is.marked links.once v.value.end k v learning.here
 
@@ -88,9 +85,12 @@ module _ {w u : Links} {c : Change} (b : Changes w c u) (s : State) (quiet : IsQ
       m = fields-was b s quiet e (At j) l has
 
       by : ((nat_eq j k ≡ true) × (j ≡ k)) ⊎ ((nat_eq j k ≡ false) × (j ≢ k)) → (m : MovingPicture) × HasFields w e (At j) m × IsAlike m l × IsRisen e m l
-      by (inl at) =
-          (m.0, m.1, m.2,
-          learning.hints e m.0 l (subst (λ z. value_of (w.entry z e) ≡ Some m.0) at.1 m.1) (ap value_of (sym (b.entry e)) ∙ subst (λ z. value_of (u.entry z e) ≡ Some l) at.1 has))
+      by (inl at) = (
+        m.0,
+        m.1,
+        m.2,
+        learning.hints e m.0 l (subst (λ z. value_of (w.entry z e) ≡ Some m.0) at.1 m.1) (ap value_of (sym (b.entry e)) ∙ subst (λ z. value_of (u.entry z e) ≡ Some l) at.1 has),
+      )
       by (inr at) = (m.0, m.1, m.2, inl (ap (λ (z : MovingPicture). z.hint) (some-same l m.0 (sym has ∙ ap value_of (b.others j e at.0) ∙ m.1))))
 
   -- ---- what was heard
@@ -224,9 +224,11 @@ module _ {w u : Links} {c : Change} (b : Changes w c u) (s : State) (quiet : IsQ
           (j.0, withdrawing-still b s quiet j.0 (opposite e) j.1)
       withdrawing e at m r open_is has low (inr sent) =
           let live = live-unwant k v e r sent.what (said sent.to sent.what sent.there) sent.is in
-          let end : opposite e ≡ v.value.end = sym (ap opposite live.0) ∙ opposite-twice v.value.end in
-          (k, withdrawing-still b s quiet k (opposite e)
-          (here-there (entry_at w k (opposite e)) v (λ v. is_withdrawing v.inward ≡ true) (subst (λ z. entry_at w k z ≡ entry.Here v) (sym end) learning.here) live.1))
+          let end : opposite e ≡ v.value.end = sym (ap opposite live.0) ∙ opposite-twice v.value.end in (
+            k,
+            withdrawing-still b s quiet k (opposite e)
+                (here-there (entry_at w k (opposite e)) v (λ v. is_withdrawing v.inward ≡ true) (subst (λ z. entry_at w k z ≡ entry.Here v) (sym end) learning.here) live.1),
+          )
 
   -- so all clauses on links stay
   pub learning-right : AreRight (i + 1) u s

@@ -1,5 +1,5 @@
 -- A quiet event that says nothing new: what was heard was heard before, and what is asked was asked before.
-use Rattle.std.proofs.Common.{◌≡◌, ◌≢◌, ◌⊎◌, inl, inr, ℕ, ◌+◌, ◌<◌, ◌≤◌, Bool, true, false, nat_eq, List, [], ◌∷◌, length, Contains, Option, Some, None, refl, sym, ap, subst, ◌∙◌, true≢false}
+use Rattle.std.proofs.Common.{◌≡◌, ◌≢◌, ◌⊎◌, inl, inr, ℕ, ◌+◌, ◌<◌, true, false, nat_eq, length, Some, refl, sym, ap, subst, ◌∙◌, true≢false}
 use Rattle.std.proofs.lemmas.Bool.Decides.{eqb_tells}
 use Rattle.charlotte_calls.specs.Names.{opposite}
 use Rattle.charlotte_calls.specs.declared.names.EndId.{EndId}
@@ -7,19 +7,17 @@ use Rattle.charlotte_calls.specs.declared.picture.MovingPicture.{MovingPicture}
 use Rattle.charlotte_calls.specs.declared.picture.PictureWhat.{PictureWhat}
 use Rattle.charlotte_calls.specs.declared.picture.PictureWhat.TheVariants as packet
 use Rattle.end_table.specs.Table.{IsHereAnd}
-use Rattle.end_table.specs.declared.entry.HereView.{HereView}
-use Rattle.kernel_step.specs.Actions.{is_withdrawing}
 use Rattle.service_lawful.specs.Consistent.{is_open}
 use Rattle.service_step.specs.State.{State}
 use Rattle.world_effects.proofs.Aside.{sent-each}
 use Rattle.world_effects.proofs.Packets.{left-was, taken-was, under_way-after}
 use Rattle.world_effects.specs.Change.{Change, Changes}
 use Rattle.world_effects.specs.Under.{IsLeft, IsSent, IsTaken}
-use Rattle.world_meaning.specs.Fields.{Stand, At, Flying, HasFields, IsAsking, IsHeard, IsNews, IsNoMore, IsUnserved, IsUnwantOf, value_of}
-use Rattle.world_meaning.specs.Invariant.{AreRight, AreWanted, IsHonest}
+use Rattle.world_meaning.specs.Fields.{Stand, At, Flying, HasFields, IsAsking, IsHeard, IsNews, IsUnserved, IsUnwantOf, value_of}
+use Rattle.world_meaning.specs.Invariant.{AreRight, AreWanted}
 use Rattle.world_meaning.specs.Packets.{IsUnderWay, Links}
 use Rattle.world_meaning.specs.StandsFor.{entry_at}
-use Rattle.silent_events.specs.Quiet.{IsAlike, IsHintOf, IsPassed, IsPassing, IsQuiet, IsViewAlike, tells_place}
+use Rattle.silent_events.specs.Quiet.{IsAlike, IsHintOf, IsPassed, IsPassing, IsQuiet, tells_place}
 use Rattle.silent_events.proofs.Alike.{some-same}
 use Rattle.silent_events.proofs.Clauses.{fields-was, flying-was, is-still, right-still, withdrawing-still}
 
@@ -63,9 +61,12 @@ module _ {w u : Links} {c : Change} (b : Changes w c u) (s : State) (quiet : IsQ
       m = fields-was b s quiet e (At k) l is
 
       by : ((nat_eq k c.kernel ≡ true) × (k ≡ c.kernel)) ⊎ ((nat_eq k c.kernel ≡ false) × (k ≢ c.kernel)) → (m : MovingPicture) × HasFields w e (At k) m × IsAlike m l × IsHintOf s.ends c e m l
-      by (inl at) =
-          (m.0, m.1, m.2,
-          passing.hints e m.0 l (subst (λ j. value_of (w.entry j e) ≡ Some m.0) at.1 m.1) (ap value_of (sym (b.entry e)) ∙ subst (λ j. value_of (u.entry j e) ≡ Some l) at.1 is))
+      by (inl at) = (
+        m.0,
+        m.1,
+        m.2,
+        passing.hints e m.0 l (subst (λ j. value_of (w.entry j e) ≡ Some m.0) at.1 m.1) (ap value_of (sym (b.entry e)) ∙ subst (λ j. value_of (u.entry j e) ≡ Some l) at.1 is),
+      )
       by (inr at) = (m.0, m.1, m.2, inl (ap (λ (z : MovingPicture). z.hint) (some-same l m.0 (sym is ∙ ap value_of (b.others k e at.0) ∙ m.1))))
 
   heard-was : (e : EndId) (j h : ℕ) → IsHeard u e j h → IsHeard w e j h

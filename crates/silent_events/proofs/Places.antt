@@ -1,5 +1,5 @@
 -- An end that is here at a kernel is nowhere else.
-use Rattle.std.proofs.Common.{◌≡◌, ◌≢◌, ◌⊎◌, inl, inr, ℕ, ◌+◌, ◌<◌, ◌≤◌, Bool, true, false, nat_eq, nat_lt, if◌then◌else◌, List, [], ◌∷◌, Contains, Some, None, refl, sym, ap, subst, ◌∙◌, arith, true≢false, ltb-true, ltb-false, eq-eqb, ne_eqb}
+use Rattle.std.proofs.Common.{◌≡◌, ◌≢◌, ◌⊎◌, inl, inr, ℕ, ◌+◌, ◌<◌, ◌≤◌, Bool, true, false, nat_eq, nat_lt, if◌then◌else◌, List, [], ◌∷◌, Contains, Some, refl, sym, ap, subst, ◌∙◌, arith, true≢false, ltb-true, ltb-false, eq-eqb, ne_eqb}
 use Rattle.std.proofs.lemmas.Bool.Decides.{eqb_tells}
 use Rattle.charlotte_calls.specs.declared.names.EndId.{EndId}
 use Rattle.charlotte_calls.specs.declared.picture.MovingPicture.{MovingPicture}
@@ -14,7 +14,6 @@ use Rattle.kernel_step.specs.Rows.{is_here}
 use Rattle.service_step.specs.Ends.{is_living}
 use Rattle.service_step.specs.declared.state.End.{End}
 use Rattle.service_step.specs.declared.state.Place.{Place}
-use Rattle.service_step.specs.declared.state.Place.TheVariants as place
 use Rattle.world_effects.proofs.Lists.{first_or_later, none-there}
 use Rattle.world_meaning.proofs.Sums.{over-change, over-least}
 use Rattle.world_meaning.specs.Fields.{Stand, At, Flying, HasFields, value_of}

@@ -1,5 +1,5 @@
 -- The rows of a kernel's table of packets that mean nothing to the service.
-use Rattle.std.proofs.Common.{◌≡◌, ◌⊎◌, inl, inr, ℕ, ◌<◌, ◌≤◌, ◌^◌, Bool, true, false, nat_eq, nat_lt, nat_le, ◌&&◌, not, if◌then◌else◌, List, [], ◌∷◌, ◌++◌, Some, None, refl, sym, ap, subst, ◌∙◌, arith, true≢false, ltb-true, ltb-false, lt-ltb, pow_pos}
+use Rattle.std.proofs.Common.{◌≡◌, ◌⊎◌, inl, inr, ℕ, ◌<◌, ◌^◌, Bool, true, false, nat_eq, nat_lt, nat_le, ◌&&◌, not, if◌then◌else◌, List, [], ◌∷◌, ◌++◌, Some, refl, sym, ap, subst, ◌∙◌, arith, true≢false, ltb-true, ltb-false, lt-ltb, pow_pos}
 use Rattle.std.proofs.lemmas.Bool.{and_parts}
 use Rattle.std.proofs.lemmas.Nat.Bits.{bit_at_above}
 use Rattle.std.specs.Int.{bit_at}
@@ -62,9 +62,10 @@ module _ (n : ℕ) (t : EndId → End) (k : ℕ) (y : EndId → Entry) (is : IsT
     IsSilent f = IsStill n t y f × IsRepeated t y q f
 
     sends : (ps : List (ℕ × PictureWhat)) → AllSent (IsSentWell n t) ps → AllSent (λ to what. (tells_place what ≡ false) ⊎ (q ≡ what)) ps → IsSilent (sent ps)
-    sends ps well repeated =
-        (record { entry = λ e. IsQuietly-same (y e); names = is.names; sent = well; answers = refl; reports = refl; steps = refl },
-        record { hints = λ e m l had has. inl (ap (λ (z : MovingPicture). z.hint) (some-same l m (sym has ∙ had))); sent = repeated })
+    sends ps well repeated = (
+      record { entry = λ e. IsQuietly-same (y e); names = is.names; sent = well; answers = refl; reports = refl; steps = refl },
+      record { hints = λ e m l had has. inl (ap (λ (z : MovingPicture). z.hint) (some-same l m (sym has ∙ had))); sent = repeated },
+    )
 
     drops : IsSilent nothing
     drops = sends [] tt tt
@@ -83,21 +84,22 @@ module _ (n : ℕ) (t : EndId → End) (k : ℕ) (y : EndId → Entry) (is : IsT
     put-silent : (to : EndId) (x : Entry) (ps : List (ℕ × PictureWhat)) → IsQuietly (y to) x → NamesBelow n x
         → ((m l : MovingPicture) → value_of (y to) ≡ Some m → value_of x ≡ Some l → (l.hint ≡ m.hint) ⊎ (IsNews to l.hint.0 l.hint.1 q × (is_open (t to) ≡ false)))
         → AllSent (IsSentWell n t) ps → AllSent (λ to what. (tells_place what ≡ false) ⊎ (q ≡ what)) ps → IsSilent (record (sent ps) { entry = puts to x stays })
-    put-silent to x ps quietly names hint well repeated =
-        (record {
-          entry = put-each (λ e z. IsQuietly (y e) z) to x quietly (λ e. IsQuietly-same (y e));
-          names = put-each (λ e z. NamesBelow n z) to x names is.names;
-          sent = well;
-          answers = refl;
-          reports = refl;
-          steps = refl;
-        },
-        record {
-          hints = put-each
-              (λ e z. (m l : MovingPicture) → value_of (y e) ≡ Some m → value_of z ≡ Some l → (l.hint ≡ m.hint) ⊎ (IsNews e l.hint.0 l.hint.1 q × (is_open (t e) ≡ false))) to x hint
-              (λ e m l had has. inl (ap (λ (z : MovingPicture). z.hint) (some-same l m (sym has ∙ had))));
-          sent = repeated;
-        })
+    put-silent to x ps quietly names hint well repeated = (
+      record {
+        entry = put-each (λ e z. IsQuietly (y e) z) to x quietly (λ e. IsQuietly-same (y e));
+        names = put-each (λ e z. NamesBelow n z) to x names is.names;
+        sent = well;
+        answers = refl;
+        reports = refl;
+        steps = refl;
+      },
+      record {
+        hints = put-each
+            (λ e z. (m l : MovingPicture) → value_of (y e) ≡ Some m → value_of z ≡ Some l → (l.hint ≡ m.hint) ⊎ (IsNews e l.hint.0 l.hint.1 q × (is_open (t e) ≡ false))) to x hint
+            (λ e m l had has. inl (ap (λ (z : MovingPicture). z.hint) (some-same l m (sym has ∙ had))));
+        sent = repeated;
+      },
+    )
 
     forgets-repeat : (m : MovingPicture) → AllSent (λ to what. (tells_place what ≡ false) ⊎ (q ≡ what)) (forget_packets k m)
     forgets-repeat m = forget-each (λ s. (tells_place s.1 ≡ false) ⊎ (q ≡ s.1)) k m (λ j told other. inl refl)

@@ -1,10 +1,9 @@
 -- Packets that mean nothing to the service are taken, in a world.
-use Rattle.std.proofs.Common.{◌≡◌, ◌⊎◌, inl, inr, ℕ, ◌+◌, ◌<◌, ◌≤◌, Bool, true, false, max, nat_lt, List, [], ◌∷◌, ◌++◌, length, slice_index, Contains, Some, refl, sym, ap, subst, ◌∙◌, true≢false, ltb-true, ltb-false, append-nil}
+use Rattle.std.proofs.Common.{◌≡◌, ◌⊎◌, inl, inr, ℕ, ◌+◌, ◌<◌, Bool, true, false, max, nat_lt, List, [], ◌∷◌, length, Contains, refl, sym, subst, ◌∙◌, true≢false, ltb-true, ltb-false, append-nil}
 use Rattle.std.proofs.lemmas.List.Elements.{All-contains}
 use Rattle.charlotte_calls.specs.Names.{opposite}
 use Rattle.charlotte_calls.specs.Packets.{is_addressed}
 use Rattle.charlotte_calls.specs.declared.names.EndId.{EndId}
-use Rattle.charlotte_calls.specs.declared.names.LinkId.{LinkId}
 use Rattle.charlotte_calls.specs.declared.names.Pid.{Pid}
 use Rattle.charlotte_calls.specs.declared.picture.MovingPicture.{MovingPicture}
 use Rattle.charlotte_calls.specs.declared.picture.Picture.{Picture}
@@ -23,14 +22,11 @@ use Rattle.kernel_world.specs.World.{World, Takes, happens}
 use Rattle.service_lawful.specs.Consistent.{is_open}
 use Rattle.service_step.specs.Ends.{is_made}
 use Rattle.service_step.specs.State.{State}
-use Rattle.service_step.specs.declared.state.End.{End}
-use Rattle.world_effects.proofs.Aside.{sent-each}
 use Rattle.world_effects.proofs.Ends.{all_sent-weaker}
 use Rattle.world_effects.proofs.Happens.{takes-happens}
 use Rattle.world_effects.proofs.Lists.{first, none-there}
 use Rattle.world_effects.specs.Change.{Change, Happens}
 use Rattle.world_effects.specs.Events.{taking}
-use Rattle.world_effects.specs.Under.{IsTaken}
 use Rattle.world_meaning.proofs.Run.{Goes}
 use Rattle.world_meaning.specs.Fields.{IsNews}
 use Rattle.world_meaning.specs.Invariant.{AreRight, Invariant, IsPacketRight}
@@ -39,7 +35,7 @@ use Rattle.silent_events.specs.Quiet.{IsGoneWell, IsHintOf, IsPassed, IsPassing,
 use Rattle.silent_events.specs.Silent.{IsRepeated, IsSilentAt, IsStill}
 use Rattle.silent_events.proofs.Passing.{passing-right}
 use Rattle.silent_events.proofs.Rows.{IsTable, row-silent}
-use Rattle.silent_events.proofs.World.{IsUntold, silent-goes}
+use Rattle.silent_events.proofs.World.{silent-goes}
 
 different-quiet : (q : PictureWhat) → is_telling q ≡ false → AreDifferent (ends_in (values_in q))
 different-quiet (packet.Parcel to n w at hops bytes ms) quiet = absurd (true≢false quiet)

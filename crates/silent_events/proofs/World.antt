@@ -1,9 +1,9 @@
 -- A quiet event keeps all that is true of a world, and the service goes with it by no step.
-use Rattle.std.proofs.Common.{◌≡◌, ◌≢◌, ◌⊎◌, inl, inr, ℕ, ◌+◌, ◌<◌, ◌≤◌, Bool, true, false, nat_eq, if◌then◌else◌, List, [], ◌∷◌, ◌++◌, length, slice_index, refl, sym, ap, subst, ◌∙◌, eqb-true, append-nil}
+use Rattle.std.proofs.Common.{◌≡◌, ◌≢◌, ◌⊎◌, inl, inr, ℕ, ◌+◌, Bool, true, false, nat_eq, if◌then◌else◌, List, [], ◌∷◌, length, refl, sym, ap, subst, ◌∙◌, eqb-true, append-nil}
 use Rattle.std.proofs.lemmas.Bool.Decides.{eqb_tells}
 use Rattle.charlotte_calls.specs.declared.names.EndId.{EndId}
 use Rattle.charlotte_calls.specs.declared.picture.MovingPicture.{MovingPicture}
-use Rattle.end_table.specs.Table.{IfHere, IsHere, IsHereAnd, IsIdle, IsOfEnd}
+use Rattle.end_table.specs.Table.{IfHere, IsIdle, IsOfEnd}
 use Rattle.end_table.specs.declared.entry.Entry.{Entry}
 use Rattle.end_table.specs.declared.entry.Entry.TheVariants as entry
 use Rattle.end_table.specs.declared.entry.HereView.{HereView}
@@ -11,7 +11,7 @@ use Rattle.end_table.specs.declared.entry.Holder.{Holder}
 use Rattle.end_table.specs.declared.entry.Holder.TheVariants as holder
 use Rattle.kernel_sound.specs.Sound.{AreHeldBy, IsHeldWell, IsSound}
 use Rattle.kernel_step.specs.Actions.{enclosed_of}
-use Rattle.kernel_step.specs.Kernel.{Kernel, Process}
+use Rattle.kernel_step.specs.Kernel.{Kernel}
 use Rattle.kernel_world.specs.World.{Event, World, happens}
 use Rattle.service_lawful.specs.History.{HasHistory}
 use Rattle.service_step.specs.State.{State}
@@ -50,10 +50,12 @@ module _ (k made n : ℕ) (t y : EndId → Entry) (like : (e : EndId) → IsQuie
 
   each-held : (e : EndId) (xs : List EndId) → AreHeldBy e t xs → AreHeldBy e y xs
   each-held e [] are = tt
-  each-held e (x ∷ xs) are =
-      (here-still (t x) (y x) (λ u. IsIdle u × (u.holder ≡ holder.EnclosedIn e)) (λ u. IsIdle u × (u.holder ≡ holder.EnclosedIn e)) (like x)
-      (λ v u alike has. subst (λ (z : HereView). IsIdle z × (z.holder ≡ holder.EnclosedIn e)) (sym alike.0) (record { outward = has.0.outward; inward = has.0.inward }, has.1)) are.0,
-      are.1, each-held e xs are.2)
+  each-held e (x ∷ xs) are = (
+    here-still (t x) (y x) (λ u. IsIdle u × (u.holder ≡ holder.EnclosedIn e)) (λ u. IsIdle u × (u.holder ≡ holder.EnclosedIn e)) (like x)
+        (λ v u alike has. subst (λ (z : HereView). IsIdle z × (z.holder ≡ holder.EnclosedIn e)) (sym alike.0) (record { outward = has.0.outward; inward = has.0.inward }, has.1)) are.0,
+    are.1,
+    each-held e xs are.2,
+  )
 
   enclosed-still : (e : EndId) (x z : Entry) → IsQuietly x z → IfHere x (λ v. AreHeldBy e t (enclosed_of v.outward)) → IfHere z (λ v. AreHeldBy e y (enclosed_of v.outward))
   enclosed-still e (entry.Here v) (entry.Here u) alike are =
