@@ -1,13 +1,12 @@
 -- A state of the service before any step is consistent.
-use Rattle.std.proofs.Common.{◌≡◌, ◌≢◌, ◌⊎◌, inl, inr, ℕ, ◌<◌, ◌≤◌, Bool, true, false, nat_lt, cond, List, [], length, Contains, Some, None, slice_index, refl, sym, ap, subst, ◌∙◌, arith, true≢false, ltb-true, ltb-false}
-use Rattle.charlotte_calls.specs.Names.{opposite}
+use Rattle.std.proofs.Common.{◌≡◌, ◌⊎◌, inl, inr, ℕ, ◌<◌, ◌≤◌, Bool, true, false, nat_lt, cond, [], length, Contains, Some, None, slice_index, refl, sym, ap, subst, ◌∙◌, arith, true≢false, ltb-true, ltb-false}
 use Rattle.charlotte_calls.specs.declared.calls.Report.{Report}
 use Rattle.charlotte_calls.specs.declared.names.EndId.{EndId}
 use Rattle.charlotte_calls.specs.declared.names.Pid.{Pid}
 use Rattle.charlotte_calls.specs.declared.names.Way.{Way}
 use Rattle.charlotte_calls.specs.declared.names.Way.TheVariants as way
-use Rattle.service_step.specs.Ends.{unmade, fresh, is_made, is_idle, is_started_inward, waiting_message}
-use Rattle.service_step.specs.Lawful.{AreHeldOnce, IsHeldAt, IsCarried, message_of}
+use Rattle.service_step.specs.Ends.{unmade, fresh, is_made}
+use Rattle.service_step.specs.Lawful.{IsHeldAt, message_of}
 use Rattle.service_step.specs.Run.{new_process, new_processes}
 use Rattle.service_step.specs.State.{State, Process, no_process}
 use Rattle.service_step.specs.declared.state.End.{End}
@@ -17,7 +16,7 @@ use Rattle.service_step.specs.declared.state.Outward.TheVariants as outward
 use Rattle.service_step.specs.declared.state.Phase.TheVariants as phase
 use Rattle.service_step.specs.declared.state.Place.{Place}
 use Rattle.service_step.specs.declared.state.Place.TheVariants as place
-use Rattle.service_lawful.specs.Consistent.{is_over, reports_on, is_open, AreKept, AreNoticed, AreReported, AreProcesses, IsConsistent}
+use Rattle.service_lawful.specs.Consistent.{is_over, reports_on, AreKept, IsConsistent}
 
 -- an end that a process owns, and with which nothing has happened yet
 pub record IsFreshEnd (s : State) (e : EndId) : Type 0 where

@@ -1,5 +1,5 @@
 -- One step more in a run of the service.
-use Rattle.std.proofs.Common.{◌≡◌, ◌≢◌, ◌⊎◌, inl, inr, ℕ, ◌+◌, ◌<◌, ◌≤◌, Bool, true, false, nat_eq, ◌||◌, not, cond, IsTrue, is_some, List, [], ◌∷◌, ◌++◌, map, length, Contains, All, Option, Some, None, refl, sym, ap, subst, ◌∙◌, arith, true≢false, append_assoc, append-nil, eqb-true}
+use Rattle.std.proofs.Common.{◌≡◌, ◌⊎◌, inl, inr, ℕ, ◌<◌, ◌≤◌, Bool, true, false, nat_eq, ◌||◌, not, is_some, List, [], ◌∷◌, ◌++◌, map, length, Contains, All, refl, sym, ap, subst, ◌∙◌, true≢false, append_assoc, append-nil, eqb-true}
 use Rattle.std.proofs.lemmas.List.Elements.{All-nil, Contains-append_left}
 use Rattle.std.specs.List.{filter, flat_map}
 use Rattle.charlotte_calls.specs.Names.{opposite}
@@ -13,14 +13,13 @@ use Rattle.charlotte_calls.specs.declared.names.EndId.{EndId}
 use Rattle.charlotte_calls.specs.declared.names.Pid.{Pid}
 use Rattle.charlotte_calls.specs.declared.names.Way.{Way}
 use Rattle.charlotte_calls.specs.declared.names.Way.TheVariants as way
-use Rattle.service_lawful.proofs.Fresh.{IsFresh, fresh-consistent, fresh_at, fresh-outward, fresh-inward}
+use Rattle.service_lawful.proofs.Fresh.{IsFresh, fresh-consistent, fresh_at, fresh-outward}
 use Rattle.service_lawful.specs.History.{unused_from, AreNumbered, HasHistory}
-use Rattle.service_step.specs.Causes.{IsRefusedFor, first_of, is_cause, is_late, no_end, cancel_causes}
+use Rattle.service_step.specs.Causes.{IsRefusedFor, first_of, is_cause, is_late}
 use Rattle.service_step.specs.Ends.{waiting_message, matched_message, is_owned_by, is_taken}
 use Rattle.service_step.specs.Lawful.{AreHeldOnce, AreInOrder, AreRising, HasMatchedReport, IsLawful, IsRightStep, IsRightlyLate, WasMatched, WasTakenOnce, complete_number, match_number, send_number, take_number}
 use Rattle.service_step.specs.Run.{state_after}
 use Rattle.service_step.specs.State.{State, receive_report}
-use Rattle.service_step.specs.Steps.{IsServiceStep}
 use Rattle.service_step.specs.declared.state.End.{End}
 use Rattle.service_step.specs.declared.state.Place.{Place}
 use Rattle.service_step.specs.declared.state.Place.TheVariants as place
@@ -177,21 +176,30 @@ module _ (s : State) (run : Run) (made : ServiceStep × State) (silent : IsSilen
         completes = subst (λ ns. All (λ n. n < unused_from (is_some (waiting_message x.outward) || is_some (matched_message x.outward) || is_taken x.outward) x.sent) ns) (sym (numbers-silent (complete_number f) run made (silent.completes f))) is.completes;
       }
 
-  -- a silent step that changes nothing
-  pub history-same : HasHistory s run → made.1 ≡ state_after s run → IsRightStep s longer run made.0 → HasHistory s longer
-  history-same is same right =
+  -- a silent step that changes no end and no reports
+  pub history-calm : HasHistory s run → made.1.ends ≡ (state_after s run).ends → ((p : ℕ) → (made.1.process p).reports ≡ ((state_after s run).process p).reports) → AreHeldOnce made.1
+      → IsRightStep s longer run made.0 → HasHistory s longer
+  history-calm is ends reports held right =
       record {
-        lawful = lawful-longer is.lawful (subst AreHeldOnce (sym same) (is.lawful.held run [] (sym (append-nil run)))) right;
-        numbered = λ f. subst (λ (t : State). AreNumbered f longer (t.ends f)) (sym last) (numbered-still f ((state_after s run).ends f) (is.numbered f));
-        taken = λ f. subst (λ (t : State). is_taken (t.ends f).outward ≡ true → WasTakenOnce s longer longer f (t.ends f).sent) (sym last) (λ h. taken-still f ((state_after s run).ends f).sent (is.taken f h));
-        matched = λ f p. subst (λ (t : State). (t.ends f).place ≡ place.Owned p → (t.ends f).noticed ≡ false → is_late way.Outward (t.ends f) ≡ true → WasMatched longer f (t.ends f).sent) (sym last)
+        lawful = lawful-longer is.lawful held right;
+        numbered = λ f. subst (λ (t : EndId → End). AreNumbered f longer (t f)) (sym now) (numbered-still f ((state_after s run).ends f) (is.numbered f));
+        taken = λ f. subst (λ (t : EndId → End). is_taken (t f).outward ≡ true → WasTakenOnce s longer longer f (t f).sent) (sym now) (λ h. taken-still f ((state_after s run).ends f).sent (is.taken f h));
+        matched = λ f p. subst (λ (t : EndId → End). (t f).place ≡ place.Owned p → (t f).noticed ≡ false → is_late way.Outward (t f) ≡ true → WasMatched longer f (t f).sent) (sym now)
             (λ at open' h. matched-still run f ((state_after s run).ends f).sent (is.matched f p at open' h));
-        told = λ e p. subst (λ (t : State). (t.ends e).place ≡ place.Owned p → (t.ends e).noticed ≡ false → is_late way.Inward (t.ends e) ≡ true → HasMatchedReport s longer p e) (sym last)
-            (λ at open' h. told-still p e (ap (λ (t : State). (t.process p.0).reports) last) (is.told e p at open' h));
+        told = λ e p. subst (λ (t : EndId → End). (t e).place ≡ place.Owned p → (t e).noticed ≡ false → is_late way.Inward (t e) ≡ true → HasMatchedReport s longer p e) (sym now)
+            (λ at open' h. told-still p e (ap (λ (t : State). (t.process p.0).reports) last ∙ reports p.0) (is.told e p at open' h));
       }
     where
-      last : state_after s longer ≡ state_after s run
-      last = state_after-append s run (made ∷ []) ∙ same
+      last : state_after s longer ≡ made.1
+      last = state_after-append s run (made ∷ [])
+
+      now : (state_after s longer).ends ≡ (state_after s run).ends
+      now = ap (λ (t : State). t.ends) last ∙ ends
+
+  -- and one that changes nothing
+  pub history-same : HasHistory s run → made.1 ≡ state_after s run → IsRightStep s longer run made.0 → HasHistory s longer
+  history-same is same right =
+      history-calm is (ap (λ (t : State). t.ends) same) (λ p. ap (λ (t : State). (t.process p).reports) same) (subst AreHeldOnce (sym same) (is.lawful.held run [] (sym (append-nil run)))) right
 
 -- ---- the start
 

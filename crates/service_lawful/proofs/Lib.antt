@@ -1,2 +1,3 @@
 pub mod Fresh
 pub mod History
+pub mod Turned

@@ -31,7 +31,7 @@ abbrev pub is_over : Way → End → Bool
 is_over way.Outward x = is_reported_outward x.outward
 is_over way.Inward x = is_reported_inward x.inward
 
--- 1 where a report is of that way of an end
+-- whether a report is of that way of an end
 abbrev pub is_report_on : EndId → Way → Report → Bool
 is_report_on e w r = end_eq e r.on && way_eq w r.way
 

@@ -1,5 +1,5 @@
 -- Events that change no link: what is true of the world stays true.
-use Rattle.std.proofs.Common.{◌≡◌, ◌≢◌, ◌⊎◌, inl, inr, ℕ, ◌+◌, ◌<◌, ◌≤◌, Bool, true, false, nat_eq, cond, List, [], ◌∷◌, length, Option, Some, None, refl, sym, ap, subst, ◌∙◌, arith, true≢false}
+use Rattle.std.proofs.Common.{◌≡◌, ◌≢◌, ◌⊎◌, inl, inr, ℕ, ◌+◌, ◌<◌, true, false, nat_eq, cond, List, [], length, Some, refl, sym, ap, subst, ◌∙◌, arith}
 use Rattle.std.proofs.lemmas.Bool.Decides.{eqb_tells}
 use Rattle.charlotte_calls.specs.declared.calls.Answer.{Answer}
 use Rattle.charlotte_calls.specs.declared.calls.Call.{Call}
@@ -7,17 +7,14 @@ use Rattle.charlotte_calls.specs.declared.names.EndId.{EndId}
 use Rattle.charlotte_calls.specs.declared.names.Pid.{Pid}
 use Rattle.charlotte_calls.specs.declared.picture.MovingPicture.{MovingPicture}
 use Rattle.charlotte_calls.specs.declared.picture.Picture.{Picture}
-use Rattle.end_table.specs.declared.entry.Entry.{Entry}
 use Rattle.kernel_sound.specs.Sound.{IsSound}
-use Rattle.kernel_step.specs.Kernel.{Kernel, Outcome, Process as KernelProcess}
+use Rattle.kernel_step.specs.Kernel.{Kernel, Outcome}
 use Rattle.kernel_step.specs.declared.phase.Phase.TheVariants as kernel_phase
-use Rattle.kernel_world.specs.World.{World, Event, Calls, Takes, happens, outcome, adds_all}
-use Rattle.service_step.specs.State.{State, Process}
-use Rattle.service_step.specs.declared.state.Phase.TheVariants as phase
-use Rattle.world_meaning.specs.Fields.{Stand, HasFields}
+use Rattle.kernel_world.specs.World.{World, Event, Calls, happens, outcome, adds_all}
+use Rattle.service_step.specs.State.{State}
 use Rattle.world_meaning.specs.Invariant.{IsOfSetting, IsFew, AreRight, Invariant}
 use Rattle.world_meaning.specs.Packets.{Links, links_of}
-use Rattle.world_meaning.specs.StandsFor.{StandsFor, AreLinksOf, IsProcessOf, home_of, service_phase}
+use Rattle.world_meaning.specs.StandsFor.{AreLinksOf, IsProcessOf, home_of, service_phase}
 
 -- after one event more, numbers are few for one more
 pub AreRight-later : (i : ℕ) (w : Links) (s : State) → AreRight i w s → AreRight (i + 1) w s
@@ -32,9 +29,9 @@ AreRight-later i w s r =
       cancelling = r.cancelling;
       served = r.served;
       wanted = r.wanted;
-      voided = r.voided;
-      packets = r.packets;
+      unwanted = r.unwanted;
       once = r.once;
+      packets = r.packets;
     }
   where
     later : (m : MovingPicture) → IsFew i m → IsFew (i + 1) m
@@ -53,10 +50,10 @@ pub record IsCalmWorld (old new : World) : Type 0 where
   pub kernels : (k : ℕ) → IsCalm (old.kernel k) (new.kernel k)
   pub packets : new.packets ≡ old.packets
 
-calm-links : (old new : World) → IsCalmWorld old new → links_of new ≡ links_of old
+pub calm-links : (old new : World) → IsCalmWorld old new → links_of new ≡ links_of old
 calm-links old new calm = λ i. record { entry = λ k. (calm.kernels k).table i; packets = calm.packets i }
 
-calm-setting : (old new : World) (s : State) → IsCalmWorld old new → IsOfSetting old s → IsOfSetting new s
+pub calm-setting : (old new : World) (s : State) → IsCalmWorld old new → IsOfSetting old s → IsOfSetting new s
 calm-setting old new s calm is =
     record {
       few = is.few;
@@ -90,17 +87,21 @@ pub record IsAnswered (k : Kernel) (p : Pid) (o : Outcome) : Type 0 where
 IsCalm-same : (k : Kernel) → IsCalm k k
 IsCalm-same k = record { number = refl; kernels = refl; version = refl; table = refl; made = refl }
 
+-- a call of a kernel that leaves its links leaves those of the world
+pub calm-world : (w : World) (k : ℕ) (p : Pid) (c : Call) (mine : List EndId) → IsCalm (w.kernel k) (outcome w (Calls k p c mine)).kernel → (outcome w (Calls k p c mine)).packets ≡ [] → IsCalmWorld w (happens w (Calls k p c mine))
+calm-world w k p c mine calm none = record { kernels = λ q. by q (eqb_tells q k); packets = ap (λ (ps : List (ℕ × Picture)). adds_all k ps w.packets) none }
+  where
+    by : (q : ℕ) → ((nat_eq q k ≡ true) × (q ≡ k)) ⊎ ((nat_eq q k ≡ false) × (q ≢ k)) → IsCalm (w.kernel q) (cond (nat_eq q k) (outcome w (Calls k p c mine)).kernel (w.kernel q))
+    by q (inl h) = subst (λ b. IsCalm (w.kernel q) (cond b (outcome w (Calls k p c mine)).kernel (w.kernel q))) (sym h.0) (subst (λ j. IsCalm (w.kernel j) (outcome w (Calls k p c mine)).kernel) (sym h.1) calm)
+    by q (inr h) = subst (λ b. IsCalm (w.kernel q) (cond b (outcome w (Calls k p c mine)).kernel (w.kernel q))) (sym h.0) (IsCalm-same (w.kernel q))
+
 module _ (i : ℕ) (w : World) (s : State) (k : ℕ) (p : Pid) (c : Call) (mine : List EndId) (is : Invariant i w s) (answered : IsAnswered (w.kernel k) p (outcome w (Calls k p c mine)))
     (running : ((w.kernel k).process p.0).phase ≡ kernel_phase.Running) where
   abbrev e : Event
   e = Calls k p c mine
 
   answered-calm : IsCalmWorld w (happens w e)
-  answered-calm = record { kernels = λ q. by q (eqb_tells q k); packets = ap (λ (ps : List (ℕ × Picture)). adds_all k ps w.packets) answered.packets }
-    where
-      by : (q : ℕ) → ((nat_eq q k ≡ true) × (q ≡ k)) ⊎ ((nat_eq q k ≡ false) × (q ≢ k)) → IsCalm (w.kernel q) (cond (nat_eq q k) (outcome w e).kernel (w.kernel q))
-      by q (inl h) = subst (λ b. IsCalm (w.kernel q) (cond b (outcome w e).kernel (w.kernel q))) (sym h.0) (subst (λ j. IsCalm (w.kernel j) (outcome w e).kernel) (sym h.1) answered.calm)
-      by q (inr h) = subst (λ b. IsCalm (w.kernel q) (cond b (outcome w e).kernel (w.kernel q))) (sym h.0) (IsCalm-same (w.kernel q))
+  answered-calm = calm-world w k p c mine answered.calm answered.packets
 
   -- what the kernel had of another process
   same-process : (q : Pid) → q.0 < length s.homes → IsProcessOf ((w.kernel (home_of s q)).process q.0) (s.process q.0)

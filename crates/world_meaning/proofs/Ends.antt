@@ -1,10 +1,10 @@
 -- Ends and their opposites.
-use Rattle.std.proofs.Common.{◌≡◌, ◌≢◌, Bool, true, false, ℕ, refl, ap, sym, ◌∙◌, true≢false}
+use Rattle.std.proofs.Common.{◌≡◌, Bool, true, false, ℕ, refl, ap}
 use Rattle.charlotte_calls.specs.Names.{opposite, other_side}
 use Rattle.charlotte_calls.specs.declared.names.EndId.{EndId}
 use Rattle.charlotte_calls.specs.declared.names.Side.{Side}
 use Rattle.charlotte_calls.specs.declared.names.Side.TheVariants.{A, B}
-use Rattle.end_table.proofs.EndEq.{end_eq-same, end_eq-refl}
+use Rattle.end_table.proofs.EndEq.{end_eq-same}
 use Rattle.end_table.specs.Place.{end_eq}
 use Rattle.service_step.specs.Ends.{end_eq as service_eq}
 

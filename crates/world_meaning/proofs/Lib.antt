@@ -4,4 +4,8 @@ pub mod Wired
 pub mod Start
 pub mod Calm
 pub mod Refused
+pub mod Lists
+pub mod Waits
 pub mod Run
+pub mod Rows
+pub mod Frame

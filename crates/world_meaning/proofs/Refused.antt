@@ -1,5 +1,5 @@
 -- A call is refused by its kernel for the cause for which the service refuses it.
-use Rattle.std.proofs.Common.{◌≡◌, ◌≢◌, ◌⊎◌, inl, inr, ℕ, ◌+◌, ◌<◌, ◌≤◌, Bool, true, false, nat_eq, nat_le, ◌&&◌, ◌||◌, not, is_none, zero, suc, All, IsSome, cond, IsTrue, List, [], ◌∷◌, length, Contains, Option, Some, None, slice_get, slice_index, refl, sym, ap, subst, ◌∙◌, arith, true≢false, eqb-true, eq-eqb}
+use Rattle.std.proofs.Common.{◌≡◌, ◌≢◌, ◌⊎◌, inl, inr, ℕ, ◌<◌, Bool, true, false, nat_eq, nat_le, ◌&&◌, ◌||◌, not, is_none, is_some, zero, suc, IsSome, cond, IsTrue, List, [], ◌∷◌, length, Contains, Some, None, slice_get, slice_index, refl, sym, ap, subst, ◌∙◌, arith, true≢false, eqb-true, eq-eqb}
 use Rattle.std.specs.List.{list_any}
 use Rattle.std.proofs.lemmas.Bool.Decides.{eqb_tells}
 use Rattle.std.proofs.lemmas.List.Elements.{All-get_or}
@@ -31,20 +31,18 @@ use Rattle.kernel_step.specs.declared.phase.Phase.TheVariants as kernel_phase
 use Rattle.kernel_world.specs.World.{World}
 use Rattle.service_step.specs.Causes as in_service
 use Rattle.service_step.specs.Ends.{end_eq as service_eq, is_owned_by, is_idle, is_idle_outward, is_idle_inward, is_reported_outward, is_reported_inward, is_taken, is_active, is_started_outward, is_started_inward}
-use Rattle.service_step.specs.State.{State, Process, is_running, next_at, counted}
+use Rattle.service_step.specs.State.{State, is_running, next_at, counted}
 use Rattle.service_step.specs.Steps.{runs}
-use Rattle.service_step.specs.declared.state.End.{End}
 use Rattle.service_step.specs.declared.state.Inward.{Inward}
 use Rattle.service_step.specs.declared.state.Inward.TheVariants as inward
 use Rattle.service_step.specs.declared.state.Outward.{Outward}
 use Rattle.service_step.specs.declared.state.Outward.TheVariants as outward
-use Rattle.service_step.specs.declared.state.Phase.TheVariants as phase
 use Rattle.service_step.specs.declared.state.Place.{Place}
 use Rattle.service_step.specs.declared.state.Place.TheVariants as place
 use Rattle.world_meaning.proofs.Ends.{eq-same}
 use Rattle.world_meaning.specs.Invariant.{Invariant}
 use Rattle.world_meaning.specs.Packets.{Links, links_of}
-use Rattle.world_meaning.specs.StandsFor.{StandsFor, AreLinksOf, IsEndOf, IsOutwardOf, IsInwardOf, IsAskedOf, IsOwnedHere, IsProcessOf, entry_at, home_of, service_phase}
+use Rattle.world_meaning.specs.StandsFor.{StandsFor, AreLinksOf, IsEndOf, IsOutwardOf, IsInwardOf, IsOwnedHere, IsProcessOf, entry_at, home_of, service_phase}
 
 -- the same process
 pid-same : (p q : Pid) → nat_eq p.0 q.0 ≡ true → p ≡ q
@@ -282,6 +280,14 @@ got [] k below = absurd (omega arith)
 got (x ∷ xs) zero below = refl
 got (x ∷ xs) (suc k) below = got xs k (omega arith)
 
+any-contains : {X : Type 0} (f : X → Bool) (xs : List X) → list_any f xs ≡ true → (x : X) × Contains xs x × (f x ≡ true)
+any-contains f [] is = absurd (true≢false (sym is))
+any-contains {X} f (y ∷ ys) is = by (f y) refl (any-contains f ys) is
+  where
+    by : (b : Bool) → f y ≡ b → (list_any f ys ≡ true → (x : X) × Contains ys x × (f x ≡ true)) → (b || list_any f ys) ≡ true → (x : X) × Contains (y ∷ ys) x × (f x ≡ true)
+    by true first later is = (y, (zero, omega arith, refl), first)
+    by false first later is = let x = later is in (x.0, (suc x.1.0, omega (arith, x.1.1), x.1.2), x.2)
+
 module _ (i : ℕ) (w : World) (s : State) (p : Pid) (k : ℕ) (mine : List EndId) (is : Invariant i w s) (calls : IsCaller w s p k mine) where
   abbrev l : Links
   l = links_of w
@@ -355,3 +361,29 @@ module _ (i : ℕ) (w : World) (s : State) (p : Pid) (k : ℕ) (mine : List EndI
     where
       none_some : (why : Cause) → None ≡ Some why → ⊥
       none_some why h = cc
+
+  -- a Wait that its kernel does not refuse finds a report or a started activity in the service
+  pub wait-granted : AreEndsOf p (w.kernel k).table mine → at_kernel.refusal p (w.kernel k).table (w.kernel k).made mine (has_report (process_of p (w.kernel k))) call.Wait ≡ None → in_service.HasActivity s p
+  wait-granted ends granted = by (has_report (process_of p (w.kernel k))) (list_any (λ e. at_kernel.is_active (here (entry_at l k e))) mine) refl refl granted
+    where
+      reports-same : (s.process p.0).reports ≡ ((w.kernel k).process p.0).reports
+      reports-same = (caller-process w s p k mine is.stands calls).reports
+
+      started : (e : EndId) → IsSome (owned p (entry_at l k e)) → at_kernel.is_active (here (entry_at l k e)) ≡ true → IsOthers l s p k calls.at links e ⊎ IsOwn l s p k calls.at links e → in_service.HasStarted s.ends p
+      started e some active (inl o) = absurd (true≢false (sym some ∙ ap is_some o.owned))
+      started e some active (inr o) = (
+        e,
+        ap (is_owned_by p) o.place ∙ eq-eqb p.0 p.0 refl,
+        (λ j. sym (sends-agree l e (s.ends e).sent o.view.outward (s.ends e).outward o.end.outward).started j || sym (receives-agree l e o.view.inward (s.ends e).inward o.end.inward).started j)
+            ∙ sym (ap (λ x. at_kernel.is_active (here x)) o.entry) ∙ active,
+      )
+
+      by : (b c : Bool) → has_report (process_of p (w.kernel k)) ≡ b → list_any (λ e. at_kernel.is_active (here (entry_at l k e))) mine ≡ c → cond (b || c) None (Some cause.NoActivity) ≡ None → in_service.HasActivity s p
+      by true c reported active granted = inl (λ none. true≢false (sym reported ∙ ap (λ rs. not (nat_eq (length rs) 0)) (sym reports-same ∙ none)))
+      by false true reported active granted =
+          let one = any-contains (λ e. at_kernel.is_active (here (entry_at l k e))) mine active in
+          inr (started one.0 ((ends.all one.0).0 one.1) one.2 (own l s p k calls.at links one.0))
+      by false false reported active granted = absurd (some_none granted)
+        where
+          some_none : Some cause.NoActivity ≡ None → ⊥
+          some_none h = cc

@@ -1,5 +1,5 @@
 -- The service goes with a run, event by event.
-use Rattle.std.proofs.Common.{◌≡◌, ◌≢◌, ◌⊎◌, inl, inr, ℕ, ◌+◌, ◌<◌, ◌≤◌, ◌^◌, Bool, true, false, nat_eq, cond, IsTrue, List, [], ◌∷◌, ◌++◌, map, length, slice_index, Option, Some, None, refl, sym, ap, subst, ◌∙◌, arith, true≢false, append_assoc, append-nil}
+use Rattle.std.proofs.Common.{◌≡◌, ◌≢◌, ℕ, ◌+◌, ◌<◌, Bool, true, false, nat_eq, cond, IsTrue, List, [], ◌∷◌, ◌++◌, map, length, slice_index, Option, Some, None, refl, sym, ap, subst, ◌∙◌, append_assoc, append-nil}
 use Rattle.charlotte_calls.specs.Setting.{IsValid}
 use Rattle.charlotte_calls.specs.declared.calls.Answer.{Answer}
 use Rattle.charlotte_calls.specs.declared.calls.Answer.TheVariants as answer
@@ -12,23 +12,27 @@ use Rattle.charlotte_calls.specs.declared.names.EndId.{EndId}
 use Rattle.charlotte_calls.specs.declared.names.Pid.{Pid}
 use Rattle.charlotte_calls.specs.declared.setting.Setting.{Setting}
 use Rattle.kernel_step.specs.Calls.{refusal, IsCallWith}
-use Rattle.kernel_step.specs.Kernel.{Kernel, Outcome, Process as KernelProcess, begins, call_step, closes, decides, granted, has_report, join_answers, join_reports, next_stamp, performs, process_of, refuses, stands, without_answer}
+use Rattle.kernel_step.specs.Kernel.{Kernel, Outcome, Process as KernelProcess, begins, call_step, closes, decides, granted, has_report, join_answers, join_reports, next_stamp, performs, process_of, refuses, without_answer}
 use Rattle.kernel_step.specs.Progress.{means}
 use Rattle.kernel_step.specs.declared.phase.Phase.TheVariants as kernel_phase
 use Rattle.kernel_world.specs.Run.{IsAllowed, AreAllowed, IsRun}
 use Rattle.kernel_world.specs.World.{World, Event, Calls, Takes, happens, outcome, start}
-use Rattle.service_step.specs.Run.{IsRunFrom, IsServiceRun, state_after, start_state}
+use Rattle.service_step.specs.Run.{IsRunFrom, state_after, start_state}
 use Rattle.service_step.specs.Causes.{IsRefusedFor}
 use Rattle.service_step.specs.Steps.{runs}
+use Rattle.service_step.specs.declared.state.Phase.TheVariants as phase
+use Rattle.end_table.specs.Owned.{AreEndsOf}
 use Rattle.service_step.specs.State.{State}
-use Rattle.service_lawful.proofs.History.{history-none, history-refused, state_after-append}
+use Rattle.service_lawful.proofs.History.{history-calm, history-none, history-refused, state_after-append}
+use Rattle.service_lawful.proofs.Turned.{turned, turned-held, turned-reports}
 use Rattle.service_lawful.specs.History.{HasHistory}
-use Rattle.world_meaning.proofs.Calm.{IsAnswered, IsCalm, answered-invariant}
-use Rattle.world_meaning.proofs.Refused.{IsCaller, caller-runs, refused-for}
+use Rattle.world_meaning.proofs.Calm.{IsAnswered, answered-invariant}
+use Rattle.world_meaning.proofs.Refused.{IsCaller, caller-process, caller-runs, refused-for, wait-granted}
 use Rattle.world_meaning.proofs.Start.{starts-well, starts-fresh}
+use Rattle.world_meaning.proofs.Waits.{IsWaiting, wait-is, waits-invariant}
 use Rattle.world_meaning.specs.Invariant.{Invariant}
-use Rattle.world_meaning.specs.Law.{GoesWith, GoesWithEach, joined, IsServed, IsServedLawfully, IsCovered, IsCoveredCall, AreCovered}
-use Rattle.world_meaning.specs.StandsFor.{StandsFor, home_of}
+use Rattle.world_meaning.specs.Law.{GoesWithEach, joined, IsServedLawfully, IsCovered, IsCoveredCall, AreCovered}
+use Rattle.world_meaning.specs.StandsFor.{home_of, service_phase}
 
 -- the service goes with an event, and what is true of every world is true afterwards
 pub record Goes (i : ℕ) (w : World) (s : State) (e : Event) : Type 0 where
@@ -122,6 +126,29 @@ module _ (i : ℕ) (w : World) (s : State) (k : ℕ) (p : Pid) (mine : List EndI
       did : call_step (without_answer p (w.kernel k)) p mine c ≡ refuses p (without_answer p (w.kernel k)) c cause (begins (without_answer p (w.kernel k)) (next_stamp (w.kernel k).stamp))
       did = refused-is (w.kernel k) p mine c cause refused
 
+  goes-wait : IsCaller w s p k mine → AreEndsOf p (w.kernel k).table mine → refusal p (w.kernel k).table (w.kernel k).made mine (has_report (process_of p (w.kernel k))) call.Wait ≡ None → (process_of p (w.kernel k)).reports ≡ []
+      → Goes i w s (Calls k p call.Wait mine)
+  goes-wait calls ends granted none =
+      record {
+        part = (step.Wait p, turned s p phase.Waiting) ∷ [];
+        steps = sym does.steps;
+        run = (record { allowed = (caller-runs w s p k mine is.stands calls, wait-granted i w s p k mine is calls ends granted); after = refl }, tt);
+        after = waits-invariant i w s k p mine is does calls.below calls.at ran none;
+        homes = refl;
+        lawful = λ t run at h.
+            history-calm t run (step.Wait p, turned s p phase.Waiting) (record { send = λ f. refl; matches = λ f. refl; takes = λ f. refl; completes = λ f. refl }) h
+            (ap (λ (z : State). z.ends) (sym at)) (λ q. turned-reports s p phase.Waiting q ∙ ap (λ (z : State). (z.process q).reports) (sym at)) (turned-held s p phase.Waiting lives is.service.kept.held) tt;
+      }
+    where
+      does : IsWaiting (w.kernel k) p (call_step (without_answer p (w.kernel k)) p mine call.Wait)
+      does = wait-is (w.kernel k) p mine granted none
+
+      ran : (s.process p.0).phase ≡ phase.Running
+      ran = (caller-process w s p k mine is.stands calls).phase ∙ ap service_phase calls.running
+
+      lives : phase.Waiting ≢ phase.Ended
+      lives same = cc
+
 -- ---- all events of a run
 
 run-append : (s : State) (xs ys : List (ServiceStep × State)) → IsRunFrom s xs → IsRunFrom (state_after s xs) ys → IsRunFrom s (xs ++ ys)
@@ -155,19 +182,19 @@ goes-event g i w s (Calls k p c mine) is homes allowed covered = by c (refusal p
     refused : (c : Call) (cause : Cause) → IsCallWith p (w.kernel k).table mine c → refusal p (w.kernel k).table (w.kernel k).made mine (has_report (process_of p (w.kernel k))) c ≡ Some cause → Goes i w s (Calls k p c mine)
     refused c cause with_mine is_refused = goes-refused i w s k p mine is running c cause is_refused (caller-runs w s p k mine is.stands calls) (refused-for i w s p k mine is calls c cause with_mine is_refused)
 
-    by : (d : Call) (r : Option Cause) → refusal p (w.kernel k).table (w.kernel k).made mine (has_report (process_of p (w.kernel k))) c ≡ r → IsCoveredCall r c → Goes i w s (Calls k p c mine)
+    by : (d : Call) (r : Option Cause) → refusal p (w.kernel k).table (w.kernel k).made mine (has_report (process_of p (w.kernel k))) c ≡ r → IsCoveredCall (process_of p (w.kernel k)).reports r c → Goes i w s (Calls k p c mine)
     by d (Some cause) is_refused in_is = refused c cause allowed.4 is_refused
-    by d None is_refused in_is = granted_is c in_is
+    by d None is_granted in_is = granted_is c allowed.4 is_granted in_is
       where
-        granted_is : (c : Call) → IsCoveredCall None c → Goes i w s (Calls k p c mine)
-        granted_is (call.Print bytes) in_is = goes-print i w s k p mine is running bytes
-        granted_is call.Make in_is = absurd in_is
-        granted_is (call.Destroy on) in_is = absurd in_is
-        granted_is (call.Send on bytes xs) in_is = absurd in_is
-        granted_is (call.Receive on) in_is = absurd in_is
-        granted_is (call.Cancel on way) in_is = absurd in_is
-        granted_is call.Wait in_is = absurd in_is
-        granted_is call.Exit in_is = absurd in_is
+        granted_is : (c : Call) → IsCallWith p (w.kernel k).table mine c → refusal p (w.kernel k).table (w.kernel k).made mine (has_report (process_of p (w.kernel k))) c ≡ None → IsCoveredCall (process_of p (w.kernel k)).reports None c → Goes i w s (Calls k p c mine)
+        granted_is (call.Print bytes) ends granted in_is = goes-print i w s k p mine is running bytes
+        granted_is call.Make ends granted in_is = absurd in_is
+        granted_is (call.Destroy on) ends granted in_is = absurd in_is
+        granted_is (call.Send on bytes xs) ends granted in_is = absurd in_is
+        granted_is (call.Receive on) ends granted in_is = absurd in_is
+        granted_is (call.Cancel on way) ends granted in_is = absurd in_is
+        granted_is call.Wait ends granted in_is = goes-wait i w s k p mine is running calls ends granted in_is
+        granted_is call.Exit ends granted in_is = absurd in_is
 
 goes-on : (g : Setting) (i : ℕ) (w : World) (s : State) (es : List Event) → Invariant i w s → s.homes ≡ g.homes → AreAllowed g w es → AreCovered w es → GoesOn w s es
 goes-on g i w s [] is homes allowed covered = record { parts = []; each = tt; run = tt; lawful = λ t so_far at h. subst (HasHistory t) (sym (append-nil so_far)) h }

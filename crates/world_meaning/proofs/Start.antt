@@ -1,11 +1,9 @@
 -- The world with which a run starts stands for the state with which the service starts, and what is true of every world is true of it.
-use Rattle.std.proofs.Common.{◌≡◌, ◌≢◌, ◌⊎◌, ◌↔◌, inl, inr, ℕ, zero, suc, ◌+◌, ◌<◌, ◌≤◌, ◌^◌, Bool, true, false, nat_eq, nat_lt, ◌&&◌, cond, List, [], ◌∷◌, length, All, Contains, Option, Some, None, is_some, slice_get, slice_index, get_or, refl, sym, ap, subst, ◌∙◌, arith, true≢false, lt-ltb, le-ltb, pow_pos}
+use Rattle.std.proofs.Common.{◌≡◌, ◌≢◌, ◌⊎◌, ◌↔◌, inl, inr, ℕ, ◌+◌, ◌<◌, ◌≤◌, ◌^◌, Bool, true, false, nat_eq, nat_lt, ◌&&◌, [], length, All, Contains, Some, None, is_some, slice_index, refl, sym, ap, subst, ◌∙◌, arith, lt-ltb, le-ltb, pow_pos}
 use Rattle.std.proofs.lemmas.Bool.Decides.{eqb_tells}
-use Rattle.std.proofs.lemmas.List.Elements.{All-nil, All-weaker, All-get_or}
-use Rattle.std.proofs.lemmas.Option.{slice_get_within}
+use Rattle.std.proofs.lemmas.List.Elements.{All-nil, All-get_or}
 use Rattle.charlotte_calls.specs.Names.{opposite}
 use Rattle.charlotte_calls.specs.Moving.{new_end}
-use Rattle.charlotte_calls.specs.Packets.{names_kernels_below}
 use Rattle.charlotte_calls.specs.Setting.{IsValid}
 use Rattle.charlotte_calls.specs.declared.names.EndId.{EndId}
 use Rattle.charlotte_calls.specs.declared.names.Pid.{Pid}
@@ -25,21 +23,25 @@ use Rattle.kernel_step.specs.Actions.{enclosed_of}
 use Rattle.kernel_step.specs.Rows.{is_here}
 use Rattle.kernel_step.specs.Start.{home, owned_from_start, wired}
 use Rattle.kernel_world.specs.World.{World, start}
-use Rattle.service_lawful.proofs.Fresh.{IsFresh, IsFreshEnd, fresh-consistent, fresh-inward, fresh-outward, fresh-noticed, fresh-sent, fresh-nowhere, fresh-phase, fresh-running, fresh-reports, fresh-lives}
+use Rattle.service_lawful.proofs.Fresh.{IsFresh, IsFreshEnd, fresh-consistent, fresh-outward, fresh-noticed, fresh-sent, fresh-nowhere, fresh-phase, fresh-running, fresh-reports}
 use Rattle.service_step.specs.Ends.{unmade, fresh, is_made, is_living, is_taken, matched_message}
-use Rattle.service_step.specs.Run.{start_state, new_processes, new_process, wired as served}
-use Rattle.service_step.specs.State.{State, Process}
+use Rattle.service_step.specs.Run.{start_state, wired as served}
+use Rattle.service_step.specs.State.{State}
 use Rattle.service_step.specs.declared.state.End.{End}
 use Rattle.service_step.specs.declared.state.Phase.TheVariants as phase
-use Rattle.service_step.specs.declared.state.Place.{Place}
 use Rattle.service_step.specs.declared.state.Place.TheVariants as place
-use Rattle.world_meaning.specs.Fields.{Stand, At, Flying, HasFields, IsHeard, IsHinted, IsNoMore, IsAsking, IsUnwantOf, IsUnserved, IsAskedAs, value_of}
-use Rattle.world_meaning.specs.Invariant.{IsOfSetting, NamesBelow, IsFew, AreMarked, AreCounted, IsHonest, AreAsked, AreCancelling, AreNamed, AreRight, IsServed, AreWanted, AreVoided, AreSentOnce, IsPacketRight, IsVoidRight, Invariant, is_unwanted_to, is_message_of, is_taken_of}
+use Rattle.world_meaning.specs.Fields.{Stand, At, Flying, HasFields, IsNoMore, IsUnserved, IsAskedAs, value_of}
+use Rattle.world_meaning.specs.Invariant.{IsOfSetting, NamesBelow, IsFew, IsHonest, AreRight, Invariant, is_unwanted_to, is_message_of, is_taken_of}
 use Rattle.world_meaning.specs.Packets.{Links, links_of, IsUnderWay, over_kernels, sum_over, one_if, how_many, values_for, values_of}
-use Rattle.world_meaning.specs.StandsFor.{StandsFor, AreLinksOf, IsEndOf, IsOwnedHere, IsInMessage, IsProcessOf, entry_at, standing}
-use Rattle.world_meaning.proofs.Ends.{opposite-twice}
+use Rattle.world_meaning.specs.StandsFor.{StandsFor, IsEndOf, IsOwnedHere, IsInMessage, IsProcessOf, entry_at, standing}
 use Rattle.world_meaning.proofs.Sums.{over-none, over-one, sum_over-none}
 use Rattle.world_meaning.proofs.Wired.{IsLoose, IsTied, IsLinked, AreWired, are-wired}
+
+-- the hint of an end that never moved
+hint-of : (m : MovingPicture) (e : EndId) (k j h : ℕ) → m ≡ new_end e k → m.hint ≡ (j, h) → (j ≡ k) × (h ≡ 0)
+hint-of m e k j h is hint =
+    let both : (j, h) ≡ (k, 0) = sym hint ∙ ap (λ (z : MovingPicture). z.hint) is in
+    (ap (λ (z : ℕ × ℕ). z.0) both, ap (λ (z : ℕ × ℕ). z.1) both)
 
 module _ (g : Setting) (valid : IsValid g) where
   abbrev world : World
@@ -248,7 +250,7 @@ module _ (g : Setting) (valid : IsValid g) where
   new-value : (e : EndId) (at : Stand) (m : MovingPicture) → HasFields w e at m → (k : ℕ) × (q : Pid) × (m ≡ new_end e (home g q))
   new-value e at m has = let f = fields e at m has in (f.k, f.x.q, f.is)
 
-  starts-honest : IsHonest w
+  starts-honest : (e : EndId) → IsHonest w e
   starts-honest e at m j h has (inr u) = absurd (no_packets _ u)
   starts-honest e at m j h has (inl hinted) =
       let f = fields e at m has in
@@ -264,10 +266,9 @@ module _ (g : Setting) (valid : IsValid g) where
               let one : entry_at w o.k (opposite e) ≡ entry_at w (home g x.q) (opposite e) = ap (λ z. entry_at w z (opposite e)) is.1 in
               let some : Some (new_end (opposite e) (home g o.x.q)) ≡ Some (new_end (opposite e) (home g x.p)) = ap value_of (sym its ∙ one ∙ mine) in
               let same : new_end (opposite e) (home g o.x.q) ≡ new_end (opposite e) (home g x.p) = cc in
-              let hinted_at : (j, h) ≡ (home g x.p, 0) = sym hint ∙ ap (λ (z : MovingPicture). z.hint) (o.is ∙ same) in
-              let hops : h ≡ 0 = ap (λ (z : ℕ × ℕ). z.1) hinted_at in
-              let site : j ≡ home g x.p = ap (λ (z : ℕ × ℕ). z.0) hinted_at in
-              (omega arith, λ z. site ∙ sym x.at)
+              let told = hint-of hinted.fields (opposite e) (home g x.p) j h (o.is ∙ same) hint in
+              let hops : h ≡ 0 = told.1 in
+              (omega arith, λ z. told.0 ∙ sym x.at)
           by (inr off) =
               absurd (let none : entry_at w o.k (opposite e) ≡ entry.Nothing = x.other.away o.k off.1 in
               let its : entry_at w o.k (opposite e) ≡ owned_from_start o.x.p (opposite e) (home g o.x.q) = o.x.entry_is in cc)
@@ -305,32 +306,32 @@ module _ (g : Setting) (valid : IsValid g) where
       record {
         named = record { entries = starts-names; away = starts-away; lists = λ from to above. refl; addressed = λ from to. All-nil _; addressees = λ from to. All-nil _ };
         few = λ e at m has. let f = new-value e at m has in subst (IsFew 0) (sym f.2) (record { hops = omega arith; sent = omega arith; asked = omega arith });
-        marked = record { destroyed = λ k e m is. absurd (no-mark k e m is); once = λ j k e m l is. absurd (no-mark j e m is) };
-        counted =
+        marked = λ e. record { destroyed = λ k m is. absurd (no-mark k e m is); once = λ j k m l is. absurd (no-mark j e m is) };
+        counted = λ e.
             record {
-              sent = λ e at m lives has. ap (λ (z : MovingPicture). z.sent) (new-value e at m has).2 ∙ sym (fresh-sent s starts-fresh e);
-              dead = λ e at m lives has. ap (λ (z : MovingPicture). z.dead) (new-value e at m has).2 ∙ sym (fresh-noticed s starts-fresh e);
-              unwanted = λ e at m lives is has. ap (λ (z : MovingPicture). z.want) (new-value e at m has).2;
+              sent = λ at m lives has. ap (λ (z : MovingPicture). z.sent) (new-value e at m has).2 ∙ sym (fresh-sent s starts-fresh e);
+              dead = λ at m lives has. ap (λ (z : MovingPicture). z.dead) (new-value e at m has).2 ∙ sym (fresh-noticed s starts-fresh e);
+              unwanted = λ at m lives is has. ap (λ (z : MovingPicture). z.want) (new-value e at m has).2;
             };
         honest = starts-honest;
-        asked = record { last = λ k e v i is asked. absurd (not-asked k e v i is asked); cancelled = λ k e v i p is withdrawing held. absurd (idle k e v i is withdrawing) };
+        asked = λ e. record { last = λ k v i is asked. absurd (not-asked k e v i is asked); cancelled = λ k v i p is withdrawing held. absurd (idle k e v i is withdrawing) };
         cancelling = λ p e is. absurd (not-cancelling p e is);
         served = λ e k v i at m is asked. absurd (not-asked k e v i is asked);
-        wanted =
+        wanted = λ e.
             record {
-              kept = λ e at m open' has. inl (ap (λ (z : MovingPicture). z.want) (new-value e at m has).2);
-              same = λ e at m i j h o p q open' has is. absurd (no-want e at m i j h has is);
-              posted = λ e at m i j h open' has is. absurd (no-want e at m i j h has is);
-              site = λ e at m i j h open' has is. absurd (no-want e at m i j h has is);
-              unwanted = λ e at m i open' has low u. absurd (no_packets _ u);
+              kept = λ at m open' has. inl (ap (λ (z : MovingPicture). z.want) (new-value e at m has).2);
+              same = λ at m i j h o p q open' has is. absurd (no-want e at m i j h has is);
+              posted = λ at m i j h open' has is. absurd (no-want e at m i j h has is);
+              site = λ at m i j h open' has is. absurd (no-want e at m i j h has is);
+              unwanted = λ at m i open' has low u. absurd (no_packets _ u);
             };
-        voided = record { meets = λ from to. All-nil _; once = λ e is. omega (arith, none-count (is_unwanted_to e)) };
+        unwanted = λ e is. omega (arith, none-count (is_unwanted_to e));
         packets = λ from to. All-nil _;
-        once =
+        once = λ f.
             record {
-              message = λ f. none-count (is_message_of f) ∙ sym (ap (λ o. one_if (is_some (matched_message o))) (fresh-outward s starts-fresh f));
-              taken = λ f. omega (arith, none-count (is_taken_of f));
-              told = λ f lives. none-count (is_taken_of f) ∙ sym (ap (λ o. one_if (is_taken o)) (fresh-outward s starts-fresh f));
+              message = none-count (is_message_of f) ∙ sym (ap (λ o. one_if (is_some (matched_message o))) (fresh-outward s starts-fresh f));
+              taken = omega (arith, none-count (is_taken_of f));
+              told = λ lives. none-count (is_taken_of f) ∙ sym (ap (λ o. one_if (is_taken o)) (fresh-outward s starts-fresh f));
             };
       }
     where

@@ -18,10 +18,8 @@ use Rattle.end_table.specs.declared.entry.Entry.{Entry}
 use Rattle.end_table.specs.declared.entry.Entry.TheVariants as entry
 use Rattle.kernel_step.specs.Calls.{made_end}
 use Rattle.kernel_step.specs.Start.{Wired, home, keeps_at, nothing_wired, owned_from_start, wires_one, wired}
-use Rattle.service_step.specs.Ends.{end_eq as service_eq, put as service_put, fresh, unmade}
-use Rattle.service_step.specs.Run.{Wired as ServiceWired, wires_one as service_wires_one, nothing_wired as nothing_served, wired as served, first_end}
-use Rattle.service_step.specs.State.{counts}
-use Rattle.service_step.specs.declared.state.End.{End}
+use Rattle.service_step.specs.Ends.{end_eq as service_eq, fresh, unmade}
+use Rattle.service_step.specs.Run.{Wired as ServiceWired, wires_one as service_wires_one, nothing_wired as nothing_served, wired as served}
 use Rattle.service_step.specs.declared.state.Place.TheVariants.{Owned}
 use Rattle.world_meaning.proofs.Ends.{eq-same, opposite-twice, opposite-apart, end-is, apart-false}
 

@@ -19,14 +19,14 @@ use Rattle.kernel_sound.specs.Sound.{IsSound, addressee}
 use Rattle.kernel_step.specs.Actions.{is_withdrawing}
 use Rattle.kernel_step.specs.Rows.{ends_in}
 use Rattle.kernel_world.specs.World.{World}
-use Rattle.service_step.specs.Ends.{is_made, is_destroyed, is_living, is_posted, is_taken, matched_message}
+use Rattle.service_step.specs.Ends.{is_made, is_living, is_posted, is_taken, matched_message}
 use Rattle.service_step.specs.State.{State}
 use Rattle.service_step.specs.declared.state.End.{End}
 use Rattle.service_step.specs.declared.state.Message.{Message}
 use Rattle.service_step.specs.declared.state.Outward.TheVariants as outward
 use Rattle.service_step.specs.declared.state.Phase.TheVariants as phase
 use Rattle.service_step.specs.declared.state.Place.TheVariants as place
-use Rattle.world_meaning.specs.Fields.{Stand, At, Flying, HasFields, IsHeard, IsNoMore, IsAsking, IsUnwantOf, IsUnserved, IsAskedAs}
+use Rattle.world_meaning.specs.Fields.{Stand, HasFields, IsHeard, IsNoMore, IsUnwantOf, IsUnserved, IsAskedAs}
 use Rattle.world_meaning.specs.Packets.{Links, links_of, IsUnderWay, Each, one_if, how_many}
 use Rattle.service_lawful.specs.Consistent.{is_open, IsConsistent}
 use Rattle.world_meaning.specs.StandsFor.{StandsFor, home_of, entry_at}
@@ -70,29 +70,29 @@ pub record IsFew (i : ℕ) (m : MovingPicture) : Type 0 where
 -- ---- where ends are
 
 -- a mark is kept of a destroyed end alone, at one kernel at most
-pub record AreMarked (w : Links) (t : EndId → End) : Type 0 where
-  pub destroyed : (k : ℕ) (e : EndId) (m : MovingPicture) → entry_at w k e ≡ entry.Destroyed m → (t e).place ≡ place.Destroyed
-  pub once : (j k : ℕ) (e : EndId) (m l : MovingPicture) → entry_at w j e ≡ entry.Destroyed m → entry_at w k e ≡ entry.Destroyed l → j ≡ k
+pub record AreMarked (w : Links) (t : EndId → End) (e : EndId) : Type 0 where
+  pub destroyed : (k : ℕ) (m : MovingPicture) → entry_at w k e ≡ entry.Destroyed m → (t e).place ≡ place.Destroyed
+  pub once : (j k : ℕ) (m l : MovingPicture) → entry_at w j e ≡ entry.Destroyed m → entry_at w k e ≡ entry.Destroyed l → j ≡ k
 
 -- the fields of a living end agree with the service, also while it is in a message
-pub record AreCounted (w : Links) (t : EndId → End) : Type 0 where
-  pub sent : (e : EndId) (at : Stand) (m : MovingPicture) → is_living (t e).place ≡ true → HasFields w e at m → m.sent ≡ (t e).sent
-  pub dead : (e : EndId) (at : Stand) (m : MovingPicture) → is_living (t e).place ≡ true → HasFields w e at m → m.dead ≡ (t e).noticed
+pub record AreCounted (w : Links) (t : EndId → End) (e : EndId) : Type 0 where
+  pub sent : (at : Stand) (m : MovingPicture) → is_living (t e).place ≡ true → HasFields w e at m → m.sent ≡ (t e).sent
+  pub dead : (at : Stand) (m : MovingPicture) → is_living (t e).place ≡ true → HasFields w e at m → m.dead ≡ (t e).noticed
   -- one that knows of the death of its link is asked for nothing
-  pub unwanted : (e : EndId) (at : Stand) (m : MovingPicture) → is_living (t e).place ≡ true → (t e).noticed ≡ true → HasFields w e at m → m.want ≡ 0
+  pub unwanted : (at : Stand) (m : MovingPicture) → is_living (t e).place ≡ true → (t e).noticed ≡ true → HasFields w e at m → m.want ≡ 0
 
 -- ---- what was heard
 
 -- what was heard of an end is no more than true
-abbrev pub IsHonest : Links → Type 0
-IsHonest w = (e : EndId) (at : Stand) (m : MovingPicture) (j h : ℕ) → HasFields w e at m → IsHeard w e j h → IsNoMore at m.hops j h
+abbrev pub IsHonest : Links → EndId → Type 0
+IsHonest w e = (at : Stand) (m : MovingPicture) (j h : ℕ) → HasFields w e at m → IsHeard w e j h → IsNoMore at m.hops j h
 
 -- ---- receives
 
 -- the receive that an entry has started is the last that was asked for; only a Cancel of its owner withdraws it
-pub record AreAsked (w : Links) (s : State) : Type 0 where
-  pub last : (k : ℕ) (e : EndId) (v : HereView) (n : ℕ) → entry_at w k e ≡ entry.Here v → IsAskedAs n v.inward → n ≡ v.value.asked
-  pub cancelled : (k : ℕ) (e : EndId) (v : HereView) (n : ℕ) (p : Pid) → entry_at w k e ≡ entry.Here v → v.inward ≡ kernel_inward.Withdrawing n → v.holder ≡ holder.Owner p
+pub record AreAsked (w : Links) (s : State) (e : EndId) : Type 0 where
+  pub last : (k : ℕ) (v : HereView) (n : ℕ) → entry_at w k e ≡ entry.Here v → IsAskedAs n v.inward → n ≡ v.value.asked
+  pub cancelled : (k : ℕ) (v : HereView) (n : ℕ) (p : Pid) → entry_at w k e ≡ entry.Here v → v.inward ≡ kernel_inward.Withdrawing n → v.holder ≡ holder.Owner p
       → (s.process p.0).phase ≡ phase.Cancelling e
 
 -- a process is in a Cancel while its receive is being withdrawn
@@ -100,35 +100,33 @@ abbrev pub AreCancelling : Links → State → Type 0
 AreCancelling w s = (p : Pid) (e : EndId) → (s.process p.0).phase ≡ phase.Cancelling e → IsHereAnd (entry_at w (home_of s p) e) (λ v. is_withdrawing v.inward ≡ true)
 
 -- a receive that was matched or withdrawn is served at the opposite end
-abbrev pub IsServed : Links → (EndId → End) → Type 0
-IsServed w t =
-    (e : EndId) (k : ℕ) (v : HereView) (n : ℕ) (at : Stand) (m : MovingPicture) → entry_at w k e ≡ entry.Here v → IsAskedAs n v.inward → is_posted (t e).inward ≡ false
+abbrev pub IsServed : Links → (EndId → End) → EndId → Type 0
+IsServed w t e =
+    (k : ℕ) (v : HereView) (n : ℕ) (at : Stand) (m : MovingPicture) → entry_at w k e ≡ entry.Here v → IsAskedAs n v.inward → is_posted (t e).inward ≡ false
     → is_living (t (opposite e)).place ≡ true → HasFields w (opposite e) at m → n ≤ m.served
 
 -- what is asked of an open end and not yet served: it is one receive, which is posted, and where its end lives, that is where each asking says
-pub record AreWanted (w : Links) (t : EndId → End) : Type 0 where
-  pub kept : (e : EndId) (at : Stand) (m : MovingPicture) → is_open (t e) ≡ true → HasFields w e at m → (m.want ≡ 0) ⊎ (m.served < m.want)
-  pub same : (e : EndId) (at : Stand) (m : MovingPicture) (n j h o i g : ℕ) → is_open (t e) ≡ true → HasFields w e at m → IsUnserved w e m n j h → IsUnserved w e m o i g → o ≡ n
-  pub posted : (e : EndId) (at : Stand) (m : MovingPicture) (n j h : ℕ) → is_open (t e) ≡ true → HasFields w e at m → IsUnserved w e m n j h → is_posted (t (opposite e)).inward ≡ true
-  pub site : (e : EndId) (at : Stand) (m : MovingPicture) (n j h : ℕ) → is_open (t e) ≡ true → HasFields w e at m → IsUnserved w e m n j h
+pub record AreWanted (w : Links) (t : EndId → End) (e : EndId) : Type 0 where
+  pub kept : (at : Stand) (m : MovingPicture) → is_open (t e) ≡ true → HasFields w e at m → (m.want ≡ 0) ⊎ (m.served < m.want)
+  pub same : (at : Stand) (m : MovingPicture) (n j h o i g : ℕ) → is_open (t e) ≡ true → HasFields w e at m → IsUnserved w e m n j h → IsUnserved w e m o i g → o ≡ n
+  pub posted : (at : Stand) (m : MovingPicture) (n j h : ℕ) → is_open (t e) ≡ true → HasFields w e at m → IsUnserved w e m n j h → is_posted (t (opposite e)).inward ≡ true
+  pub site : (at : Stand) (m : MovingPicture) (n j h : ℕ) → is_open (t e) ≡ true → HasFields w e at m → IsUnserved w e m n j h
       → is_living (t (opposite e)).place ≡ true → IsHereAnd (entry_at w j (opposite e)) (λ v. (v.value.hops ≡ h) × (v.value.asked ≡ n))
   -- one that is taken back is being withdrawn there
-  pub unwanted : (e : EndId) (at : Stand) (m : MovingPicture) (n : ℕ) → is_open (t e) ≡ true → HasFields w e at m → m.served < n → IsUnderWay w (IsUnwantOf e n)
+  pub unwanted : (at : Stand) (m : MovingPicture) (n : ℕ) → is_open (t e) ≡ true → HasFields w e at m → m.served < n → IsUnderWay w (IsUnwantOf e n)
       → (k : ℕ) × IsHereAnd (entry_at w k (opposite e)) (λ v. is_withdrawing v.inward ≡ true)
 
 -- an unwanted meets the receive that is being withdrawn
-abbrev pub IsVoidRight : Links → (EndId → End) → ℕ → PictureWhat → Type 0
-IsVoidRight w t to (packet.Unwanted e n at hops) = (t e).noticed ≡ false → IsHereAnd (entry_at w to e) (λ v. v.inward ≡ kernel_inward.Withdrawing n)
-IsVoidRight w t to _ = Unit {0}
+abbrev pub IsVoidRight : Links → (EndId → End) → ℕ → EndId → ℕ → Type 0
+IsVoidRight w t to e n = (t e).noticed ≡ false → IsHereAnd (entry_at w to e) (λ v. v.inward ≡ kernel_inward.Withdrawing n)
 
 abbrev pub is_unwanted_to : EndId → PictureWhat → Bool
 is_unwanted_to e (packet.Unwanted to n at hops) = end_eq e to
 is_unwanted_to e _ = false
 
 -- and it is the only one, until the death is noticed there
-pub record AreVoided (w : Links) (t : EndId → End) : Type 0 where
-  pub meets : Each w (λ from to q. IsVoidRight w t to q)
-  pub once : (e : EndId) → (t e).noticed ≡ false → how_many (is_unwanted_to e) w ≤ 1
+abbrev pub IsUnwantedOnce : Links → (EndId → End) → EndId → Type 0
+IsUnwantedOnce w t e = (t e).noticed ≡ false → how_many (is_unwanted_to e) w ≤ 1
 
 -- ---- messages
 
@@ -174,6 +172,7 @@ IsPacketRight w t from to (packet.Parcel e n wanted at hops bytes ms) = IsParcel
 IsPacketRight w t from to (packet.Back f n ms) = IsBackRight w t to f n (ends_in ms)
 IsPacketRight w t from to (packet.Taken f n at hops) = IsTakenRight w t from to f n at
 IsPacketRight w t from to (packet.Gone e at) = IsGoneRight t e
+IsPacketRight w t from to (packet.Unwanted e n at hops) = IsVoidRight w t to e n
 IsPacketRight w t from to _ = Unit {0}
 
 -- a packet carries the message of f, there or back
@@ -187,27 +186,27 @@ is_taken_of f (packet.Taken to n at hops) = end_eq f to
 is_taken_of f _ = false
 
 -- a message that is matched is in one packet, and one that was taken is told by one taken, until its sender is destroyed
-pub record AreSentOnce (w : Links) (t : EndId → End) : Type 0 where
-  pub message : (f : EndId) → how_many (is_message_of f) w ≡ one_if (is_some (matched_message (t f).outward))
-  pub taken : (f : EndId) → how_many (is_taken_of f) w ≤ one_if (is_taken (t f).outward)
-  pub told : (f : EndId) → is_living (t f).place ≡ true → how_many (is_taken_of f) w ≡ one_if (is_taken (t f).outward)
+pub record AreSentOnce (w : Links) (t : EndId → End) (f : EndId) : Type 0 where
+  pub message : how_many (is_message_of f) w ≡ one_if (is_some (matched_message (t f).outward))
+  pub taken : how_many (is_taken_of f) w ≤ one_if (is_taken (t f).outward)
+  pub told : is_living (t f).place ≡ true → how_many (is_taken_of f) w ≡ one_if (is_taken (t f).outward)
 
 -- ---- all of it
 
--- what is true of links, after i events
+-- what is true of links, after i events: of each end, with its opposite, and of each packet
 pub record AreRight (i : ℕ) (w : Links) (s : State) : Type 0 where
   pub named : AreNamed (length s.made) w s.ends
   pub few : (e : EndId) (at : Stand) (m : MovingPicture) → HasFields w e at m → IsFew i m
-  pub marked : AreMarked w s.ends
-  pub counted : AreCounted w s.ends
-  pub honest : IsHonest w
-  pub asked : AreAsked w s
+  pub marked : (e : EndId) → AreMarked w s.ends e
+  pub counted : (e : EndId) → AreCounted w s.ends e
+  pub honest : (e : EndId) → IsHonest w e
+  pub asked : (e : EndId) → AreAsked w s e
   pub cancelling : AreCancelling w s
-  pub served : IsServed w s.ends
-  pub wanted : AreWanted w s.ends
-  pub voided : AreVoided w s.ends
+  pub served : (e : EndId) → IsServed w s.ends e
+  pub wanted : (e : EndId) → AreWanted w s.ends e
+  pub unwanted : (e : EndId) → IsUnwantedOnce w s.ends e
+  pub once : (e : EndId) → AreSentOnce w s.ends e
   pub packets : Each w (λ from to q. IsPacketRight w s.ends from to q)
-  pub once : AreSentOnce w s.ends
 
 pub record Invariant (i : ℕ) (w : World) (s : State) : Type 0 where
   pub stands : StandsFor w s

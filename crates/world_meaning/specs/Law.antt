@@ -1,12 +1,11 @@
 -- What is claimed of a run: its events are, by their service steps, a lawful run of the link service, and the world stands for the
 -- state of the service after each of them.
-use Rattle.std.specs.Prelude.{◌≡◌, ℕ, List, [], ◌∷◌, ◌++◌, map, Option, Some, None}
+use Rattle.std.specs.Prelude.{◌≡◌, List, [], ◌∷◌, ◌++◌, map, Option, Some, None}
 use Rattle.charlotte_calls.specs.declared.calls.Call.{Call}
 use Rattle.charlotte_calls.specs.declared.calls.Call.TheVariants as call
 use Rattle.charlotte_calls.specs.declared.calls.Cause.{Cause}
+use Rattle.charlotte_calls.specs.declared.calls.Report.{Report}
 use Rattle.charlotte_calls.specs.declared.calls.ServiceStep.{ServiceStep}
-use Rattle.charlotte_calls.specs.declared.names.EndId.{EndId}
-use Rattle.charlotte_calls.specs.declared.names.Pid.{Pid}
 use Rattle.charlotte_calls.specs.declared.setting.Setting.{Setting}
 use Rattle.kernel_step.specs.Calls.{refusal}
 use Rattle.kernel_step.specs.Kernel.{process_of, has_report}
@@ -48,14 +47,15 @@ pub record IsServedLawfully (g : Setting) (es : List Event) : Type 0 where
 
 -- ---- as far as it is proved
 
--- calls that are refused, and a Print
-abbrev pub IsCoveredCall : Option Cause → Call → Type 0
-IsCoveredCall (Some cause) c = Unit {0}
-IsCoveredCall None (call.Print bytes) = Unit {0}
-IsCoveredCall None _ = ⊥
+-- calls that are refused, a Print, and a Wait that finds no report; rs are the reports of the caller
+abbrev pub IsCoveredCall : List Report → Option Cause → Call → Type 0
+IsCoveredCall rs (Some cause) c = Unit {0}
+IsCoveredCall rs None (call.Print bytes) = Unit {0}
+IsCoveredCall rs None call.Wait = rs ≡ []
+IsCoveredCall rs None _ = ⊥
 
 abbrev pub IsCovered : World → Event → Type 0
-IsCovered w (Calls k p c mine) = IsCoveredCall (refusal p (w.kernel k).table (w.kernel k).made mine (has_report (process_of p (w.kernel k))) c) c
+IsCovered w (Calls k p c mine) = IsCoveredCall (process_of p (w.kernel k)).reports (refusal p (w.kernel k).table (w.kernel k).made mine (has_report (process_of p (w.kernel k))) c) c
 IsCovered w (Takes k from) = ⊥
 
 -- each of these events, in the world that those before it leave
