@@ -28,7 +28,7 @@ use Rattle.world_effects.proofs.Sums.{sum_over-same}
 use Rattle.world_effects.specs.Change.{Change, Changes}
 use Rattle.world_meaning.proofs.Sums.{over-same}
 use Rattle.world_meaning.specs.Fields.{Stand, At, Flying, HasFields, IsAskedAs, IsHeard, IsNoMore}
-use Rattle.world_meaning.specs.Invariant.{AreAsked, AreCounted, AreMarked, AreNamed, AreRight, AreSentOnce, AreVoided, AreWanted, IsFew, IsHereIfLiving, IsHonest, IsPacketRight, IsServed, IsVoidRight, NamesBelow, is_message_of, is_taken_of, is_unwanted_to}
+use Rattle.world_meaning.specs.Invariant.{AreAsked, AreCounted, AreMarked, AreNamed, AreRight, AreSentOnce, AreWanted, IsFew, IsHereIfLiving, IsHonest, IsPacketRight, IsUnwantedOnce, IsServed, NamesBelow, is_message_of, is_taken_of, is_unwanted_to}
 use Rattle.world_meaning.specs.Packets.{Each, IsBackOf, IsParcelFor, IsParcelOf, IsTakenOf, IsUnderWay, IsUnwantedOf, Links, how_many, one_if, over_kernels, sum_over, values_for, values_of}
 use Rattle.world_meaning.specs.StandsFor.{AreLinksOf, IsEndOf, IsInMessage, IsInwardOf, IsOutwardOf, IsWaitingWith, entry_at, home_of, standing}
 use Rattle.silent_events.specs.Quiet.{IsAlike, IsGoneWell, IsQuiet, IsQuietly, IsSentWell, IsViewAlike, is_telling}
@@ -45,11 +45,8 @@ sent-right w t from to (packet.Parcel e n wanted at hops bytes ms) quiet gone = 
 sent-right w t from to (packet.Back f n ms) quiet gone = absurd (true≢false quiet)
 sent-right w t from to (packet.Taken f n at hops) quiet gone = absurd (true≢false quiet)
 sent-right w t from to (packet.Gone e at) quiet gone = gone
+sent-right w t from to (packet.Unwanted e n at hops) quiet gone = absurd (true≢false quiet)
 sent-right w t from to _ quiet gone = tt
-
-sent-void : (w : Links) (t : EndId → End) (to : ℕ) (what : PictureWhat) → is_telling what ≡ false → IsVoidRight w t to what
-sent-void w t to (packet.Unwanted e n at hops) quiet = absurd (true≢false quiet)
-sent-void w t to _ quiet = tt
 
 module _ {w u : Links} {c : Change} (b : Changes w c u) (s : State) (quiet : IsQuiet (length s.made) s.ends w c) where
   abbrev n : ℕ
@@ -202,54 +199,46 @@ module _ {w u : Links} {c : Change} (b : Changes w c u) (s : State) (quiet : IsQ
       let asked : l.asked ≡ m.0.asked = ap (λ (z : MovingPicture). z.asked) m.2 in
       record { hops = omega (arith, hops, old.hops); sent = omega (arith, sent, old.sent); asked = omega (arith, asked, old.asked) }
 
-  marked-still : AreMarked w s.ends → AreMarked u s.ends
-  marked-still is =
+  marked-still : (e : EndId) → AreMarked w s.ends e → AreMarked u s.ends e
+  marked-still e is =
       record {
-        destroyed = λ k e l at. let m = mark k e l at in is.destroyed k e m.0 m.1;
-        once = λ j k e l r at there. let m = mark j e l at in let o = mark k e r there in is.once j k e m.0 o.0 m.1 o.1;
+        destroyed = λ k l at. let m = mark k l at in is.destroyed k m.0 m.1;
+        once = λ j k l r at there. let m = mark j l at in let o = mark k r there in is.once j k m.0 o.0 m.1 o.1;
       }
     where
-      mark : (k : ℕ) (e : EndId) (l : MovingPicture) → entry_at u k e ≡ entry.Destroyed l → (m : MovingPicture) × (entry_at w k e ≡ entry.Destroyed m)
-      mark k e l at = mark-was (w.entry k e) (u.entry k e) l (entry-quietly k e) at
+      mark : (k : ℕ) (l : MovingPicture) → entry_at u k e ≡ entry.Destroyed l → (m : MovingPicture) × (entry_at w k e ≡ entry.Destroyed m)
+      mark k l at = mark-was (w.entry k e) (u.entry k e) l (entry-quietly k e) at
 
-  counted-still : AreCounted w s.ends → AreCounted u s.ends
-  counted-still is =
+  counted-still : (e : EndId) → AreCounted w s.ends e → AreCounted u s.ends e
+  counted-still e is =
       record {
-        sent = λ e at l living has. let m = fields-was e at l has in ap (λ (z : MovingPicture). z.sent) m.2 ∙ is.sent e at m.0 living m.1;
-        dead = λ e at l living has. let m = fields-was e at l has in ap (λ (z : MovingPicture). z.dead) m.2 ∙ is.dead e at m.0 living m.1;
-        unwanted = λ e at l living noticed has. let m = fields-was e at l has in ap (λ (z : MovingPicture). z.want) m.2 ∙ is.unwanted e at m.0 living noticed m.1;
+        sent = λ at l living has. let m = fields-was e at l has in ap (λ (z : MovingPicture). z.sent) m.2 ∙ is.sent at m.0 living m.1;
+        dead = λ at l living has. let m = fields-was e at l has in ap (λ (z : MovingPicture). z.dead) m.2 ∙ is.dead at m.0 living m.1;
+        unwanted = λ at l living noticed has. let m = fields-was e at l has in ap (λ (z : MovingPicture). z.want) m.2 ∙ is.unwanted at m.0 living noticed m.1;
       }
 
-  asked-still : AreAsked w s → AreAsked u s
-  asked-still is =
+  asked-still : (e : EndId) → AreAsked w s e → AreAsked u s e
+  asked-still e is =
       record {
-        last = λ k e x r there asked.
+        last = λ k x r there asked.
             let v = seen k e x there in
-            is.last k e v.0 r v.1 (subst (IsAskedAs r) (inward-like v.0 x v.2) asked) ∙ sym (ap (λ (z : MovingPicture). z.asked) v.2.1);
-        cancelled = λ k e x r p there withdrawing held.
+            is.last k v.0 r v.1 (subst (IsAskedAs r) (inward-like v.0 x v.2) asked) ∙ sym (ap (λ (z : MovingPicture). z.asked) v.2.1);
+        cancelled = λ k x r p there withdrawing held.
             let v = seen k e x there in
-            is.cancelled k e v.0 r p v.1 (sym (inward-like v.0 x v.2) ∙ withdrawing) (sym (holder-like v.0 x v.2) ∙ held);
+            is.cancelled k v.0 r p v.1 (sym (inward-like v.0 x v.2) ∙ withdrawing) (sym (holder-like v.0 x v.2) ∙ held);
       }
 
   pub withdrawing-still : (k : ℕ) (e : EndId) → IsHereAnd (entry_at w k e) (λ v. is_withdrawing v.inward ≡ true) → IsHereAnd (entry_at u k e) (λ v. is_withdrawing v.inward ≡ true)
   withdrawing-still k e = is-still k e (λ v. is_withdrawing v.inward ≡ true) (λ v x like is. ap is_withdrawing (inward-like v x like) ∙ is)
 
-  served-still : IsServed w s.ends → IsServed u s.ends
-  served-still is e k x r at l there asked unposted living has =
+  served-still : (e : EndId) → IsServed w s.ends e → IsServed u s.ends e
+  served-still e is k x r at l there asked unposted living has =
       let v = seen k e x there in
       let m = fields-was (opposite e) at l has in
-      subst (λ z. r ≤ z) (sym (ap (λ (z : MovingPicture). z.served) m.2)) (is e k v.0 r at m.0 v.1 (subst (IsAskedAs r) (inward-like v.0 x v.2) asked) unposted living m.1)
+      subst (λ z. r ≤ z) (sym (ap (λ (z : MovingPicture). z.served) m.2)) (is k v.0 r at m.0 v.1 (subst (IsAskedAs r) (inward-like v.0 x v.2) asked) unposted living m.1)
 
-  voided-still : AreVoided w s.ends → AreVoided u s.ends
-  voided-still is =
-      record {
-        meets = each-after b (λ from to q. IsVoidRight w s.ends to q) (λ from to q. IsVoidRight u s.ends to q) is.meets (λ from to q has a. void to q.what a) (λ to what has. sent-void u s.ends to what (well to what has).quiet);
-        once = λ e noticed. subst (λ z. z ≤ 1) (sym (number-same (is_unwanted_to e) (unwanted-quiet e))) (is.once e noticed);
-      }
-    where
-      void : (to : ℕ) (q : PictureWhat) → IsVoidRight w s.ends to q → IsVoidRight u s.ends to q
-      void to (packet.Unwanted e r at hops) is = λ noticed. is-still to e (λ v. v.inward ≡ kernel_inward.Withdrawing r) (λ v x like withdrawing. inward-like v x like ∙ withdrawing) (is noticed)
-      void to _ is = tt
+  unwanted-still : (e : EndId) → IsUnwantedOnce w s.ends e → IsUnwantedOnce u s.ends e
+  unwanted-still e is noticed = subst (λ z. z ≤ 1) (sym (number-same (is_unwanted_to e) (unwanted-quiet e))) (is noticed)
 
   packets-still : Each w (λ from to q. IsPacketRight w s.ends from to q) → Each u (λ from to q. IsPacketRight u s.ends from to q)
   packets-still is =
@@ -271,36 +260,37 @@ module _ {w u : Links} {c : Change} (b : Changes w c u) (s : State) (quiet : IsQ
       right from to (packet.Back f m ms) is = record { matched = is.matched; untaken = is.untaken; site = stays to f is.site }
       right from to (packet.Taken f m at hops) is = record { taken = is.taken; number = is.number; taker = is.taker; site = stays to f is.site }
       right from to (packet.Gone e at) is = is
+      right from to (packet.Unwanted e r at hops) is = λ noticed. is-still to e (λ v. v.inward ≡ kernel_inward.Withdrawing r) (λ v x like withdrawing. inward-like v x like ∙ withdrawing) (is noticed)
       right from to _ is = tt
 
-  once-still : AreSentOnce w s.ends → AreSentOnce u s.ends
-  once-still is =
+  once-still : (f : EndId) → AreSentOnce w s.ends f → AreSentOnce u s.ends f
+  once-still f is =
       record {
-        message = λ f. number-same (is_message_of f) (message-quiet f) ∙ is.message f;
-        taken = λ f. subst (λ z. z ≤ one_if (is_taken (s.ends f).outward)) (sym (number-same (is_taken_of f) (taken-quiet f))) (is.taken f);
-        told = λ f living. number-same (is_taken_of f) (taken-quiet f) ∙ is.told f living;
+        message = number-same (is_message_of f) (message-quiet f) ∙ is.message;
+        taken = subst (λ z. z ≤ one_if (is_taken (s.ends f).outward)) (sym (number-same (is_taken_of f) (taken-quiet f))) is.taken;
+        told = λ living. number-same (is_taken_of f) (taken-quiet f) ∙ is.told living;
       }
 
   -- what was heard is no more than true where it is so of the fields before
-  honest-still : ((e : EndId) (at : Stand) (m : MovingPicture) (j h : ℕ) → HasFields w e at m → IsHeard u e j h → IsNoMore at m.hops j h) → IsHonest u
+  honest-still : ((e : EndId) (at : Stand) (m : MovingPicture) (j h : ℕ) → HasFields w e at m → IsHeard u e j h → IsNoMore at m.hops j h) → (e : EndId) → IsHonest u e
   honest-still heard e at l j h has is =
       let m = fields-was e at l has in
       subst (λ z. IsNoMore at z j h) (sym (ap (λ (z : MovingPicture). z.hops) m.2)) (heard e at m.0 j h m.1 is)
 
   -- all clauses on links
-  pub right-still : (i : ℕ) → AreRight i w s → ((e : EndId) (at : Stand) (m : MovingPicture) (j h : ℕ) → HasFields w e at m → IsHeard u e j h → IsNoMore at m.hops j h) → AreWanted u s.ends → AreRight (i + 1) u s
+  pub right-still : (i : ℕ) → AreRight i w s → ((e : EndId) (at : Stand) (m : MovingPicture) (j h : ℕ) → HasFields w e at m → IsHeard u e j h → IsNoMore at m.hops j h) → ((e : EndId) → AreWanted u s.ends e) → AreRight (i + 1) u s
   right-still i is heard wanted =
       record {
         named = named-still is.named;
         few = few-still i is.few;
-        marked = marked-still is.marked;
-        counted = counted-still is.counted;
+        marked = λ e. marked-still e (is.marked e);
+        counted = λ e. counted-still e (is.counted e);
         honest = honest-still heard;
-        asked = asked-still is.asked;
+        asked = λ e. asked-still e (is.asked e);
         cancelling = λ p e at. withdrawing-still (home_of s p) e (is.cancelling p e at);
-        served = served-still is.served;
+        served = λ e. served-still e (is.served e);
         wanted = wanted;
-        voided = voided-still is.voided;
+        unwanted = λ e. unwanted-still e (is.unwanted e);
         packets = packets-still is.packets;
-        once = once-still is.once;
+        once = λ f. once-still f (is.once f);
       }

@@ -131,7 +131,7 @@ module _ {w u : Links} {c : Change} (b : Changes w c u) (s : State) (quiet : IsQ
       -- a kept asking names where its end is, so no news of more hops comes
       risen : is_living (s.ends (opposite e)).place ≡ true → ⊥
       risen living =
-          let x = there-here (entry_at w m.hint.0 (opposite e)) (λ v. (v.value.hops ≡ m.hint.1) × (v.value.asked ≡ r)) (is.wanted.site e at m r m.hint.0 m.hint.1 open_is has old living) in
+          let x = there-here (entry_at w m.hint.0 (opposite e)) (λ v. (v.value.hops ≡ m.hint.1) × (v.value.asked ≡ r)) ((is.wanted e).site at m r m.hint.0 m.hint.1 open_is has old living) in
           let news : IsUnderWay w (IsNews (opposite (opposite e)) l.hint.0 l.hint.1) = taken-was b (IsNews (opposite (opposite e)) l.hint.0 l.hint.1) (subst (λ z. IsTaken c (IsNews z l.hint.0 l.hint.1)) (sym (opposite-twice e)) told.0) in
           let most : (l.hint.1 ≤ x.0.value.hops) × (l.hint.1 ≡ x.0.value.hops → l.hint.0 ≡ m.hint.0) = is.honest (opposite e) (At m.hint.0) x.0.value l.hint.0 l.hint.1 (ap value_of x.1) (inr news) in
           let first = most.0 in
@@ -151,25 +151,25 @@ module _ {w u : Links} {c : Change} (b : Changes w c u) (s : State) (quiet : IsQ
 
   -- the receive that the end that learned has started is the last that it asked for
   last : (r : ℕ) → IsAskedAs r v.inward → r ≡ v.value.asked
-  last r asked = is.asked.last k v.value.end v r learning.here asked
+  last r asked = (is.asked v.value.end).last k v r learning.here asked
 
   -- and one that was asked before of its opposite is that one
   one-asked : (e : EndId) (at : Stand) (m : MovingPicture) (r o g : ℕ) → is_open (s.ends e) ≡ true → HasFields w e at m → IsUnserved w e m r o g → opposite e ≡ v.value.end → r ≡ v.value.asked
   one-asked e at m r o g open_is has old end =
       let lives : is_living (s.ends (opposite e)).place ≡ true = subst (λ z. is_living (s.ends z).place ≡ true) (sym end) living in
-      let x = there-here (entry_at w o (opposite e)) (λ v. (v.value.hops ≡ g) × (v.value.asked ≡ r)) (is.wanted.site e at m r o g open_is has old lives) in
+      let x = there-here (entry_at w o (opposite e)) (λ v. (v.value.hops ≡ g) × (v.value.asked ≡ r)) ((is.wanted e).site at m r o g open_is has old lives) in
       let there : entry_at w o v.value.end ≡ entry.Here x.0 = subst (λ z. entry_at w o z ≡ entry.Here x.0) end x.1 in
       let f = fields-of (At o) x.0.value (ap value_of there) in
       sym x.2.1 ∙ ap (λ (z : MovingPicture). z.asked) f.1
 
   same-asked : (e : EndId) (at : Stand) (m : MovingPicture) (r j h o i g : ℕ) → is_open (s.ends e) ≡ true → HasFields w e at m → IsAsked e m r j h → IsAsked e m o i g → o ≡ r
-  same-asked e at m r j h o i g open_is has (Before a d one lives) (Before f q other more) = is.wanted.same e at m r a d o f q open_is has one other
+  same-asked e at m r j h o i g open_is has (Before a d one lives) (Before f q other more) = (is.wanted e).same at m r a d o f q open_is has one other
   same-asked e at m r j h o i g open_is has (Before a d one lives) (Now end kernel hops asked low) = last o asked ∙ sym (one-asked e at m r a d open_is has one end)
   same-asked e at m r j h o i g open_is has (Now end kernel hops asked low) (Before f q other more) = one-asked e at m o f q open_is has other end ∙ sym (last r asked)
   same-asked e at m r j h o i g open_is has (Now end kernel hops asked low) (Now too there count again below) = last o again ∙ sym (last r asked)
 
   posted-asked : (e : EndId) (at : Stand) (m : MovingPicture) (r j h : ℕ) → is_open (s.ends e) ≡ true → HasFields w e at m → IsAsked e m r j h → is_posted (s.ends (opposite e)).inward ≡ true
-  posted-asked e at m r j h open_is has (Before o g old lives) = is.wanted.posted e at m r o g open_is has old
+  posted-asked e at m r j h open_is has (Before o g old lives) = (is.wanted e).posted at m r o g open_is has old
   posted-asked e at m r j h open_is has (Now end kernel hops asked low) = by (is_posted (s.ends (opposite e)).inward) refl
     where
       lives : is_living (s.ends (opposite (opposite e))).place ≡ true
@@ -190,22 +190,22 @@ module _ {w u : Links} {c : Change} (b : Changes w c u) (s : State) (quiet : IsQ
   site-asked e at m r j h open_is has (Before o g old lives) lives_is =
       let same = lives lives_is in
       subst (λ z. IsHereAnd (entry_at w z (opposite e)) (λ v. (v.value.hops ≡ h) × (v.value.asked ≡ r))) same.0
-      (subst (λ z. IsHereAnd (entry_at w o (opposite e)) (λ v. (v.value.hops ≡ z) × (v.value.asked ≡ r))) same.1 (is.wanted.site e at m r o g open_is has old lives_is))
+      (subst (λ z. IsHereAnd (entry_at w o (opposite e)) (λ v. (v.value.hops ≡ z) × (v.value.asked ≡ r))) same.1 ((is.wanted e).site at m r o g open_is has old lives_is))
   site-asked e at m r j h open_is has (Now end kernel hops asked low) lives_is =
       here-there (entry_at w j (opposite e)) v (λ v. (v.value.hops ≡ h) × (v.value.asked ≡ r)) (subst (λ z. entry_at w z (opposite e) ≡ entry.Here v) kernel (subst (λ z. entry_at w k z ≡ entry.Here v) (sym end) learning.here)) (hops, sym (last r asked))
 
-  wanted-learned : AreWanted u s.ends
-  wanted-learned =
+  wanted-learned : (e : EndId) → AreWanted u s.ends e
+  wanted-learned e =
       record {
-        kept = λ e at l open_is has. let m = hint-was e at l has in kept m.0 l m.2 (is.wanted.kept e at m.0 open_is m.1);
-        same = λ e at l r j h o i g open_is has one other.
+        kept = λ at l open_is has. let m = hint-was e at l has in kept m.0 l m.2 ((is.wanted e).kept at m.0 open_is m.1);
+        same = λ at l r j h o i g open_is has one other.
             let m = hint-was e at l has in
             same-asked e at m.0 r j h o i g open_is m.1 (asked-was e at m.0 l r j h open_is m.1 m.2 m.3 one) (asked-was e at m.0 l o i g open_is m.1 m.2 m.3 other);
-        posted = λ e at l r j h open_is has one. let m = hint-was e at l has in posted-asked e at m.0 r j h open_is m.1 (asked-was e at m.0 l r j h open_is m.1 m.2 m.3 one);
-        site = λ e at l r j h open_is has one lives.
+        posted = λ at l r j h open_is has one. let m = hint-was e at l has in posted-asked e at m.0 r j h open_is m.1 (asked-was e at m.0 l r j h open_is m.1 m.2 m.3 one);
+        site = λ at l r j h open_is has one lives.
             let m = hint-was e at l has in
             stands e r j h (site-asked e at m.0 r j h open_is m.1 (asked-was e at m.0 l r j h open_is m.1 m.2 m.3 one) lives);
-        unwanted = λ e at l r open_is has low one. let m = hint-was e at l has in withdrawing e at m.0 r open_is m.1 (subst (λ z. z < r) (ap (λ (z : MovingPicture). z.served) m.2) low) (under_way-after b (IsUnwantOf e r) one);
+        unwanted = λ at l r open_is has low one. let m = hint-was e at l has in withdrawing e at m.0 r open_is m.1 (subst (λ z. z < r) (ap (λ (z : MovingPicture). z.served) m.2) low) (under_way-after b (IsUnwantOf e r) one);
       }
     where
       kept : (m l : MovingPicture) → IsAlike m l → (m.want ≡ 0) ⊎ (m.served < m.want) → (l.want ≡ 0) ⊎ (l.served < l.want)
@@ -220,7 +220,7 @@ module _ {w u : Links} {c : Change} (b : Changes w c u) (s : State) (quiet : IsQ
       withdrawing : (e : EndId) (at : Stand) (m : MovingPicture) (r : ℕ) → is_open (s.ends e) ≡ true → HasFields w e at m → m.served < r → IsLeft b (IsUnwantOf e r) ⊎ IsSent c (IsUnwantOf e r)
           → (j : ℕ) × IsHereAnd (entry_at u j (opposite e)) (λ v. is_withdrawing v.inward ≡ true)
       withdrawing e at m r open_is has low (inl left) =
-          let j = is.wanted.unwanted e at m r open_is has low (left-was b (IsUnwantOf e r) left) in
+          let j = (is.wanted e).unwanted at m r open_is has low (left-was b (IsUnwantOf e r) left) in
           (j.0, withdrawing-still b s quiet j.0 (opposite e) j.1)
       withdrawing e at m r open_is has low (inr sent) =
           let live = live-unwant k v e r sent.what (said sent.to sent.what sent.there) sent.is in

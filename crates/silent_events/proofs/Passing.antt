@@ -84,16 +84,16 @@ module _ {w u : Links} {c : Change} (b : Changes w c u) (s : State) (quiet : IsQ
   unserved-was e m l r j h open_is like hint (inr is) =
       inr (subst (λ z. z < r) (ap (λ (z : MovingPicture). z.served) like) is.0, told-was (IsAsking e r j h) (asking-tells e r j h) is.1)
 
-  wanted-still : AreWanted w s.ends → AreWanted u s.ends
-  wanted-still is =
+  wanted-still : (e : EndId) → AreWanted w s.ends e → AreWanted u s.ends e
+  wanted-still e is =
       record {
-        kept = λ e at l open_is has. let m = hint-was e at l has in kept m.0 l m.2 (is.kept e at m.0 open_is m.1);
-        same = λ e at l r j h o i g open_is has one other. let m = hint-was e at l has in is.same e at m.0 r j h o i g open_is m.1 (unserved-was e m.0 l r j h open_is m.2 m.3 one) (unserved-was e m.0 l o i g open_is m.2 m.3 other);
-        posted = λ e at l r j h open_is has one. let m = hint-was e at l has in is.posted e at m.0 r j h open_is m.1 (unserved-was e m.0 l r j h open_is m.2 m.3 one);
-        site = λ e at l r j h open_is has one living. let m = hint-was e at l has in stands e r j h (is.site e at m.0 r j h open_is m.1 (unserved-was e m.0 l r j h open_is m.2 m.3 one) living);
-        unwanted = λ e at l r open_is has low one.
+        kept = λ at l open_is has. let m = hint-was e at l has in kept m.0 l m.2 (is.kept at m.0 open_is m.1);
+        same = λ at l r j h o i g open_is has one other. let m = hint-was e at l has in is.same at m.0 r j h o i g open_is m.1 (unserved-was e m.0 l r j h open_is m.2 m.3 one) (unserved-was e m.0 l o i g open_is m.2 m.3 other);
+        posted = λ at l r j h open_is has one. let m = hint-was e at l has in is.posted at m.0 r j h open_is m.1 (unserved-was e m.0 l r j h open_is m.2 m.3 one);
+        site = λ at l r j h open_is has one living. let m = hint-was e at l has in stands e r j h (is.site at m.0 r j h open_is m.1 (unserved-was e m.0 l r j h open_is m.2 m.3 one) living);
+        unwanted = λ at l r open_is has low one.
             let m = hint-was e at l has in
-            let k = is.unwanted e at m.0 r open_is m.1 (subst (λ z. z < r) (ap (λ (z : MovingPicture). z.served) m.2) low) (told-was (IsUnwantOf e r) (unwant-tells e r) one) in
+            let k = is.unwanted at m.0 r open_is m.1 (subst (λ z. z < r) (ap (λ (z : MovingPicture). z.served) m.2) low) (told-was (IsUnwantOf e r) (unwant-tells e r) one) in
             (k.0, withdrawing-still b s quiet k.0 (opposite e) k.1);
       }
     where
@@ -108,4 +108,4 @@ module _ {w u : Links} {c : Change} (b : Changes w c u) (s : State) (quiet : IsQ
 
   -- so all clauses on links stay
   pub passing-right : (i : ℕ) → AreRight i w s → AreRight (i + 1) u s
-  passing-right i is = right-still b s quiet i is (λ e at m j h has heard. is.honest e at m j h has (heard-was e j h heard)) (wanted-still is.wanted)
+  passing-right i is = right-still b s quiet i is (λ e at m j h has heard. is.honest e at m j h has (heard-was e j h heard)) (λ e. wanted-still e (is.wanted e))

@@ -60,7 +60,7 @@ at_most_one : (b : Bool) → one_if b ≤ 1
 at_most_one true = omega arith
 at_most_one false = omega arith
 
-module _ (n : ℕ) (w : Links) (t : EndId → End) (few : n ≤ 8) (named : AreNamed n w t) (marked : AreMarked w t) (once : (e : EndId) → standing w e ≡ one_if (is_living (t e).place)) where
+module _ (n : ℕ) (w : Links) (t : EndId → End) (few : n ≤ 8) (named : AreNamed n w t) (marked : (e : EndId) → AreMarked w t e) (once : (e : EndId) → standing w e ≡ one_if (is_living (t e).place)) where
   kernel-below : (k : ℕ) (e : EndId) (v : HereView) → entry_at w k e ≡ entry.Here v → k < 8
   kernel-below k e v here = by (nat_lt k n) refl
     where
@@ -128,7 +128,7 @@ module _ (n : ℕ) (w : Links) (t : EndId → End) (few : n ≤ 8) (named : AreN
       by entry.Nothing there has = absurd cc
       by (entry.Left to hops) there has = absurd cc
       by (entry.Destroyed l) there has =
-          let dead : is_living (t e).place ≡ false = ap (λ (p : Place). is_living p) (marked.destroyed j e l there) in
+          let dead : is_living (t e).place ≡ false = ap (λ (p : Place). is_living p) ((marked e).destroyed j l there) in
           absurd (true≢false (sym (here-living e k v here) ∙ dead))
       by (entry.Here x) there has =
           let same : j ≡ k = here-kernel e j k x v there here in

@@ -106,7 +106,7 @@ module _ (i : ℕ) (w : World) (s : State) (is : Invariant i w s) (k from : ℕ)
         below = below;
         own = (is.setting.sound k).own;
         names = is.links.named.entries k;
-        marks = λ e m at. is.links.marked.destroyed k e m at;
+        marks = λ e m at. (is.links.marked e).destroyed k m at;
         both = λ e living. is.service.kept.made (opposite e) ∙ sym (is.service.kept.made e) ∙ living;
       }
 

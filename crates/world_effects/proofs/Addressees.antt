@@ -1,5 +1,5 @@
 -- The end that a packet of each kind is addressed to.
-use Rattle.std.proofs.Common.{◌≡◌, ℕ, Bool, true, false, sym, true≢false}
+use Rattle.std.proofs.Common.{◌≡◌, ℕ, true, sym, true≢false}
 use Rattle.charlotte_calls.specs.Names.{opposite}
 use Rattle.charlotte_calls.specs.declared.names.EndId.{EndId}
 use Rattle.charlotte_calls.specs.declared.picture.PictureWhat.{PictureWhat}

@@ -1,25 +1,21 @@
 -- An event that passes an end by leaves what is true of it: packets, entries and fields, what was heard and asked of it.
-use Rattle.std.proofs.Common.{◌≡◌, ◌≢◌, ◌⊎◌, ◌↔◌, inl, inr, ℕ, ◌+◌, Bool, true, false, nat_eq, ◌||◌, if◌then◌else◌, List, [], ◌∷◌, ◌++◌, map, Contains, IfSome, Option, Some, None, refl, sym, ap, subst, ◌∙◌, arith, true≢false}
+use Rattle.std.proofs.Common.{◌≡◌, ◌≢◌, ◌⊎◌, ◌↔◌, inl, inr, ℕ, true, false, nat_eq, List, [], ◌∷◌, Contains, IfSome, sym, ap, subst, ◌∙◌, true≢false}
 use Rattle.std.proofs.lemmas.Bool.Decides.{eqb_tells}
 use Rattle.std.specs.List.{list_any}
 use Rattle.charlotte_calls.specs.Names.{opposite}
 use Rattle.charlotte_calls.specs.declared.names.EndId.{EndId}
 use Rattle.charlotte_calls.specs.declared.picture.MovingPicture.{MovingPicture}
-use Rattle.charlotte_calls.specs.declared.picture.Picture.{Picture}
 use Rattle.charlotte_calls.specs.declared.picture.PictureWhat.{PictureWhat}
-use Rattle.charlotte_calls.specs.declared.picture.PictureWhat.TheVariants as packet
 use Rattle.end_table.proofs.EndEq.{end_eq-refl}
 use Rattle.end_table.specs.Place.{end_eq}
 use Rattle.end_table.specs.Table.{IsHereAnd}
-use Rattle.end_table.specs.declared.entry.Entry.{Entry}
-use Rattle.end_table.specs.declared.entry.HereView.{HereView}
 use Rattle.end_table.specs.declared.entry.Holder.TheVariants as holder
 use Rattle.kernel_sound.specs.Sound.{addressee}
 use Rattle.kernel_step.proofs.EnclosedEnds.{first_false, second_false}
 use Rattle.kernel_step.specs.Rows.{ends_in}
-use Rattle.world_meaning.specs.Fields.{Stand, At, Flying, HasFields, IsHeard, IsHinted, IsNews, IsAsking, IsUnwantOf, IsUnserved, value_of}
-use Rattle.world_meaning.specs.Packets.{Links, IsUnderWay, IsParcelOf, IsParcelFor, IsBackOf, IsTakenOf, IsUnwantedOf, values_of}
-use Rattle.world_meaning.specs.StandsFor.{IsEnclosed, IsInMessage, IsWaitingWith}
+use Rattle.world_meaning.specs.Fields.{Stand, At, Flying, HasFields, IsHeard, IsNews, IsAsking, IsUnserved, value_of}
+use Rattle.world_meaning.specs.Packets.{Links, IsUnderWay, IsParcelOf, IsBackOf, values_of}
+use Rattle.world_meaning.specs.StandsFor.{IsInMessage, IsWaitingWith}
 use Rattle.world_effects.specs.Aside.{IsAside, IsKept, IsUnaddressed, IsUnbrought}
 use Rattle.world_effects.specs.Change.{Change, Changes}
 use Rattle.world_effects.specs.Sums.{AllSent}

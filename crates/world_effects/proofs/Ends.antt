@@ -1,7 +1,7 @@
 -- Of an end that an event passes by: how often it stands anywhere, how many packets are addressed to it, and what the service says
 -- of its send and its receive.
-use Rattle.std.proofs.Common.{◌≡◌, ◌↔◌, ℕ, ◌+◌, Bool, true, false, ◌||◌, if◌then◌else◌, List, [], ◌∷◌, IfSome, Option, Some, None, refl, sym, ap, subst, ◌∙◌, arith, true≢false}
-use Rattle.std.specs.List.{AllByRecursion, list_any}
+use Rattle.std.proofs.Common.{◌≡◌, ◌↔◌, ℕ, ◌+◌, Bool, true, false, List, [], ◌∷◌, IfSome, Option, Some, None, refl, sym, ap, ◌∙◌, arith, true≢false}
+use Rattle.std.specs.List.{list_any}
 use Rattle.charlotte_calls.specs.declared.names.EndId.{EndId}
 use Rattle.charlotte_calls.specs.declared.picture.MovingPicture.{MovingPicture}
 use Rattle.charlotte_calls.specs.declared.picture.Picture.{Picture}
@@ -15,7 +15,6 @@ use Rattle.end_table.specs.declared.entry.Outward.TheVariants as kernel_outward
 use Rattle.kernel_sound.specs.Sound.{addressee}
 use Rattle.kernel_step.proofs.EnclosedEnds.{first_false, second_false}
 use Rattle.kernel_step.specs.Rows.{ends_in, is_here}
-use Rattle.service_step.specs.State.{State}
 use Rattle.service_step.specs.declared.state.End.{End}
 use Rattle.service_step.specs.declared.state.Inward.{Inward}
 use Rattle.service_step.specs.declared.state.Inward.TheVariants as inward
@@ -45,10 +44,10 @@ taken-weaker P Q gives (Some t) is = gives t.1.what is
 -- an end that is none of some values counts nothing there
 values-none : (e : EndId) (ms : List MovingPicture) → list_any (end_eq e) (ends_in ms) ≡ false → values_for e ms ≡ 0
 values-none e [] none = refl
-values-none e (m ∷ ms) none =
-    let first : one_if (end_eq e m.end) ≡ 0 = ap one_if (first_false _ _ none) in
-    let rest : values_for e ms ≡ 0 = values-none e ms (second_false _ _ none) in
-    omega (arith, first, rest)
+values-none e (m ∷ ms) none = both (one_if (end_eq e m.end)) (values_for e ms) (ap one_if (first_false _ _ none)) (values-none e ms (second_false _ _ none))
+  where
+    both : (a b : ℕ) → a ≡ 0 → b ≡ 0 → a + b ≡ 0
+    both a b first rest = omega arith
 
 module _ {w u : Links} {c : Change} (b : Changes w c u) (e : EndId) where
   -- packets that pass a test of packets that are addressed to the end

@@ -19,7 +19,7 @@ use Rattle.kernel_step.specs.Calls.{IsCallWith, refusal}
 use Rattle.kernel_step.specs.Kernel.{Kernel, call_step, has_report, next_stamp, process_of, take_step, without_answer}
 use Rattle.kernel_world.proofs.Packets.{happens-packets}
 use Rattle.kernel_world.specs.World.{World, Event, Calls, Takes, happens, kernel_of, left_at, outcome, rest, takes_first, to_kernel}
-use Rattle.world_effects.specs.Change.{Becomes, Change, Happens, sent_at, taken_at}
+use Rattle.world_effects.specs.Change.{Change, Happens, sent_at, taken_at}
 use Rattle.world_effects.specs.Events.{caller, calling, refusing, taking}
 
 -- kernel s differs from kernel t in the state of process p at most, in the number of links made, and in the table and the stamp

@@ -5,3 +5,12 @@ pub mod Addressees
 pub mod Aside
 pub mod Happens
 pub mod Ends
+pub mod Allowed
+pub mod Values
+pub mod NamedParts
+pub mod NamedRows
+pub mod NamedCalls
+pub mod NamedAfter
+pub mod Clear
+pub mod ClearCalls
+pub mod Passed

@@ -1,5 +1,5 @@
 -- The packets that stand in the lists after an event, by those before, the one that was taken and those that were sent.
-use Rattle.std.proofs.Common.{◌≡◌, ℕ, Bool, true, false, nat_eq, if◌then◌else◌, ◌⊎◌, inl, inr, List, [], ◌∷◌, ◌++◌, map, All, Contains, Option, None, Some, refl, sym, ap, subst, ◌∙◌, eqb-true, eq-eqb}
+use Rattle.std.proofs.Common.{◌≡◌, ℕ, Bool, true, false, nat_eq, if◌then◌else◌, ◌⊎◌, inl, inr, [], ◌∷◌, Contains, Option, None, Some, refl, sym, ap, subst, ◌∙◌, eqb-true, eq-eqb}
 use Rattle.std.proofs.lemmas.List.Elements.{All-contains, Contains-append_left, Contains-append_right, Contains-append_cases}
 use Rattle.charlotte_calls.specs.declared.picture.Picture.{Picture}
 use Rattle.charlotte_calls.specs.declared.picture.PictureWhat.{PictureWhat}

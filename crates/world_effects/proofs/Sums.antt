@@ -1,5 +1,5 @@
 -- Sums over all packets that are under way, after an event: what it took counts no more, and what it sent counts.
-use Rattle.std.proofs.Common.{◌≡◌, ◌≢◌, ℕ, ◌+◌, ◌<◌, Bool, true, false, nat_eq, if◌then◌else◌, List, [], ◌∷◌, ◌++◌, map, IfSome, Option, Some, None, refl, sym, ap, subst, ◌∙◌, arith, eq-eqb, eqb-true, ne_eqb}
+use Rattle.std.proofs.Common.{◌≡◌, ℕ, ◌+◌, ◌<◌, Bool, true, false, nat_eq, if◌then◌else◌, List, [], ◌∷◌, ◌++◌, IfSome, Option, Some, None, refl, ap, ◌∙◌, arith, eq-eqb, ne_eqb}
 use Rattle.charlotte_calls.specs.declared.names.EndId.{EndId}
 use Rattle.charlotte_calls.specs.declared.picture.Picture.{Picture}
 use Rattle.charlotte_calls.specs.declared.picture.PictureWhat.{PictureWhat}

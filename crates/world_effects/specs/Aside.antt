@@ -1,7 +1,9 @@
 -- Which ends an event does not touch.
-use Rattle.std.specs.Prelude.{◌≡◌, false, IfSome}
+use Rattle.std.specs.Prelude.{◌≡◌, ℕ, false, IfSome}
 use Rattle.std.specs.List.{list_any}
+use Rattle.charlotte_calls.specs.Names.{opposite}
 use Rattle.charlotte_calls.specs.declared.names.EndId.{EndId}
+use Rattle.charlotte_calls.specs.declared.picture.PictureWhat.{PictureWhat}
 use Rattle.end_table.specs.Place.{end_eq}
 use Rattle.kernel_sound.specs.Sound.{addressee}
 use Rattle.kernel_step.specs.Rows.{ends_in}
@@ -28,3 +30,13 @@ pub record IsAside (w : Links) (c : Change) (e : EndId) : Type 0 where
   pub kept : IsKept w c e
   pub addressed : IsUnaddressed c e
   pub brought : IsUnbrought c e
+
+-- ---- packets that have nothing to do with an end
+
+-- an end is neither x nor its opposite
+abbrev pub IsFar : EndId → EndId → Type 0
+IsFar q x = (end_eq q x ≡ false) × (end_eq (opposite q) x ≡ false)
+
+-- a packet is not addressed to the end, and does not bring it
+abbrev pub IsClear : EndId → ℕ × PictureWhat → Type 0
+IsClear q s = (end_eq q (addressee s.1) ≡ false) × (list_any (end_eq q) (ends_in (values_of s.1)) ≡ false)

@@ -3,3 +3,4 @@ pub mod Events
 pub mod Sums
 pub mod Under
 pub mod Aside
+pub mod Named
