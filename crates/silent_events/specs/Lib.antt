@@ -1,0 +1,3 @@
+pub mod Quiet
+pub mod Silent
+pub mod Learning
