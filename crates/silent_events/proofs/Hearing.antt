@@ -23,7 +23,7 @@ use Rattle.service_step.specs.State.{State}
 use Rattle.service_step.specs.declared.state.End.{End}
 use Rattle.world_effects.specs.Sums.{AllSent}
 use Rattle.world_effects.specs.Under.{IsTaken}
-use Rattle.world_meaning.proofs.Run.{Goes}
+use Rattle.world_meaning.proofs.Goes.{Goes}
 use Rattle.world_meaning.specs.Fields.{IsAskedAs, IsNews, value_of}
 use Rattle.world_meaning.specs.Invariant.{Invariant, NamesBelow}
 use Rattle.silent_events.specs.Learning.{IsLive}

@@ -27,7 +27,7 @@ use Rattle.world_effects.proofs.Happens.{takes-happens}
 use Rattle.world_effects.proofs.Lists.{first, none-there}
 use Rattle.world_effects.specs.Change.{Change, Happens}
 use Rattle.world_effects.specs.Events.{taking}
-use Rattle.world_meaning.proofs.Run.{Goes}
+use Rattle.world_meaning.proofs.Goes.{Goes}
 use Rattle.world_meaning.specs.Fields.{IsNews}
 use Rattle.world_meaning.specs.Invariant.{AreRight, Invariant, IsPacketRight}
 use Rattle.world_meaning.specs.Packets.{links_of}

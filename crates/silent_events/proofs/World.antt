@@ -13,10 +13,9 @@ use Rattle.kernel_sound.specs.Sound.{AreHeldBy, IsHeldWell, IsSound}
 use Rattle.kernel_step.specs.Actions.{enclosed_of}
 use Rattle.kernel_step.specs.Kernel.{Kernel}
 use Rattle.kernel_world.specs.World.{Event, World, happens}
-use Rattle.service_lawful.specs.History.{HasHistory}
 use Rattle.service_step.specs.State.{State}
 use Rattle.world_effects.specs.Change.{Becomes, Change, Happens}
-use Rattle.world_meaning.proofs.Run.{Goes}
+use Rattle.world_meaning.proofs.Goes.{Goes}
 use Rattle.world_meaning.specs.Invariant.{AreRight, Invariant, IsOfSetting}
 use Rattle.world_meaning.specs.Packets.{links_of}
 use Rattle.world_meaning.specs.StandsFor.{IsProcessOf, home_of}
@@ -139,5 +138,4 @@ silent-goes i w s e c happened is quiet untold right none =
       run = tt;
       after = invariant-still happened.becomes s quiet untold i is right;
       homes = refl;
-      lawful = λ t run at h. subst (HasHistory t) (sym (append-nil run)) h;
     }

@@ -23,13 +23,12 @@ use Rattle.service_step.specs.Steps.{runs}
 use Rattle.service_step.specs.declared.state.Phase.TheVariants as phase
 use Rattle.end_table.specs.Owned.{AreEndsOf}
 use Rattle.service_step.specs.State.{State}
-use Rattle.service_lawful.proofs.History.{history-calm, history-none, history-refused, state_after-append}
-use Rattle.service_lawful.proofs.Turned.{turned, turned-held, turned-reports}
-use Rattle.service_lawful.specs.History.{HasHistory}
+use Rattle.service_runs.proofs.Lawful.{runs_are_lawful}
+use Rattle.service_lawful.proofs.Turned.{turned}
 use Rattle.world_meaning.proofs.Goes.{Goes}
 use Rattle.world_law.proofs.Calm.{IsAnswered, answered-invariant}
 use Rattle.world_law.proofs.Refused.{IsCaller, caller-process, caller-runs, refused-for, wait-granted}
-use Rattle.world_law.proofs.Start.{starts-well, starts-fresh}
+use Rattle.world_law.proofs.Start.{starts-well}
 use Rattle.world_law.proofs.Waits.{IsWaiting, wait-is, waits-invariant}
 use Rattle.world_meaning.specs.Invariant.{Invariant}
 use Rattle.world_law.specs.Law.{GoesWithEach, joined, IsServedLawfully, IsCovered, IsCoveredCall, AreCovered}
@@ -99,7 +98,6 @@ module _ (i : ℕ) (w : World) (s : State) (k : ℕ) (p : Pid) (mine : List EndI
         run = tt;
         after = answered-invariant i w s k p (call.Print bytes) mine is (print-is (w.kernel k) p mine bytes) running;
         homes = refl;
-        lawful = λ t run at h. subst (HasHistory t) (sym (append-nil run)) h;
       }
 
   goes-refused : (c : Call) (cause : Cause) → refusal p (w.kernel k).table (w.kernel k).made mine (has_report (process_of p (w.kernel k))) c ≡ Some cause
@@ -111,7 +109,6 @@ module _ (i : ℕ) (w : World) (s : State) (k : ℕ) (p : Pid) (mine : List EndI
         run = (record { allowed = (runs_is, for); after = refl }, tt);
         after = answered-invariant i w s k p c mine is (subst (IsAnswered (w.kernel k) p) (sym did) (refuses-is (w.kernel k) p c cause (next_stamp (w.kernel k).stamp))) running;
         homes = refl;
-        lawful = λ t run at h. history-refused t run h p c cause s (sym at) (subst (λ z. IsRefusedFor z p c cause) (sym at) for);
       }
     where
       did : call_step (without_answer p (w.kernel k)) p mine c ≡ refuses p (without_answer p (w.kernel k)) c cause (begins (without_answer p (w.kernel k)) (next_stamp (w.kernel k).stamp))
@@ -126,9 +123,6 @@ module _ (i : ℕ) (w : World) (s : State) (k : ℕ) (p : Pid) (mine : List EndI
         run = (record { allowed = (caller-runs w s p k mine is.stands calls, wait-granted i w s p k mine is calls ends granted); after = refl }, tt);
         after = waits-invariant i w s k p mine is does calls.below calls.at ran none;
         homes = refl;
-        lawful = λ t run at h.
-            history-calm t run (step.Wait p, turned s p phase.Waiting) (record { send = λ f. refl; matches = λ f. refl; takes = λ f. refl; completes = λ f. refl }) h
-            (ap (λ (z : State). z.ends) (sym at)) (λ q. turned-reports s p phase.Waiting q ∙ ap (λ (z : State). (z.process q).reports) (sym at)) (turned-held s p phase.Waiting lives is.service.kept.held) tt;
       }
     where
       does : IsWaiting (w.kernel k) p (call_step (without_answer p (w.kernel k)) p mine call.Wait)
@@ -146,12 +140,11 @@ run-append : (s : State) (xs ys : List (ServiceStep × State)) → IsRunFrom s x
 run-append s [] ys first rest = rest
 run-append s (x ∷ xs) ys first rest = (first.0, run-append x.1 xs ys first.1 rest)
 
--- the service goes with the rest of a run, lawfully
+-- the service goes with the rest of a run
 record GoesOn (w : World) (s : State) (es : List Event) : Type 0 where
   parts : List (List (ServiceStep × State))
   each : GoesWithEach w s es parts
   run : IsRunFrom s (joined parts)
-  lawful : (t : State) (so_far : List (ServiceStep × State)) → state_after t so_far ≡ s → HasHistory t so_far → HasHistory t (so_far ++ joined parts)
 
 -- the service goes with an event that is covered
 goes-event : (g : Setting) (i : ℕ) (w : World) (s : State) (e : Event) → Invariant i w s → s.homes ≡ g.homes → IsAllowed g w e → IsCovered w e → Goes i w s e
@@ -188,7 +181,7 @@ goes-event g i w s (Calls k p c mine) is homes allowed covered = by c (refusal p
         granted_is call.Exit ends granted in_is = absurd in_is
 
 goes-on : (g : Setting) (i : ℕ) (w : World) (s : State) (es : List Event) → Invariant i w s → s.homes ≡ g.homes → AreAllowed g w es → AreCovered w es → GoesOn w s es
-goes-on g i w s [] is homes allowed covered = record { parts = []; each = tt; run = tt; lawful = λ t so_far at h. subst (HasHistory t) (sym (append-nil so_far)) h }
+goes-on g i w s [] is homes allowed covered = record { parts = []; each = tt; run = tt }
 goes-on g i w s (e ∷ es) is homes allowed covered =
     let first = goes-event g i w s e is homes allowed.0 covered.0 in
     let rest = goes-on g (i + 1) (happens w e) (state_after s first.part) es first.after (first.homes ∙ homes) allowed.1 covered.1 in
@@ -196,14 +189,13 @@ goes-on g i w s (e ∷ es) is homes allowed covered =
       parts = first.part ∷ rest.parts;
       each = (record { steps = first.steps; run = first.run; stands = first.after.stands }, rest.each);
       run = run-append s first.part (joined rest.parts) first.run rest.run;
-      lawful = λ t so_far at h.
-          subst (HasHistory t) (append_assoc so_far first.part (joined rest.parts))
-          (rest.lawful t (so_far ++ first.part) (state_after-append t so_far first.part ∙ ap (λ z. state_after z first.part) at) (first.lawful t so_far at h));
     }
 
 -- the service goes lawfully with each run of a valid setting, as far as its events are covered
 pub run_is_lawful : (g : Setting) (es : List Event) → IsValid g → IsRun g es → AreCovered (start g) es → IsServedLawfully g es
 run_is_lawful g es valid run covered =
     let on = goes-on g 0 (start g) (start_state g) es (starts-well g valid) refl run.allowed covered in
-    let history = on.lawful (start_state g) [] refl (history-none (start_state g) (starts-fresh g valid)) in
-    record { served = record { parts = on.parts; begins = (starts-well g valid).stands; each = on.each; run = on.run }; lawful = history.lawful }
+    record {
+      served = record { parts = on.parts; begins = (starts-well g valid).stands; each = on.each; run = on.run };
+      lawful = runs_are_lawful g (joined on.parts) valid on.run;
+    }

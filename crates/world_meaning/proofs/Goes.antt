@@ -1,8 +1,7 @@
 -- The service goes with one event.
-use Rattle.std.proofs.Common.{◌≡◌, ℕ, ◌+◌, List, ◌++◌, map}
+use Rattle.std.proofs.Common.{◌≡◌, ℕ, ◌+◌, List, map}
 use Rattle.charlotte_calls.specs.declared.calls.ServiceStep.{ServiceStep}
 use Rattle.kernel_world.specs.World.{World, Event, happens, outcome}
-use Rattle.service_lawful.specs.History.{HasHistory}
 use Rattle.service_step.specs.Run.{IsRunFrom, state_after}
 use Rattle.service_step.specs.State.{State}
 use Rattle.world_meaning.specs.Invariant.{Invariant}
@@ -14,5 +13,3 @@ pub record Goes (i : ℕ) (w : World) (s : State) (e : Event) : Type 0 where
   pub run : IsRunFrom s part
   pub after : Invariant (i + 1) (happens w e) (state_after s part)
   pub homes : (state_after s part).homes ≡ s.homes
-  -- a lawful run of the service goes on lawfully
-  pub lawful : (t : State) (run : List (ServiceStep × State)) → state_after t run ≡ s → HasHistory t run → HasHistory t (run ++ part)
