@@ -1,5 +1,5 @@
 -- The service goes with a run, event by event.
-use Rattle.std.proofs.Common.{◌≡◌, ◌≢◌, ℕ, ◌+◌, ◌<◌, Bool, true, false, nat_eq, cond, IsTrue, List, [], ◌∷◌, ◌++◌, map, length, slice_index, Option, Some, None, refl, sym, ap, subst, ◌∙◌, append_assoc, append-nil}
+use Rattle.std.proofs.Common.{◌≡◌, ◌≢◌, ℕ, ◌+◌, ◌<◌, Bool, true, false, nat_eq, cond, IsTrue, List, [], ◌∷◌, ◌++◌, length, slice_index, Option, Some, None, refl, sym, ap, subst, ◌∙◌}
 use Rattle.charlotte_calls.specs.Setting.{IsValid}
 use Rattle.charlotte_calls.specs.declared.calls.Answer.{Answer}
 use Rattle.charlotte_calls.specs.declared.calls.Answer.TheVariants as answer
@@ -16,7 +16,7 @@ use Rattle.kernel_step.specs.Kernel.{Kernel, Outcome, Process as KernelProcess, 
 use Rattle.kernel_step.specs.Progress.{means}
 use Rattle.kernel_step.specs.declared.phase.Phase.TheVariants as kernel_phase
 use Rattle.kernel_world.specs.Run.{IsAllowed, AreAllowed, IsRun}
-use Rattle.kernel_world.specs.World.{World, Event, Calls, Takes, happens, outcome, start}
+use Rattle.kernel_world.specs.World.{World, Event, Calls, Takes, happens, start}
 use Rattle.service_step.specs.Run.{IsRunFrom, state_after, start_state}
 use Rattle.service_step.specs.Causes.{IsRefusedFor}
 use Rattle.service_step.specs.Steps.{runs}
