@@ -1,5 +1,5 @@
 -- The service goes with a run, event by event.
-use Rattle.std.proofs.Common.{◌≡◌, ◌≢◌, ℕ, ◌+◌, ◌<◌, Bool, true, false, nat_eq, cond, IsTrue, List, [], ◌∷◌, ◌++◌, length, slice_index, Option, Some, None, refl, sym, ap, subst, ◌∙◌}
+use Rattle.std.proofs.Common.{◌≡◌, ◌≢◌, inl, inr, ℕ, ◌+◌, ◌<◌, Bool, true, false, nat_eq, cond, IsTrue, List, [], ◌∷◌, ◌++◌, length, slice_index, Option, Some, None, refl, sym, ap, subst, ◌∙◌}
 use Rattle.charlotte_calls.specs.Setting.{IsValid}
 use Rattle.charlotte_calls.specs.declared.calls.Answer.{Answer}
 use Rattle.charlotte_calls.specs.declared.calls.Answer.TheVariants as answer
@@ -10,6 +10,7 @@ use Rattle.charlotte_calls.specs.declared.calls.ServiceStep.{ServiceStep}
 use Rattle.charlotte_calls.specs.declared.calls.ServiceStep.TheVariants as step
 use Rattle.charlotte_calls.specs.declared.names.EndId.{EndId}
 use Rattle.charlotte_calls.specs.declared.names.Pid.{Pid}
+use Rattle.charlotte_calls.specs.declared.picture.Picture.{Picture}
 use Rattle.charlotte_calls.specs.declared.setting.Setting.{Setting}
 use Rattle.kernel_step.specs.Calls.{refusal, IsCallWith}
 use Rattle.kernel_step.specs.Kernel.{Kernel, Outcome, Process as KernelProcess, begins, call_step, closes, decides, granted, has_report, join_answers, join_reports, next_stamp, performs, process_of, refuses, without_answer}
@@ -25,13 +26,15 @@ use Rattle.end_table.specs.Owned.{AreEndsOf}
 use Rattle.service_step.specs.State.{State}
 use Rattle.service_runs.proofs.Lawful.{runs_are_lawful}
 use Rattle.service_lawful.proofs.Turned.{turned}
+use Rattle.silent_events.proofs.Hearing.{hearing-goes}
+use Rattle.silent_events.proofs.Taking.{taking-goes}
 use Rattle.world_meaning.proofs.Goes.{Goes}
 use Rattle.world_law.proofs.Calm.{IsAnswered, answered-invariant}
 use Rattle.world_law.proofs.Refused.{IsCaller, caller-process, caller-runs, refused-for, wait-granted}
 use Rattle.world_law.proofs.Start.{starts-well}
 use Rattle.world_law.proofs.Waits.{IsWaiting, wait-is, waits-invariant}
 use Rattle.world_meaning.specs.Invariant.{Invariant}
-use Rattle.world_law.specs.Law.{GoesWithEach, joined, IsServedLawfully, IsCovered, IsCoveredCall, AreCovered}
+use Rattle.world_law.specs.Law.{GoesWithEach, joined, IsServedLawfully, IsCovered, IsCoveredCall, IsCoveredTaking, AreCovered}
 use Rattle.world_meaning.specs.StandsFor.{home_of, service_phase}
 
 -- ---- calls that only answer their process
@@ -148,7 +151,12 @@ record GoesOn (w : World) (s : State) (es : List Event) : Type 0 where
 
 -- the service goes with an event that is covered
 goes-event : (g : Setting) (i : ℕ) (w : World) (s : State) (e : Event) → Invariant i w s → s.homes ≡ g.homes → IsAllowed g w e → IsCovered w e → Goes i w s e
-goes-event g i w s (Takes k from) is homes allowed covered = absurd covered
+goes-event g i w s (Takes k from) is homes allowed covered = by (w.packets from k) refl covered
+  where
+    by : (qs : List Picture) → w.packets from k ≡ qs → IsCoveredTaking (w.kernel k).table qs → Goes i w s (Takes k from)
+    by [] there covered = absurd covered
+    by (q ∷ others) there (inl silent) = taking-goes i w s is k from q others there silent
+    by (q ∷ others) there (inr heard) = hearing-goes i w s is k from q others there heard
 goes-event g i w s (Calls k p c mine) is homes allowed covered = by c (refusal p (w.kernel k).table (w.kernel k).made mine (has_report (process_of p (w.kernel k))) c) refl covered
   where
     below : p.0 < length s.homes
