@@ -3,4 +3,6 @@ pub mod Start
 pub mod Refused
 pub mod Calm
 pub mod Waits
+pub mod Rested
+pub mod Given
 pub mod Run
