@@ -1,5 +1,5 @@
 -- A report is given: that way of its end, which was over, is idle, at its kernel and in the service. What is true of links stays true.
-use Rattle.std.proofs.Common.{◌≡◌, ◌⊎◌, ◌↔◌, inl, inr, ℕ, ◌+◌, ◌≤◌, Bool, true, List, length, Contains, is_some, refl, sym, ap, subst, ◌∙◌, arith}
+use Rattle.std.proofs.Common.{◌≡◌, ◌⊎◌, ◌↔◌, inl, inr, ℕ, ◌≤◌, true, length, Contains, is_some, refl, sym, ap, subst, ◌∙◌, arith}
 use Rattle.std.proofs.lemmas.List.Elements.{All-contains}
 use Rattle.charlotte_calls.specs.Names.{opposite}
 use Rattle.charlotte_calls.specs.declared.names.EndId.{EndId}
@@ -31,9 +31,9 @@ use Rattle.world_effects.proofs.Lists.{All-there}
 use Rattle.world_law.proofs.Rested.{IsRested, IsRestedEntry, IsRestedView, asked-was, here-was, mark-was, rest-inward, rest-living, rest-matched, rest-open, rest-outward, rest-taken, rested-asked, rested-here, rested-is_here, rested-names, rested-nothing, rested-value, rested-waiting, rested-withdrawing, rested-withdraws, view-was, waiting-was, withdraws-was}
 use Rattle.world_meaning.proofs.Sums.{over-same}
 use Rattle.world_meaning.specs.Fields.{Stand, At, Flying, HasFields, IsAskedAs, IsHeard, IsUnserved}
-use Rattle.world_meaning.specs.Invariant.{AreAsked, AreCancelling, AreCounted, AreMarked, AreNamed, AreRight, AreSentOnce, AreWanted, IsFew, IsHereIfLiving, IsHonest, IsPacketRight, IsServed, IsUnwantedOnce, is_message_of, is_taken_of, is_unwanted_to}
-use Rattle.world_meaning.specs.Packets.{Each, IsBackOf, IsParcelFor, IsParcelOf, IsTakenOf, IsUnderWay, IsUnwantedOf, Links, how_many, one_if, over_kernels, sum_over, values_for, values_of}
-use Rattle.world_meaning.specs.StandsFor.{AreLinksOf, IsEndOf, IsInMessage, IsInwardOf, IsOutwardOf, IsOwnedHere, IsWaitingWith, entry_at, home_of, standing}
+use Rattle.world_meaning.specs.Invariant.{AreAsked, AreCounted, AreMarked, AreNamed, AreRight, AreSentOnce, AreWanted, IsPacketRight, IsServed, IsUnwantedOnce, is_message_of, is_taken_of, is_unwanted_to}
+use Rattle.world_meaning.specs.Packets.{Each, IsParcelFor, IsTakenOf, IsUnderWay, IsUnwantedOf, Links, how_many, one_if, over_kernels, sum_over, values_for, values_of}
+use Rattle.world_meaning.specs.StandsFor.{AreLinksOf, IsEndOf, IsInMessage, IsInwardOf, IsOutwardOf, IsWaitingWith, entry_at, home_of, standing}
 
 -- the kernel's view and the service's end rest in the same way
 pub record AreTogether (v u : HereView) (x z : End) : Type 0 where

@@ -5,4 +5,5 @@ pub mod Calm
 pub mod Waits
 pub mod Rested
 pub mod Given
+pub mod Reports
 pub mod Run

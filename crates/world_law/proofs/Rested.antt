@@ -1,5 +1,5 @@
 -- Once a report is given, its way of its end is idle, at the kernel and in the service: what is the same of the end.
-use Rattle.std.proofs.Common.{◌≡◌, ◌⊎◌, inl, inr, ℕ, true, false, ◌&&◌, if◌then◌else◌, Some, refl, sym, ap, subst, ◌∙◌, true≢false}
+use Rattle.std.proofs.Common.{◌≡◌, ◌⊎◌, inl, inr, ℕ, true, false, ◌&&◌, if◌then◌else◌, Some, refl, sym, ap, subst, ◌∙◌}
 use Rattle.charlotte_calls.specs.Packets.{names_kernels_below}
 use Rattle.charlotte_calls.specs.declared.names.Way.{Way}
 use Rattle.charlotte_calls.specs.declared.names.Way.TheVariants as way
@@ -27,6 +27,19 @@ use Rattle.world_meaning.specs.Fields.{IsAskedAs, value_of}
 use Rattle.world_meaning.specs.Invariant.{NamesBelow}
 use Rattle.world_meaning.specs.StandsFor.{IsWaitingWith}
 
+-- an activity is the same, or was over and is idle
+abbrev pub IsIdled : {X : Type 0} → X → X → X → X → Type 0
+IsIdled over idle x z = (z ≡ x) ⊎ ((x ≡ over) × (z ≡ idle))
+
+-- what goes over from one that is over to one that is idle, and back
+idled : {X : Type 0} {over idle x z : X} → IsIdled over idle x z → (P : X → Type 0) → (P over → P idle) → P x → P z
+idled (inl same) P goes has = subst P (sym same) has
+idled (inr o) P goes has = subst P (sym o.1) (goes (subst P o.0 has))
+
+was-idled : {X : Type 0} {over idle x z : X} → IsIdled over idle x z → (P : X → Type 0) → (P idle → P over) → P z → P x
+was-idled (inl same) P goes has = subst P same has
+was-idled (inr o) P goes has = subst P (sym o.0) (goes (subst P o.1 has))
+
 -- ---- in the service
 
 -- a way that was over may be idle, and all else is the same
@@ -34,24 +47,16 @@ pub record IsRested (x z : End) : Type 0 where
   pub place : z.place ≡ x.place
   pub sent : z.sent ≡ x.sent
   pub noticed : z.noticed ≡ x.noticed
-  pub outward : (z.outward ≡ x.outward) ⊎ ((x.outward ≡ outward.Reported) × (z.outward ≡ outward.Idle))
-  pub inward : (z.inward ≡ x.inward) ⊎ ((x.inward ≡ inward.Reported) × (z.inward ≡ inward.Idle))
+  pub outward : IsIdled outward.Reported outward.Idle x.outward z.outward
+  pub inward : IsIdled inward.Reported inward.Idle x.inward z.inward
 
 module _ (x z : End) (r : IsRested x z) where
   -- what is the same of an activity that is over and of one that is idle
   pub rest-outward : {X : Type 0} (f : Outward → X) → f outward.Idle ≡ f outward.Reported → f z.outward ≡ f x.outward
-  rest-outward {X} f idle = by r.outward
-    where
-      by : (z.outward ≡ x.outward) ⊎ ((x.outward ≡ outward.Reported) × (z.outward ≡ outward.Idle)) → f z.outward ≡ f x.outward
-      by (inl same) = ap f same
-      by (inr o) = ap f o.1 ∙ idle ∙ sym (ap f o.0)
+  rest-outward f idle = idled r.outward (λ o. f o ≡ f x.outward) (λ was. idle ∙ was) refl
 
   pub rest-inward : {X : Type 0} (f : Inward → X) → f inward.Idle ≡ f inward.Reported → f z.inward ≡ f x.inward
-  rest-inward {X} f idle = by r.inward
-    where
-      by : (z.inward ≡ x.inward) ⊎ ((x.inward ≡ inward.Reported) × (z.inward ≡ inward.Idle)) → f z.inward ≡ f x.inward
-      by (inl same) = ap f same
-      by (inr o) = ap f o.1 ∙ idle ∙ sym (ap f o.0)
+  rest-inward f idle = idled r.inward (λ i. f i ≡ f x.inward) (λ was. idle ∙ was) refl
 
   pub rest-living : is_living z.place ≡ is_living x.place
   rest-living = ap is_living r.place
@@ -60,18 +65,10 @@ module _ (x z : End) (r : IsRested x z) where
   rest-open = λ i. is_living (r.place i) && (if r.noticed i then false else true)
 
   pub rest-matched : (m : Message) → x.outward ≡ outward.Matched m → z.outward ≡ outward.Matched m
-  rest-matched m is = by r.outward
-    where
-      by : (z.outward ≡ x.outward) ⊎ ((x.outward ≡ outward.Reported) × (z.outward ≡ outward.Idle)) → z.outward ≡ outward.Matched m
-      by (inl same) = same ∙ is
-      by (inr o) = absurd (let no : outward.Reported ≡ outward.Matched m = sym o.0 ∙ is in cc)
+  rest-matched m = idled r.outward (λ o. o ≡ outward.Matched m) (λ no. absurd cc)
 
   pub rest-taken : x.outward ≡ outward.Taken → z.outward ≡ outward.Taken
-  rest-taken is = by r.outward
-    where
-      by : (z.outward ≡ x.outward) ⊎ ((x.outward ≡ outward.Reported) × (z.outward ≡ outward.Idle)) → z.outward ≡ outward.Taken
-      by (inl same) = same ∙ is
-      by (inr o) = absurd (let no : outward.Reported ≡ outward.Taken = sym o.0 ∙ is in cc)
+  rest-taken = idled r.outward (λ o. o ≡ outward.Taken) (λ no. absurd cc)
 
 -- ---- at a kernel
 
@@ -79,8 +76,8 @@ module _ (x z : End) (r : IsRested x z) where
 pub record IsRestedView (v u : HereView) : Type 0 where
   pub value : u.value ≡ v.value
   pub holder : u.holder ≡ v.holder
-  pub outward : (u.outward ≡ v.outward) ⊎ ((v.outward ≡ kernel_outward.Unreported) × (u.outward ≡ kernel_outward.Idle))
-  pub inward : (u.inward ≡ v.inward) ⊎ ((v.inward ≡ kernel_inward.Unreported) × (u.inward ≡ kernel_inward.Idle))
+  pub outward : IsIdled kernel_outward.Unreported kernel_outward.Idle v.outward u.outward
+  pub inward : IsIdled kernel_inward.Unreported kernel_inward.Idle v.inward u.inward
 
 pub IsRestedView-same : (v : HereView) → IsRestedView v v
 IsRestedView-same v = record { value = refl; holder = refl; outward = inl refl; inward = inl refl }
@@ -98,57 +95,29 @@ IsRestedEntry x y = (y ≡ x) ⊎ IsRestedHere x y
 
 module _ (v u : HereView) (r : IsRestedView v u) where
   pub rested-waiting : (n : ℕ) → IsWaitingWith n v.outward → IsWaitingWith n u.outward
-  rested-waiting n has = by r.outward
-    where
-      by : (u.outward ≡ v.outward) ⊎ ((v.outward ≡ kernel_outward.Unreported) × (u.outward ≡ kernel_outward.Idle)) → IsWaitingWith n u.outward
-      by (inl same) = subst (IsWaitingWith n) (sym same) has
-      by (inr o) = absurd (subst (IsWaitingWith n) o.0 has)
+  rested-waiting n = idled r.outward (IsWaitingWith n) (λ no. no)
 
   pub waiting-was : (n : ℕ) → IsWaitingWith n u.outward → IsWaitingWith n v.outward
-  waiting-was n has = by r.outward
-    where
-      by : (u.outward ≡ v.outward) ⊎ ((v.outward ≡ kernel_outward.Unreported) × (u.outward ≡ kernel_outward.Idle)) → IsWaitingWith n v.outward
-      by (inl same) = subst (IsWaitingWith n) same has
-      by (inr o) = absurd (subst (IsWaitingWith n) o.1 has)
+  waiting-was n = was-idled r.outward (IsWaitingWith n) (λ no. no)
 
   pub rested-asked : (n : ℕ) → IsAskedAs n v.inward → IsAskedAs n u.inward
-  rested-asked n asked = by r.inward
-    where
-      by : (u.inward ≡ v.inward) ⊎ ((v.inward ≡ kernel_inward.Unreported) × (u.inward ≡ kernel_inward.Idle)) → IsAskedAs n u.inward
-      by (inl same) = subst (IsAskedAs n) (sym same) asked
-      by (inr o) = absurd (subst (IsAskedAs n) o.0 asked)
+  rested-asked n = idled r.inward (IsAskedAs n) (λ no. no)
 
   pub asked-was : (n : ℕ) → IsAskedAs n u.inward → IsAskedAs n v.inward
-  asked-was n asked = by r.inward
-    where
-      by : (u.inward ≡ v.inward) ⊎ ((v.inward ≡ kernel_inward.Unreported) × (u.inward ≡ kernel_inward.Idle)) → IsAskedAs n v.inward
-      by (inl same) = subst (IsAskedAs n) same asked
-      by (inr o) = absurd (subst (IsAskedAs n) o.1 asked)
+  asked-was n = was-idled r.inward (IsAskedAs n) (λ no. no)
 
   pub rested-withdraws : (n : ℕ) → v.inward ≡ kernel_inward.Withdrawing n → u.inward ≡ kernel_inward.Withdrawing n
-  rested-withdraws n is = by r.inward
-    where
-      by : (u.inward ≡ v.inward) ⊎ ((v.inward ≡ kernel_inward.Unreported) × (u.inward ≡ kernel_inward.Idle)) → u.inward ≡ kernel_inward.Withdrawing n
-      by (inl same) = same ∙ is
-      by (inr o) = absurd (let no : kernel_inward.Unreported ≡ kernel_inward.Withdrawing n = sym o.0 ∙ is in cc)
+  rested-withdraws n = idled r.inward (λ i. i ≡ kernel_inward.Withdrawing n) (λ no. absurd cc)
 
   pub withdraws-was : (n : ℕ) → u.inward ≡ kernel_inward.Withdrawing n → v.inward ≡ kernel_inward.Withdrawing n
-  withdraws-was n is = by r.inward
-    where
-      by : (u.inward ≡ v.inward) ⊎ ((v.inward ≡ kernel_inward.Unreported) × (u.inward ≡ kernel_inward.Idle)) → v.inward ≡ kernel_inward.Withdrawing n
-      by (inl same) = sym same ∙ is
-      by (inr o) = absurd (let no : kernel_inward.Idle ≡ kernel_inward.Withdrawing n = sym o.1 ∙ is in cc)
+  withdraws-was n = was-idled r.inward (λ i. i ≡ kernel_inward.Withdrawing n) (λ no. absurd cc)
 
   pub rested-withdrawing : is_withdrawing v.inward ≡ true → is_withdrawing u.inward ≡ true
-  rested-withdrawing is = by r.inward
-    where
-      by : (u.inward ≡ v.inward) ⊎ ((v.inward ≡ kernel_inward.Unreported) × (u.inward ≡ kernel_inward.Idle)) → is_withdrawing u.inward ≡ true
-      by (inl same) = ap is_withdrawing same ∙ is
-      by (inr o) = absurd (true≢false (sym is ∙ ap is_withdrawing o.0))
+  rested-withdrawing = idled r.inward (λ i. is_withdrawing i ≡ true) (λ no. no)
 
 -- ---- an entry
 
-one-view : (v u : HereView) → entry.Here v ≡ entry.Here u → v ≡ u
+pub one-view : (v u : HereView) → entry.Here v ≡ entry.Here u → v ≡ u
 one-view v u same = cc
 
 -- what is true of an end that is here
@@ -196,13 +165,13 @@ rested-names n x y (inr r) names = subst (NamesBelow n) (sym r.is) (subst (λ m.
 
 -- ---- what a kernel does
 
-outward-rested : (o : KernelOutward) → (outward_reported o ≡ o) ⊎ ((o ≡ kernel_outward.Unreported) × (outward_reported o ≡ kernel_outward.Idle))
+outward-rested : (o : KernelOutward) → IsIdled kernel_outward.Unreported kernel_outward.Idle o (outward_reported o)
 outward-rested kernel_outward.Idle = inl refl
 outward-rested (kernel_outward.Waiting n bytes xs) = inl refl
 outward-rested (kernel_outward.Matched n) = inl refl
 outward-rested kernel_outward.Unreported = inr (refl, refl)
 
-inward-rested : (i : KernelInward) → (inward_reported i ≡ i) ⊎ ((i ≡ kernel_inward.Unreported) × (inward_reported i ≡ kernel_inward.Idle))
+inward-rested : (i : KernelInward) → IsIdled kernel_inward.Unreported kernel_inward.Idle i (inward_reported i)
 inward-rested kernel_inward.Idle = inl refl
 inward-rested (kernel_inward.Posted w) = inl refl
 inward-rested (kernel_inward.Withdrawing w) = inl refl

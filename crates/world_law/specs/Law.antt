@@ -4,7 +4,6 @@ use Rattle.std.specs.Prelude.{◌≡◌, ◌⊎◌, List, [], ◌∷◌, ◌++�
 use Rattle.charlotte_calls.specs.declared.calls.Call.{Call}
 use Rattle.charlotte_calls.specs.declared.calls.Call.TheVariants as call
 use Rattle.charlotte_calls.specs.declared.calls.Cause.{Cause}
-use Rattle.charlotte_calls.specs.declared.calls.Report.{Report}
 use Rattle.charlotte_calls.specs.declared.calls.ServiceStep.{ServiceStep}
 use Rattle.charlotte_calls.specs.declared.names.EndId.{EndId}
 use Rattle.charlotte_calls.specs.declared.picture.Picture.{Picture}
@@ -52,12 +51,12 @@ pub record IsServedLawfully (g : Setting) (es : List Event) : Type 0 where
 
 -- ---- as far as it is proved
 
--- calls that are refused, a Print, and a Wait that finds no report; rs are the reports of the caller
-abbrev pub IsCoveredCall : List Report → Option Cause → Call → Type 0
-IsCoveredCall rs (Some cause) c = Unit {0}
-IsCoveredCall rs None (call.Print bytes) = Unit {0}
-IsCoveredCall rs None call.Wait = rs ≡ []
-IsCoveredCall rs None _ = ⊥
+-- calls that are refused, a Print, and a Wait
+abbrev pub IsCoveredCall : Option Cause → Call → Type 0
+IsCoveredCall (Some cause) c = Unit {0}
+IsCoveredCall None (call.Print bytes) = Unit {0}
+IsCoveredCall None call.Wait = Unit {0}
+IsCoveredCall None _ = ⊥
 
 -- the taking of a packet that means nothing to the service: by the entry of the end that it is addressed to it tells nothing new, or
 -- no more than where the opposite end is
@@ -66,7 +65,7 @@ IsCoveredTaking table [] = ⊥
 IsCoveredTaking table (q ∷ others) = IsSilentAt q.what (table (addressee q.what)) ⊎ IsLearnedAt q.what (table (addressee q.what))
 
 abbrev pub IsCovered : World → Event → Type 0
-IsCovered w (Calls k p c mine) = IsCoveredCall (process_of p (w.kernel k)).reports (refusal p (w.kernel k).table (w.kernel k).made mine (has_report (process_of p (w.kernel k))) c) c
+IsCovered w (Calls k p c mine) = IsCoveredCall (refusal p (w.kernel k).table (w.kernel k).made mine (has_report (process_of p (w.kernel k))) c) c
 IsCovered w (Takes k from) = IsCoveredTaking (w.kernel k).table (w.packets from k)
 
 -- each of these events, in the world that those before it leave
