@@ -1,37 +1,42 @@
 -- The service goes with a run, event by event.
-use Rattle.std.proofs.Common.{◌≡◌, ◌≢◌, ℕ, ◌+◌, ◌<◌, Bool, true, false, nat_eq, cond, IsTrue, List, [], ◌∷◌, ◌++◌, map, length, slice_index, Option, Some, None, refl, sym, ap, subst, ◌∙◌, append_assoc, append-nil}
+use Rattle.std.proofs.Common.{◌≡◌, inl, inr, ℕ, ◌+◌, ◌<◌, Bool, true, false, nat_eq, cond, IsTrue, List, [], ◌∷◌, ◌++◌, length, slice_index, Option, Some, None, refl, sym, ap, subst, ◌∙◌}
 use Rattle.charlotte_calls.specs.Setting.{IsValid}
 use Rattle.charlotte_calls.specs.declared.calls.Answer.{Answer}
 use Rattle.charlotte_calls.specs.declared.calls.Answer.TheVariants as answer
 use Rattle.charlotte_calls.specs.declared.calls.Call.{Call}
 use Rattle.charlotte_calls.specs.declared.calls.Call.TheVariants as call
 use Rattle.charlotte_calls.specs.declared.calls.Cause.{Cause}
+use Rattle.charlotte_calls.specs.declared.calls.Report.{Report}
 use Rattle.charlotte_calls.specs.declared.calls.ServiceStep.{ServiceStep}
 use Rattle.charlotte_calls.specs.declared.calls.ServiceStep.TheVariants as step
 use Rattle.charlotte_calls.specs.declared.names.EndId.{EndId}
 use Rattle.charlotte_calls.specs.declared.names.Pid.{Pid}
+use Rattle.charlotte_calls.specs.declared.picture.Picture.{Picture}
 use Rattle.charlotte_calls.specs.declared.setting.Setting.{Setting}
 use Rattle.kernel_step.specs.Calls.{refusal, IsCallWith}
 use Rattle.kernel_step.specs.Kernel.{Kernel, Outcome, Process as KernelProcess, begins, call_step, closes, decides, granted, has_report, join_answers, join_reports, next_stamp, performs, process_of, refuses, without_answer}
 use Rattle.kernel_step.specs.Progress.{means}
 use Rattle.kernel_step.specs.declared.phase.Phase.TheVariants as kernel_phase
 use Rattle.kernel_world.specs.Run.{IsAllowed, AreAllowed, IsRun}
-use Rattle.kernel_world.specs.World.{World, Event, Calls, Takes, happens, outcome, start}
+use Rattle.kernel_world.specs.World.{World, Event, Calls, Takes, happens, start}
 use Rattle.service_step.specs.Run.{IsRunFrom, state_after, start_state}
 use Rattle.service_step.specs.Causes.{IsRefusedFor}
-use Rattle.service_step.specs.Steps.{runs}
+use Rattle.service_step.specs.Steps.{IsServiceStep, runs}
 use Rattle.service_step.specs.declared.state.Phase.TheVariants as phase
 use Rattle.end_table.specs.Owned.{AreEndsOf}
 use Rattle.service_step.specs.State.{State}
 use Rattle.service_runs.proofs.Lawful.{runs_are_lawful}
 use Rattle.service_lawful.proofs.Turned.{turned}
+use Rattle.silent_events.proofs.Hearing.{hearing-goes}
+use Rattle.silent_events.proofs.Taking.{taking-goes}
 use Rattle.world_meaning.proofs.Goes.{Goes}
 use Rattle.world_law.proofs.Calm.{IsAnswered, answered-invariant}
 use Rattle.world_law.proofs.Refused.{IsCaller, caller-process, caller-runs, refused-for, wait-granted}
+use Rattle.world_law.proofs.Reports.{reports-goes, telling-is}
 use Rattle.world_law.proofs.Start.{starts-well}
 use Rattle.world_law.proofs.Waits.{IsWaiting, wait-is, waits-invariant}
 use Rattle.world_meaning.specs.Invariant.{Invariant}
-use Rattle.world_law.specs.Law.{GoesWithEach, joined, IsServedLawfully, IsCovered, IsCoveredCall, AreCovered}
+use Rattle.world_law.specs.Law.{GoesWithEach, joined, IsServedLawfully, IsCovered, IsCoveredCall, IsCoveredTaking, AreCovered}
 use Rattle.world_meaning.specs.StandsFor.{home_of, service_phase}
 
 -- ---- calls that only answer their process
@@ -114,25 +119,29 @@ module _ (i : ℕ) (w : World) (s : State) (k : ℕ) (p : Pid) (mine : List EndI
       did : call_step (without_answer p (w.kernel k)) p mine c ≡ refuses p (without_answer p (w.kernel k)) c cause (begins (without_answer p (w.kernel k)) (next_stamp (w.kernel k).stamp))
       did = refused-is (w.kernel k) p mine c cause refused
 
+  -- a Wait that its kernel does not refuse is allowed in the service
+  wait-step : IsCaller w s p k mine → AreEndsOf p (w.kernel k).table mine → refusal p (w.kernel k).table (w.kernel k).made mine (has_report (process_of p (w.kernel k))) call.Wait ≡ None → IsServiceStep s (step.Wait p) (turned s p phase.Waiting)
+  wait-step calls ends granted = record { allowed = (caller-runs w s p k mine is.stands calls, wait-granted i w s p k mine is calls ends granted); after = refl }
+
+  ran : IsCaller w s p k mine → (s.process p.0).phase ≡ phase.Running
+  ran calls = (caller-process w s p k mine is.stands calls).phase ∙ ap service_phase calls.running
+
   goes-wait : IsCaller w s p k mine → AreEndsOf p (w.kernel k).table mine → refusal p (w.kernel k).table (w.kernel k).made mine (has_report (process_of p (w.kernel k))) call.Wait ≡ None → (process_of p (w.kernel k)).reports ≡ []
       → Goes i w s (Calls k p call.Wait mine)
   goes-wait calls ends granted none =
+      let does : IsWaiting (w.kernel k) p (call_step (without_answer p (w.kernel k)) p mine call.Wait) = wait-is (w.kernel k) p mine granted none in
       record {
         part = (step.Wait p, turned s p phase.Waiting) ∷ [];
         steps = sym does.steps;
-        run = (record { allowed = (caller-runs w s p k mine is.stands calls, wait-granted i w s p k mine is calls ends granted); after = refl }, tt);
-        after = waits-invariant i w s k p mine is does calls.below calls.at ran none;
+        run = (wait-step calls ends granted, tt);
+        after = waits-invariant i w s k p mine is does calls.below calls.at (ran calls) none;
         homes = refl;
       }
-    where
-      does : IsWaiting (w.kernel k) p (call_step (without_answer p (w.kernel k)) p mine call.Wait)
-      does = wait-is (w.kernel k) p mine granted none
 
-      ran : (s.process p.0).phase ≡ phase.Running
-      ran = (caller-process w s p k mine is.stands calls).phase ∙ ap service_phase calls.running
-
-      lives : phase.Waiting ≢ phase.Ended
-      lives same = cc
+  goes-report : IsCaller w s p k mine → AreEndsOf p (w.kernel k).table mine → refusal p (w.kernel k).table (w.kernel k).made mine (has_report (process_of p (w.kernel k))) call.Wait ≡ None
+      → (r : Report) (rs : List Report) → (process_of p (w.kernel k)).reports ≡ r ∷ rs → Goes i w s (Calls k p call.Wait mine)
+  goes-report calls ends granted r rs front =
+      reports-goes i w s k p mine r rs is (telling-is (w.kernel k) p mine r rs granted front) calls.below calls.at (ran calls) front (wait-step calls ends granted)
 
 -- ---- all events of a run
 
@@ -148,7 +157,12 @@ record GoesOn (w : World) (s : State) (es : List Event) : Type 0 where
 
 -- the service goes with an event that is covered
 goes-event : (g : Setting) (i : ℕ) (w : World) (s : State) (e : Event) → Invariant i w s → s.homes ≡ g.homes → IsAllowed g w e → IsCovered w e → Goes i w s e
-goes-event g i w s (Takes k from) is homes allowed covered = absurd covered
+goes-event g i w s (Takes k from) is homes allowed covered = by (w.packets from k) refl covered
+  where
+    by : (qs : List Picture) → w.packets from k ≡ qs → IsCoveredTaking (w.kernel k).table qs → Goes i w s (Takes k from)
+    by [] there covered = absurd covered
+    by (q ∷ others) there (inl silent) = taking-goes i w s is k from q others there silent
+    by (q ∷ others) there (inr heard) = hearing-goes i w s is k from q others there heard
 goes-event g i w s (Calls k p c mine) is homes allowed covered = by c (refusal p (w.kernel k).table (w.kernel k).made mine (has_report (process_of p (w.kernel k))) c) refl covered
   where
     below : p.0 < length s.homes
@@ -166,18 +180,22 @@ goes-event g i w s (Calls k p c mine) is homes allowed covered = by c (refusal p
     refused : (c : Call) (cause : Cause) → IsCallWith p (w.kernel k).table mine c → refusal p (w.kernel k).table (w.kernel k).made mine (has_report (process_of p (w.kernel k))) c ≡ Some cause → Goes i w s (Calls k p c mine)
     refused c cause with_mine is_refused = goes-refused i w s k p mine is running c cause is_refused (caller-runs w s p k mine is.stands calls) (refused-for i w s p k mine is calls c cause with_mine is_refused)
 
-    by : (d : Call) (r : Option Cause) → refusal p (w.kernel k).table (w.kernel k).made mine (has_report (process_of p (w.kernel k))) c ≡ r → IsCoveredCall (process_of p (w.kernel k)).reports r c → Goes i w s (Calls k p c mine)
+    by : (d : Call) (r : Option Cause) → refusal p (w.kernel k).table (w.kernel k).made mine (has_report (process_of p (w.kernel k))) c ≡ r → IsCoveredCall r c → Goes i w s (Calls k p c mine)
     by d (Some cause) is_refused in_is = refused c cause allowed.4 is_refused
     by d None is_granted in_is = granted_is c allowed.4 is_granted in_is
       where
-        granted_is : (c : Call) → IsCallWith p (w.kernel k).table mine c → refusal p (w.kernel k).table (w.kernel k).made mine (has_report (process_of p (w.kernel k))) c ≡ None → IsCoveredCall (process_of p (w.kernel k)).reports None c → Goes i w s (Calls k p c mine)
+        granted_is : (c : Call) → IsCallWith p (w.kernel k).table mine c → refusal p (w.kernel k).table (w.kernel k).made mine (has_report (process_of p (w.kernel k))) c ≡ None → IsCoveredCall None c → Goes i w s (Calls k p c mine)
         granted_is (call.Print bytes) ends granted in_is = goes-print i w s k p mine is running bytes
         granted_is call.Make ends granted in_is = absurd in_is
         granted_is (call.Destroy on) ends granted in_is = absurd in_is
         granted_is (call.Send on bytes xs) ends granted in_is = absurd in_is
         granted_is (call.Receive on) ends granted in_is = absurd in_is
         granted_is (call.Cancel on way) ends granted in_is = absurd in_is
-        granted_is call.Wait ends granted in_is = goes-wait i w s k p mine is running calls ends granted in_is
+        granted_is call.Wait ends granted in_is = waited (process_of p (w.kernel k)).reports refl
+          where
+            waited : (rs : List Report) → (process_of p (w.kernel k)).reports ≡ rs → Goes i w s (Calls k p call.Wait mine)
+            waited [] none = goes-wait i w s k p mine is running calls ends granted none
+            waited (r ∷ rs) front = goes-report i w s k p mine is running calls ends granted r rs front
         granted_is call.Exit ends granted in_is = absurd in_is
 
 goes-on : (g : Setting) (i : ℕ) (w : World) (s : State) (es : List Event) → Invariant i w s → s.homes ≡ g.homes → AreAllowed g w es → AreCovered w es → GoesOn w s es

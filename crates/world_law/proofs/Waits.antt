@@ -90,7 +90,8 @@ waits-is k p stamp =
           ∙ alone (nat_eq p.0 q) (k.process p.0) (k.process q);
     }
 
-same-list : (k : Kernel) (p : Pid) → (process_of p (without_answer p k)).reports ≡ (process_of p k).reports
+-- taking away a standing answer leaves the reports
+pub same-list : (k : Kernel) (p : Pid) → (process_of p (without_answer p k)).reports ≡ (process_of p k).reports
 same-list k p = by (nat_eq p.0 p.0)
   where
     by : (b : Bool) → (cond b (record (k.process p.0) { answer = None }) (k.process p.0)).reports ≡ (k.process p.0).reports

@@ -1,18 +1,22 @@
 -- What is claimed of a run: its events are, by their service steps, a lawful run of the link service, and the world stands for the
 -- state of the service after each of them.
-use Rattle.std.specs.Prelude.{◌≡◌, List, [], ◌∷◌, ◌++◌, map, Option, Some, None}
+use Rattle.std.specs.Prelude.{◌≡◌, ◌⊎◌, List, [], ◌∷◌, ◌++◌, map, Option, Some, None}
 use Rattle.charlotte_calls.specs.declared.calls.Call.{Call}
 use Rattle.charlotte_calls.specs.declared.calls.Call.TheVariants as call
 use Rattle.charlotte_calls.specs.declared.calls.Cause.{Cause}
-use Rattle.charlotte_calls.specs.declared.calls.Report.{Report}
 use Rattle.charlotte_calls.specs.declared.calls.ServiceStep.{ServiceStep}
+use Rattle.charlotte_calls.specs.declared.names.EndId.{EndId}
+use Rattle.charlotte_calls.specs.declared.picture.Picture.{Picture}
 use Rattle.charlotte_calls.specs.declared.setting.Setting.{Setting}
+use Rattle.end_table.specs.declared.entry.Entry.{Entry}
+use Rattle.kernel_sound.specs.Sound.{addressee}
 use Rattle.kernel_step.specs.Calls.{refusal}
 use Rattle.kernel_step.specs.Kernel.{process_of, has_report}
 use Rattle.kernel_world.specs.World.{World, Event, Calls, Takes, happens, outcome, start}
 use Rattle.service_step.specs.Lawful.{IsLawful}
 use Rattle.service_step.specs.Run.{IsRunFrom, IsServiceRun, state_after, start_state}
 use Rattle.service_step.specs.State.{State}
+use Rattle.silent_events.specs.Silent.{IsLearnedAt, IsSilentAt}
 use Rattle.world_meaning.specs.StandsFor.{StandsFor}
 
 -- the service goes with an event: its steps are allowed one after the other, and then the world stands for the state that they leave
@@ -47,16 +51,22 @@ pub record IsServedLawfully (g : Setting) (es : List Event) : Type 0 where
 
 -- ---- as far as it is proved
 
--- calls that are refused, a Print, and a Wait that finds no report; rs are the reports of the caller
-abbrev pub IsCoveredCall : List Report → Option Cause → Call → Type 0
-IsCoveredCall rs (Some cause) c = Unit {0}
-IsCoveredCall rs None (call.Print bytes) = Unit {0}
-IsCoveredCall rs None call.Wait = rs ≡ []
-IsCoveredCall rs None _ = ⊥
+-- calls that are refused, a Print, and a Wait
+abbrev pub IsCoveredCall : Option Cause → Call → Type 0
+IsCoveredCall (Some cause) c = Unit {0}
+IsCoveredCall None (call.Print bytes) = Unit {0}
+IsCoveredCall None call.Wait = Unit {0}
+IsCoveredCall None _ = ⊥
+
+-- the taking of a packet that means nothing to the service: by the entry of the end that it is addressed to it tells nothing new, or
+-- no more than where the opposite end is
+abbrev pub IsCoveredTaking : (EndId → Entry) → List Picture → Type 0
+IsCoveredTaking table [] = ⊥
+IsCoveredTaking table (q ∷ others) = IsSilentAt q.what (table (addressee q.what)) ⊎ IsLearnedAt q.what (table (addressee q.what))
 
 abbrev pub IsCovered : World → Event → Type 0
-IsCovered w (Calls k p c mine) = IsCoveredCall (process_of p (w.kernel k)).reports (refusal p (w.kernel k).table (w.kernel k).made mine (has_report (process_of p (w.kernel k))) c) c
-IsCovered w (Takes k from) = ⊥
+IsCovered w (Calls k p c mine) = IsCoveredCall (refusal p (w.kernel k).table (w.kernel k).made mine (has_report (process_of p (w.kernel k))) c) c
+IsCovered w (Takes k from) = IsCoveredTaking (w.kernel k).table (w.packets from k)
 
 -- each of these events, in the world that those before it leave
 abbrev pub AreCovered : World → List Event → Type 0
