@@ -51,7 +51,7 @@ call-sound k made n t p mine reported c sound below granted ends covers =
 
 module _ {w v : World} {c : Change} (becomes : Becomes w c v) (s : State) where
   -- what is kept of each kernel's state at the kernel of the event is kept at each
-  kernel-same : {X : Type 0} (part : Kernel → X) → part (v.kernel c.kernel) ≡ part (w.kernel c.kernel) → (k : ℕ) → part (v.kernel k) ≡ part (w.kernel k)
+  pub kernel-same : {X : Type 0} (part : Kernel → X) → part (v.kernel c.kernel) ≡ part (w.kernel c.kernel) → (k : ℕ) → part (v.kernel k) ≡ part (w.kernel k)
   kernel-same part own k = by (eqb_tells k c.kernel)
     where
       by : ((nat_eq k c.kernel ≡ true) × (k ≡ c.kernel)) ⊎ ((nat_eq k c.kernel ≡ false) × (k ≢ c.kernel)) → part (v.kernel k) ≡ part (w.kernel k)
