@@ -3,3 +3,7 @@ pub mod Posting
 pub mod PostedLinks
 pub mod PostedClauses
 pub mod Receives
+pub mod Making
+pub mod MadeLinks
+pub mod MadeClauses
+pub mod Makes
