@@ -1,6 +1,6 @@
 -- What a call that is granted and answered at once leaves of kernels and processes: tables stay sound, and processes are as the service
 -- has them.
-use Rattle.std.proofs.Common.{◌≡◌, ◌≢◌, ◌⊎◌, inl, inr, ℕ, ◌<◌, ◌≤◌, Bool, true, false, nat_eq, if◌then◌else◌, All, List, [], length, Some, None, slice_index, refl, sym, ap, subst, ◌∙◌}
+use Rattle.std.proofs.Common.{◌≡◌, ◌≢◌, ◌⊎◌, inl, inr, ℕ, ◌<◌, ◌≤◌, Bool, true, false, nat_eq, if◌then◌else◌, All, List, [], length, None, slice_index, refl, sym, ap, subst, ◌∙◌}
 use Rattle.std.proofs.lemmas.Bool.Decides.{eqb_tells}
 use Rattle.charlotte_calls.specs.declared.calls.Answer.{Answer}
 use Rattle.charlotte_calls.specs.declared.calls.Call.{Call}
@@ -16,7 +16,7 @@ use Rattle.kernel_sound.proofs.Goes.{GoesWell}
 use Rattle.kernel_sound.specs.Acts.{acts, made_after}
 use Rattle.kernel_sound.specs.Sound.{IsSound}
 use Rattle.kernel_step.specs.Calls.{IsCallWith, refusal}
-use Rattle.kernel_step.specs.Kernel.{Kernel, Process}
+use Rattle.kernel_step.specs.Kernel.{Kernel}
 use Rattle.kernel_step.specs.Progress.{Progress}
 use Rattle.kernel_step.specs.declared.phase.Phase.TheVariants as kernel_phase
 use Rattle.kernel_world.specs.World.{World}

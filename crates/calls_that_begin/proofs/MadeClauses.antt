@@ -1,6 +1,5 @@
 -- After a granted Make all clauses on links are true again.
-use Rattle.std.proofs.Common.{◌≡◌, ◌⊎◌, inl, inr, ℕ, ◌+◌, ◌<◌, ◌≤◌, Bool, true, false, Contains, length, slice_index, is_some, refl, sym, ap, subst, ◌∙◌, arith, length-set}
-use Rattle.std.proofs.lemmas.List.Elements.{All-contains}
+use Rattle.std.proofs.Common.{◌≡◌, ◌⊎◌, inl, inr, ℕ, ◌+◌, ◌<◌, ◌≤◌, Bool, true, Contains, length, slice_index, is_some, refl, sym, ap, subst, ◌∙◌, arith, length-set}
 use Rattle.charlotte_calls.specs.Moving.{new_end}
 use Rattle.charlotte_calls.specs.Names.{opposite}
 use Rattle.charlotte_calls.specs.declared.names.EndId.{EndId}
@@ -12,27 +11,23 @@ use Rattle.end_table.specs.Table.{IsHereAnd}
 use Rattle.end_table.specs.declared.entry.Entry.{Entry}
 use Rattle.end_table.specs.declared.entry.Entry.TheVariants as entry
 use Rattle.end_table.specs.declared.entry.HereView.{HereView}
-use Rattle.end_table.specs.declared.entry.Holder.TheVariants as holder
-use Rattle.end_table.specs.declared.entry.Inward.TheVariants as kernel_inward
 use Rattle.kernel_effects.specs.Calls.{make_effect}
 use Rattle.kernel_sound.specs.Sound.{addressee}
 use Rattle.kernel_step.specs.Actions.{is_withdrawing}
 use Rattle.kernel_step.specs.Calls.{made_end}
 use Rattle.kernel_world.specs.World.{World}
-use Rattle.service_step.specs.Ends.{is_living, is_made, is_posted, is_taken, matched_message}
+use Rattle.service_step.specs.Ends.{is_made, is_taken, matched_message}
 use Rattle.service_step.specs.State.{State}
 use Rattle.service_step.specs.declared.state.End.{End}
 use Rattle.service_step.specs.declared.state.Outward.{Outward}
-use Rattle.service_step.specs.declared.state.Phase.TheVariants as phase
-use Rattle.service_step.specs.declared.state.Place.TheVariants as place
 use Rattle.world_effects.proofs.Addressees.{asking-to, news-to, unwant-to}
 use Rattle.world_effects.proofs.Lists.{none-there}
 use Rattle.world_effects.proofs.NamedAfter.{named-after}
 use Rattle.world_effects.proofs.Packets.{each-after, left-before}
 use Rattle.world_effects.proofs.Sums.{sum_over-same}
 use Rattle.world_effects.specs.Named.{NamesWithin}
-use Rattle.world_meaning.proofs.Frame.{frame-counted, frame-honest, frame-marked, frame-once, frame-packet, frame-served, frame-unwanted, frame-wanted, had-fields}
-use Rattle.world_meaning.specs.Fields.{Stand, At, Flying, HasFields, IsAskedAs, IsAsking, IsHeard, IsNews, IsNoMore, IsUnserved, IsUnwantOf, value_of}
+use Rattle.world_meaning.proofs.Frame.{frame-counted, frame-honest, frame-marked, frame-once, frame-packet, frame-served, frame-wanted, had-fields}
+use Rattle.world_meaning.specs.Fields.{Stand, At, HasFields, IsAskedAs, IsAsking, IsHeard, IsNews, IsNoMore, IsUnserved, IsUnwantOf, value_of}
 use Rattle.world_meaning.specs.Invariant.{AreAsked, AreCancelling, AreCounted, AreMarked, AreNamed, AreRight, AreSentOnce, AreWanted, IsFew, IsHonest, IsPacketRight, IsServed, IsUnwantedOnce, is_message_of, is_taken_of, is_unwanted_to}
 use Rattle.world_meaning.specs.Packets.{Each, IsUnderWay, Links, how_many, links_of, one_if}
 use Rattle.world_meaning.specs.StandsFor.{entry_at, home_of}

@@ -1,5 +1,5 @@
 -- After a granted Make the links stand for the state of the service.
-use Rattle.std.proofs.Common.{◌≡◌, ◌≢◌, ◌⊎◌, ◌↔◌, inl, inr, ℕ, ◌+◌, ◌<◌, ◌≤◌, Bool, true, false, Contains, length, refl, sym, ap, subst, ◌∙◌, arith}
+use Rattle.std.proofs.Common.{◌≡◌, ◌≢◌, ◌⊎◌, ◌↔◌, inl, inr, ℕ, ◌+◌, false, Contains, refl, sym, ap, subst, ◌∙◌, arith}
 use Rattle.charlotte_calls.specs.declared.names.EndId.{EndId}
 use Rattle.charlotte_calls.specs.declared.names.Pid.{Pid}
 use Rattle.charlotte_calls.specs.declared.picture.PictureWhat.{PictureWhat}
@@ -17,10 +17,10 @@ use Rattle.service_step.specs.declared.state.End.{End}
 use Rattle.service_step.specs.declared.state.Place.TheVariants as place
 use Rattle.world_effects.proofs.Ends.{inward-same, outward-same}
 use Rattle.world_effects.proofs.Sums.{sum_over-same}
-use Rattle.world_meaning.proofs.Sums.{over-none, over-one, over-same}
+use Rattle.world_meaning.proofs.Sums.{over-one, over-same}
 use Rattle.world_meaning.specs.Fields.{At, Flying, value_of}
 use Rattle.world_meaning.specs.Packets.{IsBackOf, IsParcelFor, IsParcelOf, IsTakenOf, IsUnderWay, IsUnwantedOf, Links, links_of, one_if, over_kernels, sum_over, values_for, values_of}
-use Rattle.world_meaning.specs.StandsFor.{AreLinksOf, IsEndOf, IsEnclosed, IsInMessage, IsOwnedHere, IsWaitingWith, entry_at, home_of, standing}
+use Rattle.world_meaning.specs.StandsFor.{AreLinksOf, IsEndOf, IsInMessage, IsOwnedHere, IsWaitingWith, entry_at, home_of, standing}
 use Rattle.calls_that_begin.proofs.Making.{IsNew, Making, after_making, entry-or, is-new-view, new-end, new-entry, new-or, new_view, no-fields, old-end, old-entry, packet-same, value-of_end, was-nowhere}
 
 same-owner : (p q : Pid) → place.Owned p ≡ place.Owned q → p ≡ q
@@ -139,6 +139,13 @@ module _ {i : ℕ} {w : World} {s : State} {k : ℕ} {p : Pid} {u : Links} (x : 
       by (inl link) = absurd (was-here g link j (λ v. IsWaitingWith m v.outward) has)
       by (inr old) = subst (λ y. IsHereAnd y (λ v. IsWaitingWith m v.outward)) (sym (old-entry x j g old)) has
 
+  -- no packet brings a new end
+  unbrought : (f : EndId) → IsNew x f → IsUnderWay u (λ q. Contains (ends_in (values_of q)) f) → ⊥
+  unbrought f link is =
+      let was = (packet-same x (λ q. Contains (ends_in (values_of q)) f)).0 is in
+      let value = value-of_end (values_of was.packet.what) f was.is in
+      no-fields x f link Flying value.0 (record { from = was.from; to = was.to; packet = was.packet; there = was.there; is = value.1 }, value.2)
+
   module _ (f g : EndId) (m : ℕ) where
     abbrev IsThere : PictureWhat → Type 0
     IsThere q = IsParcelOf g m q × Contains (ends_in (values_of q)) f
@@ -165,14 +172,8 @@ module _ {i : ℕ} {w : World} {s : State} {k : ℕ} {p : Pid} {u : Links} (x : 
       where
         differ : holder.Owner p ≡ holder.EnclosedIn g → ⊥
         differ is = cc
-    new-in_message link (inr (inl y)) = unbrought link ((packet-same x (λ q. Contains (ends_in (values_of q)) f)).0 (record { from = y.from; to = y.to; packet = y.packet; there = y.there; is = y.is.1 }))
-      where
-        unbrought : IsNew x f → IsUnderWay l (λ q. Contains (ends_in (values_of q)) f) → ⊥
-        unbrought link z = let value = value-of_end (values_of z.packet.what) f z.is in no-fields x f link Flying value.0 (record { from = z.from; to = z.to; packet = z.packet; there = z.there; is = value.1 }, value.2)
-    new-in_message link (inr (inr y)) = unbrought link ((packet-same x (λ q. Contains (ends_in (values_of q)) f)).0 (record { from = y.from; to = y.to; packet = y.packet; there = y.there; is = y.is.1 }))
-      where
-        unbrought : IsNew x f → IsUnderWay l (λ q. Contains (ends_in (values_of q)) f) → ⊥
-        unbrought link z = let value = value-of_end (values_of z.packet.what) f z.is in no-fields x f link Flying value.0 (record { from = z.from; to = z.to; packet = z.packet; there = z.there; is = value.1 }, value.2)
+    new-in_message link (inr (inl y)) = unbrought f link (record { from = y.from; to = y.to; packet = y.packet; there = y.there; is = y.is.1 })
+    new-in_message link (inr (inr y)) = unbrought f link (record { from = y.from; to = y.to; packet = y.packet; there = y.there; is = y.is.1 })
 
     in_message-after : ((t.ends f).place ≡ place.InMessage g m) ↔ IsInMessage u f g m
     in_message-after = by (new-or x f)

@@ -1,5 +1,5 @@
 -- The service goes with a Make that is not refused, by one step.
-use Rattle.std.proofs.Common.{◌≡◌, ◌≢◌, ◌⊎◌, inl, inr, ℕ, zero, suc, ◌+◌, ◌<◌, ◌≤◌, Bool, true, false, nat_eq, nat_le, nat_lt, not, ◌&&◌, IsTrue, if◌then◌else◌, List, [], ◌∷◌, length, Option, Some, None, slice_get, slice_index, refl, sym, ap, subst, ◌∙◌, arith, lt-ltb, get_or-set_same, get_or-set_other, length-set}
+use Rattle.std.proofs.Common.{◌≡◌, ◌≢◌, ◌⊎◌, inl, inr, ℕ, zero, suc, ◌+◌, ◌<◌, ◌≤◌, true, false, nat_eq, nat_le, nat_lt, not, ◌&&◌, IsTrue, if◌then◌else◌, List, [], ◌∷◌, length, Some, None, slice_get, slice_index, refl, sym, ap, subst, ◌∙◌, arith, lt-ltb, get_or-set_same, get_or-set_other, length-set}
 use Rattle.std.proofs.lemmas.Bool.Decides.{eqb_tells, leb_tells}
 use Rattle.charlotte_calls.specs.Names.{opposite}
 use Rattle.charlotte_calls.specs.declared.calls.Answer.TheVariants as answer
@@ -20,7 +20,6 @@ use Rattle.kernel_world.specs.Run.{IsAllowed}
 use Rattle.kernel_world.specs.World.{World, Calls, Event, happens}
 use Rattle.service_change.proofs.EndEq.{end_eq-refl}
 use Rattle.service_consistent.proofs.Laws.{consistent_after}
-use Rattle.service_step.specs.Ends.{end_eq, is_made}
 use Rattle.service_step.specs.State.{State, counted, is_running, next_at, next_link}
 use Rattle.service_step.specs.Steps.{IsServiceStep, is_new_pair, may_make}
 use Rattle.world_effects.proofs.Allowed.{performs-allowed}

@@ -38,7 +38,7 @@ use Rattle.world_effects.proofs.Packets.{under_way-still, under_way-was}
 use Rattle.world_effects.specs.Change.{Change, Changes}
 use Rattle.world_effects.specs.Events.{calling}
 use Rattle.world_meaning.proofs.Ends.{apart-false, eq-same, opposite-apart}
-use Rattle.world_meaning.proofs.Frame.{IsAbout, IsSameLink}
+use Rattle.world_meaning.proofs.Frame.{IsSameLink}
 use Rattle.world_meaning.specs.Fields.{Stand, At, Flying, HasFields, value_of}
 use Rattle.world_meaning.specs.Invariant.{Invariant}
 use Rattle.world_meaning.specs.Packets.{IsUnderWay, Links, links_of, one_if, over_kernels, sum_over, values_for, values_of}

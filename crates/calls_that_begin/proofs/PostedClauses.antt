@@ -1,5 +1,5 @@
 -- After a granted Receive all clauses on links are true again.
-use Rattle.std.proofs.Common.{◌≡◌, ◌⊎◌, inl, inr, ℕ, ◌+◌, ◌<◌, ◌≤◌, Bool, true, false, Contains, length, is_some, refl, sym, ap, subst, ◌∙◌, arith, true≢false}
+use Rattle.std.proofs.Common.{◌≡◌, ◌⊎◌, inl, inr, ℕ, ◌+◌, ◌<◌, ◌≤◌, Bool, true, false, length, is_some, refl, sym, ap, subst, ◌∙◌, arith, true≢false}
 use Rattle.charlotte_calls.specs.Names.{opposite}
 use Rattle.charlotte_calls.specs.declared.names.EndId.{EndId}
 use Rattle.charlotte_calls.specs.declared.names.Pid.{Pid}
@@ -14,9 +14,7 @@ use Rattle.end_table.specs.declared.entry.Entry.TheVariants as entry
 use Rattle.end_table.specs.declared.entry.HereView.{HereView}
 use Rattle.end_table.specs.declared.entry.Holder.TheVariants as holder
 use Rattle.end_table.specs.declared.entry.Inward.TheVariants as kernel_inward
-use Rattle.kernel_sound.specs.Sound.{addressee}
 use Rattle.kernel_step.specs.Actions.{hint_kernel, is_withdrawing}
-use Rattle.kernel_step.specs.Rows.{ends_in}
 use Rattle.kernel_world.specs.World.{World}
 use Rattle.service_lawful.specs.Consistent.{is_open}
 use Rattle.service_step.specs.Ends.{is_living, is_made, is_posted, is_taken, matched_message}
@@ -25,21 +23,19 @@ use Rattle.service_step.specs.declared.state.End.{End}
 use Rattle.service_step.specs.declared.state.Outward.{Outward}
 use Rattle.service_step.specs.declared.state.Phase.TheVariants as phase
 use Rattle.service_step.specs.declared.state.Place.{Place}
-use Rattle.service_step.specs.declared.state.Place.TheVariants as place
 use Rattle.silent_events.proofs.Places.{fields-here}
 use Rattle.world_effects.proofs.Lists.{only-there}
 use Rattle.world_effects.proofs.NamedAfter.{named-after}
 use Rattle.world_effects.proofs.Packets.{each-after}
 use Rattle.world_effects.proofs.Sums.{sum_over-same}
 use Rattle.world_effects.specs.Named.{NamesWithin}
-use Rattle.world_effects.specs.Sums.{AllSent}
 use Rattle.kernel_effects.specs.Calls.{post_effect}
 use Rattle.world_meaning.proofs.Ends.{apart-false, opposite-twice}
-use Rattle.world_meaning.specs.Fields.{Stand, At, Flying, HasFields, IsAskedAs, IsAsking, IsHeard, IsNews, IsNoMore, IsUnserved, IsUnwantOf}
-use Rattle.world_meaning.specs.Invariant.{AreAsked, AreCancelling, AreCounted, AreMarked, AreNamed, AreRight, AreSentOnce, AreWanted, IsFew, IsHereIfLiving, IsHonest, IsPacketRight, IsServed, IsUnwantedOnce, is_message_of, is_taken_of, is_unwanted_to}
+use Rattle.world_meaning.specs.Fields.{Stand, HasFields, IsAskedAs, IsAsking, IsHeard, IsNews, IsNoMore, IsUnserved, IsUnwantOf}
+use Rattle.world_meaning.specs.Invariant.{AreAsked, AreCancelling, AreCounted, AreMarked, AreRight, AreSentOnce, AreWanted, IsFew, IsHereIfLiving, IsHonest, IsPacketRight, IsServed, IsUnwantedOnce, is_message_of, is_taken_of, is_unwanted_to}
 use Rattle.world_meaning.specs.Packets.{Each, IsUnderWay, Links, how_many, links_of, one_if}
 use Rattle.world_meaning.specs.StandsFor.{entry_at, home_of}
-use Rattle.calls_that_begin.proofs.Posting.{IsIts, IsSameFields, Posting, ends-at, ends-like, ends-other, entry-or, fields-was, here-still, its-view, none-unserved, now-here, now-posted, other-entry, packet-or, packet-same, posted, posted_view, posted_want, view-same}
+use Rattle.calls_that_begin.proofs.Posting.{IsIts, IsSameFields, Posting, ends-like, ends-other, entry-or, fields-was, here-still, its-view, none-unserved, now-here, now-posted, other-entry, packet-or, packet-same, posted, posted_view, posted_want, view-same}
 
 module _ {i : ℕ} {w : World} {s : State} {k : ℕ} {p : Pid} {u : Links} (x : Posting i w s k p u) where
   abbrev l : Links

@@ -1,5 +1,5 @@
 -- A granted Receive in a world and in the service: which entry changes, which packet is sent, and what the end becomes.
-use Rattle.std.proofs.Common.{◌≡◌, ◌≢◌, ◌⊎◌, ◌↔◌, inl, inr, ℕ, ◌+◌, ◌-◌, ◌^◌, ◌<◌, ◌≤◌, Bool, true, false, nat_eq, if◌then◌else◌, length, Contains, Some, refl, sym, ap, subst, ◌∙◌, arith, true≢false}
+use Rattle.std.proofs.Common.{◌≡◌, ◌≢◌, ◌⊎◌, ◌↔◌, inl, inr, ℕ, ◌+◌, ◌-◌, ◌^◌, ◌<◌, ◌≤◌, Bool, true, false, nat_eq, if◌then◌else◌, length, Contains, refl, sym, ap, subst, ◌∙◌, arith, true≢false}
 use Rattle.std.proofs.Math.Nat.{min-le_left}
 use Rattle.std.proofs.lemmas.Bool.Decides.{eqb_tells}
 use Rattle.charlotte_calls.specs.Names.{opposite}
@@ -41,7 +41,7 @@ use Rattle.world_meaning.proofs.Ends.{eq-same, opposite-twice}
 use Rattle.world_meaning.specs.Fields.{Stand, At, Flying, HasFields, IsUnserved, value_of}
 use Rattle.world_meaning.specs.Invariant.{Invariant}
 use Rattle.world_meaning.specs.Packets.{IsUnderWay, Links, links_of, values_of}
-use Rattle.world_meaning.specs.StandsFor.{IsEndOf, IsInwardOf, IsOwnedHere, entry_at, home_of}
+use Rattle.world_meaning.specs.StandsFor.{IsEndOf, IsInwardOf, IsOwnedHere, home_of}
 
 -- process p posts a receive on an end that it owns, whose view at its kernel k is this; u are the links afterwards
 pub record Posting (i : ℕ) (w : World) (s : State) (k : ℕ) (p : Pid) (u : Links) : Type 0 where

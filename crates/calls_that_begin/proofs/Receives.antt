@@ -1,5 +1,5 @@
 -- The service goes with a Receive that is not refused, by one step.
-use Rattle.std.proofs.Common.{◌≡◌, ◌≢◌, ℕ, ◌+◌, ◌<◌, Bool, true, false, not, is_none, ◌&&◌, IsTrue, if◌then◌else◌, List, [], ◌∷◌, length, Option, Some, None, slice_index, refl, sym, ap, subst, ◌∙◌, eq-eqb}
+use Rattle.std.proofs.Common.{◌≡◌, ℕ, ◌+◌, ◌<◌, Bool, true, false, not, is_none, ◌&&◌, IsTrue, if◌then◌else◌, List, [], ◌∷◌, length, Option, Some, None, slice_index, refl, sym, ap, subst, ◌∙◌, eq-eqb}
 use Rattle.std.proofs.lemmas.List.Elements.{All-get_or}
 use Rattle.charlotte_calls.specs.declared.calls.Answer.TheVariants as answer
 use Rattle.charlotte_calls.specs.declared.calls.Call.TheVariants as call
@@ -30,7 +30,6 @@ use Rattle.service_step.specs.Causes.{first_of as first_cause}
 use Rattle.service_step.specs.Ends.{is_idle_inward, is_made, is_owned_by, owner}
 use Rattle.service_step.specs.State.{State, is_running}
 use Rattle.service_step.specs.Steps.{IsServiceStep, may_receive, may_receive_as}
-use Rattle.service_step.specs.declared.state.Phase.{Phase}
 use Rattle.service_step.specs.declared.state.Phase.TheVariants as phase
 use Rattle.service_step.specs.declared.state.Place.{Place}
 use Rattle.world_effects.proofs.Allowed.{performs-allowed}
