@@ -1,0 +1,106 @@
+-- What a call that is granted and answered at once leaves of kernels and processes: tables stay sound, and processes are as the service
+-- has them.
+use Rattle.std.proofs.Common.{◌≡◌, ◌≢◌, ◌⊎◌, inl, inr, ℕ, ◌<◌, ◌≤◌, Bool, true, false, nat_eq, if◌then◌else◌, All, List, [], length, None, slice_index, refl, sym, ap, subst, ◌∙◌}
+use Rattle.std.proofs.lemmas.Bool.Decides.{eqb_tells}
+use Rattle.charlotte_calls.specs.declared.calls.Answer.{Answer}
+use Rattle.charlotte_calls.specs.declared.calls.Call.{Call}
+use Rattle.charlotte_calls.specs.declared.names.EndId.{EndId}
+use Rattle.charlotte_calls.specs.declared.names.Pid.{Pid}
+use Rattle.end_table.specs.declared.entry.Entry.{Entry}
+use Rattle.kernel_effects.specs.Calls.{act_effect}
+use Rattle.kernel_effects.specs.Effect.{Does}
+use Rattle.kernel_outcomes.proofs.Events.{acts-does}
+use Rattle.kernel_outcomes.specs.Closing.{ran}
+use Rattle.kernel_sound.proofs.Acts.{Covers, acts-well}
+use Rattle.kernel_sound.proofs.Goes.{GoesWell}
+use Rattle.kernel_sound.specs.Acts.{acts, made_after}
+use Rattle.kernel_sound.specs.Sound.{IsSound}
+use Rattle.kernel_step.specs.Calls.{IsCallWith, refusal}
+use Rattle.kernel_step.specs.Kernel.{Kernel}
+use Rattle.kernel_step.specs.Progress.{Progress}
+use Rattle.kernel_step.specs.declared.phase.Phase.TheVariants as kernel_phase
+use Rattle.kernel_world.specs.World.{World}
+use Rattle.service_step.specs.State.{State}
+use Rattle.world_effects.specs.Change.{Becomes, Change}
+use Rattle.world_effects.specs.Events.{caller}
+use Rattle.world_meaning.specs.Invariant.{IsOfSetting}
+use Rattle.world_meaning.specs.StandsFor.{IsProcessOf, home_of, service_phase}
+
+-- ---- a table
+
+-- each end is touched
+abbrev pub all_ends : Pid → EndId → Bool
+all_ends p e = true
+
+-- the table that a granted call leaves is sound
+pub call-sound : (k made n : ℕ) (t : EndId → Entry) (p : Pid) (mine : List EndId) (reported : Bool) (c : Call) → IsSound k made n t → p.0 < n → refusal p t made mine reported c ≡ None → IsCallWith p t mine c → Covers all_ends p c
+    → IsSound k (made_after c made) n (λ q. (act_effect p k made mine t c).entry q (t q))
+call-sound k made n t p mine reported c sound below granted ends covers =
+    subst (IsSound k (made_after c made) n) (λ i q. did.table q i) after.sound
+  where
+    d : Progress
+    d = record { table = t; stamp = 0; packets = []; reports = []; answers = []; steps = [] }
+
+    did : Does (act_effect p k made mine t c) d (acts p k made mine c d)
+    did = acts-does k made n d sound p mine reported c granted ends
+
+    after : GoesWell k (made_after c made) n all_ends t (acts p k made mine c d)
+    after = acts-well k made n all_ends t p mine c d below reported granted ends covers (record { sound = sound; reports = tt; answers = tt; calm = λ q e is. refl })
+
+-- ---- a world
+
+module _ {w v : World} {c : Change} (becomes : Becomes w c v) (s : State) where
+  -- what is kept of each kernel's state at the kernel of the event is kept at each
+  pub kernel-same : {X : Type 0} (part : Kernel → X) → part (v.kernel c.kernel) ≡ part (w.kernel c.kernel) → (k : ℕ) → part (v.kernel k) ≡ part (w.kernel k)
+  kernel-same part own k = by (eqb_tells k c.kernel)
+    where
+      by : ((nat_eq k c.kernel ≡ true) × (k ≡ c.kernel)) ⊎ ((nat_eq k c.kernel ≡ false) × (k ≢ c.kernel)) → part (v.kernel k) ≡ part (w.kernel k)
+      by (inl at) = subst (λ j. part (v.kernel j) ≡ part (w.kernel j)) (sym at.1) own
+      by (inr at) = ap part (becomes.others k at.0)
+
+  -- the kernels are those of the service where the table of the event's kernel is sound and the links made are counted
+  pub setting-after : (t : State) → t.version ≡ s.version → t.homes ≡ s.homes → length t.made ≡ length s.made → ((k : ℕ) → slice_index t.made k ≡ (v.kernel k).made)
+      → IsSound c.kernel (v.kernel c.kernel).made (length s.homes) (v.kernel c.kernel).table → IsOfSetting w s → IsOfSetting v t
+  setting-after t version homes count made sound is =
+      record {
+        few = subst (λ n. n ≤ 8) (sym count) is.few;
+        numbers = λ k. kernel-same (λ (x : Kernel). x.number) becomes.number k ∙ is.numbers k;
+        kernels = λ k. kernel-same (λ (x : Kernel). x.kernels) becomes.kernels k ∙ is.kernels k ∙ sym count;
+        version = λ k. kernel-same (λ (x : Kernel). x.version) becomes.version k ∙ is.version k ∙ sym version;
+        made = made;
+        homes = subst (λ hs. All (λ h. h < length t.made) hs) (sym homes) (subst (λ n. All (λ h. h < n) s.homes) (sym count) is.homes);
+        sound = λ k. subst (λ hs. IsSound k (v.kernel k).made (length hs) (v.kernel k).table) (sym homes) (each k (eqb_tells k c.kernel));
+      }
+    where
+      each : (k : ℕ) → ((nat_eq k c.kernel ≡ true) × (k ≡ c.kernel)) ⊎ ((nat_eq k c.kernel ≡ false) × (k ≢ c.kernel)) → IsSound k (v.kernel k).made (length s.homes) (v.kernel k).table
+      each k (inl at) = subst (λ j. IsSound j (v.kernel j).made (length s.homes) (v.kernel j).table) (sym at.1) sound
+      each k (inr at) = subst (λ (x : Kernel). IsSound k x.made (length s.homes) x.table) (sym (becomes.others k at.0)) (is.sound k)
+
+  -- the caller ran, and runs with an answer; the service has changed no process
+  pub processes-after : (a : Answer) → c.process ≡ ran (caller c.pid (w.kernel c.kernel)) a → ((w.kernel c.kernel).process c.pid.0).phase ≡ kernel_phase.Running
+      → ((p : Pid) → p.0 < length s.homes → IsProcessOf ((w.kernel (home_of s p)).process p.0) (s.process p.0))
+      → (p : Pid) → p.0 < length s.homes → IsProcessOf ((v.kernel (home_of s p)).process p.0) (s.process p.0)
+  processes-after a is running were p below = by (eqb_tells (home_of s p) c.kernel)
+    where
+      by : ((nat_eq (home_of s p) c.kernel ≡ true) × (home_of s p ≡ c.kernel)) ⊎ ((nat_eq (home_of s p) c.kernel ≡ false) × (home_of s p ≢ c.kernel)) → IsProcessOf ((v.kernel (home_of s p)).process p.0) (s.process p.0)
+      by (inr apart) = subst (λ (x : Kernel). IsProcessOf (x.process p.0) (s.process p.0)) (sym (becomes.others (home_of s p) apart.0)) (were p below)
+      by (inl at) =
+          subst (λ j. IsProcessOf ((v.kernel j).process p.0) (s.process p.0)) (sym at.1)
+          (subst (λ x. IsProcessOf x (s.process p.0)) (sym (becomes.process p.0)) (own (eqb_tells c.pid.0 p.0)))
+        where
+          was : IsProcessOf ((w.kernel c.kernel).process p.0) (s.process p.0)
+          was = subst (λ j. IsProcessOf ((w.kernel j).process p.0) (s.process p.0)) at.1 (were p below)
+
+          answered : c.pid.0 ≡ p.0 → IsProcessOf (ran (caller c.pid (w.kernel c.kernel)) a) (s.process p.0)
+          answered same =
+              record {
+                phase = was.phase ∙ ap (λ z. service_phase ((w.kernel c.kernel).process z).phase) (sym same) ∙ ap service_phase running;
+                unanswered = λ suspended. absurd suspended;
+                reports = was.reports ∙ ap (λ z. ((w.kernel c.kernel).process z).reports) (sym same);
+              }
+
+          own : ((nat_eq c.pid.0 p.0 ≡ true) × (c.pid.0 ≡ p.0)) ⊎ ((nat_eq c.pid.0 p.0 ≡ false) × (c.pid.0 ≢ p.0)) → IsProcessOf (if nat_eq c.pid.0 p.0 then c.process else (w.kernel c.kernel).process p.0) (s.process p.0)
+          own (inl h) =
+              subst (λ b. IsProcessOf (if b then c.process else (w.kernel c.kernel).process p.0) (s.process p.0)) (sym h.0)
+              (subst (λ x. IsProcessOf x (s.process p.0)) (sym is) (answered h.1))
+          own (inr h) = subst (λ b. IsProcessOf (if b then c.process else (w.kernel c.kernel).process p.0) (s.process p.0)) (sym h.0) was

@@ -1,0 +1,9 @@
+pub mod Answered
+pub mod Posting
+pub mod PostedLinks
+pub mod PostedClauses
+pub mod Receives
+pub mod Making
+pub mod MadeLinks
+pub mod MadeClauses
+pub mod Makes

@@ -1,0 +1,168 @@
+-- The service goes with a Receive that is not refused, by one step.
+use Rattle.std.proofs.Common.{◌≡◌, ℕ, ◌+◌, ◌<◌, Bool, true, false, not, is_none, ◌&&◌, IsTrue, if◌then◌else◌, List, [], ◌∷◌, length, Option, Some, None, slice_index, refl, sym, ap, subst, ◌∙◌, eq-eqb}
+use Rattle.std.proofs.lemmas.List.Elements.{All-get_or}
+use Rattle.charlotte_calls.specs.declared.calls.Answer.TheVariants as answer
+use Rattle.charlotte_calls.specs.declared.calls.Call.TheVariants as call
+use Rattle.charlotte_calls.specs.declared.calls.Cause.{Cause}
+use Rattle.charlotte_calls.specs.declared.calls.Cause.TheVariants as cause
+use Rattle.charlotte_calls.specs.declared.calls.ServiceStep.TheVariants as step
+use Rattle.charlotte_calls.specs.declared.names.EndId.{EndId}
+use Rattle.charlotte_calls.specs.declared.names.Pid.{Pid}
+use Rattle.charlotte_calls.specs.declared.setting.Setting.{Setting}
+use Rattle.end_table.specs.Owned.{is_owner, owned}
+use Rattle.end_table.specs.Table.{IsOfEnd}
+use Rattle.end_table.specs.declared.entry.Entry.TheVariants as entry
+use Rattle.end_table.specs.declared.entry.HereView.{HereView}
+use Rattle.end_table.specs.declared.entry.Holder.TheVariants as holder
+use Rattle.end_table.specs.declared.entry.Inward.{Inward}
+use Rattle.end_table.specs.declared.entry.Inward.TheVariants as kernel_inward
+use Rattle.kernel_effects.specs.Calls.{act_effect, effect_on, post_effect}
+use Rattle.kernel_effects.specs.Effect.{Effect}
+use Rattle.kernel_sound.proofs.Needs.{owned-here}
+use Rattle.kernel_sound.specs.Sound.{IsSound}
+use Rattle.kernel_step.specs.Calls.{first_of, inward_activity, is_free, on_owned, receive_causes, refusal}
+use Rattle.kernel_step.specs.Kernel.{Kernel, has_report, process_of}
+use Rattle.kernel_step.specs.declared.phase.Phase.TheVariants as kernel_phase
+use Rattle.kernel_world.specs.Run.{IsAllowed}
+use Rattle.kernel_world.specs.World.{World, Calls, Event, happens}
+use Rattle.service_consistent.proofs.Laws.{consistent_after}
+use Rattle.service_step.specs.Causes.{first_of as first_cause}
+use Rattle.service_step.specs.Ends.{is_idle_inward, is_made, is_owned_by, owner}
+use Rattle.service_step.specs.State.{State, is_running}
+use Rattle.service_step.specs.Steps.{IsServiceStep, may_receive, may_receive_as}
+use Rattle.service_step.specs.declared.state.Phase.TheVariants as phase
+use Rattle.service_step.specs.declared.state.Place.{Place}
+use Rattle.world_effects.proofs.Allowed.{performs-allowed}
+use Rattle.world_effects.proofs.NamedAfter.{performs-names}
+use Rattle.world_effects.specs.Change.{Change, Happens}
+use Rattle.world_effects.specs.Events.{calling}
+use Rattle.world_meaning.proofs.Goes.{Goes}
+use Rattle.world_meaning.specs.Invariant.{Invariant}
+use Rattle.world_meaning.specs.Packets.{links_of}
+use Rattle.world_meaning.specs.StandsFor.{IsProcessOf, home_of, service_phase}
+use Rattle.calls_that_begin.proofs.Answered.{call-sound, kernel-same, processes-after, setting-after}
+use Rattle.calls_that_begin.proofs.PostedClauses.{posted-right}
+use Rattle.calls_that_begin.proofs.PostedLinks.{posted-links}
+use Rattle.calls_that_begin.proofs.Posting.{Posting, placed, posted, was-idle, was-open}
+
+module _ (i : ℕ) (w : World) (s : State) (k : ℕ) (p : Pid) (mine : List EndId) (is : Invariant i w s) (below : p.0 < length s.homes) (at : home_of s p ≡ k) (running : ((w.kernel k).process p.0).phase ≡ kernel_phase.Running) where
+  -- kernels of processes are among those that there are
+  pub home-near : k < length s.made
+  home-near = subst (λ h. h < length s.made) at (All-get_or (λ h. h < length s.made) s.homes p.0 0 below is.setting.homes)
+
+  -- the process runs in the service
+  pub runs-there : (s.process p.0).phase ≡ phase.Running
+  runs-there = (subst (λ j. IsProcessOf ((w.kernel j).process p.0) (s.process p.0)) at (is.stands.processes p below)).phase ∙ ap service_phase running
+
+  module _ (v : HereView) (here : (w.kernel k).table v.value.end ≡ entry.Here v) (owner_is : v.holder ≡ holder.Owner p) (idle : v.inward ≡ kernel_inward.Idle) (alive : v.value.dead ≡ false)
+      (granted : refusal p (w.kernel k).table (w.kernel k).made mine (has_report (process_of p (w.kernel k))) (call.Receive v.value.end) ≡ None) where
+    abbrev e : EndId
+    e = v.value.end
+
+    abbrev event : Event
+    event = Calls k p (call.Receive v.value.end) mine
+
+    abbrev change : Change
+    change = calling w k p (call.Receive v.value.end) (post_effect k v)
+
+    owned-is : owned p ((w.kernel k).table e) ≡ Some v
+    owned-is =
+        ap (owned p) here ∙ ap (λ h. if is_owner p h then Some v else None) owner_is ∙ ap (λ b. if b then Some v else None) (eq-eqb p.0 p.0 refl)
+
+    effect : act_effect p k (w.kernel k).made mine (w.kernel k).table (call.Receive e) ≡ post_effect k v
+    effect = ap (λ o. effect_on o (post_effect k)) owned-is
+
+    happened : Happens w event change
+    happened = performs-allowed is k p (call.Receive e) mine (post_effect k v) granted tt effect
+
+    abbrev posting : Posting i w s k p (links_of (happens w event))
+    posting =
+        record {
+          is = is;
+          view = v;
+          here = here;
+          owner = owner_is;
+          idle = idle;
+          alive = alive;
+          below = below;
+          at = at;
+          changes = happened.becomes.links;
+        }
+
+    -- the service allows the step
+    may : IsTrue (may_receive s e)
+    may = ap (λ (o : Place). may_receive_as s (owner o) e) (placed posting) ∙ tests
+      where
+        own : is_owned_by p (s.ends e).place ≡ true
+        own = ap (is_owned_by p) (placed posting) ∙ eq-eqb p.0 p.0 refl
+
+        tests : (is_running (s.process p.0).phase && is_none (first_cause ((not (is_owned_by p (s.ends e).place), cause.NoEnd) ∷ (not (is_idle_inward (s.ends e).inward), cause.Busy) ∷ ((s.ends e).noticed, cause.Dead) ∷ []))) ≡ true
+        tests =
+            λ j. is_running (runs-there j)
+            && is_none (first_cause ((not (own j), cause.NoEnd) ∷ (not (is_idle_inward (was-idle posting j)), cause.Busy) ∷ (was-open posting j, cause.Dead) ∷ []))
+
+    stepped : IsServiceStep s (step.Receive e) (posted s e)
+    stepped = record { allowed = may; after = refl }
+
+    made-same : (j : ℕ) → ((happens w event).kernel j).made ≡ (w.kernel j).made
+    made-same = kernel-same happened.becomes s (λ (x : Kernel). x.made) happened.becomes.made
+
+    sound : IsSound k ((happens w event).kernel k).made (length s.homes) ((happens w event).kernel k).table
+    sound =
+        subst (λ m. IsSound k m (length s.homes) ((happens w event).kernel k).table) (sym (made-same k))
+        (subst (IsSound k (w.kernel k).made (length s.homes)) (sym table)
+        (call-sound k (w.kernel k).made (length s.homes) (w.kernel k).table p mine (has_report (process_of p (w.kernel k))) (call.Receive e) (is.setting.sound k) below granted tt (λ q. refl)))
+      where
+        table : ((happens w event).kernel k).table ≡ (λ q. (act_effect p k (w.kernel k).made mine (w.kernel k).table (call.Receive e)).entry q ((w.kernel k).table q))
+        table = λ j q. (happened.becomes.links.entry q ∙ ap (λ (f : Effect). f.entry q ((w.kernel k).table q)) (sym effect)) j
+
+    posted-invariant : Invariant (i + 1) (happens w event) (posted s e)
+    posted-invariant =
+        record {
+          stands = record { processes = processes-after happened.becomes s answer.Ok refl running is.stands.processes; links = posted-links posting };
+          service = consistent_after s (step.Receive e) (posted s e) is.service stepped;
+          setting = setting-after happened.becomes s (posted s e) refl refl refl (λ j. is.setting.made j ∙ sym (made-same j)) sound is.setting;
+          links = posted-right posting home-near (performs-names is k p (call.Receive e) mine home-near (post_effect k v) effect) (ap (λ (y : Place). is_made y) (placed posting));
+          waiting = is.waiting;
+        }
+
+    pub posted-goes : Goes i w s event
+    posted-goes = record { part = (step.Receive e, posted s e) ∷ []; steps = sym happened.steps; run = (stepped, tt); after = posted-invariant; homes = refl }
+
+-- an activity inward that is free
+free-idle : (x : Inward) → is_free (inward_activity x) ≡ true → x ≡ kernel_inward.Idle
+free-idle kernel_inward.Idle is = refl
+free-idle (kernel_inward.Posted n) is = cc
+free-idle (kernel_inward.Withdrawing n) is = cc
+free-idle kernel_inward.Unreported is = cc
+
+-- no cause of a Receive holds
+none-holds : (v : HereView) → first_of (receive_causes v) ≡ None → (v.inward ≡ kernel_inward.Idle) × (v.value.dead ≡ false)
+none-holds v none = by (is_free (inward_activity v.inward)) refl v.value.dead refl none
+  where
+    some : (c : Cause) → Some c ≡ None → ⊥
+    some c is = cc
+
+    by : (a : Bool) → is_free (inward_activity v.inward) ≡ a → (b : Bool) → v.value.dead ≡ b → first_of ((not a, cause.Busy) ∷ (b, cause.Dead) ∷ []) ≡ None → (v.inward ≡ kernel_inward.Idle) × (v.value.dead ≡ false)
+    by true free false alive none = (free-idle v.inward free, alive)
+    by true free true dead none = absurd (some cause.Dead none)
+    by false free b is none = absurd (some cause.Busy none)
+
+-- the service goes with a Receive that its kernel does not refuse
+pub receive-goes : (g : Setting) (i : ℕ) (w : World) (s : State) (k : ℕ) (p : Pid) (on : EndId) (mine : List EndId) → Invariant i w s → s.homes ≡ g.homes → IsAllowed g w (Calls k p (call.Receive on) mine)
+    → refusal p (w.kernel k).table (w.kernel k).made mine (has_report (process_of p (w.kernel k))) (call.Receive on) ≡ None → Goes i w s (Calls k p (call.Receive on) mine)
+receive-goes g i w s k p on mine is homes allowed granted = by (owned p ((w.kernel k).table on)) refl granted
+  where
+    some : (c : Cause) → Some c ≡ None → ⊥
+    some c is = cc
+
+    by : (o : Option HereView) → owned p ((w.kernel k).table on) ≡ o → on_owned o receive_causes ≡ None → Goes i w s (Calls k p (call.Receive on) mine)
+    by None owns none = absurd (some cause.NoEnd none)
+    by (Some v) owns none =
+        let here = owned-here p ((w.kernel k).table on) v owns in
+        let own : v.value.end ≡ on = subst (IsOfEnd on) here.0 ((is.setting.sound k).own on) in
+        let free = none-holds v none in
+        subst (λ z. Goes i w s (Calls k p (call.Receive z) mine)) own
+        (posted-goes i w s k p mine is (subst (λ hs. p.0 < length hs) (sym homes) allowed.0) (ap (λ hs. slice_index hs p.0) homes ∙ allowed.1) allowed.2 v
+        (ap (w.kernel k).table own ∙ here.0) here.1 free.0 free.1
+        (subst (λ z. refusal p (w.kernel k).table (w.kernel k).made mine (has_report (process_of p (w.kernel k))) (call.Receive z) ≡ None) (sym own) granted))
