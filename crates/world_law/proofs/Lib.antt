@@ -1,9 +1,3 @@
 pub mod Wired
 pub mod Start
-pub mod Refused
-pub mod Calm
-pub mod Waits
-pub mod Rested
-pub mod Given
-pub mod Reports
 pub mod Run

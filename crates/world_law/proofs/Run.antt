@@ -29,12 +29,14 @@ use Rattle.service_runs.proofs.Lawful.{runs_are_lawful}
 use Rattle.service_lawful.proofs.Turned.{turned}
 use Rattle.silent_events.proofs.Hearing.{hearing-goes}
 use Rattle.silent_events.proofs.Taking.{taking-goes}
+use Rattle.calls_that_begin.proofs.Makes.{make-goes}
+use Rattle.calls_that_begin.proofs.Receives.{receive-goes}
 use Rattle.world_meaning.proofs.Goes.{Goes}
-use Rattle.world_law.proofs.Calm.{IsAnswered, answered-invariant}
-use Rattle.world_law.proofs.Refused.{IsCaller, caller-process, caller-runs, refused-for, wait-granted}
-use Rattle.world_law.proofs.Reports.{reports-goes, telling-is}
+use Rattle.calls_that_wait.proofs.Calm.{IsAnswered, answered-invariant}
+use Rattle.calls_that_wait.proofs.Refused.{IsCaller, caller-process, caller-runs, refused-for, wait-granted}
+use Rattle.calls_that_wait.proofs.Reports.{reports-goes, telling-is}
 use Rattle.world_law.proofs.Start.{starts-well}
-use Rattle.world_law.proofs.Waits.{IsWaiting, wait-is, waits-invariant}
+use Rattle.calls_that_wait.proofs.Waits.{IsWaiting, wait-is, waits-invariant}
 use Rattle.world_meaning.specs.Invariant.{Invariant}
 use Rattle.world_law.specs.Law.{GoesWithEach, joined, IsServedLawfully, IsCovered, IsCoveredCall, IsCoveredTaking, AreCovered}
 use Rattle.world_meaning.specs.StandsFor.{home_of, service_phase}
@@ -186,10 +188,10 @@ goes-event g i w s (Calls k p c mine) is homes allowed covered = by c (refusal p
       where
         granted_is : (c : Call) → IsCallWith p (w.kernel k).table mine c → refusal p (w.kernel k).table (w.kernel k).made mine (has_report (process_of p (w.kernel k))) c ≡ None → IsCoveredCall None c → Goes i w s (Calls k p c mine)
         granted_is (call.Print bytes) ends granted in_is = goes-print i w s k p mine is running bytes
-        granted_is call.Make ends granted in_is = absurd in_is
+        granted_is call.Make ends granted in_is = make-goes g i w s k p mine is homes (allowed.0, allowed.1, allowed.2, tt, tt) granted
         granted_is (call.Destroy on) ends granted in_is = absurd in_is
         granted_is (call.Send on bytes xs) ends granted in_is = absurd in_is
-        granted_is (call.Receive on) ends granted in_is = absurd in_is
+        granted_is (call.Receive on) ends granted in_is = receive-goes g i w s k p on mine is homes (allowed.0, allowed.1, allowed.2, tt, tt) granted
         granted_is (call.Cancel on way) ends granted in_is = absurd in_is
         granted_is call.Wait ends granted in_is = waited (process_of p (w.kernel k)).reports refl
           where

@@ -51,11 +51,13 @@ pub record IsServedLawfully (g : Setting) (es : List Event) : Type 0 where
 
 -- ---- as far as it is proved
 
--- calls that are refused, a Print, and a Wait
+-- calls that are refused, a Make, a Receive, a Print, and a Wait
 abbrev pub IsCoveredCall : Option Cause → Call → Type 0
 IsCoveredCall (Some cause) c = Unit {0}
 IsCoveredCall None (call.Print bytes) = Unit {0}
 IsCoveredCall None call.Wait = Unit {0}
+IsCoveredCall None call.Make = Unit {0}
+IsCoveredCall None (call.Receive on) = Unit {0}
 IsCoveredCall None _ = ⊥
 
 -- the taking of a packet that means nothing to the service: by the entry of the end that it is addressed to it tells nothing new, or

@@ -44,10 +44,10 @@ use Rattle.service_step.specs.declared.state.Outward.TheVariants as outward
 use Rattle.service_step.specs.declared.state.Phase.TheVariants as phase
 use Rattle.service_step.specs.declared.state.Place.TheVariants as place
 use Rattle.world_effects.proofs.Lists.{first}
-use Rattle.world_law.proofs.Calm.{AreRight-later}
-use Rattle.world_law.proofs.Given.{AreTogether, links-given, right-given}
-use Rattle.world_law.proofs.Rested.{IsRested, IsRestedEntry, entry-rested, one-view}
-use Rattle.world_law.proofs.Waits.{same-list}
+use Rattle.calls_that_wait.proofs.Calm.{AreRight-later}
+use Rattle.calls_that_wait.proofs.Given.{AreTogether, links-given, right-given}
+use Rattle.calls_that_wait.proofs.Rested.{IsRested, IsRestedEntry, entry-rested, one-view}
+use Rattle.calls_that_wait.proofs.Waits.{same-list}
 use Rattle.world_meaning.proofs.Ends.{eq-same}
 use Rattle.world_meaning.proofs.Goes.{Goes}
 use Rattle.world_meaning.specs.Invariant.{AreRight, Invariant, IsOfSetting}

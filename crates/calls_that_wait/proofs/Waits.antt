@@ -15,7 +15,7 @@ use Rattle.service_lawful.proofs.Turned.{turned, turned-consistent, turned-own, 
 use Rattle.service_step.specs.State.{State, Process}
 use Rattle.service_step.specs.declared.state.Phase.{Phase}
 use Rattle.service_step.specs.declared.state.Phase.TheVariants as phase
-use Rattle.world_law.proofs.Calm.{AreRight-later, IsCalm, IsCalmWorld, calm-links, calm-setting, calm-world}
+use Rattle.calls_that_wait.proofs.Calm.{AreRight-later, IsCalm, IsCalmWorld, calm-links, calm-setting, calm-world}
 use Rattle.world_meaning.specs.Invariant.{AreRight, Invariant, IsOfSetting}
 use Rattle.world_meaning.specs.Packets.{Links, links_of}
 use Rattle.world_meaning.specs.StandsFor.{AreLinksOf, IsProcessOf, home_of}
