@@ -1,0 +1,4 @@
+pub mod Swap
+pub mod Settled
+pub mod World
+pub mod Meets
