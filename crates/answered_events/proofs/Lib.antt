@@ -2,3 +2,4 @@ pub mod Swap
 pub mod Settled
 pub mod World
 pub mod Meets
+pub mod Dropped
