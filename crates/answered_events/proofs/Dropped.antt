@@ -60,12 +60,12 @@ over-same w x e (kernel_inward.Posted v) inward.Reported over is = absurd is
 over-same w x e (kernel_inward.Withdrawing v) inward.Reported over is = absurd is
 over-same w x e kernel_inward.Unreported inward.Reported over is = is
 
-answer-parcel_for : (t : EndId) (j h : ℕ) (e : EndId) (r n : ℕ) (q : PictureWhat) → IsAnswer t j h q → IsParcelFor e r n q → ⊥
+pub answer-parcel_for : (t : EndId) (j h : ℕ) (e : EndId) (r n : ℕ) (q : PictureWhat) → IsAnswer t j h q → IsParcelFor e r n q → ⊥
 answer-parcel_for t j h e r n (packet.Taken to m at hops) is says = says
 answer-parcel_for t j h e r n (packet.Unwanted to m at hops) is says = says
 answer-parcel_for t j h e r n _ is says = absurd is
 
-taken-counts : (e : EndId) (n : ℕ) (q : PictureWhat) → is_taken_of e q ≡ false → IsTakenOf e n q → ⊥
+pub taken-counts : (e : EndId) (n : ℕ) (q : PictureWhat) → is_taken_of e q ≡ false → IsTakenOf e n q → ⊥
 taken-counts e n (packet.Taken to m at hops) none is = true≢false (sym (end_eq-refl e) ∙ subst (λ z. end_eq e z ≡ false) is.0 none)
 taken-counts e n _ none is = absurd is
 

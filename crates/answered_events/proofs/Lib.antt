@@ -3,3 +3,4 @@ pub mod Settled
 pub mod World
 pub mod Meets
 pub mod Dropped
+pub mod Turned

@@ -143,7 +143,7 @@ answer-to t j h (packet.Taken to n at hops) is = is.0
 answer-to t j h (packet.Unwanted to n at hops) is = is.0
 answer-to t j h _ is = absurd is
 
-answer-addressed : (n : ℕ) (t : EndId) (j h : ℕ) (q : PictureWhat) → IsAnswer t j h q → is_addressed q n ≡ true → is_addressed (packet.Moved t j h) n ≡ true
+pub answer-addressed : (n : ℕ) (t : EndId) (j h : ℕ) (q : PictureWhat) → IsAnswer t j h q → is_addressed q n ≡ true → is_addressed (packet.Moved t j h) n ≡ true
 answer-addressed n t j h (packet.Taken to m at hops) is addressed = subst (λ z. nat_lt z n ≡ true) is.1 addressed
 answer-addressed n t j h (packet.Unwanted to m at hops) is addressed = subst (λ z. nat_lt z n ≡ true) is.1 addressed
 answer-addressed n t j h _ is addressed = absurd is
