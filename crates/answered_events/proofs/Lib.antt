@@ -4,3 +4,4 @@ pub mod World
 pub mod Meets
 pub mod Dropped
 pub mod Turned
+pub mod Freed

@@ -1,7 +1,7 @@
 -- An answer meets an owned end whose send or receive is over by it: all clauses on links afterwards, and the kernel's table.
 use Rattle.std.proofs.Common.{◌≡◌, ◌≢◌, ◌⊎◌, ◌↔◌, inl, inr, ℕ, ◌+◌, ◌<◌, ◌≤◌, Bool, true, false, nat_eq, nat_lt, if◌then◌else◌, List, [], ◌∷◌, length, Contains, Option, None, Some, refl, sym, ap, subst, ◌∙◌, arith, true≢false, eq-eqb}
 use Rattle.std.proofs.lemmas.Bool.Decides.{eqb_tells}
-use Rattle.std.proofs.lemmas.List.Elements.{All-contains}
+use Rattle.std.proofs.lemmas.List.Elements.{All-contains, Contains-append_right}
 use Rattle.charlotte_calls.specs.Names.{opposite}
 use Rattle.charlotte_calls.specs.Packets.{is_addressed}
 use Rattle.charlotte_calls.specs.declared.calls.Answer.{Answer}
@@ -36,12 +36,13 @@ use Rattle.service_step.specs.declared.state.Outward.{Outward}
 use Rattle.service_step.specs.declared.state.Outward.TheVariants as outward
 use Rattle.service_step.specs.declared.state.Phase.TheVariants as phase
 use Rattle.service_step.specs.declared.state.Place.TheVariants as place
-use Rattle.world_effects.proofs.Allowed.{between}
+use Rattle.world_effects.proofs.Allowed.{between, sum_over-least}
+use Rattle.world_effects.proofs.Packets.{left-before}
 use Rattle.world_effects.proofs.Ends.{inward-same, outward-same}
-use Rattle.world_effects.specs.Change.{Change, Changes, Happens}
+use Rattle.world_effects.specs.Change.{Change, Changes, Happens, taken_at}
 use Rattle.world_effects.specs.Events.{taking}
 use Rattle.world_effects.specs.Sums.{AllSent}
-use Rattle.world_effects.specs.Under.{IsTaken}
+use Rattle.world_effects.specs.Under.{IsLeft, IsTaken}
 use Rattle.world_meaning.specs.Fields.{IsAskedAs, IsNews, value_of}
 use Rattle.world_meaning.specs.Invariant.{AreRight, Invariant, is_taken_of}
 use Rattle.world_meaning.specs.Packets.{IsParcelFor, IsTakenOf, IsUnderWay, IsUnwantedOf, Links, how_many, links_of, one_if}
@@ -55,11 +56,11 @@ use Rattle.silent_events.proofs.Rows.{IsTable}
 use Rattle.silent_events.specs.Learning.{IsLearning, IsLive}
 use Rattle.silent_events.specs.Quiet.{IsQuiet, IsSentWell}
 use Rattle.silent_events.specs.Silent.{IsStill}
-use Rattle.answered_events.specs.Swapped.{IsAnswer, IsAnswered, IsSettled, IsViewSettled, Same, Turned, news, swapped}
+use Rattle.answered_events.specs.Swapped.{IsAnswer, IsAnswered, IsSettled, IsViewSettled, Same, Turned, instead, news, swapped}
 use Rattle.answered_events.proofs.Dropped.{answer-parcel_for, taken-counts}
 use Rattle.answered_events.proofs.Meets.{IsOwnedAt, stands-first, there-here}
 use Rattle.answered_events.proofs.Settled.{answer-addressed, answer-to, settled-links, settled-right}
-use Rattle.answered_events.proofs.Swap.{swapped-changes, swapped-still, swapped-sum, swapped-was}
+use Rattle.answered_events.proofs.Swap.{swapped-after, swapped-changes, swapped-still, swapped-sum, swapped-was}
 
 -- a view whose activities come so far
 abbrev pub turned_view : HereView → KernelOutward → KernelInward → HereView
@@ -133,8 +134,30 @@ module _ (i : ℕ) (w : World) (s : State) (is : Invariant i w s) (k from : ℕ)
   pub middle-still : (P : PictureWhat → Type 0) → (P q.what → ⊥) → IsUnderWay (links_of w) P → IsUnderWay middle P
   middle-still P none = swapped-still b from q (news to at hops q) refl y P none
 
+  pub middle-number : (test : PictureWhat → Bool) → test (packet.Moved to at hops) ≡ false → how_many test middle + one_if (test q.what) ≡ how_many test (links_of w)
+  middle-number test none =
+      let both = swapped-sum b from q (news to at hops q) refl y (λ z. one_if (test z)) low low_from in
+      let zero_is : one_if (test (packet.Moved to at hops)) ≡ 0 = ap one_if none in
+      omega (arith, both, zero_is)
+
   pub middle-fewer : (e : EndId) → how_many (is_taken_of e) middle + one_if (is_taken_of e q.what) ≡ how_many (is_taken_of e) (links_of w)
   middle-fewer e = let both = swapped-sum b from q (news to at hops q) refl y (λ z. one_if (is_taken_of e z)) low low_from in omega (arith, both)
+
+  -- one that passes a test counts
+  pub middle-counts : (P : PictureWhat → Type 0) (test : PictureWhat → Bool) → (P (packet.Moved to at hops) → ⊥) → ((z : PictureWhat) → P z → test z ≡ true) → IsUnderWay middle P → 1 ≤ how_many test middle
+  middle-counts P test none passes under = by (swapped-after b from q (news to at hops q) refl y P under)
+    where
+      by : IsLeft b P ⊎ P (packet.Moved to at hops) → 1 ≤ how_many test middle
+      by (inr new) = absurd (none new)
+      by (inl left) =
+          let bounds = between is left.from left.to left.packet (left-before b left.from left.to left.packet left.there) in
+          let first_low = bounds.0 in
+          let second_low = bounds.1 in
+          let few = is.setting.few in
+          let least = sum_over-least (λ z. one_if (test z)) middle left.from left.to left.packet (omega (arith, first_low, few)) (omega (arith, second_low, few))
+              (Contains-append_right (taken_at (instead change from (news to at hops q)) left.from left.to) (b.left left.from left.to) left.packet left.there) in
+          let one : one_if (test left.packet.what) ≡ 1 = ap one_if (passes left.packet.what left.is) in
+          omega (arith, least, one)
 
   -- ---- entries
 
@@ -156,7 +179,7 @@ module _ (i : ℕ) (w : World) (s : State) (is : Invariant i w s) (k from : ℕ)
       by (inr other) = ap (λ a. if a then y e else (w.kernel j).table e) other.0
 
   -- it is here at this kernel alone
-  only-here : (j : ℕ) (v : HereView) → (w.kernel j).table to ≡ entry.Here v → (j ≡ k) × (v ≡ o.view)
+  pub only-here : (j : ℕ) (v : HereView) → (w.kernel j).table to ≡ entry.Here v → (j ≡ k) × (v ≡ o.view)
   only-here j v has =
       let same = here-kernel (length s.made) (links_of w) s.ends is.setting.few is.links.named is.links.marked is.stands.links.once to j k v o.view has o.here in
       (same, some-same v o.view (ap here (sym has ∙ ap (λ z. (w.kernel z).table to) same ∙ o.here)))
