@@ -217,7 +217,7 @@ module _ (i : ℕ) (w : World) (s : State) (is : Invariant i w s) (k from : ℕ)
 
 -- ---- a taken
 
-awaits-matched : (n : ℕ) (y : Entry) (o : HereView) → y ≡ entry.Here o → is_matched n o.outward ≡ true → awaits n y ≡ Some o
+pub awaits-matched : (n : ℕ) (y : Entry) (o : HereView) → y ≡ entry.Here o → is_matched n o.outward ≡ true → awaits n y ≡ Some o
 awaits-matched n y o at matched = ap (awaits n) at ∙ ap (λ b. if b then Some o else None) matched
 
 -- a taken that meets no send that is matched is dropped

@@ -5,3 +5,5 @@ pub mod Meets
 pub mod Dropped
 pub mod Turned
 pub mod Freed
+pub mod Completed
+pub mod Takings
