@@ -1,8 +1,7 @@
 -- A taken meets the send that is matched: the service completes it, and tells its owner at once where that waits.
-use Rattle.std.proofs.Common.{◌≡◌, ◌≢◌, ◌⊎◌, ◌↔◌, inl, inr, ℕ, ◌+◌, ◌<◌, ◌≤◌, Bool, true, false, nat_eq, ◌&&◌, if◌then◌else◌, List, [], ◌∷◌, ◌++◌, map, length, is_some, Option, None, Some, refl, sym, ap, subst, ◌∙◌, arith, true≢false, eq-eqb, eqb-true, append-nil, slice_get}
+use Rattle.std.proofs.Common.{◌≡◌, ◌↔◌, inl, inr, ℕ, ◌<◌, Bool, true, false, nat_eq, ◌&&◌, if◌then◌else◌, List, [], ◌∷◌, ◌++◌, map, length, is_some, None, Some, refl, sym, ap, subst, ◌∙◌, arith, true≢false, eq-eqb, eqb-true, slice_get}
 use Rattle.charlotte_calls.specs.declared.calls.Answer.TheVariants as answer
 use Rattle.charlotte_calls.specs.declared.calls.Report.{Report}
-use Rattle.charlotte_calls.specs.declared.calls.ServiceStep.{ServiceStep}
 use Rattle.charlotte_calls.specs.declared.calls.ServiceStep.TheVariants as step
 use Rattle.charlotte_calls.specs.declared.names.EndId.{EndId}
 use Rattle.charlotte_calls.specs.declared.names.Outcome.TheVariants as outcome
@@ -13,8 +12,7 @@ use Rattle.charlotte_calls.specs.declared.picture.PictureWhat.{PictureWhat}
 use Rattle.charlotte_calls.specs.declared.picture.PictureWhat.TheVariants as packet
 use Rattle.end_table.proofs.EndEq.{end_eq-refl}
 use Rattle.end_table.specs.Place.{end_eq}
-use Rattle.end_table.specs.Table.{IfHere, IsHereAnd, IsIdle, IsOfEnd}
-use Rattle.end_table.specs.declared.entry.Entry.{Entry}
+use Rattle.end_table.specs.Table.{IfHere, IsOfEnd}
 use Rattle.end_table.specs.declared.entry.Entry.TheVariants as entry
 use Rattle.end_table.specs.declared.entry.HereView.{HereView}
 use Rattle.end_table.specs.declared.entry.Outward.{Outward as KernelOutward}
@@ -32,16 +30,14 @@ use Rattle.kernel_step.specs.declared.phase.Phase.TheVariants as kernel_phase
 use Rattle.kernel_world.specs.World.{World, Takes, happens}
 use Rattle.service_change.proofs.EndEq.{puts-at, puts-other}
 use Rattle.service_consistent.proofs.Laws.{consistent_after}
-use Rattle.service_step.specs.Ends.{idles, is_living, is_made, is_taken, matched_message, owner, puts, turns_outward}
+use Rattle.service_step.specs.Ends.{idles, is_living, is_made, is_taken, matched_message, owner, turns_outward}
 use Rattle.service_step.specs.State.{Process, State, gains, given, later}
 use Rattle.service_step.specs.State as service
 use Rattle.service_step.specs.Steps.{IsServiceStep, after_complete, after_report, gains_owner}
 use Rattle.service_step.specs.declared.state.End.{End}
-use Rattle.service_step.specs.declared.state.Message.{Message}
 use Rattle.service_step.specs.declared.state.Outward.{Outward}
 use Rattle.service_step.specs.declared.state.Outward.TheVariants as outward
 use Rattle.service_step.specs.declared.state.Phase.TheVariants as phase
-use Rattle.service_step.specs.declared.state.Place.TheVariants as place
 use Rattle.world_effects.proofs.Allowed.{takes-allowed}
 use Rattle.world_effects.proofs.Ends.{inward-same}
 use Rattle.world_effects.specs.Change.{Happens}

@@ -1,5 +1,5 @@
 -- An answer that meets nothing is dropped: a taken whose end is destroyed, and an unwanted whose end noticed the death of its link.
-use Rattle.std.proofs.Common.{◌≡◌, ◌≢◌, ◌⊎◌, ◌↔◌, inl, inr, ℕ, ◌+◌, ◌<◌, ◌≤◌, Bool, true, false, not, ◌&&◌, nat_eq, if◌then◌else◌, List, [], ◌∷◌, length, Contains, Option, None, Some, refl, sym, ap, subst, ◌∙◌, arith, true≢false, eq-eqb, eqb-true}
+use Rattle.std.proofs.Common.{◌≡◌, ◌≢◌, ◌⊎◌, ◌↔◌, inl, inr, ℕ, ◌<◌, ◌≤◌, Bool, true, false, nat_eq, if◌then◌else◌, List, [], ◌∷◌, length, None, Some, refl, sym, ap, subst, ◌∙◌, arith, true≢false, eq-eqb, eqb-true}
 use Rattle.std.proofs.lemmas.Bool.Decides.{eqb_tells}
 use Rattle.charlotte_calls.specs.declared.names.EndId.{EndId}
 use Rattle.charlotte_calls.specs.declared.names.Pid.{Pid}
@@ -15,33 +15,31 @@ use Rattle.end_table.specs.declared.entry.Entry.TheVariants as entry
 use Rattle.end_table.specs.declared.entry.HereView.{HereView}
 use Rattle.end_table.specs.declared.entry.Inward.{Inward as KernelInward}
 use Rattle.end_table.specs.declared.entry.Inward.TheVariants as kernel_inward
-use Rattle.kernel_effects.specs.Effect.{Effect, nothing}
+use Rattle.kernel_effects.specs.Effect.{nothing}
 use Rattle.kernel_effects.specs.Rows.{frees_effect, row_effect, taken_effect, unwanted_effect, unwanted_here_effect}
 use Rattle.kernel_step.specs.Actions.{is_withdrawing}
 use Rattle.kernel_step.specs.Rows.{awaits, is_matched}
 use Rattle.kernel_world.specs.World.{World, Takes, happens}
 use Rattle.service_step.specs.Ends.{is_living, is_started_inward, is_taken}
 use Rattle.service_step.specs.State.{State}
-use Rattle.service_step.specs.declared.state.End.{End}
 use Rattle.service_step.specs.declared.state.Inward.{Inward}
 use Rattle.service_step.specs.declared.state.Inward.TheVariants as inward
 use Rattle.service_step.specs.declared.state.Place.TheVariants as place
 use Rattle.world_effects.proofs.Allowed.{between, takes-allowed}
 use Rattle.world_effects.proofs.Ends.{inward-same, outward-same}
-use Rattle.world_effects.specs.Change.{Becomes, Change, Changes, Happens}
+use Rattle.world_effects.specs.Change.{Change, Changes, Happens}
 use Rattle.world_effects.specs.Events.{taking}
 use Rattle.world_meaning.proofs.Goes.{Goes}
 use Rattle.world_meaning.specs.Fields.{IsAskedAs}
 use Rattle.world_meaning.specs.Invariant.{Invariant, NamesBelow, is_taken_of}
 use Rattle.world_meaning.specs.Packets.{IsParcelFor, IsTakenOf, IsUnderWay, IsUnwantedOf, Links, how_many, links_of, one_if}
-use Rattle.world_meaning.specs.StandsFor.{IsAskedOf, IsEndOf, IsInwardOf, IsProcessOf, home_of}
+use Rattle.world_meaning.specs.StandsFor.{IsEndOf, IsInwardOf, IsProcessOf, home_of}
 use Rattle.silent_events.proofs.Alike.{IsQuietly-same, some-same}
 use Rattle.silent_events.proofs.Clauses.{links-still}
-use Rattle.silent_events.proofs.Places.{here-living}
 use Rattle.silent_events.proofs.Passing.{passing-right}
 use Rattle.silent_events.specs.Quiet.{IsPassing, IsQuiet}
 use Rattle.answered_events.specs.Swapped.{IsAnswer, IsAnswered, Same, news, swapped}
-use Rattle.answered_events.proofs.Meets.{right-first, stands-first, taken-meets, there-here}
+use Rattle.answered_events.proofs.Meets.{right-first, stands-first, taken-meets}
 use Rattle.answered_events.proofs.Settled.{settled-links, settled-right}
 use Rattle.answered_events.proofs.Swap.{swapped-changes, swapped-still, swapped-sum, swapped-was}
 use Rattle.answered_events.proofs.World.{processes-kept, setting-after, sound-same}

@@ -1,8 +1,6 @@
 -- An unwanted meets the receive that is being withdrawn: the Cancel is answered, and the service frees the end.
-use Rattle.std.proofs.Common.{◌≡◌, ◌≢◌, ◌⊎◌, ◌↔◌, inl, inr, ℕ, ◌+◌, ◌<◌, ◌≤◌, Bool, true, false, nat_eq, ◌&&◌, if◌then◌else◌, List, [], ◌∷◌, ◌++◌, map, length, Option, None, Some, refl, sym, ap, subst, ◌∙◌, arith, true≢false, eq-eqb, eqb-true, append-nil}
-use Rattle.std.proofs.lemmas.Bool.Decides.{eqb_tells}
+use Rattle.std.proofs.Common.{◌≡◌, ◌⊎◌, inl, inr, ℕ, ◌<◌, Bool, true, false, nat_eq, ◌&&◌, if◌then◌else◌, List, [], ◌∷◌, ◌++◌, length, Some, refl, sym, ap, subst, ◌∙◌, arith, true≢false, eq-eqb, eqb-true, append-nil}
 use Rattle.charlotte_calls.specs.declared.calls.Answer.TheVariants as answer
-use Rattle.charlotte_calls.specs.declared.calls.ServiceStep.{ServiceStep}
 use Rattle.charlotte_calls.specs.declared.calls.ServiceStep.TheVariants as step
 use Rattle.charlotte_calls.specs.declared.names.EndId.{EndId}
 use Rattle.charlotte_calls.specs.declared.names.Pid.{Pid}
@@ -11,11 +9,10 @@ use Rattle.charlotte_calls.specs.declared.picture.PictureWhat.{PictureWhat}
 use Rattle.charlotte_calls.specs.declared.picture.PictureWhat.TheVariants as packet
 use Rattle.end_table.proofs.EndEq.{end_eq-refl}
 use Rattle.end_table.specs.Place.{end_eq, put}
-use Rattle.end_table.specs.Table.{IfHere, IsHereAnd, IsIdle, IsOfEnd}
+use Rattle.end_table.specs.Table.{IfHere, IsHereAnd, IsOfEnd}
 use Rattle.end_table.specs.declared.entry.Entry.{Entry}
 use Rattle.end_table.specs.declared.entry.Entry.TheVariants as entry
 use Rattle.end_table.specs.declared.entry.HereView.{HereView}
-use Rattle.end_table.specs.declared.entry.Holder.TheVariants as holder
 use Rattle.end_table.specs.declared.entry.Inward.TheVariants as kernel_inward
 use Rattle.kernel_effects.specs.Effect.{Effect, for_holder, nothing}
 use Rattle.kernel_effects.specs.Rows.{frees_effect, unwanted_effect, unwanted_here_effect}
@@ -28,7 +25,7 @@ use Rattle.kernel_world.specs.World.{World, Takes, happens}
 use Rattle.service_change.proofs.EndEq.{puts-at, puts-other}
 use Rattle.service_change.proofs.EndEq as service_ends
 use Rattle.service_consistent.proofs.Laws.{consistent_after}
-use Rattle.service_step.specs.Ends.{is_living, is_made, is_posted, is_started_inward, is_taken, is_withdrawn, owner, puts, turns_inward}
+use Rattle.service_step.specs.Ends.{is_living, is_made, is_posted, is_started_inward, is_withdrawn, owner, turns_inward}
 use Rattle.service_step.specs.State.{Process, State, is_cancelling, owner_cancels, turns, wakes}
 use Rattle.service_step.specs.Steps.{IsServiceStep, after_free, wakes_owner}
 use Rattle.service_step.specs.declared.state.End.{End}
@@ -44,9 +41,8 @@ use Rattle.world_meaning.proofs.Ends.{eq-same}
 use Rattle.world_meaning.proofs.Goes.{Goes}
 use Rattle.world_meaning.specs.Fields.{IsAskedAs}
 use Rattle.world_meaning.specs.Invariant.{Invariant, is_taken_of, is_unwanted_to}
-use Rattle.world_meaning.specs.Packets.{IsParcelFor, IsTakenOf, IsUnderWay, IsUnwantedOf, Links, how_many, links_of, one_if}
-use Rattle.world_meaning.specs.StandsFor.{IsAskedOf, IsInwardOf, IsProcessOf, home_of}
-use Rattle.answered_events.specs.Swapped.{IsViewSettled}
+use Rattle.world_meaning.specs.Packets.{IsParcelFor, IsTakenOf, IsUnderWay, IsUnwantedOf, Links, links_of, one_if}
+use Rattle.world_meaning.specs.StandsFor.{IsAskedOf, IsInwardOf, IsProcessOf}
 use Rattle.answered_events.proofs.Meets.{IsOwnedAt, stands-first, unwanted-meets}
 use Rattle.answered_events.proofs.Turned.{IsTurn, middle, middle-counts, middle-number, middle-still, middle-was, turned-links, turned-right, turned_view, with_entry}
 use Rattle.answered_events.proofs.World.{processes-told, setting-after, sound-same}

@@ -1,10 +1,9 @@
 -- Where an answer comes, and what it meets there.
-use Rattle.std.proofs.Common.{◌≡◌, ◌⊎◌, inl, inr, ℕ, ◌<◌, Bool, true, false, not, ◌&&◌, nat_eq, List, [], ◌∷◌, length, Contains, Some, refl, sym, ap, subst, ◌∙◌, true≢false}
+use Rattle.std.proofs.Common.{◌≡◌, ℕ, true, false, ◌&&◌, List, ◌∷◌, length, Contains, refl, sym, ap, subst, ◌∙◌, true≢false}
 use Rattle.std.proofs.lemmas.List.Elements.{All-contains}
 use Rattle.charlotte_calls.specs.declared.names.EndId.{EndId}
 use Rattle.charlotte_calls.specs.declared.names.Pid.{Pid}
 use Rattle.charlotte_calls.specs.declared.picture.Picture.{Picture}
-use Rattle.charlotte_calls.specs.declared.picture.PictureWhat.TheVariants as packet
 use Rattle.end_table.specs.Table.{IfHere, IsHereAnd, IsIdle}
 use Rattle.end_table.specs.declared.entry.Entry.{Entry}
 use Rattle.end_table.specs.declared.entry.Entry.TheVariants as entry
@@ -24,11 +23,11 @@ use Rattle.service_step.specs.declared.state.Phase.TheVariants as phase
 use Rattle.service_step.specs.declared.state.Place.{Place}
 use Rattle.service_step.specs.declared.state.Place.TheVariants as place
 use Rattle.world_effects.proofs.Lists.{first}
-use Rattle.world_meaning.specs.Invariant.{Invariant, IsPacketRight, IsTakenRight, IsVoidRight}
+use Rattle.world_meaning.specs.Invariant.{Invariant, IsPacketRight, IsTakenRight}
 use Rattle.world_meaning.specs.Packets.{Links, links_of}
 use Rattle.world_meaning.specs.StandsFor.{IsEndOf, IsOutwardOf, home_of}
 use Rattle.silent_events.proofs.Alike.{some-same}
-use Rattle.silent_events.proofs.Places.{here-kernel, here-living}
+use Rattle.silent_events.proofs.Places.{here-kernel}
 
 pub there-here : (x : Entry) (P : HereView → Type 0) → IsHereAnd x P → (v : HereView) × (x ≡ entry.Here v) × P v
 there-here (entry.Here v) P has = (v, refl, has)

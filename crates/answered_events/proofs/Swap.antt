@@ -1,12 +1,12 @@
 -- Which packets are under way, and how many, where an answer is replaced by its news.
-use Rattle.std.proofs.Common.{◌≡◌, ◌⊎◌, inl, inr, ℕ, ◌+◌, ◌<◌, Bool, true, false, nat_eq, if◌then◌else◌, List, [], ◌++◌, Contains, IfSome, Option, Some, unwrap_or, refl, sym, ap, subst, ◌∙◌, arith, append-nil, eq-eqb}
-use Rattle.std.proofs.lemmas.List.Elements.{All-contains, Contains-append_cases, Contains-append_left, Contains-append_right}
+use Rattle.std.proofs.Common.{◌≡◌, ◌⊎◌, inl, inr, ℕ, ◌+◌, ◌<◌, Bool, true, false, nat_eq, if◌then◌else◌, List, [], ◌++◌, Contains, IfSome, Option, Some, refl, sym, ap, subst, ◌∙◌, arith, append-nil, eq-eqb}
+use Rattle.std.proofs.lemmas.List.Elements.{All-contains, Contains-append_cases, Contains-append_right}
 use Rattle.charlotte_calls.specs.declared.names.EndId.{EndId}
 use Rattle.charlotte_calls.specs.declared.picture.Picture.{Picture}
 use Rattle.charlotte_calls.specs.declared.picture.PictureWhat.{PictureWhat}
 use Rattle.end_table.specs.declared.entry.Entry.{Entry}
 use Rattle.world_effects.proofs.Lists.{All-there}
-use Rattle.world_effects.proofs.Packets.{left-before, left-was, taken-there, there-taken, under_way-before}
+use Rattle.world_effects.proofs.Packets.{left-before, left-was, taken-there, under_way-before}
 use Rattle.world_effects.proofs.Sums.{sum_over-after}
 use Rattle.world_effects.specs.Change.{Change, Changes, sent_at, taken_at}
 use Rattle.world_effects.specs.Sums.{sum_taken}

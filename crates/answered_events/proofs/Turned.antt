@@ -1,5 +1,5 @@
 -- An answer meets an owned end whose send or receive is over by it: all clauses on links afterwards, and the kernel's table.
-use Rattle.std.proofs.Common.{◌≡◌, ◌≢◌, ◌⊎◌, ◌↔◌, inl, inr, ℕ, ◌+◌, ◌<◌, ◌≤◌, Bool, true, false, nat_eq, nat_lt, if◌then◌else◌, List, [], ◌∷◌, length, Contains, Option, None, Some, refl, sym, ap, subst, ◌∙◌, arith, true≢false, eq-eqb}
+use Rattle.std.proofs.Common.{◌≡◌, ◌≢◌, ◌⊎◌, inl, inr, ℕ, ◌+◌, ◌<◌, ◌≤◌, Bool, true, false, nat_eq, if◌then◌else◌, List, ◌∷◌, length, Some, refl, sym, ap, subst, ◌∙◌, arith, true≢false, eq-eqb}
 use Rattle.std.proofs.lemmas.Bool.Decides.{eqb_tells}
 use Rattle.std.proofs.lemmas.List.Elements.{All-contains, Contains-append_right}
 use Rattle.charlotte_calls.specs.Names.{opposite}
@@ -23,10 +23,8 @@ use Rattle.end_table.specs.declared.entry.Inward.TheVariants as kernel_inward
 use Rattle.end_table.specs.declared.entry.Outward.{Outward as KernelOutward}
 use Rattle.kernel_effects.specs.Effect.{Effect}
 use Rattle.kernel_effects.specs.Rows.{view_news}
-use Rattle.kernel_sound.specs.Sound.{IsSound}
 use Rattle.kernel_step.specs.Actions.{here, is_withdrawing, learned_view}
 use Rattle.kernel_world.specs.World.{World, Takes, happens}
-use Rattle.service_lawful.specs.Consistent.{is_open}
 use Rattle.service_step.specs.Ends.{is_living, is_made, is_posted, is_taken, matched_message}
 use Rattle.service_step.specs.State.{State, Process}
 use Rattle.service_step.specs.declared.state.End.{End}
@@ -43,7 +41,7 @@ use Rattle.world_effects.specs.Change.{Change, Changes, Happens, taken_at}
 use Rattle.world_effects.specs.Events.{taking}
 use Rattle.world_effects.specs.Sums.{AllSent}
 use Rattle.world_effects.specs.Under.{IsLeft, IsTaken}
-use Rattle.world_meaning.specs.Fields.{IsAskedAs, IsNews, value_of}
+use Rattle.world_meaning.specs.Fields.{IsAskedAs, IsNews}
 use Rattle.world_meaning.specs.Invariant.{AreRight, Invariant, is_taken_of}
 use Rattle.world_meaning.specs.Packets.{IsParcelFor, IsTakenOf, IsUnderWay, IsUnwantedOf, Links, how_many, links_of, one_if}
 use Rattle.world_meaning.specs.StandsFor.{AreLinksOf, IsEndOf, IsInwardOf, IsOutwardOf, home_of}
@@ -59,7 +57,7 @@ use Rattle.silent_events.specs.Silent.{IsStill}
 use Rattle.answered_events.specs.Swapped.{IsAnswer, IsAnswered, IsSettled, IsViewSettled, Same, Turned, instead, news, swapped}
 use Rattle.answered_events.proofs.Dropped.{answer-parcel_for, taken-counts}
 use Rattle.answered_events.proofs.Meets.{IsOwnedAt, stands-first, there-here}
-use Rattle.answered_events.proofs.Settled.{answer-addressed, answer-to, settled-links, settled-right}
+use Rattle.answered_events.proofs.Settled.{answer-addressed, settled-links, settled-right}
 use Rattle.answered_events.proofs.Swap.{swapped-after, swapped-changes, swapped-still, swapped-sum, swapped-was}
 
 -- a view whose activities come so far
@@ -155,7 +153,7 @@ module _ (i : ℕ) (w : World) (s : State) (is : Invariant i w s) (k from : ℕ)
           let second_low = bounds.1 in
           let few = is.setting.few in
           let least = sum_over-least (λ z. one_if (test z)) middle left.from left.to left.packet (omega (arith, first_low, few)) (omega (arith, second_low, few))
-              (Contains-append_right (taken_at (instead change from (news to at hops q)) left.from left.to) (b.left left.from left.to) left.packet left.there) in
+          (Contains-append_right (taken_at (instead change from (news to at hops q)) left.from left.to) (b.left left.from left.to) left.packet left.there) in
           let one : one_if (test left.packet.what) ≡ 1 = ap one_if (passes left.packet.what left.is) in
           omega (arith, least, one)
 

@@ -5,7 +5,7 @@ use Rattle.charlotte_calls.specs.declared.names.EndId.{EndId}
 use Rattle.charlotte_calls.specs.declared.names.Pid.{Pid}
 use Rattle.end_table.specs.declared.entry.Entry.{Entry}
 use Rattle.kernel_sound.specs.Sound.{IsSound}
-use Rattle.kernel_step.specs.Kernel.{Kernel, Process as KernelProcess}
+use Rattle.kernel_step.specs.Kernel.{Kernel}
 use Rattle.kernel_world.specs.World.{World}
 use Rattle.service_step.specs.State.{State, Process}
 use Rattle.service_step.specs.declared.state.End.{End}
