@@ -1,0 +1,4 @@
+pub mod Parts
+pub mod Anew
+pub mod Asked
+pub mod Void
