@@ -2,3 +2,5 @@ pub mod Parts
 pub mod Anew
 pub mod Asked
 pub mod Void
+pub mod World
+pub mod Unwanting
