@@ -211,6 +211,22 @@ module _ {n : ℕ} {w u : Links} {s : State} {c : Change} {t : EndId → End} {v
           let own : l ≡ m = some-same l m (ap value_of (sym (now-at j e at.0 at.1)) ∙ has) in
           (v.value, ap value_of (was-at j e at.0 at.1), subst (IsLike v.value) own is.like, inr (at.1, sym own))
 
+  -- the fields of the end afterwards, where before they were those of its view
+  pub anew-own : ((at : Stand) (m : MovingPicture) → HasFields w mine at m → (at ≡ At k) × (m ≡ v.value)) → (at : Stand) (m : MovingPicture) → HasFields u mine at m → m ≡ l
+  anew-own own at m has = let o = fields-was mine at m has in by o.0 o.1 o.3
+    where
+      by : (o : MovingPicture) → HasFields w mine at o → ((m ≡ o) × (at ≡ At k → mine ≡ mine → ⊥)) ⊎ ((mine ≡ mine) × (m ≡ l)) → m ≡ l
+      by o was (inl same) = absurd (same.1 (own at o was).0 refl)
+      by o was (inr now) = now.1
+
+  -- those of each other end
+  pub anew-other : (e : EndId) (at : Stand) (m : MovingPicture) → end_eq mine e ≡ false → HasFields u e at m → HasFields w e at m
+  anew-other e at m apart has = let o = fields-was e at m has in by o.0 o.1 o.3
+    where
+      by : (o : MovingPicture) → HasFields w e at o → ((m ≡ o) × (at ≡ At k → e ≡ mine → ⊥)) ⊎ ((e ≡ mine) × (m ≡ l)) → HasFields w e at m
+      by o was (inl same) = subst (HasFields w e at) (sym same.0) was
+      by o was (inr own) = absurd (true≢false (sym (end_eq-refl mine) ∙ subst (λ z. end_eq mine z ≡ false) own.0 apart))
+
   -- ---- the ends of the service
 
   pub place-same : (q : EndId) → (t q).place ≡ (s.ends q).place

@@ -4,3 +4,5 @@ pub mod Asked
 pub mod Void
 pub mod World
 pub mod Unwanting
+pub mod Kept
+pub mod Wanting

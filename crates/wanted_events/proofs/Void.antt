@@ -38,7 +38,7 @@ use Rattle.world_meaning.specs.Packets.{Each, IsParcelFor, IsUnderWay, IsUnwante
 use Rattle.world_meaning.specs.StandsFor.{AreLinksOf, IsInwardOf, entry_at, home_of}
 use Rattle.silent_events.proofs.Places.{fields-here, here-kernel}
 use Rattle.wanted_events.specs.Anew.{IsAnew, IsLike, IsVoidOf}
-use Rattle.wanted_events.proofs.Anew.{asked-anew, counted-anew, few-anew, fields-was, honest-anew, is-still, links-anew, living-was, marked-anew, named-anew, noticed-same, number-same, once-anew, open-same, right-anew, seen, under-same, under-was, view_or, void-parcel_for, withdrawing-still}
+use Rattle.wanted_events.proofs.Anew.{anew-other, anew-own, asked-anew, counted-anew, few-anew, honest-anew, is-still, links-anew, living-was, marked-anew, named-anew, noticed-same, number-same, once-anew, open-same, right-anew, seen, under-same, under-was, view_or, void-parcel_for, withdrawing-still}
 use Rattle.wanted_events.proofs.Asked.{cancels, had, home, last-of, lives, neither, none-void, only, opened, other-lives, own-fields, owned, pid, posted, there, view, withdrawing}
 
 living-made : (x : Place) → is_living x ≡ true → is_made x ≡ true
@@ -47,11 +47,11 @@ living-made (place.InMessage f n) is = refl
 living-made place.Destroyed is = absurd (true≢false (sym is))
 living-made place.Unmade is = absurd (true≢false (sym is))
 
-void-asks : (k : ℕ) (v : HereView) (e : EndId) (q j h : ℕ) (what : PictureWhat) → IsVoidOf k v what → IsAsking e q j h what → ⊥
+pub void-asks : (k : ℕ) (v : HereView) (e : EndId) (q j h : ℕ) (what : PictureWhat) → IsVoidOf k v what → IsAsking e q j h what → ⊥
 void-asks k v e q j h (packet.Unwanted to w at hops) is has = has
 void-asks k v e q j h _ is has = absurd is
 
-void-unwants : (k : ℕ) (v : HereView) (e : EndId) (q : ℕ) (what : PictureWhat) → IsVoidOf k v what → IsUnwantOf e q what → ⊥
+pub void-unwants : (k : ℕ) (v : HereView) (e : EndId) (q : ℕ) (what : PictureWhat) → IsVoidOf k v what → IsUnwantOf e q what → ⊥
 void-unwants k v e q (packet.Unwanted to w at hops) is has = has
 void-unwants k v e q _ is has = absurd is
 
@@ -172,19 +172,11 @@ module _ (i : ℕ) (w u : Links) (s : State) (right : AreRight i w s) (links : A
 
   -- the fields of the end afterwards
   now-own : (st : Stand) (m : MovingPicture) → HasFields u mine st m → m ≡ voided r v
-  now-own st m has = let o = fields-was b anew mine st m has in by o.0 o.1 o.3
-    where
-      by : (o : MovingPicture) → HasFields w mine st o → ((m ≡ o) × (st ≡ At k → mine ≡ mine → ⊥)) ⊎ ((mine ≡ mine) × (m ≡ voided r v)) → m ≡ voided r v
-      by o was (inl same) = absurd (same.1 (own-fields i w s right links kept few k v here st o was).0 refl)
-      by o was (inr own) = own.1
+  now-own = anew-own b anew (own-fields i w s right links kept few k v here)
 
   -- those of each other end
   now-other : (e : EndId) (st : Stand) (m : MovingPicture) → end_eq mine e ≡ false → HasFields u e st m → HasFields w e st m
-  now-other e st m apart has = let o = fields-was b anew e st m has in by o.0 o.1 o.3
-    where
-      by : (o : MovingPicture) → HasFields w e st o → ((m ≡ o) × (st ≡ At k → e ≡ mine → ⊥)) ⊎ ((e ≡ mine) × (m ≡ voided r v)) → HasFields w e st m
-      by o was (inl same) = subst (HasFields w e st) (sym same.0) was
-      by o was (inr own) = absurd (true≢false (sym (end_eq-refl mine) ∙ subst (λ z. end_eq mine z ≡ false) own.0 apart))
+  now-other = anew-other b anew
 
   -- ---- the clauses on what is asked
 
