@@ -1,6 +1,6 @@
 -- Where what an end keeps of the receives of its opposite changes, most clauses stay: entries are as they were but for that, and
 -- packets but for unwanteds.
-use Rattle.std.proofs.Common.{◌≡◌, ◌≢◌, ◌⊎◌, ◌↔◌, inl, inr, ℕ, ◌+◌, ◌<◌, ◌≤◌, Bool, true, false, nat_eq, nat_lt, ◌&&◌, if◌then◌else◌, List, [], ◌∷◌, length, Contains, Option, None, Some, IfSome, is_some, refl, sym, ap, subst, ◌∙◌, arith, true≢false, ne_eqb, lt-ltb}
+use Rattle.std.proofs.Common.{◌≡◌, ◌≢◌, ◌⊎◌, ◌↔◌, inl, inr, ℕ, ◌<◌, ◌≤◌, Bool, true, false, nat_eq, ◌&&◌, if◌then◌else◌, List, [], ◌∷◌, Contains, Option, None, Some, IfSome, is_some, refl, sym, ap, subst, ◌∙◌, arith, true≢false, ne_eqb, lt-ltb}
 use Rattle.std.proofs.lemmas.Bool.Decides.{eqb_tells}
 use Rattle.charlotte_calls.specs.Names.{opposite}
 use Rattle.charlotte_calls.specs.Packets.{is_addressed, names_kernels_below}
@@ -26,7 +26,6 @@ use Rattle.service_lawful.specs.Consistent.{is_open}
 use Rattle.service_step.specs.Ends.{is_living, is_made, is_taken, matched_message}
 use Rattle.service_step.specs.State.{State}
 use Rattle.service_step.specs.declared.state.End.{End}
-use Rattle.service_step.specs.declared.state.Outward.TheVariants as outward
 use Rattle.service_step.specs.declared.state.Place.{Place}
 use Rattle.service_step.specs.declared.state.Place.TheVariants as place
 use Rattle.world_effects.proofs.Aside.{sent-each}
@@ -35,15 +34,14 @@ use Rattle.world_effects.proofs.Lists.{first, none-there}
 use Rattle.world_effects.proofs.Packets.{each-after, left-before, left-was, left_or_sent, under_way-after, under_way-still, under_way-was}
 use Rattle.world_effects.proofs.Sums.{sum_over-same}
 use Rattle.world_effects.specs.Change.{Change, Changes}
-use Rattle.world_effects.specs.Under.{IsLeft, IsSent, IsTaken}
+use Rattle.world_effects.specs.Under.{IsLeft, IsSent}
 use Rattle.world_meaning.proofs.Ends.{opposite-twice}
 use Rattle.world_meaning.proofs.Sums.{over-same}
 use Rattle.world_meaning.specs.Fields.{Stand, At, Flying, HasFields, IsAskedAs, IsHeard, IsNews, IsNoMore, value_of}
-use Rattle.world_meaning.specs.Invariant.{AreAsked, AreCancelling, AreCounted, AreMarked, AreNamed, AreSentOnce, IsFew, IsHereIfLiving, IsHonest, IsPacketRight, NamesBelow, is_message_of, is_taken_of, is_unwanted_to}
-use Rattle.world_meaning.specs.Packets.{Each, IsBackOf, IsParcelFor, IsParcelOf, IsTakenOf, IsUnderWay, IsUnwantedOf, Links, how_many, one_if, over_kernels, sum_over, values_for, values_of}
+use Rattle.world_meaning.specs.Invariant.{AreAsked, AreCounted, AreMarked, AreNamed, AreSentOnce, IsFew, IsHonest, IsPacketRight, NamesBelow, is_message_of, is_taken_of}
+use Rattle.world_meaning.specs.Packets.{IsBackOf, IsParcelFor, IsParcelOf, IsTakenOf, IsUnderWay, Links, how_many, one_if, over_kernels, sum_over, values_for, values_of}
 use Rattle.world_meaning.specs.StandsFor.{AreLinksOf, IsEndOf, IsInMessage, IsInwardOf, IsOutwardOf, IsWaitingWith, entry_at, home_of, standing}
 use Rattle.silent_events.proofs.Alike.{some-same}
-use Rattle.silent_events.proofs.Places.{fields-here}
 use Rattle.wanted_events.specs.Anew.{IsAnew, IsLike, IsVoidOf}
 
 -- a list in which nothing stands

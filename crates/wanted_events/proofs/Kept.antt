@@ -1,8 +1,7 @@
 -- An open end keeps that a receive of its opposite is asked for: all clauses on links stay.
-use Rattle.std.proofs.Common.{◌≡◌, ◌⊎◌, ◌↔◌, inl, inr, ℕ, ◌<◌, ◌≤◌, Bool, true, false, [], ◌∷◌, length, Contains, None, refl, sym, ap, subst, ◌∙◌, true≢false}
+use Rattle.std.proofs.Common.{◌≡◌, ◌⊎◌, ◌↔◌, inl, inr, ℕ, ◌<◌, ◌≤◌, Bool, true, false, [], length, None, refl, sym, ap, subst, ◌∙◌}
 use Rattle.charlotte_calls.specs.Names.{opposite}
 use Rattle.charlotte_calls.specs.declared.names.EndId.{EndId}
-use Rattle.charlotte_calls.specs.declared.names.Pid.{Pid}
 use Rattle.charlotte_calls.specs.declared.picture.MovingPicture.{MovingPicture}
 use Rattle.charlotte_calls.specs.declared.picture.PictureWhat.{PictureWhat}
 use Rattle.end_table.proofs.EndEq.{end_eq-same}
@@ -11,11 +10,9 @@ use Rattle.end_table.specs.Table.{IsHereAnd}
 use Rattle.end_table.specs.declared.entry.Entry.TheVariants as entry
 use Rattle.end_table.specs.declared.entry.HereView.{HereView}
 use Rattle.kernel_effects.specs.Effect.{puts, stays}
-use Rattle.kernel_step.specs.Actions.{is_withdrawing}
 use Rattle.service_lawful.specs.Consistent.{is_open}
 use Rattle.service_step.specs.Ends.{is_living, is_made, is_posted}
 use Rattle.service_step.specs.State.{State}
-use Rattle.service_step.specs.declared.state.Place.TheVariants as place
 use Rattle.world_effects.proofs.Ends.{inward-same}
 use Rattle.world_effects.proofs.Lists.{none-there}
 use Rattle.world_effects.proofs.Packets.{each-after, under_way-was}
@@ -23,8 +20,8 @@ use Rattle.world_effects.proofs.Sums.{sum_over-same}
 use Rattle.world_effects.specs.Change.{Change, Changes}
 use Rattle.world_meaning.specs.Fields.{Stand, At, HasFields, IsAskedAs, IsAsking, IsUnserved, IsUnwantOf, value_of}
 use Rattle.world_meaning.specs.Invariant.{AreRight, AreWanted, IsPacketRight, IsServed, IsUnwantedOnce, is_unwanted_to}
-use Rattle.world_meaning.specs.Packets.{Each, IsParcelFor, IsUnderWay, IsUnwantedOf, Links, how_many, one_if}
-use Rattle.world_meaning.specs.StandsFor.{AreLinksOf, IsInwardOf, entry_at, home_of}
+use Rattle.world_meaning.specs.Packets.{Each, IsParcelFor, IsUnderWay, IsUnwantedOf, Links, one_if}
+use Rattle.world_meaning.specs.StandsFor.{AreLinksOf, entry_at, home_of}
 use Rattle.silent_events.proofs.Places.{fields-here}
 use Rattle.wanted_events.specs.Anew.{IsAnew}
 use Rattle.wanted_events.proofs.Anew.{anew-other, anew-own, asked-anew, counted-anew, few-anew, fields-was, honest-anew, is-still, links-anew, marked-anew, named-anew, once-anew, right-anew, seen, under-still, withdrawing-still}

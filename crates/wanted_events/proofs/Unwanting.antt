@@ -1,5 +1,5 @@
 -- An unwant is taken at an open end that is here and did not serve that receive yet: the service goes by its withdrawal.
-use Rattle.std.proofs.Common.{◌≡◌, ◌⊎◌, inl, inr, ℕ, ◌+◌, ◌<◌, Bool, true, false, nat_eq, nat_lt, if◌then◌else◌, List, [], ◌∷◌, ◌++◌, length, Contains, Some, refl, sym, ap, subst, ◌∙◌, lt-ltb, ltb-true, append-nil}
+use Rattle.std.proofs.Common.{◌≡◌, ◌⊎◌, inl, inr, ℕ, ◌<◌, Bool, true, false, nat_lt, if◌then◌else◌, List, [], ◌∷◌, ◌++◌, length, Contains, refl, sym, ap, subst, ◌∙◌, lt-ltb, ltb-true}
 use Rattle.charlotte_calls.specs.Names.{opposite}
 use Rattle.charlotte_calls.specs.declared.calls.ServiceStep.TheVariants as step
 use Rattle.charlotte_calls.specs.declared.names.EndId.{EndId}
@@ -8,7 +8,7 @@ use Rattle.charlotte_calls.specs.declared.picture.MovingPicture.{MovingPicture}
 use Rattle.charlotte_calls.specs.declared.picture.Picture.{Picture}
 use Rattle.charlotte_calls.specs.declared.picture.PictureWhat.{PictureWhat}
 use Rattle.charlotte_calls.specs.declared.picture.PictureWhat.TheVariants as packet
-use Rattle.end_table.specs.Entries.{is_news, learned}
+use Rattle.end_table.specs.Entries.{is_news}
 use Rattle.end_table.specs.Place.{end_eq}
 use Rattle.end_table.specs.Table.{IfHere, IsOfEnd}
 use Rattle.end_table.specs.declared.entry.Entry.{Entry}
@@ -17,7 +17,7 @@ use Rattle.end_table.specs.declared.entry.HereView.{HereView}
 use Rattle.end_table.specs.declared.entry.Inward.{Inward}
 use Rattle.end_table.specs.declared.entry.Inward.TheVariants as inward
 use Rattle.kernel_effects.specs.Effect.{Effect, nothing, puts, stays}
-use Rattle.kernel_effects.specs.Actions.{learn_effect, live_packets, news_packets}
+use Rattle.kernel_effects.specs.Actions.{learn_effect, live_packets}
 use Rattle.kernel_effects.specs.Rows.{row_effect, unwant_effect, view_news, voided_view, voids_effect}
 use Rattle.kernel_sound.proofs.Put.{IsViewAfter}
 use Rattle.kernel_sound.specs.Sound.{IsHeldWell}
@@ -28,13 +28,12 @@ use Rattle.service_lawful.specs.Consistent.{IsConsistent}
 use Rattle.service_step.specs.Ends.{is_made}
 use Rattle.service_step.specs.State.{State}
 use Rattle.service_step.specs.Steps.{IsServiceStep}
-use Rattle.service_step.specs.declared.state.End.{End}
 use Rattle.world_effects.proofs.Lists.{first}
 use Rattle.world_effects.specs.Change.{Change, Changes, Happens}
 use Rattle.world_effects.specs.Events.{taking}
 use Rattle.world_effects.specs.Under.{IsTaken}
 use Rattle.world_meaning.proofs.Goes.{Goes}
-use Rattle.world_meaning.specs.Fields.{IsAsking, IsNews, IsUnwantOf, value_of}
+use Rattle.world_meaning.specs.Fields.{IsAsking, IsNews, IsUnwantOf}
 use Rattle.world_meaning.specs.Invariant.{AreRight, Invariant}
 use Rattle.world_meaning.specs.Packets.{IsUnderWay, Links, links_of}
 use Rattle.world_meaning.specs.StandsFor.{AreLinksOf}
@@ -42,12 +41,12 @@ use Rattle.silent_events.proofs.Clauses.{links-still}
 use Rattle.silent_events.proofs.Hearing.{IsHearing, hears, learns-so}
 use Rattle.silent_events.proofs.Learning.{learning-right}
 use Rattle.silent_events.proofs.Rows.{IsTable}
-use Rattle.silent_events.proofs.Taking.{change, effect, happens-so, table-is, taken-well}
+use Rattle.silent_events.proofs.Taking.{happens-so, table-is, taken-well}
 use Rattle.silent_events.specs.Learning.{IsLearning}
 use Rattle.silent_events.specs.Quiet.{IsQuiet}
 use Rattle.silent_events.specs.Silent.{IsStill}
 use Rattle.wanted_events.proofs.Anew.{entry-now, entry-still}
-use Rattle.wanted_events.proofs.Parts.{between, first-part, last-part, taking_last, untaken}
+use Rattle.wanted_events.proofs.Parts.{between, first-part, last-part, taking_last}
 use Rattle.wanted_events.proofs.Void.{anew, links-void, may-withdraw, right-void, voided, voiding, withdrawn}
 use Rattle.wanted_events.proofs.World.{invariant-anew, sound-view}
 

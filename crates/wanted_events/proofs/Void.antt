@@ -1,10 +1,9 @@
 -- A receive that was asked of an open end is taken back there: the service withdraws it, and all clauses on links stay.
-use Rattle.std.proofs.Common.{◌≡◌, ◌⊎◌, inl, inr, ℕ, ◌+◌, ◌<◌, ◌≤◌, Bool, true, false, ◌&&◌, List, [], ◌∷◌, length, Contains, None, refl, sym, ap, subst, ◌∙◌, arith, true≢false}
+use Rattle.std.proofs.Common.{◌≡◌, inl, inr, ℕ, ◌+◌, ◌<◌, ◌≤◌, Bool, true, false, ◌&&◌, [], ◌∷◌, length, None, refl, sym, ap, subst, ◌∙◌, arith, true≢false}
 use Rattle.charlotte_calls.specs.Names.{opposite}
 use Rattle.charlotte_calls.specs.declared.names.EndId.{EndId}
 use Rattle.charlotte_calls.specs.declared.names.Pid.{Pid}
 use Rattle.charlotte_calls.specs.declared.picture.MovingPicture.{MovingPicture}
-use Rattle.charlotte_calls.specs.declared.picture.Picture.{Picture}
 use Rattle.charlotte_calls.specs.declared.picture.PictureWhat.{PictureWhat}
 use Rattle.charlotte_calls.specs.declared.picture.PictureWhat.TheVariants as packet
 use Rattle.end_table.proofs.EndEq.{end_eq-refl, end_eq-same}
@@ -15,7 +14,6 @@ use Rattle.end_table.specs.declared.entry.HereView.{HereView}
 use Rattle.end_table.specs.declared.entry.Inward.TheVariants as kernel_inward
 use Rattle.kernel_effects.specs.Effect.{puts, stays}
 use Rattle.kernel_sound.specs.Sound.{IsHeldWell}
-use Rattle.kernel_step.specs.Actions.{is_withdrawing}
 use Rattle.service_change.proofs.EndEq.{puts-at, puts-other, end_eq-refl as service_refl}
 use Rattle.service_lawful.specs.Consistent.{IsConsistent, is_open}
 use Rattle.service_step.specs.Ends.{is_living, is_made, is_posted, owner, turns_inward}
@@ -30,16 +28,15 @@ use Rattle.world_effects.proofs.Lists.{first, only-there}
 use Rattle.world_effects.proofs.Packets.{each-after, under_way-sent}
 use Rattle.world_effects.proofs.Sums.{sum_over-after}
 use Rattle.world_effects.specs.Change.{Change, Changes}
-use Rattle.world_effects.specs.Under.{IsSent}
-use Rattle.world_meaning.proofs.Ends.{eq-same, opposite-apart, opposite-twice}
-use Rattle.world_meaning.specs.Fields.{Stand, At, HasFields, IsAskedAs, IsAsking, IsUnserved, IsUnwantOf, value_of}
+use Rattle.world_meaning.proofs.Ends.{eq-same, opposite-twice}
+use Rattle.world_meaning.specs.Fields.{Stand, At, HasFields, IsAskedAs, IsAsking, IsUnserved, IsUnwantOf}
 use Rattle.world_meaning.specs.Invariant.{AreRight, AreWanted, IsPacketRight, IsServed, IsUnwantedOnce, is_unwanted_to}
 use Rattle.world_meaning.specs.Packets.{Each, IsParcelFor, IsUnderWay, IsUnwantedOf, Links, how_many, one_if}
 use Rattle.world_meaning.specs.StandsFor.{AreLinksOf, IsInwardOf, entry_at, home_of}
-use Rattle.silent_events.proofs.Places.{fields-here, here-kernel}
-use Rattle.wanted_events.specs.Anew.{IsAnew, IsLike, IsVoidOf}
+use Rattle.silent_events.proofs.Places.{here-kernel}
+use Rattle.wanted_events.specs.Anew.{IsAnew, IsVoidOf}
 use Rattle.wanted_events.proofs.Anew.{anew-other, anew-own, asked-anew, counted-anew, few-anew, honest-anew, is-still, links-anew, living-was, marked-anew, named-anew, noticed-same, number-same, once-anew, open-same, right-anew, seen, under-same, under-was, view_or, void-parcel_for, withdrawing-still}
-use Rattle.wanted_events.proofs.Asked.{cancels, had, home, last-of, lives, neither, none-void, only, opened, other-lives, own-fields, owned, pid, posted, there, view, withdrawing}
+use Rattle.wanted_events.proofs.Asked.{cancels, had, last-of, none-void, only, opened, other-lives, own-fields, owned, pid, posted, there, view, withdrawing}
 
 living-made : (x : Place) → is_living x ≡ true → is_made x ≡ true
 living-made (place.Owned p) is = refl

@@ -1,6 +1,6 @@
 -- A want is taken at an open end that is here, did not serve that receive yet, and has no send that waits: the want is kept, and the
 -- service goes by no step.
-use Rattle.std.proofs.Common.{◌≡◌, ◌⊎◌, inl, inr, ℕ, ◌+◌, ◌<◌, ◌≤◌, Bool, true, false, nat_eq, nat_lt, if◌then◌else◌, List, [], ◌∷◌, ◌++◌, length, Contains, Some, refl, sym, ap, subst, ◌∙◌, arith, true≢false, lt-ltb, ltb-true, ltb-false, append-nil}
+use Rattle.std.proofs.Common.{◌≡◌, ◌⊎◌, inl, inr, ℕ, ◌+◌, ◌<◌, ◌≤◌, Bool, true, false, nat_lt, if◌then◌else◌, List, [], ◌∷◌, ◌++◌, length, Contains, refl, sym, ap, subst, ◌∙◌, arith, true≢false, lt-ltb, ltb-false, append-nil}
 use Rattle.charlotte_calls.specs.Names.{opposite}
 use Rattle.charlotte_calls.specs.declared.names.EndId.{EndId}
 use Rattle.charlotte_calls.specs.declared.names.Pid.{Pid}
@@ -36,7 +36,7 @@ use Rattle.world_effects.specs.Sums.{AllSent}
 use Rattle.world_effects.specs.Under.{IsTaken}
 use Rattle.world_meaning.proofs.Ends.{opposite-apart, opposite-twice}
 use Rattle.world_meaning.proofs.Goes.{Goes}
-use Rattle.world_meaning.specs.Fields.{At, HasFields, IsAsking, IsNews, IsNoMore, value_of}
+use Rattle.world_meaning.specs.Fields.{At, HasFields, IsAsking, IsNews, value_of}
 use Rattle.world_meaning.specs.Invariant.{AreRight, Invariant}
 use Rattle.world_meaning.specs.Packets.{IsUnderWay, Links, links_of}
 use Rattle.world_meaning.specs.StandsFor.{AreLinksOf, entry_at}
