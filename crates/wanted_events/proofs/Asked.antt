@@ -42,7 +42,7 @@ there-here _ P has = absurd has
 open-so : (x : End) → is_living x.place ≡ true → x.noticed ≡ false → is_open x ≡ true
 open-so x lives unaware = ap (λ z. z && (if x.noticed then false else true)) lives ∙ ap (λ z. if z then false else true) unaware
 
-posted-so : (x : Inward) → is_posted x ≡ true → x ≡ inward.Posted
+pub posted-so : (x : Inward) → is_posted x ≡ true → x ≡ inward.Posted
 posted-so inward.Posted is = refl
 posted-so inward.Idle is = absurd (true≢false (sym is))
 posted-so inward.Withdrawn is = absurd (true≢false (sym is))

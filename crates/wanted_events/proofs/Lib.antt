@@ -6,3 +6,4 @@ pub mod World
 pub mod Unwanting
 pub mod Kept
 pub mod Wanting
+pub mod Matching
