@@ -6,4 +6,5 @@ pub mod World
 pub mod Unwanting
 pub mod Kept
 pub mod Wanting
+pub mod Cleared
 pub mod Matching

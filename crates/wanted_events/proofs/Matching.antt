@@ -27,10 +27,10 @@ use Rattle.service_step.specs.declared.state.Outward.TheVariants as outward
 use Rattle.service_step.specs.declared.state.Place.{Place}
 use Rattle.service_step.specs.declared.state.Place.TheVariants as place
 use Rattle.world_effects.proofs.Lists.{first, first_or_later, later, none-there}
-use Rattle.world_meaning.specs.Fields.{Stand, At, Flying, HasFields, IsAskedAs, IsUnserved}
+use Rattle.world_meaning.specs.Fields.{At, Flying, IsAskedAs, IsUnserved}
 use Rattle.world_meaning.specs.Invariant.{AreRight, is_message_of, is_taken_of}
 use Rattle.world_meaning.specs.Packets.{IsUnderWay, Links, how_many, one_if, values_of}
-use Rattle.world_meaning.specs.StandsFor.{AreLinksOf, IsEnclosed, IsEndOf, IsInMessage, IsInwardOf, IsOutwardOf, entry_at, home_of}
+use Rattle.world_meaning.specs.StandsFor.{AreLinksOf, IsEnclosed, IsInMessage, IsInwardOf, IsOutwardOf, entry_at, home_of}
 use Rattle.silent_events.proofs.Places.{here-kernel}
 use Rattle.wanted_events.proofs.Anew.{view_or}
 use Rattle.wanted_events.proofs.Asked.{had, lives, opened, own-fields, posted-so, there-here, unaware}
