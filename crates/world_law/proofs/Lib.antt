@@ -1,3 +1,4 @@
 pub mod Wired
 pub mod Start
+pub mod Takings
 pub mod Run

@@ -27,8 +27,7 @@ use Rattle.end_table.specs.Owned.{AreEndsOf}
 use Rattle.service_step.specs.State.{State}
 use Rattle.service_runs.proofs.Lawful.{runs_are_lawful}
 use Rattle.service_lawful.proofs.Turned.{turned}
-use Rattle.silent_events.proofs.Hearing.{hearing-goes}
-use Rattle.silent_events.proofs.Taking.{taking-goes}
+use Rattle.world_law.proofs.Takings.{takes-goes}
 use Rattle.calls_that_begin.proofs.Makes.{make-goes}
 use Rattle.calls_that_begin.proofs.Receives.{receive-goes}
 use Rattle.world_meaning.proofs.Goes.{Goes}
@@ -163,8 +162,7 @@ goes-event g i w s (Takes k from) is homes allowed covered = by (w.packets from 
   where
     by : (qs : List Picture) → w.packets from k ≡ qs → IsCoveredTaking (w.kernel k).table qs → Goes i w s (Takes k from)
     by [] there covered = absurd covered
-    by (q ∷ others) there (inl silent) = taking-goes i w s is k from q others there silent
-    by (q ∷ others) there (inr heard) = hearing-goes i w s is k from q others there heard
+    by (q ∷ others) there covered = takes-goes i w s is k from q.stamp others q.what there covered
 goes-event g i w s (Calls k p c mine) is homes allowed covered = by c (refusal p (w.kernel k).table (w.kernel k).made mine (has_report (process_of p (w.kernel k))) c) refl covered
   where
     below : p.0 < length s.homes

@@ -1,14 +1,19 @@
 -- What is claimed of a run: its events are, by their service steps, a lawful run of the link service, and the world stands for the
 -- state of the service after each of them.
-use Rattle.std.specs.Prelude.{◌≡◌, ◌⊎◌, List, [], ◌∷◌, ◌++◌, map, Option, Some, None}
+use Rattle.std.specs.Prelude.{◌≡◌, true, List, [], ◌∷◌, ◌++◌, map, Option, Some, None}
 use Rattle.charlotte_calls.specs.declared.calls.Call.{Call}
 use Rattle.charlotte_calls.specs.declared.calls.Call.TheVariants as call
 use Rattle.charlotte_calls.specs.declared.calls.Cause.{Cause}
 use Rattle.charlotte_calls.specs.declared.calls.ServiceStep.{ServiceStep}
 use Rattle.charlotte_calls.specs.declared.names.EndId.{EndId}
 use Rattle.charlotte_calls.specs.declared.picture.Picture.{Picture}
+use Rattle.charlotte_calls.specs.declared.picture.PictureWhat.{PictureWhat}
+use Rattle.charlotte_calls.specs.declared.picture.PictureWhat.TheVariants as packet
 use Rattle.charlotte_calls.specs.declared.setting.Setting.{Setting}
+use Rattle.end_table.specs.Table.{IfHere}
 use Rattle.end_table.specs.declared.entry.Entry.{Entry}
+use Rattle.end_table.specs.declared.entry.Outward.{Outward}
+use Rattle.end_table.specs.declared.entry.Outward.TheVariants as outward
 use Rattle.kernel_sound.specs.Sound.{addressee}
 use Rattle.kernel_step.specs.Calls.{refusal}
 use Rattle.kernel_step.specs.Kernel.{process_of, has_report}
@@ -16,7 +21,6 @@ use Rattle.kernel_world.specs.World.{World, Event, Calls, Takes, happens, outcom
 use Rattle.service_step.specs.Lawful.{IsLawful}
 use Rattle.service_step.specs.Run.{IsRunFrom, IsServiceRun, state_after, start_state}
 use Rattle.service_step.specs.State.{State}
-use Rattle.silent_events.specs.Silent.{IsLearnedAt, IsSilentAt}
 use Rattle.world_meaning.specs.StandsFor.{StandsFor}
 
 -- the service goes with an event: its steps are allowed one after the other, and then the world stands for the state that they leave
@@ -60,11 +64,32 @@ IsCoveredCall None call.Make = Unit {0}
 IsCoveredCall None (call.Receive on) = Unit {0}
 IsCoveredCall None _ = ⊥
 
--- the taking of a packet that means nothing to the service: by the entry of the end that it is addressed to it tells nothing new, or
--- no more than where the opposite end is
+-- no send waits
+abbrev pub HasNoWaiting : Outward → Type 0
+HasNoWaiting outward.Idle = Unit {0}
+HasNoWaiting (outward.Waiting n bytes xs) = ⊥
+HasNoWaiting (outward.Matched n) = Unit {0}
+HasNoWaiting outward.Unreported = Unit {0}
+
+-- packets, by the entry of the end that they are addressed to: every unwant, taken, moved, known, forget and goneseen; a want that meets
+-- no send that waits; a gone that meets no end which does not know of the death of its link yet
+abbrev pub IsCoveredAt : PictureWhat → Entry → Type 0
+IsCoveredAt (packet.Want to w at hops) x = IfHere x (λ v. HasNoWaiting v.outward)
+IsCoveredAt (packet.Unwant to w at hops) x = Unit {0}
+IsCoveredAt (packet.Unwanted to w at hops) x = ⊥
+IsCoveredAt (packet.Parcel to n w at hops bytes ms) x = ⊥
+IsCoveredAt (packet.Taken to n at hops) x = Unit {0}
+IsCoveredAt (packet.Back to n ms) x = ⊥
+IsCoveredAt (packet.Gone to at) x = IfHere x (λ v. v.value.dead ≡ true)
+IsCoveredAt (packet.Moved to at hops) x = Unit {0}
+IsCoveredAt (packet.Known to hops) x = Unit {0}
+IsCoveredAt (packet.Forget to hops) x = Unit {0}
+IsCoveredAt (packet.GoneSeen to) x = Unit {0}
+
+-- the taking of the first of these packets
 abbrev pub IsCoveredTaking : (EndId → Entry) → List Picture → Type 0
 IsCoveredTaking table [] = ⊥
-IsCoveredTaking table (q ∷ others) = IsSilentAt q.what (table (addressee q.what)) ⊎ IsLearnedAt q.what (table (addressee q.what))
+IsCoveredTaking table (q ∷ others) = IsCoveredAt q.what (table (addressee q.what))
 
 abbrev pub IsCovered : World → Event → Type 0
 IsCovered w (Calls k p c mine) = IsCoveredCall (refusal p (w.kernel k).table (w.kernel k).made mine (has_report (process_of p (w.kernel k))) c) c

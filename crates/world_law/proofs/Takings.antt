@@ -1,0 +1,93 @@
+-- The service goes with the takings that are covered.
+use Rattle.std.proofs.Common.{◌≡◌, ◌⊎◌, inl, inr, ℕ, ◌≤◌, ◌<◌, Bool, true, false, leb, List, ◌∷◌, refl, sym, subst}
+use Rattle.std.proofs.lemmas.Bool.Decides.{leb_tells}
+use Rattle.charlotte_calls.specs.declared.names.EndId.{EndId}
+use Rattle.charlotte_calls.specs.declared.picture.Picture.{Picture}
+use Rattle.charlotte_calls.specs.declared.picture.PictureWhat.{PictureWhat}
+use Rattle.charlotte_calls.specs.declared.picture.PictureWhat.TheVariants as packet
+use Rattle.end_table.specs.Table.{IfHere, IsHereAnd}
+use Rattle.end_table.specs.declared.entry.Entry.{Entry}
+use Rattle.end_table.specs.declared.entry.Entry.TheVariants as entry
+use Rattle.end_table.specs.declared.entry.HereView.{HereView}
+use Rattle.end_table.specs.declared.entry.Outward.{Outward}
+use Rattle.end_table.specs.declared.entry.Outward.TheVariants as outward
+use Rattle.kernel_sound.specs.Sound.{addressee}
+use Rattle.kernel_world.specs.World.{World, Takes}
+use Rattle.service_step.specs.State.{State}
+use Rattle.answered_events.proofs.Takings.{taken-goes}
+use Rattle.silent_events.proofs.Hearing.{hearing-goes}
+use Rattle.silent_events.proofs.Taking.{taking-goes}
+use Rattle.wanted_events.proofs.Unwanting.{unwant-goes}
+use Rattle.wanted_events.proofs.Wanting.{IsNotWaiting, want-kept-goes}
+use Rattle.world_law.specs.Law.{HasNoWaiting, IsCoveredAt}
+use Rattle.world_meaning.proofs.Goes.{Goes}
+use Rattle.world_meaning.specs.Invariant.{Invariant}
+
+free : (o : Outward) → HasNoWaiting o → IsNotWaiting o
+free outward.Idle h = tt
+free (outward.Waiting n bytes xs) h = absurd h
+free (outward.Matched n) h = tt
+free outward.Unreported h = tt
+
+module _ (i : ℕ) (w : World) (s : State) (is : Invariant i w s) (k from stamp : ℕ) (others : List Picture) where
+  abbrev First : PictureWhat → Type 0
+  First what = w.packets from k ≡ record { stamp = stamp; what = what } ∷ others
+
+  abbrev at : PictureWhat → Picture
+  at what = record { stamp = stamp; what = what }
+
+  -- an end that is here knows of the death of its link, or else served the receive already, or did not
+  by-view : {X : Type 0} (v : HereView) (n : ℕ) → (v.value.dead ≡ true → X) → (v.value.dead ≡ false → n ≤ v.value.served → X) → (v.value.dead ≡ false → v.value.served < n → X) → X
+  by-view {X} v n dead served unserved = of_dead v.value.dead refl
+    where
+      of_served : v.value.dead ≡ false → ((leb n v.value.served ≡ true) × (n ≤ v.value.served)) ⊎ ((leb n v.value.served ≡ false) × (v.value.served < n)) → X
+      of_served alive (inl yes) = served alive yes.1
+      of_served alive (inr no) = unserved alive no.1
+
+      of_dead : (b : Bool) → v.value.dead ≡ b → X
+      of_dead true is_dead = dead is_dead
+      of_dead false alive = of_served alive (leb_tells n v.value.served)
+
+  takes-unwant : (to : EndId) (n j h : ℕ) → First (packet.Unwant to n j h) → (x : Entry) → (w.kernel k).table to ≡ x → Goes i w s (Takes k from)
+  takes-unwant to n j h there (entry.Here v) here =
+      by-view v n
+      (λ dead. taking-goes i w s is k from (at (packet.Unwant to n j h)) others there (subst (λ x. IfHere x (λ u. u.value.dead ≡ true)) (sym here) dead))
+      (λ alive old. hearing-goes i w s is k from (at (packet.Unwant to n j h)) others there (subst (λ x. IsHereAnd x (λ u. (u.value.dead ≡ false) × (n ≤ u.value.served))) (sym here) (alive, old)))
+      (λ alive low. unwant-goes i w s is k from stamp to n j h others there v here alive low)
+  takes-unwant to n j h there entry.Nothing here = taking-goes i w s is k from (at (packet.Unwant to n j h)) others there (subst (λ x. IfHere x (λ u. u.value.dead ≡ true)) (sym here) tt)
+  takes-unwant to n j h there (entry.Left a b) here = taking-goes i w s is k from (at (packet.Unwant to n j h)) others there (subst (λ x. IfHere x (λ u. u.value.dead ≡ true)) (sym here) tt)
+  takes-unwant to n j h there (entry.Destroyed m) here = taking-goes i w s is k from (at (packet.Unwant to n j h)) others there (subst (λ x. IfHere x (λ u. u.value.dead ≡ true)) (sym here) tt)
+
+  takes-want : (to : EndId) (n j h : ℕ) → First (packet.Want to n j h) → (x : Entry) → (w.kernel k).table to ≡ x → IfHere x (λ v. HasNoWaiting v.outward) → Goes i w s (Takes k from)
+  takes-want to n j h there (entry.Here v) here none =
+      by-view v n
+      (λ dead. taking-goes i w s is k from (at (packet.Want to n j h)) others there (subst (λ x. IfHere x (λ u. u.value.dead ≡ true)) (sym here) dead))
+      (λ alive old. hearing-goes i w s is k from (at (packet.Want to n j h)) others there (subst (λ x. IsHereAnd x (λ u. (u.value.dead ≡ false) × (n ≤ u.value.served))) (sym here) (alive, old)))
+      (λ alive low. want-kept-goes i w s is k from stamp to n j h others there v here alive low (free v.outward none))
+  takes-want to n j h there entry.Nothing here none = taking-goes i w s is k from (at (packet.Want to n j h)) others there (subst (λ x. IfHere x (λ u. u.value.dead ≡ true)) (sym here) tt)
+  takes-want to n j h there (entry.Left a b) here none = taking-goes i w s is k from (at (packet.Want to n j h)) others there (subst (λ x. IfHere x (λ u. u.value.dead ≡ true)) (sym here) tt)
+  takes-want to n j h there (entry.Destroyed m) here none = taking-goes i w s is k from (at (packet.Want to n j h)) others there (subst (λ x. IfHere x (λ u. u.value.dead ≡ true)) (sym here) tt)
+
+  takes-moved : (to : EndId) (j h : ℕ) → First (packet.Moved to j h) → (x : Entry) → (w.kernel k).table to ≡ x → Goes i w s (Takes k from)
+  takes-moved to j h there (entry.Here v) here = of_dead v.value.dead refl
+    where
+      of_dead : (b : Bool) → v.value.dead ≡ b → Goes i w s (Takes k from)
+      of_dead true dead = taking-goes i w s is k from (at (packet.Moved to j h)) others there (subst (λ x. IfHere x (λ u. u.value.dead ≡ true)) (sym here) dead)
+      of_dead false alive = hearing-goes i w s is k from (at (packet.Moved to j h)) others there (subst (λ x. IsHereAnd x (λ u. u.value.dead ≡ false)) (sym here) alive)
+  takes-moved to j h there entry.Nothing here = taking-goes i w s is k from (at (packet.Moved to j h)) others there (subst (λ x. IfHere x (λ u. u.value.dead ≡ true)) (sym here) tt)
+  takes-moved to j h there (entry.Left a b) here = taking-goes i w s is k from (at (packet.Moved to j h)) others there (subst (λ x. IfHere x (λ u. u.value.dead ≡ true)) (sym here) tt)
+  takes-moved to j h there (entry.Destroyed m) here = taking-goes i w s is k from (at (packet.Moved to j h)) others there (subst (λ x. IfHere x (λ u. u.value.dead ≡ true)) (sym here) tt)
+
+  -- the taking of a packet that is covered
+  pub takes-goes : (what : PictureWhat) → First what → IsCoveredAt what ((w.kernel k).table (addressee what)) → Goes i w s (Takes k from)
+  takes-goes (packet.Want to n j h) there covered = takes-want to n j h there ((w.kernel k).table to) refl covered
+  takes-goes (packet.Unwant to n j h) there covered = takes-unwant to n j h there ((w.kernel k).table to) refl
+  takes-goes (packet.Unwanted to n j h) there covered = absurd covered
+  takes-goes (packet.Parcel to m n j h bytes ms) there covered = absurd covered
+  takes-goes (packet.Taken to m j h) there covered = taken-goes i w s is k from stamp to m j h others there
+  takes-goes (packet.Back to m ms) there covered = absurd covered
+  takes-goes (packet.Gone to j) there covered = taking-goes i w s is k from (at (packet.Gone to j)) others there covered
+  takes-goes (packet.Moved to j h) there covered = takes-moved to j h there ((w.kernel k).table to) refl
+  takes-goes (packet.Known to h) there covered = taking-goes i w s is k from (at (packet.Known to h)) others there tt
+  takes-goes (packet.Forget to h) there covered = taking-goes i w s is k from (at (packet.Forget to h)) others there tt
+  takes-goes (packet.GoneSeen to) there covered = taking-goes i w s is k from (at (packet.GoneSeen to)) others there tt
