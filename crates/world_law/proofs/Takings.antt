@@ -41,8 +41,8 @@ module _ (i : ℕ) (w : World) (s : State) (is : Invariant i w s) (k from stamp 
   by-view {X} v n dead served unserved = of_dead v.value.dead refl
     where
       of_served : v.value.dead ≡ false → ((leb n v.value.served ≡ true) × (n ≤ v.value.served)) ⊎ ((leb n v.value.served ≡ false) × (v.value.served < n)) → X
-      of_served alive (inl yes) = served alive yes.1
-      of_served alive (inr no) = unserved alive no.1
+      of_served alive (inl below) = served alive below.1
+      of_served alive (inr above) = unserved alive above.1
 
       of_dead : (b : Bool) → v.value.dead ≡ b → X
       of_dead true is_dead = dead is_dead
