@@ -9,3 +9,4 @@ pub mod Wanting
 pub mod Cleared
 pub mod Matching
 pub mod Sent
+pub mod Matched
