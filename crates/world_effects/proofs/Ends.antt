@@ -89,8 +89,8 @@ module _ (w u : Links) (e : EndId) where
   -- where the same parcels and unwanteds are
   asked-same : ((v n : ℕ) → IsUnderWay u (IsParcelFor e v n) ↔ IsUnderWay w (IsParcelFor e v n)) → ((v : ℕ) → IsUnderWay u (IsUnwantedOf e v) ↔ IsUnderWay w (IsUnwantedOf e v))
       → (v : ℕ) (i : Inward) → IsAskedOf w e v i → IsAskedOf u e v i
-  asked-same parcel unwanted v (inward.Matched n) is = (parcel v n).1 is
-  asked-same parcel unwanted v inward.Withdrawn is = (unwanted v).1 is
+  asked-same parcel unwanted v (inward.Matched n) is = ((parcel v n).1 is.0, λ now. is.1 ((unwanted v).0 now))
+  asked-same parcel unwanted v inward.Withdrawn is = (λ n now. is.0 n ((parcel v n).0 now), (unwanted v).1 is.1)
   asked-same parcel unwanted v inward.Posted is = (λ n now. is.0 n ((parcel v n).0 now), λ now. is.1 ((unwanted v).0 now))
   asked-same parcel unwanted v _ is = absurd is
 

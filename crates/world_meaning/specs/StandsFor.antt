@@ -101,10 +101,10 @@ IsOutwardOf w e n _ _ = ⊥
 
 -- ---- 5: receives
 
--- the receive v of e is Matched where a parcel for it is under way, Withdrawn where an unwanted for it is, else Posted
+-- the receive v of e is Matched where a parcel for it is under way, Withdrawn where an unwanted for it is, else Posted; so never are both
 abbrev pub IsAskedOf : Links → EndId → ℕ → Inward → Type 0
-IsAskedOf w e v (inward.Matched n) = IsUnderWay w (IsParcelFor e v n)
-IsAskedOf w e v inward.Withdrawn = IsUnderWay w (IsUnwantedOf e v)
+IsAskedOf w e v (inward.Matched n) = IsUnderWay w (IsParcelFor e v n) × (IsUnderWay w (IsUnwantedOf e v) → ⊥)
+IsAskedOf w e v inward.Withdrawn = ((n : ℕ) → IsUnderWay w (IsParcelFor e v n) → ⊥) × IsUnderWay w (IsUnwantedOf e v)
 IsAskedOf w e v inward.Posted = ((n : ℕ) → IsUnderWay w (IsParcelFor e v n) → ⊥) × (IsUnderWay w (IsUnwantedOf e v) → ⊥)
 IsAskedOf w e v _ = ⊥
 
