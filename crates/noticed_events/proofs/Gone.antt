@@ -1,6 +1,6 @@
 -- A gone is taken at an end that is here and does not know of the death of its link yet: the service goes with it by the step notice, and
 -- by a report where the owner waits.
-use Rattle.std.proofs.Common.{◌≡◌, ◌⊎◌, inl, inr, ℕ, ◌+◌, ◌<◌, Bool, true, false, nat_eq, if◌then◌else◌, List, [], ◌∷◌, ◌++◌, map, length, Contains, Some, refl, sym, ap, subst, ◌∙◌, true≢false, append-nil, eq-eqb, eqb-true, ltb-true, slice_get}
+use Rattle.std.proofs.Common.{◌≡◌, ◌⊎◌, inl, inr, ℕ, ◌+◌, ◌<◌, Bool, true, false, nat_eq, if◌then◌else◌, List, [], ◌∷◌, ◌++◌, map, length, Contains, Some, refl, sym, ap, subst, ◌∙◌, append-nil, eq-eqb, eqb-true, ltb-true, slice_get}
 use Rattle.std.proofs.lemmas.Bool.Decides.{eqb_tells}
 use Rattle.std.specs.List.{AllByRecursion}
 use Rattle.charlotte_calls.specs.Names.{opposite}
@@ -35,7 +35,6 @@ use Rattle.kernel_sound.proofs.Reports.{IsSound-reported}
 use Rattle.kernel_sound.specs.Sound.{IsHeldWell, IsSound, addressee}
 use Rattle.kernel_step.specs.Actions.{is_withdrawing}
 use Rattle.kernel_step.specs.Kernel.{Process as KernelProcess, is_waiting, process_of, reported_entry}
-use Rattle.kernel_step.specs.declared.phase.Phase.{Phase as KernelPhase}
 use Rattle.kernel_step.specs.declared.phase.Phase.TheVariants as kernel_phase
 use Rattle.kernel_world.specs.World.{Takes, World, happens}
 use Rattle.service_consistent.proofs.Laws.{consistent_after}
@@ -63,6 +62,7 @@ use Rattle.silent_events.proofs.Clauses.{links-still}
 use Rattle.silent_events.proofs.Passing.{passing-right}
 use Rattle.silent_events.proofs.Taking.{taken-well, taking-goes}
 use Rattle.silent_events.specs.Quiet.{IsGoneWell, IsPassed, IsPassing, IsQuiet, IsSentWell, is_telling, tells_place}
+use Rattle.answered_events.proofs.Completed.{waiting-Waiting, waiting-service}
 use Rattle.answered_events.proofs.Meets.{right-first, stands-first}
 use Rattle.answered_events.proofs.World.{processes-kept, processes-told, setting-after, sound-same}
 use Rattle.noticed_events.proofs.Notices.{cancels-same, notice-links, notice-right, notice-sound, notice-step, noticed_links, owned-here, process-other, process-own, process-same, told-same, view-end}
@@ -79,18 +79,6 @@ cancel-cases inward.Idle = inr (refl, refl)
 cancel-cases (inward.Posted w) = inr (refl, refl)
 cancel-cases (inward.Withdrawing w) = inl (refl, refl)
 cancel-cases inward.Unreported = inr (refl, refl)
-
-waiting-Waiting : (x : KernelPhase) → is_waiting x ≡ true → x ≡ kernel_phase.Waiting
-waiting-Waiting kernel_phase.Waiting is = refl
-waiting-Waiting kernel_phase.Running is = absurd (true≢false (sym is))
-waiting-Waiting (kernel_phase.Cancelling e) is = absurd (true≢false (sym is))
-waiting-Waiting kernel_phase.Exited is = absurd (true≢false (sym is))
-
-waiting-service : (x : KernelPhase) → is_waiting x ≡ false → service_phase x ≡ phase.Waiting → ⊥
-waiting-service kernel_phase.Waiting is same = true≢false is
-waiting-service kernel_phase.Running is same = cc
-waiting-service (kernel_phase.Cancelling e) is same = cc
-waiting-service kernel_phase.Exited is same = cc
 
 module _ (i : ℕ) (w : World) (s : State) (is : Invariant i w s) (k from stamp : ℕ) (to : EndId) (at : ℕ) (others : List Picture) (there : w.packets from k ≡ record { stamp = stamp; what = packet.Gone to at } ∷ others)
     (v : HereView) (here : (w.kernel k).table to ≡ entry.Here v) (alive : v.value.dead ≡ false) where

@@ -28,10 +28,18 @@ use Rattle.service_step.specs.declared.state.Outward.{Outward}
 use Rattle.service_step.specs.declared.state.Outward.TheVariants as outward
 use Rattle.service_step.specs.declared.state.Place.{Place}
 use Rattle.service_step.specs.declared.state.Place.TheVariants as place
+use Rattle.calls_that_wait.proofs.Rested.{one-view}
 use Rattle.silent_events.proofs.Alike.{some-same}
 use Rattle.world_meaning.specs.Fields.{IsAskedAs, value_of}
 use Rattle.world_meaning.specs.Invariant.{NamesBelow}
 use Rattle.world_meaning.specs.StandsFor.{IsWaitingWith}
+
+-- who holds an end
+pub owner-same : (p b : Pid) → place.Owned p ≡ place.Owned b → p ≡ b
+owner-same p b same = cc
+
+pub holder-same : (p b : Pid) → holder.Owner p ≡ holder.Owner b → p ≡ b
+holder-same p b same = cc
 
 -- an entry stays, and is here only of another end; or it is that of an end that was enclosed, which p owns now; or that of e
 pub data IsNoticedEntry (e : EndId) (p : Pid) (xs : List EndId) (q : EndId) (x y : Entry) : Type 0 where
@@ -55,9 +63,6 @@ pub data IsNoticedView (e : EndId) (q : EndId) (v u : HereView) : Type 0 where
 -- a value is the same but for what NOTICE makes of it
 abbrev pub IsLess : MovingPicture → MovingPicture → Type 0
 IsLess m l = l ≡ record m { want = l.want; dead = l.dead; trail = l.trail }
-
-one-view : (v u : HereView) → entry.Here v ≡ entry.Here u → v ≡ u
-one-view v u same = cc
 
 not-asked : (i : KernelInward) (n : ℕ) → IsAskedAs n (kernel_noticed_inward i) → ⊥
 not-asked kernel_inward.Idle n asked = asked

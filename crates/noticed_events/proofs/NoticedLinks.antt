@@ -40,24 +40,13 @@ use Rattle.world_meaning.specs.Fields.{At, value_of}
 use Rattle.world_meaning.specs.Invariant.{AreCounted, IsPacketRight}
 use Rattle.world_meaning.specs.Packets.{Each, IsBackOf, IsParcelFor, IsParcelOf, IsTakenOf, IsUnderWay, IsUnwantedOf, Links, one_if, over_kernels, sum_over, values_for, values_of}
 use Rattle.world_meaning.specs.StandsFor.{AreLinksOf, IsAskedOf, IsEndOf, IsInMessage, IsInwardOf, IsOutwardOf, IsOwnedHere, IsWaitingWith, entry_at, home_of, standing}
-use Rattle.noticed_events.proofs.Noticed.{EndFreed, EndKept, EndNoticed, EntryFreed, EntryKept, EntryNoticed, IsNoticedEnd, IsNoticedEntry, IsNoticedView, end-living, entry-held, entry-is_here, entry-seen, entry-still, entry-was, view-inward, view-outward, view-own, view-value, view-waiting}
+use Rattle.answered_events.proofs.Meets.{there-here}
+use Rattle.calls_that_wait.proofs.Rested.{one-view}
+use Rattle.noticed_events.proofs.Noticed.{EndFreed, EndKept, EndNoticed, EntryFreed, EntryKept, EntryNoticed, IsNoticedEnd, IsNoticedEntry, IsNoticedView, end-living, entry-held, entry-is_here, entry-seen, entry-still, entry-was, holder-same, owner-same, view-inward, view-outward, view-own, view-value, view-waiting}
 use Rattle.noticed_events.proofs.NoticedClauses.{IsNoticing, now, after, sums, under}
-
-owner-same : (p b : Pid) → place.Owned p ≡ place.Owned b → p ≡ b
-owner-same p b same = cc
-
-holder-same : (p b : Pid) → holder.Owner p ≡ holder.Owner b → p ≡ b
-holder-same p b same = cc
 
 message-same : (e f : EndId) (n m : ℕ) → place.InMessage e n ≡ place.InMessage f m → e ≡ f
 message-same e f n m same = cc
-
-one-view : (v u : HereView) → entry.Here v ≡ entry.Here u → v ≡ u
-one-view v u same = cc
-
-there-here : (x : Entry) (P : HereView → Type 0) → IsHereAnd x P → (v : HereView) × (x ≡ entry.Here v) × P v
-there-here (entry.Here v) P has = (v, refl, has)
-there-here _ P has = absurd has
 
 -- ---- what the service says of a send and a receive that are over
 

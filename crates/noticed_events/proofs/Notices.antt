@@ -24,14 +24,15 @@ use Rattle.end_table.specs.declared.entry.Outward.{Outward as KernelOutward}
 use Rattle.end_table.specs.declared.entry.Outward.TheVariants as kernel_outward
 use Rattle.kernel_effects.proofs.Actions.{notices-does}
 use Rattle.kernel_effects.specs.Actions.{held_entry, notice_effect, noticed_view, receive_notice, send_notice}
+use Rattle.kernel_outcomes.proofs.Sound.{AreDifferent-held}
 use Rattle.kernel_sound.proofs.Actions.{notices-well}
 use Rattle.kernel_sound.proofs.Goes.{GoesWell}
 use Rattle.kernel_sound.proofs.Needs.{IfHere-at, apart_at-sound}
 use Rattle.kernel_sound.specs.Sound.{AreHeldBy, IsHeldWell, IsSound}
-use Rattle.kernel_step.proofs.Folds.{AreDifferent}
 use Rattle.kernel_step.specs.Actions.{enclosed_of, is_withdrawing, notices as kernel_notices}
 use Rattle.kernel_step.specs.Progress.{Progress}
 use Rattle.kernel_step.specs.Rows.{ends_in}
+use Rattle.service_change.proofs.Change.{living-made}
 use Rattle.service_change.proofs.Facts.{put_process-at, put_process-other}
 use Rattle.service_change.proofs.EndEq.{Contains-among, among, among-Contains, at_place, places-among, places-other, puts-at, puts-other}
 use Rattle.service_lawful.specs.Consistent.{IsConsistent}
@@ -51,33 +52,22 @@ use Rattle.service_step.specs.declared.state.Place.{Place}
 use Rattle.service_step.specs.declared.state.Place.TheVariants as place
 use Rattle.silent_events.proofs.Alike.{some-same}
 use Rattle.silent_events.proofs.Places.{fields-here, here-kernel, here-living}
-use Rattle.world_effects.proofs.Lists.{first, first_or_later, later, none-there}
 use Rattle.world_meaning.proofs.Ends.{eq-same}
 use Rattle.world_meaning.specs.Fields.{Stand, At, Flying, HasFields, value_of}
 use Rattle.world_meaning.specs.Invariant.{AreRight}
 use Rattle.world_meaning.specs.Packets.{IsUnderWay, Links, values_of}
 use Rattle.world_meaning.specs.StandsFor.{AreLinksOf, IsAskedOf, IsEndOf, IsInMessage, IsInwardOf, IsOutwardOf, IsOwnedHere, IsWaitingWith, entry_at, home_of}
+use Rattle.answered_events.proofs.Meets.{there-here}
+use Rattle.calls_that_begin.proofs.Making.{value-of_end}
+use Rattle.calls_that_wait.proofs.Rested.{one-view}
 use Rattle.answered_events.proofs.World.{sound-same}
-use Rattle.noticed_events.proofs.Noticed.{EndFreed, EndKept, EndNoticed, EntryFreed, EntryKept, EntryNoticed, IsNoticedEnd, IsNoticedEntry}
+use Rattle.noticed_events.proofs.Noticed.{EndFreed, EndKept, EndNoticed, EntryFreed, EntryKept, EntryNoticed, IsNoticedEnd, IsNoticedEntry, holder-same, owner-same}
 use Rattle.noticed_events.proofs.NoticedClauses.{IsNoticing, noticing-right}
 use Rattle.noticed_events.proofs.NoticedLinks.{noticing-links}
 
 -- the links once kernel k did NOTICE at the end of this view
 abbrev pub noticed_links : ℕ → HereView → Links → Links
 noticed_links k v w = record { entry = λ j q. if nat_eq j k then (notice_effect k v).entry q (w.entry j q) else w.entry j q; packets = w.packets }
-
-one-view : (v u : HereView) → entry.Here v ≡ entry.Here u → v ≡ u
-one-view v u same = cc
-
-holder-same : (p b : Pid) → holder.Owner p ≡ holder.Owner b → p ≡ b
-holder-same p b same = cc
-
-owner-same : (p b : Pid) → place.Owned p ≡ place.Owned b → p ≡ b
-owner-same p b same = cc
-
-there-here : (x : Entry) (P : HereView → Type 0) → IsHereAnd x P → (v : HereView) × (x ≡ entry.Here v) × P v
-there-here (entry.Here v) P has = (v, refl, has)
-there-here _ P has = absurd has
 
 -- one of the ends that a send holds
 held-among : (e : EndId) (t : EndId → Entry) (q : EndId) (xs : List EndId) → AreHeldBy e t xs → list_any (end_eq q) xs ≡ true → IsHereAnd (t q) (λ u. IsIdle u × (u.holder ≡ holder.EnclosedIn e))
@@ -92,15 +82,6 @@ held-among e t q (x ∷ xs) held among = by (end_eq q x) refl among (held-among 
 among-same : (q : EndId) (xs : List EndId) → among q xs ≡ list_any (end_eq q) xs
 among-same q [] = refl
 among-same q (x ∷ xs) = ap (λ b. b || among q xs) (eq-same q x) ∙ ap (λ b. end_eq q x || b) (among-same q xs)
-
--- the value of an end that a packet brings
-value-there : (ms : List MovingPicture) (e : EndId) → Contains (ends_in ms) e → (m : MovingPicture) × Contains ms m × (m.end ≡ e)
-value-there [] e has = absurd (none-there e has)
-value-there (x ∷ ms) e has = by (first_or_later x.end (ends_in ms) e has) (value-there ms e)
-  where
-    by : (x.end ≡ e) ⊎ Contains (ends_in ms) e → (Contains (ends_in ms) e → (m : MovingPicture) × Contains ms m × (m.end ≡ e)) → (m : MovingPicture) × Contains (x ∷ ms) m × (m.end ≡ e)
-    by (inl is) rest = (x, first x ms, is)
-    by (inr there) rest = let m = rest there in (m.0, later x ms m.0 m.1, m.2)
 
 -- ---- a send and a receive, at a kernel and in the service
 
@@ -211,12 +192,6 @@ module _ (i : ℕ) (w : Links) (s : State) (right : AreRight i w s) (links : Are
   lives : is_living x.place ≡ true
   lives = here-living (length s.made) w s.ends few right.named right.marked links.once e k v here
 
-  living-made : (a : Place) → is_living a ≡ true → is_made a ≡ true
-  living-made (place.Owned p) is = refl
-  living-made (place.InMessage f n) is = refl
-  living-made place.Destroyed is = absurd (true≢false (sym is))
-  living-made place.Unmade is = absurd (true≢false (sym is))
-
   is-made : is_made x.place ≡ true
   is-made = living-made x.place lives
 
@@ -235,7 +210,7 @@ module _ (i : ℕ) (w : Links) (s : State) (right : AreRight i w s) (links : Are
 
   not-flying : (P : PictureWhat → Type 0) → IsUnderWay w (λ q. P q × Contains (ends_in (values_of q)) e) → ⊥
   not-flying P u =
-      let m = value-there (values_of u.packet.what) e u.is.1 in
+      let m = value-of_end (values_of u.packet.what) e u.is.1 in
       stand-apart (own-fields Flying m.0 (record { from = u.from; to = u.to; packet = u.packet; there = u.there; is = m.1 }, m.2)).0
 
   well : IsHeldWell (length s.homes) v v.holder
@@ -252,13 +227,9 @@ module _ (i : ℕ) (w : Links) (s : State) (right : AreRight i w s) (links : Are
   abbrev before : Progress
   before = record { table = w.entry k; stamp = 0; packets = []; reports = []; answers = []; steps = [] }
 
-  different : (ys : List EndId) → AreHeldBy e (w.entry k) ys → AreDifferent ys
-  different [] are = tt
-  different (q ∷ ys) are = (are.1, different ys are.2)
-
   pub notice-sound : (z : EndId → Entry) → ((q : EndId) → z q ≡ (notice_effect k v).entry q (w.entry k q)) → IsSound k made (length s.homes) z
   notice-sound z same =
-      let does = notices-does k v before (different xs held) (subst (λ q. list_any (end_eq q) xs ≡ false) (sym view-end) not-own) sound.own in
+      let does = notices-does k v before (AreDifferent-held e (w.entry k) xs held) (subst (λ q. list_any (end_eq q) xs ≡ false) (sym view-end) not-own) sound.own in
       let goes : GoesWell k made (length s.homes) (λ p q. true) (w.entry k) before = record { sound = sound; reports = tt; answers = tt; calm = λ p q is. absurd (true≢false is) } in
       sound-same k made (length s.homes) (kernel_notices k v before).table z (λ q. same q ∙ sym (does.table q))
       (notices-well e v before here (λ p. refl) goes).sound

@@ -24,13 +24,11 @@ use Rattle.service_step.specs.declared.state.Place.TheVariants as place
 use Rattle.calls_that_wait.proofs.Given.{AreTogether, links-given, right-given}
 use Rattle.calls_that_wait.proofs.Reports.{both-rest, idle-rested, idle_way, idles-is}
 use Rattle.calls_that_wait.proofs.Rested.{IsRested, IsRestedEntry, entry-rested, one-view}
+use Rattle.noticed_events.proofs.Noticed.{owner-same}
 use Rattle.world_meaning.proofs.Ends.{eq-same}
 use Rattle.world_meaning.specs.Invariant.{AreRight}
 use Rattle.world_meaning.specs.Packets.{Links}
 use Rattle.world_meaning.specs.StandsFor.{AreLinksOf, IsEndOf, home_of}
-
-one-owner : (p q : Pid) → place.Owned p ≡ place.Owned q → p ≡ q
-one-owner p q same = cc
 
 -- the entries of a kernel once a report was told
 told-at : (r : Report) (x : Entry) → told_entry (r ∷ []) r.on x ≡ reported_entry r.way x
@@ -103,7 +101,7 @@ module _ (w : Links) (s : State) (kept : IsConsistent s) (links : AreLinksOf w s
     where
       mine : (s.ends r.on).place ≡ place.Owned q → w.entry (home_of s q) r.on ≡ entry.Here v → y (home_of s q) r.on ≡ entry.Here u → AreTogether v u (s.ends r.on) (t.ends r.on)
       mine owned here now =
-          let its : p ≡ q = one-owner p q (sym (kept.reported.own p r there (ap (λ z. is_living z) owned)) ∙ owned) in
+          let its : p ≡ q = owner-same p q (sym (kept.reported.own p r there (ap (λ z. is_living z) owned)) ∙ owned) in
           let agrees : IsEndOf w r.on v (s.ends r.on) = links.agree r.on q v owned here in
           let reported : y k r.on ≡ entry.Here (reported_view r.way v) = entry-own ∙ ap (reported_entry r.way) (subst (λ z. w.entry (home_of s z) r.on ≡ entry.Here v) (sym its) here) in
           let view : u ≡ reported_view r.way v = one-view u (reported_view r.way v) (sym now ∙ subst (λ z. y (home_of s z) r.on ≡ entry.Here (reported_view r.way v)) its reported) in
