@@ -14,7 +14,8 @@ use Rattle.end_table.specs.declared.entry.Outward.TheVariants as outward
 use Rattle.kernel_sound.specs.Sound.{addressee}
 use Rattle.kernel_world.specs.World.{World, Takes}
 use Rattle.service_step.specs.State.{State}
-use Rattle.answered_events.proofs.Takings.{taken-goes}
+use Rattle.answered_events.proofs.Takings.{taken-goes, unwanted-goes}
+use Rattle.noticed_events.proofs.Gone.{gone-goes}
 use Rattle.silent_events.proofs.Hearing.{hearing-goes}
 use Rattle.silent_events.proofs.Taking.{taking-goes}
 use Rattle.wanted_events.proofs.Unwanting.{unwant-goes}
@@ -82,11 +83,11 @@ module _ (i : ℕ) (w : World) (s : State) (is : Invariant i w s) (k from stamp 
   pub takes-goes : (what : PictureWhat) → First what → IsCoveredAt what ((w.kernel k).table (addressee what)) → Goes i w s (Takes k from)
   takes-goes (packet.Want to n j h) there covered = takes-want to n j h there ((w.kernel k).table to) refl covered
   takes-goes (packet.Unwant to n j h) there covered = takes-unwant to n j h there ((w.kernel k).table to) refl
-  takes-goes (packet.Unwanted to n j h) there covered = absurd covered
+  takes-goes (packet.Unwanted to n j h) there covered = unwanted-goes i w s is k from stamp to n j h others there
   takes-goes (packet.Parcel to m n j h bytes ms) there covered = absurd covered
   takes-goes (packet.Taken to m j h) there covered = taken-goes i w s is k from stamp to m j h others there
   takes-goes (packet.Back to m ms) there covered = absurd covered
-  takes-goes (packet.Gone to j) there covered = taking-goes i w s is k from (at (packet.Gone to j)) others there covered
+  takes-goes (packet.Gone to j) there covered = gone-goes i w s is k from stamp to j others there
   takes-goes (packet.Moved to j h) there covered = takes-moved to j h there ((w.kernel k).table to) refl
   takes-goes (packet.Known to h) there covered = taking-goes i w s is k from (at (packet.Known to h)) others there tt
   takes-goes (packet.Forget to h) there covered = taking-goes i w s is k from (at (packet.Forget to h)) others there tt

@@ -71,16 +71,15 @@ HasNoWaiting (outward.Waiting n bytes xs) = ⊥
 HasNoWaiting (outward.Matched n) = Unit {0}
 HasNoWaiting outward.Unreported = Unit {0}
 
--- packets, by the entry of the end that they are addressed to: every unwant, taken, moved, known, forget and goneseen; a want that meets
--- no send that waits; a gone that meets no end which does not know of the death of its link yet
+-- packets, by the entry of the end that they are addressed to: all but a parcel and a back, and a want that meets a send that waits
 abbrev pub IsCoveredAt : PictureWhat → Entry → Type 0
 IsCoveredAt (packet.Want to w at hops) x = IfHere x (λ v. HasNoWaiting v.outward)
 IsCoveredAt (packet.Unwant to w at hops) x = Unit {0}
-IsCoveredAt (packet.Unwanted to w at hops) x = ⊥
+IsCoveredAt (packet.Unwanted to w at hops) x = Unit {0}
 IsCoveredAt (packet.Parcel to n w at hops bytes ms) x = ⊥
 IsCoveredAt (packet.Taken to n at hops) x = Unit {0}
 IsCoveredAt (packet.Back to n ms) x = ⊥
-IsCoveredAt (packet.Gone to at) x = IfHere x (λ v. v.value.dead ≡ true)
+IsCoveredAt (packet.Gone to at) x = Unit {0}
 IsCoveredAt (packet.Moved to at hops) x = Unit {0}
 IsCoveredAt (packet.Known to hops) x = Unit {0}
 IsCoveredAt (packet.Forget to hops) x = Unit {0}
