@@ -1,8 +1,7 @@
 -- Where ends are destroyed, what is true of every world is true afterwards: clause by clause.
-use Rattle.std.proofs.Common.{◌≡◌, ◌⊎◌, inl, inr, ℕ, ◌+◌, ◌<◌, ◌≤◌, Bool, true, false, if◌then◌else◌, Contains, length, is_some, refl, sym, ap, subst, ◌∙◌, arith, true≢false}
+use Rattle.std.proofs.Common.{◌≡◌, inl, inr, ℕ, ◌+◌, ◌<◌, ◌≤◌, Bool, true, false, Contains, length, is_some, refl, sym, ap, subst, ◌∙◌, arith, true≢false}
 use Rattle.charlotte_calls.specs.Names.{opposite}
 use Rattle.charlotte_calls.specs.declared.names.EndId.{EndId}
-use Rattle.charlotte_calls.specs.declared.names.Pid.{Pid}
 use Rattle.charlotte_calls.specs.declared.picture.MovingPicture.{MovingPicture}
 use Rattle.charlotte_calls.specs.declared.picture.Picture.{Picture}
 use Rattle.charlotte_calls.specs.declared.picture.PictureWhat.{PictureWhat}
@@ -13,7 +12,6 @@ use Rattle.end_table.specs.Table.{IsHereAnd}
 use Rattle.end_table.specs.declared.entry.Entry.{Entry}
 use Rattle.end_table.specs.declared.entry.Entry.TheVariants as entry
 use Rattle.end_table.specs.declared.entry.HereView.{HereView}
-use Rattle.end_table.specs.declared.entry.Holder.TheVariants as holder
 use Rattle.end_table.specs.declared.entry.Inward.TheVariants as kernel_inward
 use Rattle.kernel_sound.specs.Sound.{addressee}
 use Rattle.kernel_step.specs.Actions.{is_withdrawing}
@@ -25,7 +23,6 @@ use Rattle.service_step.specs.declared.state.End.{End}
 use Rattle.service_step.specs.declared.state.Message.{Message}
 use Rattle.service_step.specs.declared.state.Outward.{Outward}
 use Rattle.service_step.specs.declared.state.Outward.TheVariants as outward
-use Rattle.service_step.specs.declared.state.Phase.TheVariants as phase
 use Rattle.service_step.specs.declared.state.Place.{Place}
 use Rattle.service_step.specs.declared.state.Place.TheVariants as place
 use Rattle.silent_events.proofs.Places.{list-below}
@@ -39,11 +36,11 @@ use Rattle.world_effects.specs.Change.{Change, Changes}
 use Rattle.world_effects.specs.Named.{IsSentWithin}
 use Rattle.world_effects.specs.Sums.{AllSent, IsWithin, sum_sent, sum_taken}
 use Rattle.world_meaning.proofs.Ends.{opposite-twice}
-use Rattle.world_meaning.specs.Fields.{Stand, HasFields, IsAskedAs, IsAsking, IsHeard, IsNoMore, IsUnserved, IsUnwantOf}
-use Rattle.world_meaning.specs.Invariant.{AreAsked, AreCancelling, AreCounted, AreMarked, AreNamed, AreRight, AreSentOnce, AreWanted, IsFew, IsGoneRight, IsHereIfLiving, IsHonest, IsPacketRight, IsServed, IsUnwantedOnce, IsVoidRight, NamesBelow, is_message_of, is_taken_of, is_unwanted_to}
-use Rattle.world_meaning.specs.Packets.{Each, IsUnderWay, Links, how_many, one_if}
+use Rattle.world_meaning.specs.Fields.{Stand, HasFields, IsAskedAs, IsAsking, IsUnserved, IsUnwantOf}
+use Rattle.world_meaning.specs.Invariant.{AreAsked, AreCancelling, AreCounted, AreMarked, AreNamed, AreRight, AreSentOnce, AreWanted, IsFew, IsHereIfLiving, IsHonest, IsPacketRight, IsServed, IsUnwantedOnce, IsVoidRight, NamesBelow, is_message_of, is_taken_of, is_unwanted_to}
+use Rattle.world_meaning.specs.Packets.{Each, Links, how_many, one_if}
 use Rattle.world_meaning.specs.StandsFor.{AreLinksOf, entry_at, home_of, standing}
-use Rattle.ended_links.specs.Ending.{Dropped, IsEnded, IsEnding, IsSendAfter, IsToldOf, Kept, Returned}
+use Rattle.ended_links.specs.Ending.{Dropped, IsEnding, IsSendAfter, IsToldOf, Kept, Returned}
 use Rattle.ended_links.proofs.Facts as facts
 
 module _ {ended : EndId → Bool} {w u : Links} {c : Change} {s : State} {t : EndId → End} {g : ℕ → Process} (b : Changes w c u) (x : IsEnding ended w c s t g) (n : ℕ) (few : n ≤ 8) (named : AreNamed n w s.ends)

@@ -1,11 +1,10 @@
 -- Where ends are destroyed: packets, entries and fields before and afterwards, and the ends of the service.
-use Rattle.std.proofs.Common.{◌≡◌, ◌≢◌, ◌⊎◌, ◌↔◌, inl, inr, ℕ, ◌+◌, ◌<◌, ◌≤◌, Bool, true, false, nat_eq, ◌&&◌, if◌then◌else◌, List, [], ◌∷◌, Contains, IfSome, Option, None, Some, refl, sym, ap, subst, ◌∙◌, arith, true≢false}
+use Rattle.std.proofs.Common.{◌≡◌, ◌≢◌, ◌⊎◌, ◌↔◌, inl, inr, ℕ, ◌+◌, ◌<◌, ◌≤◌, Bool, true, false, nat_eq, ◌&&◌, if◌then◌else◌, List, [], ◌∷◌, Contains, IfSome, Some, refl, sym, ap, subst, ◌∙◌, arith, true≢false}
 use Rattle.std.proofs.lemmas.Bool.Decides.{eqb_tells}
 use Rattle.std.specs.List.{list_any}
 use Rattle.charlotte_calls.specs.Names.{opposite}
 use Rattle.charlotte_calls.specs.declared.names.EndId.{EndId}
 use Rattle.charlotte_calls.specs.declared.picture.MovingPicture.{MovingPicture}
-use Rattle.charlotte_calls.specs.declared.picture.Picture.{Picture}
 use Rattle.charlotte_calls.specs.declared.picture.PictureWhat.{PictureWhat}
 use Rattle.charlotte_calls.specs.declared.picture.PictureWhat.TheVariants as packet
 use Rattle.end_table.proofs.EndEq.{end_eq-refl}
@@ -20,8 +19,6 @@ use Rattle.service_lawful.specs.Consistent.{is_open}
 use Rattle.service_step.specs.Ends.{is_living, is_taken}
 use Rattle.service_step.specs.State.{State, Process}
 use Rattle.service_step.specs.declared.state.End.{End}
-use Rattle.service_step.specs.declared.state.Inward.{Inward}
-use Rattle.service_step.specs.declared.state.Outward.{Outward}
 use Rattle.service_step.specs.declared.state.Place.{Place}
 use Rattle.service_step.specs.declared.state.Place.TheVariants as place
 use Rattle.silent_events.proofs.Alike.{some-same}
@@ -32,14 +29,14 @@ use Rattle.world_effects.proofs.Ends.{all_sent-weaker, taken-weaker}
 use Rattle.world_effects.proofs.Lists.{first_or_later, none-there}
 use Rattle.world_effects.proofs.Packets.{left-after, left-before, under_way-after, under_way-still, under_way-was}
 use Rattle.world_effects.proofs.Sums.{standing-after}
-use Rattle.world_effects.specs.Aside.{IsKept, IsUnbrought}
+use Rattle.world_effects.specs.Aside.{IsUnbrought}
 use Rattle.world_effects.specs.Change.{Change, Changes}
-use Rattle.world_effects.specs.Sums.{AllSent, IsWithin, sum_sent, sum_taken}
+use Rattle.world_effects.specs.Sums.{AllSent, IsWithin, sum_sent}
 use Rattle.world_effects.specs.Under.{IsLeft, IsSent, IsTaken}
 use Rattle.world_meaning.specs.Fields.{Stand, At, Flying, HasFields, IsHeard, IsNews, IsNoMore, value_of}
 use Rattle.world_meaning.specs.Invariant.{AreMarked, AreNamed}
 use Rattle.world_meaning.specs.Packets.{IsUnderWay, Links, one_if, over_kernels, sum_over, values_for, values_of}
-use Rattle.world_meaning.specs.StandsFor.{AreLinksOf, entry_at, standing}
+use Rattle.world_meaning.specs.StandsFor.{entry_at, standing}
 use Rattle.ended_links.specs.Ending.{Dropped, IsEnded, IsEnding, IsReturnOf, IsSendAfter, IsToldOf, Kept, Returned}
 
 -- ---- an entry after END
