@@ -32,10 +32,10 @@ use Rattle.world_meaning.specs.StandsFor.{IsProcessOf, home_of, service_phase}
 abbrev pub all_ends : Pid → EndId → Bool
 all_ends p e = true
 
--- the table that a granted call leaves is sound
-pub call-sound : (k made n : ℕ) (t : EndId → Entry) (p : Pid) (mine : List EndId) (reported : Bool) (c : Call) → IsSound k made n t → p.0 < n → refusal p t made mine reported c ≡ None → IsCallWith p t mine c → Covers all_ends p c
-    → IsSound k (made_after c made) n (λ q. (act_effect p k made mine t c).entry q (t q))
-call-sound k made n t p mine reported c sound below granted ends covers =
+-- the table that a granted call leaves is sound, whichever ends it touches
+pub acts-sound : (touches : Pid → EndId → Bool) (k made n : ℕ) (t : EndId → Entry) (p : Pid) (mine : List EndId) (reported : Bool) (c : Call) → IsSound k made n t → p.0 < n → refusal p t made mine reported c ≡ None → IsCallWith p t mine c
+    → Covers touches p c → IsSound k (made_after c made) n (λ q. (act_effect p k made mine t c).entry q (t q))
+acts-sound touches k made n t p mine reported c sound below granted ends covers =
     subst (IsSound k (made_after c made) n) (λ i q. did.table q i) after.sound
   where
     d : Progress
@@ -44,8 +44,12 @@ call-sound k made n t p mine reported c sound below granted ends covers =
     did : Does (act_effect p k made mine t c) d (acts p k made mine c d)
     did = acts-does k made n d sound p mine reported c granted ends
 
-    after : GoesWell k (made_after c made) n all_ends t (acts p k made mine c d)
-    after = acts-well k made n all_ends t p mine c d below reported granted ends covers (record { sound = sound; reports = tt; answers = tt; calm = λ q e is. refl })
+    after : GoesWell k (made_after c made) n touches t (acts p k made mine c d)
+    after = acts-well k made n touches t p mine c d below reported granted ends covers (record { sound = sound; reports = tt; answers = tt; calm = λ q e is. refl })
+
+pub call-sound : (k made n : ℕ) (t : EndId → Entry) (p : Pid) (mine : List EndId) (reported : Bool) (c : Call) → IsSound k made n t → p.0 < n → refusal p t made mine reported c ≡ None → IsCallWith p t mine c → Covers all_ends p c
+    → IsSound k (made_after c made) n (λ q. (act_effect p k made mine t c).entry q (t q))
+call-sound = acts-sound all_ends
 
 -- ---- a world
 

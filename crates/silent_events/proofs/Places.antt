@@ -68,7 +68,7 @@ module _ (n : ℕ) (w : Links) (t : EndId → End) (few : n ≤ 8) (named : AreN
       by true below = let low : k < n = ltb-true k n below in omega (arith, low, few)
       by false above = absurd (let none : entry.Nothing ≡ entry.Here v = sym (named.away k e (ltb-false k n above)) ∙ here in cc)
 
-  list-below : (from to : ℕ) (q : Picture) → Contains (w.packets from to) q → (from < 8) × (to < 8)
+  pub list-below : (from to : ℕ) (q : Picture) → Contains (w.packets from to) q → (from < 8) × (to < 8)
   list-below from to q has = (by from (λ far. named.lists from to (inl far)) (nat_lt from n) refl, by to (λ far. named.lists from to (inr far)) (nat_lt to n) refl)
     where
       by : (k : ℕ) → (n ≤ k → w.packets from to ≡ []) → (b : Bool) → nat_lt k n ≡ b → k < 8

@@ -1,0 +1,5 @@
+pub mod Destroyed
+pub mod Owned
+pub mod Ends
+pub mod Exits
+pub mod Destroys

@@ -1,0 +1,2 @@
+//! Destroy and Exit, where they are granted: the service goes with them, and what is true of every world stays true. Lemmas alone.
+#![tactic(auto)]
