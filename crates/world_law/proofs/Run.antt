@@ -1,5 +1,5 @@
 -- The service goes with a run, event by event.
-use Rattle.std.proofs.Common.{◌≡◌, ℕ, ◌+◌, ◌<◌, Bool, true, false, nat_eq, cond, IsTrue, List, [], ◌∷◌, ◌++◌, length, slice_index, Option, Some, None, refl, sym, ap, subst, ◌∙◌}
+use Rattle.std.proofs.Common.{◌≡◌, ℕ, suc, ◌+◌, ◌^◌, ◌<◌, ◌≤◌, Bool, true, false, nat_eq, cond, IsTrue, List, [], ◌∷◌, ◌++◌, length, slice_index, Option, Some, None, refl, sym, ap, subst, ◌∙◌, arith}
 use Rattle.charlotte_calls.specs.Setting.{IsValid}
 use Rattle.charlotte_calls.specs.declared.calls.Answer.{Answer}
 use Rattle.charlotte_calls.specs.declared.calls.Answer.TheVariants as answer
@@ -11,6 +11,7 @@ use Rattle.charlotte_calls.specs.declared.calls.ServiceStep.{ServiceStep}
 use Rattle.charlotte_calls.specs.declared.calls.ServiceStep.TheVariants as step
 use Rattle.charlotte_calls.specs.declared.names.EndId.{EndId}
 use Rattle.charlotte_calls.specs.declared.names.Pid.{Pid}
+use Rattle.charlotte_calls.specs.declared.names.Way.TheVariants as way
 use Rattle.charlotte_calls.specs.declared.picture.Picture.{Picture}
 use Rattle.charlotte_calls.specs.declared.setting.Setting.{Setting}
 use Rattle.kernel_step.specs.Calls.{refusal, IsCallWith}
@@ -30,11 +31,16 @@ use Rattle.service_lawful.proofs.Turned.{turned}
 use Rattle.world_law.proofs.Takings.{takes-goes}
 use Rattle.calls_that_begin.proofs.Makes.{make-goes}
 use Rattle.calls_that_begin.proofs.Receives.{receive-goes}
+use Rattle.calls_that_cancel.proofs.ReceiveCancels.{cancel-receive-goes}
+use Rattle.calls_that_cancel.proofs.SendCancels.{cancel-send-goes}
+use Rattle.calls_that_end.proofs.Destroys.{destroy-goes}
+use Rattle.calls_that_end.proofs.Exits.{exit-goes}
 use Rattle.world_meaning.proofs.Goes.{Goes}
 use Rattle.calls_that_wait.proofs.Calm.{IsAnswered, answered-invariant}
 use Rattle.calls_that_wait.proofs.Refused.{IsCaller, caller-process, caller-runs, refused-for, wait-granted}
 use Rattle.calls_that_wait.proofs.Reports.{reports-goes, telling-is}
 use Rattle.world_law.proofs.Start.{starts-well}
+use Rattle.world_law.proofs.Version.{run-version}
 use Rattle.calls_that_wait.proofs.Waits.{IsWaiting, wait-is, waits-invariant}
 use Rattle.world_meaning.specs.Invariant.{Invariant}
 use Rattle.world_law.specs.Law.{GoesWithEach, joined, IsServedLawfully, IsCovered, IsCoveredCall, IsCoveredTaking, AreCovered}
@@ -157,13 +163,13 @@ record GoesOn (w : World) (s : State) (es : List Event) : Type 0 where
   run : IsRunFrom s (joined parts)
 
 -- the service goes with an event that is covered
-goes-event : (g : Setting) (i : ℕ) (w : World) (s : State) (e : Event) → Invariant i w s → s.homes ≡ g.homes → IsAllowed g w e → IsCovered w e → Goes i w s e
-goes-event g i w s (Takes k from) is homes allowed covered = by (w.packets from k) refl covered
+goes-event : (g : Setting) (i : ℕ) (w : World) (s : State) (e : Event) → Invariant i w s → s.homes ≡ g.homes → s.version ≡ g.version → i < 2 ^ 31 → IsAllowed g w e → IsCovered w e → Goes i w s e
+goes-event g i w s (Takes k from) is homes version few allowed covered = by (w.packets from k) refl covered
   where
     by : (qs : List Picture) → w.packets from k ≡ qs → IsCoveredTaking (w.kernel k).table qs → Goes i w s (Takes k from)
     by [] there covered = absurd covered
     by (q ∷ others) there covered = takes-goes i w s is k from q.stamp others q.what there covered
-goes-event g i w s (Calls k p c mine) is homes allowed covered = by c (refusal p (w.kernel k).table (w.kernel k).made mine (has_report (process_of p (w.kernel k))) c) refl covered
+goes-event g i w s (Calls k p c mine) is homes version few allowed covered = by c (refusal p (w.kernel k).table (w.kernel k).made mine (has_report (process_of p (w.kernel k))) c) refl covered
   where
     below : p.0 < length s.homes
     below = subst (λ hs. p.0 < length hs) (sym homes) allowed.0
@@ -187,22 +193,33 @@ goes-event g i w s (Calls k p c mine) is homes allowed covered = by c (refusal p
         granted_is : (c : Call) → IsCallWith p (w.kernel k).table mine c → refusal p (w.kernel k).table (w.kernel k).made mine (has_report (process_of p (w.kernel k))) c ≡ None → IsCoveredCall None c → Goes i w s (Calls k p c mine)
         granted_is (call.Print bytes) ends granted in_is = goes-print i w s k p mine is running bytes
         granted_is call.Make ends granted in_is = make-goes g i w s k p mine is homes (allowed.0, allowed.1, allowed.2, tt, tt) granted
-        granted_is (call.Destroy on) ends granted in_is = absurd in_is
+        granted_is (call.Destroy on) ends granted in_is = destroy-goes g i w s k p on mine is homes (allowed.0, allowed.1, allowed.2, tt, ends) granted
         granted_is (call.Send on bytes xs) ends granted in_is = absurd in_is
         granted_is (call.Receive on) ends granted in_is = receive-goes g i w s k p on mine is homes (allowed.0, allowed.1, allowed.2, tt, tt) granted
-        granted_is (call.Cancel on way) ends granted in_is = absurd in_is
+        granted_is (call.Cancel on way.Outward) ends granted in_is = cancel-send-goes g i w s k p on mine is homes (allowed.0, allowed.1, allowed.2, tt, ends) granted
+        granted_is (call.Cancel on way.Inward) ends granted in_is = cancel-receive-goes g i w s k p on mine is homes (allowed.0, allowed.1, allowed.2, tt, ends) granted
         granted_is call.Wait ends granted in_is = waited (process_of p (w.kernel k)).reports refl
           where
             waited : (rs : List Report) → (process_of p (w.kernel k)).reports ≡ rs → Goes i w s (Calls k p call.Wait mine)
             waited [] none = goes-wait i w s k p mine is running calls ends granted none
             waited (r ∷ rs) front = goes-report i w s k p mine is running calls ends granted r rs front
-        granted_is call.Exit ends granted in_is = absurd in_is
+        granted_is call.Exit ends granted in_is = exit-goes g i w s k p mine is homes (allowed.0, allowed.1, allowed.2, tt, ends) granted
 
-goes-on : (g : Setting) (i : ℕ) (w : World) (s : State) (es : List Event) → Invariant i w s → s.homes ≡ g.homes → AreAllowed g w es → AreCovered w es → GoesOn w s es
-goes-on g i w s [] is homes allowed covered = record { parts = []; each = tt; run = tt }
-goes-on g i w s (e ∷ es) is homes allowed covered =
-    let first = goes-event g i w s e is homes allowed.0 covered.0 in
-    let rest = goes-on g (i + 1) (happens w e) (state_after s first.part) es first.after (first.homes ∙ homes) allowed.1 covered.1 in
+-- where events are left, fewer were than there may be
+fewer : (i l most : ℕ) → i + suc l ≤ most → i < most
+fewer i l most few = omega (arith, few)
+
+one-on : (i l most : ℕ) → i + suc l ≤ most → (i + 1) + l ≤ most
+one-on i l most few = omega (arith, few)
+
+from-none : (l most : ℕ) → l ≤ most → 0 + l ≤ most
+from-none l most few = omega (arith, few)
+
+goes-on : (g : Setting) (i : ℕ) (w : World) (s : State) (es : List Event) → Invariant i w s → s.homes ≡ g.homes → s.version ≡ g.version → i + length es ≤ 2 ^ 31 → AreAllowed g w es → AreCovered w es → GoesOn w s es
+goes-on g i w s [] is homes version few allowed covered = record { parts = []; each = tt; run = tt }
+goes-on g i w s (e ∷ es) is homes version few allowed covered =
+    let first = goes-event g i w s e is homes version (fewer i (length es) (2 ^ 31) few) allowed.0 covered.0 in
+    let rest = goes-on g (i + 1) (happens w e) (state_after s first.part) es first.after (first.homes ∙ homes) (run-version s first.part first.run ∙ version) (one-on i (length es) (2 ^ 31) few) allowed.1 covered.1 in
     record {
       parts = first.part ∷ rest.parts;
       each = (record { steps = first.steps; run = first.run; stands = first.after.stands }, rest.each);
@@ -212,7 +229,7 @@ goes-on g i w s (e ∷ es) is homes allowed covered =
 -- the service goes lawfully with each run of a valid setting, as far as its events are covered
 pub run_is_lawful : (g : Setting) (es : List Event) → IsValid g → IsRun g es → AreCovered (start g) es → IsServedLawfully g es
 run_is_lawful g es valid run covered =
-    let on = goes-on g 0 (start g) (start_state g) es (starts-well g valid) refl run.allowed covered in
+    let on = goes-on g 0 (start g) (start_state g) es (starts-well g valid) refl refl (from-none (length es) (2 ^ 31) run.few) run.allowed covered in
     record {
       served = record { parts = on.parts; begins = (starts-well g valid).stands; each = on.each; run = on.run };
       lawful = runs_are_lawful g (joined on.parts) valid on.run;

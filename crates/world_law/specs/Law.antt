@@ -55,14 +55,17 @@ pub record IsServedLawfully (g : Setting) (es : List Event) : Type 0 where
 
 -- ---- as far as it is proved
 
--- calls that are refused, a Make, a Receive, a Print, and a Wait
+-- calls that are refused, and all others but a Send
 abbrev pub IsCoveredCall : Option Cause → Call → Type 0
 IsCoveredCall (Some cause) c = Unit {0}
 IsCoveredCall None (call.Print bytes) = Unit {0}
 IsCoveredCall None call.Wait = Unit {0}
 IsCoveredCall None call.Make = Unit {0}
 IsCoveredCall None (call.Receive on) = Unit {0}
-IsCoveredCall None _ = ⊥
+IsCoveredCall None (call.Cancel on way) = Unit {0}
+IsCoveredCall None (call.Destroy on) = Unit {0}
+IsCoveredCall None call.Exit = Unit {0}
+IsCoveredCall None (call.Send on bytes xs) = ⊥
 
 -- no send waits
 abbrev pub HasNoWaiting : Outward → Type 0
