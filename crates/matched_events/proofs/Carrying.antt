@@ -34,24 +34,24 @@ use Rattle.matched_events.specs.Carrying.{HasLeft, IsAway, IsCarrying, IsTurned}
 
 -- ---- what is away
 
-away-value : (x : Entry) (m : MovingPicture) → IsAway x → value_of x ≡ Some m → ⊥
+pub away-value : (x : Entry) (m : MovingPicture) → IsAway x → value_of x ≡ Some m → ⊥
 away-value entry.Nothing m away has = cc
 away-value (entry.Left to hops) m away has = cc
 away-value _ m away has = absurd away
 
-away-here : (x : Entry) (P : HereView → Type 0) → IsAway x → IsHereAnd x P → ⊥
+pub away-here : (x : Entry) (P : HereView → Type 0) → IsAway x → IsHereAnd x P → ⊥
 away-here entry.Nothing P away has = has
 away-here (entry.Left to hops) P away has = has
 away-here _ P away has = absurd away
 
-away-view : (x : Entry) (v : HereView) → IsAway x → x ≡ entry.Here v → ⊥
+pub away-view : (x : Entry) (v : HereView) → IsAway x → x ≡ entry.Here v → ⊥
 away-view x v away here = subst IsAway here away
 
 away-mark : (x : Entry) (m : MovingPicture) → IsAway x → x ≡ entry.Destroyed m → ⊥
 away-mark x m away there = subst IsAway there away
 
 -- an end that is idle has no activity
-idle-view : (x : Entry) (P : HereView → Type 0) → ((v : HereView) → IsIdle v → P v → ⊥) → IfHere x IsIdle → IsHereAnd x P → ⊥
+pub idle-view : (x : Entry) (P : HereView → Type 0) → ((v : HereView) → IsIdle v → P v → ⊥) → IfHere x IsIdle → IsHereAnd x P → ⊥
 idle-view (entry.Here v) P none idle has = none v idle has
 idle-view _ P none idle has = has
 

@@ -1,3 +1,4 @@
 pub mod Sound
 pub mod Carrying
 pub mod Values
+pub mod Sending
