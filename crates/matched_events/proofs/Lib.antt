@@ -2,3 +2,4 @@ pub mod Sound
 pub mod Carrying
 pub mod Values
 pub mod Sending
+pub mod SentRight
