@@ -3,3 +3,4 @@ pub mod Carrying
 pub mod Values
 pub mod Sending
 pub mod SentRight
+pub mod SentLinks

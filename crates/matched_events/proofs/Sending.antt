@@ -28,6 +28,7 @@ use Rattle.service_step.specs.declared.state.Inward.TheVariants as inward
 use Rattle.service_step.specs.declared.state.Outward.{Outward}
 use Rattle.service_step.specs.declared.state.Outward.TheVariants as outward
 use Rattle.service_step.specs.declared.state.Place.TheVariants as place
+use Rattle.world_effects.proofs.Aside.{not_among}
 use Rattle.world_effects.proofs.Lists.{only-there}
 use Rattle.world_effects.proofs.Packets.{left-was, under_way-after, under_way-sent, under_way-still}
 use Rattle.world_effects.specs.Change.{Change, Changes}
@@ -144,16 +145,23 @@ module _ (i : ℕ) (w : Links) (s : State) (right : AreRight i w s) (links : Are
     abbrev new : Entry
     new = entry.Here (sent_view v n)
 
+    -- an end that leaves is away
+    pub carried-away : (e : EndId) → Contains xs e → IsAway (entry_at u k e)
+    carried-away e among = by (end_eq mine e) refl (list_any (end_eq e) xs) refl
+      where
+        by : (x : Bool) → end_eq mine e ≡ x → (y : Bool) → list_any (end_eq e) xs ≡ y → IsAway (entry_at u k e)
+        by true same y some = absurd (not-mine (subst (Contains xs) (sym (end_eq-same mine e same)) among))
+        by false apart false none = absurd (not_among e xs none among)
+        by false apart true some =
+            let y = carried-view e among in
+            subst IsAway
+            (sym (b.entry e ∙ ap (λ x. if x then new else turns xs (left_of to) stays e (w.entry k e)) apart ∙ ap (λ x. if x then left_of to (w.entry k e) else w.entry k e) some ∙ ap (left_of to) y.1)) (left-away to y.0.value)
+
     pub entry-or : (j : ℕ) (e : EndId) → (entry_at u j e ≡ entry_at w j e) ⊎ (Contains xs e × IsAway (entry_at u j e) × (j ≡ k)) ⊎ ((e ≡ mine) × (j ≡ k) × (entry_at u j e ≡ new))
     entry-or j e = by (eqb_tells j k)
       where
         among : (x : Bool) → list_any (end_eq e) xs ≡ x → end_eq mine e ≡ false → (entry_at u k e ≡ entry_at w k e) ⊎ (Contains xs e × IsAway (entry_at u k e))
-        among true some apart =
-            let has = any-there e xs some in
-            let y = carried-view e has in
-            let now : entry_at u k e ≡ left_entry to y.0.value
-            = b.entry e ∙ ap (λ x. if x then new else turns xs (left_of to) stays e (w.entry k e)) apart ∙ ap (λ x. if x then left_of to (w.entry k e) else w.entry k e) some ∙ ap (left_of to) y.1 in
-            inr (has, subst IsAway (sym now) (left-away to y.0.value))
+        among true some apart = let has = any-there e xs some in inr (has, carried-away e has)
         among false none apart = inl (b.entry e ∙ ap (λ x. if x then new else turns xs (left_of to) stays e (w.entry k e)) apart ∙ ap (λ x. if x then left_of to (w.entry k e) else w.entry k e) none)
 
         there : j ≡ k → (entry_at u k e ≡ entry_at w k e) ⊎ (Contains xs e × IsAway (entry_at u k e)) → (entry_at u j e ≡ entry_at w j e) ⊎ (Contains xs e × IsAway (entry_at u j e) × (j ≡ k)) ⊎ ((e ≡ mine) × (j ≡ k) × (entry_at u j e ≡ new))
