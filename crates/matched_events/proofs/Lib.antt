@@ -4,3 +4,4 @@ pub mod Values
 pub mod Sending
 pub mod SentRight
 pub mod SentLinks
+pub mod Match
