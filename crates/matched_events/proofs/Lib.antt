@@ -5,3 +5,4 @@ pub mod Sending
 pub mod SentRight
 pub mod SentLinks
 pub mod Match
+pub mod Wants
