@@ -224,7 +224,7 @@ module _ (w : Links) (s : State) (p : Pid) (k : ℕ) (at : home_of s p ≡ k) (l
           let rest : list_any (λ x. is_none (owned p (entry_at w k x))) xs ≡ false = sym (ap (λ v. is_none v || list_any (λ x. is_none (owned p (entry_at w k x))) xs) o.owned) ∙ none in
           (λ i. (ap at_kernel.is_busy o.owned ∙ ap not (idle-same x o)) i || later rest i)
 
-  send-same : (on : EndId) (bytes : List ℕ) (xs : List EndId) → at_kernel.on_owned (owned p (entry_at w k on)) (at_kernel.send_causes p (w.entry k) on xs) ≡ in_service.refusal s p (call.Send on bytes xs)
+  pub send-same : (on : EndId) (bytes : List ℕ) (xs : List EndId) → at_kernel.on_owned (owned p (entry_at w k on)) (at_kernel.send_causes p (w.entry k) on xs) ≡ in_service.refusal s p (call.Send on bytes xs)
   send-same on bytes xs = on-end on (at_kernel.send_causes p (w.entry k) on xs)
       ((not (is_idle_outward (s.ends on).outward), cause.Busy) ∷ ((s.ends on).noticed, cause.Dead) ∷ (in_service.is_missing_one p s.ends xs, cause.EncloseNoEnd)
       ∷ (in_service.has_busy_one s.ends xs, cause.EncloseBusy) ∷ (list_any (in_service.same_link on) xs, cause.EncloseSame) ∷ (in_service.names_twice xs, cause.EncloseTwice) ∷ [])
@@ -246,7 +246,7 @@ module _ (w : Links) (s : State) (p : Pid) (k : ℕ) (at : home_of s p ≡ k) (l
   destroy-same : (on : EndId) → at_kernel.on_owned (owned p (entry_at w k on)) at_kernel.no_causes ≡ in_service.refusal s p (call.Destroy on)
   destroy-same on = on-end on at_kernel.no_causes [] (λ o. refl)
 
-  cancel-same : (on : EndId) (wy : Way) → at_kernel.on_owned (owned p (entry_at w k on)) (at_kernel.cancel_causes wy) ≡ in_service.refusal s p (call.Cancel on wy)
+  pub cancel-same : (on : EndId) (wy : Way) → at_kernel.on_owned (owned p (entry_at w k on)) (at_kernel.cancel_causes wy) ≡ in_service.refusal s p (call.Cancel on wy)
   cancel-same on way.Outward = on-end on (at_kernel.cancel_causes way.Outward)
       (((s.ends on).noticed, cause.Dead) ∷ (in_service.is_matched_outward (s.ends on).outward || is_taken (s.ends on).outward || is_reported_outward (s.ends on).outward, cause.Late) ∷ (is_idle_outward (s.ends on).outward, cause.NoActivity) ∷ [])
       (λ o. first-same (at_kernel.cancel_causes way.Outward o.view)

@@ -1,0 +1,10 @@
+pub mod SamePackets
+pub mod Version
+pub mod Held
+pub mod Kept
+pub mod KeptClauses
+pub mod Regrouped
+pub mod RegroupedLinks
+pub mod Begun
+pub mod Granted
+pub mod Sends
