@@ -71,7 +71,7 @@ withdrawing-busy : (v : HereView) → IsIdle v → is_withdrawing v.inward ≡ t
 withdrawing-busy v idle withdraws = true≢false (sym withdraws ∙ ap is_withdrawing idle.inward)
 
 -- one hop more, where none came to its end
-pub hops-more : (i h : ℕ) → h ≤ i → i < 2 ^ 31 → gains_one h ≡ h + 1
+pub hops-more : (i h : ℕ) → h ≤ i → i < 2 ^ 32 - 1 → gains_one h ≡ h + 1
 hops-more i h few room = min-is (h + 1) (2 ^ 32 - 1) (omega (arith, few, room))
   where
     min-is : (a b : ℕ) → a ≤ b → min a b ≡ a
@@ -206,7 +206,7 @@ module _ {w u : Links} {k : ℕ} {xs : List EndId} {mine : EndId} (s : State) (i
   abbrev pub IsTrueNews : EndId → ℕ → ℕ → Type 0
   IsTrueNews e j h = (Contains xs e → ⊥) × ((at : Stand) (m : MovingPicture) → HasFields w e at m → (at ≡ At j) × (m.hops ≡ h))
 
-  pub honest-carried : (i : ℕ) → i < 2 ^ 31 → ((e : EndId) (at : Stand) (m : MovingPicture) → HasFields w e at m → IsFew i m)
+  pub honest-carried : (i : ℕ) → i < 2 ^ 32 - 1 → ((e : EndId) (at : Stand) (m : MovingPicture) → HasFields w e at m → IsFew i m)
       → ((e : EndId) (j h : ℕ) → IsUnderWay u (IsNews (opposite e) j h) → IsUnderWay w (IsNews (opposite e) j h) ⊎ IsTrueNews e j h) → ((e : EndId) → IsHonest w e) → (e : EndId) → IsHonest u e
   honest-carried i room few news old e at m j h has heard = let o = fields-was e at m has in by o.0 o.1 o.2 o.4 (before heard)
     where

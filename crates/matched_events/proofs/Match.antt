@@ -1,6 +1,7 @@
 -- MATCH: an open end counts what is asked of it as served, and the message of its send leaves with its ends. All clauses on links stay,
 -- with the send and the receive matched in the service.
-use Rattle.std.proofs.Common.{◌≡◌, ◌⊎◌, inl, inr, ℕ, ◌+◌, ◌^◌, ◌<◌, ◌≤◌, Bool, true, false, nat_eq, ◌||◌, if◌then◌else◌, List, [], ◌∷◌, length, Contains, None, refl, sym, ap, subst, ◌∙◌, arith, true≢false, eq-eqb}
+use Rattle.std.proofs.Common.{◌≡◌, ◌⊎◌, inl, inr, ℕ, ◌+◌, ◌-◌, ◌^◌, ◌<◌, ◌≤◌, Bool, true, false, nat_eq, ◌||◌, if◌then◌else◌, List, [], ◌∷◌, length, Contains, None, refl, sym, ap, subst, ◌∙◌, arith, true≢false, eq-eqb}
+use Rattle.std.proofs.Math.Nat.{min-le_left}
 use Rattle.std.specs.List.{list_any}
 use Rattle.charlotte_calls.specs.Names.{opposite}
 use Rattle.charlotte_calls.specs.declared.calls.ServiceStep.TheVariants as step
@@ -10,6 +11,7 @@ use Rattle.charlotte_calls.specs.declared.picture.MovingPicture.{MovingPicture}
 use Rattle.charlotte_calls.specs.declared.picture.PictureWhat.{PictureWhat}
 use Rattle.charlotte_calls.specs.declared.picture.PictureWhat.TheVariants as packet
 use Rattle.end_table.proofs.EndEq.{end_eq-refl, end_eq-same, end_eq-sym}
+use Rattle.end_table.specs.Entries.{gains_one, left_value}
 use Rattle.end_table.specs.Place.{end_eq}
 use Rattle.end_table.specs.Table.{IfHere, IsHereAnd, IsIdle, IsOfEnd}
 use Rattle.end_table.specs.declared.entry.Entry.{Entry}
@@ -30,11 +32,13 @@ use Rattle.service_step.specs.declared.state.Place.{Place}
 use Rattle.service_step.specs.declared.state.Place.TheVariants as place
 use Rattle.world_effects.specs.Change.{Change, Changes}
 use Rattle.world_meaning.proofs.Ends.{apart-false, opposite-apart}
-use Rattle.world_meaning.specs.Fields.{At, HasFields, IsAskedAs, IsUnserved, value_of}
+use Rattle.world_meaning.specs.Fields.{Stand, At, Flying, HasFields, IsAskedAs, IsUnserved, value_of}
 use Rattle.world_meaning.specs.Invariant.{AreRight}
 use Rattle.world_meaning.specs.Packets.{Links}
 use Rattle.world_meaning.specs.StandsFor.{AreLinksOf, entry_at}
 use Rattle.silent_events.proofs.Places.{fields-here, here-living}
+use Rattle.wanted_events.specs.Anew.{IsAnew, IsLike}
+use Rattle.wanted_events.proofs.Anew.{fields-was}
 use Rattle.wanted_events.proofs.Asked.{had, opened, there-here}
 use Rattle.wanted_events.proofs.Cleared.{clearing, links-cleared, none-asked, right-cleared}
 use Rattle.wanted_events.proofs.Matching.{matched-step, meets, message-waits, number, receives, sender}
@@ -43,7 +47,8 @@ use Rattle.wanted_events.proofs.Void.{voided}
 use Rattle.matched_events.specs.Carrying.{IsAway}
 use Rattle.matched_events.specs.Matching.{IsMatching, matching, served_view}
 use Rattle.matched_events.specs.Sending.{IsSending, departing, sent_view}
-use Rattle.matched_events.proofs.Sending.{entry-or}
+use Rattle.matched_events.proofs.Carrying.{fields-was as left-was}
+use Rattle.matched_events.proofs.Sending.{carries, entry-or}
 use Rattle.matched_events.proofs.SentLinks.{links-sent}
 use Rattle.matched_events.proofs.SentRight.{right-sent}
 use Rattle.matched_events.proofs.Values.{held-at}
@@ -216,11 +221,29 @@ module _ (i : ℕ) (w : Links) (s : State) (right : AreRight i w s) (links : Are
               (subst (λ z. IsHereAnd (entry_at w z other) (λ x. IsAskedAs r x.inward)) (sym (is.site living)) (meets i w s right links kept few held k v is.here is.alive r j h is.asked living));
         }
 
-    pub right-matched : i < 2 ^ 31 → AreRight (i + 1) u (record s { ends = matches mine n s.ends })
+    pub right-matched : i < 2 ^ 32 - 1 → AreRight (i + 1) u (record s { ends = matches mine n s.ends })
     right-matched = right-sent i half s right-half links-half kept few c cleared r n bytes xs to sending u last-half
 
     pub links-matched : AreLinksOf u (record s { ends = matches mine n s.ends })
     links-matched = links-sent i half s right-half links-half kept few c cleared r n bytes xs to sending u last-half
+
+    -- of the counts of an end, that of hops alone may be one more than it was
+    pub fields-matched : (e : EndId) (at : Stand) (m : MovingPicture) → HasFields u e at m → (o : MovingPicture) × (st : Stand) × HasFields w e st o × (m.hops ≤ o.hops + 1) × (m.sent ≡ o.sent) × (m.asked ≡ o.asked)
+    fields-matched e at m has =
+        let x = left-was s (carries i half s right-half links-half kept few c cleared r n bytes xs to sending u last-half) s.ends (λ q. refl) e at m has in
+        let y = fields-was first-half anew e x.1 x.0 x.2 in
+        (y.0, x.1, y.1, count x.0 y.0 y.2 x.4, ap (λ (z : MovingPicture). z.sent) x.3 ∙ ap (λ (z : MovingPicture). z.sent) y.2, ap (λ (z : MovingPicture). z.asked) x.3 ∙ ap (λ (z : MovingPicture). z.asked) y.2)
+      where
+        anew : IsAnew (length s.made) w s (clearing c v r) s.ends v (voided r v)
+        anew = record { kernel = is.kernel; taken = refl; sent = tt; put = λ e. refl; here = is.here; like = refl; opened = open-here; ends = λ q. refl }
+
+        count : (x y : MovingPicture) → IsLike y x → {st : Stand} → ((st ≡ at) × (m ≡ x)) ⊎ (Contains xs e × (at ≡ Flying) × (m ≡ left_value k x)) → m.hops ≤ y.hops + 1
+        count x y like (inl same) = let hops : m.hops ≡ y.hops = ap (λ (z : MovingPicture). z.hops) same.1 ∙ ap (λ (z : MovingPicture). z.hops) like in omega (arith, hops)
+        count x y like (inr left) =
+            let hops : m.hops ≡ gains_one x.hops = ap (λ (z : MovingPicture). z.hops) left.2 in
+            let most : gains_one x.hops ≤ x.hops + 1 = min-le_left (x.hops + 1) (2 ^ 32 - 1) in
+            let same : x.hops ≡ y.hops = ap (λ (z : MovingPicture). z.hops) like in
+            omega (arith, hops, most, same)
 
     -- ---- entries afterwards
 

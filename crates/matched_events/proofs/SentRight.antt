@@ -1,5 +1,5 @@
 -- The message of a send that is matched leaves with its ends: what is true of every world stays true of its links.
-use Rattle.std.proofs.Common.{◌≡◌, ◌⊎◌, inl, inr, ℕ, ◌+◌, ◌^◌, ◌<◌, ◌≤◌, Bool, true, false, ◌&&◌, if◌then◌else◌, List, [], ◌∷◌, length, Contains, is_some, refl, sym, ap, subst, ◌∙◌, arith, true≢false, lt-ltb}
+use Rattle.std.proofs.Common.{◌≡◌, ◌⊎◌, inl, inr, ℕ, ◌+◌, ◌-◌, ◌^◌, ◌<◌, ◌≤◌, Bool, true, false, ◌&&◌, if◌then◌else◌, List, [], ◌∷◌, length, Contains, is_some, refl, sym, ap, subst, ◌∙◌, arith, true≢false, lt-ltb}
 use Rattle.std.specs.List.{list_all}
 use Rattle.charlotte_calls.specs.Names.{opposite}
 use Rattle.charlotte_calls.specs.Packets.{names_kernels_below}
@@ -288,7 +288,7 @@ module _ (i : ℕ) (w : Links) (s : State) (right : AreRight i w s) (links : Are
       new x what same = subst (λ (z : ℕ × PictureWhat). IsPacketRight u ends k z.0 z.1) same new-right
 
   -- all clauses on links
-  pub right-sent : i < 2 ^ 31 → AreRight (i + 1) u (record s { ends = ends })
+  pub right-sent : i < 2 ^ 32 - 1 → AreRight (i + 1) u (record s { ends = ends })
   right-sent room =
       record {
         named = names;

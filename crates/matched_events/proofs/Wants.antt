@@ -244,7 +244,7 @@ module _ (i : ℕ) (w : World) (s : State) (is : Invariant i w s) (room : i < 2 
   service = consistent_after s (step.Match mine n) after is.service stepped
 
   right : AreRight (i + 1) half after
-  right = right-matched i (links_of w) s is.links is.stands.links is.service is.setting.few held c v r at hops n bytes xs goes matchable half first-half room
+  right = right-matched i (links_of w) s is.links is.stands.links is.service is.setting.few held c v r at hops n bytes xs goes matchable half first-half (omega (arith, room))
 
   links : AreLinksOf half after
   links = links-matched i (links_of w) s is.links is.stands.links is.service is.setting.few held c v r at hops n bytes xs goes matchable half first-half
