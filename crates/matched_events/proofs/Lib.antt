@@ -6,3 +6,4 @@ pub mod SentRight
 pub mod SentLinks
 pub mod Match
 pub mod Wants
+pub mod Sends
