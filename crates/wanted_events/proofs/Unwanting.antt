@@ -58,7 +58,7 @@ learned-voided r at hops v = by (is_news v.value hops)
     by true = refl
     by false = refl
 
-news-voided : (k r at hops : ℕ) (v : HereView) (i : Inward) → view_news k at hops v i ≡ view_news k at hops (record v { value = voided r v }) i
+pub news-voided : (k r at hops : ℕ) (v : HereView) (i : Inward) → view_news k at hops v i ≡ view_news k at hops (record v { value = voided r v }) i
 news-voided k r at hops v i = by (is_news v.value hops) i
   where
     by : (b : Bool) (i : Inward) → (if b then live_packets k (if b then record v.value { hint = (at, hops) } else v.value) i else []) ≡ (if b then live_packets k (if b then record (voided r v) { hint = (at, hops) } else voided r v) i else [])
