@@ -1,0 +1,4 @@
+pub mod Emptied
+pub mod Among
+pub mod Coming
+pub mod Landed
