@@ -2,3 +2,5 @@ pub mod Emptied
 pub mod Among
 pub mod Coming
 pub mod Landed
+pub mod Meeting
+pub mod Received
