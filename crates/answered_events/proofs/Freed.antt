@@ -47,13 +47,13 @@ use Rattle.answered_events.proofs.Meets.{IsOwnedAt, stands-first, unwanted-meets
 use Rattle.answered_events.proofs.Turned.{IsTurn, middle, middle-counts, middle-number, middle-still, middle-was, turned-links, turned-right, turned_view, with_entry}
 use Rattle.answered_events.proofs.World.{processes-told, setting-after, sound-same}
 
--- an unwanted that is under way, and no parcel, tells that the receive is withdrawn
-withdrawn-of : (w : Links) (e : EndId) (r : ℕ) (x : Inward) → IsUnderWay w (IsUnwantedOf e r) → ((n : ℕ) → IsUnderWay w (IsParcelFor e r n) → ⊥) → IsAskedOf w e r x → x ≡ inward.Withdrawn
-withdrawn-of w e r (inward.Matched n) under none is = absurd (none n is)
-withdrawn-of w e r inward.Withdrawn under none is = refl
-withdrawn-of w e r inward.Posted under none is = absurd (is.1 under)
-withdrawn-of w e r inward.Idle under none is = absurd is
-withdrawn-of w e r inward.Reported under none is = absurd is
+-- an unwanted that is under way tells that the receive is withdrawn, and no parcel for it is under way
+withdrawn-of : (w : Links) (e : EndId) (r : ℕ) (x : Inward) → IsUnderWay w (IsUnwantedOf e r) → IsAskedOf w e r x → (x ≡ inward.Withdrawn) × ((n : ℕ) → IsUnderWay w (IsParcelFor e r n) → ⊥)
+withdrawn-of w e r (inward.Matched n) under is = absurd (is.1 under)
+withdrawn-of w e r inward.Withdrawn under is = (refl, is.0)
+withdrawn-of w e r inward.Posted under is = absurd (is.1 under)
+withdrawn-of w e r inward.Idle under is = absurd is
+withdrawn-of w e r inward.Reported under is = absurd is
 
 unwanted-counts : (e : EndId) (n : ℕ) (q : PictureWhat) → IsUnwantedOf e n q → is_unwanted_to e q ≡ true
 unwanted-counts e n (packet.Unwanted f m at hops) is = subst (λ z. end_eq e z ≡ true) (sym is.0) (end_eq-refl e)
@@ -105,8 +105,7 @@ pub put-table-sound : (k made n : ℕ) (t z : EndId → Entry) (to : EndId) (v u
 put-table-sound k made n t z to v u sound here after same = sound-same k made n (put t to (entry.Here u)) z (λ e. same e ∙ put-with to (entry.Here u) t e) (put-sound-view to v u sound here after)
 
 module _ (i : ℕ) (w : World) (s : State) (is : Invariant i w s) (k from stamp : ℕ) (to : EndId) (r at hops : ℕ) (others : List Picture)
-    (there : w.packets from k ≡ record { stamp = stamp; what = packet.Unwanted to r at hops } ∷ others) (meets : IsHereAnd ((w.kernel k).table to) (λ v. v.inward ≡ kernel_inward.Withdrawing r))
-    (unparcelled : (n : ℕ) → IsUnderWay (links_of w) (IsParcelFor to r n) → ⊥) where
+    (there : w.packets from k ≡ record { stamp = stamp; what = packet.Unwanted to r at hops } ∷ others) (meets : IsHereAnd ((w.kernel k).table to) (λ v. v.inward ≡ kernel_inward.Withdrawing r)) where
   abbrev q : Picture
   q = record { stamp = stamp; what = packet.Unwanted to r at hops }
 
@@ -144,10 +143,16 @@ module _ (i : ℕ) (w : World) (s : State) (is : Invariant i w s) (k from stamp 
 
     -- ---- the step of the service
 
-    withdrawn : (s.ends to).inward ≡ inward.Withdrawn
-    withdrawn =
-        withdrawn-of (links_of w) to r (s.ends to).inward (record { from = from; to = k; packet = q; there = stands-first is k from q others there; is = (refl, refl) }) unparcelled
+    told-so : ((s.ends to).inward ≡ inward.Withdrawn) × ((n : ℕ) → IsUnderWay (links_of w) (IsParcelFor to r n) → ⊥)
+    told-so =
+        withdrawn-of (links_of w) to r (s.ends to).inward (record { from = from; to = k; packet = q; there = stands-first is k from q others there; is = (refl, refl) })
         (subst (λ z. IsInwardOf (links_of w) to z (s.ends to).inward) withdrawing o.agree.inward)
+
+    withdrawn : (s.ends to).inward ≡ inward.Withdrawn
+    withdrawn = told-so.0
+
+    unparcelled : (n : ℕ) → IsUnderWay (links_of w) (IsParcelFor to r n) → ⊥
+    unparcelled = told-so.1
 
     lives : is_living (s.ends to).place ≡ true
     lives = ap (λ z. is_living z) o.owned
@@ -302,6 +307,6 @@ module _ (i : ℕ) (w : World) (s : State) (is : Invariant i w s) (k from stamp 
           homes = refl;
         }
 
-  -- an unwanted that meets the receive that is being withdrawn, while no parcel for that receive is under way
+  -- an unwanted that meets the receive that is being withdrawn
   pub unwanted-frees : Goes i w s (Takes k from)
   unwanted-frees = frees found.0 found.1 found.2

@@ -16,7 +16,7 @@ use Rattle.service_step.specs.Ends.{is_living}
 use Rattle.service_step.specs.State.{State}
 use Rattle.world_meaning.proofs.Goes.{Goes}
 use Rattle.world_meaning.specs.Invariant.{Invariant}
-use Rattle.world_meaning.specs.Packets.{IsParcelFor, IsUnderWay, links_of}
+use Rattle.world_meaning.specs.Packets.{links_of}
 use Rattle.silent_events.proofs.Places.{here-living}
 use Rattle.answered_events.proofs.Completed.{taken-completes}
 use Rattle.answered_events.proofs.Dropped.{taken-dropped, unwanted-dropped}
@@ -57,12 +57,11 @@ withdraws r (entry.Here v) = by v.inward refl
         one true equal = inl (is ∙ ap inward.Withdrawing (eqb-true m r equal))
         one false apart = inr (λ has. true≢false (sym (eq-eqb m r (same (sym is ∙ has))) ∙ apart))
 
--- any unwanted while no parcel for its receive is under way: it meets the receive that is being withdrawn, and frees its end; or it is
--- dropped
+-- any unwanted: it meets the receive that is being withdrawn, and frees its end; or it is dropped
 pub unwanted-goes : (i : ℕ) (w : World) (s : State) → Invariant i w s → (k from stamp : ℕ) (to : EndId) (r at hops : ℕ) (others : List Picture)
-    → w.packets from k ≡ record { stamp = stamp; what = packet.Unwanted to r at hops } ∷ others → ((n : ℕ) → IsUnderWay (links_of w) (IsParcelFor to r n) → ⊥) → Goes i w s (Takes k from)
-unwanted-goes i w s is k from stamp to r at hops others there unparcelled = by (withdraws r ((w.kernel k).table to))
+    → w.packets from k ≡ record { stamp = stamp; what = packet.Unwanted to r at hops } ∷ others → Goes i w s (Takes k from)
+unwanted-goes i w s is k from stamp to r at hops others there = by (withdraws r ((w.kernel k).table to))
   where
     by : IsHereAnd ((w.kernel k).table to) (λ v. v.inward ≡ inward.Withdrawing r) ⊎ (IsHereAnd ((w.kernel k).table to) (λ v. v.inward ≡ inward.Withdrawing r) → ⊥) → Goes i w s (Takes k from)
-    by (inl meets) = unwanted-frees i w s is k from stamp to r at hops others there meets unparcelled
+    by (inl meets) = unwanted-frees i w s is k from stamp to r at hops others there meets
     by (inr none) = unwanted-dropped i w s is k from stamp to r at hops others there none

@@ -104,11 +104,11 @@ telling-is k p mine r rs granted front =
 -- ---- one end
 
 -- that way of an end is idle
-abbrev idle_way : Way → End → End
+abbrev pub idle_way : Way → End → End
 idle_way way.Outward x = record x { outward = outward.Idle }
 idle_way way.Inward x = record x { inward = inward.Idle }
 
-idles-is : (wy : Way) (e : EndId) (t : EndId → End) → idles wy e t ≡ puts e (idle_way wy (t e)) t
+pub idles-is : (wy : Way) (e : EndId) (t : EndId → End) → idles wy e t ≡ puts e (idle_way wy (t e)) t
 unfolding idles turns_outward turns_inward
 idles-is way.Outward e t = refl
 idles-is way.Inward e t = refl
@@ -127,7 +127,7 @@ over-inward inward.Posted over = absurd (true≢false (sym over))
 over-inward inward.Withdrawn over = absurd (true≢false (sym over))
 over-inward (inward.Matched n) over = absurd (true≢false (sym over))
 
-idle-rested : (wy : Way) (x : End) → is_over wy x ≡ true → IsRested x (idle_way wy x)
+pub idle-rested : (wy : Way) (x : End) → is_over wy x ≡ true → IsRested x (idle_way wy x)
 idle-rested way.Outward x over = record { place = refl; sent = refl; noticed = refl; outward = inr (over-outward x.outward over, refl); inward = inl refl }
 idle-rested way.Inward x over = record { place = refl; sent = refl; noticed = refl; outward = inl refl; inward = inr (over-inward x.inward over, refl) }
 
@@ -140,7 +140,7 @@ inward-idle : (w : Links) (e : EndId) (i : KernelInward) → IsInwardOf w e i in
 inward-idle w e kernel_inward.Unreported is = refl
 inward-idle w e _ is = absurd is
 
-both-rest : (w : Links) (e : EndId) (wy : Way) (v : HereView) (x : End) → is_over wy x ≡ true → IsEndOf w e v x → AreTogether v (reported_view wy v) x (idle_way wy x)
+pub both-rest : (w : Links) (e : EndId) (wy : Way) (v : HereView) (x : End) → is_over wy x ≡ true → IsEndOf w e v x → AreTogether v (reported_view wy v) x (idle_way wy x)
 both-rest w e way.Outward v x over is = record { outward = inr (outward-idle w e x.sent v.outward (subst (IsOutwardOf w e x.sent v.outward) (over-outward x.outward over) is.outward), refl); inward = inl (refl, refl) }
 both-rest w e way.Inward v x over is = record { outward = inl (refl, refl); inward = inr (inward-idle w e v.inward (subst (IsInwardOf w e v.inward) (over-inward x.inward over) is.inward), refl) }
 

@@ -286,19 +286,26 @@ module _ (i : ℕ) (w u : Links) (s : State) (right : AreRight i w s) (links : A
       inward : (e : EndId) (p : Pid) (x : HereView) → (s.ends e).place ≡ place.Owned p → entry_at w (home_of s p) e ≡ entry.Here x → IsInwardOf w e x.inward (s.ends e).inward → IsInwardOf u e x.inward (t e).inward
       inward e p x owns stands old = by (end_eq other e) refl
         where
-          own : entry_at w (home_of s p) other ≡ entry.Here x → IsInwardOf u other x.inward (t other).inward
-          own has =
+          -- no parcel for it is under way, since it was posted
+          unparcelled : IsInwardOf w other (kernel_inward.Withdrawing r) (s.ends other).inward → (n : ℕ) → IsUnderWay u (IsParcelFor other r n) → ⊥
+          unparcelled asked n under =
+              (subst (λ z. IsInwardOf w other (kernel_inward.Withdrawing r) z) is-posted asked).0 n (under-was b anew (IsParcelFor other r n) (λ what void. void-parcel_for k v other r n what void) under)
+
+          own : entry_at w (home_of s p) other ≡ entry.Here x → IsInwardOf w other x.inward (s.ends other).inward → IsInwardOf u other x.inward (t other).inward
+          own has was =
               let site : home_of s p ≡ at = here-kernel (length s.made) w s.ends few right.named right.marked links.once other (home_of s p) at x seen-view has is-there in
               let same : x ≡ seen-view = ap (view_or seen-view) (sym (subst (λ z. entry_at w z other ≡ entry.Here x) site has) ∙ is-there) in
               subst (λ (z : HereView). IsInwardOf u other z.inward (t other).inward) (sym same)
               (subst (λ z. IsInwardOf u other z (t other).inward) (sym is-withdrawing)
-              (subst (λ (z : End). IsInwardOf u other (kernel_inward.Withdrawing r) z.inward) (sym turned)
-              (under_way-sent b (IsUnwantedOf other r) (record { to = at; what = packet.Unwanted other r k v.value.hops; there = first (at, packet.Unwanted other r k v.value.hops) []; is = (refl, refl) }))))
+              (subst (λ (z : End). IsInwardOf u other (kernel_inward.Withdrawing r) z.inward) (sym turned) (
+                unparcelled (subst (λ z. IsInwardOf w other z (s.ends other).inward) (ap (λ (z : HereView). z.inward) same ∙ is-withdrawing) was),
+                under_way-sent b (IsUnwantedOf other r) (record { to = at; what = packet.Unwanted other r k v.value.hops; there = first (at, packet.Unwanted other r k v.value.hops) []; is = (refl, refl) }),
+              )))
 
           by : (z : Bool) → end_eq other e ≡ z → IsInwardOf u e x.inward (t e).inward
           by true same =
               let is : other ≡ e = end_eq-same other e same in
-              subst (λ z. IsInwardOf u z x.inward (t z).inward) is (own (subst (λ z. entry_at w (home_of s p) z ≡ entry.Here x) (sym is) stands))
+              subst (λ z. IsInwardOf u z x.inward (t z).inward) is (own (subst (λ z. entry_at w (home_of s p) z ≡ entry.Here x) (sym is) stands) (subst (λ z. IsInwardOf w z x.inward (s.ends z).inward) (sym is) old))
           by false apart =
               subst (λ (z : End). IsInwardOf u e x.inward z.inward) (sym (stayed e apart))
               (inward-same w u e (λ q n. under-same b anew (IsParcelFor e q n) (λ what void. void-parcel_for k v e q n what void)) (λ q. under-same b anew (IsUnwantedOf e q) (λ what void. void-unwanted k v e q what apart void)) x.inward (s.ends e).inward old)
