@@ -4,3 +4,5 @@ pub mod Coming
 pub mod Landed
 pub mod Meeting
 pub mod Received
+pub mod Moves
+pub mod Taken

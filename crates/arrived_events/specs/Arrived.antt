@@ -2,6 +2,7 @@
 -- packet and the message stay, without them.
 use Rattle.std.specs.Prelude.{◌≡◌, ℕ, ◌≤◌, true, if◌then◌else◌, List, [], Contains, Some, length}
 use Rattle.std.specs.List.{list_any}
+use Rattle.charlotte_calls.specs.Names.{opposite}
 use Rattle.charlotte_calls.specs.declared.names.EndId.{EndId}
 use Rattle.charlotte_calls.specs.declared.names.Pid.{Pid}
 use Rattle.charlotte_calls.specs.declared.picture.MovingPicture.{MovingPicture}
@@ -10,6 +11,7 @@ use Rattle.charlotte_calls.specs.declared.picture.PictureWhat.{PictureWhat}
 use Rattle.charlotte_calls.specs.declared.picture.PictureWhat.TheVariants as packet
 use Rattle.end_table.specs.Entries.{settled}
 use Rattle.end_table.specs.Place.{end_eq}
+use Rattle.end_table.specs.Table.{IsHereAnd}
 use Rattle.end_table.specs.declared.entry.Entry.{Entry}
 use Rattle.end_table.specs.declared.entry.Entry.TheVariants as entry
 use Rattle.end_table.specs.declared.entry.Holder.TheVariants as holder
@@ -62,3 +64,8 @@ pub record IsLaden (i : ℕ) {w v : Links} {c : Change} (b : Changes w c v) (fro
   pub kept : IsConsistent s
   pub few : length s.made ≤ 8
   pub carries : is_message_of f q.what ≡ true
+
+-- a packet tells the opposite of an end that is here at kernel k where that is
+abbrev pub IsTrueMove : Links → ℕ → PictureWhat → Type 0
+IsTrueMove w k (packet.Moved to at hops) = (at ≡ k) × IsHereAnd (w.entry k (opposite to)) (λ v. v.value.hops ≡ hops)
+IsTrueMove w k _ = ⊥
