@@ -69,7 +69,7 @@ other-message w e n (kernel_outward.Matched j) m o is = is
 other-message w e n _ m o is = absurd is
 
 -- each value that a packet carries names kernels that there are
-named-value : (n : ℕ) (what : PictureWhat) (m : MovingPicture) → is_addressed what n ≡ true → Contains (values_of what) m → names_kernels_below n m ≡ true
+pub named-value : (n : ℕ) (what : PictureWhat) (m : MovingPicture) → is_addressed what n ≡ true → Contains (values_of what) m → names_kernels_below n m ≡ true
 named-value n (packet.Parcel to o w at hops bytes ms) m is has = each-value (names_kernels_below n) ms m (and_parts _ _ is).1 has
 named-value n (packet.Back to o ms) m is has = each-value (names_kernels_below n) ms m is has
 named-value n _ m is has = absurd (none-there m has)
@@ -103,16 +103,16 @@ module _ {i : ℕ} {w v : Links} {c : Change} {b : Changes w c v} {from : ℕ} {
       by (inr now) = inr (now.0, now.1, some-same o (arrival ready p now.0.value) (ap here (sym there ∙ now.2)))
 
   -- what stays of the ends of the service
-  living-same : (e : EndId) → is_living (t e).place ≡ is_living (s.ends e).place
+  pub living-same : (e : EndId) → is_living (t e).place ≡ is_living (s.ends e).place
   living-same = each-owner ready p (λ e z. is_living z.place ≡ is_living (s.ends e).place) refl (λ e a. sym (living ready p e a)) (λ e apart none. refl)
 
-  made-same : (e : EndId) → is_made (t e).place ≡ is_made (s.ends e).place
+  pub made-same : (e : EndId) → is_made (t e).place ≡ is_made (s.ends e).place
   made-same = each-owner ready p (λ e z. is_made z.place ≡ is_made (s.ends e).place) refl (λ e a. sym (ap (λ z. is_made z) (inside ready p e a))) (λ e apart none. refl)
 
   sent-same : (e : EndId) → (t e).sent ≡ (s.ends e).sent
   sent-same = each-owner ready p (λ e z. z.sent ≡ (s.ends e).sent) refl (λ e a. refl) (λ e apart none. refl)
 
-  noticed-same : (e : EndId) → (t e).noticed ≡ (s.ends e).noticed
+  pub noticed-same : (e : EndId) → (t e).noticed ≡ (s.ends e).noticed
   noticed-same = each-owner ready p (λ e z. z.noticed ≡ (s.ends e).noticed) refl (λ e a. refl) (λ e apart none. refl)
 
   posted-same : (e : EndId) → is_posted (t e).inward ≡ is_posted (s.ends e).inward
@@ -124,7 +124,7 @@ module _ {i : ℕ} {w v : Links} {c : Change} {b : Changes w c v} {from : ℕ} {
   outward-same-at : (e : EndId) → end_eq f e ≡ false → (t e).outward ≡ (s.ends e).outward
   outward-same-at = each-owner ready p (λ e z. end_eq f e ≡ false → z.outward ≡ (s.ends e).outward) (λ apart. absurd (true≢false (sym (end_eq-refl f) ∙ apart))) (λ e a apart. refl) (λ e apart none other. refl)
 
-  place-stays : (e : EndId) → (IsAmong ms e → ⊥) → (t e).place ≡ (s.ends e).place
+  pub place-stays : (e : EndId) → (IsAmong ms e → ⊥) → (t e).place ≡ (s.ends e).place
   place-stays = each-owner ready p (λ e z. (IsAmong ms e → ⊥) → z.place ≡ (s.ends e).place) (λ none. refl) (λ e a none. absurd (none a)) (λ e apart none other. refl)
 
   living-was : (e : EndId) → is_living (t e).place ≡ true → is_living (s.ends e).place ≡ true

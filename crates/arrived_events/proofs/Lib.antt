@@ -6,3 +6,6 @@ pub mod Meeting
 pub mod Received
 pub mod Moves
 pub mod Taken
+pub mod Values
+pub mod Closes
+pub mod Parcels

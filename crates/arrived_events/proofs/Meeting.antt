@@ -44,13 +44,13 @@ use Rattle.answered_events.proofs.Turned.{turned_view, with_entry}
 use Rattle.arrived_events.specs.Received.{IsReceived, IsReceiving, answering, bare_parcel}
 
 -- the receive that is started at an entry
-asked-inward : (w : Links) (e : EndId) (r : ℕ) (out : KernelInward) (x : Inward) → IsAskedAs r out → IsInwardOf w e out x → IsAskedOf w e r x
+pub asked-inward : (w : Links) (e : EndId) (r : ℕ) (out : KernelInward) (x : Inward) → IsAskedAs r out → IsInwardOf w e out x → IsAskedOf w e r x
 asked-inward w e r (kernel_inward.Posted a) x asked is = subst (λ z. IsAskedOf w e z x) asked is
 asked-inward w e r (kernel_inward.Withdrawing a) x asked is = subst (λ z. IsAskedOf w e z x) asked is
 asked-inward w e r _ x asked is = absurd asked
 
 -- while a parcel for it is under way it is matched, and no unwanted for it is under way
-parcel-matched : (w : Links) (e : EndId) (r n : ℕ) (x : Inward) → IsUnderWay w (IsParcelFor e r n) → IsAskedOf w e r x → (a : ℕ) × (x ≡ inward.Matched a) × IsUnderWay w (IsParcelFor e r a) × (IsUnderWay w (IsUnwantedOf e r) → ⊥)
+pub parcel-matched : (w : Links) (e : EndId) (r n : ℕ) (x : Inward) → IsUnderWay w (IsParcelFor e r n) → IsAskedOf w e r x → (a : ℕ) × (x ≡ inward.Matched a) × IsUnderWay w (IsParcelFor e r a) × (IsUnderWay w (IsUnwantedOf e r) → ⊥)
 parcel-matched w e r n (inward.Matched a) under is = (a, refl, is.0, is.1)
 parcel-matched w e r n inward.Withdrawn under is = absurd (is.0 n under)
 parcel-matched w e r n inward.Posted under is = absurd (is.0 n under)

@@ -91,7 +91,7 @@ module _ (s : State) (to : EndId) (n : ℕ) (p : Pid) (m : Message) (matched : (
   made-to = ap (λ z. is_made z) owned
 
   module _ (made : is_made (s.ends f).place ≡ true) where
-    table : EndId → End
+    abbrev table : EndId → End
     table = turns_inward inward.Reported (opposite f) (turns_outward outward.Taken f s.ends)
 
     took-is : (e : EndId) → took.ends e ≡ places (place.Owned p) m.carried table e
