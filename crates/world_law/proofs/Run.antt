@@ -18,7 +18,7 @@ use Rattle.kernel_step.specs.Calls.{refusal, IsCallWith}
 use Rattle.kernel_step.specs.Kernel.{Kernel, Outcome, Process as KernelProcess, begins, call_step, closes, decides, granted, has_report, join_answers, join_reports, next_stamp, performs, process_of, refuses, without_answer}
 use Rattle.kernel_step.specs.Progress.{means}
 use Rattle.kernel_step.specs.declared.phase.Phase.TheVariants as kernel_phase
-use Rattle.kernel_world.specs.Run.{IsAllowed, AreAllowed, IsRun}
+use Rattle.kernel_world.specs.Run.{IsAllowed, IsCallOf, AreAllowed, IsRun}
 use Rattle.kernel_world.specs.World.{World, Event, Calls, Takes, happens, start}
 use Rattle.service_step.specs.Run.{IsRunFrom, state_after, start_state}
 use Rattle.service_step.specs.Causes.{IsRefusedFor}
@@ -40,10 +40,11 @@ use Rattle.calls_that_wait.proofs.Calm.{IsAnswered, answered-invariant}
 use Rattle.calls_that_wait.proofs.Refused.{IsCaller, caller-process, caller-runs, refused-for, wait-granted}
 use Rattle.calls_that_wait.proofs.Reports.{reports-goes, telling-is}
 use Rattle.world_law.proofs.Start.{starts-well}
-use Rattle.world_law.proofs.Version.{run-version}
+use Rattle.calls_that_send.proofs.Version.{run-version}
+use Rattle.matched_events.proofs.Sends.{send-goes}
 use Rattle.calls_that_wait.proofs.Waits.{IsWaiting, wait-is, waits-invariant}
 use Rattle.world_meaning.specs.Invariant.{Invariant}
-use Rattle.world_law.specs.Law.{GoesWithEach, joined, IsServedLawfully, IsCovered, IsCoveredCall, IsCoveredTaking, AreCovered}
+use Rattle.world_law.specs.Law.{GoesWithEach, joined, IsServedLawfully, IsCovered, IsCoveredTaking, AreCovered}
 use Rattle.world_meaning.specs.StandsFor.{home_of, service_phase}
 
 -- ---- calls that only answer their process
@@ -168,8 +169,8 @@ goes-event g i w s (Takes k from) is homes version few allowed covered = by (w.p
   where
     by : (qs : List Picture) → w.packets from k ≡ qs → IsCoveredTaking (w.kernel k).table qs → Goes i w s (Takes k from)
     by [] there covered = absurd covered
-    by (q ∷ others) there covered = takes-goes i w s is k from q.stamp others q.what there covered
-goes-event g i w s (Calls k p c mine) is homes version few allowed covered = by c (refusal p (w.kernel k).table (w.kernel k).made mine (has_report (process_of p (w.kernel k))) c) refl covered
+    by (q ∷ others) there covered = takes-goes i w s is few k from q.stamp others q.what there covered
+goes-event g i w s (Calls k p c mine) is homes version few allowed covered = by c (refusal p (w.kernel k).table (w.kernel k).made mine (has_report (process_of p (w.kernel k))) c) refl
   where
     below : p.0 < length s.homes
     below = subst (λ hs. p.0 < length hs) (sym homes) allowed.0
@@ -186,24 +187,24 @@ goes-event g i w s (Calls k p c mine) is homes version few allowed covered = by 
     refused : (c : Call) (cause : Cause) → IsCallWith p (w.kernel k).table mine c → refusal p (w.kernel k).table (w.kernel k).made mine (has_report (process_of p (w.kernel k))) c ≡ Some cause → Goes i w s (Calls k p c mine)
     refused c cause with_mine is_refused = goes-refused i w s k p mine is running c cause is_refused (caller-runs w s p k mine is.stands calls) (refused-for i w s p k mine is calls c cause with_mine is_refused)
 
-    by : (d : Call) (r : Option Cause) → refusal p (w.kernel k).table (w.kernel k).made mine (has_report (process_of p (w.kernel k))) c ≡ r → IsCoveredCall r c → Goes i w s (Calls k p c mine)
-    by d (Some cause) is_refused in_is = refused c cause allowed.4 is_refused
-    by d None is_granted in_is = granted_is c allowed.4 is_granted in_is
+    by : (d : Call) (r : Option Cause) → refusal p (w.kernel k).table (w.kernel k).made mine (has_report (process_of p (w.kernel k))) c ≡ r → Goes i w s (Calls k p c mine)
+    by d (Some cause) is_refused = refused c cause allowed.4 is_refused
+    by d None is_granted = granted_is c allowed.3 allowed.4 is_granted
       where
-        granted_is : (c : Call) → IsCallWith p (w.kernel k).table mine c → refusal p (w.kernel k).table (w.kernel k).made mine (has_report (process_of p (w.kernel k))) c ≡ None → IsCoveredCall None c → Goes i w s (Calls k p c mine)
-        granted_is (call.Print bytes) ends granted in_is = goes-print i w s k p mine is running bytes
-        granted_is call.Make ends granted in_is = make-goes g i w s k p mine is homes (allowed.0, allowed.1, allowed.2, tt, tt) granted
-        granted_is (call.Destroy on) ends granted in_is = destroy-goes g i w s k p on mine is homes (allowed.0, allowed.1, allowed.2, tt, ends) granted
-        granted_is (call.Send on bytes xs) ends granted in_is = absurd in_is
-        granted_is (call.Receive on) ends granted in_is = receive-goes g i w s k p on mine is homes (allowed.0, allowed.1, allowed.2, tt, tt) granted
-        granted_is (call.Cancel on way.Outward) ends granted in_is = cancel-send-goes g i w s k p on mine is homes (allowed.0, allowed.1, allowed.2, tt, ends) granted
-        granted_is (call.Cancel on way.Inward) ends granted in_is = cancel-receive-goes g i w s k p on mine is homes (allowed.0, allowed.1, allowed.2, tt, ends) granted
-        granted_is call.Wait ends granted in_is = waited (process_of p (w.kernel k)).reports refl
+        granted_is : (c : Call) → IsCallOf g.version c → IsCallWith p (w.kernel k).table mine c → refusal p (w.kernel k).table (w.kernel k).made mine (has_report (process_of p (w.kernel k))) c ≡ None → Goes i w s (Calls k p c mine)
+        granted_is (call.Print bytes) fits ends granted = goes-print i w s k p mine is running bytes
+        granted_is call.Make fits ends granted = make-goes g i w s k p mine is homes (allowed.0, allowed.1, allowed.2, fits, ends) granted
+        granted_is (call.Destroy on) fits ends granted = destroy-goes g i w s k p on mine is homes (allowed.0, allowed.1, allowed.2, fits, ends) granted
+        granted_is (call.Send on bytes xs) fits ends granted = send-goes g i w s k p on bytes xs mine is homes version few (allowed.0, allowed.1, allowed.2, fits, ends) granted
+        granted_is (call.Receive on) fits ends granted = receive-goes g i w s k p on mine is homes (allowed.0, allowed.1, allowed.2, fits, ends) granted
+        granted_is (call.Cancel on way.Outward) fits ends granted = cancel-send-goes g i w s k p on mine is homes (allowed.0, allowed.1, allowed.2, fits, ends) granted
+        granted_is (call.Cancel on way.Inward) fits ends granted = cancel-receive-goes g i w s k p on mine is homes (allowed.0, allowed.1, allowed.2, fits, ends) granted
+        granted_is call.Wait fits ends granted = waited (process_of p (w.kernel k)).reports refl
           where
             waited : (rs : List Report) → (process_of p (w.kernel k)).reports ≡ rs → Goes i w s (Calls k p call.Wait mine)
             waited [] none = goes-wait i w s k p mine is running calls ends granted none
             waited (r ∷ rs) front = goes-report i w s k p mine is running calls ends granted r rs front
-        granted_is call.Exit ends granted in_is = exit-goes g i w s k p mine is homes (allowed.0, allowed.1, allowed.2, tt, ends) granted
+        granted_is call.Exit fits ends granted = exit-goes g i w s k p mine is homes (allowed.0, allowed.1, allowed.2, fits, ends) granted
 
 -- where events are left, fewer were than there may be
 fewer : (i l most : ℕ) → i + suc l ≤ most → i < most

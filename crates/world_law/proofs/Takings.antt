@@ -1,5 +1,5 @@
 -- The service goes with the takings that are covered.
-use Rattle.std.proofs.Common.{◌≡◌, ◌⊎◌, inl, inr, ℕ, ◌≤◌, ◌<◌, Bool, true, false, leb, List, ◌∷◌, refl, sym, subst}
+use Rattle.std.proofs.Common.{◌≡◌, ◌⊎◌, inl, inr, ℕ, ◌^◌, ◌≤◌, ◌<◌, Bool, true, false, leb, List, ◌∷◌, refl, sym, subst}
 use Rattle.std.proofs.lemmas.Bool.Decides.{leb_tells}
 use Rattle.charlotte_calls.specs.declared.names.EndId.{EndId}
 use Rattle.charlotte_calls.specs.declared.picture.Picture.{Picture}
@@ -15,22 +15,18 @@ use Rattle.kernel_sound.specs.Sound.{addressee}
 use Rattle.kernel_world.specs.World.{World, Takes}
 use Rattle.service_step.specs.State.{State}
 use Rattle.answered_events.proofs.Takings.{taken-goes, unwanted-goes}
+use Rattle.arrived_events.proofs.Parcels.{parcel-taken-goes}
+use Rattle.matched_events.proofs.Wants.{want-matched-goes}
 use Rattle.noticed_events.proofs.Gone.{gone-goes}
 use Rattle.silent_events.proofs.Hearing.{hearing-goes}
 use Rattle.silent_events.proofs.Taking.{taking-goes}
 use Rattle.wanted_events.proofs.Unwanting.{unwant-goes}
 use Rattle.wanted_events.proofs.Wanting.{IsNotWaiting, want-kept-goes}
-use Rattle.world_law.specs.Law.{HasNoWaiting, IsCoveredAt}
+use Rattle.world_law.specs.Law.{IsCoveredAt}
 use Rattle.world_meaning.proofs.Goes.{Goes}
 use Rattle.world_meaning.specs.Invariant.{Invariant}
 
-free : (o : Outward) → HasNoWaiting o → IsNotWaiting o
-free outward.Idle h = tt
-free (outward.Waiting n bytes xs) h = absurd h
-free (outward.Matched n) h = tt
-free outward.Unreported h = tt
-
-module _ (i : ℕ) (w : World) (s : State) (is : Invariant i w s) (k from stamp : ℕ) (others : List Picture) where
+module _ (i : ℕ) (w : World) (s : State) (is : Invariant i w s) (room : i < 2 ^ 31) (k from stamp : ℕ) (others : List Picture) where
   abbrev First : PictureWhat → Type 0
   First what = w.packets from k ≡ record { stamp = stamp; what = what } ∷ others
 
@@ -59,15 +55,21 @@ module _ (i : ℕ) (w : World) (s : State) (is : Invariant i w s) (k from stamp 
   takes-unwant to n j h there (entry.Left a b) here = taking-goes i w s is k from (at (packet.Unwant to n j h)) others there (subst (λ x. IfHere x (λ u. u.value.dead ≡ true)) (sym here) tt)
   takes-unwant to n j h there (entry.Destroyed m) here = taking-goes i w s is k from (at (packet.Unwant to n j h)) others there (subst (λ x. IfHere x (λ u. u.value.dead ≡ true)) (sym here) tt)
 
-  takes-want : (to : EndId) (n j h : ℕ) → First (packet.Want to n j h) → (x : Entry) → (w.kernel k).table to ≡ x → IfHere x (λ v. HasNoWaiting v.outward) → Goes i w s (Takes k from)
-  takes-want to n j h there (entry.Here v) here none =
+  takes-want : (to : EndId) (n j h : ℕ) → First (packet.Want to n j h) → (x : Entry) → (w.kernel k).table to ≡ x → Goes i w s (Takes k from)
+  takes-want to n j h there (entry.Here v) here =
       by-view v n
       (λ dead. taking-goes i w s is k from (at (packet.Want to n j h)) others there (subst (λ x. IfHere x (λ u. u.value.dead ≡ true)) (sym here) dead))
       (λ alive old. hearing-goes i w s is k from (at (packet.Want to n j h)) others there (subst (λ x. IsHereAnd x (λ u. (u.value.dead ≡ false) × (n ≤ u.value.served))) (sym here) (alive, old)))
-      (λ alive low. want-kept-goes i w s is k from stamp to n j h others there v here alive low (free v.outward none))
-  takes-want to n j h there entry.Nothing here none = taking-goes i w s is k from (at (packet.Want to n j h)) others there (subst (λ x. IfHere x (λ u. u.value.dead ≡ true)) (sym here) tt)
-  takes-want to n j h there (entry.Left a b) here none = taking-goes i w s is k from (at (packet.Want to n j h)) others there (subst (λ x. IfHere x (λ u. u.value.dead ≡ true)) (sym here) tt)
-  takes-want to n j h there (entry.Destroyed m) here none = taking-goes i w s is k from (at (packet.Want to n j h)) others there (subst (λ x. IfHere x (λ u. u.value.dead ≡ true)) (sym here) tt)
+      (λ alive low. unserved alive low v.outward refl)
+    where
+      unserved : v.value.dead ≡ false → v.value.served < n → (o : Outward) → v.outward ≡ o → Goes i w s (Takes k from)
+      unserved alive low (outward.Waiting m bytes xs) waits = want-matched-goes i w s is room k from stamp to n j h others there v here alive low m bytes xs waits
+      unserved alive low outward.Idle is_idle = want-kept-goes i w s is k from stamp to n j h others there v here alive low (subst IsNotWaiting (sym is_idle) tt)
+      unserved alive low (outward.Matched m) is_matched = want-kept-goes i w s is k from stamp to n j h others there v here alive low (subst IsNotWaiting (sym is_matched) tt)
+      unserved alive low outward.Unreported is_over = want-kept-goes i w s is k from stamp to n j h others there v here alive low (subst IsNotWaiting (sym is_over) tt)
+  takes-want to n j h there entry.Nothing here = taking-goes i w s is k from (at (packet.Want to n j h)) others there (subst (λ x. IfHere x (λ u. u.value.dead ≡ true)) (sym here) tt)
+  takes-want to n j h there (entry.Left a b) here = taking-goes i w s is k from (at (packet.Want to n j h)) others there (subst (λ x. IfHere x (λ u. u.value.dead ≡ true)) (sym here) tt)
+  takes-want to n j h there (entry.Destroyed m) here = taking-goes i w s is k from (at (packet.Want to n j h)) others there (subst (λ x. IfHere x (λ u. u.value.dead ≡ true)) (sym here) tt)
 
   takes-moved : (to : EndId) (j h : ℕ) → First (packet.Moved to j h) → (x : Entry) → (w.kernel k).table to ≡ x → Goes i w s (Takes k from)
   takes-moved to j h there (entry.Here v) here = of_dead v.value.dead refl
@@ -81,10 +83,10 @@ module _ (i : ℕ) (w : World) (s : State) (is : Invariant i w s) (k from stamp 
 
   -- the taking of a packet that is covered
   pub takes-goes : (what : PictureWhat) → First what → IsCoveredAt what ((w.kernel k).table (addressee what)) → Goes i w s (Takes k from)
-  takes-goes (packet.Want to n j h) there covered = takes-want to n j h there ((w.kernel k).table to) refl covered
+  takes-goes (packet.Want to n j h) there covered = takes-want to n j h there ((w.kernel k).table to) refl
   takes-goes (packet.Unwant to n j h) there covered = takes-unwant to n j h there ((w.kernel k).table to) refl
   takes-goes (packet.Unwanted to n j h) there covered = unwanted-goes i w s is k from stamp to n j h others there
-  takes-goes (packet.Parcel to m n j h bytes ms) there covered = absurd covered
+  takes-goes (packet.Parcel to m n j h bytes ms) there covered = parcel-taken-goes i w s is k from stamp to m n j h bytes ms others there covered
   takes-goes (packet.Taken to m j h) there covered = taken-goes i w s is k from stamp to m j h others there
   takes-goes (packet.Back to m ms) there covered = absurd covered
   takes-goes (packet.Gone to j) there covered = gone-goes i w s is k from stamp to j others there

@@ -1,26 +1,20 @@
 -- What is claimed of a run: its events are, by their service steps, a lawful run of the link service, and the world stands for the
 -- state of the service after each of them.
-use Rattle.std.specs.Prelude.{◌≡◌, true, List, [], ◌∷◌, ◌++◌, map, Option, Some, None}
-use Rattle.charlotte_calls.specs.declared.calls.Call.{Call}
-use Rattle.charlotte_calls.specs.declared.calls.Call.TheVariants as call
-use Rattle.charlotte_calls.specs.declared.calls.Cause.{Cause}
+use Rattle.std.specs.Prelude.{◌≡◌, true, List, [], ◌∷◌, ◌++◌, map}
 use Rattle.charlotte_calls.specs.declared.calls.ServiceStep.{ServiceStep}
 use Rattle.charlotte_calls.specs.declared.names.EndId.{EndId}
 use Rattle.charlotte_calls.specs.declared.picture.Picture.{Picture}
 use Rattle.charlotte_calls.specs.declared.picture.PictureWhat.{PictureWhat}
 use Rattle.charlotte_calls.specs.declared.picture.PictureWhat.TheVariants as packet
 use Rattle.charlotte_calls.specs.declared.setting.Setting.{Setting}
-use Rattle.end_table.specs.Table.{IfHere}
+use Rattle.end_table.specs.Table.{IsHereAnd}
 use Rattle.end_table.specs.declared.entry.Entry.{Entry}
-use Rattle.end_table.specs.declared.entry.Outward.{Outward}
-use Rattle.end_table.specs.declared.entry.Outward.TheVariants as outward
 use Rattle.kernel_sound.specs.Sound.{addressee}
-use Rattle.kernel_step.specs.Calls.{refusal}
-use Rattle.kernel_step.specs.Kernel.{process_of, has_report}
 use Rattle.kernel_world.specs.World.{World, Event, Calls, Takes, happens, outcome, start}
 use Rattle.service_step.specs.Lawful.{IsLawful}
 use Rattle.service_step.specs.Run.{IsRunFrom, IsServiceRun, state_after, start_state}
 use Rattle.service_step.specs.State.{State}
+use Rattle.world_meaning.specs.Fields.{IsAskedAs}
 use Rattle.world_meaning.specs.StandsFor.{StandsFor}
 
 -- the service goes with an event: its steps are allowed one after the other, and then the world stands for the state that they leave
@@ -55,38 +49,11 @@ pub record IsServedLawfully (g : Setting) (es : List Event) : Type 0 where
 
 -- ---- as far as it is proved
 
--- calls that are refused, and all others but a Send
-abbrev pub IsCoveredCall : Option Cause → Call → Type 0
-IsCoveredCall (Some cause) c = Unit {0}
-IsCoveredCall None (call.Print bytes) = Unit {0}
-IsCoveredCall None call.Wait = Unit {0}
-IsCoveredCall None call.Make = Unit {0}
-IsCoveredCall None (call.Receive on) = Unit {0}
-IsCoveredCall None (call.Cancel on way) = Unit {0}
-IsCoveredCall None (call.Destroy on) = Unit {0}
-IsCoveredCall None call.Exit = Unit {0}
-IsCoveredCall None (call.Send on bytes xs) = ⊥
-
--- no send waits
-abbrev pub HasNoWaiting : Outward → Type 0
-HasNoWaiting outward.Idle = Unit {0}
-HasNoWaiting (outward.Waiting n bytes xs) = ⊥
-HasNoWaiting (outward.Matched n) = Unit {0}
-HasNoWaiting outward.Unreported = Unit {0}
-
--- packets, by the entry of the end that they are addressed to: all but a parcel and a back, and a want that meets a send that waits
+-- every call; and packets, by the entry of the end that they are addressed to: all but a back, and a parcel that does not meet the receive that it is for
 abbrev pub IsCoveredAt : PictureWhat → Entry → Type 0
-IsCoveredAt (packet.Want to w at hops) x = IfHere x (λ v. HasNoWaiting v.outward)
-IsCoveredAt (packet.Unwant to w at hops) x = Unit {0}
-IsCoveredAt (packet.Unwanted to w at hops) x = Unit {0}
-IsCoveredAt (packet.Parcel to n w at hops bytes ms) x = ⊥
-IsCoveredAt (packet.Taken to n at hops) x = Unit {0}
+IsCoveredAt (packet.Parcel to n w at hops bytes ms) x = IsHereAnd x (λ v. IsAskedAs w v.inward)
 IsCoveredAt (packet.Back to n ms) x = ⊥
-IsCoveredAt (packet.Gone to at) x = Unit {0}
-IsCoveredAt (packet.Moved to at hops) x = Unit {0}
-IsCoveredAt (packet.Known to hops) x = Unit {0}
-IsCoveredAt (packet.Forget to hops) x = Unit {0}
-IsCoveredAt (packet.GoneSeen to) x = Unit {0}
+IsCoveredAt _ x = Unit {0}
 
 -- the taking of the first of these packets
 abbrev pub IsCoveredTaking : (EndId → Entry) → List Picture → Type 0
@@ -94,7 +61,7 @@ IsCoveredTaking table [] = ⊥
 IsCoveredTaking table (q ∷ others) = IsCoveredAt q.what (table (addressee q.what))
 
 abbrev pub IsCovered : World → Event → Type 0
-IsCovered w (Calls k p c mine) = IsCoveredCall (refusal p (w.kernel k).table (w.kernel k).made mine (has_report (process_of p (w.kernel k))) c) c
+IsCovered w (Calls k p c mine) = Unit {0}
 IsCovered w (Takes k from) = IsCoveredTaking (w.kernel k).table (w.packets from k)
 
 -- each of these events, in the world that those before it leave
