@@ -36,7 +36,7 @@ use Rattle.wanted_events.proofs.Anew.{view_or}
 use Rattle.wanted_events.proofs.Asked.{had, lives, opened, own-fields, posted-so, there-here, unaware}
 
 -- the value of an end that is among some
-value-found : (e : EndId) (ms : List MovingPicture) → Contains (ends_in ms) e → (m : MovingPicture) × Contains ms m × (m.end ≡ e)
+pub value-found : (e : EndId) (ms : List MovingPicture) → Contains (ends_in ms) e → (m : MovingPicture) × Contains ms m × (m.end ≡ e)
 value-found e [] has = absurd (none-there e has)
 value-found e (m ∷ ms) has = by (value-found e ms) (first_or_later m.end (ends_in ms) e has)
   where

@@ -1,0 +1,14 @@
+-- What is told of a performance is one lawful run of the link service.
+use Rattle.std.proofs.Common.{List}
+use Rattle.charlotte_calls.specs.Setting.{IsValid}
+use Rattle.charlotte_calls.specs.declared.setting.Setting.{Setting}
+use Rattle.journal_text.specs.declared.last.Last.{Last}
+use Rattle.journal_text.specs.declared.last.ScriptNote.{ScriptNote}
+use Rattle.kernel_world.specs.declared.entry.Placed.{Placed}
+use Rattle.lynx_plan.specs.declared.script.ScriptLine.{ScriptLine}
+use Rattle.script_run.specs.Performing.{IsPerformance}
+use Rattle.world_law.proofs.Run.{every_record_is_lawful}
+use Rattle.world_law.specs.Record.{IsLawfulRecord}
+
+pub performance_is_lawful : (s : Setting) (lines : List ScriptLine) (merged : List Placed) (notes : List ScriptNote) (last : Last) → IsValid s → IsPerformance s lines merged notes last → IsLawfulRecord s merged
+performance_is_lawful s lines merged notes last valid performed = every_record_is_lawful s performed.recorded.run merged valid performed.recorded.recorded
