@@ -1,10 +1,9 @@
 -- What the service makes of each end where a process destroys ends, one after another, each with what its message carries that waits.
 use Rattle.std.proofs.Common.{◌≡◌, Bool, true, false, ◌||◌, if◌then◌else◌, List, [], ◌∷◌, ◌++◌, refl, sym, ap, subst, ◌∙◌, true≢false}
 use Rattle.std.proofs.lemmas.List.Folds.{list_any-append}
-use Rattle.std.specs.List.{flat_map, list_any}
+use Rattle.std.specs.List.{flat_map}
 use Rattle.charlotte_calls.specs.declared.names.EndId.{EndId}
 use Rattle.charlotte_calls.specs.declared.names.Pid.{Pid}
-use Rattle.end_table.specs.Place.{end_eq as table_eq}
 use Rattle.kernel_step.proofs.Folds.{AreDifferent}
 use Rattle.service_change.proofs.EndEq.{among, end_eq-refl, end_eq-same, end_eq-sym, places-among, places-other, puts-at, puts-other}
 use Rattle.service_step.specs.Ends.{carried_by, destroys, destroys_each, destroys_owned, dropped, end_eq, is_made, is_owned_by, waiting_message}
@@ -13,7 +12,7 @@ use Rattle.service_step.specs.declared.state.Outward.{Outward}
 use Rattle.service_step.specs.declared.state.Outward.TheVariants as outward
 use Rattle.service_step.specs.declared.state.Place.{Place}
 use Rattle.service_step.specs.declared.state.Place.TheVariants as place
-use Rattle.world_meaning.proofs.Ends.{eq-same}
+use Rattle.ended_links.proofs.Facts.{among-same, or-true, true-or}
 
 -- the ends that the waiting message of an end carries
 abbrev pub carried_at : (EndId → End) → EndId → List EndId
@@ -29,18 +28,6 @@ destroyed_list t mine = flat_map (destroyed_with t) mine
 -- an end that is destroyed, or not; by a process that owns it, or not
 abbrev pub as_destroyed : Bool → Bool → End → End
 as_destroyed gone own x = record x { place = if gone then place.Destroyed else x.place; outward = if own then dropped x.outward else x.outward }
-
--- kernels compare ends as the service does
-pub among-same : (q : EndId) (xs : List EndId) → among q xs ≡ list_any (table_eq q) xs
-among-same q xs = ap (λ f. list_any f xs) (λ i y. eq-same q y i)
-
-pub true-or : (a b : Bool) → a ≡ true → a || b ≡ true
-true-or true b is = refl
-true-or false b is = absurd (true≢false (sym is))
-
-pub or-true : (a b : Bool) → b ≡ true → a || b ≡ true
-or-true true b is = refl
-or-true false b is = is
 
 or-false : (b : Bool) → b || false ≡ b
 or-false true = refl

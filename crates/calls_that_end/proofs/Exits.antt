@@ -31,7 +31,7 @@ use Rattle.service_step.specs.declared.state.Phase.TheVariants as phase
 use Rattle.world_meaning.proofs.Goes.{Goes}
 use Rattle.world_meaning.specs.Invariant.{Invariant}
 use Rattle.world_meaning.specs.StandsFor.{IsOwnedHere, IsProcessOf, home_of, service_phase}
-use Rattle.calls_that_end.proofs.Destroyed.{among-same}
+use Rattle.ended_links.proofs.Facts.{among-same}
 use Rattle.calls_that_end.proofs.Ends.{ends-goes}
 
 -- an end that p owns is here with p as its owner

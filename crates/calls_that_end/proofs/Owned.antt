@@ -45,7 +45,8 @@ use Rattle.world_meaning.specs.Packets.{Links, links_of, one_if, values_for, val
 use Rattle.world_meaning.specs.StandsFor.{IsEnclosed, IsEndOf, IsOutwardOf, IsOwnedHere, IsWaitingWith, home_of}
 use Rattle.answered_events.proofs.Meets.{there-here}
 use Rattle.ended_links.specs.Ending.{Dropped, IsEnded, IsEnding, IsReturnOf, IsSendAfter, IsToldOf, Kept}
-use Rattle.calls_that_end.proofs.Destroyed.{AreMine, among-same, as_destroyed, carried_at, destroyed_list, destroyed_with, destroys_each-is, flat_map-same, or-true, true-or}
+use Rattle.ended_links.proofs.Facts.{among-same, or-true, true-or}
+use Rattle.calls_that_end.proofs.Destroyed.{AreMine, as_destroyed, carried_at, destroyed_list, destroyed_with, destroys_each-is, flat_map-same}
 
 -- ---- lists of ends
 

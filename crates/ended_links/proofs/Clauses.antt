@@ -16,6 +16,7 @@ use Rattle.end_table.specs.declared.entry.Inward.TheVariants as kernel_inward
 use Rattle.kernel_sound.specs.Sound.{addressee}
 use Rattle.kernel_step.specs.Actions.{is_withdrawing}
 use Rattle.kernel_step.specs.Rows.{ends_in}
+use Rattle.service_change.proofs.Change.{living-made}
 use Rattle.service_lawful.specs.Consistent.{AreKept, is_open}
 use Rattle.service_step.specs.Ends.{is_living, is_made, is_posted, is_taken, matched_message}
 use Rattle.service_step.specs.State.{State, Process}
@@ -23,7 +24,6 @@ use Rattle.service_step.specs.declared.state.End.{End}
 use Rattle.service_step.specs.declared.state.Message.{Message}
 use Rattle.service_step.specs.declared.state.Outward.{Outward}
 use Rattle.service_step.specs.declared.state.Outward.TheVariants as outward
-use Rattle.service_step.specs.declared.state.Place.{Place}
 use Rattle.service_step.specs.declared.state.Place.TheVariants as place
 use Rattle.silent_events.proofs.Places.{list-below}
 use Rattle.world_effects.proofs.Allowed.{sum_over-least}
@@ -291,12 +291,6 @@ module _ {ended : EndId → Bool} {w u : Links} {c : Change} {s : State} {t : En
   addressees : AreKept s → AllSent (λ to what. is_made (t (addressee what)).place ≡ true) c.packets
   addressees kept = all_sent-weaker (λ to what. IsToldOf ended what) (λ to what. is_made (t (addressee what)).place ≡ true) (λ to what. told what) c.packets x.sent
     where
-      living-made : (y : Place) → is_living y ≡ true → is_made y ≡ true
-      living-made (place.Owned p) is = refl
-      living-made (place.InMessage f m) is = refl
-      living-made place.Destroyed is = absurd (true≢false (sym is))
-      living-made place.Unmade is = absurd (true≢false (sym is))
-
       told : (q : PictureWhat) → IsToldOf ended q → is_made (t (addressee q)).place ≡ true
       told (packet.Gone to at) on =
           made-after to (kept.made to ∙ sym (kept.made (opposite to)) ∙ living-made (s.ends (opposite to)).place (facts.was-living b x n few named marked once within (opposite to) on))

@@ -1,5 +1,5 @@
 -- Where ends are destroyed: packets, entries and fields before and afterwards, and the ends of the service.
-use Rattle.std.proofs.Common.{◌≡◌, ◌≢◌, ◌⊎◌, ◌↔◌, inl, inr, ℕ, ◌+◌, ◌<◌, ◌≤◌, Bool, true, false, nat_eq, ◌&&◌, if◌then◌else◌, List, [], ◌∷◌, Contains, IfSome, Some, refl, sym, ap, subst, ◌∙◌, arith, true≢false}
+use Rattle.std.proofs.Common.{◌≡◌, ◌≢◌, ◌⊎◌, ◌↔◌, inl, inr, ℕ, ◌+◌, ◌<◌, ◌≤◌, Bool, true, false, nat_eq, ◌&&◌, ◌||◌, if◌then◌else◌, List, [], ◌∷◌, Contains, IfSome, Some, refl, sym, ap, subst, ◌∙◌, arith, true≢false}
 use Rattle.std.proofs.lemmas.Bool.Decides.{eqb_tells}
 use Rattle.std.specs.List.{list_any}
 use Rattle.charlotte_calls.specs.Names.{opposite}
@@ -15,6 +15,7 @@ use Rattle.end_table.specs.declared.entry.Entry.{Entry}
 use Rattle.end_table.specs.declared.entry.Entry.TheVariants as entry
 use Rattle.end_table.specs.declared.entry.HereView.{HereView}
 use Rattle.kernel_step.specs.Rows.{ends_in, is_here}
+use Rattle.service_change.proofs.EndEq.{among}
 use Rattle.service_lawful.specs.Consistent.{is_open}
 use Rattle.service_step.specs.Ends.{is_living, is_taken}
 use Rattle.service_step.specs.State.{State, Process}
@@ -33,11 +34,30 @@ use Rattle.world_effects.specs.Aside.{IsUnbrought}
 use Rattle.world_effects.specs.Change.{Change, Changes}
 use Rattle.world_effects.specs.Sums.{AllSent, IsWithin, sum_sent}
 use Rattle.world_effects.specs.Under.{IsLeft, IsSent, IsTaken}
+use Rattle.world_meaning.proofs.Ends.{eq-same}
 use Rattle.world_meaning.specs.Fields.{Stand, At, Flying, HasFields, IsHeard, IsNews, IsNoMore, value_of}
 use Rattle.world_meaning.specs.Invariant.{AreMarked, AreNamed}
 use Rattle.world_meaning.specs.Packets.{IsUnderWay, Links, one_if, over_kernels, sum_over, values_for, values_of}
 use Rattle.world_meaning.specs.StandsFor.{entry_at, standing}
 use Rattle.ended_links.specs.Ending.{Dropped, IsEnded, IsEnding, IsReturnOf, IsSendAfter, IsToldOf, Kept, Returned}
+
+-- ---- tests
+
+pub not-true : (b : Bool) → (b ≡ true → ⊥) → b ≡ false
+not-true true never = absurd (never refl)
+not-true false never = refl
+
+pub true-or : (a b : Bool) → a ≡ true → (a || b) ≡ true
+true-or true b is = refl
+true-or false b is = absurd (true≢false (sym is))
+
+pub or-true : (a b : Bool) → b ≡ true → (a || b) ≡ true
+or-true true b is = refl
+or-true false b is = is
+
+-- kernels compare ends as the service does
+pub among-same : (q : EndId) (xs : List EndId) → among q xs ≡ list_any (end_eq q) xs
+among-same q xs = ap (λ f. list_any f xs) (λ i y. eq-same q y i)
 
 -- ---- an entry after END
 
@@ -63,17 +83,13 @@ sent-nothing f [] none = refl
 sent-nothing f (p ∷ ps) none = let rest : sum_sent f ps ≡ 0 = sent-nothing f ps none.1 in omega (arith, none.0, rest)
 
 -- an end of some values counts
-values-counted : (e : EndId) (ms : List MovingPicture) → Contains (ends_in ms) e → 1 ≤ values_for e ms
+pub values-counted : (e : EndId) (ms : List MovingPicture) → Contains (ends_in ms) e → 1 ≤ values_for e ms
 values-counted e [] has = absurd (none-there e has)
 values-counted e (m ∷ ms) has = by (first_or_later m.end (ends_in ms) e has) (values-counted e ms)
   where
     by : (m.end ≡ e) ⊎ Contains (ends_in ms) e → (Contains (ends_in ms) e → 1 ≤ values_for e ms) → 1 ≤ one_if (end_eq e m.end) + values_for e ms
     by (inl is) rest = let one : one_if (end_eq e m.end) ≡ 1 = ap one_if (ap (end_eq e) is ∙ end_eq-refl e) in omega (arith, one)
     by (inr later) rest = let least = rest later in omega (arith, least)
-
-pub not-true : (b : Bool) → (b ≡ true → ⊥) → b ≡ false
-not-true true never = absurd (never refl)
-not-true false never = refl
 
 module _ {ended : EndId → Bool} {w u : Links} {c : Change} {s : State} {t : EndId → End} {g : ℕ → Process} (b : Changes w c u) (x : IsEnding ended w c s t g) where
   -- ---- packets
