@@ -80,17 +80,17 @@ use Rattle.answered_events.proofs.Meets.{IsOwnedAt, right-first, same-kernel, ow
 use Rattle.answered_events.proofs.Swap.{swapped-changes}
 use Rattle.answered_events.proofs.Turned.{turned_view, with_entry}
 use Rattle.wanted_events.proofs.Parts as parts
-use Rattle.arrived_events.specs.Arrived.{IsAmong, IsLaden, IsTrueMove, settles, without_values}
+use Rattle.arrived_ends.specs.Arrived.{IsAmong, IsLaden, IsTrueMove, settles, without_values}
 use Rattle.arrived_events.specs.Received.{IsReceived, IsReceiving, answering, bare_parcel}
-use Rattle.arrived_events.proofs.Among.{among-contains, among-told, contains-among, told-among}
-use Rattle.arrived_events.proofs.Closes.{answered-goes, quietly, reported-goes, untold, untold-changes}
-use Rattle.arrived_events.proofs.Coming.{arrival, entry-came, here-landed, inside, landed, living, never-here, owners, owners-came, owners-other, owners-sender, sender-apart}
-use Rattle.arrived_events.proofs.Landed.{landed-links, landed-right, living-same, made-same, named-value, noticed-same, place-stays}
+use Rattle.arrived_ends.proofs.Among.{among-contains, among-told, contains-among, told-among}
+use Rattle.arrived_ends.proofs.Closes.{answered-goes, quietly, reported-goes, untold, untold-changes}
+use Rattle.arrived_ends.proofs.Coming.{arrival, entry-came, here-landed, inside, landed, living, never-here, owners, owners-came, owners-other, owners-sender, sender-apart}
+use Rattle.arrived_ends.proofs.Landed.{landed-links, landed-right, living-same, made-same, named-value, noticed-same, place-stays}
 use Rattle.arrived_events.proofs.Meeting.{asked-inward, at-below, informed, near, parcel-matched}
-use Rattle.arrived_events.proofs.Moves.{moves-links, moves-right}
+use Rattle.arrived_ends.proofs.Moves.{moves-links, moves-right}
 use Rattle.arrived_events.proofs.Received.{received-links, received-right}
 use Rattle.arrived_events.proofs.Taken.{may-take, took, took-another, took-came, took-other, took-own, took-sender, took-to}
-use Rattle.arrived_events.proofs.Values.{all-coming, arrivals-true, same-value, settles-sound}
+use Rattle.arrived_ends.proofs.Values.{all-coming, arrivals-true, same-value, settles-sound}
 
 asked-told : (r : ℕ) (i : KernelInward) → IsAskedAs r i → is_asked r i ≡ true
 asked-told r (kernel_inward.Posted x) is = eq-eqb x r is

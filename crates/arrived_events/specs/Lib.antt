@@ -1,2 +1,1 @@
-pub mod Arrived
 pub mod Received

@@ -1,2 +1,2 @@
-//! Takings of packets whose ends come to be here: a parcel that is taken, and a back that comes home. Definitions and lemmas alone.
+//! A parcel is taken whose end has started the receive that it is for. Definitions and lemmas alone.
 #![tactic(auto)]

@@ -41,9 +41,9 @@ use Rattle.silent_events.proofs.Alike.{some-same}
 use Rattle.silent_events.proofs.Places.{fields-here}
 use Rattle.answered_events.specs.Swapped.{instead, swapped}
 use Rattle.answered_events.proofs.Swap.{left-there, swapped-after, swapped-sum}
-use Rattle.arrived_events.specs.Arrived.{IsAmong, IsLaden, arrived, emptied, settles, unladen, without_values}
-use Rattle.arrived_events.proofs.Among.{among-contains, among-least, among-none, among-told, brings-case, told-among}
-use Rattle.arrived_events.proofs.Emptied.{emptied-values}
+use Rattle.arrived_ends.specs.Arrived.{IsAmong, IsLaden, arrived, emptied, settles, unladen, without_values}
+use Rattle.arrived_ends.proofs.Among.{among-contains, among-least, among-none, among-told, brings-case, told-among}
+use Rattle.arrived_ends.proofs.Emptied.{emptied-values}
 
 -- a packet that carries a message says which
 message-of : (w : Links) (t : EndId → End) (from to : ℕ) (f : EndId) (what : PictureWhat) → is_message_of f what ≡ true → IsPacketRight w t from to what → (n : ℕ) × IsMatchedAs t f n (ends_in (values_of what))

@@ -30,7 +30,7 @@ use Rattle.silent_events.proofs.Alike.{IsQuietly-same}
 use Rattle.silent_events.proofs.Clauses.{flying-was, links-still, right-still}
 use Rattle.silent_events.proofs.Places.{fields-here, here-living}
 use Rattle.answered_events.proofs.Meets.{there-here}
-use Rattle.arrived_events.specs.Arrived.{IsTrueMove}
+use Rattle.arrived_ends.specs.Arrived.{IsTrueMove}
 
 module _ {w u : Links} {c : Change} (b : Changes w c u) (s : State) (taken : c.taken ≡ None) (entries : (e : EndId) → c.entry e (w.entry c.kernel e) ≡ w.entry c.kernel e) (below : c.kernel < length s.made)
     (sent : AllSent (λ to what. (to < length s.made) × IsTrueMove w c.kernel what) c.packets) (both : (e : EndId) → is_made (s.ends e).place ≡ true → is_made (s.ends (opposite e)).place ≡ true) (i : ℕ) (right : AreRight i w s) (links : AreLinksOf w s)

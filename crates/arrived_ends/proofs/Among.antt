@@ -12,7 +12,7 @@ use Rattle.kernel_step.specs.Rows.{ends_in}
 use Rattle.world_effects.proofs.Aside.{ends_in-there, not_among}
 use Rattle.world_effects.proofs.Lists.{first, first_or_later, later, none-there}
 use Rattle.world_meaning.specs.Packets.{one_if, values_for}
-use Rattle.arrived_events.specs.Arrived.{IsAmong}
+use Rattle.arrived_ends.specs.Arrived.{IsAmong}
 
 abbrev among-later : (x : MovingPicture) (ms : List MovingPicture) (e : EndId) → IsAmong ms e → IsAmong (x ∷ ms) e
 among-later x ms e a = record { value = a.value; there = later x ms a.value a.there; of = a.of }

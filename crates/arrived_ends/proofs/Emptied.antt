@@ -10,7 +10,7 @@ use Rattle.kernel_sound.specs.Sound.{addressee}
 use Rattle.world_meaning.specs.Fields.{IsAsking, IsNews, IsUnwantOf}
 use Rattle.world_meaning.specs.Invariant.{is_message_of, is_taken_of, is_unwanted_to}
 use Rattle.world_meaning.specs.Packets.{IsBackOf, IsParcelFor, IsParcelOf, IsTakenOf, IsUnwantedOf, values_of}
-use Rattle.arrived_events.specs.Arrived.{emptied}
+use Rattle.arrived_ends.specs.Arrived.{emptied}
 
 pub emptied-values : (q : PictureWhat) → values_of (emptied q) ≡ []
 emptied-values (packet.Parcel to n w at hops bytes ms) = refl

@@ -49,10 +49,10 @@ use Rattle.world_meaning.specs.StandsFor.{AreLinksOf, IsEndOf, IsInMessage, IsIn
 use Rattle.silent_events.proofs.Alike.{some-same}
 use Rattle.answered_events.specs.Swapped.{instead}
 use Rattle.answered_events.proofs.Swap.{swapped-each, swapped-sum}
-use Rattle.arrived_events.specs.Arrived.{IsAmong, IsLaden, emptied, settles, without_values}
-use Rattle.arrived_events.proofs.Among.{among-contains, among-none, contains-among, each-value, told-among}
-use Rattle.arrived_events.proofs.Coming.{arrival, came, each-owner, end-alone, entry-came, entry-case, fields-before, fields-were, flies, here-before, here-landed, idle, inside, landed, landed-after, landed-number, landed-same, landed-still, landed-was, left-landed, living, low, low-from, message-alone, near, never-here, no-mark, not-here, one-value, owners, owners-sender, packed, sender-apart, stood, values}
-use Rattle.arrived_events.proofs.Emptied.{emptied-addressed, emptied-asking, emptied-message, emptied-news, emptied-parcel_for, emptied-taken, emptied-telling, emptied-to, emptied-unwant, emptied-unwanted, emptied-values, emptied-voids}
+use Rattle.arrived_ends.specs.Arrived.{IsAmong, IsLaden, emptied, settles, without_values}
+use Rattle.arrived_ends.proofs.Among.{among-contains, among-none, contains-among, each-value, told-among}
+use Rattle.arrived_ends.proofs.Coming.{arrival, came, each-owner, end-alone, entry-came, entry-case, fields-before, fields-were, flies, here-before, here-landed, idle, inside, landed, landed-after, landed-number, landed-same, landed-still, landed-was, left-landed, living, low, low-from, message-alone, near, never-here, no-mark, not-here, one-value, owners, owners-sender, packed, sender-apart, stood, values}
+use Rattle.arrived_ends.proofs.Emptied.{emptied-addressed, emptied-asking, emptied-message, emptied-news, emptied-parcel_for, emptied-taken, emptied-telling, emptied-to, emptied-unwant, emptied-unwanted, emptied-values, emptied-voids}
 
 owner-same : (p o : Pid) → place.Owned p ≡ place.Owned o → p ≡ o
 owner-same p o same = cc

@@ -32,7 +32,7 @@ use Rattle.world_effects.specs.Sums.{AllSent}
 use Rattle.world_meaning.proofs.Ends.{opposite-twice}
 use Rattle.world_meaning.specs.Packets.{Links}
 use Rattle.answered_events.proofs.World.{sound-same}
-use Rattle.arrived_events.specs.Arrived.{IsTrueMove, settles}
+use Rattle.arrived_ends.specs.Arrived.{IsTrueMove, settles}
 
 -- what is true of each value that stands there, one after the other
 pub each-there : (P : MovingPicture → Type 0) (ms : List MovingPicture) → ((m : MovingPicture) → Contains ms m → P m) → AllByRecursion P ms
