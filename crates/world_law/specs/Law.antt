@@ -1,20 +1,19 @@
 -- What is claimed of a run: its events are, by their service steps, a lawful run of the link service, and the world stands for the
 -- state of the service after each of them.
-use Rattle.std.specs.Prelude.{◌≡◌, true, List, [], ◌∷◌, ◌++◌, map}
+use Rattle.std.specs.Prelude.{◌≡◌, true, List, [], ◌∷◌, ◌++◌, map, None}
 use Rattle.charlotte_calls.specs.declared.calls.ServiceStep.{ServiceStep}
 use Rattle.charlotte_calls.specs.declared.names.EndId.{EndId}
 use Rattle.charlotte_calls.specs.declared.picture.Picture.{Picture}
 use Rattle.charlotte_calls.specs.declared.picture.PictureWhat.{PictureWhat}
 use Rattle.charlotte_calls.specs.declared.picture.PictureWhat.TheVariants as packet
 use Rattle.charlotte_calls.specs.declared.setting.Setting.{Setting}
-use Rattle.end_table.specs.Table.{IsHereAnd}
 use Rattle.end_table.specs.declared.entry.Entry.{Entry}
 use Rattle.kernel_sound.specs.Sound.{addressee}
 use Rattle.kernel_world.specs.World.{World, Event, Calls, Takes, happens, outcome, start}
 use Rattle.service_step.specs.Lawful.{IsLawful}
 use Rattle.service_step.specs.Run.{IsRunFrom, IsServiceRun, state_after, start_state}
 use Rattle.service_step.specs.State.{State}
-use Rattle.world_meaning.specs.Fields.{IsAskedAs}
+use Rattle.kernel_step.specs.Rows.{awaits}
 use Rattle.world_meaning.specs.StandsFor.{StandsFor}
 
 -- the service goes with an event: its steps are allowed one after the other, and then the world stands for the state that they leave
@@ -49,10 +48,9 @@ pub record IsServedLawfully (g : Setting) (es : List Event) : Type 0 where
 
 -- ---- as far as it is proved
 
--- every call; and packets, by the entry of the end that they are addressed to: all but a back, and a parcel that does not meet the receive that it is for
+-- every call, and the taking of every packet but a back that meets the send of its end
 abbrev pub IsCoveredAt : PictureWhat → Entry → Type 0
-IsCoveredAt (packet.Parcel to n w at hops bytes ms) x = IsHereAnd x (λ v. IsAskedAs w v.inward)
-IsCoveredAt (packet.Back to n ms) x = ⊥
+IsCoveredAt (packet.Back to n ms) x = awaits n x ≡ None
 IsCoveredAt _ x = Unit {0}
 
 -- the taking of the first of these packets
