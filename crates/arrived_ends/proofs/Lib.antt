@@ -5,3 +5,6 @@ pub mod Landed
 pub mod Values
 pub mod Moves
 pub mod Closes
+pub mod Tells
+pub mod Owned
+pub mod Comes

@@ -84,13 +84,15 @@ use Rattle.arrived_ends.specs.Arrived.{IsAmong, IsLaden, IsTrueMove, settles, wi
 use Rattle.arrived_events.specs.Received.{IsReceived, IsReceiving, answering, bare_parcel}
 use Rattle.arrived_ends.proofs.Among.{among-contains, among-told, contains-among, told-among}
 use Rattle.arrived_ends.proofs.Closes.{answered-goes, quietly, reported-goes, untold, untold-changes}
+use Rattle.arrived_ends.proofs.Comes.{values-come, values-differ}
 use Rattle.arrived_ends.proofs.Coming.{arrival, entry-came, here-landed, inside, landed, living, never-here, owners, owners-came, owners-other, owners-sender, sender-apart}
 use Rattle.arrived_ends.proofs.Landed.{landed-links, landed-right, living-same, made-same, named-value, noticed-same, place-stays}
 use Rattle.arrived_events.proofs.Meeting.{asked-inward, at-below, informed, near, parcel-matched}
 use Rattle.arrived_ends.proofs.Moves.{moves-links, moves-right}
+use Rattle.arrived_ends.proofs.Owned.{busy-owned}
 use Rattle.arrived_events.proofs.Received.{received-links, received-right}
 use Rattle.arrived_events.proofs.Taken.{may-take, took, took-another, took-came, took-other, took-own, took-sender, took-to}
-use Rattle.arrived_ends.proofs.Values.{all-coming, arrivals-true, same-value, settles-sound}
+use Rattle.arrived_ends.proofs.Values.{arrivals-true, same-value, settles-sound}
 
 asked-told : (r : ℕ) (i : KernelInward) → IsAskedAs r i → is_asked r i ≡ true
 asked-told r (kernel_inward.Posted x) is = eq-eqb x r is
@@ -109,46 +111,6 @@ cancelling-is e phase.Ended is = absurd (true≢false (sym is))
 
 cancelling-told : (e : EndId) (x : Phase) → x ≡ phase.Cancelling e → is_cancelling e x ≡ true
 cancelling-told e x is = ap (is_cancelling e) is ∙ eq-same e e ∙ end_eq-refl e
-
--- ---- an end that is here and has started a receive is owned there
-
-module _ {i : ℕ} {w : World} {s : State} (is : Invariant i w s) (k : ℕ) (to : EndId) (r : ℕ) (v : HereView) (at_k : (w.kernel k).table to ≡ entry.Here v) (asked : IsAskedAs r v.inward) where
-  held : IsHeldWell (length s.homes) v v.holder
-  held = subst (λ x. IfHere x (λ v. IsHeldWell (length s.homes) v v.holder)) at_k ((is.setting.sound k).held to)
-
-  pub asked-owned : IsOwnedAt w s k to
-  asked-owned = by (s.ends to).place refl
-    where
-      enclosed : (f : EndId) → v.holder ≡ holder.EnclosedIn f → ⊥
-      enclosed f holds = asked-busy r v asked (subst (IsHeldWell (length s.homes) v) holds held)
-
-      same-view : (j : ℕ) (x : HereView) → (w.kernel j).table to ≡ entry.Here x → x ≡ v
-      same-view j x has =
-          let same = here-kernel (length s.made) (links_of w) s.ends is.setting.few is.links.named is.links.marked is.stands.links.once to j k x v has at_k in
-          some-same x v (ap here (sym has ∙ ap (λ z. (w.kernel z).table to) same ∙ at_k))
-
-      flies : (P : PictureWhat → Type 0) → IsUnderWay (links_of w) (λ q. P q × Contains (ends_in (values_of q)) to) → ⊥
-      flies P u =
-          let a = contains-among (values_of u.packet.what) to u.is.1 in
-          let both = (fields-here (length s.made) (links_of w) s.ends is.setting.few is.links.named is.links.marked is.stands.links.once to k v Flying a.value at_k
-          (record { from = u.from; to = u.to; packet = u.packet; there = u.there; is = a.there }, a.of)).0 in
-          cc
-
-      inside_none : (f : EndId) (n : ℕ) → IsInMessage (links_of w) to f n → ⊥
-      inside_none f n (inl m) =
-          let x = there-here ((w.kernel m.at).table to) (λ z. z.holder ≡ holder.EnclosedIn f) m.enclosed in
-          enclosed f (sym (ap (λ (z : HereView). z.holder) (same-view m.at x.0 x.1)) ∙ x.2)
-      inside_none f n (inr (inl m)) = flies (IsParcelOf f n) m
-      inside_none f n (inr (inr m)) = flies (IsBackOf f n) m
-
-      lives : is_living (s.ends to).place ≡ true
-      lives = here-living (length s.made) (links_of w) s.ends is.setting.few is.links.named is.links.marked is.stands.links.once to k v at_k
-
-      by : (x : Place) → (s.ends to).place ≡ x → IsOwnedAt w s k to
-      by (place.Owned p) owned = same-kernel is (home_of s p) k to v (owned-at is to p owned) at_k
-      by (place.InMessage f n) within = absurd (inside_none f n ((is.stands.links.in_message to f n).0 within))
-      by place.Destroyed gone = absurd (true≢false (sym lives ∙ ap (λ z. is_living z) gone))
-      by place.Unmade gone = absurd (true≢false (sym lives ∙ ap (λ z. is_living z) gone))
 
 module _ (i : ℕ) (w : World) (s : State) (is : Invariant i w s) (k from stamp : ℕ) (to : EndId) (n r at hops : ℕ) (bytes : List ℕ) (ms : List MovingPicture) (others : List Picture)
     (there : w.packets from k ≡ record { stamp = stamp; what = packet.Parcel to n r at hops bytes ms } ∷ others) (o : IsOwnedAt w s k to) (asked : IsAskedAs r o.view.inward) where
@@ -239,30 +201,11 @@ module _ (i : ℕ) (w : World) (s : State) (is : Invariant i w s) (k from stamp 
 
   -- ---- the ends that come
 
-  any : (x : TakeGives (w.kernel k) from q) × Happens w (Takes k from) (taking w k from q (row_effect (w.kernel k).number (w.kernel k).made from (w.kernel k).table q.what) x.p x.given x.told)
-  any = takes-any is k from q others there p
-
-  first-ready : IsLaden i any.1.becomes.links from q s f
-  first-ready = record { taken = refl; right = is.links; links = is.stands.links; kept = is.service; few = is.setting.few; carries = carries }
-
-  comes : (m : MovingPicture) → Contains ms m → (IsHere (table m.end) → ⊥) × (m.end.link.maker ≡ k → made ≤ m.end.link.count → ⊥)
-  comes m has = (never-here first-ready p m.end among k (λ z. Unit {0}), unmade)
-    where
-      among : IsAmong ms m.end
-      among = record { value = m; there = has; of = refl }
-
-      unmade : m.end.link.maker ≡ k → made ≤ m.end.link.count → ⊥
-      unmade maker count =
-          let is_so : nat_lt m.end.link.count made ≡ true
-          = sym (ap (nat_lt m.end.link.count) (ap (λ z. slice_index s.made z) maker ∙ is.setting.made k)) ∙ sym (is.service.kept.made m.end) ∙ ap (λ z. is_made z) (inside first-ready p m.end among) in
-          let low : m.end.link.count < made = ltb-true m.end.link.count made is_so in
-          omega (arith, low, count)
-
   different : AreDifferent (ends_in ms)
-  different = brings-different is from k q stood
+  different = values-differ is k from q others there f carries p
 
   coming : AreComing k made table ms
-  coming = all-coming k made table ms different comes
+  coming = values-come is k from q others there f carries p
 
   -- ---- what the taking does
 
@@ -593,6 +536,6 @@ pub parcel-taken-goes : (i : ℕ) (w : World) (s : State) → Invariant i w s �
     → w.packets from k ≡ record { stamp = stamp; what = packet.Parcel to n r at hops bytes ms } ∷ others → IsHereAnd ((w.kernel k).table to) (λ v. IsAskedAs r v.inward) → Goes i w s (Takes k from)
 parcel-taken-goes i w s is k from stamp to n r at hops bytes ms others there meets =
     let v = there-here ((w.kernel k).table to) (λ v. IsAskedAs r v.inward) meets in
-    let o = asked-owned is k to r v.0 v.1 v.2 in
+    let o = busy-owned is k to v.0 v.1 (asked-busy r v.0 v.2) in
     let same : v.0 ≡ o.view = some-same v.0 o.view (ap here (sym v.1 ∙ o.here)) in
     parcel-receives i w s is k from stamp to n r at hops bytes ms others there o (subst (λ (z : HereView). IsAskedAs r z.inward) same v.2)

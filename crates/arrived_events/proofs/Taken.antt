@@ -8,9 +8,8 @@ use Rattle.charlotte_calls.specs.declared.names.Pid.{Pid}
 use Rattle.end_table.proofs.EndEq.{end_eq-refl, end_eq-same, end_eq-sym}
 use Rattle.end_table.specs.Place.{end_eq}
 use Rattle.service_change.proofs.EndEq.{Contains-among, among, among-Contains, at_place, places-among, places-other, puts-at, puts-other}
-use Rattle.service_change.proofs.Facts.{put_process-at, put_process-other}
 use Rattle.service_step.specs.Ends.{carried_by, is_made, is_matched_with, is_owned_by, matched_message, places, puts, takes, turns_inward, turns_outward}
-use Rattle.service_step.specs.State.{Process, State, gains, is_cancelling, put_process, receive_report, tells, turns, wakes}
+use Rattle.service_step.specs.State.{Process, State, is_cancelling, receive_report, tells}
 use Rattle.service_step.specs.Steps.{IsServiceStep, after_take, agree, done_reports}
 use Rattle.service_step.specs.declared.state.End.{End}
 use Rattle.service_step.specs.declared.state.Inward.TheVariants as inward
@@ -20,35 +19,7 @@ use Rattle.service_step.specs.declared.state.Phase.TheVariants as phase
 use Rattle.service_step.specs.declared.state.Place.TheVariants as place
 use Rattle.world_effects.proofs.Aside.{not_among}
 use Rattle.world_meaning.proofs.Ends.{eq-same, opposite-apart, opposite-twice}
-
--- ---- what the service makes of a process that it tells
-
-module _ (p : Pid) (e : EndId) (rs : List Report) (f : ℕ → Process) where
-  pub tells-own : tells (Some p) e rs f p.0 ≡ record { phase = if is_cancelling e (f p.0).phase then phase.Running else (f p.0).phase; reports = (f p.0).reports ++ rs }
-  unfolding gains wakes turns
-  tells-own = by (put_process-at p (record (f p.0) { reports = (f p.0).reports ++ rs }) f)
-    where
-      g : ℕ → Process
-      g = put_process p (record (f p.0) { reports = (f p.0).reports ++ rs }) f
-
-      woken : (b : Bool) → (if b then put_process p (record (g p.0) { phase = phase.Running }) g else g) p.0 ≡ record (g p.0) { phase = if b then phase.Running else (g p.0).phase }
-      woken true = put_process-at p (record (g p.0) { phase = phase.Running }) g
-      woken false = refl
-
-      by : g p.0 ≡ record (f p.0) { reports = (f p.0).reports ++ rs }
-          → (if is_cancelling e (g p.0).phase then put_process p (record (g p.0) { phase = phase.Running }) g else g) p.0 ≡ record { phase = if is_cancelling e (f p.0).phase then phase.Running else (f p.0).phase; reports = (f p.0).reports ++ rs }
-      by own = woken (is_cancelling e (g p.0).phase) ∙ ap (λ (z : Process). record z { phase = if is_cancelling e z.phase then phase.Running else z.phase }) own
-
-  pub tells-other : (q : ℕ) → nat_eq p.0 q ≡ false → tells (Some p) e rs f q ≡ f q
-  unfolding gains wakes turns
-  tells-other q apart = woken (is_cancelling e (g p.0).phase) ∙ put_process-other p (record (f p.0) { reports = (f p.0).reports ++ rs }) f (record { 0 = q }) apart
-    where
-      g : ℕ → Process
-      g = put_process p (record (f p.0) { reports = (f p.0).reports ++ rs }) f
-
-      woken : (b : Bool) → (if b then put_process p (record (g p.0) { phase = phase.Running }) g else g) q ≡ g q
-      woken true = put_process-other p (record (g p.0) { phase = phase.Running }) g (record { 0 = q }) apart
-      woken false = refl
+use Rattle.arrived_ends.proofs.Tells.{tells-other, tells-own}
 
 -- ---- the step
 

@@ -69,12 +69,12 @@ use Rattle.noticed_events.proofs.Notices.{cancels-same, notice-links, notice-rig
 use Rattle.noticed_events.proofs.Told.{told-links, told-process, told-process-other, told-right}
 
 -- what is true of each of some packets in two ways
-both-each : {X : Type 0} (P Q R : X → Type 0) → ((x : X) → P x → Q x → R x) → (xs : List X) → AllByRecursion P xs → AllByRecursion Q xs → AllByRecursion R xs
+pub both-each : {X : Type 0} (P Q R : X → Type 0) → ((x : X) → P x → Q x → R x) → (xs : List X) → AllByRecursion P xs → AllByRecursion Q xs → AllByRecursion R xs
 both-each P Q R gives [] one other = tt
 both-each P Q R gives (x ∷ xs) one other = (gives x one.0 other.0, both-each P Q R gives xs one.1 other.1)
 
 -- a Cancel that waits is answered where the receive is being withdrawn
-cancel-cases : (i : Inward) → ((is_withdrawing i ≡ true) × (cancel_notice i ≡ answer.Refused cause.Dead ∷ [])) ⊎ ((is_withdrawing i ≡ false) × (cancel_notice i ≡ []))
+pub cancel-cases : (i : Inward) → ((is_withdrawing i ≡ true) × (cancel_notice i ≡ answer.Refused cause.Dead ∷ [])) ⊎ ((is_withdrawing i ≡ false) × (cancel_notice i ≡ []))
 cancel-cases inward.Idle = inr (refl, refl)
 cancel-cases (inward.Posted w) = inr (refl, refl)
 cancel-cases (inward.Withdrawing w) = inl (refl, refl)

@@ -1,0 +1,4 @@
+pub mod Returned
+pub mod Returns
+pub mod Backs
+pub mod Takings
