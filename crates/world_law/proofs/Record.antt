@@ -6,8 +6,10 @@ use Rattle.charlotte_calls.specs.declared.setting.Setting.{Setting}
 use Rattle.kernel_world.specs.Run.{IsRecord}
 use Rattle.kernel_world.specs.World.{World, Event, happens, noted, start}
 use Rattle.kernel_world.specs.declared.entry.Placed.{Placed}
-use Rattle.service_step.specs.Run.{state_after}
+use Rattle.charlotte_calls.specs.Setting.{IsValid}
+use Rattle.service_step.specs.Run.{start_state, state_after}
 use Rattle.service_step.specs.State.{State}
+use Rattle.world_law.proofs.Run.{run-is-lawful}
 use Rattle.world_law.specs.Law.{GoesWithEach, IsServedLawfully, joined}
 use Rattle.world_law.specs.Record.{IsLawfulRecord, steps_of}
 
@@ -22,12 +24,13 @@ noted-steps w s (e ∷ es) [] goes = absurd goes
 noted-steps w s (e ∷ es) (part ∷ parts) goes =
     ap (λ l. l ++ steps_of (noted (happens w e) es)) (sym goes.0.steps) ∙ ap (λ l. map step_in part ++ l) (noted-steps (happens w e) (state_after s part) es parts goes.1) ∙ sym (map-append step_in part (joined parts))
 
--- a run with which the service goes lawfully has a lawful record
-pub record-is-lawful : (g : Setting) (es : List Event) (merged : List Placed) → IsRecord g es merged → IsServedLawfully g es → IsLawfulRecord g merged
-record-is-lawful g es merged recorded lawfully =
+-- the record of a run of a valid setting is lawful
+pub record-is-lawful : (g : Setting) (es : List Event) (merged : List Placed) → IsValid g → IsRecord g es merged → IsLawfulRecord g merged
+record-is-lawful g es merged valid recorded =
+    let lawfully : IsServedLawfully g es = run-is-lawful g es valid recorded.run in
     record {
       run = es;
       recorded = recorded;
       lawfully = lawfully;
-      steps = ap steps_of (sym recorded.entries) ∙ noted-steps (start g) _ es lawfully.served.parts lawfully.served.each;
+      steps = ap steps_of (sym recorded.entries) ∙ noted-steps (start g) (start_state g) es lawfully.served.parts lawfully.served.each;
     }

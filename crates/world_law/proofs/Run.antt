@@ -44,7 +44,7 @@ use Rattle.calls_that_send.proofs.Version.{run-version}
 use Rattle.matched_events.proofs.Sends.{send-goes}
 use Rattle.calls_that_wait.proofs.Waits.{IsWaiting, wait-is, waits-invariant}
 use Rattle.world_meaning.specs.Invariant.{Invariant}
-use Rattle.world_law.specs.Law.{GoesWithEach, joined, IsServedLawfully, IsCovered, IsCoveredTaking, AreCovered}
+use Rattle.world_law.specs.Law.{GoesWithEach, joined, IsServedLawfully}
 use Rattle.world_meaning.specs.StandsFor.{home_of, service_phase}
 
 -- ---- calls that only answer their process
@@ -163,14 +163,14 @@ record GoesOn (w : World) (s : State) (es : List Event) : Type 0 where
   each : GoesWithEach w s es parts
   run : IsRunFrom s (joined parts)
 
--- the service goes with an event that is covered
-goes-event : (g : Setting) (i : ℕ) (w : World) (s : State) (e : Event) → Invariant i w s → s.homes ≡ g.homes → s.version ≡ g.version → i < 2 ^ 31 → IsAllowed g w e → IsCovered w e → Goes i w s e
-goes-event g i w s (Takes k from) is homes version few allowed covered = by (w.packets from k) refl covered
+-- the service goes with an event
+goes-event : (g : Setting) (i : ℕ) (w : World) (s : State) (e : Event) → Invariant i w s → s.homes ≡ g.homes → s.version ≡ g.version → i < 2 ^ 31 → IsAllowed g w e → Goes i w s e
+goes-event g i w s (Takes k from) is homes version few allowed = by (w.packets from k) refl
   where
-    by : (qs : List Picture) → w.packets from k ≡ qs → IsCoveredTaking (w.kernel k).table qs → Goes i w s (Takes k from)
-    by [] there covered = absurd covered
-    by (q ∷ others) there covered = takes-goes i w s is few k from q.stamp others q.what there covered
-goes-event g i w s (Calls k p c mine) is homes version few allowed covered = by c (refusal p (w.kernel k).table (w.kernel k).made mine (has_report (process_of p (w.kernel k))) c) refl
+    by : (qs : List Picture) → w.packets from k ≡ qs → Goes i w s (Takes k from)
+    by [] none = absurd (allowed none)
+    by (q ∷ others) there = takes-goes i w s is few k from q.stamp others q.what there
+goes-event g i w s (Calls k p c mine) is homes version few allowed = by c (refusal p (w.kernel k).table (w.kernel k).made mine (has_report (process_of p (w.kernel k))) c) refl
   where
     below : p.0 < length s.homes
     below = subst (λ hs. p.0 < length hs) (sym homes) allowed.0
@@ -216,21 +216,21 @@ one-on i l most few = omega (arith, few)
 from-none : (l most : ℕ) → l ≤ most → 0 + l ≤ most
 from-none l most few = omega (arith, few)
 
-goes-on : (g : Setting) (i : ℕ) (w : World) (s : State) (es : List Event) → Invariant i w s → s.homes ≡ g.homes → s.version ≡ g.version → i + length es ≤ 2 ^ 31 → AreAllowed g w es → AreCovered w es → GoesOn w s es
-goes-on g i w s [] is homes version few allowed covered = record { parts = []; each = tt; run = tt }
-goes-on g i w s (e ∷ es) is homes version few allowed covered =
-    let first = goes-event g i w s e is homes version (fewer i (length es) (2 ^ 31) few) allowed.0 covered.0 in
-    let rest = goes-on g (i + 1) (happens w e) (state_after s first.part) es first.after (first.homes ∙ homes) (run-version s first.part first.run ∙ version) (one-on i (length es) (2 ^ 31) few) allowed.1 covered.1 in
+goes-on : (g : Setting) (i : ℕ) (w : World) (s : State) (es : List Event) → Invariant i w s → s.homes ≡ g.homes → s.version ≡ g.version → i + length es ≤ 2 ^ 31 → AreAllowed g w es → GoesOn w s es
+goes-on g i w s [] is homes version few allowed = record { parts = []; each = tt; run = tt }
+goes-on g i w s (e ∷ es) is homes version few allowed =
+    let first = goes-event g i w s e is homes version (fewer i (length es) (2 ^ 31) few) allowed.0 in
+    let rest = goes-on g (i + 1) (happens w e) (state_after s first.part) es first.after (first.homes ∙ homes) (run-version s first.part first.run ∙ version) (one-on i (length es) (2 ^ 31) few) allowed.1 in
     record {
       parts = first.part ∷ rest.parts;
       each = (record { steps = first.steps; run = first.run; stands = first.after.stands }, rest.each);
       run = run-append s first.part (joined rest.parts) first.run rest.run;
     }
 
--- the service goes lawfully with each run of a valid setting, as far as its events are covered
-pub run_is_lawful : (g : Setting) (es : List Event) → IsValid g → IsRun g es → AreCovered (start g) es → IsServedLawfully g es
-run_is_lawful g es valid run covered =
-    let on = goes-on g 0 (start g) (start_state g) es (starts-well g valid) refl refl (from-none (length es) (2 ^ 31) run.few) run.allowed covered in
+-- the service goes lawfully with each run of a valid setting
+pub run-is-lawful : (g : Setting) (es : List Event) → IsValid g → IsRun g es → IsServedLawfully g es
+run-is-lawful g es valid run =
+    let on = goes-on g 0 (start g) (start_state g) es (starts-well g valid) refl refl (from-none (length es) (2 ^ 31) run.few) run.allowed in
     record {
       served = record { parts = on.parts; begins = (starts-well g valid).stands; each = on.each; run = on.run };
       lawful = runs_are_lawful g (joined on.parts) valid on.run;

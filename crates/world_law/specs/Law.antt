@@ -1,19 +1,12 @@
 -- What is claimed of a run: its events are, by their service steps, a lawful run of the link service, and the world stands for the
 -- state of the service after each of them.
-use Rattle.std.specs.Prelude.{◌≡◌, true, List, [], ◌∷◌, ◌++◌, map, None}
+use Rattle.std.specs.Prelude.{◌≡◌, List, [], ◌∷◌, ◌++◌, map}
 use Rattle.charlotte_calls.specs.declared.calls.ServiceStep.{ServiceStep}
-use Rattle.charlotte_calls.specs.declared.names.EndId.{EndId}
-use Rattle.charlotte_calls.specs.declared.picture.Picture.{Picture}
-use Rattle.charlotte_calls.specs.declared.picture.PictureWhat.{PictureWhat}
-use Rattle.charlotte_calls.specs.declared.picture.PictureWhat.TheVariants as packet
 use Rattle.charlotte_calls.specs.declared.setting.Setting.{Setting}
-use Rattle.end_table.specs.declared.entry.Entry.{Entry}
-use Rattle.kernel_sound.specs.Sound.{addressee}
-use Rattle.kernel_world.specs.World.{World, Event, Calls, Takes, happens, outcome, start}
+use Rattle.kernel_world.specs.World.{World, Event, happens, outcome, start}
 use Rattle.service_step.specs.Lawful.{IsLawful}
 use Rattle.service_step.specs.Run.{IsRunFrom, IsServiceRun, state_after, start_state}
 use Rattle.service_step.specs.State.{State}
-use Rattle.kernel_step.specs.Rows.{awaits}
 use Rattle.world_meaning.specs.StandsFor.{StandsFor}
 
 -- the service goes with an event: its steps are allowed one after the other, and then the world stands for the state that they leave
@@ -45,24 +38,3 @@ pub record IsServed (g : Setting) (es : List Event) : Type 0 where
 pub record IsServedLawfully (g : Setting) (es : List Event) : Type 0 where
   pub served : IsServed g es
   pub lawful : IsLawful (start_state g) (joined served.parts)
-
--- ---- as far as it is proved
-
--- every call, and the taking of every packet but a back that meets the send of its end
-abbrev pub IsCoveredAt : PictureWhat → Entry → Type 0
-IsCoveredAt (packet.Back to n ms) x = awaits n x ≡ None
-IsCoveredAt _ x = Unit {0}
-
--- the taking of the first of these packets
-abbrev pub IsCoveredTaking : (EndId → Entry) → List Picture → Type 0
-IsCoveredTaking table [] = ⊥
-IsCoveredTaking table (q ∷ others) = IsCoveredAt q.what (table (addressee q.what))
-
-abbrev pub IsCovered : World → Event → Type 0
-IsCovered w (Calls k p c mine) = Unit {0}
-IsCovered w (Takes k from) = IsCoveredTaking (w.kernel k).table (w.packets from k)
-
--- each of these events, in the world that those before it leave
-abbrev pub AreCovered : World → List Event → Type 0
-AreCovered w [] = Unit {0}
-AreCovered w (e ∷ es) = IsCovered w e × AreCovered (happens w e) es
