@@ -11,7 +11,7 @@ use Rattle.lynx_lexer.proofs.Cuts.{one_spelling}
 use Rattle.lynx_lexer.proofs.Faults.{gives_tokens, gives_fault}
 use Rattle.lynx_tree.specs.Answers.{kinds, IsTreeOf}
 use Rattle.lynx_tree.specs.Faults.{IsNested}
-use Rattle.lynx_tree.specs.Grammar.{HasTokens, kinds_of, module_marks}
+use Rattle.lynx_tree.specs.Grammar.{HasTokens, Mark, kinds_of, module_marks}
 use Rattle.lynx_tree.specs.Printing.{IsPrintable, printed}
 use Rattle.lynx_tree.specs.Trees.{ModuleTree}
 use Rattle.lynx_grammar.proofs.Laws.{one_tree_only}
@@ -125,6 +125,12 @@ fault_stays source fault (inl (inl h)) = inl (inl (h.0, h.1, inr (fault, h.2, re
 fault_stays source fault (inl (inr h)) = inl (inr (h.0, h.1, err_again fault h.0 h.2))
 fault_stays source fault (inr h) = inr (err_again fault NoMemory h)
 
+-- a tree that was read and breaks no rule is what its source is checked as
+pub well_typed_stays : (source : List ℕ) (m : ModuleTree) → IsReadAs source (Ok m) → IsWellTyped m → IsCheckedAs source (Ok m)
+well_typed_stays source m (inl (inl h)) well = inl (inl (h.0, h.1, inl (m, h.2, inl (well, refl))))
+well_typed_stays source m (inl (inr h)) well = absurd (not_both m h.0 (Ok m) (Err h.0) refl refl h.2)
+well_typed_stays source m (inr h) well = absurd (not_both m NoMemory (Ok m) (Err NoMemory) refl refl h)
+
 -- the tokens of a tree that was read
 pub tree_of_tokens : (source : List ℕ) (tokens : List Token) (m : ModuleTree) → AreTokensOf source tokens → IsReadAs source (Ok m) → IsTreeOf (kinds tokens) m
 tree_of_tokens source tokens m are (inl (inl h)) = parsed_tree source tokens m h.0 are h.1 h.2
@@ -139,3 +145,7 @@ printed_is_read m has printable nested =
 -- a tree has no more tokens than its source has bytes
 pub few_tokens : (source : List ℕ) (tokens : List Token) (m : ModuleTree) → Spell tokens source → kinds tokens ≡ kinds_of m → length source < 4294967295 → length (kinds_of m) < 4294967295
 few_tokens source tokens m s are fits = omega (arith, tokens_fit tokens source s, ap length are, length-map tokens (λ (t : Token). t.kind))
+
+-- nor more than the bound on what typing goes over
+pub few_marks : (m : ModuleTree) → length (kinds_of m) < 4294967295 → length (module_marks m) < 4294967296
+few_marks m few = omega (arith, few, length-map (module_marks m) (λ (t : Mark). t.kind))
