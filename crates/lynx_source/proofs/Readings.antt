@@ -9,16 +9,16 @@ use Rattle.lynx_lexer.specs.declared.fault.LexFault.TheVariants as lex
 use Rattle.lynx_lexer.specs.declared.token.Token.{Token}
 use Rattle.lynx_lexer.proofs.Cuts.{one_spelling}
 use Rattle.lynx_lexer.proofs.Faults.{gives_tokens, gives_fault}
-use Rattle.lynx_tree.specs.Answers.{kinds, IsTreeOf}
+use Rattle.lynx_tree.specs.Answers.{kinds}
 use Rattle.lynx_tree.specs.Faults.{IsNested}
-use Rattle.lynx_tree.specs.Grammar.{HasTokens, Mark, kinds_of, module_marks}
+use Rattle.lynx_tree.specs.Grammar.{HasTokens, kinds_of, module_marks}
 use Rattle.lynx_tree.specs.Printing.{IsPrintable, printed}
 use Rattle.lynx_tree.specs.Trees.{ModuleTree}
 use Rattle.lynx_grammar.proofs.Laws.{one_tree_only}
 use Rattle.lynx_grammar.proofs.Exact.{same_place, same_depth, no_tree, no_tree_deep}
 use Rattle.lynx_parser.proofs.Lengths.{tokens_fit}
 use Rattle.lynx_printer.proofs.Spelled.{spelled}
-use Rattle.lynx_typing.specs.Modules.{IsWellTyped, IsFirstFault, first_fault, module_faults}
+use Rattle.lynx_typing.specs.Modules.{IsWellTyped, IsFirstFault as IsFirstTypeFault, first_fault, module_faults}
 use Rattle.lynx_typing.specs.Rules.{Fault}
 use Rattle.lynx_typing.proofs.Firsts.{least_is_first}
 use Rattle.lynx_source.specs.Places.{place_of}
@@ -79,7 +79,7 @@ one_parsing source tokens x y (inr (inr h)) (inr (inr g)) =
 some_is : (a b : Fault) (x y : Option Fault) → x ≡ Some a → y ≡ Some b → x ≡ y → a ≡ b
 some_is a b x y is are same = cc
 
-same_fault : (m : ModuleTree) (a b : Fault) → IsFirstFault m a → IsFirstFault m b → a ≡ b
+same_fault : (m : ModuleTree) (a b : Fault) → IsFirstTypeFault m a → IsFirstTypeFault m b → a ≡ b
 same_fault m a b is are = some_is a b (first_fault (module_faults m)) (first_fault (module_faults m)) (least_is_first m a is) (least_is_first m b are) refl
 
 pub one_typing : (source : List ℕ) (tokens : List Token) (m : ModuleTree) → HasOne (IsTypedAs source tokens m)
@@ -90,20 +90,6 @@ one_typing source tokens m x y (inr h) (inr g) =
     h.2 ∙ ap (λ (f : Fault). Err (Rule (token_place source tokens f.place) f.rule)) (same_fault m h.0 g.0 h.1 g.1) ∙ sym g.2
 
 -- ---- a source
-
-err_again : (e f : SourceFault) → Err {ModuleTree} e ≡ Err f → Err {ModuleTree} e ≡ Err f
-err_again e f h = h
-
-lexed_tokens : (source : List ℕ) (tokens ts : List Token) → AreTokensOf source tokens → IsLexedAs source (Ok ts) → ts ≡ tokens
-lexed_tokens source tokens ts are lexed = ok_is ts tokens (Ok ts) (Ok tokens) refl refl (one_lexing source (Ok ts) (Ok tokens) lexed (inl (tokens, are, refl)))
-
-tree_parsed : (source : List ℕ) (tokens : List Token) (m : ModuleTree) → IsParsedAs source tokens (Ok m) → IsTreeOf (kinds tokens) m
-tree_parsed source tokens m (inl h) = subst (IsTreeOf (kinds tokens)) (sym (ok_is m h.0 (Ok m) (Ok h.0) refl refl h.2)) h.1
-tree_parsed source tokens m (inr (inl h)) = absurd (not_both m (Syntax (token_place source tokens h.0)) (Ok m) (Err (Syntax (token_place source tokens h.0))) refl refl h.3)
-tree_parsed source tokens m (inr (inr h)) = absurd (not_both m (Deep (token_place source tokens h.0)) (Ok m) (Err (Deep (token_place source tokens h.0))) refl refl h.2)
-
-parsed_tree : (source : List ℕ) (tokens : List Token) (m : ModuleTree) (ts : List Token) → AreTokensOf source tokens → IsLexedAs source (Ok ts) → IsParsedAs source ts (Ok m) → IsTreeOf (kinds tokens) m
-parsed_tree source tokens m ts are lexed parsed = subst (λ (xs : List Token). IsTreeOf (kinds xs) m) (lexed_tokens source tokens ts are lexed) (tree_parsed source ts m parsed)
 
 pub one_reading : (source : List ℕ) (a b : Result ModuleTree SourceFault) → IsReadAs source a → a ≢ Err NoMemory → IsReadAs source b → b ≢ Err NoMemory → a ≡ b
 one_reading source a b (inl h) _ (inl g) _ = one_then (IsLexedAs source) (IsParsedAs source) (one_lexing source) (one_parsing source) a b h g
@@ -122,20 +108,14 @@ one_check source a b (inl h) _ (inr g) some = absurd (some g)
 -- a fault before typing is the fault of both
 pub fault_stays : (source : List ℕ) (fault : SourceFault) → IsReadAs source (Err fault) → IsCheckedAs source (Err fault)
 fault_stays source fault (inl (inl h)) = inl (inl (h.0, h.1, inr (fault, h.2, refl)))
-fault_stays source fault (inl (inr h)) = inl (inr (h.0, h.1, err_again fault h.0 h.2))
-fault_stays source fault (inr h) = inr (err_again fault NoMemory h)
+fault_stays source fault (inl (inr h)) = inl (inr (h.0, h.1, h.2))
+fault_stays source fault (inr h) = inr h
 
 -- a tree that was read and breaks no rule is what its source is checked as
 pub well_typed_stays : (source : List ℕ) (m : ModuleTree) → IsReadAs source (Ok m) → IsWellTyped m → IsCheckedAs source (Ok m)
 well_typed_stays source m (inl (inl h)) well = inl (inl (h.0, h.1, inl (m, h.2, inl (well, refl))))
 well_typed_stays source m (inl (inr h)) well = absurd (not_both m h.0 (Ok m) (Err h.0) refl refl h.2)
 well_typed_stays source m (inr h) well = absurd (not_both m NoMemory (Ok m) (Err NoMemory) refl refl h)
-
--- the tokens of a tree that was read
-pub tree_of_tokens : (source : List ℕ) (tokens : List Token) (m : ModuleTree) → AreTokensOf source tokens → IsReadAs source (Ok m) → IsTreeOf (kinds tokens) m
-tree_of_tokens source tokens m are (inl (inl h)) = parsed_tree source tokens m h.0 are h.1 h.2
-tree_of_tokens source tokens m are (inl (inr h)) = absurd (not_both m h.0 (Ok m) (Err h.0) refl refl h.2)
-tree_of_tokens source tokens m are (inr h) = absurd (not_both m NoMemory (Ok m) (Err NoMemory) refl refl h)
 
 pub printed_is_read : (m : ModuleTree) → HasTokens m → AllByRecursion IsPrintable (kinds_of m) → IsNested (module_marks m) → IsReadAs (printed (kinds_of m)) (Ok m)
 printed_is_read m has printable nested =
@@ -145,7 +125,3 @@ printed_is_read m has printable nested =
 -- a tree has no more tokens than its source has bytes
 pub few_tokens : (source : List ℕ) (tokens : List Token) (m : ModuleTree) → Spell tokens source → kinds tokens ≡ kinds_of m → length source < 4294967295 → length (kinds_of m) < 4294967295
 few_tokens source tokens m s are fits = omega (arith, tokens_fit tokens source s, ap length are, length-map tokens (λ (t : Token). t.kind))
-
--- nor more than the bound on what typing goes over
-pub few_marks : (m : ModuleTree) → length (kinds_of m) < 4294967295 → length (module_marks m) < 4294967296
-few_marks m few = omega (arith, few, length-map (module_marks m) (λ (t : Mark). t.kind))

@@ -8,7 +8,7 @@ use Rattle.lynx_tree.specs.Faults.{LeavesGrammar, IsTooDeep, IsNowhereTooDeep}
 use Rattle.lynx_tree.specs.Trees.{ModuleTree, module_tree}
 use Rattle.lynx_tree.specs.declared.module.Module.{Module}
 use Rattle.lynx_types.specs.declared.checked.Checked.{Checked}
-use Rattle.lynx_typing.specs.Modules.{IsWellTyped, IsFirstFault}
+use Rattle.lynx_typing.specs.Modules.{IsWellTyped, IsFirstFault as IsFirstTypeFault}
 use Rattle.lynx_typing.specs.Rules.{Fault}
 use Rattle.lynx_source.specs.Places.{place_of}
 use Rattle.lynx_source.specs.declared.place.Place.{Place}
@@ -46,7 +46,7 @@ IsParsedAs source tokens outcome =
 abbrev pub IsTypedAs : List ℕ → List Token → ModuleTree → Result ModuleTree SourceFault → Type 0
 IsTypedAs source tokens m outcome =
     (IsWellTyped m × (outcome ≡ Ok m))
-    ⊎ ((first : Fault) × IsFirstFault m first × (outcome ≡ Err (Rule (token_place source tokens first.place) first.rule)))
+    ⊎ ((first : Fault) × IsFirstTypeFault m first × (outcome ≡ Err (Rule (token_place source tokens first.place) first.rule)))
 
 -- A source is read as the tree of its tokens, or as its first fault before typing.
 abbrev pub Reads : List ℕ → Result ModuleTree SourceFault → Type 0
