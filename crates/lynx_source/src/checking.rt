@@ -8,12 +8,12 @@ ghost use Rattle.lynx_source.specs.Sources.{AreTokensOf, IsCheckedAs, checked_re
 
 use crate::fault::SourceFault;
 use crate::reading::{Reading, read_source, token_place};
-use lynx_lexer::Token;
+use lynx_lexer::Lexemes;
 use lynx_types::{Checked, TypeFault, check};
 use std::alloc::Global;
 
 /// Where a fault of typing stands.
-fn typed(source: &[u8], tokens: &[Token], fault: TypeFault) -> SourceFault
+fn typed(source: &[u8], tokens: &Lexemes, fault: TypeFault) -> SourceFault
     requires fits { length source.now < 4294967295 }
     requires lexed { AreTokensOf source.now tokens.now }
     requires fault { (m : ModuleTree) × IsTreeOf (kinds tokens.now) m × IsFaultOf m fault }
@@ -37,6 +37,6 @@ pub fn check_source<'a>(alloc: Global, source: &'a [u8]) -> Result<Checked<'a>, 
     let Reading { module, tokens } = read_source(alloc, source)?;
     match check(alloc, module) {
         Ok(checked) => Ok(checked),
-        Err(fault) => Err(typed(source, tokens.as_slice(), fault)),
+        Err(fault) => Err(typed(source, &tokens, fault)),
     }
 }
