@@ -1,4 +1,4 @@
--- The module that was read has the name in the line.
+-- The module that was checked has the name in the line.
 use Rattle.std.proofs.Common.{ℕ, List, [], ◌∷◌, ap, subst, refl, ◌∙◌, Ok, Err}
 use Rattle.std.proofs.lemmas.Result.{err_from_is_err_and}
 use Rattle.lynx_command.specs.Failures.{failure_of_source}
@@ -6,13 +6,15 @@ use Rattle.lynx_source.specs.Sources.{IsCheckedAs}
 use Rattle.lynx_source.specs.declared.fault.SourceFault.{SourceFault}
 use Rattle.lynx_source.specs.declared.fault.SourceFault.TheVariants as faults
 use Rattle.lynx_syntax.specs.Trees.{module_tree}
+use Rattle.lynx_tree.specs.declared.module.Module.{Module}
 use Rattle.lynx_run.specs.Check.{checked_text, Checks}
 use Rattle.lynx_run.proofs.check.CheckCommandFileCommand.find.Goals as goal
 
 pub returns : goal.returns
 returns c =
     let read = subst (λ (bytes : List ℕ). IsCheckedAs bytes (Ok (module_tree c.in_ok-checked.checked))) c.as_slice.ensures.value c.in_ok-checked.ensures in
-    (module_tree c.in_ok-checked.checked, read, c.of.ensures ∙ (c.in_ok-lines.ensures ∙ ap (λ name. checked_text name ∷ []) c.as_slice-2.ensures.value), refl)
+    let name = c.as_slice-2.ensures.value ∙ ap (λ (m : Module). m.name) c.module.ensures.module in
+    (module_tree c.in_ok-checked.checked, read, c.of.ensures ∙ (c.in_ok-lines.ensures ∙ ap (λ name. checked_text name ∷ []) name), refl)
 
 -- a fault of the source is the failure of the command
 fault_found : (bytes : List ℕ) (fault : SourceFault) → IsCheckedAs bytes (Err fault) → Checks bytes (Err (failure_of_source fault))
