@@ -137,7 +137,7 @@ each_within at (p ∷ ps) w = both p.kind (tokens_of (at + length p.text) ps) w 
     both None others w go = (tt, go w)
     both (Some k) others w go = (w.0, go w.1)
 
-not_both : (source : List ℕ) (tokens : List Token) (place : ℕ) (kind : FaultKind) → Spell tokens source → AreWithinLimits tokens → IsFirstFault place kind source → ⊥
+pub not_both : (source : List ℕ) (tokens : List Token) (place : ℕ) (kind : FaultKind) → Spell tokens source → AreWithinLimits tokens → IsFirstFault place kind source → ⊥
 not_both source tokens place kind s w f =
     let same = one_cut IsWithin s.0 f.0 [] f.1 (sym s.1.0 ∙ f.2.0) s.1.1 f.2.1 (each_within 0 s.0 (subst AreWithinLimits s.2 w)) (each_within 0 f.0 f.3) (end_bars IsWithin) (fault_bars kind f.1 f.5) in
     fault_some kind f.1 f.5 (sym same.1)

@@ -2,6 +2,7 @@ pub mod Cuts
 pub mod Decimals
 pub mod Faults
 pub mod Longest
+pub mod Placed
 pub mod Reached
 pub mod Runs
 pub mod Shapes

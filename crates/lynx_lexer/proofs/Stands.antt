@@ -4,7 +4,7 @@ use Rattle.std.specs.Prelude.{codes, nat_eq}
 use Rattle.std.specs.List.{list_all, prefix_len, starts_with}
 use Rattle.std.proofs.lemmas.Bool.{lt-ltb, le-ltb, cases_lt, false≢true, eqb-true}
 use Rattle.std.proofs.lemmas.Bool.Decides.{nat_tests}
-use Rattle.std.proofs.lemmas.List.{take-append-drop, take_at, drop_at, length-append, take_more, drop_more, drop_all}
+use Rattle.std.proofs.lemmas.List.{take-append-drop, length-take-le, take_at, drop_at, length-append, take_more, drop_more, drop_all}
 use Rattle.std.proofs.lemmas.List.Sums.{prefix_len-le-length}
 use Rattle.lynx_lexer.specs.Bytes.{class_of}
 use Rattle.lynx_lexer.specs.Words.{word_of, sign_of}
@@ -69,24 +69,23 @@ keyword_stands bytes n keyword begins e is =
 name_piece : (bytes : List ℕ) (n : ℕ) (r : Run is_name_byte Letter n bytes) → ((keyword : Keyword) → take n bytes ≢ word_of keyword) → IsToken (kinds.Name (take n bytes)) (take n bytes)
 name_piece bytes n r unlike = (refl, (r.first, r.others, r.begins, r.passes, r.text), unlike)
 
-pub name_stands : (bytes : List ℕ) (n : ℕ) (name : List ℕ) → Begins Letter bytes → n ≡ prefix_len is_name_byte bytes → ((keyword : Keyword) → take n bytes ≢ word_of keyword)
-    → name ≡ take n bytes → length (take n bytes) ≤ 32 → StandsAt (Some (kinds.Name name)) n bytes
-name_stands bytes n name begins e unlike is short =
+pub name_stands : (bytes : List ℕ) (n : ℕ) → Begins Letter bytes → n ≡ prefix_len is_name_byte bytes → ((keyword : Keyword) → take n bytes ≢ word_of keyword) → n ≤ 32 → StandsAt (Some (kinds.Name (take n bytes))) n bytes
+name_stands bytes n begins e unlike short =
     let r = word_run bytes n begins e in
-    let within : limit_passed (kinds.Name (take n bytes)) ≡ None = rw (le-ltb 32 (length (take n bytes)) short) refl in
-    let stands : StandsAt (Some (kinds.Name (take n bytes))) n bytes = record { some = r.some; fits = r.fits; piece = name_piece bytes n r unlike; longest = word_longest bytes n r; within = within } in
-    subst (λ (t : List ℕ). StandsAt (Some (kinds.Name t)) n bytes) (sym is) stands
+    let few : length (take n bytes) ≤ 32 = omega (arith, length-take-le n bytes r.fits, short) in
+    let within : limit_passed (kinds.Name (take n bytes)) ≡ None = rw (le-ltb 32 (length (take n bytes)) few) refl in
+    record { some = r.some; fits = r.fits; piece = name_piece bytes n r unlike; longest = word_longest bytes n r; within = within }
 
-pub name_too_long : (bytes : List ℕ) (n : ℕ) → Begins Letter bytes → n ≡ prefix_len is_name_byte bytes → ((keyword : Keyword) → take n bytes ≢ word_of keyword) → ((0 < length (take n bytes)) × (length (take n bytes) ≤ 32) → ⊥) → HasFault NameTooLong bytes
-name_too_long bytes n begins e unlike unfit =
+pub name_too_long : (bytes : List ℕ) (n : ℕ) → Begins Letter bytes → n ≡ prefix_len is_name_byte bytes → ((keyword : Keyword) → take n bytes ≢ word_of keyword) → 32 < n → HasFault NameTooLong bytes
+name_too_long bytes n begins e unlike long =
     let r = word_run bytes n begins e in
-    let long : 32 < length (take n bytes) = elim (cases_lt 32 (length (take n bytes))) [ inl lt ↦ lt | inr short ↦ absurd (unfit (omega (arith, ap length r.text), short)) ] in
-    let passed : limit_passed (kinds.Name (take n bytes)) ≡ Some NameTooLong = rw (lt-ltb 32 (length (take n bytes)) long) refl in
+    let many : 32 < length (take n bytes) = omega (arith, length-take-le n bytes r.fits, long) in
+    let passed : limit_passed (kinds.Name (take n bytes)) ≡ Some NameTooLong = rw (lt-ltb 32 (length (take n bytes)) many) refl in
     (kinds.Name (take n bytes), take n bytes, drop n bytes, sym (take-append-drop n bytes), name_piece bytes n r unlike, word_longest bytes n r, passed)
 
 -- ---- numbers
 
-digit_of_class : (b : ℕ) → class_of b ≡ Digit → is_digit b ≡ true
+pub digit_of_class : (b : ℕ) → class_of b ≡ Digit → is_digit b ≡ true
 unfolding class_of
 digit_of_class b k = grind (arith, nat_tests)
 
@@ -153,30 +152,32 @@ cut_text bs n stops unclosed =
       | inr le ↦ subst CutsText (sym (drop_all n bs le)) tt
     ]
 
-pub text_stands : (bytes : List ℕ) (n : ℕ) (inside : List ℕ) → Begins Quote bytes → n ≡ prefix_len is_text_byte (drop 1 bytes) → n < length (drop 1 bytes) → get_or (drop 1 bytes) n 0 ≡ 39
-    → inside ≡ take n (drop 1 bytes) → length inside ≤ 64 → StandsAt (Some (kinds.Text inside)) (n + 2) bytes
-text_stands [] n inside begins e within closed is short = absurd (omega (arith, begins.some))
-text_stands (b ∷ bs) n inside begins e within closed is short =
+pub text_stands : (bytes : List ℕ) (n : ℕ) → Begins Quote bytes → n ≡ prefix_len is_text_byte (drop 1 bytes) → n < length (drop 1 bytes) → get_or (drop 1 bytes) n 0 ≡ 39
+    → n ≤ 64 → StandsAt (Some (kinds.Text (take n (drop 1 bytes)))) (n + 2) bytes
+text_stands [] n begins e within closed short = absurd (omega (arith, begins.some))
+text_stands (b ∷ bs) n begins e within closed short =
     let q : b ≡ 39 = quote_of_class b begins.first in
-    let parts : take (n + 2) (b ∷ bs) ≡ 39 ∷ inside ++ 39 ∷ [] = closed_text b bs n inside q within closed is in
-    let passes : list_all is_text_byte inside ≡ true = ap (list_all is_text_byte) is ∙ ap (λ (m : ℕ). list_all is_text_byte (take m bs)) e ∙ run_passes is_text_byte bs in
+    let inside : List ℕ = take n bs in
+    let parts : take (n + 2) (b ∷ bs) ≡ 39 ∷ inside ++ 39 ∷ [] = closed_text b bs n inside q within closed refl in
+    let passes : list_all is_text_byte inside ≡ true = ap (λ (m : ℕ). list_all is_text_byte (take m bs)) e ∙ run_passes is_text_byte bs in
+    let few : length inside ≤ 64 = omega (arith, length-take-le n bs (omega (arith, within)), short) in
     record {
       some = omega arith;
       fits = omega arith;
       piece = (passes, parts);
       longest = subst (λ (t : List ℕ). IsLongest t (drop (n + 2) (b ∷ bs))) (sym parts) (longest_text inside (drop (n + 2) (b ∷ bs)));
-      within = rw (le-ltb 64 (length inside) short) refl;
+      within = rw (le-ltb 64 (length inside) few) refl;
     }
 
-pub text_too_long : (bytes : List ℕ) (n : ℕ) → Begins Quote bytes → n ≡ prefix_len is_text_byte (drop 1 bytes) → n < length (drop 1 bytes) → get_or (drop 1 bytes) n 0 ≡ 39
-    → (length (take n (drop 1 bytes)) ≤ 64 → ⊥) → HasFault TextTooLong bytes
-text_too_long [] n begins e within closed unfit = absurd (omega (arith, begins.some))
-text_too_long (b ∷ bs) n begins e within closed unfit =
+pub text_too_long : (bytes : List ℕ) (n : ℕ) → Begins Quote bytes → n ≡ prefix_len is_text_byte (drop 1 bytes) → n < length (drop 1 bytes) → get_or (drop 1 bytes) n 0 ≡ 39 → 64 < n → HasFault TextTooLong bytes
+text_too_long [] n begins e within closed long = absurd (omega (arith, begins.some))
+text_too_long (b ∷ bs) n begins e within closed long =
     let q : b ≡ 39 = quote_of_class b begins.first in
     let inside : List ℕ = take n bs in
     let parts : take (n + 2) (b ∷ bs) ≡ 39 ∷ inside ++ 39 ∷ [] = closed_text b bs n inside q within closed refl in
     let passes : list_all is_text_byte inside ≡ true = ap (λ (m : ℕ). list_all is_text_byte (take m bs)) e ∙ run_passes is_text_byte bs in
-    let passed : limit_passed (kinds.Text inside) ≡ Some TextTooLong = rw (lt-ltb 64 (length inside) (omega (arith, unfit))) refl in
+    let many : 64 < length inside = omega (arith, length-take-le n bs (omega (arith, within)), long) in
+    let passed : limit_passed (kinds.Text inside) ≡ Some TextTooLong = rw (lt-ltb 64 (length inside) many) refl in
     (kinds.Text inside, 39 ∷ inside ++ 39 ∷ [], drop (n + 2) (b ∷ bs), sym (ap (λ (t : List ℕ). t ++ drop (n + 2) (b ∷ bs)) (sym parts) ∙ take-append-drop (n + 2) (b ∷ bs)), (passes, refl), longest_text inside (drop (n + 2) (b ∷ bs)), passed)
 
 pub open_text : (bytes : List ℕ) (n : ℕ) → Begins Quote bytes → n ≡ prefix_len is_text_byte (drop 1 bytes) → (n < length (drop 1 bytes) → get_or (drop 1 bytes) n 0 ≢ 39) → HasFault OpenText bytes

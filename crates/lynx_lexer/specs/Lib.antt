@@ -1,6 +1,7 @@
 pub mod Answers
 pub mod Bytes
 pub mod Fronts
+pub mod Lexemes
 pub mod Pieces
 pub mod Slots
 pub mod Source

@@ -26,9 +26,12 @@ impl Class {
     pub fn from_byte(byte: u8) -> Class
         ensures { result ≡ class_of byte }
     {
+        // a letter is asked for first, since most pieces are words
+        if byte.is_ascii_alphabetic() {
+            return Class::Letter;
+        }
         match byte {
             b' ' | b'\t' | b'\n' | b'\r' => Class::Blank,
-            b'A'..=b'Z' | b'a'..=b'z' => Class::Letter,
             b'0'..=b'9' => Class::Digit,
             b'_' => Class::Underscore,
             b'\'' => Class::Quote,
@@ -41,5 +44,5 @@ impl Class {
 pub fn is_blank(byte: u8) -> bool
     ensures { result ≡ is_blank byte }
 {
-    matches!(byte, b' ' | b'\n' | b'\t' | b'\r')
+    byte <= b' ' && matches!(byte, b' ' | b'\n' | b'\t' | b'\r')
 }

@@ -3,22 +3,26 @@
 ghost use Rattle.std.specs.Prelude.{◌≡◌, ℕ, ◌≤◌, ◌<◌, ◌^◌, pos, length, drop, IfOk, IfErr, IfNone, IfSome, IsTrue};
 ghost use Rattle.std.specs.List.{prefix_len, list_all};
 ghost use Rattle.lynx_lexer.specs.declared.class.Class.TheVariants.{Blank, Letter, Digit, Quote, Other};
-ghost use Rattle.lynx_lexer.specs.Pieces.{is_name_byte, is_digit, is_text_byte, is_comment_byte, decimal, IsToken};
+ghost use Rattle.lynx_lexer.specs.Pieces.{is_name_byte, is_digit, is_text_byte, is_comment_byte, decimal};
 ghost use Rattle.lynx_lexer.specs.Source.{HasFault};
-ghost use Rattle.lynx_lexer.specs.Fronts.{StandsAt, Begins};
+ghost use Rattle.lynx_lexer.specs.Fronts.{StandsAs, Begins};
 
 use crate::class::Class;
 use crate::fault::FaultKind;
-use crate::ident::IdentRef;
 use crate::keyword::Keyword;
+use crate::lexeme::Shape;
 use crate::sign::Sign;
-use crate::text::TextRef;
-use crate::token::Kind;
 
-/// The longest piece at the front of bytes: the kind of token, or None for a separator, and its length.
-#[derive(Drop)]
-pub struct Front<'a> {
-    pub kind: Option<Kind<'a>>,
+/// The most bytes of a name.
+const MOST_NAME: usize = 32;
+
+/// The most bytes of a text.
+const MOST_TEXT: usize = 64;
+
+/// The longest piece at the front of bytes: the shape of a token, or None for a separator, and its length.
+#[derive(Clone, Copy)]
+pub struct Front {
+    pub shape: Option<Shape>,
     pub length: usize,
 }
 
@@ -27,10 +31,10 @@ pub struct Front<'a> {
 fn is_name_byte(byte: u8) -> bool
     ensures { result ≡ is_name_byte byte }
 {
-    match byte {
-        b'a'..=b'z' | b'0'..=b'9' | b'_' | b'A'..=b'Z' => true,
-        _ => false,
+    if byte >= b'a' {
+        return byte <= b'z';
     }
+    byte >= b'0' && (byte <= b'9' || byte == b'_' || byte.is_ascii_uppercase())
 }
 
 fn is_text_byte(byte: u8) -> bool
@@ -70,7 +74,7 @@ fn line_length(bytes: &[u8]) -> usize
 
 /// The number that digits stand for. None exactly where it is above the greatest i64.
 #[tactic(auto, using(crate::proofs::Decimals::decimal_step, crate::proofs::Decimals::decimal_front))]
-fn number(digits: &[u8]) -> Option<i64>
+pub fn number(digits: &[u8]) -> Option<i64>
     requires { IsTrue (list_all is_digit digits.now) }
     ensures found { IfSome result (λ n. n ≡ pos (decimal digits.now)) }
     ensures fits { IfSome result (λ n. decimal digits.now < 2 ^ 63) }
@@ -86,40 +90,40 @@ fn number(digits: &[u8]) -> Option<i64>
 }
 
 /// The name or keyword at the front.
-fn word_at(bytes: &[u8]) -> Result<Front<'_>, FaultKind>
+fn word_at(bytes: &[u8]) -> Result<Front, FaultKind>
     requires { Begins Letter bytes.now }
-    ensures ok { IfOk result (λ front. StandsAt front.kind front.length bytes.now) }
+    ensures ok { IfOk result (λ front. StandsAs front.shape front.length bytes.now) }
     ensures err { IfErr result (λ kind. HasFault kind bytes.now) }
 {
     let length = name_length(bytes);
     let word = &bytes[..length];
     if let Some(keyword) = Keyword::from_slice(word) {
         return Ok(Front {
-            kind: Some(Kind::Keyword(keyword)),
+            shape: Some(Shape::Keyword(keyword)),
             length,
         });
     }
-    let Some(name) = IdentRef::from_slice(word) else {
+    if length > MOST_NAME {
         return Err(FaultKind::NameTooLong);
-    };
+    }
     Ok(Front {
-        kind: Some(Kind::Name(name)),
+        shape: Some(Shape::Name),
         length,
     })
 }
 
 /// The number at the front.
-fn number_at(bytes: &[u8]) -> Result<Front<'_>, FaultKind>
+fn number_at(bytes: &[u8]) -> Result<Front, FaultKind>
     requires { Begins Digit bytes.now }
-    ensures ok { IfOk result (λ front. StandsAt front.kind front.length bytes.now) }
+    ensures ok { IfOk result (λ front. StandsAs front.shape front.length bytes.now) }
     ensures err { IfErr result (λ kind. HasFault kind bytes.now) }
 {
     let length = digits_length(bytes);
-    let Some(value) = number(&bytes[..length]) else {
+    let Some(_value) = number(&bytes[..length]) else {
         return Err(FaultKind::NumberTooWide);
     };
     Ok(Front {
-        kind: Some(Kind::Number(value)),
+        shape: Some(Shape::Number),
         length,
     })
 }
@@ -133,9 +137,9 @@ pub fn behind(bytes: &[u8], n: usize) -> &[u8]
 }
 
 /// The text at the front.
-fn text_at(bytes: &[u8]) -> Result<Front<'_>, FaultKind>
+fn text_at(bytes: &[u8]) -> Result<Front, FaultKind>
     requires { Begins Quote bytes.now }
-    ensures ok { IfOk result (λ front. StandsAt front.kind front.length bytes.now) }
+    ensures ok { IfOk result (λ front. StandsAs front.shape front.length bytes.now) }
     ensures err { IfErr result (λ kind. HasFault kind bytes.now) }
 {
     let rest = behind(bytes, 1);
@@ -143,24 +147,24 @@ fn text_at(bytes: &[u8]) -> Result<Front<'_>, FaultKind>
     if length == rest.len() || rest[length] != b'\'' {
         return Err(FaultKind::OpenText);
     }
-    let Some(inside) = TextRef::from_slice(&rest[..length]) else {
+    if length > MOST_TEXT {
         return Err(FaultKind::TextTooLong);
-    };
+    }
     Ok(Front {
-        kind: Some(Kind::Text(inside)),
+        shape: Some(Shape::Text),
         length: length + 2,
     })
 }
 
 /// The comment or sign at the front.
-fn mark_at(bytes: &[u8]) -> Result<Front<'_>, FaultKind>
+fn mark_at(bytes: &[u8]) -> Result<Front, FaultKind>
     requires { Begins Other bytes.now }
-    ensures ok { IfOk result (λ front. StandsAt front.kind front.length bytes.now) }
+    ensures ok { IfOk result (λ front. StandsAs front.shape front.length bytes.now) }
     ensures err { IfErr result (λ kind. HasFault kind bytes.now) }
 {
     if bytes.starts_with(b"--") {
         return Ok(Front {
-            kind: None,
+            shape: None,
             length: 2 + line_length(behind(bytes, 2)),
         });
     }
@@ -168,20 +172,20 @@ fn mark_at(bytes: &[u8]) -> Result<Front<'_>, FaultKind>
         return Err(FaultKind::BadByte);
     };
     Ok(Front {
-        kind: Some(Kind::Sign(sign)),
+        shape: Some(Shape::Sign(sign)),
         length: sign.as_slice().len(),
     })
 }
 
 /// The longest piece at the front, or the fault there.
-pub fn front_at(bytes: &[u8]) -> Result<Front<'_>, FaultKind>
+pub fn front_at(bytes: &[u8]) -> Result<Front, FaultKind>
     requires { 0 < length bytes.now }
-    ensures ok { IfOk result (λ front. StandsAt front.kind front.length bytes.now) }
+    ensures ok { IfOk result (λ front. StandsAs front.shape front.length bytes.now) }
     ensures err { IfErr result (λ kind. HasFault kind bytes.now) }
 {
     match Class::from_byte(bytes[0]) {
         Class::Blank => Ok(Front {
-            kind: None,
+            shape: None,
             length: 1,
         }),
         Class::Letter => word_at(bytes),

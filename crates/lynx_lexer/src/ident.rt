@@ -83,6 +83,14 @@ impl<'a> IdentRef<'a> {
         Some(IdentRef { bytes })
     }
 
+    /// The name of these bytes, which are some and no more than 32.
+    pub(crate) fn within(bytes: &'a [u8]) -> IdentRef<'a>
+        requires { 0 < length bytes.now × length bytes.now ≤ 32 }
+        ensures { result ≡ bytes.now }
+    {
+        IdentRef { bytes }
+    }
+
     /// The bytes.
     pub fn as_slice(&self) -> &'a [u8]
         ensures value { result.now ≡ self.now }

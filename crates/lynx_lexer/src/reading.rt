@@ -3,36 +3,40 @@
 ghost use Rattle.std.specs.Prelude.{◌≡◌, ℕ, ◌<◌, ◌≤◌, ◌++◌, List, length, IfOk, IfErr, OnOk};
 ghost use Rattle.lynx_lexer.specs.declared.fault.FaultKind.{FaultKind};
 ghost use Rattle.lynx_lexer.specs.declared.token.Token.{Token};
-ghost use Rattle.lynx_lexer.specs.Source.{Spell, AreWithinLimits, IsFirstFault, token_at};
+ghost use Rattle.lynx_lexer.specs.Source.{Spell, AreWithinLimits, IsFirstFault};
+ghost use Rattle.lynx_lexer.specs.Lexemes.{lexeme_at};
 ghost use Rattle.lynx_lexer.specs.Answers.{GivesTokens, GivesFault, IsFaultOf};
 
 use crate::class::is_blank;
 use crate::fault::LexFault;
 use crate::front::{behind, front_at};
-use crate::token::{Kind, Token};
+use crate::lexeme::{Lexeme, Shape};
+use crate::lexemes::Lexemes;
+use crate::token::Token;
 use std::alloc::{AllocError, Global};
 
-/// Adds the token of a piece, if it is one.
-fn push_kind<'a>(
-    tokens: &mut Vec<Token<'a>>,
-    kind: Option<Kind<'a>>,
+/// Adds the place and shape of a piece, if it is a token.
+fn push_shape(
+    all: &mut Vec<Lexeme>,
+    shape: Option<Shape>,
     from: u32,
     to: u32,
 ) -> Result<(), AllocError>
-    ensures { OnOk result (tokens.new.items ≡ tokens.old.items ++ token_at from to kind.entry) }
+    ensures { OnOk result (all.new.items ≡ all.old.items ++ lexeme_at from to shape) }
 {
-    if let Some(kind) = kind {
-        tokens.push(Token { kind, from, to })?;
+    if let Some(shape) = shape {
+        all.push(Lexeme { shape, from, to })?;
     }
     Ok(())
 }
 
-fn read(alloc: Global, source: &[u8]) -> Result<Vec<Token<'_>>, LexFault>
+/// The tokens of a source by their places, or its first fault: `tokens` says when each comes.
+pub fn read_lexemes(alloc: Global, source: &[u8]) -> Result<Lexemes<'_>, LexFault>
     requires { length source.now < 4294967295 }
-    ensures found { IfOk result (λ v. Spell v.items source.now × AreWithinLimits v.items) }
+    ensures found { IfOk result (λ lexemes. Spell lexemes source.now × AreWithinLimits lexemes) }
     ensures fault { IfErr result (IsFaultOf source.now) }
 {
-    let mut tokens = Vec::new(alloc);
+    let mut all = Vec::new(alloc);
     let mut at = 0;
     while at < source.len() {
         let rest = behind(source, at);
@@ -50,10 +54,10 @@ fn read(alloc: Global, source: &[u8]) -> Result<Vec<Token<'_>>, LexFault>
             }
         };
         let to = at + front.length;
-        push_kind(&mut tokens, front.kind, at as u32, to as u32)?;
+        push_shape(&mut all, front.shape, at as u32, to as u32)?;
         at = to;
     }
-    Ok(tokens)
+    Ok(Lexemes::of(source, all))
 }
 
 /// The tokens of a source with their places, or its first fault.
@@ -71,5 +75,8 @@ pub fn tokens(alloc: Global, source: &[u8]) -> Result<Vec<Token<'_>>, LexFault>
     ensures fault { IfErr result (IsFaultOf source.now) }
     ensures only_fault { (place : ℕ) (kind : FaultKind) → IsFirstFault place kind source.now → GivesFault place kind result }
 {
-    read(alloc, source)
+    match read_lexemes(alloc, source) {
+        Ok(lexemes) => Ok(lexemes.tokens(alloc)?),
+        Err(fault) => Err(fault),
+    }
 }

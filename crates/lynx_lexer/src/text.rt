@@ -77,6 +77,14 @@ impl<'a> TextRef<'a> {
         Some(TextRef { bytes })
     }
 
+    /// The text of these bytes, which are no more than 64.
+    pub(crate) fn within(bytes: &'a [u8]) -> TextRef<'a>
+        requires { length bytes.now ≤ 64 }
+        ensures { result ≡ bytes.now }
+    {
+        TextRef { bytes }
+    }
+
     /// The bytes.
     pub fn as_slice(&self) -> &'a [u8]
         ensures value { result.now ≡ self.now }

@@ -1,3 +1,4 @@
+pub mod Aheads
 pub mod Made
 pub mod MadeStatements
 pub mod Lengths

@@ -11,4 +11,4 @@ mod read_module;
 mod read_statement;
 mod reader;
 
-pub use parsing::parse;
+pub use parsing::{parse, parse_lexemes};

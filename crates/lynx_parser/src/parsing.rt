@@ -12,7 +12,7 @@ ghost use Rattle.lynx_tree.specs.declared.fault.SyntaxFault.TheVariants as fault
 
 use crate::reader::Reader;
 use lynx_descent::Refusal;
-use lynx_lexer::Token;
+use lynx_lexer::{Lexemes, Token};
 use lynx_tree::{Module, SyntaxFault};
 use std::alloc::Global;
 
@@ -27,7 +27,7 @@ fn place(count: usize, left: usize) -> u32
     count.saturating_sub(left) as u32
 }
 
-fn read<'a>(alloc: Global, tokens: &[Token<'a>]) -> Result<Module<'a>, SyntaxFault>
+fn read<'a>(alloc: Global, tokens: &Lexemes<'a>) -> Result<Module<'a>, SyntaxFault>
     requires { length tokens.now < 2 ^ 32 }
     ensures found { IfOk result (λ m. IsTreeOf (kinds tokens.now) (module_tree m)) }
     ensures only { (m : ModuleTree) → IsTreeOf (kinds tokens.now) m → GivesTree m result }
@@ -50,10 +50,10 @@ fn read<'a>(alloc: Global, tokens: &[Token<'a>]) -> Result<Module<'a>, SyntaxFau
 ///
 /// The tokens are those of the source, within the lexer's limits. Reading takes stack for each level of nesting: up to
 /// 192 KiB at 64 open brackets, and 96 KiB at 64 open statements (measured).
-pub fn parse<'a>(
+pub fn parse_lexemes<'a>(
     alloc: Global,
     source: &'a [u8],
-    tokens: &[Token<'a>],
+    tokens: &Lexemes<'a>,
 ) -> Result<Module<'a>, SyntaxFault>
     requires fits { length source.now < 4294967295 }
     requires spell { Spell tokens.now source.now }
@@ -73,4 +73,26 @@ pub fn parse<'a>(
 {
     let _source = source;
     read(alloc, tokens)
+}
+
+/// The tree of the module that a list of tokens spells, or the first fault, as `parse_lexemes` gives it.
+pub fn parse<'a>(
+    alloc: Global,
+    source: &'a [u8],
+    tokens: &[Token<'a>],
+) -> Result<Module<'a>, SyntaxFault>
+    requires fits { length source.now < 4294967295 }
+    requires spell { Spell tokens.now source.now }
+    requires limits { AreWithinLimits tokens.now }
+    ensures found { IfOk result (λ m. IsTreeOf (kinds tokens.now) (module_tree m)) }
+    ensures only { (m : ModuleTree) → IsTreeOf (kinds tokens.now) m → GivesTree m result }
+    ensures printable { IfOk result (λ m. AllByRecursion IsPrintable (kinds_of (module_tree m))) }
+    ensures fault { IfErr result (IsFaultOf (kinds tokens.now)) }
+    ensures only_fault { (at : ℕ) → LeavesGrammar at (kinds tokens.now) → IsNowhereTooDeep (kinds tokens.now) → GivesFault (faults.At at) result }
+    ensures only_too_deep { (at : ℕ) → IsTooDeep at (kinds tokens.now) → GivesFault (faults.TooDeep at) result }
+{
+    match Lexemes::of_tokens(alloc, source, tokens) {
+        Ok(lexemes) => parse_lexemes(alloc, source, &lexemes),
+        Err(_) => Err(SyntaxFault::NoMemory),
+    }
 }

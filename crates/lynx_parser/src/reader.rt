@@ -1,13 +1,12 @@
 //! The tokens that are left to read, and reading one.
 
 ghost use Rattle.std.specs.Prelude.{◌≡◌, ◌≢◌, ℕ, ◌<◌, List, length, drop, map, true, false};
-ghost use Rattle.lynx_lexer.specs.declared.token.Token.{Token};
 ghost use Rattle.lynx_descent.specs.declared.refusal.Refusal.TheVariants as refusals;
 ghost use Rattle.lynx_descent.specs.Reading as spec;
 ghost use Rattle.lynx_descent.specs.Reading.{Reads};
 
 use lynx_descent::{Ahead, Refusal};
-use lynx_lexer::{IdentRef, Keyword, Kind, Sign, TextRef, Token};
+use lynx_lexer::{IdentRef, Keyword, Kind, Left, Lexemes, Shape, Sign, TextRef};
 use std::alloc::Global;
 use std::marker::Model;
 
@@ -15,16 +14,16 @@ use std::marker::Model;
 #[derive(Drop)]
 pub struct Reader<'t, 'a> {
     alloc: Global,
-    rest: &'t [Token<'a>],
+    rest: Left<'t, 'a>,
 }
 
 impl<'t, 'a> Model for Reader<'t, 'a> {
-    ghost use Rattle.std.specs.Prelude.{List, map};
+    ghost use Rattle.std.specs.Prelude.{List};
     ghost use Rattle.lynx_lexer.specs.declared.token.Kind.{Kind};
 
     ghost Value = { List Kind };
 
-    ghost view = { λ r. map (λ t. t.kind) r.rest.now };
+    ghost view = { λ r. r.rest };
 }
 
 #[tactic(auto, unfolding(lynx_descent::specs::Reading::same_keyword))]
@@ -42,10 +41,13 @@ pub fn same_sign(a: Sign, b: Sign) -> bool
 }
 
 impl<'t, 'a> Reader<'t, 'a> {
-    pub fn new(alloc: Global, rest: &'t [Token<'a>]) -> Reader<'t, 'a>
-        ensures { result ≡ map (λ t. t.kind) rest.now }
+    pub fn new(alloc: Global, tokens: &'t Lexemes<'a>) -> Reader<'t, 'a>
+        ensures { result ≡ map (λ t. t.kind) tokens.now }
     {
-        Reader { alloc, rest }
+        Reader {
+            alloc,
+            rest: tokens.left(),
+        }
     }
 
     pub fn alloc(&self) -> Global {
@@ -73,18 +75,17 @@ impl<'t, 'a> Reader<'t, 'a> {
         Refusal::TooDeep(self.left())
     }
 
+    #[tactic(auto, using(crate::proofs::Aheads::ahead_told))]
     pub fn peek(&self) -> Ahead
         ensures { result ≡ spec.ahead self.now }
     {
-        match self.rest.first() {
+        match self.rest.shape() {
             None => Ahead::End,
-            Some(token) => match &token.kind {
-                Kind::Keyword(keyword) => Ahead::Keyword(*keyword),
-                Kind::Sign(sign) => Ahead::Sign(*sign),
-                Kind::Name(_) => Ahead::Name,
-                Kind::Number(_) => Ahead::Number,
-                Kind::Text(_) => Ahead::Text,
-            },
+            Some(Shape::Keyword(keyword)) => Ahead::Keyword(keyword),
+            Some(Shape::Sign(sign)) => Ahead::Sign(sign),
+            Some(Shape::Name) => Ahead::Name,
+            Some(Shape::Number) => Ahead::Number,
+            Some(Shape::Text) => Ahead::Text,
         }
     }
 
@@ -110,9 +111,7 @@ impl<'t, 'a> Reader<'t, 'a> {
     pub fn advance(&mut self)
         ensures { self.new ≡ drop 1 self.old }
     {
-        if !self.rest.is_empty() {
-            self.rest = &self.rest[1..];
-        }
+        self.rest.advance();
     }
 
     /// Reads this keyword.
@@ -143,16 +142,9 @@ impl<'t, 'a> Reader<'t, 'a> {
     pub fn name(&mut self) -> Result<IdentRef<'a>, Refusal>
         ensures { Reads (λ x. x) (spec.name self.old) result self.new }
     {
-        let Some(
-            Token {
-                kind: Kind::Name(name),
-                ..
-            },
-        ) = self.rest.first()
-        else {
+        let Some(Kind::Name(name)) = self.rest.kind() else {
             return Err(self.refuse());
         };
-        let name = name.copy();
         self.advance();
         Ok(name)
     }
@@ -161,16 +153,9 @@ impl<'t, 'a> Reader<'t, 'a> {
     pub fn number(&mut self) -> Result<i64, Refusal>
         ensures { Reads (λ x. x) (spec.number self.old) result self.new }
     {
-        let Some(
-            Token {
-                kind: Kind::Number(number),
-                ..
-            },
-        ) = self.rest.first()
-        else {
+        let Some(Kind::Number(number)) = self.rest.kind() else {
             return Err(self.refuse());
         };
-        let number = *number;
         self.advance();
         Ok(number)
     }
@@ -179,16 +164,9 @@ impl<'t, 'a> Reader<'t, 'a> {
     pub fn text(&mut self) -> Result<TextRef<'a>, Refusal>
         ensures { Reads (λ x. x) (spec.text self.old) result self.new }
     {
-        let Some(
-            Token {
-                kind: Kind::Text(inside),
-                ..
-            },
-        ) = self.rest.first()
-        else {
+        let Some(Kind::Text(inside)) = self.rest.kind() else {
             return Err(self.refuse());
         };
-        let inside = inside.copy();
         self.advance();
         Ok(inside)
     }

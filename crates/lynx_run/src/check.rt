@@ -1,4 +1,4 @@
-//! The command that reads a module.
+//! The command that checks a module.
 ghost use Rattle.std.specs.Prelude.{◌≡◌, ◌≤◌, ◌∷◌, [], IfOk, length, map};
 ghost use Rattle.lynx_command.specs.Course.{Course, outside, Took, IsOfFile};
 ghost use Rattle.lynx_run.specs.Check.{checked_text, Checks};
@@ -6,7 +6,7 @@ ghost use Rattle.lynx_run.specs.Check.{checked_text, Checks};
 use charlotte_calls::NoMemory;
 use lynx_command::{End, Failure, FileCommand, Lines, MOST_BYTES, Output, perform_file};
 use lynx_outside::{Files, Sink, Status};
-use lynx_source::read_module;
+use lynx_source::check_source;
 use std::alloc::Global;
 
 /// `check`: the text is the line `ok NAME` of the module of the file.
@@ -22,8 +22,8 @@ impl FileCommand for CheckCommand {
     ghost finds = { Checks };
 
     fn find(alloc: Global, bytes: Vec<u8>) -> Result<Output<Lines>, Failure> {
-        let module = read_module(alloc, bytes.as_slice())?;
-        let lines = checked_lines(alloc, module.name.as_slice())?;
+        let checked = check_source(alloc, bytes.as_slice())?;
+        let lines = checked_lines(alloc, checked.module().name.as_slice())?;
         Ok(Output {
             text: Lines::of(lines),
             end: End::Done,
@@ -42,8 +42,8 @@ fn checked_lines(alloc: Global, name: &[u8]) -> Result<Vec<Vec<u8>>, NoMemory>
     Ok(lines)
 }
 
-/// Reads the module of a file, and puts its name on out. Where the file is no module, the line of its first fault is put on
-/// err. The tokens, the grammar and the nesting are looked at.
+/// Reads the module of a file, and puts its name on out. Where the file is no module, or one that breaks a typing rule, the line of its
+/// first fault is put on err.
 pub fn check_file<F: Files, O: Sink, E: Sink>(
     alloc: Global,
     name: &str,

@@ -59,6 +59,7 @@ impl FileCommand for DriveCommand {
 }
 
 // The transcript of the script that these bytes are. They are let go before it is performed.
+#[tactic(auto, using(crate::proofs::Lawful::performance_is_lawful))]
 fn perform_script(alloc: Global, bytes: Vec<u8>, script: Script) -> Result<Transcript, NoMemory>
     requires within { length bytes.items ≤ 1048576 }
     requires given { IsScriptOf bytes.items script }

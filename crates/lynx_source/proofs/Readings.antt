@@ -1,5 +1,5 @@
 -- A source has one reading, stage by stage.
-use Rattle.std.proofs.Common.{◌≡◌, ℕ, ◌<◌, List, length, arith, inl, inr, Result, Ok, Err, refl, sym, ap, subst, ◌∙◌}
+use Rattle.std.proofs.Common.{◌≡◌, ℕ, ◌<◌, List, length, arith, inl, inr, Option, Some, Result, Ok, Err, refl, sym, ap, subst, ◌∙◌}
 use Rattle.std.specs.Prelude.{◌≢◌}
 use Rattle.std.proofs.lemmas.List.{length-map}
 use Rattle.std.specs.List.{AllByRecursion}
@@ -18,11 +18,14 @@ use Rattle.lynx_grammar.proofs.Laws.{one_tree_only}
 use Rattle.lynx_grammar.proofs.Exact.{same_place, same_depth, no_tree, no_tree_deep}
 use Rattle.lynx_parser.proofs.Lengths.{tokens_fit}
 use Rattle.lynx_printer.proofs.Spelled.{spelled}
+use Rattle.lynx_typing.specs.Modules.{IsWellTyped, IsFirstFault as IsFirstTypeFault, first_fault, module_faults}
+use Rattle.lynx_typing.specs.Rules.{Fault}
+use Rattle.lynx_typing.proofs.Firsts.{least_is_first}
 use Rattle.lynx_source.specs.Places.{place_of}
-use Rattle.lynx_source.specs.Sources.{AreTokensOf, token_place, IsLexedAs, IsParsedAs, IsReadAs}
+use Rattle.lynx_source.specs.Sources.{AreTokensOf, token_place, IsLexedAs, IsParsedAs, IsTypedAs, IsReadAs, IsCheckedAs}
 use Rattle.lynx_source.specs.Stages.{Then, HasOne}
 use Rattle.lynx_source.specs.declared.fault.SourceFault.{SourceFault}
-use Rattle.lynx_source.specs.declared.fault.SourceFault.TheVariants.{Lex, Syntax, Deep, NoMemory}
+use Rattle.lynx_source.specs.declared.fault.SourceFault.TheVariants.{Lex, Syntax, Deep, Rule, NoMemory}
 
 -- ---- stages one after another
 
@@ -71,12 +74,48 @@ one_parsing source tokens x y (inr (inr h)) (inr (inl g)) = absurd (g.2 h.0 h.1)
 one_parsing source tokens x y (inr (inr h)) (inr (inr g)) =
     h.2 ∙ ap (λ (token : ℕ). Err (Deep (token_place source tokens token))) (same_depth (kinds tokens) h.0 g.0 h.1 g.1) ∙ sym g.2
 
+-- ---- the typing rules
+
+some_is : (a b : Fault) (x y : Option Fault) → x ≡ Some a → y ≡ Some b → x ≡ y → a ≡ b
+some_is a b x y is are same = cc
+
+same_fault : (m : ModuleTree) (a b : Fault) → IsFirstTypeFault m a → IsFirstTypeFault m b → a ≡ b
+same_fault m a b is are = some_is a b (first_fault (module_faults m)) (first_fault (module_faults m)) (least_is_first m a is) (least_is_first m b are) refl
+
+pub one_typing : (source : List ℕ) (tokens : List Token) (m : ModuleTree) → HasOne (IsTypedAs source tokens m)
+one_typing source tokens m x y (inl h) (inl g) = h.1 ∙ sym g.1
+one_typing source tokens m x y (inl h) (inr g) = absurd (h.0 g.0.rule g.0.place g.1.fails)
+one_typing source tokens m x y (inr h) (inl g) = absurd (g.0 h.0.rule h.0.place h.1.fails)
+one_typing source tokens m x y (inr h) (inr g) =
+    h.2 ∙ ap (λ (f : Fault). Err (Rule (token_place source tokens f.place) f.rule)) (same_fault m h.0 g.0 h.1 g.1) ∙ sym g.2
+
 -- ---- a source
 
 pub one_reading : (source : List ℕ) (a b : Result ModuleTree SourceFault) → IsReadAs source a → a ≢ Err NoMemory → IsReadAs source b → b ≢ Err NoMemory → a ≡ b
 one_reading source a b (inl h) _ (inl g) _ = one_then (IsLexedAs source) (IsParsedAs source) (one_lexing source) (one_parsing source) a b h g
 one_reading source a b (inr h) some g _ = absurd (some h)
 one_reading source a b (inl h) _ (inr g) some = absurd (some g)
+
+one_then_typed : (source : List ℕ) (tokens : List Token) → HasOne (Then (IsParsedAs source tokens) (IsTypedAs source tokens))
+one_then_typed source tokens = one_then (IsParsedAs source tokens) (IsTypedAs source tokens) (one_parsing source tokens) (one_typing source tokens)
+
+pub one_check : (source : List ℕ) (a b : Result ModuleTree SourceFault) → IsCheckedAs source a → a ≢ Err NoMemory → IsCheckedAs source b → b ≢ Err NoMemory → a ≡ b
+one_check source a b (inl h) _ (inl g) _ =
+    one_then (IsLexedAs source) (λ tokens. Then (IsParsedAs source tokens) (IsTypedAs source tokens)) (one_lexing source) (one_then_typed source) a b h g
+one_check source a b (inr h) some g _ = absurd (some h)
+one_check source a b (inl h) _ (inr g) some = absurd (some g)
+
+-- a fault before typing is the fault of both
+pub fault_stays : (source : List ℕ) (fault : SourceFault) → IsReadAs source (Err fault) → IsCheckedAs source (Err fault)
+fault_stays source fault (inl (inl h)) = inl (inl (h.0, h.1, inr (fault, h.2, refl)))
+fault_stays source fault (inl (inr h)) = inl (inr (h.0, h.1, h.2))
+fault_stays source fault (inr h) = inr h
+
+-- a tree that was read and breaks no rule is what its source is checked as
+pub well_typed_stays : (source : List ℕ) (m : ModuleTree) → IsReadAs source (Ok m) → IsWellTyped m → IsCheckedAs source (Ok m)
+well_typed_stays source m (inl (inl h)) well = inl (inl (h.0, h.1, inl (m, h.2, inl (well, refl))))
+well_typed_stays source m (inl (inr h)) well = absurd (not_both m h.0 (Ok m) (Err h.0) refl refl h.2)
+well_typed_stays source m (inr h) well = absurd (not_both m NoMemory (Ok m) (Err NoMemory) refl refl h)
 
 pub printed_is_read : (m : ModuleTree) → HasTokens m → AllByRecursion IsPrintable (kinds_of m) → IsNested (module_marks m) → IsReadAs (printed (kinds_of m)) (Ok m)
 printed_is_read m has printable nested =

@@ -7,12 +7,15 @@ use Rattle.lynx_tree.specs.Answers.{kinds, IsTreeOf}
 use Rattle.lynx_tree.specs.Faults.{LeavesGrammar, IsTooDeep, IsNowhereTooDeep}
 use Rattle.lynx_tree.specs.Trees.{ModuleTree, module_tree}
 use Rattle.lynx_tree.specs.declared.module.Module.{Module}
+use Rattle.lynx_types.specs.declared.checked.Checked.{Checked}
+use Rattle.lynx_typing.specs.Modules.{IsWellTyped, IsFirstFault as IsFirstTypeFault}
+use Rattle.lynx_typing.specs.Rules.{Fault}
 use Rattle.lynx_source.specs.Places.{place_of}
 use Rattle.lynx_source.specs.declared.place.Place.{Place}
 use Rattle.lynx_source.specs.Stages.{Then}
 use Rattle.lynx_source.specs.declared.reading.Reading.{Reading}
 use Rattle.lynx_source.specs.declared.fault.SourceFault.{SourceFault}
-use Rattle.lynx_source.specs.declared.fault.SourceFault.TheVariants.{Lex, Syntax, Deep, NoMemory}
+use Rattle.lynx_source.specs.declared.fault.SourceFault.TheVariants.{Lex, Syntax, Deep, Rule, NoMemory}
 
 -- the tokens of a source, none of which passes a limit
 abbrev pub AreTokensOf : List ℕ → List Token → Type 0
@@ -39,14 +42,28 @@ IsParsedAs source tokens outcome =
     ⊎ ((token : ℕ) × LeavesGrammar token (kinds tokens) × IsNowhereTooDeep (kinds tokens) × (outcome ≡ Err (Syntax (token_place source tokens token))))
     ⊎ ((token : ℕ) × IsTooDeep token (kinds tokens) × (outcome ≡ Err (Deep (token_place source tokens token))))
 
--- A source is read as the tree of its tokens, or as its first fault. Typing rules, and then the length of the code, are further stages
--- behind these.
+-- the third stage: the same tree where it breaks no typing rule, or the first token at which a rule fails, with the least rule there
+abbrev pub IsTypedAs : List ℕ → List Token → ModuleTree → Result ModuleTree SourceFault → Type 0
+IsTypedAs source tokens m outcome =
+    (IsWellTyped m × (outcome ≡ Ok m))
+    ⊎ ((first : Fault) × IsFirstTypeFault m first × (outcome ≡ Err (Rule (token_place source tokens first.place) first.rule)))
+
+-- A source is read as the tree of its tokens, or as its first fault before typing.
 abbrev pub Reads : List ℕ → Result ModuleTree SourceFault → Type 0
 Reads source = Then (IsLexedAs source) (IsParsedAs source)
 
 -- the same, or want of memory, which comes at any source
 abbrev pub IsReadAs : List ℕ → Result ModuleTree SourceFault → Type 0
 IsReadAs source outcome = Reads source outcome ⊎ (outcome ≡ Err NoMemory)
+
+-- A source is checked as the tree of its tokens where that breaks no typing rule, or as its first fault. The length of the code is a
+-- further stage behind these.
+abbrev pub Checks : List ℕ → Result ModuleTree SourceFault → Type 0
+Checks source = Then (IsLexedAs source) (λ tokens. Then (IsParsedAs source tokens) (IsTypedAs source tokens))
+
+-- the same, or want of memory, which comes at any source
+abbrev pub IsCheckedAs : List ℕ → Result ModuleTree SourceFault → Type 0
+IsCheckedAs source outcome = Checks source outcome ⊎ (outcome ≡ Err NoMemory)
 
 -- a module as its tree
 abbrev pub reading_of : Result Module SourceFault → Result ModuleTree SourceFault
@@ -57,3 +74,8 @@ reading_of (Err fault) = Err fault
 abbrev pub source_reading : Result Reading SourceFault → Result ModuleTree SourceFault
 source_reading (Ok r) = Ok (module_tree r.module)
 source_reading (Err fault) = Err fault
+
+-- a module that breaks no typing rule as its tree
+abbrev pub checked_reading : Result Checked SourceFault → Result ModuleTree SourceFault
+checked_reading (Ok checked) = Ok (module_tree checked)
+checked_reading (Err fault) = Err fault

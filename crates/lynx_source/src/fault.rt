@@ -13,7 +13,7 @@ pub enum SourceFault {
     Syntax { at: Place },
     /// The token that would open a 65th bracket or statement.
     Deep { at: Place },
-    /// The least typing rule, 1 to 24, that fails at the first place where one does. No call gives it yet: typing is not built.
+    /// The least typing rule, 1 to 24, that fails at the first place where one does.
     Rule { at: Place, rule: u8 },
     /// The code has more than 65,535 instructions. No call gives it yet: code is not made.
     CodeTooLong,

@@ -8,11 +8,16 @@ ghost use Rattle.lynx_tree.specs.Faults.{IsNested};
 ghost use Rattle.lynx_tree.specs.Printing.{IsPrintable, printed};
 ghost use Rattle.lynx_source.specs.declared.fault.SourceFault.{SourceFault as ASourceFault};
 ghost use Rattle.lynx_source.specs.declared.fault.SourceFault.TheVariants.{NoMemory};
-ghost use Rattle.lynx_source.specs.Sources.{IsReadAs};
+ghost use Rattle.lynx_source.specs.Sources.{IsReadAs, IsCheckedAs};
 
 /// A source is read as one thing at most: one tree or one fault, unless memory runs out.
 pub fn one_reading()
     ensures { (source : List ℕ) (a b : Result ModuleTree ASourceFault) → IsReadAs source a → a ≢ Err NoMemory → IsReadAs source b → b ≢ Err NoMemory → a ≡ b }
+{}
+
+/// A source is checked as one thing at most: one tree or one fault, unless memory runs out.
+pub fn one_check()
+    ensures { (source : List ℕ) (a b : Result ModuleTree ASourceFault) → IsCheckedAs source a → a ≢ Err NoMemory → IsCheckedAs source b → b ≢ Err NoMemory → a ≡ b }
 {}
 
 /// The text that is printed of a module is read as that module, where it is nested no deeper than may be.

@@ -1,12 +1,14 @@
 //! Modules from their sources: a source is read into the tree of its module, or its first fault is told with its place.
 #![tactic(auto)]
 
+mod checking;
 mod fault;
 mod law;
 mod place;
 mod reading;
 
+pub use checking::check_source;
 pub use fault::SourceFault;
-pub use law::{one_reading, printed_is_read};
+pub use law::{one_check, one_reading, printed_is_read};
 pub use place::Place;
 pub use reading::{Reading, read_module, read_source, token_place};

@@ -12,15 +12,15 @@ ghost use Rattle.lynx_source.specs.Sources.{IsReadAs, AreTokensOf, first_byte, t
 
 use crate::fault::SourceFault;
 use crate::place::{Place, place_of};
-use lynx_lexer::{LexFault, Token, tokens};
-use lynx_syntax::{Module, SyntaxFault, parse};
+use lynx_lexer::{LexFault, Lexemes, read_lexemes};
+use lynx_syntax::{Module, SyntaxFault, parse_lexemes};
 use std::alloc::Global;
 
 /// A module and the tokens that spell it.
 #[derive(Drop)]
 pub struct Reading<'a> {
     pub module: Module<'a>,
-    pub tokens: Vec<Token<'a>>,
+    pub tokens: Lexemes<'a>,
 }
 
 /// Where a lexical fault stands.
@@ -39,16 +39,16 @@ fn lexical(source: &[u8], fault: LexFault) -> SourceFault
 }
 
 /// The first byte of the token of this number; behind the last token, the end of the source.
-fn first_byte(source: &[u8], tokens: &[Token], token: u32) -> usize
+fn first_byte(source: &[u8], tokens: &Lexemes, token: u32) -> usize
     ensures { result ≡ first_byte source.now tokens.now token }
 {
     tokens
-        .get(token as usize)
-        .map_or(source.len(), |token| token.from as usize)
+        .place(token as usize)
+        .map_or(source.len(), |from| from as usize)
 }
 
 /// Where the token of this number, counted from 0, stands; behind the last token, the end of the source.
-pub fn token_place(source: &[u8], tokens: &[Token], token: u32) -> Place
+pub fn token_place(source: &[u8], tokens: &Lexemes, token: u32) -> Place
     requires { length source.now < 4294967295 }
     ensures { result ≡ token_place source.now tokens.now token }
 {
@@ -56,7 +56,7 @@ pub fn token_place(source: &[u8], tokens: &[Token], token: u32) -> Place
 }
 
 /// Where a fault of the grammar or of nesting stands.
-fn syntactic(source: &[u8], tokens: &[Token], fault: SyntaxFault) -> SourceFault
+fn syntactic(source: &[u8], tokens: &Lexemes, fault: SyntaxFault) -> SourceFault
     requires fits { length source.now < 4294967295 }
     requires lexed { AreTokensOf source.now tokens.now }
     requires fault { IsFaultOf (kinds tokens.now) fault }
@@ -78,21 +78,21 @@ fn syntactic(source: &[u8], tokens: &[Token], fault: SyntaxFault) -> SourceFault
 pub fn read_source<'a>(alloc: Global, source: &'a [u8]) -> Result<Reading<'a>, SourceFault>
     requires { length source.now < 4294967295 }
     ensures read { IsReadAs source.now (source_reading result) }
-    ensures tokens { IfOk result (λ r. AreTokensOf source.now r.tokens.items) }
+    ensures tokens { IfOk result (λ r. AreTokensOf source.now r.tokens) }
 
     // The tree has these tokens, fewer than 4,294,967,295, and each is one within the lexer's limits.
     ensures tree { IfOk result (λ r. HasTokens (module_tree r.module)) }
-    ensures kinds { IfOk result (λ r. kinds r.tokens.items ≡ kinds_of (module_tree r.module)) }
+    ensures kinds { IfOk result (λ r. kinds r.tokens ≡ kinds_of (module_tree r.module)) }
     ensures printable { IfOk result (λ r. AllByRecursion IsPrintable (kinds_of (module_tree r.module))) }
     ensures few { IfOk result (λ r. length (kinds_of (module_tree r.module)) < 4294967295) }
 {
-    let tokens = match tokens(alloc, source) {
+    let tokens = match read_lexemes(alloc, source) {
         Ok(tokens) => tokens,
         Err(fault) => return Err(lexical(source, fault)),
     };
-    match parse(alloc, source, tokens.as_slice()) {
+    match parse_lexemes(alloc, source, &tokens) {
         Ok(module) => Ok(Reading { module, tokens }),
-        Err(fault) => Err(syntactic(source, tokens.as_slice(), fault)),
+        Err(fault) => Err(syntactic(source, &tokens, fault)),
     }
 }
 

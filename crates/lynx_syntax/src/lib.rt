@@ -2,7 +2,7 @@
 #![tactic(auto)]
 
 pub use lynx_grammar::one_tree;
-pub use lynx_parser::parse;
+pub use lynx_parser::{parse, parse_lexemes};
 pub use lynx_printer::print;
 pub use lynx_tree::{
     EntryDecl, Expr, Handler, Module, OpDecl, Stmt, SyntaxFault, TermSign, TypeName, VarDecl,

@@ -1,5 +1,4 @@
-use Rattle.std.proofs.Common.{◌∙◌, w64, rules}
-use Rattle.std.proofs.lemmas.Int.{to_z-of_z}
+use Rattle.std.proofs.Common.{refl}
 use Rattle.lynx_lexer.proofs.Stands.{digits_pass, number_stands, number_too_wide}
 use Rattle.lynx_lexer.proofs.front.number_at.Goals as goal
 
@@ -10,4 +9,4 @@ pub returns-in_default-clause-err : goal.returns-in_default-clause-err
 returns-in_default-clause-err c = number_too_wide c.args.bytes.now c.digits_length-length.result c.requires c.digits_length-length.ensures c.in_default.ensures.wide
 
 pub returns-clause-ok : goal.returns-clause-ok
-returns-clause-ok c = number_stands c.args.bytes.now c.digits_length-length.result _ c.requires c.digits_length-length.ensures (to_z-of_z w64 c.in-Some.value (search rules) ∙ c.in-Some.ensures.found) c.in-Some.ensures.fits
+returns-clause-ok c = number_stands c.args.bytes.now c.digits_length-length.result _ c.requires c.digits_length-length.ensures refl c.in-Some.ensures.fits

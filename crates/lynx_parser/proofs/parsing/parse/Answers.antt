@@ -1,26 +1,13 @@
-use Rattle.std.proofs.Common.{List, subst, arith}
-use Rattle.std.specs.List.{AllByRecursion}
-use Rattle.lynx_lexer.specs.declared.token.Kind.{Kind}
-use Rattle.lynx_tree.specs.Answers.{kinds, IsTreeOf}
-use Rattle.lynx_tree.specs.Grammar.{kinds_of}
-use Rattle.lynx_tree.specs.Printing.{IsPrintable}
-use Rattle.lynx_tree.specs.Trees.{module_tree}
-use Rattle.lynx_grammar.proofs.Exact.{gives_fault, gives_too_deep}
-use Rattle.lynx_parser.proofs.Lengths.{tokens_fit}
-use Rattle.lynx_parser.proofs.Printable.{tokens_printable, ok_then}
+use Rattle.std.proofs.Common.{List, sym, subst}
+use Rattle.lynx_lexer.specs.declared.token.Token.{Token}
+use Rattle.lynx_tree.specs.Answers.{kinds}
+use Rattle.lynx_tree.specs.Faults.{LeavesGrammar, IsTooDeep, IsNowhereTooDeep}
 use Rattle.lynx_parser.proofs.parsing.parse.Goals as goal
 
-pub read-requires : goal.read-requires
-read-requires c = omega (arith, tokens_fit c.args.tokens.now c.args.source.now c.requires.spell)
+pub returns-in-Ok-clause-only_fault : goal.returns-in-Ok-clause-only_fault
+returns-in-Ok-clause-only_fault c at leaves nowhere =
+    c.parse_lexemes.ensures.only_fault at (subst (λ (ts : List Token). LeavesGrammar at (kinds ts)) (sym c.in-Ok.ensures) leaves)
+    (subst (λ (ts : List Token). IsNowhereTooDeep (kinds ts)) (sym c.in-Ok.ensures) nowhere)
 
-pub returns-clause-printable : goal.returns-clause-printable
-returns-clause-printable c =
-    let all = tokens_printable c.args.tokens.now c.args.source.now c.requires.spell c.requires.limits in
-    ok_then c.read.result (λ m. IsTreeOf (kinds c.args.tokens.now) (module_tree m)) (λ m. AllByRecursion IsPrintable (kinds_of (module_tree m))) c.read.ensures.found
-    (λ m h. subst (λ (ks : List Kind). AllByRecursion IsPrintable ks) h.0.1 all)
-
-pub returns-clause-only_fault : goal.returns-clause-only_fault
-returns-clause-only_fault c at leaves nowhere = gives_fault (kinds c.args.tokens.now) at c.read.result c.read.ensures.found c.read.ensures.fault leaves nowhere
-
-pub returns-clause-only_too_deep : goal.returns-clause-only_too_deep
-returns-clause-only_too_deep c at deep = gives_too_deep (kinds c.args.tokens.now) at c.read.result c.read.ensures.found c.read.ensures.fault deep
+pub returns-in-Ok-clause-only_too_deep : goal.returns-in-Ok-clause-only_too_deep
+returns-in-Ok-clause-only_too_deep c at deep = c.parse_lexemes.ensures.only_too_deep at (subst (λ (ts : List Token). IsTooDeep at (kinds ts)) (sym c.in-Ok.ensures) deep)

@@ -1,4 +1,4 @@
-use Rattle.std.proofs.Common.{◌≡◌, Err, sym, ap, ◌∙◌, rules}
+use Rattle.std.proofs.Common.{◌≡◌, ℕ, ◌-◌, Err, sym, ap, ◌∙◌, rules}
 use Rattle.lynx_tree.specs.Answers.{kinds}
 use Rattle.lynx_tree.specs.Faults.{most_open}
 use Rattle.lynx_descent.specs.ReadingModules.{whole}
@@ -15,12 +15,12 @@ returns-in-Ok-clause-found c = found (kinds c.args.tokens.now) c.whole.new.self 
 pub returns-in-Err-At-clause-fault : goal.returns-in-Err-At-clause-fault
 returns-in-Err-At-clause-fault c =
     let h : whole most_open (kinds c.args.tokens.now) ≡ Err (refusals.At c.in-Err-At.left) = search rules in
-    left_at c.args.tokens.now c.in-Err-At.left _ c.place.ensures h
+    left_at c.args.tokens.now c.in-Err-At.left _ (c.place.ensures ∙ ap (λ (n : ℕ). n - c.in-Err-At.left) c.len.ensures) h
 
 pub returns-in-Err-TooDeep-clause-fault : goal.returns-in-Err-TooDeep-clause-fault
 returns-in-Err-TooDeep-clause-fault c =
     let h : whole most_open (kinds c.args.tokens.now) ≡ Err (refusals.TooDeep c.in-Err-TooDeep.left) = search rules in
-    deep_at c.args.tokens.now c.in-Err-TooDeep.left _ c.place-in-Err-TooDeep.ensures h
+    deep_at c.args.tokens.now c.in-Err-TooDeep.left _ (c.place-in-Err-TooDeep.ensures ∙ ap (λ (n : ℕ). n - c.in-Err-TooDeep.left) c.len-in-Err-TooDeep.ensures) h
 
 pub returns-in-Ok-clause-only : goal.returns-in-Ok-clause-only
 returns-in-Ok-clause-only c m is = read_is (kinds c.args.tokens.now) c.whole.new.self m (module_tree c.in-Ok.found) is (ap (whole most_open) (sym c.new-reader.ensures) ∙ c.in-Ok.ensures)
