@@ -57,13 +57,13 @@ taken-of : (e : EndId) (n : ℕ) (q : PictureWhat) → IsTakenOf e n q → is_ta
 taken-of e n (packet.Taken f m at hops) is = subst (λ z. end_eq e z ≡ true) (sym is.0) (end_eq-refl e)
 taken-of e n _ is = absurd is
 
-waiting-Waiting : (x : KernelPhase) → is_waiting x ≡ true → x ≡ kernel_phase.Waiting
+pub waiting-Waiting : (x : KernelPhase) → is_waiting x ≡ true → x ≡ kernel_phase.Waiting
 waiting-Waiting kernel_phase.Waiting is = refl
 waiting-Waiting kernel_phase.Running is = absurd (true≢false (sym is))
 waiting-Waiting (kernel_phase.Cancelling e) is = absurd (true≢false (sym is))
 waiting-Waiting kernel_phase.Exited is = absurd (true≢false (sym is))
 
-waiting-service : (x : KernelPhase) → is_waiting x ≡ false → service_phase x ≡ phase.Waiting → ⊥
+pub waiting-service : (x : KernelPhase) → is_waiting x ≡ false → service_phase x ≡ phase.Waiting → ⊥
 waiting-service kernel_phase.Waiting is same = true≢false is
 waiting-service kernel_phase.Running is same = cc
 waiting-service (kernel_phase.Cancelling e) is same = cc
