@@ -1,5 +1,5 @@
 -- The service goes with a Cancel of a send that is not refused, by one step.
-use Rattle.std.proofs.Common.{◌≡◌, ℕ, ◌+◌, ◌<◌, Bool, true, false, not, nat_eq, ◌&&◌, ◌||◌, is_some, if◌then◌else◌, IsTrue, List, [], ◌∷◌, length, Option, Some, None, slice_index, refl, sym, ap, subst, ◌∙◌, true≢false, eq-eqb}
+use Rattle.std.proofs.Common.{◌≡◌, ℕ, ◌+◌, ◌<◌, Bool, true, false, not, ◌&&◌, ◌||◌, is_some, if◌then◌else◌, IsTrue, List, [], ◌∷◌, length, Option, Some, None, slice_index, refl, sym, ap, subst, ◌∙◌, true≢false, eq-eqb}
 use Rattle.charlotte_calls.specs.declared.calls.Answer.TheVariants as answer
 use Rattle.charlotte_calls.specs.declared.calls.Call.TheVariants as call
 use Rattle.charlotte_calls.specs.declared.calls.Cause.{Cause}
@@ -25,7 +25,7 @@ use Rattle.kernel_effects.specs.Effect.{Effect, puts, stays, turns}
 use Rattle.kernel_sound.proofs.Needs.{AllFail, first_of-none, owned-here}
 use Rattle.kernel_sound.specs.Sound.{AreHeldBy, IsSound}
 use Rattle.kernel_step.specs.Actions.{enclosed_of}
-use Rattle.kernel_step.specs.Calls.{cancel_causes, first_of, is_free, is_late, on_owned, outward_activity, refusal}
+use Rattle.kernel_step.specs.Calls.{cancel_causes, is_free, is_late, on_owned, outward_activity, refusal}
 use Rattle.kernel_step.specs.Kernel.{Kernel, has_report, process_of}
 use Rattle.kernel_step.specs.declared.phase.Phase.TheVariants as kernel_phase
 use Rattle.kernel_world.specs.Run.{IsAllowed}
@@ -34,7 +34,6 @@ use Rattle.service_consistent.proofs.Laws.{consistent_after}
 use Rattle.service_step.specs.Ends.{owner, waiting_message}
 use Rattle.service_step.specs.State.{State, is_running}
 use Rattle.service_step.specs.Steps.{IsServiceStep, after_cancel, is_running_owner, may_cancel}
-use Rattle.service_step.specs.declared.state.Outward.{Outward as ServiceOutward}
 use Rattle.service_step.specs.declared.state.Place.{Place}
 use Rattle.service_step.specs.declared.state.Place.TheVariants as place
 use Rattle.world_effects.proofs.Allowed.{performs-allowed}

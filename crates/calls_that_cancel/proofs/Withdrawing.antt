@@ -1,0 +1,237 @@
+-- A granted Cancel of a receive in a world and in the service: which entry changes, which packet is sent, and what its process becomes.
+use Rattle.std.proofs.Common.{◌≡◌, ◌≢◌, ◌⊎◌, ◌↔◌, inl, inr, ℕ, Bool, true, false, nat_eq, ◌||◌, if◌then◌else◌, Contains, refl, sym, ap, subst, ◌∙◌}
+use Rattle.std.proofs.lemmas.Bool.Decides.{eqb_tells}
+use Rattle.std.proofs.lemmas.List.Elements.{All-contains}
+use Rattle.charlotte_calls.specs.Names.{opposite}
+use Rattle.charlotte_calls.specs.declared.calls.Call.TheVariants as call
+use Rattle.charlotte_calls.specs.declared.names.EndId.{EndId}
+use Rattle.charlotte_calls.specs.declared.names.Pid.{Pid}
+use Rattle.charlotte_calls.specs.declared.names.Way.TheVariants as way
+use Rattle.charlotte_calls.specs.declared.picture.MovingPicture.{MovingPicture}
+use Rattle.charlotte_calls.specs.declared.picture.PictureWhat.{PictureWhat}
+use Rattle.charlotte_calls.specs.declared.picture.PictureWhat.TheVariants as packet
+use Rattle.end_table.proofs.EndEq.{end_eq-refl, end_eq-same}
+use Rattle.end_table.specs.Place.{end_eq}
+use Rattle.end_table.specs.Table.{IsHereAnd}
+use Rattle.end_table.specs.declared.entry.Entry.TheVariants as entry
+use Rattle.end_table.specs.declared.entry.HereView.{HereView}
+use Rattle.end_table.specs.declared.entry.Holder.TheVariants as holder
+use Rattle.end_table.specs.declared.entry.Inward.TheVariants as kernel_inward
+use Rattle.kernel_effects.specs.Calls.{withdraw_receive_effect}
+use Rattle.kernel_step.specs.Actions.{hint_kernel}
+use Rattle.kernel_world.specs.World.{World}
+use Rattle.service_lawful.proofs.Turned.{turned, turned-phase}
+use Rattle.service_step.specs.Ends.{is_matched_inward, is_posted}
+use Rattle.service_step.specs.State.{State}
+use Rattle.service_step.specs.declared.state.Inward.{Inward}
+use Rattle.service_step.specs.declared.state.Inward.TheVariants as inward
+use Rattle.service_step.specs.declared.state.Phase.TheVariants as phase
+use Rattle.service_step.specs.declared.state.Place.TheVariants as place
+use Rattle.world_effects.proofs.Aside.{none-taken}
+use Rattle.world_effects.proofs.Lists.{none-there, only-there}
+use Rattle.world_effects.proofs.Packets.{left-was, under_way-after, under_way-still}
+use Rattle.world_effects.specs.Change.{Change, Changes}
+use Rattle.world_effects.specs.Events.{calling}
+use Rattle.world_effects.specs.Under.{IsLeft, IsSent}
+use Rattle.world_meaning.specs.Fields.{Stand, At, Flying, HasFields, IsAskedAs, value_of}
+use Rattle.world_meaning.specs.Invariant.{Invariant, IsPacketRight, IsVoidRight}
+use Rattle.world_meaning.specs.Packets.{IsUnderWay, IsUnwantedOf, Links, links_of, values_of}
+use Rattle.world_meaning.specs.StandsFor.{IsAskedOf, IsEndOf, IsInwardOf, IsOwnedHere, home_of}
+use Rattle.calls_that_send.proofs.Held.{its-view as held-view}
+
+-- process p takes back the receive of this number on an end that it owns, whose view at its kernel k is this; u are the links afterwards
+pub record IsWithdrawing (i : ℕ) (w : World) (s : State) (k : ℕ) (p : Pid) (u : Links) : Type 0 where
+  pub is : Invariant i w s
+  pub view : HereView
+  pub number : ℕ
+  pub here : (w.kernel k).table view.value.end ≡ entry.Here view
+  pub owner : view.holder ≡ holder.Owner p
+  pub posts : view.inward ≡ kernel_inward.Posted number
+  pub alive : view.value.dead ≡ false
+  pub at : home_of s p ≡ k
+  pub running : (s.process p.0).phase ≡ phase.Running
+  pub changes : Changes (links_of w) (calling w k p (call.Cancel view.value.end way.Inward) (withdraw_receive_effect k number view)) u
+
+-- the view of an end as its receive is withdrawn
+abbrev pub withdrawn_view : HereView → ℕ → HereView
+withdrawn_view v r = record v { inward = kernel_inward.Withdrawing r }
+
+-- the packet that tells its opposite so
+abbrev pub sent_unwant : ℕ → HereView → ℕ → PictureWhat
+sent_unwant k v r = packet.Unwant (opposite v.value.end) r k v.value.hops
+
+module _ {i : ℕ} {w : World} {s : State} {k : ℕ} {p : Pid} {u : Links} (x : IsWithdrawing i w s k p u) where
+  abbrev l : Links
+  l = links_of w
+
+  abbrev e : EndId
+  e = x.view.value.end
+
+  abbrev new : HereView
+  new = withdrawn_view x.view x.number
+
+  abbrev unwant : PictureWhat
+  unwant = sent_unwant k x.view x.number
+
+  abbrev c : Change
+  c = calling w k p (call.Cancel x.view.value.end way.Inward) (withdraw_receive_effect k x.number x.view)
+
+  -- ---- packets
+
+  -- a packet that is under way afterwards was so before, or is the unwant
+  pub packet-or : (P : PictureWhat → Type 0) → IsUnderWay u P → IsUnderWay l P ⊎ P unwant
+  packet-or P is = by (under_way-after x.changes P is)
+    where
+      by : IsLeft x.changes P ⊎ IsSent c P → IsUnderWay l P ⊎ P unwant
+      by (inl left) = inl (left-was x.changes P left)
+      by (inr sent) = inr (subst (λ (z : ℕ × PictureWhat). P z.1) (sym (only-there (hint_kernel x.view, unwant) (sent.to, sent.what) sent.there)) sent.is)
+
+  packet-still : (P : PictureWhat → Type 0) → IsUnderWay l P → IsUnderWay u P
+  packet-still P is = under_way-still x.changes P (none-taken c P tt) is
+
+  pub packet-same : (P : PictureWhat → Type 0) → (P unwant → ⊥) → IsUnderWay u P ↔ IsUnderWay l P
+  packet-same P none = (λ is. by (packet-or P is), packet-still P)
+    where
+      by : IsUnderWay l P ⊎ P unwant → IsUnderWay l P
+      by (inl was) = was
+      by (inr is) = absurd (none is)
+
+  -- ---- entries
+
+  pub now-here : u.entry k e ≡ entry.Here new
+  now-here = x.changes.entry e ∙ ap (λ b. if b then entry.Here new else (w.kernel k).table e) (end_eq-refl e)
+
+  pub other-entry : (j : ℕ) (f : EndId) → end_eq e f ≡ false → u.entry j f ≡ l.entry j f
+  other-entry j f apart = by (eqb_tells j k)
+    where
+      by : ((nat_eq j k ≡ true) × (j ≡ k)) ⊎ ((nat_eq j k ≡ false) × (j ≢ k)) → u.entry j f ≡ l.entry j f
+      by (inl at) = subst (λ z. u.entry z f ≡ l.entry z f) (sym at.1) (x.changes.entry f ∙ ap (λ b. if b then entry.Here new else (w.kernel k).table f) apart)
+      by (inr at) = x.changes.others j f at.0
+
+  -- this is the entry of the end
+  pub record IsIts (j : ℕ) (f : EndId) : Type 0 where
+    pub at : j ≡ k
+    pub end : e ≡ f
+    pub was : l.entry j f ≡ entry.Here x.view
+    pub now : u.entry j f ≡ entry.Here new
+
+  pub entry-or : (j : ℕ) (f : EndId) → (u.entry j f ≡ l.entry j f) ⊎ IsIts j f
+  entry-or j f = by (eqb_tells j k) (end_eq e f) refl
+    where
+      by : ((nat_eq j k ≡ true) × (j ≡ k)) ⊎ ((nat_eq j k ≡ false) × (j ≢ k)) → (b : Bool) → end_eq e f ≡ b → (u.entry j f ≡ l.entry j f) ⊎ IsIts j f
+      by (inr at) b is = inl (x.changes.others j f at.0)
+      by (inl at) false is = inl (other-entry j f is)
+      by (inl at) true is =
+          let same : e ≡ f = end_eq-same e f is in
+          inr (record {
+            at = at.1;
+            end = same;
+            was = ap (λ z. l.entry z f) at.1 ∙ ap (l.entry k) (sym same) ∙ x.here;
+            now = ap (λ z. u.entry z f) at.1 ∙ ap (u.entry k) (sym same) ∙ now-here;
+          })
+
+  -- what is true of the view of an end that is here
+  pub here-same : (j : ℕ) (f : EndId) (P : HereView → Type 0) → (P x.view ↔ P new) → IsHereAnd (l.entry j f) P ↔ IsHereAnd (u.entry j f) P
+  here-same j f P same = by (entry-or j f)
+    where
+      by : (u.entry j f ≡ l.entry j f) ⊎ IsIts j f → IsHereAnd (l.entry j f) P ↔ IsHereAnd (u.entry j f) P
+      by (inl is) = (subst (λ z. IsHereAnd z P) (sym is), subst (λ z. IsHereAnd z P) is)
+      by (inr its) = (
+        λ has. subst (λ z. IsHereAnd z P) (sym its.now) (same.0 (subst (λ z. IsHereAnd z P) its.was has)),
+        λ has. subst (λ z. IsHereAnd z P) (sym its.was) (same.1 (subst (λ z. IsHereAnd z P) its.now has)),
+      )
+
+  pub here-still : (j : ℕ) (f : EndId) (P : HereView → Type 0) → (P x.view → P new) → IsHereAnd (l.entry j f) P → IsHereAnd (u.entry j f) P
+  here-still j f P on has = by (entry-or j f)
+    where
+      by : (u.entry j f ≡ l.entry j f) ⊎ IsIts j f → IsHereAnd (u.entry j f) P
+      by (inl same) = subst (λ z. IsHereAnd z P) (sym same) has
+      by (inr its) = subst (λ z. IsHereAnd z P) (sym its.now) (on (subst (λ z. IsHereAnd z P) its.was has))
+
+  -- the fields that an end has it had
+  pub fields-was : (f : EndId) (at : Stand) (m : MovingPicture) → HasFields u f at m → HasFields l f at m
+  fields-was f Flying m has = ((packet-same (λ q. Contains (values_of q) m) (λ is. none-there m is)).0 has.0, has.1)
+  fields-was f (At j) m has = by (entry-or j f)
+    where
+      by : (u.entry j f ≡ l.entry j f) ⊎ IsIts j f → HasFields l f (At j) m
+      by (inl same) = ap value_of (sym same) ∙ has
+      by (inr its) = ap value_of its.was ∙ sym (ap value_of its.now) ∙ has
+
+  -- ---- the end before
+
+  pub placed : (s.ends e).place ≡ place.Owned p
+  placed = (x.is.stands.links.owned e p).1 (subst (λ j. IsOwnedHere p (l.entry j e)) (sym x.at) (subst (IsOwnedHere p) (sym x.here) x.owner))
+
+  pub its-end : IsEndOf l e x.view (s.ends e)
+  its-end = x.is.stands.links.agree e p x.view placed (subst (λ j. l.entry j e ≡ entry.Here x.view) (sym x.at) x.here)
+
+  pub unaware : (s.ends e).noticed ≡ false
+  unaware = its-end.noticed ∙ x.alive
+
+  -- it is here with this view alone
+  pub its-view : (j : ℕ) (P : HereView → Type 0) → IsHereAnd (l.entry j e) P → P x.view
+  its-view j P has = (held-view l s x.is.setting.few x.is.stands.links x.is.links e k x.view j P x.here has).1
+
+  -- its receive is the last that was asked for
+  pub last : x.number ≡ x.view.value.asked
+  last = (x.is.links.asked e).last k x.view x.number x.here (subst (IsAskedAs x.number) (sym x.posts) refl)
+
+  -- no packet tells that it was withdrawn
+  none-withdrawn : (n : ℕ) → IsUnderWay l (IsUnwantedOf e n) → ⊥
+  none-withdrawn n z =
+      by z.packet.what z.is (All-contains (λ q. IsPacketRight l s.ends z.from z.to q.what) (w.packets z.from z.to) z.packet (x.is.links.packets z.from z.to) z.there)
+    where
+      differ : (r : ℕ) → kernel_inward.Posted x.number ≡ kernel_inward.Withdrawing r → ⊥
+      differ r is = cc
+
+      by : (q : PictureWhat) → IsUnwantedOf e n q → IsPacketRight l s.ends z.from z.to q → ⊥
+      by (packet.Unwanted to r at hops) for right =
+          differ r (sym x.posts ∙ its-view z.to (λ v. v.inward ≡ kernel_inward.Withdrawing r) (subst (λ a. IsVoidRight l s.ends z.to a r) for.0 right unaware))
+      by _ for right = absurd for
+
+  -- so in the service it is posted or matched
+  pub asks : IsAskedOf l e x.number (s.ends e).inward
+  asks = subst (λ z. IsInwardOf l e z (s.ends e).inward) x.posts its-end.inward
+
+  pub is-started : (is_posted (s.ends e).inward || is_matched_inward (s.ends e).inward) ≡ true
+  is-started = by (s.ends e).inward asks
+    where
+      by : (z : Inward) → IsAskedOf l e x.number z → (is_posted z || is_matched_inward z) ≡ true
+      by inward.Posted has = refl
+      by (inward.Matched n) has = refl
+      by inward.Withdrawn has = absurd (none-withdrawn x.number has.1)
+      by inward.Idle has = absurd has
+      by inward.Reported has = absurd has
+
+  -- ---- processes
+
+  abbrev pub after : State
+  after = turned s p (phase.Cancelling x.view.value.end)
+
+  running-free : (f : EndId) → (s.process p.0).phase ≡ phase.Cancelling f → ⊥
+  running-free f is = let no : phase.Running ≡ phase.Cancelling f = sym x.running ∙ is in cc
+
+  -- a process in a Cancel is so still, and one that is so afterwards was so, or is the one that cancels
+  pub cancelling-still : (q : Pid) (f : EndId) → (s.process q.0).phase ≡ phase.Cancelling f → (after.process q.0).phase ≡ phase.Cancelling f
+  cancelling-still q f is = by (turned-phase s p (phase.Cancelling e) q.0)
+    where
+      by : ((p.0 ≡ q.0) × ((after.process q.0).phase ≡ phase.Cancelling e)) ⊎ ((p.0 ≢ q.0) × ((after.process q.0).phase ≡ (s.process q.0).phase)) → (after.process q.0).phase ≡ phase.Cancelling f
+      by (inl own) = absurd (running-free f (ap (λ z. (s.process z).phase) own.0 ∙ is))
+      by (inr other) = other.1 ∙ is
+
+  pub cancelling-own : (after.process p.0).phase ≡ phase.Cancelling e
+  cancelling-own = by (turned-phase s p (phase.Cancelling e) p.0)
+    where
+      by : ((p.0 ≡ p.0) × ((after.process p.0).phase ≡ phase.Cancelling e)) ⊎ ((p.0 ≢ p.0) × ((after.process p.0).phase ≡ (s.process p.0).phase)) → (after.process p.0).phase ≡ phase.Cancelling e
+      by (inl own) = own.1
+      by (inr other) = absurd (other.0 refl)
+
+  pub cancelling-was : (q : Pid) (f : EndId) → (after.process q.0).phase ≡ phase.Cancelling f → ((s.process q.0).phase ≡ phase.Cancelling f) ⊎ ((p.0 ≡ q.0) × (e ≡ f))
+  cancelling-was q f is = by (turned-phase s p (phase.Cancelling e) q.0)
+    where
+      same : phase.Cancelling e ≡ phase.Cancelling f → e ≡ f
+      same both = cc
+
+      by : ((p.0 ≡ q.0) × ((after.process q.0).phase ≡ phase.Cancelling e)) ⊎ ((p.0 ≢ q.0) × ((after.process q.0).phase ≡ (s.process q.0).phase)) → ((s.process q.0).phase ≡ phase.Cancelling f) ⊎ ((p.0 ≡ q.0) × (e ≡ f))
+      by (inl own) = inr (own.0, same (sym own.1 ∙ is))
+      by (inr other) = inl (sym other.1 ∙ is)
