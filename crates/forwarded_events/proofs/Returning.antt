@@ -1,5 +1,5 @@
 -- A parcel to an end that is not open goes back with its ends: all clauses on links stay, and the service goes by no step.
-use Rattle.std.proofs.Common.{◌≡◌, ◌≢◌, ◌⊎◌, ◌↔◌, inl, inr, ℕ, ◌+◌, ◌-◌, ◌^◌, ◌<◌, ◌≤◌, Bool, true, false, nat_eq, nat_lt, ◌&&◌, if◌then◌else◌, List, [], ◌∷◌, length, map, Contains, Option, Some, refl, sym, ap, subst, ◌∙◌, arith, true≢false, lt-ltb, ltb-true}
+use Rattle.std.proofs.Common.{◌≡◌, ◌≢◌, ◌⊎◌, ◌↔◌, inl, inr, ℕ, ◌+◌, ◌-◌, ◌^◌, ◌<◌, ◌≤◌, Bool, true, false, nat_eq, nat_lt, ◌&&◌, if◌then◌else◌, List, [], ◌∷◌, length, map, Contains, Option, Some, refl, sym, ap, subst, ◌∙◌, arith, true≢false}
 use Rattle.std.proofs.lemmas.Bool.{and_parts}
 use Rattle.std.proofs.lemmas.Bool.Decides.{eqb_tells}
 use Rattle.std.proofs.lemmas.List.Elements.{All-contains}
@@ -28,36 +28,32 @@ use Rattle.kernel_sound.specs.Sound.{addressee}
 use Rattle.kernel_step.proofs.EnclosedEnds.{second_false}
 use Rattle.kernel_step.specs.Rows.{ends_in, is_here}
 use Rattle.service_lawful.specs.Consistent.{IsConsistent, is_open}
-use Rattle.service_step.specs.Ends.{is_idle, is_living, is_made, is_started_inward, is_taken, matched_message}
+use Rattle.service_step.specs.Ends.{is_living, is_made, is_started_inward, is_taken}
 use Rattle.service_step.specs.Lawful.{message_of}
 use Rattle.service_step.specs.State.{State}
-use Rattle.service_step.specs.declared.state.End.{End}
 use Rattle.service_step.specs.declared.state.Inward.{Inward}
 use Rattle.service_step.specs.declared.state.Inward.TheVariants as inward
-use Rattle.service_step.specs.declared.state.Message.{Message}
-use Rattle.service_step.specs.declared.state.Outward.TheVariants as outward
-use Rattle.service_step.specs.declared.state.Place.{Place}
 use Rattle.service_step.specs.declared.state.Place.TheVariants as place
 use Rattle.world_effects.proofs.Aside.{ends_in-there, not_among}
 use Rattle.world_effects.proofs.Ends.{inward-same, outward-same}
 use Rattle.world_effects.proofs.Lists.{first, first_or_later, later, none-there, only-there}
 use Rattle.world_effects.proofs.NamedAfter.{named-after}
 use Rattle.world_effects.proofs.NamedParts.{brings-names, left-named, left_entry-names, named-values, stays-names, values-named}
-use Rattle.world_effects.proofs.Packets.{each-after, left-was, taken-was, under_way-after, under_way-before, under_way-left, under_way-sent}
+use Rattle.world_effects.proofs.Packets.{each-after, left-was, under_way-after, under_way-before, under_way-left, under_way-sent}
 use Rattle.world_effects.proofs.Sums.{standing-after, sum_over-after}
 use Rattle.world_effects.proofs.Values.{left-each}
 use Rattle.world_effects.specs.Change.{Change, Changes}
 use Rattle.world_effects.specs.Under.{IsLeft, IsSent, IsTaken}
 use Rattle.world_meaning.proofs.Ends.{opposite-twice}
 use Rattle.world_meaning.specs.Fields.{Stand, At, Flying, HasFields, IsAsking, IsNews, IsUnwantOf, value_of}
-use Rattle.world_meaning.specs.Invariant.{AreNamed, AreRight, AreSentOnce, IsBackRight, IsPacketRight, IsParcelRight, IsUnwantedOnce, NamesBelow, is_message_of, is_taken_of, is_unwanted_to}
+use Rattle.world_meaning.specs.Invariant.{AreNamed, AreRight, AreSentOnce, IsBackRight, IsPacketRight, IsParcelRight, NamesBelow, is_message_of, is_taken_of, is_unwanted_to}
 use Rattle.world_meaning.specs.Packets.{Each, IsBackOf, IsParcelFor, IsParcelOf, IsTakenOf, IsUnderWay, IsUnwantedOf, Links, how_many, one_if, values_for, values_of}
 use Rattle.world_meaning.specs.StandsFor.{AreLinksOf, IsEndOf, IsInMessage, IsInwardOf, IsWaitingWith, entry_at, home_of, standing}
 use Rattle.silent_events.proofs.Alike.{some-same}
 use Rattle.silent_events.proofs.Places.{fields-here}
 use Rattle.wanted_events.proofs.Matching.{value-found}
 use Rattle.matched_events.specs.Carrying.{HasLeft, IsAway, IsCarrying, IsTurned}
-use Rattle.matched_events.proofs.Carrying.{asked-carried, away-here, away-value, busy, cancelling-carried, counted-carried, end-carried, few-carried, honest-carried, marked-carried, owned-carried, right-carried, seen, served-carried, still, wanted-carried}
+use Rattle.matched_events.proofs.Carrying.{asked-carried, away-here, away-value, cancelling-carried, counted-carried, few-carried, honest-carried, marked-carried, owned-carried, right-carried, served-carried, still, wanted-carried}
 use Rattle.matched_events.proofs.Sending.{left-away}
 use Rattle.matched_events.proofs.Values.{any-there}
 use Rattle.forwarded_events.specs.Returning.{IsReturning, returning}

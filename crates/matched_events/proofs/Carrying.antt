@@ -1,5 +1,5 @@
 -- Where ends leave in a packet, of what is true of every world all stays that is not about the packet.
-use Rattle.std.proofs.Common.{◌≡◌, ◌⊎◌, ◌↔◌, inl, inr, ℕ, ◌+◌, ◌-◌, ◌^◌, ◌<◌, ◌≤◌, Bool, true, false, min, List, Contains, Some, refl, sym, ap, subst, ◌∙◌, arith, true≢false}
+use Rattle.std.proofs.Common.{◌≡◌, ◌⊎◌, ◌↔◌, inl, inr, ℕ, ◌+◌, ◌-◌, ◌^◌, ◌<◌, ◌≤◌, true, false, min, List, Contains, Some, refl, sym, ap, subst, ◌∙◌, arith, true≢false}
 use Rattle.std.proofs.Math.Nat.{min-le_left}
 use Rattle.charlotte_calls.specs.Names.{opposite}
 use Rattle.charlotte_calls.specs.declared.names.EndId.{EndId}
@@ -21,7 +21,6 @@ use Rattle.service_lawful.specs.Consistent.{is_open}
 use Rattle.service_step.specs.Ends.{is_idle, is_living, is_posted}
 use Rattle.service_step.specs.State.{State}
 use Rattle.service_step.specs.declared.state.End.{End}
-use Rattle.service_step.specs.declared.state.Inward.TheVariants as inward
 use Rattle.service_step.specs.declared.state.Message.{Message}
 use Rattle.service_step.specs.declared.state.Outward.TheVariants as outward
 use Rattle.service_step.specs.declared.state.Place.{Place}
@@ -29,7 +28,7 @@ use Rattle.service_step.specs.declared.state.Place.TheVariants as place
 use Rattle.world_meaning.specs.Fields.{Stand, At, Flying, HasFields, IsAskedAs, IsAsking, IsHeard, IsNews, IsNoMore, IsUnserved, IsUnwantOf, value_of}
 use Rattle.world_meaning.specs.Invariant.{AreAsked, AreCancelling, AreCounted, AreMarked, AreWanted, IsFew, IsHonest, IsPacketRight, IsServed}
 use Rattle.world_meaning.specs.Packets.{IsUnderWay, Links}
-use Rattle.world_meaning.specs.StandsFor.{AreLinksOf, IsEndOf, IsInwardOf, IsOutwardOf, IsOwnedHere, entry_at, home_of}
+use Rattle.world_meaning.specs.StandsFor.{IsEndOf, IsInwardOf, IsOutwardOf, IsOwnedHere, entry_at, home_of}
 use Rattle.matched_events.specs.Carrying.{HasLeft, IsAway, IsCarrying, IsTurned}
 
 -- ---- what is away

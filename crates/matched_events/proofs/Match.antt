@@ -1,6 +1,6 @@
 -- MATCH: an open end counts what is asked of it as served, and the message of its send leaves with its ends. All clauses on links stay,
 -- with the send and the receive matched in the service.
-use Rattle.std.proofs.Common.{◌≡◌, ◌⊎◌, inl, inr, ℕ, ◌+◌, ◌-◌, ◌^◌, ◌<◌, ◌≤◌, Bool, true, false, nat_eq, ◌||◌, if◌then◌else◌, List, [], ◌∷◌, length, Contains, None, refl, sym, ap, subst, ◌∙◌, arith, true≢false, eq-eqb}
+use Rattle.std.proofs.Common.{◌≡◌, ◌⊎◌, inl, inr, ℕ, ◌+◌, ◌-◌, ◌^◌, ◌<◌, ◌≤◌, Bool, true, false, nat_eq, ◌||◌, if◌then◌else◌, List, [], ◌∷◌, length, Contains, None, refl, sym, ap, subst, ◌∙◌, arith}
 use Rattle.std.proofs.Math.Nat.{min-le_left}
 use Rattle.std.specs.List.{list_any}
 use Rattle.charlotte_calls.specs.Names.{opposite}
@@ -10,7 +10,7 @@ use Rattle.charlotte_calls.specs.declared.names.Pid.{Pid}
 use Rattle.charlotte_calls.specs.declared.picture.MovingPicture.{MovingPicture}
 use Rattle.charlotte_calls.specs.declared.picture.PictureWhat.{PictureWhat}
 use Rattle.charlotte_calls.specs.declared.picture.PictureWhat.TheVariants as packet
-use Rattle.end_table.proofs.EndEq.{end_eq-refl, end_eq-same, end_eq-sym}
+use Rattle.end_table.proofs.EndEq.{end_eq-refl, end_eq-same}
 use Rattle.end_table.specs.Entries.{gains_one, left_value}
 use Rattle.end_table.specs.Place.{end_eq}
 use Rattle.end_table.specs.Table.{IfHere, IsHereAnd, IsIdle, IsOfEnd}
@@ -25,13 +25,13 @@ use Rattle.kernel_sound.specs.Sound.{AreHeldBy, IsHeldWell}
 use Rattle.kernel_step.proofs.EnclosedEnds.{first_false, second_false, values_leaving-others}
 use Rattle.kernel_step.specs.Actions.{values_leaving}
 use Rattle.service_lawful.specs.Consistent.{IsConsistent, is_open}
-use Rattle.service_step.specs.Ends.{is_living, is_made, matches}
+use Rattle.service_step.specs.Ends.{is_made, matches}
 use Rattle.service_step.specs.State.{State}
 use Rattle.service_step.specs.Steps.{IsServiceStep}
 use Rattle.service_step.specs.declared.state.Place.{Place}
 use Rattle.service_step.specs.declared.state.Place.TheVariants as place
 use Rattle.world_effects.specs.Change.{Change, Changes}
-use Rattle.world_meaning.proofs.Ends.{apart-false, opposite-apart}
+use Rattle.world_meaning.proofs.Ends.{opposite-apart}
 use Rattle.world_meaning.specs.Fields.{Stand, At, Flying, HasFields, IsAskedAs, IsUnserved, value_of}
 use Rattle.world_meaning.specs.Invariant.{AreRight}
 use Rattle.world_meaning.specs.Packets.{Links}
@@ -51,7 +51,6 @@ use Rattle.matched_events.proofs.Carrying.{fields-was as left-was}
 use Rattle.matched_events.proofs.Sending.{carries, entry-or}
 use Rattle.matched_events.proofs.SentLinks.{links-sent}
 use Rattle.matched_events.proofs.SentRight.{right-sent}
-use Rattle.matched_events.proofs.Values.{held-at}
 
 -- ends that are held in one table are held in another that has the same of them
 held-same : (e : EndId) (t y : EndId → Entry) (xs : List EndId) → ((x : EndId) → end_eq e x ≡ false → y x ≡ t x) → list_any (end_eq e) xs ≡ false → AreHeldBy e t xs → AreHeldBy e y xs
@@ -257,12 +256,3 @@ module _ (i : ℕ) (w : Links) (s : State) (right : AreRight i w s) (links : Are
         by (inl same) = subst (IsOfEnd e) (sym same) (half-of e)
         by (inr (inl away)) = away-own e (entry_at u k e) away.1
         by (inr (inr own)) = subst (IsOfEnd e) (sym own.2) (sym own.0)
-
-    -- an end that the message does not carry, but for the end itself, stays as it was
-    pub now-other : (a : ℕ) (e : EndId) → end_eq mine e ≡ false → (Contains xs e → ⊥) → entry_at u a e ≡ entry_at w a e
-    now-other a e far none = by (entry-or i half s right-half links-half kept few c cleared r n bytes xs to sending u last-half a e)
-      where
-        by : (entry_at u a e ≡ entry_at half a e) ⊎ (Contains xs e × IsAway (entry_at u a e) × (a ≡ k)) ⊎ ((e ≡ mine) × (a ≡ k) × (entry_at u a e ≡ entry.Here (sent_view cleared n))) → entry_at u a e ≡ entry_at w a e
-        by (inl same) = same ∙ half-other a e far
-        by (inr (inl away)) = absurd (none away.0)
-        by (inr (inr own)) = absurd (true≢false (sym (end_eq-refl mine) ∙ subst (λ z. end_eq mine z ≡ false) own.0 far))

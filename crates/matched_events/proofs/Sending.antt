@@ -1,5 +1,5 @@
 -- The message of a send that is matched leaves with its ends: what becomes of entries, packets and fields, and of the service's ends.
-use Rattle.std.proofs.Common.{◌≡◌, ◌≢◌, ◌⊎◌, inl, inr, ℕ, ◌<◌, ◌≤◌, Bool, true, false, nat_eq, if◌then◌else◌, List, [], ◌∷◌, length, Contains, None, Some, refl, sym, ap, subst, ◌∙◌}
+use Rattle.std.proofs.Common.{◌≡◌, ◌≢◌, ◌⊎◌, inl, inr, ℕ, ◌≤◌, Bool, true, false, nat_eq, if◌then◌else◌, List, [], ◌∷◌, length, Contains, None, Some, refl, sym, ap, subst, ◌∙◌}
 use Rattle.std.proofs.lemmas.Bool.Decides.{eqb_tells}
 use Rattle.std.specs.List.{list_any}
 use Rattle.charlotte_calls.specs.Names.{opposite}
@@ -8,8 +8,8 @@ use Rattle.charlotte_calls.specs.declared.names.Pid.{Pid}
 use Rattle.charlotte_calls.specs.declared.picture.MovingPicture.{MovingPicture}
 use Rattle.charlotte_calls.specs.declared.picture.PictureWhat.{PictureWhat}
 use Rattle.charlotte_calls.specs.declared.picture.PictureWhat.TheVariants as packet
-use Rattle.end_table.proofs.EndEq.{end_eq-refl, end_eq-same}
-use Rattle.end_table.specs.Entries.{gains_one, left_entry, left_value}
+use Rattle.end_table.proofs.EndEq.{end_eq-same}
+use Rattle.end_table.specs.Entries.{gains_one, left_entry}
 use Rattle.end_table.specs.Place.{end_eq}
 use Rattle.end_table.specs.Table.{IfHere, IsIdle, IsOfEnd}
 use Rattle.end_table.specs.declared.entry.Entry.{Entry}
@@ -17,11 +17,11 @@ use Rattle.end_table.specs.declared.entry.Entry.TheVariants as entry
 use Rattle.end_table.specs.declared.entry.HereView.{HereView}
 use Rattle.end_table.specs.declared.entry.Holder.TheVariants as holder
 use Rattle.kernel_effects.specs.Actions.{left_of}
-use Rattle.kernel_effects.specs.Effect.{puts, stays, turns}
+use Rattle.kernel_effects.specs.Effect.{stays, turns}
 use Rattle.kernel_step.specs.Actions.{values_leaving}
 use Rattle.service_lawful.specs.Consistent.{IsConsistent}
 use Rattle.service_step.specs.Lawful.{message_of}
-use Rattle.service_step.specs.Ends.{end_eq as service_eq, is_idle, is_made, matched_outward, matches}
+use Rattle.service_step.specs.Ends.{is_idle, is_made, matched_outward, matches}
 use Rattle.service_step.specs.State.{State}
 use Rattle.service_step.specs.declared.state.End.{End}
 use Rattle.service_step.specs.declared.state.Inward.TheVariants as inward
@@ -30,10 +30,10 @@ use Rattle.service_step.specs.declared.state.Outward.TheVariants as outward
 use Rattle.service_step.specs.declared.state.Place.TheVariants as place
 use Rattle.world_effects.proofs.Aside.{not_among}
 use Rattle.world_effects.proofs.Lists.{only-there}
-use Rattle.world_effects.proofs.Packets.{left-was, under_way-after, under_way-sent, under_way-still}
+use Rattle.world_effects.proofs.Packets.{left-was, under_way-after, under_way-still}
 use Rattle.world_effects.specs.Change.{Change, Changes}
 use Rattle.world_effects.specs.Under.{IsLeft, IsSent}
-use Rattle.world_meaning.proofs.Ends.{eq-same, opposite-apart}
+use Rattle.world_meaning.proofs.Ends.{eq-same}
 use Rattle.world_meaning.specs.Fields.{Stand, At, Flying, HasFields, value_of}
 use Rattle.world_meaning.specs.Invariant.{AreRight}
 use Rattle.world_meaning.specs.Packets.{IsUnderWay, Links, values_of}

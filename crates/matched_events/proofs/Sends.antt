@@ -1,5 +1,5 @@
 -- The service goes with a Send that is not refused: where a receive of its opposite is asked for, its message is matched at once.
-use Rattle.std.proofs.Common.{◌≡◌, ◌≢◌, ◌⊎◌, inl, inr, ℕ, ◌+◌, ◌-◌, ◌^◌, ◌<◌, ◌≤◌, Bool, true, false, nat_eq, if◌then◌else◌, List, [], ◌∷◌, ◌++◌, length, Contains, Option, Some, None, slice_index, refl, sym, ap, subst, ◌∙◌, arith, eq-eqb, ne_eqb}
+use Rattle.std.proofs.Common.{◌≡◌, ◌≢◌, ◌⊎◌, inl, inr, ℕ, ◌+◌, ◌^◌, ◌<◌, ◌≤◌, Bool, true, false, nat_eq, if◌then◌else◌, List, [], ◌∷◌, ◌++◌, length, Contains, Option, Some, None, slice_index, refl, sym, ap, subst, ◌∙◌, arith, ne_eqb}
 use Rattle.std.proofs.lemmas.Bool.Decides.{eqb_tells}
 use Rattle.std.specs.List.{list_any}
 use Rattle.charlotte_calls.specs.Names.{opposite}
@@ -27,10 +27,10 @@ use Rattle.end_table.specs.declared.entry.Holder.TheVariants as holder
 use Rattle.kernel_effects.specs.Actions.{held_entry, left_of, match_effect}
 use Rattle.kernel_effects.specs.Calls.{act_effect, effect_on, send_effect, sending_view}
 use Rattle.kernel_effects.specs.Effect.{Effect, puts, stays, turns}
-use Rattle.kernel_sound.proofs.Needs.{AreFree, first_of-none, owned-here, send-free}
+use Rattle.kernel_sound.proofs.Needs.{AreFree, owned-here, send-free}
 use Rattle.kernel_sound.specs.Sound.{AreHeldBy, IsHeldWell, IsSound}
 use Rattle.kernel_step.specs.Actions.{here, value_leaving, values_leaving}
-use Rattle.kernel_step.specs.Calls.{first_of, on_owned, refusal, send_causes}
+use Rattle.kernel_step.specs.Calls.{on_owned, refusal, send_causes}
 use Rattle.kernel_step.specs.Kernel.{Kernel, has_report, process_of}
 use Rattle.kernel_step.specs.declared.phase.Phase.TheVariants as kernel_phase
 use Rattle.kernel_world.specs.Run.{IsAllowed}

@@ -1,5 +1,5 @@
 -- The message of a send that is matched leaves with its ends: links stand for the service, of which the send and the receive are matched.
-use Rattle.std.proofs.Common.{◌≡◌, ◌⊎◌, ◌↔◌, inl, inr, ℕ, ◌+◌, ◌<◌, ◌≤◌, Bool, true, false, if◌then◌else◌, List, [], ◌∷◌, length, Contains, Some, refl, sym, ap, subst, ◌∙◌, arith, true≢false}
+use Rattle.std.proofs.Common.{◌≡◌, ◌⊎◌, ◌↔◌, inl, inr, ℕ, ◌+◌, ◌≤◌, Bool, true, false, if◌then◌else◌, List, [], length, Contains, Some, refl, sym, ap, subst, ◌∙◌, arith, true≢false}
 use Rattle.std.specs.List.{list_any}
 use Rattle.charlotte_calls.specs.Names.{opposite}
 use Rattle.charlotte_calls.specs.declared.names.EndId.{EndId}
@@ -31,7 +31,6 @@ use Rattle.service_step.specs.declared.state.End.{End}
 use Rattle.service_step.specs.declared.state.Inward.TheVariants as inward
 use Rattle.service_step.specs.declared.state.Message.{Message}
 use Rattle.service_step.specs.declared.state.Outward.{Outward}
-use Rattle.service_step.specs.declared.state.Outward.TheVariants as outward
 use Rattle.service_step.specs.declared.state.Place.{Place}
 use Rattle.service_step.specs.declared.state.Place.TheVariants as place
 use Rattle.world_effects.proofs.Aside.{not_among}
@@ -44,7 +43,7 @@ use Rattle.world_meaning.proofs.Ends.{opposite-twice}
 use Rattle.world_meaning.specs.Fields.{IsAskedAs}
 use Rattle.world_meaning.specs.Invariant.{AreRight, is_taken_of}
 use Rattle.world_meaning.specs.Packets.{IsBackOf, IsParcelFor, IsParcelOf, IsTakenOf, IsUnderWay, IsUnwantedOf, Links, how_many, one_if, values_for, values_of}
-use Rattle.world_meaning.specs.StandsFor.{AreLinksOf, IsEnclosed, IsEndOf, IsInMessage, IsInwardOf, IsOutwardOf, IsWaitingWith, entry_at, home_of, standing}
+use Rattle.world_meaning.specs.StandsFor.{AreLinksOf, IsEndOf, IsInMessage, IsInwardOf, IsOutwardOf, IsWaitingWith, entry_at, home_of, standing}
 use Rattle.matched_events.specs.Carrying.{IsAway, IsCarrying}
 use Rattle.matched_events.specs.Sending.{IsSending, departing, sent_view}
 use Rattle.matched_events.proofs.Carrying.{away-here, end-carried, idle-view, owned-carried, place-same, seen, still, was}

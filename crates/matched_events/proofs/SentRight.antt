@@ -1,5 +1,5 @@
 -- The message of a send that is matched leaves with its ends: what is true of every world stays true of its links.
-use Rattle.std.proofs.Common.{◌≡◌, ◌⊎◌, inl, inr, ℕ, ◌+◌, ◌-◌, ◌^◌, ◌<◌, ◌≤◌, Bool, true, false, ◌&&◌, if◌then◌else◌, List, [], ◌∷◌, length, Contains, is_some, refl, sym, ap, subst, ◌∙◌, arith, true≢false, lt-ltb}
+use Rattle.std.proofs.Common.{◌≡◌, ◌⊎◌, inl, inr, ℕ, ◌+◌, ◌-◌, ◌^◌, ◌<◌, ◌≤◌, Bool, true, false, ◌&&◌, if◌then◌else◌, List, length, Contains, is_some, refl, sym, ap, subst, ◌∙◌, arith, true≢false, lt-ltb}
 use Rattle.std.specs.List.{list_all}
 use Rattle.charlotte_calls.specs.Names.{opposite}
 use Rattle.charlotte_calls.specs.Packets.{names_kernels_below}
@@ -9,7 +9,6 @@ use Rattle.charlotte_calls.specs.declared.picture.PictureWhat.{PictureWhat}
 use Rattle.end_table.proofs.EndEq.{end_eq-refl, end_eq-same, end_eq-sym}
 use Rattle.end_table.specs.Place.{end_eq}
 use Rattle.end_table.specs.Table.{IsHereAnd}
-use Rattle.end_table.specs.declared.entry.Entry.TheVariants as entry
 use Rattle.end_table.specs.declared.entry.HereView.{HereView}
 use Rattle.kernel_effects.specs.Actions.{left_of}
 use Rattle.kernel_effects.specs.Effect.{stays, turns}
@@ -19,7 +18,6 @@ use Rattle.service_lawful.specs.Consistent.{IsConsistent, is_open}
 use Rattle.service_step.specs.Ends.{is_living, is_made, is_posted, is_taken, matched_message}
 use Rattle.service_step.specs.State.{State}
 use Rattle.service_step.specs.declared.state.End.{End}
-use Rattle.service_step.specs.declared.state.Inward.{Inward}
 use Rattle.service_step.specs.declared.state.Inward.TheVariants as inward
 use Rattle.service_step.specs.declared.state.Message.{Message}
 use Rattle.service_step.specs.declared.state.Outward.{Outward}
@@ -31,9 +29,9 @@ use Rattle.world_effects.proofs.NamedParts.{left_of-names, leaving-named, named-
 use Rattle.world_effects.proofs.Packets.{each-after}
 use Rattle.world_effects.proofs.Sums.{sum_over-after}
 use Rattle.world_effects.specs.Change.{Change, Changes}
-use Rattle.world_meaning.proofs.Ends.{opposite-apart, opposite-twice}
-use Rattle.world_meaning.specs.Fields.{Stand, At, HasFields, IsAskedAs, IsAsking, IsNews, IsUnserved, IsUnwantOf, value_of}
-use Rattle.world_meaning.specs.Invariant.{AreNamed, AreRight, AreSentOnce, AreWanted, IsFew, IsPacketRight, IsParcelRight, IsServed, IsUnwantedOnce, NamesBelow, is_message_of, is_taken_of, is_unwanted_to}
+use Rattle.world_meaning.proofs.Ends.{opposite-twice}
+use Rattle.world_meaning.specs.Fields.{Stand, At, HasFields, IsAskedAs, IsAsking, IsNews, IsUnserved, IsUnwantOf}
+use Rattle.world_meaning.specs.Invariant.{AreNamed, AreRight, AreSentOnce, AreWanted, IsPacketRight, IsParcelRight, IsServed, IsUnwantedOnce, NamesBelow, is_message_of, is_taken_of, is_unwanted_to}
 use Rattle.world_meaning.specs.Packets.{Each, IsUnderWay, Links, how_many, one_if}
 use Rattle.world_meaning.specs.StandsFor.{AreLinksOf, entry_at}
 use Rattle.silent_events.proofs.Places.{fields-here}

@@ -1,13 +1,10 @@
 -- What a packet and a call do leaves the table of a kernel sound, whatever they are.
-use Rattle.std.proofs.Common.{◌≡◌, ℕ, ◌<◌, Bool, true, List, [], None, refl, sym, subst, ◌∙◌}
-use Rattle.charlotte_calls.specs.declared.calls.Call.{Call}
+use Rattle.std.proofs.Common.{◌≡◌, ℕ, true, [], refl, sym, subst, ◌∙◌}
 use Rattle.charlotte_calls.specs.declared.names.EndId.{EndId}
-use Rattle.charlotte_calls.specs.declared.names.Pid.{Pid}
 use Rattle.charlotte_calls.specs.declared.picture.PictureWhat.{PictureWhat}
 use Rattle.end_table.specs.declared.entry.Entry.{Entry}
-use Rattle.kernel_effects.specs.Calls.{act_effect}
 use Rattle.kernel_effects.specs.Rows.{row_effect, values_in}
-use Rattle.kernel_outcomes.proofs.Events.{acts-does, row-does}
+use Rattle.kernel_outcomes.proofs.Events.{row-does}
 use Rattle.kernel_sound.proofs.Goes.{GoesWell}
 use Rattle.kernel_sound.proofs.Rows.{row-well}
 use Rattle.kernel_sound.specs.Sound.{IsSound}

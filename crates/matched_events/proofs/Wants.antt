@@ -1,8 +1,6 @@
 -- A want is taken at an open end that is here, did not serve that receive yet, and has a send that waits: the service goes by their match.
-use Rattle.std.proofs.Common.{◌≡◌, ◌⊎◌, inl, inr, ℕ, ◌+◌, ◌^◌, ◌<◌, ◌≤◌, Bool, true, false, nat_lt, if◌then◌else◌, List, [], ◌∷◌, ◌++◌, length, Contains, None, refl, sym, ap, subst, ◌∙◌, arith, lt-ltb, ltb-false, ltb-true}
-use Rattle.std.proofs.lemmas.Bool.{and_parts}
+use Rattle.std.proofs.Common.{◌≡◌, ◌⊎◌, inl, inr, ℕ, ◌+◌, ◌^◌, ◌<◌, ◌≤◌, Bool, true, false, nat_lt, if◌then◌else◌, List, [], ◌∷◌, ◌++◌, length, Contains, refl, sym, ap, subst, ◌∙◌, arith, lt-ltb, ltb-false, ltb-true}
 use Rattle.charlotte_calls.specs.Names.{opposite}
-use Rattle.charlotte_calls.specs.Packets.{names_kernels_below}
 use Rattle.charlotte_calls.specs.declared.calls.ServiceStep.TheVariants as step
 use Rattle.charlotte_calls.specs.declared.names.EndId.{EndId}
 use Rattle.charlotte_calls.specs.declared.names.Pid.{Pid}
@@ -12,20 +10,19 @@ use Rattle.charlotte_calls.specs.declared.picture.PictureWhat.{PictureWhat}
 use Rattle.charlotte_calls.specs.declared.picture.PictureWhat.TheVariants as packet
 use Rattle.end_table.specs.Entries.{is_news, learned}
 use Rattle.end_table.specs.Place.{end_eq}
-use Rattle.end_table.specs.Table.{IfHere, IsHereAnd, IsOfEnd}
+use Rattle.end_table.specs.Table.{IfHere, IsOfEnd}
 use Rattle.end_table.specs.declared.entry.Entry.{Entry}
 use Rattle.end_table.specs.declared.entry.Entry.TheVariants as entry
 use Rattle.end_table.specs.declared.entry.HereView.{HereView}
-use Rattle.end_table.specs.declared.entry.Outward.{Outward}
 use Rattle.end_table.specs.declared.entry.Outward.TheVariants as outward
-use Rattle.kernel_effects.specs.Actions.{learn_effect, left_of, match_effect, match_waiting_effect, parcel_packets}
+use Rattle.kernel_effects.specs.Actions.{learn_effect, left_of, match_effect, match_waiting_effect}
 use Rattle.kernel_effects.specs.Effect.{Effect, nothing, puts, sent, stays, turns}
 use Rattle.kernel_effects.specs.Rows.{row_effect, view_news, want_effect, wants_effect}
 use Rattle.kernel_sound.specs.Sound.{AreHeldBy, IsHeldWell}
 use Rattle.kernel_step.specs.Actions.{enclosed_of, learned_view, values_leaving}
 use Rattle.kernel_world.specs.World.{Takes, World, happens}
 use Rattle.service_consistent.proofs.Laws.{consistent_after}
-use Rattle.service_lawful.specs.Consistent.{IsConsistent, is_open}
+use Rattle.service_lawful.specs.Consistent.{IsConsistent}
 use Rattle.service_step.specs.Ends.{is_living, is_made, matches}
 use Rattle.service_step.specs.State.{State}
 use Rattle.service_step.specs.Steps.{IsServiceStep}
@@ -36,9 +33,9 @@ use Rattle.world_effects.specs.Events.{taking}
 use Rattle.world_effects.specs.Under.{IsTaken}
 use Rattle.world_meaning.proofs.Ends.{opposite-twice}
 use Rattle.world_meaning.proofs.Goes.{Goes}
-use Rattle.world_meaning.specs.Fields.{Stand, At, HasFields, IsAsking, IsNews, IsUnserved, value_of}
+use Rattle.world_meaning.specs.Fields.{Stand, At, HasFields, IsNews, IsUnserved, value_of}
 use Rattle.world_meaning.specs.Invariant.{AreRight, Invariant, IsFew, NamesBelow}
-use Rattle.world_meaning.specs.Packets.{IsUnderWay, Links, links_of}
+use Rattle.world_meaning.specs.Packets.{Links, links_of}
 use Rattle.world_meaning.specs.StandsFor.{AreLinksOf, entry_at}
 use Rattle.silent_events.proofs.Clauses.{fields-was, links-still}
 use Rattle.silent_events.proofs.Hearing.{IsHearing, hears, learns-so}

@@ -8,5 +8,4 @@ pub mod Kept
 pub mod Wanting
 pub mod Cleared
 pub mod Matching
-pub mod Sent
 pub mod Matched
