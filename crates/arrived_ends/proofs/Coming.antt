@@ -43,6 +43,7 @@ use Rattle.answered_events.specs.Swapped.{instead, swapped}
 use Rattle.answered_events.proofs.Swap.{left-there, swapped-after, swapped-sum}
 use Rattle.arrived_ends.specs.Arrived.{IsAmong, IsLaden, arrived, emptied, settles, unladen, without_values}
 use Rattle.arrived_ends.proofs.Among.{among-contains, among-least, among-none, among-told, brings-case, told-among}
+use Rattle.arrived_ends.proofs.Between.{kernels-below}
 use Rattle.arrived_ends.proofs.Emptied.{emptied-values}
 
 -- a packet that carries a message says which
@@ -85,11 +86,7 @@ module _ {i : ℕ} {w v : Links} {c : Change} {b : Changes w c v} {from : ℕ} {
   stood = taken-before b from q ready.taken
 
   pub between : (j h : ℕ) (z : Picture) → Contains (w.packets j h) z → (j < length s.made) × (h < length s.made)
-  between j h z has = (by j (λ far. ready.right.named.lists j h (inl far)) (leb_tells (length s.made) j), by h (λ far. ready.right.named.lists j h (inr far)) (leb_tells (length s.made) h))
-    where
-      by : (a : ℕ) → (length s.made ≤ a → w.packets j h ≡ []) → ((leb (length s.made) a ≡ true) × (length s.made ≤ a)) ⊎ ((leb (length s.made) a ≡ false) × (a < length s.made)) → a < length s.made
-      by a none (inl far) = absurd (none-there z (subst (λ l. Contains l z) (none far.1) has))
-      by a none (inr near) = near.1
+  between = kernels-below (length s.made) w s.ends ready.right.named
 
   pub near : (from < length s.made) × (k < length s.made)
   near = between from k q stood

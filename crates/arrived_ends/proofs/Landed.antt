@@ -49,16 +49,12 @@ use Rattle.world_meaning.specs.StandsFor.{AreLinksOf, IsEndOf, IsInMessage, IsIn
 use Rattle.silent_events.proofs.Alike.{some-same}
 use Rattle.answered_events.specs.Swapped.{instead}
 use Rattle.answered_events.proofs.Swap.{swapped-each, swapped-sum}
+use Rattle.noticed_events.proofs.Noticed.{holder-same, owner-same}
 use Rattle.arrived_ends.specs.Arrived.{IsAmong, IsLaden, emptied, settles, without_values}
 use Rattle.arrived_ends.proofs.Among.{among-contains, among-none, contains-among, each-value, told-among}
+use Rattle.arrived_ends.proofs.Between.{none-in}
 use Rattle.arrived_ends.proofs.Coming.{arrival, came, each-owner, end-alone, entry-came, entry-case, fields-before, fields-were, flies, here-before, here-landed, idle, inside, landed, landed-after, landed-number, landed-same, landed-still, landed-was, left-landed, living, low, low-from, message-alone, near, never-here, no-mark, not-here, one-value, owners, owners-sender, packed, sender-apart, stood, values}
 use Rattle.arrived_ends.proofs.Emptied.{emptied-addressed, emptied-asking, emptied-message, emptied-news, emptied-parcel_for, emptied-taken, emptied-telling, emptied-to, emptied-unwant, emptied-unwanted, emptied-values, emptied-voids}
-
-owner-same : (p o : Pid) → place.Owned p ≡ place.Owned o → p ≡ o
-owner-same p o same = cc
-
-holder-same : (p o : Pid) → holder.Owner p ≡ holder.Owner o → p ≡ o
-holder-same p o same = cc
 
 message-same : (m o : Message) → outward.Matched m ≡ outward.Matched o → m ≡ o
 message-same m o same = cc
@@ -73,10 +69,6 @@ pub named-value : (n : ℕ) (what : PictureWhat) (m : MovingPicture) → is_addr
 named-value n (packet.Parcel to o w at hops bytes ms) m is has = each-value (names_kernels_below n) ms m (and_parts _ _ is).1 has
 named-value n (packet.Back to o ms) m is has = each-value (names_kernels_below n) ms m is has
 named-value n _ m is has = absurd (none-there m has)
-
-none-in : {X : Type 0} (xs : List X) → ((x : X) → Contains xs x → ⊥) → xs ≡ []
-none-in [] none = refl
-none-in (x ∷ xs) none = absurd (none x (0, omega arith, refl))
 
 module _ {i : ℕ} {w v : Links} {c : Change} {b : Changes w c v} {from : ℕ} {q : Picture} {s : State} {f : EndId} (ready : IsLaden i b from q s f) (p : Pid) (home : home_of s p ≡ c.kernel) where
   abbrev k : ℕ

@@ -1,3 +1,4 @@
+pub mod Between
 pub mod Emptied
 pub mod Among
 pub mod Coming

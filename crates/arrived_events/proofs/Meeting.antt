@@ -34,27 +34,43 @@ use Rattle.world_effects.specs.Under.{IsLeft, IsSent}
 use Rattle.world_meaning.proofs.Ends.{opposite-apart, opposite-twice}
 use Rattle.world_meaning.specs.Fields.{Stand, At, Flying, HasFields, IsAskedAs, value_of}
 use Rattle.world_meaning.specs.Invariant.{IsPacketRight, IsParcelRight, is_message_of}
-use Rattle.world_meaning.specs.Packets.{IsParcelFor, IsUnderWay, IsUnwantedOf, Links, how_many, one_if, sum_over, values_of}
+use Rattle.world_meaning.specs.Packets.{Each, IsParcelFor, IsUnderWay, IsUnwantedOf, Links, how_many, one_if, sum_over, values_of}
 use Rattle.world_meaning.specs.StandsFor.{IsAskedOf, IsEndOf, IsInwardOf, home_of}
 use Rattle.silent_events.proofs.Alike.{some-same}
 use Rattle.silent_events.proofs.Places.{here-kernel}
 use Rattle.answered_events.specs.Swapped.{instead, news, swapped}
 use Rattle.answered_events.proofs.Swap.{swapped-after, swapped-still, swapped-sum}
 use Rattle.answered_events.proofs.Turned.{turned_view, with_entry}
+use Rattle.arrived_ends.proofs.Between.{kernels-below}
 use Rattle.arrived_events.specs.Received.{IsReceived, IsReceiving, answering, bare_parcel}
 
 -- the receive that is started at an entry
-pub asked-inward : (w : Links) (e : EndId) (r : ℕ) (out : KernelInward) (x : Inward) → IsAskedAs r out → IsInwardOf w e out x → IsAskedOf w e r x
+asked-inward : (w : Links) (e : EndId) (r : ℕ) (out : KernelInward) (x : Inward) → IsAskedAs r out → IsInwardOf w e out x → IsAskedOf w e r x
 asked-inward w e r (kernel_inward.Posted a) x asked is = subst (λ z. IsAskedOf w e z x) asked is
 asked-inward w e r (kernel_inward.Withdrawing a) x asked is = subst (λ z. IsAskedOf w e z x) asked is
 asked-inward w e r _ x asked is = absurd asked
 
 -- while a parcel for it is under way it is matched, and no unwanted for it is under way
-pub parcel-matched : (w : Links) (e : EndId) (r n : ℕ) (x : Inward) → IsUnderWay w (IsParcelFor e r n) → IsAskedOf w e r x → (a : ℕ) × (x ≡ inward.Matched a) × IsUnderWay w (IsParcelFor e r a) × (IsUnderWay w (IsUnwantedOf e r) → ⊥)
+parcel-matched : (w : Links) (e : EndId) (r n : ℕ) (x : Inward) → IsUnderWay w (IsParcelFor e r n) → IsAskedOf w e r x → (a : ℕ) × (x ≡ inward.Matched a) × IsUnderWay w (IsParcelFor e r a) × (IsUnderWay w (IsUnwantedOf e r) → ⊥)
 parcel-matched w e r n (inward.Matched a) under is = (a, refl, is.0, is.1)
 parcel-matched w e r n inward.Withdrawn under is = absurd (is.0 n under)
 parcel-matched w e r n inward.Posted under is = absurd (is.0 n under)
 parcel-matched w e r n _ under is = absurd is
+
+-- a parcel for a receive that is started says which message that is matched with
+pub parcel-meets : (w : Links) (t : EndId → End) → Each w (λ from to q. IsPacketRight w t from to q) → (e : EndId) (r n : ℕ) (v : HereView) → (t (opposite e)).sent ≡ n → IsUnderWay w (IsParcelFor e r n) → IsAskedAs r v.inward → IsInwardOf w e v.inward (t e).inward
+    → ((t e).inward ≡ inward.Matched n) × (IsUnderWay w (IsUnwantedOf e r) → ⊥)
+parcel-meets w t each e r n v number under asked agrees = by (parcel-matched w e r n (t e).inward under (asked-inward w e r v.inward (t e).inward asked agrees))
+  where
+    says : (from to : ℕ) (what : PictureWhat) (a : ℕ) → IsParcelFor e r a what → IsPacketRight w t from to what → (t (opposite e)).sent ≡ a
+    says from to (packet.Parcel f m a j h xs ms) b is its = ap (λ z. (t (opposite z)).sent) (sym is.0) ∙ its.number ∙ is.2
+    says from to _ b is its = absurd is
+
+    by : (a : ℕ) × ((t e).inward ≡ inward.Matched a) × IsUnderWay w (IsParcelFor e r a) × (IsUnderWay w (IsUnwantedOf e r) → ⊥) → ((t e).inward ≡ inward.Matched n) × (IsUnderWay w (IsUnwantedOf e r) → ⊥)
+    by found =
+        let u = found.2 in
+        let same = says u.from u.to u.packet.what found.0 u.is (All-contains (λ z. IsPacketRight w t u.from u.to z.what) (w.packets u.from u.to) u.packet (each u.from u.to) u.there) in
+        (found.1 ∙ ap inward.Matched (sym same ∙ number), found.3)
 
 module _ {i : ℕ} {w v : Links} {c : Change} {b : Changes w c v} {from stamp : ℕ} {s : State} {to : EndId} {n r at hops : ℕ} {bytes : List ℕ} {p : Pid} {o : HereView} (ready : IsReceiving i b from stamp s to n r at hops bytes p o) where
   abbrev k : ℕ
@@ -69,12 +85,8 @@ module _ {i : ℕ} {w v : Links} {c : Change} {b : Changes w c v} {from stamp : 
   pub stood : Contains (w.packets from k) q
   stood = taken-before b from q ready.taken
 
-  pub between : (j h : ℕ) (z : Picture) → Contains (w.packets j h) z → (j < length s.made) × (h < length s.made)
-  between j h z has = (by j (λ far. ready.right.named.lists j h (inl far)) (leb_tells (length s.made) j), by h (λ far. ready.right.named.lists j h (inr far)) (leb_tells (length s.made) h))
-    where
-      by : (a : ℕ) → (length s.made ≤ a → w.packets j h ≡ []) → ((leb (length s.made) a ≡ true) × (length s.made ≤ a)) ⊎ ((leb (length s.made) a ≡ false) × (a < length s.made)) → a < length s.made
-      by a none (inl far) = absurd (none-there z (subst (λ l. Contains l z) (none far.1) has))
-      by a none (inr near) = near.1
+  between : (j h : ℕ) (z : Picture) → Contains (w.packets j h) z → (j < length s.made) × (h < length s.made)
+  between = kernels-below (length s.made) w s.ends ready.right.named
 
   pub near : (from < length s.made) × (k < length s.made)
   near = between from k q stood
@@ -99,25 +111,20 @@ module _ {i : ℕ} {w v : Links} {c : Change} {b : Changes w c v} {from stamp : 
   pub agrees : IsEndOf w to o (s.ends to)
   agrees = ready.links.agree to p o ready.owned (subst (λ j. w.entry j to ≡ entry.Here o) (sym ready.home) ready.here)
 
-  matched : (a : ℕ) × ((s.ends to).inward ≡ inward.Matched a) × IsUnderWay w (IsParcelFor to r a) × (IsUnderWay w (IsUnwantedOf to r) → ⊥)
+  matched : ((s.ends to).inward ≡ inward.Matched n) × (IsUnderWay w (IsUnwantedOf to r) → ⊥)
   matched =
-      parcel-matched w to r n (s.ends to).inward (record { from = from; to = k; packet = q; there = stood; is = (refl, refl, refl) })
-      (asked-inward w to r o.inward (s.ends to).inward ready.asked agrees.inward)
+      parcel-meets w s.ends ready.right.packets to r n o is-right.number (record { from = from; to = k; packet = q; there = stood; is = (refl, refl, refl) }) ready.asked agrees.inward
 
   -- it is matched with this message
   pub is-matched : (s.ends to).inward ≡ inward.Matched n
-  is-matched = matched.1 ∙ ap inward.Matched (sym (number matched.2.packet.what matched.2.is (All-contains (λ z. IsPacketRight w s.ends matched.2.from matched.2.to z.what) (w.packets matched.2.from matched.2.to) matched.2.packet (ready.right.packets matched.2.from matched.2.to) matched.2.there)) ∙ is-right.number)
-    where
-      number : (what : PictureWhat) → IsParcelFor to r matched.0 what → IsPacketRight w s.ends matched.2.from matched.2.to what → (s.ends sender).sent ≡ matched.0
-      number (packet.Parcel e m a j h xs ms) is right = ap (λ z. (s.ends (opposite z)).sent) (sym is.0) ∙ right.number ∙ is.2
-      number _ is right = absurd is
+  is-matched = matched.0
 
   pub not-posted : is_posted (s.ends to).inward ≡ true → ⊥
   not-posted is = true≢false (sym is ∙ ap is_posted is-matched)
 
   -- no unwanted for it is under way
   pub no-unwanted : IsUnderWay w (IsUnwantedOf to r) → ⊥
-  no-unwanted = matched.3
+  no-unwanted = matched.1
 
   -- ---- the links then
 

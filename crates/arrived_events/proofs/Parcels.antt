@@ -87,7 +87,7 @@ use Rattle.arrived_ends.proofs.Closes.{answered-goes, quietly, reported-goes, un
 use Rattle.arrived_ends.proofs.Comes.{values-come, values-differ}
 use Rattle.arrived_ends.proofs.Coming.{arrival, entry-came, here-landed, inside, landed, living, never-here, owners, owners-came, owners-other, owners-sender, sender-apart}
 use Rattle.arrived_ends.proofs.Landed.{landed-links, landed-right, living-same, made-same, named-value, noticed-same, place-stays}
-use Rattle.arrived_events.proofs.Meeting.{asked-inward, at-below, informed, near, parcel-matched}
+use Rattle.arrived_events.proofs.Meeting.{at-below, informed, near, parcel-meets}
 use Rattle.arrived_ends.proofs.Moves.{moves-links, moves-right}
 use Rattle.arrived_ends.proofs.Owned.{busy-owned}
 use Rattle.arrived_events.proofs.Received.{received-links, received-right}
@@ -152,17 +152,8 @@ module _ (i : ℕ) (w : World) (s : State) (is : Invariant i w s) (k from stamp 
 
   -- ---- the service
 
-  matched : (a : ℕ) × ((s.ends to).inward ≡ inward.Matched a) × IsUnderWay (links_of w) (IsParcelFor to r a) × (IsUnderWay (links_of w) (IsUnwantedOf to r) → ⊥)
-  matched =
-      parcel-matched (links_of w) to r n (s.ends to).inward (record { from = from; to = k; packet = q; there = stood; is = (refl, refl, refl) })
-      (asked-inward (links_of w) to r v.inward (s.ends to).inward asked o.agree.inward)
-
   receives : (s.ends to).inward ≡ inward.Matched n
-  receives = matched.1 ∙ ap inward.Matched (sym (number matched.2.packet.what matched.2.is (All-contains (λ z. IsPacketRight (links_of w) s.ends matched.2.from matched.2.to z.what) (w.packets matched.2.from matched.2.to) matched.2.packet (is.links.packets matched.2.from matched.2.to) matched.2.there)) ∙ right.number)
-    where
-      number : (what : PictureWhat) → IsParcelFor to r matched.0 what → IsPacketRight (links_of w) s.ends matched.2.from matched.2.to what → (s.ends f).sent ≡ matched.0
-      number (packet.Parcel e m a j h xs os) is its = ap (λ z. (s.ends (opposite z)).sent) (sym is.0) ∙ its.number ∙ is.2
-      number _ is its = absurd is
+  receives = (parcel-meets (links_of w) s.ends is.links.packets to r n v right.number (record { from = from; to = k; packet = q; there = stood; is = (refl, refl, refl) }) asked o.agree.inward).0
 
   unnoticed : (s.ends to).noticed ≡ false
   unnoticed = by (s.ends to).noticed refl

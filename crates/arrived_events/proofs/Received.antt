@@ -50,12 +50,9 @@ use Rattle.silent_events.proofs.Places.{fields-here}
 use Rattle.answered_events.specs.Swapped.{instead, news}
 use Rattle.answered_events.proofs.Swap.{swapped-each}
 use Rattle.answered_events.proofs.Turned.{with_entry}
+use Rattle.arrived_ends.proofs.Between.{none-in}
 use Rattle.arrived_events.specs.Received.{IsReceived, IsReceiving, answering, bare_parcel}
 use Rattle.arrived_events.proofs.Meeting.{agrees, at-below, informed, is-matched, is-right, low, low-from, met-after, met-alone, met-case, met-fields, met-number, met-still, met-sum, met-was, near, no-unwanted, not-posted, only-here, over_view, said, sender, stood, view-case, view-still, view-was, was-there}
-
-none-in : {X : Type 0} (xs : List X) → ((x : X) → Contains xs x → ⊥) → xs ≡ []
-none-in [] none = refl
-none-in (x ∷ xs) none = absurd (none x (0, omega arith, refl))
 
 -- the service says that the message of a send was taken, once a taken for it is under way
 taken-then : (w z : Links) (e : EndId) (n : ℕ) (x : KernelOutward) (m : Message) → IsUnderWay z (IsTakenOf e n) → IsOutwardOf w e n x (outward.Matched m) → IsOutwardOf z e n x outward.Taken

@@ -46,11 +46,8 @@ use Rattle.world_meaning.specs.Packets.{Each, IsBackOf, IsParcelFor, IsParcelOf,
 use Rattle.world_meaning.specs.StandsFor.{AreLinksOf, IsEndOf, IsInMessage, IsWaitingWith, home_of, standing}
 use Rattle.silent_events.proofs.Alike.{some-same}
 use Rattle.silent_events.proofs.Places.{here-kernel}
+use Rattle.arrived_ends.proofs.Between.{kernels-below, none-in}
 use Rattle.returned_events.specs.Returned.{IsReturned, IsReturning, bare_back, over_view, returning}
-
-none-in : {X : Type 0} (xs : List X) → ((x : X) → Contains xs x → ⊥) → xs ≡ []
-none-in [] none = refl
-none-in (x ∷ xs) none = absurd (none x (first x xs))
 
 module _ {i : ℕ} {w : Links} {c : Change} {from stamp : ℕ} {s : State} {to : EndId} {n : ℕ} {o : HereView} (ready : IsReturning i w c from stamp s to n o) (z : Links) (b : Changes w (returning c to o) z) (t : EndId → End) (g : ℕ → Process) (is : IsReturned s to t g) where
   abbrev k : ℕ
@@ -71,11 +68,7 @@ module _ {i : ℕ} {w : Links} {c : Change} {from stamp : ℕ} {s : State} {to :
   stood = taken-before b from q ready.taken
 
   between : (j h : ℕ) (a : Picture) → Contains (w.packets j h) a → (j < length s.made) × (h < length s.made)
-  between j h a has = (by j (λ far. ready.right.named.lists j h (inl far)) (leb_tells (length s.made) j), by h (λ far. ready.right.named.lists j h (inr far)) (leb_tells (length s.made) h))
-    where
-      by : (x : ℕ) → (length s.made ≤ x → w.packets j h ≡ []) → ((leb (length s.made) x ≡ true) × (length s.made ≤ x)) ⊎ ((leb (length s.made) x ≡ false) × (x < length s.made)) → x < length s.made
-      by x none (inl far) = absurd (none-there a (subst (λ l. Contains l a) (none far.1) has))
-      by x none (inr near) = near.1
+  between = kernels-below (length s.made) w s.ends ready.right.named
 
   near : (from < length s.made) × (k < length s.made)
   near = between from k q stood
