@@ -78,8 +78,9 @@ fn perform_script(alloc: Global, bytes: Vec<u8>, script: Script) -> Result<Trans
     Ok(Transcript { lines })
 }
 
-/// Performs the script of a file, and puts its transcript on out, one put a line. Where that fails, the line of the
-/// failure is put on err. After a put that failed nothing more is put.
+/// Performs the script of a file, and puts its transcript on out, one put a line. What the entries of the transcript show is one
+/// lawful run of the link service, and after each of them the kernels stand for its state (`lawful` of `IsDriven`). Where a put fails, the
+/// line of the failure is put on err. After a put that failed nothing more is put.
 pub fn drive_file<F: Files, O: Sink, E: Sink>(
     alloc: Global,
     name: &str,

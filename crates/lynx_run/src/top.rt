@@ -15,7 +15,8 @@ use lynx_words::{Command, command_of};
 use std::alloc::Global;
 
 /// Does what the words after the program's name ask for, and gives the status with which the program ends. Words that
-/// are not of the form of a command are told so. A command that is not built yet is refused by its name.
+/// are not of the form of a command are told so. A command that is not built yet is refused by its name. What `drive` prints is one lawful
+/// run of the link service (`Drives` in `specs/Drive.antt`, by the law `every_record_is_lawful` of `world_law`).
 pub fn lynx<F: Files, O: Sink, E: Sink>(
     alloc: Global,
     words: Vec<String>,
