@@ -15,26 +15,18 @@ pub(crate) fn exits(alloc: Global, steps: u32) -> Result<u64, Trouble> {
     let mut service = service_of_many(alloc)?;
     let links = (steps / u32::from(PROCESSES)).saturating_sub(1).min(8_192);
     for p in 0..PROCESSES {
-        let first = u32::from(p / KERNELS) * links;
+        let first = u32::from(p / KERNELS).saturating_mul(links);
         lives(&mut service, Pid(p), (p % KERNELS) as u8, first, links)?;
     }
     Ok(u64::from(PROCESSES) * (u64::from(links) + 1))
 }
 
 /// A process makes links from this number on, and exits.
-fn lives(
-    service: &mut Service,
-    p: Pid,
-    maker: u8,
-    first: u32,
-    links: u32,
-) -> Result<(), Trouble>
-    requires room { first + links ≤ 65536 }
-{
+fn lives(service: &mut Service, p: Pid, maker: u8, first: u32, links: u32) -> Result<(), Trouble> {
     for made in 0..links {
         let link = LinkId {
             maker,
-            count: first + made,
+            count: first.saturating_add(made),
         };
         service.apply(&ServiceStep::Make {
             p,

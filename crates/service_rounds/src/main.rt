@@ -25,17 +25,18 @@ fn main(rt: HostRuntime) -> ExitCode {
 }
 
 fn told(well: bool) -> ExitCode {
-    if well { ExitCode::SUCCESS } else { ExitCode::FAILURE }
+    if well {
+        ExitCode::SUCCESS
+    } else {
+        ExitCode::FAILURE
+    }
 }
 
 /// Makes the steps that the program's words ask for.
 fn measured(rt: &HostRuntime) -> Result<u64, Trouble> {
     let alloc = rt.alloc();
     let args = env::args(rt).map_err(|_| Trouble::NoMemory)?;
-    let words: Vec<String> = args
-        .skip(1)
-        .collect(alloc)
-        .map_err(|_| Trouble::NoMemory)?;
+    let words: Vec<String> = args.skip(1).collect(alloc).map_err(|_| Trouble::NoMemory)?;
     match Measure::of(&words).ok_or(Trouble::Words)? {
         Measure::Rounds { links, steps } => rounds(alloc, links, steps),
         Measure::Exits { steps } => exits(alloc, steps),

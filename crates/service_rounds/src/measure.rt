@@ -35,5 +35,9 @@ impl Measure {
 /// A number from 1 to the most.
 fn number(word: &str, most: u32) -> Option<u32> {
     let value = word.parse::<u32>().ok()?;
-    if 1 <= value && value <= most { Some(value) } else { None }
+    if 1 <= value && value <= most {
+        Some(value)
+    } else {
+        None
+    }
 }

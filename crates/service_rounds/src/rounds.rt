@@ -28,10 +28,10 @@ pub(crate) fn rounds(alloc: Global, links: u32, steps: u32) -> Result<u64, Troub
     let mut number = 1;
     for _ in 0..rounds {
         round(&mut service, link, number)?;
-        link += 1;
+        link = link.saturating_add(1);
         if link >= links {
             link = 0;
-            number += 1;
+            number = number.saturating_add(1);
         }
     }
     Ok(u64::from(links) + u64::from(rounds) * u64::from(STEPS_OF_A_ROUND))
@@ -80,7 +80,12 @@ fn round(service: &mut Service, link: u32, n: u32) -> Result<(), Trouble> {
     })?;
     service.apply(&ServiceStep::Complete { on: a, n })?;
     reported(service, b, Way::Inward, message()?)?;
-    reported(service, a, Way::Outward, Bytes::from_slice(b"").ok_or(Trouble::NoMemory)?)
+    reported(
+        service,
+        a,
+        Way::Outward,
+        Bytes::from_slice(b"").ok_or(Trouble::NoMemory)?,
+    )
 }
 
 /// A Wait, and the report Done that answers it.

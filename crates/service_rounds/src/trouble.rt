@@ -17,7 +17,8 @@ impl Trouble {
     /// What is told of it.
     pub(crate) fn text(&self) -> &'static str {
         match self {
-            Trouble::Words => "words: rounds LINKS STEPS, or exits STEPS; 1 to 65536 links, 1 to 4000000 steps",
+            Trouble::Words =>
+                "words: rounds LINKS STEPS, or exits STEPS; 1 to 65536 links, 1 to 4000000 steps",
             Trouble::NoMemory => "no memory",
             Trouble::Refused => "a step is not allowed",
         }
