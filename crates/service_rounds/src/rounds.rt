@@ -47,6 +47,9 @@ fn service_of_one(alloc: Global) -> Result<Service, Trouble> {
         homes: Items::of(homes),
         wires: Items::of(Vec::new(alloc)),
     };
+    if !setting.valid() {
+        return Err(Trouble::Words);
+    }
     Ok(Service::start(alloc, &setting)?)
 }
 
