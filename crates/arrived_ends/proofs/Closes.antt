@@ -1,6 +1,6 @@
 -- An event closes that takes a packet and is one step of the service: its process is answered, or gains reports, of which it is told the
 -- first where it waits.
-use Rattle.std.proofs.Common.{◌≡◌, ◌≢◌, ◌⊎◌, inl, inr, ℕ, ◌+◌, ◌<◌, Bool, true, false, nat_eq, if◌then◌else◌, List, [], ◌∷◌, ◌++◌, map, length, Contains, Some, refl, sym, ap, subst, ◌∙◌, true≢false, eq-eqb, eqb-true, slice_get}
+use Rattle.std.proofs.Common.{◌≡◌, ◌≢◌, ◌⊎◌, inl, inr, ℕ, ◌+◌, ◌<◌, Bool, true, false, nat_eq, if◌then◌else◌, List, [], ◌∷◌, ◌++◌, map, length, Contains, Some, refl, sym, ap, subst, ◌∙◌, eq-eqb, eqb-true, slice_get}
 use Rattle.std.proofs.lemmas.Bool.Decides.{eqb_tells}
 use Rattle.charlotte_calls.specs.declared.calls.Answer.{Answer}
 use Rattle.charlotte_calls.specs.declared.calls.Answer.TheVariants as answer
@@ -12,7 +12,6 @@ use Rattle.charlotte_calls.specs.declared.names.Pid.{Pid}
 use Rattle.charlotte_calls.specs.declared.picture.Picture.{Picture}
 use Rattle.end_table.proofs.EndEq.{end_eq-refl, end_eq-same, put-at, put-other}
 use Rattle.end_table.specs.Place.{end_eq, put}
-use Rattle.end_table.specs.declared.entry.Entry.{Entry}
 use Rattle.kernel_effects.specs.Effect.{Effect}
 use Rattle.kernel_outcomes.specs.Closing.{process_after, told, told_entry}
 use Rattle.kernel_sound.proofs.Reports.{IsSound-reported}

@@ -1,6 +1,6 @@
 -- A packet that is taken loses its values: what was true of their ends before, which packets are under way then, and which entries there are.
-use Rattle.std.proofs.Common.{◌≡◌, ◌≢◌, ◌⊎◌, ◌↔◌, inl, inr, ℕ, ◌+◌, ◌<◌, ◌≤◌, Bool, true, false, nat_eq, ◌&&◌, if◌then◌else◌, List, [], ◌∷◌, length, Contains, Some, refl, sym, ap, subst, ◌∙◌, arith, true≢false, leb, is_some}
-use Rattle.std.proofs.lemmas.Bool.Decides.{eqb_tells, leb_tells}
+use Rattle.std.proofs.Common.{◌≡◌, ◌≢◌, ◌⊎◌, ◌↔◌, inl, inr, ℕ, ◌+◌, ◌<◌, ◌≤◌, Bool, true, false, nat_eq, ◌&&◌, if◌then◌else◌, List, [], length, Contains, refl, sym, ap, subst, ◌∙◌, arith, true≢false, is_some}
+use Rattle.std.proofs.lemmas.Bool.Decides.{eqb_tells}
 use Rattle.std.proofs.lemmas.List.Elements.{All-contains, Contains-append_left, Contains-append_right}
 use Rattle.std.specs.List.{list_any}
 use Rattle.charlotte_calls.specs.Names.{opposite}
@@ -18,8 +18,7 @@ use Rattle.end_table.specs.declared.entry.Entry.{Entry}
 use Rattle.end_table.specs.declared.entry.Entry.TheVariants as entry
 use Rattle.end_table.specs.declared.entry.HereView.{HereView}
 use Rattle.end_table.specs.declared.entry.Holder.TheVariants as holder
-use Rattle.kernel_step.specs.Rows.{ends_in, is_here}
-use Rattle.service_lawful.specs.Consistent.{IsConsistent}
+use Rattle.kernel_step.specs.Rows.{ends_in}
 use Rattle.service_step.specs.Ends.{is_idle, is_idle_inward, is_idle_outward, is_living, matched_message}
 use Rattle.service_step.specs.Lawful.{message_of}
 use Rattle.service_step.specs.State.{State}
@@ -29,20 +28,20 @@ use Rattle.service_step.specs.declared.state.Outward.TheVariants as outward
 use Rattle.service_step.specs.declared.state.Place.TheVariants as place
 use Rattle.world_effects.proofs.Allowed.{sum_over-least}
 use Rattle.world_effects.proofs.Lists.{none-there}
-use Rattle.world_effects.proofs.Packets.{left-before, left-was, taken-before, taken-was, there-taken, under_way-before}
+use Rattle.world_effects.proofs.Packets.{left-before, left-was, taken-before, there-taken, under_way-before}
 use Rattle.world_effects.specs.Change.{Change, Changes, taken_at}
 use Rattle.world_effects.specs.Under.{IsLeft, IsTaken}
 use Rattle.world_meaning.proofs.Ends.{opposite-twice}
 use Rattle.world_meaning.specs.Fields.{Stand, At, Flying, HasFields, value_of}
-use Rattle.world_meaning.specs.Invariant.{AreRight, IsMatchedAs, IsPacketRight, is_message_of}
-use Rattle.world_meaning.specs.Packets.{IsUnderWay, Links, how_many, one_if, over_kernels, sum_over, values_for, values_of}
-use Rattle.world_meaning.specs.StandsFor.{AreLinksOf, home_of, standing}
+use Rattle.world_meaning.specs.Invariant.{IsMatchedAs, IsPacketRight, is_message_of}
+use Rattle.world_meaning.specs.Packets.{IsUnderWay, Links, how_many, one_if, sum_over, values_for, values_of}
+use Rattle.world_meaning.specs.StandsFor.{standing}
 use Rattle.silent_events.proofs.Alike.{some-same}
 use Rattle.silent_events.proofs.Places.{fields-here}
 use Rattle.answered_events.specs.Swapped.{instead, swapped}
 use Rattle.answered_events.proofs.Swap.{left-there, swapped-after, swapped-sum}
 use Rattle.arrived_ends.specs.Arrived.{IsAmong, IsLaden, arrived, emptied, settles, unladen, without_values}
-use Rattle.arrived_ends.proofs.Among.{among-contains, among-least, among-none, among-told, brings-case, told-among}
+use Rattle.arrived_ends.proofs.Among.{among-contains, among-least, among-told, brings-case, told-among}
 use Rattle.arrived_ends.proofs.Between.{kernels-below}
 use Rattle.arrived_ends.proofs.Emptied.{emptied-values}
 

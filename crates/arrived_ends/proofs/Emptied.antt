@@ -1,7 +1,6 @@
 -- A packet without the values that it carried says all else that it said.
-use Rattle.std.proofs.Common.{◌≡◌, ◌↔◌, ℕ, Bool, true, false, ◌&&◌, List, [], refl, ap, ◌∙◌}
+use Rattle.std.proofs.Common.{◌≡◌, ◌↔◌, ℕ, true, ◌&&◌, [], refl, ap}
 use Rattle.std.proofs.lemmas.Bool.{and_parts}
-use Rattle.std.specs.List.{list_all}
 use Rattle.charlotte_calls.specs.Packets.{is_addressed}
 use Rattle.charlotte_calls.specs.declared.names.EndId.{EndId}
 use Rattle.charlotte_calls.specs.declared.picture.PictureWhat.{PictureWhat}
@@ -9,7 +8,7 @@ use Rattle.charlotte_calls.specs.declared.picture.PictureWhat.TheVariants as pac
 use Rattle.kernel_sound.specs.Sound.{addressee}
 use Rattle.world_meaning.specs.Fields.{IsAsking, IsNews, IsUnwantOf}
 use Rattle.world_meaning.specs.Invariant.{is_message_of, is_taken_of, is_unwanted_to}
-use Rattle.world_meaning.specs.Packets.{IsBackOf, IsParcelFor, IsParcelOf, IsTakenOf, IsUnwantedOf, values_of}
+use Rattle.world_meaning.specs.Packets.{IsParcelFor, IsTakenOf, IsUnwantedOf, values_of}
 use Rattle.arrived_ends.specs.Arrived.{emptied}
 
 pub emptied-values : (q : PictureWhat) → values_of (emptied q) ≡ []

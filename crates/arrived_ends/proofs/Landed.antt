@@ -1,6 +1,6 @@
 -- The ends that a packet carries come to be here at the kernel that takes it, and one process there owns them: all clauses on links are
 -- true then.
-use Rattle.std.proofs.Common.{◌≡◌, ◌≢◌, ◌⊎◌, ◌↔◌, inl, inr, ℕ, ◌+◌, ◌<◌, ◌≤◌, Bool, true, false, nat_eq, ◌&&◌, if◌then◌else◌, List, [], ◌∷◌, length, Contains, Some, is_some, refl, sym, ap, subst, ◌∙◌, arith, true≢false, ne_eqb}
+use Rattle.std.proofs.Common.{◌≡◌, ◌⊎◌, ◌↔◌, inl, inr, ℕ, ◌+◌, ◌<◌, ◌≤◌, Bool, true, false, ◌&&◌, if◌then◌else◌, List, [], length, Contains, Some, is_some, refl, sym, ap, subst, ◌∙◌, arith, true≢false, ne_eqb}
 use Rattle.std.proofs.lemmas.Bool.{and_parts}
 use Rattle.std.proofs.lemmas.List.Elements.{All-contains, Contains-append_cases}
 use Rattle.std.specs.List.{list_any}
@@ -31,7 +31,6 @@ use Rattle.service_step.specs.Ends.{is_living, is_made, is_posted, is_taken, mat
 use Rattle.service_step.specs.State.{State}
 use Rattle.service_step.specs.declared.state.End.{End}
 use Rattle.service_step.specs.declared.state.Message.{Message}
-use Rattle.service_step.specs.declared.state.Outward.{Outward}
 use Rattle.service_step.specs.declared.state.Outward.TheVariants as outward
 use Rattle.service_step.specs.declared.state.Phase.TheVariants as phase
 use Rattle.service_step.specs.declared.state.Place.TheVariants as place
@@ -42,8 +41,8 @@ use Rattle.world_effects.specs.Change.{Change, Changes, taken_at}
 use Rattle.world_effects.specs.Under.{IsLeft}
 use Rattle.world_meaning.proofs.Ends.{opposite-twice}
 use Rattle.world_meaning.proofs.Sums.{over-change}
-use Rattle.world_meaning.specs.Fields.{Stand, At, Flying, HasFields, IsAskedAs, IsAsking, IsHeard, IsNews, IsNoMore, IsUnserved, IsUnwantOf}
-use Rattle.world_meaning.specs.Invariant.{AreAsked, AreCounted, AreMarked, AreNamed, AreRight, AreSentOnce, AreWanted, IsFew, IsHonest, IsMatchedAs, IsPacketRight, IsServed, IsUnwantedOnce, NamesBelow, is_message_of, is_taken_of, is_unwanted_to}
+use Rattle.world_meaning.specs.Fields.{At, Flying, HasFields, IsAskedAs, IsAsking, IsHeard, IsNews, IsNoMore, IsUnserved, IsUnwantOf}
+use Rattle.world_meaning.specs.Invariant.{AreAsked, AreCounted, AreMarked, AreNamed, AreRight, AreSentOnce, AreWanted, IsHonest, IsPacketRight, IsServed, NamesBelow, is_message_of, is_taken_of, is_unwanted_to}
 use Rattle.world_meaning.specs.Packets.{Each, IsBackOf, IsParcelFor, IsParcelOf, IsTakenOf, IsUnderWay, IsUnwantedOf, Links, how_many, one_if, over_kernels, sum_over, values_for, values_of}
 use Rattle.world_meaning.specs.StandsFor.{AreLinksOf, IsEndOf, IsInMessage, IsInwardOf, IsOutwardOf, IsOwnedHere, IsWaitingWith, home_of, standing}
 use Rattle.silent_events.proofs.Alike.{some-same}
@@ -51,9 +50,9 @@ use Rattle.answered_events.specs.Swapped.{instead}
 use Rattle.answered_events.proofs.Swap.{swapped-each, swapped-sum}
 use Rattle.noticed_events.proofs.Noticed.{holder-same, owner-same}
 use Rattle.arrived_ends.specs.Arrived.{IsAmong, IsLaden, emptied, settles, without_values}
-use Rattle.arrived_ends.proofs.Among.{among-contains, among-none, contains-among, each-value, told-among}
+use Rattle.arrived_ends.proofs.Among.{among-none, contains-among, each-value, told-among}
 use Rattle.arrived_ends.proofs.Between.{none-in}
-use Rattle.arrived_ends.proofs.Coming.{arrival, came, each-owner, end-alone, entry-came, entry-case, fields-before, fields-were, flies, here-before, here-landed, idle, inside, landed, landed-after, landed-number, landed-same, landed-still, landed-was, left-landed, living, low, low-from, message-alone, near, never-here, no-mark, not-here, one-value, owners, owners-sender, packed, sender-apart, stood, values}
+use Rattle.arrived_ends.proofs.Coming.{arrival, each-owner, end-alone, entry-came, entry-case, fields-before, fields-were, flies, here-before, here-landed, idle, inside, landed, landed-after, landed-number, landed-same, landed-still, landed-was, living, low, low-from, message-alone, near, never-here, no-mark, not-here, one-value, owners, owners-sender, packed, sender-apart, stood}
 use Rattle.arrived_ends.proofs.Emptied.{emptied-addressed, emptied-asking, emptied-message, emptied-news, emptied-parcel_for, emptied-taken, emptied-telling, emptied-to, emptied-unwant, emptied-unwanted, emptied-values, emptied-voids}
 
 message-same : (m o : Message) → outward.Matched m ≡ outward.Matched o → m ≡ o

@@ -1,5 +1,5 @@
 -- Ends that are here at a kernel tell their opposites so: all clauses on links stay.
-use Rattle.std.proofs.Common.{◌≡◌, ◌≢◌, ◌⊎◌, inl, inr, ℕ, ◌<◌, ◌≤◌, true, false, nat_eq, length, Contains, IfSome, None, Option, Some, refl, sym, ap, subst, ◌∙◌, arith, lt-ltb}
+use Rattle.std.proofs.Common.{◌≡◌, ◌≢◌, ◌⊎◌, inl, inr, ℕ, ◌<◌, ◌≤◌, true, false, nat_eq, length, Contains, IfSome, None, Option, refl, sym, ap, subst, ◌∙◌, arith, lt-ltb}
 use Rattle.std.proofs.lemmas.Bool.Decides.{eqb_tells}
 use Rattle.charlotte_calls.specs.Names.{opposite}
 use Rattle.charlotte_calls.specs.declared.names.EndId.{EndId}
@@ -8,11 +8,9 @@ use Rattle.charlotte_calls.specs.declared.picture.Picture.{Picture}
 use Rattle.charlotte_calls.specs.declared.picture.PictureWhat.{PictureWhat}
 use Rattle.charlotte_calls.specs.declared.picture.PictureWhat.TheVariants as packet
 use Rattle.end_table.specs.Table.{IsHereAnd}
-use Rattle.end_table.specs.declared.entry.Entry.{Entry}
-use Rattle.end_table.specs.declared.entry.HereView.{HereView}
 use Rattle.kernel_step.specs.Actions.{is_withdrawing}
 use Rattle.service_change.proofs.Change.{living-made}
-use Rattle.service_step.specs.Ends.{is_living, is_made}
+use Rattle.service_step.specs.Ends.{is_made}
 use Rattle.service_step.specs.State.{State}
 use Rattle.world_effects.proofs.Aside.{sent-each}
 use Rattle.world_effects.proofs.Ends.{all_sent-weaker}
@@ -23,7 +21,7 @@ use Rattle.world_effects.specs.Under.{IsLeft, IsSent}
 use Rattle.world_meaning.proofs.Ends.{opposite-twice}
 use Rattle.world_meaning.specs.Fields.{Stand, At, Flying, HasFields, IsAsking, IsHeard, IsNews, IsNoMore, IsUnserved, IsUnwantOf, value_of}
 use Rattle.world_meaning.specs.Invariant.{AreRight, AreWanted, NamesBelow}
-use Rattle.world_meaning.specs.Packets.{IsUnderWay, Links}
+use Rattle.world_meaning.specs.Packets.{Links}
 use Rattle.world_meaning.specs.StandsFor.{AreLinksOf}
 use Rattle.silent_events.specs.Quiet.{IsQuiet, IsQuietly, IsSentWell, is_telling}
 use Rattle.silent_events.proofs.Alike.{IsQuietly-same}

@@ -1,25 +1,21 @@
 -- The values of a packet at the kernel that takes it: which come, what the table is then, and that each end tells where it is.
-use Rattle.std.proofs.Common.{◌≡◌, ◌⊎◌, inl, inr, ℕ, ◌<◌, ◌≤◌, Bool, true, false, nat_lt, ◌&&◌, ◌||◌, if◌then◌else◌, List, [], ◌∷◌, Contains, refl, sym, ap, subst, ◌∙◌, true≢false, ltb-true}
+use Rattle.std.proofs.Common.{◌≡◌, ◌⊎◌, inl, inr, ℕ, ◌<◌, ◌≤◌, true, List, [], ◌∷◌, Contains, refl, sym, ap, subst, ◌∙◌, ltb-true}
 use Rattle.std.proofs.lemmas.Bool.{and_parts}
-use Rattle.std.specs.List.{AllByRecursion, flat_map, list_any}
-use Rattle.charlotte_calls.specs.Names.{opposite}
+use Rattle.std.specs.List.{AllByRecursion, flat_map}
 use Rattle.charlotte_calls.specs.Packets.{names_kernels_below}
 use Rattle.charlotte_calls.specs.declared.names.EndId.{EndId}
 use Rattle.charlotte_calls.specs.declared.names.Pid.{Pid}
 use Rattle.charlotte_calls.specs.declared.picture.MovingPicture.{MovingPicture}
-use Rattle.charlotte_calls.specs.declared.picture.PictureWhat.{PictureWhat}
-use Rattle.charlotte_calls.specs.declared.picture.PictureWhat.TheVariants as packet
 use Rattle.end_table.specs.Entries.{settled}
-use Rattle.end_table.specs.Place.{end_eq, put}
+use Rattle.end_table.specs.Place.{put}
 use Rattle.end_table.specs.Table.{IsHere, IsHereAnd}
 use Rattle.end_table.specs.declared.entry.Entry.{Entry}
 use Rattle.end_table.specs.declared.entry.Entry.TheVariants as entry
-use Rattle.end_table.specs.declared.entry.HereView.{HereView}
 use Rattle.end_table.specs.declared.entry.Holder.TheVariants as holder
 use Rattle.kernel_effects.proofs.Folds.{brings-others}
 use Rattle.kernel_effects.proofs.Uses.{arrival-each}
 use Rattle.kernel_effects.specs.Actions.{arrival_packets}
-use Rattle.kernel_effects.specs.Effect.{brings, stays}
+use Rattle.kernel_effects.specs.Effect.{stays}
 use Rattle.kernel_sound.proofs.Put.{IsFreeFor-away, put-sound-quiet}
 use Rattle.kernel_sound.proofs.Values.{AreComing}
 use Rattle.kernel_sound.specs.Sound.{IsSound}

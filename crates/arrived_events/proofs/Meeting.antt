@@ -1,7 +1,7 @@
 -- A parcel without ends that meets its receive is replaced by the news that came with it, and a taken is sent: what is under way then, and
 -- which entries there are.
-use Rattle.std.proofs.Common.{◌≡◌, ◌≢◌, ◌⊎◌, inl, inr, ℕ, ◌+◌, ◌<◌, ◌≤◌, Bool, true, false, nat_eq, leb, if◌then◌else◌, List, [], ◌∷◌, length, Contains, None, Some, is_some, refl, sym, ap, subst, ◌∙◌, arith, true≢false}
-use Rattle.std.proofs.lemmas.Bool.Decides.{eqb_tells, leb_tells}
+use Rattle.std.proofs.Common.{◌≡◌, ◌≢◌, ◌⊎◌, inl, inr, ℕ, ◌+◌, ◌<◌, Bool, true, false, nat_eq, if◌then◌else◌, List, [], ◌∷◌, length, Contains, None, Some, is_some, refl, sym, ap, subst, ◌∙◌, arith, true≢false}
+use Rattle.std.proofs.lemmas.Bool.Decides.{eqb_tells}
 use Rattle.std.proofs.lemmas.List.Elements.{All-contains, Contains-append_right}
 use Rattle.charlotte_calls.specs.Names.{opposite}
 use Rattle.charlotte_calls.specs.declared.names.EndId.{EndId}
@@ -19,30 +19,29 @@ use Rattle.end_table.specs.declared.entry.HereView.{HereView}
 use Rattle.end_table.specs.declared.entry.Inward.{Inward as KernelInward}
 use Rattle.end_table.specs.declared.entry.Inward.TheVariants as kernel_inward
 use Rattle.kernel_step.specs.Actions.{here}
-use Rattle.service_step.specs.Ends.{is_living, is_posted, matched_message}
+use Rattle.service_step.specs.Ends.{is_posted, matched_message}
 use Rattle.service_step.specs.State.{State}
 use Rattle.service_step.specs.declared.state.End.{End}
 use Rattle.service_step.specs.declared.state.Inward.{Inward}
 use Rattle.service_step.specs.declared.state.Inward.TheVariants as inward
-use Rattle.service_step.specs.declared.state.Outward.TheVariants as outward
 use Rattle.world_effects.proofs.Allowed.{sum_over-least}
 use Rattle.world_effects.proofs.Lists.{none-there, only-there}
 use Rattle.world_effects.proofs.Packets.{left-before, left-was, taken-before, under_way-after, under_way-still}
 use Rattle.world_effects.proofs.Sums.{sum_over-after}
 use Rattle.world_effects.specs.Change.{Change, Changes, taken_at}
 use Rattle.world_effects.specs.Under.{IsLeft, IsSent}
-use Rattle.world_meaning.proofs.Ends.{opposite-apart, opposite-twice}
+use Rattle.world_meaning.proofs.Ends.{opposite-twice}
 use Rattle.world_meaning.specs.Fields.{Stand, At, Flying, HasFields, IsAskedAs, value_of}
 use Rattle.world_meaning.specs.Invariant.{IsPacketRight, IsParcelRight, is_message_of}
 use Rattle.world_meaning.specs.Packets.{Each, IsParcelFor, IsUnderWay, IsUnwantedOf, Links, how_many, one_if, sum_over, values_of}
-use Rattle.world_meaning.specs.StandsFor.{IsAskedOf, IsEndOf, IsInwardOf, home_of}
+use Rattle.world_meaning.specs.StandsFor.{IsAskedOf, IsEndOf, IsInwardOf}
 use Rattle.silent_events.proofs.Alike.{some-same}
 use Rattle.silent_events.proofs.Places.{here-kernel}
 use Rattle.answered_events.specs.Swapped.{instead, news, swapped}
 use Rattle.answered_events.proofs.Swap.{swapped-after, swapped-still, swapped-sum}
 use Rattle.answered_events.proofs.Turned.{turned_view, with_entry}
 use Rattle.arrived_ends.proofs.Between.{kernels-below}
-use Rattle.arrived_events.specs.Received.{IsReceived, IsReceiving, answering, bare_parcel}
+use Rattle.arrived_events.specs.Received.{IsReceiving, answering, bare_parcel}
 
 -- the receive that is started at an entry
 asked-inward : (w : Links) (e : EndId) (r : ℕ) (out : KernelInward) (x : Inward) → IsAskedAs r out → IsInwardOf w e out x → IsAskedOf w e r x

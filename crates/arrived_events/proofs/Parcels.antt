@@ -1,10 +1,10 @@
 -- A parcel is taken whose end is here and has started the receive that it is for: the ends that came are its owner's, the message is taken,
 -- and the end hears where its opposite is.
-use Rattle.std.proofs.Common.{◌≡◌, ◌⊎◌, inl, inr, ℕ, ◌+◌, ◌<◌, ◌≤◌, Bool, true, false, nat_eq, nat_lt, ◌&&◌, if◌then◌else◌, List, [], ◌∷◌, ◌++◌, map, length, slice_index, Contains, Option, None, Some, refl, sym, ap, subst, ◌∙◌, arith, true≢false, eq-eqb, eqb-true, ltb-true, lt-ltb}
+use Rattle.std.proofs.Common.{◌≡◌, ◌⊎◌, inl, inr, ℕ, ◌+◌, ◌<◌, Bool, true, false, nat_eq, if◌then◌else◌, List, [], ◌∷◌, ◌++◌, map, length, Contains, None, Some, refl, sym, ap, subst, ◌∙◌, true≢false, eq-eqb, eqb-true, lt-ltb}
 use Rattle.std.proofs.lemmas.List.Elements.{All-contains}
 use Rattle.std.specs.List.{flat_map, list_any}
 use Rattle.charlotte_calls.specs.Names.{opposite}
-use Rattle.charlotte_calls.specs.Packets.{is_addressed, names_kernels_below}
+use Rattle.charlotte_calls.specs.Packets.{is_addressed}
 use Rattle.charlotte_calls.specs.declared.calls.Answer.{Answer}
 use Rattle.charlotte_calls.specs.declared.calls.Answer.TheVariants as answer
 use Rattle.charlotte_calls.specs.declared.calls.Cause.TheVariants as cause
@@ -30,7 +30,6 @@ use Rattle.end_table.specs.declared.entry.Inward.TheVariants as kernel_inward
 use Rattle.kernel_effects.specs.Actions.{arrival_packets}
 use Rattle.kernel_effects.specs.Effect.{Effect, brings, for_holder, puts, stays}
 use Rattle.kernel_effects.specs.Rows.{parcel_effect, receives_effect, row_effect, take_steps, taken_view, view_news}
-use Rattle.kernel_outcomes.proofs.ForOne.{TakeGives}
 use Rattle.kernel_outcomes.proofs.Sound.{arriving-all}
 use Rattle.kernel_outcomes.specs.Closing.{AtMostOne}
 use Rattle.kernel_sound.proofs.Actions.{learned-end}
@@ -39,11 +38,10 @@ use Rattle.kernel_sound.specs.Sound.{IsHeldWell, IsSound}
 use Rattle.kernel_step.proofs.Folds.{AreDifferent}
 use Rattle.kernel_step.specs.Actions.{here, is_withdrawing, learned_view, receive_report}
 use Rattle.kernel_step.specs.Rows.{asks, ends_in, is_asked}
-use Rattle.kernel_world.specs.World.{Takes, World, happens}
+use Rattle.kernel_world.specs.World.{Takes, World}
 use Rattle.service_consistent.proofs.Laws.{consistent_after}
 use Rattle.service_lawful.specs.Consistent.{IsConsistent}
 use Rattle.service_step.specs.Ends.{is_living, is_made, is_started_inward}
-use Rattle.service_step.specs.Ends as service_ends
 use Rattle.service_step.specs.State.{Process, State, is_cancelling}
 use Rattle.service_step.specs.Steps.{IsServiceStep}
 use Rattle.service_step.specs.declared.state.End.{End}
@@ -52,41 +50,39 @@ use Rattle.service_step.specs.declared.state.Message.{Message}
 use Rattle.service_step.specs.declared.state.Outward.TheVariants as outward
 use Rattle.service_step.specs.declared.state.Phase.{Phase}
 use Rattle.service_step.specs.declared.state.Phase.TheVariants as phase
-use Rattle.service_step.specs.declared.state.Place.{Place}
 use Rattle.service_step.specs.declared.state.Place.TheVariants as place
-use Rattle.world_effects.proofs.Allowed.{between, brings-different, takes-allowed, takes-any}
+use Rattle.world_effects.proofs.Allowed.{takes-allowed}
 use Rattle.world_effects.specs.Change.{Change, Changes, Happens}
 use Rattle.world_effects.specs.Events.{taking}
 use Rattle.world_effects.specs.Sums.{AllSent}
 use Rattle.world_effects.specs.Under.{IsTaken}
 use Rattle.world_meaning.proofs.Ends.{eq-same, opposite-apart, opposite-twice}
 use Rattle.world_meaning.proofs.Goes.{Goes}
-use Rattle.world_meaning.specs.Fields.{Flying, IsAskedAs, IsNews}
-use Rattle.world_meaning.specs.Invariant.{AreRight, Invariant, IsPacketRight, IsParcelRight, is_message_of}
-use Rattle.world_meaning.specs.Packets.{IsBackOf, IsParcelFor, IsParcelOf, IsUnderWay, IsUnwantedOf, Links, links_of, values_of}
-use Rattle.world_meaning.specs.StandsFor.{AreLinksOf, IsInMessage, home_of}
+use Rattle.world_meaning.specs.Fields.{IsAskedAs, IsNews}
+use Rattle.world_meaning.specs.Invariant.{AreRight, Invariant, IsParcelRight, is_message_of}
+use Rattle.world_meaning.specs.Packets.{Links, links_of}
+use Rattle.world_meaning.specs.StandsFor.{AreLinksOf, home_of}
 use Rattle.silent_events.proofs.Alike.{some-same}
 use Rattle.silent_events.proofs.Clauses.{links-still}
 use Rattle.silent_events.proofs.Hearing.{IsHearing, hears, learns-so}
 use Rattle.silent_events.proofs.Learning.{learning-right}
-use Rattle.silent_events.proofs.Places.{fields-here, here-kernel, here-living}
 use Rattle.silent_events.proofs.Rows.{IsTable}
 use Rattle.silent_events.specs.Learning.{IsLearning}
 use Rattle.silent_events.specs.Quiet.{IsQuiet}
 use Rattle.silent_events.specs.Silent.{IsStill}
-use Rattle.answered_events.specs.Swapped.{news, swapped}
+use Rattle.answered_events.specs.Swapped.{news}
 use Rattle.answered_events.proofs.Freed.{put-table-sound}
-use Rattle.answered_events.proofs.Meets.{IsOwnedAt, right-first, same-kernel, owned-at, stands-first, there-here}
+use Rattle.answered_events.proofs.Meets.{IsOwnedAt, right-first, stands-first, there-here}
 use Rattle.answered_events.proofs.Swap.{swapped-changes}
 use Rattle.answered_events.proofs.Turned.{turned_view, with_entry}
 use Rattle.wanted_events.proofs.Parts as parts
 use Rattle.arrived_ends.specs.Arrived.{IsAmong, IsLaden, IsTrueMove, settles, without_values}
-use Rattle.arrived_events.specs.Received.{IsReceived, IsReceiving, answering, bare_parcel}
+use Rattle.arrived_events.specs.Received.{IsReceived, IsReceiving, answering}
 use Rattle.arrived_ends.proofs.Among.{among-contains, among-told, contains-among, told-among}
 use Rattle.arrived_ends.proofs.Closes.{answered-goes, quietly, reported-goes, untold, untold-changes}
 use Rattle.arrived_ends.proofs.Comes.{values-come, values-differ}
-use Rattle.arrived_ends.proofs.Coming.{arrival, entry-came, here-landed, inside, landed, living, never-here, owners, owners-came, owners-other, owners-sender, sender-apart}
-use Rattle.arrived_ends.proofs.Landed.{landed-links, landed-right, living-same, made-same, named-value, noticed-same, place-stays}
+use Rattle.arrived_ends.proofs.Coming.{entry-came, here-landed, inside, landed, living, never-here, owners, owners-came, owners-other, owners-sender, sender-apart}
+use Rattle.arrived_ends.proofs.Landed.{landed-links, landed-right, made-same, named-value, noticed-same, place-stays}
 use Rattle.arrived_events.proofs.Meeting.{at-below, informed, near, parcel-meets}
 use Rattle.arrived_ends.proofs.Moves.{moves-links, moves-right}
 use Rattle.arrived_ends.proofs.Owned.{busy-owned}
@@ -530,3 +526,24 @@ parcel-taken-goes i w s is k from stamp to n r at hops bytes ms others there mee
     let o = busy-owned is k to v.0 v.1 (asked-busy r v.0 v.2) in
     let same : v.0 ≡ o.view = some-same v.0 o.view (ap here (sym v.1 ∙ o.here)) in
     parcel-receives i w s is k from stamp to n r at hops bytes ms others there o (subst (λ (z : HereView). IsAskedAs r z.inward) same v.2)
+
+asked-so : (r : ℕ) (x : KernelInward) → is_asked r x ≡ true → IsAskedAs r x
+asked-so r (kernel_inward.Posted a) is = eqb-true a r is
+asked-so r (kernel_inward.Withdrawing a) is = eqb-true a r is
+asked-so r kernel_inward.Idle is = absurd (true≢false (sym is))
+asked-so r kernel_inward.Unreported is = absurd (true≢false (sym is))
+
+-- a parcel that meets a receive at its kernel, as the row of parcels tests it
+pub parcel-asked-goes : (i : ℕ) (w : World) (s : State) → Invariant i w s → (k from stamp : ℕ) (to : EndId) (n r at hops : ℕ) (bytes : List ℕ) (ms : List MovingPicture) (others : List Picture)
+    → w.packets from k ≡ record { stamp = stamp; what = packet.Parcel to n r at hops bytes ms } ∷ others → (v : HereView) → asks r ((w.kernel k).table to) ≡ Some v → Goes i w s (Takes k from)
+parcel-asked-goes i w s is k from stamp to n r at hops bytes ms others there v found = parcel-taken-goes i w s is k from stamp to n r at hops bytes ms others there (by ((w.kernel k).table to) found)
+  where
+    by : (y : Entry) → asks r y ≡ Some v → IsHereAnd y (λ u. IsAskedAs r u.inward)
+    by (entry.Here u) is = one (is_asked r u.inward) refl is
+      where
+        one : (b : Bool) → is_asked r u.inward ≡ b → (if b then Some u else None) ≡ Some v → IsAskedAs r u.inward
+        one true told is = asked-so r u.inward told
+        one false told is = absurd cc
+    by entry.Nothing is = absurd cc
+    by (entry.Left there hops) is = absurd cc
+    by (entry.Destroyed m) is = absurd cc

@@ -1,7 +1,7 @@
 -- A parcel without ends that meets its receive is replaced by the news that came with it, and a taken is sent: all clauses on links are true
 -- then.
-use Rattle.std.proofs.Common.{◌≡◌, ◌⊎◌, ◌↔◌, inl, inr, ℕ, ◌+◌, ◌<◌, ◌≤◌, Bool, true, false, ◌&&◌, if◌then◌else◌, List, [], ◌∷◌, length, Contains, None, Some, is_some, refl, sym, ap, subst, ◌∙◌, arith, true≢false, lt-ltb}
-use Rattle.std.proofs.lemmas.List.Elements.{All-contains, Contains-append_cases}
+use Rattle.std.proofs.Common.{◌≡◌, ◌⊎◌, ◌↔◌, inl, inr, ℕ, ◌≤◌, Bool, true, false, List, [], length, Contains, Some, is_some, refl, sym, ap, subst, ◌∙◌, arith, true≢false, lt-ltb}
+use Rattle.std.proofs.lemmas.List.Elements.{Contains-append_cases}
 use Rattle.charlotte_calls.specs.Names.{opposite}
 use Rattle.charlotte_calls.specs.Packets.{is_addressed}
 use Rattle.charlotte_calls.specs.declared.names.EndId.{EndId}
@@ -23,7 +23,7 @@ use Rattle.end_table.specs.declared.entry.Inward.TheVariants as kernel_inward
 use Rattle.end_table.specs.declared.entry.Outward.{Outward as KernelOutward}
 use Rattle.end_table.specs.declared.entry.Outward.TheVariants as kernel_outward
 use Rattle.kernel_sound.specs.Sound.{addressee}
-use Rattle.kernel_step.specs.Actions.{here, is_withdrawing}
+use Rattle.kernel_step.specs.Actions.{is_withdrawing}
 use Rattle.kernel_step.specs.Rows.{ends_in, is_here}
 use Rattle.service_lawful.specs.Consistent.{is_open}
 use Rattle.service_step.specs.Ends.{is_living, is_made, is_posted, is_taken, matched_message}
@@ -35,16 +35,16 @@ use Rattle.service_step.specs.declared.state.Outward.TheVariants as outward
 use Rattle.service_step.specs.declared.state.Phase.TheVariants as phase
 use Rattle.service_step.specs.declared.state.Place.TheVariants as place
 use Rattle.world_effects.proofs.Ends.{inward-same, outward-same}
-use Rattle.world_effects.proofs.Lists.{first, none-there, only-there}
-use Rattle.world_effects.proofs.Packets.{each-after, left-before, left_or_sent, left-was, taken-there, taken-was, under_way-sent}
+use Rattle.world_effects.proofs.Lists.{first, none-there}
+use Rattle.world_effects.proofs.Packets.{each-after, left-before, left_or_sent, left-was, taken-there, under_way-sent}
 use Rattle.world_effects.specs.Change.{Change, Changes, taken_at}
 use Rattle.world_effects.specs.Under.{IsLeft}
 use Rattle.world_meaning.proofs.Ends.{opposite-apart, opposite-twice}
 use Rattle.world_meaning.proofs.Sums.{over-same}
-use Rattle.world_meaning.specs.Fields.{Stand, At, HasFields, IsAskedAs, IsAsking, IsHeard, IsNews, IsNoMore, IsUnserved, IsUnwantOf}
+use Rattle.world_meaning.specs.Fields.{Stand, HasFields, IsAskedAs, IsAsking, IsNews, IsNoMore, IsUnserved, IsUnwantOf}
 use Rattle.world_meaning.specs.Invariant.{AreAsked, AreCounted, AreMarked, AreNamed, AreRight, AreSentOnce, AreWanted, IsHonest, IsPacketRight, IsServed, NamesBelow, is_message_of, is_taken_of, is_unwanted_to}
-use Rattle.world_meaning.specs.Packets.{Each, IsBackOf, IsParcelFor, IsParcelOf, IsTakenOf, IsUnderWay, IsUnwantedOf, Links, how_many, one_if, over_kernels, sum_over, values_for, values_of}
-use Rattle.world_meaning.specs.StandsFor.{AreLinksOf, IsEndOf, IsInMessage, IsInwardOf, IsOutwardOf, IsOwnedHere, IsWaitingWith, home_of, standing}
+use Rattle.world_meaning.specs.Packets.{Each, IsBackOf, IsParcelFor, IsParcelOf, IsTakenOf, IsUnderWay, IsUnwantedOf, Links, how_many, one_if, over_kernels, values_for, values_of}
+use Rattle.world_meaning.specs.StandsFor.{AreLinksOf, IsEndOf, IsInMessage, IsInwardOf, IsOutwardOf, IsWaitingWith, home_of, standing}
 use Rattle.silent_events.proofs.Alike.{some-same}
 use Rattle.silent_events.proofs.Places.{fields-here}
 use Rattle.answered_events.specs.Swapped.{instead, news}
@@ -52,7 +52,7 @@ use Rattle.answered_events.proofs.Swap.{swapped-each}
 use Rattle.answered_events.proofs.Turned.{with_entry}
 use Rattle.arrived_ends.proofs.Between.{none-in}
 use Rattle.arrived_events.specs.Received.{IsReceived, IsReceiving, answering, bare_parcel}
-use Rattle.arrived_events.proofs.Meeting.{agrees, at-below, informed, is-matched, is-right, low, low-from, met-after, met-alone, met-case, met-fields, met-number, met-still, met-sum, met-was, near, no-unwanted, not-posted, only-here, over_view, said, sender, stood, view-case, view-still, view-was, was-there}
+use Rattle.arrived_events.proofs.Meeting.{agrees, at-below, informed, is-right, met-after, met-alone, met-case, met-fields, met-number, met-still, met-sum, met-was, near, no-unwanted, not-posted, over_view, said, stood, view-case, view-still, view-was, was-there}
 
 -- the service says that the message of a send was taken, once a taken for it is under way
 taken-then : (w z : Links) (e : EndId) (n : ℕ) (x : KernelOutward) (m : Message) → IsUnderWay z (IsTakenOf e n) → IsOutwardOf w e n x (outward.Matched m) → IsOutwardOf z e n x outward.Taken

@@ -1,5 +1,5 @@
 -- The step take: the service allows it at a receive that is matched; what it makes of ends and processes.
-use Rattle.std.proofs.Common.{◌≡◌, ◌⊎◌, inl, inr, ℕ, Bool, true, false, nat_eq, ◌&&◌, not, if◌then◌else◌, List, [], ◌∷◌, ◌++◌, Contains, Some, is_some, refl, sym, ap, subst, ◌∙◌, true≢false, eq-eqb, eqb-true}
+use Rattle.std.proofs.Common.{◌≡◌, ℕ, Bool, true, false, nat_eq, ◌&&◌, not, if◌then◌else◌, List, [], ◌∷◌, ◌++◌, Contains, Some, is_some, refl, ap, subst, ◌∙◌, eq-eqb}
 use Rattle.charlotte_calls.specs.Names.{opposite}
 use Rattle.charlotte_calls.specs.declared.calls.Report.{Report}
 use Rattle.charlotte_calls.specs.declared.calls.ServiceStep.TheVariants as step
@@ -9,7 +9,7 @@ use Rattle.end_table.proofs.EndEq.{end_eq-refl, end_eq-same, end_eq-sym}
 use Rattle.end_table.specs.Place.{end_eq}
 use Rattle.service_change.proofs.EndEq.{Contains-among, among, among-Contains, at_place, places-among, places-other, puts-at, puts-other}
 use Rattle.service_step.specs.Ends.{carried_by, is_made, is_matched_with, is_owned_by, matched_message, places, puts, takes, turns_inward, turns_outward}
-use Rattle.service_step.specs.State.{Process, State, is_cancelling, receive_report, tells}
+use Rattle.service_step.specs.State.{State, is_cancelling, receive_report, tells}
 use Rattle.service_step.specs.Steps.{IsServiceStep, after_take, agree, done_reports}
 use Rattle.service_step.specs.declared.state.End.{End}
 use Rattle.service_step.specs.declared.state.Inward.TheVariants as inward
@@ -17,7 +17,6 @@ use Rattle.service_step.specs.declared.state.Message.{Message}
 use Rattle.service_step.specs.declared.state.Outward.TheVariants as outward
 use Rattle.service_step.specs.declared.state.Phase.TheVariants as phase
 use Rattle.service_step.specs.declared.state.Place.TheVariants as place
-use Rattle.world_effects.proofs.Aside.{not_among}
 use Rattle.world_meaning.proofs.Ends.{eq-same, opposite-apart, opposite-twice}
 use Rattle.arrived_ends.proofs.Tells.{tells-other, tells-own}
 

@@ -1,17 +1,14 @@
 -- A back is taken at its send: the ends that came are its owner's again, the send is over, and where the death of the link was not known at
 -- the end, it is noticed.
-use Rattle.std.proofs.Common.{◌≡◌, ◌⊎◌, inl, inr, ℕ, ◌+◌, ◌<◌, ◌≤◌, Bool, true, false, nat_eq, ◌&&◌, not, if◌then◌else◌, List, [], ◌∷◌, ◌++◌, map, length, Contains, Option, None, Some, refl, sym, ap, subst, ◌∙◌, append_assoc, arith, true≢false, eq-eqb, eqb-true, ltb-true}
+use Rattle.std.proofs.Common.{◌≡◌, inl, ℕ, ◌+◌, ◌<◌, Bool, true, false, nat_eq, ◌&&◌, if◌then◌else◌, List, [], ◌∷◌, ◌++◌, length, Contains, Some, refl, sym, ap, subst, ◌∙◌, true≢false, eq-eqb}
 use Rattle.std.proofs.lemmas.List.Elements.{All-contains}
-use Rattle.std.specs.List.{AllByRecursion, flat_map, list_any}
+use Rattle.std.specs.List.{flat_map, list_any}
 use Rattle.charlotte_calls.specs.Names.{opposite}
 use Rattle.charlotte_calls.specs.Packets.{is_addressed}
 use Rattle.charlotte_calls.specs.declared.calls.Answer.{Answer}
-use Rattle.charlotte_calls.specs.declared.calls.Answer.TheVariants as answer
-use Rattle.charlotte_calls.specs.declared.calls.Cause.TheVariants as cause
 use Rattle.charlotte_calls.specs.declared.calls.Report.{Report}
 use Rattle.charlotte_calls.specs.declared.calls.ServiceStep.TheVariants as step
 use Rattle.charlotte_calls.specs.declared.names.EndId.{EndId}
-use Rattle.charlotte_calls.specs.declared.names.Outcome.TheVariants as outcome
 use Rattle.charlotte_calls.specs.declared.names.Pid.{Pid}
 use Rattle.charlotte_calls.specs.declared.picture.MovingPicture.{MovingPicture}
 use Rattle.charlotte_calls.specs.declared.picture.Picture.{Picture}
@@ -24,10 +21,7 @@ use Rattle.end_table.specs.Table.{IfHere, IsHere, IsHereAnd, IsIdle, IsOfEnd}
 use Rattle.end_table.specs.declared.entry.Entry.{Entry}
 use Rattle.end_table.specs.declared.entry.Entry.TheVariants as entry
 use Rattle.end_table.specs.declared.entry.HereView.{HereView}
-use Rattle.end_table.specs.declared.entry.Holder.{Holder}
 use Rattle.end_table.specs.declared.entry.Holder.TheVariants as holder
-use Rattle.end_table.specs.declared.entry.Inward.{Inward as KernelInward}
-use Rattle.end_table.specs.declared.entry.Inward.TheVariants as kernel_inward
 use Rattle.end_table.specs.declared.entry.Outward.TheVariants as kernel_outward
 use Rattle.kernel_effects.proofs.Folds.{brings-others}
 use Rattle.kernel_effects.specs.Actions.{arrival_packets}
@@ -39,16 +33,13 @@ use Rattle.kernel_sound.proofs.Values.{AreComing}
 use Rattle.kernel_sound.specs.Sound.{IsHeldWell, IsSound}
 use Rattle.kernel_step.proofs.Folds.{AreDifferent}
 use Rattle.kernel_step.specs.Rows.{ends_in}
-use Rattle.kernel_world.specs.World.{Takes, World, happens}
-use Rattle.service_consistent.proofs.Laws.{consistent_after}
+use Rattle.kernel_world.specs.World.{Takes, World}
 use Rattle.service_lawful.specs.Consistent.{IsConsistent, is_open}
 use Rattle.service_step.specs.Ends.{is_living, is_made}
 use Rattle.service_step.specs.State.{Process, State}
-use Rattle.service_step.specs.Steps.{IsServiceStep}
 use Rattle.service_step.specs.declared.state.End.{End}
 use Rattle.service_step.specs.declared.state.Message.{Message}
 use Rattle.service_step.specs.declared.state.Outward.TheVariants as outward
-use Rattle.service_step.specs.declared.state.Phase.TheVariants as phase
 use Rattle.service_step.specs.declared.state.Place.{Place}
 use Rattle.service_step.specs.declared.state.Place.TheVariants as place
 use Rattle.world_effects.proofs.Allowed.{between, takes-allowed}
@@ -59,7 +50,7 @@ use Rattle.world_effects.specs.Sums.{AllSent}
 use Rattle.world_meaning.proofs.Ends.{opposite-twice}
 use Rattle.world_meaning.specs.Invariant.{AreRight, Invariant, IsBackRight, is_message_of}
 use Rattle.world_meaning.specs.Packets.{Links, links_of}
-use Rattle.world_meaning.specs.StandsFor.{AreLinksOf, home_of}
+use Rattle.world_meaning.specs.StandsFor.{AreLinksOf}
 use Rattle.silent_events.proofs.Alike.{IsQuietly-same, some-same}
 use Rattle.silent_events.proofs.Clauses.{links-still}
 use Rattle.silent_events.proofs.Passing.{passing-right}
@@ -78,7 +69,7 @@ use Rattle.arrived_ends.proofs.Moves.{moves-links, moves-right}
 use Rattle.arrived_ends.proofs.Values.{arrivals-true, same-value, settles-sound}
 use Rattle.returned_events.specs.Returned.{IsReturned, IsReturning, over_view, returning}
 use Rattle.returned_events.proofs.Returned.{returned-links, returned-right}
-use Rattle.returned_events.proofs.Returns.{back, back-another, back-came, back-other, back-own}
+use Rattle.returned_events.proofs.Returns.{back, back-came, back-other}
 
 -- the end is at its kernel with view x, among these entries, of this state of the service, as the ends that came come to be here; after is
 -- the state of the service when the send is over

@@ -1,6 +1,6 @@
 -- A back without ends is taken at its send, which is over: all clauses on links are true then.
-use Rattle.std.proofs.Common.{◌≡◌, ◌≢◌, ◌⊎◌, ◌↔◌, inl, inr, ℕ, ◌+◌, ◌<◌, ◌≤◌, Bool, true, false, nat_eq, leb, if◌then◌else◌, List, [], ◌∷◌, length, Contains, IfSome, None, Option, Some, is_some, refl, sym, ap, subst, ◌∙◌, arith, true≢false, ne_eqb}
-use Rattle.std.proofs.lemmas.Bool.Decides.{eqb_tells, leb_tells}
+use Rattle.std.proofs.Common.{◌≡◌, ◌≢◌, ◌⊎◌, ◌↔◌, inl, inr, ℕ, ◌+◌, ◌<◌, ◌≤◌, Bool, true, false, nat_eq, if◌then◌else◌, [], length, Contains, IfSome, Option, Some, is_some, refl, sym, ap, subst, ◌∙◌, arith, true≢false}
+use Rattle.std.proofs.lemmas.Bool.Decides.{eqb_tells}
 use Rattle.std.proofs.lemmas.List.Elements.{All-contains}
 use Rattle.charlotte_calls.specs.Names.{opposite}
 use Rattle.charlotte_calls.specs.Packets.{is_addressed}
@@ -19,7 +19,6 @@ use Rattle.end_table.specs.declared.entry.HereView.{HereView}
 use Rattle.end_table.specs.declared.entry.Holder.{Holder}
 use Rattle.end_table.specs.declared.entry.Holder.TheVariants as holder
 use Rattle.end_table.specs.declared.entry.Inward.TheVariants as kernel_inward
-use Rattle.end_table.specs.declared.entry.Outward.TheVariants as kernel_outward
 use Rattle.kernel_sound.specs.Sound.{addressee}
 use Rattle.kernel_step.specs.Actions.{here, is_withdrawing}
 use Rattle.kernel_step.specs.Rows.{ends_in, is_here}
@@ -28,21 +27,19 @@ use Rattle.service_step.specs.Ends.{is_living, is_made, is_posted, is_taken, mat
 use Rattle.service_step.specs.State.{Process, State}
 use Rattle.service_step.specs.declared.state.End.{End}
 use Rattle.service_step.specs.declared.state.Outward.TheVariants as outward
-use Rattle.service_step.specs.declared.state.Phase.TheVariants as phase
 use Rattle.service_step.specs.declared.state.Place.TheVariants as place
 use Rattle.world_effects.proofs.Allowed.{sum_over-least}
 use Rattle.world_effects.proofs.Ends.{inward-same, outward-same}
-use Rattle.world_effects.proofs.Lists.{first, none-there}
+use Rattle.world_effects.proofs.Lists.{none-there}
 use Rattle.world_effects.proofs.Packets.{each-after, left-after, left-before, left_or_sent, taken-before, under_way-still, under_way-was}
 use Rattle.world_effects.proofs.Sums.{sum_over-after}
 use Rattle.world_effects.specs.Change.{Change, Changes}
 use Rattle.world_effects.specs.Sums.{sum_taken}
-use Rattle.world_effects.specs.Under.{IsLeft, IsSent, IsTaken}
 use Rattle.world_meaning.proofs.Ends.{opposite-twice}
 use Rattle.world_meaning.proofs.Sums.{over-same}
-use Rattle.world_meaning.specs.Fields.{Stand, At, Flying, HasFields, IsAskedAs, IsAsking, IsHeard, IsNews, IsUnserved, IsUnwantOf, value_of}
-use Rattle.world_meaning.specs.Invariant.{AreAsked, AreCounted, AreMarked, AreNamed, AreRight, AreSentOnce, AreWanted, IsBackRight, IsHonest, IsPacketRight, IsServed, NamesBelow, is_message_of, is_taken_of, is_unwanted_to}
-use Rattle.world_meaning.specs.Packets.{Each, IsBackOf, IsParcelFor, IsParcelOf, IsTakenOf, IsUnderWay, IsUnwantedOf, Links, how_many, one_if, over_kernels, sum_over, values_for, values_of}
+use Rattle.world_meaning.specs.Fields.{Stand, At, Flying, HasFields, IsAskedAs, IsAsking, IsNews, IsUnserved, IsUnwantOf, value_of}
+use Rattle.world_meaning.specs.Invariant.{AreAsked, AreCounted, AreNamed, AreRight, AreSentOnce, AreWanted, IsBackRight, IsHonest, IsPacketRight, IsServed, NamesBelow, is_message_of, is_taken_of, is_unwanted_to}
+use Rattle.world_meaning.specs.Packets.{IsBackOf, IsParcelFor, IsParcelOf, IsTakenOf, IsUnderWay, IsUnwantedOf, Links, how_many, one_if, over_kernels, sum_over, values_for, values_of}
 use Rattle.world_meaning.specs.StandsFor.{AreLinksOf, IsEndOf, IsInMessage, IsWaitingWith, home_of, standing}
 use Rattle.silent_events.proofs.Alike.{some-same}
 use Rattle.silent_events.proofs.Places.{here-kernel}
@@ -422,9 +419,9 @@ module _ {i : ℕ} {w : Links} {c : Change} {from stamp : ℕ} {s : State} {to :
         named = named-still;
         few = λ e stand m has. ready.right.few e stand m (fields e stand m has);
         marked = λ e. record {
-            destroyed = λ j m there. place-same e ∙ (ready.right.marked e).destroyed j m (mark j e m there);
-            once = λ j h m l one two. (ready.right.marked e).once j h m l (mark j e m one) (mark h e l two);
-          };
+          destroyed = λ j m there. place-same e ∙ (ready.right.marked e).destroyed j m (mark j e m there);
+          once = λ j h m l one two. (ready.right.marked e).once j h m l (mark j e m one) (mark h e l two);
+        };
         counted = counted-still;
         honest = honest-still;
         asked = asked-still;

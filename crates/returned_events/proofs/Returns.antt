@@ -1,5 +1,5 @@
 -- The step back at an end that lives: the service allows it where its opposite is destroyed; what it makes of ends and processes.
-use Rattle.std.proofs.Common.{◌≡◌, ℕ, Bool, true, false, nat_eq, ◌&&◌, ◌||◌, not, if◌then◌else◌, List, [], ◌∷◌, ◌++◌, Contains, Some, is_some, refl, sym, ap, subst, ◌∙◌, true≢false, eq-eqb}
+use Rattle.std.proofs.Common.{◌≡◌, ℕ, Bool, true, false, nat_eq, ◌&&◌, ◌||◌, not, if◌then◌else◌, List, [], ◌∷◌, ◌++◌, Contains, Some, is_some, refl, ap, ◌∙◌, eq-eqb}
 use Rattle.charlotte_calls.specs.Names.{opposite}
 use Rattle.charlotte_calls.specs.declared.calls.Report.{Report}
 use Rattle.charlotte_calls.specs.declared.calls.ServiceStep.TheVariants as step
@@ -8,8 +8,8 @@ use Rattle.charlotte_calls.specs.declared.names.Outcome.TheVariants as outcome
 use Rattle.charlotte_calls.specs.declared.names.Pid.{Pid}
 use Rattle.end_table.specs.Place.{end_eq}
 use Rattle.service_change.proofs.EndEq.{Contains-among, among, among-Contains, at_place, places-among, places-other, puts-at, puts-other}
-use Rattle.service_step.specs.Ends.{carried_by, is_destroyed, is_made, matched_message, noticed_end, owner, places, puts, returned_end, returns, to_owner, turns_outward}
-use Rattle.service_step.specs.State.{Process, State, gains, is_cancelling, owner_cancels, send_report, tells}
+use Rattle.service_step.specs.Ends.{carried_by, is_destroyed, is_made, matched_message, owner, places, puts, returned_end, returns, to_owner, turns_outward}
+use Rattle.service_step.specs.State.{State, gains, is_cancelling, owner_cancels, send_report, tells}
 use Rattle.service_step.specs.Steps.{IsServiceStep, after_return, agree, dead_reports, returned_reports, tells_returned}
 use Rattle.service_step.specs.declared.state.End.{End}
 use Rattle.service_step.specs.declared.state.Message.{Message}

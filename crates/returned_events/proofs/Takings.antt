@@ -1,5 +1,5 @@
 -- The service goes with the taking of a back at its send: where its end knows of the death of the link, and where that is noticed now.
-use Rattle.std.proofs.Common.{◌≡◌, ◌≢◌, ◌⊎◌, inl, inr, ℕ, ◌+◌, ◌<◌, Bool, true, false, nat_eq, ◌&&◌, not, if◌then◌else◌, List, [], ◌∷◌, ◌++◌, length, Contains, None, Some, refl, sym, ap, subst, ◌∙◌, append_assoc, append-nil, true≢false, eq-eqb, eqb-true}
+use Rattle.std.proofs.Common.{◌≡◌, ◌⊎◌, inl, inr, ℕ, ◌<◌, Bool, true, false, nat_eq, ◌&&◌, not, if◌then◌else◌, List, [], ◌∷◌, ◌++◌, length, Contains, None, Some, refl, sym, ap, subst, ◌∙◌, true≢false, append_assoc, eq-eqb, eqb-true}
 use Rattle.std.specs.List.{AllByRecursion, flat_map}
 use Rattle.charlotte_calls.specs.Names.{opposite}
 use Rattle.charlotte_calls.specs.declared.calls.Answer.{Answer}
@@ -14,7 +14,7 @@ use Rattle.charlotte_calls.specs.declared.picture.MovingPicture.{MovingPicture}
 use Rattle.charlotte_calls.specs.declared.picture.Picture.{Picture}
 use Rattle.charlotte_calls.specs.declared.picture.PictureWhat.{PictureWhat}
 use Rattle.charlotte_calls.specs.declared.picture.PictureWhat.TheVariants as packet
-use Rattle.end_table.proofs.EndEq.{end_eq-refl, end_eq-same}
+use Rattle.end_table.proofs.EndEq.{end_eq-same}
 use Rattle.end_table.specs.Entries.{settled}
 use Rattle.end_table.specs.Place.{end_eq}
 use Rattle.end_table.specs.Table.{IsHereAnd, IsIdle}
@@ -23,8 +23,7 @@ use Rattle.end_table.specs.declared.entry.Entry.TheVariants as entry
 use Rattle.end_table.specs.declared.entry.HereView.{HereView}
 use Rattle.end_table.specs.declared.entry.Holder.{Holder}
 use Rattle.end_table.specs.declared.entry.Holder.TheVariants as holder
-use Rattle.end_table.specs.declared.entry.Inward.{Inward as KernelInward}
-use Rattle.end_table.specs.declared.entry.Inward.TheVariants as kernel_inward
+use Rattle.end_table.specs.declared.entry.Outward.{Outward as KernelOutward}
 use Rattle.end_table.specs.declared.entry.Outward.TheVariants as kernel_outward
 use Rattle.kernel_effects.proofs.Uses.{all-append, forget-each}
 use Rattle.kernel_effects.specs.Actions.{arrival_packets, cancel_notice, forget_packets, held_entry, notice_effect, noticed_view, receive_notice, send_notice}
@@ -35,11 +34,11 @@ use Rattle.kernel_outcomes.specs.Closing.{AtMostOne}
 use Rattle.kernel_sound.specs.Sound.{addressee}
 use Rattle.kernel_step.specs.Actions.{enclosed_of, here, is_withdrawing, noticed_outward, send_report}
 use Rattle.kernel_step.specs.Rows.{awaits, ends_in, is_matched}
-use Rattle.kernel_world.specs.World.{Takes, World, happens}
+use Rattle.kernel_world.specs.World.{Takes, World}
 use Rattle.service_change.proofs.EndEq.{puts-at, puts-other}
 use Rattle.service_consistent.proofs.Laws.{consistent_after}
 use Rattle.service_lawful.specs.Consistent.{IsConsistent}
-use Rattle.service_step.specs.Ends.{carried_by, is_living, is_made, noticed_end, notices, owner, places, puts as service_puts, to_owner, waiting_message}
+use Rattle.service_step.specs.Ends.{carried_by, is_made, noticed_end, notices, owner, places, puts as service_puts, to_owner, waiting_message}
 use Rattle.service_step.specs.Lawful.{message_of}
 use Rattle.service_step.specs.State.{Process, State, is_cancelling}
 use Rattle.service_step.specs.State as service
@@ -55,9 +54,8 @@ use Rattle.world_effects.specs.Named.{IsSentWithin}
 use Rattle.world_effects.specs.Sums.{AllSent}
 use Rattle.world_meaning.proofs.Ends.{eq-same}
 use Rattle.world_meaning.proofs.Goes.{Goes}
-use Rattle.world_meaning.specs.Invariant.{AreRight, Invariant, IsBackRight, NamesBelow}
-use Rattle.world_meaning.specs.Packets.{Links, links_of}
-use Rattle.world_meaning.specs.StandsFor.{AreLinksOf, home_of}
+use Rattle.world_meaning.specs.Invariant.{Invariant, IsBackRight, NamesBelow}
+use Rattle.world_meaning.specs.Packets.{links_of}
 use Rattle.silent_events.proofs.Alike.{some-same}
 use Rattle.silent_events.specs.Quiet.{IsGoneWell, IsSentWell, is_telling, tells_place}
 use Rattle.answered_events.proofs.Dropped.{awaits-matched}
@@ -67,7 +65,7 @@ use Rattle.noticed_events.proofs.Notices.{cancels-same, notice-links, notice-rig
 use Rattle.arrived_ends.proofs.Closes.{answered-goes, reported-goes}
 use Rattle.arrived_ends.proofs.Owned.{busy-owned}
 use Rattle.returned_events.proofs.Backs.{IsBase, back_does, below-home, coming, gone, happened, links-then, near, next, right, right-then, sound-then, view-end}
-use Rattle.returned_events.proofs.Returns.{back, back-another, back-first, back-noticed, back-own, may-return}
+use Rattle.returned_events.proofs.Returns.{back-another, back-first, back-noticed, back-own, may-return}
 
 module _ (i : ℕ) (w : World) (s : State) (is : Invariant i w s) (k from stamp : ℕ) (to : EndId) (n : ℕ) (ms : List MovingPicture) (others : List Picture) (there : w.packets from k ≡ record { stamp = stamp; what = packet.Back to n ms } ∷ others)
     (o : IsOwnedAt w s k to) (waits : o.view.outward ≡ kernel_outward.Matched n) where
@@ -377,3 +375,24 @@ back-given-goes i w s is k from stamp to n ms others there meets =
     let o = busy-owned is k to v.0 v.1 (λ idle. let both : kernel_outward.Idle ≡ kernel_outward.Matched n = sym idle.outward ∙ v.2 in cc) in
     let same : v.0 ≡ o.view = some-same v.0 o.view (ap here (sym v.1 ∙ o.here)) in
     back-meets i w s is k from stamp to n ms others there o (subst (λ (z : HereView). z.outward ≡ kernel_outward.Matched n) same v.2)
+
+matched-so : (n : ℕ) (x : KernelOutward) → is_matched n x ≡ true → x ≡ kernel_outward.Matched n
+matched-so n (kernel_outward.Matched m) is = ap kernel_outward.Matched (eqb-true m n is)
+matched-so n kernel_outward.Idle is = absurd (true≢false (sym is))
+matched-so n (kernel_outward.Waiting m bytes xs) is = absurd (true≢false (sym is))
+matched-so n kernel_outward.Unreported is = absurd (true≢false (sym is))
+
+-- a back that meets its send at its kernel, as the row of backs tests it
+pub back-awaited-goes : (i : ℕ) (w : World) (s : State) → Invariant i w s → (k from stamp : ℕ) (to : EndId) (n : ℕ) (ms : List MovingPicture) (others : List Picture)
+    → w.packets from k ≡ record { stamp = stamp; what = packet.Back to n ms } ∷ others → (v : HereView) → awaits n ((w.kernel k).table to) ≡ Some v → Goes i w s (Takes k from)
+back-awaited-goes i w s is k from stamp to n ms others there v found = back-given-goes i w s is k from stamp to n ms others there (by ((w.kernel k).table to) found)
+  where
+    by : (y : Entry) → awaits n y ≡ Some v → IsHereAnd y (λ u. u.outward ≡ kernel_outward.Matched n)
+    by (entry.Here u) is = one (is_matched n u.outward) refl is
+      where
+        one : (b : Bool) → is_matched n u.outward ≡ b → (if b then Some u else None) ≡ Some v → u.outward ≡ kernel_outward.Matched n
+        one true told is = matched-so n u.outward told
+        one false told is = absurd cc
+    by entry.Nothing is = absurd cc
+    by (entry.Left there hops) is = absurd cc
+    by (entry.Destroyed m) is = absurd cc

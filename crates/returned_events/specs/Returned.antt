@@ -13,7 +13,7 @@ use Rattle.service_step.specs.State.{Process, State}
 use Rattle.service_step.specs.declared.state.End.{End}
 use Rattle.service_step.specs.declared.state.Outward.TheVariants as outward
 use Rattle.service_step.specs.declared.state.Phase.TheVariants as phase
-use Rattle.world_effects.specs.Change.{Change, Changes}
+use Rattle.world_effects.specs.Change.{Change}
 use Rattle.world_meaning.specs.Invariant.{AreRight}
 use Rattle.world_meaning.specs.Packets.{Links}
 use Rattle.world_meaning.specs.StandsFor.{AreLinksOf}
