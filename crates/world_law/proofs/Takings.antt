@@ -1,5 +1,5 @@
 -- The service goes with the taking of any packet.
-use Rattle.std.proofs.Common.{◌≡◌, ◌⊎◌, inl, inr, ℕ, ◌^◌, ◌≤◌, ◌<◌, Bool, true, false, if◌then◌else◌, nat_eq, leb, List, ◌∷◌, None, Some, refl, sym, ap, subst, ◌∙◌, eqb-true}
+use Rattle.std.proofs.Common.{◌≡◌, ◌⊎◌, inl, inr, ℕ, ◌^◌, ◌≤◌, ◌<◌, Bool, true, false, leb, List, ◌∷◌, Option, None, Some, refl, sym, subst}
 use Rattle.std.proofs.lemmas.Bool.Decides.{leb_tells}
 use Rattle.charlotte_calls.specs.declared.names.EndId.{EndId}
 use Rattle.charlotte_calls.specs.declared.picture.Picture.{Picture}
@@ -9,20 +9,17 @@ use Rattle.end_table.specs.Table.{IfHere, IsHereAnd}
 use Rattle.end_table.specs.declared.entry.Entry.{Entry}
 use Rattle.end_table.specs.declared.entry.Entry.TheVariants as entry
 use Rattle.end_table.specs.declared.entry.HereView.{HereView}
-use Rattle.end_table.specs.declared.entry.Inward.{Inward}
-use Rattle.end_table.specs.declared.entry.Inward.TheVariants as inward
 use Rattle.end_table.specs.declared.entry.Outward.{Outward}
 use Rattle.end_table.specs.declared.entry.Outward.TheVariants as outward
 use Rattle.kernel_world.specs.World.{World, Takes}
 use Rattle.service_step.specs.State.{State}
 use Rattle.answered_events.proofs.Takings.{taken-goes, unwanted-goes}
-use Rattle.arrived_events.proofs.Parcels.{parcel-taken-goes}
+use Rattle.arrived_events.proofs.Parcels.{parcel-asked-goes}
 use Rattle.dropped_messages.proofs.Unmet.{back-unmet-goes}
 use Rattle.forwarded_events.proofs.Backs.{parcel-back-goes}
-use Rattle.kernel_step.specs.Rows.{asks, awaits, is_asked, is_matched}
-use Rattle.returned_events.proofs.Takings.{back-given-goes}
+use Rattle.kernel_step.specs.Rows.{asks, awaits}
+use Rattle.returned_events.proofs.Takings.{back-awaited-goes}
 use Rattle.matched_events.proofs.Wants.{want-matched-goes}
-use Rattle.world_meaning.specs.Fields.{IsAskedAs}
 use Rattle.noticed_events.proofs.Gone.{gone-goes}
 use Rattle.silent_events.proofs.Hearing.{hearing-goes}
 use Rattle.silent_events.proofs.Taking.{taking-goes}
@@ -30,40 +27,6 @@ use Rattle.wanted_events.proofs.Unwanting.{unwant-goes}
 use Rattle.wanted_events.proofs.Wanting.{IsNotWaiting, want-kept-goes}
 use Rattle.world_meaning.proofs.Goes.{Goes}
 use Rattle.world_meaning.specs.Invariant.{Invariant}
-
--- an entry started the receive r, or did not
-asked-or-not : (r : ℕ) (x : Entry) → IsHereAnd x (λ v. IsAskedAs r v.inward) ⊎ (asks r x ≡ None)
-asked-or-not r entry.Nothing = inr refl
-asked-or-not r (entry.Left to hops) = inr refl
-asked-or-not r (entry.Destroyed m) = inr refl
-asked-or-not r (entry.Here v) = by v.inward refl
-  where
-    number : (m : ℕ) (b : Bool) → nat_eq m r ≡ b → is_asked r v.inward ≡ nat_eq m r → (m ≡ r → IsAskedAs r v.inward) → IsAskedAs r v.inward ⊎ (asks r (entry.Here v) ≡ None)
-    number m true same is asked = inl (asked (eqb-true m r same))
-    number m false apart is asked = inr (ap (λ b. if b then Some v else None) (is ∙ apart))
-
-    by : (x : Inward) → v.inward ≡ x → IsAskedAs r v.inward ⊎ (asks r (entry.Here v) ≡ None)
-    by inward.Idle is = inr (ap (λ x. if is_asked r x then Some v else None) is)
-    by inward.Unreported is = inr (ap (λ x. if is_asked r x then Some v else None) is)
-    by (inward.Posted m) is = number m (nat_eq m r) refl (ap (is_asked r) is) (λ same. subst (IsAskedAs r) (sym is) same)
-    by (inward.Withdrawing m) is = number m (nat_eq m r) refl (ap (is_asked r) is) (λ same. subst (IsAskedAs r) (sym is) same)
-
--- the send n of an entry was matched, or was not
-awaited-or-not : (n : ℕ) (x : Entry) → IsHereAnd x (λ v. v.outward ≡ outward.Matched n) ⊎ (awaits n x ≡ None)
-awaited-or-not n entry.Nothing = inr refl
-awaited-or-not n (entry.Left to hops) = inr refl
-awaited-or-not n (entry.Destroyed m) = inr refl
-awaited-or-not n (entry.Here v) = by v.outward refl
-  where
-    number : (m : ℕ) (b : Bool) → nat_eq m n ≡ b → v.outward ≡ outward.Matched m → (v.outward ≡ outward.Matched n) ⊎ (awaits n (entry.Here v) ≡ None)
-    number m true same is = inl (is ∙ ap outward.Matched (eqb-true m n same))
-    number m false apart is = inr (ap (λ b. if b then Some v else None) (ap (is_matched n) is ∙ apart))
-
-    by : (x : Outward) → v.outward ≡ x → (v.outward ≡ outward.Matched n) ⊎ (awaits n (entry.Here v) ≡ None)
-    by outward.Idle is = inr (ap (λ x. if is_matched n x then Some v else None) is)
-    by (outward.Waiting m bytes xs) is = inr (ap (λ x. if is_matched n x then Some v else None) is)
-    by outward.Unreported is = inr (ap (λ x. if is_matched n x then Some v else None) is)
-    by (outward.Matched m) is = number m (nat_eq m n) refl is
 
 module _ (i : ℕ) (w : World) (s : State) (is : Invariant i w s) (room : i < 2 ^ 31) (k from stamp : ℕ) (others : List Picture) where
   abbrev First : PictureWhat → Type 0
@@ -124,17 +87,17 @@ module _ (i : ℕ) (w : World) (s : State) (is : Invariant i w s) (room : i < 2 
   takes-goes (packet.Want to n j h) there = takes-want to n j h there ((w.kernel k).table to) refl
   takes-goes (packet.Unwant to n j h) there = takes-unwant to n j h there ((w.kernel k).table to) refl
   takes-goes (packet.Unwanted to n j h) there = unwanted-goes i w s is k from stamp to n j h others there
-  takes-goes (packet.Parcel to m n j h bytes ms) there = meets (asked-or-not n ((w.kernel k).table to))
+  takes-goes (packet.Parcel to m n j h bytes ms) there = meets (asks n ((w.kernel k).table to)) refl
     where
-      meets : IsHereAnd ((w.kernel k).table to) (λ v. IsAskedAs n v.inward) ⊎ (asks n ((w.kernel k).table to) ≡ None) → Goes i w s (Takes k from)
-      meets (inl asked) = parcel-taken-goes i w s is k from stamp to m n j h bytes ms others there asked
-      meets (inr none) = parcel-back-goes i w s is room k from stamp to m n j h bytes ms others there none
+      meets : (x : Option HereView) → asks n ((w.kernel k).table to) ≡ x → Goes i w s (Takes k from)
+      meets (Some v) asked = parcel-asked-goes i w s is k from stamp to m n j h bytes ms others there v asked
+      meets None none = parcel-back-goes i w s is room k from stamp to m n j h bytes ms others there none
   takes-goes (packet.Taken to m j h) there = taken-goes i w s is k from stamp to m j h others there
-  takes-goes (packet.Back to m ms) there = meets (awaited-or-not m ((w.kernel k).table to))
+  takes-goes (packet.Back to m ms) there = meets (awaits m ((w.kernel k).table to)) refl
     where
-      meets : IsHereAnd ((w.kernel k).table to) (λ v. v.outward ≡ outward.Matched m) ⊎ (awaits m ((w.kernel k).table to) ≡ None) → Goes i w s (Takes k from)
-      meets (inl matched) = back-given-goes i w s is k from stamp to m ms others there matched
-      meets (inr none) = back-unmet-goes i w s is k from stamp to m ms others there none
+      meets : (x : Option HereView) → awaits m ((w.kernel k).table to) ≡ x → Goes i w s (Takes k from)
+      meets (Some v) awaited = back-awaited-goes i w s is k from stamp to m ms others there v awaited
+      meets None none = back-unmet-goes i w s is k from stamp to m ms others there none
   takes-goes (packet.Gone to j) there = gone-goes i w s is k from stamp to j others there
   takes-goes (packet.Moved to j h) there = takes-moved to j h there ((w.kernel k).table to) refl
   takes-goes (packet.Known to h) there = taking-goes i w s is k from (at (packet.Known to h)) others there tt
