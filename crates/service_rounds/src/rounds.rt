@@ -13,7 +13,7 @@ const P: Pid = Pid(0);
 /// The steps of one message.
 const STEPS_OF_A_ROUND: u32 = 9;
 
-/// Makes the links, and then whole rounds over them in turn, and no more steps than these; tells how many steps there were.
+/// Makes the links, and then as many whole rounds over them in turn as have room in these steps; tells how many steps there were.
 pub(crate) fn rounds(alloc: Global, links: u32, steps: u32) -> Result<u64, Trouble> {
     let mut service = service_of_one(alloc)?;
     for link in 0..links {
