@@ -44,18 +44,15 @@ use Rattle.world_effects.specs.Change.{Happens}
 use Rattle.world_effects.specs.Events.{taking}
 use Rattle.world_meaning.proofs.Ends.{eq-same}
 use Rattle.world_meaning.proofs.Goes.{Goes}
+use Rattle.world_meaning.proofs.Plain.{taken-passes, there-here}
 use Rattle.world_meaning.specs.Invariant.{Invariant, is_taken_of}
 use Rattle.world_meaning.specs.Packets.{IsParcelFor, IsTakenOf, IsUnderWay, IsUnwantedOf, Links, how_many, links_of, one_if}
 use Rattle.world_meaning.specs.StandsFor.{IsOutwardOf, IsProcessOf, IsWaitingWith, home_of, service_phase}
 use Rattle.answered_events.proofs.Dropped.{awaits-matched}
 use Rattle.answered_events.proofs.Freed.{put-table-sound}
-use Rattle.answered_events.proofs.Meets.{IsOwnedAt, right-first, taken-meets, there-here}
+use Rattle.answered_events.proofs.Meets.{IsOwnedAt, right-first, taken-meets}
 use Rattle.answered_events.proofs.Turned.{IsTurn, middle, middle-counts, middle-number, middle-still, middle-was, only-here, turned-links, turned-right, turned_view, with_entry}
 use Rattle.answered_events.proofs.World.{processes-told, setting-after}
-
-taken-of : (e : EndId) (n : ℕ) (q : PictureWhat) → IsTakenOf e n q → is_taken_of e q ≡ true
-taken-of e n (packet.Taken f m at hops) is = subst (λ z. end_eq e z ≡ true) (sym is.0) (end_eq-refl e)
-taken-of e n _ is = absurd is
 
 pub waiting-Waiting : (x : KernelPhase) → is_waiting x ≡ true → x ≡ kernel_phase.Waiting
 waiting-Waiting kernel_phase.Waiting is = refl
@@ -203,7 +200,7 @@ module _ (i : ℕ) (w : World) (s : State) (is : Invariant i w s) (k from stamp 
 
       none-more : (m : ℕ) → IsUnderWay x (IsTakenOf to m) → ⊥
       none-more m under =
-          let least = middle-counts i w s is k from q others there to at hops (refl, refl, refl) o out v.inward f [] rs happened (IsTakenOf to m) (is_taken_of to) (λ a. a) (λ z. taken-of to m z) under in
+          let least = middle-counts i w s is k from q others there to at hops (refl, refl, refl) o out v.inward f [] rs happened (IsTakenOf to m) (is_taken_of to) (λ a. a) (λ z. taken-passes to m z) under in
           let none = none-left in
           omega (arith, least, none)
 

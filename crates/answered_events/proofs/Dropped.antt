@@ -22,7 +22,6 @@ use Rattle.kernel_step.specs.Rows.{awaits, is_matched}
 use Rattle.kernel_world.specs.World.{World, Takes, happens}
 use Rattle.service_step.specs.Ends.{is_living, is_started_inward, is_taken}
 use Rattle.service_step.specs.State.{State}
-use Rattle.service_step.specs.declared.state.Inward.{Inward}
 use Rattle.service_step.specs.declared.state.Inward.TheVariants as inward
 use Rattle.service_step.specs.declared.state.Place.TheVariants as place
 use Rattle.world_effects.proofs.Allowed.{between, takes-allowed}
@@ -38,25 +37,12 @@ use Rattle.silent_events.proofs.Alike.{IsQuietly-same, some-same}
 use Rattle.silent_events.proofs.Clauses.{links-still}
 use Rattle.silent_events.proofs.Passing.{passing-right}
 use Rattle.silent_events.specs.Quiet.{IsPassing, IsQuiet}
+use Rattle.world_meaning.proofs.Plain.{unstarted-inward}
 use Rattle.answered_events.specs.Swapped.{IsAnswer, IsAnswered, Same, news, swapped}
 use Rattle.answered_events.proofs.Meets.{right-first, stands-first, taken-meets}
 use Rattle.answered_events.proofs.Settled.{settled-links, settled-right}
 use Rattle.answered_events.proofs.Swap.{swapped-changes, swapped-still, swapped-sum, swapped-was}
 use Rattle.answered_events.proofs.World.{processes-kept, setting-after, sound-same}
-
--- of a receive that is not started, packets say nothing
-over-same : (w x : Links) (e : EndId) (at : KernelInward) (i : Inward) → is_started_inward i ≡ false → IsInwardOf w e at i → IsInwardOf x e at i
-over-same w x e at inward.Posted over is = absurd (true≢false over)
-over-same w x e at inward.Withdrawn over is = absurd (true≢false over)
-over-same w x e at (inward.Matched n) over is = absurd (true≢false over)
-over-same w x e kernel_inward.Idle inward.Idle over is = is
-over-same w x e (kernel_inward.Posted v) inward.Idle over is = absurd is
-over-same w x e (kernel_inward.Withdrawing v) inward.Idle over is = absurd is
-over-same w x e kernel_inward.Unreported inward.Idle over is = absurd is
-over-same w x e kernel_inward.Idle inward.Reported over is = absurd is
-over-same w x e (kernel_inward.Posted v) inward.Reported over is = absurd is
-over-same w x e (kernel_inward.Withdrawing v) inward.Reported over is = absurd is
-over-same w x e kernel_inward.Unreported inward.Reported over is = is
 
 pub answer-parcel_for : (t : EndId) (j h : ℕ) (e : EndId) (r n : ℕ) (q : PictureWhat) → IsAnswer t j h q → IsParcelFor e r n q → ⊥
 answer-parcel_for t j h e r n (packet.Taken to m at hops) is says = says
@@ -144,7 +130,7 @@ module _ (i : ℕ) (w : World) (s : State) (is : Invariant i w s) (k from : ℕ)
           inward-same (links_of w) x e parcels
           (λ r. (swapped-was b from q (news to at hops q) refl (w.kernel k).table (IsUnwantedOf e r) (λ a. a), swapped-still b from q (news to at hops q) refl (w.kernel k).table (IsUnwantedOf e r) (apart r)))
           o.inward (s.ends e).inward agrees.inward
-      by (inr idle) = over-same (links_of w) x e o.inward (s.ends e).inward idle agrees.inward
+      by (inr idle) = unstarted-inward (links_of w) x e o.inward (s.ends e).inward idle agrees.inward
 
   answered : IsAnswered (links_of w) x s s.ends s.process
   answered =

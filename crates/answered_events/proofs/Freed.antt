@@ -39,6 +39,7 @@ use Rattle.world_effects.specs.Change.{Happens}
 use Rattle.world_effects.specs.Events.{taking}
 use Rattle.world_meaning.proofs.Ends.{eq-same}
 use Rattle.world_meaning.proofs.Goes.{Goes}
+use Rattle.world_meaning.proofs.Plain.{cancelling-same, owner-same}
 use Rattle.world_meaning.specs.Fields.{IsAskedAs}
 use Rattle.world_meaning.specs.Invariant.{Invariant, is_taken_of, is_unwanted_to}
 use Rattle.world_meaning.specs.Packets.{IsParcelFor, IsTakenOf, IsUnderWay, IsUnwantedOf, Links, links_of, one_if}
@@ -62,12 +63,6 @@ unwanted-counts e n _ is = absurd is
 -- who owns an end, owns it alone
 same-owner : (t : EndId → End) (e : EndId) (p q : Pid) → (t e).place ≡ place.Owned p → (t e).place ≡ place.Owned q → p ≡ q
 same-owner t e p q own other = owner-same p q (sym own ∙ other)
-  where
-    owner-same : (p q : Pid) → place.Owned p ≡ place.Owned q → p ≡ q
-    owner-same p q same = cc
-
-cancelling-same : (e f : EndId) → phase.Cancelling e ≡ phase.Cancelling f → e ≡ f
-cancelling-same e f same = cc
 
 withdrawing-same : (r n : ℕ) → kernel_inward.Withdrawing r ≡ kernel_inward.Withdrawing n → r ≡ n
 withdrawing-same r n same = cc

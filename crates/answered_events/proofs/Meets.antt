@@ -5,7 +5,6 @@ use Rattle.charlotte_calls.specs.declared.names.EndId.{EndId}
 use Rattle.charlotte_calls.specs.declared.names.Pid.{Pid}
 use Rattle.charlotte_calls.specs.declared.picture.Picture.{Picture}
 use Rattle.end_table.specs.Table.{IfHere, IsHereAnd, IsIdle}
-use Rattle.end_table.specs.declared.entry.Entry.{Entry}
 use Rattle.end_table.specs.declared.entry.Entry.TheVariants as entry
 use Rattle.end_table.specs.declared.entry.HereView.{HereView}
 use Rattle.end_table.specs.declared.entry.Holder.{Holder}
@@ -28,10 +27,7 @@ use Rattle.world_meaning.specs.Packets.{Links, links_of}
 use Rattle.world_meaning.specs.StandsFor.{IsEndOf, IsOutwardOf, home_of}
 use Rattle.silent_events.proofs.Alike.{some-same}
 use Rattle.silent_events.proofs.Places.{here-kernel}
-
-pub there-here : (x : Entry) (P : HereView → Type 0) → IsHereAnd x P → (v : HereView) × (x ≡ entry.Here v) × P v
-there-here (entry.Here v) P has = (v, refl, has)
-there-here _ P has = absurd has
+use Rattle.world_meaning.proofs.Plain.{there-here}
 
 -- an end is here at kernel k, and process p of that kernel owns it
 pub record IsOwnedAt (w : World) (s : State) (k : ℕ) (e : EndId) : Type 0 where

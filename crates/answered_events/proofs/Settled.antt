@@ -1,5 +1,5 @@
 -- Where an answer is replaced by its news, and what it is about is over, all clauses on links are true.
-use Rattle.std.proofs.Common.{◌≡◌, ◌⊎◌, ◌↔◌, inl, inr, ℕ, ◌+◌, ◌<◌, ◌≤◌, true, false, nat_lt, ◌&&◌, if◌then◌else◌, List, [], ◌∷◌, length, Contains, is_some, Some, refl, sym, ap, subst, ◌∙◌, arith}
+use Rattle.std.proofs.Common.{◌≡◌, ◌⊎◌, ◌↔◌, inl, inr, ℕ, ◌+◌, ◌<◌, ◌≤◌, true, false, nat_lt, ◌&&◌, if◌then◌else◌, [], ◌∷◌, length, Contains, is_some, Some, refl, sym, ap, subst, ◌∙◌, arith}
 use Rattle.std.proofs.lemmas.List.Elements.{All-contains, Contains-append_cases, Contains-append_right}
 use Rattle.charlotte_calls.specs.Names.{opposite}
 use Rattle.charlotte_calls.specs.Packets.{is_addressed, names_kernels_below}
@@ -32,16 +32,14 @@ use Rattle.world_meaning.specs.Invariant.{AreAsked, AreCounted, AreMarked, AreNa
 use Rattle.world_meaning.specs.Packets.{Each, IsBackOf, IsParcelFor, IsParcelOf, IsTakenOf, IsUnderWay, IsUnwantedOf, Links, how_many, one_if, over_kernels, sum_over, values_for, values_of}
 use Rattle.world_meaning.specs.StandsFor.{AreLinksOf, IsInMessage, IsWaitingWith, home_of, standing}
 use Rattle.silent_events.proofs.Alike.{some-same}
+use Rattle.world_meaning.proofs.Plain.{none-in, unwant-asks, view-same}
 use Rattle.answered_events.specs.Swapped.{IsAnswer, IsAnswered, IsSettled, IsViewSettled, Same, Turned, instead, news, swapped}
 use Rattle.answered_events.proofs.Swap.{swapped-after, swapped-each, swapped-still, swapped-sum, swapped-was}
 
 -- ---- entries and views
 
-here-same : (v x : HereView) → entry.Here v ≡ entry.Here x → v ≡ x
-here-same v x is = some-same v x (ap here is)
-
-view-same : (v : HereView) → IsViewSettled v v
-view-same v = record { view = refl; inward = inl refl; waiting = λ n. (λ a. a, λ a. a) }
+settled-same : (v : HereView) → IsViewSettled v v
+settled-same v = record { view = refl; inward = inl refl; waiting = λ n. (λ a. a, λ a. a) }
 
 module _ (y z : Entry) (is : IsSettled y z) where
   -- the view that it was
@@ -49,8 +47,8 @@ module _ (y z : Entry) (is : IsSettled y z) where
   settled-was x at = by is
     where
       by : IsSettled y z → (v : HereView) × (y ≡ entry.Here v) × IsViewSettled v x
-      by (Same same) = (x, sym same ∙ at, view-same x)
-      by (Turned v u was now settled) = (v, was, subst (IsViewSettled v) (here-same u x (sym now ∙ at)) settled)
+      by (Same same) = (x, sym same ∙ at, settled-same x)
+      by (Turned v u was now settled) = (v, was, subst (IsViewSettled v) (view-same u x (sym now ∙ at)) settled)
 
   pub settled-value : value_of z ≡ value_of y
   settled-value = by is
@@ -86,7 +84,7 @@ module _ (y z : Entry) (is : IsSettled y z) where
   settled-still P Q gives has = by is
     where
       stays : (o : Entry) → IsHereAnd o P → IsHereAnd o Q
-      stays (entry.Here v) has = gives v v (view-same v) has
+      stays (entry.Here v) has = gives v v (settled-same v) has
       stays _ has = absurd has
 
       by : IsSettled y z → IsHereAnd z Q
@@ -97,7 +95,7 @@ module _ (y z : Entry) (is : IsSettled y z) where
   settled-before P Q gives has = by is
     where
       stays : (o : Entry) → IsHereAnd o Q → IsHereAnd o P
-      stays (entry.Here v) has = gives v v (view-same v) has
+      stays (entry.Here v) has = gives v v (settled-same v) has
       stays _ has = absurd has
 
       by : IsSettled y z → IsHereAnd y P
@@ -140,15 +138,6 @@ pub answer-addressed : (n : ℕ) (t : EndId) (j h : ℕ) (q : PictureWhat) → I
 answer-addressed n t j h (packet.Taken to m at hops) is addressed = subst (λ z. nat_lt z n ≡ true) is.1 addressed
 answer-addressed n t j h (packet.Unwanted to m at hops) is addressed = subst (λ z. nat_lt z n ≡ true) is.1 addressed
 answer-addressed n t j h _ is addressed = absurd is
-
--- a packet that takes a receive back asks of it
-unwant-asks : (t : EndId) (n : ℕ) (q : PictureWhat) → IsUnwantOf t n q → (j : ℕ) × (h : ℕ) × IsAsking t n j h q
-unwant-asks t n (packet.Unwant to w at hops) is = (at, hops, (is.0, is.1, refl, refl))
-unwant-asks t n _ is = absurd is
-
-none-in : {X : Type 0} (xs : List X) → ((x : X) → Contains xs x → ⊥) → xs ≡ []
-none-in [] none = refl
-none-in (x ∷ xs) none = absurd (none x (0, omega arith, refl))
 
 module _ {w v : Links} {c : Change} (b : Changes w c v) (from : ℕ) (q : Picture) (taken : c.taken ≡ Some (from, q)) (y : EndId → Entry) (to : EndId) (at hops : ℕ) (answer : IsAnswer to at hops q.what)
     (s : State) (t : EndId → End) (g : ℕ → Process) (is : IsAnswered w (swapped b from (news to at hops q) y) s t g) where

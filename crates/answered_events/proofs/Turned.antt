@@ -54,9 +54,10 @@ use Rattle.silent_events.proofs.Rows.{IsTable}
 use Rattle.silent_events.specs.Learning.{IsLearning, IsLive}
 use Rattle.silent_events.specs.Quiet.{IsQuiet, IsSentWell}
 use Rattle.silent_events.specs.Silent.{IsStill}
+use Rattle.world_meaning.proofs.Plain.{there-here}
 use Rattle.answered_events.specs.Swapped.{IsAnswer, IsAnswered, IsSettled, IsViewSettled, Same, Turned, instead, news, swapped}
 use Rattle.answered_events.proofs.Dropped.{answer-parcel_for, taken-counts}
-use Rattle.answered_events.proofs.Meets.{IsOwnedAt, stands-first, there-here}
+use Rattle.answered_events.proofs.Meets.{IsOwnedAt, stands-first}
 use Rattle.answered_events.proofs.Settled.{answer-addressed, settled-links, settled-right}
 use Rattle.answered_events.proofs.Swap.{swapped-after, swapped-changes, swapped-still, swapped-sum, swapped-was}
 

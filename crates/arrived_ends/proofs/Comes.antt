@@ -20,9 +20,9 @@ use Rattle.world_effects.specs.Events.{taking}
 use Rattle.world_meaning.specs.Invariant.{Invariant, is_message_of}
 use Rattle.world_meaning.specs.Packets.{values_of}
 use Rattle.answered_events.proofs.Meets.{stands-first}
+use Rattle.world_effects.proofs.Values.{all-coming}
 use Rattle.arrived_ends.specs.Arrived.{IsAmong, IsLaden}
 use Rattle.arrived_ends.proofs.Coming.{inside, never-here}
-use Rattle.arrived_ends.proofs.Values.{all-coming}
 
 module _ {i : ℕ} {w : World} {s : State} (is : Invariant i w s) (k from : ℕ) (q : Picture) (others : List Picture) (there : w.packets from k ≡ q ∷ others) (f : EndId) (carries : is_message_of f q.what ≡ true) (p : Pid) where
   -- whatever the taking does

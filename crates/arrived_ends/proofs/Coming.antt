@@ -26,7 +26,7 @@ use Rattle.service_step.specs.declared.state.End.{End}
 use Rattle.service_step.specs.declared.state.Message.{Message}
 use Rattle.service_step.specs.declared.state.Outward.TheVariants as outward
 use Rattle.service_step.specs.declared.state.Place.TheVariants as place
-use Rattle.world_effects.proofs.Allowed.{sum_over-least}
+use Rattle.world_effects.proofs.Allowed.{named-between, sum_over-least}
 use Rattle.world_effects.proofs.Lists.{none-there}
 use Rattle.world_effects.proofs.Packets.{left-before, left-was, taken-before, there-taken, under_way-before}
 use Rattle.world_effects.specs.Change.{Change, Changes, taken_at}
@@ -40,9 +40,9 @@ use Rattle.silent_events.proofs.Alike.{some-same}
 use Rattle.silent_events.proofs.Places.{fields-here}
 use Rattle.answered_events.specs.Swapped.{instead, swapped}
 use Rattle.answered_events.proofs.Swap.{left-there, swapped-after, swapped-sum}
+use Rattle.world_meaning.proofs.Plain.{at_most_one}
 use Rattle.arrived_ends.specs.Arrived.{IsAmong, IsLaden, arrived, emptied, settles, unladen, without_values}
 use Rattle.arrived_ends.proofs.Among.{among-contains, among-least, among-told, brings-case, told-among}
-use Rattle.arrived_ends.proofs.Between.{kernels-below}
 use Rattle.arrived_ends.proofs.Emptied.{emptied-values}
 
 -- a packet that carries a message says which
@@ -52,11 +52,6 @@ message-of w t from to f (packet.Parcel e n wanted at hops bytes ms) is right =
     (n, subst (λ z. IsMatchedAs t z n (ends_in ms)) (sym end) (record { message = record { bytes = bytes; carried = ends_in ms }; matched = right.matched; carries = refl; number = right.number }))
 message-of w t from to f (packet.Back e n ms) is right = (n, subst (λ z. IsMatchedAs t z n (ends_in ms)) (sym (end_eq-same f e is)) right.matched)
 message-of w t from to f _ is right = absurd (true≢false (sym is))
-
--- how many values of an end stand where it lives
-one-most : (b : Bool) → one_if b ≤ 1
-one-most true = omega arith
-one-most false = omega arith
 
 module _ {i : ℕ} {w v : Links} {c : Change} {b : Changes w c v} {from : ℕ} {q : Picture} {s : State} {f : EndId} (ready : IsLaden i b from q s f) (p : Pid) where
   abbrev k : ℕ
@@ -85,7 +80,7 @@ module _ {i : ℕ} {w v : Links} {c : Change} {b : Changes w c v} {from : ℕ} {
   stood = taken-before b from q ready.taken
 
   pub between : (j h : ℕ) (z : Picture) → Contains (w.packets j h) z → (j < length s.made) × (h < length s.made)
-  between = kernels-below (length s.made) w s.ends ready.right.named
+  between = named-between ready.right.named
 
   pub near : (from < length s.made) × (k < length s.made)
   near = between from k q stood
@@ -162,12 +157,12 @@ module _ {i : ℕ} {w v : Links} {c : Change} {b : Changes w c v} {from : ℕ} {
       let one : one_if (is_message_of f l.packet.what) ≡ 1 = ap one_if l.is in
       let other : one_if (is_message_of f q.what) ≡ 1 = ap one_if ready.carries in
       let once : how_many (is_message_of f) w ≡ one_if (is_some (matched_message (s.ends f).outward)) = (ready.right.once f).message in
-      let most = one-most (is_some (matched_message (s.ends f).outward)) in
+      let most = at_most_one (is_some (matched_message (s.ends f).outward)) in
       omega (arith, both, one, other, once, most)
 
   sum-most : (e : EndId) → sum_over (λ z. values_for e (values_of z)) w ≤ 1
   unfolding standing
-  sum-most e = let once : standing w e ≡ one_if (is_living (s.ends e).place) = ready.links.once e in let most = one-most (is_living (s.ends e).place) in omega (arith, once, most)
+  sum-most e = let once : standing w e ≡ one_if (is_living (s.ends e).place) = ready.links.once e in let most = at_most_one (is_living (s.ends e).place) in omega (arith, once, most)
 
   pub end-alone : (e : EndId) → IsAmong values e → IsLeft b (λ z. IsAmong (values_of z) e) → ⊥
   end-alone e a l =

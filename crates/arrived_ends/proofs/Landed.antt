@@ -48,10 +48,9 @@ use Rattle.world_meaning.specs.StandsFor.{AreLinksOf, IsEndOf, IsInMessage, IsIn
 use Rattle.silent_events.proofs.Alike.{some-same}
 use Rattle.answered_events.specs.Swapped.{instead}
 use Rattle.answered_events.proofs.Swap.{swapped-each, swapped-sum}
-use Rattle.noticed_events.proofs.Noticed.{holder-same, owner-same}
+use Rattle.world_meaning.proofs.Plain.{holder-same, none-in, owner-same}
 use Rattle.arrived_ends.specs.Arrived.{IsAmong, IsLaden, emptied, settles, without_values}
 use Rattle.arrived_ends.proofs.Among.{among-none, contains-among, each-value, told-among}
-use Rattle.arrived_ends.proofs.Between.{none-in}
 use Rattle.arrived_ends.proofs.Coming.{arrival, each-owner, end-alone, entry-came, entry-case, fields-before, fields-were, flies, here-before, here-landed, idle, inside, landed, landed-after, landed-number, landed-same, landed-still, landed-was, living, low, low-from, message-alone, near, never-here, no-mark, not-here, one-value, owners, owners-sender, packed, sender-apart, stood}
 use Rattle.arrived_ends.proofs.Emptied.{emptied-addressed, emptied-asking, emptied-message, emptied-news, emptied-parcel_for, emptied-taken, emptied-telling, emptied-to, emptied-unwant, emptied-unwanted, emptied-values, emptied-voids}
 

@@ -1,4 +1,3 @@
-pub mod Between
 pub mod Emptied
 pub mod Among
 pub mod Coming

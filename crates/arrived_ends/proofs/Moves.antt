@@ -27,7 +27,7 @@ use Rattle.silent_events.specs.Quiet.{IsQuiet, IsQuietly, IsSentWell, is_telling
 use Rattle.silent_events.proofs.Alike.{IsQuietly-same}
 use Rattle.silent_events.proofs.Clauses.{flying-was, links-still, right-still}
 use Rattle.silent_events.proofs.Places.{fields-here, here-living}
-use Rattle.answered_events.proofs.Meets.{there-here}
+use Rattle.world_meaning.proofs.Plain.{there-here}
 use Rattle.arrived_ends.specs.Arrived.{IsTrueMove}
 
 module _ {w u : Links} {c : Change} (b : Changes w c u) (s : State) (taken : c.taken ≡ None) (entries : (e : EndId) → c.entry e (w.entry c.kernel e) ≡ w.entry c.kernel e) (below : c.kernel < length s.made)

@@ -20,7 +20,8 @@ use Rattle.world_meaning.specs.Packets.{IsBackOf, IsParcelOf, IsUnderWay, links_
 use Rattle.world_meaning.specs.StandsFor.{IsInMessage, home_of}
 use Rattle.silent_events.proofs.Alike.{some-same}
 use Rattle.silent_events.proofs.Places.{fields-here, here-kernel, here-living}
-use Rattle.answered_events.proofs.Meets.{IsOwnedAt, owned-at, same-kernel, there-here}
+use Rattle.answered_events.proofs.Meets.{IsOwnedAt, owned-at, same-kernel}
+use Rattle.world_meaning.proofs.Plain.{there-here}
 use Rattle.arrived_ends.proofs.Among.{contains-among}
 
 module _ {i : ℕ} {w : World} {s : State} (is : Invariant i w s) (k : ℕ) (to : EndId) (v : HereView) (at_k : (w.kernel k).table to ≡ entry.Here v) (busy : IsIdle v → ⊥) where

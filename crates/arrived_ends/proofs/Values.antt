@@ -1,5 +1,5 @@
 -- The values of a packet at the kernel that takes it: which come, what the table is then, and that each end tells where it is.
-use Rattle.std.proofs.Common.{◌≡◌, ◌⊎◌, inl, inr, ℕ, ◌<◌, ◌≤◌, true, List, [], ◌∷◌, Contains, refl, sym, ap, subst, ◌∙◌, ltb-true}
+use Rattle.std.proofs.Common.{◌≡◌, ◌⊎◌, inl, inr, ℕ, ◌<◌, true, List, [], ◌∷◌, Contains, refl, sym, ap, subst, ◌∙◌, ltb-true}
 use Rattle.std.proofs.lemmas.Bool.{and_parts}
 use Rattle.std.specs.List.{AllByRecursion, flat_map}
 use Rattle.charlotte_calls.specs.Packets.{names_kernels_below}
@@ -48,11 +48,6 @@ same-value (x ∷ ms) m l different has there same = by (first_or_later x ms m h
     by (inl one) (inr other) rest = absurd (twice l (ap (λ (z : MovingPicture). z.end) one ∙ same) other)
     by (inr one) (inl other) rest = absurd (twice m (ap (λ (z : MovingPicture). z.end) other ∙ sym same) one)
     by (inr one) (inr other) rest = rest one other
-
--- all of them come, where none is of an end that is here, or of a link that is not made
-pub all-coming : (k made : ℕ) (t : EndId → Entry) (ms : List MovingPicture) → AreDifferent (ends_in ms) → ((m : MovingPicture) → Contains ms m → (IsHere (t m.end) → ⊥) × (m.end.link.maker ≡ k → made ≤ m.end.link.count → ⊥)) → AreComing k made t ms
-all-coming k made t [] different is = tt
-all-coming k made t (m ∷ ms) different is = let own = is m (first m ms) in (own.0, own.1, different.0, all-coming k made t ms different.1 (λ x has. is x (later m ms x has)))
 
 -- ---- the table
 

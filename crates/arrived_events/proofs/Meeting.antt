@@ -24,7 +24,7 @@ use Rattle.service_step.specs.State.{State}
 use Rattle.service_step.specs.declared.state.End.{End}
 use Rattle.service_step.specs.declared.state.Inward.{Inward}
 use Rattle.service_step.specs.declared.state.Inward.TheVariants as inward
-use Rattle.world_effects.proofs.Allowed.{sum_over-least}
+use Rattle.world_effects.proofs.Allowed.{named-between, sum_over-least}
 use Rattle.world_effects.proofs.Lists.{none-there, only-there}
 use Rattle.world_effects.proofs.Packets.{left-before, left-was, taken-before, under_way-after, under_way-still}
 use Rattle.world_effects.proofs.Sums.{sum_over-after}
@@ -40,7 +40,6 @@ use Rattle.silent_events.proofs.Places.{here-kernel}
 use Rattle.answered_events.specs.Swapped.{instead, news, swapped}
 use Rattle.answered_events.proofs.Swap.{swapped-after, swapped-still, swapped-sum}
 use Rattle.answered_events.proofs.Turned.{turned_view, with_entry}
-use Rattle.arrived_ends.proofs.Between.{kernels-below}
 use Rattle.arrived_events.specs.Received.{IsReceiving, answering, bare_parcel}
 
 -- the receive that is started at an entry
@@ -85,7 +84,7 @@ module _ {i : ℕ} {w v : Links} {c : Change} {b : Changes w c v} {from stamp : 
   stood = taken-before b from q ready.taken
 
   between : (j h : ℕ) (z : Picture) → Contains (w.packets j h) z → (j < length s.made) × (h < length s.made)
-  between = kernels-below (length s.made) w s.ends ready.right.named
+  between = named-between ready.right.named
 
   pub near : (from < length s.made) × (k < length s.made)
   near = between from k q stood

@@ -19,7 +19,7 @@ use Rattle.charlotte_calls.specs.declared.picture.PictureWhat.TheVariants as pac
 use Rattle.end_table.proofs.EndEq.{end_eq-refl, end_eq-same, end_eq-sym}
 use Rattle.end_table.specs.Entries.{settled}
 use Rattle.end_table.specs.Place.{end_eq}
-use Rattle.end_table.specs.Table.{IfHere, IsHere, IsHereAnd, IsIdle, IsOfEnd}
+use Rattle.end_table.specs.Table.{IfHere, IsHere, IsHereAnd, IsOfEnd}
 use Rattle.end_table.specs.declared.entry.Entry.{Entry}
 use Rattle.end_table.specs.declared.entry.Entry.TheVariants as entry
 use Rattle.end_table.specs.declared.entry.HereView.{HereView}
@@ -72,7 +72,7 @@ use Rattle.silent_events.specs.Quiet.{IsQuiet}
 use Rattle.silent_events.specs.Silent.{IsStill}
 use Rattle.answered_events.specs.Swapped.{news}
 use Rattle.answered_events.proofs.Freed.{put-table-sound}
-use Rattle.answered_events.proofs.Meets.{IsOwnedAt, right-first, stands-first, there-here}
+use Rattle.answered_events.proofs.Meets.{IsOwnedAt, right-first, stands-first}
 use Rattle.answered_events.proofs.Swap.{swapped-changes}
 use Rattle.answered_events.proofs.Turned.{turned_view, with_entry}
 use Rattle.wanted_events.proofs.Parts as parts
@@ -89,15 +89,12 @@ use Rattle.arrived_ends.proofs.Owned.{busy-owned}
 use Rattle.arrived_events.proofs.Received.{received-links, received-right}
 use Rattle.arrived_events.proofs.Taken.{may-take, took, took-another, took-came, took-other, took-own, took-sender, took-to}
 use Rattle.arrived_ends.proofs.Values.{arrivals-true, same-value, settles-sound}
+use Rattle.world_meaning.proofs.Plain.{asked-busy, cancelling-same, there-here}
 
 asked-told : (r : ℕ) (i : KernelInward) → IsAskedAs r i → is_asked r i ≡ true
 asked-told r (kernel_inward.Posted x) is = eq-eqb x r is
 asked-told r (kernel_inward.Withdrawing x) is = eq-eqb x r is
 asked-told r _ is = absurd is
-
--- an end whose receive is started is not idle
-asked-busy : (r : ℕ) (v : HereView) → IsAskedAs r v.inward → IsIdle v → ⊥
-asked-busy r v is idle = subst (IsAskedAs r) idle.inward is
 
 cancelling-is : (e : EndId) (x : Phase) → is_cancelling e x ≡ true → x ≡ phase.Cancelling e
 cancelling-is e (phase.Cancelling f) is = ap phase.Cancelling (sym (end_eq-same e f (sym (eq-same e f) ∙ is)))
@@ -364,11 +361,8 @@ module _ (i : ℕ) (w : World) (s : State) (is : Invariant i w s) (k from stamp 
             own : (s.process p.0).phase ≡ phase.Cancelling e
             own = ap (λ z. (s.process z).phase) number ∙ is_so
 
-            same_end : (x y : EndId) → phase.Cancelling x ≡ phase.Cancelling y → x ≡ y
-            same_end x y both = cc
-
             each_way : (a : Bool) → is_cancelling to (s.process p.0).phase ≡ a → ((next.process b.0).phase ≡ phase.Cancelling e) ⊎ (e ≡ to)
-            each_way true its = inr (same_end e to (sym own ∙ cancelling-is to (s.process p.0).phase its))
+            each_way true its = inr (cancelling-same e to (sym own ∙ cancelling-is to (s.process p.0).phase its))
             each_way false not_its = inl (ap (λ z. (next.process z).phase) (sym number) ∙ own_phase ∙ ap (λ a. if a then phase.Running else (s.process p.0).phase) not_its ∙ own)
 
         cancelling : (b : Pid) (e : EndId) → (next.process b.0).phase ≡ phase.Cancelling e → (a : Bool) → nat_eq p.0 b.0 ≡ a → ((s.process b.0).phase ≡ phase.Cancelling e) × (e ≡ to → ⊥)
@@ -501,7 +495,7 @@ module _ (i : ℕ) (w : World) (s : State) (is : Invariant i w s) (k from stamp 
     sound-then : IsSound k made (length s.homes) (λ e. does.entry e (table e))
     sound-then =
         put-table-sound k made (length s.homes) y1 (λ e. does.entry e (table e)) to v last (settles-sound p k made (length s.homes) table ms below-home coming (is.setting.sound k)) (sym (x1-entry to) ∙ here1)
-        (record { end = learned-end at hops v.value; holder = refl; idle = λ idle. absurd (asked-busy r v asked idle); message = inl refl }) (λ e. refl)
+        (record { end = learned-end at hops v.value; holder = refl; idle = λ idle. absurd (asked-busy r v idle asked); message = inl refl }) (λ e. refl)
 
   parcel-receives : Goes i w s (Takes k from)
   parcel-receives = by late refl
@@ -523,7 +517,7 @@ pub parcel-taken-goes : (i : ℕ) (w : World) (s : State) → Invariant i w s �
     → w.packets from k ≡ record { stamp = stamp; what = packet.Parcel to n r at hops bytes ms } ∷ others → IsHereAnd ((w.kernel k).table to) (λ v. IsAskedAs r v.inward) → Goes i w s (Takes k from)
 parcel-taken-goes i w s is k from stamp to n r at hops bytes ms others there meets =
     let v = there-here ((w.kernel k).table to) (λ v. IsAskedAs r v.inward) meets in
-    let o = busy-owned is k to v.0 v.1 (asked-busy r v.0 v.2) in
+    let o = busy-owned is k to v.0 v.1 (λ idle. asked-busy r v.0 idle v.2) in
     let same : v.0 ≡ o.view = some-same v.0 o.view (ap here (sym v.1 ∙ o.here)) in
     parcel-receives i w s is k from stamp to n r at hops bytes ms others there o (subst (λ (z : HereView). IsAskedAs r z.inward) same v.2)
 

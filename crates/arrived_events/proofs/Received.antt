@@ -50,7 +50,7 @@ use Rattle.silent_events.proofs.Places.{fields-here}
 use Rattle.answered_events.specs.Swapped.{instead, news}
 use Rattle.answered_events.proofs.Swap.{swapped-each}
 use Rattle.answered_events.proofs.Turned.{with_entry}
-use Rattle.arrived_ends.proofs.Between.{none-in}
+use Rattle.world_meaning.proofs.Plain.{none-in, unwant-asks}
 use Rattle.arrived_events.specs.Received.{IsReceived, IsReceiving, answering, bare_parcel}
 use Rattle.arrived_events.proofs.Meeting.{agrees, at-below, informed, is-right, met-after, met-alone, met-case, met-fields, met-number, met-still, met-sum, met-was, near, no-unwanted, not-posted, over_view, said, stood, view-case, view-still, view-was, was-there}
 
@@ -58,11 +58,6 @@ use Rattle.arrived_events.proofs.Meeting.{agrees, at-below, informed, is-right, 
 taken-then : (w z : Links) (e : EndId) (n : ℕ) (x : KernelOutward) (m : Message) → IsUnderWay z (IsTakenOf e n) → IsOutwardOf w e n x (outward.Matched m) → IsOutwardOf z e n x outward.Taken
 taken-then w z e n (kernel_outward.Matched a) m told is = (is.0, subst (λ b. IsUnderWay z (IsTakenOf e b)) (sym is.0) told)
 taken-then w z e n _ m told is = absurd is
-
--- a packet that takes a receive back asks of it
-unwant-asks : (t : EndId) (n : ℕ) (q : PictureWhat) → IsUnwantOf t n q → (j : ℕ) × (h : ℕ) × IsAsking t n j h q
-unwant-asks t n (packet.Unwant to w at hops) is = (at, hops, (is.0, is.1, refl, refl))
-unwant-asks t n _ is = absurd is
 
 module _ {i : ℕ} {w v : Links} {c : Change} {b : Changes w c v} {from stamp : ℕ} {s : State} {to : EndId} {n r at hops : ℕ} {bytes : List ℕ} {p : Pid} {o : HereView} (ready : IsReceiving i b from stamp s to n r at hops bytes p o)
     (inn : KernelInward) (z : Links) (sends : Changes (informed ready inn) (answering c to n at o) z) (xi : Inward) (t : EndId → End) (g : ℕ → Process) (is : IsReceived s to inn xi t g) where

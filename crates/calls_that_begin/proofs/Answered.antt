@@ -1,29 +1,37 @@
 -- What a call that is granted and answered at once leaves of kernels and processes: tables stay sound, and processes are as the service
 -- has them.
-use Rattle.std.proofs.Common.{◌≡◌, ◌≢◌, ◌⊎◌, inl, inr, ℕ, ◌<◌, ◌≤◌, Bool, true, false, nat_eq, if◌then◌else◌, All, List, [], length, None, slice_index, refl, sym, ap, subst, ◌∙◌}
+use Rattle.std.proofs.Common.{◌≡◌, ◌≢◌, ◌⊎◌, inl, inr, ℕ, ◌<◌, ◌≤◌, Bool, true, false, nat_eq, if◌then◌else◌, All, List, [], length, None, slice_index, refl, sym, ap, subst, ◌∙◌, Option, Some, eq-eqb}
 use Rattle.std.proofs.lemmas.Bool.Decides.{eqb_tells}
 use Rattle.charlotte_calls.specs.declared.calls.Answer.{Answer}
 use Rattle.charlotte_calls.specs.declared.calls.Call.{Call}
+use Rattle.charlotte_calls.specs.declared.calls.Cause.{Cause}
+use Rattle.charlotte_calls.specs.declared.calls.Cause.TheVariants as cause
 use Rattle.charlotte_calls.specs.declared.names.EndId.{EndId}
 use Rattle.charlotte_calls.specs.declared.names.Pid.{Pid}
+use Rattle.end_table.specs.Owned.{is_owner, owned}
+use Rattle.end_table.specs.Table.{IsOfEnd}
 use Rattle.end_table.specs.declared.entry.Entry.{Entry}
+use Rattle.end_table.specs.declared.entry.Entry.TheVariants as entry
+use Rattle.end_table.specs.declared.entry.HereView.{HereView}
+use Rattle.end_table.specs.declared.entry.Holder.TheVariants as holder
 use Rattle.kernel_effects.specs.Calls.{act_effect}
-use Rattle.kernel_effects.specs.Effect.{Does}
+use Rattle.kernel_effects.specs.Effect.{Does, Effect}
 use Rattle.kernel_outcomes.proofs.Events.{acts-does}
-use Rattle.kernel_outcomes.specs.Closing.{ran}
+use Rattle.kernel_outcomes.specs.Closing.{call_told, ran, told_entry}
 use Rattle.kernel_sound.proofs.Acts.{Covers, acts-well}
 use Rattle.kernel_sound.proofs.Goes.{GoesWell}
+use Rattle.kernel_sound.proofs.Needs.{owned-here}
 use Rattle.kernel_sound.specs.Acts.{acts, made_after}
 use Rattle.kernel_sound.specs.Sound.{IsSound}
-use Rattle.kernel_step.specs.Calls.{IsCallWith, refusal}
-use Rattle.kernel_step.specs.Kernel.{Kernel}
+use Rattle.kernel_step.specs.Calls.{IsCallWith, first_of, on_owned, refusal}
+use Rattle.kernel_step.specs.Kernel.{Kernel, has_report, process_of}
 use Rattle.kernel_step.specs.Progress.{Progress}
 use Rattle.kernel_step.specs.declared.phase.Phase.TheVariants as kernel_phase
 use Rattle.kernel_world.specs.World.{World}
 use Rattle.service_step.specs.State.{State}
 use Rattle.world_effects.specs.Change.{Becomes, Change}
-use Rattle.world_effects.specs.Events.{caller}
-use Rattle.world_meaning.specs.Invariant.{IsOfSetting}
+use Rattle.world_effects.specs.Events.{caller, calling}
+use Rattle.world_meaning.specs.Invariant.{Invariant, IsOfSetting}
 use Rattle.world_meaning.specs.StandsFor.{IsProcessOf, home_of, service_phase}
 
 -- ---- a table
@@ -50,6 +58,34 @@ acts-sound touches k made n t p mine reported c sound below granted ends covers 
 pub call-sound : (k made n : ℕ) (t : EndId → Entry) (p : Pid) (mine : List EndId) (reported : Bool) (c : Call) → IsSound k made n t → p.0 < n → refusal p t made mine reported c ≡ None → IsCallWith p t mine c → Covers all_ends p c
     → IsSound k (made_after c made) n (λ q. (act_effect p k made mine t c).entry q (t q))
 call-sound = acts-sound all_ends
+
+-- ---- the end of a granted call
+
+-- the kernel has an end as owned that is here with this owner
+pub owned-of : (p : Pid) (x : Entry) (v : HereView) → x ≡ entry.Here v → v.holder ≡ holder.Owner p → owned p x ≡ Some v
+owned-of p x v here owner = ap (owned p) here ∙ ap (λ h. if is_owner p h then Some v else None) owner ∙ ap (λ b. if b then Some v else None) (eq-eqb p.0 p.0 refl)
+
+-- the caller owns the end that is here, and none of these causes holds
+pub record IsGranted (p : Pid) (t : EndId → Entry) (on : EndId) (causes : HereView → List (Bool × Cause)) : Type 0 where
+  pub view : HereView
+  pub end : view.value.end ≡ on
+  pub there : t on ≡ entry.Here view
+  pub here : t view.value.end ≡ entry.Here view
+  pub owner : view.holder ≡ holder.Owner p
+  pub none : first_of (causes view) ≡ None
+
+pub granted-on : {k made n : ℕ} {t : EndId → Entry} → IsSound k made n t → (p : Pid) (on : EndId) (causes : HereView → List (Bool × Cause)) → on_owned (owned p (t on)) causes ≡ None → IsGranted p t on causes
+granted-on {k} {made} {n} {t} sound p on causes granted = by (owned p (t on)) refl granted
+  where
+    some : Some cause.NoEnd ≡ None → ⊥
+    some is = cc
+
+    by : (o : Option HereView) → owned p (t on) ≡ o → on_owned o causes ≡ None → IsGranted p t on causes
+    by None owns none = absurd (some none)
+    by (Some v) owns none =
+        let there = owned-here p (t on) v owns in
+        let end : v.value.end ≡ on = subst (IsOfEnd on) there.0 (sound.own on) in
+        record { view = v; end = end; there = there.0; here = ap t end ∙ there.0; owner = there.1; none = none }
 
 -- ---- a world
 
@@ -108,3 +144,27 @@ module _ {w v : World} {c : Change} (becomes : Becomes w c v) (s : State) where
               subst (λ b. IsProcessOf (if b then c.process else (w.kernel c.kernel).process p.0) (s.process p.0)) (sym h.0)
               (subst (λ x. IsProcessOf x (s.process p.0)) (sym is) (answered h.1))
           own (inr h) = subst (λ b. IsProcessOf (if b then c.process else (w.kernel c.kernel).process p.0) (s.process p.0)) (sym h.0) was
+
+-- a granted call that makes no link and is told no report leaves kernels as a service has them whose links made, homes and version stay
+module _ {i : ℕ} {w v : World} {s : State} (is : Invariant i w s) (k : ℕ) (p : Pid) (mine : List EndId) (c : Call) {f : Effect} (effect : act_effect p k (w.kernel k).made mine (w.kernel k).table c ≡ f) (becomes : Becomes w (calling w k p c f) v)
+    (unmade : made_after c (w.kernel k).made ≡ (w.kernel k).made) (untold : call_told c (caller p (w.kernel k)).reports ≡ []) where
+  abbrev after : EndId → Entry
+  after = λ q. (act_effect p k (w.kernel k).made mine (w.kernel k).table c).entry q ((w.kernel k).table q)
+
+  pub setting-called : p.0 < length s.homes → refusal p (w.kernel k).table (w.kernel k).made mine (has_report (process_of p (w.kernel k))) c ≡ None → IsCallWith p (w.kernel k).table mine c → Covers all_ends p c
+      → (t : State) → t.version ≡ s.version → t.homes ≡ s.homes → t.made ≡ s.made → IsOfSetting v t
+  setting-called below granted ends covers t version homes same =
+      setting-after becomes s t version homes (ap (λ (l : List ℕ). length l) same) (λ j. ap (λ (l : List ℕ). slice_index l j) same ∙ is.setting.made j ∙ sym (made-same j)) sound is.setting
+    where
+      made-same : (j : ℕ) → (v.kernel j).made ≡ (w.kernel j).made
+      made-same = kernel-same becomes s (λ (x : Kernel). x.made) (becomes.made ∙ unmade)
+
+      table : (v.kernel k).table ≡ after
+      table = λ j q. (becomes.links.entry q ∙ ap (λ rs. told_entry rs q (f.entry q ((w.kernel k).table q))) untold ∙ ap (λ (e : Effect). e.entry q ((w.kernel k).table q)) (sym effect)) j
+
+      sound : IsSound k (v.kernel k).made (length s.homes) (v.kernel k).table
+      sound =
+          subst (λ m. IsSound k m (length s.homes) (v.kernel k).table) (sym (made-same k))
+          (subst (IsSound k (w.kernel k).made (length s.homes)) (sym table)
+          (subst (λ m. IsSound k m (length s.homes) after) unmade
+          (call-sound k (w.kernel k).made (length s.homes) (w.kernel k).table p mine (has_report (process_of p (w.kernel k))) c (is.setting.sound k) below granted ends covers)))

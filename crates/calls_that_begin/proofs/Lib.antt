@@ -1,4 +1,5 @@
 pub mod Answered
+pub mod OneView
 pub mod Posting
 pub mod PostedLinks
 pub mod PostedClauses

@@ -17,17 +17,12 @@ use Rattle.service_step.specs.declared.state.End.{End}
 use Rattle.service_step.specs.declared.state.Place.TheVariants as place
 use Rattle.world_effects.proofs.Ends.{inward-same, outward-same}
 use Rattle.world_effects.proofs.Sums.{sum_over-same}
+use Rattle.world_meaning.proofs.Plain.{holder-same, owner-same}
 use Rattle.world_meaning.proofs.Sums.{over-one, over-same}
 use Rattle.world_meaning.specs.Fields.{At, Flying, value_of}
 use Rattle.world_meaning.specs.Packets.{IsBackOf, IsParcelFor, IsParcelOf, IsTakenOf, IsUnderWay, IsUnwantedOf, Links, links_of, one_if, over_kernels, sum_over, values_for, values_of}
 use Rattle.world_meaning.specs.StandsFor.{AreLinksOf, IsEndOf, IsInMessage, IsOwnedHere, IsWaitingWith, entry_at, home_of, standing}
 use Rattle.calls_that_begin.proofs.Making.{IsNew, Making, after_making, entry-or, is-new-view, new-end, new-entry, new-or, new_view, no-fields, old-end, old-entry, packet-same, value-of_end, was-nowhere}
-
-same-owner : (p q : Pid) → place.Owned p ≡ place.Owned q → p ≡ q
-same-owner p q is = cc
-
-same-holder : (p q : Pid) → holder.Owner p ≡ holder.Owner q → p ≡ q
-same-holder p q is = cc
 
 module _ {i : ℕ} {w : World} {s : State} {k : ℕ} {p : Pid} {u : Links} (x : Making i w s k p u) where
   abbrev l : Links
@@ -111,14 +106,14 @@ module _ {i : ℕ} {w : World} {s : State} {k : ℕ} {p : Pid} {u : Links} (x : 
 
           there : (t.ends f).place ≡ place.Owned q → IsOwnedHere q (entry_at u (home_of s q) f)
           there is =
-              let who : p ≡ q = same-owner p q (sym placed ∙ is) in
+              let who : p ≡ q = owner-same p q (sym placed ∙ is) in
               subst (λ z. IsOwnedHere z (entry_at u (home_of s z) f)) who
               (subst (λ j. IsOwnedHere p (entry_at u j f)) (sym x.at) (subst (IsOwnedHere p) (sym (new-entry x f link)) refl))
 
           back : IsOwnedHere q (entry_at u (home_of s q) f) → (t.ends f).place ≡ place.Owned q
           back has =
               let is = new-here f link (home_of s q) (λ v. v.holder ≡ holder.Owner q) has in
-              placed ∙ ap place.Owned (same-holder p q is.1)
+              placed ∙ ap place.Owned (holder-same p q is.1)
       by (inr old) = (
         λ is. subst (IsOwnedHere q) (sym (old-entry x (home_of s q) f old)) ((x.is.stands.links.owned f q).0 (sym (ap (λ (y : End). y.place) (old-end x f old)) ∙ is)),
         λ has. ap (λ (y : End). y.place) (old-end x f old) ∙ (x.is.stands.links.owned f q).1 (subst (IsOwnedHere q) (old-entry x (home_of s q) f old) has),

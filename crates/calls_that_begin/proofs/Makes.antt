@@ -1,5 +1,5 @@
 -- The service goes with a Make that is not refused, by one step.
-use Rattle.std.proofs.Common.{◌≡◌, ◌≢◌, ◌⊎◌, inl, inr, ℕ, zero, suc, ◌+◌, ◌<◌, ◌≤◌, true, false, nat_eq, nat_le, nat_lt, not, ◌&&◌, IsTrue, if◌then◌else◌, List, [], ◌∷◌, length, Some, None, slice_get, slice_index, refl, sym, ap, subst, ◌∙◌, arith, lt-ltb, get_or-set_same, get_or-set_other, length-set}
+use Rattle.std.proofs.Common.{◌≡◌, ◌≢◌, ◌⊎◌, inl, inr, ℕ, ◌+◌, ◌<◌, ◌≤◌, true, false, nat_eq, nat_le, nat_lt, not, ◌&&◌, IsTrue, if◌then◌else◌, List, [], ◌∷◌, length, Some, None, slice_index, refl, sym, ap, subst, ◌∙◌, lt-ltb, get_or-set_same, get_or-set_other, length-set}
 use Rattle.std.proofs.lemmas.Bool.Decides.{eqb_tells, leb_tells}
 use Rattle.charlotte_calls.specs.Names.{opposite}
 use Rattle.charlotte_calls.specs.declared.calls.Answer.TheVariants as answer
@@ -27,6 +27,7 @@ use Rattle.world_effects.proofs.NamedAfter.{performs-names}
 use Rattle.world_effects.specs.Change.{Change, Happens}
 use Rattle.world_effects.specs.Events.{calling}
 use Rattle.world_meaning.proofs.Goes.{Goes}
+use Rattle.world_meaning.proofs.Plain.{got}
 use Rattle.world_meaning.specs.Invariant.{Invariant}
 use Rattle.world_meaning.specs.Packets.{links_of}
 use Rattle.world_meaning.specs.StandsFor.{home_of}
@@ -35,12 +36,6 @@ use Rattle.calls_that_begin.proofs.MadeClauses.{made-right}
 use Rattle.calls_that_begin.proofs.MadeLinks.{made-links}
 use Rattle.calls_that_begin.proofs.Making.{Making, after_making, was-unmade}
 use Rattle.calls_that_begin.proofs.Receives.{home-near, runs-there}
-
--- a number of a list
-got : (xs : List ℕ) (k : ℕ) → k < length xs → slice_get xs k ≡ Some (slice_index xs k)
-got [] k below = absurd (omega arith)
-got (x ∷ xs) zero below = refl
-got (x ∷ xs) (suc k) below = got xs k (omega arith)
 
 module _ (i : ℕ) (w : World) (s : State) (k : ℕ) (p : Pid) (mine : List EndId) (is : Invariant i w s) (below : p.0 < length s.homes) (at : home_of s p ≡ k) (running : ((w.kernel k).process p.0).phase ≡ kernel_phase.Running)
     (granted : refusal p (w.kernel k).table (w.kernel k).made mine (has_report (process_of p (w.kernel k))) call.Make ≡ None) where

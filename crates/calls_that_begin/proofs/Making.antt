@@ -35,10 +35,12 @@ use Rattle.world_effects.proofs.Allowed.{between, sum_over-least}
 use Rattle.world_effects.proofs.Aside.{none-sent, none-taken}
 use Rattle.world_effects.proofs.Lists.{first_or_later, none-there, first, later}
 use Rattle.world_effects.proofs.Packets.{under_way-still, under_way-was}
+use Rattle.world_effects.proofs.Values.{values-least}
 use Rattle.world_effects.specs.Change.{Change, Changes}
 use Rattle.world_effects.specs.Events.{calling}
 use Rattle.world_meaning.proofs.Ends.{apart-false, eq-same, opposite-apart}
 use Rattle.world_meaning.proofs.Frame.{IsSameLink}
+use Rattle.world_meaning.proofs.Plain.{view-same}
 use Rattle.world_meaning.specs.Fields.{Stand, At, Flying, HasFields, value_of}
 use Rattle.world_meaning.specs.Invariant.{Invariant}
 use Rattle.world_meaning.specs.Packets.{IsUnderWay, Links, links_of, one_if, over_kernels, sum_over, values_for, values_of}
@@ -70,14 +72,6 @@ value-of_end (m ∷ ms) f has = by (value-of_end ms f) (first_or_later m.end (en
     by : (Contains (ends_in ms) f → (o : MovingPicture) × Contains ms o × (o.end ≡ f)) → (m.end ≡ f) ⊎ Contains (ends_in ms) f → (o : MovingPicture) × Contains (m ∷ ms) o × (o.end ≡ f)
     by rest (inl is) = (m, first m ms, is)
     by rest (inr there) = let value = rest there in (value.0, later m ms value.0 value.1, value.2)
-
-values-least : (f : EndId) (ms : List MovingPicture) (m : MovingPicture) → m.end ≡ f → Contains ms m → 1 ≤ values_for f ms
-values-least f [] m of has = absurd (none-there m has)
-values-least f (o ∷ ms) m of has = by (values-least f ms m of) (first_or_later o ms m has)
-  where
-    by : (Contains ms m → 1 ≤ values_for f ms) → (o ≡ m) ⊎ Contains ms m → 1 ≤ one_if (end_eq f o.end) + values_for f ms
-    by rest (inl is) = let one : one_if (end_eq f o.end) ≡ 1 = ap one_if (ap (λ (z : MovingPicture). end_eq f z.end) is ∙ ap (end_eq f) of ∙ end_eq-refl f) in omega (arith, one)
-    by rest (inr there) = let least : 1 ≤ values_for f ms = rest there in omega (arith, least)
 
 none-below : (n : ℕ) → nat_lt n n ≡ false
 none-below n = by (nat_lt n n) refl
@@ -214,9 +208,6 @@ module _ {i : ℕ} {w : World} {s : State} {k : ℕ} {p : Pid} {u : Links} (x : 
   pub is-new-view : (f : EndId) → IsNew f → (j : ℕ) (v : HereView) → entry_at u j f ≡ entry.Here v → (j ≡ k) × (new_view k p f ≡ v)
   is-new-view f link j v there = by (entry-or j f link)
     where
-      view-same : (y z : HereView) → entry.Here y ≡ entry.Here z → y ≡ z
-      view-same y z is = cc
-
       by : ((j ≡ k) × (u.entry j f ≡ entry.Here (new_view k p f))) ⊎ (u.entry j f ≡ l.entry j f) → (j ≡ k) × (new_view k p f ≡ v)
       by (inl is) = (is.0, view-same (new_view k p f) v (sym is.1 ∙ there))
       by (inr same) = absurd (no-fields f link (At j) v.value (ap value_of (sym same ∙ there)))

@@ -31,11 +31,13 @@ use Rattle.world_effects.proofs.Sums.{sum_over-same}
 use Rattle.world_effects.specs.Named.{NamesWithin}
 use Rattle.kernel_effects.specs.Calls.{post_effect}
 use Rattle.world_meaning.proofs.Ends.{apart-false, opposite-twice}
+use Rattle.world_meaning.proofs.Plain.{view-same}
 use Rattle.world_meaning.specs.Fields.{Stand, HasFields, IsAskedAs, IsAsking, IsHeard, IsNews, IsNoMore, IsUnserved, IsUnwantOf}
 use Rattle.world_meaning.specs.Invariant.{AreAsked, AreCancelling, AreCounted, AreMarked, AreRight, AreSentOnce, AreWanted, IsFew, IsHereIfLiving, IsHonest, IsPacketRight, IsServed, IsUnwantedOnce, is_message_of, is_taken_of, is_unwanted_to}
 use Rattle.world_meaning.specs.Packets.{Each, IsUnderWay, Links, how_many, links_of, one_if}
 use Rattle.world_meaning.specs.StandsFor.{entry_at, home_of}
-use Rattle.calls_that_begin.proofs.Posting.{IsIts, IsSameFields, Posting, ends-like, ends-other, entry-or, fields-was, here-still, its-view, none-unserved, now-here, now-posted, other-entry, packet-or, packet-same, posted, posted_view, posted_want, view-same}
+use Rattle.calls_that_begin.proofs.Posting.{IsSameFields, Posting, ends-like, ends-other, fields-was, its-view, none-unserved, now-posted, one-view, posted, posted_view, posted_want}
+use Rattle.calls_that_begin.proofs.OneView.{IsIts, entry-or, here-still, now-here, other-entry, packet-or, packet-same}
 
 module _ {i : ℕ} {w : World} {s : State} {k : ℕ} {p : Pid} {u : Links} (x : Posting i w s k p u) where
   abbrev l : Links
@@ -84,9 +86,9 @@ module _ {i : ℕ} {w : World} {s : State} {k : ℕ} {p : Pid} {u : Links} (x : 
       differ m is = cc
 
       was : (j : ℕ) (m : MovingPicture) → entry_at u j f ≡ entry.Destroyed m → entry_at l j f ≡ entry.Destroyed m
-      was j m at = by (entry-or x j f)
+      was j m at = by (entry-or (one-view x) j f)
         where
-          by : (u.entry j f ≡ l.entry j f) ⊎ IsIts x j f → entry_at l j f ≡ entry.Destroyed m
+          by : (u.entry j f ≡ l.entry j f) ⊎ IsIts (one-view x) j f → entry_at l j f ≡ entry.Destroyed m
           by (inl same) = sym same ∙ at
           by (inr its) = absurd (differ m (sym its.now ∙ at))
 
@@ -125,7 +127,7 @@ module _ {i : ℕ} {w : World} {s : State} {k : ℕ} {p : Pid} {u : Links} (x : 
       by o (inl hinted) =
           let other = fields-was x (opposite f) hinted.stand hinted.fields hinted.are in
           old o.0 o.1 o.2 (inl (record { stand = hinted.stand; fields = other.0; are = other.1; hint = sym (ap (λ (z : MovingPicture). z.hint) other.2.rest) ∙ hinted.hint }))
-      by o (inr news) = told (packet-or x (IsNews (opposite f) j h) news)
+      by o (inr news) = told (packet-or (one-view x) (IsNews (opposite f) j h) news)
         where
           told : IsUnderWay l (IsNews (opposite f) j h) ⊎ IsNews (opposite f) j h (posted_want k x.view) → IsNoMore at m.hops j h
           told (inl was) = old o.0 o.1 o.2 (inr was)
@@ -136,21 +138,21 @@ module _ {i : ℕ} {w : World} {s : State} {k : ℕ} {p : Pid} {u : Links} (x : 
   asked-after : (f : EndId) → AreAsked u t f
   asked-after f =
       record {
-        last = λ j v m there asked. last j v m there asked (entry-or x j f);
-        cancelled = λ j v m q there withdrawing held. cancelled j v m q there withdrawing held (entry-or x j f);
+        last = λ j v m there asked. last j v m there asked (entry-or (one-view x) j f);
+        cancelled = λ j v m q there withdrawing held. cancelled j v m q there withdrawing held (entry-or (one-view x) j f);
       }
     where
       differ : (m : ℕ) → kernel_inward.Posted n ≡ kernel_inward.Withdrawing m → ⊥
       differ m is = cc
 
-      last : (j : ℕ) (v : HereView) (m : ℕ) → entry_at u j f ≡ entry.Here v → IsAskedAs m v.inward → (u.entry j f ≡ l.entry j f) ⊎ IsIts x j f → m ≡ v.value.asked
+      last : (j : ℕ) (v : HereView) (m : ℕ) → entry_at u j f ≡ entry.Here v → IsAskedAs m v.inward → (u.entry j f ≡ l.entry j f) ⊎ IsIts (one-view x) j f → m ≡ v.value.asked
       last j v m there asked (inl same) = (right.asked f).last j v m (sym same ∙ there) asked
       last j v m there asked (inr its) =
           let view : posted_view x.view ≡ v = view-same (posted_view x.view) v (sym its.now ∙ there) in
           let number : n ≡ m = subst (λ (z : HereView). IsAskedAs m z.inward) (sym view) asked in
           sym number ∙ ap (λ (z : HereView). z.value.asked) view
 
-      cancelled : (j : ℕ) (v : HereView) (m : ℕ) (q : Pid) → entry_at u j f ≡ entry.Here v → v.inward ≡ kernel_inward.Withdrawing m → v.holder ≡ holder.Owner q → (u.entry j f ≡ l.entry j f) ⊎ IsIts x j f
+      cancelled : (j : ℕ) (v : HereView) (m : ℕ) (q : Pid) → entry_at u j f ≡ entry.Here v → v.inward ≡ kernel_inward.Withdrawing m → v.holder ≡ holder.Owner q → (u.entry j f ≡ l.entry j f) ⊎ IsIts (one-view x) j f
           → (t.process q.0).phase ≡ phase.Cancelling f
       cancelled j v m q there withdrawing held (inl same) = (right.asked f).cancelled j v m q (sym same ∙ there) withdrawing held
       cancelled j v m q there withdrawing held (inr its) =
@@ -160,7 +162,7 @@ module _ {i : ℕ} {w : World} {s : State} {k : ℕ} {p : Pid} {u : Links} (x : 
   idle-not-withdrawing is = true≢false (sym is ∙ ap is_withdrawing x.idle)
 
   cancelling-after : AreCancelling u t
-  cancelling-after q f at = here-still x (home_of s q) f (λ v. is_withdrawing v.inward ≡ true) (λ is. absurd (idle-not-withdrawing is)) (right.cancelling q f at)
+  cancelling-after q f at = here-still (one-view x) (home_of s q) f (λ v. is_withdrawing v.inward ≡ true) (λ is. absurd (idle-not-withdrawing is)) (right.cancelling q f at)
 
   served-after : (f : EndId) → IsServed u t.ends f
   served-after f j v r at m there asked unposted living has = by (end_eq e f) refl
@@ -170,7 +172,7 @@ module _ {i : ℕ} {w : World} {s : State} {k : ℕ} {p : Pid} {u : Links} (x : 
       by false apart =
           let o = fields-was x (opposite f) at m has in
           subst (λ z. r ≤ z) (sym (ap (λ (z : MovingPicture). z.served) o.2.rest))
-          (right.served f j v r at o.0 (sym (other-entry x j f apart) ∙ there) asked (sym (ap (λ (y : End). is_posted y.inward) (ends-other x f apart)) ∙ unposted) (living-was (opposite f) living) o.1)
+          (right.served f j v r at o.0 (sym (other-entry (one-view x) j f apart) ∙ there) asked (sym (ap (λ (y : End). is_posted y.inward) (ends-other x f apart)) ∙ unposted) (living-was (opposite f) living) o.1)
 
   -- ---- what is asked
 
@@ -181,7 +183,7 @@ module _ {i : ℕ} {w : World} {s : State} {k : ℕ} {p : Pid} {u : Links} (x : 
   -- what is asked of an end was asked before, or is the new receive
   unserved-or : (f : EndId) (o m : MovingPicture) (r j h : ℕ) → IsSameFields o m → IsUnserved u f m r j h → IsUnserved l f o r j h ⊎ ((opposite e ≡ f) × (n ≡ r) × (k ≡ j) × (x.view.value.hops ≡ h))
   unserved-or f o m r j h like (inl is) = inl (inl (sym (ap (λ (z : MovingPicture). z.want) like.rest) ∙ is.0, is.1, sym (ap (λ (z : MovingPicture). z.hint) like.rest) ∙ is.2))
-  unserved-or f o m r j h like (inr is) = by (packet-or x (IsAsking f r j h) is.1)
+  unserved-or f o m r j h like (inr is) = by (packet-or (one-view x) (IsAsking f r j h) is.1)
     where
       by : IsUnderWay l (IsAsking f r j h) ⊎ IsAsking f r j h (posted_want k x.view) → IsUnserved l f o r j h ⊎ ((opposite e ≡ f) × (n ≡ r) × (k ≡ j) × (x.view.value.hops ≡ h))
       by (inl was) = inl (inr (subst (λ z. z < r) (ap (λ (z : MovingPicture). z.served) like.rest) is.0, was))
@@ -212,12 +214,12 @@ module _ {i : ℕ} {w : World} {s : State} {k : ℕ} {p : Pid} {u : Links} (x : 
               let o = fields-was x f at m has in ap (λ (y : End). is_posted y.inward) (ends-other x (opposite f) other) ∙ old.posted at o.0 r j h (open-was f opened) o.1 (unserved-was o.0 m r j h o.2 one);
           site = λ at m r j h opened has one living.
               let o = fields-was x f at m has in
-              subst (λ z. IsHereAnd z (λ v. (v.value.hops ≡ h) × (v.value.asked ≡ r))) (sym (other-entry x j (opposite f) other))
+              subst (λ z. IsHereAnd z (λ v. (v.value.hops ≡ h) × (v.value.asked ≡ r))) (sym (other-entry (one-view x) j (opposite f) other))
               (old.site at o.0 r j h (open-was f opened) o.1 (unserved-was o.0 m r j h o.2 one) (living-was (opposite f) living));
           unwanted = λ at m r opened has low one.
               let o = fields-was x f at m has in
-              let there = old.unwanted at o.0 r (open-was f opened) o.1 (subst (λ z. z < r) (ap (λ (z : MovingPicture). z.served) o.2.rest) low) ((packet-same x (IsUnwantOf f r) (λ no. no)).0 one) in
-              (there.0, subst (λ z. IsHereAnd z (λ v. is_withdrawing v.inward ≡ true)) (sym (other-entry x there.0 (opposite f) other)) there.1);
+              let there = old.unwanted at o.0 r (open-was f opened) o.1 (subst (λ z. z < r) (ap (λ (z : MovingPicture). z.served) o.2.rest) low) ((packet-same (one-view x) (IsUnwantOf f r) (λ no. no)).0 one) in
+              (there.0, subst (λ z. IsHereAnd z (λ v. is_withdrawing v.inward ≡ true)) (sym (other-entry (one-view x) there.0 (opposite f) other)) there.1);
         }
 
   -- of the opposite end: the new receive alone
@@ -231,10 +233,10 @@ module _ {i : ℕ} {w : World} {s : State} {k : ℕ} {p : Pid} {u : Links} (x : 
             let is = new at m r j h opened has one in
             subst (λ z. IsHereAnd (u.entry j z) (λ v. (v.value.hops ≡ h) × (v.value.asked ≡ r))) (sym (opposite-twice e))
             (subst (λ z. IsHereAnd (u.entry z e) (λ v. (v.value.hops ≡ h) × (v.value.asked ≡ r))) is.1
-            (subst (λ z. IsHereAnd z (λ v. (v.value.hops ≡ h) × (v.value.asked ≡ r))) (sym (now-here x)) (is.2, is.0)));
+            (subst (λ z. IsHereAnd z (λ v. (v.value.hops ≡ h) × (v.value.asked ≡ r))) (sym (now-here (one-view x))) (is.2, is.0)));
         unwanted = λ at m r opened has low one.
             let o = fields-was x (opposite e) at m has in
-            let there = old.unwanted at o.0 r (open-was (opposite e) opened) o.1 (subst (λ z. z < r) (ap (λ (z : MovingPicture). z.served) o.2.rest) low) ((packet-same x (IsUnwantOf (opposite e) r) (λ no. no)).0 one) in
+            let there = old.unwanted at o.0 r (open-was (opposite e) opened) o.1 (subst (λ z. z < r) (ap (λ (z : MovingPicture). z.served) o.2.rest) low) ((packet-same (one-view x) (IsUnwantOf (opposite e) r) (λ no. no)).0 one) in
             absurd (idle-not-withdrawing (its-view x there.0 (λ v. is_withdrawing v.inward ≡ true) (subst (λ z. IsHereAnd (l.entry there.0 z) (λ v. is_withdrawing v.inward ≡ true)) (opposite-twice e) there.1)));
       }
     where
@@ -282,7 +284,7 @@ module _ {i : ℕ} {w : World} {s : State} {k : ℕ} {p : Pid} {u : Links} (x : 
       (λ to what has. subst (λ (z : ℕ × PictureWhat). IsPacketRight u t.ends k z.0 z.1) (only-there (hint_kernel x.view, posted_want k x.view) (to, what) has) tt)
     where
       stays : (j : ℕ) (f : EndId) → IsHereIfLiving l s.ends j f (λ v. Unit {0}) → IsHereIfLiving u t.ends j f (λ v. Unit {0})
-      stays j f is = λ living. here-still x j f (λ v. Unit {0}) (λ a. tt) (is (living-was f living))
+      stays j f is = λ living. here-still (one-view x) j f (λ v. Unit {0}) (λ a. tt) (is (living-was f living))
 
       differ : (r : ℕ) → kernel_inward.Idle ≡ kernel_inward.Withdrawing r → ⊥
       differ r is = cc
@@ -296,8 +298,8 @@ module _ {i : ℕ} {w : World} {s : State} {k : ℕ} {p : Pid} {u : Links} (x : 
             matched = outward-is (opposite f) ∙ is.matched;
             number = sent-is (opposite f) ∙ is.number;
             sender = is.sender;
-            site = λ living. here-still x from (opposite f) (λ v. v.value.hops ≡ hops) (λ same. same) (is.site (living-was (opposite f) living));
-            meets = λ opened. here-still x to f (λ v. IsAskedAs wanted v.inward) (λ asked. absurd (idle-asked wanted asked)) (is.meets (open-was f opened));
+            site = λ living. here-still (one-view x) from (opposite f) (λ v. v.value.hops ≡ hops) (λ same. same) (is.site (living-was (opposite f) living));
+            meets = λ opened. here-still (one-view x) to f (λ v. IsAskedAs wanted v.inward) (λ asked. absurd (idle-asked wanted asked)) (is.meets (open-was f opened));
           }
       still from to (packet.Back f m ms) is =
           record {
@@ -308,7 +310,7 @@ module _ {i : ℕ} {w : World} {s : State} {k : ℕ} {p : Pid} {u : Links} (x : 
       still from to (packet.Taken f m at hops) is = record { taken = outward-is f ∙ is.taken; number = sent-is f ∙ is.number; taker = is.taker; site = stays to f is.site }
       still from to (packet.Gone f at) is = place-same (opposite f) ∙ is
       still from to (packet.Unwanted f r at hops) is =
-          λ noticed. here-still x to f (λ v. v.inward ≡ kernel_inward.Withdrawing r) (λ same. absurd (differ r (sym x.idle ∙ same))) (is (sym (noticed-same f) ∙ noticed))
+          λ noticed. here-still (one-view x) to f (λ v. v.inward ≡ kernel_inward.Withdrawing r) (λ same. absurd (differ r (sym x.idle ∙ same))) (is (sym (noticed-same f) ∙ noticed))
       still from to _ is = tt
 
   -- ---- names

@@ -1,5 +1,5 @@
 -- After a granted Receive the links stand for the state of the service.
-use Rattle.std.proofs.Common.{◌≡◌, ◌⊎◌, ◌↔◌, inl, inr, ℕ, Bool, true, false, Contains, refl, sym, ap, subst, ◌∙◌, arith}
+use Rattle.std.proofs.Common.{◌≡◌, ◌⊎◌, ◌↔◌, ℕ, Bool, true, false, refl, sym, ap, subst, ◌∙◌}
 use Rattle.std.proofs.lemmas.List.Elements.{All-contains}
 use Rattle.charlotte_calls.specs.declared.names.EndId.{EndId}
 use Rattle.charlotte_calls.specs.declared.names.Pid.{Pid}
@@ -7,13 +7,11 @@ use Rattle.charlotte_calls.specs.declared.picture.PictureWhat.{PictureWhat}
 use Rattle.charlotte_calls.specs.declared.picture.PictureWhat.TheVariants as packet
 use Rattle.end_table.proofs.EndEq.{end_eq-same}
 use Rattle.end_table.specs.Place.{end_eq}
-use Rattle.end_table.specs.Table.{IsHereAnd}
 use Rattle.end_table.specs.declared.entry.Entry.TheVariants as entry
 use Rattle.end_table.specs.declared.entry.HereView.{HereView}
-use Rattle.end_table.specs.declared.entry.Holder.{Holder}
 use Rattle.end_table.specs.declared.entry.Holder.TheVariants as holder
 use Rattle.end_table.specs.declared.entry.Inward.TheVariants as kernel_inward
-use Rattle.kernel_step.specs.Rows.{ends_in, is_here}
+use Rattle.kernel_step.specs.Rows.{ends_in}
 use Rattle.kernel_world.specs.World.{World}
 use Rattle.service_lawful.specs.Consistent.{is_open}
 use Rattle.service_step.specs.Ends.{is_living}
@@ -22,16 +20,13 @@ use Rattle.service_step.specs.declared.state.End.{End}
 use Rattle.service_step.specs.declared.state.Place.{Place}
 use Rattle.service_step.specs.declared.state.Place.TheVariants as place
 use Rattle.world_effects.proofs.Ends.{inward-same, outward-same}
-use Rattle.world_effects.proofs.Sums.{sum_over-same}
-use Rattle.world_meaning.proofs.Sums.{over-same}
+use Rattle.world_meaning.proofs.Plain.{owner-same, view-same}
 use Rattle.world_meaning.specs.Fields.{IsAskedAs}
 use Rattle.world_meaning.specs.Invariant.{IsPacketRight, IsParcelRight, IsVoidRight}
-use Rattle.world_meaning.specs.Packets.{IsBackOf, IsParcelFor, IsParcelOf, IsTakenOf, IsUnderWay, IsUnwantedOf, Links, links_of, one_if, over_kernels, sum_over, values_for, values_of}
-use Rattle.world_meaning.specs.StandsFor.{AreLinksOf, IsEndOf, IsInMessage, IsWaitingWith, entry_at, home_of, standing}
-use Rattle.calls_that_begin.proofs.Posting.{Posting, IsIts, ends-at, ends-like, ends-other, entry-or, here-still, here-was, its-end, its-view, now-here, other-entry, packet-same, placed, posted, posted_view, view-same, was-open}
-
-same-owner : (p q : Pid) → place.Owned p ≡ place.Owned q → p ≡ q
-same-owner p q is = cc
+use Rattle.world_meaning.specs.Packets.{IsParcelFor, IsTakenOf, IsUnderWay, IsUnwantedOf, Links, links_of, one_if}
+use Rattle.world_meaning.specs.StandsFor.{AreLinksOf, IsEndOf, entry_at, home_of}
+use Rattle.calls_that_begin.proofs.Posting.{Posting, ends-at, ends-like, ends-other, its-end, its-view, one-view, placed, posted, posted_view, was-open}
+use Rattle.calls_that_begin.proofs.OneView.{held-same, in_message-same, now-here, other-entry, packet-same, standing-same}
 
 module _ {i : ℕ} {w : World} {s : State} {k : ℕ} {p : Pid} {u : Links} (x : Posting i w s k p u) where
   abbrev l : Links
@@ -74,48 +69,6 @@ module _ {i : ℕ} {w : World} {s : State} {k : ℕ} {p : Pid} {u : Links} (x : 
           differ r (sym x.idle ∙ its-view x is.to (λ v. v.inward ≡ kernel_inward.Withdrawing r) (subst (λ z. IsVoidRight l s.ends is.to z r) for.0 right (was-open x)))
       by _ for right = absurd for
 
-  -- ---- where ends are
-
-  is_here-same : (j : ℕ) (f : EndId) → is_here (u.entry j f) ≡ is_here (l.entry j f)
-  is_here-same j f = by (entry-or x j f)
-    where
-      by : (u.entry j f ≡ l.entry j f) ⊎ IsIts x j f → is_here (u.entry j f) ≡ is_here (l.entry j f)
-      by (inl same) = ap is_here same
-      by (inr its) = ap is_here its.now ∙ sym (ap is_here its.was)
-
-  standing-same : (f : EndId) → standing u f ≡ standing l f
-  unfolding standing
-  standing-same f =
-      let here : over_kernels (λ j. one_if (is_here (u.entry j f))) ≡ over_kernels (λ j. one_if (is_here (l.entry j f)))
-      = over-same (λ j. one_if (is_here (l.entry j f))) (λ j. one_if (is_here (u.entry j f))) (λ j. ap one_if (is_here-same j f)) in
-      let values : sum_over (λ q. values_for f (values_of q)) u ≡ sum_over (λ q. values_for f (values_of q)) l = sum_over-same (λ q. values_for f (values_of q)) x.changes tt (refl, tt) in
-      omega (arith, here, values)
-
-  held-same : (j : ℕ) (f : EndId) (h : Holder) → IsHereAnd (entry_at l j f) (λ v. v.holder ≡ h) ↔ IsHereAnd (entry_at u j f) (λ v. v.holder ≡ h)
-  held-same j f h = (here-still x j f (λ v. v.holder ≡ h) (λ is. is), here-was x j f (λ v. v.holder ≡ h) (λ is. is))
-
-  waiting-same : (j : ℕ) (f : EndId) (m : ℕ) → IsHereAnd (entry_at l j f) (λ v. IsWaitingWith m v.outward) ↔ IsHereAnd (entry_at u j f) (λ v. IsWaitingWith m v.outward)
-  waiting-same j f m = (here-still x j f (λ v. IsWaitingWith m v.outward) (λ is. is), here-was x j f (λ v. IsWaitingWith m v.outward) (λ is. is))
-
-  in_message-same : (f g : EndId) (m : ℕ) → IsInMessage l f g m ↔ IsInMessage u f g m
-  in_message-same f g m = (still, was)
-    where
-      parcel : IsUnderWay u (λ q. IsParcelOf g m q × Contains (ends_in (values_of q)) f) ↔ IsUnderWay l (λ q. IsParcelOf g m q × Contains (ends_in (values_of q)) f)
-      parcel = packet-same x (λ q. IsParcelOf g m q × Contains (ends_in (values_of q)) f) (λ is. is.0)
-
-      back : IsUnderWay u (λ q. IsBackOf g m q × Contains (ends_in (values_of q)) f) ↔ IsUnderWay l (λ q. IsBackOf g m q × Contains (ends_in (values_of q)) f)
-      back = packet-same x (λ q. IsBackOf g m q × Contains (ends_in (values_of q)) f) (λ is. is.0)
-
-      still : IsInMessage l f g m → IsInMessage u f g m
-      still (inl y) = inl (record { at = y.at; enclosed = (held-same y.at f (holder.EnclosedIn g)).0 y.enclosed; waiting = (waiting-same y.at g m).0 y.waiting })
-      still (inr (inl y)) = inr (inl (parcel.1 y))
-      still (inr (inr y)) = inr (inr (back.1 y))
-
-      was : IsInMessage u f g m → IsInMessage l f g m
-      was (inl y) = inl (record { at = y.at; enclosed = (held-same y.at f (holder.EnclosedIn g)).1 y.enclosed; waiting = (waiting-same y.at g m).1 y.waiting })
-      was (inr (inl y)) = inr (inl (parcel.0 y))
-      was (inr (inr y)) = inr (inr (back.0 y))
-
   place-same : (f : EndId) → (t.ends f).place ≡ (s.ends f).place
   place-same f = ap (λ (y : End). y.place) (ends-like x f)
 
@@ -128,10 +81,10 @@ module _ {i : ℕ} {w : World} {s : State} {k : ℕ} {p : Pid} {u : Links} (x : 
       (record {
         sent = (its-end x).sent;
         noticed = (its-end x).noticed;
-        outward = outward-same l u e (λ m. packet-same x (IsTakenOf e m) (λ is. is)) (s.ends e).sent x.view.outward (s.ends e).outward (its-end x).outward;
+        outward = outward-same l u e (λ m. packet-same (one-view x) (IsTakenOf e m) (λ is. is)) (s.ends e).sent x.view.outward (s.ends e).outward (its-end x).outward;
         inward = (
-          λ m is. no-parcel (posted_view x.view).value.asked m ((packet-same x (IsParcelFor e (posted_view x.view).value.asked m) (λ no. no)).0 is),
-          λ is. no-unwanted (posted_view x.view).value.asked ((packet-same x (IsUnwantedOf e (posted_view x.view).value.asked) (λ no. no)).0 is),
+          λ m is. no-parcel (posted_view x.view).value.asked m ((packet-same (one-view x) (IsParcelFor e (posted_view x.view).value.asked m) (λ no. no)).0 is),
+          λ is. no-unwanted (posted_view x.view).value.asked ((packet-same (one-view x) (IsUnwantedOf e (posted_view x.view).value.asked) (λ no. no)).0 is),
         );
       })
 
@@ -141,8 +94,8 @@ module _ {i : ℕ} {w : World} {s : State} {k : ℕ} {p : Pid} {u : Links} (x : 
       (record {
         sent = is.sent;
         noticed = is.noticed;
-        outward = outward-same l u f (λ m. packet-same x (IsTakenOf f m) (λ no. no)) (s.ends f).sent v.outward (s.ends f).outward is.outward;
-        inward = inward-same l u f (λ r m. packet-same x (IsParcelFor f r m) (λ no. no)) (λ r. packet-same x (IsUnwantedOf f r) (λ no. no)) v.inward (s.ends f).inward is.inward;
+        outward = outward-same l u f (λ m. packet-same (one-view x) (IsTakenOf f m) (λ no. no)) (s.ends f).sent v.outward (s.ends f).outward is.outward;
+        inward = inward-same l u f (λ r m. packet-same (one-view x) (IsParcelFor f r m) (λ no. no)) (λ r. packet-same (one-view x) (IsUnwantedOf f r) (λ no. no)) v.inward (s.ends f).inward is.inward;
       })
 
   agree-after : (f : EndId) (q : Pid) (v : HereView) → (t.ends f).place ≡ place.Owned q → entry_at u (home_of s q) f ≡ entry.Here v → IsEndOf u f v (t.ends f)
@@ -152,25 +105,25 @@ module _ {i : ℕ} {w : World} {s : State} {k : ℕ} {p : Pid} {u : Links} (x : 
       was = sym (place-same f) ∙ owned
 
       by : (b : Bool) → end_eq e f ≡ b → IsEndOf u f v (t.ends f)
-      by false apart = other-end f v apart (x.is.stands.links.agree f q v was (sym (other-entry x (home_of s q) f apart) ∙ there))
+      by false apart = other-end f v apart (x.is.stands.links.agree f q v was (sym (other-entry (one-view x) (home_of s q) f apart) ∙ there))
       by true is =
           let same : e ≡ f = end_eq-same e f is in
-          let who : p ≡ q = same-owner p q (sym (placed x) ∙ ap (λ z. (s.ends z).place) same ∙ was) in
+          let who : p ≡ q = owner-same p q (sym (placed x) ∙ ap (λ z. (s.ends z).place) same ∙ was) in
           let view : posted_view x.view ≡ v
-          = view-same (posted_view x.view) v (sym (now-here x) ∙ ap (λ z. u.entry z e) (sym x.at ∙ ap (home_of s) who) ∙ ap (u.entry (home_of s q)) same ∙ there) in
+          = view-same (posted_view x.view) v (sym (now-here (one-view x)) ∙ ap (λ z. u.entry z e) (sym x.at ∙ ap (home_of s) who) ∙ ap (u.entry (home_of s q)) same ∙ there) in
           subst (λ z. IsEndOf u z v (t.ends z)) same (subst (λ z. IsEndOf u e z (t.ends e)) view own-end)
 
   pub posted-links : AreLinksOf u t
   posted-links =
       record {
-        once = λ f. standing-same f ∙ x.is.stands.links.once f ∙ sym (ap (λ (y : Place). one_if (is_living y)) (place-same f));
+        once = λ f. standing-same (one-view x) f ∙ x.is.stands.links.once f ∙ sym (ap (λ (y : Place). one_if (is_living y)) (place-same f));
         owned = λ f q. (
-          λ at. (held-same (home_of s q) f (holder.Owner q)).0 ((x.is.stands.links.owned f q).0 (sym (place-same f) ∙ at)),
-          λ has. place-same f ∙ (x.is.stands.links.owned f q).1 ((held-same (home_of s q) f (holder.Owner q)).1 has),
+          λ at. (held-same (one-view x) (home_of s q) f (holder.Owner q)).0 ((x.is.stands.links.owned f q).0 (sym (place-same f) ∙ at)),
+          λ has. place-same f ∙ (x.is.stands.links.owned f q).1 ((held-same (one-view x) (home_of s q) f (holder.Owner q)).1 has),
         );
         in_message = λ f g m. (
-          λ at. (in_message-same f g m).0 ((x.is.stands.links.in_message f g m).0 (sym (place-same f) ∙ at)),
-          λ has. place-same f ∙ (x.is.stands.links.in_message f g m).1 ((in_message-same f g m).1 has),
+          λ at. (in_message-same (one-view x) f g m).0 ((x.is.stands.links.in_message f g m).0 (sym (place-same f) ∙ at)),
+          λ has. place-same f ∙ (x.is.stands.links.in_message f g m).1 ((in_message-same (one-view x) f g m).1 has),
         );
         agree = agree-after;
       }

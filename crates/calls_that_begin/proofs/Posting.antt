@@ -1,7 +1,6 @@
 -- A granted Receive in a world and in the service: which entry changes, which packet is sent, and what the end becomes.
-use Rattle.std.proofs.Common.{◌≡◌, ◌≢◌, ◌⊎◌, ◌↔◌, inl, inr, ℕ, ◌+◌, ◌-◌, ◌^◌, ◌<◌, ◌≤◌, Bool, true, false, nat_eq, if◌then◌else◌, length, Contains, refl, sym, ap, subst, ◌∙◌, arith, true≢false}
+use Rattle.std.proofs.Common.{◌≡◌, ◌≢◌, ◌⊎◌, ◌↔◌, inl, inr, ℕ, ◌+◌, ◌-◌, ◌^◌, ◌<◌, ◌≤◌, Bool, true, false, if◌then◌else◌, length, Contains, refl, sym, ap, subst, ◌∙◌, arith, true≢false}
 use Rattle.std.proofs.Math.Nat.{min-le_left}
-use Rattle.std.proofs.lemmas.Bool.Decides.{eqb_tells}
 use Rattle.charlotte_calls.specs.Names.{opposite}
 use Rattle.charlotte_calls.specs.declared.calls.Call.TheVariants as call
 use Rattle.charlotte_calls.specs.declared.names.EndId.{EndId}
@@ -9,7 +8,7 @@ use Rattle.charlotte_calls.specs.declared.names.Pid.{Pid}
 use Rattle.charlotte_calls.specs.declared.picture.MovingPicture.{MovingPicture}
 use Rattle.charlotte_calls.specs.declared.picture.PictureWhat.{PictureWhat}
 use Rattle.charlotte_calls.specs.declared.picture.PictureWhat.TheVariants as packet
-use Rattle.end_table.proofs.EndEq.{end_eq-refl, end_eq-same}
+use Rattle.end_table.proofs.EndEq.{end_eq-same}
 use Rattle.end_table.specs.Entries.{gains_one}
 use Rattle.end_table.specs.Place.{end_eq}
 use Rattle.end_table.specs.Table.{IsHereAnd}
@@ -31,17 +30,15 @@ use Rattle.service_step.specs.declared.state.Inward.TheVariants as inward
 use Rattle.service_step.specs.declared.state.Place.TheVariants as place
 use Rattle.silent_events.proofs.Alike.{some-same}
 use Rattle.silent_events.proofs.Places.{here-kernel}
-use Rattle.world_effects.proofs.Aside.{none-taken}
-use Rattle.world_effects.proofs.Lists.{none-there, only-there}
-use Rattle.world_effects.proofs.Packets.{left-was, under_way-after, under_way-still}
+use Rattle.world_effects.proofs.Lists.{none-there}
 use Rattle.world_effects.specs.Change.{Change, Changes}
 use Rattle.world_effects.specs.Events.{calling}
-use Rattle.world_effects.specs.Under.{IsLeft, IsSent}
 use Rattle.world_meaning.proofs.Ends.{eq-same, opposite-twice}
 use Rattle.world_meaning.specs.Fields.{Stand, At, Flying, HasFields, IsUnserved, value_of}
 use Rattle.world_meaning.specs.Invariant.{Invariant}
-use Rattle.world_meaning.specs.Packets.{IsUnderWay, Links, links_of, values_of}
+use Rattle.world_meaning.specs.Packets.{Links, links_of, values_of}
 use Rattle.world_meaning.specs.StandsFor.{IsEndOf, IsInwardOf, IsOwnedHere, home_of}
+use Rattle.calls_that_begin.proofs.OneView.{IsIts, IsOneView, entry-or, packet-same}
 
 -- process p posts a receive on an end that it owns, whose view at its kernel k is this; u are the links afterwards
 pub record Posting (i : ℕ) (w : World) (s : State) (k : ℕ) (p : Pid) (u : Links) : Type 0 where
@@ -72,9 +69,6 @@ pub record IsSameFields (m l : MovingPicture) : Type 0 where
   pub rest : l ≡ record m { asked = l.asked }
   pub asked : l.asked ≤ m.asked + 1
 
-pub view-same : (x y : HereView) → entry.Here x ≡ entry.Here y → x ≡ y
-view-same x y is = cc
-
 pub idle-is : (w : Links) (e : EndId) (i : Inward) → IsInwardOf w e kernel_inward.Idle i → i ≡ inward.Idle
 idle-is w e inward.Idle is = refl
 idle-is w e inward.Posted is = absurd is
@@ -92,86 +86,30 @@ module _ {i : ℕ} {w : World} {s : State} {k : ℕ} {p : Pid} {u : Links} (x : 
   abbrev c : Change
   c = calling w k p (call.Receive x.view.value.end) (post_effect k x.view)
 
-  -- ---- packets
-
-  -- a packet that is under way afterwards was so before, or is the want
-  pub packet-or : (P : PictureWhat → Type 0) → IsUnderWay u P → IsUnderWay l P ⊎ P (posted_want k x.view)
-  packet-or P is = by (under_way-after x.changes P is)
-    where
-      by : IsLeft x.changes P ⊎ IsSent c P → IsUnderWay l P ⊎ P (posted_want k x.view)
-      by (inl left) = inl (left-was x.changes P left)
-      by (inr sent) = inr (subst (λ (z : ℕ × PictureWhat). P z.1) (sym (only-there (hint_kernel x.view, posted_want k x.view) (sent.to, sent.what) sent.there)) sent.is)
-
-  pub packet-still : (P : PictureWhat → Type 0) → IsUnderWay l P → IsUnderWay u P
-  packet-still P is = under_way-still x.changes P (none-taken c P tt) is
-
-  pub packet-same : (P : PictureWhat → Type 0) → (P (posted_want k x.view) → ⊥) → IsUnderWay u P ↔ IsUnderWay l P
-  packet-same P none = (λ is. by (packet-or P is), packet-still P)
-    where
-      by : IsUnderWay l P ⊎ P (posted_want k x.view) → IsUnderWay l P
-      by (inl was) = was
-      by (inr is) = absurd (none is)
-
-  -- ---- entries
-
-  pub now-here : u.entry k e ≡ entry.Here (posted_view x.view)
-  now-here = x.changes.entry e ∙ ap (λ b. if b then entry.Here (posted_view x.view) else (w.kernel k).table e) (end_eq-refl e)
-
-  pub other-entry : (j : ℕ) (f : EndId) → end_eq e f ≡ false → u.entry j f ≡ l.entry j f
-  other-entry j f apart = by (eqb_tells j k)
-    where
-      by : ((nat_eq j k ≡ true) × (j ≡ k)) ⊎ ((nat_eq j k ≡ false) × (j ≢ k)) → u.entry j f ≡ l.entry j f
-      by (inl at) =
-          subst (λ z. u.entry z f ≡ l.entry z f) (sym at.1)
-          (x.changes.entry f ∙ ap (λ b. if b then entry.Here (posted_view x.view) else (w.kernel k).table f) apart)
-      by (inr at) = x.changes.others j f at.0
-
-  -- this is the entry of the end
-  pub record IsIts (j : ℕ) (f : EndId) : Type 0 where
-    pub at : j ≡ k
-    pub end : e ≡ f
-    pub was : l.entry j f ≡ entry.Here x.view
-    pub now : u.entry j f ≡ entry.Here (posted_view x.view)
-
-  pub entry-or : (j : ℕ) (f : EndId) → (u.entry j f ≡ l.entry j f) ⊎ IsIts j f
-  entry-or j f = by (eqb_tells j k) (end_eq e f) refl
-    where
-      by : ((nat_eq j k ≡ true) × (j ≡ k)) ⊎ ((nat_eq j k ≡ false) × (j ≢ k)) → (b : Bool) → end_eq e f ≡ b → (u.entry j f ≡ l.entry j f) ⊎ IsIts j f
-      by (inr at) b is = inl (x.changes.others j f at.0)
-      by (inl at) false is = inl (other-entry j f is)
-      by (inl at) true is =
-          let same : e ≡ f = end_eq-same e f is in
-          inr (record {
-            at = at.1;
-            end = same;
-            was = ap (λ z. l.entry z f) at.1 ∙ ap (l.entry k) (sym same) ∙ x.here;
-            now = ap (λ z. u.entry z f) at.1 ∙ ap (u.entry k) (sym same) ∙ now-here;
-          })
-
-  -- what is true of the view of an end that is here
-  pub here-was : (j : ℕ) (f : EndId) (P : HereView → Type 0) → (P (posted_view x.view) → P x.view) → IsHereAnd (u.entry j f) P → IsHereAnd (l.entry j f) P
-  here-was j f P back has = by (entry-or j f)
-    where
-      by : (u.entry j f ≡ l.entry j f) ⊎ IsIts j f → IsHereAnd (l.entry j f) P
-      by (inl same) = subst (λ z. IsHereAnd z P) same has
-      by (inr its) = subst (λ z. IsHereAnd z P) (sym its.was) (back (subst (λ z. IsHereAnd z P) its.now has))
-
-  pub here-still : (j : ℕ) (f : EndId) (P : HereView → Type 0) → (P x.view → P (posted_view x.view)) → IsHereAnd (l.entry j f) P → IsHereAnd (u.entry j f) P
-  here-still j f P on has = by (entry-or j f)
-    where
-      by : (u.entry j f ≡ l.entry j f) ⊎ IsIts j f → IsHereAnd (u.entry j f) P
-      by (inl same) = subst (λ z. IsHereAnd z P) (sym same) has
-      by (inr its) = subst (λ z. IsHereAnd z P) (sym its.now) (on (subst (λ z. IsHereAnd z P) its.was has))
+  -- the view of one end is replaced, and one packet sent
+  pub one-view : IsOneView l c u x.view (posted_view x.view) (hint_kernel x.view) (posted_want k x.view)
+  one-view =
+      record {
+        changes = x.changes;
+        here = x.here;
+        entries = x.changes.entry;
+        holder = refl;
+        outward = refl;
+        untaken = refl;
+        sent = refl;
+        bare = refl;
+        other = λ f m. (λ is. is, λ is. is);
+      }
 
   -- the fields that an end has it had
   pub fields-was : (f : EndId) (at : Stand) (m : MovingPicture) → HasFields u f at m → (o : MovingPicture) × HasFields l f at o × IsSameFields o m
-  fields-was f Flying m has = (m, ((packet-same (λ q. Contains (values_of q) m) (λ is. none-there m is)).0 has.0, has.1), record { rest = refl; asked = omega arith })
-  fields-was f (At j) m has = by (entry-or j f)
+  fields-was f Flying m has = (m, ((packet-same one-view (λ q. Contains (values_of q) m) (λ is. none-there m is)).0 has.0, has.1), record { rest = refl; asked = omega arith })
+  fields-was f (At j) m has = by (entry-or one-view j f)
     where
       gained : gains_one x.view.value.asked ≤ x.view.value.asked + 1
       gained = min-le_left (x.view.value.asked + 1) (2 ^ 32 - 1)
 
-      by : (u.entry j f ≡ l.entry j f) ⊎ IsIts j f → (o : MovingPicture) × HasFields l f (At j) o × IsSameFields o m
+      by : (u.entry j f ≡ l.entry j f) ⊎ IsIts one-view j f → (o : MovingPicture) × HasFields l f (At j) o × IsSameFields o m
       by (inl same) = (m, ap value_of (sym same) ∙ has, record { rest = refl; asked = omega arith })
       by (inr its) = (
         x.view.value,

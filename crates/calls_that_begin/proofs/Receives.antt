@@ -1,5 +1,5 @@
 -- The service goes with a Receive that is not refused, by one step.
-use Rattle.std.proofs.Common.{◌≡◌, ℕ, ◌+◌, ◌<◌, Bool, true, false, not, is_none, ◌&&◌, IsTrue, if◌then◌else◌, List, [], ◌∷◌, length, Option, Some, None, slice_index, refl, sym, ap, subst, ◌∙◌, eq-eqb}
+use Rattle.std.proofs.Common.{◌≡◌, ℕ, ◌+◌, ◌<◌, Bool, true, false, not, is_none, ◌&&◌, IsTrue, if◌then◌else◌, List, [], ◌∷◌, length, Some, None, slice_index, refl, sym, ap, subst, ◌∙◌, eq-eqb}
 use Rattle.std.proofs.lemmas.List.Elements.{All-get_or}
 use Rattle.charlotte_calls.specs.declared.calls.Answer.TheVariants as answer
 use Rattle.charlotte_calls.specs.declared.calls.Call.TheVariants as call
@@ -9,19 +9,15 @@ use Rattle.charlotte_calls.specs.declared.calls.ServiceStep.TheVariants as step
 use Rattle.charlotte_calls.specs.declared.names.EndId.{EndId}
 use Rattle.charlotte_calls.specs.declared.names.Pid.{Pid}
 use Rattle.charlotte_calls.specs.declared.setting.Setting.{Setting}
-use Rattle.end_table.specs.Owned.{is_owner, owned}
-use Rattle.end_table.specs.Table.{IsOfEnd}
+use Rattle.end_table.specs.Owned.{owned}
 use Rattle.end_table.specs.declared.entry.Entry.TheVariants as entry
 use Rattle.end_table.specs.declared.entry.HereView.{HereView}
 use Rattle.end_table.specs.declared.entry.Holder.TheVariants as holder
 use Rattle.end_table.specs.declared.entry.Inward.{Inward}
 use Rattle.end_table.specs.declared.entry.Inward.TheVariants as kernel_inward
 use Rattle.kernel_effects.specs.Calls.{act_effect, effect_on, post_effect}
-use Rattle.kernel_effects.specs.Effect.{Effect}
-use Rattle.kernel_sound.proofs.Needs.{owned-here}
-use Rattle.kernel_sound.specs.Sound.{IsSound}
-use Rattle.kernel_step.specs.Calls.{first_of, inward_activity, is_free, on_owned, receive_causes, refusal}
-use Rattle.kernel_step.specs.Kernel.{Kernel, has_report, process_of}
+use Rattle.kernel_step.specs.Calls.{first_of, inward_activity, is_free, receive_causes, refusal}
+use Rattle.kernel_step.specs.Kernel.{has_report, process_of}
 use Rattle.kernel_step.specs.declared.phase.Phase.TheVariants as kernel_phase
 use Rattle.kernel_world.specs.Run.{IsAllowed}
 use Rattle.kernel_world.specs.World.{World, Calls, Event, happens}
@@ -40,7 +36,7 @@ use Rattle.world_meaning.proofs.Goes.{Goes}
 use Rattle.world_meaning.specs.Invariant.{Invariant}
 use Rattle.world_meaning.specs.Packets.{links_of}
 use Rattle.world_meaning.specs.StandsFor.{IsProcessOf, home_of, service_phase}
-use Rattle.calls_that_begin.proofs.Answered.{call-sound, kernel-same, processes-after, setting-after}
+use Rattle.calls_that_begin.proofs.Answered.{granted-on, owned-of, processes-after, setting-called}
 use Rattle.calls_that_begin.proofs.PostedClauses.{posted-right}
 use Rattle.calls_that_begin.proofs.PostedLinks.{posted-links}
 use Rattle.calls_that_begin.proofs.Posting.{Posting, placed, posted, was-idle, was-open}
@@ -66,8 +62,7 @@ module _ (i : ℕ) (w : World) (s : State) (k : ℕ) (p : Pid) (mine : List EndI
     change = calling w k p (call.Receive v.value.end) (post_effect k v)
 
     owned-is : owned p ((w.kernel k).table e) ≡ Some v
-    owned-is =
-        ap (owned p) here ∙ ap (λ h. if is_owner p h then Some v else None) owner_is ∙ ap (λ b. if b then Some v else None) (eq-eqb p.0 p.0 refl)
+    owned-is = owned-of p ((w.kernel k).table e) v here owner_is
 
     effect : act_effect p k (w.kernel k).made mine (w.kernel k).table (call.Receive e) ≡ post_effect k v
     effect = ap (λ o. effect_on o (post_effect k)) owned-is
@@ -104,24 +99,12 @@ module _ (i : ℕ) (w : World) (s : State) (k : ℕ) (p : Pid) (mine : List EndI
     stepped : IsServiceStep s (step.Receive e) (posted s e)
     stepped = record { allowed = may; after = refl }
 
-    made-same : (j : ℕ) → ((happens w event).kernel j).made ≡ (w.kernel j).made
-    made-same = kernel-same happened.becomes s (λ (x : Kernel). x.made) happened.becomes.made
-
-    sound : IsSound k ((happens w event).kernel k).made (length s.homes) ((happens w event).kernel k).table
-    sound =
-        subst (λ m. IsSound k m (length s.homes) ((happens w event).kernel k).table) (sym (made-same k))
-        (subst (IsSound k (w.kernel k).made (length s.homes)) (sym table)
-        (call-sound k (w.kernel k).made (length s.homes) (w.kernel k).table p mine (has_report (process_of p (w.kernel k))) (call.Receive e) (is.setting.sound k) below granted tt (λ q. refl)))
-      where
-        table : ((happens w event).kernel k).table ≡ (λ q. (act_effect p k (w.kernel k).made mine (w.kernel k).table (call.Receive e)).entry q ((w.kernel k).table q))
-        table = λ j q. (happened.becomes.links.entry q ∙ ap (λ (f : Effect). f.entry q ((w.kernel k).table q)) (sym effect)) j
-
     posted-invariant : Invariant (i + 1) (happens w event) (posted s e)
     posted-invariant =
         record {
           stands = record { processes = processes-after happened.becomes s answer.Ok refl running is.stands.processes; links = posted-links posting };
           service = consistent_after s (step.Receive e) (posted s e) is.service stepped;
-          setting = setting-after happened.becomes s (posted s e) refl refl refl (λ j. is.setting.made j ∙ sym (made-same j)) sound is.setting;
+          setting = setting-called is k p mine (call.Receive e) effect happened.becomes refl refl below granted tt (λ q. refl) (posted s e) refl refl refl;
           links = posted-right posting home-near (performs-names is k p (call.Receive e) mine home-near (post_effect k v) effect) (ap (λ (y : Place). is_made y) (placed posting));
           waiting = is.waiting;
         }
@@ -151,18 +134,9 @@ none-holds v none = by (is_free (inward_activity v.inward)) refl v.value.dead re
 -- the service goes with a Receive that its kernel does not refuse
 pub receive-goes : (g : Setting) (i : ℕ) (w : World) (s : State) (k : ℕ) (p : Pid) (on : EndId) (mine : List EndId) → Invariant i w s → s.homes ≡ g.homes → IsAllowed g w (Calls k p (call.Receive on) mine)
     → refusal p (w.kernel k).table (w.kernel k).made mine (has_report (process_of p (w.kernel k))) (call.Receive on) ≡ None → Goes i w s (Calls k p (call.Receive on) mine)
-receive-goes g i w s k p on mine is homes allowed granted = by (owned p ((w.kernel k).table on)) refl granted
-  where
-    some : (c : Cause) → Some c ≡ None → ⊥
-    some c is = cc
-
-    by : (o : Option HereView) → owned p ((w.kernel k).table on) ≡ o → on_owned o receive_causes ≡ None → Goes i w s (Calls k p (call.Receive on) mine)
-    by None owns none = absurd (some cause.NoEnd none)
-    by (Some v) owns none =
-        let here = owned-here p ((w.kernel k).table on) v owns in
-        let own : v.value.end ≡ on = subst (IsOfEnd on) here.0 ((is.setting.sound k).own on) in
-        let free = none-holds v none in
-        subst (λ z. Goes i w s (Calls k p (call.Receive z) mine)) own
-        (posted-goes i w s k p mine is (subst (λ hs. p.0 < length hs) (sym homes) allowed.0) (ap (λ hs. slice_index hs p.0) homes ∙ allowed.1) allowed.2 v
-        (ap (w.kernel k).table own ∙ here.0) here.1 free.0 free.1
-        (subst (λ z. refusal p (w.kernel k).table (w.kernel k).made mine (has_report (process_of p (w.kernel k))) (call.Receive z) ≡ None) (sym own) granted))
+receive-goes g i w s k p on mine is homes allowed granted =
+    let o = granted-on (is.setting.sound k) p on receive_causes granted in
+    let free = none-holds o.view o.none in
+    subst (λ z. Goes i w s (Calls k p (call.Receive z) mine)) o.end
+    (posted-goes i w s k p mine is (subst (λ hs. p.0 < length hs) (sym homes) allowed.0) (ap (λ hs. slice_index hs p.0) homes ∙ allowed.1) allowed.2 o.view o.here o.owner free.0 free.1
+    (subst (λ z. refusal p (w.kernel k).table (w.kernel k).made mine (has_report (process_of p (w.kernel k))) (call.Receive z) ≡ None) (sym o.end) granted))

@@ -1,27 +1,22 @@
 -- The service goes with a Cancel of a receive that is not refused, by one step.
-use Rattle.std.proofs.Common.{◌≡◌, ◌≢◌, ◌⊎◌, inl, inr, ℕ, ◌+◌, ◌<◌, false, not, ◌&&◌, ◌||◌, if◌then◌else◌, IsTrue, List, [], ◌∷◌, length, Option, Some, None, slice_index, refl, sym, ap, subst, ◌∙◌, true≢false, eq-eqb}
+use Rattle.std.proofs.Common.{◌≡◌, ◌≢◌, ◌⊎◌, inl, inr, ℕ, ◌+◌, ◌<◌, false, not, ◌&&◌, ◌||◌, if◌then◌else◌, IsTrue, List, [], ◌∷◌, length, Some, None, slice_index, refl, sym, ap, subst, ◌∙◌, true≢false}
 use Rattle.charlotte_calls.specs.declared.calls.Call.TheVariants as call
-use Rattle.charlotte_calls.specs.declared.calls.Cause.{Cause}
-use Rattle.charlotte_calls.specs.declared.calls.Cause.TheVariants as cause
 use Rattle.charlotte_calls.specs.declared.calls.ServiceStep.TheVariants as step
 use Rattle.charlotte_calls.specs.declared.names.EndId.{EndId}
 use Rattle.charlotte_calls.specs.declared.names.Pid.{Pid}
 use Rattle.charlotte_calls.specs.declared.names.Way.TheVariants as way
 use Rattle.charlotte_calls.specs.declared.setting.Setting.{Setting}
-use Rattle.end_table.specs.Owned.{is_owner, owned}
-use Rattle.end_table.specs.Table.{IsOfEnd}
+use Rattle.end_table.specs.Owned.{owned}
 use Rattle.end_table.specs.declared.entry.Entry.TheVariants as entry
 use Rattle.end_table.specs.declared.entry.HereView.{HereView}
 use Rattle.end_table.specs.declared.entry.Holder.TheVariants as holder
 use Rattle.end_table.specs.declared.entry.Inward.{Inward}
 use Rattle.end_table.specs.declared.entry.Inward.TheVariants as kernel_inward
 use Rattle.kernel_effects.specs.Calls.{act_effect, effect_on, withdraw_posted_effect, withdraw_receive_effect}
-use Rattle.kernel_effects.specs.Effect.{Effect}
 use Rattle.kernel_outcomes.specs.Closing.{cancelling, cancelling_on}
-use Rattle.kernel_sound.proofs.Needs.{AllFail, first_of-none, owned-here}
-use Rattle.kernel_sound.specs.Sound.{IsSound}
-use Rattle.kernel_step.specs.Calls.{cancel_causes, inward_activity, is_free, is_late, on_owned, refusal}
-use Rattle.kernel_step.specs.Kernel.{Kernel, has_report, process_of}
+use Rattle.kernel_sound.proofs.Needs.{AllFail, first_of-none}
+use Rattle.kernel_step.specs.Calls.{cancel_causes, inward_activity, is_free, is_late, refusal}
+use Rattle.kernel_step.specs.Kernel.{has_report, process_of}
 use Rattle.kernel_step.specs.declared.phase.Phase.TheVariants as kernel_phase
 use Rattle.kernel_world.specs.Run.{IsAllowed}
 use Rattle.kernel_world.specs.World.{World, Calls, Event, happens}
@@ -41,7 +36,7 @@ use Rattle.world_meaning.specs.Invariant.{Invariant}
 use Rattle.world_meaning.specs.Packets.{links_of}
 use Rattle.world_meaning.specs.StandsFor.{IsProcessOf, home_of}
 use Rattle.answered_events.proofs.World.{processes-told}
-use Rattle.calls_that_begin.proofs.Answered.{call-sound, kernel-same, setting-after}
+use Rattle.calls_that_begin.proofs.Answered.{IsGranted, granted-on, owned-of, setting-called}
 use Rattle.calls_that_begin.proofs.Receives.{home-near, runs-there}
 use Rattle.calls_that_cancel.proofs.Withdrawing.{IsWithdrawing, is-started, placed, unaware}
 use Rattle.calls_that_cancel.proofs.WithdrawnClauses.{withdrawn-right}
@@ -60,8 +55,7 @@ module _ (i : ℕ) (w : World) (s : State) (k : ℕ) (p : Pid) (mine : List EndI
   next = turned s p (phase.Cancelling e)
 
   owned-is : owned p ((w.kernel k).table e) ≡ Some v
-  owned-is =
-      ap (owned p) here ∙ ap (λ h. if is_owner p h then Some v else None) owner_is ∙ ap (λ b. if b then Some v else None) (eq-eqb p.0 p.0 refl)
+  owned-is = owned-of p ((w.kernel k).table e) v here owner_is
 
   effect : act_effect p k (w.kernel k).made mine (w.kernel k).table (call.Cancel e way.Inward) ≡ withdraw_receive_effect k r v
   effect = ap (λ o. effect_on o (λ v. withdraw_posted_effect k v v.inward)) owned-is ∙ ap (withdraw_posted_effect k v) posts
@@ -111,18 +105,6 @@ module _ (i : ℕ) (w : World) (s : State) (k : ℕ) (p : Pid) (mine : List EndI
         reports = turned-reports s p (phase.Cancelling e) p.0 ∙ (subst (λ j. IsProcessOf ((w.kernel j).process p.0) (s.process p.0)) at (is.stands.processes p below)).reports;
       })
 
-  made-same : (j : ℕ) → ((happens w event).kernel j).made ≡ (w.kernel j).made
-  made-same = kernel-same happened.becomes s (λ (x : Kernel). x.made) happened.becomes.made
-
-  sound : IsSound k ((happens w event).kernel k).made (length s.homes) ((happens w event).kernel k).table
-  sound =
-      subst (λ m. IsSound k m (length s.homes) ((happens w event).kernel k).table) (sym (made-same k))
-      (subst (IsSound k (w.kernel k).made (length s.homes)) (sym table)
-      (call-sound k (w.kernel k).made (length s.homes) (w.kernel k).table p mine (has_report (process_of p (w.kernel k))) (call.Cancel e way.Inward) (is.setting.sound k) below granted tt (λ q. refl)))
-    where
-      table : ((happens w event).kernel k).table ≡ (λ q. (act_effect p k (w.kernel k).made mine (w.kernel k).table (call.Cancel e way.Inward)).entry q ((w.kernel k).table q))
-      table = λ j q. (happened.becomes.links.entry q ∙ ap (λ (f : Effect). f.entry q ((w.kernel k).table q)) (sym effect)) j
-
   waits : (q : Pid) → (next.process q.0).phase ≡ phase.Waiting → (next.process q.0).reports ≡ []
   waits q waiting = turned-reports s p (phase.Cancelling e) q.0 ∙ by (turned-phase s p (phase.Cancelling e) q.0)
     where
@@ -139,7 +121,7 @@ module _ (i : ℕ) (w : World) (s : State) (k : ℕ) (p : Pid) (mine : List EndI
               links = withdrawn-links withdrawing;
             };
         service = consistent_after s (step.Cancel e way.Inward) next is.service stepped;
-        setting = setting-after happened.becomes s next refl refl refl (λ j. is.setting.made j ∙ sym (made-same j)) sound is.setting;
+        setting = setting-called is k p mine (call.Cancel e way.Inward) effect happened.becomes refl refl below granted tt (λ q. refl) next refl refl refl;
         links =
             withdrawn-right withdrawing (home-near i w s k p mine is below at running)
             (performs-names is k p (call.Cancel e way.Inward) mine (home-near i w s k p mine is below at running) (withdraw_receive_effect k r v) effect) (ap is_made (placed withdrawing));
@@ -159,36 +141,26 @@ begun kernel_inward.Unreported soon some = absurd (true≢false soon)
 -- the service goes with a Cancel of a receive that its kernel does not refuse
 pub cancel-receive-goes : (g : Setting) (i : ℕ) (w : World) (s : State) (k : ℕ) (p : Pid) (on : EndId) (mine : List EndId) → Invariant i w s → s.homes ≡ g.homes → IsAllowed g w (Calls k p (call.Cancel on way.Inward) mine)
     → refusal p (w.kernel k).table (w.kernel k).made mine (has_report (process_of p (w.kernel k))) (call.Cancel on way.Inward) ≡ None → Goes i w s (Calls k p (call.Cancel on way.Inward) mine)
-cancel-receive-goes g i w s k p on mine is homes allowed granted = by (owned p ((w.kernel k).table on)) refl granted
+cancel-receive-goes g i w s k p on mine is homes allowed granted = which (begun o.view.inward fail.1.0 fail.1.1.0)
   where
-    some : (c : Cause) → Some c ≡ None → ⊥
-    some c is = cc
-
     below : p.0 < length s.homes
     below = subst (λ hs. p.0 < length hs) (sym homes) allowed.0
 
     at : home_of s p ≡ k
     at = ap (λ hs. slice_index hs p.0) homes ∙ allowed.1
 
-    by : (o : Option HereView) → owned p ((w.kernel k).table on) ≡ o → on_owned o (cancel_causes way.Inward) ≡ None → Goes i w s (Calls k p (call.Cancel on way.Inward) mine)
-    by None owns none = absurd (some cause.NoEnd none)
-    by (Some v) owns none = which (begun v.inward fail.1.0 fail.1.1.0)
-      where
-        here : ((w.kernel k).table on ≡ entry.Here v) × (v.holder ≡ holder.Owner p)
-        here = owned-here p ((w.kernel k).table on) v owns
+    o : IsGranted p (w.kernel k).table on (cancel_causes way.Inward)
+    o = granted-on (is.setting.sound k) p on (cancel_causes way.Inward) granted
 
-        own : v.value.end ≡ on
-        own = subst (IsOfEnd on) here.0 ((is.setting.sound k).own on)
+    fail : AllFail (cancel_causes way.Inward o.view)
+    fail = first_of-none (cancel_causes way.Inward o.view) o.none
 
-        fail : AllFail (cancel_causes way.Inward v)
-        fail = first_of-none (cancel_causes way.Inward v) none
-
-        which : ((r : ℕ) × (v.inward ≡ kernel_inward.Posted r)) ⊎ ((r : ℕ) × (v.inward ≡ kernel_inward.Withdrawing r)) → Goes i w s (Calls k p (call.Cancel on way.Inward) mine)
-        which (inl posted) =
-            subst (λ z. Goes i w s (Calls k p (call.Cancel z way.Inward) mine)) own
-            (withdrawn-goes i w s k p mine is below at allowed.2 v posted.0 (ap (w.kernel k).table own ∙ here.0) here.1 posted.1 fail.0
-            (subst (λ z. refusal p (w.kernel k).table (w.kernel k).made mine (has_report (process_of p (w.kernel k))) (call.Cancel z way.Inward) ≡ None) (sym own) granted))
-        -- its process would be in that Cancel, and not run
-        which (inr withdrawn) =
-            let no : phase.Running ≡ phase.Cancelling on = sym (runs-there i w s k p mine is below at allowed.2) ∙ (is.links.asked on).cancelled k v withdrawn.0 p here.0 withdrawn.1 here.1 in
-            absurd cc
+    which : ((r : ℕ) × (o.view.inward ≡ kernel_inward.Posted r)) ⊎ ((r : ℕ) × (o.view.inward ≡ kernel_inward.Withdrawing r)) → Goes i w s (Calls k p (call.Cancel on way.Inward) mine)
+    which (inl posted) =
+        subst (λ z. Goes i w s (Calls k p (call.Cancel z way.Inward) mine)) o.end
+        (withdrawn-goes i w s k p mine is below at allowed.2 o.view posted.0 o.here o.owner posted.1 fail.0
+        (subst (λ z. refusal p (w.kernel k).table (w.kernel k).made mine (has_report (process_of p (w.kernel k))) (call.Cancel z way.Inward) ≡ None) (sym o.end) granted))
+    -- its process would be in that Cancel, and not run
+    which (inr withdrawn) =
+        let no : phase.Running ≡ phase.Cancelling on = sym (runs-there i w s k p mine is below at allowed.2) ∙ (is.links.asked on).cancelled k o.view withdrawn.0 p o.there withdrawn.1 o.owner in
+        absurd cc

@@ -1,18 +1,16 @@
 -- The service goes with a Cancel of a send that is not refused, by one step.
-use Rattle.std.proofs.Common.{◌≡◌, ℕ, ◌+◌, ◌<◌, Bool, true, false, not, ◌&&◌, ◌||◌, is_some, if◌then◌else◌, IsTrue, List, [], ◌∷◌, length, Option, Some, None, slice_index, refl, sym, ap, subst, ◌∙◌, true≢false, eq-eqb}
+use Rattle.std.proofs.Common.{◌≡◌, ℕ, ◌+◌, ◌<◌, Bool, true, false, not, ◌&&◌, ◌||◌, is_some, if◌then◌else◌, IsTrue, List, [], ◌∷◌, length, Some, None, slice_index, refl, sym, ap, subst, ◌∙◌, true≢false}
 use Rattle.charlotte_calls.specs.declared.calls.Answer.TheVariants as answer
 use Rattle.charlotte_calls.specs.declared.calls.Call.TheVariants as call
-use Rattle.charlotte_calls.specs.declared.calls.Cause.{Cause}
-use Rattle.charlotte_calls.specs.declared.calls.Cause.TheVariants as cause
 use Rattle.charlotte_calls.specs.declared.calls.ServiceStep.TheVariants as step
 use Rattle.charlotte_calls.specs.declared.names.EndId.{EndId}
 use Rattle.charlotte_calls.specs.declared.names.Pid.{Pid}
 use Rattle.charlotte_calls.specs.declared.names.Way.TheVariants as way
 use Rattle.charlotte_calls.specs.declared.setting.Setting.{Setting}
 use Rattle.end_table.proofs.EndEq.{end_eq-same}
-use Rattle.end_table.specs.Owned.{is_owner, owned}
+use Rattle.end_table.specs.Owned.{owned}
 use Rattle.end_table.specs.Place.{end_eq}
-use Rattle.end_table.specs.Table.{IfHere, IsHereAnd, IsIdle, IsOfEnd}
+use Rattle.end_table.specs.Table.{IfHere, IsHereAnd, IsIdle}
 use Rattle.end_table.specs.declared.entry.Entry.{Entry}
 use Rattle.end_table.specs.declared.entry.Entry.TheVariants as entry
 use Rattle.end_table.specs.declared.entry.HereView.{HereView}
@@ -21,12 +19,12 @@ use Rattle.end_table.specs.declared.entry.Outward.{Outward}
 use Rattle.end_table.specs.declared.entry.Outward.TheVariants as kernel_outward
 use Rattle.kernel_effects.specs.Actions.{held_entry}
 use Rattle.kernel_effects.specs.Calls.{act_effect, effect_on, withdraw_send_effect}
-use Rattle.kernel_effects.specs.Effect.{Effect, puts, stays, turns}
-use Rattle.kernel_sound.proofs.Needs.{AllFail, first_of-none, owned-here}
-use Rattle.kernel_sound.specs.Sound.{AreHeldBy, IsSound}
+use Rattle.kernel_effects.specs.Effect.{puts, stays, turns}
+use Rattle.kernel_sound.proofs.Needs.{AllFail, first_of-none}
+use Rattle.kernel_sound.specs.Sound.{AreHeldBy}
 use Rattle.kernel_step.specs.Actions.{enclosed_of}
-use Rattle.kernel_step.specs.Calls.{cancel_causes, is_free, is_late, on_owned, outward_activity, refusal}
-use Rattle.kernel_step.specs.Kernel.{Kernel, has_report, process_of}
+use Rattle.kernel_step.specs.Calls.{cancel_causes, is_free, is_late, outward_activity, refusal}
+use Rattle.kernel_step.specs.Kernel.{has_report, process_of}
 use Rattle.kernel_step.specs.declared.phase.Phase.TheVariants as kernel_phase
 use Rattle.kernel_world.specs.Run.{IsAllowed}
 use Rattle.kernel_world.specs.World.{World, Calls, Event, happens}
@@ -43,7 +41,7 @@ use Rattle.world_meaning.proofs.Goes.{Goes}
 use Rattle.world_meaning.specs.Invariant.{Invariant}
 use Rattle.world_meaning.specs.Packets.{links_of}
 use Rattle.world_meaning.specs.StandsFor.{home_of}
-use Rattle.calls_that_begin.proofs.Answered.{call-sound, kernel-same, processes-after, setting-after}
+use Rattle.calls_that_begin.proofs.Answered.{granted-on, owned-of, processes-after, setting-called}
 use Rattle.calls_that_begin.proofs.Receives.{runs-there}
 use Rattle.calls_that_send.specs.Regrouped.{is_among}
 use Rattle.calls_that_send.proofs.SamePackets.{no-packets}
@@ -85,8 +83,7 @@ module _ (i : ℕ) (w : World) (s : State) (k : ℕ) (p : Pid) (mine : List EndI
   event = Calls k p (call.Cancel v.value.end way.Outward) mine
 
   owned-is : owned p ((w.kernel k).table e) ≡ Some v
-  owned-is =
-      ap (owned p) here ∙ ap (λ h. if is_owner p h then Some v else None) owner_is ∙ ap (λ b. if b then Some v else None) (eq-eqb p.0 p.0 refl)
+  owned-is = owned-of p ((w.kernel k).table e) v here owner_is
 
   effect : act_effect p k (w.kernel k).made mine (w.kernel k).table (call.Cancel e way.Outward) ≡ withdraw_send_effect v
   effect = ap (λ o. effect_on o withdraw_send_effect) owned-is
@@ -125,24 +122,12 @@ module _ (i : ℕ) (w : World) (s : State) (k : ℕ) (p : Pid) (mine : List EndI
   stepped : IsServiceStep s (step.Cancel e way.Outward) (taken_back s p e)
   stepped = record { allowed = may; after = sym (ap (λ (o : Place). after_cancel (owner o) e way.Outward s) place-is) }
 
-  made-same : (j : ℕ) → ((happens w event).kernel j).made ≡ (w.kernel j).made
-  made-same = kernel-same happened.becomes s (λ (x : Kernel). x.made) happened.becomes.made
-
-  sound : IsSound k ((happens w event).kernel k).made (length s.homes) ((happens w event).kernel k).table
-  sound =
-      subst (λ m. IsSound k m (length s.homes) ((happens w event).kernel k).table) (sym (made-same k))
-      (subst (IsSound k (w.kernel k).made (length s.homes)) (sym table)
-      (call-sound k (w.kernel k).made (length s.homes) (w.kernel k).table p mine (has_report (process_of p (w.kernel k))) (call.Cancel e way.Outward) (is.setting.sound k) below granted tt (λ q. refl)))
-    where
-      table : ((happens w event).kernel k).table ≡ (λ q. (act_effect p k (w.kernel k).made mine (w.kernel k).table (call.Cancel e way.Outward)).entry q ((w.kernel k).table q))
-      table = λ j q. (happened.becomes.links.entry q ∙ ap (λ (f : Effect). f.entry q ((w.kernel k).table q)) (sym effect)) j
-
   invariant : Invariant (i + 1) (happens w event) (taken_back s p e)
   invariant =
       record {
         stands = record { processes = processes-after happened.becomes s answer.Ok refl running is.stands.processes; links = taken-links is.setting.few is.stands.links is.links is.service.kept taking };
         service = consistent_after s (step.Cancel e way.Outward) (taken_back s p e) is.service stepped;
-        setting = setting-after happened.becomes s (taken_back s p e) refl refl refl (λ j. is.setting.made j ∙ sym (made-same j)) sound is.setting;
+        setting = setting-called is k p mine (call.Cancel e way.Outward) effect happened.becomes refl refl below granted tt (λ q. refl) (taken_back s p e) refl refl refl;
         links = taken-right is.setting.few is.stands.links is.links is.service.kept taking;
         waiting = is.waiting;
       }
@@ -153,18 +138,9 @@ module _ (i : ℕ) (w : World) (s : State) (k : ℕ) (p : Pid) (mine : List EndI
 -- the service goes with a Cancel of a send that its kernel does not refuse
 pub cancel-send-goes : (g : Setting) (i : ℕ) (w : World) (s : State) (k : ℕ) (p : Pid) (on : EndId) (mine : List EndId) → Invariant i w s → s.homes ≡ g.homes → IsAllowed g w (Calls k p (call.Cancel on way.Outward) mine)
     → refusal p (w.kernel k).table (w.kernel k).made mine (has_report (process_of p (w.kernel k))) (call.Cancel on way.Outward) ≡ None → Goes i w s (Calls k p (call.Cancel on way.Outward) mine)
-cancel-send-goes g i w s k p on mine is homes allowed granted = by (owned p ((w.kernel k).table on)) refl granted
-  where
-    some : (c : Cause) → Some c ≡ None → ⊥
-    some c is = cc
-
-    by : (o : Option HereView) → owned p ((w.kernel k).table on) ≡ o → on_owned o (cancel_causes way.Outward) ≡ None → Goes i w s (Calls k p (call.Cancel on way.Outward) mine)
-    by None owns none = absurd (some cause.NoEnd none)
-    by (Some v) owns none =
-        let here = owned-here p ((w.kernel k).table on) v owns in
-        let own : v.value.end ≡ on = subst (IsOfEnd on) here.0 ((is.setting.sound k).own on) in
-        let fail : AllFail (cancel_causes way.Outward v) = first_of-none (cancel_causes way.Outward v) none in
-        subst (λ z. Goes i w s (Calls k p (call.Cancel z way.Outward) mine)) own
-        (taken_back-goes i w s k p mine is (subst (λ hs. p.0 < length hs) (sym homes) allowed.0) (ap (λ hs. slice_index hs p.0) homes ∙ allowed.1) allowed.2 v
-        (ap (w.kernel k).table own ∙ here.0) here.1 (waits v.outward fail.1.0 fail.1.1.0) fail.0
-        (subst (λ z. refusal p (w.kernel k).table (w.kernel k).made mine (has_report (process_of p (w.kernel k))) (call.Cancel z way.Outward) ≡ None) (sym own) granted))
+cancel-send-goes g i w s k p on mine is homes allowed granted =
+    let o = granted-on (is.setting.sound k) p on (cancel_causes way.Outward) granted in
+    let fail : AllFail (cancel_causes way.Outward o.view) = first_of-none (cancel_causes way.Outward o.view) o.none in
+    subst (λ z. Goes i w s (Calls k p (call.Cancel z way.Outward) mine)) o.end
+    (taken_back-goes i w s k p mine is (subst (λ hs. p.0 < length hs) (sym homes) allowed.0) (ap (λ hs. slice_index hs p.0) homes ∙ allowed.1) allowed.2 o.view o.here o.owner (waits o.view.outward fail.1.0 fail.1.1.0) fail.0
+    (subst (λ z. refusal p (w.kernel k).table (w.kernel k).made mine (has_report (process_of p (w.kernel k))) (call.Cancel z way.Outward) ≡ None) (sym o.end) granted))

@@ -34,16 +34,12 @@ use Rattle.world_meaning.specs.Packets.{Links}
 use Rattle.world_meaning.specs.StandsFor.{AreLinksOf, IsEnclosed, IsEndOf, IsInwardOf, IsOutwardOf, IsOwnedHere, IsWaitingWith, entry_at, home_of}
 use Rattle.calls_that_send.specs.Regrouped.{IsRegrouping, is_among}
 use Rattle.calls_that_send.proofs.Begun.{among-same}
-use Rattle.calls_that_send.proofs.Held.{IsHeldAs, by_process, by_send, held-as, its-view, lives, there-here, view-same}
+use Rattle.calls_that_send.proofs.Held.{IsHeldAs, by_process, by_send, held-as, its-view, lives}
 use Rattle.calls_that_send.proofs.Regrouped.{IsWithin, at-kernel, its-within, now-own, other-than, regrouped-right}
 use Rattle.calls_that_send.proofs.RegroupedLinks.{AreHeldAnew, regrouped-links, within-here}
 use Rattle.calls_that_send.proofs.SamePackets.{end-same}
+use Rattle.world_meaning.proofs.Plain.{there-here, view-same, waiting-so}
 use Rattle.calls_that_cancel.specs.TakenBack.{IsTakingBack, taken_back}
-
--- a send that waits does so in the service
-pub waiting-so : (w : Links) (e : EndId) (m n : ℕ) (bytes : List ℕ) (xs : List EndId) (o : Outward) → IsOutwardOf w e m (kernel_outward.Waiting n bytes xs) o → o ≡ outward.Waiting (record { bytes = bytes; carried = xs })
-waiting-so w e m n bytes xs (outward.Waiting message) is = ap outward.Waiting is.1
-waiting-so w e m n bytes xs _ is = absurd is
 
 module _ {i : ℕ} {w u : Links} {s : State} {k : ℕ} {p : Pid} {v : HereView} {n : ℕ} {bytes : List ℕ} {xs : List EndId}
     (few : length s.made ≤ 8) (links : AreLinksOf w s) (right : AreRight i w s) (kept : AreKept s) (x : IsTakingBack w u s k p v n bytes xs) where
@@ -65,7 +61,7 @@ module _ {i : ℕ} {w u : Links} {s : State} {k : ℕ} {p : Pid} {v : HereView} 
   its-end = links.agree e p v placed (subst (λ j. entry_at w j e ≡ entry.Here v) (sym x.at) x.here)
 
   pub was-waiting : (s.ends e).outward ≡ outward.Waiting (record { bytes = bytes; carried = xs })
-  was-waiting = waiting-so w e (s.ends e).sent n bytes xs (s.ends e).outward (subst (λ z. IsOutwardOf w e (s.ends e).sent z (s.ends e).outward) x.waits its-end.outward)
+  was-waiting = (waiting-so w e (s.ends e).sent n bytes xs (s.ends e).outward (subst (λ z. IsOutwardOf w e (s.ends e).sent z (s.ends e).outward) x.waits its-end.outward)).1
 
   -- the end is none of those that it encloses
   apart : is_among xs e ≡ false

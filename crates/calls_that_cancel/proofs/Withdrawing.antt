@@ -1,7 +1,7 @@
 -- A granted Cancel of a receive in a world and in the service: which entry changes, which packet is sent, and what its process becomes.
-use Rattle.std.proofs.Common.{◌≡◌, ◌≢◌, ◌⊎◌, ◌↔◌, inl, inr, ℕ, Bool, true, false, nat_eq, ◌||◌, if◌then◌else◌, Contains, refl, sym, ap, subst, ◌∙◌}
-use Rattle.std.proofs.lemmas.Bool.Decides.{eqb_tells}
+use Rattle.std.proofs.Common.{◌≡◌, ◌≢◌, ◌⊎◌, ◌↔◌, inl, inr, ℕ, true, false, ◌||◌, if◌then◌else◌, Contains, refl, sym, ap, subst, ◌∙◌}
 use Rattle.std.proofs.lemmas.List.Elements.{All-contains}
+use Rattle.calls_that_begin.proofs.OneView.{IsIts, IsOneView, entry-or, packet-same}
 use Rattle.charlotte_calls.specs.Names.{opposite}
 use Rattle.charlotte_calls.specs.declared.calls.Call.TheVariants as call
 use Rattle.charlotte_calls.specs.declared.names.EndId.{EndId}
@@ -10,8 +10,6 @@ use Rattle.charlotte_calls.specs.declared.names.Way.TheVariants as way
 use Rattle.charlotte_calls.specs.declared.picture.MovingPicture.{MovingPicture}
 use Rattle.charlotte_calls.specs.declared.picture.PictureWhat.{PictureWhat}
 use Rattle.charlotte_calls.specs.declared.picture.PictureWhat.TheVariants as packet
-use Rattle.end_table.proofs.EndEq.{end_eq-refl, end_eq-same}
-use Rattle.end_table.specs.Place.{end_eq}
 use Rattle.end_table.specs.Table.{IsHereAnd}
 use Rattle.end_table.specs.declared.entry.Entry.TheVariants as entry
 use Rattle.end_table.specs.declared.entry.HereView.{HereView}
@@ -27,12 +25,9 @@ use Rattle.service_step.specs.declared.state.Inward.{Inward}
 use Rattle.service_step.specs.declared.state.Inward.TheVariants as inward
 use Rattle.service_step.specs.declared.state.Phase.TheVariants as phase
 use Rattle.service_step.specs.declared.state.Place.TheVariants as place
-use Rattle.world_effects.proofs.Aside.{none-taken}
-use Rattle.world_effects.proofs.Lists.{none-there, only-there}
-use Rattle.world_effects.proofs.Packets.{left-was, under_way-after, under_way-still}
+use Rattle.world_effects.proofs.Lists.{none-there}
 use Rattle.world_effects.specs.Change.{Change, Changes}
 use Rattle.world_effects.specs.Events.{calling}
-use Rattle.world_effects.specs.Under.{IsLeft, IsSent}
 use Rattle.world_meaning.specs.Fields.{Stand, At, Flying, HasFields, IsAskedAs, value_of}
 use Rattle.world_meaning.specs.Invariant.{Invariant, IsPacketRight, IsVoidRight}
 use Rattle.world_meaning.specs.Packets.{IsUnderWay, IsUnwantedOf, Links, links_of, values_of}
@@ -76,84 +71,27 @@ module _ {i : ℕ} {w : World} {s : State} {k : ℕ} {p : Pid} {u : Links} (x : 
   abbrev c : Change
   c = calling w k p (call.Cancel x.view.value.end way.Inward) (withdraw_receive_effect k x.number x.view)
 
-  -- ---- packets
-
-  -- a packet that is under way afterwards was so before, or is the unwant
-  pub packet-or : (P : PictureWhat → Type 0) → IsUnderWay u P → IsUnderWay l P ⊎ P unwant
-  packet-or P is = by (under_way-after x.changes P is)
-    where
-      by : IsLeft x.changes P ⊎ IsSent c P → IsUnderWay l P ⊎ P unwant
-      by (inl left) = inl (left-was x.changes P left)
-      by (inr sent) = inr (subst (λ (z : ℕ × PictureWhat). P z.1) (sym (only-there (hint_kernel x.view, unwant) (sent.to, sent.what) sent.there)) sent.is)
-
-  packet-still : (P : PictureWhat → Type 0) → IsUnderWay l P → IsUnderWay u P
-  packet-still P is = under_way-still x.changes P (none-taken c P tt) is
-
-  pub packet-same : (P : PictureWhat → Type 0) → (P unwant → ⊥) → IsUnderWay u P ↔ IsUnderWay l P
-  packet-same P none = (λ is. by (packet-or P is), packet-still P)
-    where
-      by : IsUnderWay l P ⊎ P unwant → IsUnderWay l P
-      by (inl was) = was
-      by (inr is) = absurd (none is)
-
-  -- ---- entries
-
-  pub now-here : u.entry k e ≡ entry.Here new
-  now-here = x.changes.entry e ∙ ap (λ b. if b then entry.Here new else (w.kernel k).table e) (end_eq-refl e)
-
-  pub other-entry : (j : ℕ) (f : EndId) → end_eq e f ≡ false → u.entry j f ≡ l.entry j f
-  other-entry j f apart = by (eqb_tells j k)
-    where
-      by : ((nat_eq j k ≡ true) × (j ≡ k)) ⊎ ((nat_eq j k ≡ false) × (j ≢ k)) → u.entry j f ≡ l.entry j f
-      by (inl at) = subst (λ z. u.entry z f ≡ l.entry z f) (sym at.1) (x.changes.entry f ∙ ap (λ b. if b then entry.Here new else (w.kernel k).table f) apart)
-      by (inr at) = x.changes.others j f at.0
-
-  -- this is the entry of the end
-  pub record IsIts (j : ℕ) (f : EndId) : Type 0 where
-    pub at : j ≡ k
-    pub end : e ≡ f
-    pub was : l.entry j f ≡ entry.Here x.view
-    pub now : u.entry j f ≡ entry.Here new
-
-  pub entry-or : (j : ℕ) (f : EndId) → (u.entry j f ≡ l.entry j f) ⊎ IsIts j f
-  entry-or j f = by (eqb_tells j k) (end_eq e f) refl
-    where
-      by : ((nat_eq j k ≡ true) × (j ≡ k)) ⊎ ((nat_eq j k ≡ false) × (j ≢ k)) → (b : Bool) → end_eq e f ≡ b → (u.entry j f ≡ l.entry j f) ⊎ IsIts j f
-      by (inr at) b is = inl (x.changes.others j f at.0)
-      by (inl at) false is = inl (other-entry j f is)
-      by (inl at) true is =
-          let same : e ≡ f = end_eq-same e f is in
-          inr (record {
-            at = at.1;
-            end = same;
-            was = ap (λ z. l.entry z f) at.1 ∙ ap (l.entry k) (sym same) ∙ x.here;
-            now = ap (λ z. u.entry z f) at.1 ∙ ap (u.entry k) (sym same) ∙ now-here;
-          })
-
-  -- what is true of the view of an end that is here
-  pub here-same : (j : ℕ) (f : EndId) (P : HereView → Type 0) → (P x.view ↔ P new) → IsHereAnd (l.entry j f) P ↔ IsHereAnd (u.entry j f) P
-  here-same j f P same = by (entry-or j f)
-    where
-      by : (u.entry j f ≡ l.entry j f) ⊎ IsIts j f → IsHereAnd (l.entry j f) P ↔ IsHereAnd (u.entry j f) P
-      by (inl is) = (subst (λ z. IsHereAnd z P) (sym is), subst (λ z. IsHereAnd z P) is)
-      by (inr its) = (
-        λ has. subst (λ z. IsHereAnd z P) (sym its.now) (same.0 (subst (λ z. IsHereAnd z P) its.was has)),
-        λ has. subst (λ z. IsHereAnd z P) (sym its.was) (same.1 (subst (λ z. IsHereAnd z P) its.now has)),
-      )
-
-  pub here-still : (j : ℕ) (f : EndId) (P : HereView → Type 0) → (P x.view → P new) → IsHereAnd (l.entry j f) P → IsHereAnd (u.entry j f) P
-  here-still j f P on has = by (entry-or j f)
-    where
-      by : (u.entry j f ≡ l.entry j f) ⊎ IsIts j f → IsHereAnd (u.entry j f) P
-      by (inl same) = subst (λ z. IsHereAnd z P) (sym same) has
-      by (inr its) = subst (λ z. IsHereAnd z P) (sym its.now) (on (subst (λ z. IsHereAnd z P) its.was has))
+  -- the view of one end is replaced, and one packet sent
+  pub one-view : IsOneView l c u x.view new (hint_kernel x.view) unwant
+  one-view =
+      record {
+        changes = x.changes;
+        here = x.here;
+        entries = x.changes.entry;
+        holder = refl;
+        outward = refl;
+        untaken = refl;
+        sent = refl;
+        bare = refl;
+        other = λ f m. (λ is. is, λ is. is);
+      }
 
   -- the fields that an end has it had
   pub fields-was : (f : EndId) (at : Stand) (m : MovingPicture) → HasFields u f at m → HasFields l f at m
-  fields-was f Flying m has = ((packet-same (λ q. Contains (values_of q) m) (λ is. none-there m is)).0 has.0, has.1)
-  fields-was f (At j) m has = by (entry-or j f)
+  fields-was f Flying m has = ((packet-same one-view (λ q. Contains (values_of q) m) (λ is. none-there m is)).0 has.0, has.1)
+  fields-was f (At j) m has = by (entry-or one-view j f)
     where
-      by : (u.entry j f ≡ l.entry j f) ⊎ IsIts j f → HasFields l f (At j) m
+      by : (u.entry j f ≡ l.entry j f) ⊎ IsIts one-view j f → HasFields l f (At j) m
       by (inl same) = ap value_of (sym same) ∙ has
       by (inr its) = ap value_of its.was ∙ sym (ap value_of its.now) ∙ has
 

@@ -1,5 +1,6 @@
 -- After a granted Cancel of a receive all clauses on links are true again.
 use Rattle.std.proofs.Common.{◌≡◌, ◌⊎◌, inl, inr, ℕ, ◌+◌, ◌<◌, ◌≤◌, Bool, true, false, length, slice_index, refl, sym, ap, subst, ◌∙◌, arith, true≢false}
+use Rattle.calls_that_begin.proofs.OneView.{IsIts, entry-or, here-still, now-here, other-entry, packet-or, packet-same}
 use Rattle.charlotte_calls.specs.Names.{opposite}
 use Rattle.charlotte_calls.specs.declared.names.EndId.{EndId}
 use Rattle.charlotte_calls.specs.declared.names.Pid.{Pid}
@@ -31,8 +32,9 @@ use Rattle.world_meaning.specs.Fields.{Stand, HasFields, IsAskedAs, IsAsking, Is
 use Rattle.world_meaning.specs.Invariant.{AreAsked, AreCancelling, AreCounted, AreMarked, AreRight, AreSentOnce, AreWanted, IsFew, IsHonest, IsPacketRight, IsServed, IsUnwantedOnce, is_message_of, is_taken_of, is_unwanted_to}
 use Rattle.world_meaning.specs.Packets.{Each, IsUnderWay, Links, how_many, links_of, one_if}
 use Rattle.world_meaning.specs.StandsFor.{entry_at, home_of}
-use Rattle.calls_that_send.proofs.Held.{lives, own-fields, view-same}
-use Rattle.calls_that_cancel.proofs.Withdrawing.{IsIts, IsWithdrawing, after, cancelling-own, cancelling-still, cancelling-was, entry-or, fields-was, here-still, its-view, last, now-here, other-entry, packet-or, packet-same, sent_unwant, withdrawn_view}
+use Rattle.calls_that_send.proofs.Held.{lives, own-fields}
+use Rattle.world_meaning.proofs.Plain.{view-same}
+use Rattle.calls_that_cancel.proofs.Withdrawing.{IsWithdrawing, after, cancelling-own, cancelling-still, cancelling-was, fields-was, its-view, last, one-view, sent_unwant, withdrawn_view}
 
 module _ {i : ℕ} {w : World} {s : State} {k : ℕ} {p : Pid} {u : Links} (x : IsWithdrawing i w s k p u) where
   abbrev l : Links
@@ -63,9 +65,9 @@ module _ {i : ℕ} {w : World} {s : State} {k : ℕ} {p : Pid} {u : Links} (x : 
       differ m is = cc
 
       was : (j : ℕ) (m : MovingPicture) → entry_at u j f ≡ entry.Destroyed m → entry_at l j f ≡ entry.Destroyed m
-      was j m at = by (entry-or x j f)
+      was j m at = by (entry-or (one-view x) j f)
         where
-          by : (u.entry j f ≡ l.entry j f) ⊎ IsIts x j f → entry_at l j f ≡ entry.Destroyed m
+          by : (u.entry j f ≡ l.entry j f) ⊎ IsIts (one-view x) j f → entry_at l j f ≡ entry.Destroyed m
           by (inl same) = sym same ∙ at
           by (inr its) = absurd (differ m (sym its.now ∙ at))
 
@@ -98,7 +100,7 @@ module _ {i : ℕ} {w : World} {s : State} {k : ℕ} {p : Pid} {u : Links} (x : 
       by : IsHeard u f j h → IsNoMore at m.hops j h
       by (inl hinted) =
           right.honest f at m j h had (inl (record { stand = hinted.stand; fields = hinted.fields; are = fields-was x (opposite f) hinted.stand hinted.fields hinted.are; hint = hinted.hint }))
-      by (inr news) = told (packet-or x (IsNews (opposite f) j h) news)
+      by (inr news) = told (packet-or (one-view x) (IsNews (opposite f) j h) news)
         where
           told : IsUnderWay l (IsNews (opposite f) j h) ⊎ IsNews (opposite f) j h unwant → IsNoMore at m.hops j h
           told (inl was) = right.honest f at m j h had (inr was)
@@ -109,11 +111,11 @@ module _ {i : ℕ} {w : World} {s : State} {k : ℕ} {p : Pid} {u : Links} (x : 
   asked-after : (f : EndId) → AreAsked u (after x) f
   asked-after f =
       record {
-        last = λ j v m there asked. last_one j v m there asked (entry-or x j f);
-        cancelled = λ j v m q there withdrawing held. cancelled j v m q there withdrawing held (entry-or x j f);
+        last = λ j v m there asked. last_one j v m there asked (entry-or (one-view x) j f);
+        cancelled = λ j v m q there withdrawing held. cancelled j v m q there withdrawing held (entry-or (one-view x) j f);
       }
     where
-      last_one : (j : ℕ) (v : HereView) (m : ℕ) → entry_at u j f ≡ entry.Here v → IsAskedAs m v.inward → (u.entry j f ≡ l.entry j f) ⊎ IsIts x j f → m ≡ v.value.asked
+      last_one : (j : ℕ) (v : HereView) (m : ℕ) → entry_at u j f ≡ entry.Here v → IsAskedAs m v.inward → (u.entry j f ≡ l.entry j f) ⊎ IsIts (one-view x) j f → m ≡ v.value.asked
       last_one j v m there asked (inl same) = (right.asked f).last j v m (sym same ∙ there) asked
       last_one j v m there asked (inr its) =
           let view : new ≡ v = view-same new v (sym its.now ∙ there) in
@@ -123,7 +125,7 @@ module _ {i : ℕ} {w : World} {s : State} {k : ℕ} {p : Pid} {u : Links} (x : 
       owners : (q : Pid) → holder.Owner p ≡ holder.Owner q → p ≡ q
       owners q is = cc
 
-      cancelled : (j : ℕ) (v : HereView) (m : ℕ) (q : Pid) → entry_at u j f ≡ entry.Here v → v.inward ≡ kernel_inward.Withdrawing m → v.holder ≡ holder.Owner q → (u.entry j f ≡ l.entry j f) ⊎ IsIts x j f
+      cancelled : (j : ℕ) (v : HereView) (m : ℕ) (q : Pid) → entry_at u j f ≡ entry.Here v → v.inward ≡ kernel_inward.Withdrawing m → v.holder ≡ holder.Owner q → (u.entry j f ≡ l.entry j f) ⊎ IsIts (one-view x) j f
           → ((after x).process q.0).phase ≡ phase.Cancelling f
       cancelled j v m q there withdrawing held (inl same) = cancelling-still x q f ((right.asked f).cancelled j v m q (sym same ∙ there) withdrawing held)
       cancelled j v m q there withdrawing held (inr its) =
@@ -135,17 +137,17 @@ module _ {i : ℕ} {w : World} {s : State} {k : ℕ} {p : Pid} {u : Links} (x : 
   cancelling-after q f at = by (cancelling-was x q f at)
     where
       by : ((s.process q.0).phase ≡ phase.Cancelling f) ⊎ ((p.0 ≡ q.0) × (e ≡ f)) → IsHereAnd (entry_at u (home_of s q) f) (λ v. is_withdrawing v.inward ≡ true)
-      by (inl was) = here-still x (home_of s q) f (λ v. is_withdrawing v.inward ≡ true) (λ is. refl) (right.cancelling q f was)
+      by (inl was) = here-still (one-view x) (home_of s q) f (λ v. is_withdrawing v.inward ≡ true) (λ is. refl) (right.cancelling q f was)
       by (inr own) =
-          subst (λ z. IsHereAnd z (λ v. is_withdrawing v.inward ≡ true)) (sym (ap (λ j. u.entry j f) (ap (slice_index s.homes) (sym own.0) ∙ x.at) ∙ ap (u.entry k) (sym own.1) ∙ now-here x)) refl
+          subst (λ z. IsHereAnd z (λ v. is_withdrawing v.inward ≡ true)) (sym (ap (λ j. u.entry j f) (ap (slice_index s.homes) (sym own.0) ∙ x.at) ∙ ap (u.entry k) (sym own.1) ∙ now-here (one-view x))) refl
 
   served-after : (f : EndId) → IsServed u s.ends f
-  served-after f j v r at m there asked unposted living has = by (entry-or x j f)
+  served-after f j v r at m there asked unposted living has = by (entry-or (one-view x) j f)
     where
       had : HasFields l (opposite f) at m
       had = fields-was x (opposite f) at m has
 
-      by : (u.entry j f ≡ l.entry j f) ⊎ IsIts x j f → r ≤ m.served
+      by : (u.entry j f ≡ l.entry j f) ⊎ IsIts (one-view x) j f → r ≤ m.served
       by (inl same) = right.served f j v r at m (sym same ∙ there) asked unposted living had
       by (inr its) =
           let number : x.number ≡ r = subst (λ (z : HereView). IsAskedAs r z.inward) (sym (view-same new v (sym its.now ∙ there))) asked in
@@ -156,7 +158,7 @@ module _ {i : ℕ} {w : World} {s : State} {k : ℕ} {p : Pid} {u : Links} (x : 
   -- what is asked of an end was asked before, or the unwant asks it
   unserved-or : (f : EndId) (m : MovingPicture) (r j h : ℕ) → IsUnserved u f m r j h → IsUnserved l f m r j h ⊎ ((m.served < r) × (opposite e ≡ f) × (x.number ≡ r) × (k ≡ j) × (x.view.value.hops ≡ h))
   unserved-or f m r j h (inl is) = inl (inl is)
-  unserved-or f m r j h (inr is) = by (packet-or x (IsAsking f r j h) is.1)
+  unserved-or f m r j h (inr is) = by (packet-or (one-view x) (IsAsking f r j h) is.1)
     where
       by : IsUnderWay l (IsAsking f r j h) ⊎ IsAsking f r j h unwant → IsUnserved l f m r j h ⊎ ((m.served < r) × (opposite e ≡ f) × (x.number ≡ r) × (k ≡ j) × (x.view.value.hops ≡ h))
       by (inl was) = inl (inr (is.0, was))
@@ -187,11 +189,11 @@ module _ {i : ℕ} {w : World} {s : State} {k : ℕ} {p : Pid} {u : Links} (x : 
           same = λ at m r j h a b g opened has one two. old.same at m r j h a b g opened (fields-was x f at m has) (unserved-was m r j h one) (unserved-was m a b g two);
           posted = λ at m r j h opened has one. old.posted at m r j h opened (fields-was x f at m has) (unserved-was m r j h one);
           site = λ at m r j h opened has one living.
-              subst (λ z. IsHereAnd z (λ v. (v.value.hops ≡ h) × (v.value.asked ≡ r))) (sym (other-entry x j (opposite f) other))
+              subst (λ z. IsHereAnd z (λ v. (v.value.hops ≡ h) × (v.value.asked ≡ r))) (sym (other-entry (one-view x) j (opposite f) other))
               (old.site at m r j h opened (fields-was x f at m has) (unserved-was m r j h one) living);
           unwanted = λ at m r opened has low one.
-              let there = old.unwanted at m r opened (fields-was x f at m has) low ((packet-same x (IsUnwantOf f r) (not-unwant r)).0 one) in
-              (there.0, subst (λ z. IsHereAnd z (λ v. is_withdrawing v.inward ≡ true)) (sym (other-entry x there.0 (opposite f) other)) there.1);
+              let there = old.unwanted at m r opened (fields-was x f at m has) low ((packet-same (one-view x) (IsUnwantOf f r) (not-unwant r)).0 one) in
+              (there.0, subst (λ z. IsHereAnd z (λ v. is_withdrawing v.inward ≡ true)) (sym (other-entry (one-view x) there.0 (opposite f) other)) there.1);
         }
 
   -- of the opposite end: the receive that is withdrawn alone
@@ -231,11 +233,11 @@ module _ {i : ℕ} {w : World} {s : State} {k : ℕ} {p : Pid} {u : Links} (x : 
     site-now r j h one living = by (unserved-or (opposite e) m r j h one)
       where
         by : IsUnserved l (opposite e) m r j h ⊎ ((m.served < r) × (opposite e ≡ opposite e) × (x.number ≡ r) × (k ≡ j) × (x.view.value.hops ≡ h)) → IsHereAnd (entry_at u j (opposite (opposite e))) (λ v. (v.value.hops ≡ h) × (v.value.asked ≡ r))
-        by (inl was) = here-still x j (opposite (opposite e)) (λ v. (v.value.hops ≡ h) × (v.value.asked ≡ r)) (λ is. is) ((right.wanted (opposite e)).site at m r j h opened has was living)
+        by (inl was) = here-still (one-view x) j (opposite (opposite e)) (λ v. (v.value.hops ≡ h) × (v.value.asked ≡ r)) (λ is. is) ((right.wanted (opposite e)).site at m r j h opened has was living)
         by (inr asks) =
             subst (λ z. IsHereAnd (u.entry j z) (λ v. (v.value.hops ≡ h) × (v.value.asked ≡ r))) (sym (opposite-twice e))
             (subst (λ z. IsHereAnd (u.entry z e) (λ v. (v.value.hops ≡ h) × (v.value.asked ≡ r))) asks.3
-            (subst (λ z. IsHereAnd z (λ v. (v.value.hops ≡ h) × (v.value.asked ≡ r))) (sym (now-here x)) (asks.4, sym (last x) ∙ asks.2)))
+            (subst (λ z. IsHereAnd z (λ v. (v.value.hops ≡ h) × (v.value.asked ≡ r))) (sym (now-here (one-view x))) (asks.4, sym (last x) ∙ asks.2)))
 
   wanted-its : AreWanted u s.ends (opposite e)
   wanted-its =
@@ -245,7 +247,7 @@ module _ {i : ℕ} {w : World} {s : State} {k : ℕ} {p : Pid} {u : Links} (x : 
         posted = λ at m r j h opened has one. posted-now at m opened (fields-was x (opposite e) at m has) r j h one;
         site = λ at m r j h opened has one living. site-now at m opened (fields-was x (opposite e) at m has) r j h one living;
         unwanted = λ at m r opened has low one.
-            (k, subst (λ z. IsHereAnd (u.entry k z) (λ v. is_withdrawing v.inward ≡ true)) (sym (opposite-twice e)) (subst (λ z. IsHereAnd z (λ v. is_withdrawing v.inward ≡ true)) (sym (now-here x)) refl));
+            (k, subst (λ z. IsHereAnd (u.entry k z) (λ v. is_withdrawing v.inward ≡ true)) (sym (opposite-twice e)) (subst (λ z. IsHereAnd z (λ v. is_withdrawing v.inward ≡ true)) (sym (now-here (one-view x))) refl));
       }
 
   wanted-after : (f : EndId) → AreWanted u s.ends f
@@ -287,13 +289,13 @@ module _ {i : ℕ} {w : World} {s : State} {k : ℕ} {p : Pid} {u : Links} (x : 
             matched = is.matched;
             number = is.number;
             sender = is.sender;
-            site = λ living. here-still x from (opposite f) (λ v. v.value.hops ≡ hops) (λ same. same) (is.site living);
-            meets = λ opened. here-still x to f (λ v. IsAskedAs wanted v.inward) (λ asked. subst (IsAskedAs wanted) x.posts asked) (is.meets opened);
+            site = λ living. here-still (one-view x) from (opposite f) (λ v. v.value.hops ≡ hops) (λ same. same) (is.site living);
+            meets = λ opened. here-still (one-view x) to f (λ v. IsAskedAs wanted v.inward) (λ asked. subst (IsAskedAs wanted) x.posts asked) (is.meets opened);
           }
-      still from to (packet.Back f m ms) is = record { matched = is.matched; untaken = is.untaken; site = λ living. here-still x to f (λ v. Unit {0}) (λ a. tt) (is.site living) }
-      still from to (packet.Taken f m at hops) is = record { taken = is.taken; number = is.number; taker = is.taker; site = λ living. here-still x to f (λ v. Unit {0}) (λ a. tt) (is.site living) }
+      still from to (packet.Back f m ms) is = record { matched = is.matched; untaken = is.untaken; site = λ living. here-still (one-view x) to f (λ v. Unit {0}) (λ a. tt) (is.site living) }
+      still from to (packet.Taken f m at hops) is = record { taken = is.taken; number = is.number; taker = is.taker; site = λ living. here-still (one-view x) to f (λ v. Unit {0}) (λ a. tt) (is.site living) }
       still from to (packet.Gone f at) is = is
-      still from to (packet.Unwanted f r at hops) is = λ noticed. here-still x to f (λ v. v.inward ≡ kernel_inward.Withdrawing r) (λ same. absurd (differ r (sym x.posts ∙ same))) (is noticed)
+      still from to (packet.Unwanted f r at hops) is = λ noticed. here-still (one-view x) to f (λ v. v.inward ≡ kernel_inward.Withdrawing r) (λ same. absurd (differ r (sym x.posts ∙ same))) (is noticed)
       still from to _ is = tt
 
   -- all clauses, where the effect names no kernel that there is not

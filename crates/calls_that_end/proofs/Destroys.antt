@@ -1,14 +1,13 @@
 -- The service goes with a Destroy that is not refused: the end is destroyed, and what its message carries that waits.
-use Rattle.std.proofs.Common.{◌≡◌, ℕ, ◌<◌, Bool, true, false, ◌||◌, if◌then◌else◌, List, [], ◌∷◌, length, None, Option, Some, slice_index, refl, sym, ap, subst, ◌∙◌, append-nil, true≢false, eq-eqb}
+use Rattle.std.proofs.Common.{◌≡◌, ℕ, ◌<◌, Bool, true, false, ◌||◌, if◌then◌else◌, List, [], ◌∷◌, length, None, slice_index, refl, sym, ap, subst, ◌∙◌, append-nil, true≢false, eq-eqb}
+use Rattle.calls_that_begin.proofs.Answered.{granted-on, owned-of}
 use Rattle.charlotte_calls.specs.declared.calls.Call.TheVariants as call
-use Rattle.charlotte_calls.specs.declared.calls.Cause.{Cause}
-use Rattle.charlotte_calls.specs.declared.calls.Cause.TheVariants as cause
 use Rattle.charlotte_calls.specs.declared.calls.ServiceStep.TheVariants as step
 use Rattle.charlotte_calls.specs.declared.names.EndId.{EndId}
 use Rattle.charlotte_calls.specs.declared.names.Pid.{Pid}
 use Rattle.charlotte_calls.specs.declared.setting.Setting.{Setting}
 use Rattle.end_table.proofs.EndEq.{end_eq-same}
-use Rattle.end_table.specs.Owned.{is_owner, owned}
+use Rattle.end_table.specs.Owned.{owned}
 use Rattle.end_table.specs.Place.{end_eq}
 use Rattle.end_table.specs.declared.entry.Entry.{Entry}
 use Rattle.end_table.specs.declared.entry.Entry.TheVariants as entry
@@ -17,8 +16,7 @@ use Rattle.end_table.specs.declared.entry.Holder.TheVariants as holder
 use Rattle.kernel_effects.specs.Actions.{ends_all}
 use Rattle.kernel_effects.specs.Calls.{act_effect, effect_on, ended_list, ended_with}
 use Rattle.kernel_effects.specs.Effect.{Effect}
-use Rattle.kernel_sound.proofs.Needs.{owned-here}
-use Rattle.kernel_step.specs.Calls.{no_causes, on_owned, refusal}
+use Rattle.kernel_step.specs.Calls.{no_causes, refusal}
 use Rattle.kernel_step.specs.Kernel.{has_report, process_of}
 use Rattle.kernel_step.specs.declared.phase.Phase.TheVariants as kernel_phase
 use Rattle.kernel_world.specs.Run.{IsAllowed}
@@ -61,10 +59,7 @@ module _ (i : ℕ) (w : World) (s : State) (k : ℕ) (p : Pid) (mine : List EndI
 
   -- the effect of the call is on this end alone
   effect-is : act_effect p k (w.kernel k).made mine t (call.Destroy e) ≡ effect
-  effect-is = ap (λ o. effect_on o (λ x. destroying (ended_with e (entry.Here x)))) owns ∙ ap destroying (ap (ended_with e) (sym here) ∙ sym (append-nil (ended_with e (t e))))
-    where
-      owns : owned p (t e) ≡ Some v
-      owns = ap (owned p) here ∙ ap (λ h. if is_owner p h then Some v else None) own ∙ ap (λ b. if b then Some v else None) (eq-eqb p.0 p.0 refl)
+  effect-is = ap (λ o. effect_on o (λ x. destroying (ended_with e (entry.Here x)))) (owned-of p (t e) v here own) ∙ ap destroying (ap (ended_with e) (sym here) ∙ sym (append-nil (ended_with e (t e))))
 
   stepped : IsServiceStep s (step.Destroy e) (record s { ends = destroys_each p (e ∷ []) s.ends; process = s.process })
   stepped =
@@ -102,13 +97,6 @@ module _ (i : ℕ) (w : World) (s : State) (k : ℕ) (p : Pid) (mine : List EndI
 -- the service goes with a Destroy that its kernel does not refuse
 pub destroy-goes : (g : Setting) (i : ℕ) (w : World) (s : State) (k : ℕ) (p : Pid) (on : EndId) (mine : List EndId) → Invariant i w s → s.homes ≡ g.homes → IsAllowed g w (Calls k p (call.Destroy on) mine)
     → refusal p (w.kernel k).table (w.kernel k).made mine (has_report (process_of p (w.kernel k))) (call.Destroy on) ≡ None → Goes i w s (Calls k p (call.Destroy on) mine)
-destroy-goes g i w s k p on mine is homes allowed granted = by (owned p ((w.kernel k).table on)) refl granted
-  where
-    some : (c : Cause) → Some c ≡ None → ⊥
-    some c none = cc
-
-    by : (o : Option HereView) → owned p ((w.kernel k).table on) ≡ o → on_owned o no_causes ≡ None → Goes i w s (Calls k p (call.Destroy on) mine)
-    by None owns none = absurd (some cause.NoEnd none)
-    by (Some v) owns none =
-        let here = owned-here p ((w.kernel k).table on) v owns in
-        destroyed-goes i w s k p mine is (subst (λ hs. p.0 < length hs) (sym homes) allowed.0) (ap (λ hs. slice_index hs p.0) homes ∙ allowed.1) allowed.2 on v here.0 here.1 granted
+destroy-goes g i w s k p on mine is homes allowed granted =
+    let o = granted-on (is.setting.sound k) p on no_causes granted in
+    destroyed-goes i w s k p mine is (subst (λ hs. p.0 < length hs) (sym homes) allowed.0) (ap (λ hs. slice_index hs p.0) homes ∙ allowed.1) allowed.2 on o.view o.there o.owner granted

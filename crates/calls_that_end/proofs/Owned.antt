@@ -43,9 +43,9 @@ use Rattle.world_meaning.specs.Fields.{At, value_of}
 use Rattle.world_meaning.specs.Invariant.{Invariant, is_message_of}
 use Rattle.world_meaning.specs.Packets.{Links, links_of, one_if, values_for, values_of}
 use Rattle.world_meaning.specs.StandsFor.{IsEnclosed, IsEndOf, IsOutwardOf, IsOwnedHere, IsWaitingWith, home_of}
-use Rattle.answered_events.proofs.Meets.{there-here}
 use Rattle.ended_links.specs.Ending.{Dropped, IsEnded, IsEnding, IsReturnOf, IsSendAfter, IsToldOf, Kept}
 use Rattle.ended_links.proofs.Facts.{among-same, or-true, true-or}
+use Rattle.world_meaning.proofs.Plain.{there-here}
 use Rattle.calls_that_end.proofs.Destroyed.{AreMine, as_destroyed, carried_at, destroyed_list, destroyed_with, destroys_each-is, flat_map-same}
 
 -- ---- lists of ends

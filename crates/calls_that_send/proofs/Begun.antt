@@ -23,13 +23,14 @@ use Rattle.service_step.specs.declared.state.Outward.{Outward}
 use Rattle.service_step.specs.declared.state.Outward.TheVariants as outward
 use Rattle.service_step.specs.declared.state.Place.TheVariants as place
 use Rattle.world_meaning.proofs.Ends.{eq-same}
+use Rattle.world_meaning.proofs.Plain.{there-here}
 use Rattle.world_meaning.specs.Fields.{Stand, At, HasFields, value_of}
 use Rattle.world_meaning.specs.Invariant.{AreRight}
 use Rattle.world_meaning.specs.Packets.{Links}
 use Rattle.world_meaning.specs.StandsFor.{AreLinksOf, IsEnclosed, IsEndOf, IsOutwardOf, IsOwnedHere, IsWaitingWith, entry_at}
 use Rattle.calls_that_send.specs.Begun.{IsBeginning, begun}
 use Rattle.calls_that_send.specs.Regrouped.{IsRegrouping, is_among}
-use Rattle.calls_that_send.proofs.Held.{IsHeldAs, by_process, by_send, held-as, its-view, there-here}
+use Rattle.calls_that_send.proofs.Held.{IsHeldAs, by_process, by_send, held-as, its-view}
 use Rattle.calls_that_send.proofs.Regrouped.{few-now, its-within, now-own, other-than, regrouped-right}
 use Rattle.calls_that_send.proofs.RegroupedLinks.{AreHeldAnew, held-same, regrouped-links, within-here}
 use Rattle.calls_that_send.proofs.SamePackets.{end-same}

@@ -1,11 +1,10 @@
 -- Who holds an end that is here, at its kernel and in the service.
-use Rattle.std.proofs.Common.{◌≡◌, ◌⊎◌, inl, inr, ℕ, ◌≤◌, true, List, [], ◌∷◌, length, Contains, refl, sym, ap, subst, ◌∙◌, true≢false}
+use Rattle.std.proofs.Common.{◌≡◌, ◌⊎◌, inl, inr, ℕ, ◌≤◌, true, ◌∷◌, length, Contains, refl, sym, ap, subst, ◌∙◌, true≢false}
 use Rattle.charlotte_calls.specs.declared.names.EndId.{EndId}
 use Rattle.charlotte_calls.specs.declared.names.Pid.{Pid}
 use Rattle.charlotte_calls.specs.declared.picture.MovingPicture.{MovingPicture}
 use Rattle.charlotte_calls.specs.declared.picture.PictureWhat.{PictureWhat}
 use Rattle.end_table.specs.Table.{IsHereAnd}
-use Rattle.end_table.specs.declared.entry.Entry.{Entry}
 use Rattle.end_table.specs.declared.entry.Entry.TheVariants as entry
 use Rattle.end_table.specs.declared.entry.HereView.{HereView}
 use Rattle.end_table.specs.declared.entry.Holder.TheVariants as holder
@@ -15,27 +14,12 @@ use Rattle.service_step.specs.State.{State}
 use Rattle.service_step.specs.declared.state.Place.{Place}
 use Rattle.service_step.specs.declared.state.Place.TheVariants as place
 use Rattle.silent_events.proofs.Places.{fields-here, here-kernel, here-living}
-use Rattle.world_effects.proofs.Lists.{first, first_or_later, later, none-there}
+use Rattle.world_effects.proofs.Values.{value-found}
+use Rattle.world_meaning.proofs.Plain.{there-here, view-same}
 use Rattle.world_meaning.specs.Fields.{Stand, At, Flying, HasFields}
 use Rattle.world_meaning.specs.Invariant.{AreRight}
 use Rattle.world_meaning.specs.Packets.{IsUnderWay, Links, values_of}
 use Rattle.world_meaning.specs.StandsFor.{AreLinksOf, IsInMessage, IsWaitingWith, entry_at, home_of}
-
-pub there-here : (x : Entry) (P : HereView → Type 0) → IsHereAnd x P → (v : HereView) × (x ≡ entry.Here v) × P v
-there-here (entry.Here v) P is = (v, refl, is)
-there-here _ P is = absurd is
-
-pub view-same : (x y : HereView) → entry.Here x ≡ entry.Here y → x ≡ y
-view-same x y is = cc
-
--- the value of an end that is among some
-value-found : (e : EndId) (ms : List MovingPicture) → Contains (ends_in ms) e → (m : MovingPicture) × Contains ms m × (m.end ≡ e)
-value-found e [] has = absurd (none-there e has)
-value-found e (m ∷ ms) has = by (value-found e ms) (first_or_later m.end (ends_in ms) e has)
-  where
-    by : (Contains (ends_in ms) e → (o : MovingPicture) × Contains ms o × (o.end ≡ e)) → (m.end ≡ e) ⊎ Contains (ends_in ms) e → (o : MovingPicture) × Contains (m ∷ ms) o × (o.end ≡ e)
-    by rest (inl is) = (m, first m ms, is)
-    by rest (inr has) = let o = rest has in (o.0, later m ms o.0 o.1, o.2)
 
 -- a process owns it there, or a send that waits there encloses it
 pub data IsHeldAs (w : Links) (s : State) (k : ℕ) (f : EndId) (v : HereView) : Type 0 where

@@ -1,5 +1,5 @@
 -- One entry, and the fields of an end, where all stays but who holds it and how many sends there were.
-use Rattle.std.proofs.Common.{◌≡◌, inl, inr, ℕ, ◌<◌, true, false, ◌&&◌, if◌then◌else◌, Contains, Some, refl, sym, ap, subst, ◌∙◌, arith, true≢false}
+use Rattle.std.proofs.Common.{◌≡◌, inl, inr, ℕ, ◌<◌, true, false, ◌&&◌, if◌then◌else◌, Contains, Some, refl, sym, ap, subst, ◌∙◌, arith}
 use Rattle.charlotte_calls.specs.Names.{opposite}
 use Rattle.charlotte_calls.specs.Packets.{names_kernels_below}
 use Rattle.charlotte_calls.specs.declared.names.EndId.{EndId}
@@ -13,9 +13,9 @@ use Rattle.service_lawful.specs.Consistent.{is_open}
 use Rattle.service_step.specs.Ends.{is_living, is_made}
 use Rattle.service_step.specs.State.{State}
 use Rattle.service_step.specs.declared.state.End.{End}
-use Rattle.service_step.specs.declared.state.Place.{Place}
 use Rattle.service_step.specs.declared.state.Place.TheVariants as place
 use Rattle.silent_events.proofs.Alike.{some-same}
+use Rattle.world_meaning.proofs.Plain.{destroyed-so}
 use Rattle.world_meaning.proofs.Sums.{over-same}
 use Rattle.world_meaning.specs.Fields.{Stand, At, Flying, HasFields, IsAsking, IsHeard, IsNews, IsUnserved, value_of}
 use Rattle.world_meaning.specs.Invariant.{NamesBelow}
@@ -88,12 +88,6 @@ nothing-kept x y like is = by y (subst (λ z. IsEntryKept z y) is like)
     by : (y : Entry) → IsEntryKept entry.Nothing y → y ≡ entry.Nothing
     by entry.Nothing like = refl
     by _ like = absurd like
-
-destroyed-so : (x : Place) → is_made x ≡ true → is_living x ≡ false → x ≡ place.Destroyed
-destroyed-so (place.Owned p) made dead = absurd (true≢false dead)
-destroyed-so (place.InMessage f n) made dead = absurd (true≢false dead)
-destroyed-so place.Destroyed made dead = refl
-destroyed-so place.Unmade made dead = absurd (true≢false (sym made))
 
 -- ---- an end of the service
 

@@ -22,13 +22,14 @@ use Rattle.service_step.specs.declared.state.Outward.{Outward}
 use Rattle.service_step.specs.declared.state.Outward.TheVariants as outward
 use Rattle.service_step.specs.declared.state.Place.{Place}
 use Rattle.silent_events.proofs.Alike.{some-same}
+use Rattle.world_meaning.proofs.Plain.{there-here, view-same}
 use Rattle.world_meaning.specs.Fields.{Stand, At, Flying, HasFields, value_of}
 use Rattle.world_meaning.specs.Invariant.{AreRight, IsFew}
 use Rattle.world_meaning.specs.Packets.{Links, values_of}
 use Rattle.world_meaning.specs.StandsFor.{AreLinksOf, entry_at}
 use Rattle.calls_that_send.specs.Kept.{AreLinksKept, IsEndKept, IsEntryKept}
 use Rattle.calls_that_send.specs.Regrouped.{IsRegrouping, is_among}
-use Rattle.calls_that_send.proofs.Held.{lives, own-fields, there-here, view-same}
+use Rattle.calls_that_send.proofs.Held.{lives, own-fields}
 use Rattle.calls_that_send.proofs.Kept.{entry-kept, fields-was}
 use Rattle.calls_that_send.proofs.KeptClauses.{kept-right}
 use Rattle.calls_that_send.proofs.SamePackets.{packet-same}

@@ -16,11 +16,12 @@ use Rattle.service_step.specs.State.{State}
 use Rattle.service_step.specs.declared.state.End.{End}
 use Rattle.service_step.specs.declared.state.Place.{Place}
 use Rattle.service_step.specs.declared.state.Place.TheVariants as place
+use Rattle.world_meaning.proofs.Plain.{view-same}
 use Rattle.world_meaning.specs.Invariant.{AreRight}
 use Rattle.world_meaning.specs.Packets.{IsBackOf, IsParcelOf, IsUnderWay, Links, one_if, values_of}
 use Rattle.world_meaning.specs.StandsFor.{AreLinksOf, IsEnclosed, IsEndOf, IsInMessage, IsOwnedHere, IsWaitingWith, entry_at, home_of}
 use Rattle.calls_that_send.specs.Regrouped.{IsRegrouping, is_among}
-use Rattle.calls_that_send.proofs.Held.{its-view, unbrought, view-same}
+use Rattle.calls_that_send.proofs.Held.{its-view, unbrought}
 use Rattle.calls_that_send.proofs.Kept.{standing-kept}
 use Rattle.calls_that_send.proofs.Regrouped.{IsWithin, Which, at-kernel, away, away-entry, its, its-within, now-own, other-than, regrouped-kept, which, within}
 use Rattle.calls_that_send.proofs.SamePackets.{end-same, packet-same}

@@ -1,26 +1,22 @@
 -- The service goes with a Send that is not refused and meets no receive, by one step.
-use Rattle.std.proofs.Common.{◌≡◌, ℕ, ◌+◌, ◌^◌, ◌<◌, ◌≤◌, false, nat_eq, if◌then◌else◌, IsTrue, List, [], ◌∷◌, length, Option, Some, None, slice_index, refl, sym, ap, subst, ◌∙◌, eq-eqb}
+use Rattle.std.proofs.Common.{◌≡◌, ℕ, ◌+◌, ◌^◌, ◌<◌, ◌≤◌, false, nat_eq, if◌then◌else◌, IsTrue, List, [], ◌∷◌, length, Some, None, slice_index, refl, sym, ap, subst, ◌∙◌, eq-eqb}
 use Rattle.charlotte_calls.specs.declared.calls.Answer.TheVariants as answer
 use Rattle.charlotte_calls.specs.declared.calls.Call.TheVariants as call
-use Rattle.charlotte_calls.specs.declared.calls.Cause.{Cause}
-use Rattle.charlotte_calls.specs.declared.calls.Cause.TheVariants as cause
 use Rattle.charlotte_calls.specs.declared.calls.ServiceStep.TheVariants as step
 use Rattle.charlotte_calls.specs.declared.names.EndId.{EndId}
 use Rattle.charlotte_calls.specs.declared.names.Pid.{Pid}
 use Rattle.charlotte_calls.specs.declared.setting.Setting.{Setting}
 use Rattle.end_table.specs.Entries.{gains_one}
-use Rattle.end_table.specs.Owned.{is_owner, owned}
-use Rattle.end_table.specs.Table.{IfHere, IsOfEnd}
+use Rattle.end_table.specs.Owned.{owned}
+use Rattle.end_table.specs.Table.{IfHere}
 use Rattle.end_table.specs.declared.entry.Entry.TheVariants as entry
 use Rattle.end_table.specs.declared.entry.HereView.{HereView}
 use Rattle.end_table.specs.declared.entry.Holder.TheVariants as holder
 use Rattle.kernel_effects.specs.Actions.{held_entry, match_effect}
 use Rattle.kernel_effects.specs.Calls.{act_effect, effect_on, send_effect, sending_view}
 use Rattle.kernel_effects.specs.Effect.{Effect, nothing, puts, stays, turns}
-use Rattle.kernel_sound.proofs.Needs.{owned-here}
-use Rattle.kernel_sound.specs.Sound.{IsSound}
 use Rattle.kernel_step.specs.Calls.{on_owned, refusal, send_causes}
-use Rattle.kernel_step.specs.Kernel.{Kernel, has_report, process_of}
+use Rattle.kernel_step.specs.Kernel.{has_report, process_of}
 use Rattle.kernel_step.specs.declared.phase.Phase.TheVariants as kernel_phase
 use Rattle.kernel_world.specs.Run.{IsAllowed}
 use Rattle.kernel_world.specs.World.{World, Calls, Event, happens}
@@ -35,7 +31,7 @@ use Rattle.world_meaning.specs.Fields.{At, value_of}
 use Rattle.world_meaning.specs.Invariant.{Invariant}
 use Rattle.world_meaning.specs.Packets.{Links, links_of}
 use Rattle.world_meaning.specs.StandsFor.{home_of}
-use Rattle.calls_that_begin.proofs.Answered.{call-sound, kernel-same, processes-after, setting-after}
+use Rattle.calls_that_begin.proofs.Answered.{granted-on, owned-of, processes-after, setting-called}
 use Rattle.calls_that_begin.proofs.Receives.{runs-there}
 use Rattle.calls_that_send.specs.Begun.{IsBeginning, begun}
 use Rattle.calls_that_send.proofs.Begun.{begun-links, begun-right, its-end, placed}
@@ -57,8 +53,7 @@ module _ (i : ℕ) (w : World) (s : State) (k : ℕ) (p : Pid) (mine : List EndI
   e = v.value.end
 
   pub owned-is : owned p ((w.kernel k).table e) ≡ Some v
-  owned-is =
-      ap (owned p) here ∙ ap (λ h. if is_owner p h then Some v else None) owner_is ∙ ap (λ b. if b then Some v else None) (eq-eqb p.0 p.0 refl)
+  owned-is = owned-of p ((w.kernel k).table e) v here owner_is
 
   pub free : IsFreeToSend p (w.kernel k).table e xs v
   free = free-to-send p (w.kernel k).table e xs v (sym (ap (λ o. on_owned o (send_causes p (w.kernel k).table e xs)) owned-is) ∙ granted)
@@ -112,24 +107,12 @@ module _ (i : ℕ) (w : World) (s : State) (k : ℕ) (p : Pid) (mine : List EndI
         packets : (from to : ℕ) → (happens w event).packets from to ≡ w.packets from to
         packets = no-packets happened.becomes.links refl refl
 
-    made-same : (j : ℕ) → ((happens w event).kernel j).made ≡ (w.kernel j).made
-    made-same = kernel-same happened.becomes s (λ (x : Kernel). x.made) happened.becomes.made
-
-    sound : IsSound k ((happens w event).kernel k).made (length s.homes) ((happens w event).kernel k).table
-    sound =
-        subst (λ m. IsSound k m (length s.homes) ((happens w event).kernel k).table) (sym (made-same k))
-        (subst (IsSound k (w.kernel k).made (length s.homes)) (sym table)
-        (call-sound k (w.kernel k).made (length s.homes) (w.kernel k).table p mine (has_report (process_of p (w.kernel k))) (call.Send e bytes xs) (is.setting.sound k) below granted tt (λ q. refl)))
-      where
-        table : ((happens w event).kernel k).table ≡ (λ q. (act_effect p k (w.kernel k).made mine (w.kernel k).table (call.Send e bytes xs)).entry q ((w.kernel k).table q))
-        table = λ j q. (happened.becomes.links.entry q ∙ ap (λ (f : Effect). f.entry q ((w.kernel k).table q)) (sym effect)) j
-
     invariant : Invariant (i + 1) (happens w event) (begun s v bytes xs)
     invariant =
         record {
           stands = record { processes = processes-after happened.becomes s answer.Ok refl running is.stands.processes; links = begun-links is.setting.few is.stands.links is.links beginning };
           service = consistent_after s (step.Send e (gains_one v.value.sent) bytes xs) (begun s v bytes xs) is.service send-step;
-          setting = setting-after happened.becomes s (begun s v bytes xs) refl refl refl (λ j. is.setting.made j ∙ sym (made-same j)) sound is.setting;
+          setting = setting-called is k p mine (call.Send e bytes xs) effect happened.becomes refl refl below granted tt (λ q. refl) (begun s v bytes xs) refl refl refl;
           links = begun-right is.setting.few is.stands.links is.links beginning;
           waiting = is.waiting;
         }
@@ -141,18 +124,10 @@ module _ (i : ℕ) (w : World) (s : State) (k : ℕ) (p : Pid) (mine : List EndI
 pub send-waits-goes : (g : Setting) (i : ℕ) (w : World) (s : State) (k : ℕ) (p : Pid) (on : EndId) (bytes : List ℕ) (xs : List EndId) (mine : List EndId) → Invariant i w s → s.homes ≡ g.homes → s.version ≡ g.version → i < 2 ^ 31
     → IsAllowed g w (Calls k p (call.Send on bytes xs) mine) → refusal p (w.kernel k).table (w.kernel k).made mine (has_report (process_of p (w.kernel k))) (call.Send on bytes xs) ≡ None
     → IfHere ((w.kernel k).table on) (λ v. v.value.want ≡ 0) → Goes i w s (Calls k p (call.Send on bytes xs) mine)
-send-waits-goes g i w s k p on bytes xs mine is homes version few allowed granted unasked = by (owned p ((w.kernel k).table on)) refl granted
-  where
-    some : (c : Cause) → Some c ≡ None → ⊥
-    some c is = cc
-
-    by : (o : Option HereView) → owned p ((w.kernel k).table on) ≡ o → on_owned o (send_causes p (w.kernel k).table on xs) ≡ None → Goes i w s (Calls k p (call.Send on bytes xs) mine)
-    by None owns none = absurd (some cause.NoEnd none)
-    by (Some v) owns none =
-        let here = owned-here p ((w.kernel k).table on) v owns in
-        let own : v.value.end ≡ on = subst (IsOfEnd on) here.0 ((is.setting.sound k).own on) in
-        subst (λ z. Goes i w s (Calls k p (call.Send z bytes xs) mine)) own
-        (waits-goes i w s k p mine is (subst (λ hs. p.0 < length hs) (sym homes) allowed.0) (ap (λ hs. slice_index hs p.0) homes ∙ allowed.1) allowed.2 v bytes xs
-        (ap (w.kernel k).table own ∙ here.0) here.1 few (subst (λ n. length xs ≤ (if nat_eq n 1 then 1 else 8)) (sym version) allowed.3.0)
-        (subst (λ z. on_owned (owned p ((w.kernel k).table z)) (send_causes p (w.kernel k).table z xs) ≡ None) (sym own) granted)
-        (subst (λ z. IfHere z (λ v. v.value.want ≡ 0)) here.0 unasked))
+send-waits-goes g i w s k p on bytes xs mine is homes version few allowed granted unasked =
+    let o = granted-on (is.setting.sound k) p on (send_causes p (w.kernel k).table on xs) granted in
+    subst (λ z. Goes i w s (Calls k p (call.Send z bytes xs) mine)) o.end
+    (waits-goes i w s k p mine is (subst (λ hs. p.0 < length hs) (sym homes) allowed.0) (ap (λ hs. slice_index hs p.0) homes ∙ allowed.1) allowed.2 o.view bytes xs o.here o.owner few
+    (subst (λ n. length xs ≤ (if nat_eq n 1 then 1 else 8)) (sym version) allowed.3.0)
+    (subst (λ z. on_owned (owned p ((w.kernel k).table z)) (send_causes p (w.kernel k).table z xs) ≡ None) (sym o.end) granted)
+    (subst (λ z. IfHere z (λ v. v.value.want ≡ 0)) o.there unasked))

@@ -12,27 +12,14 @@ use Rattle.kernel_step.specs.Kernel.{Kernel, Outcome}
 use Rattle.kernel_step.specs.declared.phase.Phase.TheVariants as kernel_phase
 use Rattle.kernel_world.specs.World.{World, Event, Calls, happens, outcome, adds_all}
 use Rattle.service_step.specs.State.{State}
+use Rattle.world_meaning.proofs.Plain.{right-few}
 use Rattle.world_meaning.specs.Invariant.{IsOfSetting, IsFew, AreRight, Invariant}
 use Rattle.world_meaning.specs.Packets.{Links, links_of}
 use Rattle.world_meaning.specs.StandsFor.{AreLinksOf, IsProcessOf, home_of, service_phase}
 
 -- after one event more, numbers are few for one more
 pub AreRight-later : (i : ℕ) (w : Links) (s : State) → AreRight i w s → AreRight (i + 1) w s
-AreRight-later i w s r =
-    record {
-      named = r.named;
-      few = λ e at m has. later m (r.few e at m has);
-      marked = r.marked;
-      counted = r.counted;
-      honest = r.honest;
-      asked = r.asked;
-      cancelling = r.cancelling;
-      served = r.served;
-      wanted = r.wanted;
-      unwanted = r.unwanted;
-      once = r.once;
-      packets = r.packets;
-    }
+AreRight-later i w s r = right-few r (i + 1) (λ e at m has. later m (r.few e at m has))
   where
     later : (m : MovingPicture) → IsFew i m → IsFew (i + 1) m
     later m f = record { hops = omega (arith, f.hops); sent = omega (arith, f.sent); asked = omega (arith, f.asked) }

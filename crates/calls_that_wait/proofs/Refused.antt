@@ -40,6 +40,7 @@ use Rattle.service_step.specs.declared.state.Outward.TheVariants as outward
 use Rattle.service_step.specs.declared.state.Place.{Place}
 use Rattle.service_step.specs.declared.state.Place.TheVariants as place
 use Rattle.world_meaning.proofs.Ends.{eq-same}
+use Rattle.world_meaning.proofs.Plain.{got}
 use Rattle.world_meaning.specs.Invariant.{Invariant}
 use Rattle.world_meaning.specs.Packets.{Links, links_of}
 use Rattle.world_meaning.specs.StandsFor.{StandsFor, AreLinksOf, IsEndOf, IsOutwardOf, IsInwardOf, IsOwnedHere, IsProcessOf, entry_at, home_of, service_phase}
@@ -274,11 +275,6 @@ contains-any f (y ∷ ys) x (suc j, below, at) is = later (f y) (contains-any f 
     later : (b : Bool) → list_any f ys ≡ true → (b || list_any f ys) ≡ true
     later true rest = refl
     later false rest = rest
-
-got : (xs : List ℕ) (k : ℕ) → k < length xs → slice_get xs k ≡ Some (slice_index xs k)
-got [] k below = absurd (omega arith)
-got (x ∷ xs) zero below = refl
-got (x ∷ xs) (suc k) below = got xs k (omega arith)
 
 any-contains : {X : Type 0} (f : X → Bool) (xs : List X) → list_any f xs ≡ true → (x : X) × Contains xs x × (f x ≡ true)
 any-contains f [] is = absurd (true≢false (sym is))

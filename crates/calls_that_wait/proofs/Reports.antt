@@ -46,10 +46,11 @@ use Rattle.service_step.specs.declared.state.Place.TheVariants as place
 use Rattle.world_effects.proofs.Lists.{first}
 use Rattle.calls_that_wait.proofs.Calm.{AreRight-later}
 use Rattle.calls_that_wait.proofs.Given.{AreTogether, links-given, right-given}
-use Rattle.calls_that_wait.proofs.Rested.{IsRested, IsRestedEntry, entry-rested, one-view}
+use Rattle.calls_that_wait.proofs.Rested.{IsRested, IsRestedEntry, entry-rested}
 use Rattle.calls_that_wait.proofs.Waits.{same-list}
 use Rattle.world_meaning.proofs.Ends.{eq-same}
 use Rattle.world_meaning.proofs.Goes.{Goes}
+use Rattle.world_meaning.proofs.Plain.{owner-same, view-same}
 use Rattle.world_meaning.specs.Invariant.{AreRight, Invariant, IsOfSetting}
 use Rattle.world_meaning.specs.Packets.{Links, links_of}
 use Rattle.world_meaning.specs.StandsFor.{AreLinksOf, IsEndOf, IsInwardOf, IsOutwardOf, IsProcessOf, home_of}
@@ -144,8 +145,38 @@ pub both-rest : (w : Links) (e : EndId) (wy : Way) (v : HereView) (x : End) → 
 both-rest w e way.Outward v x over is = record { outward = inr (outward-idle w e x.sent v.outward (subst (IsOutwardOf w e x.sent v.outward) (over-outward x.outward over) is.outward), refl); inward = inl (refl, refl) }
 both-rest w e way.Inward v x over is = record { outward = inl (refl, refl); inward = inr (inward-idle w e v.inward (subst (IsInwardOf w e v.inward) (over-inward x.inward over) is.inward), refl) }
 
-one-owner : (p q : Pid) → place.Owned p ≡ place.Owned q → p ≡ q
-one-owner p q same = cc
+-- ---- the ends of the service once a report was told
+
+module _ (s : State) (kept : IsConsistent s) (p : Pid) (r : Report) (there : Contains (s.process p.0).reports r) where
+  -- the ends then
+  abbrev idle_ends : EndId → End
+  idle_ends = idles r.way r.on s.ends
+
+  pub reported-over : is_over r.way (s.ends r.on) ≡ true
+  reported-over = kept.reported.over p r there
+
+  made : is_made (s.ends r.on).place ≡ true
+  made = busy-made s r.on kept (by (is_idle (s.ends r.on)) refl)
+    where
+      by : (b : Bool) → is_idle (s.ends r.on) ≡ b → is_idle (s.ends r.on) ≡ false
+      by true idle = absurd (true≢false (sym reported-over ∙ idle-over r.way (s.ends r.on) idle))
+      by false busy = busy
+
+  pub idled-own : idle_ends r.on ≡ idle_way r.way (s.ends r.on)
+  idled-own = ap (λ (f : EndId → End). f r.on) (idles-is r.way r.on s.ends) ∙ puts-at r.on (idle_way r.way (s.ends r.on)) s.ends made
+
+  pub idled-other : (f : EndId) → end_eq r.on f ≡ false → idle_ends f ≡ s.ends f
+  idled-other f apart = ap (λ (g : EndId → End). g f) (idles-is r.way r.on s.ends) ∙ puts-other r.on (idle_way r.way (s.ends r.on)) s.ends f (eq-same r.on f ∙ apart)
+
+  pub idled-rested : (f : EndId) → IsRested (s.ends f) (idle_ends f)
+  idled-rested f = by (end_eq r.on f) refl
+    where
+      same : IsRested (s.ends f) (s.ends f)
+      same = record { place = refl; sent = refl; noticed = refl; outward = inl refl; inward = inl refl }
+
+      by : (b : Bool) → end_eq r.on f ≡ b → IsRested (s.ends f) (idle_ends f)
+      by true own = subst (λ z. IsRested (s.ends z) (idle_ends z)) (end_eq-same r.on f own) (subst (IsRested (s.ends r.on)) (sym idled-own) (idle-rested r.way (s.ends r.on) reported-over))
+      by false apart = subst (IsRested (s.ends f)) (sym (idled-other f apart)) same
 
 -- ---- the world
 
@@ -176,33 +207,8 @@ module _ (i : ℕ) (w : World) (s : State) (k : ℕ) (p : Pid) (mine : List EndI
   there : Contains (s.process p.0).reports r
   there = subst (λ l. Contains l r) (sym mine_reports) (first r rs)
 
-  over : is_over r.way (s.ends r.on) ≡ true
-  over = is.service.reported.over p r there
-
-  made : is_made (s.ends r.on).place ≡ true
-  made = busy-made s r.on is.service (by (is_idle (s.ends r.on)) refl)
-    where
-      by : (b : Bool) → is_idle (s.ends r.on) ≡ b → is_idle (s.ends r.on) ≡ false
-      by true idle = absurd (true≢false (sym over ∙ idle-over r.way (s.ends r.on) idle))
-      by false busy = busy
-
-  -- ---- the ends of the service
-
-  ends-own : t.ends r.on ≡ idle_way r.way (s.ends r.on)
-  ends-own = ap (λ (f : EndId → End). f r.on) (idles-is r.way r.on s.ends) ∙ puts-at r.on (idle_way r.way (s.ends r.on)) s.ends made
-
-  ends-other : (f : EndId) → end_eq r.on f ≡ false → t.ends f ≡ s.ends f
-  ends-other f apart = ap (λ (g : EndId → End). g f) (idles-is r.way r.on s.ends) ∙ puts-other r.on (idle_way r.way (s.ends r.on)) s.ends f (eq-same r.on f ∙ apart)
-
   end-is : (f : EndId) → IsRested (s.ends f) (t.ends f)
-  end-is f = by (end_eq r.on f) refl
-    where
-      same : IsRested (s.ends f) (s.ends f)
-      same = record { place = refl; sent = refl; noticed = refl; outward = inl refl; inward = inl refl }
-
-      by : (b : Bool) → end_eq r.on f ≡ b → IsRested (s.ends f) (t.ends f)
-      by true own = subst (λ z. IsRested (s.ends z) (t.ends z)) (end_eq-same r.on f own) (subst (IsRested (s.ends r.on)) (sym ends-own) (idle-rested r.way (s.ends r.on) over))
-      by false apart = subst (IsRested (s.ends f)) (sym (ends-other f apart)) same
+  end-is = idled-rested s is.service p r there
 
   -- ---- the entries of kernels
 
@@ -241,20 +247,20 @@ module _ (i : ℕ) (w : World) (s : State) (k : ℕ) (p : Pid) (mine : List EndI
     where
       other : end_eq r.on f ≡ false → AreTogether v u (s.ends f) (t.ends f)
       other apart =
-          let same = one-view v u (sym here ∙ sym (after-other (home_of s q) f apart) ∙ now) in
+          let same = view-same v u (sym here ∙ sym (after-other (home_of s q) f apart) ∙ now) in
           record {
-            outward = inl (ap (λ (z : HereView). z.outward) (sym same), ap (λ (z : End). z.outward) (ends-other f apart));
-            inward = inl (ap (λ (z : HereView). z.inward) (sym same), ap (λ (z : End). z.inward) (ends-other f apart));
+            outward = inl (ap (λ (z : HereView). z.outward) (sym same), ap (λ (z : End). z.outward) (idled-other s is.service p r there f apart));
+            inward = inl (ap (λ (z : HereView). z.inward) (sym same), ap (λ (z : End). z.inward) (idled-other s is.service p r there f apart));
           }
 
       own : (g : EndId) → r.on ≡ g → (s.ends g).place ≡ place.Owned q → (w.kernel (home_of s q)).table g ≡ entry.Here v → after (home_of s q) g ≡ entry.Here u → AreTogether v u (s.ends r.on) (t.ends r.on)
-      own g same owned here now = subst (AreTogether v u (s.ends r.on)) (sym ends-own) (subst (λ z. AreTogether v z (s.ends r.on) (idle_way r.way (s.ends r.on))) (sym view) (both-rest (links_of w) r.on r.way v (s.ends r.on) over agrees))
+      own g same owned here now = subst (AreTogether v u (s.ends r.on)) (sym (idled-own s is.service p r there)) (subst (λ z. AreTogether v z (s.ends r.on) (idle_way r.way (s.ends r.on))) (sym view) (both-rest (links_of w) r.on r.way v (s.ends r.on) (reported-over s is.service p r there) agrees))
         where
           placed : (s.ends r.on).place ≡ place.Owned q
           placed = subst (λ z. (s.ends z).place ≡ place.Owned q) (sym same) owned
 
           its : p ≡ q
-          its = one-owner p q (sym (is.service.reported.own p r there (ap is_living placed)) ∙ placed)
+          its = owner-same p q (sym (is.service.reported.own p r there (ap is_living placed)) ∙ placed)
 
           home : home_of s q ≡ k
           home = ap (home_of s) (sym its) ∙ at
@@ -272,7 +278,7 @@ module _ (i : ℕ) (w : World) (s : State) (k : ℕ) (p : Pid) (mine : List EndI
           found = sym (ap (λ b. (cond b o.kernel (w.kernel k)).table r.on) (eq-eqb k k refl)) ∙ subst (λ j. after j r.on ≡ entry.Here u) home (subst (λ z. after (home_of s q) z ≡ entry.Here u) (sym same) now)
 
           view : u ≡ reported_view r.way v
-          view = one-view u (reported_view r.way v) (sym found ∙ reported)
+          view = view-same u (reported_view r.way v) (sym found ∙ reported)
 
       by : (b : Bool) → end_eq r.on f ≡ b → AreTogether v u (s.ends f) (t.ends f)
       by true same = subst (λ z. AreTogether v u (s.ends z) (t.ends z)) (end_eq-same r.on f same) (own f (end_eq-same r.on f same) owned here now)

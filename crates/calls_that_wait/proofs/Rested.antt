@@ -23,6 +23,7 @@ use Rattle.service_step.specs.declared.state.Inward.TheVariants as inward
 use Rattle.service_step.specs.declared.state.Message.{Message}
 use Rattle.service_step.specs.declared.state.Outward.{Outward}
 use Rattle.service_step.specs.declared.state.Outward.TheVariants as outward
+use Rattle.world_meaning.proofs.Plain.{view-same}
 use Rattle.world_meaning.specs.Fields.{IsAskedAs, value_of}
 use Rattle.world_meaning.specs.Invariant.{NamesBelow}
 use Rattle.world_meaning.specs.StandsFor.{IsWaitingWith}
@@ -117,9 +118,6 @@ module _ (v u : HereView) (r : IsRestedView v u) where
 
 -- ---- an entry
 
-pub one-view : (v u : HereView) → entry.Here v ≡ entry.Here u → v ≡ u
-one-view v u same = cc
-
 -- what is true of an end that is here
 pub rested-here : (x y : Entry) (P Q : HereView → Type 0) → IsRestedEntry x y → ((v u : HereView) → IsRestedView v u → P v → Q u) → IsHereAnd x P → IsHereAnd y Q
 rested-here x y P Q (inl same) gives has = subst (λ z. IsHereAnd z Q) (sym same) (by x has)
@@ -140,7 +138,7 @@ here-was x y P Q (inr r) gives has = subst (λ z. IsHereAnd z P) (sym r.was) (gi
 -- the view that it was
 pub view-was : (x y : Entry) (u : HereView) → IsRestedEntry x y → y ≡ entry.Here u → (v : HereView) × (x ≡ entry.Here v) × IsRestedView v u
 view-was x y u (inl same) is = (u, sym same ∙ is, IsRestedView-same u)
-view-was x y u (inr r) is = (r.before, r.was, subst (IsRestedView r.before) (one-view r.now u (sym r.is ∙ is)) r.view)
+view-was x y u (inr r) is = (r.before, r.was, subst (IsRestedView r.before) (view-same r.now u (sym r.is ∙ is)) r.view)
 
 pub mark-was : (x y : Entry) (m : MovingPicture) → IsRestedEntry x y → y ≡ entry.Destroyed m → x ≡ entry.Destroyed m
 mark-was x y m (inl same) is = sym same ∙ is

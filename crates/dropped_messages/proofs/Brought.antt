@@ -4,22 +4,15 @@ use Rattle.std.specs.List.{list_any}
 use Rattle.charlotte_calls.specs.declared.names.EndId.{EndId}
 use Rattle.charlotte_calls.specs.declared.picture.MovingPicture.{MovingPicture}
 use Rattle.charlotte_calls.specs.declared.picture.Picture.{Picture}
-use Rattle.charlotte_calls.specs.declared.picture.PictureWhat.{PictureWhat}
 use Rattle.end_table.proofs.EndEq.{end_eq-refl, end_eq-same, end_eq-sym}
 use Rattle.end_table.specs.Place.{end_eq}
 use Rattle.end_table.specs.Table.{IsHere}
 use Rattle.end_table.specs.declared.entry.Entry.{Entry}
 use Rattle.end_table.specs.declared.entry.Entry.TheVariants as entry
-use Rattle.kernel_effects.specs.Effect.{Does, brings}
-use Rattle.kernel_effects.specs.Rows.{row_effect, values_in}
-use Rattle.kernel_outcomes.proofs.Events.{row-does}
-use Rattle.kernel_sound.proofs.Goes.{GoesWell}
-use Rattle.kernel_sound.proofs.Rows.{row-well}
+use Rattle.kernel_effects.specs.Effect.{brings}
 use Rattle.kernel_sound.proofs.Values.{AreComing}
-use Rattle.kernel_sound.specs.Sound.{IsSound}
 use Rattle.kernel_step.proofs.Folds.{AreDifferent}
-use Rattle.kernel_step.specs.Progress.{Progress}
-use Rattle.kernel_step.specs.Rows.{ends_in, is_here, row}
+use Rattle.kernel_step.specs.Rows.{ends_in, is_here}
 use Rattle.kernel_world.specs.World.{World}
 use Rattle.service_change.proofs.Change.{living-made}
 use Rattle.service_step.specs.Ends.{is_living}
@@ -32,6 +25,7 @@ use Rattle.world_meaning.specs.Invariant.{Invariant}
 use Rattle.world_meaning.specs.Packets.{links_of, one_if, over_kernels, sum_over, values_for, values_of}
 use Rattle.world_meaning.specs.StandsFor.{standing}
 use Rattle.ended_links.proofs.Facts.{or-true, true-or, values-counted}
+use Rattle.world_meaning.proofs.Plain.{at_most_one}
 
 -- a value of an end, whose entry it brings
 pub record IsBrought (e : EndId) (ms : List MovingPicture) : Type 0 where
@@ -69,19 +63,6 @@ values-coming k made t (m ∷ ms) away different =
     let one = away m.end (true-or _ _ (end_eq-refl m.end)) in
     (one.0, one.1, different.0, values-coming k made t ms (λ e has. away e (or-true _ _ has)) different.1)
 
--- the table that the taking of a packet leaves is sound
-pub taking-sound : (k made n from : ℕ) (t : EndId → Entry) (what : PictureWhat) → IsSound k made n t → AreDifferent (ends_in (values_in what)) → IsSound k made n (λ q. (row_effect k made from t what).entry q (t q))
-taking-sound k made n from t what sound different = subst (IsSound k made n) (λ i q. did.table q i) after.sound
-  where
-    d : Progress
-    d = record { table = t; stamp = 0; packets = []; reports = []; answers = []; steps = [] }
-
-    did : Does (row_effect k made from t what) d (row k made from what d)
-    did = row-does k made n d sound from what different
-
-    after : GoesWell k made n (λ p e. true) t (row k made from what d)
-    after = row-well k made n from (λ p e. true) t what d (λ p. refl) (record { sound = sound; reports = tt; answers = tt; calm = λ q e is. refl })
-
 -- an end whose value is in a packet
 module _ {i : ℕ} {w : World} {s : State} (is : Invariant i w s) (from k : ℕ) (q : Picture) (has : Contains (w.packets from k) q) (e : EndId) (brings_it : list_any (end_eq e) (ends_in (values_of q.what)) ≡ true) where
   -- it is there once, lives, and is not here
@@ -101,17 +82,13 @@ module _ {i : ℕ} {w : World} {s : State} (is : Invariant i w s) (from k : ℕ)
       = sum_over-least (λ z. values_for e (values_of z)) (links_of w) from k q (omega (arith, near.0, is.setting.few)) below has in
       let here : one_if (is_here ((w.kernel k).table e)) ≤ over_kernels (λ j. one_if (is_here ((w.kernel j).table e))) = over-least (λ j. one_if (is_here ((w.kernel j).table e))) k below in
       let stands : over_kernels (λ j. one_if (is_here ((w.kernel j).table e))) + sum_over (λ z. values_for e (values_of z)) (links_of w) ≡ one_if (is_living (s.ends e).place) = is.stands.links.once e in
-      let most = at_most (is_living (s.ends e).place) in
+      let most = at_most_one (is_living (s.ends e).place) in
       record {
         living = is-true (is_living (s.ends e).place) (omega (arith, counts, least, stands));
         away = is-false (is_here ((w.kernel k).table e)) (omega (arith, counts, least, here, stands, most));
         once = omega (arith, counts, least, stands, most);
       }
     where
-      at_most : (b : Bool) → one_if b ≤ 1
-      at_most true = omega arith
-      at_most false = omega arith
-
       is-true : (b : Bool) → 1 ≤ one_if b → b ≡ true
       is-true true some = refl
       is-true false some = absurd (omega (arith, some))

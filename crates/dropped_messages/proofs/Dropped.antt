@@ -52,20 +52,15 @@ use Rattle.world_meaning.specs.Fields.{At, Flying}
 use Rattle.world_meaning.specs.Invariant.{Invariant, IsBackRight}
 use Rattle.world_meaning.specs.Packets.{links_of, one_if}
 use Rattle.world_meaning.specs.StandsFor.{IsProcessOf, IsWaitingWith, home_of}
-use Rattle.answered_events.proofs.Meets.{right-first, stands-first, there-here}
+use Rattle.answered_events.proofs.Meets.{right-first, stands-first}
 use Rattle.answered_events.proofs.World.{processes-kept, setting-after}
 use Rattle.ended_links.proofs.Clauses.{ended-right}
 use Rattle.ended_links.proofs.Facts.{among-same, not-true, or-true, true-or}
 use Rattle.ended_links.proofs.Placed.{ended-links}
 use Rattle.ended_links.specs.Ending.{IsEnded, IsEnding, IsSendAfter, IsToldOf, Kept, Returned}
-use Rattle.dropped_messages.proofs.Brought.{brought-away, brought-flies, brought-made, brought-of, taking-sound, values-coming}
-
--- an end of a made link that does not live is destroyed
-dead-destroyed : (y : Place) → is_made y ≡ true → is_living y ≡ false → y ≡ place.Destroyed
-dead-destroyed (place.Owned p) made dead = absurd (true≢false dead)
-dead-destroyed (place.InMessage f n) made dead = absurd (true≢false dead)
-dead-destroyed place.Destroyed made dead = refl
-dead-destroyed place.Unmade made dead = absurd (true≢false (sym made))
+use Rattle.silent_events.proofs.Sound.{takes-sound}
+use Rattle.world_meaning.proofs.Plain.{destroyed-so, there-here}
+use Rattle.dropped_messages.proofs.Brought.{brought-away, brought-flies, brought-made, brought-of, values-coming}
 
 -- an end of a made link that is not open is destroyed or knows of the death of its link
 shut-gone : (y : End) → is_made y.place ≡ true → is_open y ≡ false → (is_destroyed y.place || y.noticed) ≡ true
@@ -143,7 +138,7 @@ module _ (i : ℕ) (w : World) (s : State) (is : Invariant i w s) (k from stamp 
   near = between is from k q has
 
   gone : (s.ends f).place ≡ place.Destroyed
-  gone = dead-destroyed (s.ends f).place (All-contains (λ o. is_made (s.ends (addressee o.what)).place ≡ true) (w.packets from k) q (is.links.named.addressees from k) has) dead
+  gone = destroyed-so (s.ends f).place (All-contains (λ o. is_made (s.ends (addressee o.what)).place ≡ true) (w.packets from k) q (is.links.named.addressees from k) has) dead
 
   matched : (s.ends f).outward ≡ outward.Matched right.matched.message
   matched = right.matched.matched
@@ -331,10 +326,9 @@ module _ (i : ℕ) (w : World) (s : State) (is : Invariant i w s) (k from stamp 
   within = takes-within is k from q others there effect any [] [] names
 
   sound : IsSound k (w.kernel k).made (length s.homes) (v.kernel k).table
-  sound = subst (IsSound k (w.kernel k).made (length s.homes)) (sym table) (taking-sound k (w.kernel k).made (length s.homes) from t q.what (is.setting.sound k) (brings-different is from k q has))
-    where
-      table : (v.kernel k).table ≡ (λ e. (row_effect k (w.kernel k).made from t q.what).entry e (t e))
-      table = λ j e. (b.entry e ∙ ap (λ (g : Effect). g.entry e (t e)) (sym effect-is)) j
+  sound =
+      takes-sound k (w.kernel k).made (length s.homes) t (is.setting.sound k) from q.what (brings-different is from k q has) (v.kernel k).table
+      (λ e. b.entry e ∙ ap (λ (g : Effect). g.entry e (t e)) (sym effect-is))
 
   dropped-invariant : Invariant (i + 1) v next
   dropped-invariant =

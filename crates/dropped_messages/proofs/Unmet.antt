@@ -20,8 +20,9 @@ use Rattle.world_meaning.proofs.Goes.{Goes}
 use Rattle.world_meaning.specs.Invariant.{Invariant, IsBackRight}
 use Rattle.world_meaning.specs.Packets.{Links, links_of}
 use Rattle.world_meaning.specs.StandsFor.{IsOutwardOf, home_of}
-use Rattle.answered_events.proofs.Meets.{IsOwnedAt, owned-at, right-first, same-kernel, there-here}
+use Rattle.answered_events.proofs.Meets.{IsOwnedAt, owned-at, right-first, same-kernel}
 use Rattle.ended_links.proofs.Facts.{not-true}
+use Rattle.world_meaning.proofs.Plain.{there-here}
 use Rattle.dropped_messages.proofs.Dropped.{back-dropped-goes}
 
 -- a kernel has a send as matched whose message the service has matched

@@ -6,7 +6,7 @@ use Rattle.charlotte_calls.specs.declared.names.Pid.{Pid}
 use Rattle.charlotte_calls.specs.declared.picture.MovingPicture.{MovingPicture}
 use Rattle.charlotte_calls.specs.declared.picture.Picture.{Picture}
 use Rattle.charlotte_calls.specs.declared.picture.PictureWhat.TheVariants as packet
-use Rattle.end_table.specs.Table.{IsHere, IsHereAnd}
+use Rattle.end_table.specs.Table.{IsHereAnd}
 use Rattle.end_table.specs.declared.entry.Entry.{Entry}
 use Rattle.end_table.specs.declared.entry.Entry.TheVariants as entry
 use Rattle.end_table.specs.declared.entry.Inward.{Inward}
@@ -14,7 +14,6 @@ use Rattle.end_table.specs.declared.entry.Inward.TheVariants as inward
 use Rattle.kernel_effects.specs.Effect.{Effect}
 use Rattle.kernel_effects.specs.Rows.{parcel_effect, row_effect, sends_back_effect}
 use Rattle.kernel_outcomes.proofs.Sound.{passing-all}
-use Rattle.kernel_sound.proofs.Values.{AreComing}
 use Rattle.kernel_step.proofs.Folds.{AreDifferent}
 use Rattle.kernel_step.specs.Rows.{asks, ends_in, is_asked, passing}
 use Rattle.kernel_world.specs.World.{Takes, World, happens}
@@ -22,9 +21,10 @@ use Rattle.service_lawful.specs.Consistent.{is_open}
 use Rattle.service_step.specs.Ends.{is_made}
 use Rattle.service_step.specs.State.{State}
 use Rattle.service_step.specs.declared.state.Place.TheVariants as place
+use Rattle.silent_events.proofs.Sound.{takes-sound}
 use Rattle.world_effects.proofs.Allowed.{between, brings-different, takes-allowed}
 use Rattle.world_effects.proofs.Aside.{ends_in-there}
-use Rattle.world_effects.proofs.Lists.{first, later}
+use Rattle.world_effects.proofs.Lists.{first}
 use Rattle.world_effects.specs.Change.{Change, Happens}
 use Rattle.world_effects.specs.Events.{taking}
 use Rattle.world_meaning.proofs.Goes.{Goes}
@@ -32,7 +32,7 @@ use Rattle.world_meaning.specs.Fields.{IsAskedAs}
 use Rattle.world_meaning.specs.Invariant.{Invariant, IsPacketRight, IsParcelRight}
 use Rattle.world_meaning.specs.Packets.{links_of}
 use Rattle.wanted_events.proofs.World.{invariant-anew}
-use Rattle.matched_events.proofs.Sound.{takes-sound}
+use Rattle.world_effects.proofs.Values.{all-coming}
 use Rattle.forwarded_events.specs.Returning.{IsReturning}
 use Rattle.forwarded_events.proofs.Returning.{carried, links-returned, not-here, right-returned}
 
@@ -48,11 +48,6 @@ asks-met w (entry.Here v) is none = some (sym (ap (λ b. if b then Some v else N
     some : Some v ≡ None → ⊥
     some same = cc
 asks-met w _ is none = is
-
--- values come, where none is of an end that is here, or of a link that is not made
-coming : (k made : ℕ) (t : EndId → Entry) (ms : List MovingPicture) → AreDifferent (ends_in ms) → ((m : MovingPicture) → Contains ms m → (IsHere (t m.end) → ⊥) × (m.end.link.maker ≡ k → made ≤ m.end.link.count → ⊥)) → AreComing k made t ms
-coming k made t [] different each = tt
-coming k made t (m ∷ ms) different each = let own = each m (first m ms) in (own.0, own.1, different.0, coming k made t ms different.1 (λ x has. each x (later m ms x has)))
 
 module _ (i : ℕ) (w : World) (s : State) (is : Invariant i w s) (room : i < 2 ^ 31) (k from stamp : ℕ) (to : EndId) (n wanted at hops : ℕ) (bytes : List ℕ) (ms : List MovingPicture) (others : List Picture)
     (there : w.packets from k ≡ record { stamp = stamp; what = packet.Parcel to n wanted at hops bytes ms } ∷ others) (unmet : asks wanted ((w.kernel k).table to) ≡ None) where
@@ -91,7 +86,7 @@ module _ (i : ℕ) (w : World) (s : State) (is : Invariant i w s) (room : i < 2 
   all-pass : passing k made table ms ≡ ms
   all-pass =
       passing-all k made table ms
-      (coming k made table ms different (λ m has. (
+      (all-coming k made table ms different (λ m has. (
         λ here. not-here i (links_of w) s is.links is.stands.links is.service is.setting.few c from stamp to n wanted at hops bytes ms returns k m.end (λ v. Unit {0}) (ends_in-there ms m has) here,
         λ own above. unmade m (carried i (links_of w) s is.links is.stands.links is.service is.setting.few c from stamp to n wanted at hops bytes ms returns m.end (ends_in-there ms m has)) own above,
       )))

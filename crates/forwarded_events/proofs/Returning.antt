@@ -20,18 +20,15 @@ use Rattle.end_table.specs.declared.entry.Entry.{Entry}
 use Rattle.end_table.specs.declared.entry.Entry.TheVariants as entry
 use Rattle.end_table.specs.declared.entry.HereView.{HereView}
 use Rattle.end_table.specs.declared.entry.Holder.TheVariants as holder
-use Rattle.end_table.specs.declared.entry.Inward.{Inward as KernelInward}
-use Rattle.end_table.specs.declared.entry.Inward.TheVariants as kernel_inward
 use Rattle.kernel_effects.proofs.Uses.{brings-each}
 use Rattle.kernel_effects.specs.Effect.{brings, stays}
 use Rattle.kernel_sound.specs.Sound.{addressee}
 use Rattle.kernel_step.proofs.EnclosedEnds.{second_false}
 use Rattle.kernel_step.specs.Rows.{ends_in, is_here}
 use Rattle.service_lawful.specs.Consistent.{IsConsistent, is_open}
-use Rattle.service_step.specs.Ends.{is_living, is_made, is_started_inward, is_taken}
+use Rattle.service_step.specs.Ends.{is_living, is_made, is_taken}
 use Rattle.service_step.specs.Lawful.{message_of}
 use Rattle.service_step.specs.State.{State}
-use Rattle.service_step.specs.declared.state.Inward.{Inward}
 use Rattle.service_step.specs.declared.state.Inward.TheVariants as inward
 use Rattle.service_step.specs.declared.state.Place.TheVariants as place
 use Rattle.world_effects.proofs.Aside.{ends_in-there, not_among}
@@ -41,7 +38,7 @@ use Rattle.world_effects.proofs.NamedAfter.{named-after}
 use Rattle.world_effects.proofs.NamedParts.{brings-names, left-named, left_entry-names, named-values, stays-names, values-named}
 use Rattle.world_effects.proofs.Packets.{each-after, left-was, under_way-after, under_way-before, under_way-left, under_way-sent}
 use Rattle.world_effects.proofs.Sums.{standing-after, sum_over-after}
-use Rattle.world_effects.proofs.Values.{left-each}
+use Rattle.world_effects.proofs.Values.{left-each, value-found}
 use Rattle.world_effects.specs.Change.{Change, Changes}
 use Rattle.world_effects.specs.Under.{IsLeft, IsSent, IsTaken}
 use Rattle.world_meaning.proofs.Ends.{opposite-twice}
@@ -51,11 +48,11 @@ use Rattle.world_meaning.specs.Packets.{Each, IsBackOf, IsParcelFor, IsParcelOf,
 use Rattle.world_meaning.specs.StandsFor.{AreLinksOf, IsEndOf, IsInMessage, IsInwardOf, IsWaitingWith, entry_at, home_of, standing}
 use Rattle.silent_events.proofs.Alike.{some-same}
 use Rattle.silent_events.proofs.Places.{fields-here}
-use Rattle.wanted_events.proofs.Matching.{value-found}
 use Rattle.matched_events.specs.Carrying.{HasLeft, IsAway, IsCarrying, IsTurned}
 use Rattle.matched_events.proofs.Carrying.{asked-carried, away-here, away-value, cancelling-carried, counted-carried, few-carried, honest-carried, marked-carried, owned-carried, right-carried, served-carried, still, wanted-carried}
 use Rattle.matched_events.proofs.Sending.{left-away}
 use Rattle.matched_events.proofs.Values.{any-there}
+use Rattle.world_meaning.proofs.Plain.{unstarted-inward}
 use Rattle.forwarded_events.specs.Returning.{IsReturning, returning}
 
 -- ---- values that go on
@@ -94,19 +91,6 @@ eq-opposite a b = by (end_eq (opposite a) b) (end_eq a (opposite b)) refl refl
     by false true one two =
         let same : opposite a ≡ b = ap opposite (end_eq-same a (opposite b) two) ∙ opposite-twice b in
         sym one ∙ ap (end_eq (opposite a)) (sym same) ∙ end_eq-refl (opposite a)
-
--- an end of which no receive is started agrees whatever is under way
-settled-inward : (w u : Links) (e : EndId) (x : KernelInward) (y : Inward) → is_started_inward y ≡ false → IsInwardOf w e x y → IsInwardOf u e x y
-settled-inward w u e kernel_inward.Idle inward.Idle none is = tt
-settled-inward w u e kernel_inward.Unreported inward.Reported none is = tt
-settled-inward w u e (kernel_inward.Posted v) inward.Idle none is = absurd is
-settled-inward w u e (kernel_inward.Posted v) inward.Reported none is = absurd is
-settled-inward w u e (kernel_inward.Withdrawing v) inward.Idle none is = absurd is
-settled-inward w u e (kernel_inward.Withdrawing v) inward.Reported none is = absurd is
-settled-inward w u e x inward.Posted none is = absurd (true≢false none)
-settled-inward w u e x inward.Withdrawn none is = absurd (true≢false none)
-settled-inward w u e x (inward.Matched n) none is = absurd (true≢false none)
-settled-inward w u e _ _ none is = absurd is
 
 module _ (i : ℕ) (w : Links) (s : State) (right : AreRight i w s) (links : AreLinksOf w s) (kept : IsConsistent s) (few : length s.made ≤ 8) (c : Change) (from stamp : ℕ) (to : EndId) (n wanted at hops : ℕ) (bytes : List ℕ) (ms : List MovingPicture)
     (is : IsReturning w s c.kernel from (record { stamp = stamp; what = packet.Parcel to n wanted at hops bytes ms }) to) where
@@ -422,7 +406,7 @@ module _ (i : ℕ) (w : Links) (s : State) (right : AreRight i w s) (links : Are
         inn : (z : Bool) → end_eq to e ≡ z → IsInwardOf w e x.inward (s.ends e).inward → IsInwardOf u e x.inward (s.ends e).inward
         inn true same old =
             let closed : is_open (s.ends e) ≡ false = subst (λ z. is_open (s.ends z) ≡ false) (end_eq-same to e same) is.closed in
-            settled-inward w u e x.inward (s.ends e).inward (kept.noticed.inward e (noticed (s.ends e).noticed refl closed) (ap is_living owned)) old
+            unstarted-inward w u e x.inward (s.ends e).inward (kept.noticed.inward e (noticed (s.ends e).noticed refl closed) (ap is_living owned)) old
         inn false apart old =
             inward-same w u e (λ v m. packet-same (IsParcelFor e v m) (λ no. no) (λ for. not-for for.0)) (λ v. packet-same (IsUnwantedOf e v) (λ no. no) (λ no. no)) x.inward (s.ends e).inward old
           where

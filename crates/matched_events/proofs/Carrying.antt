@@ -25,6 +25,7 @@ use Rattle.service_step.specs.declared.state.Message.{Message}
 use Rattle.service_step.specs.declared.state.Outward.TheVariants as outward
 use Rattle.service_step.specs.declared.state.Place.{Place}
 use Rattle.service_step.specs.declared.state.Place.TheVariants as place
+use Rattle.world_meaning.proofs.Plain.{asked-busy, view-same}
 use Rattle.world_meaning.specs.Fields.{Stand, At, Flying, HasFields, IsAskedAs, IsAsking, IsHeard, IsNews, IsNoMore, IsUnserved, IsUnwantOf, value_of}
 use Rattle.world_meaning.specs.Invariant.{AreAsked, AreCancelling, AreCounted, AreMarked, AreWanted, IsFew, IsHonest, IsPacketRight, IsServed}
 use Rattle.world_meaning.specs.Packets.{IsUnderWay, Links}
@@ -62,9 +63,6 @@ matched-busy x m matched idle = true≢false (sym idle ∙ busy-outward x (λ is
 
 taken-busy : (x : End) → x.outward ≡ outward.Taken → is_idle x ≡ true → ⊥
 taken-busy x taken idle = true≢false (sym idle ∙ busy-outward x (λ is. let no : outward.Idle ≡ outward.Taken = sym is ∙ taken in cc))
-
-asked-busy : (n : ℕ) (v : HereView) → IsIdle v → IsAskedAs n v.inward → ⊥
-asked-busy n v idle asked = subst (IsAskedAs n) idle.inward asked
 
 withdrawing-busy : (v : HereView) → IsIdle v → is_withdrawing v.inward ≡ true → ⊥
 withdrawing-busy v idle withdraws = true≢false (sym withdraws ∙ ap is_withdrawing idle.inward)
@@ -109,9 +107,6 @@ module _ {w u : Links} {k : ℕ} {xs : List EndId} {mine : EndId} (s : State) (i
       own turned at =
           let same : turned.new ≡ x = view-same turned.new x (sym turned.now ∙ here) in
           (turned.old, turned.was, subst (λ (z : HereView). z ≡ record turned.old { outward = z.outward }) same turned.like, inr at)
-        where
-          view-same : (a b : HereView) → entry.Here a ≡ entry.Here b → a ≡ b
-          view-same a b same = cc
 
       by : (entry_at u j e ≡ entry_at w j e) ⊎ (Contains xs e × IsAway (entry_at u j e)) ⊎ ((e ≡ mine) × IsTurned (entry_at w j e) (entry_at u j e))
           → (y : HereView) × (entry_at w j e ≡ entry.Here y) × (x ≡ record y { outward = x.outward }) × ((x ≡ y) ⊎ (e ≡ mine))

@@ -1,4 +1,3 @@
-pub mod Sound
 pub mod Carrying
 pub mod Values
 pub mod Sending

@@ -39,11 +39,12 @@ use Rattle.world_meaning.specs.StandsFor.{AreLinksOf, entry_at}
 use Rattle.silent_events.proofs.Places.{fields-here, here-living}
 use Rattle.wanted_events.specs.Anew.{IsAnew, IsLike}
 use Rattle.wanted_events.proofs.Anew.{fields-was}
-use Rattle.wanted_events.proofs.Asked.{had, opened, there-here}
+use Rattle.wanted_events.proofs.Asked.{had, opened}
 use Rattle.wanted_events.proofs.Cleared.{clearing, links-cleared, none-asked, right-cleared}
 use Rattle.wanted_events.proofs.Matching.{matched-step, meets, message-waits, number, receives, sender}
 use Rattle.wanted_events.proofs.Parts.{between, first-part, last-part}
 use Rattle.wanted_events.proofs.Void.{voided}
+use Rattle.world_meaning.proofs.Plain.{there-here}
 use Rattle.matched_events.specs.Carrying.{IsAway}
 use Rattle.matched_events.specs.Matching.{IsMatching, matching, served_view}
 use Rattle.matched_events.specs.Sending.{IsSending, departing, sent_view}

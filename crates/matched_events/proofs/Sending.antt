@@ -40,8 +40,8 @@ use Rattle.world_meaning.specs.Packets.{IsUnderWay, Links, values_of}
 use Rattle.world_meaning.specs.StandsFor.{AreLinksOf, entry_at}
 use Rattle.silent_events.proofs.Places.{here-kernel}
 use Rattle.wanted_events.proofs.Anew.{view_or}
-use Rattle.wanted_events.proofs.Asked.{there-here}
 use Rattle.wanted_events.proofs.Matched.{matched-away, matched-other, matched-own}
+use Rattle.world_meaning.proofs.Plain.{there-here}
 use Rattle.matched_events.specs.Carrying.{HasLeft, IsAway, IsCarrying, IsTurned}
 use Rattle.matched_events.specs.Sending.{IsSending, departing, sent_view}
 use Rattle.matched_events.proofs.Carrying.{away-value}

@@ -1,12 +1,10 @@
 -- The service goes with a Send that is not refused: where a receive of its opposite is asked for, its message is matched at once.
-use Rattle.std.proofs.Common.{◌≡◌, ◌≢◌, ◌⊎◌, inl, inr, ℕ, ◌+◌, ◌^◌, ◌<◌, ◌≤◌, Bool, true, false, nat_eq, if◌then◌else◌, List, [], ◌∷◌, ◌++◌, length, Contains, Option, Some, None, slice_index, refl, sym, ap, subst, ◌∙◌, arith, ne_eqb}
+use Rattle.std.proofs.Common.{◌≡◌, ◌≢◌, ◌⊎◌, inl, inr, ℕ, ◌+◌, ◌^◌, ◌<◌, ◌≤◌, Bool, true, false, nat_eq, if◌then◌else◌, List, [], ◌∷◌, ◌++◌, length, Contains, Some, None, slice_index, refl, sym, ap, subst, ◌∙◌, arith, ne_eqb}
 use Rattle.std.proofs.lemmas.Bool.Decides.{eqb_tells}
 use Rattle.std.specs.List.{list_any}
 use Rattle.charlotte_calls.specs.Names.{opposite}
 use Rattle.charlotte_calls.specs.declared.calls.Answer.TheVariants as answer
 use Rattle.charlotte_calls.specs.declared.calls.Call.TheVariants as call
-use Rattle.charlotte_calls.specs.declared.calls.Cause.{Cause}
-use Rattle.charlotte_calls.specs.declared.calls.Cause.TheVariants as cause
 use Rattle.charlotte_calls.specs.declared.calls.ServiceStep.TheVariants as step
 use Rattle.charlotte_calls.specs.declared.names.EndId.{EndId}
 use Rattle.charlotte_calls.specs.declared.names.Pid.{Pid}
@@ -27,11 +25,11 @@ use Rattle.end_table.specs.declared.entry.Holder.TheVariants as holder
 use Rattle.kernel_effects.specs.Actions.{held_entry, left_of, match_effect}
 use Rattle.kernel_effects.specs.Calls.{act_effect, effect_on, send_effect, sending_view}
 use Rattle.kernel_effects.specs.Effect.{Effect, puts, stays, turns}
-use Rattle.kernel_sound.proofs.Needs.{AreFree, owned-here, send-free}
-use Rattle.kernel_sound.specs.Sound.{AreHeldBy, IsHeldWell, IsSound}
+use Rattle.kernel_sound.proofs.Needs.{AreFree, send-free}
+use Rattle.kernel_sound.specs.Sound.{AreHeldBy, IsHeldWell}
 use Rattle.kernel_step.specs.Actions.{here, value_leaving, values_leaving}
 use Rattle.kernel_step.specs.Calls.{on_owned, refusal, send_causes}
-use Rattle.kernel_step.specs.Kernel.{Kernel, has_report, process_of}
+use Rattle.kernel_step.specs.Kernel.{has_report, process_of}
 use Rattle.kernel_step.specs.declared.phase.Phase.TheVariants as kernel_phase
 use Rattle.kernel_world.specs.Run.{IsAllowed}
 use Rattle.kernel_world.specs.World.{World, Calls, Event, happens}
@@ -52,7 +50,7 @@ use Rattle.world_meaning.specs.Invariant.{AreRight, Invariant, IsFew, NamesBelow
 use Rattle.world_meaning.specs.Packets.{Links, links_of}
 use Rattle.world_meaning.specs.StandsFor.{AreLinksOf, entry_at, home_of}
 use Rattle.wanted_events.proofs.Parts.{between, first-part, last-part}
-use Rattle.calls_that_begin.proofs.Answered.{call-sound, kernel-same, processes-after, setting-after}
+use Rattle.calls_that_begin.proofs.Answered.{IsGranted, granted-on, processes-after, setting-called}
 use Rattle.calls_that_begin.proofs.Receives.{home-near}
 use Rattle.calls_that_send.specs.Begun.{IsBeginning, begun}
 use Rattle.calls_that_send.specs.Regrouped.{is_among}
@@ -61,6 +59,7 @@ use Rattle.calls_that_send.proofs.Granted.{IsFreeToSend}
 use Rattle.calls_that_send.proofs.Regrouped.{now-own, now-within, other-than}
 use Rattle.calls_that_send.proofs.SamePackets.{no-packets}
 use Rattle.calls_that_send.proofs.Sends.{begins, free, owned-is, send-step, send-waits-goes, waits_effect}
+use Rattle.world_meaning.proofs.Plain.{right-few}
 use Rattle.matched_events.specs.Matching.{IsMatching, matching, served_view}
 use Rattle.matched_events.proofs.Match.{fields-matched, links-matched, right-matched, step-matched}
 use Rattle.matched_events.proofs.Values.{any-there}
@@ -294,36 +293,10 @@ module _ (i : ℕ) (w : World) (s : State) (k : ℕ) (p : Pid) (mine : List EndI
 
   right : AreRight (i + 1) (links_of (happens w event)) after
   right =
-      let x = right-matched (i + 1) half waiting right-half links-half waits-well is.setting.few held-half c starting r goes v.value.hint.1 n bytes xs goes matchable (links_of (happens w event)) last-half (omega (arith, few)) in
-      record {
-        named = x.named;
-        few = counts;
-        marked = x.marked;
-        counted = x.counted;
-        honest = x.honest;
-        asked = x.asked;
-        cancelling = x.cancelling;
-        served = x.served;
-        wanted = x.wanted;
-        unwanted = x.unwanted;
-        once = x.once;
-        packets = x.packets;
-      }
+      right-few (right-matched (i + 1) half waiting right-half links-half waits-well is.setting.few held-half c starting r goes v.value.hint.1 n bytes xs goes matchable (links_of (happens w event)) last-half (omega (arith, few))) (i + 1) counts
 
   links : AreLinksOf (links_of (happens w event)) after
   links = links-matched (i + 1) half waiting right-half links-half waits-well is.setting.few held-half c starting r goes v.value.hint.1 n bytes xs goes matchable (links_of (happens w event)) last-half
-
-  made-same : (j : ℕ) → ((happens w event).kernel j).made ≡ (w.kernel j).made
-  made-same = kernel-same happened.becomes s (λ (x : Kernel). x.made) happened.becomes.made
-
-  sound : IsSound k ((happens w event).kernel k).made (length s.homes) ((happens w event).kernel k).table
-  sound =
-      subst (λ m. IsSound k m (length s.homes) ((happens w event).kernel k).table) (sym (made-same k))
-      (subst (IsSound k (w.kernel k).made (length s.homes)) (sym now)
-      (call-sound k (w.kernel k).made (length s.homes) table p mine (has_report (process_of p (w.kernel k))) (call.Send e bytes xs) (is.setting.sound k) below granted tt (λ q. refl)))
-    where
-      now : ((happens w event).kernel k).table ≡ (λ q. (act_effect p k (w.kernel k).made mine table (call.Send e bytes xs)).entry q (table q))
-      now = λ j q. (happened.becomes.links.entry q ∙ ap (λ (f : Effect). f.entry q (table q)) (sym effect)) j
 
   -- the service goes with it by the send and its match
   pub matches-goes : Goes i w s event
@@ -336,7 +309,7 @@ module _ (i : ℕ) (w : World) (s : State) (k : ℕ) (p : Pid) (mine : List EndI
             record {
               stands = record { processes = processes-after happened.becomes s answer.Ok refl running is.stands.processes; links = links };
               service = consistent_after waiting (step.Match e n) after waits-well stepped;
-              setting = setting-after happened.becomes s after refl refl refl (λ j. is.setting.made j ∙ sym (made-same j)) sound is.setting;
+              setting = setting-called is k p mine (call.Send e bytes xs) effect happened.becomes refl refl below granted tt (λ q. refl) after refl refl refl;
               links = right;
               waiting = is.waiting;
             };
@@ -346,20 +319,18 @@ module _ (i : ℕ) (w : World) (s : State) (k : ℕ) (p : Pid) (mine : List EndI
 -- the service goes with a Send that its kernel does not refuse
 pub send-goes : (g : Setting) (i : ℕ) (w : World) (s : State) (k : ℕ) (p : Pid) (on : EndId) (bytes : List ℕ) (xs : List EndId) (mine : List EndId) → Invariant i w s → s.homes ≡ g.homes → s.version ≡ g.version → i < 2 ^ 31
     → IsAllowed g w (Calls k p (call.Send on bytes xs) mine) → refusal p (w.kernel k).table (w.kernel k).made mine (has_report (process_of p (w.kernel k))) (call.Send on bytes xs) ≡ None → Goes i w s (Calls k p (call.Send on bytes xs) mine)
-send-goes g i w s k p on bytes xs mine is homes version few allowed granted = by (owned p ((w.kernel k).table on)) refl granted
+send-goes g i w s k p on bytes xs mine is homes version few allowed granted = asked (eqb_tells o.view.value.want 0)
   where
-    some : (c : Cause) → Some c ≡ None → ⊥
-    some c is = cc
+    o : IsGranted p (w.kernel k).table on (send_causes p (w.kernel k).table on xs)
+    o = granted-on (is.setting.sound k) p on (send_causes p (w.kernel k).table on xs) granted
 
-    asked : (v : HereView) → (w.kernel k).table on ≡ entry.Here v → v.holder ≡ holder.Owner p → ((nat_eq v.value.want 0 ≡ true) × (v.value.want ≡ 0)) ⊎ ((nat_eq v.value.want 0 ≡ false) × (v.value.want ≢ 0)) → Goes i w s (Calls k p (call.Send on bytes xs) mine)
-    asked v here owner (inl none) =
-        send-waits-goes g i w s k p on bytes xs mine is homes version few allowed granted (subst (λ z. IfHere z (λ v. v.value.want ≡ 0)) (sym here) none.1)
-    asked v here owner (inr some) =
-        let own : v.value.end ≡ on = subst (IsOfEnd on) here ((is.setting.sound k).own on) in
-        subst (λ z. Goes i w s (Calls k p (call.Send z bytes xs) mine)) own
-        (matches-goes i w s k p mine is (subst (λ hs. p.0 < length hs) (sym homes) allowed.0) (ap (λ hs. slice_index hs p.0) homes ∙ allowed.1) allowed.2 v bytes xs
-        (ap (w.kernel k).table own ∙ here) owner few (subst (λ n. length xs ≤ (if nat_eq n 1 then 1 else 8)) (sym version) allowed.3.0)
-        (subst (λ z. on_owned (owned p ((w.kernel k).table z)) (send_causes p (w.kernel k).table z xs) ≡ None) (sym own) granted) (above v.value.want some.1))
+    asked : ((nat_eq o.view.value.want 0 ≡ true) × (o.view.value.want ≡ 0)) ⊎ ((nat_eq o.view.value.want 0 ≡ false) × (o.view.value.want ≢ 0)) → Goes i w s (Calls k p (call.Send on bytes xs) mine)
+    asked (inl none) = send-waits-goes g i w s k p on bytes xs mine is homes version few allowed granted (subst (λ z. IfHere z (λ v. v.value.want ≡ 0)) (sym o.there) none.1)
+    asked (inr some) =
+        subst (λ z. Goes i w s (Calls k p (call.Send z bytes xs) mine)) o.end
+        (matches-goes i w s k p mine is (subst (λ hs. p.0 < length hs) (sym homes) allowed.0) (ap (λ hs. slice_index hs p.0) homes ∙ allowed.1) allowed.2 o.view bytes xs o.here o.owner few
+        (subst (λ n. length xs ≤ (if nat_eq n 1 then 1 else 8)) (sym version) allowed.3.0)
+        (subst (λ z. on_owned (owned p ((w.kernel k).table z)) (send_causes p (w.kernel k).table z xs) ≡ None) (sym o.end) granted) (above o.view.value.want some.1))
       where
         above : (m : ℕ) → m ≢ 0 → 0 < m
         above m not = by (eqb_tells m 0)
@@ -367,7 +338,3 @@ send-goes g i w s k p on bytes xs mine is homes version few allowed granted = by
             by : ((nat_eq m 0 ≡ true) × (m ≡ 0)) ⊎ ((nat_eq m 0 ≡ false) × (m ≢ 0)) → 0 < m
             by (inl is) = absurd (not is.1)
             by (inr is) = omega (arith, is.1)
-
-    by : (o : Option HereView) → owned p ((w.kernel k).table on) ≡ o → on_owned o (send_causes p (w.kernel k).table on xs) ≡ None → Goes i w s (Calls k p (call.Send on bytes xs) mine)
-    by None owns none = absurd (some cause.NoEnd none)
-    by (Some v) owns none = let here = owned-here p ((w.kernel k).table on) v owns in asked v here.0 here.1 (eqb_tells v.value.want 0)

@@ -6,7 +6,6 @@ use Rattle.charlotte_calls.specs.declared.names.EndId.{EndId}
 use Rattle.charlotte_calls.specs.declared.names.Pid.{Pid}
 use Rattle.charlotte_calls.specs.declared.picture.MovingPicture.{MovingPicture}
 use Rattle.charlotte_calls.specs.declared.picture.PictureWhat.{PictureWhat}
-use Rattle.charlotte_calls.specs.declared.picture.PictureWhat.TheVariants as packet
 use Rattle.end_table.proofs.EndEq.{end_eq-refl, end_eq-same}
 use Rattle.end_table.specs.Place.{end_eq}
 use Rattle.end_table.specs.Table.{IsHereAnd, IsIdle}
@@ -40,6 +39,7 @@ use Rattle.world_effects.proofs.Packets.{under_way-sent}
 use Rattle.world_effects.proofs.Sums.{standing-after}
 use Rattle.world_effects.specs.Change.{Change, Changes}
 use Rattle.world_meaning.proofs.Ends.{opposite-twice}
+use Rattle.world_meaning.proofs.Plain.{taken-passes}
 use Rattle.world_meaning.specs.Fields.{IsAskedAs}
 use Rattle.world_meaning.specs.Invariant.{AreRight, is_taken_of}
 use Rattle.world_meaning.specs.Packets.{IsBackOf, IsParcelFor, IsParcelOf, IsTakenOf, IsUnderWay, IsUnwantedOf, Links, how_many, one_if, values_for, values_of}
@@ -57,10 +57,6 @@ away-not_here _ away = absurd away
 
 waiting-busy : (m : ℕ) (v : HereView) → IsIdle v → IsWaitingWith m v.outward → ⊥
 waiting-busy m v idle waits = subst (IsWaitingWith m) idle.outward waits
-
-taken-passes : (f : EndId) (n : ℕ) (q : PictureWhat) → IsTakenOf f n q → is_taken_of f q ≡ true
-taken-passes f n (packet.Taken to m at hops) is = subst (λ z. end_eq f z ≡ true) (sym is.0) (end_eq-refl f)
-taken-passes f n _ is = absurd is
 
 module _ (i : ℕ) (w : Links) (s : State) (right : AreRight i w s) (links : AreLinksOf w s) (kept : IsConsistent s) (few : length s.made ≤ 8) (c : Change) (v : HereView) (r n : ℕ) (bytes : List ℕ) (xs : List EndId) (to : ℕ) (is : IsSending w s c.kernel v r n bytes xs to)
     (u : Links) (b : Changes w (departing c (w.entry c.kernel) v r n bytes xs to) u) where

@@ -24,7 +24,7 @@ use Rattle.world_effects.proofs.Lists.{first, first_or_later, later, none-there,
 use Rattle.world_meaning.specs.Invariant.{AreNamed}
 use Rattle.world_meaning.specs.Packets.{IsUnderWay, Links, how_many, one_if, values_for}
 use Rattle.service_step.specs.declared.state.End.{End}
-use Rattle.wanted_events.proofs.Asked.{there-here}
+use Rattle.world_meaning.proofs.Plain.{there-here}
 
 -- an end that is among others
 pub any-there : (e : EndId) (xs : List EndId) → list_any (end_eq e) xs ≡ true → Contains xs e

@@ -41,36 +41,22 @@ use Rattle.silent_events.proofs.Clauses.{fields-was, links-still}
 use Rattle.silent_events.proofs.Hearing.{IsHearing, hears, learns-so}
 use Rattle.silent_events.proofs.Learning.{learning-right}
 use Rattle.silent_events.proofs.Rows.{IsTable}
+use Rattle.silent_events.proofs.Sound.{takes-sound}
 use Rattle.silent_events.proofs.Taking.{happens-so, table-is, taken-well}
 use Rattle.silent_events.specs.Learning.{IsLearning}
 use Rattle.silent_events.specs.Quiet.{IsQuiet}
 use Rattle.silent_events.specs.Silent.{IsStill}
-use Rattle.wanted_events.proofs.Asked.{opened, there-here, unserved}
+use Rattle.wanted_events.proofs.Asked.{opened, unserved}
 use Rattle.wanted_events.proofs.Parts.{between, first-part, last-part, taking_last}
 use Rattle.wanted_events.proofs.Unwanting.{news-voided}
 use Rattle.wanted_events.proofs.World.{invariant-anew}
+use Rattle.world_meaning.proofs.Plain.{right-few, there-here}
 use Rattle.matched_events.specs.Matching.{IsMatching, matching, served_view}
 use Rattle.matched_events.proofs.Match.{links-matched, now-of, now-own, right-matched, step-matched}
-use Rattle.matched_events.proofs.Sound.{takes-sound}
 
 -- where an end learns in a part of an event, no count grows
 learned-right : {w u : Links} {c : Change} (b : Changes w c u) (s : State) (quiet : IsQuiet (length s.made) s.ends w c) → IsLearning w c → (i : ℕ) → AreRight i w s → AreLinksOf w s → length s.made ≤ 8 → AreRight i u s
-learned-right {w} {u} {c} b s quiet learning i right links few =
-    let r = learning-right b s quiet learning i right links few in
-    record {
-      named = r.named;
-      few = counts;
-      marked = r.marked;
-      counted = r.counted;
-      honest = r.honest;
-      asked = r.asked;
-      cancelling = r.cancelling;
-      served = r.served;
-      wanted = r.wanted;
-      unwanted = r.unwanted;
-      once = r.once;
-      packets = r.packets;
-    }
+learned-right {w} {u} {c} b s quiet learning i right links few = right-few (learning-right b s quiet learning i right links few) i counts
   where
     counts : (e : EndId) (at : Stand) (m : MovingPicture) → HasFields u e at m → IsFew i m
     counts e at m has =

@@ -28,18 +28,11 @@ use Rattle.service_step.specs.declared.state.Outward.{Outward}
 use Rattle.service_step.specs.declared.state.Outward.TheVariants as outward
 use Rattle.service_step.specs.declared.state.Place.{Place}
 use Rattle.service_step.specs.declared.state.Place.TheVariants as place
-use Rattle.calls_that_wait.proofs.Rested.{one-view}
 use Rattle.silent_events.proofs.Alike.{some-same}
+use Rattle.world_meaning.proofs.Plain.{view-same}
 use Rattle.world_meaning.specs.Fields.{IsAskedAs, value_of}
 use Rattle.world_meaning.specs.Invariant.{NamesBelow}
 use Rattle.world_meaning.specs.StandsFor.{IsWaitingWith}
-
--- who holds an end
-pub owner-same : (p b : Pid) → place.Owned p ≡ place.Owned b → p ≡ b
-owner-same p b same = cc
-
-pub holder-same : (p b : Pid) → holder.Owner p ≡ holder.Owner b → p ≡ b
-holder-same p b same = cc
 
 -- an entry stays, and is here only of another end; or it is that of an end that was enclosed, which p owns now; or that of e
 pub data IsNoticedEntry (e : EndId) (p : Pid) (xs : List EndId) (q : EndId) (x y : Entry) : Type 0 where
@@ -108,8 +101,8 @@ module _ {e q : EndId} {v u : HereView} (is : IsNoticedView e q v u) where
       by (Own same noticed) = noticed
 
   module _ (apart : end_eq e q ≡ false) where
-    pub view-same : u ≡ record v { holder = u.holder }
-    view-same = by is
+    pub view-like : u ≡ record v { holder = u.holder }
+    view-like = by is
       where
         by : IsNoticedView e q v u → u ≡ record v { holder = u.holder }
         by (Other far same held) = same
@@ -123,13 +116,13 @@ module _ {e q : EndId} {v u : HereView} (is : IsNoticedView e q v u) where
         by (Own own noticed) = absurd (true≢false (sym own ∙ apart))
 
     pub view-value : u.value ≡ v.value
-    view-value = ap (λ (z : HereView). z.value) view-same
+    view-value = ap (λ (z : HereView). z.value) view-like
 
     pub view-inward : u.inward ≡ v.inward
-    view-inward = ap (λ (z : HereView). z.inward) view-same
+    view-inward = ap (λ (z : HereView). z.inward) view-like
 
     pub view-outward : u.outward ≡ v.outward
-    view-outward = ap (λ (z : HereView). z.outward) view-same
+    view-outward = ap (λ (z : HereView). z.outward) view-like
 
 -- ---- entries
 
@@ -143,8 +136,8 @@ module _ {e : EndId} {p : Pid} {xs : List EndId} {q : EndId} {x y : Entry} (is :
     where
       by : IsNoticedEntry e p xs q x y → (v : HereView) × (x ≡ entry.Here v) × IsNoticedView e q v u
       by (EntryKept same others) = let was : x ≡ entry.Here u = sym same ∙ at in (u, was, kept-view u (others u was).0)
-      by (EntryFreed v apart among idle was now) = let view : record v { holder = holder.Owner p } ≡ u = one-view _ u (sym now ∙ at) in (v, was, subst (IsNoticedView e q v) view (Other apart refl (inr idle)))
-      by (EntryNoticed v own was now) = let view : noticed_view v ≡ u = one-view _ u (sym now ∙ at) in (v, was, subst (IsNoticedView e q v) view (Own own refl))
+      by (EntryFreed v apart among idle was now) = let view : record v { holder = holder.Owner p } ≡ u = view-same _ u (sym now ∙ at) in (v, was, subst (IsNoticedView e q v) view (Other apart refl (inr idle)))
+      by (EntryNoticed v own was now) = let view : noticed_view v ≡ u = view-same _ u (sym now ∙ at) in (v, was, subst (IsNoticedView e q v) view (Own own refl))
 
   -- what is true of the view
   pub entry-still : (P Q : HereView → Type 0) → ((v u : HereView) → IsNoticedView e q v u → P v → Q u) → IsHereAnd x P → IsHereAnd y Q

@@ -40,9 +40,8 @@ use Rattle.world_meaning.specs.Fields.{At, value_of}
 use Rattle.world_meaning.specs.Invariant.{AreCounted, IsPacketRight}
 use Rattle.world_meaning.specs.Packets.{Each, IsBackOf, IsParcelFor, IsParcelOf, IsTakenOf, IsUnderWay, IsUnwantedOf, Links, one_if, over_kernels, sum_over, values_for, values_of}
 use Rattle.world_meaning.specs.StandsFor.{AreLinksOf, IsAskedOf, IsEndOf, IsInMessage, IsInwardOf, IsOutwardOf, IsOwnedHere, IsWaitingWith, entry_at, home_of, standing}
-use Rattle.answered_events.proofs.Meets.{there-here}
-use Rattle.calls_that_wait.proofs.Rested.{one-view}
-use Rattle.noticed_events.proofs.Noticed.{EndFreed, EndKept, EndNoticed, EntryFreed, EntryKept, EntryNoticed, IsNoticedEnd, IsNoticedEntry, IsNoticedView, end-living, entry-held, entry-is_here, entry-seen, entry-still, entry-was, holder-same, owner-same, view-inward, view-outward, view-own, view-value, view-waiting}
+use Rattle.world_meaning.proofs.Plain.{holder-same, owner-same, there-here, view-same}
+use Rattle.noticed_events.proofs.Noticed.{EndFreed, EndKept, EndNoticed, EntryFreed, EntryKept, EntryNoticed, IsNoticedEnd, IsNoticedEntry, IsNoticedView, end-living, entry-held, entry-is_here, entry-seen, entry-still, entry-was, view-inward, view-outward, view-own, view-value, view-waiting}
 use Rattle.noticed_events.proofs.NoticedClauses.{IsNoticing, now, after, sums, under}
 
 message-same : (e f : EndId) (n m : ℕ) → place.InMessage e n ≡ place.InMessage f m → e ≡ f
@@ -101,7 +100,7 @@ module _ {w : Links} {y : ℕ → EndId → Entry} {s : State} {t : EndId → En
     where
       by : IsNoticedEntry e p xs q (w.entry j q) (y j q) → (v : HereView) × (w.entry j q ≡ entry.Here v) × IsIdle v × (o ≡ record v { holder = holder.Owner p })
       by (EntryKept same others) = absurd (true≢false (sym among ∙ (others o (sym same ∙ at)).1))
-      by (EntryFreed v apart has idle was here) = (v, was, idle, one-view o _ (sym at ∙ here))
+      by (EntryFreed v apart has idle was here) = (v, was, idle, view-same o _ (sym at ∙ here))
       by (EntryNoticed v own was here) = absurd (true≢false (sym among ∙ subst (λ z. list_any (end_eq z) xs ≡ false) (end_eq-same e q own) is.none))
 
   -- ---- clause 2

@@ -57,11 +57,10 @@ use Rattle.world_meaning.specs.Fields.{Stand, At, Flying, HasFields, value_of}
 use Rattle.world_meaning.specs.Invariant.{AreRight}
 use Rattle.world_meaning.specs.Packets.{IsUnderWay, Links, values_of}
 use Rattle.world_meaning.specs.StandsFor.{AreLinksOf, IsAskedOf, IsEndOf, IsInMessage, IsInwardOf, IsOutwardOf, IsOwnedHere, IsWaitingWith, entry_at, home_of}
-use Rattle.answered_events.proofs.Meets.{there-here}
 use Rattle.calls_that_begin.proofs.Making.{value-of_end}
-use Rattle.calls_that_wait.proofs.Rested.{one-view}
 use Rattle.answered_events.proofs.World.{sound-same}
-use Rattle.noticed_events.proofs.Noticed.{EndFreed, EndKept, EndNoticed, EntryFreed, EntryKept, EntryNoticed, IsNoticedEnd, IsNoticedEntry, holder-same, owner-same}
+use Rattle.world_meaning.proofs.Plain.{holder-same, owner-same, there-here, view-same, withdrawing-so}
+use Rattle.noticed_events.proofs.Noticed.{EndFreed, EndKept, EndNoticed, EntryFreed, EntryKept, EntryNoticed, IsNoticedEnd, IsNoticedEntry}
 use Rattle.noticed_events.proofs.NoticedClauses.{IsNoticing, noticing-right}
 use Rattle.noticed_events.proofs.NoticedLinks.{noticing-links}
 
@@ -203,7 +202,7 @@ module _ (i : ℕ) (w : Links) (s : State) (right : AreRight i w s) (links : Are
 
   -- its view at any kernel is that
   only-view : (j : ℕ) (o : HereView) → w.entry j e ≡ entry.Here o → (j ≡ k) × (o ≡ v)
-  only-view j o at = let same = same-kernel e j k o v at here in (same, one-view o v (sym (subst (λ z. w.entry z e ≡ entry.Here o) same at) ∙ here))
+  only-view j o at = let same = same-kernel e j k o v at here in (same, view-same o v (sym (subst (λ z. w.entry z e ≡ entry.Here o) same at) ∙ here))
 
   stand-apart : Flying ≡ At k → ⊥
   stand-apart same = cc
@@ -536,12 +535,6 @@ module _ (i : ℕ) (w : Links) (s : State) (right : AreRight i w s) (links : Are
   module _ (alive : v.value.dead ≡ false) where
     unaware : x.noticed ≡ false
     unaware = sym ((right.counted e).dead (At k) v.value lives (ap value_of here)) ∙ alive
-
-    withdrawing-so : (o : KernelInward) → is_withdrawing o ≡ true → (r : ℕ) × (o ≡ kernel_inward.Withdrawing r)
-    withdrawing-so (kernel_inward.Withdrawing r) is = (r, refl)
-    withdrawing-so kernel_inward.Idle is = absurd (true≢false (sym is))
-    withdrawing-so (kernel_inward.Posted r) is = absurd (true≢false (sym is))
-    withdrawing-so kernel_inward.Unreported is = absurd (true≢false (sym is))
 
     cancelling-so : (a : Phase) → is_cancelling e a ≡ true → a ≡ phase.Cancelling e
     cancelling-so (phase.Cancelling f) is = ap phase.Cancelling (sym (end_eq-same e f (sym (eq-same e f) ∙ is)))

@@ -1,5 +1,5 @@
 -- A process that waits is told a report: that way of the report's end is idle, at its kernel and in the service. All clauses on links stay.
-use Rattle.std.proofs.Common.{◌≡◌, ◌≢◌, ◌⊎◌, inl, inr, ℕ, Bool, true, false, nat_eq, if◌then◌else◌, [], ◌∷◌, Contains, refl, sym, ap, subst, ◌∙◌, true≢false, eqb-true}
+use Rattle.std.proofs.Common.{◌≡◌, ◌≢◌, ◌⊎◌, inl, inr, ℕ, Bool, true, false, nat_eq, if◌then◌else◌, [], ◌∷◌, Contains, refl, sym, ap, subst, ◌∙◌, eqb-true}
 use Rattle.std.proofs.lemmas.Bool.Decides.{eqb_tells}
 use Rattle.charlotte_calls.specs.declared.calls.Report.{Report}
 use Rattle.charlotte_calls.specs.declared.names.EndId.{EndId}
@@ -11,21 +11,18 @@ use Rattle.end_table.specs.declared.entry.Entry.TheVariants as entry
 use Rattle.end_table.specs.declared.entry.HereView.{HereView}
 use Rattle.kernel_outcomes.specs.Closing.{told_entry}
 use Rattle.kernel_step.specs.Kernel.{reported_entry, reported_view}
-use Rattle.service_change.proofs.Change.{idle-over}
-use Rattle.service_change.proofs.EndEq.{puts-at, puts-other}
-use Rattle.service_change.proofs.Facts.{busy-made, put_process-at, put_process-other}
-use Rattle.service_lawful.specs.Consistent.{IsConsistent, is_over}
-use Rattle.service_step.specs.Ends.{is_idle, is_living, is_made}
+use Rattle.service_change.proofs.Facts.{put_process-at, put_process-other}
+use Rattle.service_lawful.specs.Consistent.{IsConsistent}
+use Rattle.service_step.specs.Ends.{is_living}
 use Rattle.service_step.specs.State.{Process, State, given, later}
 use Rattle.service_step.specs.Steps.{after_report}
 use Rattle.service_step.specs.declared.state.End.{End}
 use Rattle.service_step.specs.declared.state.Phase.TheVariants as phase
 use Rattle.service_step.specs.declared.state.Place.TheVariants as place
 use Rattle.calls_that_wait.proofs.Given.{AreTogether, links-given, right-given}
-use Rattle.calls_that_wait.proofs.Reports.{both-rest, idle-rested, idle_way, idles-is}
-use Rattle.calls_that_wait.proofs.Rested.{IsRested, IsRestedEntry, entry-rested, one-view}
-use Rattle.noticed_events.proofs.Noticed.{owner-same}
-use Rattle.world_meaning.proofs.Ends.{eq-same}
+use Rattle.calls_that_wait.proofs.Reports.{both-rest, idle_way, idled-other, idled-own, idled-rested, reported-over}
+use Rattle.calls_that_wait.proofs.Rested.{IsRested, IsRestedEntry, entry-rested}
+use Rattle.world_meaning.proofs.Plain.{owner-same, view-same}
 use Rattle.world_meaning.specs.Invariant.{AreRight}
 use Rattle.world_meaning.specs.Packets.{Links}
 use Rattle.world_meaning.specs.StandsFor.{AreLinksOf, IsEndOf, home_of}
@@ -48,30 +45,8 @@ module _ (w : Links) (s : State) (kept : IsConsistent s) (links : AreLinksOf w s
   abbrev pub now : Links
   now = record { entry = y; packets = w.packets }
 
-  over : is_over r.way (s.ends r.on) ≡ true
-  over = kept.reported.over p r there
-
-  made : is_made (s.ends r.on).place ≡ true
-  made = busy-made s r.on kept (by (is_idle (s.ends r.on)) refl)
-    where
-      by : (b : Bool) → is_idle (s.ends r.on) ≡ b → is_idle (s.ends r.on) ≡ false
-      by true idle = absurd (true≢false (sym over ∙ idle-over r.way (s.ends r.on) idle))
-      by false busy = busy
-
-  -- ---- the ends of the service
-
-  ends-own : t.ends r.on ≡ idle_way r.way (s.ends r.on)
-  ends-own = ap (λ (f : EndId → End). f r.on) (idles-is r.way r.on s.ends) ∙ puts-at r.on (idle_way r.way (s.ends r.on)) s.ends made
-
-  ends-other : (f : EndId) → end_eq r.on f ≡ false → t.ends f ≡ s.ends f
-  ends-other f apart = ap (λ (g : EndId → End). g f) (idles-is r.way r.on s.ends) ∙ puts-other r.on (idle_way r.way (s.ends r.on)) s.ends f (eq-same r.on f ∙ apart)
-
   end-is : (f : EndId) → IsRested (s.ends f) (t.ends f)
-  end-is f = by (end_eq r.on f) refl
-    where
-      by : (b : Bool) → end_eq r.on f ≡ b → IsRested (s.ends f) (t.ends f)
-      by true same = subst (λ z. IsRested (s.ends z) (t.ends z)) (end_eq-same r.on f same) (subst (IsRested (s.ends r.on)) (sym ends-own) (idle-rested r.way (s.ends r.on) over))
-      by false apart = subst (IsRested (s.ends f)) (sym (ends-other f apart)) (record { place = refl; sent = refl; noticed = refl; outward = inl refl; inward = inl refl })
+  end-is = idled-rested s kept p r there
 
   -- ---- the entries of kernels
 
@@ -104,8 +79,8 @@ module _ (w : Links) (s : State) (kept : IsConsistent s) (links : AreLinksOf w s
           let its : p ≡ q = owner-same p q (sym (kept.reported.own p r there (ap (λ z. is_living z) owned)) ∙ owned) in
           let agrees : IsEndOf w r.on v (s.ends r.on) = links.agree r.on q v owned here in
           let reported : y k r.on ≡ entry.Here (reported_view r.way v) = entry-own ∙ ap (reported_entry r.way) (subst (λ z. w.entry (home_of s z) r.on ≡ entry.Here v) (sym its) here) in
-          let view : u ≡ reported_view r.way v = one-view u (reported_view r.way v) (sym now ∙ subst (λ z. y (home_of s z) r.on ≡ entry.Here (reported_view r.way v)) its reported) in
-          subst (AreTogether v u (s.ends r.on)) (sym ends-own) (subst (λ z. AreTogether v z (s.ends r.on) (idle_way r.way (s.ends r.on))) (sym view) (both-rest w r.on r.way v (s.ends r.on) over agrees))
+          let view : u ≡ reported_view r.way v = view-same u (reported_view r.way v) (sym now ∙ subst (λ z. y (home_of s z) r.on ≡ entry.Here (reported_view r.way v)) its reported) in
+          subst (AreTogether v u (s.ends r.on)) (sym (idled-own s kept p r there)) (subst (λ z. AreTogether v z (s.ends r.on) (idle_way r.way (s.ends r.on))) (sym view) (both-rest w r.on r.way v (s.ends r.on) (reported-over s kept p r there) agrees))
 
       by : (b : Bool) → end_eq r.on f ≡ b → AreTogether v u (s.ends f) (t.ends f)
       by true same =
@@ -113,10 +88,10 @@ module _ (w : Links) (s : State) (kept : IsConsistent s) (links : AreLinksOf w s
           subst (λ z. AreTogether v u (s.ends z) (t.ends z)) is
           (mine (subst (λ z. (s.ends z).place ≡ place.Owned q) (sym is) owned) (subst (λ z. w.entry (home_of s q) z ≡ entry.Here v) (sym is) here) (subst (λ z. y (home_of s q) z ≡ entry.Here u) (sym is) now))
       by false apart =
-          let same : v ≡ u = one-view v u (sym here ∙ sym (entry-other (home_of s q) f apart) ∙ now) in
+          let same : v ≡ u = view-same v u (sym here ∙ sym (entry-other (home_of s q) f apart) ∙ now) in
           record {
-            outward = inl (ap (λ (z : HereView). z.outward) (sym same), ap (λ (z : End). z.outward) (ends-other f apart));
-            inward = inl (ap (λ (z : HereView). z.inward) (sym same), ap (λ (z : End). z.inward) (ends-other f apart));
+            outward = inl (ap (λ (z : HereView). z.outward) (sym same), ap (λ (z : End). z.outward) (idled-other s kept p r there f apart));
+            inward = inl (ap (λ (z : HereView). z.inward) (sym same), ap (λ (z : End). z.inward) (idled-other s kept p r there f apart));
           }
 
   -- ---- processes

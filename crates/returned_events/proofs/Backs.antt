@@ -56,7 +56,7 @@ use Rattle.silent_events.proofs.Clauses.{links-still}
 use Rattle.silent_events.proofs.Passing.{passing-right}
 use Rattle.silent_events.specs.Quiet.{IsPassed, IsPassing, IsQuiet, IsSentWell, tells_place}
 use Rattle.answered_events.proofs.Freed.{put-table-sound}
-use Rattle.answered_events.proofs.Meets.{IsOwnedAt, right-first, stands-first, there-here}
+use Rattle.answered_events.proofs.Meets.{IsOwnedAt, right-first, stands-first}
 use Rattle.answered_events.proofs.Swap.{swapped-changes}
 use Rattle.wanted_events.proofs.Parts as parts
 use Rattle.arrived_ends.specs.Arrived.{IsAmong, IsLaden, IsTrueMove, settles, without_values}
@@ -67,6 +67,7 @@ use Rattle.arrived_ends.proofs.Coming.{entry-came, here-landed, inside, landed, 
 use Rattle.arrived_ends.proofs.Landed.{landed-links, landed-right, named-value}
 use Rattle.arrived_ends.proofs.Moves.{moves-links, moves-right}
 use Rattle.arrived_ends.proofs.Values.{arrivals-true, same-value, settles-sound}
+use Rattle.world_meaning.proofs.Plain.{there-here}
 use Rattle.returned_events.specs.Returned.{IsReturned, IsReturning, over_view, returning}
 use Rattle.returned_events.proofs.Returned.{returned-links, returned-right}
 use Rattle.returned_events.proofs.Returns.{back, back-came, back-other}

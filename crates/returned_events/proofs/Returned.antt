@@ -28,7 +28,7 @@ use Rattle.service_step.specs.State.{Process, State}
 use Rattle.service_step.specs.declared.state.End.{End}
 use Rattle.service_step.specs.declared.state.Outward.TheVariants as outward
 use Rattle.service_step.specs.declared.state.Place.TheVariants as place
-use Rattle.world_effects.proofs.Allowed.{sum_over-least}
+use Rattle.world_effects.proofs.Allowed.{named-between, sum_over-least}
 use Rattle.world_effects.proofs.Ends.{inward-same, outward-same}
 use Rattle.world_effects.proofs.Lists.{none-there}
 use Rattle.world_effects.proofs.Packets.{each-after, left-after, left-before, left_or_sent, taken-before, under_way-still, under_way-was}
@@ -43,7 +43,7 @@ use Rattle.world_meaning.specs.Packets.{IsBackOf, IsParcelFor, IsParcelOf, IsTak
 use Rattle.world_meaning.specs.StandsFor.{AreLinksOf, IsEndOf, IsInMessage, IsWaitingWith, home_of, standing}
 use Rattle.silent_events.proofs.Alike.{some-same}
 use Rattle.silent_events.proofs.Places.{here-kernel}
-use Rattle.arrived_ends.proofs.Between.{kernels-below, none-in}
+use Rattle.world_meaning.proofs.Plain.{none-in}
 use Rattle.returned_events.specs.Returned.{IsReturned, IsReturning, bare_back, over_view, returning}
 
 module _ {i : ℕ} {w : Links} {c : Change} {from stamp : ℕ} {s : State} {to : EndId} {n : ℕ} {o : HereView} (ready : IsReturning i w c from stamp s to n o) (z : Links) (b : Changes w (returning c to o) z) (t : EndId → End) (g : ℕ → Process) (is : IsReturned s to t g) where
@@ -65,7 +65,7 @@ module _ {i : ℕ} {w : Links} {c : Change} {from stamp : ℕ} {s : State} {to :
   stood = taken-before b from q ready.taken
 
   between : (j h : ℕ) (a : Picture) → Contains (w.packets j h) a → (j < length s.made) × (h < length s.made)
-  between = kernels-below (length s.made) w s.ends ready.right.named
+  between = named-between ready.right.named
 
   near : (from < length s.made) × (k < length s.made)
   near = between from k q stood

@@ -59,11 +59,12 @@ use Rattle.world_meaning.specs.Packets.{links_of}
 use Rattle.silent_events.proofs.Alike.{some-same}
 use Rattle.silent_events.specs.Quiet.{IsGoneWell, IsSentWell, is_telling, tells_place}
 use Rattle.answered_events.proofs.Dropped.{awaits-matched}
-use Rattle.answered_events.proofs.Meets.{IsOwnedAt, there-here}
+use Rattle.answered_events.proofs.Meets.{IsOwnedAt}
 use Rattle.noticed_events.proofs.Gone.{both-each, cancel-cases}
 use Rattle.noticed_events.proofs.Notices.{cancels-same, notice-links, notice-right, notice-step, noticed_links, process-other, process-own, told-same}
 use Rattle.arrived_ends.proofs.Closes.{answered-goes, reported-goes}
 use Rattle.arrived_ends.proofs.Owned.{busy-owned}
+use Rattle.world_meaning.proofs.Plain.{there-here}
 use Rattle.returned_events.proofs.Backs.{IsBase, back_does, below-home, coming, gone, happened, links-then, near, next, right, right-then, sound-then, view-end}
 use Rattle.returned_events.proofs.Returns.{back-another, back-first, back-noticed, back-own, may-return}
 

@@ -1,5 +1,5 @@
 -- A quiet event keeps each clause on links, but for what was heard and what is asked, which are for each event.
-use Rattle.std.proofs.Common.{◌≡◌, ◌≢◌, ◌⊎◌, ◌↔◌, inl, inr, ℕ, ◌+◌, ◌≤◌, Bool, true, false, nat_eq, List, [], ◌∷◌, length, Contains, refl, sym, ap, subst, ◌∙◌, arith, true≢false, ne_eqb}
+use Rattle.std.proofs.Common.{◌≡◌, ◌≢◌, ◌⊎◌, ◌↔◌, inl, inr, ℕ, ◌+◌, ◌≤◌, Bool, true, false, nat_eq, ◌∷◌, length, Contains, refl, sym, ap, subst, ◌∙◌, arith, true≢false, ne_eqb}
 use Rattle.std.proofs.lemmas.Bool.Decides.{eqb_tells}
 use Rattle.charlotte_calls.specs.Names.{opposite}
 use Rattle.charlotte_calls.specs.Packets.{is_addressed}
@@ -22,10 +22,11 @@ use Rattle.service_step.specs.State.{State}
 use Rattle.service_step.specs.declared.state.End.{End}
 use Rattle.world_effects.proofs.Aside.{none-taken, sent-each}
 use Rattle.world_effects.proofs.Ends.{all_sent-weaker, inward-same, outward-same, taken-weaker}
-use Rattle.world_effects.proofs.Lists.{first, none-there}
+use Rattle.world_effects.proofs.Lists.{none-there}
 use Rattle.world_effects.proofs.Packets.{each-after, left-before, left_or_sent, under_way-still, under_way-was}
 use Rattle.world_effects.proofs.Sums.{sum_over-same}
 use Rattle.world_effects.specs.Change.{Change, Changes}
+use Rattle.world_meaning.proofs.Plain.{none-in}
 use Rattle.world_meaning.proofs.Sums.{over-same}
 use Rattle.world_meaning.specs.Fields.{Stand, At, Flying, HasFields, IsAskedAs, IsHeard, IsNoMore}
 use Rattle.world_meaning.specs.Invariant.{AreAsked, AreCounted, AreMarked, AreNamed, AreRight, AreSentOnce, AreWanted, IsFew, IsHereIfLiving, IsHonest, IsPacketRight, IsUnwantedOnce, IsServed, NamesBelow, is_message_of, is_taken_of, is_unwanted_to}
@@ -33,11 +34,6 @@ use Rattle.world_meaning.specs.Packets.{Each, IsBackOf, IsParcelFor, IsParcelOf,
 use Rattle.world_meaning.specs.StandsFor.{AreLinksOf, IsEndOf, IsInMessage, IsInwardOf, IsOutwardOf, IsWaitingWith, entry_at, home_of, standing}
 use Rattle.silent_events.specs.Quiet.{IsAlike, IsGoneWell, IsQuiet, IsQuietly, IsSentWell, IsViewAlike, is_telling}
 use Rattle.silent_events.proofs.Alike.{IsQuietly-same, back-tells, here-still, here-was, is_here-same, mark-was, message-quiet, parcel-tells, parcel_for-tells, taken-quiet, taken-tells, unwanted-quiet, unwanted-tells, value-tells, value-was, values-quiet, view-was}
-
--- a list in which nothing stands
-none-in : {X : Type 0} (xs : List X) → ((x : X) → Contains xs x → ⊥) → xs ≡ []
-none-in [] none = refl
-none-in (x ∷ xs) none = absurd (none x (first x xs))
 
 -- the gone that was sent is right, and other packets that were sent have no clause
 sent-right : (w : Links) (t : EndId → End) (from to : ℕ) (what : PictureWhat) → is_telling what ≡ false → IsGoneWell t what → IsPacketRight w t from to what

@@ -19,6 +19,7 @@ use Rattle.world_effects.proofs.Packets.{left-was, taken-was, under_way-after}
 use Rattle.world_effects.specs.Change.{Change, Changes}
 use Rattle.world_effects.specs.Under.{IsLeft, IsSent, IsTaken}
 use Rattle.world_meaning.proofs.Ends.{opposite-twice}
+use Rattle.world_meaning.proofs.Plain.{there-here}
 use Rattle.world_meaning.specs.Fields.{Stand, At, Flying, HasFields, IsAskedAs, IsAsking, IsHeard, IsNews, IsNoMore, IsUnserved, IsUnwantOf, value_of}
 use Rattle.world_meaning.specs.Invariant.{AreRight, AreWanted}
 use Rattle.world_meaning.specs.Packets.{IsUnderWay, Links}
@@ -53,10 +54,6 @@ live-unwant k v t r _ live is = absurd is
 
 here-there : (x : Entry) (v : HereView) (P : HereView → Type 0) → x ≡ entry.Here v → P v → IsHereAnd x P
 here-there x v P is has = subst (λ z. IsHereAnd z P) (sym is) has
-
-there-here : (x : Entry) (P : HereView → Type 0) → IsHereAnd x P → (v : HereView) × (x ≡ entry.Here v) × P v
-there-here (entry.Here v) P has = (v, refl, has)
-there-here _ P has = absurd has
 
 module _ {w u : Links} {c : Change} (b : Changes w c u) (s : State) (quiet : IsQuiet (length s.made) s.ends w c) (learning : IsLearning w c) (i : ℕ) (is : AreRight i w s) (links : AreLinksOf w s) (few : length s.made ≤ 8) where
   abbrev k : ℕ

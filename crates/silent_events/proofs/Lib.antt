@@ -7,3 +7,4 @@ pub mod Taking
 pub mod Places
 pub mod Learning
 pub mod Hearing
+pub mod Sound

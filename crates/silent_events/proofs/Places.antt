@@ -1,12 +1,9 @@
 -- An end that is here at a kernel is nowhere else.
-use Rattle.std.proofs.Common.{◌≡◌, ◌≢◌, ◌⊎◌, inl, inr, ℕ, ◌+◌, ◌<◌, ◌≤◌, Bool, true, false, nat_eq, nat_lt, if◌then◌else◌, List, [], ◌∷◌, Contains, Some, refl, sym, ap, subst, ◌∙◌, arith, true≢false, ltb-true, ltb-false, eq-eqb, ne_eqb}
+use Rattle.std.proofs.Common.{◌≡◌, ◌≢◌, ◌⊎◌, inl, inr, ℕ, ◌+◌, ◌<◌, ◌≤◌, Bool, true, false, nat_eq, nat_lt, if◌then◌else◌, [], ◌∷◌, Contains, Some, refl, sym, ap, subst, ◌∙◌, arith, true≢false, ltb-true, ltb-false, eq-eqb, ne_eqb}
 use Rattle.std.proofs.lemmas.Bool.Decides.{eqb_tells}
 use Rattle.charlotte_calls.specs.declared.names.EndId.{EndId}
 use Rattle.charlotte_calls.specs.declared.picture.MovingPicture.{MovingPicture}
 use Rattle.charlotte_calls.specs.declared.picture.Picture.{Picture}
-use Rattle.charlotte_calls.specs.declared.picture.PictureWhat.{PictureWhat}
-use Rattle.end_table.proofs.EndEq.{end_eq-refl}
-use Rattle.end_table.specs.Place.{end_eq}
 use Rattle.end_table.specs.declared.entry.Entry.{Entry}
 use Rattle.end_table.specs.declared.entry.Entry.TheVariants as entry
 use Rattle.end_table.specs.declared.entry.HereView.{HereView}
@@ -14,11 +11,14 @@ use Rattle.kernel_step.specs.Rows.{is_here}
 use Rattle.service_step.specs.Ends.{is_living}
 use Rattle.service_step.specs.declared.state.End.{End}
 use Rattle.service_step.specs.declared.state.Place.{Place}
-use Rattle.world_effects.proofs.Lists.{first_or_later, none-there}
+use Rattle.world_effects.proofs.Allowed.{sum_over-least}
+use Rattle.world_effects.proofs.Lists.{none-there}
+use Rattle.world_effects.proofs.Values.{values-least}
+use Rattle.world_meaning.proofs.Plain.{at_most_one}
 use Rattle.world_meaning.proofs.Sums.{over-change, over-least}
 use Rattle.world_meaning.specs.Fields.{Stand, At, Flying, HasFields, value_of}
 use Rattle.world_meaning.specs.Invariant.{AreMarked, AreNamed}
-use Rattle.world_meaning.specs.Packets.{Links, one_if, over_kernels, sum_in, sum_over, values_for, values_of}
+use Rattle.world_meaning.specs.Packets.{Links, one_if, over_kernels, sum_over, values_for, values_of}
 use Rattle.world_meaning.specs.StandsFor.{entry_at, standing}
 use Rattle.silent_events.proofs.Alike.{some-same}
 
@@ -31,34 +31,6 @@ over-two f j k low below apart =
     let same : g j ≡ f j = ap (λ b. if b then 0 else f j) (ne_eqb j k apart) in
     let least : g j ≤ over_kernels g = over-least g j low in
     omega (arith, change, none, same, least)
-
-sum_in-least : (f : PictureWhat → ℕ) (qs : List Picture) (q : Picture) → Contains qs q → f q.what ≤ sum_in f qs
-sum_in-least f [] q has = absurd (none-there q has)
-sum_in-least f (p ∷ ps) q has = by (sum_in-least f ps q) (first_or_later p ps q has)
-  where
-    by : (Contains ps q → f q.what ≤ sum_in f ps) → (p ≡ q) ⊎ Contains ps q → f q.what ≤ f p.what + sum_in f ps
-    by rest (inl is) = let same : f p.what ≡ f q.what = ap (λ (z : Picture). f z.what) is in omega (arith, same)
-    by rest (inr later) = let least = rest later in omega (arith, least)
-
-sum_over-least : (f : PictureWhat → ℕ) (w : Links) (from to : ℕ) (q : Picture) → from < 8 → to < 8 → Contains (w.packets from to) q → f q.what ≤ sum_over f w
-unfolding sum_over
-sum_over-least f w from to q low below has =
-    let one = sum_in-least f (w.packets from to) q has in
-    let two = over-least (λ to. sum_in f (w.packets from to)) to below in
-    let three = over-least (λ from. over_kernels (λ to. sum_in f (w.packets from to))) from low in
-    omega (arith, one, two, three)
-
-values-least : (e : EndId) (ms : List MovingPicture) (m : MovingPicture) → m.end ≡ e → Contains ms m → 1 ≤ values_for e ms
-values-least e [] m of has = absurd (none-there m has)
-values-least e (x ∷ xs) m of has = by (values-least e xs m of) (first_or_later x xs m has)
-  where
-    by : (Contains xs m → 1 ≤ values_for e xs) → (x ≡ m) ⊎ Contains xs m → 1 ≤ one_if (end_eq e x.end) + values_for e xs
-    by rest (inl is) = let one : one_if (end_eq e x.end) ≡ 1 = ap one_if (ap (λ (z : MovingPicture). end_eq e z.end) is ∙ ap (end_eq e) of ∙ end_eq-refl e) in omega (arith, one)
-    by rest (inr later) = let least = rest later in omega (arith, least)
-
-at_most_one : (b : Bool) → one_if b ≤ 1
-at_most_one true = omega arith
-at_most_one false = omega arith
 
 module _ (n : ℕ) (w : Links) (t : EndId → End) (few : n ≤ 8) (named : AreNamed n w t) (marked : (e : EndId) → AreMarked w t e) (once : (e : EndId) → standing w e ≡ one_if (is_living (t e).place)) where
   kernel-below : (k : ℕ) (e : EndId) (v : HereView) → entry_at w k e ≡ entry.Here v → k < 8

@@ -1,6 +1,6 @@
 -- Where what an end keeps of the receives of its opposite changes, most clauses stay: entries are as they were but for that, and
 -- packets but for unwanteds.
-use Rattle.std.proofs.Common.{◌≡◌, ◌≢◌, ◌⊎◌, ◌↔◌, inl, inr, ℕ, ◌<◌, ◌≤◌, Bool, true, false, nat_eq, ◌&&◌, if◌then◌else◌, List, [], ◌∷◌, Contains, Option, None, Some, IfSome, is_some, refl, sym, ap, subst, ◌∙◌, arith, true≢false, ne_eqb, lt-ltb}
+use Rattle.std.proofs.Common.{◌≡◌, ◌≢◌, ◌⊎◌, ◌↔◌, inl, inr, ℕ, ◌<◌, ◌≤◌, Bool, true, false, nat_eq, ◌&&◌, if◌then◌else◌, ◌∷◌, Contains, Option, None, Some, IfSome, is_some, refl, sym, ap, subst, ◌∙◌, arith, true≢false, ne_eqb, lt-ltb}
 use Rattle.std.proofs.lemmas.Bool.Decides.{eqb_tells}
 use Rattle.charlotte_calls.specs.Names.{opposite}
 use Rattle.charlotte_calls.specs.Packets.{is_addressed, names_kernels_below}
@@ -30,7 +30,7 @@ use Rattle.service_step.specs.declared.state.Place.{Place}
 use Rattle.service_step.specs.declared.state.Place.TheVariants as place
 use Rattle.world_effects.proofs.Aside.{sent-each}
 use Rattle.world_effects.proofs.Ends.{all_sent-weaker, outward-same}
-use Rattle.world_effects.proofs.Lists.{first, none-there}
+use Rattle.world_effects.proofs.Lists.{none-there}
 use Rattle.world_effects.proofs.Packets.{each-after, left-before, left-was, left_or_sent, under_way-after, under_way-still, under_way-was}
 use Rattle.world_effects.proofs.Sums.{sum_over-same}
 use Rattle.world_effects.specs.Change.{Change, Changes}
@@ -42,12 +42,8 @@ use Rattle.world_meaning.specs.Invariant.{AreAsked, AreCounted, AreMarked, AreNa
 use Rattle.world_meaning.specs.Packets.{IsBackOf, IsParcelFor, IsParcelOf, IsTakenOf, IsUnderWay, Links, how_many, one_if, over_kernels, sum_over, values_for, values_of}
 use Rattle.world_meaning.specs.StandsFor.{AreLinksOf, IsEndOf, IsInMessage, IsInwardOf, IsOutwardOf, IsWaitingWith, entry_at, home_of, standing}
 use Rattle.silent_events.proofs.Alike.{some-same}
+use Rattle.world_meaning.proofs.Plain.{none-in}
 use Rattle.wanted_events.specs.Anew.{IsAnew, IsLike, IsVoidOf}
-
--- a list in which nothing stands
-none-in : {X : Type 0} (xs : List X) → ((x : X) → Contains xs x → ⊥) → xs ≡ []
-none-in [] none = refl
-none-in (x ∷ xs) none = absurd (none x (first x xs))
 
 -- ---- unwanteds are none of these
 

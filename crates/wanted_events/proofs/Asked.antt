@@ -10,20 +10,18 @@ use Rattle.charlotte_calls.specs.declared.picture.PictureWhat.{PictureWhat}
 use Rattle.charlotte_calls.specs.declared.picture.PictureWhat.TheVariants as packet
 use Rattle.end_table.proofs.EndEq.{end_eq-same}
 use Rattle.end_table.specs.Table.{IfHere, IsHereAnd}
-use Rattle.end_table.specs.declared.entry.Entry.{Entry}
 use Rattle.end_table.specs.declared.entry.Entry.TheVariants as entry
 use Rattle.end_table.specs.declared.entry.HereView.{HereView}
 use Rattle.end_table.specs.declared.entry.Holder.{Holder}
 use Rattle.end_table.specs.declared.entry.Holder.TheVariants as holder
-use Rattle.end_table.specs.declared.entry.Inward.{Inward as KernelInward}
 use Rattle.end_table.specs.declared.entry.Inward.TheVariants as kernel_inward
 use Rattle.kernel_sound.specs.Sound.{IsHeldWell}
 use Rattle.kernel_step.specs.Actions.{is_withdrawing}
+use Rattle.service_change.proofs.Facts.{posted-Posted}
 use Rattle.service_lawful.specs.Consistent.{IsConsistent, is_open}
-use Rattle.service_step.specs.Ends.{is_living, is_posted, is_started_inward}
+use Rattle.service_step.specs.Ends.{is_living, is_started_inward}
 use Rattle.service_step.specs.State.{State}
 use Rattle.service_step.specs.declared.state.End.{End}
-use Rattle.service_step.specs.declared.state.Inward.{Inward}
 use Rattle.service_step.specs.declared.state.Inward.TheVariants as inward
 use Rattle.service_step.specs.declared.state.Phase.TheVariants as phase
 use Rattle.service_step.specs.declared.state.Place.TheVariants as place
@@ -34,26 +32,10 @@ use Rattle.world_meaning.specs.Invariant.{AreRight, IsPacketRight, is_unwanted_t
 use Rattle.world_meaning.specs.Packets.{IsParcelFor, IsUnderWay, IsUnwantedOf, Links, how_many, one_if, sum_in, sum_over}
 use Rattle.world_meaning.specs.StandsFor.{AreLinksOf, IsEndOf, IsInwardOf, entry_at, home_of}
 use Rattle.silent_events.proofs.Places.{fields-here, here-kernel, here-living}
-
-pub there-here : (x : Entry) (P : HereView → Type 0) → IsHereAnd x P → (v : HereView) × (x ≡ entry.Here v) × P v
-there-here (entry.Here v) P has = (v, refl, has)
-there-here _ P has = absurd has
+use Rattle.world_meaning.proofs.Plain.{there-here, withdrawing-so}
 
 open-so : (x : End) → is_living x.place ≡ true → x.noticed ≡ false → is_open x ≡ true
 open-so x lives unaware = ap (λ z. z && (if x.noticed then false else true)) lives ∙ ap (λ z. if z then false else true) unaware
-
-pub posted-so : (x : Inward) → is_posted x ≡ true → x ≡ inward.Posted
-posted-so inward.Posted is = refl
-posted-so inward.Idle is = absurd (true≢false (sym is))
-posted-so inward.Withdrawn is = absurd (true≢false (sym is))
-posted-so (inward.Matched n) is = absurd (true≢false (sym is))
-posted-so inward.Reported is = absurd (true≢false (sym is))
-
-withdrawing-so : (x : KernelInward) → is_withdrawing x ≡ true → (r : ℕ) × (x ≡ kernel_inward.Withdrawing r)
-withdrawing-so (kernel_inward.Withdrawing r) is = (r, refl)
-withdrawing-so kernel_inward.Idle is = absurd (true≢false (sym is))
-withdrawing-so (kernel_inward.Posted r) is = absurd (true≢false (sym is))
-withdrawing-so kernel_inward.Unreported is = absurd (true≢false (sym is))
 
 -- an end whose receive is being withdrawn has an owner
 owner-so : (n : ℕ) (y : HereView) (r : ℕ) (h : Holder) → IsHeldWell n y h → y.inward ≡ kernel_inward.Withdrawing r → (p : Pid) × (h ≡ holder.Owner p)
@@ -105,7 +87,7 @@ module _ (i : ℕ) (w : Links) (s : State) (right : AreRight i w s) (links : Are
         unserved = inr (low, asking)
 
         pub posted : (s.ends other).inward ≡ inward.Posted
-        posted = posted-so (s.ends other).inward ((right.wanted mine).posted (At k) v.value r at hops opened had unserved)
+        posted = posted-Posted (s.ends other).inward ((right.wanted mine).posted (At k) v.value r at hops opened had unserved)
 
         pub only : (q j h : ℕ) → IsUnserved w mine v.value q j h → q ≡ r
         only q j h asks = (right.wanted mine).same (At k) v.value r at hops q j h opened had unserved asks

@@ -1,11 +1,10 @@
 -- MATCH at an open end that is here: a receive of its opposite is asked of it and not served, and a send of it waits. The service may
 -- match the two, and where the opposite lives the message meets its receive.
-use Rattle.std.proofs.Common.{◌≡◌, ◌⊎◌, inl, inr, ℕ, ◌≤◌, Bool, true, false, nat_eq, ◌&&◌, not, List, [], ◌∷◌, length, Contains, is_some, refl, sym, ap, subst, ◌∙◌, true≢false, eq-eqb}
+use Rattle.std.proofs.Common.{◌≡◌, ◌⊎◌, inl, inr, ℕ, ◌≤◌, Bool, true, false, nat_eq, ◌&&◌, not, List, ◌∷◌, length, Contains, is_some, refl, sym, ap, subst, ◌∙◌, true≢false, eq-eqb}
 use Rattle.charlotte_calls.specs.Names.{opposite}
 use Rattle.charlotte_calls.specs.declared.calls.ServiceStep.TheVariants as step
 use Rattle.charlotte_calls.specs.declared.names.EndId.{EndId}
 use Rattle.charlotte_calls.specs.declared.names.Pid.{Pid}
-use Rattle.charlotte_calls.specs.declared.picture.MovingPicture.{MovingPicture}
 use Rattle.charlotte_calls.specs.declared.picture.PictureWhat.{PictureWhat}
 use Rattle.end_table.specs.Table.{IfHere, IsHereAnd}
 use Rattle.end_table.specs.declared.entry.Entry.TheVariants as entry
@@ -16,6 +15,7 @@ use Rattle.end_table.specs.declared.entry.Inward.TheVariants as kernel_inward
 use Rattle.end_table.specs.declared.entry.Outward.TheVariants as kernel_outward
 use Rattle.kernel_sound.specs.Sound.{IsHeldWell}
 use Rattle.kernel_step.specs.Rows.{ends_in}
+use Rattle.service_change.proofs.Facts.{posted-Posted}
 use Rattle.service_lawful.specs.Consistent.{IsConsistent, is_open}
 use Rattle.service_step.specs.Ends.{is_idle, is_idle_inward, is_idle_outward, is_living, is_posted, is_taken, matched_message, matches, waiting_message}
 use Rattle.service_step.specs.State.{State}
@@ -26,27 +26,15 @@ use Rattle.service_step.specs.declared.state.Outward.{Outward}
 use Rattle.service_step.specs.declared.state.Outward.TheVariants as outward
 use Rattle.service_step.specs.declared.state.Place.{Place}
 use Rattle.service_step.specs.declared.state.Place.TheVariants as place
-use Rattle.world_effects.proofs.Lists.{first, first_or_later, later, none-there}
 use Rattle.world_meaning.specs.Fields.{At, Flying, IsAskedAs, IsUnserved}
 use Rattle.world_meaning.specs.Invariant.{AreRight, is_message_of, is_taken_of}
 use Rattle.world_meaning.specs.Packets.{IsUnderWay, Links, how_many, one_if, values_of}
 use Rattle.world_meaning.specs.StandsFor.{AreLinksOf, IsEnclosed, IsInMessage, IsInwardOf, IsOutwardOf, entry_at, home_of}
 use Rattle.silent_events.proofs.Places.{here-kernel}
+use Rattle.world_effects.proofs.Values.{value-found}
+use Rattle.world_meaning.proofs.Plain.{there-here, waiting-so}
 use Rattle.wanted_events.proofs.Anew.{view_or}
-use Rattle.wanted_events.proofs.Asked.{had, lives, opened, own-fields, posted-so, there-here, unaware}
-
--- the value of an end that is among some
-pub value-found : (e : EndId) (ms : List MovingPicture) → Contains (ends_in ms) e → (m : MovingPicture) × Contains ms m × (m.end ≡ e)
-value-found e [] has = absurd (none-there e has)
-value-found e (m ∷ ms) has = by (value-found e ms) (first_or_later m.end (ends_in ms) e has)
-  where
-    by : (Contains (ends_in ms) e → (o : MovingPicture) × Contains ms o × (o.end ≡ e)) → (m.end ≡ e) ⊎ Contains (ends_in ms) e → (o : MovingPicture) × Contains (m ∷ ms) o × (o.end ≡ e)
-    by rest (inl is) = (m, first m ms, is)
-    by rest (inr has) = let o = rest has in (o.0, later m ms o.0 o.1, o.2)
-
-waiting-so : (w : Links) (e : EndId) (m n : ℕ) (bytes : List ℕ) (xs : List EndId) (o : Outward) → IsOutwardOf w e m (kernel_outward.Waiting n bytes xs) o → (n ≡ m) × (o ≡ outward.Waiting (record { bytes = bytes; carried = xs }))
-waiting-so w e m n bytes xs (outward.Waiting message) is = (is.0, ap outward.Waiting is.1)
-waiting-so w e m n bytes xs _ is = absurd is
+use Rattle.wanted_events.proofs.Asked.{had, lives, opened, own-fields, unaware}
 
 idle-posted : (x : End) → is_idle x ≡ true → x.inward ≡ inward.Posted → ⊥
 idle-posted x idle posts = by (is_idle_outward x.outward) (ap (λ z. is_idle_outward x.outward && is_idle_inward z) (sym posts) ∙ idle)
@@ -73,7 +61,7 @@ module _ (i : ℕ) (w : Links) (s : State) (right : AreRight i w s) (links : Are
     open-here = opened i w s right links kept few k v here alive
 
     pub receives : (s.ends other).inward ≡ inward.Posted
-    receives = posted-so (s.ends other).inward ((right.wanted mine).posted (At k) v.value r j h open-here (had i w s right links kept few k v here) asked)
+    receives = posted-Posted (s.ends other).inward ((right.wanted mine).posted (At k) v.value r j h open-here (had i w s right links kept few k v here) asked)
 
     -- a message that goes where it is asked for meets its receive
     pub meets : is_living (s.ends other).place ≡ true → IsHereAnd (entry_at w j other) (λ x. IsAskedAs r x.inward)

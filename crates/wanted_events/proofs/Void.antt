@@ -14,14 +14,14 @@ use Rattle.end_table.specs.declared.entry.HereView.{HereView}
 use Rattle.end_table.specs.declared.entry.Inward.TheVariants as kernel_inward
 use Rattle.kernel_effects.specs.Effect.{puts, stays}
 use Rattle.kernel_sound.specs.Sound.{IsHeldWell}
+use Rattle.service_change.proofs.Change.{living-made}
 use Rattle.service_change.proofs.EndEq.{puts-at, puts-other, end_eq-refl as service_refl}
 use Rattle.service_lawful.specs.Consistent.{IsConsistent, is_open}
-use Rattle.service_step.specs.Ends.{is_living, is_made, is_posted, owner, turns_inward}
+use Rattle.service_step.specs.Ends.{is_made, is_posted, owner, turns_inward}
 use Rattle.service_step.specs.State.{State, is_cancelling, owner_cancels}
 use Rattle.service_step.specs.Steps.{may_withdraw}
 use Rattle.service_step.specs.declared.state.End.{End}
 use Rattle.service_step.specs.declared.state.Inward.TheVariants as inward
-use Rattle.service_step.specs.declared.state.Place.{Place}
 use Rattle.service_step.specs.declared.state.Place.TheVariants as place
 use Rattle.world_effects.proofs.Ends.{inward-same}
 use Rattle.world_effects.proofs.Lists.{first, only-there}
@@ -37,12 +37,6 @@ use Rattle.silent_events.proofs.Places.{here-kernel}
 use Rattle.wanted_events.specs.Anew.{IsAnew, IsVoidOf}
 use Rattle.wanted_events.proofs.Anew.{anew-other, anew-own, asked-anew, counted-anew, few-anew, honest-anew, is-still, links-anew, living-was, marked-anew, named-anew, noticed-same, number-same, once-anew, open-same, right-anew, seen, under-same, under-was, view_or, void-parcel_for, withdrawing-still}
 use Rattle.wanted_events.proofs.Asked.{cancels, had, last-of, none-void, only, opened, other-lives, own-fields, owned, pid, posted, there, view, withdrawing}
-
-living-made : (x : Place) → is_living x ≡ true → is_made x ≡ true
-living-made (place.Owned p) is = refl
-living-made (place.InMessage f n) is = refl
-living-made place.Destroyed is = absurd (true≢false (sym is))
-living-made place.Unmade is = absurd (true≢false (sym is))
 
 pub void-asks : (k : ℕ) (v : HereView) (e : EndId) (q j h : ℕ) (what : PictureWhat) → IsVoidOf k v what → IsAsking e q j h what → ⊥
 void-asks k v e q j h (packet.Unwanted to w at hops) is has = has

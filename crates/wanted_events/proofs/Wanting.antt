@@ -49,7 +49,8 @@ use Rattle.silent_events.proofs.Taking.{happens-so, table-is, taken-well}
 use Rattle.silent_events.specs.Learning.{IsLearning}
 use Rattle.silent_events.specs.Quiet.{IsQuiet}
 use Rattle.silent_events.specs.Silent.{IsStill}
-use Rattle.wanted_events.proofs.Asked.{only, opened, posted, there-here, unserved}
+use Rattle.world_meaning.proofs.Plain.{there-here}
+use Rattle.wanted_events.proofs.Asked.{only, opened, posted, unserved}
 use Rattle.wanted_events.proofs.Kept.{keeping, keeps, links-kept, right-kept}
 use Rattle.wanted_events.proofs.Parts.{halfway, taking-part, taking_first, untaken-part}
 use Rattle.wanted_events.proofs.World.{invariant-anew, sound-view}

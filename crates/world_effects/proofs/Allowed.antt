@@ -29,8 +29,10 @@ use Rattle.kernel_step.specs.Rows.{ends_in}
 use Rattle.kernel_world.specs.World.{World, Calls, Takes}
 use Rattle.service_step.specs.Ends.{is_living}
 use Rattle.service_step.specs.State.{State}
+use Rattle.service_step.specs.declared.state.End.{End}
+use Rattle.world_meaning.proofs.Plain.{at_most_one}
 use Rattle.world_meaning.proofs.Sums.{over-least}
-use Rattle.world_meaning.specs.Invariant.{Invariant}
+use Rattle.world_meaning.specs.Invariant.{AreNamed, Invariant}
 use Rattle.world_meaning.specs.Packets.{Links, links_of, one_if, over_kernels, sum_in, sum_over, values_for, values_of}
 use Rattle.world_meaning.specs.StandsFor.{standing}
 use Rattle.world_effects.specs.Change.{Happens}
@@ -84,21 +86,18 @@ same-values (packet.Parcel to n w at hops bytes ms) = refl
 same-values (packet.Back to n ms) = refl
 same-values _ = refl
 
+-- packets go between kernels that there are
+pub named-between : {n : ℕ} {w : Links} {t : EndId → End} → AreNamed n w t → (from to : ℕ) (q : Picture) → Contains (w.packets from to) q → (from < n) × (to < n)
+named-between {n} {w} named from to q has = (by from (λ far. named.lists from to (inl far)) (leb_tells n from), by to (λ far. named.lists from to (inr far)) (leb_tells n to))
+  where
+    by : (a : ℕ) → (n ≤ a → w.packets from to ≡ []) → ((nat_le n a ≡ true) × (n ≤ a)) ⊎ ((nat_le n a ≡ false) × (a < n)) → a < n
+    by a none (inl far) = absurd (none-there q (subst (λ l. Contains l q) (none far.1) has))
+    by a none (inr near) = near.1
+
 module _ {i : ℕ} {w : World} {s : State} (is : Invariant i w s) where
   -- packets go between kernels that there are
   pub between : (from to : ℕ) (q : Picture) → Contains (w.packets from to) q → (from < length s.made) × (to < length s.made)
-  between from to q has = (first (leb_tells (length s.made) from), second (leb_tells (length s.made) to))
-    where
-      none : w.packets from to ≡ [] → ⊥
-      none empty = none-there q (subst (λ l. Contains l q) empty has)
-
-      first : ((nat_le (length s.made) from ≡ true) × (length s.made ≤ from)) ⊎ ((nat_le (length s.made) from ≡ false) × (from < length s.made)) → from < length s.made
-      first (inl far) = absurd (none (is.links.named.lists from to (inl far.1)))
-      first (inr near) = near.1
-
-      second : ((nat_le (length s.made) to ≡ true) × (length s.made ≤ to)) ⊎ ((nat_le (length s.made) to ≡ false) × (to < length s.made)) → to < length s.made
-      second (inl far) = absurd (none (is.links.named.lists from to (inr far.1)))
-      second (inr near) = near.1
+  between = named-between is.links.named
 
   -- the ends that a packet brings are different
   pub brings-different : (from to : ℕ) (q : Picture) → Contains (w.packets from to) q → AreDifferent (ends_in (values_in q.what))
@@ -111,12 +110,8 @@ module _ {i : ℕ} {w : World} {s : State} (is : Invariant i w s) where
           let here : values_for e (values_of q.what) ≤ sum_over (λ z. values_for e (values_of z)) (links_of w)
           = sum_over-least (λ z. values_for e (values_of z)) (links_of w) from to q (omega (arith, near.0, is.setting.few)) (omega (arith, near.1, is.setting.few)) has in
           let once : standing (links_of w) e ≡ one_if (is_living (s.ends e).place) = is.stands.links.once e in
-          let one : one_if (is_living (s.ends e).place) ≤ 1 = at_most (is_living (s.ends e).place) in
+          let one : one_if (is_living (s.ends e).place) ≤ 1 = at_most_one (is_living (s.ends e).place) in
           omega (arith, here, once, one)
-        where
-          at_most : (b : Bool) → one_if b ≤ 1
-          at_most true = omega arith
-          at_most false = omega arith
 
   -- the table of each kernel is sound by its own number
   sound-at : (k : ℕ) → IsSound (w.kernel k).number (w.kernel k).made (length s.homes) (w.kernel k).table

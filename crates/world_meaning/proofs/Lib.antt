@@ -1,4 +1,5 @@
 pub mod Sums
+pub mod Plain
 pub mod Ends
 pub mod Goes
 pub mod Rows
