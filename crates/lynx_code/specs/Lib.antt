@@ -1,0 +1,3 @@
+pub mod Generation
+pub mod Modules
+pub mod Listing

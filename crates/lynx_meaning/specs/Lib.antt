@@ -1,0 +1,6 @@
+pub mod Values
+pub mod Courses
+pub mod Expressions
+pub mod Source
+pub mod Code
+pub mod Agree

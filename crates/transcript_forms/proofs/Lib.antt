@@ -1,0 +1,6 @@
+mod Lines
+mod Packets
+pub mod Spelled
+mod Steps
+mod Taking
+mod Values

@@ -1,0 +1,5 @@
+mod Agree
+mod Clauses
+mod Later
+mod Texts
+mod Told

@@ -1,0 +1,18 @@
+//! Reading of transcripts, line by line: which line each is, and the first that cannot stand where it stands.
+//!
+//! A `Reader` gives one line after the other and takes no memory. `read_transcript` collects the lines.
+#![tactic(auto)]
+
+mod fault;
+mod law;
+mod line;
+mod place;
+mod read;
+mod reader;
+
+pub use fault::LineFault;
+pub use law::{lines_are_told, told_is_written};
+pub use line::Line;
+pub use read::read_transcript;
+pub use reader::Reader;
+pub use transcript_reading::{LineKind, ServiceLine};

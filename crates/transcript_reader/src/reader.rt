@@ -1,0 +1,120 @@
+//! A reader of one line after the other.
+ghost use Rattle.std.specs.Prelude.{◌≡◌, ◌<◌, length};
+ghost use Rattle.charlotte_text.specs.Reading.{Gives};
+ghost use Rattle.transcript_reader.specs.Lines.{GivesNext, is_ended, seen, stand, unread, version_after};
+
+use crate::fault::LineFault;
+use crate::line::Line;
+use crate::place::{Place, next_place};
+use charlotte_text::{Fault, cut};
+use std::marker::Model;
+use transcript_forms::read_kind;
+use transcript_reading::LineKind;
+
+/// The lines of a transcript that are not read yet: the place in the bytes, and what may stand next. It takes no memory.
+#[derive(Debug, Drop)]
+pub struct Reader<'a> {
+    rest: &'a [u8],
+    /// How many lines were read.
+    lines: u32,
+    /// The version that the first line told, and 0 before.
+    version: u8,
+    place: Place,
+}
+
+impl<'a> Model for Reader<'a> {
+    ghost use Rattle.std.specs.Prelude.{◌+◌, ◌<◌, length};
+    ghost use Rattle.charlotte_text.specs.Reading.{parts};
+    ghost use Rattle.transcript_reader.specs.Lines.{Unread, seen};
+
+    ghost Value = { Unread };
+
+    ghost view = { λ r. record {
+      lines = r.lines;
+      version = r.version;
+      place = seen r.place;
+      texts = parts 10 r.rest.now;
+    } };
+
+    ghost invariant = { λ r. r.lines + length (parts 10 r.rest.now) < 4294967296 };
+}
+
+impl<'a> Reader<'a> {
+    /// A reader of all lines of these bytes.
+    pub fn new(bytes: &'a [u8]) -> Reader<'a>
+        requires { length bytes.now < 4294967295 }
+        ensures { result ≡ unread bytes.now }
+    {
+        Reader {
+            rest: bytes,
+            lines: 0,
+            version: 0,
+            place: Place::Start,
+        }
+    }
+
+    /// The next line; `None` exactly where the last line was read and nothing stands behind it; and a bad line where the
+    /// next one cannot stand there, where it has no line feed and where there is none. After `None` and after a fault the
+    /// reader is as before.
+    #[tactic(auto, unfolding(crate::specs::Lines::next_line))]
+    pub fn next_line(&mut self) -> Result<Option<Line>, LineFault>
+        ensures { GivesNext self.old result self.new }
+    {
+        let line = self.lines + 1;
+        let (text, rest) = cut(b'\n', self.rest);
+        let Some(rest) = rest else {
+            if ended(self.place, text) {
+                return Ok(None);
+            }
+            return Err(LineFault::BadLine { line });
+        };
+        match read_standing(self.version, self.place, text) {
+            Ok((what, place)) => {
+                self.rest = rest;
+                self.lines = line;
+                self.version = version_after(self.version, &what);
+                self.place = place;
+                Ok(Some(Line { number: line, what }))
+            }
+            Err(_) => Err(LineFault::BadLine { line }),
+        }
+    }
+}
+
+/// Whether the last line was read and nothing stands behind it.
+fn ended(place: Place, text: &[u8]) -> bool
+    ensures { result ≡ is_ended (seen place) text.now }
+{
+    match place {
+        Place::Over => text.is_empty(),
+        Place::Start | Place::Version | Place::Entry => false,
+        Place::Processes { .. } | Place::Wires { .. } | Place::Noted { .. } => false,
+    }
+}
+
+/// What a line shows that may stand at the place, and the place behind it.
+#[tactic(auto, unfolding(crate::specs::Lines::stand))]
+fn read_standing(version: u8, place: Place, text: &[u8]) -> Result<(LineKind, Place), Fault>
+    ensures { Gives (λ x. (x.0, seen x.1)) result (stand version (seen place) text.now) }
+{
+    let what = read_kind(version, text)?;
+    let place = next_place(place, &what)?;
+    Ok((what, place))
+}
+
+/// The version behind a line: the first one tells it.
+fn version_after(version: u8, what: &LineKind) -> u8
+    ensures { result ≡ version_after version what.now }
+{
+    match what {
+        LineKind::First { version } => *version,
+        LineKind::Kernels(_) => version,
+        LineKind::Process { .. } => version,
+        LineKind::Wire { .. } => version,
+        LineKind::CallEntry { .. } => version,
+        LineKind::PacketEntry { .. } => version,
+        LineKind::Service(_) => version,
+        LineKind::Note(_) => version,
+        LineKind::End(_) => version,
+    }
+}
