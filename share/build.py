@@ -1,27 +1,31 @@
 #!/usr/bin/env python3
 """Proves the crates that the program is made of, and links it: build.py TOP, with a line `NAME NEED ..` for each crate on standard input.
-With `--minutes` behind TOP it prints the minutes that this takes where nothing is proved, and does nothing.
+With `--minutes N` behind TOP it prints the minutes that this takes on N processors where nothing is proved, and does nothing.
 
-A crate is proved once those that it needs are. The toolchain works on a crate and on all below it alone, so two crates are
-proved at once where nothing stands below both: those of the kernels and those of the language are.
+It is done by the toolchain's gate, in a copy that has those crates alone, without the edits that the prover has to refuse: as many crates
+at once as there are processors, the longest chain first. What is proved there stays proved for this machine, also for the gate itself.
 """
 
 import math
 import os
+import re
+import shutil
 import signal
 import subprocess
 import sys
+import tempfile
 import time
 
 PROGRAM = "lynx"
-# An empty script is refused by the program with this status, and by the toolchain itself with none: so it was built and ran.
-BUILT = 4
 # Lines of sources to a second, where a crate was never measured.
 LINES_A_SECOND = 40
-# A crate that takes less than this part of its time had its proofs kept from an earlier run, and tells nothing of the machine.
-KEPT = 0.3
+# Of a part of the whole work that is smaller than this one, the time that it took tells nothing of the machine.
+ENOUGH = 0.05
+# What stands beside a crate's sources and is no part of the program.
+LEFT_OUT = ("out", "must-fail")
 # The signals that end a build.
 ENDING = (signal.SIGINT, signal.SIGTERM, signal.SIGHUP)
+PROVED = re.compile(r"rt: (\w+) (proved$|is kept:)")
 
 
 def unblock():
@@ -36,75 +40,87 @@ def minutes_of(seconds):
     return max(1, math.ceil(seconds / 60))
 
 
-class Build:
-    def __init__(self, top, needs):
-        self.top = top
+class Work:
+    """How long the crates take: all together, and one after the other where one needs the other."""
+
+    def __init__(self, top, needs, lanes):
         self.needs = needs
-        # each crate with all that it stands on
-        self.below = {}
-        for crate in needs:
-            self.find_below(crate)
-        measured = self.measured()
-        self.seconds = {crate: measured.get(crate) or self.lines_of(crate) / LINES_A_SECOND for crate in needs}
-        self.at_once = max(1, (os.cpu_count() or 1) // 2)
-        self.proved = set()
-        self.running = {}
-        self.begun = {}
-        # what crates that were proved here took, and what was expected of them
-        self.took = self.expected = 0.0
-        self.started = time.time()
-        self.told = None
-        self.waits = set()
-        self.out = f"{top}/crates/{PROGRAM}/out"
-        os.makedirs(self.out, exist_ok=True)
+        self.lanes = lanes
+        measured = self.measured(top)
+        self.seconds = {crate: measured.get(crate) or self.lines_of(top, crate) / LINES_A_SECOND for crate in needs}
 
-    def find_below(self, crate):
-        if crate not in self.below:
-            self.below[crate] = {crate}.union(*(self.find_below(other) for other in self.needs[crate]))
-        return self.below[crate]
-
-    def measured(self):
+    def measured(self, top):
         """The seconds that each crate took where nothing was proved, by the file beside this one."""
         try:
-            with open(f"{self.top}/share/build_seconds", encoding="utf-8") as file:
+            with open(f"{top}/share/build_seconds", encoding="utf-8") as file:
                 rows = [line.split() for line in file if line.strip() and not line.startswith("#")]
         except FileNotFoundError:
             return {}
         return {crate: float(seconds) for crate, seconds in rows if crate in self.needs}
 
-    def lines_of(self, crate):
+    def lines_of(self, top, crate):
         """The lines of a crate's sources; each crate takes the time of 1,000 lines besides."""
         count = 1000
         for kind in ("src", "specs", "proofs"):
-            for folder, _, names in os.walk(f"{self.top}/crates/{crate}/{kind}"):
+            for folder, _, names in os.walk(f"{top}/crates/{crate}/{kind}"):
                 for name in names:
                     with open(os.path.join(folder, name), "rb") as file:
                         count += file.read().count(b"\n")
         return count
 
-    def log_of(self, crate):
-        return f"{self.out}/build-{os.getpid()}-{crate}.log"
+    def seconds_of(self, crates):
+        """What these crates take: that of the longest chain, or that of all in as many lanes as there are."""
+        ends = {}
 
-    def next_ones(self, proved, running):
-        """The crates that may begin beside these: all that they need is proved, and they share nothing with what is running."""
-        running = set(running)
+        def end_of(crate):
+            if crate not in crates:
+                return 0
+            if crate not in ends:
+                ends[crate] = self.seconds[crate] + max(map(end_of, self.needs[crate]), default=0)
+            return ends[crate]
+
+        longest = max(map(end_of, crates), default=0)
+        return max(longest, sum(self.seconds[crate] for crate in crates) / self.lanes)
+
+
+class Build:
+    def __init__(self, top, needs):
+        self.top = top
+        self.needs = needs
+        self.work = Work(top, needs, max(1, os.cpu_count() or 1))
+        self.left = set(needs)
+        # those that no earlier run proved
+        self.new = set(needs)
+        self.started = self.last = time.time()
+        self.told = None
+        self.waits = set()
+        self.running = None
+        self.room = None
+        self.out = f"{top}/crates/{PROGRAM}/out"
+        os.makedirs(self.out, exist_ok=True)
+        self.log = f"{self.out}/build-{os.getpid()}.log"
+
+    def copy(self):
+        """A repository that has these crates alone. It stands outside of this one, as the toolchain wants it."""
+        self.room = tempfile.mkdtemp(prefix="lynx-build-", dir=os.environ.get("TMPDIR") or "/var/tmp")
         for crate in self.needs:
-            beside = set().union(*(self.below[other] for other in running))
-            is_new = crate not in proved and crate not in running
-            if is_new and len(running) < self.at_once and proved.issuperset(self.needs[crate]) and beside.isdisjoint(self.below[crate]):
-                running.add(crate)
-                yield crate
+            shutil.copytree(
+                f"{self.top}/crates/{crate}", f"{self.room}/crates/{crate}", ignore=shutil.ignore_patterns(*LEFT_OUT)
+            )
+        handles = f"{self.top}/HANDLES"
+        if os.path.exists(handles):
+            shutil.copy(handles, self.room)
+        with open(f"{self.top}/crates.txt", encoding="utf-8") as every, open(f"{self.room}/crates.txt", "w", encoding="utf-8") as ours:
+            ours.writelines(line for line in every if line.split(":")[0].strip() in self.needs)
 
-    def begin(self, crate):
-        words = ["rt", "run", "--", "drive", os.devnull] if crate == PROGRAM else ["rt", "lib"]
-        self.begun[crate] = time.time()
+    def begin(self):
         # so no run is under way that `stop` does not know of
         signal.pthread_sigmask(signal.SIG_BLOCK, ENDING)
         try:
-            with open(self.log_of(crate), "wb") as log:
-                self.running[crate] = subprocess.Popen(
-                    words,
-                    cwd=f"{self.top}/crates/{crate}",
+            with open(self.log, "wb") as log:
+                self.running = subprocess.Popen(
+                    ["rt", "ci"],
+                    cwd=self.room,
                     stdin=subprocess.DEVNULL,
                     stdout=log,
                     stderr=subprocess.STDOUT,
@@ -114,92 +130,71 @@ class Build:
         finally:
             unblock()
 
-    def begin_all(self):
-        for crate in list(self.next_ones(self.proved, self.running)):
-            self.begin(crate)
-
-    def ended(self):
-        """Takes note of the crates whose run has ended, and gives the first one that was not proved."""
-        for crate, run in list(self.running.items()):
-            if run.poll() is None:
-                continue
-            del self.running[crate]
-            if run.returncode != (BUILT if crate == PROGRAM else 0):
-                return crate
-            self.proved.add(crate)
-            self.note(crate)
-        return None
-
-    def note(self, crate):
-        """Takes note of how fast this machine is, by a crate whose proofs were not kept."""
-        took = time.time() - self.begun[crate]
-        if took > KEPT * self.seconds[crate]:
-            self.took += took
-            self.expected += self.seconds[crate]
+    def read_log(self):
+        """Takes note of the crates that the toolchain has told, and hands on that it waits for another run."""
+        with open(self.log, encoding="utf-8", errors="replace") as log:
+            for line in log.read().splitlines():
+                proved = PROVED.match(line)
+                if proved and proved[1] in self.left:
+                    self.left.remove(proved[1])
+                    self.last = time.time()
+                    if proved[2] != "proved":
+                        self.new.discard(proved[1])
+                elif line.startswith("rt: ") and "waiting for" in line and line not in self.waits:
+                    self.waits.add(line)
+                    say(line)
 
     def seconds_left(self):
-        """What the rest takes, by going through it as it will be begun, at the speed of what was proved here so far."""
-        scale = self.took / self.expected if self.expected else 1
-        proved, now = set(self.proved), time.time()
-        ends = {crate: max(0, self.begun[crate] + scale * self.seconds[crate] - now) for crate in self.running}
-        end = 0
-        while len(proved) < len(self.needs):
-            for crate in list(self.next_ones(proved, ends)):
-                ends[crate] = end + scale * self.seconds[crate]
-            first = min(ends, key=ends.get)
-            end = ends.pop(first)
-            proved.add(first)
-        return end
+        """What the rest takes, at the speed of what was proved here so far."""
+        whole, rest = self.work.seconds_of(self.new), self.work.seconds_of(self.left)
+        done = whole - rest
+        scale = (self.last - self.started) / done if done > ENOUGH * whole else 1
+        return max(0, scale * rest - (time.time() - self.last))
 
     def tell(self):
         left = minutes_of(self.seconds_left())
-        words = f"proved {len(self.proved)} of {len(self.needs)}, about {left} minute{'s' * (left != 1)} left"
-        if words != self.told and len(self.proved) < len(self.needs):
+        words = f"proved {len(self.needs) - len(self.left)} of {len(self.needs)}, about {left} minute{'s' * (left != 1)} left"
+        if words != self.told and self.left:
             say(words)
         self.told = words
 
-    def tell_waits(self):
-        """Hands on that the toolchain waits for another run, as one in another window, which it says first."""
-        for crate in self.running:
-            with open(self.log_of(crate), encoding="utf-8", errors="replace") as log:
-                for line in log.read(4096).splitlines():
-                    if line.startswith("rt: ") and "waiting for" in line and line not in self.waits:
-                        self.waits.add(line)
-                        say(line)
-
-    def stop(self):
-        """Ends the runs that are under way, with all that they started."""
-        while self.running:
-            _, run = self.running.popitem()
-            if run.poll() is None:
-                os.killpg(run.pid, signal.SIGTERM)
-                run.wait()
-
-    def clear(self):
-        for crate in self.needs:
-            if os.path.exists(self.log_of(crate)):
-                os.remove(self.log_of(crate))
+    def fail(self):
+        with open(self.log, encoding="utf-8", errors="replace") as log:
+            lost = re.findall(r"(?m)^rt: (\w+) NOT PROVED$", log.read())
+        why = f"{lost[0]} was not proved" if lost else "the toolchain ended with a fault"
+        say(f"the program could not be built: {why}. The lines of the toolchain are in {self.log}")
 
     def run(self):
         """Whether the program was built."""
         say(
             f"the program has to be proved and built first: {len(self.needs)} crates. Once, that takes about"
-            f" {minutes_of(self.seconds_left())} minutes on four processors; after a change it takes less."
+            f" {minutes_of(self.work.seconds_of(self.needs))} minutes on {self.work.lanes} processors; after a change it takes less."
         )
-        while len(self.proved) < len(self.needs):
-            self.begin_all()
+        self.copy()
+        self.begin()
+        while self.running.poll() is None:
+            self.read_log()
             self.tell()
-            self.tell_waits()
-            failed = self.ended()
-            if failed:
-                say(f"the program could not be built: {failed} was not proved. The lines of the toolchain are in {self.log_of(failed)}")
-                return False
             time.sleep(0.2)
+        self.read_log()
+        made = f"{self.room}/crates/{PROGRAM}/out/{PROGRAM}"
+        if self.running.returncode or not os.path.exists(made):
+            self.fail()
+            return False
+        shutil.move(made, f"{self.out}/{PROGRAM}")
         # so a source that was edited during the build is newer
         os.utime(f"{self.out}/{PROGRAM}", (self.started, self.started))
         say("built")
-        self.clear()
+        os.remove(self.log)
         return True
+
+    def stop(self):
+        """Ends the run if it is under way, with all that it started, and removes the copy."""
+        if self.running and self.running.poll() is None:
+            os.killpg(self.running.pid, signal.SIGTERM)
+            self.running.wait()
+        if self.room:
+            shutil.rmtree(self.room, ignore_errors=True)
 
 
 def interrupted(number, _frame):
@@ -210,10 +205,11 @@ def main():
     needs = {crate: others for crate, *others in (line.split() for line in sys.stdin)}
     for number in ENDING:
         signal.signal(number, interrupted)
-    build = Build(sys.argv[1], needs)
-    if "--minutes" in sys.argv:
-        print(minutes_of(build.seconds_left()))
+    top, *words = sys.argv[1:]
+    if words:
+        print(minutes_of(Work(top, needs, int(words[1])).seconds_of(needs)))
         return
+    build = Build(top, needs)
     try:
         is_built = build.run()
     finally:
