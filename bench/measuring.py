@@ -1,5 +1,6 @@
 """What the benches share: runs of the built program and of the plain one beside it, and how time grows with the length of the input."""
 import filecmp
+import glob
 import math
 import os
 import shutil
@@ -32,11 +33,13 @@ def build():
 
 
 def compiled(source, compiler):
-    """The program of a source of bench/, compiled again where it is older."""
+    """The program of a source of bench/, compiled again where it is older than that or than another source beside it."""
     source = os.path.join(BENCH, source)
+    stem, ending = os.path.splitext(source)
     folder = os.path.join(os.path.dirname(source), 'out')
-    program = os.path.join(folder, os.path.splitext(os.path.basename(source))[0])
-    if not os.path.exists(program) or os.path.getmtime(program) < os.path.getmtime(source):
+    program = os.path.join(folder, os.path.basename(stem))
+    newest = max(map(os.path.getmtime, glob.glob(os.path.join(os.path.dirname(source), '*' + ending))))
+    if not os.path.exists(program) or os.path.getmtime(program) < newest:
         os.makedirs(folder, exist_ok=True)
         if subprocess.run(compiler + ['-o', program, source]).returncode != 0:
             sys.exit(f'bench: {source} could not be compiled')
