@@ -14,6 +14,8 @@ LAUNCHER = os.path.join(TOP, 'bin', 'lynx')
 PROGRAM = os.path.join(TOP, 'crates', 'lynx', 'out', 'lynx')
 EXAMPLE = os.path.join(TOP, 'examples', 'one_message.script')
 MOST_BYTES = 1_048_576
+# What the files end with that programs of bench/ are made of.
+SOURCES = ['c', 'rs', 'lynx']
 # Memory less than this is not told apart from what the start of a program takes.
 TOLD_APART = 1 << 19
 
@@ -33,12 +35,12 @@ def build():
 
 
 def compiled(source, compiler):
-    """The program of a source of bench/, compiled again where it is older than that or than another source beside it."""
+    """The program of a source of bench/, compiled again where it is older than any source there."""
     source = os.path.join(BENCH, source)
-    stem, ending = os.path.splitext(source)
     folder = os.path.join(os.path.dirname(source), 'out')
-    program = os.path.join(folder, os.path.basename(stem))
-    newest = max(map(os.path.getmtime, glob.glob(os.path.join(os.path.dirname(source), '*' + ending))))
+    program = os.path.join(folder, os.path.splitext(os.path.basename(source))[0])
+    sources = [path for ending in SOURCES for path in glob.glob(f'{BENCH}/**/*.{ending}', recursive=True)]
+    newest = max(map(os.path.getmtime, sources))
     if not os.path.exists(program) or os.path.getmtime(program) < newest:
         os.makedirs(folder, exist_ok=True)
         if subprocess.run(compiler + ['-o', program, source]).returncode != 0:

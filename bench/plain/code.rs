@@ -12,7 +12,7 @@ use std::os::fd::AsFd;
 use std::process::exit;
 
 use compiler::{compile, Code, Exception, Instruction, Literal};
-use module::{checked, fail, read, Module, EXCEPTIONS};
+use module::{checked, fail, read, Module, Name, EXCEPTIONS};
 
 /// So many bytes are gathered at least before they are written.
 const MOST_GATHERED: usize = 1 << 16;
@@ -92,7 +92,7 @@ fn decimal(line: &mut Vec<u8>, mut number: u64) {
     line.extend_from_slice(&digits[from..]);
 }
 
-fn operand(line: &mut Vec<u8>, source: &[u8], operand: Operand) {
+fn operand(line: &mut Vec<u8>, source: &[u8], texts: &[Name], operand: Operand) {
     let mut exception = |Exception(place): Exception| line.extend_from_slice(EXCEPTIONS[usize::from(place)]);
     match operand {
         Operand::Nothing => {}
@@ -101,7 +101,7 @@ fn operand(line: &mut Vec<u8>, source: &[u8], operand: Operand) {
         Operand::Literal(Literal::Int(number)) => decimal(line, number as u64),
         Operand::Literal(Literal::Bool(true)) => line.extend_from_slice(b"true"),
         Operand::Literal(Literal::Bool(false)) => line.extend_from_slice(b"false"),
-        Operand::Literal(Literal::Text(text)) => line.extend_from_slice(text.of(source)),
+        Operand::Literal(Literal::Text(number)) => line.extend_from_slice(texts[number as usize].of(source)),
         Operand::Exception(raised) => exception(raised),
         Operand::Case(caught, address) => {
             exception(caught);
@@ -115,6 +115,7 @@ fn operand(line: &mut Vec<u8>, source: &[u8], operand: Operand) {
 
 struct Listing<'a> {
     source: &'a [u8],
+    texts: &'a [Name],
     out: File,
     is_buffered: bool,
     text: Vec<u8>,
@@ -148,7 +149,7 @@ impl Listing<'_> {
         self.text.extend_from_slice(word);
         if !matches!(what, Operand::Nothing) {
             self.text.push(b' ');
-            operand(&mut self.text, self.source, what);
+            operand(&mut self.text, self.source, self.texts, what);
         }
         self.end_line()
     }
@@ -172,7 +173,7 @@ fn list(name: &str, is_buffered: bool) -> io::Result<()> {
     let module = checked(name, &source, true);
     let code = compile(&source, &module).unwrap_or_else(|_| fail(4, &format!("{name}:1:1: code too long")));
     let out = File::from(io::stdout().as_fd().try_clone_to_owned()?);
-    Listing { source: &source, out, is_buffered, text: Vec::new() }.whole(&module, &code)
+    Listing { source: &source, texts: &code.texts, out, is_buffered, text: Vec::new() }.whole(&module, &code)
 }
 
 fn main() {

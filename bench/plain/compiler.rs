@@ -12,13 +12,19 @@ const MOST_CODE: usize = 65_535;
 pub enum Literal {
     Int(i64),
     Bool(bool),
-    /// With its quotes, by its place in the source.
-    Text(Name),
+    /// By its number among the texts of the code.
+    Text(u32),
 }
 
 /// An exception, by its place among the names of exceptions.
 #[derive(Clone, Copy, PartialEq, Eq)]
 pub struct Exception(pub u8);
+
+impl Exception {
+    pub const DIVIDE: Exception = Exception(3);
+    pub const OVERFLOW: Exception = Exception(4);
+    pub const RANGE: Exception = Exception(5);
+}
 
 #[derive(Clone, Copy)]
 #[rustfmt::skip]
@@ -48,6 +54,8 @@ pub struct Part<'a> {
 
 pub struct Code<'a> {
     pub parts: Vec<Part<'a>>,
+    /// Each text that is pushed, with its quotes.
+    pub texts: Vec<Name>,
     pub instructions: Vec<Instruction>,
 }
 
@@ -61,13 +69,14 @@ struct Compiler<'a> {
     /// Of each name of the module its number among the variables, operations or entries.
     names: Table<'a, u32>,
     locals: Table<'a, u32>,
+    texts: Vec<Name>,
     instructions: Vec<Instruction>,
 }
 
 /// The code of a module that obeys the typing rules.
 pub fn compile<'a>(source: &'a [u8], module: &'a Module) -> Result<Code<'a>, TooLong> {
     let count = module.ops.len() + module.params.len() + module.vars.len() + module.entries.len();
-    let mut compiler = Compiler { source, names: names(count), locals: names(0), instructions: Vec::new() };
+    let mut compiler = Compiler { source, names: names(count), locals: names(0), texts: Vec::new(), instructions: Vec::new() };
     number(&mut compiler.names, source, module.params.iter().chain(&module.vars).map(|var| var.name));
     number(&mut compiler.names, source, module.ops.iter().map(|op| op.name));
     number(&mut compiler.names, source, module.entries.iter().map(|entry| entry.name));
@@ -79,7 +88,7 @@ pub fn compile<'a>(source: &'a [u8], module: &'a Module) -> Result<Code<'a>, Too
         number(&mut compiler.locals, source, entry.parameters.iter().copied().chain(entry.vars.iter().map(|var| var.name)));
         compiler.body(&entry.body)?;
     }
-    Ok(Code { parts, instructions: compiler.instructions })
+    Ok(Code { parts, texts: compiler.texts, instructions: compiler.instructions })
 }
 
 fn number<'a>(table: &mut Table<'a, u32>, source: &'a [u8], names: impl Iterator<Item = Name>) {
@@ -262,7 +271,10 @@ impl<'a> Compiler<'a> {
     fn expression(&mut self, expression: &Expr) -> Done {
         match &expression.what {
             ExprKind::Number(number) => self.emit(Instruction::Push(Literal::Int(*number))),
-            ExprKind::Text(text) => self.emit(Instruction::Push(Literal::Text(*text))),
+            ExprKind::Text(text) => {
+                self.texts.push(*text);
+                self.emit(Instruction::Push(Literal::Text(self.texts.len() as u32 - 1)))
+            }
             ExprKind::Truth(truth) => self.emit(Instruction::Push(Literal::Bool(*truth))),
             ExprKind::Bracket(inner) => self.expression(inner),
             ExprKind::Name(name, None) => self.load(*name),
