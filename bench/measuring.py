@@ -56,12 +56,22 @@ def plain(name):
     return compiled(os.path.join('plain', name + '.rs'), ['rustc', '-O', '--edition', '2021'])
 
 
-def tests_types(program, folder):
-    """Whether a program for `check` tests the typing rules: a name that is nowhere declared tells."""
+def accepts(program, folder, module):
+    """Whether a program, with the words of a command, takes a module."""
     name = os.path.join(folder, 'm')
     with open(name, 'w') as file:
-        file.write('module m; begin write undeclared; end.\n')
-    return subprocess.run([*program, name], stdin=subprocess.DEVNULL, capture_output=True).returncode != 0
+        file.write(module)
+    return subprocess.run([*program, name], stdin=subprocess.DEVNULL, capture_output=True).returncode == 0
+
+
+def tests_types(program, folder):
+    """Whether a program for `check` tests the typing rules: a name that is nowhere declared tells."""
+    return not accepts(program, folder, 'module m; begin write undeclared; end.\n')
+
+
+def has_command(program, folder):
+    """Whether a program has a command on modules, which it refuses where it is not built yet."""
+    return accepts(program, folder, 'module m; begin end.\n')
 
 
 def stay_on_one_processor():
