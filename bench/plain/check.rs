@@ -10,7 +10,7 @@ use std::io::{self, Write};
 use std::os::fd::AsFd;
 use std::process::exit;
 
-use module::{checked, fail, read};
+use module::{checked, fail, is_file, read};
 
 fn check(name: &str, is_typed: bool) -> io::Result<()> {
     let source = read(name);
@@ -22,7 +22,7 @@ fn check(name: &str, is_typed: bool) -> io::Result<()> {
 fn main() {
     let words: Vec<String> = std::env::args().skip(1).collect();
     let done = match &words[..] {
-        [name] if !name.starts_with('-') => check(name, true),
+        [name] if is_file(name) => check(name, true),
         [option, name] if option == "--untyped" => check(name, false),
         _ => fail(1, "lynx: usage"),
     };

@@ -12,7 +12,7 @@ use std::os::fd::AsFd;
 use std::process::exit;
 
 use compiler::{compile, Code, Exception, Instruction, Literal};
-use module::{checked, fail, read, Module, Name, EXCEPTIONS};
+use module::{checked, fail, is_file, read, Module, Name, EXCEPTIONS};
 
 /// So many bytes are gathered at least before they are written.
 const MOST_GATHERED: usize = 1 << 16;
@@ -179,7 +179,7 @@ fn list(name: &str, is_buffered: bool) -> io::Result<()> {
 fn main() {
     let words: Vec<String> = std::env::args().skip(1).collect();
     let done = match &words[..] {
-        [name] if !name.starts_with('-') => list(name, false),
+        [name] if is_file(name) => list(name, false),
         [option, name] if option == "--buffered" => list(name, true),
         _ => fail(1, "lynx: usage"),
     };

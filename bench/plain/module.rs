@@ -1199,6 +1199,11 @@ pub fn fail(status: i32, text: &str) -> ! {
     exit(status)
 }
 
+/// Whether a word names a file.
+pub fn is_file(word: &str) -> bool {
+    !word.is_empty() && !word.starts_with('-')
+}
+
 pub fn read(name: &str) -> Vec<u8> {
     let file = File::open(name).unwrap_or_else(|_| fail(6, &format!("lynx: {name}: absent")));
     let mut bytes = Vec::new();
