@@ -1,5 +1,6 @@
 """What the benches share: runs of the built program and of the plain one beside it, and how time grows with the length of the input."""
 import filecmp
+import glob
 import math
 import os
 import shutil
@@ -13,6 +14,8 @@ LAUNCHER = os.path.join(TOP, 'bin', 'lynx')
 PROGRAM = os.path.join(TOP, 'crates', 'lynx', 'out', 'lynx')
 EXAMPLE = os.path.join(TOP, 'examples', 'one_message.script')
 MOST_BYTES = 1_048_576
+# What the files end with that programs of bench/ are made of.
+SOURCES = ['c', 'rs', 'lynx']
 # Memory less than this is not told apart from what the start of a program takes.
 TOLD_APART = 1 << 19
 
@@ -32,11 +35,13 @@ def build():
 
 
 def compiled(source, compiler):
-    """The program of a source of bench/, compiled again where it is older."""
+    """The program of a source of bench/, compiled again where it is older than any source there."""
     source = os.path.join(BENCH, source)
     folder = os.path.join(os.path.dirname(source), 'out')
     program = os.path.join(folder, os.path.splitext(os.path.basename(source))[0])
-    if not os.path.exists(program) or os.path.getmtime(program) < os.path.getmtime(source):
+    sources = [path for ending in SOURCES for path in glob.glob(f'{BENCH}/**/*.{ending}', recursive=True)]
+    newest = max(map(os.path.getmtime, sources))
+    if not os.path.exists(program) or os.path.getmtime(program) < newest:
         os.makedirs(folder, exist_ok=True)
         if subprocess.run(compiler + ['-o', program, source]).returncode != 0:
             sys.exit(f'bench: {source} could not be compiled')
@@ -51,12 +56,22 @@ def plain(name):
     return compiled(os.path.join('plain', name + '.rs'), ['rustc', '-O', '--edition', '2021'])
 
 
-def tests_types(program, folder):
-    """Whether a program for `check` tests the typing rules: a name that is nowhere declared tells."""
+def accepts(program, folder, module):
+    """Whether a program, with the words of a command, takes a module."""
     name = os.path.join(folder, 'm')
     with open(name, 'w') as file:
-        file.write('module m; begin write undeclared; end.\n')
-    return subprocess.run([*program, name], stdin=subprocess.DEVNULL, capture_output=True).returncode != 0
+        file.write(module)
+    return subprocess.run([*program, name], stdin=subprocess.DEVNULL, capture_output=True).returncode == 0
+
+
+def tests_types(program, folder):
+    """Whether a program for `check` tests the typing rules: a name that is nowhere declared tells."""
+    return not accepts(program, folder, 'module m; begin write undeclared; end.\n')
+
+
+def has_command(program, folder):
+    """Whether a program has a command on modules, which it refuses where it is not built yet."""
+    return accepts(program, folder, 'module m; begin end.\n')
 
 
 def stay_on_one_processor():
