@@ -347,5 +347,5 @@ OwnerKnows-activated old new e p well is links grows active = record { all = λ 
         let some : Some p ≡ Some q = is ∙ owner-owned q (ends_of old.links e).place own in
         let same : p ≡ q = cc in
         let noted : IsKnown (known_of new.processes) q e =
-            record { held = grows.held q.0 e (well.all e q own).0; active = subst (λ (r : Pid). (known_of new.processes).active r.0 e ≡ true) same active } in
+        record { held = grows.held q.0 e (well.all e q own).0; active = subst (λ (r : Pid). (known_of new.processes).active r.0 e ≡ true) same active } in
         All-one e (IsKnown (known_of new.processes) q) noted

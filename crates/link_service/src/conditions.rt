@@ -5,22 +5,19 @@ ghost use Rattle.service_step.specs.Causes.{first_of, is_cause, is_full, refusal
 ghost use Rattle.service_step.specs.Ends.{owner};
 ghost use Rattle.service_step.specs.State.{next_link, owner_cancels};
 ghost use Rattle.service_step.specs.Steps as steps;
-ghost use Rattle.service_links.specs.Links.{ends_of};
 ghost use Rattle.service_processes.specs.Processes.{HasProcess};
 ghost use Rattle.link_service.specs.Service.{state_of};
 
 use crate::service::Service;
-use charlotte_calls::{Call, Cause, EndId, LinkId, Pid, Side, Way};
+use charlotte_calls::{Call, Cause, EndId, Pid, Way};
 use service_links::{
-    KeptEnd, Links, cancel_cause, destroy_cause, receive_cause, receive_cause_at, send_cause,
-    send_cause_at,
+    KeptEnd, LINK_LIMIT, cancel_cause, destroy_cause, is_cancellable, is_new_pair, receive_cause,
+    receive_cause_at, send_cause, send_cause_at,
 };
-
-/// How many links a kernel may make.
-const LINK_LIMIT: u32 = 65536;
 
 impl Service {
     /// Whether a process runs.
+    #[inline(always)]
     #[tactic(auto, unfolding(crate::specs::Service::state_of))]
     pub(crate) fn runs(&self, p: Pid) -> bool
         ensures runs { result ≡ steps.runs (state_of self.now) p }
@@ -30,6 +27,7 @@ impl Service {
     }
 
     /// Whether a process owns the end and runs.
+    #[inline(always)]
     fn has_running_owner(&self, end: &KeptEnd) -> bool
         ensures { result ≡ steps.is_running_owner (state_of self.now) (owner end.now.place) }
     {
@@ -214,27 +212,8 @@ impl Service {
     }
 }
 
-/// Whether these are the two ends of this link, which has no ends yet.
-#[tactic(auto, unfolding(service_step::specs::Ends::end_eq))]
-fn is_new_pair(links: &Links, link: Option<LinkId>, a: EndId, b: EndId) -> bool
-    ensures { result ≡ steps.is_new_pair (ends_of links.now) link a b }
-{
-    match link {
-        Some(link) => {
-            link.count < LINK_LIMIT
-                && a == EndId {
-                    link,
-                    side: Side::A,
-                }
-                && b == a.opposite()
-                && !links.look(a).place().is_made()
-                && !links.look(b).place().is_made()
-        }
-        None => false,
-    }
-}
-
 /// Whether n is the number after the last.
+#[inline(always)]
 fn is_next(n: u32, last: u32) -> bool
     ensures { result ≡ nat_eq n (last + 1) }
 {
@@ -244,16 +223,8 @@ fn is_next(n: u32, last: u32) -> bool
     }
 }
 
-fn is_cancellable(way: Way, end: &KeptEnd) -> bool
-    ensures { result ≡ steps.is_cancellable way end.now }
-{
-    match way {
-        Way::Outward => end.is_waiting(),
-        Way::Inward => end.inward().is_posted() || end.inward().is_matched(),
-    }
-}
-
 /// Two tests have the same outcome.
+#[inline(always)]
 fn agree(a: bool, b: bool) -> bool
     ensures { result ≡ steps.agree a b }
 {

@@ -38,13 +38,19 @@ impl Service {
     }
 
     /// 4: a send is started, and the ends that it carries are forgotten among those of the sender.
-    pub(crate) fn do_send(&mut self, e: EndId, n: u32, bytes: &Bytes, carried: &Ends) -> Result<(), NoMemory>
+    pub(crate) fn do_send(
+        &mut self,
+        e: EndId,
+        n: u32,
+        bytes: &Bytes,
+        carried: &Ends,
+    ) -> Result<(), NoMemory>
         ensures ok { OnOk result (state_of self.new ≡ record (state_of self.old) { ends = starts_send e n (record { bytes = bytes.now; carried = carried.now }) (state_of self.old).ends }) }
         ensures err { OnErr result (state_of self.new ≡ state_of self.old) }
     {
         let owner = self.links().look(e).owner();
         let letter = Letter::of(self.allocator(), bytes, carried)?;
-        self.note_active(owner, e)?;
+        self.note_active(e)?;
         self.start_send(e, n, letter);
         self.forget_lost(owner, carried.as_slice());
         Ok(())
@@ -55,8 +61,7 @@ impl Service {
         ensures ok { OnOk result (state_of self.new ≡ record (state_of self.old) { ends = turns_inward inward.Posted e (state_of self.old).ends }) }
         ensures err { OnErr result (state_of self.new ≡ state_of self.old) }
     {
-        let owner = self.links().look(e).owner();
-        self.note_active(owner, e)?;
+        self.note_active(e)?;
         self.start_receive(e);
         Ok(())
     }
@@ -196,13 +201,7 @@ fn done_report(alloc: Global, on: EndId, end: &KeptEnd) -> Result<Option<KeptRep
         Some(letter) => {
             let bytes = letter.bytes(alloc)?;
             let ends = letter.ends(alloc)?;
-            Ok(Some(KeptReport::of(
-                on,
-                Way::Inward,
-                Outcome::Done,
-                bytes,
-                ends,
-            )))
+            Ok(Some(KeptReport::of(on, Way::Inward, Outcome::Done, bytes, ends)))
         }
         None => Ok(None),
     }
@@ -243,11 +242,5 @@ fn dead_report(alloc: Global, e: EndId, end: &KeptEnd) -> Option<KeptReport>
     }
     let bytes = Items::of(Vec::new(alloc));
     let ends = Items::of(Vec::new(alloc));
-    Some(KeptReport::of(
-        e,
-        Way::Inward,
-        Outcome::Destroyed,
-        bytes,
-        ends,
-    ))
+    Some(KeptReport::of(e, Way::Inward, Outcome::Destroyed, bytes, ends))
 }

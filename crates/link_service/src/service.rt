@@ -104,24 +104,28 @@ impl Service {
         }
     }
 
+    #[inline(always)]
     pub(crate) fn version(&self) -> u8
         ensures { result ≡ self.now.version }
     {
         self.version
     }
 
+    #[inline(always)]
     pub(crate) fn links(&self) -> &Links
         ensures { result.now ≡ self.now.links }
     {
         &self.links
     }
 
+    #[inline(always)]
     pub(crate) fn processes(&self) -> &Processes
         ensures { result.now ≡ self.now.processes }
     {
         &self.processes
     }
 
+    #[inline(always)]
     pub(crate) fn allocator(&self) -> Global {
         *self.homes.allocator()
     }

@@ -48,7 +48,13 @@ impl Service {
     }
 
     /// The owner of an end starts a send.
-    pub(crate) fn send(&mut self, e: EndId, n: u32, bytes: &Bytes, carried: &Ends) -> Result<(), ApplyFault>
+    pub(crate) fn send(
+        &mut self,
+        e: EndId,
+        n: u32,
+        bytes: &Bytes,
+        carried: &Ends,
+    ) -> Result<(), ApplyFault>
         ensures ok { OnOk result (IsServiceStep (state_of self.old) (step.Send e n bytes.now carried.now) (state_of self.new)) }
         ensures fault { IfErr result (IsFault (state_of self.old) (step.Send e n bytes.now carried.now)) }
         ensures same { OnErr result (state_of self.new ≡ state_of self.old) }

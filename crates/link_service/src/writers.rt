@@ -32,15 +32,17 @@ impl Service {
         }
     }
 
-    /// An end is noted to be its owner's, where there is one, also as one with an activity.
+    /// An end is noted as one with an activity of its owner, where there is one.
     #[tactic(auto, unfolding(crate::specs::Service::state_of))]
-    pub(crate) fn note_active(&mut self, p: Option<Pid>, e: EndId) -> Result<(), NoMemory>
-        requires { p ≡ owner ((state_of self.old).ends e).place }
+    pub(crate) fn note_active(&mut self, e: EndId) -> Result<(), NoMemory>
         ensures same { state_of self.new ≡ state_of self.old }
         ensures known { OnOk result (OwnerKnows self.new e (e ∷ [])) }
     {
-        match p {
-            Some(p) => self.processes.activate(p, e),
+        match self.links.look(e).owner() {
+            Some(p) => {
+                self.processes.activate(p, e)?;
+                Ok(())
+            }
             None => Ok(()),
         }
     }
@@ -89,7 +91,11 @@ impl Service {
 
     /// The owner of an end, where there is one, gains a report.
     #[tactic(auto, unfolding(crate::specs::Service::state_of))]
-    pub(crate) fn gain_owner(&mut self, e: EndId, report: Option<KeptReport>) -> Result<(), NoMemory>
+    pub(crate) fn gain_owner(
+        &mut self,
+        e: EndId,
+        report: Option<KeptReport>,
+    ) -> Result<(), NoMemory>
         ensures ok { OnOk result (state_of self.new ≡ record (state_of self.old) { process = gains_owner (owner ((state_of self.old).ends e).place) (option_to_list report) (state_of self.old).process }) }
         ensures err { OnErr result (state_of self.new ≡ state_of self.old) }
         ensures links { self.new.links ≡ self.old.links }

@@ -127,8 +127,7 @@ fn has_no_activity(way: Way, end: &KeptEnd) -> bool
 fn is_missing_one(links: &Links, p: Pid, ends: &[EndId]) -> bool
     ensures { result ≡ is_missing_one p (ends_of links.now) ends.now }
 {
-    ends.iter()
-        .any(|end| !links.look(*end).is_owned_by(p))
+    ends.iter().any(|end| !links.look(*end).is_owned_by(p))
 }
 
 /// Whether an activity on one of these ends is started or unreported.
