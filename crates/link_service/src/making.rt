@@ -50,7 +50,7 @@ impl Service {
     {
         let owner = self.links().look(e).owner();
         let letter = Letter::of(self.allocator(), bytes, carried)?;
-        self.note_active(e)?;
+        self.learn_for_owner(e, &[e])?;
         self.start_send(e, n, letter);
         self.forget_lost(owner, carried.as_slice());
         Ok(())
@@ -61,7 +61,7 @@ impl Service {
         ensures ok { OnOk result (state_of self.new ≡ record (state_of self.old) { ends = turns_inward inward.Posted e (state_of self.old).ends }) }
         ensures err { OnErr result (state_of self.new ≡ state_of self.old) }
     {
-        self.note_active(e)?;
+        self.learn_for_owner(e, &[e])?;
         self.start_receive(e);
         Ok(())
     }

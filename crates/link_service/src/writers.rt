@@ -32,21 +32,6 @@ impl Service {
         }
     }
 
-    /// An end is noted as one with an activity of its owner, where there is one.
-    #[tactic(auto, unfolding(crate::specs::Service::state_of))]
-    pub(crate) fn note_active(&mut self, e: EndId) -> Result<(), NoMemory>
-        ensures same { state_of self.new ≡ state_of self.old }
-        ensures known { OnOk result (OwnerKnows self.new e (e ∷ [])) }
-    {
-        match self.links.look(e).owner() {
-            Some(p) => {
-                self.processes.activate(p, e)?;
-                Ok(())
-            }
-            None => Ok(()),
-        }
-    }
-
     /// Those of these ends that a process, where it runs, does not own are forgotten among its ends.
     pub(crate) fn forget_lost(&mut self, owner: Option<Pid>, ends: &[EndId])
         ensures { state_of self.new ≡ state_of self.old }
