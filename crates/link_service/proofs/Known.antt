@@ -1,5 +1,5 @@
 -- The ends that processes own stay known over what the steps do with the ends.
-use Rattle.std.proofs.Common.{◌≡◌, ◌≢◌, ◌⊎◌, inl, inr, ℕ, suc, ◌<◌, Bool, true, false, true≢false, cond, nat_eq, ◌&&◌, ◌||◌, not, All, List, [], ◌∷◌, length, get_or, Option, None, Some, is_some, refl, sym, ap, subst, ◌∙◌, if◌then◌else◌, arith}
+use Rattle.std.proofs.Common.{◌≡◌, ◌≢◌, ◌⊎◌, inl, inr, ℕ, zero, suc, ◌<◌, Bool, true, false, true≢false, cond, nat_eq, ◌&&◌, ◌||◌, not, All, List, [], ◌∷◌, length, get_or, Option, None, Some, is_some, refl, sym, ap, subst, ◌∙◌, if◌then◌else◌, arith}
 use Rattle.std.proofs.lemmas.Bool.Decides.{eqb_tells}
 use Rattle.charlotte_calls.specs.Names.{opposite}
 use Rattle.charlotte_calls.specs.declared.names.EndId.{EndId}
@@ -326,9 +326,26 @@ pub AreKnown-unmade : (k : Known) (t : EndId → End) → t ≡ (λ _. unmade) �
 AreKnown-unmade k t none = record { all = λ e p own. absurd (true≢false (sym own ∙ ap (λ (f : EndId → End). is_owned_by p (f e).place) none)) }
 
 -- both ends of a new link are owned by processes that are known to have them
-pub AreKnown-adds : (k : Known) (a b : EndId) (p q : Pid) (t : EndId → End) → AreKnown k t → IsKnown k p a → IsKnown k q b → AreKnown k (put (put t a (fresh (place.Owned p))) b (fresh (place.Owned q)))
+pub AreKnown-adds : (k : Known) (a b : EndId) (p q : Pid) (t : EndId → End) → AreKnown k t → k.held p.0 a ≡ true → k.held q.0 b ≡ true → AreKnown k (put (put t a (fresh (place.Owned p))) b (fresh (place.Owned q)))
 AreKnown-adds k a b p q t known first second =
     AreKnown-put k (put t a (fresh (place.Owned p))) (AreKnown-put k t known a (fresh (place.Owned p)) (MayBe-new a p first)) b (fresh (place.Owned q)) (MayBe-new b q second)
   where
-    MayBe-new : (e : EndId) (r : Pid) → IsKnown k r e → MayBe k e (fresh (place.Owned r))
-    MayBe-new e r is = MayBe-known k e (fresh (place.Owned r)) (λ o own. subst (λ (x : Pid). IsKnown k x e) (sym (same_pid o r own)) is)
+    MayBe-new : (e : EndId) (r : Pid) → k.held r.0 e ≡ true → MayBe k e (fresh (place.Owned r))
+    MayBe-new e r is = λ o own. (subst (λ (x : Pid). k.held x.0 e ≡ true) (sym (same_pid o r own)) is, λ started. absurd (true≢false (sym started)))
+
+All-one : {X : Type 0} (x : X) (P : X → Type 0) → P x → All P (x ∷ [])
+All-one x P holds zero d below = holds
+All-one x P holds (suc i) d below = absurd (omega arith)
+
+-- the owner of an end, which is known to have it, is known to have an activity on it
+pub OwnerKnows-activated : (old new : ServiceView) (e : EndId) (p : Pid) → IsWellKept old → Some p ≡ owner (ends_of old.links e).place → new.links ≡ old.links
+    → Grows (known_of old.processes) (known_of new.processes) → (known_of new.processes).active p.0 e ≡ true → OwnerKnows new e (e ∷ [])
+OwnerKnows-activated old new e p well is links grows active = record { all = λ q own. one q (subst (λ l. is_owned_by q (ends_of l e).place ≡ true) links own) }
+  where
+    one : (q : Pid) → is_owned_by q (ends_of old.links e).place ≡ true → All (IsKnown (known_of new.processes) q) (e ∷ [])
+    one q own =
+        let some : Some p ≡ Some q = is ∙ owner-owned q (ends_of old.links e).place own in
+        let same : p ≡ q = cc in
+        let noted : IsKnown (known_of new.processes) q e =
+        record { held = grows.held q.0 e (well.all e q own).0; active = subst (λ (r : Pid). (known_of new.processes).active r.0 e ≡ true) same active } in
+        All-one e (IsKnown (known_of new.processes) q) noted

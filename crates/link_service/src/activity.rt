@@ -64,6 +64,6 @@ impl Service {
         ensures { result ≡ (is_owned_by p ((state_of self.now).ends e).place && is_active ((state_of self.now).ends e)) }
     {
         let end = self.links().look(e);
-        end.place.is_owned_by(p) && end.is_active()
+        end.is_owned_by(p) && end.is_active()
     }
 }

@@ -5,20 +5,19 @@ ghost use Rattle.service_step.specs.Causes.{first_of, is_cause, is_full, refusal
 ghost use Rattle.service_step.specs.Ends.{owner};
 ghost use Rattle.service_step.specs.State.{next_link, owner_cancels};
 ghost use Rattle.service_step.specs.Steps as steps;
-ghost use Rattle.service_links.specs.Links.{ends_of};
 ghost use Rattle.service_processes.specs.Processes.{HasProcess};
 ghost use Rattle.link_service.specs.Service.{state_of};
 
 use crate::service::Service;
-use charlotte_calls::{Call, Cause, EndId, LinkId, Pid, Side, Way};
-use service_links::{Links, cancel_cause, destroy_cause, receive_cause, send_cause};
-use service_step::End;
-
-/// How many links a kernel may make.
-const LINK_LIMIT: u32 = 65536;
+use charlotte_calls::{Call, Cause, EndId, Pid, Way};
+use service_links::{
+    KeptEnd, LINK_LIMIT, cancel_cause, destroy_cause, is_cancellable, is_new_pair, receive_cause,
+    receive_cause_at, send_cause, send_cause_at,
+};
 
 impl Service {
     /// Whether a process runs.
+    #[inline(always)]
     #[tactic(auto, unfolding(crate::specs::Service::state_of))]
     pub(crate) fn runs(&self, p: Pid) -> bool
         ensures runs { result ≡ steps.runs (state_of self.now) p }
@@ -28,10 +27,11 @@ impl Service {
     }
 
     /// Whether a process owns the end and runs.
-    fn has_running_owner(&self, end: &End) -> bool
+    #[inline(always)]
+    fn has_running_owner(&self, end: &KeptEnd) -> bool
         ensures { result ≡ steps.is_running_owner (state_of self.now) (owner end.now.place) }
     {
-        match end.place.owner() {
+        match end.owner() {
             Some(p) => self.runs(p),
             None => false,
         }
@@ -39,10 +39,10 @@ impl Service {
 
     /// Whether the owner of an end is in a Cancel of its receive.
     #[tactic(auto, unfolding(crate::specs::Service::state_of))]
-    pub(crate) fn owner_cancels(&self, e: EndId, end: &End) -> bool
+    pub(crate) fn owner_cancels(&self, e: EndId, end: &KeptEnd) -> bool
         ensures { result ≡ owner_cancels (owner end.now.place) e (state_of self.now).process }
     {
-        match end.place.owner() {
+        match end.owner() {
             Some(p) => self.processes().phase(p).is_cancelling(e),
             None => false,
         }
@@ -59,7 +59,7 @@ impl Service {
     pub(crate) fn may_destroy(&self, e: EndId) -> bool
         ensures { result ≡ steps.may_destroy (state_of self.now) e }
     {
-        self.has_running_owner(&self.links().look(e))
+        self.has_running_owner(self.links().look(e))
     }
 
     #[tactic(auto, unfolding(crate::specs::Service::state_of))]
@@ -67,11 +67,11 @@ impl Service {
         ensures { result ≡ steps.may_send (state_of self.now) e n enclose.now }
     {
         let end = self.links().look(e);
-        match end.place.owner() {
+        match end.owner() {
             Some(p) => {
                 self.runs(p)
-                    && send_cause(self.links(), p, e, enclose).is_none()
-                    && is_next(n, end.sent)
+                    && send_cause_at(self.links(), end, p, e, enclose).is_none()
+                    && is_next(n, end.sent())
                     && self.fits_version(enclose)
             }
             None => false,
@@ -89,8 +89,9 @@ impl Service {
     pub(crate) fn may_receive(&self, e: EndId) -> bool
         ensures { result ≡ steps.may_receive (state_of self.now) e }
     {
-        match self.links().look(e).place.owner() {
-            Some(p) => self.runs(p) && receive_cause(self.links(), p, e).is_none(),
+        let end = self.links().look(e);
+        match end.owner() {
+            Some(p) => self.runs(p) && receive_cause_at(end, p).is_none(),
             None => false,
         }
     }
@@ -100,7 +101,7 @@ impl Service {
         ensures { result ≡ steps.may_cancel (state_of self.now) e way }
     {
         let end = self.links().look(e);
-        self.has_running_owner(&end) && is_cancellable(way, &end) && !end.noticed
+        self.has_running_owner(end) && is_cancellable(way, end) && !end.noticed()
     }
 
     #[tactic(auto, unfolding(crate::specs::Service::state_of))]
@@ -108,10 +109,10 @@ impl Service {
         ensures { result ≡ steps.may_match (state_of self.now).ends e n }
     {
         let end = self.links().look(e);
-        end.outward.is_waiting()
-            && end.sent == n
-            && !end.noticed
-            && self.links().look(e.opposite()).inward.is_posted()
+        end.is_waiting()
+            && end.sent() == n
+            && !end.noticed()
+            && self.links().look(e.opposite()).inward().is_posted()
     }
 
     #[tactic(auto, unfolding(crate::specs::Service::state_of))]
@@ -120,11 +121,11 @@ impl Service {
     {
         let end = self.links().look(e);
         let opposite = self.links().look(e.opposite());
-        end.outward.is_matched()
-            && end.sent == n
-            && opposite.place.is_owned_by(p)
-            && !opposite.noticed
-            && opposite.inward.is_matched_with(n)
+        end.is_matched()
+            && end.sent() == n
+            && opposite.is_owned_by(p)
+            && !opposite.noticed()
+            && opposite.inward().is_matched_with(n)
             && agree(late, self.processes().phase(p).is_cancelling(e.opposite()))
     }
 
@@ -133,7 +134,7 @@ impl Service {
         ensures { result ≡ steps.may_complete (state_of self.now).ends e n }
     {
         let end = self.links().look(e);
-        end.outward.is_taken() && end.sent == n && end.place.owner().is_some()
+        end.is_taken() && end.sent() == n && end.owner().is_some()
     }
 
     #[tactic(auto, unfolding(crate::specs::Service::state_of))]
@@ -141,7 +142,7 @@ impl Service {
         ensures { result ≡ steps.may_withdraw (state_of self.now) e }
     {
         let end = self.links().look(e);
-        end.inward.is_posted() && self.owner_cancels(e, &end)
+        end.inward().is_posted() && self.owner_cancels(e, end)
     }
 
     #[tactic(auto, unfolding(crate::specs::Service::state_of))]
@@ -149,7 +150,7 @@ impl Service {
         ensures { result ≡ steps.may_free (state_of self.now) e }
     {
         let end = self.links().look(e);
-        end.inward.is_withdrawn() && self.owner_cancels(e, &end)
+        end.inward().is_withdrawn() && self.owner_cancels(e, end)
     }
 
     #[tactic(auto, unfolding(crate::specs::Service::state_of))]
@@ -157,10 +158,10 @@ impl Service {
         ensures { result ≡ steps.may_notice (state_of self.now) e dead }
     {
         let end = self.links().look(e);
-        self.links().look(e.opposite()).place.is_destroyed()
-            && end.place.is_living()
-            && !end.noticed
-            && agree(dead, self.owner_cancels(e, &end))
+        self.links().look(e.opposite()).place().is_destroyed()
+            && end.place().is_living()
+            && !end.noticed()
+            && agree(dead, self.owner_cancels(e, end))
     }
 
     #[tactic(auto, unfolding(crate::specs::Service::state_of))]
@@ -169,11 +170,11 @@ impl Service {
     {
         let end = self.links().look(e);
         let opposite = self.links().look(e.opposite());
-        end.outward.is_matched()
-            && end.sent == n
-            && (opposite.place.is_destroyed() || opposite.noticed)
-            && (end.place.is_destroyed() || end.place.owner().is_some())
-            && agree(dead, !end.noticed && self.owner_cancels(e, &end))
+        end.is_matched()
+            && end.sent() == n
+            && (opposite.place().is_destroyed() || opposite.noticed())
+            && (end.place().is_destroyed() || end.owner().is_some())
+            && agree(dead, !end.noticed() && self.owner_cancels(e, end))
     }
 
     /// The first cause that holds of any call but Wait. It costs no more than a look-up for each enclosed end.
@@ -211,27 +212,8 @@ impl Service {
     }
 }
 
-/// Whether these are the two ends of this link, which has no ends yet.
-#[tactic(auto, unfolding(service_step::specs::Ends::end_eq))]
-fn is_new_pair(links: &Links, link: Option<LinkId>, a: EndId, b: EndId) -> bool
-    ensures { result ≡ steps.is_new_pair (ends_of links.now) link a b }
-{
-    match link {
-        Some(link) => {
-            link.count < LINK_LIMIT
-                && a == EndId {
-                    link,
-                    side: Side::A,
-                }
-                && b == a.opposite()
-                && !links.look(a).place.is_made()
-                && !links.look(b).place.is_made()
-        }
-        None => false,
-    }
-}
-
 /// Whether n is the number after the last.
+#[inline(always)]
 fn is_next(n: u32, last: u32) -> bool
     ensures { result ≡ nat_eq n (last + 1) }
 {
@@ -241,16 +223,8 @@ fn is_next(n: u32, last: u32) -> bool
     }
 }
 
-fn is_cancellable(way: Way, end: &End) -> bool
-    ensures { result ≡ steps.is_cancellable way end.now }
-{
-    match way {
-        Way::Outward => end.outward.is_waiting(),
-        Way::Inward => end.inward.is_posted() || end.inward.is_matched(),
-    }
-}
-
 /// Two tests have the same outcome.
+#[inline(always)]
 fn agree(a: bool, b: bool) -> bool
     ensures { result ≡ steps.agree a b }
 {

@@ -1,6 +1,6 @@
 //! A new link.
-ghost use Rattle.std.specs.Prelude.{◌≡◌, ◌+◌, ◌<◌, Some, OnOk, OnErr, length, slice_get, slice_set};
-ghost use Rattle.service_processes.specs.Known.{known_of, IsKnown};
+ghost use Rattle.std.specs.Prelude.{◌≡◌, ◌+◌, ◌<◌, IsTrue, Some, OnOk, OnErr, length, slice_get, slice_set};
+ghost use Rattle.service_processes.specs.Known.{known_of};
 ghost use Rattle.service_processes.specs.Processes.{HasProcess};
 ghost use Rattle.service_step.specs.Ends.{put, fresh};
 ghost use Rattle.service_step.specs.State.{link_limit};
@@ -26,7 +26,7 @@ impl Service {
             side: Side::A,
         };
         let ends = ((a, owners.0), (a.opposite(), owners.1));
-        self.learn_both(ends.0, ends.1)?;
+        self.hold_both(ends.0, ends.1)?;
         self.add_ends(ends.0, ends.1)?;
         self.count_link(link);
         Ok(())
@@ -34,25 +34,25 @@ impl Service {
 
     /// Each of two ends is noted to be a process's.
     #[tactic(auto, unfolding(crate::specs::Service::state_of))]
-    fn learn_both(&mut self, a: (EndId, Pid), b: (EndId, Pid)) -> Result<(), NoMemory>
+    fn hold_both(&mut self, a: (EndId, Pid), b: (EndId, Pid)) -> Result<(), NoMemory>
         requires first { HasProcess self.old.processes a.1 }
         requires second { HasProcess self.old.processes b.1 }
         ensures same { state_of self.new ≡ state_of self.old }
         ensures made { self.new.made ≡ self.old.made }
         ensures count { length self.new.processes ≡ length self.old.processes }
-        ensures first { OnOk result (IsKnown (known_of self.new.processes) a.1 a.0) }
-        ensures second { OnOk result (IsKnown (known_of self.new.processes) b.1 b.0) }
+        ensures first { OnOk result (IsTrue ((known_of self.new.processes).held a.1.0 a.0)) }
+        ensures second { OnOk result (IsTrue ((known_of self.new.processes).held b.1.0 b.0)) }
     {
-        self.processes.learn(a.1, a.0)?;
-        self.processes.learn(b.1, b.0)?;
+        self.processes.hold(a.1, a.0)?;
+        self.processes.hold(b.1, b.0)?;
         Ok(())
     }
 
     /// Two ends are the processes' that are known to have them.
     #[tactic(auto, unfolding(crate::specs::Service::state_of))]
     fn add_ends(&mut self, a: (EndId, Pid), b: (EndId, Pid)) -> Result<(), NoMemory>
-        requires first { IsKnown (known_of self.old.processes) a.1 a.0 }
-        requires second { IsKnown (known_of self.old.processes) b.1 b.0 }
+        requires first { IsTrue ((known_of self.old.processes).held a.1.0 a.0) }
+        requires second { IsTrue ((known_of self.old.processes).held b.1.0 b.0) }
         ensures ok { OnOk result (state_of self.new ≡ record (state_of self.old) { ends = put (put (state_of self.old).ends a.0 (fresh (Owned a.1))) b.0 (fresh (Owned b.1)) }) }
         ensures err { OnErr result (state_of self.new ≡ state_of self.old) }
         ensures made { self.new.made ≡ self.old.made }

@@ -1,5 +1,5 @@
 //! What the steps do with the service, where they are allowed.
-ghost use Rattle.std.specs.Prelude.{◌≡◌, [], IsTrue, OnOk, OnErr, option_to_list};
+ghost use Rattle.std.specs.Prelude.{◌≡◌, [], IfOk, IsTrue, OnOk, OnErr, option_to_list};
 ghost use Rattle.charlotte_calls.specs.declared.names.Way.TheVariants as way;
 ghost use Rattle.service_step.specs.Ends.{owner, destroys, starts_send, turns_inward, waiting_message, matched_message};
 ghost use Rattle.service_step.specs.State.{send_report as sent_report};
@@ -10,9 +10,10 @@ ghost use Rattle.service_processes.specs.Processes.{HasProcess};
 ghost use Rattle.link_service.specs.Service.{state_of};
 
 use crate::service::Service;
-use charlotte_calls::{Bytes, EndId, Ends, NoMemory, Outcome, Pid, Report, Way};
-use service_links::{matched_ends, no_ends, waiting_ends};
-use service_step::{End, Message, Outward};
+use charlotte_calls::{Bytes, EndId, Ends, Items, NoMemory, Outcome, Pid, Report, Way};
+use service_links::{KeptEnd, Letter};
+use service_processes::KeptReport;
+use std::alloc::Global;
 
 impl Service {
     /// 1: the home of a process makes its next link.
@@ -31,20 +32,26 @@ impl Service {
     pub(crate) fn do_destroy(&mut self, e: EndId)
         ensures { state_of self.new ≡ record (state_of self.old) { ends = destroys e (state_of self.old).ends } }
     {
-        let owner = self.links().look(e).place.owner();
+        let owner = self.links().look(e).owner();
         self.destroy_end(e);
         self.forget_lost(owner, &[e]);
     }
 
     /// 4: a send is started, and the ends that it carries are forgotten among those of the sender.
-    pub(crate) fn do_send(&mut self, e: EndId, n: u32, message: Message) -> Result<(), NoMemory>
-        ensures ok { OnOk result (state_of self.new ≡ record (state_of self.old) { ends = starts_send e n message (state_of self.old).ends }) }
+    pub(crate) fn do_send(
+        &mut self,
+        e: EndId,
+        n: u32,
+        bytes: &Bytes,
+        carried: &Ends,
+    ) -> Result<(), NoMemory>
+        ensures ok { OnOk result (state_of self.new ≡ record (state_of self.old) { ends = starts_send e n (record { bytes = bytes.now; carried = carried.now }) (state_of self.old).ends }) }
         ensures err { OnErr result (state_of self.new ≡ state_of self.old) }
     {
-        let owner = self.links().look(e).place.owner();
-        let carried = message.carried.copy();
+        let owner = self.links().look(e).owner();
+        let letter = Letter::of(self.allocator(), bytes, carried)?;
         self.learn_for_owner(e, &[e])?;
-        self.start_send(e, n, message);
+        self.start_send(e, n, letter);
         self.forget_lost(owner, carried.as_slice());
         Ok(())
     }
@@ -65,8 +72,10 @@ impl Service {
         ensures err { OnErr result (state_of self.new ≡ state_of self.old) }
     {
         let end = self.links().look(e);
-        self.learn_for_owner(e, waiting_ends(&end.outward).as_slice())?;
-        match end.place.owner() {
+        let owner = end.owner();
+        let carried = end.waiting_ends();
+        self.learn_for_owner(e, carried.as_slice())?;
+        match owner {
             Some(p) => {
                 self.withdraw_send(p, e);
                 Ok(())
@@ -101,8 +110,10 @@ impl Service {
     {
         let to = e.opposite();
         let end = self.links().look(e);
-        self.learn_for_owner(to, matched_ends(&end.outward).as_slice())?;
-        self.tell_owner(to, done_report(to, end.outward), None)?;
+        let carried = end.matched_ends();
+        let done = done_report(self.allocator(), to, end)?;
+        self.learn_for_owner(to, carried.as_slice())?;
+        self.tell_owner(to, done, None)?;
         self.take_message(e, p);
         Ok(())
     }
@@ -112,7 +123,9 @@ impl Service {
         ensures ok { OnOk result (state_of self.new ≡ steps.after_complete e (state_of self.old)) }
         ensures err { OnErr result (state_of self.new ≡ state_of self.old) }
     {
-        self.gain_owner(e, Some(send_report(e, Outcome::Done, no_ends())))?;
+        let none = Items::of(Vec::new(self.allocator()));
+        let sent = send_report(self.allocator(), e, Outcome::Done, none);
+        self.gain_owner(e, Some(sent))?;
         self.finish_send(e);
         Ok(())
     }
@@ -131,8 +144,11 @@ impl Service {
         ensures err { OnErr result (state_of self.new ≡ state_of self.old) }
     {
         let end = self.links().look(e);
-        self.learn_for_owner(e, waiting_ends(&end.outward).as_slice())?;
-        self.tell_owner(e, dropped_report(e, &end.outward), dead_report(e, &end))?;
+        let carried = end.waiting_ends();
+        let sent = dropped_report(self.allocator(), e, end)?;
+        let received = dead_report(self.allocator(), e, end);
+        self.learn_for_owner(e, carried.as_slice())?;
+        self.tell_owner(e, sent, received)?;
         self.notice_end(e);
         Ok(())
     }
@@ -142,107 +158,89 @@ impl Service {
         ensures ok { OnOk result (state_of self.new ≡ steps.after_return e (state_of self.old)) }
         ensures err { OnErr result (state_of self.new ≡ state_of self.old) }
     {
-        let end = self.links().look(e);
-        self.learn_for_owner(e, matched_ends(&end.outward).as_slice())?;
-        self.tell_returned(e, &end)?;
+        let carried = self.links().look(e).matched_ends();
+        self.learn_for_owner(e, carried.as_slice())?;
+        self.tell_returned(e)?;
         self.return_message(e);
         Ok(())
     }
 
     /// The owner of an end, where there is one, is told that its message came back, and as by a notice where the end has no mark.
-    fn tell_returned(&mut self, e: EndId, end: &End) -> Result<(), NoMemory>
-        ensures ok { OnOk result (state_of self.new ≡ record (state_of self.old) { process = steps.tells_returned (owner ((state_of self.old).ends e).place) e end.now (state_of self.old).process }) }
+    #[tactic(auto, unfolding(crate::specs::Service::state_of))]
+    fn tell_returned(&mut self, e: EndId) -> Result<(), NoMemory>
+        ensures ok { OnOk result (state_of self.new ≡ record (state_of self.old) { process = steps.tells_returned (owner ((state_of self.old).ends e).place) e ((state_of self.old).ends e) (state_of self.old).process }) }
         ensures err { OnErr result (state_of self.new ≡ state_of self.old) }
         ensures links { self.new.links ≡ self.old.links }
         ensures known { known_of self.new.processes ≡ known_of self.old.processes }
     {
-        let sent = returned_report(e, &end.outward);
-        if end.noticed {
+        let end = self.links().look(e);
+        let sent = returned_report(self.allocator(), e, end)?;
+        if end.noticed() {
             return self.gain_owner(e, sent);
         }
-        self.tell_owner(e, sent, dead_report(e, end))
+        let received = dead_report(self.allocator(), e, end);
+        self.tell_owner(e, sent, received)
     }
 }
 
 /// The report of a send that is over.
-fn send_report(on: EndId, outcome: Outcome, enclosed: Ends) -> Report
+#[inline(always)]
+fn send_report(alloc: Global, on: EndId, outcome: Outcome, enclosed: Items<EndId>) -> KeptReport
     ensures { result ≡ sent_report on outcome enclosed }
 {
-    Report {
-        on,
-        way: Way::Outward,
-        outcome,
-        bytes: no_bytes(),
-        enclosed,
-    }
+    let none = Items::of(Vec::new(alloc));
+    KeptReport::of(on, Way::Outward, outcome, none, enclosed)
 }
 
 /// The report of a receive that takes the Matched message of a send.
-fn done_report(on: EndId, outward: Outward) -> Option<Report>
-    ensures { option_to_list result ≡ steps.done_reports on (matched_message outward) }
+#[inline(always)]
+fn done_report(alloc: Global, on: EndId, end: &KeptEnd) -> Result<Option<KeptReport>, NoMemory>
+    ensures { IfOk result (λ r. option_to_list r ≡ steps.done_reports on (matched_message end.now.outward)) }
 {
-    match outward {
-        Outward::Matched(message) => Some(Report {
-            on,
-            way: Way::Inward,
-            outcome: Outcome::Done,
-            bytes: message.bytes,
-            enclosed: message.carried,
-        }),
-        Outward::Idle | Outward::Waiting(_) | Outward::Taken | Outward::Reported => None,
+    match end.matched() {
+        Some(letter) => {
+            let bytes = letter.bytes(alloc)?;
+            let ends = letter.ends(alloc)?;
+            Ok(Some(KeptReport::of(on, Way::Inward, Outcome::Done, bytes, ends)))
+        }
+        None => Ok(None),
     }
 }
 
 /// The report of a Waiting send whose link died.
-fn dropped_report(e: EndId, outward: &Outward) -> Option<Report>
-    ensures { option_to_list result ≡ steps.returned_reports e (waiting_message outward.now) }
+fn dropped_report(alloc: Global, e: EndId, end: &KeptEnd) -> Result<Option<KeptReport>, NoMemory>
+    ensures { IfOk result (λ r. option_to_list r ≡ steps.returned_reports e (waiting_message end.now.outward)) }
 {
-    match outward {
-        Outward::Waiting(message) => Some(send_report(
-            e,
-            Outcome::Destroyed,
-            message.carried.copy(),
-        )),
-        Outward::Idle | Outward::Matched(_) | Outward::Taken | Outward::Reported => None,
+    match end.waiting() {
+        Some(letter) => {
+            let ends = letter.ends(alloc)?;
+            Ok(Some(send_report(alloc, e, Outcome::Destroyed, ends)))
+        }
+        None => Ok(None),
     }
 }
 
 /// The report of a Matched send whose message comes back.
-fn returned_report(e: EndId, outward: &Outward) -> Option<Report>
-    ensures { option_to_list result ≡ steps.returned_reports e (matched_message outward.now) }
+fn returned_report(alloc: Global, e: EndId, end: &KeptEnd) -> Result<Option<KeptReport>, NoMemory>
+    ensures { IfOk result (λ r. option_to_list r ≡ steps.returned_reports e (matched_message end.now.outward)) }
 {
-    match outward {
-        Outward::Matched(message) => Some(send_report(
-            e,
-            Outcome::Destroyed,
-            message.carried.copy(),
-        )),
-        Outward::Idle | Outward::Waiting(_) | Outward::Taken | Outward::Reported => None,
+    match end.matched() {
+        Some(letter) => {
+            let ends = letter.ends(alloc)?;
+            Ok(Some(send_report(alloc, e, Outcome::Destroyed, ends)))
+        }
+        None => Ok(None),
     }
 }
 
 /// The report of a started receive whose link died.
-fn dead_report(e: EndId, end: &End) -> Option<Report>
+fn dead_report(alloc: Global, e: EndId, end: &KeptEnd) -> Option<KeptReport>
     ensures { option_to_list result ≡ steps.dead_reports e end.now }
 {
-    if !end.inward.is_started() {
+    if !end.inward().is_started() {
         return None;
     }
-    Some(Report {
-        on: e,
-        way: Way::Inward,
-        outcome: Outcome::Destroyed,
-        bytes: no_bytes(),
-        enclosed: no_ends(),
-    })
-}
-
-/// No bytes.
-fn no_bytes() -> Bytes
-    ensures { result ≡ [] }
-{
-    match Bytes::from_slice(&[]) {
-        Some(none) => none,
-        None => unreachable!(),
-    }
+    let bytes = Items::of(Vec::new(alloc));
+    let ends = Items::of(Vec::new(alloc));
+    Some(KeptReport::of(e, Way::Inward, Outcome::Destroyed, bytes, ends))
 }

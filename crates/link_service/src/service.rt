@@ -9,7 +9,7 @@ ghost use Rattle.link_service.specs.declared.service.ApplyFault.TheVariants as f
 use charlotte_calls::{EndId, LinkId, NoMemory, Pid, ServiceStep, Setting};
 use service_links::Links;
 use service_processes::Processes;
-use service_step::{Message, Place};
+use service_step::Place;
 use std::alloc::Global;
 use std::marker::Model;
 
@@ -69,7 +69,7 @@ impl Service {
     pub fn place(&self, end: EndId) -> Place
         ensures { result ≡ ((state_of self.now).ends end).place }
     {
-        self.links().look(end).place
+        self.links().look(end).place()
     }
 
     /// Makes a step, where it is allowed. `NotAllowed` with the step's number comes exactly where it is not. After a fault the
@@ -88,13 +88,7 @@ impl Service {
                 n,
                 bytes,
                 enclose,
-            } => {
-                let message = Message {
-                    bytes: bytes.copy(),
-                    carried: enclose.copy(),
-                };
-                self.send(*on, *n, message)
-            }
+            } => self.send(*on, *n, bytes, enclose),
             ServiceStep::Receive { on } => self.receive(*on),
             ServiceStep::Cancel { on, way } => self.cancel(*on, *way),
             ServiceStep::Wait { p } => self.wait(*p),
@@ -110,22 +104,30 @@ impl Service {
         }
     }
 
+    #[inline(always)]
     pub(crate) fn version(&self) -> u8
         ensures { result ≡ self.now.version }
     {
         self.version
     }
 
+    #[inline(always)]
     pub(crate) fn links(&self) -> &Links
         ensures { result.now ≡ self.now.links }
     {
         &self.links
     }
 
+    #[inline(always)]
     pub(crate) fn processes(&self) -> &Processes
         ensures { result.now ≡ self.now.processes }
     {
         &self.processes
+    }
+
+    #[inline(always)]
+    pub(crate) fn allocator(&self) -> Global {
+        *self.homes.allocator()
     }
 
     /// The name of the next link that the home of a process makes.

@@ -5,8 +5,8 @@ ghost use Rattle.service_step.specs.Steps.{IsServiceStep};
 ghost use Rattle.link_service.specs.Service.{state_of, IsFault};
 
 use crate::service::{ApplyFault, Service};
-use charlotte_calls::{Call, Cause, EndId, Pid, Report, Way};
-use service_step::{Message, Phase};
+use charlotte_calls::{Bytes, Call, Cause, EndId, Ends, Pid, Report, Way};
+use service_step::Phase;
 
 impl Service {
     /// A process makes the next link of its home.
@@ -48,15 +48,21 @@ impl Service {
     }
 
     /// The owner of an end starts a send.
-    pub(crate) fn send(&mut self, e: EndId, n: u32, message: Message) -> Result<(), ApplyFault>
-        ensures ok { OnOk result (IsServiceStep (state_of self.old) (step.Send e n message.bytes message.carried) (state_of self.new)) }
-        ensures fault { IfErr result (IsFault (state_of self.old) (step.Send e n message.bytes message.carried)) }
+    pub(crate) fn send(
+        &mut self,
+        e: EndId,
+        n: u32,
+        bytes: &Bytes,
+        carried: &Ends,
+    ) -> Result<(), ApplyFault>
+        ensures ok { OnOk result (IsServiceStep (state_of self.old) (step.Send e n bytes.now carried.now) (state_of self.new)) }
+        ensures fault { IfErr result (IsFault (state_of self.old) (step.Send e n bytes.now carried.now)) }
         ensures same { OnErr result (state_of self.new ≡ state_of self.old) }
     {
-        if !self.may_send(e, n, message.carried.as_slice()) {
+        if !self.may_send(e, n, carried.as_slice()) {
             return Err(ApplyFault::NotAllowed(4));
         }
-        self.do_send(e, n, message)?;
+        self.do_send(e, n, bytes, carried)?;
         Ok(())
     }
 

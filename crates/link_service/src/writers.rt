@@ -13,8 +13,10 @@ ghost use Rattle.service_step.specs.declared.state.Outward.TheVariants as outwar
 ghost use Rattle.link_service.specs.Service.{state_of, OwnerKnows, HasIdleLast, IsLastActive};
 
 use crate::service::Service;
-use charlotte_calls::{EndId, NoMemory, Pid, Report, Way};
-use service_step::{Inward, Message, Outward, Phase};
+use charlotte_calls::{EndId, NoMemory, Pid, Way};
+use service_links::Letter;
+use service_processes::KeptReport;
+use service_step::{Inward, Phase};
 
 impl Service {
     /// These ends are noted to be the process's that owns an end, where there is one.
@@ -24,7 +26,7 @@ impl Service {
         ensures links { self.new.links ≡ self.old.links }
         ensures known { OnOk result (OwnerKnows self.new e ends.now) }
     {
-        match self.links.look(e).place.owner() {
+        match self.links.look(e).owner() {
             Some(p) => self.processes.learn_each(p, ends),
             None => Ok(()),
         }
@@ -46,7 +48,7 @@ impl Service {
     fn forget_one(&mut self, p: Pid, e: EndId)
         ensures { state_of self.new ≡ state_of self.old }
     {
-        if !self.runs(p) || self.links.look(e).place.is_owned_by(p) {
+        if !self.runs(p) || self.links.look(e).is_owned_by(p) {
             return;
         }
         self.processes.forget(p, e);
@@ -58,15 +60,15 @@ impl Service {
     pub(crate) fn tell_owner(
         &mut self,
         e: EndId,
-        first: Option<Report>,
-        second: Option<Report>,
+        first: Option<KeptReport>,
+        second: Option<KeptReport>,
     ) -> Result<(), NoMemory>
         ensures ok { OnOk result (state_of self.new ≡ record (state_of self.old) { process = tells (owner ((state_of self.old).ends e).place) e (option_to_list first ++ option_to_list second) (state_of self.old).process }) }
         ensures err { OnErr result (state_of self.new ≡ state_of self.old) }
         ensures links { self.new.links ≡ self.old.links }
         ensures known { known_of self.new.processes ≡ known_of self.old.processes }
     {
-        match self.links.look(e).place.owner() {
+        match self.links.look(e).owner() {
             Some(p) => self.processes.tell(p, e, first, second),
             None => Ok(()),
         }
@@ -74,13 +76,17 @@ impl Service {
 
     /// The owner of an end, where there is one, gains a report.
     #[tactic(auto, unfolding(crate::specs::Service::state_of))]
-    pub(crate) fn gain_owner(&mut self, e: EndId, report: Option<Report>) -> Result<(), NoMemory>
+    pub(crate) fn gain_owner(
+        &mut self,
+        e: EndId,
+        report: Option<KeptReport>,
+    ) -> Result<(), NoMemory>
         ensures ok { OnOk result (state_of self.new ≡ record (state_of self.old) { process = gains_owner (owner ((state_of self.old).ends e).place) (option_to_list report) (state_of self.old).process }) }
         ensures err { OnErr result (state_of self.new ≡ state_of self.old) }
         ensures links { self.new.links ≡ self.old.links }
         ensures known { known_of self.new.processes ≡ known_of self.old.processes }
     {
-        match self.links.look(e).place.owner() {
+        match self.links.look(e).owner() {
             Some(p) => self.processes.gain(p, report, None),
             None => Ok(()),
         }
@@ -91,7 +97,7 @@ impl Service {
     pub(crate) fn wake_owner(&mut self, e: EndId)
         ensures { state_of self.new ≡ record (state_of self.old) { process = wakes_owner (owner ((state_of self.old).ends e).place) e (state_of self.old).process } }
     {
-        match self.links.look(e).place.owner() {
+        match self.links.look(e).owner() {
             Some(p) => self.processes.wake(p, e),
             None => {}
         }
@@ -102,7 +108,7 @@ impl Service {
     pub(crate) fn cancel_receive(&mut self, e: EndId)
         ensures { state_of self.new ≡ after_cancel (owner ((state_of self.old).ends e).place) e way.Inward (state_of self.old) }
     {
-        match self.links.look(e).place.owner() {
+        match self.links.look(e).owner() {
             Some(p) => self.processes.turn(p, Phase::Cancelling(e)),
             None => {}
         }
@@ -174,11 +180,11 @@ impl Service {
 
     /// A send is started.
     #[tactic(auto, unfolding(crate::specs::Service::state_of))]
-    pub(crate) fn start_send(&mut self, e: EndId, n: u32, message: Message)
+    pub(crate) fn start_send(&mut self, e: EndId, n: u32, letter: Letter)
         requires { OwnerKnows self.old e (e ∷ []) }
-        ensures { state_of self.new ≡ record (state_of self.old) { ends = starts_send e n message (state_of self.old).ends } }
+        ensures { state_of self.new ≡ record (state_of self.old) { ends = starts_send e n letter (state_of self.old).ends } }
     {
-        self.links.start_send(e, n, message);
+        self.links.start_send(e, n, letter);
     }
 
     /// A receive is started.
@@ -212,7 +218,7 @@ impl Service {
     pub(crate) fn finish_send(&mut self, e: EndId)
         ensures { state_of self.new ≡ record (state_of self.old) { ends = turns_outward outward.Reported e (state_of self.old).ends } }
     {
-        self.links.turn_outward(Outward::Reported, e);
+        self.links.finish_send(e);
     }
 
     /// The activity of a way is idle again.

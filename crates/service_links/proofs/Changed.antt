@@ -75,6 +75,10 @@ module _ (old new : List (EndId × End)) (e : EndId) (x end : End)
       by false q made true same = ap (λ m. cond m end x) made ∙ sym here ∙ ap t (end_eq-same e q same) ∙ sym (ap (λ m. cond m (put t e end) t q) (ap (λ z. is_made z.place) here ∙ made))
       by false q made false apart = sym (ap (λ m. cond m (put t e end) t q) (ap (λ z. is_made z.place) here ∙ made))
 
+-- an end becomes what f makes of it
+pub puts_by : (f : End → End) (old new : List (EndId × End)) (e : EndId) (x : End) → Some x ≡ lookup (end_eq e) old → Changes old new e (changed (f x) x) → ends_of new ≡ puts e (f (ends_of old e)) (ends_of old)
+puts_by f old new e x some h = ends_of-Changes old new e x (f x) some h ∙ ap (λ (z : End). puts e (f z) (ends_of old)) (sym (ends_of-some old e x some))
+
 -- an end without a place stays as it is
 pub puts-none : (places : List (EndId × End)) (e : EndId) (end : End) → None ≡ lookup (end_eq e) places → ends_of places ≡ puts e end (ends_of places)
 unfolding puts

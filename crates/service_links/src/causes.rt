@@ -1,19 +1,20 @@
 //! Why a call on an end is refused: the first cause of the call that holds.
-ghost use Rattle.std.specs.Prelude.{◌≡◌, ◌∷◌, []};
+ghost use Rattle.std.specs.Prelude.{◌≡◌, ◌∷◌, [], not};
 ghost use Rattle.std.specs.List.{list_any};
 ghost use Rattle.service_step.specs.Causes.{no_end, first_of, send_causes, receive_causes, cancel_causes, same_link, names_twice, is_missing_one, has_busy_one, is_late, has_no_activity};
-ghost use Rattle.service_step.specs.Ends.{end_eq};
+ghost use Rattle.charlotte_calls.specs.declared.calls.Cause.TheVariants as cause;
+ghost use Rattle.service_step.specs.Ends.{end_eq, is_idle_inward, is_owned_by};
 ghost use Rattle.service_links.specs.Links.{ends_of};
 
-use crate::Links;
+use crate::{KeptEnd, Links};
 use charlotte_calls::{Cause, EndId, Pid, Way};
-use service_step::{End, Inward, Outward};
+use service_step::Inward;
 
 /// The first cause of a Destroy that holds.
 pub fn destroy_cause(links: &Links, p: Pid, on: EndId) -> Option<Cause>
     ensures { result ≡ first_of (no_end p (ends_of links.now) on ∷ []) }
 {
-    if links.look(on).place.is_owned_by(p) {
+    if links.look(on).is_owned_by(p) {
         return None;
     }
     Some(Cause::NoEnd)
@@ -23,14 +24,27 @@ pub fn destroy_cause(links: &Links, p: Pid, on: EndId) -> Option<Cause>
 pub fn send_cause(links: &Links, p: Pid, on: EndId, enclose: &[EndId]) -> Option<Cause>
     ensures { result ≡ first_of (send_causes p (ends_of links.now) on enclose.now) }
 {
-    let end = links.look(on);
-    if !end.place.is_owned_by(p) {
+    send_cause_at(links, links.look(on), p, on, enclose)
+}
+
+/// The first cause of a Send that holds, where what the end is was looked up.
+pub fn send_cause_at(
+    links: &Links,
+    end: &KeptEnd,
+    p: Pid,
+    on: EndId,
+    enclose: &[EndId],
+) -> Option<Cause>
+    requires { end.now ≡ ends_of links.now on }
+    ensures { result ≡ first_of (send_causes p (ends_of links.now) on enclose.now) }
+{
+    if !end.is_owned_by(p) {
         return Some(Cause::NoEnd);
     }
-    if !end.outward.is_idle() {
+    if !end.is_idle_outward() {
         return Some(Cause::Busy);
     }
-    if end.noticed {
+    if end.noticed() {
         return Some(Cause::Dead);
     }
     if is_missing_one(links, p, enclose) {
@@ -52,14 +66,20 @@ pub fn send_cause(links: &Links, p: Pid, on: EndId, enclose: &[EndId]) -> Option
 pub fn receive_cause(links: &Links, p: Pid, on: EndId) -> Option<Cause>
     ensures { result ≡ first_of (receive_causes p (ends_of links.now) on) }
 {
-    let end = links.look(on);
-    if !end.place.is_owned_by(p) {
+    receive_cause_at(links.look(on), p)
+}
+
+/// The first cause of a Receive on this end that holds.
+pub fn receive_cause_at(end: &KeptEnd, p: Pid) -> Option<Cause>
+    ensures { result ≡ first_of ((not (is_owned_by p end.now.place), cause.NoEnd) ∷ (not (is_idle_inward end.now.inward), cause.Busy) ∷ (end.now.noticed, cause.Dead) ∷ []) }
+{
+    if !end.is_owned_by(p) {
         return Some(Cause::NoEnd);
     }
-    if !end.inward.is_idle() {
+    if !end.inward().is_idle() {
         return Some(Cause::Busy);
     }
-    if end.noticed {
+    if end.noticed() {
         return Some(Cause::Dead);
     }
     None
@@ -70,39 +90,36 @@ pub fn cancel_cause(links: &Links, p: Pid, on: EndId, way: Way) -> Option<Cause>
     ensures { result ≡ first_of (cancel_causes p (ends_of links.now) on way) }
 {
     let end = links.look(on);
-    if !end.place.is_owned_by(p) {
+    if !end.is_owned_by(p) {
         return Some(Cause::NoEnd);
     }
-    if end.noticed {
+    if end.noticed() {
         return Some(Cause::Dead);
     }
-    if is_late(way, &end) {
+    if is_late(way, end) {
         return Some(Cause::Late);
     }
-    if has_no_activity(way, &end) {
+    if has_no_activity(way, end) {
         return Some(Cause::NoActivity);
     }
     None
 }
 
-fn is_late(way: Way, end: &End) -> bool
+fn is_late(way: Way, end: &KeptEnd) -> bool
     ensures { result ≡ is_late way end.now }
 {
     match way {
-        Way::Outward => matches!(
-            end.outward,
-            Outward::Matched(_) | Outward::Taken | Outward::Reported
-        ),
-        Way::Inward => matches!(end.inward, Inward::Reported),
+        Way::Outward => end.is_past_waiting(),
+        Way::Inward => matches!(end.inward(), Inward::Reported),
     }
 }
 
-fn has_no_activity(way: Way, end: &End) -> bool
+fn has_no_activity(way: Way, end: &KeptEnd) -> bool
     ensures { result ≡ has_no_activity way end.now }
 {
     match way {
-        Way::Outward => end.outward.is_idle(),
-        Way::Inward => end.inward.is_idle(),
+        Way::Outward => end.is_idle_outward(),
+        Way::Inward => end.inward().is_idle(),
     }
 }
 
@@ -110,8 +127,7 @@ fn has_no_activity(way: Way, end: &End) -> bool
 fn is_missing_one(links: &Links, p: Pid, ends: &[EndId]) -> bool
     ensures { result ≡ is_missing_one p (ends_of links.now) ends.now }
 {
-    ends.iter()
-        .any(|end| !links.look(*end).place.is_owned_by(p))
+    ends.iter().any(|end| !links.look(*end).is_owned_by(p))
 }
 
 /// Whether an activity on one of these ends is started or unreported.

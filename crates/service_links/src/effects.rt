@@ -1,20 +1,21 @@
 //! What the steps do with the ends: each writer makes of them what its word makes of them.
-ghost use Rattle.std.specs.Prelude.{◌≡◌, []};
-ghost use Rattle.service_step.specs.Ends.{puts, places, waiting_message, matched_message, carried_by, dropped, destroys, destroys_owned, destroys_each, starts_send, turns_inward, turns_outward, idles, withdraws_send, matches, matched_outward, takes, notices, noticed_end, noticed_outward, noticed_inward, returned_end, returns, to_owner};
+ghost use Rattle.std.specs.Prelude.{◌≡◌};
+ghost use Rattle.service_step.specs.Ends.{puts, places, destroys, destroys_owned, destroys_each, starts_send, turns_inward, turns_outward, idles, withdraws_send, matches, matched_outward, takes, notices, returns, to_owner};
+ghost use Rattle.service_step.specs.declared.state.Outward.TheVariants.{Reported};
+ghost use Rattle.service_links.specs.Kept.{outward_of};
 ghost use Rattle.service_links.specs.Links.{ends_of};
 
-use crate::Links;
-use charlotte_calls::{EndId, Ends, Pid, Way};
-use service_step::{End, Inward, Message, Outward, Place};
+use crate::kept::{Change, Stage};
+use crate::{Letter, Links};
+use charlotte_calls::{EndId, Pid, Way};
+use service_step::{Inward, Place};
 
 impl Links {
     /// An end comes to a place.
     fn place(&mut self, at: Place, e: EndId)
         ensures { ends_of self.new ≡ puts e (record (ends_of self.old e) { place = at }) (ends_of self.old) }
     {
-        let mut end = self.look(e);
-        end.place = at;
-        self.set(e, end);
+        self.change(e, Change::Comes(at));
     }
 
     /// These ends come to a place, in their order.
@@ -33,11 +34,8 @@ impl Links {
     pub fn destroy(&mut self, e: EndId)
         ensures { ends_of self.new ≡ destroys e (ends_of self.old) }
     {
-        let mut end = self.look(e);
-        let carried = waiting_ends(&end.outward);
-        end.place = Place::Destroyed;
-        end.outward = dropped(end.outward);
-        self.set(e, end);
+        let carried = self.look(e).waiting_ends();
+        self.change(e, Change::Dies);
         self.place_each(Place::Destroyed, carried.as_slice());
     }
 
@@ -46,7 +44,7 @@ impl Links {
     fn destroy_owned(&mut self, p: Pid, e: EndId)
         ensures { ends_of self.new ≡ destroys_owned p e (ends_of self.old) }
     {
-        if self.look(e).place.is_owned_by(p) {
+        if self.look(e).is_owned_by(p) {
             self.destroy(e);
         }
     }
@@ -63,14 +61,11 @@ impl Links {
 
     /// A send is started: its message waits, and the ends that it carries are in it.
     #[tactic(auto, unfolding(service_step::specs::Ends::starts_send))]
-    pub fn start_send(&mut self, e: EndId, n: u32, message: Message)
-        ensures { ends_of self.new ≡ starts_send e n message (ends_of self.old) }
+    pub fn start_send(&mut self, e: EndId, n: u32, letter: Letter)
+        ensures { ends_of self.new ≡ starts_send e n letter (ends_of self.old) }
     {
-        let carried = message.carried.copy();
-        let mut end = self.look(e);
-        end.outward = Outward::Waiting(message);
-        end.sent = n;
-        self.set(e, end);
+        let carried = letter.carried();
+        self.change(e, Change::Starts(n, letter));
         self.place_each(Place::InMessage(e, n), carried.as_slice());
     }
 
@@ -79,19 +74,30 @@ impl Links {
     pub fn turn_inward(&mut self, to: Inward, e: EndId)
         ensures { ends_of self.new ≡ turns_inward to e (ends_of self.old) }
     {
-        let mut end = self.look(e);
-        end.inward = to;
-        self.set(e, end);
+        self.change(e, Change::Receives(to));
     }
 
     /// The send of an end comes so far.
     #[tactic(auto, unfolding(service_step::specs::Ends::turns_outward))]
-    pub fn turn_outward(&mut self, to: Outward, e: EndId)
-        ensures { ends_of self.new ≡ turns_outward to e (ends_of self.old) }
+    fn turn_outward(&mut self, to: Stage, e: EndId)
+        ensures { ends_of self.new ≡ turns_outward (outward_of to) e (ends_of self.old) }
     {
-        let mut end = self.look(e);
-        end.outward = to;
-        self.set(e, end);
+        self.change(e, Change::Sends(to));
+    }
+
+    /// The send of an end is over.
+    pub fn finish_send(&mut self, e: EndId)
+        ensures { ends_of self.new ≡ turns_outward Reported e (ends_of self.old) }
+    {
+        self.turn_outward(Stage::Reported, e);
+    }
+
+    /// The send of an end is matched.
+    #[tactic(auto, unfolding(service_step::specs::Ends::turns_outward))]
+    fn match_outward(&mut self, e: EndId)
+        ensures { ends_of self.new ≡ turns_outward (matched_outward (ends_of self.old e).outward) e (ends_of self.old) }
+    {
+        self.change(e, Change::Matches);
     }
 
     /// The activity of a way is idle again.
@@ -100,7 +106,7 @@ impl Links {
         ensures { ends_of self.new ≡ idles way e (ends_of self.old) }
     {
         match way {
-            Way::Outward => self.turn_outward(Outward::Idle, e),
+            Way::Outward => self.turn_outward(Stage::Idle, e),
             Way::Inward => self.turn_inward(Inward::Idle, e),
         }
     }
@@ -110,8 +116,8 @@ impl Links {
     pub fn withdraw_send(&mut self, p: Pid, e: EndId)
         ensures { ends_of self.new ≡ withdraws_send p e (ends_of self.old) }
     {
-        let carried = waiting_ends(&self.look(e).outward);
-        self.turn_outward(Outward::Idle, e);
+        let carried = self.look(e).waiting_ends();
+        self.turn_outward(Stage::Idle, e);
         self.place_each(Place::Owned(p), carried.as_slice());
     }
 
@@ -120,8 +126,7 @@ impl Links {
     pub fn match_send(&mut self, e: EndId, n: u32)
         ensures { ends_of self.new ≡ matches e n (ends_of self.old) }
     {
-        let outward = self.look(e).outward;
-        self.turn_outward(matched(outward), e);
+        self.match_outward(e);
         self.turn_inward(Inward::Matched(n), e.opposite());
     }
 
@@ -130,8 +135,8 @@ impl Links {
     pub fn take_message(&mut self, e: EndId, p: Pid)
         ensures { ends_of self.new ≡ takes e p (ends_of self.old) }
     {
-        let carried = matched_ends(&self.look(e).outward);
-        self.turn_outward(Outward::Taken, e);
+        let carried = self.look(e).matched_ends();
+        self.turn_outward(Stage::Taken, e);
         self.turn_inward(Inward::Reported, e.opposite());
         self.place_each(Place::Owned(p), carried.as_slice());
     }
@@ -151,9 +156,9 @@ impl Links {
         ensures { ends_of self.new ≡ notices e (ends_of self.old) }
     {
         let end = self.look(e);
-        let to = end.place.owner();
-        let carried = waiting_ends(&end.outward);
-        self.set(e, noticed(end));
+        let to = end.owner();
+        let carried = end.waiting_ends();
+        self.change(e, Change::Notices);
         self.to_owner(to, carried.as_slice());
     }
 
@@ -163,108 +168,14 @@ impl Links {
         ensures { ends_of self.new ≡ returns e (ends_of self.old) }
     {
         let end = self.look(e);
-        let carried = matched_ends(&end.outward);
-        if end.place.is_destroyed() {
-            self.turn_outward(Outward::Idle, e);
+        let carried = end.matched_ends();
+        if end.place().is_destroyed() {
+            self.turn_outward(Stage::Idle, e);
             self.place_each(Place::Destroyed, carried.as_slice());
             return;
         }
-        let to = end.place.owner();
-        self.set(e, returned(end));
+        let to = end.owner();
+        self.change(e, Change::Returns);
         self.to_owner(to, carried.as_slice());
     }
-}
-
-/// The ends that a Waiting message carries.
-pub fn waiting_ends(outward: &Outward) -> Ends
-    ensures { result ≡ carried_by (waiting_message outward.now) }
-{
-    match outward {
-        Outward::Waiting(message) => message.carried.copy(),
-        Outward::Idle | Outward::Matched(_) | Outward::Taken | Outward::Reported => no_ends(),
-    }
-}
-
-/// The ends that a Matched message carries.
-pub fn matched_ends(outward: &Outward) -> Ends
-    ensures { result ≡ carried_by (matched_message outward.now) }
-{
-    match outward {
-        Outward::Matched(message) => message.carried.copy(),
-        Outward::Idle | Outward::Waiting(_) | Outward::Taken | Outward::Reported => no_ends(),
-    }
-}
-
-/// No ends.
-pub fn no_ends() -> Ends
-    ensures { result ≡ [] }
-{
-    match Ends::from_slice(&[]) {
-        Some(none) => none,
-        None => unreachable!(),
-    }
-}
-
-/// What a destroyed end leaves of its send.
-fn dropped(outward: Outward) -> Outward
-    ensures { result ≡ dropped outward }
-{
-    match outward {
-        Outward::Waiting(_) => Outward::Idle,
-        other => other,
-    }
-}
-
-/// What a match makes of a send.
-fn matched(outward: Outward) -> Outward
-    ensures { result ≡ matched_outward outward }
-{
-    match outward {
-        Outward::Waiting(message) => Outward::Matched(message),
-        other => other,
-    }
-}
-
-/// What a notice makes of a send.
-fn noticed_outward(outward: Outward) -> Outward
-    ensures { result ≡ noticed_outward outward }
-{
-    match outward {
-        Outward::Waiting(_) => Outward::Reported,
-        other => other,
-    }
-}
-
-/// What a notice makes of a receive.
-fn noticed_inward(inward: Inward) -> Inward
-    ensures { result ≡ noticed_inward inward }
-{
-    if inward.is_started() {
-        return Inward::Reported;
-    }
-    inward
-}
-
-/// What a notice makes of an end.
-fn noticed(end: End) -> End
-    ensures { result ≡ noticed_end end }
-{
-    End {
-        place: end.place,
-        outward: noticed_outward(end.outward),
-        inward: noticed_inward(end.inward),
-        sent: end.sent,
-        noticed: true,
-    }
-}
-
-/// What a message that comes back makes of an owned end.
-fn returned(mut end: End) -> End
-    ensures { result ≡ returned_end end }
-{
-    end.outward = Outward::Reported;
-    if end.noticed {
-        return end;
-    }
-    noticed(end)
 }

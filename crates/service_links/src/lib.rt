@@ -3,9 +3,16 @@
 #![tactic(auto)]
 
 mod causes;
+mod conditions;
 mod effects;
+mod kept;
+mod letter;
 mod links;
 
-pub use causes::{cancel_cause, destroy_cause, receive_cause, send_cause};
-pub use effects::{matched_ends, no_ends, waiting_ends};
+pub use causes::{
+    cancel_cause, destroy_cause, receive_cause, receive_cause_at, send_cause, send_cause_at,
+};
+pub use conditions::{LINK_LIMIT, is_cancellable, is_new_pair};
+pub use kept::{KeptEnd, no_ends};
+pub use letter::Letter;
 pub use links::Links;

@@ -1,28 +1,35 @@
 ghost use Rattle.std.specs.Prelude.{◌≡◌, OnOk, OnErr, if◌then◌else◌};
 ghost use Rattle.service_step.specs.Ends.{is_made, put, puts, fresh, unmade};
 ghost use Rattle.service_step.specs.declared.state.Place.TheVariants.{Owned};
+ghost use Rattle.service_links.specs.Kept.{after};
 ghost use Rattle.service_links.specs.Links.{ends_of};
 
+use crate::kept::{Change, KeptEnd};
 use charlotte_calls::{EndId, NoMemory, Pid};
 use indexmap::IndexMap;
-use service_step::{End, Place};
+use service_step::Place;
 use std::alloc::Global;
 use std::marker::Model;
 
 /// The ends of all links. Contracts see what each end is. A look-up costs one hash.
 #[derive(Drop)]
 pub struct Links {
-    ends: IndexMap<EndId, End>,
+    ends: IndexMap<EndId, KeptEnd>,
+    /// What is lent for an end of no made link.
+    no_end: KeptEnd,
 }
 
 impl Model for Links {
-    ghost use Rattle.std.specs.Prelude.{List};
+    ghost use Rattle.std.specs.Prelude.{◌≡◌, List};
     ghost use Rattle.charlotte_calls.specs.declared.names.EndId.{EndId};
     ghost use Rattle.service_step.specs.declared.state.End.{End};
+    ghost use Rattle.service_step.specs.Ends.{unmade};
 
     ghost Value = { List (EndId × End) };
 
     ghost view = { λ t. t.ends.entries };
+
+    ghost invariant = { λ t. t.no_end ≡ unmade };
 }
 
 impl Links {
@@ -32,26 +39,29 @@ impl Links {
     {
         Links {
             ends: IndexMap::new(alloc),
+            no_end: KeptEnd::fresh(Place::Unmade),
         }
     }
 
-    /// What an end is. An end of no made link is `Unmade`, and idle.
-    pub fn look(&self, e: EndId) -> End
-        ensures { result ≡ ends_of self.now e }
+    /// What an end is, lent. An end of no made link is `Unmade`, and idle.
+    #[inline(always)]
+    pub fn look(&self, e: EndId) -> &KeptEnd
+        ensures { result.now ≡ ends_of self.now e }
     {
         match self.ends.get(&e) {
-            Some(end) => end.copy(),
-            None => End::fresh(Place::Unmade),
+            Some(end) => end,
+            None => &self.no_end,
         }
     }
 
-    /// An end becomes this, where its link was made.
-    pub(crate) fn set(&mut self, e: EndId, end: End)
-        ensures { ends_of self.new ≡ puts e end (ends_of self.old) }
+    /// A change happens to an end, where its link was made.
+    #[inline(always)]
+    pub(crate) fn change(&mut self, e: EndId, change: Change)
+        ensures { ends_of self.new ≡ puts e (after change (ends_of self.old e)) (ends_of self.old) }
     {
         match self.ends.get_mut(&e) {
-            Some(kept) => change(kept, end),
-            None => {}
+            Some(kept) => change_made(kept, change),
+            None => lets_go(change),
         }
     }
 
@@ -61,17 +71,22 @@ impl Links {
         ensures err { OnErr result (self.new ≡ self.old) }
     {
         self.ends.reserve(2)?;
-        self.ends.insert(a.0, End::fresh(Place::Owned(a.1)))?;
-        self.ends.insert(b.0, End::fresh(Place::Owned(b.1)))?;
+        self.ends.insert(a.0, KeptEnd::fresh(Place::Owned(a.1)))?;
+        self.ends.insert(b.0, KeptEnd::fresh(Place::Owned(b.1)))?;
         Ok(())
     }
 }
 
-/// An end of a made link becomes another, and one of no made link stays.
-fn change(kept: &mut End, end: End)
-    ensures { kept.new ≡ (if is_made kept.old.place then end else kept.old) }
+/// A change happens to an end of a made link, and one of no made link stays.
+#[inline(always)]
+fn change_made(kept: &mut KeptEnd, change: Change)
+    ensures { kept.new ≡ (if is_made kept.old.place then after change kept.old else kept.old) }
 {
-    if kept.place.is_made() {
-        *kept = end;
+    if kept.place().is_made() {
+        kept.change(change);
     }
 }
+
+/// Nothing happens.
+#[inline(always)]
+fn lets_go(_change: Change) {}

@@ -118,12 +118,23 @@ module _ (xs : List ControlBlock) (i : ℕ) (d y : ControlBlock) (p : Pid)
       }
 
   -- an end of the process that is set is known
+  pub held-noted : (e : EndId) → list_any (end_eq e) (held_ends y) ≡ true → (known_of (slice_set xs i y)).held p.0 e ≡ true
+  held-noted e held = held_at p.0 e ∙ ap (λ b. cond b (list_any (end_eq e) (held_ends y)) ((known_of xs).held p.0 e)) number ∙ held
+
+  pub active-noted : (e : EndId) → list_any (end_eq e) (active_ends y) ≡ true → (known_of (slice_set xs i y)).active p.0 e ≡ true
+  active-noted e active = active_at p.0 e ∙ ap (λ b. cond b (list_any (end_eq e) (active_ends y)) ((known_of xs).active p.0 e)) number ∙ active
+
   pub known-noted : (e : EndId) → list_any (end_eq e) (held_ends y) ≡ true → list_any (end_eq e) (active_ends y) ≡ true → IsKnown (known_of (slice_set xs i y)) p e
-  known-noted e held active =
-      record {
-        held = held_at p.0 e ∙ ap (λ b. cond b (list_any (end_eq e) (held_ends y)) ((known_of xs).held p.0 e)) number ∙ held;
-        active = active_at p.0 e ∙ ap (λ b. cond b (list_any (end_eq e) (active_ends y)) ((known_of xs).active p.0 e)) number ∙ active;
-      }
+  known-noted e held active = record { held = held-noted e held; active = active-noted e active }
+
+  -- the ends with an activity stay, or the others
+  pub holds-more : ((e : EndId) → list_any (end_eq e) (held_ends d) ≡ true → list_any (end_eq e) (held_ends y) ≡ true) → active_ends y ≡ active_ends d
+      → Grows (known_of xs) (known_of (slice_set xs i y))
+  holds-more held active = known-grows held (λ e is. ap (list_any (end_eq e)) active ∙ is)
+
+  pub activates-more : held_ends y ≡ held_ends d → ((e : EndId) → list_any (end_eq e) (active_ends d) ≡ true → list_any (end_eq e) (active_ends y) ≡ true)
+      → Grows (known_of xs) (known_of (slice_set xs i y))
+  activates-more held active = known-grows (λ e is. ap (list_any (end_eq e)) held ∙ is) active
 
   -- a test of a process's ends without one of them
   lacks : (old new : ℕ → EndId → Bool) (was now : EndId → Bool) (e : EndId) → ((g : EndId) → old p.0 g ≡ was g) → ((q : ℕ) (g : EndId) → new q g ≡ cond (nat_eq p.0 q) (now g) (old q g))

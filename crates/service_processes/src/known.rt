@@ -24,6 +24,32 @@ impl Processes {
         Ok(())
     }
 
+    /// An end is noted among those of a process. After want of memory nothing has changed.
+    pub fn hold(&mut self, p: Pid, e: EndId) -> Result<(), NoMemory>
+        requires { HasProcess self.old p }
+        ensures process { process_of self.new ≡ process_of self.old }
+        ensures count { length self.new ≡ length self.old }
+        ensures grows { Grows (known_of self.old) (known_of self.new) }
+        ensures known { OnOk result (IsTrue ((known_of self.new).held p.0 e)) }
+    {
+        let block = self.at_mut(usize::from(p.0));
+        note_held(block, e)?;
+        Ok(())
+    }
+
+    /// An end is noted among those of a process with an activity. After want of memory nothing has changed.
+    pub fn activate(&mut self, p: Pid, e: EndId) -> Result<(), NoMemory>
+        requires { HasProcess self.old p }
+        ensures process { process_of self.new ≡ process_of self.old }
+        ensures count { length self.new ≡ length self.old }
+        ensures grows { Grows (known_of self.old) (known_of self.new) }
+        ensures known { OnOk result (IsTrue ((known_of self.new).active p.0 e)) }
+    {
+        let block = self.at_mut(usize::from(p.0));
+        note_active(block, e)?;
+        Ok(())
+    }
+
     /// Each of these ends is noted among those of a process, also as one with an activity. After want of memory some of them may be
     /// noted.
     pub fn learn_each(&mut self, p: Pid, ends: &[EndId]) -> Result<(), NoMemory>
@@ -74,7 +100,29 @@ fn note(block: &mut ControlBlock, e: EndId) -> Result<(), NoMemory>
     ensures noted_held { OnOk result (IsTrue (list_any (end_eq e) block.new.held.keys)) }
     ensures noted_active { OnOk result (IsTrue (list_any (end_eq e) block.new.active.keys)) }
 {
+    note_held(block, e)?;
+    note_active(block, e)?;
+    Ok(())
+}
+
+/// Notes an end among those of a process.
+fn note_held(block: &mut ControlBlock, e: EndId) -> Result<(), NoMemory>
+    ensures process { process_state block.new ≡ process_state block.old }
+    ensures held { (q : EndId) → IsTrue (list_any (end_eq q) block.old.held.keys) → IsTrue (list_any (end_eq q) block.new.held.keys) }
+    ensures active { block.new.active ≡ block.old.active }
+    ensures noted { OnOk result (IsTrue (list_any (end_eq e) block.new.held.keys)) }
+{
     add(&mut block.held, e)?;
+    Ok(())
+}
+
+/// Notes an end among those of a process with an activity.
+fn note_active(block: &mut ControlBlock, e: EndId) -> Result<(), NoMemory>
+    ensures process { process_state block.new ≡ process_state block.old }
+    ensures held { block.new.held ≡ block.old.held }
+    ensures active { (q : EndId) → IsTrue (list_any (end_eq q) block.old.active.keys) → IsTrue (list_any (end_eq q) block.new.active.keys) }
+    ensures noted { OnOk result (IsTrue (list_any (end_eq e) block.new.active.keys)) }
+{
     add(&mut block.active, e)?;
     Ok(())
 }

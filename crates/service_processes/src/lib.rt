@@ -4,6 +4,8 @@
 
 mod known;
 mod processes;
+mod report;
 mod writers;
 
 pub use processes::{ControlBlock, Processes};
+pub use report::KeptReport;

@@ -7,7 +7,8 @@ ghost use Rattle.service_processes.specs.Known.{held_by, active_of};
 ghost use Rattle.service_processes.specs.Lending.{LendsBlock};
 ghost use Rattle.service_processes.specs.declared.processes.ControlBlock.{ControlBlock};
 
-use charlotte_calls::{EndId, NoMemory, Pid, Report};
+use crate::KeptReport;
+use charlotte_calls::{EndId, NoMemory, Pid};
 use indexmap::IndexSet;
 use service_step::Phase;
 use std::alloc::Global;
@@ -19,7 +20,7 @@ use std::marker::Model;
 pub struct ControlBlock {
     pub phase: Phase,
     /// The reports that it was not given yet, oldest first.
-    pub reports: VecDeque<Report>,
+    pub reports: VecDeque<KeptReport>,
     /// The ends that it owns, and perhaps others.
     pub held: IndexSet<EndId>,
     /// The ends that it owns on which an activity is started, and perhaps others.
@@ -90,7 +91,7 @@ impl Processes {
     }
 
     /// The oldest report of a process, lent.
-    pub fn oldest(&self, p: Pid) -> Option<&Report>
+    pub fn oldest(&self, p: Pid) -> Option<&KeptReport>
         ensures { option_copied result ≡ slice_get (process_of self.now p.0).reports 0 }
     {
         match self.at(p) {

@@ -6,8 +6,8 @@ ghost use Rattle.service_processes.specs.Processes.{process_of, HasProcess};
 ghost use Rattle.service_processes.specs.Known.{known_of};
 ghost use Rattle.service_step.specs.declared.state.Phase.TheVariants.{Running};
 
-use crate::{ControlBlock, Processes};
-use charlotte_calls::{EndId, NoMemory, Pid, Report};
+use crate::{ControlBlock, KeptReport, Processes};
+use charlotte_calls::{EndId, NoMemory, Pid};
 use service_step::Phase;
 
 impl Processes {
@@ -28,8 +28,8 @@ impl Processes {
     pub fn gain(
         &mut self,
         p: Pid,
-        first: Option<Report>,
-        second: Option<Report>,
+        first: Option<KeptReport>,
+        second: Option<KeptReport>,
     ) -> Result<(), NoMemory>
         requires { HasProcess self.old p }
         ensures ok { OnOk result (process_of self.new ≡ gains p (option_to_list first ++ option_to_list second) (process_of self.old)) }
@@ -86,8 +86,8 @@ impl Processes {
         &mut self,
         p: Pid,
         e: EndId,
-        first: Option<Report>,
-        second: Option<Report>,
+        first: Option<KeptReport>,
+        second: Option<KeptReport>,
     ) -> Result<(), NoMemory>
         requires { HasProcess self.old p }
         ensures ok { OnOk result (process_of self.new ≡ wakes p e (gains p (option_to_list first ++ option_to_list second) (process_of self.old))) }
@@ -103,8 +103,8 @@ impl Processes {
 
 fn gain_reports(
     block: &mut ControlBlock,
-    first: Option<Report>,
-    second: Option<Report>,
+    first: Option<KeptReport>,
+    second: Option<KeptReport>,
 ) -> Result<(), NoMemory>
     ensures ok { OnOk result (block.new.reports.items ≡ block.old.reports.items ++ (option_to_list first ++ option_to_list second)) }
     ensures err { OnErr result (block.new.reports.items ≡ block.old.reports.items) }

@@ -3,10 +3,9 @@
 use crate::holding::holds;
 use charlotte_calls::{Bytes, Cause, EndId, Ends, LinkId, Pid, Side, Way};
 use service_links::{
-    Links, cancel_cause, destroy_cause, matched_ends, no_ends, receive_cause, send_cause,
-    waiting_ends,
+    Letter, Links, cancel_cause, destroy_cause, no_ends, receive_cause, send_cause,
 };
-use service_step::{Inward, Message, Outward, Place};
+use service_step::{Inward, Place};
 use std::alloc::Global;
 use std::test::Fail;
 
@@ -40,21 +39,20 @@ const D: EndId = EndId {
     side: Side::B,
 };
 
-fn message() -> Result<Message, Fail> {
-    Ok(Message {
-        bytes: Bytes::from_slice(b"hi").ok_or("bytes")?,
-        carried: Ends::from_slice(&[C]).ok_or("ends")?,
-    })
+fn letter(alloc: Global, carried: &[EndId]) -> Result<Letter, Fail> {
+    let bytes = Bytes::from_slice(b"hi").ok_or("bytes")?;
+    let carried = Ends::from_slice(carried).ok_or("ends")?;
+    Ok(Letter::of(alloc, &bytes, &carried)?)
 }
 
 /// Both links are made: process 0 owns their ends a, process 1 their ends b.
 fn made(alloc: Global) -> Result<Links, Fail> {
     let mut links = Links::empty(alloc);
-    holds(!links.look(A).place.is_made(), "an end of no link")?;
+    holds(!links.look(A).place().is_made(), "an end of no link")?;
     links.add((A, P0), (B, P1))?;
     links.add((C, P0), (D, P1))?;
     holds(
-        links.look(D).place == Place::Owned(P1),
+        links.look(D).place() == Place::Owned(P1),
         "an end of a new link",
     )?;
     Ok(links)
@@ -82,38 +80,38 @@ fn has_causes(links: &Links) -> Result<(), Fail> {
 }
 
 /// The send 1 is taken back, and the send 2 is matched and taken.
-fn carries(links: &mut Links) -> Result<(), Fail> {
-    links.start_send(A, 1, message()?);
+fn carries(alloc: Global, links: &mut Links) -> Result<(), Fail> {
+    links.start_send(A, 1, letter(alloc, &[C])?);
     holds(
-        waiting_ends(&links.look(A).outward).as_slice() == [C].as_slice(),
+        links.look(A).waiting_ends().as_slice() == [C].as_slice(),
         "the ends of a message that waits",
     )?;
     holds(
-        links.look(C).place == Place::InMessage(A, 1),
+        links.look(C).place() == Place::InMessage(A, 1),
         "an end in a message",
     )?;
     links.withdraw_send(P0, A);
     holds(
-        links.look(C).place == Place::Owned(P0) && links.look(A).is_idle(),
+        links.look(C).place() == Place::Owned(P0) && links.look(A).is_idle(),
         "a send that is taken back",
     )?;
-    links.start_send(A, 2, message()?);
+    links.start_send(A, 2, letter(alloc, &[C])?);
     links.turn_inward(Inward::Posted, B);
     links.match_send(A, 2);
     holds(
-        matched_ends(&links.look(A).outward).as_slice() == [C].as_slice(),
+        links.look(A).matched_ends().as_slice() == [C].as_slice(),
         "the ends of a message that is matched",
     )?;
     holds(
-        links.look(B).inward == Inward::Matched(2),
+        links.look(B).inward() == Inward::Matched(2),
         "a matched receive",
     )?;
     links.take_message(A, P1);
     holds(
-        links.look(C).place == Place::Owned(P1) && links.look(A).outward.is_taken(),
+        links.look(C).place() == Place::Owned(P1) && links.look(A).is_taken(),
         "a message that is taken",
     )?;
-    links.turn_outward(Outward::Reported, A);
+    links.finish_send(A);
     holds(
         cancel_cause(links, P0, A, Way::Outward) == Some(Cause::Late),
         "the cause of a Cancel",
@@ -127,16 +125,12 @@ fn carries(links: &mut Links) -> Result<(), Fail> {
 }
 
 /// A matched message comes back, the death of its link is noticed, and ends are destroyed.
-fn dies(links: &mut Links) -> Result<(), Fail> {
-    let message = Message {
-        bytes: Bytes::from_slice(b"hi").ok_or("bytes")?,
-        carried: no_ends(),
-    };
-    links.start_send(A, 3, message);
+fn dies(alloc: Global, links: &mut Links) -> Result<(), Fail> {
+    links.start_send(A, 3, letter(alloc, no_ends().as_slice())?);
     links.match_send(A, 3);
     links.return_message(A);
     holds(
-        links.look(A).noticed && matches!(links.look(A).outward, Outward::Reported),
+        links.look(A).noticed() && !links.look(A).is_idle() && !links.look(A).is_active(),
         "a message that came back",
     )?;
     links.notice(D);
@@ -147,9 +141,9 @@ fn dies(links: &mut Links) -> Result<(), Fail> {
     links.destroy(A);
     links.destroy_each(P1, &[B, C]);
     holds(
-        links.look(A).place.is_destroyed()
-            && links.look(B).place.is_destroyed()
-            && links.look(C).place.is_destroyed(),
+        links.look(A).place().is_destroyed()
+            && links.look(B).place().is_destroyed()
+            && links.look(C).place().is_destroyed(),
         "ends that are destroyed",
     )
 }
@@ -158,6 +152,6 @@ fn dies(links: &mut Links) -> Result<(), Fail> {
 fn each_call_of_service_links(rt: HostRuntime) -> Result<(), Fail> {
     let mut links = made(rt.alloc())?;
     has_causes(&links)?;
-    carries(&mut links)?;
-    dies(&mut links)
+    carries(rt.alloc(), &mut links)?;
+    dies(rt.alloc(), &mut links)
 }

@@ -1,9 +1,10 @@
 //! Two processes, and each call of `service_processes` on one of them.
 
 use crate::holding::holds;
-use charlotte_calls::{Bytes, EndId, Ends, LinkId, Outcome, Pid, Report, Side, Way};
-use service_processes::Processes;
+use charlotte_calls::{EndId, Items, LinkId, Outcome, Pid, Side, Way};
+use service_processes::{KeptReport, Processes};
 use service_step::Phase;
+use std::alloc::Global;
 use std::test::Fail;
 
 const P: Pid = Pid(1);
@@ -15,14 +16,10 @@ const fn end(count: u32) -> EndId {
     }
 }
 
-fn report(count: u32) -> Result<Report, Fail> {
-    Ok(Report {
-        on: end(count),
-        way: Way::Outward,
-        outcome: Outcome::Done,
-        bytes: Bytes::from_slice(b"").ok_or("bytes")?,
-        enclosed: Ends::from_slice(&[]).ok_or("ends")?,
-    })
+fn report(alloc: Global, count: u32) -> KeptReport {
+    let bytes = Items::of(Vec::new(alloc));
+    let enclosed = Items::of(Vec::new(alloc));
+    KeptReport::of(end(count), Way::Outward, Outcome::Done, bytes, enclosed)
 }
 
 #[test]
@@ -34,6 +31,12 @@ fn each_call_of_service_processes(rt: HostRuntime) -> Result<(), Fail> {
         processes.phase(Pid(2)) == Phase::Ended,
         "a process that is not there",
     )?;
+    processes.hold(P, a)?;
+    holds(
+        processes.held(P).len() == 1 && processes.last_active(P) == None,
+        "an end without an activity",
+    )?;
+    processes.activate(P, a)?;
     processes.learn(P, a)?;
     processes.learn_each(P, &[b, c])?;
     holds(
@@ -56,15 +59,15 @@ fn each_call_of_service_processes(rt: HostRuntime) -> Result<(), Fail> {
         processes.phase(P).is_cancelling(a),
         "a Cancel of another end",
     )?;
-    processes.tell(P, a, Some(report(0)?), None)?;
+    processes.tell(P, a, Some(report(rt.alloc(), 0)), None)?;
     holds(
         processes.phase(P).is_running() && processes.has_report(P),
         "a Cancel that is over",
     )?;
-    processes.gain(P, Some(report(1)?), Some(report(2)?))?;
+    processes.gain(P, Some(report(rt.alloc(), 1)), Some(report(rt.alloc(), 2)))?;
     processes.turn(P, Phase::Waiting);
     processes.give(P);
-    let oldest = processes.oldest(P).map(|report| report.on);
+    let oldest = processes.oldest(P).map(|report| report.on());
     holds(
         processes.phase(P).is_running() && oldest == Some(end(1)),
         "the oldest report",

@@ -1,5 +1,5 @@
-use Rattle.std.proofs.Common.{sym, subst}
-use Rattle.service_processes.specs.Known.{known_of, IsKnown}
+use Rattle.std.proofs.Common.{◌≡◌, true, sym, subst}
+use Rattle.service_processes.specs.Known.{known_of}
 use Rattle.link_service.specs.Service.{ServiceView, AreKnown}
 use Rattle.link_service.proofs.Known.{AreKnown-adds}
 use Rattle.link_service.proofs.service.Service.add_ends.Goals as goal
@@ -8,5 +8,5 @@ pub invariant_of-self-2 : goal.invariant_of-self-2
 invariant_of-self-2 c =
     subst (AreKnown (known_of c.self.inside.processes)) (sym c.in_ok-add.ensures.ok)
     (AreKnown-adds _ c.args.a.0 c.args.b.0 c.args.a.1 c.args.b.1 _ c.self.invariant
-    (subst (λ (v : ServiceView). IsKnown (known_of v.processes) c.args.a.1 c.args.a.0) (sym c.self.view_is) c.requires.first)
-    (subst (λ (v : ServiceView). IsKnown (known_of v.processes) c.args.b.1 c.args.b.0) (sym c.self.view_is) c.requires.second))
+    (subst (λ (v : ServiceView). (known_of v.processes).held c.args.a.1.0 c.args.a.0 ≡ true) (sym c.self.view_is) c.requires.first)
+    (subst (λ (v : ServiceView). (known_of v.processes).held c.args.b.1.0 c.args.b.0 ≡ true) (sym c.self.view_is) c.requires.second))
