@@ -3,23 +3,23 @@ use Rattle.std.proofs.Common.{◌≡◌, ℕ, zero, suc, ◌≤◌, Bool, true, 
 use Rattle.std.specs.List.{AllByRecursion, join_with_byte}
 use Rattle.std.proofs.lemmas.Bool.{eqb-true}
 use Rattle.std.proofs.lemmas.List.Splits.{join_with_byte-slice_split}
-use Rattle.charlotte_calls.specs.Ranges.{IsEnd, IsU8, IsU32, AreBytesInRange, IsValueInRange, AreValuesInRange, IsPacketInRange}
+use Rattle.charlotte_calls.specs.Ranges.{IsEnd, IsU8, IsU32, IsValueInRange, AreValuesInRange, IsPacketInRange}
 use Rattle.charlotte_calls.specs.declared.names.EndId.{EndId}
 use Rattle.charlotte_calls.specs.declared.picture.MovingPicture.{MovingPicture}
 use Rattle.charlotte_calls.specs.declared.picture.PictureWhat.{PictureWhat}
 use Rattle.charlotte_calls.specs.declared.picture.PictureWhat.TheVariants as packet
 use Rattle.charlotte_text.specs.declared.fault.Fault.{Fault}
 use Rattle.charlotte_text.specs.declared.fault.Fault.TheVariants.{Form}
-use Rattle.charlotte_text.specs.Spelling.{number_text, end_text, bytes_text, most_ends}
+use Rattle.charlotte_text.specs.Spelling.{number_text, end_text, most_ends}
 use Rattle.charlotte_text.specs.Reading.{◌>>=◌, parts, end_of, bytes_of}
 use Rattle.charlotte_text.proofs.Names.{end_takes}
 use Rattle.charlotte_text.proofs.Steps.{bind_ok, ok_is, not_ok, held}
 use Rattle.journal_text.specs.Transcript.{bit, value_text}
 use Rattle.journal_text.specs.TranscriptText.{HasFewPacket}
 use Rattle.transcript_reading.specs.Forms.{first_of, only_of, u8_of, u32_of, bit_of, value_of, plus_value_of, values_of, wanted_of, parcel_of, back_of, gone_of, moved_of, end_number_of, named_packet_of, packet_of}
-use Rattle.transcript_reading.proofs.Packets.{fields, plus_value_text, packet_name, packet_rest, end_numbers}
+use Rattle.transcript_reading.proofs.Packets.{plus_value_text, packet_name, packet_rest, end_numbers}
 use Rattle.transcript_reading.proofs.Words.{joined_map}
-use Rattle.transcript_forms.proofs.Taking.{first_then, only_then, IsAny, named_ok, cons_is, u8_takes, u32_takes, bit_takes, text_takes}
+use Rattle.transcript_forms.proofs.Taking.{first_ok, only_ok, first_then, only_then, named_ok, cons_is, u8_takes, u32_takes, bit_takes, text_takes}
 
 -- ---- the values of ends
 
@@ -27,12 +27,21 @@ abbrev value : EndId → ℕ → ℕ → ℕ → ℕ → ℕ → ℕ → ℕ →
 value end hops hint_kernel hint_hops sent asked served want dead trail =
     record { end = end; hops = hops; hint = (hint_kernel, hint_hops); sent = sent; asked = asked; served = served; want = want; dead = dead; trail = trail }
 
+abbrev fields : MovingPicture → List ℕ
+fields v = v.hops ∷ v.hint.0 ∷ v.hint.1 ∷ v.sent ∷ v.asked ∷ v.served ∷ v.want ∷ bit v.dead ∷ v.trail ∷ []
+
 abbrev IsValue : List ℕ → MovingPicture → Type 0
 IsValue w v = (w ≡ value_text v) × IsValueInRange v
 
 -- 1 and 0 as a field
 abbrev bit_text : Bool → List ℕ
 bit_text b = number_text (bit b)
+
+abbrev IsBit : Bool → Type 0
+IsBit b = Unit {0}
+
+bit_read : (w : List ℕ) (b : Bool) → bit_of w ≡ Ok b → (w ≡ bit_text b) × IsBit b
+bit_read w b e = (bit_takes w b e, tt)
 
 -- fields of a word are the word of their value
 spelled_value : (w : List ℕ) (v : MovingPicture) → parts 58 w ≡ end_text v.end ∷ map number_text (fields v) → w ≡ value_text v
@@ -49,7 +58,7 @@ value_takes w v e =
     first_then u32_of number_text IsU32 u32_takes l4 (λ asked. first_of u32_of asked.1 >>= λ served. first_of u32_of served.1 >>= λ want. first_of bit_of want.1 >>= λ dead. only_of u8_of dead.1 >>= λ trail. Ok (value end hops hint_kernel hint_hops sent asked.0 served.0 want.0 dead.0 trail)) v (IsValue w v) e4 (λ asked l5 s5 r5 e5.
     first_then u32_of number_text IsU32 u32_takes l5 (λ served. first_of u32_of served.1 >>= λ want. first_of bit_of want.1 >>= λ dead. only_of u8_of dead.1 >>= λ trail. Ok (value end hops hint_kernel hint_hops sent asked served.0 want.0 dead.0 trail)) v (IsValue w v) e5 (λ served l6 s6 r6 e6.
     first_then u32_of number_text IsU32 u32_takes l6 (λ want. first_of bit_of want.1 >>= λ dead. only_of u8_of dead.1 >>= λ trail. Ok (value end hops hint_kernel hint_hops sent asked served want.0 dead.0 trail)) v (IsValue w v) e6 (λ want l7 s7 r7 e7.
-    first_then bit_of bit_text IsAny (λ w y h. (bit_takes w y h, tt)) l7 (λ dead. only_of u8_of dead.1 >>= λ trail. Ok (value end hops hint_kernel hint_hops sent asked served want dead.0 trail)) v (IsValue w v) e7 (λ dead l8 s8 r8 e8.
+    first_then bit_of bit_text IsBit bit_read l7 (λ dead. only_of u8_of dead.1 >>= λ trail. Ok (value end hops hint_kernel hint_hops sent asked served want dead.0 trail)) v (IsValue w v) e7 (λ dead l8 s8 r8 e8.
     only_then u8_of number_text IsU8 u8_takes l8 (λ trail. Ok (value end hops hint_kernel hint_hops sent asked served want dead trail)) v (IsValue w v) e8 (λ trail s9 r9 e9.
     let made : MovingPicture = value end hops hint_kernel hint_hops sent asked served want dead trail in
     let shape : parts 58 w ≡ end_text end ∷ map number_text (fields made) = rw (s0, s1, s2, s3, s4, s5, s6, s7, s8, s9) refl in
@@ -98,67 +107,86 @@ IsRead v name ws x = (name ∷ ws ≡ packet_name x ∷ packet_rest x) × IsPack
 wanted_takes : (ws : List (List ℕ)) (x : EndId × ℕ × ℕ × ℕ) → wanted_of ws ≡ Ok x → IsWanted ws x
 unfolding wanted_of
 wanted_takes ws x e =
-    first_then end_of end_text IsEnd end_takes ws (λ to. first_of u32_of to.1 >>= λ w. first_of u8_of w.1 >>= λ at. only_of u32_of at.1 >>= λ hops. Ok (to.0, w.0, at.0, hops)) x (IsWanted ws x) e (λ to l0 s0 r0 e0.
-    first_then u32_of number_text IsU32 u32_takes l0 (λ w. first_of u8_of w.1 >>= λ at. only_of u32_of at.1 >>= λ hops. Ok (to, w.0, at.0, hops)) x (IsWanted ws x) e0 (λ w l1 s1 r1 e1.
-    first_then u8_of number_text IsU8 u8_takes l1 (λ at. only_of u32_of at.1 >>= λ hops. Ok (to, w, at.0, hops)) x (IsWanted ws x) e1 (λ at l2 s2 r2 e2.
-    only_then u32_of number_text IsU32 u32_takes l2 (λ hops. Ok (to, w, at, hops)) x (IsWanted ws x) e2 (λ hops s3 r3 e3.
-    let made : EndId × ℕ × ℕ × ℕ = (to, w, at, hops) in
-    let shape : ws ≡ end_numbers made.0 (made.1 ∷ made.2 ∷ made.3 ∷ []) = rw (s0, s1, s2, s3) refl in
-    subst (IsWanted ws) (ok_is made x e3) (shape, (r0, r1, r2, r3))))))
+    let to = first_ok end_of ws (λ to. first_of u32_of to.1 >>= λ w. first_of u8_of w.1 >>= λ at. only_of u32_of at.1 >>= λ hops. Ok (to.0, w.0, at.0, hops)) x e in
+    let w = first_ok u32_of to.left (λ w. first_of u8_of w.1 >>= λ at. only_of u32_of at.1 >>= λ hops. Ok (to.value, w.0, at.0, hops)) x to.goes in
+    let at = first_ok u8_of w.left (λ at. only_of u32_of at.1 >>= λ hops. Ok (to.value, w.value, at.0, hops)) x w.goes in
+    let hops = only_ok u32_of at.left (λ hops. Ok (to.value, w.value, at.value, hops)) x at.goes in
+    let to_is = end_takes to.word to.value to.says in
+    let w_is = u32_takes w.word w.value w.says in
+    let at_is = u8_takes at.word at.value at.says in
+    let hops_is = u32_takes hops.word hops.value hops.says in
+    let made : EndId × ℕ × ℕ × ℕ = (to.value, w.value, at.value, hops.value) in
+    let shape : ws ≡ end_numbers made.0 (made.1 ∷ made.2 ∷ made.3 ∷ []) = to.shape ∙ cons_is to_is.0 (w.shape ∙ cons_is w_is.0 (at.shape ∙ cons_is at_is.0 (hops.shape ∙ cons_is hops_is.0 refl))) in
+    subst (IsWanted ws) (ok_is made x hops.goes) (shape, (to_is.1, w_is.1, at_is.1, hops_is.1))
 
 pub end_number_takes : (ws : List (List ℕ)) (x : EndId × ℕ) → end_number_of ws ≡ Ok x → IsEndNumber ws x
 unfolding end_number_of
 end_number_takes ws x e =
-    first_then end_of end_text IsEnd end_takes ws (λ on. only_of u32_of on.1 >>= λ n. Ok (on.0, n)) x (IsEndNumber ws x) e (λ on l0 s0 r0 e0.
-    only_then u32_of number_text IsU32 u32_takes l0 (λ n. Ok (on, n)) x (IsEndNumber ws x) e0 (λ n s1 r1 e1.
-    let made : EndId × ℕ = (on, n) in
-    let shape : ws ≡ end_numbers made.0 (made.1 ∷ []) = rw (s0, s1) refl in
-    subst (IsEndNumber ws) (ok_is made x e1) (shape, (r0, r1))))
+    let on = first_ok end_of ws (λ on. only_of u32_of on.1 >>= λ n. Ok (on.0, n)) x e in
+    let n = only_ok u32_of on.left (λ n. Ok (on.value, n)) x on.goes in
+    let on_is = end_takes on.word on.value on.says in
+    let n_is = u32_takes n.word n.value n.says in
+    let made : EndId × ℕ = (on.value, n.value) in
+    let shape : ws ≡ end_numbers made.0 (made.1 ∷ []) = on.shape ∙ cons_is on_is.0 (n.shape ∙ cons_is n_is.0 refl) in
+    subst (IsEndNumber ws) (ok_is made x n.goes) (shape, (on_is.1, n_is.1))
 
 parcel_takes : (v : ℕ) (ws : List (List ℕ)) (x : PictureWhat) → parcel_of v ws ≡ Ok x → IsRead v (codes "parcel") ws x
 unfolding parcel_of
 parcel_takes v ws x e =
-    first_then end_of end_text IsEnd end_takes ws (λ to. first_of u32_of to.1 >>= λ n. first_of u32_of n.1 >>= λ w. first_of u8_of w.1 >>= λ at. first_of u32_of at.1 >>= λ hops. first_of bytes_of hops.1 >>= λ bytes. values_of (most_ends v) bytes.1 >>= λ moving. Ok (packet.Parcel to.0 n.0 w.0 at.0 hops.0 bytes.0 moving)) x (IsRead v (codes "parcel") ws x) e (λ to l0 s0 r0 e0.
-    first_then u32_of number_text IsU32 u32_takes l0 (λ n. first_of u32_of n.1 >>= λ w. first_of u8_of w.1 >>= λ at. first_of u32_of at.1 >>= λ hops. first_of bytes_of hops.1 >>= λ bytes. values_of (most_ends v) bytes.1 >>= λ moving. Ok (packet.Parcel to n.0 w.0 at.0 hops.0 bytes.0 moving)) x (IsRead v (codes "parcel") ws x) e0 (λ n l1 s1 r1 e1.
-    first_then u32_of number_text IsU32 u32_takes l1 (λ w. first_of u8_of w.1 >>= λ at. first_of u32_of at.1 >>= λ hops. first_of bytes_of hops.1 >>= λ bytes. values_of (most_ends v) bytes.1 >>= λ moving. Ok (packet.Parcel to n w.0 at.0 hops.0 bytes.0 moving)) x (IsRead v (codes "parcel") ws x) e1 (λ w l2 s2 r2 e2.
-    first_then u8_of number_text IsU8 u8_takes l2 (λ at. first_of u32_of at.1 >>= λ hops. first_of bytes_of hops.1 >>= λ bytes. values_of (most_ends v) bytes.1 >>= λ moving. Ok (packet.Parcel to n w at.0 hops.0 bytes.0 moving)) x (IsRead v (codes "parcel") ws x) e2 (λ at l3 s3 r3 e3.
-    first_then u32_of number_text IsU32 u32_takes l3 (λ hops. first_of bytes_of hops.1 >>= λ bytes. values_of (most_ends v) bytes.1 >>= λ moving. Ok (packet.Parcel to n w at hops.0 bytes.0 moving)) x (IsRead v (codes "parcel") ws x) e3 (λ hops l4 s4 r4 e4.
-    first_then bytes_of bytes_text AreBytesInRange text_takes l4 (λ bytes. values_of (most_ends v) bytes.1 >>= λ moving. Ok (packet.Parcel to n w at hops bytes.0 moving)) x (IsRead v (codes "parcel") ws x) e4 (λ bytes l5 s5 r5 e5.
-    let moving = bind_ok (values_of (most_ends v) l5) (λ moving. Ok (packet.Parcel to n w at hops bytes moving)) x e5 in
-    let moving_is = values_take (most_ends v) l5 moving.0 moving.1 in
-    let made : PictureWhat = (packet.Parcel to n w at hops bytes moving.0) in
-    let shape : ws ≡ packet_rest made = rw (s0, s1, s2, s3, s4, s5) (cons_is refl (cons_is refl (cons_is refl (cons_is refl (cons_is refl (cons_is refl moving_is.0)))))) in
-    subst (IsRead v (codes "parcel") ws) (ok_is made x moving.2) (cons_is refl shape, (r0, r1, r2, r3, r4, r5, values_range v moving.0 moving_is.1.0 moving_is.1.1), moving_is.1.1)))))))
+    let to = first_ok end_of ws (λ to. first_of u32_of to.1 >>= λ n. first_of u32_of n.1 >>= λ w. first_of u8_of w.1 >>= λ at. first_of u32_of at.1 >>= λ hops. first_of bytes_of hops.1 >>= λ bytes. values_of (most_ends v) bytes.1 >>= λ moving. Ok (packet.Parcel to.0 n.0 w.0 at.0 hops.0 bytes.0 moving)) x e in
+    let n = first_ok u32_of to.left (λ n. first_of u32_of n.1 >>= λ w. first_of u8_of w.1 >>= λ at. first_of u32_of at.1 >>= λ hops. first_of bytes_of hops.1 >>= λ bytes. values_of (most_ends v) bytes.1 >>= λ moving. Ok (packet.Parcel to.value n.0 w.0 at.0 hops.0 bytes.0 moving)) x to.goes in
+    let w = first_ok u32_of n.left (λ w. first_of u8_of w.1 >>= λ at. first_of u32_of at.1 >>= λ hops. first_of bytes_of hops.1 >>= λ bytes. values_of (most_ends v) bytes.1 >>= λ moving. Ok (packet.Parcel to.value n.value w.0 at.0 hops.0 bytes.0 moving)) x n.goes in
+    let at = first_ok u8_of w.left (λ at. first_of u32_of at.1 >>= λ hops. first_of bytes_of hops.1 >>= λ bytes. values_of (most_ends v) bytes.1 >>= λ moving. Ok (packet.Parcel to.value n.value w.value at.0 hops.0 bytes.0 moving)) x w.goes in
+    let hops = first_ok u32_of at.left (λ hops. first_of bytes_of hops.1 >>= λ bytes. values_of (most_ends v) bytes.1 >>= λ moving. Ok (packet.Parcel to.value n.value w.value at.value hops.0 bytes.0 moving)) x at.goes in
+    let bytes = first_ok bytes_of hops.left (λ bytes. values_of (most_ends v) bytes.1 >>= λ moving. Ok (packet.Parcel to.value n.value w.value at.value hops.value bytes.0 moving)) x hops.goes in
+    let moving = bind_ok (values_of (most_ends v) bytes.left) (λ moving. Ok (packet.Parcel to.value n.value w.value at.value hops.value bytes.value moving)) x bytes.goes in
+    let to_is = end_takes to.word to.value to.says in
+    let n_is = u32_takes n.word n.value n.says in
+    let w_is = u32_takes w.word w.value w.says in
+    let at_is = u8_takes at.word at.value at.says in
+    let hops_is = u32_takes hops.word hops.value hops.says in
+    let bytes_is = text_takes bytes.word bytes.value bytes.says in
+    let moving_is = values_take (most_ends v) bytes.left moving.0 moving.1 in
+    let made : PictureWhat = (packet.Parcel to.value n.value w.value at.value hops.value bytes.value moving.0) in
+    let shape : ws ≡ packet_rest made = to.shape ∙ cons_is to_is.0 (n.shape ∙ cons_is n_is.0 (w.shape ∙ cons_is w_is.0 (at.shape ∙ cons_is at_is.0 (hops.shape ∙ cons_is hops_is.0 (bytes.shape ∙ cons_is bytes_is.0 (moving_is.0)))))) in
+    subst (IsRead v (codes "parcel") ws) (ok_is made x moving.2) (cons_is refl shape, (to_is.1, n_is.1, w_is.1, at_is.1, hops_is.1, bytes_is.1, values_range v moving.0 moving_is.1.0 moving_is.1.1), moving_is.1.1)
 
 back_takes : (v : ℕ) (ws : List (List ℕ)) (x : PictureWhat) → back_of v ws ≡ Ok x → IsRead v (codes "back") ws x
 unfolding back_of
 back_takes v ws x e =
-    first_then end_of end_text IsEnd end_takes ws (λ to. first_of u32_of to.1 >>= λ n. values_of (most_ends v) n.1 >>= λ moving. Ok (packet.Back to.0 n.0 moving)) x (IsRead v (codes "back") ws x) e (λ to l0 s0 r0 e0.
-    first_then u32_of number_text IsU32 u32_takes l0 (λ n. values_of (most_ends v) n.1 >>= λ moving. Ok (packet.Back to n.0 moving)) x (IsRead v (codes "back") ws x) e0 (λ n l1 s1 r1 e1.
-    let moving = bind_ok (values_of (most_ends v) l1) (λ moving. Ok (packet.Back to n moving)) x e1 in
-    let moving_is = values_take (most_ends v) l1 moving.0 moving.1 in
-    let made : PictureWhat = (packet.Back to n moving.0) in
-    let shape : ws ≡ packet_rest made = rw (s0, s1) (cons_is refl (cons_is refl moving_is.0)) in
-    subst (IsRead v (codes "back") ws) (ok_is made x moving.2) (cons_is refl shape, (r0, r1, values_range v moving.0 moving_is.1.0 moving_is.1.1), moving_is.1.1)))
+    let to = first_ok end_of ws (λ to. first_of u32_of to.1 >>= λ n. values_of (most_ends v) n.1 >>= λ moving. Ok (packet.Back to.0 n.0 moving)) x e in
+    let n = first_ok u32_of to.left (λ n. values_of (most_ends v) n.1 >>= λ moving. Ok (packet.Back to.value n.0 moving)) x to.goes in
+    let moving = bind_ok (values_of (most_ends v) n.left) (λ moving. Ok (packet.Back to.value n.value moving)) x n.goes in
+    let to_is = end_takes to.word to.value to.says in
+    let n_is = u32_takes n.word n.value n.says in
+    let moving_is = values_take (most_ends v) n.left moving.0 moving.1 in
+    let made : PictureWhat = (packet.Back to.value n.value moving.0) in
+    let shape : ws ≡ packet_rest made = to.shape ∙ cons_is to_is.0 (n.shape ∙ cons_is n_is.0 (moving_is.0)) in
+    subst (IsRead v (codes "back") ws) (ok_is made x moving.2) (cons_is refl shape, (to_is.1, n_is.1, values_range v moving.0 moving_is.1.0 moving_is.1.1), moving_is.1.1)
 
 gone_takes : (v : ℕ) (ws : List (List ℕ)) (x : PictureWhat) → gone_of ws ≡ Ok x → IsRead v (codes "gone") ws x
 unfolding gone_of
 gone_takes v ws x e =
-    first_then end_of end_text IsEnd end_takes ws (λ to. only_of u8_of to.1 >>= λ at. Ok (packet.Gone to.0 at)) x (IsRead v (codes "gone") ws x) e (λ to l0 s0 r0 e0.
-    only_then u8_of number_text IsU8 u8_takes l0 (λ at. Ok (packet.Gone to at)) x (IsRead v (codes "gone") ws x) e0 (λ at s1 r1 e1.
-    let made : PictureWhat = (packet.Gone to at) in
-    let shape : ws ≡ packet_rest made = rw (s0, s1) refl in
-    subst (IsRead v (codes "gone") ws) (ok_is made x e1) (cons_is refl shape, (r0, r1), tt)))
+    let to = first_ok end_of ws (λ to. only_of u8_of to.1 >>= λ at. Ok (packet.Gone to.0 at)) x e in
+    let at = only_ok u8_of to.left (λ at. Ok (packet.Gone to.value at)) x to.goes in
+    let to_is = end_takes to.word to.value to.says in
+    let at_is = u8_takes at.word at.value at.says in
+    let made : PictureWhat = (packet.Gone to.value at.value) in
+    let shape : ws ≡ packet_rest made = to.shape ∙ cons_is to_is.0 (at.shape ∙ cons_is at_is.0 refl) in
+    subst (IsRead v (codes "gone") ws) (ok_is made x at.goes) (cons_is refl shape, (to_is.1, at_is.1), tt)
 
 moved_takes : (v : ℕ) (ws : List (List ℕ)) (x : PictureWhat) → moved_of ws ≡ Ok x → IsRead v (codes "moved") ws x
 unfolding moved_of
 moved_takes v ws x e =
-    first_then end_of end_text IsEnd end_takes ws (λ to. first_of u8_of to.1 >>= λ at. only_of u32_of at.1 >>= λ hops. Ok (packet.Moved to.0 at.0 hops)) x (IsRead v (codes "moved") ws x) e (λ to l0 s0 r0 e0.
-    first_then u8_of number_text IsU8 u8_takes l0 (λ at. only_of u32_of at.1 >>= λ hops. Ok (packet.Moved to at.0 hops)) x (IsRead v (codes "moved") ws x) e0 (λ at l1 s1 r1 e1.
-    only_then u32_of number_text IsU32 u32_takes l1 (λ hops. Ok (packet.Moved to at hops)) x (IsRead v (codes "moved") ws x) e1 (λ hops s2 r2 e2.
-    let made : PictureWhat = (packet.Moved to at hops) in
-    let shape : ws ≡ packet_rest made = rw (s0, s1, s2) refl in
-    subst (IsRead v (codes "moved") ws) (ok_is made x e2) (cons_is refl shape, (r0, r1, r2), tt))))
+    let to = first_ok end_of ws (λ to. first_of u8_of to.1 >>= λ at. only_of u32_of at.1 >>= λ hops. Ok (packet.Moved to.0 at.0 hops)) x e in
+    let at = first_ok u8_of to.left (λ at. only_of u32_of at.1 >>= λ hops. Ok (packet.Moved to.value at.0 hops)) x to.goes in
+    let hops = only_ok u32_of at.left (λ hops. Ok (packet.Moved to.value at.value hops)) x at.goes in
+    let to_is = end_takes to.word to.value to.says in
+    let at_is = u8_takes at.word at.value at.says in
+    let hops_is = u32_takes hops.word hops.value hops.says in
+    let made : PictureWhat = (packet.Moved to.value at.value hops.value) in
+    let shape : ws ≡ packet_rest made = to.shape ∙ cons_is to_is.0 (at.shape ∙ cons_is at_is.0 (hops.shape ∙ cons_is hops_is.0 refl)) in
+    subst (IsRead v (codes "moved") ws) (ok_is made x hops.goes) (cons_is refl shape, (to_is.1, at_is.1, hops_is.1), tt)
 
 wanted_made : (v : ℕ) (name : List ℕ) (ws : List (List ℕ)) (make : EndId → ℕ → ℕ → ℕ → PictureWhat) (x : PictureWhat)
     → ((to : EndId) (w at hops : ℕ) → ws ≡ end_numbers to (w ∷ at ∷ hops ∷ []) → IsEnd to × IsU32 w × IsU8 at × IsU32 hops → IsRead v name ws (make to w at hops))
@@ -178,8 +206,9 @@ end_number_made v name ws make x all e =
 
 gone_seen_takes : (v : ℕ) (ws : List (List ℕ)) (x : PictureWhat) → (only_of end_of ws >>= λ to. Ok (packet.GoneSeen to)) ≡ Ok x → IsRead v (codes "goneseen") ws x
 gone_seen_takes v ws x e =
-    only_then end_of end_text IsEnd end_takes ws (λ to. Ok (packet.GoneSeen to)) x (IsRead v (codes "goneseen") ws x) e
-    (λ to s r h. subst (IsRead v (codes "goneseen") ws) (ok_is (packet.GoneSeen to) x h) (cons_is refl s, r, tt))
+    let to = only_ok end_of ws (λ to. Ok (packet.GoneSeen to)) x e in
+    let to_is = end_takes to.word to.value to.says in
+    subst (IsRead v (codes "goneseen") ws) (ok_is (packet.GoneSeen to.value) x to.goes) (cons_is refl (to.shape ∙ cons_is to_is.0 refl), to_is.1, tt)
 
 -- the name of a packet, and what stands behind it
 abbrev packets : ℕ → List (List ℕ) → List (List ℕ × Result PictureWhat Fault)

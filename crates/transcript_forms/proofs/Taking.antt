@@ -66,10 +66,6 @@ only_ok {A} {B} read (w ∷ v ∷ vs) f y e = said (read w) e
     said (Ok x) h = absurd (not_ok y Form h)
     said (Err d) h = absurd (not_ok y d h)
 
--- a value of no bound
-abbrev pub IsAny : {A : Type 0} → A → Type 0
-IsAny x = Unit {0}
-
 -- the first word is the spelling of what it says, and the words behind it were read
 pub first_then : {A B : Type 0} (read : List ℕ → Result A Fault) (spell : A → List ℕ) (Fits : A → Type 0) → ((w : List ℕ) (x : A) → read w ≡ Ok x → (w ≡ spell x) × Fits x)
     → (ws : List (List ℕ)) (f : A × List (List ℕ) → Result B Fault) (y : B) (Q : Type 0) → (first_of read ws >>= f) ≡ Ok y

@@ -21,7 +21,7 @@ use Rattle.transcript_reading.proofs.Words.{IsMark, IsWord, AreWords, IsFree, Is
 
 -- ---- the value of an end
 
-abbrev pub fields : MovingPicture → List ℕ
+abbrev fields : MovingPicture → List ℕ
 fields v = v.hops ∷ v.hint.0 ∷ v.hint.1 ∷ v.sent ∷ v.asked ∷ v.served ∷ v.want ∷ bit v.dead ∷ v.trail ∷ []
 
 bit_small : (b : Bool) → bit b < 2

@@ -35,14 +35,14 @@ use Rattle.transcript_reading.proofs.Words.{IsWord, IsSpelled, word_codes, same_
 -- ---- the words of a step
 
 -- the words of how an activity was over
-abbrev pub result_words : Way → Outcome → List ℕ → List EndId → List (List ℕ)
+abbrev result_words : Way → Outcome → List ℕ → List EndId → List (List ℕ)
 result_words Outward Done bytes ends = codes "done" ∷ []
 result_words Outward Destroyed bytes ends = codes "destroyed" ∷ map plus_text ends
 result_words Inward Done bytes ends = codes "done" ∷ bytes_text bytes ∷ map plus_text ends
 result_words Inward Destroyed bytes ends = codes "destroyed" ∷ []
 
 -- a word that stands only where it was said
-abbrev pub suffix_words : Bool → List ℕ → List (List ℕ)
+abbrev suffix_words : Bool → List ℕ → List (List ℕ)
 suffix_words true word = word ∷ []
 suffix_words false word = []
 
