@@ -31,12 +31,12 @@ def build():
         sys.exit('bench: the program does not perform examples/one_message.script')
 
 
-def compiled(source, compiler):
-    """The program of a source of bench/, compiled again where it is older."""
-    source = os.path.join(BENCH, source)
+def compiled(source, compiler, *parts):
+    """The program of a source of bench/, compiled again where it is older than that or a part of it."""
+    source, *parts = (os.path.join(BENCH, name) for name in (source, *parts))
     folder = os.path.join(os.path.dirname(source), 'out')
     program = os.path.join(folder, os.path.splitext(os.path.basename(source))[0])
-    if not os.path.exists(program) or os.path.getmtime(program) < os.path.getmtime(source):
+    if not os.path.exists(program) or os.path.getmtime(program) < max(map(os.path.getmtime, (source, *parts))):
         os.makedirs(folder, exist_ok=True)
         if subprocess.run(compiler + ['-o', program, source]).returncode != 0:
             sys.exit(f'bench: {source} could not be compiled')
@@ -48,7 +48,7 @@ def plain(name):
     if shutil.which('rustc') is None:
         print('bench: there is no rustc, so nothing is measured beside', file=sys.stderr)
         return None
-    return compiled(os.path.join('plain', name + '.rs'), ['rustc', '-O', '--edition', '2021'])
+    return compiled(os.path.join('plain', name + '.rs'), ['rustc', '-O', '--edition', '2021'], os.path.join('plain', 'kernels.rs'))
 
 
 def tests_types(program, folder):
