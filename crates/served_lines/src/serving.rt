@@ -1,22 +1,15 @@
 //! The service lines of a transcript, made as steps of the link service.
-ghost use Rattle.std.specs.Prelude.{◌<◌, length};
+ghost use Rattle.std.specs.Prelude.{◌<◌, OnOk, IfErr, length};
+ghost use Rattle.link_service.specs.Service.{state_of};
+ghost use Rattle.served_lines.specs.Serving.{Makes, IsTroubleOf};
 
 use crate::setting::setting_of;
 use crate::trouble::Trouble;
-use crate::whole::{step_of_call, step_of_packet};
-use charlotte_calls::{Call, Pid, ServiceStep};
-use charlotte_text::Fault;
+use crate::whole::whole_step;
+use kernel_world::Happened;
 use link_service::{ApplyFault, Service};
 use std::alloc::Global;
 use transcript_reader::{LineKind, ServiceLine, read_transcript};
-
-/// The entry that was read last.
-#[derive(Drop)]
-enum Above {
-    Asked(Pid, Call),
-    /// A packet, or no entry at all.
-    Other,
-}
 
 /// Makes all steps of a transcript, and tells how many there were.
 pub(crate) fn served(alloc: Global, bytes: &[u8]) -> Result<u64, Trouble>
@@ -28,14 +21,19 @@ pub(crate) fn served(alloc: Global, bytes: &[u8]) -> Result<u64, Trouble>
         return Err(Trouble::Header);
     }
     let mut service = Service::start(alloc, &setting)?;
-    let mut above = Above::Other;
+    let mut above: Option<Happened> = None;
     let mut steps: u64 = 0;
     for line in lines {
         match line.what {
-            LineKind::CallEntry { p, call, .. } => above = Above::Asked(p, call),
-            LineKind::PacketEntry { .. } => above = Above::Other,
+            LineKind::CallEntry { p, call, .. } => above = Some(Happened::asked(alloc, p, &call)?),
+            LineKind::PacketEntry { from, picture, .. } => {
+                above = Some(Happened::took(alloc, from, &picture)?);
+            }
             LineKind::Service(told) => {
-                make(&mut service, line.number, &above, told)?;
+                let Some(entry) = &above else {
+                    return Err(Trouble::NotWhole(line.number));
+                };
+                make(&mut service, line.number, entry, told)?;
                 steps = steps.saturating_add(1);
             }
             _ => {}
@@ -48,21 +46,18 @@ pub(crate) fn served(alloc: Global, bytes: &[u8]) -> Result<u64, Trouble>
 fn make(
     service: &mut Service,
     number: u32,
-    above: &Above,
+    above: &Happened,
     line: ServiceLine,
-) -> Result<(), Trouble> {
-    let step = whole(above, line).map_err(|_| Trouble::NotWhole(number))?;
+) -> Result<(), Trouble>
+    ensures made { OnOk result (Makes above.now line (state_of service.old) (state_of service.new)) }
+    ensures trouble { IfErr result (IsTroubleOf number above.now line (state_of service.old)) }
+{
+    let Ok(step) = whole_step(above, line) else {
+        return Err(Trouble::NotWhole(number));
+    };
     match service.apply(&step) {
         Ok(()) => Ok(()),
         Err(ApplyFault::NoMemory) => Err(Trouble::NoMemory),
         Err(ApplyFault::NotAllowed(step)) => Err(Trouble::NotAllowed(number, step)),
-    }
-}
-
-/// The step of a line below an entry.
-fn whole(above: &Above, line: ServiceLine) -> Result<ServiceStep, Fault> {
-    match above {
-        Above::Asked(p, call) => step_of_call(*p, call, line),
-        Above::Other => step_of_packet(line),
     }
 }

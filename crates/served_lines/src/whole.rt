@@ -1,45 +1,31 @@
 //! Steps made whole: what the line of a step leaves out stands in the entry above it.
-ghost use Rattle.std.specs.Prelude.{◌≡◌, ℕ};
-ghost use Rattle.charlotte_calls.specs.declared.picture.Picture.{Picture};
-ghost use Rattle.kernel_world.specs.declared.entry.Happened.TheVariants.{Asked, Took};
+ghost use Rattle.std.specs.Prelude.{◌≡◌};
 ghost use Rattle.transcript_reading.specs.Kinds.{full_step};
+ghost use Rattle.transcript_reading.specs.declared.line.ServiceLine.TheVariants.{Send};
 
-use charlotte_calls::{Call, Pid, ServiceStep};
+use charlotte_calls::{Call, EndId, Ends, ServiceStep};
 use charlotte_text::Fault;
+use kernel_world::Happened;
 use transcript_reader::ServiceLine;
 
-/// The step of a line below the entry of a call.
-pub(crate) fn step_of_call(p: Pid, call: &Call, line: ServiceLine) -> Result<ServiceStep, Fault>
-    ensures { result ≡ full_step (Asked p call.now) line }
+/// The step of a line below an entry; a fault exactly where the entry does not say what the line leaves out.
+pub(crate) fn whole_step(above: &Happened, line: ServiceLine) -> Result<ServiceStep, Fault>
+    ensures { result ≡ full_step above.now line }
 {
     match line {
-        ServiceLine::Make { a, b } => Ok(ServiceStep::Make { p, a, b }),
-        ServiceLine::Refuse { p, cause } => Ok(ServiceStep::Refuse {
-            p,
-            call: call.copy(),
-            cause,
-        }),
-        ServiceLine::Send { on, n, enclose } => match call {
-            Call::Send { bytes, .. } => Ok(ServiceStep::Send {
-                on,
-                n,
-                bytes: bytes.copy(),
-                enclose,
-            }),
-            _ => Err(Fault::Form),
+        ServiceLine::Make { a, b } => match above {
+            Happened::Asked { p, .. } => Ok(ServiceStep::Make { p: *p, a, b }),
+            Happened::Took { .. } => Err(Fault::Form),
         },
-        line => step_of_packet(line),
-    }
-}
-
-/// The step of a line below the entry of a packet.
-pub(crate) fn step_of_packet(line: ServiceLine) -> Result<ServiceStep, Fault>
-    ensures { (from : ℕ) (picture : Picture) → result ≡ full_step (Took from picture) line }
-{
-    match line {
-        ServiceLine::Make { .. } | ServiceLine::Refuse { .. } | ServiceLine::Send { .. } => {
-            Err(Fault::Form)
-        }
+        ServiceLine::Refuse { p, cause } => match above {
+            Happened::Asked { call, .. } => Ok(ServiceStep::Refuse {
+                p,
+                call: call.call(),
+                cause,
+            }),
+            Happened::Took { .. } => Err(Fault::Form),
+        },
+        ServiceLine::Send { on, n, enclose } => whole_send(above, on, n, enclose),
         ServiceLine::Destroy { on } => Ok(ServiceStep::Destroy { on }),
         ServiceLine::Receive { on } => Ok(ServiceStep::Receive { on }),
         ServiceLine::Cancel { on, way } => Ok(ServiceStep::Cancel { on, way }),
@@ -53,5 +39,23 @@ pub(crate) fn step_of_packet(line: ServiceLine) -> Result<ServiceStep, Fault>
         ServiceLine::Free { on } => Ok(ServiceStep::Free { on }),
         ServiceLine::Notice { on, dead } => Ok(ServiceStep::Notice { on, dead }),
         ServiceLine::Back { on, n, dead } => Ok(ServiceStep::Back { on, n, dead }),
+    }
+}
+
+/// A send, whose bytes are those of the call.
+fn whole_send(above: &Happened, on: EndId, n: u32, enclose: Ends) -> Result<ServiceStep, Fault>
+    ensures { result ≡ full_step above.now (Send on n enclose) }
+{
+    let Happened::Asked { call, .. } = above else {
+        return Err(Fault::Form);
+    };
+    match call.call() {
+        Call::Send { bytes, .. } => Ok(ServiceStep::Send {
+            on,
+            n,
+            bytes,
+            enclose,
+        }),
+        _ => Err(Fault::Form),
     }
 }
