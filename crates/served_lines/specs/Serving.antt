@@ -1,5 +1,5 @@
 -- One service line of a transcript as a step of the link service.
-use Rattle.std.specs.Prelude.{◌≡◌, ℕ, ◌×◌, ⊥, Unit, Ok, Err}
+use Rattle.std.specs.Prelude.{◌≡◌, ℕ, Ok, Err}
 use Rattle.charlotte_calls.specs.declared.calls.ServiceStep.{ServiceStep}
 use Rattle.charlotte_text.specs.declared.fault.Fault.TheVariants.{Form}
 use Rattle.kernel_world.specs.declared.entry.Happened.{Happened}
