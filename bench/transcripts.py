@@ -1,0 +1,79 @@
+"""Transcripts of any length, of scripts that are one piece repeated.
+
+Once a piece has been performed a few times, each number in the lines of a kernel grows by as much from one piece to the next. So these
+numbers are learned from the transcripts of the first pieces, and the lines of the others are made from them. `bench/audit` compares the
+longest transcript that a script can give rise to with the one that is made here."""
+import math
+import re
+
+from scripts import KINDS as SCRIPTS, MOST_LINKS, header
+
+# What stands before the pieces of a kind, and the piece. Eight kernels are steady over two rings.
+KINDS = {kind: SCRIPTS[kind] for kind in ('rounds', 'long', 'coded', 'moves', 'eight')}
+KINDS['kernels'] = (SCRIPTS['kernels'][0], SCRIPTS['kernels'][1] * 2)
+KINDS['makes'] = (header(8, range(8), []), ''.join(f'p{i} make\n' for i in range(8)))
+# So many pieces there can be: a kernel makes no more links.
+MOST_PIECES = {'makes': MOST_LINKS}
+# So many pieces are performed before the lines are steady.
+FIRST = 4
+
+
+def entries_of(transcript):
+    """The header, and the entries of each kernel, each with its lines."""
+    lines = transcript.decode('ascii').splitlines(keepends=True)
+    body = next(at for at, line in enumerate(lines) if line[0].isdigit())
+    entries = {}
+    for line in lines[body:-1]:
+        if line[0].isdigit():
+            of_kernel = entries.setdefault(int(line.split()[1][1:]), [])
+            of_kernel.append(line)
+        else:
+            of_kernel[-1] += line
+    return ''.join(lines[:body]), entries
+
+
+class Lines:
+    """The lines of one entry in each piece: a text with the numbers that grow left out, and these as (first, growth)."""
+
+    def __init__(self, texts):
+        parts = [re.split(r'(\d+)', text) for text in texts]
+        self.text, self.numbers = '', []
+        for seen in zip(*parts, strict=True):
+            if len(set(seen)) == 1:
+                self.text += seen[0].replace('%', '%%')
+            else:
+                first, second, third = map(int, seen)
+                if third - second != second - first:
+                    raise ValueError(f'numbers that do not grow evenly: {texts}')
+                self.text += '%d'
+                self.numbers.append((first, second - first))
+
+    def of(self, piece):
+        """The lines in the piece that is so many behind the first."""
+        return self.text % tuple([first + growth * piece for first, growth in self.numbers])
+
+
+class Repeated:
+    """A piece that is repeated behind what stands before it. `perform` gives the transcript of a script."""
+
+    def __init__(self, before, piece, perform):
+        runs = [entries_of(perform(before + piece * count)) for count in range(FIRST, FIRST + 4)]
+        self.header, self.start = runs[0]
+        self.steady = {}
+        for kernel, last in runs[3][1].items():
+            ends = [len(entries.get(kernel, [])) for _, entries in runs]
+            blocks = [last[begin:end] for begin, end in zip(ends, ends[1:])]
+            self.steady[kernel] = [Lines(texts) for texts in zip(*blocks, strict=True)]
+
+    def transcript(self, pieces, size=math.inf):
+        """The transcript of so many pieces, but of no more than have room in so many bytes."""
+        placed = [(int(text.split(' ', 1)[0]), kernel, text) for kernel, entries in self.start.items() for text in entries]
+        room = size - len(self.header) - len('quiet\n') - sum(len(text) for _, _, text in placed)
+        for piece in range(pieces - FIRST):
+            more = [(kernel, lines.of(piece)) for kernel, entries in self.steady.items() for lines in entries]
+            room -= sum(len(text) for _, text in more)
+            if room < 0:
+                break
+            placed += [(int(text.split(' ', 1)[0]), kernel, text) for kernel, text in more]
+        placed.sort()
+        return (self.header + ''.join([text for _, _, text in placed]) + 'quiet\n').encode('ascii')
