@@ -164,7 +164,7 @@ record GoesOn (w : World) (s : State) (es : List Event) : Type 0 where
   run : IsRunFrom s (joined parts)
 
 -- the service goes with an event
-goes-event : (g : Setting) (i : ℕ) (w : World) (s : State) (e : Event) → Invariant i w s → s.homes ≡ g.homes → s.version ≡ g.version → i < 2 ^ 31 → IsAllowed g w e → Goes i w s e
+pub goes-event : (g : Setting) (i : ℕ) (w : World) (s : State) (e : Event) → Invariant i w s → s.homes ≡ g.homes → s.version ≡ g.version → i < 2 ^ 31 → IsAllowed g w e → Goes i w s e
 goes-event g i w s (Takes k from) is homes version few allowed = by (w.packets from k) refl
   where
     by : (qs : List Picture) → w.packets from k ≡ qs → Goes i w s (Takes k from)

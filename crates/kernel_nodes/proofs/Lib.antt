@@ -1,0 +1,5 @@
+pub mod Events
+pub mod Lists
+pub mod Sent
+pub mod Started
+pub mod Worlds

@@ -1,0 +1,97 @@
+-- The lists of packets that a node sent, while one of them changes.
+use Rattle.std.proofs.Common.{◌≡◌, ◌≢◌, ◌⊎◌, inl, inr, ℕ, ◌<◌, true, false, nat_eq, List, [], ◌∷◌, ◌++◌, length, map, set, get_or, Option, None, Some, MatchOption, ap, ◌∙◌, sym, refl, append_assoc, append-nil, Global, All, zero, suc}
+use Rattle.std.specs.Prelude.{slice_index_or}
+use Rattle.std.specs.List.{filter}
+use Rattle.std.specs.Option.{option_to_list}
+use Rattle.std.specs.declared.collections.VecDeque.{VecDeque}
+use Rattle.std.proofs.lemmas.List.{map-append}
+use Rattle.std.proofs.lemmas.List.Elements.{filter-append, All-head, All-tail}
+use Rattle.std.proofs.lemmas.Bool.Decides.{eqb_tells}
+use Rattle.charlotte_calls.specs.Packets.{packet_picture}
+use Rattle.charlotte_calls.specs.declared.packet.Packet.{Packet}
+use Rattle.charlotte_calls.specs.declared.picture.Picture.{Picture}
+use Rattle.kernel_step.specs.Progress.{sent_picture}
+use Rattle.kernel_world.specs.World.{to_kernel}
+use Rattle.kernel_nodes.specs.Nodes.{sent_to, IsPopped, IsUnpopped}
+use Rattle.kernel_nodes.specs.declared.node.Node.{Node}
+use Rattle.kernel_nodes.proofs.Lists.{map-set_same, map-set_other, map-read}
+
+-- the lists of a node
+abbrev pub Lists : Type 0
+Lists = List (VecDeque Packet Global)
+
+abbrev pub pictures : VecDeque Packet Global → List Picture
+pictures list = map packet_picture list.items
+
+abbrev pub sent_in : Lists → ℕ → List Picture
+sent_in lists to = slice_index_or (map pictures lists) to []
+
+pub to_kernel-append : (to : ℕ) (xs ys : List (ℕ × Picture)) → to_kernel to (xs ++ ys) ≡ to_kernel to xs ++ to_kernel to ys
+to_kernel-append to xs ys =
+    ap (map (λ s. s.1)) (filter-append (λ s. nat_eq to s.0) xs ys) ∙ map-append (λ s. s.1) (filter (λ s. nat_eq to s.0) xs) (filter (λ s. nat_eq to s.0) ys)
+
+-- what goes to a kernel, of one packet
+one-same : (to t : ℕ) (q : Picture) → nat_eq to t ≡ true → to_kernel to ((t, q) ∷ []) ≡ q ∷ []
+one-same to t q e = rw e refl
+
+one-other : (to t : ℕ) (q : Picture) → nat_eq to t ≡ false → to_kernel to ((t, q) ∷ []) ≡ []
+one-other to t q e = rw e refl
+
+-- a packet joins the list of its kernel
+pub sent_in-push : (lists : Lists) (t : ℕ) (before after : VecDeque Packet Global) (packet : Packet) → t < length lists → before ≡ get_or lists t before → after.items ≡ before.items ++ packet ∷ [] → (to : ℕ) → sent_in (set lists t after) to ≡ sent_in lists to ++ to_kernel to ((t, packet_picture packet) ∷ [])
+sent_in-push lists t before after packet below is items to = by (eqb_tells to t)
+  where
+    here : sent_in (set lists t after) t ≡ sent_in lists t ++ packet_picture packet ∷ []
+    here = map-set_same pictures lists t after [] below ∙ ap (map packet_picture) items ∙ map-append packet_picture before.items (packet ∷ [])
+        ∙ ap (λ qs. qs ++ packet_picture packet ∷ []) (sym (map-read pictures lists t before [] below is))
+
+    by : ((nat_eq to t ≡ true) × (to ≡ t)) ⊎ ((nat_eq to t ≡ false) × (to ≢ t)) → sent_in (set lists t after) to ≡ sent_in lists to ++ to_kernel to ((t, packet_picture packet) ∷ [])
+    by (inl e) = ap (sent_in (set lists t after)) e.1 ∙ here ∙ ap (λ n. sent_in lists n ++ packet_picture packet ∷ []) (sym e.1)
+        ∙ ap (λ qs. sent_in lists to ++ qs) (sym (one-same to t (packet_picture packet) e.0))
+    by (inr e) = map-set_other pictures lists t to after [] e.1 ∙ sym (append-nil (sent_in lists to)) ∙ ap (λ qs. sent_in lists to ++ qs) (sym (one-other to t (packet_picture packet) e.0))
+
+-- one packet more was sent
+pub sent_in-more : (lists start : Lists) (t : ℕ) (before after : VecDeque Packet Global) (packet : Packet) (n : ℕ) (seen : List (ℕ × Packet)) → t ≡ n → t < length lists → before ≡ get_or lists t before → after.items ≡ before.items ++ packet ∷ [] → ((to : ℕ) → sent_in lists to ≡ sent_in start to ++ to_kernel to (map sent_picture seen)) → (to : ℕ) → sent_in (set lists t after) to ≡ sent_in start to ++ to_kernel to (map sent_picture (seen ++ (n, packet) ∷ []))
+sent_in-more lists start t before after packet n seen at below is items so_far to =
+    sent_in-push lists t before after packet below is items to
+    ∙ ap (λ qs. qs ++ to_kernel to ((t, packet_picture packet) ∷ [])) (so_far to)
+    ∙ append_assoc (sent_in start to) (to_kernel to (map sent_picture seen)) (to_kernel to ((t, packet_picture packet) ∷ []))
+    ∙ ap (λ qs. sent_in start to ++ qs)
+    (ap (λ m. to_kernel to (map sent_picture seen) ++ to_kernel to ((m, packet_picture packet) ∷ [])) at
+    ∙ sym (to_kernel-append to (map sent_picture seen) ((n, packet_picture packet) ∷ []))
+    ∙ ap (to_kernel to) (sym (map-append sent_picture seen ((n, packet) ∷ []))))
+
+-- the oldest packet to a kernel leaves its list
+pub popped : (old new : Node) (t n : ℕ) (before after : VecDeque Packet Global) (r : Option Packet) → new.sent.items ≡ set old.sent.items t after → t ≡ n → t < length old.sent.items → before ≡ get_or old.sent.items t before → before.items ≡ option_to_list r ++ after.items → (r ≡ None → before.items ≡ []) → MatchOption r (IsUnpopped n old new) (λ packet. IsPopped n packet old new)
+popped old new t n before after r now at below is items empty = by r items empty
+  where
+    old_at : sent_to old n ≡ map packet_picture before.items
+    old_at = ap (sent_to old) (sym at) ∙ map-read pictures old.sent.items t before [] below is
+
+    new_at : sent_to new n ≡ map packet_picture after.items
+    new_at = ap (λ ls. sent_in ls n) now ∙ ap (sent_in (set old.sent.items t after)) (sym at) ∙ map-set_same pictures old.sent.items t after [] below
+
+    others : (q : ℕ) → q ≢ n → sent_to new q ≡ sent_to old q
+    others q ne = ap (λ ls. sent_in ls q) now ∙ map-set_other pictures old.sent.items t q after [] (λ e. ne (e ∙ at))
+
+    by : (r : Option Packet) → before.items ≡ option_to_list r ++ after.items → (r ≡ None → before.items ≡ []) → MatchOption r (IsUnpopped n old new) (λ packet. IsPopped n packet old new)
+    by None items empty = record {
+      none = old_at ∙ ap (map packet_picture) (empty refl);
+      same = λ q. elim (eqb_tells q n) [
+        | inl e ↦ ap (sent_to new) e.1 ∙ new_at ∙ ap (map packet_picture) (sym items) ∙ sym old_at ∙ ap (sent_to old) (sym e.1)
+        | inr e ↦ others q e.1
+      ];
+    }
+    by (Some packet) items empty = record {
+      first = old_at ∙ ap (map packet_picture) items ∙ ap (λ qs. packet_picture packet ∷ qs) (sym new_at);
+      others = others;
+    }
+
+abbrev pub IsEmptyList : VecDeque Packet Global → Type 0
+IsEmptyList list = list.items ≡ []
+
+-- nothing was sent where each list is empty
+pub nothing_sent : (lists : Lists) → All IsEmptyList lists → (to : ℕ) → sent_in lists to ≡ []
+nothing_sent [] all to = refl
+nothing_sent (x ∷ xs) all zero = ap (map packet_picture) (All-head IsEmptyList x xs all)
+nothing_sent (x ∷ xs) all (suc to) = nothing_sent xs (All-tail IsEmptyList x xs all) to

@@ -1,0 +1,234 @@
+-- Nodes as a world: one event.
+use Rattle.std.proofs.Common.{◌≡◌, ◌≢◌, ◌⊎◌, inl, inr, ℕ, zero, suc, ◌<◌, ◌≤◌, ◌&&◌, Bool, arith, nat_eq, List, [], ◌∷◌, ◌++◌, length, map, set, get_or, All, Option, None, Some, cond, ap, sym, subst, ◌∙◌, refl, length-set}
+use Rattle.std.proofs.lemmas.List.Elements.{All-set, All-get_or}
+use Rattle.std.proofs.lemmas.Bool.Decides.{eqb_tells}
+use Rattle.charlotte_calls.specs.Packets.{packet_picture, what_picture}
+use Rattle.charlotte_calls.specs.declared.calls.Call.{Call}
+use Rattle.charlotte_calls.specs.declared.names.EndId.{EndId}
+use Rattle.charlotte_calls.specs.declared.names.Pid.{Pid}
+use Rattle.charlotte_calls.specs.declared.packet.Packet.{Packet}
+use Rattle.charlotte_calls.specs.declared.picture.Picture.{Picture}
+use Rattle.charlotte_calls.specs.declared.picture.PictureWhat.{PictureWhat}
+use Rattle.charlotte_calls.specs.declared.setting.Setting.{Setting}
+use Rattle.end_table.specs.Table.{entries}
+use Rattle.kernel_core.specs.State.{KernelView, state_of}
+use Rattle.kernel_step.specs.Calls.{IsCallWith}
+use Rattle.kernel_step.specs.Kernel.{Kernel, Outcome, call_step, take_step, without_answer}
+use Rattle.kernel_step.specs.Start.{start_kernel}
+use Rattle.kernel_world.specs.World.{World, Event, Calls, Takes, kernel_of, outcome, removes, rest, adds_all, happens, takes_first, to_kernel}
+use Rattle.kernel_world.proofs.Packets.{adds_all-own, adds_all-other}
+use Rattle.kernel_nodes.specs.Nodes.{sent_to, AreNodes, Happens, IsNodeOf, IsNotedOf, IsAfter, IsFirst, IsPopped, IsUnpopped, TakesTold, world_of}
+use Rattle.kernel_nodes.specs.declared.node.Node.{Node}
+use Rattle.kernel_nodes.specs.declared.nodes.Noted.{Noted}
+use Rattle.kernel_nodes.proofs.Lists.{map-set_same, map-set_other, map-read}
+
+-- ---- what is at one kernel
+
+abbrev pub state_at : Node → Kernel
+state_at n = state_of n.kernel
+
+pub kernel_at : (s : Setting) (ns : List Node) (k : ℕ) (node : Node) → k < length ns → node ≡ get_or ns k node → (world_of s ns).kernel k ≡ state_of node.kernel
+kernel_at s ns k node below at = map-read state_at ns k node (start_kernel s k) below at
+
+pub packets_at : (s : Setting) (ns : List Node) (k : ℕ) (node : Node) → k < length ns → node ≡ get_or ns k node → (to : ℕ) → (world_of s ns).packets k to ≡ sent_to node to
+packets_at s ns k node below at to = ap (λ (f : ℕ → List Picture). f to) (map-read sent_to ns k node (λ _. []) below at)
+
+pub node_at : (s : Setting) (ns : List Node) (k : ℕ) (node : Node) → All (IsNodeOf s) ns → k < length ns → node ≡ get_or ns k node → IsNodeOf s node
+node_at s ns k node all below at = subst (IsNodeOf s) (sym at) (All-get_or (IsNodeOf s) ns k node below all)
+
+state_of-table : (k : KernelView) → (state_of k).table ≡ entries k.table
+unfolding state_of
+state_of-table k = refl
+
+-- no element has this number
+get_or-past : {X Y : Type 0} (f : X → Y) (xs : List X) (i : ℕ) (d : Y) → length xs ≤ i → get_or (map f xs) i d ≡ d
+get_or-past f [] i d le = refl
+get_or-past f (x ∷ xs) zero d le = absurd (omega (arith, le))
+get_or-past f (x ∷ xs) (suc i) d le = get_or-past f xs i d (omega (arith, le))
+
+-- ---- one node changes
+
+kernel-set : (s : Setting) (ns : List Node) (k : ℕ) (new : Node) (q : ℕ) → k < length ns → (world_of s (set ns k new)).kernel q ≡ cond (nat_eq q k) (state_of new.kernel) ((world_of s ns).kernel q)
+kernel-set s ns k new q below = elim (eqb_tells q k) [
+  | inl e ↦ ap (λ i. get_or (map state_at (set ns k new)) i (start_kernel s q)) e.1 ∙ map-set_same state_at ns k new (start_kernel s q) below ∙ sym (ap (λ b. cond b (state_of new.kernel) ((world_of s ns).kernel q)) e.0)
+  | inr e ↦ map-set_other state_at ns k q new (start_kernel s q) e.1 ∙ sym (ap (λ b. cond b (state_of new.kernel) ((world_of s ns).kernel q)) e.0)
+]
+
+packets-set : (s : Setting) (ns : List Node) (k : ℕ) (new : Node) (from to : ℕ) → k < length ns → (world_of s (set ns k new)).packets from to ≡ cond (nat_eq from k) (sent_to new to) ((world_of s ns).packets from to)
+packets-set s ns k new from to below = elim (eqb_tells from k) [
+  | inl e ↦ ap (λ i. get_or (map sent_to (set ns k new)) i (λ _. []) to) e.1 ∙ ap (λ (f : ℕ → List Picture). f to) (map-set_same sent_to ns k new (λ _. []) below) ∙ sym (ap (λ b. cond b (sent_to new to) ((world_of s ns).packets from to)) e.0)
+  | inr e ↦ ap (λ (f : ℕ → List Picture). f to) (map-set_other sent_to ns k from new (λ _. []) e.1) ∙ sym (ap (λ b. cond b (sent_to new to) ((world_of s ns).packets from to)) e.0)
+]
+
+-- the lists alone of a node change: one kernel's list is another
+pub record IsWithSent (s : Setting) (ns ms : List Node) (packets : ℕ → ℕ → List Picture) : Type 0 where
+  pub kernel : (q : ℕ) → (world_of s ms).kernel q ≡ (world_of s ns).kernel q
+  pub packets_are : (from to : ℕ) → (world_of s ms).packets from to ≡ packets from to
+  pub nodes : All (IsNodeOf s) ms
+  pub count : length ms ≡ length ns
+
+pub with_sent : (s : Setting) (ns : List Node) (k : ℕ) (node new : Node) → k < length ns → node ≡ get_or ns k node → All (IsNodeOf s) ns → new.kernel ≡ node.kernel → length new.sent.items ≡ length node.sent.items → IsWithSent s ns (set ns k new) (λ from to. cond (nat_eq from k) (sent_to new to) ((world_of s ns).packets from to))
+with_sent s ns k node new below at all kernel lists =
+    record {
+      kernel = λ q. kernel-set s ns k new q below ∙ elim (eqb_tells q k) as (λ _. cond (nat_eq q k) (state_of new.kernel) ((world_of s ns).kernel q) ≡ (world_of s ns).kernel q) [
+        | inl e ↦ ap (λ b. cond b (state_of new.kernel) ((world_of s ns).kernel q)) e.0 ∙ ap state_of kernel ∙ sym (kernel_at s ns k node below at) ∙ ap (λ i. get_or (map state_at ns) i (start_kernel s k)) (sym e.1) ∙ ap (λ i. get_or (map state_at ns) q (start_kernel s i)) (sym e.1)
+        | inr e ↦ ap (λ b. cond b (state_of new.kernel) ((world_of s ns).kernel q)) e.0
+      ];
+      packets_are = λ from to. packets-set s ns k new from to below;
+      nodes = All-set (IsNodeOf s) ns k new (record { processes = ap (λ (x : KernelView). length x.processes) kernel ∙ was.processes; lists = lists ∙ was.lists }) all;
+      count = length-set ns k new;
+    }
+  where
+    was : IsNodeOf s node
+    was = node_at s ns k node all below at
+
+pub unsent : (s : Setting) (ns : List Node) → All (IsNodeOf s) ns → IsWithSent s ns ns (λ from to. (world_of s ns).packets from to)
+unsent s ns all = record { kernel = λ q. refl; packets_are = λ from to. refl; nodes = all; count = refl }
+
+-- ms are the nodes ns once the packet that the event takes is gone
+pub event_happens : (s : Setting) (ns ms : List Node) (mid new : Node) (e : Event) (noted : Noted) → AreNodes s ns → kernel_of e < length ms → mid ≡ get_or ms (kernel_of e) mid → IsWithSent s ns ms (removes e (world_of s ns).packets) → IsAfter (outcome (world_of s ns) e) mid new → IsNotedOf (outcome (world_of s ns) e) noted → Happens s e noted ns (set ms (kernel_of e) new)
+event_happens s ns ms mid new e noted are below at is event noted_is =
+    record {
+      world = λ j. record { kernel = λ q. kernel q j; packets = λ from to. packets from to j };
+      nodes = record { count = length-set ms k new ∙ is.count ∙ are.count; nodes = All-set (IsNodeOf s) ms k new here is.nodes };
+      noted = noted_is;
+    }
+  where
+    k : ℕ
+    k = kernel_of e
+
+    w : World
+    w = world_of s ns
+
+    o : Outcome
+    o = outcome w e
+
+    was : IsNodeOf s mid
+    was = node_at s ms k mid is.nodes below at
+
+    here : IsNodeOf s new
+    here = record { processes = event.processes ∙ was.processes; lists = event.lists ∙ was.lists }
+
+    kernel : (q : ℕ) → (world_of s (set ms k new)).kernel q ≡ cond (nat_eq q k) o.kernel (w.kernel q)
+    kernel q = kernel-set s ms k new q below ∙ ap (λ (x : Kernel). cond (nat_eq q k) x ((world_of s ms).kernel q)) event.kernel ∙ ap (λ (x : Kernel). cond (nat_eq q k) o.kernel x) (is.kernel q)
+
+    packets : (from to : ℕ) → (world_of s (set ms k new)).packets from to ≡ adds_all k o.packets (removes e w.packets) from to
+    packets from to = packets-set s ms k new from to below ∙ elim (eqb_tells from k) as (λ _. cond (nat_eq from k) (sent_to new to) ((world_of s ms).packets from to) ≡ adds_all k o.packets (removes e w.packets) from to) [
+      | inl x ↦ ap (λ b. cond b (sent_to new to) ((world_of s ms).packets from to)) x.0 ∙ event.sent to
+          ∙ ap (λ qs. qs ++ to_kernel to o.packets) (sym (packets_at s ms k mid below at to) ∙ ap (λ i. (world_of s ms).packets i to) (sym x.1) ∙ is.packets_are from to)
+          ∙ sym (adds_all-own k o.packets (removes e w.packets) from to x.0)
+      | inr x ↦ ap (λ b. cond b (sent_to new to) ((world_of s ms).packets from to)) x.0 ∙ is.packets_are from to ∙ sym (adds_all-other k o.packets (removes e w.packets) from to x.0)
+    ]
+
+-- ---- a call
+
+abbrev CallHappens : Setting → ℕ → Pid → Call → Noted → List Node → List Node → Type 0
+CallHappens s k p c noted old new = (mine : List EndId) × IsCallWith p ((world_of s old).kernel k).table mine c × Happens s (Calls k p c mine) noted old new
+
+-- a node made the call
+abbrev pub NodeCalls : Pid → Call → Noted → Node → Node → Type 0
+NodeCalls p c noted old new =
+    (mine : List EndId) × IsCallWith p (entries old.kernel.table) mine c
+    × IsNotedOf (call_step (without_answer p (state_of old.kernel)) p mine c) noted
+    × IsAfter (call_step (without_answer p (state_of old.kernel)) p mine c) old new
+
+pub call_happens : (s : Setting) (ns : List Node) (k i : ℕ) (node new : Node) (p : Pid) (c : Call) (noted : Noted) → AreNodes s ns → i ≡ k → i < length ns → node ≡ get_or ns i node → NodeCalls p c noted node new → CallHappens s k p c noted ns (set ns i new)
+call_happens s ns k i node new p c noted are i_is below at did =
+    subst (λ n. CallHappens s n p c noted ns (set ns i new)) i_is (
+      mine,
+      subst (λ t. IsCallWith p t mine c) (sym (ap (λ (x : Kernel). x.table) is ∙ state_of-table node.kernel)) did.1,
+      event_happens s ns ns node new (Calls i p c mine) noted are below at (unsent s ns are.nodes)
+          (subst (λ (x : Kernel). IsAfter (call_step (without_answer p x) p mine c) node new) (sym is) did.3)
+          (subst (λ (x : Kernel). IsNotedOf (call_step (without_answer p x) p mine c) noted) (sym is) did.2),
+    )
+  where
+    mine : List EndId
+    mine = did.0
+
+    is : (world_of s ns).kernel i ≡ state_of node.kernel
+    is = kernel_at s ns i node below at
+
+-- ---- a taking
+
+-- the first packet is another, or there is none
+pub untold : (s : Setting) (ns : List Node) (from to : ℕ) (what : PictureWhat) (new : List Node) → (IsFirst what ((world_of s ns).packets from to) → ⊥) → TakesTold s from to what None ns new
+untold s ns from to what new h below = h
+
+first-none : (what : PictureWhat) (qs : List Picture) → qs ≡ [] → IsFirst what qs → ⊥
+first-none what [] e is = is
+first-none what (q ∷ qs) e is = absurd (cc)
+
+first-other : (what : PictureWhat) (q : Picture) (qs others : List Picture) → qs ≡ q ∷ others → (q.what ≡ what → ⊥) → IsFirst what qs → ⊥
+first-other what q [] others e not is = is
+first-other what q (x ∷ xs) others e not is = not (sym (ap (λ (x : Picture). x.what) (heads e)) ∙ is)
+  where
+    heads : x ∷ xs ≡ q ∷ others → x ≡ q
+    heads e = cc
+
+untold_empty : (s : Setting) (ns : List Node) (from to : ℕ) (what : PictureWhat) (new : List Node) → (world_of s ns).packets from to ≡ [] → TakesTold s from to what None ns new
+untold_empty s ns from to what new none = untold s ns from to what new (first-none what ((world_of s ns).packets from to) none)
+
+-- a kernel is not there
+pub untold_away : (s : Setting) (ns : List Node) (from to : ℕ) (what : PictureWhat) (new : List Node) → AreNodes s ns → (length ns ≤ from) ⊎ (length ns ≤ to) → TakesTold s from to what None ns new
+untold_away s ns from to what new are (inl away) = untold_empty s ns from to what new (ap (λ (f : ℕ → List Picture). f to) (get_or-past sent_to ns from (λ _. []) away))
+untold_away s ns from to what new are (inr away) = λ below is. let count : length ns ≡ s.kernels = are.count in let le : length ns ≤ to = away in absurd (omega (arith, count, le, below))
+
+pub untold_none : (s : Setting) (ns : List Node) (from to i : ℕ) (node popped : Node) (what : PictureWhat) (new : List Node) → from ≡ i → i < length ns → node ≡ get_or ns i node → IsUnpopped to node popped → TakesTold s from to what None ns new
+untold_none s ns from to i node popped what new is_i below at pop =
+    untold_empty s ns from to what new (ap (λ m. (world_of s ns).packets m to) is_i ∙ packets_at s ns i node below at to ∙ pop.none)
+
+pub untold_other : (s : Setting) (ns : List Node) (from to i : ℕ) (node popped : Node) (packet : Packet) (what : PictureWhat) (new : List Node) → from ≡ i → i < length ns → node ≡ get_or ns i node → IsPopped to packet node popped → (what_picture packet.what ≡ what → ⊥) → TakesTold s from to what None ns new
+untold_other s ns from to i node popped packet what new is_i below at pop other =
+    untold s ns from to what new (first-other what (packet_picture packet) ((world_of s ns).packets from to) (sent_to popped to) (ap (λ m. (world_of s ns).packets m to) is_i ∙ packets_at s ns i node below at to ∙ pop.first) other)
+
+-- ms are the nodes once the packet is gone
+take_happens : (s : Setting) (ns : List Node) (from to : ℕ) (node popped mid new : Node) (packet : Packet) (what : PictureWhat) (noted : Noted) → AreNodes s ns → from < length ns → to < length ns → node ≡ get_or ns from node → IsPopped to packet node popped → popped.kernel ≡ node.kernel → length popped.sent.items ≡ length node.sent.items → what_picture packet.what ≡ what → mid ≡ get_or (set ns from popped) to mid
+    → IsNotedOf (take_step (state_of mid.kernel) from (packet_picture packet)) noted → IsAfter (take_step (state_of mid.kernel) from (packet_picture packet)) mid new → TakesTold s from to what (Some noted) ns (set (set ns from popped) to new)
+take_happens s ns from to node popped mid new packet what noted are below below_to at pop kernel lists told at_mid noted_is event = (
+  subst (λ n. to < n) are.count below_to,
+  subst (IsFirst what) (sym held) told,
+  event_happens s ns ms mid new (Takes to from) noted are (subst (λ m. to < m) (sym is.count) below_to) at_mid
+      (record { kernel = is.kernel; packets_are = packets; nodes = is.nodes; count = is.count })
+      (gives (λ o. IsAfter o mid new) event) (gives (λ o. IsNotedOf o noted) noted_is),
+)
+  where
+    w : World
+    w = world_of s ns
+
+    ms : List Node
+    ms = set ns from popped
+
+    is : IsWithSent s ns ms (λ f t. cond (nat_eq f from) (sent_to popped t) (w.packets f t))
+    is = with_sent s ns from node popped below at are.nodes kernel lists
+
+    held : w.packets from to ≡ packet_picture packet ∷ sent_to popped to
+    held = packets_at s ns from node below at to ∙ pop.first
+
+    inner : (t : ℕ) → sent_to popped t ≡ cond (nat_eq t to) (rest (w.packets from t)) (w.packets from t)
+    inner t = elim (eqb_tells t to) as (λ _. sent_to popped t ≡ cond (nat_eq t to) (rest (w.packets from t)) (w.packets from t)) [
+      | inl x ↦ ap (sent_to popped) x.1 ∙ ap rest (sym held) ∙ ap (λ i. rest (w.packets from i)) (sym x.1) ∙ sym (ap (λ b. cond b (rest (w.packets from t)) (w.packets from t)) x.0)
+      | inr x ↦ pop.others t x.1 ∙ sym (packets_at s ns from node below at t) ∙ sym (ap (λ b. cond b (rest (w.packets from t)) (w.packets from t)) x.0)
+    ]
+
+    packets : (f t : ℕ) → (world_of s ms).packets f t ≡ removes (Takes to from) w.packets f t
+    packets f t = is.packets_are f t ∙ elim (eqb_tells f from) as (λ _. cond (nat_eq f from) (sent_to popped t) (w.packets f t) ≡ cond (nat_eq f from && nat_eq t to) (rest (w.packets f t)) (w.packets f t)) [
+      | inl x ↦ ap (λ b. cond b (sent_to popped t) (w.packets f t)) x.0 ∙ inner t ∙ ap (λ i. cond (nat_eq t to) (rest (w.packets i t)) (w.packets i t)) (sym x.1)
+          ∙ sym (ap (λ b. cond (b && nat_eq t to) (rest (w.packets f t)) (w.packets f t)) x.0)
+      | inr x ↦ ap (λ b. cond b (sent_to popped t) (w.packets f t)) x.0 ∙ sym (ap (λ b. cond (b && nat_eq t to) (rest (w.packets f t)) (w.packets f t)) x.0)
+    ]
+
+    same : state_of mid.kernel ≡ w.kernel to
+    same = sym (kernel_at s ms to mid (subst (λ m. to < m) (sym is.count) below_to) at_mid) ∙ is.kernel to
+
+    gives : (P : Outcome → Type 0) → P (take_step (state_of mid.kernel) from (packet_picture packet)) → P (takes_first (w.kernel to) from (w.packets from to))
+    gives P h = subst (λ (qs : List Picture). P (takes_first (w.kernel to) from qs)) (sym held) (subst (λ (x : Kernel). P (take_step x from (packet_picture packet))) same h)
+
+-- the same, where the nodes are found by equal numbers
+pub take_happens_at : (s : Setting) (ns : List Node) (from to i j : ℕ) (node popped mid new : Node) (packet : Packet) (what : PictureWhat) (noted : Noted) → AreNodes s ns → from ≡ i → to ≡ j → i < length ns → j < length ns → node ≡ get_or ns i node → IsPopped to packet node popped → popped.kernel ≡ node.kernel → length popped.sent.items ≡ length node.sent.items → what_picture packet.what ≡ what → mid ≡ get_or (set ns i popped) j mid
+    → IsNotedOf (take_step (state_of mid.kernel) from (packet_picture packet)) noted → IsAfter (take_step (state_of mid.kernel) from (packet_picture packet)) mid new → TakesTold s from to what (Some noted) ns (set (set ns i popped) j new)
+take_happens_at s ns from to i j node popped mid new packet what noted are is_i is_j below below_to at pop kernel lists told at_mid noted_is event =
+    subst (λ m. TakesTold s from to what (Some noted) ns (set (set ns m popped) j new)) is_i
+    (subst (λ m. TakesTold s from to what (Some noted) ns (set (set ns from popped) m new)) is_j
+    (take_happens s ns from to node popped mid new packet what noted are (subst (λ m. m < length ns) (sym is_i) below) (subst (λ m. m < length ns) (sym is_j) below_to)
+    (subst (λ m. node ≡ get_or ns m node) (sym is_i) at) pop kernel lists told
+    (subst (λ m. mid ≡ get_or (set ns from popped) m mid) (sym is_j) (subst (λ m. mid ≡ get_or (set ns m popped) j mid) (sym is_i) at_mid)) noted_is event))

@@ -1,0 +1,75 @@
+-- Kernels with what they sent, as a world.
+use Rattle.std.specs.Prelude.{◌≡◌, ◌≢◌, ◌<◌, ℕ, List, [], ◌∷◌, ◌++◌, length, map, All, slice_index_or, Option, Some, None}
+use Rattle.charlotte_calls.specs.Packets.{packet_picture}
+use Rattle.charlotte_calls.specs.declared.packet.Packet.{Packet}
+use Rattle.charlotte_calls.specs.declared.picture.Picture.{Picture}
+use Rattle.charlotte_calls.specs.declared.picture.PictureWhat.{PictureWhat}
+use Rattle.charlotte_calls.specs.declared.setting.Setting.{Setting}
+use Rattle.kernel_core.specs.State.{state_of}
+use Rattle.kernel_step.specs.Kernel.{Outcome}
+use Rattle.kernel_step.specs.Start.{start_kernel}
+use Rattle.kernel_world.specs.World.{World, Event, Takes, happens, outcome, to_kernel}
+use Rattle.kernel_nodes.specs.declared.node.Node.{Node}
+use Rattle.kernel_nodes.specs.declared.nodes.Noted.{Noted}
+
+-- the packets that a kernel sent to a kernel and that were not taken, oldest first
+abbrev pub sent_to : Node → ℕ → List Picture
+sent_to node to = slice_index_or (map (λ list. map packet_picture list.items) node.sent.items) to []
+
+-- a node of a setting: it has a place for each process and a list for each number of a kernel
+pub record IsNodeOf (s : Setting) (node : Node) : Type 0 where
+  pub processes : length node.kernel.processes ≡ length s.homes
+  pub lists : length node.sent.items ≡ 256
+
+-- what is noted of an event is what it gives
+pub record IsNotedOf (o : Outcome) (noted : Noted) : Type 0 where
+  pub stamp : noted.stamp ≡ o.kernel.stamp
+  pub steps : noted.steps.items ≡ o.steps
+
+-- an event happened at a node: the kernel and the packets are those of the outcome
+pub record IsAfter (o : Outcome) (old new : Node) : Type 0 where
+  pub kernel : state_of new.kernel ≡ o.kernel
+  pub sent : (to : ℕ) → sent_to new to ≡ sent_to old to ++ to_kernel to o.packets
+  pub processes : length new.kernel.processes ≡ length old.kernel.processes
+  pub lists : length new.sent.items ≡ length old.sent.items
+
+-- ---- all nodes, by the numbers of their kernels
+
+-- the state of each kernel, and the packets that are under way
+abbrev pub world_of : Setting → List Node → World
+world_of s nodes =
+    record {
+      kernel = λ k. slice_index_or (map (λ n. state_of n.kernel) nodes) k (start_kernel s k);
+      packets = λ from to. slice_index_or (map sent_to nodes) from (λ _. []) to;
+    }
+
+-- the nodes of a setting
+pub record AreNodes (s : Setting) (ns : List Node) : Type 0 where
+  pub count : length ns ≡ s.kernels
+  pub nodes : All (IsNodeOf s) ns
+
+-- an event happened, and this is noted of it
+pub record Happens (s : Setting) (e : Event) (made : Noted) (old new : List Node) : Type 0 where
+  pub world : world_of s new ≡ happens (world_of s old) e
+  pub nodes : AreNodes s new
+  pub noted : IsNotedOf (outcome (world_of s old) e) made
+
+-- the first of these packets tells this
+abbrev pub IsFirst : PictureWhat → List Picture → Type 0
+IsFirst what [] = ⊥
+IsFirst what (q ∷ qs) = q.what ≡ what
+
+-- the first packet from one kernel to another that is there was taken, where it tells this
+abbrev pub TakesTold : Setting → ℕ → ℕ → PictureWhat → Option Noted → List Node → List Node → Type 0
+TakesTold s from to what (Some noted) old new = (to < s.kernels) × IsFirst what ((world_of s old).packets from to) × Happens s (Takes to from) noted old new
+TakesTold s from to what None old new = to < s.kernels → IsFirst what ((world_of s old).packets from to) → ⊥
+
+-- a packet was the oldest from a node to a kernel, and is not there any more
+pub record IsPopped (to : ℕ) (packet : Packet) (old new : Node) : Type 0 where
+  pub first : sent_to old to ≡ packet_picture packet ∷ sent_to new to
+  pub others : (q : ℕ) → q ≢ to → sent_to new q ≡ sent_to old q
+
+-- there was none
+pub record IsUnpopped (to : ℕ) (old new : Node) : Type 0 where
+  pub none : sent_to old to ≡ []
+  pub same : (q : ℕ) → sent_to new q ≡ sent_to old q

@@ -1,0 +1,129 @@
+ghost use Rattle.std.specs.Prelude.{◌≡◌, ◌↔◌, ◌<◌, ℕ, ◌++◌, [], All, IfOk, IsTrue, OnOk, List, MatchOption, length, map};
+ghost use Rattle.charlotte_calls.specs.Packets.{packet_picture};
+ghost use Rattle.charlotte_calls.specs.Setting.{IsValid};
+ghost use Rattle.charlotte_calls.specs.declared.names.EndId.{EndId};
+ghost use Rattle.end_table.specs.Table.{entries};
+ghost use Rattle.kernel_core.specs.State.{state_of};
+ghost use Rattle.kernel_step.specs.Calls.{IsCallWith};
+ghost use Rattle.kernel_step.specs.Kernel.{call_step, take_step, process_of, without_answer};
+ghost use Rattle.kernel_step.specs.Progress.{sent_picture};
+ghost use Rattle.kernel_step.specs.Start.{start_kernel};
+ghost use Rattle.kernel_step.specs.declared.phase.Phase.TheVariants.{Running};
+ghost use Rattle.kernel_world.specs.World.{to_kernel};
+ghost use Rattle.kernel_nodes.specs.Nodes.{sent_to, IsNodeOf, IsAfter, IsNotedOf, IsPopped, IsUnpopped};
+
+use crate::nodes::Noted;
+use charlotte_calls::{Call, Effect, NoMemory, Packet, Pid, Setting};
+use kernel_core::{Kernel, NotTaken};
+use std::alloc::Global;
+use std::collections::VecDeque;
+
+/// A kernel, and what it sent.
+#[derive(Drop)]
+pub(crate) struct Node {
+    pub(crate) kernel: Kernel,
+    /// The packets that were not taken yet, oldest first: a list for each number that a kernel may have.
+    pub(crate) sent: Vec<VecDeque<Packet>>,
+}
+
+/// How many numbers a packet may be addressed to.
+const NUMBERS: usize = 256;
+
+impl Node {
+    /// A kernel of a setting before any event.
+    pub(crate) fn start(alloc: Global, id: u8, setting: &Setting) -> Result<Node, NoMemory>
+        requires valid { IsValid setting.now }
+        requires below { id < setting.now.kernels }
+        ensures state { IfOk result (λ node. state_of node.kernel ≡ start_kernel setting.now id) }
+        ensures sent { IfOk result (λ node. (to : ℕ) → sent_to node to ≡ []) }
+        ensures node { IfOk result (λ node. IsNodeOf setting.now node) }
+    {
+        Ok(Node {
+            kernel: Kernel::start(alloc, id, setting)?,
+            sent: empty_lists(alloc)?,
+        })
+    }
+
+    /// A process that runs makes a call; the answer that stood is let go.
+    pub(crate) fn call(&mut self, p: Pid, call: Call) -> Result<Noted, NoMemory>
+        requires process { p.0 < length self.old.kernel.processes }
+        requires running { (process_of p (state_of self.old.kernel)).phase ≡ Running }
+        requires lists { length self.old.sent.items ≡ 256 }
+        ensures after { IfOk result (λ noted. (mine : List EndId) × IsCallWith p (entries self.old.kernel.table) mine call
+            × IsNotedOf (call_step (without_answer p (state_of self.old.kernel)) p mine call) noted
+            × IsAfter (call_step (without_answer p (state_of self.old.kernel)) p mine call) self.old self.new) }
+    {
+        let _ = self.kernel.answer(p);
+        let effect = self.kernel.call(p, call)?;
+        self.send(effect)
+    }
+
+    /// Takes a packet that a kernel sent to this one.
+    pub(crate) fn take(&mut self, from: u8, packet: Packet) -> Result<Noted, NoMemory>
+        requires lists { length self.old.sent.items ≡ 256 }
+        ensures noted { IfOk result (λ noted. IsNotedOf (take_step (state_of self.old.kernel) from (packet_picture packet)) noted) }
+        ensures after { OnOk result (IsAfter (take_step (state_of self.old.kernel) from (packet_picture packet)) self.old self.new) }
+    {
+        match self.kernel.take(from, packet) {
+            Ok(effect) => self.send(effect),
+            Err(NotTaken { packet: _ }) => Err(NoMemory),
+        }
+    }
+
+    /// Sends the packets of an event.
+    fn send(&mut self, effect: Effect) -> Result<Noted, NoMemory>
+        requires { length self.old.sent.items ≡ 256 }
+        ensures noted { IfOk result (λ noted. (noted.stamp ≡ effect.stamp) × (noted.steps ≡ effect.steps)) }
+        ensures kernel { self.new.kernel ≡ self.old.kernel }
+        ensures sent { OnOk result ((to : ℕ) → sent_to self.new to ≡ sent_to self.old to ++ to_kernel to (map sent_picture effect.packets.items)) }
+        ensures lists { length self.new.sent.items ≡ length self.old.sent.items }
+    {
+        let Effect {
+            stamp,
+            packets,
+            answered: _,
+            steps,
+        } = effect;
+        self.send_all(packets)?;
+        Ok(Noted { stamp, steps })
+    }
+
+    fn send_all(&mut self, packets: Vec<(u8, Packet)>) -> Result<(), NoMemory>
+        requires { length self.old.sent.items ≡ 256 }
+        ensures kernel { self.new.kernel ≡ self.old.kernel }
+        ensures sent { OnOk result ((to : ℕ) → sent_to self.new to ≡ sent_to self.old to ++ to_kernel to (map sent_picture packets.items)) }
+        ensures lists { length self.new.sent.items ≡ length self.old.sent.items }
+    {
+        for (to, packet) in packets {
+            self.sent[usize::from(to)].push_back(packet)?;
+        }
+        Ok(())
+    }
+
+    /// The oldest packet to a kernel that was not taken yet.
+    pub(crate) fn pop(&mut self, to: u8) -> Option<Packet>
+        requires { length self.old.sent.items ≡ 256 }
+        ensures packet { MatchOption result (IsUnpopped to self.old self.new) (λ packet. IsPopped to packet self.old self.new) }
+        ensures kernel { self.new.kernel ≡ self.old.kernel }
+        ensures lists { length self.new.sent.items ≡ length self.old.sent.items }
+    {
+        self.sent[usize::from(to)].pop_front()
+    }
+
+    /// Whether no packet of this node waits to be taken.
+    pub(crate) fn is_quiet(&self) -> bool
+        ensures { IsTrue result ↔ All (λ list. list.items ≡ []) self.now.sent.items }
+    {
+        self.sent.iter().all(|list| list.is_empty())
+    }
+}
+
+fn empty_lists(alloc: Global) -> Result<Vec<VecDeque<Packet>>, NoMemory>
+    ensures { IfOk result (λ lists. (length lists.items ≡ 256) × All (λ list. list.items ≡ []) lists.items) }
+{
+    let mut lists = Vec::with_capacity(alloc, NUMBERS)?;
+    for _ in 0..NUMBERS {
+        lists.push(VecDeque::new(alloc))?;
+    }
+    Ok(lists)
+}

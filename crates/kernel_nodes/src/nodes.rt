@@ -1,0 +1,101 @@
+ghost use Rattle.std.specs.Prelude.{◌≡◌, ◌↔◌, ◌<◌, [], All, IfOk, IsTrue, List, length};
+ghost use Rattle.charlotte_calls.specs.Setting.{IsValid};
+ghost use Rattle.charlotte_calls.specs.declared.names.EndId.{EndId};
+ghost use Rattle.charlotte_calls.specs.declared.setting.Setting.{Setting as ASetting};
+ghost use Rattle.kernel_step.specs.Calls.{IsCallWith};
+ghost use Rattle.kernel_step.specs.Kernel.{process_of};
+ghost use Rattle.kernel_step.specs.declared.phase.Phase.TheVariants.{Running};
+ghost use Rattle.kernel_world.specs.Run.{AllTaken};
+ghost use Rattle.kernel_world.specs.World.{Calls, start};
+ghost use Rattle.kernel_nodes.specs.Nodes.{AreNodes, Happens, TakesTold, world_of};
+
+use crate::node::Node;
+use charlotte_calls::{Call, NoMemory, PictureWhat, Pid, ServiceStep, Setting};
+use std::alloc::Global;
+use transcript_matching::is_told;
+
+/// What is noted of an event, besides what happened.
+#[derive(Debug, Drop)]
+pub struct Noted {
+    pub stamp: u64,
+    /// What the event means to the link service, in order.
+    pub steps: Vec<ServiceStep>,
+}
+
+/// The kernels of a setting, by their numbers, with the packets that were sent and not taken.
+#[derive(Drop)]
+pub struct Nodes {
+    nodes: Vec<Node>,
+}
+
+impl Nodes {
+    /// The kernels of a setting before any event.
+    pub fn start(alloc: Global, setting: &Setting) -> Result<Nodes, NoMemory>
+        requires { IsValid setting.now }
+        ensures nodes { IfOk result (λ all. AreNodes setting.now all.nodes.items) }
+        ensures start { IfOk result (λ all. world_of setting.now all.nodes.items ≡ start setting.now) }
+    {
+        let mut nodes = Vec::new(alloc);
+        for id in 0..setting.kernels {
+            nodes.push(Node::start(alloc, id, setting)?)?;
+        }
+        Ok(Nodes { nodes })
+    }
+
+    /// Whether a process runs at a kernel: it may make a call.
+    pub fn running(&self, kernel: u8, p: Pid) -> bool
+        requires { (s : ASetting) × AreNodes s self.now.nodes.items × (kernel < s.kernels) × (p.0 < length s.homes) }
+        ensures { (s : ASetting) → IsTrue result ↔ ((process_of p ((world_of s self.now.nodes.items).kernel kernel)).phase ≡ Running) }
+    {
+        self.nodes[usize::from(kernel)].kernel.running(p)
+    }
+
+    /// A process that runs makes a call of its kernel; the answer that stood is let go. After want of memory no further call is made.
+    pub fn call(&mut self, kernel: u8, p: Pid, call: Call) -> Result<Noted, NoMemory>
+        requires { (s : ASetting) × AreNodes s self.old.nodes.items × (kernel < s.kernels) × (p.0 < length s.homes)
+            × ((process_of p ((world_of s self.old.nodes.items).kernel kernel)).phase ≡ Running) }
+        ensures { IfOk result (λ noted. (s : ASetting) → AreNodes s self.old.nodes.items → (mine : List EndId)
+            × IsCallWith p ((world_of s self.old.nodes.items).kernel kernel).table mine call
+            × Happens s (Calls kernel p call mine) noted self.old.nodes.items self.new.nodes.items) }
+    {
+        self.nodes[usize::from(kernel)].call(p, call)
+    }
+
+    /// Takes the first packet from one kernel to another, if it tells this; `None` exactly where there is none, the first tells
+    /// something else, or the other kernel is not there. After `None` and after want of memory no further call is made.
+    pub fn take_told(
+        &mut self,
+        from: u8,
+        to: u8,
+        what: &PictureWhat,
+    ) -> Result<Option<Noted>, NoMemory>
+        requires { (s : ASetting) × AreNodes s self.old.nodes.items }
+        ensures { IfOk result (λ noted. (s : ASetting) → AreNodes s self.old.nodes.items → TakesTold s from to what.now noted self.old.nodes.items self.new.nodes.items) }
+    {
+        if usize::from(from) >= self.nodes.len() || usize::from(to) >= self.nodes.len() {
+            return Ok(None);
+        }
+        let Some(packet) = self.nodes[usize::from(from)].pop(to) else {
+            return Ok(None);
+        };
+        if !is_told(&packet.what, what) {
+            return Ok(None);
+        }
+        let noted = self.nodes[usize::from(to)].take(from, packet)?;
+        Ok(Some(noted))
+    }
+
+    /// Whether no packet is under way.
+    pub fn are_quiet(&self) -> bool
+        ensures { (s : ASetting) → IsTrue result ↔ AllTaken (world_of s self.now.nodes.items) }
+    {
+        are_all_quiet(&self.nodes)
+    }
+}
+
+/// Whether no packet of these nodes waits to be taken.
+fn are_all_quiet(nodes: &[Node]) -> bool
+    ensures { IsTrue result ↔ All (λ node. All (λ list. list.items ≡ []) node.sent.items) nodes.now }
+{
+    nodes.iter().all(|node| node.is_quiet())
+}
