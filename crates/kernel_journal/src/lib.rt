@@ -1,13 +1,14 @@
 //! Journals, their merge, transcripts, and the replay of transcripts.
 //!
-//! The first three are those of `journal_text` and `transcript_reader`, handed on. A `Replay` takes the lines of a transcript one after the
-//! other and runs the kernels beside them.
+//! The first three are those of `journal_text` and `transcript_reader`, handed on. `Replay` takes the lines of a transcript one after the
+//! other and runs the kernels beside them; `replay` hands it all lines.
 #![tactic(auto)]
 
 mod body;
 mod draft;
 mod fault;
 mod lines;
+mod whole;
 
 pub use fault::ReplayFault;
 pub use journal_text::{
@@ -16,3 +17,4 @@ pub use journal_text::{
 };
 pub use lines::Replay;
 pub use transcript_reader::{Line, LineFault, LineKind, Reader, ServiceLine, read_transcript};
+pub use whole::replay;
