@@ -1,6 +1,7 @@
 ghost use Rattle.std.specs.Prelude.{◌≡◌, ℕ, List, IfErr, IfOk};
 ghost use Rattle.transcript_reader.specs.Text.{AreLines};
-ghost use Rattle.kernel_journal.specs.Faults.{GivesLast, IsReplayFault, IsReplayOf};
+ghost use Rattle.kernel_journal.specs.Faults.{GivesLast, IsReplayFault, IsReplayOf, kinds_in};
+ghost use Rattle.replay_law.specs.Law.{IsLawfulReplay};
 
 use crate::fault::ReplayFault;
 use crate::lines::Replay;
@@ -13,6 +14,8 @@ use transcript_reader::Line;
 pub fn replay(alloc: Global, lines: &[Line]) -> Result<Last, ReplayFault>
     requires { (bytes : List ℕ) × AreLines bytes lines.now }
     ensures found { IfOk result (IsReplayOf lines.now) }
+    // And so its service lines are one lawful run of the link service.
+    ensures lawful { IfOk result (IsLawfulReplay (kinds_in lines.now)) }
     ensures only { (last : Last) → IsReplayOf lines.now last → GivesLast last result }
     ensures fault { IfErr result (IsReplayFault lines.now) }
 {

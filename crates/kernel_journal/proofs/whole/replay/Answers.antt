@@ -1,5 +1,6 @@
 use Rattle.std.proofs.Common.{◌≡◌, ◌<◌, ◌≤◌, Err, IfErr, None, Some, length, subst, sym, ◌∙◌, rules}
-use Rattle.kernel_journal.specs.Faults.{GivesLast, IsReplayFault, IsReplayOf}
+use Rattle.kernel_journal.specs.Faults.{GivesLast, IsReplayFault, IsReplayOf, kinds_in}
+use Rattle.replay_law.proofs.Lawful.{replay-is-lawful}
 use Rattle.kernel_journal.proofs.Replays.{all-taken, ended-only, ended-replay, fault-only, replaying-start, step-fault, step-may, step-more}
 use Rattle.kernel_journal.proofs.whole.replay.Goals as goal
 
@@ -44,6 +45,14 @@ returns-clause-found c =
     let e : Some c.in-Some.last ≡ Some ended.last = sym c.in-Some.is ∙ c.last.ensures ∙ ended.kept in
     let same : ended.last ≡ c.in-Some.last = cc in
     subst (λ l. IsReplayOf c.args.lines.now l) same (ended-replay c.args.lines.now c.loop-line.replay ended)
+
+pub returns-clause-lawful : goal.returns-clause-lawful
+returns-clause-lawful c =
+    let past : length c.args.lines.now ≤ c.loop-line.line-index = search rules in
+    let ended = all-taken c.args.lines.now c.loop-line.line-index c.loop-line.replay past c.loop-line.invariant in
+    let e : Some c.in-Some.last ≡ Some ended.last = sym c.in-Some.is ∙ c.last.ensures ∙ ended.kept in
+    let same : ended.last ≡ c.in-Some.last = cc in
+    replay-is-lawful (kinds_in c.args.lines.now) c.in-Some.last (subst (λ l. IsReplayOf c.args.lines.now l) same (ended-replay c.args.lines.now c.loop-line.replay ended))
 
 pub returns-clause-only : goal.returns-clause-only
 returns-clause-only c last replay =
