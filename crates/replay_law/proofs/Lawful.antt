@@ -1,40 +1,10 @@
--- Replays are lawful, and performances are replayed.
-use Rattle.std.proofs.Common.{◌≡◌, List, refl, subst, sym}
-use Rattle.charlotte_calls.specs.Setting.{IsValid}
-use Rattle.charlotte_calls.specs.declared.setting.Setting.{Setting}
+-- Replays are lawful.
+use Rattle.std.proofs.Common.{List}
 use Rattle.journal_text.specs.declared.last.Last.{Last}
-use Rattle.journal_text.specs.declared.last.Last.TheVariants.{Quiet, Unsettled, Spent}
-use Rattle.journal_text.specs.declared.last.ScriptNote.{ScriptNote}
-use Rattle.kernel_world.specs.World.{World, Event, after, start}
-use Rattle.kernel_world.specs.declared.entry.Placed.{Placed}
-use Rattle.lynx_plan.specs.declared.script.ScriptLine.{ScriptLine}
 use Rattle.replay_law.specs.Law.{IsLawfulReplay}
-use Rattle.replay_lines.specs.Replay.{IsReplay, IsTrueLast}
-use Rattle.script_run.specs.Performing.{IsLast, IsPerformance}
-use Rattle.transcript_reading.specs.Kinds.{transcript_kinds}
+use Rattle.replay_lines.specs.Replay.{IsReplay}
 use Rattle.transcript_reading.specs.declared.line.LineKind.{LineKind}
 use Rattle.world_law.proofs.Record.{record-is-lawful}
-use Rattle.replay_law.proofs.Within.{run-within}
 
 pub replay-is-lawful : (kinds : List LineKind) (last : Last) → IsReplay kinds last → IsLawfulReplay kinds last
 replay-is-lawful kinds last r = record { setting = r.setting; merged = r.merged; notes = r.notes; shown = r.shown; lawful = record-is-lawful r.setting r.events r.merged r.valid r.recorded }
-
-true-last : (s : Setting) (w : World) (last : Last) → IsLast w last → IsTrueLast s w last
-true-last s w Quiet is = is
-true-last s w Unsettled is = is
-true-last s w (Spent k) is = absurd is
-
-pub performance-is-replayed : (s : Setting) (lines : List ScriptLine) (merged : List Placed) (notes : List ScriptNote) (last : Last) → IsValid s → IsPerformance s lines merged notes last → IsReplay (transcript_kinds s merged notes last) last
-performance-is-replayed s lines merged notes last valid p =
-    let recorded = p.recorded.recorded in
-    record {
-      setting = s;
-      valid = valid;
-      events = p.recorded.run;
-      within = run-within s p.recorded.run valid recorded.run;
-      merged = merged;
-      recorded = recorded;
-      notes = notes;
-      shown = refl;
-      true_last = subst (λ w. IsTrueLast s w last) (sym p.recorded.leaves) (true-last s (after (start s) p.named) last p.last_world);
-    }

@@ -2,15 +2,10 @@ ghost use Rattle.std.specs.Prelude.{List};
 ghost use Rattle.charlotte_calls.specs.Setting.{IsValid};
 ghost use Rattle.charlotte_calls.specs.declared.setting.Setting.{Setting};
 ghost use Rattle.journal_text.specs.declared.last.Last.{Last};
-ghost use Rattle.journal_text.specs.declared.last.ScriptNote.{ScriptNote};
 ghost use Rattle.kernel_world.specs.Run.{IsRun};
 ghost use Rattle.kernel_world.specs.World.{Event};
-ghost use Rattle.kernel_world.specs.declared.entry.Placed.{Placed};
-ghost use Rattle.lynx_plan.specs.declared.script.ScriptLine.{ScriptLine};
 ghost use Rattle.replay_law.specs.Law.{IsLawfulReplay};
 ghost use Rattle.replay_lines.specs.Replay.{AreWithin, IsReplay};
-ghost use Rattle.script_run.specs.Performing.{IsPerformance};
-ghost use Rattle.transcript_reading.specs.Kinds.{transcript_kinds};
 ghost use Rattle.transcript_reading.specs.declared.line.LineKind.{LineKind};
 
 /// The events of a run happen at kernels that are there, and nowhere else: no packet goes to another.
@@ -21,10 +16,4 @@ pub fn every_run_is_within()
 /// The service lines of a transcript that is replayed are one lawful run of the link service, from the setting of its header.
 pub fn every_replay_is_lawful()
     ensures { (kinds : List LineKind) (last : Last) → IsReplay kinds last → IsLawfulReplay kinds last }
-{}
-
-/// What is told of a performed script is replayed.
-pub fn performance_is_replayed()
-    ensures { (s : Setting) (lines : List ScriptLine) (merged : List Placed) (notes : List ScriptNote) (last : Last)
-        → IsValid s → IsPerformance s lines merged notes last → IsReplay (transcript_kinds s merged notes last) last }
 {}

@@ -1,0 +1,20 @@
+//! Journals, their merge, transcripts, and the replay of transcripts.
+//!
+//! The first three are those of `journal_text` and `transcript_reader`, handed on. `Replay` takes the lines of a transcript one after the
+//! other and runs the kernels beside them; `replay` hands it all lines.
+#![tactic(auto)]
+
+mod body;
+mod draft;
+mod fault;
+mod lines;
+mod whole;
+
+pub use fault::ReplayFault;
+pub use journal_text::{
+    Entry, Happened, Journal, Last, Merged, Placed, ScriptNote, TranscriptLines, merge,
+    print_entry, print_header, print_picture, print_transcript,
+};
+pub use lines::Replay;
+pub use transcript_reader::{Line, LineFault, LineKind, Reader, ServiceLine, read_transcript};
+pub use whole::replay;
