@@ -9,7 +9,7 @@ use crate::whole::whole_step;
 use kernel_world::Happened;
 use link_service::{ApplyFault, Service};
 use std::alloc::Global;
-use transcript_reader::{LineKind, ServiceLine, read_transcript};
+use transcript_reader::{Line, LineKind, ServiceLine, read_transcript};
 
 /// Makes all steps of a transcript, and tells how many there were.
 pub(crate) fn served(alloc: Global, bytes: &[u8]) -> Result<u64, Trouble>
@@ -23,17 +23,17 @@ pub(crate) fn served(alloc: Global, bytes: &[u8]) -> Result<u64, Trouble>
     let mut service = Service::start(alloc, &setting)?;
     let mut above: Option<Happened> = None;
     let mut steps: u64 = 0;
-    for line in lines {
-        match line.what {
+    for Line { number, what } in lines {
+        match what {
             LineKind::CallEntry { p, call, .. } => above = Some(Happened::asked(alloc, p, &call)?),
             LineKind::PacketEntry { from, picture, .. } => {
                 above = Some(Happened::took(alloc, from, &picture)?);
             }
             LineKind::Service(told) => {
                 let Some(entry) = &above else {
-                    return Err(Trouble::NotWhole(line.number));
+                    return Err(Trouble::NotWhole(number));
                 };
-                make(&mut service, line.number, entry, told)?;
+                make(&mut service, number, entry, told)?;
                 steps = steps.saturating_add(1);
             }
             _ => {}

@@ -142,14 +142,12 @@ fn the_first_line_that_cannot_stand_is_named(rt: HostRuntime) -> Result<(), Fail
 
 /// A text that is cut ends too soon: at a line's end the line behind it is missing, and elsewhere that line is not finished.
 fn is_cut(alloc: Global, text: &[u8]) -> Result<(), Fail> {
-    let mut lines = 0;
-    let mut from = 0;
-    while from < text.len() && lines < 1000 {
-        has_bad_line(alloc, &text[..from], lines + 1, "a cut text")?;
+    let mut lines: u32 = 0;
+    for from in 0..text.len() {
+        has_bad_line(alloc, &text[..from], lines.saturating_add(1), "a cut text")?;
         if text[from] == b'\n' {
-            lines += 1;
+            lines = lines.saturating_add(1);
         }
-        from += 1;
     }
     Ok(())
 }

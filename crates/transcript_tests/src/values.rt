@@ -172,9 +172,11 @@ fn are_the_others(lines: &[Line]) -> bool {
 #[test]
 fn lines_show_their_values(rt: HostRuntime) -> Result<(), Fail> {
     let lines = read_transcript(rt.alloc(), TRANSCRIPT)?;
-    holds(lines.len() == 9, "how many lines there are")?;
-    holds(are_the_header(&lines[..4]), "the header")?;
-    holds(are_the_others(&lines[4..]), "the lines behind it")
+    let Some((header, others)) = lines.as_slice().split_at_checked(4) else {
+        return Err("too few lines".into());
+    };
+    holds(are_the_header(header), "the header")?;
+    holds(are_the_others(others), "the lines behind it")
 }
 
 /// A reader gives the same fault or end again.
@@ -183,9 +185,7 @@ fn ends_with(bytes: &[u8], lines: u32, bad: bool) -> Result<(), Fail> {
         return Err("the text is too long".into());
     }
     let mut reader = Reader::new(bytes);
-    let mut count = 0;
-    while count < lines {
-        count += 1;
+    for _ in 0..lines {
         holds(matches!(reader.next_line(), Ok(Some(_))), "a line")?;
     }
     holds(reader.next_line().is_err() == bad, "the end")?;
