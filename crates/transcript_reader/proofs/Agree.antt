@@ -20,7 +20,8 @@ use Rattle.transcript_reader.specs.declared.line.Line.{Line}
 use Rattle.transcript_reader.proofs.Later.{each_kinds, kinds_each}
 use Rattle.transcript_reader.proofs.Told.{Each, not_first, start_empty, first_place, first_version, kinds_read, lines_text, over_whole}
 
-shown_kinds : (n : ℕ) (ks : List LineKind) → map (λ l. l.what) (numbered n ks) ≡ ks
+-- the lines with their numbers show these
+pub shown_kinds : (n : ℕ) (ks : List LineKind) → map (λ l. l.what) (numbered n ks) ≡ ks
 shown_kinds n [] = refl
 shown_kinds n (k ∷ ks) = ap (λ (x : List LineKind). k ∷ x) (shown_kinds (n + 1) ks)
 
@@ -84,26 +85,15 @@ told_kinds v (kind.Service s ∷ ks) same each f = absurd (not_first (kind.Servi
 told_kinds v (kind.Note n ∷ ks) same each f = absurd (not_first (kind.Note n) ks refl f)
 told_kinds v (kind.End last ∷ ks) same each f = absurd (not_first (kind.End last) ks refl f)
 
--- a text whose lines tell this
-record HasLines (text : List ℕ) (t : Told) : Type 0 where
-  lines : List Line
-  are : AreLines text lines
-  tell : told_by_lines lines ≡ Ok t
-
-read_has : (text : List ℕ) (ks : List LineKind) (t : Told) → text ≡ kinds_text ks → AreKinds 0 ks → follows ks Start ≡ Ok Over → with_lines ks nothing_told ≡ Ok t → HasLines text t
-read_has text ks t spelled are f w = record {
-  lines = numbered 1 ks;
-  are = record { kinds = ks; counted = refl; whole = record { spelled = spelled ∙ sym (append-nil (kinds_text ks)); kinds = are; in_order = f } };
-  tell = ap (λ (x : List LineKind). with_lines x nothing_told) (shown_kinds 1 ks) ∙ w;
-}
-
-whole_has : (text : List ℕ) (ls : List (List ℕ)) (ks : List LineKind) (t : Told) → text ≡ concat (map line ls) → whole_of ls ≡ Ok ks → follows ks Start ≡ Ok Over → with_lines ks nothing_told ≡ Ok t → HasLines text t
+-- what is read of the lines of a text are its lines
+pub whole_lines : (text : List ℕ) (ls : List (List ℕ)) (ks : List LineKind) → text ≡ concat (map line ls) → whole_of ls ≡ Ok ks → follows ks Start ≡ Ok Over → AreLines text (numbered 1 ks)
 unfolding whole_of
-whole_has text [] ks t spelled e f w = absurd (not_ok ks Form e)
-whole_has text (l ∷ ls) ks t spelled e f w =
+whole_lines text [] ks spelled e f = absurd (not_ok ks Form e)
+whole_lines text (l ∷ ls) ks spelled e f =
     let a = bind_ok (kind_of 0 (words l)) (λ k. kinds_of (version_of k) (l ∷ ls)) ks e in
     let read = kinds_read (version_of a.0) (l ∷ ls) ks a.2 in
-    read_has text ks t (spelled ∙ read.spelled) (told_kinds (version_of a.0) ks (λ n ms is. first_version (version_of a.0) l ls a.0 n ms a.1 (a.2 ∙ ap Ok is)) read.each f) f w
+    let are : AreKinds 0 ks = told_kinds (version_of a.0) ks (λ n ms is. first_version (version_of a.0) l ls a.0 n ms a.1 (a.2 ∙ ap Ok is)) read.each f in
+    record { kinds = ks; counted = refl; whole = record { spelled = spelled ∙ read.spelled ∙ sym (append-nil (kinds_text ks)); kinds = are; in_order = f } }
 
 pub told_has_lines : (text : List ℕ) (t : Told) → told_by text ≡ Ok t → (ls : List Line) × AreLines text ls × (told_by_lines ls ≡ Ok t)
 unfolding told_by
@@ -112,5 +102,5 @@ told_has_lines text t e =
     let b = bind_ok (whole_of a.0) (λ kinds. follows kinds Start >>= is_whole >>= λ whole. with_lines kinds nothing_told) t a.2 in
     let c = bind_ok (follows b.0 Start >>= is_whole) (λ whole. with_lines b.0 nothing_told) t b.2 in
     let d = bind_ok (follows b.0 Start) is_whole c.0 c.1 in
-    let has = whole_has text a.0 b.0 t (lines_text text a.0 a.1) b.1 (d.1 ∙ ap Ok (over_whole d.0 c.0 d.2)) c.2 in
-    (has.lines, has.are, has.tell)
+    let are = whole_lines text a.0 b.0 (lines_text text a.0 a.1) b.1 (d.1 ∙ ap Ok (over_whole d.0 c.0 d.2)) in
+    (numbered 1 b.0, are, ap (λ (x : List LineKind). with_lines x nothing_told) (shown_kinds 1 b.0) ∙ c.2)

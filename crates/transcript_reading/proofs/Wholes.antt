@@ -180,17 +180,32 @@ first_read : (v : ℕ) (lines : List (List ℕ)) (ks : List LineKind) → IsU8 v
 unfolding whole_of kinds_of
 first_read v lines ks lt reads = rw (first_reads 0 v lt, first_reads v v lt, reads) refl
 
--- what is read of a transcript is what it tells
-pub read_again : (text : List ℕ) (s : Setting) (merged : List Placed) (notes : List ScriptNote) (last : Last) → IsTranscript text s merged notes last → told_by text ≡ Ok (tell s [] (map unstamped merged) notes last)
-unfolding told_by
-read_again text s merged notes last is =
+-- the lines of a text, and what they show
+pub record IsReadWhole (text : List ℕ) (ks : List LineKind) : Type 0 where
+  pub lines : List (List ℕ)
+  pub split : lines_of text ≡ Ok lines
+  pub reads : whole_of lines ≡ Ok ks
+
+-- what the lines of a transcript show
+pub shown_again : (text : List ℕ) (s : Setting) (merged : List Placed) (notes : List ScriptNote) (last : Last) → IsTranscript text s merged notes last → IsReadWhole text (transcript_kinds s merged notes last)
+shown_again text s merged notes last is =
     let lt : IsU8 s.version = version_small s is.told.setting in
     let more : AreReadAs s.version (concat (other_lines s merged notes last)) (other_kinds s merged notes last) =
     read_lines s.version (other_lines s merged notes last) (other_kinds s merged notes last) (others_read s merged notes last is.told) in
     let first : List ℕ = codes "transcript " ++ number_text s.version in
-    let split : lines_of text ≡ Ok (first ∷ more.lines) = ap lines_of is.lines ∙ split_more first (concat (other_lines s merged notes last)) more.lines (first_free s.version lt) more.split in
-    ap (λ (r : Result (List (List ℕ)) Fault). r >>= λ lines. whole_of lines >>= λ ks. follows ks Start >>= is_whole >>= λ u. with_lines ks nothing_told) split
-    ∙ ap (λ (r : Result (List LineKind) Fault). r >>= λ ks. follows ks Start >>= is_whole >>= λ u. with_lines ks nothing_told) (first_read s.version more.lines (other_kinds s merged notes last) lt more.reads)
+    record {
+      lines = first ∷ more.lines;
+      split = ap lines_of is.lines ∙ split_more first (concat (other_lines s merged notes last)) more.lines (first_free s.version lt) more.split;
+      reads = first_read s.version more.lines (other_kinds s merged notes last) lt more.reads;
+    }
+
+-- what is read of a transcript is what it tells
+pub read_again : (text : List ℕ) (s : Setting) (merged : List Placed) (notes : List ScriptNote) (last : Last) → IsTranscript text s merged notes last → told_by text ≡ Ok (tell s [] (map unstamped merged) notes last)
+unfolding told_by
+read_again text s merged notes last is =
+    let whole : IsReadWhole text (transcript_kinds s merged notes last) = shown_again text s merged notes last is in
+    ap (λ (r : Result (List (List ℕ)) Fault). r >>= λ lines. whole_of lines >>= λ ks. follows ks Start >>= is_whole >>= λ u. with_lines ks nothing_told) whole.split
+    ∙ ap (λ (r : Result (List LineKind) Fault). r >>= λ ks. follows ks Start >>= is_whole >>= λ u. with_lines ks nothing_told) whole.reads
     ∙ ap (λ (r : Result Place Fault). r >>= is_whole >>= λ u. with_lines (transcript_kinds s merged notes last) nothing_told) (in_order s merged notes last is.told)
     ∙ all_told s merged notes last is.told.shown
 

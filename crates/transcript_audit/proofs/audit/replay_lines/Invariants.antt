@@ -1,0 +1,9 @@
+use Rattle.std.proofs.Common.{length}
+use Rattle.transcript_audit.proofs.Auditing.{IsAuditing}
+use Rattle.transcript_audit.proofs.audit.replay_lines.Given as goal
+
+abbrev pub invariant-loop : goal.invariant-loop
+invariant-loop l = IsAuditing l.bytes l.reader l.replay
+
+abbrev pub decreases-loop : goal.decreases-loop
+decreases-loop l = length l.reader.texts
