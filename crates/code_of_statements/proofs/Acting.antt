@@ -29,7 +29,7 @@ module _ (b : Body) (tries : List Opened) (accepts : ℕ) where
       → ((vs : List Value) → HaveKinds (needed b.tree action) vs → Fit b.tree (trace (follow vs)) b.answers → Reaches b.setting.program b.setting.is_entry t (next (Ok vs)) → Runs b tries accepts n t end (follow vs))
       → ((exception : Exception) → next (Err exception) ≡ thrown b.setting.is_entry tries accepts exception now)
       → Fit b.tree (trace (with_value g now follow)) b.answers → Reaches b.setting.program b.setting.is_entry t (next g) → Runs b tries accepts n t end (with_value g now follow)
-  with-given n t end action now (Ok vs) next follow sound fits on raised fit reached = on vs (types-kinds _ vs fits) fit reached
+  with-given n t end action now (Ok vs) next follow sound fits on raised fit reached = on vs (types-kinds (needed b.tree action) vs fits) fit reached
   with-given n t end action now (Err exception) next follow sound fits on raised fit reached = (sound, reaches-as b.setting.program b.setting.is_entry t _ _ (raised exception) reached)
 
   -- an action with these answers left

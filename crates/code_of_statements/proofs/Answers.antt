@@ -4,7 +4,7 @@ use mathlib.Core.List.{reverse_aux}
 use Rattle.lynx_tree.specs.Trees.{ModuleTree}
 use Rattle.lynx_tree.specs.declared.declaration.TypeName.{TypeName}
 use Rattle.lynx_tree.specs.declared.declaration.TypeName.TheVariants as types
-use Rattle.lynx_code.specs.Modules.{ArePairs}
+use Rattle.lynx_code.specs.Modules.{ArePairs, variables}
 use Rattle.lynx_meaning.specs.Agree.{Fits, HaveTypes, needed}
 use Rattle.lynx_meaning.specs.Courses.{Action, Answer, Moment, after}
 use Rattle.lynx_meaning.specs.Values.{Value, Int, Truth, Text, Row, Link, HasType, start_value}
@@ -37,7 +37,7 @@ start-kind (types.Row n) = tt
 pub after-sound : (b : Body) (m : Moment) (action : Action) (a : Answer) (rest : List Answer) → IsAnswered action → IsSound b (record m { answers = a ∷ rest }) → Fits b.tree action a → IsSound b (after m action a rest)
 after-sound b m action a rest is sound fits = record {
   kinds = record {
-    of_globals = subst (λ (ts : List TypeName). HaveKinds ts a.globals) (sym b.kinds) (types-kinds _ a.globals fits.globals);
+    of_globals = subst (λ (ts : List TypeName). HaveKinds ts a.globals) (sym b.kinds) (types-kinds (map (λ v. v.kind) (variables b.tree)) a.globals fits.globals);
     of_locals = sound.kinds.of_locals
   };
   used = used-more m.actions action b.answers a rest is sound.used

@@ -30,7 +30,7 @@ abbrev pub around : List Opened → ℕ → Option Exception → Moment → Arou
 around tries accepts pending m = record { tries = tries; accepts = accepts; pending = pending; moment = m }
 
 nil-cons : (a : Answer) (rest : List Answer) → [] ≡ a ∷ rest → ⊥
-nil-cons a rest is = absurd (suc-ne-zero (sym (ap length is)))
+nil-cons a rest is = suc-ne-zero (length rest) (sym (ap length is))
 
 abbrev tail-of : List Answer → List Answer
 tail-of [] = []

@@ -1,6 +1,5 @@
 -- Tries and their handlers.
-use Rattle.std.proofs.Common.{◌≡◌, ℕ, suc, ◌+◌, ◌≤◌, List, [], ◌∷◌, ◌++◌, length, Bool, true, false, cond, Option, Some, None, is_some, if◌then◌else◌, find, bytes_eq, slice_get, refl, sym, ap, ◌∙◌, subst, le_refl, length-append, arith}
-use Rattle.core.specs.Bool.{one_answer}
+use Rattle.std.proofs.Common.{◌≡◌, ℕ, suc, ◌+◌, ◌≤◌, List, [], ◌∷◌, ◌++◌, length, Bool, true, false, cond, Option, Some, None, is_some, if◌then◌else◌, find, bytes_eq, Decides, slice_get, refl, sym, ap, ◌∙◌, subst, le_refl, length-append, arith}
 use Rattle.std.proofs.lemmas.Option.{none-some, same_Some}
 use Rattle.std.proofs.lemmas.Slice.Eq.{bytes_eq-Decides}
 use Rattle.lynx_tree.specs.Trees.{HandlerTrees}
@@ -52,12 +51,19 @@ handlers-length names (trees.more_handlers name body others) behind other at =
     let same = handlers-length names others behind other next in
     omega (arith, same, length-append (code.Case (exception_named (exception_of name)) next ∷ b) (code.Jump behind ∷ handlers_code names behind next others), length-append (code.Case (exception_named (exception_of name)) next ∷ b) (code.Jump other ∷ handlers_code names other next others))
 
+-- two tests of one thing answer alike
+one-answer : (P : Type 0) (r s : Bool) → Decides r P → Decides s P → r ≡ s
+one-answer P true true h k = refl
+one-answer P false false h k = refl
+one-answer P true false h k = sym (k.1 (h.0 refl))
+one-answer P false true h k = h.1 (k.0 refl)
+
 -- the code and the source compare names alike
 same-test : (name : List ℕ) (x pending : Exception) → exception_text x ≡ name → bytes_eq (exception_text pending) (exception_text x) ≡ bytes_eq name (exception_text pending)
 same-test name x pending is =
     let turned = bytes_eq-Decides name (exception_text pending) in
     ap (λ (text : List ℕ). bytes_eq (exception_text pending) text) is
-    ∙ one_answer (bytes_eq (exception_text pending) name) (bytes_eq name (exception_text pending)) (bytes_eq-Decides (exception_text pending) name) ((λ e. sym (turned.0 e)), (λ q. turned.1 (sym q)))
+    ∙ one-answer (exception_text pending ≡ name) (bytes_eq (exception_text pending) name) (bytes_eq name (exception_text pending)) (bytes_eq-Decides (exception_text pending) name) ((λ e. sym (turned.0 e)), (λ q. turned.1 (sym q)))
 
 module _ (b : Body) (tries : List Opened) (accepts n : ℕ) where
   -- behind a stretch comes a jump

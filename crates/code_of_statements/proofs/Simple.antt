@@ -57,7 +57,7 @@ written-on-top next (Some types.Link) v stack plain h = absurd (true≢false (sy
 written-on-top next (Some (types.Row n)) v stack plain h = absurd (true≢false (sym plain))
 
 -- values that came on the stack one after the other
-values-on-top : (k : ℕ) (next : List Value → List Value → Next) (vs : List Value) → length vs ≡ k → by_values k next (reverse vs) ≡ next vs []
+pub values-on-top : (k : ℕ) (next : List Value → List Value → Next) (vs : List Value) → length vs ≡ k → by_values k next (reverse vs) ≡ next vs []
 values-on-top k next vs long =
     let size : length (reverse vs) ≡ k = length-reverse vs ∙ long in
     let within : k ≤ length (reverse vs) = omega (arith, size) in
