@@ -44,8 +44,8 @@ look-two (p ∷ ps) vs at behind name = one-more (bytes_eq p.name name) p.kind (
 
 look-locals : (ns : List (List ℕ)) (ts : List TypeName) (vs : List VarTree) (at behind : ℕ) (name : List ℕ) → length ns ≡ length ts → HasPlace (meaning_in (parameters_named at ns ts ++ each_at var_size var_named behind vs) name) (place_in (ns ++ map (λ v. v.name) vs) name) (ts ++ map (λ v. v.kind) vs)
 look-locals [] [] vs at behind name long = look-vars vs behind name
-look-locals [] (t ∷ ts) vs at behind name long = absurd (suc-ne-zero (sym long))
-look-locals (n ∷ ns) [] vs at behind name long = absurd (suc-ne-zero long)
+look-locals [] (t ∷ ts) vs at behind name long = absurd (suc-ne-zero (length ts) (sym long))
+look-locals (n ∷ ns) [] vs at behind name long = absurd (suc-ne-zero (length ns) long)
 look-locals (n ∷ ns) (t ∷ ts) vs at behind name long =
     let fewer : length ns ≡ length ts = omega (arith, long) in
     one-more (bytes_eq n name) t (meaning_in (parameters_named (at + 2) ns ts ++ each_at var_size var_named behind vs) name) (place_in (ns ++ map (λ u. u.name) vs) name) (ts ++ map (λ u. u.kind) vs) (look-locals ns ts vs (at + 2) behind name fewer)
