@@ -1,5 +1,5 @@
 -- The code of an expression gives its value.
-use Rattle.std.proofs.Common.{◌≡◌, ℕ, ℤ, neg_ℤ, suc, ◌+◌, List, [], ◌∷◌, ◌++◌, length, Bool, true, false, not, if◌then◌else◌, Option, Some, None, Ok, Err, is_some, slice_get, refl, sym, ap, ◌∙◌, subst, length-append, arith}
+use Rattle.std.proofs.Common.{◌≡◌, ℕ, neg_ℤ, suc, ◌+◌, List, [], ◌∷◌, ◌++◌, length, Bool, true, false, not, if◌then◌else◌, Some, Ok, Err, is_some, slice_get, refl, sym, ap, ◌∙◌, subst, length-append, arith}
 use Rattle.lynx_lexer.specs.declared.sign.Sign.{Sign}
 use Rattle.lynx_tree.specs.Trees.{ExprTree, ExprTrees, SumTail, TermTail}
 use Rattle.lynx_tree.specs.Trees as trees
@@ -16,17 +16,17 @@ use Rattle.lynx_code.specs.declared.instruction.Instruction.TheVariants as code
 use Rattle.lynx_code.specs.declared.instruction.Literal.{Literal}
 use Rattle.lynx_code.specs.declared.instruction.Literal.TheVariants as literal
 use Rattle.lynx_meaning.specs.Code.{Goes, Thread, decides, gives, goes, step, value_of_literal}
-use Rattle.lynx_meaning.specs.Expressions.{before, looked_up, multiplied, related, sum_of, summed, term_of, until, value_at, value_of, values_of, with_both, with_one}
+use Rattle.lynx_meaning.specs.Expressions.{before, looked_up, multiplied, related, sum_of, summed, term_of, until, value_of, values_of, with_both, with_one}
 use Rattle.lynx_meaning.specs.Values.{Value, Truth, Given, int_of, member, negate, row_of, truth_eq, truth_of}
 use Rattle.code_steps.specs.Steps.{Reaches, StandAt}
 use Rattle.code_steps.proofs.Standing.{back-stands, front-stands, next-stands, rest-stands}
 use Rattle.code_steps.proofs.Reaching.{reaches-none, reaches-on, reaches-step}
 use Rattle.code_of_expressions.specs.Giving.{Gives, GivesAll}
 use Rattle.code_of_expressions.specs.Kinds.{IsGiven, IsHeld, IsOf}
-use Rattle.code_of_expressions.specs.Setting.{Around, IsReady, Setting, stands, type_at}
+use Rattle.code_of_expressions.specs.Setting.{Around, IsReady, Setting, stands}
 use Rattle.code_of_expressions.proofs.Clean.{both-clean, demand-met, held-fits, judged-clean, some-fault}
 use Rattle.code_of_expressions.proofs.Values.{truth-is}
-use Rattle.code_of_expressions.proofs.Operands.{gives-as, gives-from, gives-last, gives-one, gives-to, gives-two}
+use Rattle.code_of_expressions.proofs.Operands.{gives-as, gives-from, gives-one, gives-to, gives-two}
 use Rattle.code_of_expressions.proofs.Operators.{member-int, multiplied-int, one-int, relation-steps, sum-steps, summed-int, term-steps, truth-on-top, within-int}
 use Rattle.code_of_expressions.proofs.Variables.{load-steps, member-steps, row-type, some-of}
 
@@ -143,8 +143,8 @@ module _ (c : Setting) (a : Around) (ready : IsReady c a) where
         let long : at + length x + length y ≡ at + length (x ++ y) = omega (arith, length-append x y) in
         gives-to c a (stands a at stack) (at + length x + length y) (at + length (x ++ y)) stack (Some types.Int) (sum_of c.names a.moment.store (value_of c.names a.moment.store first) rest) long
         (sum-gives rest (value_of c.names a.moment.store first) (stands a at stack) (at + length x) (place + expr_size first) stack is.3 (back-stands c.program.instructions at x y has) parts.1
-          (gives-as c a (stands a at stack) (at + length x) stack (shown_type c.scope first) (Some types.Int) (value_of c.names a.moment.store first) (λ v. held-fits types.Int (shown_type c.scope first) v (demand-met _ _ _ met.1))
-            (expr-gives first at place stack is.1 (front-stands c.program.instructions at x y has) met.0)))
+        (gives-as c a (stands a at stack) (at + length x) stack (shown_type c.scope first) (Some types.Int) (value_of c.names a.moment.store first) (λ v. held-fits types.Int (shown_type c.scope first) v (demand-met _ _ _ met.1))
+        (expr-gives first at place stack is.1 (front-stands c.program.instructions at x y has) met.0)))
     expr-gives (trees.Term first rest) at place stack is has clean =
         let x = expr_code c.names at first in
         let y = term_code c.names (at + length x) rest in
@@ -153,8 +153,8 @@ module _ (c : Setting) (a : Around) (ready : IsReady c a) where
         let long : at + length x + length y ≡ at + length (x ++ y) = omega (arith, length-append x y) in
         gives-to c a (stands a at stack) (at + length x + length y) (at + length (x ++ y)) stack (Some types.Int) (term_of c.names a.moment.store (value_of c.names a.moment.store first) rest) long
         (term-gives rest (value_of c.names a.moment.store first) (stands a at stack) (at + length x) (place + expr_size first) stack is.3 (back-stands c.program.instructions at x y has) parts.1
-          (gives-as c a (stands a at stack) (at + length x) stack (shown_type c.scope first) (Some types.Int) (value_of c.names a.moment.store first) (λ v. held-fits types.Int (shown_type c.scope first) v (demand-met _ _ _ met.1))
-            (expr-gives first at place stack is.1 (front-stands c.program.instructions at x y has) met.0)))
+        (gives-as c a (stands a at stack) (at + length x) stack (shown_type c.scope first) (Some types.Int) (value_of c.names a.moment.store first) (λ v. held-fits types.Int (shown_type c.scope first) v (demand-met _ _ _ met.1))
+        (expr-gives first at place stack is.1 (front-stands c.program.instructions at x y has) met.0)))
     expr-gives (trees.Minus inner) at place stack is has clean =
         let x = expr_code c.names at inner in
         let met = judged-clean operand_is_int (place + 1) (expr_faults c.scope (place + 1) inner) (shown_type c.scope inner) clean in
@@ -199,8 +199,8 @@ module _ (c : Setting) (a : Around) (ready : IsReady c a) where
         let long : at + length x + length y ≡ at + length (x ++ y) = omega (arith, length-append x y) in
         gives-to c a (stands a at stack) (at + length x + length y) (at + length (x ++ y)) stack (Some types.Bool) (until c.names a.moment.store truth (trees.more_exprs e es)) long
         (member-then truth (stands a at stack) (at + length x) (at + length x + length y) stack (shown_type c.scope e) (value_of c.names a.moment.store e) (until c.names a.moment.store truth es) (demand-met _ _ _ met.1)
-          (expr-gives e at place stack is.1 (front-stands c.program.instructions at x y has) met.0)
-          (λ b on. rest-gives es truth b jump jumps most (stands a at stack) (at + length x) (place + expr_size e + 1) stack is.2 (back-stands c.program.instructions at x y has) parts.1 on))
+        (expr-gives e at place stack is.1 (front-stands c.program.instructions at x y has) met.0)
+        (λ b on. rest-gives es truth b jump jumps most (stands a at stack) (at + length x) (place + expr_size e + 1) stack is.2 (back-stands c.program.instructions at x y has) parts.1 on))
 
     rest-gives : (es : ExprTrees) (truth b : Bool) (jump : ℕ → Instruction) → ((n : ℕ) (t : Thread) → step c.program c.is_entry t (jump n) ≡ decides truth n t) → (most : ℕ) (t : Thread) (at place : ℕ) (stack : List Value) → AreExprs most es
         → StandAt c.program.instructions at (chain_rest c.names jump at es) → bools_faults c.scope place es ≡ [] → Reaches c.program c.is_entry t (Goes (stands a at (Truth b ∷ stack)))
@@ -217,8 +217,8 @@ module _ (c : Setting) (a : Around) (ready : IsReady c a) where
         let long : behind + length y ≡ at + length (jump behind ∷ (x ++ y)) = omega (arith, length-append x y) in
         gives-to c a t (behind + length y) (at + length (jump behind ∷ (x ++ y))) stack (Some types.Bool) (if truth_eq truth b then Ok (Truth truth) else until c.names a.moment.store truth (trees.more_exprs e es)) long
         (one-more truth b jump jumps t at behind (behind + length y) stack (shown_type c.scope e) (value_of c.names a.moment.store e) (until c.names a.moment.store truth es) has.0 on (demand-met _ _ _ met.1)
-          (expr-gives e (at + 1) place stack is.1 (front-stands c.program.instructions (at + 1) x y has.1) met.0)
-          (λ u d there. rest-gives es truth d jump jumps most u behind (place + expr_size e + 1) stack is.2 (back-stands c.program.instructions (at + 1) x y has.1) parts.1 there))
+        (expr-gives e (at + 1) place stack is.1 (front-stands c.program.instructions (at + 1) x y has.1) met.0)
+        (λ u d there. rest-gives es truth d jump jumps most u behind (place + expr_size e + 1) stack is.2 (back-stands c.program.instructions (at + 1) x y has.1) parts.1 there))
 
     sum-gives : (rest : SumTail) (o : Given) (t : Thread) (at place : ℕ) (stack : List Value) → AreSums rest → StandAt c.program.instructions at (sum_code c.names at rest) → sum_faults c.scope place rest ≡ []
         → Gives c a t at stack (Some types.Int) o → Gives c a t (at + length (sum_code c.names at rest)) stack (Some types.Int) (sum_of c.names a.moment.store o rest)
@@ -235,9 +235,9 @@ module _ (c : Setting) (a : Around) (ready : IsReady c a) where
         let long : next + length y ≡ at + length (x ++ sum_operator sign ∷ y) = omega (arith, length-append x (sum_operator sign ∷ y)) in
         gives-to c a t (next + length y) (at + length (x ++ sum_operator sign ∷ y)) stack (Some types.Int) (sum_of c.names a.moment.store now rest) long
         (sum-gives rest now t next (place + 1 + expr_size e) stack is.3 (rest-stands c.program.instructions at x (sum_operator sign) y has) parts.1
-          (another x (sum_operator sign) t at stack (shown_type c.scope e) o (value_of c.names a.moment.store e) (λ v w. summed sign (int_of v) (int_of w)) (next-stands c.program.instructions at x (sum_operator sign) y has) (demand-met _ _ _ met.1)
-            (λ u v w h k on. sum-steps c.program c.is_entry u stack sign v w h k on) (λ v w. summed-int sign (int_of v) (int_of w)) first
-            (λ v. expr-gives e at (place + 1) (v ∷ stack) is.2 (front-stands c.program.instructions at x (sum_operator sign ∷ y) has) met.0)))
+        (another x (sum_operator sign) t at stack (shown_type c.scope e) o (value_of c.names a.moment.store e) (λ v w. summed sign (int_of v) (int_of w)) (next-stands c.program.instructions at x (sum_operator sign) y has) (demand-met _ _ _ met.1)
+        (λ u v w h k on. sum-steps c.program c.is_entry u stack sign v w h k on) (λ v w. summed-int sign (int_of v) (int_of w)) first
+        (λ v. expr-gives e at (place + 1) (v ∷ stack) is.2 (front-stands c.program.instructions at x (sum_operator sign ∷ y) has) met.0)))
 
     term-gives : (rest : TermTail) (o : Given) (t : Thread) (at place : ℕ) (stack : List Value) → AreTerms rest → StandAt c.program.instructions at (term_code c.names at rest) → term_faults c.scope place rest ≡ []
         → Gives c a t at stack (Some types.Int) o → Gives c a t (at + length (term_code c.names at rest)) stack (Some types.Int) (term_of c.names a.moment.store o rest)
@@ -254,9 +254,9 @@ module _ (c : Setting) (a : Around) (ready : IsReady c a) where
         let long : next + length y ≡ at + length (x ++ term_operator sign ∷ y) = omega (arith, length-append x (term_operator sign ∷ y)) in
         gives-to c a t (next + length y) (at + length (x ++ term_operator sign ∷ y)) stack (Some types.Int) (term_of c.names a.moment.store now rest) long
         (term-gives rest now t next (place + 1 + expr_size e) stack is.2 (rest-stands c.program.instructions at x (term_operator sign) y has) parts.1
-          (another x (term_operator sign) t at stack (shown_type c.scope e) o (value_of c.names a.moment.store e) (λ v w. multiplied sign (int_of v) (int_of w)) (next-stands c.program.instructions at x (term_operator sign) y has) (demand-met _ _ _ met.1)
-            (λ u v w h k on. term-steps c.program c.is_entry u stack sign v w h k on) (λ v w. multiplied-int sign (int_of v) (int_of w)) first
-            (λ v. expr-gives e at (place + 1) (v ∷ stack) is.1 (front-stands c.program.instructions at x (term_operator sign ∷ y) has) met.0)))
+        (another x (term_operator sign) t at stack (shown_type c.scope e) o (value_of c.names a.moment.store e) (λ v w. multiplied sign (int_of v) (int_of w)) (next-stands c.program.instructions at x (term_operator sign) y has) (demand-met _ _ _ met.1)
+        (λ u v w h k on. term-steps c.program c.is_entry u stack sign v w h k on) (λ v w. multiplied-int sign (int_of v) (int_of w)) first
+        (λ v. expr-gives e at (place + 1) (v ∷ stack) is.1 (front-stands c.program.instructions at x (term_operator sign ∷ y) has) met.0)))
 
   -- values one after the other
   all-from : (t : Thread) (middle end number : ℕ) (stack : List Value) (operand : Held) (o : Given) (e : ExprTree) (es : ExprTrees) → Gives c a t middle stack operand o
@@ -270,7 +270,7 @@ module _ (c : Setting) (a : Around) (ready : IsReady c a) where
 
   more-give : (e : ExprTree) (es : ExprTrees) (most at place : ℕ) (stack : List Value) → IsExpr e → StandAt c.program.instructions at (exprs_code c.names at (trees.more_exprs e es)) → expr_faults c.scope place e ≡ []
       → ((v : Value) → StandAt c.program.instructions (at + length (expr_code c.names at e)) (exprs_code c.names (at + length (expr_code c.names at e)) es)
-          → GivesAll c a (stands a (at + length (expr_code c.names at e)) (v ∷ stack)) (at + length (expr_code c.names at e) + length (exprs_code c.names (at + length (expr_code c.names at e)) es)) (v ∷ stack) (how_many es) (values_of c.names a.moment.store es))
+      → GivesAll c a (stands a (at + length (expr_code c.names at e)) (v ∷ stack)) (at + length (expr_code c.names at e) + length (exprs_code c.names (at + length (expr_code c.names at e)) es)) (v ∷ stack) (how_many es) (values_of c.names a.moment.store es))
       → GivesAll c a (stands a at stack) (at + length (exprs_code c.names at (trees.more_exprs e es))) stack (how_many es + 1) (values_of c.names a.moment.store (trees.more_exprs e es))
   more-give e es most at place stack is has fine rest =
       let x = expr_code c.names at e in
@@ -278,8 +278,8 @@ module _ (c : Setting) (a : Around) (ready : IsReady c a) where
       let long : at + length x + length y ≡ at + length (x ++ y) = omega (arith, length-append x y) in
       subst (λ (n : ℕ). GivesAll c a (stands a at stack) n stack (how_many es + 1) (values_of c.names a.moment.store (trees.more_exprs e es))) long
       (all-from (stands a at stack) (at + length x) (at + length x + length y) (how_many es) stack (shown_type c.scope e) (value_of c.names a.moment.store e) e es
-        (expr-gives e at place stack is (front-stands c.program.instructions at x y has) fine)
-        (λ v. rest v (back-stands c.program.instructions at x y has)))
+      (expr-gives e at place stack is (front-stands c.program.instructions at x y has) fine)
+      (λ v. rest v (back-stands c.program.instructions at x y has)))
 
   pub exprs-give : (es : ExprTrees) (rule : TypeName → ℕ → Held → List Fault) (ts : List TypeName) (most at place : ℕ) (stack : List Value) → AreExprs most es → StandAt c.program.instructions at (exprs_code c.names at es) → values_faults rule c.scope place es ts ≡ []
       → GivesAll c a (stands a at stack) (at + length (exprs_code c.names at es)) stack (how_many es) (values_of c.names a.moment.store es)

@@ -1,12 +1,11 @@
 -- An instruction behind the code of its operands.
-use Rattle.std.proofs.Common.{◌≡◌, ℕ, ◌+◌, List, [], ◌∷◌, ◌++◌, length, Option, Some, Ok, Err, slice_get, refl, sym, ap, ◌∙◌, subst, length-append, arith}
+use Rattle.std.proofs.Common.{◌≡◌, ℕ, ◌+◌, List, ◌∷◌, Some, Ok, Err, slice_get, ◌∙◌, subst}
 use Rattle.lynx_code.specs.declared.instruction.Instruction.{Instruction}
 use Rattle.lynx_typing.specs.Types.{Held}
 use Rattle.lynx_meaning.specs.Code.{Goes, Thread, gives, step}
 use Rattle.lynx_meaning.specs.Expressions.{with_both, with_one}
 use Rattle.lynx_meaning.specs.Values.{Value, Given}
-use Rattle.code_steps.specs.Steps.{Reaches, StandAt}
-use Rattle.code_steps.proofs.Standing.{front-stands, next-stands}
+use Rattle.code_steps.specs.Steps.{Reaches}
 use Rattle.code_steps.proofs.Reaching.{reaches-on, reaches-step}
 use Rattle.code_steps.proofs.Raising.{raises-thrown}
 use Rattle.code_of_expressions.specs.Giving.{Gives}

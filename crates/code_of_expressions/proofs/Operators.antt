@@ -16,7 +16,7 @@ use Rattle.lynx_typing.specs.declared.exception.Exception.TheVariants as excepti
 use Rattle.lynx_code.specs.Generation.{relation, sum_operator, term_operator}
 use Rattle.lynx_meaning.specs.Code.{Next, Program, Thread, by_link, by_truth, compares, gives, goes, one_int, step, two_alike, two_ints}
 use Rattle.lynx_meaning.specs.Expressions.{multiplied, related, summed}
-use Rattle.lynx_meaning.specs.Values.{Value, Int, Truth, Text, Row, Link, Given, add, beside, divide, has_member, int_of, is_int, member, multiply, negate, reduce, subtract, truth_of, value_eq, within}
+use Rattle.lynx_meaning.specs.Values.{Value, Int, Truth, Given, add, beside, divide, has_member, int_of, is_int, member, multiply, reduce, subtract, truth_of, value_eq, within}
 use Rattle.code_of_expressions.specs.Kinds.{IsGiven, IsHeld, IsOf}
 use Rattle.code_of_expressions.proofs.Clean.{both-clean, demand-met, held-fits}
 use Rattle.code_of_expressions.proofs.Values.{int-is, link-is, text-is, truth-is}

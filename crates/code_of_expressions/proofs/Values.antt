@@ -1,5 +1,5 @@
 -- Values of a kind.
-use Rattle.std.proofs.Common.{◌≡◌, ℕ, zero, suc, ◌<◌, ℤ, List, [], ◌∷◌, length, Bool, Option, Some, None, slice_get, slice_index_or, slice_set, refl, sym, subst, arith}
+use Rattle.std.proofs.Common.{◌≡◌, ℕ, zero, suc, ◌<◌, ℤ, List, [], ◌∷◌, length, Some, slice_get, slice_index_or, slice_set, refl, sym, subst, arith}
 use Rattle.std.proofs.lemmas.Option.{none-some, same_Some}
 use Rattle.lynx_tree.specs.declared.declaration.TypeName.{TypeName}
 use Rattle.lynx_tree.specs.declared.declaration.TypeName.TheVariants as types

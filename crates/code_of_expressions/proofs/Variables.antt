@@ -1,5 +1,5 @@
 -- Variables and members of rows.
-use Rattle.std.proofs.Common.{◌≡◌, ℕ, ℤ, List, ◌∷◌, Bool, true, false, Option, Some, None, is_some, refl, sym, ap, ◌∙◌, subst, subst₂, true≢false}
+use Rattle.std.proofs.Common.{◌≡◌, ℕ, ℤ, List, ◌∷◌, Bool, true, Option, Some, None, is_some, refl, sym, ap, ◌∙◌, subst₂}
 use Rattle.lynx_tree.specs.declared.declaration.TypeName.{TypeName}
 use Rattle.lynx_tree.specs.declared.declaration.TypeName.TheVariants as types
 use Rattle.lynx_typing.specs.Types.{is_row}
@@ -7,7 +7,7 @@ use Rattle.lynx_code.specs.Generation.{Slot, Global, Local, by_slot}
 use Rattle.lynx_code.specs.declared.instruction.Instruction.TheVariants as code
 use Rattle.lynx_meaning.specs.Code.{Thread, gives, goes, loads, loads_member, step}
 use Rattle.lynx_meaning.specs.Expressions.{value_at}
-use Rattle.lynx_meaning.specs.Values.{Value, Row, Int, int_of, member, row_of}
+use Rattle.lynx_meaning.specs.Values.{Value, int_of, member, row_of}
 use Rattle.code_of_expressions.specs.Kinds.{IsOf}
 use Rattle.code_of_expressions.specs.Setting.{Around, HasKinds, Setting, stands, type_at}
 use Rattle.code_of_expressions.proofs.Clean.{no-false}

@@ -1,5 +1,5 @@
 -- What the code of an expression does.
-use Rattle.std.specs.Prelude.{ℕ, List, ◌∷◌, reverse, length, Result, Ok, Err, ◌≡◌}
+use Rattle.std.specs.Prelude.{ℕ, List, ◌∷◌, length, Result, Ok, Err, ◌≡◌}
 use mathlib.Core.List.{reverse_aux}
 use Rattle.lynx_typing.specs.Types.{Held}
 use Rattle.lynx_typing.specs.declared.exception.Exception.{Exception}

@@ -1,5 +1,5 @@
 -- The kinds of values: the constructor that a type asks for. Ranges are of no concern to code.
-use Rattle.std.specs.Prelude.{List, Option, None, Some, Ok, Err, ⊤}
+use Rattle.std.specs.Prelude.{List, None, Some, Ok, Err, ⊤}
 use Rattle.lynx_tree.specs.declared.declaration.TypeName.{TypeName}
 use Rattle.lynx_tree.specs.declared.declaration.TypeName.TheVariants as types
 use Rattle.lynx_typing.specs.Types.{Held}

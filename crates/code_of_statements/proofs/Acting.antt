@@ -1,5 +1,5 @@
 -- Actions, and what comes with their answers.
-use Rattle.std.proofs.Common.{◌≡◌, ℕ, ◌+◌, List, [], ◌∷◌, ◌++◌, reverse, Bool, Option, Some, Result, Ok, Err, IfOk, slice_get, refl, sym, ap, ◌∙◌, subst}
+use Rattle.std.proofs.Common.{◌≡◌, ℕ, ◌+◌, List, [], ◌∷◌, ◌++◌, reverse, Option, Some, Result, Ok, Err, IfOk, slice_get, refl, ap, subst}
 use Rattle.lynx_tree.specs.declared.declaration.TypeName.{TypeName}
 use Rattle.lynx_code.specs.declared.instruction.Instruction.{Instruction}
 use Rattle.lynx_typing.specs.declared.exception.Exception.{Exception}
@@ -13,7 +13,7 @@ use Rattle.code_steps.specs.Steps.{AreNested, Reaches, thread, thrown}
 use Rattle.code_steps.proofs.Raising.{raises-thrown}
 use Rattle.code_steps.proofs.Reaching.{reaches-as, reaches-step}
 use Rattle.code_of_expressions.specs.Kinds.{HaveKinds}
-use Rattle.code_of_statements.specs.Running.{AreUsed, Body, IsAnswered, IsFront, IsSound, Runs, trace}
+use Rattle.code_of_statements.specs.Running.{Body, IsAnswered, IsFront, IsSound, Runs, trace}
 use Rattle.code_of_statements.proofs.Answers.{after-sound, types-kinds}
 use Rattle.code_of_statements.proofs.Extending.{value-extends}
 use Rattle.code_of_statements.proofs.Fronts.{fit-front, fit-next, front-same}
@@ -36,7 +36,7 @@ module _ (b : Body) (tries : List Opened) (accepts : ℕ) where
   pub runs-answered : (n : ℕ) (t : Thread) (end : ℕ) (action : Action) (m : Moment) (left : List Answer) (next : Result (List Value) Exception → Moment → Next) (follow : List Value → Moment → Course) → IsAnswered action → IsSound b (record m { answers = left })
       → ((vs : List Value) (now : Moment) → IsFront now.actions (trace (follow vs now)))
       → ((a : Answer) (rest : List Answer) (vs : List Value) → left ≡ a ∷ rest → IsSound b (after m action a rest) → HaveKinds (needed b.tree action) vs → Fit b.tree (trace (follow vs (after m action a rest))) b.answers
-          → Reaches b.setting.program b.setting.is_entry t (next (Ok vs) (after m action a rest)) → Runs b tries accepts n t end (follow vs (after m action a rest)))
+      → Reaches b.setting.program b.setting.is_entry t (next (Ok vs) (after m action a rest)) → Runs b tries accepts n t end (follow vs (after m action a rest)))
       → ((exception : Exception) (now : Moment) → next (Err exception) now ≡ thrown b.setting.is_entry tries accepts exception now)
       → Fit b.tree (trace (course.answered m action left follow)) b.answers → Reaches b.setting.program b.setting.is_entry t (acts_with m action left next) → Runs b tries accepts n t end (course.answered m action left follow)
   runs-answered n t end action m [] next follow is sound extends on raised fit reached = reached
@@ -63,7 +63,7 @@ module _ (b : Body) (tries : List Opened) (accepts : ℕ) where
       let t = thread at stack tries accepts pending m in
       runs-acts n t (at + 1) action m (λ given now. answered b.setting.is_entry given (λ u. u) (thread at [] tries accepts pending now)) (λ vs now. course.Goes now) is sound (λ vs now. front-same now.actions)
       (λ vs now sound_now kinds fit_now reached.
-        let empty = none-given vs (subst (λ (ts : List TypeName). HaveKinds ts vs) none kinds) in
-        (sound_now, pending, reaches-as b.setting.program b.setting.is_entry t _ _ (ap (λ (us : List Value). Goes (thread (at + 1) (reverse us ++ []) tries accepts pending now)) empty) reached))
+      let empty = none-given vs (subst (λ (ts : List TypeName). HaveKinds ts vs) none kinds) in
+      (sound_now, pending, reaches-as b.setting.program b.setting.is_entry t _ _ (ap (λ (us : List Value). Goes (thread (at + 1) (reverse us ++ []) tries accepts pending now)) empty) reached))
       (λ exception now. raises-thrown b.setting.is_entry exception at [] tries accepts pending now nested)
       fit (reaches-step b.setting.program b.setting.is_entry t i _ here steps)

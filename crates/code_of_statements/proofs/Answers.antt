@@ -1,11 +1,10 @@
 -- Values that have types are of their kinds.
-use Rattle.std.proofs.Common.{◌≡◌, ℕ, List, [], ◌∷◌, length, map, reverse, Ok, Err, refl, sym, ap, ◌∙◌, subst}
+use Rattle.std.proofs.Common.{List, [], ◌∷◌, map, reverse, sym, subst}
 use mathlib.Core.List.{reverse_aux}
-use Rattle.lynx_tree.specs.Trees.{ModuleTree}
 use Rattle.lynx_tree.specs.declared.declaration.TypeName.{TypeName}
 use Rattle.lynx_tree.specs.declared.declaration.TypeName.TheVariants as types
 use Rattle.lynx_code.specs.Modules.{ArePairs, variables}
-use Rattle.lynx_meaning.specs.Agree.{Fits, HaveTypes, needed}
+use Rattle.lynx_meaning.specs.Agree.{Fits, HaveTypes}
 use Rattle.lynx_meaning.specs.Courses.{Action, Answer, Moment, after}
 use Rattle.lynx_meaning.specs.Values.{Value, Int, Truth, Text, Row, Link, HasType, start_value}
 use Rattle.code_of_expressions.specs.Kinds.{HaveKinds, IsOf}
@@ -38,9 +37,9 @@ pub after-sound : (b : Body) (m : Moment) (action : Action) (a : Answer) (rest :
 after-sound b m action a rest is sound fits = record {
   kinds = record {
     of_globals = subst (λ (ts : List TypeName). HaveKinds ts a.globals) (sym b.kinds) (types-kinds (map (λ v. v.kind) (variables b.tree)) a.globals fits.globals);
-    of_locals = sound.kinds.of_locals
+    of_locals = sound.kinds.of_locals;
   };
-  used = used-more m.actions action b.answers a rest is sound.used
+  used = used-more m.actions action b.answers a rest is sound.used;
 }
 
 -- ---- pairs

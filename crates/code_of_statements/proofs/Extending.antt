@@ -1,5 +1,5 @@
 -- A statement adds actions to those that were there.
-use Rattle.std.proofs.Common.{◌≡◌, ℕ, zero, suc, List, [], ◌∷◌, ◌++◌, reverse, Bool, true, false, if◌then◌else◌, Result, Ok, Err, refl, sym, subst}
+use Rattle.std.proofs.Common.{◌≡◌, ℕ, zero, suc, List, [], ◌∷◌, ◌++◌, reverse, Bool, true, false, if◌then◌else◌, Result, Ok, Err, refl, subst}
 use Rattle.std.specs.Str.{bytes_eq}
 use Rattle.lynx_tree.specs.Trees.{ExprTree, HandlerTrees, StmtTree, StmtTrees}
 use Rattle.lynx_tree.specs.Trees as trees
@@ -7,7 +7,7 @@ use Rattle.lynx_code.specs.Generation.{Names}
 use Rattle.lynx_typing.specs.Exceptions.{exception_text}
 use Rattle.lynx_typing.specs.declared.exception.Exception.{Exception}
 use Rattle.lynx_meaning.specs.Agree.{actions_of}
-use Rattle.lynx_meaning.specs.Courses.{Action, Answer, Course, Moment, New, Destroy, Bind, Unbind, Connect, Accept, Close, Reply, Write, Await, Stop, Goes, Raises, Over, Ended, Waits, Out, acts, after, and_then, answered, does, with_value}
+use Rattle.lynx_meaning.specs.Courses.{Action, Answer, Course, Moment, New, Destroy, Bind, Unbind, Connect, Accept, Close, Reply, Write, Await, Stop, Goes, Raises, Over, Out, acts, after, and_then, answered, does, with_value}
 use Rattle.lynx_meaning.specs.Expressions.{looked_up, value_of, values_of}
 use Rattle.lynx_meaning.specs.Source.{assigns, assigns_all, assigns_from_last, assigns_member, awaits, catches, closes, handles, loops, runs, runs_all}
 use Rattle.lynx_meaning.specs.Values.{Value, Row, Given, int_of, row_of, truth_of, with_member, written}
@@ -67,14 +67,14 @@ loops-extends zero condition body on m =
     value-extends (condition m) m (λ v. if truth_of v then Over (Out m.actions) else Goes m) (λ v. if-extends m.actions (truth_of v) (Over (Out m.actions)) (Goes m) (front-same m.actions) (front-same m.actions))
 loops-extends (suc n) condition body on m =
     value-extends (condition m) m (λ v. if truth_of v then and_then (body m) (loops n condition body) else Goes m) (λ v. if-extends m.actions (truth_of v) (and_then (body m) (loops n condition body)) (Goes m)
-      (then-extends m.actions (body m) (loops n condition body) (on m) (loops-extends n condition body on)) (front-same m.actions))
+    (then-extends m.actions (body m) (loops n condition body) (on m) (loops-extends n condition body on)) (front-same m.actions))
 
 pub awaits-extends : (condition : Moment → Given) (left : List Answer) (m : Moment) → IsFront m.actions (trace (awaits condition left m))
 awaits-extends condition [] m =
     value-extends (condition m) m (λ v. if truth_of v then Goes m else does m Await) (λ v. if-extends m.actions (truth_of v) (Goes m) (does m Await) (front-same m.actions) (does-extends m Await))
 awaits-extends condition (a ∷ rest) m =
     value-extends (condition m) m (λ v. if truth_of v then Goes m else and_then (does m Await) (awaits condition rest)) (λ v. if-extends m.actions (truth_of v) (Goes m) (and_then (does m Await) (awaits condition rest)) (front-same m.actions)
-      (then-extends m.actions (does m Await) (awaits condition rest) (does-extends m Await) (awaits-extends condition rest)))
+    (then-extends m.actions (does m Await) (awaits condition rest) (does-extends m Await) (awaits-extends condition rest)))
 
 pub closes-front : (c : Course) → IsFront (trace c) (trace (closes c))
 closes-front (Goes m) = does-extends m Close
@@ -113,8 +113,8 @@ mutual
       value-extends (values_of names m.store values) m (λ vs. acts m (Connect (looked_up names m.store link) (names.op op) vs) (λ given now. Goes (assigns_all names results given now))) (λ vs. acts-extends m (Connect (looked_up names m.store link) (names.op op) vs) (λ given now. Goes (assigns_all names results given now)) (λ given now. all-assigned-extends names results given now))
   stmt-extends names n (trees.Accept op link arguments body) m =
       acts-extends m (Accept (looked_up names m.store link) (names.op op)) (λ given now. closes (runs_all names n body (assigns_all names arguments given now))) (λ given now.
-        front-on now.actions (assigns_all names arguments given now).actions (trace (closes (runs_all names n body (assigns_all names arguments given now)))) (all-assigned-extends names arguments given now)
-        (front-on (assigns_all names arguments given now).actions (trace (runs_all names n body (assigns_all names arguments given now))) (trace (closes (runs_all names n body (assigns_all names arguments given now)))) (stmts-extend names n body (assigns_all names arguments given now)) (closes-front (runs_all names n body (assigns_all names arguments given now)))))
+      front-on now.actions (assigns_all names arguments given now).actions (trace (closes (runs_all names n body (assigns_all names arguments given now)))) (all-assigned-extends names arguments given now)
+      (front-on (assigns_all names arguments given now).actions (trace (runs_all names n body (assigns_all names arguments given now))) (trace (closes (runs_all names n body (assigns_all names arguments given now)))) (stmts-extend names n body (assigns_all names arguments given now)) (closes-front (runs_all names n body (assigns_all names arguments given now)))))
   stmt-extends names n (trees.Reply values) m = value-extends (values_of names m.store values) m (λ vs. does m (Reply vs)) (λ vs. does-extends m (Reply vs))
   stmt-extends names n (trees.Try body handlers) m =
       front-on m.actions (trace (runs_all names n body m)) (trace (catches (runs_all names n body m) (λ exception now. handles names n exception handlers now))) (stmts-extend names n body m)

@@ -1,5 +1,5 @@
 -- One stretch of a statement's code after another.
-use Rattle.std.proofs.Common.{◌≡◌, ℕ, suc, ◌+◌, ◌≤◌, List, [], ◌∷◌, Bool, Option, Some, Ok, Err, slice_get, refl, sym, ap, ◌∙◌, subst, le_trans, le_refl, arith}
+use Rattle.std.proofs.Common.{◌≡◌, ℕ, suc, ◌≤◌, List, [], ◌∷◌, Option, Some, Ok, Err, slice_get, ◌∙◌, subst, le_trans, arith}
 use Rattle.lynx_code.specs.declared.instruction.Instruction.{Instruction}
 use Rattle.lynx_typing.specs.Types.{Held}
 use Rattle.lynx_typing.specs.declared.exception.Exception.{Exception}
@@ -12,7 +12,6 @@ use Rattle.code_steps.specs.Steps.{Reaches, thread}
 use Rattle.code_steps.proofs.Reaching.{exec-step, reaches-on, reaches-step}
 use Rattle.code_of_expressions.specs.Giving.{Gives}
 use Rattle.code_of_expressions.specs.Kinds.{IsHeld}
-use Rattle.code_of_expressions.specs.Setting.{Around, stands}
 use Rattle.code_of_statements.specs.Running.{Body, IsSound, Runs, trace}
 
 module _ (b : Body) (tries : List Opened) (accepts : ℕ) where

@@ -1,5 +1,5 @@
 -- Lists of actions that begin alike.
-use Rattle.std.proofs.Common.{◌≡◌, List, [], ◌∷◌, ◌++◌, refl, sym, ap, ◌∙◌, subst, append_assoc, append-nil}
+use Rattle.std.proofs.Common.{List, [], ◌∷◌, ◌++◌, refl, sym, ap, ◌∙◌, subst, append_assoc, append-nil}
 use Rattle.lynx_tree.specs.Trees.{ModuleTree}
 use Rattle.lynx_meaning.specs.Agree.{Fit, Fits}
 use Rattle.lynx_meaning.specs.Courses.{Action, Answer, Stop}

@@ -1,5 +1,5 @@
 -- Tries and their handlers.
-use Rattle.std.proofs.Common.{◌≡◌, ℕ, suc, ◌+◌, ◌≤◌, List, [], ◌∷◌, ◌++◌, length, Bool, true, false, cond, Option, Some, None, is_some, if◌then◌else◌, find, bytes_eq, Decides, slice_get, refl, sym, ap, ◌∙◌, subst, le_refl, length-append, arith}
+use Rattle.std.proofs.Common.{◌≡◌, ℕ, ◌+◌, List, [], ◌∷◌, length, Bool, true, false, cond, Some, is_some, if◌then◌else◌, find, bytes_eq, Decides, slice_get, refl, sym, ap, ◌∙◌, subst, length-append, arith}
 use Rattle.std.proofs.lemmas.Option.{none-some, same_Some}
 use Rattle.std.proofs.lemmas.Slice.Eq.{bytes_eq-Decides}
 use Rattle.lynx_tree.specs.Trees.{HandlerTrees}
@@ -7,17 +7,15 @@ use Rattle.lynx_tree.specs.Trees as trees
 use Rattle.lynx_typing.specs.Exceptions.{all_exceptions, exception_of, exception_text}
 use Rattle.lynx_typing.specs.declared.exception.Exception.{Exception}
 use Rattle.lynx_code.specs.Generation.{Names, exception_named, handlers_code, stmts_code}
-use Rattle.lynx_code.specs.declared.instruction.Instruction.{Instruction}
 use Rattle.lynx_code.specs.declared.instruction.Instruction.TheVariants as code
 use Rattle.lynx_meaning.specs.Agree.{Fit}
-use Rattle.lynx_meaning.specs.Code.{Goes, Opened, Thread, goes, handles as meets, jumps, step}
+use Rattle.lynx_meaning.specs.Code.{Opened, Thread, goes, jumps, step}
 use Rattle.lynx_meaning.specs.Courses.{Course, Moment, Ended, Out, Waits}
 use Rattle.lynx_meaning.specs.Courses as course
 use Rattle.lynx_meaning.specs.Source.{catches}
-use Rattle.code_steps.specs.Steps.{AreNested, Reaches, thread, thrown}
+use Rattle.code_steps.specs.Steps.{AreNested, thread}
 use Rattle.code_steps.proofs.Raising.{raises-thrown, thrown-caught}
 use Rattle.code_steps.proofs.Reaching.{reaches-as, reaches-on, reaches-step}
-use Rattle.code_of_expressions.proofs.Clean.{no-false}
 use Rattle.code_of_expressions.proofs.Variables.{some-of}
 use Rattle.code_of_statements.specs.Running.{Body, IsSound, Runs, trace}
 use Rattle.code_of_statements.proofs.Following.{runs-from}

@@ -1,40 +1,36 @@
 -- Statements without others inside.
-use Rattle.std.proofs.Common.{◌≡◌, ℕ, suc, ◌+◌, ◌≤◌, ℤ, List, [], ◌∷◌, ◌++◌, length, map, reverse, take, drop, Bool, true, false, not, Option, Some, None, Result, Ok, Err, is_some, nat_le, if◌then◌else◌, slice_get, option_map, refl, sym, ap, ◌∙◌, subst, length-append, drop_of_length-le, append-nil, le-leb, le_of_eq, le_refl, true≢false, arith}
+use Rattle.std.proofs.Common.{◌≡◌, ℕ, ◌+◌, ◌≤◌, ℤ, List, [], ◌∷◌, ◌++◌, length, reverse, take, drop, Bool, true, not, Option, Some, None, Result, Ok, Err, if◌then◌else◌, slice_get, refl, sym, ap, ◌∙◌, subst, length-append, drop_of_length-le, append-nil, le-leb, true≢false, arith}
 use Rattle.std.proofs.lemmas.List.{length-reverse, reverse-reverse, take_all}
-use Rattle.std.proofs.lemmas.Option.{slice_get-map}
-use mathlib.Core.List.{reverse_aux}
 use Rattle.lynx_tree.specs.Trees.{ExprTree, ExprTrees, OpTree, StmtTree}
 use Rattle.lynx_tree.specs.Trees as trees
-use Rattle.lynx_tree.specs.Grammar.{AreExprs, IsExpr, IsStmt}
+use Rattle.lynx_tree.specs.Grammar.{IsExpr}
 use Rattle.lynx_tree.specs.declared.declaration.TypeName.{TypeName}
 use Rattle.lynx_tree.specs.declared.declaration.TypeName.TheVariants as types
-use Rattle.lynx_typing.specs.Expressions.{expr_faults, expr_size, judged, number_of, shown_type, value_faults, values_faults}
-use Rattle.lynx_typing.specs.Names.{arguments_of, known, results_of, type_of_variable}
-use Rattle.lynx_typing.specs.Rules.{Fault, Request, connect_has_names, connect_has_values, connect_name_fits, connect_value_fits, index_is_int, indexed_is_row, is_an_entry, is_op, is_variable, new_names_differ, reply_has_request, reply_has_values, reply_value_fits, results_needed, value_is_of_target, value_is_written, variable_is_link}
-use Rattle.lynx_typing.specs.Statements.{link_faults, names_faults, stmt_faults}
-use Rattle.lynx_typing.specs.Types.{Held, agree, fits, is_row_or_link, may_be_row}
+use Rattle.lynx_typing.specs.Expressions.{expr_faults, expr_size, number_of, shown_type, value_faults}
+use Rattle.lynx_typing.specs.Names.{type_of_variable}
+use Rattle.lynx_typing.specs.Rules.{Request, index_is_int, indexed_is_row, is_variable, new_names_differ, value_is_of_target, value_is_written, variable_is_link}
+use Rattle.lynx_typing.specs.Statements.{link_faults, stmt_faults}
+use Rattle.lynx_typing.specs.Types.{Held, agree, is_row_or_link, may_be_row}
 use Rattle.lynx_typing.specs.declared.exception.Exception.{Exception}
-use Rattle.lynx_code.specs.Generation.{expr_code, exprs_code, how_many, load, stmt_code, store, store_member, stores}
+use Rattle.lynx_code.specs.Generation.{expr_code, how_many, load, stmt_code, store, store_member, stores}
 use Rattle.lynx_code.specs.Modules.{ArePairs}
 use Rattle.lynx_code.specs.declared.instruction.Instruction.{Instruction}
 use Rattle.lynx_code.specs.declared.instruction.Instruction.TheVariants as code
 use Rattle.lynx_meaning.specs.Agree.{Fit, needed}
-use Rattle.lynx_meaning.specs.Code.{Comes, Goes, Next, Opened, Over, Thread, answered, asks, by_link, by_values, goes, step, stuck, writes}
-use Rattle.lynx_meaning.specs.Code as machine
+use Rattle.lynx_meaning.specs.Code.{Goes, Next, Opened, Thread, answered, asks, by_link, by_values, step, stuck, writes}
 use Rattle.lynx_meaning.specs.Courses.{Action, Answer, Course, Moment, Bind, Connect, Destroy, New, Reply, Stop, Unbind, Waits, Write, does, with_value}
 use Rattle.lynx_meaning.specs.Courses as course
-use Rattle.lynx_meaning.specs.Expressions.{looked_up, value_of, values_of}
+use Rattle.lynx_meaning.specs.Expressions.{looked_up, value_of}
 use Rattle.lynx_meaning.specs.Source.{assigns, assigns_all, assigns_member, runs}
-use Rattle.lynx_meaning.specs.Values.{Value, Int, Row, Truth, Text, Link, int_of, row_of, with_member, written}
+use Rattle.lynx_meaning.specs.Values.{Value, Row, int_of, row_of, with_member, written}
 use Rattle.code_steps.specs.Steps.{AreNested, Reaches, StandAt, thread}
 use Rattle.code_steps.proofs.Raising.{raises-thrown}
 use Rattle.code_steps.proofs.Reaching.{reaches-as, reaches-on, reaches-step}
-use Rattle.code_steps.proofs.Standing.{back-stands, front-stands, next-stands, rest-stands}
-use Rattle.code_of_expressions.specs.Giving.{Gives, GivesAll}
-use Rattle.code_of_expressions.specs.Kinds.{HaveKinds, IsHeld, IsOf}
-use Rattle.code_of_expressions.specs.Setting.{Around, IsReady, stands}
-use Rattle.code_of_expressions.proofs.Clean.{both-clean, demand-met, held-fits, judged-clean, same-kind}
-use Rattle.code_of_expressions.proofs.Expressions.{expr-gives, exprs-give, name-gives}
+use Rattle.code_steps.proofs.Standing.{back-stands, front-stands, next-stands}
+use Rattle.code_of_expressions.specs.Kinds.{IsHeld, IsOf}
+use Rattle.code_of_expressions.specs.Setting.{IsReady}
+use Rattle.code_of_expressions.proofs.Clean.{both-clean, demand-met, held-fits, judged-clean}
+use Rattle.code_of_expressions.proofs.Expressions.{expr-gives, name-gives}
 use Rattle.code_of_expressions.proofs.Operators.{link-on-top}
 use Rattle.code_of_expressions.proofs.Values.{int-is, text-is, truth-is}
 use Rattle.code_of_expressions.proofs.Variables.{row-type, some-of}
@@ -44,8 +40,7 @@ use Rattle.code_of_statements.proofs.Answers.{pairs-reverse}
 use Rattle.code_of_statements.proofs.Branches.{around}
 use Rattle.code_of_statements.proofs.Extending.{all-assigned-extends}
 use Rattle.code_of_statements.proofs.Following.{runs-from, runs-to, runs-value}
-use Rattle.code_of_statements.proofs.Fronts.{front-same}
-use Rattle.code_of_statements.proofs.Stores.{IsVariableOf, MayStore, assigned-sound, link-variable, may-store, put, put-goes, put-raises, put-steps, store-steps, stores-run, variables-of}
+use Rattle.code_of_statements.proofs.Stores.{IsVariableOf, MayStore, assigned-sound, link-variable, may-store, put, put-goes, put-raises, put-steps, store-steps, stores-run}
 
 -- a value is written where it is no row and no link
 written-on-top : (next : List ℕ → List Value → Next) (held : Held) (v : Value) (stack : List Value) → not (is_row_or_link held) ≡ true → IsHeld held v → writes next (v ∷ stack) ≡ next (written v) stack
@@ -94,13 +89,15 @@ module _ (b : Body) (tries : List Opened) (accepts n : ℕ) (nested : AreNested 
       let long : at + length x + 1 ≡ at + length (x ++ store c.names name ∷ []) = omega (arith, length-append x (store c.names name ∷ [])) in
       runs-to b tries accepts n (starts at pending m) (at + length x + 1) (at + length (x ++ store c.names name ∷ [])) (runs c.names n (trees.Assign name value) m) long
       (runs-value b tries accepts n pending m (starts at pending m) (at + length x) (at + length x + 1) [] held (value_of c.names m.store value) (λ v. course.Goes (assigns c.names name v m)) sound
-        (expr-gives c (around tries accepts pending m) (ready pending m sound) value at (place + 2) [] is (front-stands c.program.instructions at x (store c.names name ∷ []) has) met.0)
-        (λ v of fit_v.
-          let kind = target-kind (type_of_variable (c.scope name)) held found.0 v found.1 (demand-met _ _ _ met.1) of in
-          (assigned-sound b name found.0 v m found.1 kind sound, pending,
-            reaches-step c.program c.is_entry (thread (at + length x) (v ∷ []) tries accepts pending m) (store c.names name) _ (next-stands c.program.instructions at x (store c.names name) [] has)
-            (store-steps c (around tries accepts pending m) (c.names.slot name) found.0 (at + length x) [] v sound.kinds (c.variable name found.0 found.1))))
-        fit)
+      (expr-gives c (around tries accepts pending m) (ready pending m sound) value at (place + 2) [] is (front-stands c.program.instructions at x (store c.names name ∷ []) has) met.0)
+      (λ v of fit_v.
+      let kind = target-kind (type_of_variable (c.scope name)) held found.0 v found.1 (demand-met _ _ _ met.1) of in (
+        assigned-sound b name found.0 v m found.1 kind sound,
+        pending,
+        reaches-step c.program c.is_entry (thread (at + length x) (v ∷ []) tries accepts pending m) (store c.names name) _ (next-stands c.program.instructions at x (store c.names name) [] has)
+            (store-steps c (around tries accepts pending m) (c.names.slot name) found.0 (at + length x) [] v sound.kinds (c.variable name found.0 found.1)),
+      ))
+      fit)
 
   -- what is put into a member of a row
   put-runs : (name : List ℕ) (t : TypeName) (at : ℕ) (on : List Value) (pending : Option Exception) (m : Moment) (o : Result (List ℤ) Exception) → type_of_variable (b.setting.scope name) ≡ Some t → ((row : List ℤ) → IsOf t (Row row)) → IsSound b m → (u : Thread)
@@ -140,17 +137,17 @@ module _ (b : Body) (tries : List Opened) (accepts n : ℕ) (nested : AreNested 
       let long : end + 1 ≡ at + length ((x ++ y) ++ i ∷ []) = omega (arith, length-append (x ++ y) (i ∷ []), length-append x y) in
       runs-to b tries accepts n (starts at pending m) (end + 1) (at + length ((x ++ y) ++ i ∷ [])) (runs c.names n (trees.AssignMember name index value) m) long
       (runs-value b tries accepts n pending m (starts at pending m) (at + length x) (end + 1) [] of_index (value_of c.names m.store index) (λ v. with_value (value_of c.names m.store value) m (λ w. assigns_member c.names name v w m)) sound
-        (expr-gives c a (ready pending m sound) index at (place + 2) [] is_index (front-stands c.program.instructions at x y codes_front) met_index.0)
-        (λ v of_v fit_v.
-          runs-value b tries accepts n pending m (thread (at + length x) (v ∷ []) tries accepts pending m) end (end + 1) (v ∷ []) of_value (value_of c.names m.store value) (λ w. assigns_member c.names name v w m) sound
-          (expr-gives c a (ready pending m sound) value (at + length x) (place + expr_size index + 4) (v ∷ []) is_value (back-stands c.program.instructions at x y codes_front) met_value.0)
-          (λ w of_w fit_w.
-            let u = thread end (w ∷ v ∷ []) tries accepts pending m in
-            put-runs name (types.Row row.0) end (w ∷ v ∷ []) pending m (with_member (row_of (looked_up c.names m.store name)) (int_of v) (int_of w)) known_row (λ ns. tt) sound u
-            (reaches-step c.program c.is_entry u i _ here
-              (put-steps c a (c.names.slot name) row.0 end [] v w sound.kinds (c.variable name (types.Row row.0) known_row) (held-fits types.Int of_index v (demand-met _ _ _ met_index.1) of_v) (held-fits types.Int of_value w (demand-met _ _ _ met_value.1) of_w))))
-          fit_v)
-        fit)
+      (expr-gives c a (ready pending m sound) index at (place + 2) [] is_index (front-stands c.program.instructions at x y codes_front) met_index.0)
+      (λ v of_v fit_v.
+      runs-value b tries accepts n pending m (thread (at + length x) (v ∷ []) tries accepts pending m) end (end + 1) (v ∷ []) of_value (value_of c.names m.store value) (λ w. assigns_member c.names name v w m) sound
+      (expr-gives c a (ready pending m sound) value (at + length x) (place + expr_size index + 4) (v ∷ []) is_value (back-stands c.program.instructions at x y codes_front) met_value.0)
+      (λ w of_w fit_w.
+      let u = thread end (w ∷ v ∷ []) tries accepts pending m in
+      put-runs name (types.Row row.0) end (w ∷ v ∷ []) pending m (with_member (row_of (looked_up c.names m.store name)) (int_of v) (int_of w)) known_row (λ ns. tt) sound u
+      (reaches-step c.program c.is_entry u i _ here
+      (put-steps c a (c.names.slot name) row.0 end [] v w sound.kinds (c.variable name (types.Row row.0) known_row) (held-fits types.Int of_index v (demand-met _ _ _ met_index.1) of_v) (held-fits types.Int of_value w (demand-met _ _ _ met_value.1) of_w))))
+      fit_v)
+      fit)
 
   pub write-runs : (value : ExprTree) (request : Request) (at place : ℕ) (pending : Option Exception) (m : Moment) → IsExpr value → StandAt b.setting.program.instructions at (stmt_code b.setting.names at (trees.Write value)) → stmt_faults b.setting.scope request place (trees.Write value) ≡ [] → IsSound b m
       → Fit b.tree (trace (runs b.setting.names n (trees.Write value) m)) b.answers → Runs b tries accepts n (starts at pending m) (at + length (stmt_code b.setting.names at (trees.Write value))) (runs b.setting.names n (trees.Write value) m)
@@ -162,12 +159,12 @@ module _ (b : Body) (tries : List Opened) (accepts n : ℕ) (nested : AreNested 
       let long : at + length x + 1 ≡ at + length (x ++ code.Write ∷ []) = omega (arith, length-append x (code.Write ∷ [])) in
       runs-to b tries accepts n (starts at pending m) (at + length x + 1) (at + length (x ++ code.Write ∷ [])) (runs c.names n (trees.Write value) m) long
       (runs-value b tries accepts n pending m (starts at pending m) (at + length x) (at + length x + 1) [] held (value_of c.names m.store value) (λ v. does m (Write (written v))) sound
-        (expr-gives c (around tries accepts pending m) (ready pending m sound) value at (place + 1) [] is (front-stands c.program.instructions at x (code.Write ∷ []) has) met.0)
-        (λ v of fit_v.
-          runs-does b tries accepts nested n (at + length x) (v ∷ []) pending m code.Write (Write (written v)) tt refl sound (next-stands c.program.instructions at x code.Write [] has)
-          (written-on-top (λ text stack. asks c.is_entry (Write text) stack (thread (at + length x) (v ∷ []) tries accepts pending m) (λ now. now)) held v [] (demand-met _ _ _ met.1) of)
-          fit_v)
-        fit)
+      (expr-gives c (around tries accepts pending m) (ready pending m sound) value at (place + 1) [] is (front-stands c.program.instructions at x (code.Write ∷ []) has) met.0)
+      (λ v of fit_v.
+      runs-does b tries accepts nested n (at + length x) (v ∷ []) pending m code.Write (Write (written v)) tt refl sound (next-stands c.program.instructions at x code.Write [] has)
+      (written-on-top (λ text stack. asks c.is_entry (Write text) stack (thread (at + length x) (v ∷ []) tries accepts pending m) (λ now. now)) held v [] (demand-met _ _ _ met.1) of)
+      fit_v)
+      fit)
 
   pub stop-runs : (at : ℕ) (pending : Option Exception) (m : Moment) → slice_get b.setting.program.instructions at ≡ Some code.Stop → Runs b tries accepts n (starts at pending m) (at + 1) (course.Over (Waits (m.actions ++ Stop ∷ []) m.store))
   stop-runs at pending m here = reaches-step b.setting.program b.setting.is_entry (starts at pending m) code.Stop _ here refl
@@ -200,8 +197,8 @@ module _ (b : Body) (tries : List Opened) (accepts n : ℕ) (nested : AreNested 
       let long : at + 1 + 1 ≡ at + 2 = omega arith in
       runs-to b tries accepts n (starts at pending m) (at + 1 + 1) (at + 2) (does m (action link)) long
       (runs-from b tries accepts n (starts at pending m) u (at + 1 + 1) (does m (action link)) loaded.1
-        (runs-does b tries accepts nested n (at + 1) (link ∷ []) pending m i (action link) (is link) (none link) sound has.1.0
-          (steps u ∙ link-on-top (λ l stack. asks c.is_entry (action l) stack u (λ now. now)) link [] loaded.0) fit))
+      (runs-does b tries accepts nested n (at + 1) (link ∷ []) pending m i (action link) (is link) (none link) sound has.1.0
+      (steps u ∙ link-on-top (λ l stack. asks c.is_entry (action l) stack u (λ now. now)) link [] loaded.0) fit))
 
   -- ---- values that actions are given
 
@@ -224,9 +221,9 @@ module _ (b : Body) (tries : List Opened) (accepts n : ℕ) (nested : AreNested 
       let long : at + 1 + 2 ≡ at + 3 = omega arith in
       runs-to b tries accepts n (starts at pending m) (at + 1 + 2) (at + 3) (runs c.names n (trees.New first second) m) long
       (runs-acts b tries accepts n (starts at pending m) (at + 1 + 2) New m (λ given now. answered c.is_entry given (λ t. t) (thread at [] tries accepts pending now)) (λ vs now. course.Goes (assigns_all c.names (first ∷ second ∷ []) vs now)) tt sound
-        (λ vs now. all-assigned-extends c.names (first ∷ second ∷ []) vs now)
-        (λ vs now sound_now kinds fit_now reached.
-          let done = given-stored (first ∷ second ∷ []) vs (at + 1) pending now (starts at pending m) (may-store c (first ∷ second ∷ []) (types.Link ∷ types.Link ∷ []) vs of_two kinds) has.1 sound_now reached in
-          (done.0, pending, done.1))
-        (λ exception now. raises-thrown c.is_entry exception at [] tries accepts pending now nested)
-        fit (reaches-step c.program c.is_entry (starts at pending m) code.New _ has.0 refl))
+      (λ vs now. all-assigned-extends c.names (first ∷ second ∷ []) vs now)
+      (λ vs now sound_now kinds fit_now reached.
+      let done = given-stored (first ∷ second ∷ []) vs (at + 1) pending now (starts at pending m) (may-store c (first ∷ second ∷ []) (types.Link ∷ types.Link ∷ []) vs of_two kinds) has.1 sound_now reached in
+      (done.0, pending, done.1))
+      (λ exception now. raises-thrown c.is_entry exception at [] tries accepts pending now nested)
+      fit (reaches-step c.program c.is_entry (starts at pending m) code.New _ has.0 refl))

@@ -1,11 +1,11 @@
 -- The code of a statement does what the statement means.
-use Rattle.std.proofs.Common.{◌≡◌, ℕ, suc, ◌+◌, ◌≤◌, List, [], ◌∷◌, ◌++◌, length, Option, Some, None, slice_get, refl, sym, ap, ◌∙◌, subst, le_refl, length-append, arith}
+use Rattle.std.proofs.Common.{◌≡◌, ℕ, suc, ◌+◌, List, [], ◌∷◌, ◌++◌, length, Option, Some, slice_get, refl, sym, subst, le_refl, length-append, arith}
 use Rattle.lynx_tree.specs.Trees.{ExprTree, HandlerTrees, StmtTree, StmtTrees}
 use Rattle.lynx_tree.specs.Trees as trees
-use Rattle.lynx_tree.specs.Grammar.{AreHandlers, AreStmts, IsStmt, IsExpr, names_marks, stmt_marks}
+use Rattle.lynx_tree.specs.Grammar.{AreHandlers, AreStmts, IsStmt, names_marks, stmt_marks}
 use Rattle.lynx_typing.specs.Exceptions.{exception_of}
-use Rattle.lynx_typing.specs.Expressions.{expr_faults, expr_size, judged, shown_type, value_faults}
-use Rattle.lynx_typing.specs.Names.{arguments_of, known, results_of, type_of_variable}
+use Rattle.lynx_typing.specs.Expressions.{expr_faults, expr_size, shown_type, value_faults}
+use Rattle.lynx_typing.specs.Names.{arguments_of, known, results_of}
 use Rattle.lynx_typing.specs.Rules.{Asks, Request, accept_has_names, accept_name_fits, condition_is_bool, is_an_entry, is_op, names_exception}
 use Rattle.lynx_typing.specs.Statements.{handlers_faults, link_faults, names_faults, stmt_faults, stmts_faults, stmts_size}
 use Rattle.lynx_typing.specs.declared.exception.Exception.{Exception}
@@ -13,22 +13,22 @@ use Rattle.lynx_code.specs.Generation.{exception_named, expr_code, handlers_code
 use Rattle.lynx_code.specs.declared.instruction.Instruction.{Instruction}
 use Rattle.lynx_code.specs.declared.instruction.Instruction.TheVariants as code
 use Rattle.lynx_meaning.specs.Agree.{Fit}
-use Rattle.lynx_meaning.specs.Code.{Goes, Opened, Thread}
+use Rattle.lynx_meaning.specs.Code.{Goes, Opened}
 use Rattle.lynx_meaning.specs.Courses.{Bind, Course, Destroy, Moment, Unbind, and_then}
 use Rattle.lynx_meaning.specs.Courses as course
 use Rattle.lynx_meaning.specs.Expressions.{value_of}
-use Rattle.lynx_meaning.specs.Source.{assigns_all, closes, handles, runs, runs_all}
+use Rattle.lynx_meaning.specs.Source.{closes, handles, runs, runs_all}
 use Rattle.code_steps.specs.Steps.{AreNested, Reaches, StandAt, thread}
 use Rattle.code_steps.proofs.Reaching.{reaches-none, reaches-step}
 use Rattle.code_steps.proofs.Standing.{back-stands, front-stands, next-stands, rest-stands}
 use Rattle.code_of_expressions.proofs.Clean.{both-clean, demand-met, judged-clean}
 use Rattle.code_of_expressions.proofs.Expressions.{expr-gives}
-use Rattle.code_of_statements.specs.Running.{Body, IsFront, IsSound, Runs, trace}
+use Rattle.code_of_statements.specs.Running.{Body, IsSound, Runs, trace}
 use Rattle.code_of_statements.proofs.Branches.{around, runs-await, runs-condition, runs-loop}
 use Rattle.code_of_statements.proofs.Extending.{catches-front, closes-front, handlers-extend, stmts-extend, then-front}
 use Rattle.code_of_statements.proofs.Following.{runs-fewer, runs-from, runs-then, runs-to}
 use Rattle.code_of_statements.proofs.Fronts.{fit-front, front-on}
-use Rattle.code_of_statements.proofs.Handlers.{handlers-length, named-text, opened, runs-again, runs-case, runs-caught, runs-jump}
+use Rattle.code_of_statements.proofs.Handlers.{handlers-length, named-text, runs-again, runs-case, runs-caught, runs-jump}
 use Rattle.code_of_statements.proofs.Requests.{accept-runs, connect-runs, nested-more, reply-runs}
 use Rattle.code_of_statements.proofs.Simple.{assign-runs, member-runs, new-runs, on-link-runs, raise-runs, ready, stop-runs, write-runs}
 
@@ -63,12 +63,12 @@ module _ (b : Body) (n : ℕ) where
       let jump = code.JumpF end in
       runs-to b tries accepts n t end (at + length (x ++ jump ∷ y)) (runs c.names n (trees.If condition then_part) m) (two-parts at x jump y)
       (runs-fewer b tries accepts n (suc n) t end (runs c.names n (trees.If condition then_part) m) (omega arith)
-        (runs-condition b tries accepts n t (at + length x) end end pending m (shown_type c.scope condition) (value_of c.names m.store condition) (runs_all c.names n then_part m) (course.Goes m) sound
-          (expr-gives c (around tries accepts pending m) (ready b tries accepts n nested pending m sound) condition at (place + 1) [] is.0 (front-stands c.program.instructions at x (jump ∷ y) has) met.0)
-          (demand-met _ _ _ met.1) (next-stands c.program.instructions at x jump y has)
-          (λ fit_yes. run tries accepts nested request (at + length x + 1) (place + expr_size condition + 2) pending m is.1 (rest-stands c.program.instructions at x jump y has) parts.1 sound fit_yes)
-          (λ fit_no. (sound, pending, reaches-none c.program c.is_entry (thread end [] tries accepts pending m)))
-          fit))
+      (runs-condition b tries accepts n t (at + length x) end end pending m (shown_type c.scope condition) (value_of c.names m.store condition) (runs_all c.names n then_part m) (course.Goes m) sound
+      (expr-gives c (around tries accepts pending m) (ready b tries accepts n nested pending m sound) condition at (place + 1) [] is.0 (front-stands c.program.instructions at x (jump ∷ y) has) met.0)
+      (demand-met _ _ _ met.1) (next-stands c.program.instructions at x jump y has)
+      (λ fit_yes. run tries accepts nested request (at + length x + 1) (place + expr_size condition + 2) pending m is.1 (rest-stands c.program.instructions at x jump y has) parts.1 sound fit_yes)
+      (λ fit_no. (sound, pending, reaches-none c.program c.is_entry (thread end [] tries accepts pending m)))
+      fit))
 
   if-else-runs : (condition : ExprTree) (then_part else_part : StmtTrees) → StmtsRun then_part → StmtsRun else_part → StmtRuns (trees.IfElse condition then_part else_part)
   if-else-runs condition then_part else_part run run_else tries accepts nested request at place pending m is has clean sound fit =
@@ -94,13 +94,13 @@ module _ (b : Body) (n : ℕ) where
       let long : end ≡ at + length ((x ++ jump ∷ y) ++ over ∷ z) = omega (arith, length-append (x ++ jump ∷ y) (over ∷ z), length-append x (jump ∷ y)) in
       runs-to b tries accepts n t end (at + length ((x ++ jump ∷ y) ++ over ∷ z)) (runs c.names n (trees.IfElse condition then_part else_part) m) long
       (runs-fewer b tries accepts n (suc n) t end (runs c.names n (trees.IfElse condition then_part else_part) m) (omega arith)
-        (runs-condition b tries accepts n t (at + length x) behind end pending m (shown_type c.scope condition) (value_of c.names m.store condition) (runs_all c.names n then_part m) (runs_all c.names n else_part m) sound
-          (expr-gives c (around tries accepts pending m) (ready b tries accepts n nested pending m sound) condition at (place + 1) [] is.0 (front-stands c.program.instructions at x (jump ∷ y) front) met.0)
-          (demand-met _ _ _ met.1) (next-stands c.program.instructions at x jump y front)
-          (λ fit_yes. runs-jump b tries accepts n (thread (at + length x + 1) [] tries accepts pending m) (at + length x + 1 + length y) end (runs_all c.names n then_part m) at_over
-            (run tries accepts nested request (at + length x + 1) (place + expr_size condition + 2) pending m is.1 (rest-stands c.program.instructions at x jump y front) p1.1 sound fit_yes))
-          (λ fit_no. run_else tries accepts nested request behind (place + expr_size condition + stmts_size then_part + 3) pending m is.2 at_else p2.1 sound fit_no)
-          fit))
+      (runs-condition b tries accepts n t (at + length x) behind end pending m (shown_type c.scope condition) (value_of c.names m.store condition) (runs_all c.names n then_part m) (runs_all c.names n else_part m) sound
+      (expr-gives c (around tries accepts pending m) (ready b tries accepts n nested pending m sound) condition at (place + 1) [] is.0 (front-stands c.program.instructions at x (jump ∷ y) front) met.0)
+      (demand-met _ _ _ met.1) (next-stands c.program.instructions at x jump y front)
+      (λ fit_yes. runs-jump b tries accepts n (thread (at + length x + 1) [] tries accepts pending m) (at + length x + 1 + length y) end (runs_all c.names n then_part m) at_over
+      (run tries accepts nested request (at + length x + 1) (place + expr_size condition + 2) pending m is.1 (rest-stands c.program.instructions at x jump y front) p1.1 sound fit_yes))
+      (λ fit_no. run_else tries accepts nested request behind (place + expr_size condition + stmts_size then_part + 3) pending m is.2 at_else p2.1 sound fit_no)
+      fit))
 
   while-runs : (condition : ExprTree) (body : StmtTrees) → StmtsRun body → StmtRuns (trees.While condition body)
   while-runs condition body run tries accepts nested request at place pending m is has clean sound fit =
@@ -118,11 +118,11 @@ module _ (b : Body) (n : ℕ) where
       let long : behind + 1 ≡ at + length ((x ++ jump ∷ y) ++ back ∷ []) = omega (arith, length-append (x ++ jump ∷ y) (back ∷ []), length-append x (jump ∷ y)) in
       runs-to b tries accepts n t (behind + 1) (at + length ((x ++ jump ∷ y) ++ back ∷ [])) (runs c.names n (trees.While condition body) m) long
       (runs-loop b tries accepts n at (at + length x) behind (shown_type c.scope condition) (λ now. value_of c.names now.store condition) (runs_all c.names n body) (demand-met _ _ _ met.1)
-        (next-stands c.program.instructions at x jump y front) at_back
-        (λ later now sound_now. expr-gives c (around tries accepts later now) (ready b tries accepts n nested later now sound_now) condition at (place + 1) [] is.0 (front-stands c.program.instructions at x (jump ∷ y) front) met.0)
-        (λ now. stmts-extend c.names n body now)
-        (λ later now sound_now fit_now. run tries accepts nested request (at + length x + 1) (place + expr_size condition + 2) later now is.1 (rest-stands c.program.instructions at x jump y front) parts.1 sound_now fit_now)
-        n (le_refl n) pending m sound fit)
+      (next-stands c.program.instructions at x jump y front) at_back
+      (λ later now sound_now. expr-gives c (around tries accepts later now) (ready b tries accepts n nested later now sound_now) condition at (place + 1) [] is.0 (front-stands c.program.instructions at x (jump ∷ y) front) met.0)
+      (λ now. stmts-extend c.names n body now)
+      (λ later now sound_now fit_now. run tries accepts nested request (at + length x + 1) (place + expr_size condition + 2) later now is.1 (rest-stands c.program.instructions at x jump y front) parts.1 sound_now fit_now)
+      n (le_refl n) pending m sound fit)
 
   await-runs : (condition : ExprTree) → StmtRuns (trees.Await condition)
   await-runs condition tries accepts nested request at place pending m is has clean sound fit =
@@ -134,8 +134,8 @@ module _ (b : Body) (n : ℕ) where
       let long : at + length x + 1 ≡ at + length (x ++ i ∷ []) = omega (arith, length-append x (i ∷ [])) in
       runs-to b tries accepts n t (at + length x + 1) (at + length (x ++ i ∷ [])) (runs c.names n (trees.Await condition) m) long
       (runs-await b tries accepts nested n at (at + length x) (shown_type c.scope condition) (λ now. value_of c.names now.store condition) (demand-met _ _ _ met.1) (next-stands c.program.instructions at x i [] has)
-        (λ later now sound_now. expr-gives c (around tries accepts later now) (ready b tries accepts n nested later now sound_now) condition at (place + 1) [] is (front-stands c.program.instructions at x (i ∷ []) has) met.0)
-        m.answers pending m refl sound fit)
+      (λ later now sound_now. expr-gives c (around tries accepts later now) (ready b tries accepts n nested later now sound_now) condition at (place + 1) [] is (front-stands c.program.instructions at x (i ∷ []) has) met.0)
+      m.answers pending m refl sound fit)
 
   taken-runs : (op link : List ℕ) (arguments : List (List ℕ)) (body : StmtTrees) → StmtsRun body → StmtRuns (trees.Accept op link arguments body)
   taken-runs op link arguments body run tries accepts nested request at place pending m is has clean sound fit =
@@ -165,11 +165,11 @@ module _ (b : Body) (n : ℕ) where
       let long : behind + 1 ≡ at + length ((head ++ y) ++ code.Close ∷ []) = omega (arith, length-append (head ++ y) (code.Close ∷ []), length-append head y) in
       runs-to b tries accepts n t (behind + 1) (at + length ((head ++ y) ++ code.Close ∷ [])) (runs c.names n (trees.Accept op link arguments body) m) long
       (accept-runs b tries accepts n nested op link arguments (runs_all c.names n body) at behind place pending m (front-stands c.program.instructions at head y front) at_close p1.0 p1.1 p2.1 p3.1 sound
-        (λ now. front-on now.actions (trace (runs_all c.names n body now)) (trace (closes (runs_all c.names n body now))) (stmts-extend c.names n body now) (closes-front (runs_all c.names n body now)))
-        (λ now sound_now fit_now.
-          run tries (suc accepts) (nested-more accepts tries nested) asked inner inner_place pending now is at_body p4.1 sound_now
-          (fit-front b.tree (trace (runs_all c.names n body now)) (trace (closes (runs_all c.names n body now))) b.answers (closes-front (runs_all c.names n body now)) fit_now))
-        fit)
+      (λ now. front-on now.actions (trace (runs_all c.names n body now)) (trace (closes (runs_all c.names n body now))) (stmts-extend c.names n body now) (closes-front (runs_all c.names n body now)))
+      (λ now sound_now fit_now.
+      run tries (suc accepts) (nested-more accepts tries nested) asked inner inner_place pending now is at_body p4.1 sound_now
+      (fit-front b.tree (trace (runs_all c.names n body now)) (trace (closes (runs_all c.names n body now))) b.answers (closes-front (runs_all c.names n body now)) fit_now))
+      fit)
 
   try-runs : (body : StmtTrees) (handlers : HandlerTrees) → StmtsRun body → HandlersRun handlers → StmtRuns (trees.Try body handlers)
   try-runs body handlers run run_handlers tries accepts nested request at place pending m is has clean sound fit =
@@ -197,10 +197,10 @@ module _ (b : Body) (n : ℕ) where
       let after_body = catches-front (runs_all c.names n body m) (λ raised now. handles c.names n raised handlers now) (λ raised now. handlers-extend c.names n handlers raised now) in
       runs-to b tries accepts n t behind (at + length ((head ++ rest) ++ code.Again ∷ [])) (runs c.names n (trees.Try body handlers) m) long
       (runs-from b tries accepts n t u behind (runs c.names n (trees.Try body handlers) m) (reaches-step c.program c.is_entry t (code.Try first) _ has.0 refl)
-        (runs-caught b tries accepts n u middle first behind (runs_all c.names n body m) (λ raised now. handles c.names n raised handlers now) tail.0 tail.1.0
-          (run (o ∷ tries) accepts (refl, le_refl accepts, nested) request (at + 1) (place + 1) pending m is.0 (front-stands c.program.instructions (at + 1) y rest front.1) parts.0 sound (fit-front b.tree (trace (runs_all c.names n body m)) (trace (runs c.names n (trees.Try body handlers) m)) b.answers after_body fit))
-          (λ raised now sound_now fit_now. run_handlers tries accepts nested request behind first (place + stmts_size body + 1) raised now is.1 at_handlers at_again parts.1 sound_now fit_now)
-          fit))
+      (runs-caught b tries accepts n u middle first behind (runs_all c.names n body m) (λ raised now. handles c.names n raised handlers now) tail.0 tail.1.0
+      (run (o ∷ tries) accepts (refl, le_refl accepts, nested) request (at + 1) (place + 1) pending m is.0 (front-stands c.program.instructions (at + 1) y rest front.1) parts.0 sound (fit-front b.tree (trace (runs_all c.names n body m)) (trace (runs c.names n (trees.Try body handlers) m)) b.answers after_body fit))
+      (λ raised now sound_now fit_now. run_handlers tries accepts nested request behind first (place + stmts_size body + 1) raised now is.1 at_handlers at_again parts.1 sound_now fit_now)
+      fit))
 
   handler-runs : (name : List ℕ) (body : StmtTrees) (others : HandlerTrees) → StmtsRun body → HandlersRun others → HandlersRun (trees.more_handlers name body others)
   handler-runs name body others run run_others tries accepts nested request behind at place raised m is has again clean sound fit =
@@ -223,7 +223,7 @@ module _ (b : Body) (n : ℕ) where
       let at_again = subst (λ (k : ℕ). slice_get c.program.instructions k ≡ Some code.Again) join again in
       runs-case b tries accepts n at next behind name x raised m (runs_all c.names n body m) (handles c.names n raised others m) has.0 (named-text name (demand-met _ _ _ p1.0))
       (λ fit_yes. runs-jump b tries accepts n (thread (at + 1) [] tries accepts (Some raised) m) middle behind (runs_all c.names n body m) at_jump
-        (run tries accepts nested request (at + 1) (place + 3) (Some raised) m is.0 (front-stands c.program.instructions (at + 1) y (code.Jump behind ∷ hs) has.1) p1.1 sound fit_yes))
+      (run tries accepts nested request (at + 1) (place + 3) (Some raised) m is.0 (front-stands c.program.instructions (at + 1) y (code.Jump behind ∷ hs) has.1) p1.1 sound fit_yes))
       (λ fit_no. run_others tries accepts nested request behind next (place + stmts_size body + 3) raised m is.1 at_others at_again p2.1 sound fit_no)
       fit
 
@@ -239,10 +239,10 @@ module _ (b : Body) (n : ℕ) where
       let whole = and_then (runs c.names n s m) (runs_all c.names n ss) in
       runs-to b tries accepts n t end (at + length (x ++ y)) whole long
       (runs-then b tries accepts n t (at + length x) end (runs c.names n s m) (runs_all c.names n ss)
-        (run tries accepts nested request at place pending m is.0 (front-stands c.program.instructions at x y has) parts.0 sound
-          (fit-front b.tree (trace (runs c.names n s m)) (trace whole) b.answers (then-front (runs c.names n s m) (runs_all c.names n ss) (λ now. stmts-extend c.names n ss now)) fit))
-        (λ later now sound_now fit_now. rest tries accepts nested request (at + length x) (place + length (stmt_marks 0 s) + 1) later now is.1 (back-stands c.program.instructions at x y has) parts.1 sound_now fit_now)
-        fit)
+      (run tries accepts nested request at place pending m is.0 (front-stands c.program.instructions at x y has) parts.0 sound
+      (fit-front b.tree (trace (runs c.names n s m)) (trace whole) b.answers (then-front (runs c.names n s m) (runs_all c.names n ss) (λ now. stmts-extend c.names n ss now)) fit))
+      (λ later now sound_now fit_now. rest tries accepts nested request (at + length x) (place + length (stmt_marks 0 s) + 1) later now is.1 (back-stands c.program.instructions at x y has) parts.1 sound_now fit_now)
+      fit)
 
   mutual
     pub stmt-runs : (s : StmtTree) → StmtRuns s

@@ -1,6 +1,5 @@
 -- Variables that get values.
-use Rattle.std.proofs.Common.{◌≡◌, ℕ, suc, ◌+◌, ℤ, List, [], ◌∷◌, ◌++◌, length, map, reverse, Bool, true, false, Option, Some, None, Result, Ok, Err, nat_lt, if◌then◌else◌, refl, sym, ap, ◌∙◌, subst, subst₂, slice_set, is_some, lt-ltb, arith}
-use Rattle.std.proofs.lemmas.Option.{none-some}
+use Rattle.std.proofs.Common.{◌≡◌, ℕ, ◌+◌, ℤ, List, [], ◌∷◌, ◌++◌, length, map, Bool, true, Option, Some, Result, Ok, Err, if◌then◌else◌, refl, sym, ap, ◌∙◌, subst, subst₂, slice_set, is_some, lt-ltb, arith}
 use Rattle.lynx_tree.specs.declared.declaration.TypeName.{TypeName}
 use Rattle.lynx_tree.specs.declared.declaration.TypeName.TheVariants as types
 use Rattle.lynx_typing.specs.Names.{type_of_variable}
@@ -9,7 +8,6 @@ use Rattle.lynx_typing.specs.Statements.{link_faults, names_faults}
 use Rattle.lynx_typing.specs.Types.{Held, fits, same_type}
 use Rattle.lynx_typing.specs.declared.exception.Exception.{Exception}
 use Rattle.lynx_code.specs.Generation.{Global, Local, Slot, by_slot, store}
-use Rattle.lynx_code.specs.Generation as generation
 use Rattle.lynx_code.specs.Modules.{ArePairs}
 use Rattle.lynx_code.specs.declared.instruction.Instruction.TheVariants as code
 use Rattle.lynx_meaning.specs.Code.{Goes, Next, Opened, Thread, goes, puts, step, stores_member, stuck, with_variables}
@@ -17,12 +15,12 @@ use Rattle.lynx_meaning.specs.Code as machine
 use Rattle.lynx_meaning.specs.Courses.{Moment}
 use Rattle.lynx_meaning.specs.Expressions.{value_at, with_value_at}
 use Rattle.lynx_meaning.specs.Source.{assigns, assigns_from_last}
-use Rattle.lynx_meaning.specs.Values.{Value, Row, Int, int_of, row_of, with_member}
+use Rattle.lynx_meaning.specs.Values.{Value, Row, int_of, row_of, with_member}
 use Rattle.code_steps.specs.Steps.{Reaches, StandAt, thread}
 use Rattle.code_steps.proofs.Reaching.{reaches-none, reaches-on, reaches-step}
 use Rattle.code_of_expressions.specs.Kinds.{HaveKinds, IsOf}
 use Rattle.code_of_expressions.specs.Setting.{Around, HasKinds, Setting, stands, type_at}
-use Rattle.code_of_expressions.proofs.Clean.{both-clean, demand-met, kind-same, same-kind}
+use Rattle.code_of_expressions.proofs.Clean.{both-clean, demand-met, kind-same}
 use Rattle.code_of_expressions.proofs.Values.{int-is, kinds-get, kinds-set, kinds-within, row-is}
 use Rattle.code_of_expressions.proofs.Variables.{some-of}
 use Rattle.code_of_statements.specs.Running.{Body, IsSound}
@@ -122,7 +120,7 @@ module _ (b : Body) where
   -- values on the stack, which the variables get
   pub stores-run : (tries : List Opened) (accepts at : ℕ) (pending : Option Exception) (xs : List (List ℕ)) (vs : List Value) (m : Moment) → ArePairs (MayStore b.setting) xs vs → StandAt b.setting.program.instructions at (map (store b.setting.names) xs) → IsSound b m
       → IsSound b (assigns_from_last b.setting.names xs vs m)
-        × Reaches b.setting.program b.setting.is_entry (thread at vs tries accepts pending m) (Goes (thread (at + length (map (store b.setting.names) xs)) [] tries accepts pending (assigns_from_last b.setting.names xs vs m)))
+      × Reaches b.setting.program b.setting.is_entry (thread at vs tries accepts pending m) (Goes (thread (at + length (map (store b.setting.names) xs)) [] tries accepts pending (assigns_from_last b.setting.names xs vs m)))
   stores-run tries accepts at pending [] [] m fit has sound =
       let same : at ≡ at + 0 = omega arith in
       (sound, subst (λ (n : ℕ). Reaches b.setting.program b.setting.is_entry (thread at [] tries accepts pending m) (Goes (thread n [] tries accepts pending m))) same (reaches-none b.setting.program b.setting.is_entry _))
@@ -133,8 +131,10 @@ module _ (b : Body) where
       let a : Around = record { tries = tries; accepts = accepts; pending = pending; moment = m } in
       let t = fit.0.0 in
       let first = reaches-step b.setting.program b.setting.is_entry (thread at (v ∷ vs) tries accepts pending m) (store b.setting.names x) _ has.0
-                  (store-steps b.setting a (b.setting.names.slot x) t at vs v sound.kinds (b.setting.variable x t fit.0.1)) in
+      (store-steps b.setting a (b.setting.names.slot x) t at vs v sound.kinds (b.setting.variable x t fit.0.1)) in
       let next = stores-run tries accepts (at + 1) pending xs vs now fit.1 has.1 (assigned-sound x t v m fit.0.1 fit.0.2 sound) in
-      let end : at + 1 + length (map (store b.setting.names) xs) ≡ at + length (map (store b.setting.names) (x ∷ xs)) = omega arith in
-      (next.0, subst (λ (n : ℕ). Reaches b.setting.program b.setting.is_entry (thread at (v ∷ vs) tries accepts pending m) (Goes (thread n [] tries accepts pending (assigns_from_last b.setting.names xs vs now)))) end
-        (reaches-on b.setting.program b.setting.is_entry _ (thread (at + 1) vs tries accepts pending now) _ first next.1))
+      let end : at + 1 + length (map (store b.setting.names) xs) ≡ at + length (map (store b.setting.names) (x ∷ xs)) = omega arith in (
+        next.0,
+        subst (λ (n : ℕ). Reaches b.setting.program b.setting.is_entry (thread at (v ∷ vs) tries accepts pending m) (Goes (thread n [] tries accepts pending (assigns_from_last b.setting.names xs vs now)))) end
+            (reaches-on b.setting.program b.setting.is_entry _ (thread (at + 1) vs tries accepts pending now) _ first next.1),
+      )

@@ -1,5 +1,5 @@
 -- A thread that is over stays so with more instructions.
-use Rattle.std.proofs.Common.{◌≡◌, ℕ, zero, suc, ◌<◌, ◌≤◌, Bool, sym, subst, ◌∙◌, ⊎_elim, arith, le_of_suc-le-suc, not-suc-le-zero}
+use Rattle.std.proofs.Common.{◌≡◌, ℕ, zero, suc, ◌≤◌, Bool, sym, subst, ◌∙◌, ⊎_elim, arith, le_of_suc-le-suc, not-suc-le-zero}
 use Rattle.std.proofs.lemmas.Bool.{cases_lt}
 use Rattle.lynx_meaning.specs.Code.{CodeOutcome, Next, Goes, Over, Program, Thread, exec, go_on, next_of}
 use Rattle.code_steps.specs.Steps.{IsFinal}

@@ -1,7 +1,7 @@
 -- What comes where an exception is raised.
-use Rattle.std.proofs.Common.{◌≡◌, ℕ, zero, suc, ◌+◌, ◌-◌, ◌≤◌, List, [], ◌∷◌, length, drop, Bool, Option, None, Some, refl, sym, ap, ◌∙◌, arith}
+use Rattle.std.proofs.Common.{◌≡◌, ℕ, suc, ◌-◌, ◌≤◌, List, [], ◌∷◌, length, drop, Bool, Option, Some, refl, sym, ap, ◌∙◌, arith}
 use Rattle.lynx_typing.specs.declared.exception.Exception.{Exception}
-use Rattle.lynx_meaning.specs.Code.{Next, Goes, Opened, Thread, acts, closes, cut, instead, raises}
+use Rattle.lynx_meaning.specs.Code.{Goes, Opened, acts, closes, cut, instead, raises}
 use Rattle.lynx_meaning.specs.Courses.{Close, Moment}
 use Rattle.lynx_meaning.specs.Values.{Value}
 use Rattle.code_steps.specs.Steps.{AreNested, thread, thrown}

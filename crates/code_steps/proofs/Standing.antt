@@ -1,5 +1,5 @@
 -- Where instructions stand in code.
-use Rattle.std.proofs.Common.{◌≡◌, ℕ, ◌+◌, ◌<◌, List, [], ◌∷◌, ◌++◌, length, Some, slice_get, refl, sym, ap, ◌∙◌, subst, append_assoc, length-append, arith}
+use Rattle.std.proofs.Common.{◌≡◌, ℕ, ◌+◌, List, [], ◌∷◌, ◌++◌, length, Some, slice_get, refl, subst, append_assoc, length-append, arith}
 use Rattle.lynx_code.specs.declared.instruction.Instruction.{Instruction}
 use Rattle.code_steps.specs.Steps.{StandAt}
 

@@ -3,7 +3,7 @@ use Rattle.std.specs.Prelude.{◌≡◌, ℕ, ◌+◌, ◌≤◌, List, [], ◌�
 use Rattle.lynx_code.specs.declared.instruction.Instruction.{Instruction}
 use Rattle.lynx_typing.specs.declared.exception.Exception.{Exception}
 use Rattle.lynx_meaning.specs.Code.{CodeOutcome, Comes, Next, Opened, Program, Stuck, Thread, exec, go_on, raises}
-use Rattle.lynx_meaning.specs.Courses.{Moment, Outcome, Ended, Waits, Out}
+use Rattle.lynx_meaning.specs.Courses.{Moment, Ended, Waits, Out}
 use Rattle.lynx_meaning.specs.Values.{Value}
 
 -- the instructions stand in the code from this address on

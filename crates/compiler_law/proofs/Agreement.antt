@@ -1,5 +1,5 @@
 -- A part whose code stands agrees with it.
-use Rattle.std.proofs.Common.{◌≡◌, ℕ, zero, ◌+◌, List, [], ◌∷◌, ◌++◌, length, map, Bool, Option, None, Some, slice_get, refl, sym, ap, ◌∙◌, subst}
+use Rattle.std.proofs.Common.{◌≡◌, ℕ, ◌+◌, List, [], ◌∷◌, ◌++◌, length, map, None, Some, slice_get, refl, subst}
 use Rattle.lynx_tree.specs.Trees.{ModuleTree, OpTree}
 use Rattle.lynx_tree.specs.Grammar.{AreStmts}
 use Rattle.lynx_tree.specs.declared.declaration.TypeName.{TypeName}
@@ -7,17 +7,17 @@ use Rattle.lynx_typing.specs.Names.{Scope, arguments_of, results_of, type_of_var
 use Rattle.lynx_typing.specs.Rules.{Request}
 use Rattle.lynx_typing.specs.Statements.{stmts_faults}
 use Rattle.lynx_code.specs.Generation.{stmts_code}
-use Rattle.lynx_code.specs.Modules.{ArePairs, body_code, module_code, variables}
+use Rattle.lynx_code.specs.Modules.{body_code, module_code, variables}
 use Rattle.lynx_code.specs.declared.instruction.Instruction.TheVariants as code
 use Rattle.lynx_meaning.specs.Agree.{Agrees, HaveTypes, IsFitting, Start, actions_of, source}
 use Rattle.lynx_meaning.specs.Code.{Thread, begins, program_of}
-use Rattle.lynx_meaning.specs.Courses.{Course, Moment}
+use Rattle.lynx_meaning.specs.Courses.{Moment}
 use Rattle.lynx_meaning.specs.Source.{PartTree, runs_all, start_store}
 use Rattle.lynx_meaning.specs.Values.{Value, start_value}
 use Rattle.code_steps.specs.Steps.{StandAt}
 use Rattle.code_steps.proofs.Standing.{front-stands, next-stands}
 use Rattle.code_of_expressions.specs.Kinds.{HaveKinds}
-use Rattle.code_of_expressions.specs.Setting.{HasKinds, Setting, type_at}
+use Rattle.code_of_expressions.specs.Setting.{Setting, type_at}
 use Rattle.code_of_statements.specs.Running.{Body, IsSound, trace}
 use Rattle.code_of_statements.proofs.Answers.{start-kind, types-kinds}
 use Rattle.code_of_statements.proofs.Fronts.{fit-front}
@@ -54,7 +54,7 @@ module _ (m : ModuleTree) (part : PartTree) (start : ℕ) (is : IsPart m part st
     names = part.names;
     globals = map (λ v. v.kind) (variables m);
     locals = part.parameters ++ part.vars;
-    variable = is.variable
+    variable = is.variable;
   }
 
   abbrev the-body : Start → Body
@@ -64,7 +64,7 @@ module _ (m : ModuleTree) (part : PartTree) (start : ℕ) (is : IsPart m part st
     answers = given.answers;
     operation = is.operation;
     counts = refl;
-    kinds = refl
+    kinds = refl;
   }
 
   abbrev first-moment : Start → Moment
@@ -80,9 +80,9 @@ module _ (m : ModuleTree) (part : PartTree) (start : ℕ) (is : IsPart m part st
       let x = stmts_code part.names start part.body in
       let c = runs_all part.names n part.body now in
       let sound : IsSound b now = record {
-            kinds = record { of_globals = types-kinds (map (λ v. v.kind) (variables m)) given.globals fitting.globals; of_locals = local-kinds part.parameters given.arguments part.vars fitting.arguments };
-            used = refl
-          } in
+        kinds = record { of_globals = types-kinds (map (λ v. v.kind) (variables m)) given.globals fitting.globals; of_locals = local-kinds part.parameters given.arguments part.vars fitting.arguments };
+        used = refl;
+      } in
       let fit = fit-front m (trace c) (actions_of (source part given n)) given.answers (part-front part.is_entry c) (fitting.answers n) in
       part-follows b n (first-thread given) (start + length x) c (next-stands (module_code m) start x code.End [] is.stands)
       (stmts-run b n part.body [] 0 tt is.request start is.place None now is.written (front-stands (module_code m) start x (code.End ∷ []) is.stands) is.clean sound fit)
@@ -93,5 +93,5 @@ module _ (m : ModuleTree) (part : PartTree) (start : ℕ) (is : IsPart m part st
     source_follows = λ given fitting n outcome over was. code-over (program_of m) part.is_entry (first-thread given) n (source part given n) outcome over (follows given fitting n) was;
     goes_on = λ given fitting out k. code-out (program_of m) part.is_entry (first-thread given) k (source part given k) (out k) (follows given fitting k);
     does_all = λ given fitting n actions same. subst (Follows (program_of m) part.is_entry (first-thread given) n) same (follows given fitting n);
-    never_stuck = λ given fitting k was. not-stuck (program_of m) part.is_entry (first-thread given) k (source part given k) (follows given fitting k) was
+    never_stuck = λ given fitting k was. not-stuck (program_of m) part.is_entry (first-thread given) k (source part given k) (follows given fitting k) was;
   }

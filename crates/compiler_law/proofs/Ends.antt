@@ -1,14 +1,14 @@
 -- The end of a part, and what a thread of it comes to.
-use Rattle.std.proofs.Common.{◌≡◌, ℕ, ◌+◌, ◌≤◌, List, [], ◌∷◌, ◌++◌, length, Bool, true, false, Option, Some, Result, Ok, Err, slice_get, refl, sym, ap, ◌∙◌, subst}
+use Rattle.std.proofs.Common.{◌≡◌, ℕ, ◌≤◌, List, [], ◌∷◌, ◌++◌, Bool, true, false, Some, Result, Ok, Err, slice_get, refl, sym, ap, ◌∙◌, subst}
 use Rattle.lynx_code.specs.declared.instruction.Instruction.TheVariants as code
 use Rattle.lynx_typing.specs.declared.exception.Exception.{Exception}
 use Rattle.lynx_meaning.specs.Agree.{IsCodeOut, IsOut, IsOver, actions_of}
-use Rattle.lynx_meaning.specs.Code.{CodeOutcome, Comes, Goes, Next, Over, Program, Stuck, Thread, acts_with, ends, exec}
+use Rattle.lynx_meaning.specs.Code.{CodeOutcome, Comes, Over, Program, Stuck, Thread, acts_with, ends, exec}
 use Rattle.lynx_meaning.specs.Courses.{Action, Answer, Close, Course, Moment, Outcome, Store, Ended, Out, Waits, after, and_then, with_value}
 use Rattle.lynx_meaning.specs.Courses as course
 use Rattle.lynx_meaning.specs.Source.{closes, outcome_of, whole_course}
 use Rattle.lynx_meaning.specs.Values.{Value}
-use Rattle.code_steps.specs.Steps.{IsFinal, Reaches, thread, thrown}
+use Rattle.code_steps.specs.Steps.{IsFinal, Reaches, thread}
 use Rattle.code_steps.proofs.Lasting.{lasts, one-end}
 use Rattle.code_steps.proofs.Reaching.{reaches-on, reaches-step}
 use Rattle.code_of_statements.specs.Running.{Body, IsFront, Runs, trace}

@@ -1,10 +1,9 @@
 -- What names mean by the typing rules, and where the code finds them.
-use Rattle.std.proofs.Common.{◌≡◌, ℕ, zero, suc, ◌+◌, List, [], ◌∷◌, ◌++◌, length, map, Bool, true, false, Option, Some, None, if◌then◌else◌, bytes_eq, option_map, unwrap_or, slice_get, refl, sym, ap, ◌∙◌, subst, append_assoc, add-one, suc-ne-zero, arith}
+use Rattle.std.proofs.Common.{◌≡◌, ℕ, suc, ◌+◌, List, [], ◌∷◌, ◌++◌, length, map, Bool, true, false, Option, Some, None, if◌then◌else◌, bytes_eq, option_map, unwrap_or, slice_get, refl, sym, ap, ◌∙◌, subst, append_assoc, suc-ne-zero, arith}
 use Rattle.std.proofs.lemmas.Option.{none-some, same_Some}
 use Rattle.lynx_tree.specs.Trees.{EntryTree, ModuleTree, OpTree, VarTree}
 use Rattle.lynx_tree.specs.declared.declaration.TypeName.{TypeName}
-use Rattle.lynx_typing.specs.Names.{Declared, Meaning, Variable, Operation, Entry, arguments_of, each_at, entries_at, entry_named, entry_size, inside, known, local_names, locals_at, meaning_in, module_names, module_scope, op_named, op_size, ops_at, or_outside, parameters_at, parameters_named, params_at, results_of, type_of_variable, var_named, var_size, vars_at}
-use Rattle.lynx_code.specs.Generation.{Global, Local, Slot}
+use Rattle.lynx_typing.specs.Names.{Declared, Meaning, Variable, Operation, Entry, arguments_of, each_at, entries_at, entry_named, entry_size, inside, known, local_names, locals_at, meaning_in, module_scope, op_named, op_size, ops_at, or_outside, parameters_at, parameters_named, params_at, results_of, type_of_variable, var_named, var_size, vars_at}
 use Rattle.lynx_code.specs.Modules.{global_names, names_of, op_names, place_in, place_of, slot_at, variables}
 use Rattle.lynx_code.specs.Modules as modules
 use Rattle.code_of_expressions.specs.Setting.{type_at}
@@ -137,9 +136,9 @@ outside-operation (Some Entry) pv e number place ops arguments vs ho hp he is = 
 pub module-operation : (m : ModuleTree) (name : List ℕ) (arguments : List TypeName) → arguments_of (module_scope m name) ≡ Some arguments → (op : OpTree) × (slice_get m.ops (place_of (op_names m) name) ≡ Some op) × (op.arguments ≡ arguments) × (results_of (module_scope m name) ≡ Some op.results)
 module-operation m name arguments is =
     let found = outside-operation (meaning_in (each_at op_size op_named ops_at m.ops) name) (meaning_in (each_at var_size var_named (params_at m) m.params ++ each_at var_size var_named (vars_at m) m.vars) name) (meaning_in (each_at entry_size entry_named (entries_at m) m.entries) name)
-                (place_in (op_names m) name) (place_in (global_names m) name) m.ops arguments (map (λ v. v.kind) (variables m))
-                (look-ops m.ops ops_at name) (look-two m.params m.vars (params_at m) (vars_at m) name) (look-entries m.entries (entries_at m) name)
-                (ap arguments_of (sym (module-meaning m name)) ∙ is) in
+    (place_in (op_names m) name) (place_in (global_names m) name) m.ops arguments (map (λ v. v.kind) (variables m))
+    (look-ops m.ops ops_at name) (look-two m.params m.vars (params_at m) (vars_at m) name) (look-entries m.entries (entries_at m) name)
+    (ap arguments_of (sym (module-meaning m name)) ∙ is) in
     (found.0, found.1, found.2, ap results_of (module-meaning m name) ∙ found.3)
 
 -- ---- the names of an entry

@@ -1,17 +1,14 @@
 -- Source and code of each module agree.
-use Rattle.std.proofs.Common.{◌≡◌, ℕ, zero, suc, ◌+◌, List, [], ◌∷◌, ◌++◌, length, map, Bool, true, Option, None, Some, Contains, slice_get, is_some, refl, sym, ap, ◌∙◌, subst, zero-lt-suc, arith}
-use Rattle.std.proofs.lemmas.Option.{same_Some}
+use Rattle.std.proofs.Common.{◌≡◌, ℕ, ◌+◌, List, [], ◌∷◌, ◌++◌, length, Contains, refl, sym, ap, ◌∙◌, subst, zero-lt-suc}
 use Rattle.lynx_tree.specs.Grammar.{AreStmts, HasTokens}
 use Rattle.lynx_tree.specs.Trees.{EntryTree, ModuleTree}
-use Rattle.lynx_tree.specs.declared.declaration.TypeName.{TypeName}
-use Rattle.lynx_typing.specs.Modules.{IsWellTyped, entry_faults, module_faults, names_are_new, op_faults, param_faults, var_faults}
+use Rattle.lynx_typing.specs.Modules.{entry_faults, module_faults, names_are_new, op_faults, param_faults, var_faults}
 use Rattle.lynx_typing.specs.Names.{arguments_of, body_at, each_at, entries_at, entry_body_at, entry_size, inside, known, local_names, locals_at, module_names, module_scope, op_size, ops_at, params_at, results_of, var_size, vars_at}
-use Rattle.lynx_typing.specs.Rules.{Asks, Fault, Outside, entry_has_parameters, entry_is_of_op, is_number_of, local_name_is_new, module_name_is_new}
+use Rattle.lynx_typing.specs.Rules.{Asks, Fault, Outside, entry_has_parameters, entry_is_of_op, local_name_is_new, module_name_is_new}
 use Rattle.lynx_typing.specs.Statements.{stmts_faults}
-use Rattle.lynx_code.specs.Generation.{stmts_code}
 use Rattle.lynx_code.specs.Modules.{PartCode, body_code, entry_part, entry_parts, instructions_of, main_part, module_code, names_of, parts_of}
 use Rattle.lynx_code.specs.Modules as modules
-use Rattle.lynx_meaning.specs.Agree.{Agrees, PartsAgree, SourceAndCodeAgree}
+use Rattle.lynx_meaning.specs.Agree.{SourceAndCodeAgree}
 use Rattle.lynx_meaning.specs.Source.{entry_part_tree, main_tree}
 use Rattle.lynx_code.specs.declared.instruction.Instruction.{Instruction}
 use Rattle.code_steps.specs.Steps.{StandAt}
@@ -48,7 +45,7 @@ main-is-part m tokens clean = record {
   operation = λ name arguments is. module-operation m name arguments is;
   written = tokens.1;
   clean = (entries-and-body m clean).1;
-  stands = all-stand [] (main_part m).instructions (instructions_of (entry_parts m (length (main_part m).instructions) m.entries))
+  stands = all-stand [] (main_part m).instructions (instructions_of (entry_parts m (length (main_part m).instructions) m.entries));
 }
 
 -- as many parameters as arguments
@@ -78,7 +75,7 @@ entry-is-part m start at e written clean stands =
       operation = λ name arguments is. entry-operation m at e name arguments long is;
       written = written;
       clean = p4.1;
-      stands = stands
+      stands = stands;
     }
 
 pub law : SourceAndCodeAgree
@@ -88,8 +85,8 @@ law m tokens typed =
     record {
       body = agrees m (main_tree m) 0 (main-is-part m tokens clean);
       entries = λ i e p here found.
-        let part = entry-stands m main.instructions m.entries (length main.instructions) i e p refl here found in
-        let fault = each-clean entry_size (entry_faults (module_scope m)) (entries_at m) m.entries i e (entries-and-body m clean).0 here in
-        let stands = subst (λ (q : List Instruction). StandAt (module_code m) p.start q) (ap (λ (q : PartCode). q.instructions) part.1) part.0 in
-        agrees m (entry_part_tree m e) p.start (entry-is-part m p.start fault.0 e (all-at (λ (x : EntryTree). AreStmts x.body) m.entries i e tokens.0 here) fault.1 stands)
+          let part = entry-stands m main.instructions m.entries (length main.instructions) i e p refl here found in
+          let fault = each-clean entry_size (entry_faults (module_scope m)) (entries_at m) m.entries i e (entries-and-body m clean).0 here in
+          let stands = subst (λ (q : List Instruction). StandAt (module_code m) p.start q) (ap (λ (q : PartCode). q.instructions) part.1) part.0 in
+          agrees m (entry_part_tree m e) p.start (entry-is-part m p.start fault.0 e (all-at (λ (x : EntryTree). AreStmts x.body) m.entries i e tokens.0 here) fault.1 stands);
     }
