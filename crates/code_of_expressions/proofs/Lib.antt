@@ -1,0 +1,6 @@
+pub mod Values
+pub mod Clean
+pub mod Operators
+pub mod Variables
+pub mod Operands
+pub mod Expressions

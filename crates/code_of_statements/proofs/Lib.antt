@@ -1,0 +1,11 @@
+pub mod Fronts
+pub mod Extending
+pub mod Answers
+pub mod Stores
+pub mod Following
+pub mod Acting
+pub mod Branches
+pub mod Simple
+pub mod Requests
+pub mod Handlers
+pub mod Statements

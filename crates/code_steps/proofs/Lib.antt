@@ -1,0 +1,4 @@
+pub mod Standing
+pub mod Reaching
+pub mod Raising
+pub mod Lasting

@@ -1,0 +1,5 @@
+pub mod Ends
+pub mod Agreement
+pub mod Names
+pub mod Parts
+pub mod Whole
