@@ -28,16 +28,31 @@ same : (s : Shape) → IsWithin s s
 same s = record { locals = refl; stack = refl; tries = refl; accepts = refl; pending = λ h. h }
 
 handled : IsWithin raised outside
-handled = record { locals = refl; stack = refl; tries = refl; accepts = refl; pending = λ h. absurd h }
+handled = record { locals = refl; stack = refl; tries = refl; accepts = refl; pending = λ h. refl }
 
 pub it_is_shaped : AllObey (record { globals = []; ops = [] }) table 0 trying
-it_is_shaped =
-    ((outside, refl, (inside, refl, same inside)),
-    ((inside, refl, (search arith, (raised, refl, same raised))),
-    ((inside, refl, (outside, refl, same outside)),
-    ((outside, refl, (outside, refl, same outside)),
-    ((raised, refl, (search rules, (raised, refl, same raised), (raised, refl, same raised))),
-    ((raised, refl, (outside, refl, handled)),
-    ((raised, refl, (search rules, tt)),
-    ((outside, refl, tt),
-    tt))))))))
+it_is_shaped = (
+  (outside, refl, (inside, refl, same inside)),
+  (
+    (inside, refl, (search arith, (raised, refl, same raised))),
+    (
+      (inside, refl, (outside, refl, same outside)),
+      (
+        (outside, refl, (outside, refl, same outside)),
+        (
+          (raised, refl, (search rules, (raised, refl, same raised), (raised, refl, same raised))),
+          (
+            (raised, refl, (outside, refl, handled)),
+            (
+              (raised, refl, (search rules, tt)),
+              (
+                (outside, refl, tt),
+                tt,
+              ),
+            ),
+          ),
+        ),
+      ),
+    ),
+  ),
+)

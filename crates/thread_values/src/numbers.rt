@@ -58,7 +58,11 @@ impl Numbers {
         ensures { told result ≡ meaning.member self.now index }
     {
         let place = usize::try_from(index).ok().ok_or(Exception::Range)?;
-        self.numbers.as_slice().get(place).copied().ok_or(Exception::Range)
+        self.numbers
+            .as_slice()
+            .get(place)
+            .copied()
+            .ok_or(Exception::Range)
     }
 
     /// Changes the number at this place, from 0. RANGE where there is none; then nothing is changed.
