@@ -1,9 +1,9 @@
 -- Numbers of 64 bits.
-use Rattle.std.proofs.Common.{arith, ◌≡◌, ℕ, ℤ, pos, negsuc, ◌<◌, ◌^◌, Bool, true, false, ◌&&◌, not, IsTrue, Option, Some, None, Result, Ok, Err, FitsSigned, int_div, int_rem, int_le, int_lt, neg_ℤ, refl, ap, if◌then◌else◌}
-use Rattle.std.specs.Int.{w64, CanDivide}
+use Rattle.std.proofs.Common.{arith, ◌≡◌, ℤ, pos, negsuc, true, false, Ok, Err, FitsSigned, int_div, ap, if◌then◌else◌}
+use Rattle.std.specs.Int.{w64}
 use Rattle.std.specs.Ordering.{int_eq}
 use Rattle.lynx_typing.specs.declared.exception.Exception.TheVariants as exceptions
-use Rattle.lynx_meaning.specs.Values.{Given, Int, is_int, within, divide, reduce, beside}
+use Rattle.lynx_meaning.specs.Values.{Int, is_int, within, divide}
 
 fits-is_int : (n : ℤ) → FitsSigned w64 n → is_int n ≡ true
 fits-is_int (pos n) fits = grind (arith, fits)
