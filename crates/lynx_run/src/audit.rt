@@ -7,7 +7,7 @@ use charlotte_calls::NoMemory;
 use lynx_command::{End, Failure, FileCommand, Lines, MOST_TRANSCRIPT_BYTES, Output, perform_file};
 use lynx_outside::{Files, Sink, Status};
 use std::alloc::Global;
-use transcript_audit::{AuditFault, audit};
+use transcript_audit::AuditFault;
 
 /// `audit`: the text is the line `yes`, where the file is the transcript of a run.
 pub struct AuditCommand;
@@ -22,7 +22,7 @@ impl FileCommand for AuditCommand {
     ghost finds = { Audits };
 
     fn find(alloc: Global, bytes: Vec<u8>) -> Result<Output<Lines>, Failure> {
-        audit(alloc, bytes.as_slice()).map_err(failure_of_audit)?;
+        transcript_audit::audit(alloc, bytes.as_slice()).map_err(failure_of_audit)?;
         let lines = accepted_lines(alloc)?;
         Ok(Output {
             text: Lines::of(lines),

@@ -1,5 +1,5 @@
 //! What holds of the texts of commands.
-ghost use Rattle.std.specs.Prelude.{ℕ, List, ◌×◌};
+ghost use Rattle.std.specs.Prelude.{ℕ, List};
 ghost use Rattle.std.specs.List.{concat};
 ghost use Rattle.journal_text.specs.declared.last.Last.{Last};
 ghost use Rattle.lynx_run.specs.Drive.{IsDriven};

@@ -1,3 +1,3 @@
-pub mod Auditing
 pub mod Driven
 pub mod Once
+pub mod Taken

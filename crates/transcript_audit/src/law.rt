@@ -1,5 +1,5 @@
 //! What holds of every audit.
-ghost use Rattle.std.specs.Prelude.{◌≡◌, ℕ, List, ⊥};
+ghost use Rattle.std.specs.Prelude.{◌≡◌, ℕ, List};
 ghost use Rattle.charlotte_calls.specs.Setting.{IsValid};
 ghost use Rattle.charlotte_calls.specs.declared.setting.Setting.{Setting};
 ghost use Rattle.journal_text.specs.TranscriptText.{IsTranscript};

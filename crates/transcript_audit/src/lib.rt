@@ -1,10 +1,10 @@
 //! Audits: whether a text is the transcript of a run of kernels, and else the line at which it is not.
 #![tactic(auto)]
 
-mod audit;
+mod auditing;
 mod fault;
 mod law;
 
-pub use audit::audit;
+pub use auditing::audit;
 pub use fault::AuditFault;
 pub use law::{driven_is_audited, one_audit};

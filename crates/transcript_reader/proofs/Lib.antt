@@ -1,5 +1,5 @@
-mod Agree
-mod Clauses
+pub mod Agree
+pub mod Clauses
 mod Later
-mod Texts
-mod Told
+pub mod Texts
+pub mod Told

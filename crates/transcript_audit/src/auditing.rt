@@ -1,4 +1,4 @@
-ghost use Rattle.std.specs.Prelude.{◌<◌, ◌×◌, List, IfErr, IfOk, OnOk, length};
+ghost use Rattle.std.specs.Prelude.{◌<◌, List, IfErr, IfOk, OnOk, length};
 ghost use Rattle.transcript_audit.specs.Audit.{IsAudited, IsBadFault, IsFaultIn, IsFaultOf};
 ghost use Rattle.transcript_reader.specs.Text.{AreLines};
 ghost use Rattle.transcript_reader.specs.declared.line.Line.{Line as ALine};

@@ -1,6 +1,6 @@
 use Rattle.std.proofs.Common.{length}
-use Rattle.transcript_audit.proofs.Auditing.{IsRead}
-use Rattle.transcript_audit.proofs.audit.read_lines.Given as goal
+use Rattle.transcript_audit.proofs.Taken.{IsRead}
+use Rattle.transcript_audit.proofs.auditing.read_lines.Given as goal
 
 abbrev pub invariant-loop : goal.invariant-loop
 invariant-loop l = IsRead l.bytes l.reader

@@ -69,12 +69,12 @@ pub record IsNext (left : List Line) (l : Line) (new : Unread) : Type 0 where
   pub first : left ≡ l ∷ others
   pub rest : lines_left new ≡ Ok others
 
-ok-of : (x y : List Line) → Result.{0; 0} (List Line) ℕ → List Line
-ok-of x y (Ok ls) = ls
-ok-of x y (Err n) = x
+ok-of : List Line → Result (List Line) ℕ → List Line
+ok-of x (Ok ls) = ls
+ok-of x (Err n) = x
 
 next-of : (left : List Line) (l : Line) (new : Unread) (r : Result (List Line) ℕ) → lines_left new ≡ r → with_first l r ≡ Ok left → IsNext left l new
-next-of left l new (Ok others) is e = record { others = others; first = sym (ap (ok-of [] []) e); rest = is }
+next-of left l new (Ok others) is e = record { others = others; first = sym (ap (ok-of []) e); rest = is }
 next-of left l new (Err n) is e = absurd cc
 
 auditing-next : (left : List Line) (l : Line) (old new : Unread) → lines_left old ≡ Ok left → next_line old ≡ Ok (Some (l, new)) → IsNext left l new
