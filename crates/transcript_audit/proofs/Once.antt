@@ -38,7 +38,7 @@ not-both bytes a n is (Different d) =
 
 -- ---- one last line
 
-last-of : Last → List LineKind → Last
+abbrev last-of : Last → List LineKind → Last
 last-of d [] = d
 last-of d (kind.End last ∷ []) = last
 last-of d (k ∷ ks) = last-of d ks

@@ -69,7 +69,7 @@ pub record IsNext (left : List Line) (l : Line) (new : Unread) : Type 0 where
   pub first : left ≡ l ∷ others
   pub rest : lines_left new ≡ Ok others
 
-ok-of : List Line → Result (List Line) ℕ → List Line
+abbrev ok-of : List Line → Result (List Line) ℕ → List Line
 ok-of x (Ok ls) = ls
 ok-of x (Err n) = x
 
