@@ -1,6 +1,6 @@
 //! Rows as they are kept.
 
-ghost use Rattle.std.specs.Prelude.{◌≡◌, ◌≤◌, length};
+ghost use Rattle.std.specs.Prelude.{◌≡◌, ◌≤◌, length, OnErr};
 ghost use Rattle.lynx_meaning.specs.Values as meaning;
 ghost use Rattle.thread_values.specs.Told.{told, stored};
 
@@ -67,7 +67,8 @@ impl Numbers {
 
     /// Changes the number at this place, from 0. RANGE where there is none; then nothing is changed.
     pub fn set_member(&mut self, index: i64, number: i64) -> Result<(), Exception>
-        ensures { stored result self.old self.new ≡ meaning.with_member self.old index number }
+        ensures changed { stored result self.old self.new ≡ meaning.with_member self.old index number }
+        ensures kept { OnErr result (self.new ≡ self.old) }
     {
         let Ok(place) = usize::try_from(index) else {
             return Err(Exception::Range);

@@ -1,0 +1,112 @@
+-- Operands and variables as they are kept, as values.
+use Rattle.std.specs.Prelude.{◌≡◌, ℕ, ℤ, List, [], ◌∷◌, map, slice_get, slice_set, OnErr, Option, Some, None, Result, Ok, Err, ⊤}
+use Rattle.lynx_typing.specs.declared.exception.Exception.{Exception}
+use Rattle.lynx_typing.specs.declared.exception.Exception.TheVariants as exceptions
+use Rattle.lynx_meaning.specs.Values.{Value, Given, Int, Truth, Text, Row, Link, member, with_member}
+use Rattle.thread_values.specs.Told.{value_of, stored}
+use Rattle.thread_values.specs.declared.value.Value as taken
+use Rattle.thread_stack.specs.declared.variables.Variable.{Variable}
+use Rattle.thread_stack.specs.declared.variables.Variable.TheVariants as variable
+use Rattle.thread_stack.specs.declared.operands.Operand.{Operand}
+use Rattle.thread_stack.specs.declared.operands.Operand.TheVariants as operand
+use Rattle.thread_stack.specs.declared.operands.Large.{Large}
+use Rattle.thread_stack.specs.declared.operands.Large.TheVariants as large
+
+abbrev pub large_value : Large → Value
+large_value (large.Text bytes) = Text bytes
+large_value (large.Row numbers) = Row numbers
+
+-- the values of a stack, the last one first, as are the operands and the large values
+abbrev pub stacked : List Operand → List Large → List Value
+stacked [] vs = []
+stacked (operand.Int n ∷ ops) vs = Int n ∷ stacked ops vs
+stacked (operand.Bool b ∷ ops) vs = Truth b ∷ stacked ops vs
+stacked (operand.Link l ∷ ops) vs = Link l.0 ∷ stacked ops vs
+stacked (operand.Large ∷ ops) [] = stacked ops []
+stacked (operand.Large ∷ ops) (v ∷ vs) = large_value v ∷ stacked ops vs
+
+-- there is a large value for each large operand, and no other
+abbrev pub AreTogether : List Operand → List Large → Type 0
+AreTogether [] [] = ⊤
+AreTogether [] (v ∷ vs) = ⊥
+AreTogether (operand.Int n ∷ ops) vs = AreTogether ops vs
+AreTogether (operand.Bool b ∷ ops) vs = AreTogether ops vs
+AreTogether (operand.Link l ∷ ops) vs = AreTogether ops vs
+AreTogether (operand.Large ∷ ops) [] = ⊥
+AreTogether (operand.Large ∷ ops) (v ∷ vs) = AreTogether ops vs
+
+-- ---- what stands on top
+
+abbrev pub TopIsInt : List Value → Type 0
+TopIsInt (Int n ∷ vs) = ⊤
+TopIsInt _ = ⊥
+
+abbrev pub TopIsTruth : List Value → Type 0
+TopIsTruth (Truth b ∷ vs) = ⊤
+TopIsTruth _ = ⊥
+
+abbrev pub TopIsLink : List Value → Type 0
+TopIsLink (Link l ∷ vs) = ⊤
+TopIsLink _ = ⊥
+
+abbrev pub TopIsText : List Value → Type 0
+TopIsText (Text bytes ∷ vs) = ⊤
+TopIsText _ = ⊥
+
+abbrev pub TopIsRow : List Value → Type 0
+TopIsRow (Row numbers ∷ vs) = ⊤
+TopIsRow _ = ⊥
+
+-- the value on top is taken, or there is none
+abbrev pub IsTaken : List Value → List Value → Option taken.Value → Type 0
+IsTaken before after None = (before ≡ []) × (after ≡ [])
+IsTaken before after (Some v) = before ≡ value_of v ∷ after
+
+-- ---- variables
+
+abbrev pub variable_value : Variable → Value
+variable_value (variable.Int n) = Int n
+variable_value (variable.Bool b) = Truth b
+variable_value (variable.Link l) = Link l.0
+variable_value (variable.Text bytes) = Text bytes.value
+variable_value (variable.Row numbers) = Row numbers.value
+
+abbrev pub variable_values : List Variable → List Value
+variable_values vs = map variable_value vs
+
+-- two values of one kind
+abbrev pub AreAlike : Value → Value → Type 0
+AreAlike (Int a) (Int b) = ⊤
+AreAlike (Truth a) (Truth b) = ⊤
+AreAlike (Text a) (Text b) = ⊤
+AreAlike (Row a) (Row b) = ⊤
+AreAlike (Link a) (Link b) = ⊤
+AreAlike _ _ = ⊥
+
+-- what stands on top is of the kind of this variable
+abbrev pub TopIsLike : Option Value → List Value → Type 0
+TopIsLike (Some v) (top ∷ below) = AreAlike v top
+TopIsLike _ _ = ⊥
+
+abbrev pub IsRow : Option Value → Type 0
+IsRow (Some (Row numbers)) = ⊤
+IsRow _ = ⊥
+
+-- the value that was on top stands in this variable
+abbrev pub IsStored : ℕ → List Value → List Value → List Value → List Value → Type 0
+IsStored slot before after variables now = (v : Value) × (before ≡ v ∷ after) × (now ≡ slice_set variables slot v)
+
+-- a member of a row, by its variable
+abbrev pub member_of : Option Value → ℤ → Given
+member_of (Some (Row numbers)) index = member numbers index
+member_of _ index = Err exceptions.Range
+
+-- a row has another member, or is as it was since there is an exception
+abbrev pub IsRowSet : {X : Type 0} → ℤ → ℤ → Value → Value → Result X Exception → Type 0
+IsRowSet index number (Row before) (Row after) result = (stored result before after ≡ with_member before index number) × OnErr result (after ≡ before)
+IsRowSet index number _ _ result = ⊥
+
+-- so does the row in this variable
+abbrev pub IsMemberSet : {X : Type 0} → ℕ → ℤ → ℤ → List Value → List Value → Result X Exception → Type 0
+IsMemberSet slot index number variables now result =
+    (before : Value) × (after : Value) × (slice_get variables slot ≡ Some before) × (now ≡ slice_set variables slot after) × IsRowSet index number before after result

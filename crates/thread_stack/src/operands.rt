@@ -1,0 +1,207 @@
+//! The stack of operands.
+
+ghost use Rattle.std.specs.Prelude.{◌≡◌, ◌≤◌, ◌-◌, [], ◌∷◌, length, drop, IfOk, OnOk};
+ghost use Rattle.lynx_meaning.specs.Values.{Int, Truth, Text, Row, Link};
+ghost use Rattle.thread_stack.specs.Stacks.{TopIsInt, TopIsTruth, TopIsLink, TopIsText, TopIsRow, IsTaken};
+ghost use Rattle.thread_values.specs.Told.{value_of};
+
+use lynx_lexer::NoMemory;
+use std::alloc::Global;
+use std::marker::Model;
+use thread_values::{LinkRef, Numbers, ShortText, Value};
+
+/// An operand. A large one stands among the large values, in the same order.
+#[derive(Clone, Copy, Debug)]
+pub(crate) enum Operand {
+    Int(i64),
+    Bool(bool),
+    Link(LinkRef),
+    Large,
+}
+
+/// A value that takes many bytes.
+#[derive(Debug, Drop)]
+pub(crate) enum Large {
+    Text(ShortText),
+    Row(Numbers),
+}
+
+/// A stack of operands. Contracts see their values, the last one first.
+#[derive(Debug, Drop)]
+pub struct Operands {
+    operands: Vec<Operand>,
+    large: Vec<Large>,
+}
+
+impl Model for Operands {
+    ghost use Rattle.std.specs.Prelude.{List, reverse};
+    ghost use Rattle.lynx_meaning.specs.Values as meaning;
+    ghost use Rattle.thread_stack.specs.Stacks.{stacked, AreTogether};
+
+    ghost Value = { List meaning.Value };
+
+    ghost view = { λ s. stacked (reverse s.operands.items) (reverse s.large.items) };
+
+    ghost invariant = { λ s. AreTogether (reverse s.operands.items) (reverse s.large.items) };
+}
+
+#[tactic(auto, using(crate::proofs::Stacked::on_top, crate::proofs::Stacked::together_on_top, crate::proofs::Stacked::large_on_top, crate::proofs::Stacked::large_together))]
+impl Operands {
+    /// No operands.
+    pub fn new(alloc: Global) -> Operands
+        ensures { result ≡ [] }
+    {
+        Operands {
+            operands: Vec::new(alloc),
+            large: Vec::new(alloc),
+        }
+    }
+
+    /// A number on top.
+    pub fn push_int(&mut self, number: i64) -> Result<(), NoMemory>
+        ensures { OnOk result (self.new ≡ Int number ∷ self.old) }
+    {
+        self.operands.push(Operand::Int(number))?;
+        Ok(())
+    }
+
+    /// A truth on top.
+    pub fn push_bool(&mut self, truth: bool) -> Result<(), NoMemory>
+        ensures { OnOk result (self.new ≡ Truth truth ∷ self.old) }
+    {
+        self.operands.push(Operand::Bool(truth))?;
+        Ok(())
+    }
+
+    /// A link on top.
+    pub fn push_link(&mut self, link: LinkRef) -> Result<(), NoMemory>
+        ensures { OnOk result (self.new ≡ Link link.0 ∷ self.old) }
+    {
+        self.operands.push(Operand::Link(link))?;
+        Ok(())
+    }
+
+    /// A text on top.
+    pub fn push_text(&mut self, text: &ShortText) -> Result<(), NoMemory>
+        ensures { OnOk result (self.new ≡ Text text.now ∷ self.old) }
+    {
+        self.operands.reserve(1)?;
+        self.large.push(Large::Text(text.copy()))?;
+        self.operands.push_reserved(Operand::Large);
+        Ok(())
+    }
+
+    /// A row on top.
+    pub fn push_row(&mut self, numbers: &Numbers) -> Result<(), NoMemory>
+        ensures { OnOk result (self.new ≡ Row numbers.now ∷ self.old) }
+    {
+        self.operands.reserve(1)?;
+        self.large.push(Large::Row(numbers.copy()))?;
+        self.operands.push_reserved(Operand::Large);
+        Ok(())
+    }
+
+    /// Takes the number on top.
+    pub fn pop_int(&mut self) -> i64
+        requires { TopIsInt self.old }
+        ensures { self.old ≡ Int result ∷ self.new }
+    {
+        match self.operands.pop() {
+            Some(Operand::Int(number)) => number,
+            _ => unreachable!(),
+        }
+    }
+
+    /// Takes the truth on top.
+    pub fn pop_bool(&mut self) -> bool
+        requires { TopIsTruth self.old }
+        ensures { self.old ≡ Truth result ∷ self.new }
+    {
+        match self.operands.pop() {
+            Some(Operand::Bool(truth)) => truth,
+            _ => unreachable!(),
+        }
+    }
+
+    /// Takes the link on top.
+    pub fn pop_link(&mut self) -> LinkRef
+        requires { TopIsLink self.old }
+        ensures { self.old ≡ Link result.0 ∷ self.new }
+    {
+        match self.operands.pop() {
+            Some(Operand::Link(link)) => link,
+            _ => unreachable!(),
+        }
+    }
+
+    /// Takes the text on top.
+    pub fn pop_text(&mut self) -> ShortText
+        requires { TopIsText self.old }
+        ensures { self.old ≡ Text result ∷ self.new }
+    {
+        self.operands.pop();
+        match self.large.pop() {
+            Some(Large::Text(text)) => text,
+            _ => unreachable!(),
+        }
+    }
+
+    /// Takes the row on top.
+    pub fn pop_row(&mut self) -> Numbers
+        requires { TopIsRow self.old }
+        ensures { self.old ≡ Row result ∷ self.new }
+    {
+        self.operands.pop();
+        match self.large.pop() {
+            Some(Large::Row(numbers)) => numbers,
+            _ => unreachable!(),
+        }
+    }
+
+    /// Takes the value on top.
+    pub fn pop(&mut self) -> Option<Value>
+        ensures { IsTaken self.old self.new result }
+    {
+        match self.operands.pop()? {
+            Operand::Int(number) => Some(Value::Int(number)),
+            Operand::Bool(truth) => Some(Value::Bool(truth)),
+            Operand::Link(link) => Some(Value::Link(link)),
+            Operand::Large => match self.large.pop() {
+                Some(Large::Text(text)) => Some(Value::Text(text)),
+                Some(Large::Row(numbers)) => Some(Value::Row(numbers.row())),
+                None => unreachable!(),
+            },
+        }
+    }
+
+    /// A value on top.
+    pub fn push(&mut self, value: &Value) -> Result<(), NoMemory>
+        ensures { OnOk result (self.new ≡ value_of value.now ∷ self.old) }
+    {
+        match value {
+            Value::Int(number) => self.push_int(*number),
+            Value::Bool(truth) => self.push_bool(*truth),
+            Value::Link(link) => self.push_link(*link),
+            Value::Text(text) => self.push_text(text),
+            Value::Row(row) => self.push_row(&Numbers::of(row)),
+        }
+    }
+
+    /// Only the lowest operands stay, so many.
+    #[tactic(auto, using(crate::proofs::Stacked::cut_one, crate::proofs::Stacked::cut_shorter, crate::proofs::Stacked::cut_done))]
+    pub fn cut(&mut self, height: usize)
+        ensures { self.new ≡ drop (length self.old - height) self.old }
+    {
+        'above: while height < self.len() {
+            let _gone = self.pop();
+        }
+    }
+
+    /// How many operands there are.
+    #[tactic(auto, using(crate::proofs::Stacked::deep))]
+    pub fn len(&self) -> usize
+        ensures { result ≡ length self.now }
+    {
+        self.operands.len()
+    }
+}
