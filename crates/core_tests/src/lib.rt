@@ -1,4 +1,4 @@
-//! Tests of the ends' table and of both cores through their public calls.
+//! Tests of both cores through their public calls.
 #![tactic(auto)]
 
 #[cfg(test)]
@@ -9,5 +9,3 @@ mod messages;
 mod moves;
 #[cfg(test)]
 mod samples;
-#[cfg(test)]
-mod table;

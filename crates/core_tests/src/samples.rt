@@ -7,7 +7,7 @@ ghost use Rattle.end_table.specs.declared.entry.Entry.TheVariants.{Here};
 ghost use Rattle.kernel_step.specs.Progress.{HasRoom};
 
 use crate::holding::holds;
-use charlotte_calls::{Bytes, EndId, Ends, LinkId, Moving, NoMemory, PictureWhat, Pid, Side, Work};
+use charlotte_calls::{EndId, LinkId, Moving, NoMemory, PictureWhat, Pid, Side, Work};
 use end_table::{HereView, Holder, Inward, NotStored, Outward, Table};
 use std::alloc::Global;
 use std::fmt::Debug;
@@ -27,22 +27,6 @@ pub(crate) const TO: EndId = EndId {
 
 /// The process that owns it.
 pub(crate) const OWNER: Pid = Pid(1);
-
-/// An end of a link of kernel 1.
-pub(crate) fn end(count: u32, side: Side) -> EndId {
-    EndId {
-        link: LinkId { maker: 1, count },
-        side,
-    }
-}
-
-pub(crate) fn some_bytes() -> Result<Bytes, Fail> {
-    Ok(Bytes::from_slice(b"hi").ok_or("bytes")?)
-}
-
-pub(crate) fn two_ends() -> Result<Ends, Fail> {
-    Ok(Ends::from_slice(&[end(8, Side::B), end(7, Side::A)]).ok_or("ends")?)
-}
 
 /// Whether two values are printed alike for debugging, and so have the same fields.
 pub(crate) fn same_text<A: Debug, B: Debug>(alloc: Global, a: &A, b: &B) -> Result<bool, Fail> {

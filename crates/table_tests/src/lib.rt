@@ -1,0 +1,9 @@
+//! Tests of the ends' table through its public calls.
+#![tactic(auto)]
+
+#[cfg(test)]
+mod holding;
+#[cfg(test)]
+mod samples;
+#[cfg(test)]
+mod table;
