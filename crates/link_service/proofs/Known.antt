@@ -272,6 +272,9 @@ match-posted t e n may = last_of_four (is_some (waiting_message (t e).outward)) 
 pub owner-there : (v : ServiceView) (e : EndId) (p : Pid) → IsWellKept v → Some p ≡ owner (ends_of v.links e).place → p.0 < length v.processes
 owner-there v e p well is = there v.processes p.0 e (well.all e p (owned-owner p (ends_of v.links e).place (sym is))).0
 
+pub owned-there : (v : ServiceView) (e : EndId) (p : Pid) → IsWellKept v → is_owned_by p (ends_of v.links e).place ≡ true → p.0 < length v.processes
+owned-there v e p well own = there v.processes p.0 e (well.all e p own).0
+
 -- the first two of five tests that hold
 two_of_five : (a b c d e : Bool) → (a && b && c && d && e) ≡ true → (a ≡ true) × (b ≡ true)
 two_of_five true true c d e h = (refl, refl)

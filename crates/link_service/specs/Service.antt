@@ -26,7 +26,7 @@ pub record ServiceView : Type 0 where
   pub version : ℕ
   pub homes : List ℕ
   pub made : List ℕ
-  pub links : List (EndId × End)
+  pub links : List (List (End × End))
   pub processes : List ControlBlock
 
 -- the state of a service

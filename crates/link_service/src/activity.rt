@@ -32,6 +32,7 @@ impl Service {
     }
 
     /// Whether a report of a process stands, or an activity is started on an end that it owns.
+    #[inline(always)]
     #[tactic(auto, unfolding(crate::specs::Service::state_of))]
     pub(crate) fn has_activity(&mut self, p: Pid) -> bool
         ensures active { IsTrue result ↔ HasActivity (state_of self.old) p }

@@ -2,6 +2,7 @@
 ghost use Rattle.std.specs.Prelude.{◌≡◌, ◌+◌, ◌<◌, IsTrue, Some, OnOk, OnErr, length, slice_get, slice_set};
 ghost use Rattle.service_processes.specs.Known.{known_of};
 ghost use Rattle.service_processes.specs.Processes.{HasProcess};
+ghost use Rattle.charlotte_calls.specs.declared.names.Side.TheVariants.{A, B};
 ghost use Rattle.service_step.specs.Ends.{put, fresh};
 ghost use Rattle.service_step.specs.State.{link_limit};
 ghost use Rattle.service_step.specs.declared.state.Place.TheVariants.{Owned};
@@ -25,9 +26,8 @@ impl Service {
             link,
             side: Side::A,
         };
-        let ends = ((a, owners.0), (a.opposite(), owners.1));
-        self.hold_both(ends.0, ends.1)?;
-        self.add_ends(ends.0, ends.1)?;
+        self.hold_both((a, owners.0), (a.opposite(), owners.1))?;
+        self.add_ends(link, owners)?;
         self.count_link(link);
         Ok(())
     }
@@ -48,17 +48,17 @@ impl Service {
         Ok(())
     }
 
-    /// Two ends are the processes' that are known to have them.
+    /// The ends of a link are the processes' that are known to have them.
     #[tactic(auto, unfolding(crate::specs::Service::state_of))]
-    fn add_ends(&mut self, a: (EndId, Pid), b: (EndId, Pid)) -> Result<(), NoMemory>
-        requires first { IsTrue ((known_of self.old.processes).held a.1.0 a.0) }
-        requires second { IsTrue ((known_of self.old.processes).held b.1.0 b.0) }
-        ensures ok { OnOk result (state_of self.new ≡ record (state_of self.old) { ends = put (put (state_of self.old).ends a.0 (fresh (Owned a.1))) b.0 (fresh (Owned b.1)) }) }
+    fn add_ends(&mut self, link: LinkId, owners: (Pid, Pid)) -> Result<(), NoMemory>
+        requires first { IsTrue ((known_of self.old.processes).held owners.0.0 (record { link = link; side = A })) }
+        requires second { IsTrue ((known_of self.old.processes).held owners.1.0 (record { link = link; side = B })) }
+        ensures ok { OnOk result (state_of self.new ≡ record (state_of self.old) { ends = put (put (state_of self.old).ends (record { link = link; side = A }) (fresh (Owned owners.0))) (record { link = link; side = B }) (fresh (Owned owners.1)) }) }
         ensures err { OnErr result (state_of self.new ≡ state_of self.old) }
         ensures made { self.new.made ≡ self.old.made }
         ensures processes { self.new.processes ≡ self.old.processes }
     {
-        self.links.add(a, b)?;
+        self.links.add(link, owners)?;
         Ok(())
     }
 

@@ -50,8 +50,8 @@ impl Service {
     {
         let owner = self.links().look(e).owner();
         let letter = Letter::of(self.allocator(), bytes, carried)?;
-        self.learn_for_owner(e, &[e])?;
-        self.start_send(e, n, letter);
+        self.activate_for_owner(e)?;
+        self.start_send(e, n, letter, carried.as_slice());
         self.forget_lost(owner, carried.as_slice());
         Ok(())
     }
@@ -61,7 +61,7 @@ impl Service {
         ensures ok { OnOk result (state_of self.new ≡ record (state_of self.old) { ends = turns_inward inward.Posted e (state_of self.old).ends }) }
         ensures err { OnErr result (state_of self.new ≡ state_of self.old) }
     {
-        self.learn_for_owner(e, &[e])?;
+        self.activate_for_owner(e)?;
         self.start_receive(e);
         Ok(())
     }
@@ -109,12 +109,10 @@ impl Service {
         ensures err { OnErr result (state_of self.new ≡ state_of self.old) }
     {
         let to = e.opposite();
-        let end = self.links().look(e);
-        let carried = end.matched_ends();
-        let done = done_report(self.allocator(), to, end)?;
-        self.learn_for_owner(to, carried.as_slice())?;
-        self.tell_owner(to, done, None)?;
-        self.take_message(e, p);
+        self.learn_message(p, e)?;
+        self.reserve(p)?;
+        let letter = self.take_message(e, p);
+        self.tell_reserved(p, to, done_report(to, letter));
         Ok(())
     }
 
@@ -192,18 +190,17 @@ fn send_report(alloc: Global, on: EndId, outcome: Outcome, enclosed: Items<EndId
     KeptReport::of(on, Way::Outward, outcome, none, enclosed)
 }
 
-/// The report of a receive that takes the Matched message of a send.
+/// The report of a receive whose message was taken, where there is one.
 #[inline(always)]
-fn done_report(alloc: Global, on: EndId, end: &KeptEnd) -> Result<Option<KeptReport>, NoMemory>
-    ensures { IfOk result (λ r. option_to_list r ≡ steps.done_reports on (matched_message end.now.outward)) }
+fn done_report(on: EndId, letter: Option<Letter>) -> Option<KeptReport>
+    ensures { option_to_list result ≡ steps.done_reports on letter }
 {
-    match end.matched() {
+    match letter {
         Some(letter) => {
-            let bytes = letter.bytes(alloc)?;
-            let ends = letter.ends(alloc)?;
-            Ok(Some(KeptReport::of(on, Way::Inward, Outcome::Done, bytes, ends)))
+            let (bytes, ends) = letter.into_parts();
+            Some(KeptReport::of(on, Way::Inward, Outcome::Done, bytes, ends))
         }
-        None => Ok(None),
+        None => None,
     }
 }
 

@@ -1,8 +1,9 @@
 //! The parts of steps: each writer makes of the state what its word makes of it.
-ghost use Rattle.std.specs.Prelude.{◌≡◌, ◌++◌, ◌∷◌, [], ◌&&◌, ◌<◌, All, Contains, IfSome, IsNone, IsTrue, OnOk, OnErr, length, option_to_list};
+ghost use Rattle.std.specs.Prelude.{◌≡◌, ◌++◌, ◌∷◌, [], ◌&&◌, ◌<◌, All, Contains, IfSome, IsNone, IsTrue, Some, OnOk, OnErr, length, option_to_list};
+ghost use Rattle.charlotte_calls.specs.Names.{opposite};
 ghost use Rattle.charlotte_calls.specs.declared.names.EndId.{EndId};
 ghost use Rattle.service_processes.specs.Known.{known_of, held_by, active_of, IsKnown};
-ghost use Rattle.service_processes.specs.Processes.{HasProcess};
+ghost use Rattle.service_processes.specs.Processes.{HasProcess, HasRoomFor};
 ghost use Rattle.service_step.specs.Ends.{owner, is_owned_by, is_posted, is_started_outward, waiting_message, matched_message, carried_by, destroys, destroys_each, starts_send, turns_inward, turns_outward, idles, withdraws_send, matches, takes, notices, returns};
 ghost use Rattle.service_step.specs.Causes.{HasStarted};
 ghost use Rattle.service_step.specs.State.{turns, given, ends_process, tells};
@@ -20,6 +21,7 @@ use service_step::{Inward, Phase};
 
 impl Service {
     /// These ends are noted to be the process's that owns an end, where there is one.
+    #[inline(always)]
     #[tactic(auto, unfolding(crate::specs::Service::state_of))]
     pub(crate) fn learn_for_owner(&mut self, e: EndId, ends: &[EndId]) -> Result<(), NoMemory>
         ensures same { state_of self.new ≡ state_of self.old }
@@ -30,6 +32,47 @@ impl Service {
             Some(p) => self.processes.learn_each(p, ends),
             None => Ok(()),
         }
+    }
+
+    /// The ends that a Matched message carries are noted to be the process's that owns the opposite end.
+    #[inline(always)]
+    #[tactic(auto, unfolding(crate::specs::Service::state_of))]
+    pub(crate) fn learn_message(&mut self, p: Pid, e: EndId) -> Result<(), NoMemory>
+        requires { IsTrue (is_owned_by p ((state_of self.old).ends (opposite e)).place) }
+        ensures same { state_of self.new ≡ state_of self.old }
+        ensures there { HasProcess self.new.processes p }
+        ensures known { OnOk result (All (IsKnown (known_of self.new.processes) p) (carried_by (matched_message ((state_of self.old).ends e).outward))) }
+    {
+        match self.links.look(e).matched() {
+            Some(letter) => self.processes.learn_each(p, letter.enclosed()),
+            None => Ok(()),
+        }
+    }
+
+    /// An end is noted to be one with an activity of the process that owns it, where there is one.
+    #[inline(always)]
+    #[tactic(auto, unfolding(crate::specs::Service::state_of))]
+    pub(crate) fn activate_for_owner(&mut self, e: EndId) -> Result<(), NoMemory>
+        ensures same { state_of self.new ≡ state_of self.old }
+        ensures known { OnOk result (OwnerKnows self.new e (e ∷ [])) }
+    {
+        match self.links.look(e).owner() {
+            Some(p) => self.processes.activate(p, e),
+            None => Ok(()),
+        }
+    }
+
+    /// Room is made for one report more of a process.
+    #[inline(always)]
+    #[tactic(auto, unfolding(crate::specs::Service::state_of))]
+    pub(crate) fn reserve(&mut self, p: Pid) -> Result<(), NoMemory>
+        requires { HasProcess self.old.processes p }
+        ensures same { state_of self.new ≡ state_of self.old }
+        ensures known { known_of self.new.processes ≡ known_of self.old.processes }
+        ensures count { length self.new.processes ≡ length self.old.processes }
+        ensures room { OnOk result (HasRoomFor self.new.processes p) }
+    {
+        self.processes.reserve(p)
     }
 
     /// Those of these ends that a process, where it runs, does not own are forgotten among its ends.
@@ -74,7 +117,20 @@ impl Service {
         }
     }
 
+    /// A process gains a report, where there is one, for which room was made, and runs again where it is in a Cancel of the receive
+    /// on an end.
+    #[inline(always)]
+    #[tactic(auto, unfolding(crate::specs::Service::state_of))]
+    pub(crate) fn tell_reserved(&mut self, p: Pid, e: EndId, report: Option<KeptReport>)
+        requires there { HasProcess self.old.processes p }
+        requires room { HasRoomFor self.old.processes p }
+        ensures { state_of self.new ≡ record (state_of self.old) { process = tells (Some p) e (option_to_list report) (state_of self.old).process } }
+    {
+        self.processes.tell_reserved(p, e, report);
+    }
+
     /// The owner of an end, where there is one, gains a report.
+    #[inline(always)]
     #[tactic(auto, unfolding(crate::specs::Service::state_of))]
     pub(crate) fn gain_owner(
         &mut self,
@@ -115,6 +171,7 @@ impl Service {
     }
 
     /// A process goes on to a phase.
+    #[inline(always)]
     #[tactic(auto, unfolding(crate::specs::Service::state_of))]
     pub(crate) fn turn(&mut self, p: Pid, phase: Phase)
         requires { HasProcess self.old.processes p }
@@ -124,6 +181,7 @@ impl Service {
     }
 
     /// A process is given its oldest report, and runs.
+    #[inline(always)]
     #[tactic(auto, unfolding(crate::specs::Service::state_of))]
     pub(crate) fn give(&mut self, p: Pid)
         requires { HasProcess self.old.processes p }
@@ -178,16 +236,19 @@ impl Service {
         self.links.destroy_each(p, self.processes.held(p));
     }
 
-    /// A send is started.
+    /// A send is started, whose message carries these ends.
+    #[inline(always)]
     #[tactic(auto, unfolding(crate::specs::Service::state_of))]
-    pub(crate) fn start_send(&mut self, e: EndId, n: u32, letter: Letter)
-        requires { OwnerKnows self.old e (e ∷ []) }
+    pub(crate) fn start_send(&mut self, e: EndId, n: u32, letter: Letter, carried: &[EndId])
+        requires known { OwnerKnows self.old e (e ∷ []) }
+        requires carried { letter.carried ≡ carried.now }
         ensures { state_of self.new ≡ record (state_of self.old) { ends = starts_send e n letter (state_of self.old).ends } }
     {
-        self.links.start_send(e, n, letter);
+        self.links.start_send(e, n, letter, carried);
     }
 
     /// A receive is started.
+    #[inline(always)]
     #[tactic(auto, unfolding(crate::specs::Service::state_of))]
     pub(crate) fn start_receive(&mut self, e: EndId)
         requires { OwnerKnows self.old e (e ∷ []) }
@@ -214,6 +275,7 @@ impl Service {
     }
 
     /// A send is over.
+    #[inline(always)]
     #[tactic(auto, unfolding(crate::specs::Service::state_of))]
     pub(crate) fn finish_send(&mut self, e: EndId)
         ensures { state_of self.new ≡ record (state_of self.old) { ends = turns_outward outward.Reported e (state_of self.old).ends } }
@@ -222,6 +284,7 @@ impl Service {
     }
 
     /// The activity of a way is idle again.
+    #[inline(always)]
     #[tactic(auto, unfolding(crate::specs::Service::state_of))]
     pub(crate) fn idle(&mut self, way: Way, e: EndId)
         ensures ends { state_of self.new ≡ record (state_of self.old) { ends = idles way e (state_of self.old).ends } }
@@ -240,6 +303,7 @@ impl Service {
     }
 
     /// A started send and a receive come together.
+    #[inline(always)]
     #[tactic(auto, unfolding(crate::specs::Service::state_of))]
     pub(crate) fn match_ends(&mut self, e: EndId, n: u32)
         requires { IsTrue (may_match (state_of self.old).ends e n) }
@@ -248,14 +312,17 @@ impl Service {
         self.links.match_send(e, n);
     }
 
-    /// A Matched message is taken by a process.
+    /// A Matched message is taken by a process, and given.
+    #[inline(always)]
     #[tactic(auto, unfolding(crate::specs::Service::state_of))]
-    pub(crate) fn take_message(&mut self, e: EndId, p: Pid)
+    pub(crate) fn take_message(&mut self, e: EndId, p: Pid) -> Option<Letter>
         requires started { IsTrue (is_started_outward ((state_of self.old).ends e).outward) }
         requires known { All (IsKnown (known_of self.old.processes) p) (carried_by (matched_message ((state_of self.old).ends e).outward)) }
-        ensures { state_of self.new ≡ record (state_of self.old) { ends = takes e p (state_of self.old).ends } }
+        ensures ends { state_of self.new ≡ record (state_of self.old) { ends = takes e p (state_of self.old).ends } }
+        ensures processes { self.new.processes ≡ self.old.processes }
+        ensures message { result ≡ matched_message ((state_of self.old).ends e).outward }
     {
-        self.links.take_message(e, p);
+        self.links.take_message(e, p)
     }
 
     /// The death of its link is noticed at an end.

@@ -1,5 +1,6 @@
 -- How the send of an end is kept, and what a change makes of an end.
-use Rattle.service_step.specs.Ends.{dropped, matched_outward, noticed_end, returned_end}
+use Rattle.std.specs.Prelude.{IsTrue, if◌then◌else◌}
+use Rattle.service_step.specs.Ends.{dropped, is_made, matched_outward, noticed_end, returned_end}
 use Rattle.service_step.specs.declared.state.End.{End}
 use Rattle.service_step.specs.declared.state.Outward.{Outward}
 use Rattle.service_step.specs.declared.state.Outward.TheVariants as outward
@@ -16,6 +17,15 @@ outward_of (stage.Waiting m) = outward.Waiting m
 outward_of (stage.Matched m) = outward.Matched m
 outward_of stage.Taken = outward.Taken
 outward_of stage.Reported = outward.Reported
+
+-- a change after which an end of a made link is one still
+abbrev pub KeepsMade : Change → Type 0
+KeepsMade (change.Comes at) = IsTrue (is_made at)
+KeepsMade c = Unit {0}
+
+-- what f makes of an end of a made link; any other end stays
+abbrev pub where_made : (End → End) → End → End
+where_made f x = if is_made x.place then f x else x
 
 -- an end after a change
 abbrev pub after : Change → End → End

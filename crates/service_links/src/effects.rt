@@ -1,7 +1,8 @@
 //! What the steps do with the ends: each writer makes of them what its word makes of them.
-ghost use Rattle.std.specs.Prelude.{◌≡◌};
-ghost use Rattle.service_step.specs.Ends.{puts, places, destroys, destroys_owned, destroys_each, starts_send, turns_inward, turns_outward, idles, withdraws_send, matches, matched_outward, takes, notices, returns, to_owner};
+ghost use Rattle.std.specs.Prelude.{◌≡◌, IsTrue};
+ghost use Rattle.service_step.specs.Ends.{carried_by, is_made, matched_message, puts, places, destroys, destroys_owned, destroys_each, starts_send, turns_inward, turns_outward, idles, withdraws_send, matches, matched_outward, takes, notices, returns, to_owner};
 ghost use Rattle.service_step.specs.declared.state.Outward.TheVariants.{Reported};
+ghost use Rattle.service_step.specs.declared.state.Place.TheVariants.{Owned};
 ghost use Rattle.service_links.specs.Kept.{outward_of};
 ghost use Rattle.service_links.specs.Links.{ends_of};
 
@@ -12,7 +13,9 @@ use service_step::{Inward, Place};
 
 impl Links {
     /// An end comes to a place.
+    #[inline(always)]
     fn place(&mut self, at: Place, e: EndId)
+        requires { IsTrue (is_made at) }
         ensures { ends_of self.new ≡ puts e (record (ends_of self.old e) { place = at }) (ends_of self.old) }
     {
         self.change(e, Change::Comes(at));
@@ -21,6 +24,7 @@ impl Links {
     /// These ends come to a place, in their order.
     #[tactic(auto, unfolding(service_step::specs::Ends::places))]
     fn place_each(&mut self, at: Place, ends: &[EndId])
+        requires { IsTrue (is_made at) }
         ensures { ends_of self.new ≡ places at ends.now (ends_of self.old) }
     {
         if let [first, others @ ..] = ends {
@@ -59,17 +63,19 @@ impl Links {
         }
     }
 
-    /// A send is started: its message waits, and the ends that it carries are in it.
+    /// A send is started: its message waits, and the ends that it carries, which are given besides, are in it.
     #[tactic(auto, unfolding(service_step::specs::Ends::starts_send))]
-    pub fn start_send(&mut self, e: EndId, n: u32, letter: Letter)
+    #[inline(always)]
+    pub fn start_send(&mut self, e: EndId, n: u32, letter: Letter, carried: &[EndId])
+        requires { letter.carried ≡ carried.now }
         ensures { ends_of self.new ≡ starts_send e n letter (ends_of self.old) }
     {
-        let carried = letter.carried();
         self.change(e, Change::Starts(n, letter));
-        self.place_each(Place::InMessage(e, n), carried.as_slice());
+        self.place_each(Place::InMessage(e, n), carried);
     }
 
     /// The receive of an end comes so far.
+    #[inline(always)]
     #[tactic(auto, unfolding(service_step::specs::Ends::turns_inward))]
     pub fn turn_inward(&mut self, to: Inward, e: EndId)
         ensures { ends_of self.new ≡ turns_inward to e (ends_of self.old) }
@@ -78,6 +84,7 @@ impl Links {
     }
 
     /// The send of an end comes so far.
+    #[inline(always)]
     #[tactic(auto, unfolding(service_step::specs::Ends::turns_outward))]
     fn turn_outward(&mut self, to: Stage, e: EndId)
         ensures { ends_of self.new ≡ turns_outward (outward_of to) e (ends_of self.old) }
@@ -86,6 +93,7 @@ impl Links {
     }
 
     /// The send of an end is over.
+    #[inline(always)]
     pub fn finish_send(&mut self, e: EndId)
         ensures { ends_of self.new ≡ turns_outward Reported e (ends_of self.old) }
     {
@@ -93,6 +101,7 @@ impl Links {
     }
 
     /// The send of an end is matched.
+    #[inline(always)]
     #[tactic(auto, unfolding(service_step::specs::Ends::turns_outward))]
     fn match_outward(&mut self, e: EndId)
         ensures { ends_of self.new ≡ turns_outward (matched_outward (ends_of self.old e).outward) e (ends_of self.old) }
@@ -101,6 +110,7 @@ impl Links {
     }
 
     /// The activity of a way is idle again.
+    #[inline(always)]
     #[tactic(auto, unfolding(service_step::specs::Ends::idles))]
     pub fn idle(&mut self, way: Way, e: EndId)
         ensures { ends_of self.new ≡ idles way e (ends_of self.old) }
@@ -122,6 +132,7 @@ impl Links {
     }
 
     /// The send of an end and the receive of its opposite come together.
+    #[inline(always)]
     #[tactic(auto, unfolding(service_step::specs::Ends::matches))]
     pub fn match_send(&mut self, e: EndId, n: u32)
         ensures { ends_of self.new ≡ matches e n (ends_of self.old) }
@@ -130,15 +141,28 @@ impl Links {
         self.turn_inward(Inward::Matched(n), e.opposite());
     }
 
-    /// A Matched message is taken at the opposite end: each end that it carries is the process's.
+    /// A Matched message is taken at the opposite end, and given: each end that it carries is the process's.
+    #[inline(always)]
     #[tactic(auto, unfolding(service_step::specs::Ends::takes))]
-    pub fn take_message(&mut self, e: EndId, p: Pid)
-        ensures { ends_of self.new ≡ takes e p (ends_of self.old) }
+    pub fn take_message(&mut self, e: EndId, p: Pid) -> Option<Letter>
+        ensures ends { ends_of self.new ≡ takes e p (ends_of self.old) }
+        ensures message { result ≡ matched_message (ends_of self.old e).outward }
     {
-        let carried = self.look(e).matched_ends();
-        self.turn_outward(Stage::Taken, e);
+        let letter = self.take_letter(e);
         self.turn_inward(Inward::Reported, e.opposite());
-        self.place_each(Place::Owned(p), carried.as_slice());
+        self.place_carried(p, &letter);
+        letter
+    }
+
+    /// Each end that a message carries, where there is one, is the process's.
+    #[inline(always)]
+    fn place_carried(&mut self, p: Pid, letter: &Option<Letter>)
+        ensures { ends_of self.new ≡ places (Owned p) (carried_by letter.now) (ends_of self.old) }
+    {
+        match letter {
+            Some(letter) => self.place_each(Place::Owned(p), letter.enclosed()),
+            None => self.place_each(Place::Owned(p), &[]),
+        }
     }
 
     /// These ends go to an owner, where there is one.

@@ -1,8 +1,9 @@
-ghost use Rattle.std.specs.Prelude.{◌≡◌, ◌||◌, [], is_some, option_copied};
-ghost use Rattle.service_step.specs.Ends.{carried_by, fresh, is_active, is_idle, is_idle_outward, is_owned_by, is_reported_outward, is_started_outward, is_taken, matched_message, owner, waiting_message};
+ghost use Rattle.std.specs.Prelude.{◌≡◌, ◌||◌, [], IsTrue, is_some, option_copied};
+ghost use Rattle.service_step.specs.Ends.{carried_by, fresh, is_active, is_idle, is_made, is_idle_outward, is_owned_by, is_reported_outward, is_started_outward, is_taken, matched_message, owner, waiting_message};
 ghost use Rattle.service_step.specs.Causes.{is_matched_outward};
-ghost use Rattle.service_links.specs.Kept.{after};
-ghost use Rattle.service_links.specs.declared.kept.Change.TheVariants.{Starts, Matches, Dies, Notices, Returns};
+ghost use Rattle.service_links.specs.Kept.{KeepsMade, after, where_made};
+ghost use Rattle.service_links.specs.declared.kept.Change.TheVariants.{Sends, Starts, Matches, Dies, Notices, Returns};
+ghost use Rattle.service_links.specs.declared.kept.Stage.TheVariants.{Taken};
 
 use crate::letter::Letter;
 use charlotte_calls::{Ends, Pid};
@@ -53,11 +54,16 @@ pub struct KeptEnd {
 
 impl Model for KeptEnd {
     ghost use Rattle.service_step.specs.declared.state.End.{End};
+    ghost use Rattle.service_step.specs.declared.state.Outward.TheVariants.{Idle};
+    ghost use Rattle.service_step.specs.Ends.{is_made};
+    ghost use Rattle.std.specs.Prelude.{◌≡◌, ◌⊎◌, IsTrue};
     ghost use Rattle.service_links.specs.Kept.{outward_of};
 
     ghost Value = { End };
 
     ghost view = { λ k. record { place = k.place; outward = outward_of k.stage; inward = k.inward; sent = k.sent; noticed = k.noticed } };
+
+    ghost invariant = { λ k. IsTrue (is_made k.place) ⊎ (outward_of k.stage ≡ Idle) };
 }
 
 impl KeptEnd {
@@ -234,9 +240,22 @@ impl KeptEnd {
         }
     }
 
-    /// A change happens to the end.
+    /// A change happens to the end, where its link was made.
     #[inline(always)]
     pub(crate) fn change(&mut self, change: Change)
+        requires { KeepsMade change }
+        ensures { self.new ≡ where_made (after change) self.old }
+    {
+        if self.place.is_made() {
+            self.undergo(change);
+        }
+    }
+
+    /// A change happens to the end of a made link.
+    #[inline(always)]
+    fn undergo(&mut self, change: Change)
+        requires made { IsTrue (is_made self.old.place) }
+        requires keeps { KeepsMade change }
         ensures { self.new ≡ after change self.old }
     {
         match change {
@@ -251,8 +270,24 @@ impl KeptEnd {
         }
     }
 
+    /// The Matched message, which is taken from the end; nothing, where there is none.
+    #[inline(always)]
+    pub(crate) fn take_letter(&mut self) -> Option<Letter>
+        ensures end { self.new ≡ where_made (after (Sends Taken)) self.old }
+        ensures letter { result ≡ matched_message self.old.outward }
+    {
+        if !self.place.is_made() {
+            return None;
+        }
+        match mem::replace(&mut self.stage, Stage::Taken) {
+            Stage::Matched(letter) => Some(letter),
+            Stage::Idle | Stage::Waiting(_) | Stage::Taken | Stage::Reported => None,
+        }
+    }
+
     #[inline(always)]
     fn start(&mut self, n: u32, letter: Letter)
+        requires { IsTrue (is_made self.old.place) }
         ensures { self.new ≡ after (Starts n letter) self.old }
     {
         self.stage = Stage::Waiting(letter);
@@ -261,6 +296,7 @@ impl KeptEnd {
 
     #[inline(always)]
     fn match_send(&mut self)
+        requires { IsTrue (is_made self.old.place) }
         ensures { self.new ≡ after Matches self.old }
     {
         self.stage = match mem::replace(&mut self.stage, Stage::Idle) {
@@ -270,6 +306,7 @@ impl KeptEnd {
     }
 
     fn die(&mut self)
+        requires { IsTrue (is_made self.old.place) }
         ensures { self.new ≡ after Dies self.old }
     {
         self.place = Place::Destroyed;
@@ -279,6 +316,7 @@ impl KeptEnd {
     }
 
     fn notice(&mut self)
+        requires { IsTrue (is_made self.old.place) }
         ensures { self.new ≡ after Notices self.old }
     {
         if self.is_waiting() {
@@ -291,6 +329,7 @@ impl KeptEnd {
     }
 
     fn take_back(&mut self)
+        requires { IsTrue (is_made self.old.place) }
         ensures { self.new ≡ after Returns self.old }
     {
         self.stage = Stage::Reported;

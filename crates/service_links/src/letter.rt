@@ -32,11 +32,22 @@ impl Letter {
         Ok(Letter { bytes, carried })
     }
 
-    /// The bytes, copied to memory of their own.
-    pub fn bytes(&self, alloc: Global) -> Result<Items<u8>, NoMemory>
-        ensures { IfOk result (λ xs. xs ≡ self.now.bytes) }
+    /// The bytes and the ends that it carries.
+    #[inline(always)]
+    pub fn into_parts(self) -> (Items<u8>, Items<EndId>)
+        ensures bytes { result.0 ≡ self.bytes }
+        ensures ends { result.1 ≡ self.carried }
     {
-        copied(alloc, self.bytes.as_slice())
+        let Letter { bytes, carried } = self;
+        (bytes, carried)
+    }
+
+    /// The ends that it carries, in their order, lent.
+    #[inline(always)]
+    pub fn enclosed(&self) -> &[EndId]
+        ensures { result.now ≡ self.now.carried }
+    {
+        self.carried.as_slice()
     }
 
     /// The ends that it carries, copied to memory of their own.

@@ -8,6 +8,7 @@ mod effects;
 mod kept;
 mod letter;
 mod links;
+mod row;
 
 pub use causes::{
     cancel_cause, destroy_cause, receive_cause, receive_cause_at, send_cause, send_cause_at,

@@ -12,7 +12,7 @@ use Rattle.service_step.specs.Ends.{end_eq}
 use Rattle.service_step.specs.Run.{new_process, new_processes}
 use Rattle.service_step.specs.State.{Process, put_process, no_process}
 use Rattle.service_processes.specs.Known.{Known, known_of, held_by, active_of, held_ends, active_ends, without, IsKnown, Grows, Forgets, LosesLast}
-use Rattle.service_processes.specs.Processes.{process_of, process_state}
+use Rattle.service_processes.specs.Processes.{process_of, process_state, HasRoom, HasRoomFor}
 use Rattle.service_processes.specs.declared.processes.ControlBlock.{ControlBlock}
 
 -- what f sees of each process stays, where it sees the same of the one that is set
@@ -57,6 +57,10 @@ module _ (xs : List ControlBlock) (i : ℕ) (d y : ControlBlock) (p : Pid)
   pub state-same : process_state y ≡ process_state d → process_of (slice_set xs i y) ≡ process_of xs
   unfolding process_of
   state-same is = λ j q. get_or ((same_map process_state xs i d y (is ∙ ap process_state lent)) j) q no_process
+
+  -- room of the one that is set is room of the process
+  pub room-set : HasRoom y → HasRoomFor (slice_set xs i y) p
+  room-set room other = subst HasRoom (sym (get_or-set_at xs i p.0 y other (sym at) within)) room
 
   -- nothing of what is known changes
   pub known-same : held_ends y ≡ held_ends d → active_ends y ≡ active_ends d → known_of (slice_set xs i y) ≡ known_of xs
@@ -167,6 +171,10 @@ module _ (xs : List ControlBlock) (i : ℕ) (d y : ControlBlock) (p : Pid)
         active = here active_ends [] ∙ active ∙ ap (λ l. l ++ option_to_list gone) (sym (set_at active_ends [] p.0 ∙ ap (λ b. cond b (active_ends y) (get_or (map active_ends xs) p.0 [])) number));
         some = λ any. some (subst (λ (l : List EndId). 0 < length l) (here active_ends []) any);
       }
+
+-- room of the process is room of the one that is lent
+pub room-lent : (xs : List ControlBlock) (i : ℕ) (d : ControlBlock) (p : Pid) → d ≡ get_or xs i d → i ≡ p.0 → HasRoomFor xs p → HasRoom d
+room-lent xs i d p lent at room = subst HasRoom (ap (λ n. get_or xs n d) (sym at) ∙ sym lent) (room d)
 
 -- Reading a process by its number.
 

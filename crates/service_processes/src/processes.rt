@@ -57,6 +57,7 @@ impl Processes {
     }
 
     /// What is kept of a process, where there is one.
+    #[inline(always)]
     fn at(&self, p: Pid) -> Option<&ControlBlock>
         ensures { option_copied result ≡ slice_get self.now p.0 }
     {
@@ -64,6 +65,7 @@ impl Processes {
     }
 
     /// What is kept of a process, to be changed.
+    #[inline(always)]
     pub(crate) fn at_mut(&mut self, number: usize) -> &mut ControlBlock
         requires { number < length self.old }
         ensures* lends { sem 𝓛 (LendsBlock self.entry number result) }
@@ -73,6 +75,7 @@ impl Processes {
     }
 
     /// What a process is doing; one that is not there is Ended.
+    #[inline(always)]
     pub fn phase(&self, p: Pid) -> Phase
         ensures phase { result ≡ (process_of self.now p.0).phase }
         ensures running { IsTrue (is_running result) → HasProcess self.now p }
@@ -84,6 +87,7 @@ impl Processes {
     }
 
     /// Whether a report of a process stands.
+    #[inline(always)]
     pub fn has_report(&self, p: Pid) -> bool
         ensures { IsTrue result ↔ ((process_of self.now p.0).reports ≡ [] → ⊥) }
     {
@@ -91,6 +95,7 @@ impl Processes {
     }
 
     /// The oldest report of a process, lent.
+    #[inline(always)]
     pub fn oldest(&self, p: Pid) -> Option<&KeptReport>
         ensures { option_copied result ≡ slice_get (process_of self.now p.0).reports 0 }
     {
@@ -101,6 +106,7 @@ impl Processes {
     }
 
     /// The ends that a process owns, and perhaps others, lent.
+    #[inline(always)]
     pub fn held(&self, p: Pid) -> &[EndId]
         ensures { result.now ≡ held_by self.now p.0 }
     {
@@ -111,6 +117,7 @@ impl Processes {
     }
 
     /// The last end on which a process is known to have an activity.
+    #[inline(always)]
     pub fn last_active(&self, p: Pid) -> Option<EndId>
         ensures { result ≡ slice_get (active_of self.now p.0) (length (active_of self.now p.0) - 1) }
     {

@@ -2,7 +2,7 @@
 //! stays.
 ghost use Rattle.std.specs.Prelude.{◌≡◌, ◌++◌, OnOk, OnErr, length, option_to_list};
 ghost use Rattle.service_step.specs.State.{turns, gains, given, later, ends_process, wakes};
-ghost use Rattle.service_processes.specs.Processes.{process_of, HasProcess};
+ghost use Rattle.service_processes.specs.Processes.{process_of, process_state, HasProcess, HasRoom, HasRoomFor};
 ghost use Rattle.service_processes.specs.Known.{known_of};
 ghost use Rattle.service_step.specs.declared.state.Phase.TheVariants.{Running};
 
@@ -12,6 +12,7 @@ use service_step::Phase;
 
 impl Processes {
     /// A process goes on to a phase.
+    #[inline(always)]
     #[tactic(auto, unfolding(service_step::specs::State::turns))]
     pub fn turn(&mut self, p: Pid, phase: Phase)
         requires { HasProcess self.old p }
@@ -24,6 +25,7 @@ impl Processes {
     }
 
     /// A process gains reports, at most two, behind those that it has. After want of memory it has gained none.
+    #[inline(always)]
     #[tactic(auto, unfolding(service_step::specs::State::gains))]
     pub fn gain(
         &mut self,
@@ -42,7 +44,36 @@ impl Processes {
         Ok(())
     }
 
+    /// Room is made for one report more of a process. After want of memory nothing has changed.
+    #[inline(always)]
+    pub fn reserve(&mut self, p: Pid) -> Result<(), NoMemory>
+        requires { HasProcess self.old p }
+        ensures process { process_of self.new ≡ process_of self.old }
+        ensures known { known_of self.new ≡ known_of self.old }
+        ensures count { length self.new ≡ length self.old }
+        ensures room { OnOk result (HasRoomFor self.new p) }
+    {
+        let block = self.at_mut(usize::from(p.0));
+        reserve_report(block)?;
+        Ok(())
+    }
+
+    /// A process gains a report, where there is one, for which room was made, behind those that it has.
+    #[inline(always)]
+    #[tactic(auto, unfolding(service_step::specs::State::gains))]
+    fn gain_reserved(&mut self, p: Pid, report: Option<KeptReport>)
+        requires there { HasProcess self.old p }
+        requires room { HasRoomFor self.old p }
+        ensures process { process_of self.new ≡ gains p (option_to_list report) (process_of self.old) }
+        ensures known { known_of self.new ≡ known_of self.old }
+        ensures count { length self.new ≡ length self.old }
+    {
+        let block = self.at_mut(usize::from(p.0));
+        keep_report(block, report);
+    }
+
     /// A process is given its oldest report, and runs.
+    #[inline(always)]
     #[tactic(auto, unfolding(service_step::specs::State::given))]
     pub fn give(&mut self, p: Pid)
         requires { HasProcess self.old p }
@@ -68,6 +99,7 @@ impl Processes {
     }
 
     /// A process runs again where it is in a Cancel of the receive on this end.
+    #[inline(always)]
     #[tactic(auto, unfolding(service_step::specs::State::wakes))]
     pub fn wake(&mut self, p: Pid, e: EndId)
         requires { HasProcess self.old p }
@@ -82,6 +114,7 @@ impl Processes {
 
     /// A process gains reports, at most two, and runs again where it is in a Cancel of the receive on this end. After want of
     /// memory nothing has changed for it.
+    #[inline(always)]
     pub fn tell(
         &mut self,
         p: Pid,
@@ -99,8 +132,46 @@ impl Processes {
         self.wake(p, e);
         Ok(())
     }
+
+    /// A process gains a report, where there is one, for which room was made, and runs again where it is in a Cancel of the receive
+    /// on this end.
+    #[inline(always)]
+    pub fn tell_reserved(&mut self, p: Pid, e: EndId, report: Option<KeptReport>)
+        requires there { HasProcess self.old p }
+        requires room { HasRoomFor self.old p }
+        ensures process { process_of self.new ≡ wakes p e (gains p (option_to_list report) (process_of self.old)) }
+        ensures known { known_of self.new ≡ known_of self.old }
+        ensures count { length self.new ≡ length self.old }
+    {
+        self.gain_reserved(p, report);
+        self.wake(p, e);
+    }
 }
 
+fn reserve_report(block: &mut ControlBlock) -> Result<(), NoMemory>
+    ensures process { process_state block.new ≡ process_state block.old }
+    ensures held { block.new.held ≡ block.old.held }
+    ensures active { block.new.active ≡ block.old.active }
+    ensures room { OnOk result (HasRoom block.new) }
+{
+    block.reports.reserve(1)?;
+    Ok(())
+}
+
+#[inline(always)]
+fn keep_report(block: &mut ControlBlock, report: Option<KeptReport>)
+    requires { HasRoom block.old }
+    ensures reports { block.new.reports.items ≡ block.old.reports.items ++ option_to_list report }
+    ensures phase { block.new.phase ≡ block.old.phase }
+    ensures held { block.new.held ≡ block.old.held }
+    ensures active { block.new.active ≡ block.old.active }
+{
+    if let Some(report) = report {
+        block.reports.push_back_reserved(report);
+    }
+}
+
+#[inline(always)]
 fn gain_reports(
     block: &mut ControlBlock,
     first: Option<KeptReport>,
@@ -122,6 +193,7 @@ fn gain_reports(
     Ok(())
 }
 
+#[inline(always)]
 fn give_report(block: &mut ControlBlock)
     ensures phase { block.new.phase ≡ Running }
     ensures reports { block.new.reports.items ≡ later block.old.reports.items }

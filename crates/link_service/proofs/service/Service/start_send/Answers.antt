@@ -8,4 +8,4 @@ pub invariant_of-self : goal.invariant_of-self
 unfolding state_of
 invariant_of-self c =
     subst (AreKnown (known_of c.self.inside.processes)) (sym c.start_send.ensures)
-    (AreKnown-starts_send _ _ _ _ _ c.self.invariant (owner-first _ _ (subst (λ (v : ServiceView). OwnerKnows v c.args.e (c.args.e ∷ [])) (sym c.self.view_is) c.requires)))
+    (AreKnown-starts_send _ _ _ _ _ c.self.invariant (owner-first _ _ (subst (λ (v : ServiceView). OwnerKnows v c.args.e (c.args.e ∷ [])) (sym c.self.view_is) c.requires.known)))
