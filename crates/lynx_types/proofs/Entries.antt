@@ -10,13 +10,14 @@ use Rattle.std.specs.Str.{bytes_eq}
 use Rattle.lynx_tree.specs.declared.declaration.EntryDecl.{EntryDecl}
 use Rattle.lynx_typing.specs.Modules.{names_are_new, var_faults, entry_faults}
 use Rattle.lynx_typing.specs.Names.{Variable, Entry, Declared, Scope, or_outside, meaning_in, inside, known, arguments_of, results_of, each_at, var_size, var_named, entry_size, entry_named, entry_body_at, locals_at, local_names, parameters_named}
-use Rattle.lynx_typing.specs.Rules.{Fault, Asks, demand, local_name_is_new, entry_has_parameters, entry_is_of_op}
+use Rattle.lynx_typing.specs.Rules.{Fault, Asks, demand, is_number_of, local_name_is_new, entry_has_parameters, entry_is_of_op}
 use Rattle.lynx_typing.specs.Statements.{stmts_faults, stmts_size}
 use Rattle.lynx_typing.specs.Progress.{first_with}
 use Rattle.lynx_typing.proofs.Members.{at_place}
 use Rattle.lynx_typing.proofs.Progress.{first_with-append, joined}
 use Rattle.lynx_types.specs.News.{nowhere, then_declared, news_faults, are_new, told_faults, first_or_int, locals_named}
 use Rattle.lynx_types.specs.Parts.{heading_faults}
+use Rattle.lynx_types.proofs.Actions.{found_then}
 use Rattle.lynx_types.proofs.Declarations.{next_names}
 use Rattle.lynx_types.proofs.News.{or_none, news-append, declared-append, meaning-append, same_scope, news_are_new, in_order}
 
@@ -67,6 +68,18 @@ pub locals_names : (s t u : Scope) (ps vs : List Declared) → ((q : List ℕ) �
 locals_names s t u ps vs none means more q =
     more q ∙ ap (λ w. then_declared w vs q) (same_scope t (then_declared s ps) means)
     ∙ ap (λ w. w q) (sym (declared-append s ps vs)) ∙ ap (λ w. then_declared w (ps ++ vs) q) (same_scope s nowhere none)
+
+-- ---- the heading of an entry
+
+pub heading_first : (a b c d : ℕ) (new many op : Bool) (parameters : ℕ) (arguments : Option (List TypeName)) (o o1 o2 o3 : Option Fault) → b ≡ a + 1 → c ≡ a + 1 → d ≡ a + 3
+    → many ≡ is_number_of parameters arguments → op ≡ is_some arguments
+    → o1 ≡ first_with o (demand 1 b new) → o2 ≡ first_with o1 (demand 7 c many) → o3 ≡ first_with o2 (demand 6 d op)
+    → o3 ≡ first_with o (heading_faults a new parameters arguments)
+heading_first a b c d new many op parameters arguments o o1 o2 o3 at_b at_c at_d number known e1 e2 e3 =
+    found_then o o2 o3 (demand 1 (a + 1) new ++ demand 7 (a + 1) (is_number_of parameters arguments)) (demand 6 (a + 3) (is_some arguments)) (demand 6 d op)
+    (found_then o o1 o2 (demand 1 (a + 1) new) (demand 7 (a + 1) (is_number_of parameters arguments)) (demand 7 c many)
+    (e1 ∙ ap (λ i. first_with o (demand 1 i new)) at_b) e2 (λ i. demand 7 (at_c i) (number i)))
+    e3 (λ i. demand 6 (at_d i) (known i))
 
 -- ---- an entry
 

@@ -21,7 +21,7 @@ meaning_known (Some meaning) = Some (meaning_of meaning)
 
 -- what a table has at a name
 abbrev pub look : NameTable → Scope
-look table name = meaning_known (get_by (λ k. bytes_eq name k.now) table.meanings)
+look table name = meaning_known (get_by (λ k. bytes_eq name k.bytes.now) table.meanings)
 
 -- the names of an entry, where there is one
 abbrev pub look_in : Option (Bor NameTable) → Scope

@@ -6,6 +6,7 @@ mod compare;
 mod exception;
 mod expressions;
 mod held;
+mod key;
 mod names;
 mod row;
 pub mod rule;

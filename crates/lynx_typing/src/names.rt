@@ -6,6 +6,7 @@ ghost use Rattle.lynx_typing.specs.Names.{or_outside, type_of_variable, argument
 ghost use Rattle.lynx_typing.specs.Meanings.{meaning_of, meaning_known, look, types_known};
 
 use crate::held::Held;
+use crate::key::Key;
 use indexmap::IndexMap;
 use lynx_lexer::{IdentRef, NoMemory};
 use lynx_tree::TypeName;
@@ -25,7 +26,7 @@ pub enum Named<'m> {
 /// The names of a module or of an entry, each with what its first declaration makes of it.
 #[derive(Drop)]
 pub struct Names<'m> {
-    meanings: IndexMap<&'m [u8], Named<'m>>,
+    meanings: IndexMap<Key<'m>, Named<'m>>,
 }
 
 impl<'m> Names<'m> {
@@ -42,7 +43,8 @@ impl<'m> Names<'m> {
     pub fn look(&self, name: &IdentRef) -> Option<Named<'m>>
         ensures { meaning_known result ≡ look self.now name.now }
     {
-        self.meanings.get(name.as_slice()).copied()
+        let bytes = name.as_slice();
+        self.meanings.get(&Key { bytes }).copied()
     }
 
     /// Declares a name, and tells whether it is new. Where it is not, it keeps its meaning.
@@ -50,12 +52,14 @@ impl<'m> Names<'m> {
         ensures new { IfOk result (λ new. new ≡ not (is_some (look self.old name.now))) }
         ensures means { OnOk result ((q : List ℕ) → look self.new q ≡ or_outside (look self.old q) (if bytes_eq name.now q then Some (meaning_of meaning.entry) else None)) }
     {
-        let name = name.as_slice();
-        if self.meanings.contains_key(name) {
-            return Ok(false);
+        let bytes = name.as_slice();
+        match self.meanings.insert(Key { bytes }, meaning)? {
+            None => Ok(true),
+            Some(first) => {
+                self.meanings.insert(Key { bytes }, first)?;
+                Ok(false)
+            }
         }
-        self.meanings.insert(name, meaning)?;
-        Ok(true)
     }
 }
 
