@@ -1,3 +1,4 @@
+pub mod Agreement
 pub mod Closing
 pub mod Emitting
 pub mod Entries

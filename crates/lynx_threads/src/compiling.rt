@@ -3,6 +3,7 @@
 ghost use Rattle.std.specs.Prelude.{◌≡◌, ◌<◌, ◌≤◌, length, map, Err, IfOk, OnOk};
 ghost use Rattle.lynx_tree.specs.Trees.{module_tree, op_tree};
 ghost use Rattle.lynx_code.specs.Modules.{module_code, variables, ArePairs, IsOpOf, IsCodeOf};
+ghost use Rattle.lynx_threads.specs.Agreement.{AgreesWithSource};
 ghost use Rattle.lynx_threads.specs.declared.fault.CompileFault.TheVariants as faults;
 
 use crate::fault::CompileFault;
@@ -78,9 +79,11 @@ fn code_of(alloc: Global, tree: &Module) -> Result<Code, CompileFault>
     })
 }
 
-/// The code of a module. `CodeTooLong` comes exactly where that has more than 65,535 instructions. The time is linear in the module.
+/// The code of a module, each part of which does what its source means. `CodeTooLong` comes exactly where the code has more than 65,535
+/// instructions. The time is linear in the module.
 pub fn compile(alloc: Global, checked: &Checked) -> Result<Code, CompileFault>
     ensures code { IfOk result (IsCodeOf (module_tree checked.now)) }
+    ensures agrees { IfOk result (AgreesWithSource (module_tree checked.now)) }
     ensures fits { OnOk result (length (module_code (module_tree checked.now)) ≤ 65535) }
     ensures long { result ≡ Err faults.CodeTooLong → 65535 < length (module_code (module_tree checked.now)) }
 {
