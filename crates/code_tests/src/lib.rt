@@ -1,0 +1,5 @@
+//! Tests of code through its public calls.
+#![tactic(auto)]
+
+#[cfg(test)]
+mod listings;

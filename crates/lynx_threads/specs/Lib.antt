@@ -1,0 +1,4 @@
+pub mod Tables
+pub mod Chains
+pub mod Jumps
+pub mod Agreement
