@@ -21,12 +21,12 @@ use Rattle.compiler_law.proofs.Names.{entry-operation, entry-variable, main-vari
 use Rattle.compiler_law.proofs.Parts.{all-at, each-clean, entry-stands}
 
 -- where no rule fails there is no fault
-no-faults : (fs : List Fault) → ((rule at : ℕ) → Contains fs (record { place = at; rule = rule }) → ⊥) → fs ≡ []
+pub no-faults : (fs : List Fault) → ((rule at : ℕ) → Contains fs (record { place = at; rule = rule }) → ⊥) → fs ≡ []
 no-faults [] none = refl
 no-faults (f ∷ fs) none = absurd (none f.rule f.place (0, zero-lt-suc (length fs), refl))
 
 -- what no rule finds in the entries, and in the body
-entries-and-body : (m : ModuleTree) → module_faults m ≡ [] → (each_at entry_size (entry_faults (module_scope m)) (entries_at m) m.entries ≡ []) × (stmts_faults (module_scope m) Outside (body_at m) m.body ≡ [])
+pub entries-and-body : (m : ModuleTree) → module_faults m ≡ [] → (each_at entry_size (entry_faults (module_scope m)) (entries_at m) m.entries ≡ []) × (stmts_faults (module_scope m) Outside (body_at m) m.body ≡ [])
 entries-and-body m clean =
     let f1 = names_are_new module_name_is_new [] (module_names m) in
     let f2 = each_at op_size op_faults ops_at m.ops in
@@ -49,7 +49,7 @@ main-is-part m tokens clean = record {
 }
 
 -- as many parameters as arguments
-as-many : (m : ModuleTree) (at : ℕ) (e : EntryTree) → entry_has_parameters (at + 1) (module_scope m e.op) (length e.parameters) ≡ [] → entry_is_of_op (at + 3) (module_scope m e.op) ≡ [] → length e.parameters ≡ length (known (arguments_of (module_scope m e.op)))
+pub as-many : (m : ModuleTree) (at : ℕ) (e : EntryTree) → entry_has_parameters (at + 1) (module_scope m e.op) (length e.parameters) ≡ [] → entry_is_of_op (at + 3) (module_scope m e.op) ≡ [] → length e.parameters ≡ length (known (arguments_of (module_scope m e.op)))
 as-many m at e number of_op =
     let found = some-of (arguments_of (module_scope m e.op)) (demand-met _ _ _ of_op) in
     number-met (length e.parameters) (arguments_of (module_scope m e.op)) found.0 found.1 (demand-met _ _ _ number) ∙ ap (λ o. length (known o)) (sym found.1)

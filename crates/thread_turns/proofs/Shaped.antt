@@ -1,9 +1,9 @@
 -- The shapes of a small code.
-use Rattle.std.proofs.Common.{◌≡◌, List, [], ◌∷◌, true, Some, refl, slice_get, arith, rules}
+use Rattle.std.proofs.Common.{List, [], ◌∷◌, true, refl, slice_get, arith, rules}
 use Rattle.lynx_typing.specs.declared.exception.Exception.TheVariants as exceptions
 use Rattle.lynx_code.specs.declared.instruction.Instruction.{Instruction}
 use Rattle.lynx_code.specs.declared.instruction.Instruction.TheVariants as code
-use Rattle.thread_turns.specs.Shapes.{ModuleTypes, Shape, Shapes, IsWithin, Leads, AllObey, part_shape}
+use Rattle.thread_turns.specs.Shapes.{Shape, Shapes, IsWithin, AllObey, part_shape}
 
 -- try raise DIVIDE; when DIVIDE do end; end
 abbrev trying : List Instruction

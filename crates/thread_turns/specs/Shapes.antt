@@ -1,14 +1,17 @@
 -- The shapes that code gives a thread: what stands on its stack at each address, and which tries and accepts are open.
-use Rattle.std.specs.Prelude.{◌≡◌, ◌≤◌, ◌<◌, ℕ, suc, ◌+◌, ◌-◌, List, [], ◌∷◌, ◌++◌, length, reverse, drop, Bool, true, false, IsTrue, Option, None, Some, slice_get, ⊤}
+use Rattle.std.specs.Prelude.{◌≡◌, ◌≤◌, ◌<◌, ℕ, suc, ◌+◌, ◌-◌, List, [], ◌∷◌, ◌++◌, length, map, reverse, drop, Bool, true, false, IsTrue, Option, None, Some, slice_get, ⊤}
 use Rattle.std.specs.Option.{is_some}
 use Rattle.lynx_tree.specs.declared.declaration.TypeName.{TypeName}
 use Rattle.lynx_tree.specs.declared.declaration.TypeName.TheVariants as types
 use Rattle.lynx_code.specs.Modules.{ArePairs}
+use Rattle.lynx_code.specs.declared.code.Code.{Code}
+use Rattle.lynx_code.specs.declared.code.CodeOp.{CodeOp}
+use Rattle.lynx_code.specs.declared.code.Part.{Part}
 use Rattle.lynx_code.specs.declared.instruction.Instruction.{Instruction}
 use Rattle.lynx_code.specs.declared.instruction.Instruction.TheVariants as code
 use Rattle.lynx_code.specs.declared.instruction.Literal.{Literal}
 use Rattle.lynx_code.specs.declared.instruction.Literal.TheVariants as literal
-use Rattle.lynx_meaning.specs.Code.{Opened, Thread, value_of_literal}
+use Rattle.lynx_meaning.specs.Code.{Opened, Program, Thread, value_of_literal}
 use Rattle.lynx_meaning.specs.Values.{HasType}
 
 -- the types of an operation's arguments and results
@@ -207,11 +210,32 @@ part_shape locals = record { locals = locals; stack = []; tries = []; accepts = 
 pub record AreShapes (m : ModuleTypes) (parts : List (ℕ × List TypeName)) (instructions : List Instruction) (shapes : Shapes) : Type 0 where
   pub code : AllObey m shapes 0 instructions
   pub ends : (at : ℕ) (s : Shape) → shapes at ≡ Some s → at < length instructions
-  pub starts : (i at : ℕ) (locals : List TypeName) → slice_get parts i ≡ Some (at, locals) → shapes at ≡ Some (part_shape locals)
+  pub starts : (i at : ℕ) (locals : List TypeName) → slice_get parts i ≡ Some (at, locals) → Leads shapes at (part_shape locals)
 
 -- each instruction finds its operands
 abbrev pub IsShaped : ModuleTypes → List (ℕ × List TypeName) → List Instruction → Type 0
 IsShaped m parts instructions = (shapes : Shapes) × AreShapes m parts instructions shapes
+
+-- the program of these instructions
+abbrev pub program : ModuleTypes → List Instruction → Program
+program m instructions = record { instructions = instructions; arguments = map (λ op. length op.arguments) m.ops }
+
+-- ---- code as it is kept
+
+abbrev pub kept_op : CodeOp → OpTypes
+kept_op op = record { arguments = op.arguments.items; results = op.results.items }
+
+abbrev pub code_types : Code → ModuleTypes
+code_types made = record { globals = made.globals.items; ops = map kept_op made.ops.items }
+
+abbrev pub kept_part : Part → ℕ × List TypeName
+kept_part part = (part.start, part.locals.items)
+
+abbrev pub code_parts : Code → List (ℕ × List TypeName)
+code_parts made = map kept_part made.parts.items
+
+abbrev pub IsShapedCode : Code → Type 0
+IsShapedCode made = IsShaped (code_types made) (code_parts made) made.instructions.items
 
 -- ---- threads
 
@@ -223,7 +247,13 @@ pub record HasShape (s : Shape) (t : Thread) : Type 0 where
   pub accepts : t.accepts ≡ s.accepts
   pub pending : IsTrue s.pending → IsTrue (is_some t.pending)
 
--- a thread of a module, whose code has these shapes
+-- a thread at an address that has a shape
+pub record IsPlaced (shapes : Shapes) (t : Thread) : Type 0 where
+  pub shape : Shape
+  pub there : shapes t.address ≡ Some shape
+  pub has : HasShape shape t
+
+-- a thread of a module, whose code has these shapes, in its turn
 pub record IsThread (m : ModuleTypes) (shapes : Shapes) (t : Thread) : Type 0 where
   pub shape : Shape
   pub there : shapes t.address ≡ Some shape

@@ -1,0 +1,6 @@
+pub mod Pairs
+pub mod Numbers
+pub mod Steps
+pub mod Operands
+pub mod Slots
+pub mod Whole

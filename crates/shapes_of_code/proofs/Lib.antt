@@ -1,0 +1,9 @@
+pub mod Walks
+pub mod Parts
+pub mod Operands
+pub mod Expressions
+pub mod Stores
+pub mod Simple
+pub mod Statements
+pub mod Literals
+pub mod Whole
