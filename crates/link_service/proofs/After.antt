@@ -1,21 +1,16 @@
 -- What a step leaves, from what its parts leave one after another.
-use Rattle.std.proofs.Common.{◌≡◌, ◌++◌, [], ◌∷◌, true, All, List, Option, Some, None, sym, ap, subst, ◌∙◌, append-nil}
-use Rattle.charlotte_calls.specs.Names.{opposite}
+use Rattle.std.proofs.Common.{◌≡◌, ◌++◌, true, All, List, Option, Some, None, sym, ap, subst, ◌∙◌}
 use Rattle.charlotte_calls.specs.declared.calls.Report.{Report}
 use Rattle.charlotte_calls.specs.declared.names.EndId.{EndId}
-use Rattle.charlotte_calls.specs.declared.names.Outcome.TheVariants as outcome
 use Rattle.charlotte_calls.specs.declared.names.Pid.{Pid}
 use Rattle.charlotte_calls.specs.declared.names.Way.TheVariants as way
-use Rattle.link_service.proofs.Known.{owner-owned}
 use Rattle.link_service.specs.Service.{ServiceView, OwnerKnows, state_of}
 use Rattle.service_links.specs.Links.{ends_of}
 use Rattle.service_processes.specs.Known.{known_of, IsKnown}
-use Rattle.service_step.specs.Ends.{owner, is_owned_by, waiting_message, matched_message, withdraws_send, idles, takes, turns_outward, turns_inward, notices, returns}
-use Rattle.service_step.specs.State.{State, tells, given, send_report}
-use Rattle.service_step.specs.Steps.{after_cancel, after_report, after_take, after_complete, after_free, after_notice, after_return, done_reports, returned_reports, dead_reports, gains_owner, wakes_owner, tells_returned}
+use Rattle.service_step.specs.Ends.{owner, is_owned_by, waiting_message, withdraws_send, notices, returns}
+use Rattle.service_step.specs.State.{State, tells}
+use Rattle.service_step.specs.Steps.{after_cancel, after_notice, after_return, returned_reports, dead_reports, tells_returned}
 use Rattle.service_step.specs.declared.state.End.{End}
-use Rattle.service_step.specs.declared.state.Inward.TheVariants as inward
-use Rattle.service_step.specs.declared.state.Outward.TheVariants as outward
 
 -- what an owner is known to have it has where neither the ends nor what is known change
 pub OwnerKnows-kept : (a b : ServiceView) (e : EndId) (xs : List EndId) → b.links ≡ a.links → known_of b.processes ≡ known_of a.processes → OwnerKnows a e xs → OwnerKnows b e xs
@@ -69,44 +64,3 @@ module _ (s0 s1 s2 s3 : State) (e : EndId) (h1 : s1 ≡ s0) where
       ∙ ap (λ (s : State). record s { ends = returns e s.ends })
       (h2 ∙ ap (λ (s : State). record s { process = tells_returned (owner (s.ends e).place) e x s.process }) h1)
       ∙ ap (λ (z : End). record s0 { ends = returns e s0.ends; process = tells_returned (owner (s0.ends e).place) e z s0.process }) is
-
--- a take: the owner of the opposite end is told, and takes the message
-pub after_take-by : (s0 s1 s2 s3 : State) (e : EndId) (p : Pid) (first second : List Report) → s1 ≡ s0
-    → is_owned_by p (s0.ends (opposite e)).place ≡ true
-    → first ≡ done_reports (opposite e) (matched_message (s0.ends e).outward) → second ≡ []
-    → s2 ≡ record s1 { process = tells (owner (s1.ends (opposite e)).place) (opposite e) (first ++ second) s1.process }
-    → s3 ≡ record s2 { ends = takes e p s2.ends }
-    → s3 ≡ after_take e p s0
-after_take-by s0 s1 s2 s3 e p first second h1 own done none h2 h3 =
-    h3
-    ∙ ap (λ (s : State). record s { ends = takes e p s.ends })
-    (h2 ∙ ap (λ (s : State). record s { process = tells (owner (s.ends (opposite e)).place) (opposite e) (first ++ second) s.process }) h1)
-    ∙ ap (λ (rs : List Report). record s0 { ends = takes e p s0.ends; process = tells (owner (s0.ends (opposite e)).place) (opposite e) rs s0.process })
-    ((λ i. first ++ none i) ∙ append-nil first ∙ done)
-    ∙ ap (λ (o : Option Pid). record s0 { ends = takes e p s0.ends; process = tells o (opposite e) (done_reports (opposite e) (matched_message (s0.ends e).outward)) s0.process })
-    (owner-owned p (s0.ends (opposite e)).place own)
-
-pub after_report-by : (s0 s1 s2 : State) (p : Pid) (r : Report) → s1 ≡ record s0 { ends = idles r.way r.on s0.ends } → s2 ≡ record s1 { process = given p s1.process } → s2 ≡ after_report p r s0
-after_report-by s0 s1 s2 p r h1 h2 = h2 ∙ ap (λ (s : State). record s { process = given p s.process }) h1
-
-pub after_complete-by : (s0 s1 s2 : State) (e : EndId) (rs : List Report) → rs ≡ send_report e outcome.Done [] ∷ []
-    → s1 ≡ record s0 { process = gains_owner (owner (s0.ends e).place) rs s0.process } → s2 ≡ record s1 { ends = turns_outward outward.Reported e s1.ends }
-    → s2 ≡ after_complete e s0
-after_complete-by s0 s1 s2 e rs done h1 h2 =
-    h2 ∙ ap (λ (s : State). record s { ends = turns_outward outward.Reported e s.ends }) h1
-    ∙ ap (λ (l : List Report). record s0 { ends = turns_outward outward.Reported e s0.ends; process = gains_owner (owner (s0.ends e).place) l s0.process }) done
-
-pub after_free-by : (s0 s1 s2 : State) (e : EndId)
-    → s1 ≡ record s0 { process = wakes_owner (owner (s0.ends e).place) e s0.process } → s2 ≡ record s1 { ends = turns_inward inward.Idle e s1.ends }
-    → s2 ≡ after_free e s0
-after_free-by s0 s1 s2 e h1 h2 = h2 ∙ ap (λ (s : State). record s { ends = turns_inward inward.Idle e s.ends }) h1
-
-pub after_take-to : (s0 s1 s2 s3 : State) (e to : EndId) (p : Pid) (first second : List Report) → to ≡ opposite e → s1 ≡ s0
-    → is_owned_by p (s0.ends (opposite e)).place ≡ true
-    → first ≡ done_reports to (matched_message (s0.ends e).outward) → second ≡ []
-    → s2 ≡ record s1 { process = tells (owner (s1.ends to).place) to (first ++ second) s1.process }
-    → s3 ≡ record s2 { ends = takes e p s2.ends }
-    → s3 ≡ after_take e p s0
-after_take-to s0 s1 s2 s3 e to p first second there h1 own done none h2 h3 =
-    after_take-by s0 s1 s2 s3 e p first second h1 own (subst (λ (z : EndId). first ≡ done_reports z (matched_message (s0.ends e).outward)) there done) none
-    (subst (λ (z : EndId). s2 ≡ record s1 { process = tells (owner (s1.ends z).place) z (first ++ second) s1.process }) there h2) h3

@@ -1,25 +1,9 @@
 -- When two reports are the same, and which is the oldest.
-use Rattle.std.proofs.Common.{◌≡◌, Bool, true, false, true≢false, ◌&&◌, ◌↔◌, IsTrue, not, List, [], ◌∷◌, refl, sym, ap, ◌∙◌, rules}
+use Rattle.std.proofs.Common.{◌≡◌, Bool, true, false, true≢false, ◌&&◌, ◌↔◌, IsTrue, List, [], ◌∷◌, refl, sym, ap, ◌∙◌, rules}
 use Rattle.std.specs.Cmp.Lexicographic.{pointwise}
-use Rattle.charlotte_calls.specs.declared.calls.Report.{Report}
 use Rattle.charlotte_calls.specs.declared.names.EndId.{EndId}
 use Rattle.service_links.proofs.Changed.{end_eq-same}
 use Rattle.service_step.specs.Ends.{end_eq}
-
--- both of two tests
-pub both-tell : (a b r : Bool) (A B : Type 0) → (IsTrue a ↔ A) → (IsTrue b ↔ B) → r ≡ (a && b) → IsTrue r ↔ (A × B)
-both-tell true b r A B ha hb is = ((λ h. (ha.0 refl, hb.0 (sym is ∙ h))), (λ h. is ∙ hb.1 h.1))
-both-tell false b r A B ha hb is = ((λ h. absurd (true≢false (sym h ∙ is))), (λ h. absurd (true≢false (sym (ha.1 h.0)))))
-
--- the parts of a report are the report
-pub same-report : (a b : Report) → (a.on ≡ b.on) × (a.way ≡ b.way) → a.outcome ≡ b.outcome → (a.bytes ≡ b.bytes) × (a.enclosed ≡ b.enclosed) → a ≡ b
-same-report a b activity outcome content =
-    λ i. record { on = activity.0 i; way = activity.1 i; outcome = outcome i; bytes = content.0 i; enclosed = content.1 i }
-
--- the negation of a test
-pub not-tells : (b : Bool) (B : Type 0) → (IsTrue b ↔ B) → IsTrue (not b) ↔ (B → ⊥)
-not-tells true B tells = ((λ h. absurd (true≢false (sym h))), (λ none. absurd (none (tells.0 refl))))
-not-tells false B tells = ((λ h x. true≢false (sym (tells.1 x))), (λ none. refl))
 
 end_eq-refl : (e : EndId) → end_eq e e ≡ true
 unfolding end_eq

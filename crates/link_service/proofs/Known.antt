@@ -1,5 +1,5 @@
 -- The ends that processes own stay known over what the steps do with the ends.
-use Rattle.std.proofs.Common.{◌≡◌, ◌≢◌, ◌⊎◌, inl, inr, ℕ, zero, suc, ◌<◌, Bool, true, false, true≢false, cond, nat_eq, ◌&&◌, ◌||◌, not, All, List, [], ◌∷◌, length, get_or, Option, None, Some, is_some, refl, sym, ap, subst, ◌∙◌, if◌then◌else◌, arith}
+use Rattle.std.proofs.Common.{◌≡◌, ◌≢◌, ◌⊎◌, inl, inr, ℕ, suc, ◌<◌, Bool, true, false, true≢false, cond, nat_eq, ◌&&◌, ◌||◌, not, All, List, [], ◌∷◌, length, get_or, Option, None, Some, is_some, refl, sym, ap, subst, ◌∙◌, if◌then◌else◌, arith}
 use Rattle.std.proofs.lemmas.Bool.Decides.{eqb_tells}
 use Rattle.charlotte_calls.specs.Names.{opposite}
 use Rattle.charlotte_calls.specs.declared.names.EndId.{EndId}
@@ -9,11 +9,10 @@ use Rattle.charlotte_calls.specs.declared.names.Way.TheVariants as way
 use Rattle.link_service.specs.Service.{ServiceView, MayBe, AreKnown, OwnerKnows, IsWellKept}
 use Rattle.service_links.specs.Links.{ends_of}
 use Rattle.service_links.proofs.Changed.{end_eq-same}
-use Rattle.service_processes.specs.Known.{Known, known_of, without, IsKnown, Forgets, Grows}
+use Rattle.service_processes.specs.Known.{Known, known_of, without, IsKnown, Forgets}
 use Rattle.service_processes.proofs.Blocks.{there}
-use Rattle.service_step.specs.Steps.{may_match, may_take, is_matched, agree}
-use Rattle.service_step.specs.Ends.{end_eq, fresh, unmade, owner, put, puts, places, is_made, is_destroyed, is_owned_by, is_active, is_started_outward, is_started_inward, is_posted, is_matched_with, waiting_message, matched_message, carried_by, destroys, destroys_owned, destroys_each, starts_send, turns_inward, turns_outward, idles, withdraws_send, matches, matched_outward, takes, notices, noticed_end, noticed_outward, noticed_inward, to_owner, returned_end, returns}
-use Rattle.service_step.specs.State.{State, is_cancelling}
+use Rattle.service_step.specs.Steps.{may_match}
+use Rattle.service_step.specs.Ends.{end_eq, fresh, owner, put, puts, places, is_made, is_destroyed, is_owned_by, is_active, is_started_outward, is_started_inward, is_posted, waiting_message, matched_message, carried_by, destroys, destroys_owned, destroys_each, starts_send, turns_inward, turns_outward, idles, withdraws_send, matches, matched_outward, takes, notices, noticed_end, noticed_outward, noticed_inward, to_owner, returned_end, returns}
 use Rattle.service_step.specs.declared.state.End.{End}
 use Rattle.service_step.specs.declared.state.Inward.{Inward}
 use Rattle.service_step.specs.declared.state.Inward.TheVariants as inward
@@ -30,13 +29,6 @@ same_pid p q is = by (eqb_tells p.0 q.0)
     by : ((nat_eq p.0 q.0 ≡ true) × (p.0 ≡ q.0)) ⊎ ((nat_eq p.0 q.0 ≡ false) × (p.0 ≢ q.0)) → p ≡ q
     by (inl t) = λ j. record { 0 = t.1 j }
     by (inr t) = absurd (true≢false (sym is ∙ t.0))
-
--- the process that owns an end is its owner
-pub owner-owned : (p : Pid) (at : Place) → is_owned_by p at ≡ true → owner at ≡ Some p
-owner-owned p (place.Owned q) own = ap Some (sym (same_pid p q own))
-owner-owned p (place.InMessage f n) own = absurd (true≢false (sym own))
-owner-owned p place.Destroyed own = absurd (true≢false (sym own))
-owner-owned p place.Unmade own = absurd (true≢false (sym own))
 
 pub owned-owner : (p : Pid) (at : Place) → owner at ≡ Some p → is_owned_by p at ≡ true
 owned-owner p (place.Owned q) is = by (eqb_tells p.0 q.0) is
@@ -58,11 +50,6 @@ module _ (k : Known) where
   -- the owner is known to have the end, also with an activity
   pub MayBe-known : (e : EndId) (x : End) → ((p : Pid) → is_owned_by p x.place ≡ true → IsKnown k p e) → MayBe k e x
   MayBe-known e x h p own = ((h p own).held, λ started. (h p own).active)
-
-  -- more is known
-  pub AreKnown-grown : (more : Known) (t : EndId → End) → Grows k more → AreKnown k t → AreKnown more t
-  AreKnown-grown more t grows known =
-      record { all = λ e p own. (grows.held p.0 e (known.all e p own).0, λ started. grows.active p.0 e ((known.all e p own).1 started)) }
 
   module _ (t : EndId → End) (known : AreKnown k t) where
     -- an end at the place of another, with no activity that is not started there
@@ -275,35 +262,6 @@ owner-there v e p well is = there v.processes p.0 e (well.all e p (owned-owner p
 pub owned-there : (v : ServiceView) (e : EndId) (p : Pid) → IsWellKept v → is_owned_by p (ends_of v.links e).place ≡ true → p.0 < length v.processes
 owned-there v e p well own = there v.processes p.0 e (well.all e p own).0
 
--- the first two of five tests that hold
-two_of_five : (a b c d e : Bool) → (a && b && c && d && e) ≡ true → (a ≡ true) × (b ≡ true)
-two_of_five true true c d e h = (refl, refl)
-two_of_five true false c d e h = absurd (true≢false (sym h))
-two_of_five false b c d e h = absurd (true≢false (sym h))
-
-first_of_two : (a b : Bool) → (a && b) ≡ true → a ≡ true
-first_of_two true b h = refl
-first_of_two false b h = h
-
-matched-started : (o : Outward) → is_some (matched_message o) ≡ true → is_started_outward o ≡ true
-matched-started (outward.Matched m) h = refl
-matched-started outward.Idle h = absurd (true≢false (sym h))
-matched-started (outward.Waiting m) h = absurd (true≢false (sym h))
-matched-started outward.Taken h = absurd (true≢false (sym h))
-matched-started outward.Reported h = absurd (true≢false (sym h))
-
--- what a take asks
-module _ (s : State) (e : EndId) (n : ℕ) (p : Pid) (late : Bool) (may : may_take s e n p late ≡ true) where
-  take-asks : (is_matched s.ends e n ≡ true) × (is_owned_by p (s.ends (opposite e)).place ≡ true)
-  take-asks = two_of_five (is_matched s.ends e n) (is_owned_by p (s.ends (opposite e)).place) (not (s.ends (opposite e)).noticed) (is_matched_with n (s.ends (opposite e)).inward)
-      (agree late (is_cancelling (opposite e) (s.process p.0).phase)) may
-
-  pub take-started : is_started_outward (s.ends e).outward ≡ true
-  take-started = matched-started (s.ends e).outward (first_of_two (is_some (matched_message (s.ends e).outward)) (nat_eq (s.ends e).sent n) take-asks.0)
-
-  pub take-owned : is_owned_by p (s.ends (opposite e)).place ≡ true
-  take-owned = take-asks.1
-
 -- an end that a process does not own is forgotten
 pub AreKnown-forgets : (p : Pid) (e : EndId) (old new : Known) (t : EndId → End) → Forgets p e old new → is_owned_by p (t e).place ≡ false → AreKnown old t → AreKnown new t
 AreKnown-forgets p e old new t forgets lost known =
@@ -324,10 +282,6 @@ AreKnown-forgets p e old new t forgets lost known =
         by true same false apart = (λ i. cond (same i && apart i) false (f q.0 g)) ∙ is
         by false other b one = (λ i. cond (other i && end_eq e g) false (f q.0 g)) ∙ is
 
--- where no link is made, nobody owns an end
-pub AreKnown-unmade : (k : Known) (t : EndId → End) → t ≡ (λ _. unmade) → AreKnown k t
-AreKnown-unmade k t none = record { all = λ e p own. absurd (true≢false (sym own ∙ ap (λ (f : EndId → End). is_owned_by p (f e).place) none)) }
-
 -- both ends of a new link are owned by processes that are known to have them
 pub AreKnown-adds : (k : Known) (a b : EndId) (p q : Pid) (t : EndId → End) → AreKnown k t → k.held p.0 a ≡ true → k.held q.0 b ≡ true → AreKnown k (put (put t a (fresh (place.Owned p))) b (fresh (place.Owned q)))
 AreKnown-adds k a b p q t known first second =
@@ -335,20 +289,3 @@ AreKnown-adds k a b p q t known first second =
   where
     MayBe-new : (e : EndId) (r : Pid) → k.held r.0 e ≡ true → MayBe k e (fresh (place.Owned r))
     MayBe-new e r is = λ o own. (subst (λ (x : Pid). k.held x.0 e ≡ true) (sym (same_pid o r own)) is, λ started. absurd (true≢false (sym started)))
-
-All-one : {X : Type 0} (x : X) (P : X → Type 0) → P x → All P (x ∷ [])
-All-one x P holds zero d below = holds
-All-one x P holds (suc i) d below = absurd (omega arith)
-
--- the owner of an end, which is known to have it, is known to have an activity on it
-pub OwnerKnows-activated : (old new : ServiceView) (e : EndId) (p : Pid) → IsWellKept old → Some p ≡ owner (ends_of old.links e).place → new.links ≡ old.links
-    → Grows (known_of old.processes) (known_of new.processes) → (known_of new.processes).active p.0 e ≡ true → OwnerKnows new e (e ∷ [])
-OwnerKnows-activated old new e p well is links grows active = record { all = λ q own. one q (subst (λ l. is_owned_by q (ends_of l e).place ≡ true) links own) }
-  where
-    one : (q : Pid) → is_owned_by q (ends_of old.links e).place ≡ true → All (IsKnown (known_of new.processes) q) (e ∷ [])
-    one q own =
-        let some : Some p ≡ Some q = is ∙ owner-owned q (ends_of old.links e).place own in
-        let same : p ≡ q = cc in
-        let noted : IsKnown (known_of new.processes) q e =
-        record { held = grows.held q.0 e (well.all e q own).0; active = subst (λ (r : Pid). (known_of new.processes).active r.0 e ≡ true) same active } in
-        All-one e (IsKnown (known_of new.processes) q) noted

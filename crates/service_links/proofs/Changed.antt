@@ -1,9 +1,8 @@
 -- From what stands in the rows to what the table of ends says of its ends.
-use Rattle.std.proofs.Common.{◌≡◌, ◌≢◌, ◌⊎◌, inl, inr, ℕ, zero, suc, ◌+◌, ◌<◌, ◌≤◌, take, length, get_or, slice_set, Bool, true, false, true≢false, nat_eq, ◌++◌, cond, slice_get, unwrap_or, Result, Ok, Err, OnErr, Option, None, Some, List, [], ◌∷◌, refl, sym, ap, subst, ◌∙◌, if◌then◌else◌, rules, arith}
+use Rattle.std.proofs.Common.{◌≡◌, ◌≢◌, ◌⊎◌, inl, inr, ℕ, zero, suc, ◌+◌, ◌<◌, ◌≤◌, take, length, get_or, slice_set, Bool, true, false, true≢false, nat_eq, ◌++◌, cond, Result, Ok, Err, OnErr, List, [], ◌∷◌, refl, sym, ap, subst, ◌∙◌, if◌then◌else◌, rules, arith}
 use Rattle.std.proofs.lemmas.Bool.Decides.{eqb_tells}
 use Rattle.std.proofs.lemmas.List.{get_or-set_other, get_or_past, get_or_default}
 use Rattle.std.proofs.lemmas.List.Sums.{fold_more}
-use Rattle.std.proofs.lemmas.Option.{get_or_from_slice_get, unwrap_or-slice_get}
 use Rattle.charlotte_calls.specs.declared.names.EndId.{EndId}
 use Rattle.charlotte_calls.specs.declared.names.LinkId.{LinkId}
 use Rattle.charlotte_calls.specs.declared.names.Pid.{Pid}
@@ -47,10 +46,6 @@ push-seen (x ∷ xs) d (suc j) = push-seen xs d j
 pub no_link-ends : (side : Side) → end_on side no_link ≡ unmade
 no_link-ends A = refl
 no_link-ends B = refl
-
--- a row without a place has no links
-pub no_row : (number : ℕ) → link_at [] number ≡ no_link
-no_row number = refl
 
 -- a link more that was not made
 pub link_at-push : (row : List (End × End)) → link_at (row ++ no_link ∷ []) ≡ link_at row
@@ -174,21 +169,9 @@ ends_of_puts rows e g = ends_of-turns rows e (where_made g) refl ∙ (λ i q. (b
         ap (λ h. cond h (where_made g (t e)) (t q)) is ∙ ap (λ m. cond m (g (t e)) (t e)) made ∙ ap t (end_eq-same e q is) ∙ sym (ap (λ m. cond m (put t e (g (t e))) t q) made)
     by q false made false is = ap (λ h. cond h (where_made g (t e)) (t q)) is ∙ sym (ap (λ m. cond m (put t e (g (t e))) t q) made)
 
--- an end of a row is that of the table
-pub ends_of-at : (rows : List (List (End × End))) (e : EndId) (row : List (End × End)) → Some row ≡ slice_get rows e.link.maker → end_on e.side (link_at row e.link.count) ≡ ends_of rows e
-unfolding ends_of
-ends_of-at rows e row is = ap (λ (r : List (End × End)). end_on e.side (link_at r e.link.count)) (sym (get_or_from_slice_get rows e.link.maker row [] (sym is)))
-
 pub ends_of-is : (rows : List (List (End × End))) (e : EndId) → end_on e.side (link_at (row_of rows e.link.maker) e.link.count) ≡ ends_of rows e
 unfolding ends_of
 ends_of-is rows e = refl
-
--- and without a row it is unmade
-pub ends_of-past : (rows : List (List (End × End))) (e : EndId) → None ≡ slice_get rows e.link.maker → ends_of rows e ≡ unmade
-unfolding ends_of
-ends_of-past rows e none =
-    ap (λ (r : List (End × End)). end_on e.side (link_at r e.link.count)) (sym (unwrap_or-slice_get rows e.link.maker []) ∙ ap (λ (o : Option (List (End × End))). unwrap_or o []) (sym none))
-    ∙ no_link-ends e.side
 
 -- what is so stands after an error too
 pub on_err : {T E : Type 0} {P : Type 0} (r : Result T E) → P → OnErr r P

@@ -11,7 +11,7 @@ use Rattle.charlotte_calls.specs.declared.names.Pid.{Pid}
 use Rattle.service_step.specs.Ends.{end_eq}
 use Rattle.service_step.specs.Run.{new_process, new_processes}
 use Rattle.service_step.specs.State.{Process, put_process, no_process}
-use Rattle.service_processes.specs.Known.{Known, known_of, held_by, active_of, held_ends, active_ends, without, IsKnown, Grows, Forgets, LosesLast}
+use Rattle.service_processes.specs.Known.{known_of, held_by, active_of, held_ends, active_ends, without, IsKnown, Grows, Forgets, LosesLast}
 use Rattle.service_processes.specs.Processes.{process_of, process_state, HasRoom, HasRoomFor}
 use Rattle.service_processes.specs.declared.processes.ControlBlock.{ControlBlock}
 
@@ -268,15 +268,3 @@ there-active [] zero h = absurd (omega arith)
 there-active [] (suc q) h = absurd (omega arith)
 there-active (x ∷ xs) zero h = omega arith
 there-active (x ∷ xs) (suc q) h = let below : q < length xs = there-active xs q h in omega arith
-
--- what is known grows from one state to the next and the one after
-pub Grows-then : (a b c : Known) → Grows a b → Grows b c → Grows a c
-Grows-then a b c first second = record { held = λ q e h. second.held q e (first.held q e h); active = λ q e h. second.active q e (first.active q e h) }
-
-pub IsKnown-grown : (a b : Known) (p : Pid) (e : EndId) → Grows a b → IsKnown a p e → IsKnown b p e
-IsKnown-grown a b p e grows known = record { held = grows.held p.0 e known.held; active = grows.active p.0 e known.active }
-
--- the first end and the others are known
-pub AreKnown-first : (k : Known) (p : Pid) (e : EndId) (es : List EndId) → IsKnown k p e → All (IsKnown k p) es → All (IsKnown k p) (e ∷ es)
-AreKnown-first k p e es first others zero d below = first
-AreKnown-first k p e es first others (suc i) d below = others i d (omega arith)
