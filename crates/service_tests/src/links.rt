@@ -15,7 +15,14 @@ const P1: Pid = Pid(1);
 
 const LINK: LinkId = LinkId { maker: 0, count: 0 };
 
-const OTHER: LinkId = LinkId { maker: 0, count: 1 };
+/// Links of its maker before it are not made.
+const OTHER: LinkId = LinkId { maker: 2, count: 3 };
+
+/// An end of a link that is not made.
+const NONE: EndId = EndId {
+    link: LinkId { maker: 2, count: 1 },
+    side: Side::B,
+};
 
 /// The ends of the first link.
 const A: EndId = EndId {
@@ -39,21 +46,31 @@ const D: EndId = EndId {
     side: Side::B,
 };
 
-fn letter(alloc: Global, carried: &[EndId]) -> Result<Letter, Fail> {
+/// The send `n` of end A is started, with a message that carries these ends.
+fn starts(alloc: Global, links: &mut Links, n: u32, carried: &Ends) -> Result<(), Fail> {
     let bytes = Bytes::from_slice(b"hi").ok_or("bytes")?;
-    let carried = Ends::from_slice(carried).ok_or("ends")?;
-    Ok(Letter::of(alloc, &bytes, &carried)?)
+    let letter = Letter::of(alloc, &bytes, carried)?;
+    links.start_send(A, n, letter, carried.as_slice());
+    Ok(())
+}
+
+/// Whether a message was taken that carries C.
+fn carries_c(taken: &Option<Letter>) -> bool {
+    match taken {
+        Some(letter) => letter.enclosed() == [C].as_slice(),
+        None => false,
+    }
 }
 
 /// Both links are made: process 0 owns their ends a, process 1 their ends b.
 fn made(alloc: Global) -> Result<Links, Fail> {
     let mut links = Links::empty(alloc);
     holds(!links.look(A).place().is_made(), "an end of no link")?;
-    links.add((A, P0), (B, P1))?;
-    links.add((C, P0), (D, P1))?;
+    links.add(LINK, (P0, P1))?;
+    links.add(OTHER, (P0, P1))?;
     holds(
-        links.look(D).place() == Place::Owned(P1),
-        "an end of a new link",
+        links.look(D).place() == Place::Owned(P1) && !links.look(NONE).place().is_made(),
+        "the ends of a maker",
     )?;
     Ok(links)
 }
@@ -81,7 +98,8 @@ fn has_causes(links: &Links) -> Result<(), Fail> {
 
 /// The send 1 is taken back, and the send 2 is matched and taken.
 fn carries(alloc: Global, links: &mut Links) -> Result<(), Fail> {
-    links.start_send(A, 1, letter(alloc, &[C])?);
+    let c = Ends::from_slice(&[C]).ok_or("ends")?;
+    starts(alloc, links, 1, &c)?;
     holds(
         links.look(A).waiting_ends().as_slice() == [C].as_slice(),
         "the ends of a message that waits",
@@ -95,7 +113,7 @@ fn carries(alloc: Global, links: &mut Links) -> Result<(), Fail> {
         links.look(C).place() == Place::Owned(P0) && links.look(A).is_idle(),
         "a send that is taken back",
     )?;
-    links.start_send(A, 2, letter(alloc, &[C])?);
+    starts(alloc, links, 2, &c)?;
     links.turn_inward(Inward::Posted, B);
     links.match_send(A, 2);
     holds(
@@ -106,7 +124,8 @@ fn carries(alloc: Global, links: &mut Links) -> Result<(), Fail> {
         links.look(B).inward() == Inward::Matched(2),
         "a matched receive",
     )?;
-    links.take_message(A, P1);
+    let taken = links.take_message(A, P1);
+    holds(carries_c(&taken), "the message that is taken")?;
     holds(
         links.look(C).place() == Place::Owned(P1) && links.look(A).is_taken(),
         "a message that is taken",
@@ -126,7 +145,7 @@ fn carries(alloc: Global, links: &mut Links) -> Result<(), Fail> {
 
 /// A matched message comes back, the death of its link is noticed, and ends are destroyed.
 fn dies(alloc: Global, links: &mut Links) -> Result<(), Fail> {
-    links.start_send(A, 3, letter(alloc, no_ends().as_slice())?);
+    starts(alloc, links, 3, &no_ends())?;
     links.match_send(A, 3);
     links.return_message(A);
     holds(

@@ -72,6 +72,12 @@ fn each_call_of_service_processes(rt: HostRuntime) -> Result<(), Fail> {
         processes.phase(P).is_running() && oldest == Some(end(1)),
         "the oldest report",
     )?;
+    processes.reserve(P)?;
+    processes.tell_reserved(P, a, Some(report(rt.alloc(), 3)));
+    processes.give(P);
+    processes.give(P);
+    let oldest = processes.oldest(P).map(|report| report.on());
+    holds(oldest == Some(end(3)), "a report for which room was made")?;
     processes.end(P);
     holds(
         processes.phase(P) == Phase::Ended && !processes.has_report(P),
