@@ -1,16 +1,15 @@
 -- The literals of code are tokens, and so in range.
-use Rattle.std.proofs.Common.{◌≡◌, ◌≤◌, ◌<◌, ◌^◌, ℕ, pos, ◌+◌, suc, List, [], ◌∷◌, ◌++◌, length, map, reverse, Bool, true, false, IsTrue, Option, Some, None, if◌then◌else◌, ltb, lt-ltb, ltb-false, refl, sym, subst, arith, flat_map}
+use Rattle.std.proofs.Common.{◌≡◌, ◌^◌, ℕ, pos, ◌+◌, suc, List, [], ◌∷◌, ◌++◌, length, map, reverse, Bool, true, false, IsTrue, Some, None, if◌then◌else◌, ltb, lt-ltb, ltb-false, refl, sym, subst, arith}
 use Rattle.std.specs.List.{AllByRecursion}
 use Rattle.std.proofs.lemmas.Option.{none-some}
-use Rattle.lynx_lexer.specs.Pieces.{IsToken, limit_passed}
+use Rattle.lynx_lexer.specs.Pieces.{limit_passed}
 use Rattle.lynx_lexer.specs.declared.fault.FaultKind.{FaultKind}
 use Rattle.lynx_lexer.specs.declared.fault.FaultKind.TheVariants.{NumberTooWide, TextTooLong}
 use Rattle.lynx_lexer.specs.declared.keyword.Keyword.TheVariants as keywords
 use Rattle.lynx_lexer.specs.declared.sign.Sign.{Sign}
 use Rattle.lynx_lexer.specs.declared.sign.Sign.TheVariants as signs
-use Rattle.lynx_lexer.specs.declared.token.Kind.{Kind}
 use Rattle.lynx_lexer.specs.declared.token.Kind.TheVariants as kinds
-use Rattle.lynx_tree.specs.Grammar.{Mark, behind_marks, chain_marks, expr_marks, exprs_marks, handlers_marks, mark, name, names_marks, stmt_marks, stmts_marks, sum_marks, term_marks, term_sign, word}
+use Rattle.lynx_tree.specs.Grammar.{Mark, behind_marks, chain_marks, expr_marks, exprs_marks, handlers_marks, mark, names_marks, stmt_marks, stmts_marks, sum_marks, term_marks, word}
 use Rattle.lynx_tree.specs.Printing.{IsPrintable}
 use Rattle.lynx_tree.specs.Trees.{ExprTree, ExprTrees, HandlerTrees, StmtTree, StmtTrees, SumTail, TermTail}
 use Rattle.lynx_tree.specs.Trees as trees

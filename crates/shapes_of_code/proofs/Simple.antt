@@ -1,5 +1,5 @@
 -- The shapes of the code of statements without others inside.
-use Rattle.std.proofs.Common.{◌≡◌, ℕ, ◌+◌, List, [], ◌∷◌, ◌++◌, length, map, reverse, Bool, true, Option, Some, slice_get, refl, sym, ap, ◌∙◌, subst, append-nil, length-append, arith}
+use Rattle.std.proofs.Common.{◌≡◌, ℕ, ◌+◌, List, [], ◌∷◌, ◌++◌, length, reverse, true, Option, Some, slice_get, refl, sym, ap, ◌∙◌, subst}
 use Rattle.std.proofs.lemmas.List.{length-reverse}
 use Rattle.lynx_tree.specs.Trees.{ExprTree, ExprTrees}
 use Rattle.lynx_tree.specs.Trees as trees
@@ -8,7 +8,7 @@ use Rattle.lynx_tree.specs.declared.declaration.TypeName.{TypeName}
 use Rattle.lynx_tree.specs.declared.declaration.TypeName.TheVariants as types
 use Rattle.lynx_typing.specs.Expressions.{expr_faults, expr_size, number_of, shown_type, value_faults, values_faults}
 use Rattle.lynx_typing.specs.Names.{arguments_of, known, results_of, type_of_variable}
-use Rattle.lynx_typing.specs.Rules.{Request, condition_is_bool, connect_has_names, connect_has_values, connect_name_fits, connect_value_fits, index_is_int, indexed_is_row, is_an_entry, is_op, is_variable, new_names_differ, reply_has_request, reply_has_values, reply_value_fits, results_needed, value_is_of_target, value_is_written}
+use Rattle.lynx_typing.specs.Rules.{Request, condition_is_bool, connect_has_names, connect_has_values, connect_name_fits, connect_value_fits, index_is_int, indexed_is_row, is_op, is_variable, new_names_differ, reply_has_request, reply_has_values, reply_value_fits, results_needed, value_is_of_target, value_is_written}
 use Rattle.lynx_typing.specs.Statements.{link_faults, names_faults, stmt_faults}
 use Rattle.lynx_typing.specs.Types.{Held, agree, may_be_row}
 use Rattle.lynx_code.specs.Generation.{expr_code, exprs_code, how_many, load, stmt_code, store, store_member, stores}
@@ -20,11 +20,11 @@ use Rattle.code_of_expressions.proofs.Variables.{row-type, some-of}
 use Rattle.code_of_statements.proofs.Requests.{number-met}
 use Rattle.code_of_statements.proofs.Simple.{counted}
 use Rattle.thread_turns.specs.Shapes.{OpTypes, Shape, Shapes, AsksOnLink, Connects, Leads, Obeys, pushed}
-use Rattle.shapes_of_code.proofs.Expressions.{Shows, as_wanted, expr_shows, pass_on}
-use Rattle.shapes_of_code.proofs.Operands.{load_passes, plain_type, put_passes, same_is, store_passes}
+use Rattle.shapes_of_code.proofs.Expressions.{as_wanted, expr_shows, pass_on}
+use Rattle.shapes_of_code.proofs.Operands.{load_passes, plain_type, put_passes, store_passes}
 use Rattle.shapes_of_code.proofs.Parts.{Caught, Open, Part, Passes, may_raise, on}
 use Rattle.shapes_of_code.proofs.Stores.{as_many_wanted, exprs_show, link_variable, stores_pass, variables_of}
-use Rattle.shapes_of_code.proofs.Walks.{Walks, around, followed, one, where_more}
+use Rattle.shapes_of_code.proofs.Walks.{one}
 
 module _ (c : Part) (o : Open) where
   -- what a condition leaves

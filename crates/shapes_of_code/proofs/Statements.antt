@@ -1,5 +1,5 @@
 -- The shapes of the code of statements.
-use Rattle.std.proofs.Common.{◌≡◌, ℕ, suc, ◌+◌, List, [], ◌∷◌, ◌++◌, length, Bool, true, Option, Some, slice_get, refl, sym, ap, ◌∙◌, subst, length-append, arith}
+use Rattle.std.proofs.Common.{◌≡◌, ℕ, suc, ◌+◌, List, [], ◌∷◌, ◌++◌, length, Option, Some, slice_get, refl, sym, ap, ◌∙◌, subst, length-append, arith}
 use Rattle.lynx_tree.specs.Trees.{ExprTree, HandlerTrees, StmtTree, StmtTrees}
 use Rattle.lynx_tree.specs.Trees as trees
 use Rattle.lynx_tree.specs.Grammar.{AreHandlers, AreStmts, IsStmt, names_marks, stmt_marks}
@@ -18,7 +18,7 @@ use Rattle.code_of_expressions.proofs.Clean.{both-clean, demand-met}
 use Rattle.code_of_expressions.proofs.Variables.{some-of}
 use Rattle.code_of_statements.proofs.Handlers.{handlers-length}
 use Rattle.code_of_statements.proofs.Requests.{number-met}
-use Rattle.thread_turns.specs.Shapes.{OpTypes, Shape, Shapes, Accepts, Leads, Obeys, pushed}
+use Rattle.thread_turns.specs.Shapes.{OpTypes, Shapes, Accepts, Leads, Obeys, pushed}
 use Rattle.shapes_of_code.proofs.Expressions.{pass_on}
 use Rattle.shapes_of_code.proofs.Operands.{load_passes}
 use Rattle.shapes_of_code.proofs.Parts.{Caught, Open, Part, Passes, leads_raised, may_raise, on, raised}

@@ -1,19 +1,18 @@
 -- The code of a module is shaped.
-use Rattle.std.proofs.Common.{◌≡◌, ◌<◌, ℕ, zero, suc, ◌+◌, List, [], ◌∷◌, ◌++◌, length, map, false, Option, Some, None, slice_get, option_map, flat_map, refl, sym, ap, ap₂, ◌∙◌, subst, append_assoc, length-append, arith}
+use Rattle.std.proofs.Common.{◌≡◌, ◌<◌, ℕ, zero, suc, ◌+◌, List, [], ◌∷◌, ◌++◌, length, map, false, Option, Some, slice_get, option_map, flat_map, refl, sym, ap, ◌∙◌, subst, append_assoc, length-append, arith}
 use Rattle.std.specs.List.{AllByRecursion}
 use Rattle.std.proofs.lemmas.Option.{none-some, same_Some, slice_get-map, slice_get_within}
-use Rattle.lynx_lexer.specs.declared.token.Kind.{Kind}
 use Rattle.lynx_lexer.specs.declared.keyword.Keyword.TheVariants as keywords
 use Rattle.lynx_lexer.specs.declared.sign.Sign.TheVariants as signs
-use Rattle.lynx_tree.specs.Grammar.{AreStmts, HasTokens, Mark, entry_marks, kinds_of, mark, module_marks, name, names_marks, op_marks, stmts_marks, var_marks, vars_marks, word}
+use Rattle.lynx_tree.specs.Grammar.{AreStmts, HasTokens, Mark, entry_marks, kinds_of, mark, module_marks, names_marks, op_marks, stmts_marks, var_marks, vars_marks, word}
 use Rattle.lynx_tree.specs.Printing.{IsPrintable}
 use Rattle.lynx_tree.specs.Trees.{EntryTree, ModuleTree, OpTree, StmtTrees}
 use Rattle.lynx_tree.specs.declared.declaration.TypeName.{TypeName}
-use Rattle.lynx_typing.specs.Modules.{IsWellTyped, entry_faults, module_faults, names_are_new, op_faults, param_faults, var_faults}
-use Rattle.lynx_typing.specs.Names.{Scope, arguments_of, body_at, each_at, entries_at, entry_body_at, entry_size, inside, known, local_names, locals_at, module_names, module_scope, op_size, ops_at, params_at, results_of, type_of_variable, var_size, vars_at}
-use Rattle.lynx_typing.specs.Rules.{Asks, Fault, Outside, Request, entry_has_parameters, entry_is_of_op, local_name_is_new}
+use Rattle.lynx_typing.specs.Modules.{entry_faults, module_faults, names_are_new, var_faults}
+use Rattle.lynx_typing.specs.Names.{arguments_of, body_at, each_at, entries_at, entry_body_at, entry_size, inside, known, local_names, locals_at, module_scope, results_of, var_size}
+use Rattle.lynx_typing.specs.Rules.{Asks, Outside, Request, entry_has_parameters, entry_is_of_op, local_name_is_new}
 use Rattle.lynx_typing.specs.Statements.{stmts_faults}
-use Rattle.lynx_code.specs.Generation.{Names, stmts_code}
+use Rattle.lynx_code.specs.Generation.{stmts_code}
 use Rattle.lynx_code.specs.Modules.{ArePairs, IsCodeOf, IsOpOf, IsPartOf, PartCode, body_code, entry_part, entry_parts, instructions_of, main_part, module_code, names_of, op_names, parts_of, place_of, variables}
 use Rattle.lynx_code.specs.Modules as modules
 use Rattle.lynx_code.specs.declared.code.Code.{Code}
@@ -21,15 +20,15 @@ use Rattle.lynx_code.specs.declared.code.CodeOp.{CodeOp}
 use Rattle.lynx_code.specs.declared.code.Part.{Part as KeptPart}
 use Rattle.lynx_code.specs.declared.instruction.Instruction.{Instruction}
 use Rattle.lynx_code.specs.declared.instruction.Instruction.TheVariants as code
-use Rattle.code_of_expressions.proofs.Clean.{both-clean, demand-met}
+use Rattle.code_of_expressions.proofs.Clean.{both-clean}
 use Rattle.compiler_law.proofs.Names.{entry-operation, entry-variable, main-variable, module-operation}
 use Rattle.compiler_law.proofs.Whole.{as-many, entries-and-body, no-faults}
-use Rattle.thread_turns.specs.Shapes.{ModuleTypes, OpTypes, Shape, Shapes, AllObey, AreShapes, IsShaped, IsShapedCode, Leads, code_parts, code_types, kept_op, kept_part, part_shape}
+use Rattle.thread_turns.specs.Shapes.{ModuleTypes, OpTypes, Shape, Shapes, AllObey, IsShaped, Leads, code_parts, code_types, kept_op, kept_part, part_shape}
 use Rattle.shapes_of_code.specs.Law.{ModuleCodeIsShaped}
-use Rattle.shapes_of_code.proofs.Literals.{AreLiterals, AreTokens, stmts_literals}
+use Rattle.shapes_of_code.proofs.Literals.{AreTokens, stmts_literals}
 use Rattle.shapes_of_code.proofs.Parts.{Open, Part, on}
 use Rattle.shapes_of_code.proofs.Statements.{stmts_pass}
-use Rattle.shapes_of_code.proofs.Walks.{LiteralFits, Stand, all_back, all_front, back_stands, both_obey, front_stands, same_shape}
+use Rattle.shapes_of_code.proofs.Walks.{Stand, all_back, all_front, back_stands, both_obey, front_stands, same_shape}
 
 -- ---- what a module has
 
