@@ -16,6 +16,6 @@ returns-in-Ok c =
     let m = module_tree c.in_ok-checked.checked in
     (m, short_stays c.args.source.now m c.in_ok-checked.ensures c.in-Ok.ensures.fits, c.in-Ok.ensures.code)
 
-pub returns-in-Err : goal.returns-in-Err
-returns-in-Err c =
+pub returns : goal.returns
+returns c =
     rw c.source_fault.ensures (fault_behind c.args.source.now (module_tree c.in_ok-checked.checked) c.in-Err.fault c.in_ok-checked.ensures (λ is. c.in-Err.ensures.long (ap Err is)))
