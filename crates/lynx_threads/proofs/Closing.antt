@@ -1,10 +1,10 @@
 -- The jumps of handlers, which are written when the address behind their `try` is known.
-use Rattle.std.proofs.Common.{◌≡◌, ℕ, suc, ◌+◌, ◌-◌, ◌<◌, ◌≤◌, List, [], ◌∷◌, ◌++◌, length, get_or, Option, None, Some, refl, sym, ap, subst, ◌∙◌, arith, append_assoc, length-append}
+use Rattle.std.proofs.Common.{◌≡◌, ℕ, ◌+◌, List, [], ◌∷◌, ◌++◌, length, get_or, Some, refl, sym, ap, ◌∙◌, arith, append_assoc, length-append}
 use Rattle.std.specs.Prelude.{slice_set}
 use Rattle.std.specs.List.{slice_get}
 use Rattle.std.proofs.Math.Seq.{set-append_seam, get_or-append_seam}
 use Rattle.std.proofs.lemmas.Option.{slice_get-get_or}
-use Rattle.lynx_tree.specs.Trees.{StmtTrees, HandlerTrees, no_handlers, more_handlers}
+use Rattle.lynx_tree.specs.Trees.{HandlerTrees, no_handlers, more_handlers}
 use Rattle.lynx_typing.specs.Exceptions.{exception_of}
 use Rattle.lynx_typing.specs.declared.exception.Exception.{Exception}
 use Rattle.lynx_code.specs.Generation.{Names, stmts_code, handlers_code, exception_named}

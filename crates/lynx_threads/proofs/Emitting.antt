@@ -66,5 +66,7 @@ each_long {X = X} g xs i x old o lt is long whole =
     omega arith
 
 -- the fault that is handed on is that of the call
-pub as_failed : (r r' : Result (Unit {0}) CompileFault) (e y : CompileFault) → r ≡ Err e → r' ≡ Err y → y ≡ e → r' ≡ Err faults.CodeTooLong → r ≡ Err faults.CodeTooLong
-as_failed r r' e y was is same h = was ∙ ap Err (sym same) ∙ sym is ∙ h
+pub as_failed : {T U : Type 0} (r : Result T CompileFault) (r' : Result U CompileFault) (e y : CompileFault) → r ≡ Err e → r' ≡ Err y → y ≡ e → r' ≡ Err faults.CodeTooLong → r ≡ Err faults.CodeTooLong
+as_failed r r' e y was is same h =
+    let too_long : e ≡ faults.CodeTooLong = cc in
+    subst (λ (x : CompileFault). r ≡ Err x) too_long was

@@ -1,11 +1,11 @@
 -- The parts of a module, one after the other.
-use Rattle.std.proofs.Common.{◌≡◌, ℕ, ◌+◌, ◌<◌, ◌≤◌, List, [], ◌∷◌, ◌++◌, length, drop, get_or, map, refl, sym, ap, subst, ◌∙◌, arith, append_assoc, length-append, length-map}
-use Rattle.std.proofs.lemmas.List.{append-nil, drop_more, drop_all}
-use Rattle.lynx_tree.specs.Trees.{EntryTree, ModuleTree, entry_tree, op_tree}
+use Rattle.std.proofs.Common.{◌≡◌, ℕ, ◌+◌, ◌<◌, ◌≤◌, List, [], ◌∷◌, ◌++◌, length, drop, get_or, map, refl, sym, ap, subst, ◌∙◌, arith, length-append}
+use Rattle.std.proofs.lemmas.List.{append-nil, drop_more, drop_all, length-map}
+use Rattle.lynx_tree.specs.Trees.{EntryTree, ModuleTree, StmtTrees, entry_tree, op_tree}
 use Rattle.lynx_tree.specs.declared.declaration.EntryDecl.{EntryDecl}
 use Rattle.lynx_tree.specs.declared.declaration.OpDecl.{OpDecl}
 use Rattle.lynx_code.specs.Generation.{Names, stmts_code}
-use Rattle.lynx_code.specs.Modules.{PartCode, main_part, entry_part, entry_parts, parts_of, instructions_of, module_code, names_of, local_names, body_code, ArePairs, IsPartOf, IsOpOf}
+use Rattle.lynx_code.specs.Modules.{PartCode, main_part, entry_part, entry_parts, instructions_of, module_code, names_of, local_names, body_code, ArePairs, IsPartOf, IsOpOf}
 use Rattle.lynx_code.specs.declared.code.Part.{Part}
 use Rattle.lynx_code.specs.declared.code.CodeOp.{CodeOp}
 use Rattle.lynx_code.specs.declared.instruction.Instruction.{Instruction}
@@ -36,6 +36,29 @@ too_many m es are many =
     let main : List Instruction = body ++ code.End ∷ [] in
     omega (arith, length-append main (instructions_of (entry_parts m (length main) m.entries)), length-append body (code.End ∷ []), entries_have m (length main) m.entries, ap length are, length-map es entry_tree, many)
 
+-- ---- the body of the module, at the first address
+
+pub main_is : (m : ModuleTree) (o : List Instruction) (names : Names) (body : StmtTrees) → o ≡ [] → names ≡ names_of m [] → body ≡ m.body → o ++ body_code names (length o) body ≡ (main_part m).instructions
+main_is m o names body none known is = λ i. none i ++ body_code (known i) (length (none i)) (is i)
+
+pub main_long : (m : ModuleTree) (o : List Instruction) (names : Names) (body : StmtTrees) → o ≡ [] → names ≡ names_of m [] → body ≡ m.body
+    → 65535 < length o + length (body_code names (length o) body) → 65535 < length (main_part m).instructions
+main_long m o names body none known is long =
+    omega (arith, long, sym (length-append o (body_code names (length o) body)) ∙ ap length (main_is m o names body none known is))
+
+-- the code of a module is too long with its body, or with its entries
+pub too_long_body : (m : ModuleTree) → 65535 < length (main_part m).instructions → 65535 < length (module_code m)
+too_long_body m long =
+    let main : List Instruction = (main_part m).instructions in
+    omega (arith, long, length-append main (instructions_of (entry_parts m (length main) m.entries)))
+
+pub too_long_entries : (m : ModuleTree) (o : List Instruction) → o ≡ (main_part m).instructions → 65535 < length o + length (instructions_of (entry_parts m (length o) m.entries)) → 65535 < length (module_code m)
+too_long_entries m o is long =
+    let main : List Instruction = (main_part m).instructions in
+    let here : 65535 < length main + length (instructions_of (entry_parts m (length main) m.entries)) =
+    subst (λ (x : List Instruction). 65535 < length x + length (instructions_of (entry_parts m (length x) m.entries))) is long in
+    omega (arith, here, length-append main (instructions_of (entry_parts m (length main) m.entries)))
+
 -- ---- parts
 
 pub next_part : (m : ModuleTree) (es : List EntryDecl) (i : ℕ) (e : EntryDecl) (o o' : List Instruction) (whole : List PartCode) (made : List Part) (part : Part) → i < length es → e ≡ get_or es i e → o' ≡ o ++ entry_here m (length o) e
@@ -51,7 +74,7 @@ next_part m es i e o o' whole made part lt is grown h before =
 
 pub last_part : (m : ModuleTree) (es : List EntryDecl) (i at : ℕ) (whole : List PartCode) (made : List Part) → length es ≤ i → IsLeft IsPartOf whole (entry_parts m at (map entry_tree (drop i es))) made → ArePairs IsPartOf whole made
 last_part m es i at whole made le h =
-    all_made IsPartOf whole made (append-nil made) (subst (λ (xs : List EntryDecl). IsLeft IsPartOf whole (entry_parts m at (map entry_tree xs)) made) (drop_all es i le) h)
+    all_made IsPartOf whole made (append-nil made) (subst (λ (xs : List EntryDecl). IsLeft IsPartOf whole (entry_parts m at (map entry_tree xs)) made) (drop_all i es le) h)
 
 -- ---- operations
 
@@ -63,4 +86,4 @@ next_op ops i op made new lt is h before =
 
 pub last_op : (ops : List OpDecl) (i : ℕ) (made : List CodeOp) → length ops ≤ i → IsLeft IsOpOf (map op_tree ops) (map op_tree (drop i ops)) made → ArePairs IsOpOf (map op_tree ops) made
 last_op ops i made le h =
-    all_made IsOpOf (map op_tree ops) made (append-nil made) (subst (λ (xs : List OpDecl). IsLeft IsOpOf (map op_tree ops) (map op_tree xs) made) (drop_all ops i le) h)
+    all_made IsOpOf (map op_tree ops) made (append-nil made) (subst (λ (xs : List OpDecl). IsLeft IsOpOf (map op_tree ops) (map op_tree xs) made) (drop_all i ops le) h)

@@ -7,4 +7,5 @@ pub mod Pairing
 pub mod Placing
 pub mod Scoping
 pub mod Statements
+pub mod Weights
 pub mod Wholes

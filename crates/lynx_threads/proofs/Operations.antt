@@ -1,5 +1,5 @@
 -- The types of the arguments of an operation, by its place.
-use Rattle.std.proofs.Common.{◌≡◌, ℕ, ◌+◌, List, [], ◌∷◌, ◌++◌, map, Bool, true, false, Option, None, Some, cond, refl, sym, ap, ◌∙◌}
+use Rattle.std.proofs.Common.{◌≡◌, ℕ, ◌+◌, List, [], ◌∷◌, ◌++◌, map, Bool, true, false, Option, None, Some, refl, sym, ap, ◌∙◌, add-one, append_assoc}
 use Rattle.std.specs.Prelude.{if◌then◌else◌, option_map}
 use Rattle.std.specs.List.{slice_get}
 use Rattle.std.specs.Str.{bytes_eq}
@@ -7,7 +7,7 @@ use Rattle.std.proofs.lemmas.Option.{slice_get-map}
 use Rattle.lynx_tree.specs.Trees.{OpTree, VarTree, EntryTree, ModuleTree, op_tree}
 use Rattle.lynx_tree.specs.declared.declaration.OpDecl.{OpDecl}
 use Rattle.lynx_tree.specs.declared.declaration.TypeName.{TypeName}
-use Rattle.lynx_typing.specs.Names.{Meaning, Variable, Operation, Entry, Declared, meaning_in, or_outside, arguments_of, known, each_at, op_size, op_named, var_size, var_named, entry_size, entry_named, ops_at, params_at, vars_at, entries_at, module_names, module_scope}
+use Rattle.lynx_typing.specs.Names.{Meaning, Variable, Operation, Entry, Declared, meaning_in, arguments_of, known, each_at, op_size, op_named, var_size, var_named, entry_size, entry_named, ops_at, params_at, vars_at, entries_at, module_scope}
 use Rattle.lynx_code.specs.Modules.{place_in, op_names}
 
 -- the types that a name has as an operation
@@ -46,7 +46,7 @@ one_more : (b : Bool) (op : OpTree) (ops : List OpTree) (p : Option ℕ) (o : Op
     → known (arguments_of (if b then Some (Operation op.arguments op.results) else o)) ≡ types_at (op ∷ ops) (if b then Some 0 else option_map (λ place. place + 1) p)
 one_more true op ops p o h = refl
 one_more false op ops None o h = h
-one_more false op ops (Some place) o h = h
+one_more false op ops (Some place) o h = h ∙ ap (λ k. types_of (slice_get (op ∷ ops) k)) (sym (add-one place))
 
 operations_found : (at : ℕ) (ops : List OpTree) (rest : List Declared) (q : List ℕ) → types_in rest q ≡ [] → types_in (each_at op_size op_named at ops ++ rest) q ≡ types_at ops (place_in (map (λ op. op.name) ops) q)
 operations_found at [] rest q h = h
@@ -56,7 +56,14 @@ operations_found at (op ∷ ops) rest q h =
 -- the arguments of the operation of a name
 pub arguments_found : (m : ModuleTree) (q : List ℕ) → known (arguments_of (module_scope m q)) ≡ types_at m.ops (place_in (op_names m) q)
 arguments_found m q =
-    operations_found ops_at m.ops _ q (variables_none (params_at m) m.params _ q (variables_none (vars_at m) m.vars _ q (entries_none (entries_at m) m.entries q)))
+    let ops : List Declared = each_at op_size op_named ops_at m.ops in
+    let params : List Declared = each_at var_size var_named (params_at m) m.params in
+    let vars : List Declared = each_at var_size var_named (vars_at m) m.vars in
+    let entries : List Declared = each_at entry_size entry_named (entries_at m) m.entries in
+    let nested : ((ops ++ params) ++ vars) ++ entries ≡ ops ++ (params ++ (vars ++ entries)) = append_assoc (ops ++ params) vars entries ∙ append_assoc ops params (vars ++ entries) in
+    ap (λ (ds : List Declared). types_in ds q) nested
+    ∙ operations_found ops_at m.ops (params ++ (vars ++ entries)) q
+    (variables_none (params_at m) m.params (vars ++ entries) q (variables_none (vars_at m) m.vars entries q (entries_none (entries_at m) m.entries q)))
 
 -- ---- the same of operations as they are kept
 

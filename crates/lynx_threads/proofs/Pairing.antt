@@ -1,6 +1,5 @@
 -- Lists of values that are made one after the other, and what they are made of.
-use Rattle.std.proofs.Common.{◌≡◌, ℕ, ◌+◌, ◌<◌, ◌≤◌, List, [], ◌∷◌, ◌++◌, length, drop, get_or, refl, sym, ap, subst, ◌∙◌, append_assoc}
-use Rattle.std.proofs.lemmas.List.{drop_more}
+use Rattle.std.proofs.Common.{◌≡◌, List, [], ◌∷◌, ◌++◌, sym, subst, append_assoc}
 use Rattle.lynx_code.specs.Modules.{ArePairs}
 
 pub pairs_append : {X Y : Type 0} (P : X → Y → Type 0) (xs xs' : List X) (ys ys' : List Y) → ArePairs P xs ys → ArePairs P xs' ys' → ArePairs P (xs ++ xs') (ys ++ ys')

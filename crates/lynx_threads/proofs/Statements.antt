@@ -1,16 +1,15 @@
 -- The code of statements, by that of their parts.
-use Rattle.std.proofs.Common.{◌≡◌, ℕ, ◌+◌, ◌<◌, List, [], ◌∷◌, ◌++◌, length, ◌≤◌, ◌-◌, drop, get_or, map, reverse, refl, sym, ap, subst, ◌∙◌, arith, append_assoc, length-append, length-drop}
+use Rattle.std.proofs.Common.{◌≡◌, ℕ, ◌+◌, ◌<◌, List, [], ◌∷◌, ◌++◌, length, ◌≤◌, ◌-◌, drop, get_or, map, reverse, refl, sym, ap, ◌∙◌, arith, append_assoc, length-append, length-drop}
 use Rattle.std.proofs.lemmas.List.{drop_more, reverse-append, map-append, length-map, length-reverse}
 use Rattle.lynx_tree.specs.declared.statement.Stmt as stmt
 use Rattle.lynx_tree.specs.declared.statement.Handler.{Handler}
-use Rattle.lynx_tree.specs.Trees.{ExprTree, StmtTrees, stmt_tree, stmt_list, handler_list}
-use Rattle.lynx_tree.specs.Trees as trees
+use Rattle.lynx_tree.specs.Trees.{StmtTrees, stmt_tree, stmt_list, handler_list}
 use Rattle.lynx_typing.specs.Exceptions.{exception_of}
-use Rattle.lynx_code.specs.Generation.{Names, expr_code, stmt_code, stmts_code, handlers_code, exception_named, store, stores}
+use Rattle.lynx_code.specs.Generation.{Names, stmt_code, stmts_code, handlers_code, exception_named, store, stores}
 use Rattle.lynx_code.specs.declared.instruction.Instruction.{Instruction}
 use Rattle.lynx_code.specs.declared.instruction.Instruction.TheVariants as code
 use Rattle.lynx_threads.specs.Jumps.{over_code, handler_code}
-use Rattle.lynx_threads.proofs.Emitting.{each, both, first_long, both_long}
+use Rattle.lynx_threads.proofs.Emitting.{each}
 
 -- ---- lists
 
@@ -52,7 +51,7 @@ stores_step names xs i j x o o' old place is grown before =
     grown ∙ ap (λ (y : List Instruction). y ++ store names x ∷ []) before ∙ append_assoc old (stores names rest) (store names x ∷ []) ∙ ap (λ (y : List Instruction). old ++ y) (sym (ap (stores names) here ∙ turned))
 
 pub stores_end : (names : Names) (xs : List (List ℕ)) (i : ℕ) (o old : List Instruction) → length xs ≤ i → o ≡ old ++ stores names (drop (length xs - i) xs) → o ≡ old ++ stores names xs
-stores_end names xs i o old le h = h ∙ ap (λ k. old ++ stores names (drop k xs)) (omega arith)
+stores_end names xs i o old le h = let all : length xs - i ≡ 0 = omega arith in h ∙ ap (λ k. old ++ stores names (drop k xs)) all
 
 pub stores_count : (names : Names) (xs : List (List ℕ)) → length (stores names xs) ≡ length xs
 stores_count names xs = length-map (reverse xs) (store names) ∙ length-reverse xs

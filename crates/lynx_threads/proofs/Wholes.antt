@@ -87,32 +87,27 @@ module _ (names : Names) (at : ℕ) where
       → seq (seq (λ k. exprs_code names k values) (λ k. load names link ∷ code.Connect (names.op op) ∷ [])) (λ k. stores names xs) at ≡ stmt_code names at (trees.Connect op link values xs)
   connect_is op link values xs = append_assoc (exprs_code names at values) (load names link ∷ code.Connect (names.op op) ∷ []) (stores names xs)
 
--- ---- choices, as they lie in memory
+-- ---- statements, as they lie in memory
 
-pub choice_view : (names : Names) (at : ℕ) (s : stmt.Stmt) (condition : Box expr.Expr) (then : Vec stmt.Stmt) (otherwise : Option (Vec stmt.Stmt)) (x : expr.Expr) (xs : List stmt.Stmt) → s ≡ stmt.If condition then otherwise → x ≡ condition.value → xs ≡ then.items
-    → stmt_code names at (choice_tree (expr_tree x) (stmt_list xs) (else_list otherwise)) ≡ stmt_code names at (stmt_tree s)
-choice_view names at s condition then None x xs is head are =
-    (λ i. stmt_code names at (trees.If (expr_tree (head i)) (stmt_list (are i)))) ∙ ap (stmt_code names at) (sym (ap stmt_tree is ∙ if_tree condition then))
-choice_view names at s condition then (Some otherwise) x xs is head are =
-    (λ i. stmt_code names at (trees.IfElse (expr_tree (head i)) (stmt_list (are i)) (stmt_list otherwise.items))) ∙ ap (stmt_code names at) (sym (ap stmt_tree is ∙ if_else_tree condition then otherwise))
+pub choice_view : (s : stmt.Stmt) (condition : Box expr.Expr) (then : Vec stmt.Stmt) (otherwise : Option (Vec stmt.Stmt)) (x : expr.Expr) (xs : List stmt.Stmt) → s ≡ stmt.If condition then otherwise → x ≡ condition.value → xs ≡ then.items
+    → choice_tree (expr_tree x) (stmt_list xs) (else_list otherwise) ≡ stmt_tree s
+choice_view s condition then None x xs is head are = (λ i. trees.If (expr_tree (head i)) (stmt_list (are i))) ∙ sym (ap stmt_tree is ∙ if_tree condition then)
+choice_view s condition then (Some otherwise) x xs is head are =
+    (λ i. trees.IfElse (expr_tree (head i)) (stmt_list (are i)) (stmt_list otherwise.items)) ∙ sym (ap stmt_tree is ∙ if_else_tree condition then otherwise)
 
-pub else_view : (names : Names) (at : ℕ) (x : ExprTree) (b : StmtTrees) (o : Option (Vec stmt.Stmt)) (v : Vec stmt.Stmt) (xs : List stmt.Stmt) → o ≡ Some v → xs ≡ v.items
-    → stmt_code names at (trees.IfElse x b (stmt_list xs)) ≡ stmt_code names at (choice_tree x b (else_list o))
-else_view names at x b o v xs is are = ap (λ (ys : List stmt.Stmt). stmt_code names at (trees.IfElse x b (stmt_list ys))) are ∙ ap (λ (e : Option (Vec stmt.Stmt)). stmt_code names at (choice_tree x b (else_list e))) (sym is)
+pub else_view : (x : ExprTree) (b : StmtTrees) (o : Option (Vec stmt.Stmt)) (v : Vec stmt.Stmt) (xs : List stmt.Stmt) → o ≡ Some v → xs ≡ v.items → trees.IfElse x b (stmt_list xs) ≡ choice_tree x b (else_list o)
+else_view x b o v xs is are = ap (λ (ys : List stmt.Stmt). trees.IfElse x b (stmt_list ys)) are ∙ ap (λ (e : Option (Vec stmt.Stmt)). choice_tree x b (else_list e)) (sym is)
 
-pub while_view : (names : Names) (at : ℕ) (s : stmt.Stmt) (condition : expr.Expr) (body : Vec stmt.Stmt) (xs : List stmt.Stmt) → s ≡ stmt.While condition body → xs ≡ body.items
-    → stmt_code names at (trees.While (expr_tree condition) (stmt_list xs)) ≡ stmt_code names at (stmt_tree s)
-while_view names at s condition body xs is are = ap (λ (ys : List stmt.Stmt). stmt_code names at (trees.While (expr_tree condition) (stmt_list ys))) are ∙ ap (stmt_code names at) (sym (ap stmt_tree is ∙ while_tree condition body))
+pub while_view : (s : stmt.Stmt) (condition : expr.Expr) (body : Vec stmt.Stmt) (xs : List stmt.Stmt) → s ≡ stmt.While condition body → xs ≡ body.items → trees.While (expr_tree condition) (stmt_list xs) ≡ stmt_tree s
+while_view s condition body xs is are = ap (λ (ys : List stmt.Stmt). trees.While (expr_tree condition) (stmt_list ys)) are ∙ sym (ap stmt_tree is ∙ while_tree condition body)
 
-pub accept_view : (names : Names) (at : ℕ) (s : stmt.Stmt) (op link : List ℕ) (ns : Vec (List ℕ)) (body : Vec stmt.Stmt) (ys : List (List ℕ)) (xs : List stmt.Stmt) → s ≡ stmt.Accept op link ns body → ys ≡ ns.items → xs ≡ body.items
-    → stmt_code names at (trees.Accept op link ys (stmt_list xs)) ≡ stmt_code names at (stmt_tree s)
-accept_view names at s op link ns body ys xs is named are =
-    (λ i. stmt_code names at (trees.Accept op link (named i) (stmt_list (are i)))) ∙ ap (stmt_code names at) (sym (ap stmt_tree is ∙ accept_tree op link ns body))
+pub accept_view : (s : stmt.Stmt) (op link : List ℕ) (ns : Vec (List ℕ)) (body : Vec stmt.Stmt) (ys : List (List ℕ)) (xs : List stmt.Stmt) → s ≡ stmt.Accept op link ns body → ys ≡ ns.items → xs ≡ body.items
+    → trees.Accept op link ys (stmt_list xs) ≡ stmt_tree s
+accept_view s op link ns body ys xs is named are = (λ i. trees.Accept op link (named i) (stmt_list (are i))) ∙ sym (ap stmt_tree is ∙ accept_tree op link ns body)
 
-pub try_view : (names : Names) (at : ℕ) (s : stmt.Stmt) (body : Vec stmt.Stmt) (handlers : Vec Handler) (xs : List stmt.Stmt) (hs : List Handler) → s ≡ stmt.Try body handlers → xs ≡ body.items → hs ≡ handlers.items
-    → stmt_code names at (trees.Try (stmt_list xs) (handler_list hs)) ≡ stmt_code names at (stmt_tree s)
-try_view names at s body handlers xs hs is are caught =
-    (λ i. stmt_code names at (trees.Try (stmt_list (are i)) (handler_list (caught i)))) ∙ ap (stmt_code names at) (sym (ap stmt_tree is ∙ try_tree body handlers))
+pub try_view : (s : stmt.Stmt) (body : Vec stmt.Stmt) (handlers : Vec Handler) (xs : List stmt.Stmt) (hs : List Handler) → s ≡ stmt.Try body handlers → xs ≡ body.items → hs ≡ handlers.items
+    → trees.Try (stmt_list xs) (handler_list hs) ≡ stmt_tree s
+try_view s body handlers xs hs is are caught = (λ i. trees.Try (stmt_list (are i)) (handler_list (caught i))) ∙ sym (ap stmt_tree is ∙ try_tree body handlers)
 
 pub handler_view : (names : Names) (at : ℕ) (h : Handler) (x : Exception) (xs : List stmt.Stmt) → x ≡ exception_named (exception_of h.name) → xs ≡ h.body.items
     → over_code names (code.Case x) 1 at (stmt_list xs) ≡ over_code names (code.Case (exception_named (exception_of h.name))) 1 at (stmt_list h.body.items)

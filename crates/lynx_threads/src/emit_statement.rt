@@ -1,6 +1,6 @@
 //! The code of statements.
 
-ghost use Rattle.std.specs.Prelude.{◌≡◌, ◌≢◌, ◌<◌, ◌≤◌, ◌+◌, ◌∷◌, [], ◌++◌, List, ℕ, length, map, reverse, true, Err, OnOk, IfOk};
+ghost use Rattle.std.specs.Prelude.{◌≡◌, ◌≢◌, ◌<◌, ◌≤◌, ◌+◌, ◌∷◌, [], ◌++◌, List, ℕ, length, map, reverse, slice_get, true, Err, Some, OnOk, IfOk};
 ghost use Rattle.lynx_tree.specs.Trees.{expr_tree, expr_list, stmt_tree, stmt_list, handler_list, else_list, assign_tree, If, IfElse, While, Await, New, Bind, Unbind, Connect, Accept, Reply, Try};
 ghost use Rattle.lynx_code.specs.Generation.{expr_code, exprs_code, stmt_code, stmts_code, handlers_code, store, stores, exception_named};
 ghost use Rattle.lynx_code.specs.declared.instruction.Instruction.TheVariants as code_of;
@@ -381,18 +381,26 @@ fn emit_handlers(
     Ok(())
 }
 
+/// The address behind the handler whose `case` stands at this address; 0 where there is none.
+fn next_handler(code: &[Instruction], at: usize) -> usize
+    ensures { (x : Exception) (next : ℕ) → slice_get code.now at ≡ Some (code_of.Case x next) → result ≡ next }
+{
+    match code.get(at) {
+        Some(Instruction::Case(_, next)) => usize::from(*next),
+        _ => 0,
+    }
+}
+
 /// Writes the jump of a handler that begins at an address, and answers the address behind the handler.
 fn close_handler(code: &mut Vec<Instruction>, at: usize, end: u16) -> usize
     ensures { (before body rest : List Instruction) (x : Exception) (next : ℕ) (kept : Instruction) → at ≡ length before → next ≡ at + 1 + length body + 1
         → code.old.items ≡ before ++ code_of.Case x next ∷ (body ++ kept ∷ rest) → (result ≡ next) × (code.new.items ≡ before ++ code_of.Case x next ∷ (body ++ code_of.Jump end ∷ rest)) }
 {
-    let Some(Instruction::Case(_, next)) = code.get(at) else {
-        return at;
-    };
-    let next = usize::from(*next);
-    if 0 < next && next <= code.len() {
-        code[next - 1] = Instruction::Jump(end);
+    let next = next_handler(code, at);
+    if next == 0 || code.len() < next {
+        return next;
     }
+    code[next - 1] = Instruction::Jump(end);
     next
 }
 

@@ -1,7 +1,6 @@
-use Rattle.std.proofs.Common.{◌≡◌, ◌<◌, ◌+◌, ◌++◌, [], ◌∷◌, List, Err, length, ap, subst, sym, ◌∙◌, arith}
+use Rattle.std.proofs.Common.{◌≡◌, ◌<◌, ◌+◌, ◌++◌, [], ◌∷◌, List, length, ap, subst, ◌∙◌, arith}
 use Rattle.lynx_code.specs.declared.instruction.Instruction.{Instruction}
 use Rattle.lynx_threads.specs.Chains.{chain_jump}
-use Rattle.lynx_threads.specs.declared.fault.CompileFault.TheVariants as faults
 use Rattle.lynx_threads.specs.Tables.{names_in}
 use Rattle.lynx_tree.specs.Trees.{expr_tree, sum_list, term_list}
 use Rattle.lynx_code.specs.Generation.{expr_code, sum_code, term_code, sum_operator, term_operator}

@@ -1,56 +1,81 @@
-use Rattle.std.proofs.Common.{◌≡◌, ◌<◌, ◌+◌, ◌++◌, [], ◌∷◌, ℕ, List, Option, Err, length, ap, subst, sym, refl, ◌∙◌, arith, append_assoc}
-use Rattle.std.specs.Global.{Vec}
+use Rattle.std.proofs.Common.{◌≡◌, ◌<◌, ◌+◌, ◌++◌, [], ◌∷◌, ℕ, List, length, ap, subst, ◌∙◌, arith, append_assoc}
 use Rattle.std.proofs.lemmas.Result.{err_from_is_err_and}
 use Rattle.lynx_code.specs.declared.instruction.Instruction.{Instruction}
 use Rattle.lynx_code.specs.declared.instruction.Instruction.TheVariants as code
-use Rattle.lynx_code.specs.Generation.{Names, load, expr_code, stmt_code, stmts_code, stores}
-use Rattle.lynx_tree.specs.Trees.{expr_tree, stmt_list, handler_list, else_list}
+use Rattle.lynx_code.specs.Generation.{load, expr_code, stmt_code, stmts_code, stores}
+use Rattle.lynx_tree.specs.Trees.{expr_tree, stmt_list, handler_list}
 use Rattle.lynx_tree.specs.declared.statement.Stmt as stmt
-use Rattle.lynx_threads.specs.declared.fault.CompileFault.TheVariants as faults
-use Rattle.lynx_threads.specs.Jumps.{over_code, choice_tree}
+use Rattle.lynx_threads.specs.Jumps.{over_code}
 use Rattle.lynx_threads.specs.Tables.{names_in}
-use Rattle.lynx_threads.proofs.Emitting.{as_failed, each_end, each_long, same_ok, same_long, both_ok, both_long}
+use Rattle.lynx_threads.proofs.Emitting.{as_failed, each_end, each_long, same_ok, same_long}
 use Rattle.lynx_threads.proofs.Statements.{stmt_here, handler_here, stmts_are, handlers_are}
-use Rattle.lynx_threads.proofs.Wholes.{seq, one, then_ok, is_ok, one_long, no_more, seq_ok, seq_first, seq_second, seq_more, if_is, choice_is, while_is, accept_is, choice_view, else_view, while_view, accept_view, try_view, handler_view, handlers_number, try_first, try_second, try_third, try_is}
+use Rattle.lynx_threads.proofs.Wholes.{seq, one, then_ok, is_ok, one_long, no_more, seq_ok, seq_first, seq_second, seq_more, if_is, choice_is, while_is, accept_is, choice_view, while_view, accept_view, try_view, handler_view, handlers_number, try_first, try_second, try_third, try_is}
+use Rattle.lynx_threads.proofs.Weights.{stmt_weight, stmts_weight, one_stmt, one_handler}
 use Rattle.lynx_threads.proofs.emit_statement.+emit_statement.Goals as goal
+
+-- ---- each call is for less
+
+pub emit_stmt-emit_choice-requires : goal.emit_stmt-emit_choice-requires
+emit_stmt-emit_choice-requires t c =
+    omega (arith, c.decreases, ap stmt_weight (choice_view c.args.stmt.now c.in-If.condition c.in-If.then c.in-If.otherwise c.deref.result.now c.deref-in-If.result.now c.in-If.is c.deref.ensures c.deref-in-If.ensures.value))
+
+pub emit_stmt-emit_while-requires : goal.emit_stmt-emit_while-requires
+emit_stmt-emit_while-requires t c = omega (arith, c.decreases, ap stmt_weight (while_view c.args.stmt.now c.in-While.condition c.in-While.body c.deref-in-While.result.now c.in-While.is c.deref-in-While.ensures.value))
+
+pub emit_stmt-emit_accept-requires : goal.emit_stmt-emit_accept-requires
+emit_stmt-emit_accept-requires t c =
+    omega (arith, c.decreases, ap stmt_weight (accept_view c.args.stmt.now c.in-Accept.op c.in-Accept.link c.in-Accept.arguments c.in-Accept.body c.deref-in-Accept.result.now c.deref-in-Accept-2.result.now c.in-Accept.is c.deref-in-Accept.ensures.value c.deref-in-Accept-2.ensures.value))
+
+pub emit_stmt-emit_try-requires : goal.emit_stmt-emit_try-requires
+emit_stmt-emit_try-requires t c =
+    omega (arith, c.decreases, ap stmt_weight (try_view c.args.stmt.now c.in-Try.body c.in-Try.handlers c.deref-in-Try.result.now c.deref-in-Try-2.result.now c.in-Try.is c.deref-in-Try.ensures.value c.deref-in-Try-2.ensures.value))
+
+pub emit_stmts-emit_stmt-requires : goal.emit_stmts-emit_stmt-requires
+emit_stmts-emit_stmt-requires t c = omega (arith, c.decreases, one_stmt c.args.stmts.now c.loop-stmt.stmt-index c.stmt-item.result (omega arith) c.stmt-item.is)
+
+pub emit_handlers-emit_handler-requires : goal.emit_handlers-emit_handler-requires
+emit_handlers-emit_handler-requires t c = omega (arith, c.decreases, one_handler c.args.handlers.now c.loop-handler.handler-index c.handler-item.result (omega arith) c.handler-item.is)
+
+pub emit_handler-emit_over-requires : goal.emit_handler-emit_over-requires
+emit_handler-emit_over-requires t c = omega (arith, c.decreases, ap (λ (xs : List stmt.Stmt). stmts_weight (stmt_list xs)) c.deref.ensures.value)
 
 -- ---- statements with others inside
 
 pub emit_stmt-returns-in-If-clause-ok : goal.emit_stmt-returns-in-If-clause-ok
 emit_stmt-returns-in-If-clause-ok t c =
-    same_ok c.emit_choice.result c.args.code.now.items c.emit_choice.new.code.items _ _ (choice_view (names_in c.args.names.now) (length c.args.code.now.items) c.args.stmt.now c.in-If.condition c.in-If.then c.in-If.otherwise c.deref.result.now c.deref-in-If.result.now c.in-If.is c.deref.ensures c.deref-in-If.ensures.value) c.emit_choice.ensures.ok
+    same_ok c.emit_choice.result c.args.code.now.items c.emit_choice.new.code.items _ _ (ap (stmt_code (names_in c.args.names.now) (length c.args.code.now.items)) (choice_view c.args.stmt.now c.in-If.condition c.in-If.then c.in-If.otherwise c.deref.result.now c.deref-in-If.result.now c.in-If.is c.deref.ensures c.deref-in-If.ensures.value)) c.emit_choice.ensures.ok
 
 pub emit_stmt-returns-in-If-clause-long : goal.emit_stmt-returns-in-If-clause-long
 emit_stmt-returns-in-If-clause-long t c h =
-    same_long c.args.code.now.items _ _ (choice_view (names_in c.args.names.now) (length c.args.code.now.items) c.args.stmt.now c.in-If.condition c.in-If.then c.in-If.otherwise c.deref.result.now c.deref-in-If.result.now c.in-If.is c.deref.ensures c.deref-in-If.ensures.value) (c.emit_choice.ensures.long h)
+    same_long c.args.code.now.items _ _ (ap (stmt_code (names_in c.args.names.now) (length c.args.code.now.items)) (choice_view c.args.stmt.now c.in-If.condition c.in-If.then c.in-If.otherwise c.deref.result.now c.deref-in-If.result.now c.in-If.is c.deref.ensures c.deref-in-If.ensures.value)) (c.emit_choice.ensures.long h)
 
 pub emit_stmt-returns-in-While-clause-ok : goal.emit_stmt-returns-in-While-clause-ok
 emit_stmt-returns-in-While-clause-ok t c =
-    same_ok c.emit_while.result c.args.code.now.items c.emit_while.new.code.items _ _ (while_view (names_in c.args.names.now) (length c.args.code.now.items) c.args.stmt.now c.in-While.condition c.in-While.body c.deref-in-While.result.now c.in-While.is c.deref-in-While.ensures.value) c.emit_while.ensures.ok
+    same_ok c.emit_while.result c.args.code.now.items c.emit_while.new.code.items _ _ (ap (stmt_code (names_in c.args.names.now) (length c.args.code.now.items)) (while_view c.args.stmt.now c.in-While.condition c.in-While.body c.deref-in-While.result.now c.in-While.is c.deref-in-While.ensures.value)) c.emit_while.ensures.ok
 
 pub emit_stmt-returns-in-While-clause-long : goal.emit_stmt-returns-in-While-clause-long
 emit_stmt-returns-in-While-clause-long t c h =
-    same_long c.args.code.now.items _ _ (while_view (names_in c.args.names.now) (length c.args.code.now.items) c.args.stmt.now c.in-While.condition c.in-While.body c.deref-in-While.result.now c.in-While.is c.deref-in-While.ensures.value) (c.emit_while.ensures.long h)
+    same_long c.args.code.now.items _ _ (ap (stmt_code (names_in c.args.names.now) (length c.args.code.now.items)) (while_view c.args.stmt.now c.in-While.condition c.in-While.body c.deref-in-While.result.now c.in-While.is c.deref-in-While.ensures.value)) (c.emit_while.ensures.long h)
 
 pub emit_stmt-returns-in-Accept-clause-ok : goal.emit_stmt-returns-in-Accept-clause-ok
 emit_stmt-returns-in-Accept-clause-ok t c =
     same_ok c.emit_accept.result c.args.code.now.items c.emit_accept.new.code.items _ _
-    (accept_view (names_in c.args.names.now) (length c.args.code.now.items) c.args.stmt.now c.in-Accept.op c.in-Accept.link c.in-Accept.arguments c.in-Accept.body c.deref-in-Accept.result.now c.deref-in-Accept-2.result.now c.in-Accept.is c.deref-in-Accept.ensures.value c.deref-in-Accept-2.ensures.value) c.emit_accept.ensures.ok
+    (ap (stmt_code (names_in c.args.names.now) (length c.args.code.now.items)) (accept_view c.args.stmt.now c.in-Accept.op c.in-Accept.link c.in-Accept.arguments c.in-Accept.body c.deref-in-Accept.result.now c.deref-in-Accept-2.result.now c.in-Accept.is c.deref-in-Accept.ensures.value c.deref-in-Accept-2.ensures.value)) c.emit_accept.ensures.ok
 
 pub emit_stmt-returns-in-Accept-clause-long : goal.emit_stmt-returns-in-Accept-clause-long
 emit_stmt-returns-in-Accept-clause-long t c h =
     same_long c.args.code.now.items _ _
-    (accept_view (names_in c.args.names.now) (length c.args.code.now.items) c.args.stmt.now c.in-Accept.op c.in-Accept.link c.in-Accept.arguments c.in-Accept.body c.deref-in-Accept.result.now c.deref-in-Accept-2.result.now c.in-Accept.is c.deref-in-Accept.ensures.value c.deref-in-Accept-2.ensures.value) (c.emit_accept.ensures.long h)
+    (ap (stmt_code (names_in c.args.names.now) (length c.args.code.now.items)) (accept_view c.args.stmt.now c.in-Accept.op c.in-Accept.link c.in-Accept.arguments c.in-Accept.body c.deref-in-Accept.result.now c.deref-in-Accept-2.result.now c.in-Accept.is c.deref-in-Accept.ensures.value c.deref-in-Accept-2.ensures.value)) (c.emit_accept.ensures.long h)
 
 pub emit_stmt-returns-in-Try-clause-ok : goal.emit_stmt-returns-in-Try-clause-ok
 emit_stmt-returns-in-Try-clause-ok t c =
     same_ok c.emit_try.result c.args.code.now.items c.emit_try.new.code.items _ _
-    (try_view (names_in c.args.names.now) (length c.args.code.now.items) c.args.stmt.now c.in-Try.body c.in-Try.handlers c.deref-in-Try.result.now c.deref-in-Try-2.result.now c.in-Try.is c.deref-in-Try.ensures.value c.deref-in-Try-2.ensures.value) c.emit_try.ensures.ok
+    (ap (stmt_code (names_in c.args.names.now) (length c.args.code.now.items)) (try_view c.args.stmt.now c.in-Try.body c.in-Try.handlers c.deref-in-Try.result.now c.deref-in-Try-2.result.now c.in-Try.is c.deref-in-Try.ensures.value c.deref-in-Try-2.ensures.value)) c.emit_try.ensures.ok
 
 pub emit_stmt-returns-in-Try-clause-long : goal.emit_stmt-returns-in-Try-clause-long
 emit_stmt-returns-in-Try-clause-long t c h =
     same_long c.args.code.now.items _ _
-    (try_view (names_in c.args.names.now) (length c.args.code.now.items) c.args.stmt.now c.in-Try.body c.in-Try.handlers c.deref-in-Try.result.now c.deref-in-Try-2.result.now c.in-Try.is c.deref-in-Try.ensures.value c.deref-in-Try-2.ensures.value) (c.emit_try.ensures.long h)
+    (ap (stmt_code (names_in c.args.names.now) (length c.args.code.now.items)) (try_view c.args.stmt.now c.in-Try.body c.in-Try.handlers c.deref-in-Try.result.now c.deref-in-Try-2.result.now c.in-Try.is c.deref-in-Try.ensures.value c.deref-in-Try-2.ensures.value)) (c.emit_try.ensures.long h)
 
 -- ---- lists
 
@@ -199,14 +224,14 @@ emit_try-returns-in_err-emit_caught-clause-long t c h =
 pub emit_try-returns-in_err-end-clause-long : goal.emit_try-returns-in_err-end-clause-long
 emit_try-returns-in_err-end-clause-long t c h =
     let p = err_from_is_err_and c.from_residual-in_err-end.result c.from_residual-in_err-end.ensures.1 in
-    let failed : c.behind.result ≡ Err faults.CodeTooLong = c.in_err-end.was ∙ ap Err (sym p.2) ∙ sym p.1 ∙ h in
+    let failed = as_failed c.behind.result c.from_residual-in_err-end.result c.in_err-end.field-0.0 p.0 c.in_err-end.was p.1 p.2 h in
     try_third (names_in c.args.names.now) (stmt_list c.args.body.now) (handler_list c.args.handlers.now) c.args.code.now.items c.emit_guarded.new.code.items c.emit_caught.new.code.items c.in_ok-emit_guarded.ensures.ok c.in_ok-emit_caught.ensures.ok
-    (c.behind.ensures.long failed)
+    (subst (λ (is : List Instruction). 65535 < length is + 0) c.deref.ensures.value (c.behind.ensures.long failed))
 
 pub emit_try-returns-clause-ok : goal.emit_try-returns-clause-ok
 emit_try-returns-clause-ok t c =
-    try_is (names_in c.args.names.now) (stmt_list c.args.body.now) (handler_list c.args.handlers.now) c.args.code.now.items c.emit_guarded.new.code.items c.emit_caught.new.code.items c.close_try.new.code.items (length c.emit_guarded.new.code.items) c.in_ok-end.end (length c.args.handlers.now)
-    c.in_ok-emit_guarded.ensures.ok refl c.in_ok-emit_caught.ensures.ok c.in_ok-end.ensures.ok (handlers_number c.args.handlers.now) c.close_try.ensures
+    try_is (names_in c.args.names.now) (stmt_list c.args.body.now) (handler_list c.args.handlers.now) c.args.code.now.items c.emit_guarded.new.code.items c.emit_caught.new.code.items c.close_try.new.code.items c.len-first.result c.in_ok-end.end (length c.args.handlers.now)
+    c.in_ok-emit_guarded.ensures.ok (omega arith) c.in_ok-emit_caught.ensures.ok (c.in_ok-end.ensures.ok ∙ ap (λ (is : List Instruction). length is + 0) c.deref.ensures.value) (handlers_number c.args.handlers.now) c.close_try.ensures
 
 -- ---- accepts
 

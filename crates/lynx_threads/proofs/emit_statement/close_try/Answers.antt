@@ -1,4 +1,4 @@
-use Rattle.std.proofs.Common.{◌+◌, [], ◌∷◌, ◌++◌, sym, ◌∙◌, arith, append_assoc, length-append}
+use Rattle.std.proofs.Common.{[], ◌∷◌, ◌++◌, sym, ◌∙◌, arith, append_assoc, length-append}
 use Rattle.lynx_code.specs.Generation.{handlers_code}
 use Rattle.lynx_code.specs.declared.instruction.Instruction.TheVariants as code
 use Rattle.lynx_threads.proofs.emit_statement.close_try.Goals as goal

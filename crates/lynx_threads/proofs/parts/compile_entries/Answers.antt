@@ -1,10 +1,10 @@
-use Rattle.std.proofs.Common.{◌≡◌, ◌<◌, ◌+◌, ◌++◌, List, length, drop, map, ap, sym, subst, refl, ◌∙◌, arith}
+use Rattle.std.proofs.Common.{◌<◌, ◌+◌, ◌++◌, List, length, drop, map, ap, sym, subst, refl, ◌∙◌, arith}
 use Rattle.std.proofs.lemmas.Result.{err_from_is_err_and}
 use Rattle.lynx_tree.specs.Trees.{module_tree, entry_tree}
 use Rattle.lynx_code.specs.declared.code.Part.{Part}
 use Rattle.lynx_code.specs.declared.instruction.Instruction.{Instruction}
-use Rattle.lynx_code.specs.Modules.{entry_parts, IsPartOf}
-use Rattle.lynx_threads.proofs.Emitting.{each_step, each_end, each_long}
+use Rattle.lynx_code.specs.Modules.{PartCode, entry_parts, IsPartOf}
+use Rattle.lynx_threads.proofs.Emitting.{as_failed, each_step, each_end, each_long}
 use Rattle.lynx_threads.proofs.Entries.{entry_here, entries_are, next_part, last_part}
 use Rattle.lynx_threads.proofs.Pairing.{IsLeft, pairs_append}
 use Rattle.lynx_threads.proofs.parts.compile_entries.Goals as goal
@@ -24,11 +24,12 @@ loop-entry-preserved c =
     let e = c.entry-item.result in
     let o = c.loop-entry.code.items in
     let o' = c.compile_entry.new.code.items in
+    let all : List PartCode = entry_parts m (length c.args.code.now.items) (map entry_tree es) in
     record {
       ok = each_step (entry_here m) es i e o o' _ (omega arith) c.entry-item.is c.in_ok-part.ensures.ok c.loop-entry.invariant.ok;
       parts = λ before h.
-          subst (λ (made : List Part). IsLeft IsPartOf _ (entry_parts m (length o') (map entry_tree (drop (i + 1) es))) made) (sym c.in_ok-push.ensures.items)
-          (next_part m es i e o o' _ c.loop-entry.parts.items c.in_ok-part.part (omega arith) c.entry-item.is c.in_ok-part.ensures.ok c.in_ok-part.ensures.part (c.loop-entry.invariant.parts before h));
+          subst (λ (made : List Part). IsLeft IsPartOf (before ++ all) (entry_parts m (length o') (map entry_tree (drop (i + 1) es))) made) (sym c.in_ok-push.ensures.items)
+          (next_part m es i e o o' (before ++ all) c.loop-entry.parts.items c.in_ok-part.part (omega arith) c.entry-item.is c.in_ok-part.ensures.ok c.in_ok-part.ensures.part (c.loop-entry.invariant.parts before h));
       fits = c.in_ok-part.ensures.fits;
     }
 
@@ -41,3 +42,11 @@ returns-clause-ok c =
     let m = module_tree c.args.tree.now in
     each_end (entry_here m) c.args.entries.now c.loop-entry.entry-index c.args.code.now.items c.loop-entry.code.items (omega arith) c.loop-entry.invariant.ok
     ∙ ap (λ (is : List Instruction). c.args.code.now.items ++ is) (entries_are m (length c.args.code.now.items) c.args.entries.now)
+
+pub returns-in_err-part-clause-long : goal.returns-in_err-part-clause-long
+returns-in_err-part-clause-long c h =
+    let m = module_tree c.args.tree.now in
+    let p = err_from_is_err_and c.from_residual.result c.from_residual.ensures.1 in
+    let failed = as_failed c.compile_entry.result c.from_residual.result c.in_err-part.field-0.0 p.0 c.in_err-part.was p.1 p.2 h in
+    subst (λ (is : List Instruction). 65535 < length c.args.code.now.items + length is) (entries_are m (length c.args.code.now.items) c.args.entries.now)
+    (each_long (entry_here m) c.args.entries.now c.loop-entry.entry-index c.entry-item.result c.args.code.now.items c.loop-entry.code.items (omega arith) c.entry-item.is (c.compile_entry.ensures.long failed) c.loop-entry.invariant.ok)

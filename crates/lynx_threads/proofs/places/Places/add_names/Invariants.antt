@@ -1,4 +1,4 @@
-use Rattle.std.proofs.Common.{ℕ, List, ◌++◌, take, map}
+use Rattle.std.proofs.Common.{ℕ, List, ◌++◌, take}
 use Rattle.lynx_threads.specs.Tables.{IsTableOf}
 use Rattle.lynx_threads.proofs.places.Places.add_names.Given as goal
 
