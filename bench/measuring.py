@@ -69,11 +69,6 @@ def tests_types(program, folder):
     return not accepts(program, folder, 'module m; begin write undeclared; end.\n')
 
 
-def has_command(program, folder):
-    """Whether a program has a command on modules, which it refuses where it is not built yet."""
-    return accepts(program, folder, 'module m; begin end.\n')
-
-
 def stay_on_one_processor():
     """This process and those that it starts keep to one processor, where the system has that."""
     if hasattr(os, 'sched_setaffinity'):

@@ -1,7 +1,8 @@
-//! Modules through `compile` and `listing`: each instruction, each form of statement, and code at its limit.
+//! Modules through `compile_source`, `compile` and `listing`: each instruction, each form of statement, and code at its limit.
 
-use lynx_source::check_source;
-use lynx_threads::{CompileFault, compile, listing};
+use lynx_compile::compile_source;
+use lynx_source::{SourceFault, check_source};
+use lynx_threads::{compile, listing};
 use std::alloc::{AllocError, Global};
 use std::str;
 use std::test::Fail;
@@ -12,17 +13,15 @@ fn answer(alloc: Global, source: &str) -> Result<String, AllocError> {
     if source.len() > 1_048_576 {
         return Ok(answer);
     }
-    let Ok(checked) = check_source(alloc, source.as_bytes()) else {
-        return Ok(answer);
-    };
-    match compile(alloc, &checked) {
+    match compile_source(alloc, source.as_bytes()) {
         Ok(code) => {
             if let Ok(text) = listing(alloc, &code) {
                 answer.push_str(str::from_utf8(text.as_slice()).unwrap_or("?"))?;
             }
         }
-        Err(CompileFault::CodeTooLong) => answer.push_str("too long")?,
-        Err(CompileFault::NoMemory) => answer.push_str("no memory")?,
+        Err(SourceFault::CodeTooLong) => answer.push_str("too long")?,
+        Err(SourceFault::NoMemory) => answer.push_str("no memory")?,
+        Err(_) => answer.push_str("no module")?,
     }
     Ok(answer)
 }

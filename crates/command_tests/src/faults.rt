@@ -10,6 +10,8 @@ const SCRIPT: &[u8] = b"kernels 1\nprocess 0 on 0\np0 print 1\n";
 
 const TRANSCRIPT: &str = "transcript 1\nkernels 1\nprocess 0 on 0\n1 k0 p0 print 1\nquiet\n";
 
+const LISTING: &str = "code m\npart main\n0 end\n";
+
 /// Room for every text of these tests.
 const AMPLE: u32 = 100;
 
@@ -82,6 +84,12 @@ fn reads_and_puts_fail_in_turn(rt: HostRuntime) -> Result<(), Fail> {
             Status::ReadFault,
             ("", "lynx: m: read fault\n"),
         ),
+        (
+            "code m",
+            (1, 0, 0, 4),
+            Status::ReadFault,
+            ("", "lynx: m: read fault\n"),
+        ),
         ("drive s", (1, 0, 1, 4), Status::WriteFault, ("", "")),
         (
             "drive t",
@@ -102,9 +110,22 @@ fn reads_and_puts_fail_in_turn(rt: HostRuntime) -> Result<(), Fail> {
             ("", "s:1:1: syntax\n"),
         ),
         ("check s", (0, 0, 1, 4), Status::WriteFault, ("", "")),
+        (
+            "code s",
+            (2, 0, 0, 4),
+            Status::Refused,
+            ("", "s:1:1: syntax\n"),
+        ),
         // out has room for four bytes
         ("check m", (0, 0, 0, 4), Status::WriteFault, ("ok m", "")),
         ("drive s", (0, 0, 0, 4), Status::WriteFault, ("tran", "")),
+        // out has room for the first line and a part of the second
+        (
+            "code m",
+            (0, 0, 0, 12),
+            Status::WriteFault,
+            ("code m\npart ", ""),
+        ),
         // each put on out, and nothing is put on err then
         ("drive s", (0, 1, 1, AMPLE), Status::WriteFault, ("", "")),
         (
@@ -135,6 +156,13 @@ fn reads_and_puts_fail_in_turn(rt: HostRuntime) -> Result<(), Fail> {
             ),
         ),
         ("drive s", (0, 6, 1, AMPLE), Status::Done, (TRANSCRIPT, "")),
+        (
+            "code m",
+            (0, 3, 1, AMPLE),
+            Status::WriteFault,
+            ("code m\npart main\n", ""),
+        ),
+        ("code m", (0, 4, 1, AMPLE), Status::Done, (LISTING, "")),
     ] {
         let faults = Faults {
             read,

@@ -1,2 +1,3 @@
 pub mod Courses
+mod FirstLines
 pub mod Puts

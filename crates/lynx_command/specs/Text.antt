@@ -1,5 +1,6 @@
 -- Texts by their lines.
-use Rattle.std.specs.Prelude.{◌≡◌, ℕ, List, [], ◌∷◌, ◌++◌, map, Bool, true, false, Result, Ok, Err}
+use Rattle.std.specs.Prelude.{◌≡◌, ◌==◌, ℕ, List, [], ◌∷◌, ◌++◌, map, Bool, true, false, if◌then◌else◌, Result, Ok, Err}
+use Rattle.std.specs.List.{onto_first}
 use Rattle.lynx_command.specs.declared.putting.PutFault.{PutFault}
 use Rattle.lynx_command.specs.declared.putting.PutFault.TheVariants.{Failed, NoMemory}
 use Rattle.lynx_outside.specs.Logged.{Put}
@@ -8,6 +9,11 @@ use Rattle.lynx_outside.specs.Sink.{taken, failed}
 -- a line is ended by a line feed
 abbrev pub line : List ℕ → List ℕ
 line text = text ++ 10 ∷ []
+
+-- the lines of a text, each up to its line feed and with it; what stands behind the last line feed, if anything does, is one more
+abbrev pub lines_of : List ℕ → List (List ℕ)
+lines_of [] = []
+lines_of (b ∷ bs) = if b == 10 then (b ∷ []) ∷ lines_of bs else onto_first b (lines_of bs)
 
 -- The first line that was left is given, or none was left.
 abbrev pub IsNextLine : Bool → List (List ℕ) → List (List ℕ) → List ℕ → Type 0

@@ -1,4 +1,4 @@
-//! Texts that are held whole.
+//! Texts that are held as their lines.
 ghost use Rattle.std.specs.Prelude.{◌≡◌, ℕ, List, map, drop, IfOk};
 ghost use Rattle.lynx_command.specs.Text.{IsNextLine};
 

@@ -5,6 +5,7 @@ use Rattle.lynx_command.specs.declared.failure.Failure.{Failure}
 use Rattle.lynx_command.specs.declared.failure.Failure.TheVariants.{Usage, Unbuilt}
 use Rattle.lynx_run.specs.Audit.{Audits}
 use Rattle.lynx_run.specs.Check.{Checks}
+use Rattle.lynx_run.specs.Code.{Codes}
 use Rattle.lynx_run.specs.Drive.{Drives}
 use Rattle.lynx_words.specs.declared.words.Command.{Command}
 use Rattle.lynx_words.specs.declared.words.Command.TheVariants.{Drive, Check, Code, Run, Bench, Audit, Snapshot}
@@ -25,11 +26,12 @@ pub record IsRefusedAs (failure : Failure) (name : List ℕ) (course : Course) :
   pub found : course.found ≡ Err failure
   pub named : course.name ≡ name
 
--- What words ask for: words that are not of the form are told so, `drive`, `check` and `audit` read the file that is named, and a command that is
--- not built yet is refused by its name.
+-- What words ask for: words that are not of the form are told so, `drive`, `check`, `code` and `audit` read the file that is named, and a command
+-- that is not built yet is refused by its name.
 abbrev pub Answers : Option Command → Course → Type 0
 Answers None course = IsRefusedAs Usage [] course
 Answers (Some (Drive file)) course = IsOfFile Drives 1048576 (string_bytes file) course
 Answers (Some (Check file)) course = IsOfFile Checks 1048576 (string_bytes file) course
+Answers (Some (Code file)) course = IsOfFile Codes 1048576 (string_bytes file) course
 Answers (Some (Audit file)) course = IsOfFile Audits 67108864 (string_bytes file) course
 Answers (Some command) course = IsRefusedAs Unbuilt (command_name command) course

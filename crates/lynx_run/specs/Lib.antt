@@ -1,4 +1,6 @@
 pub mod Audit
 pub mod Check
+pub mod Code
 pub mod Commands
 pub mod Drive
+pub mod Failing

@@ -9,6 +9,7 @@ ghost use Rattle.lynx_words.specs.Words.{command_of};
 
 use crate::audit::audit_file;
 use crate::check::check_file;
+use crate::code::code_file;
 use crate::drive::drive_file;
 use lynx_command::{Failure, tell};
 use lynx_outside::{Files, Sink, Status};
@@ -18,7 +19,7 @@ use std::alloc::Global;
 /// Does what the words after the program's name ask for, and gives the status with which the program ends. Words that
 /// are not of the form of a command are told so. A command that is not built yet is refused by its name. What `drive` prints is one lawful
 /// run of the link service (`Drives` in `specs/Drive.antt`, by the law `every_record_is_lawful` of `world_law`), and so is what `audit` accepts
-/// (`Audits` in `specs/Audit.antt`).
+/// (`Audits` in `specs/Audit.antt`). What `code` prints is the listing of the code of the module (`Codes` in `specs/Code.antt`).
 pub fn lynx<F: Files, O: Sink, E: Sink>(
     alloc: Global,
     words: Vec<String>,
@@ -58,6 +59,7 @@ fn perform_command<F: Files, O: Sink, E: Sink>(
     match command {
         Command::Drive { file } => drive_file(alloc, file.as_str(), files, out, err),
         Command::Check { file } => check_file(alloc, file.as_str(), files, out, err),
+        Command::Code { file } => code_file(alloc, file.as_str(), files, out, err),
         Command::Audit { file } => audit_file(alloc, file.as_str(), files, out, err),
         _ => tell(alloc, command_name(command), Failure::Unbuilt, err),
     }

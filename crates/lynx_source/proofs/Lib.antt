@@ -1,2 +1,2 @@
 mod Lines
-mod Readings
+pub mod Readings

@@ -22,7 +22,7 @@ use Rattle.lynx_typing.specs.Modules.{IsWellTyped, IsFirstFault as IsFirstTypeFa
 use Rattle.lynx_typing.specs.Rules.{Fault}
 use Rattle.lynx_typing.proofs.Firsts.{least_is_first}
 use Rattle.lynx_source.specs.Places.{place_of}
-use Rattle.lynx_source.specs.Sources.{AreTokensOf, token_place, IsLexedAs, IsParsedAs, IsTypedAs, IsReadAs, IsCheckedAs}
+use Rattle.lynx_source.specs.Sources.{AreTokensOf, token_place, IsLexedAs, IsParsedAs, IsTypedAs, IsReadAs, Checks, IsCheckedAs}
 use Rattle.lynx_source.specs.Stages.{Then, HasOne}
 use Rattle.lynx_source.specs.declared.fault.SourceFault.{SourceFault}
 use Rattle.lynx_source.specs.declared.fault.SourceFault.TheVariants.{Lex, Syntax, Deep, Rule, NoMemory}
@@ -99,9 +99,11 @@ one_reading source a b (inl h) _ (inr g) some = absurd (some g)
 one_then_typed : (source : List ℕ) (tokens : List Token) → HasOne (Then (IsParsedAs source tokens) (IsTypedAs source tokens))
 one_then_typed source tokens = one_then (IsParsedAs source tokens) (IsTypedAs source tokens) (one_parsing source tokens) (one_typing source tokens)
 
+pub one_checking : (source : List ℕ) → HasOne (Checks source)
+one_checking source = one_then (IsLexedAs source) (λ tokens. Then (IsParsedAs source tokens) (IsTypedAs source tokens)) (one_lexing source) (one_then_typed source)
+
 pub one_check : (source : List ℕ) (a b : Result ModuleTree SourceFault) → IsCheckedAs source a → a ≢ Err NoMemory → IsCheckedAs source b → b ≢ Err NoMemory → a ≡ b
-one_check source a b (inl h) _ (inl g) _ =
-    one_then (IsLexedAs source) (λ tokens. Then (IsParsedAs source tokens) (IsTypedAs source tokens)) (one_lexing source) (one_then_typed source) a b h g
+one_check source a b (inl h) _ (inl g) _ = one_checking source a b h g
 one_check source a b (inr h) some g _ = absurd (some h)
 one_check source a b (inl h) _ (inr g) some = absurd (some g)
 

@@ -15,7 +15,7 @@ pub enum SourceFault {
     Deep { at: Place },
     /// The least typing rule, 1 to 24, that fails at the first place where one does.
     Rule { at: Place, rule: u8 },
-    /// The code has more than 65,535 instructions. No call gives it yet: code is not made.
+    /// The code has more than 65,535 instructions. It comes where a source is compiled: no call of this crate makes code.
     CodeTooLong,
     /// There was not memory enough.
     NoMemory,

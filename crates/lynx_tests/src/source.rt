@@ -18,7 +18,7 @@ fn answer(alloc: Global, source: &[u8]) -> Result<String, AllocError> {
         Err(SourceFault::Lex { at, no }) => write!(text, "{}:{} lex {no}", at.line, at.column)?,
         Err(SourceFault::Syntax { at }) => write!(text, "{}:{} syntax", at.line, at.column)?,
         Err(SourceFault::Deep { at }) => write!(text, "{}:{} deep", at.line, at.column)?,
-        Err(SourceFault::Rule { .. } | SourceFault::CodeTooLong) => text.push_str("not built")?,
+        Err(SourceFault::Rule { .. } | SourceFault::CodeTooLong) => text.push_str("no reading")?,
         Err(SourceFault::NoMemory) => text.push_str("no memory")?,
     }
     Ok(text)

@@ -1,13 +1,11 @@
 -- The module that was checked has the name in the line.
 use Rattle.std.proofs.Common.{ℕ, List, [], ◌∷◌, ap, subst, refl, ◌∙◌, Ok, Err}
 use Rattle.std.proofs.lemmas.Result.{err_from_is_err_and}
-use Rattle.lynx_command.specs.Failures.{failure_of_source}
 use Rattle.lynx_source.specs.Sources.{IsCheckedAs}
-use Rattle.lynx_source.specs.declared.fault.SourceFault.{SourceFault}
-use Rattle.lynx_source.specs.declared.fault.SourceFault.TheVariants as faults
 use Rattle.lynx_syntax.specs.Trees.{module_tree}
 use Rattle.lynx_tree.specs.declared.module.Module.{Module}
-use Rattle.lynx_run.specs.Check.{checked_text, Checks}
+use Rattle.lynx_run.proofs.Faults.{fault_told}
+use Rattle.lynx_run.specs.Check.{checked_text}
 use Rattle.lynx_run.proofs.check.CheckCommandFileCommand.find.Goals as goal
 
 pub returns : goal.returns
@@ -16,17 +14,8 @@ returns c =
     let name = c.as_slice-2.ensures.value ∙ ap (λ (m : Module). m.name) c.module.ensures.module in
     (module_tree c.in_ok-checked.checked, read, c.of.ensures ∙ (c.in_ok-lines.ensures ∙ ap (λ name. checked_text name ∷ []) name), refl)
 
--- a fault of the source is the failure of the command
-fault_found : (bytes : List ℕ) (fault : SourceFault) → IsCheckedAs bytes (Err fault) → Checks bytes (Err (failure_of_source fault))
-fault_found bytes (faults.Lex at number) h = h
-fault_found bytes (faults.Syntax at) h = h
-fault_found bytes (faults.Deep at) h = h
-fault_found bytes (faults.Rule at number) h = h
-fault_found bytes faults.CodeTooLong h = h
-fault_found bytes faults.NoMemory h = tt
-
 pub returns-in_err-checked : goal.returns-in_err-checked
 returns-in_err-checked c =
     let p = err_from_is_err_and c.from_residual.result c.from_residual.ensures.1 in
     let read = subst (λ (bytes : List ℕ). IsCheckedAs bytes (Err c.in_err-checked.field-0.0)) c.as_slice.ensures.value c.in_err-checked.ensures in
-    rw (p.1, p.2) (fault_found c.args.bytes.items c.in_err-checked.field-0.0 read)
+    rw (p.1, p.2) (fault_told (IsCheckedAs c.args.bytes.items) c.in_err-checked.field-0.0 read)
