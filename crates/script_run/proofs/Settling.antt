@@ -1,13 +1,16 @@
 -- Settling: the first packet of the first list that is not empty, again and again.
-use Rattle.std.proofs.Common.{◌≡◌, ◌⊎◌, inl, inr, ℕ, ◌+◌, ◌-◌, ◌^◌, ◌<◌, ◌≤◌, zero, suc, Bool, true, false, not, nat_eq, List, [], ◌∷◌, ◌++◌, length, map, get_or, Option, None, Some, cond, arith, ap, sym, subst, ◌∙◌, refl, append-nil, append_assoc, length-append}
+use Rattle.std.proofs.Common.{◌≡◌, ◌≢◌, ◌⊎◌, ◌&&◌, inl, inr, ℕ, ◌+◌, ◌-◌, ◌^◌, ◌<◌, ◌≤◌, zero, suc, Bool, true, false, not, nat_eq, List, [], ◌∷◌, ◌++◌, length, map, get_or, Option, None, Some, cond, arith, ap, sym, subst, ◌∙◌, refl, append-nil, append_assoc, length-append}
 use Rattle.std.specs.List.{find, flat_map, range_with_len}
 use Rattle.std.specs.Option.{option_map}
+use Rattle.std.proofs.lemmas.Bool.Decides.{eqb_tells}
 use Rattle.charlotte_calls.specs.declared.picture.Picture.{Picture}
 use Rattle.charlotte_calls.specs.declared.setting.Setting.{Setting}
-use Rattle.kernel_world.specs.World.{World, Event, Takes, happens, after}
-use Rattle.script_run.specs.Nodes.{sent_to, world_of, first_pair, AreReady, Goes, IsTakenFirst}
+use Rattle.kernel_world.proofs.Packets.{happens-packets}
+use Rattle.kernel_world.specs.World.{World, Event, Takes, happens, after, outcome, rest, sends_at, to_kernel}
+use Rattle.script_run.specs.Nodes.{sent_to, sent_from, world_of, first_pair, AreReady, AreQuietBelow, Goes, IsTakenFirst}
 use Rattle.script_run.specs.Performing.{pairs, next_take, then_events, settled}
 use Rattle.script_run.specs.declared.node.Node.{Node}
+use Rattle.script_run.proofs.Lists.{map-read}
 use Rattle.script_run.proofs.Nodes.{packets_at, Goes-then, ready-after}
 use Rattle.world_record.proofs.Runs.{after-append}
 
@@ -88,17 +91,55 @@ row-find s ns kernels from node below at =
     find-map (is_under_way (world_of s ns)) (λ to. (from, to)) (range_with_len 0 kernels)
     ∙ ap (λ (t : ℕ → Bool). option_map (λ (to : ℕ). (from, to)) (find t (range_with_len 0 kernels))) (λ j to. not (nat_eq (length (packets_at s ns from node below at to j)) 0))
 
--- no packet of this kernel is under way
-pub no_target : (s : Setting) (ns : List Node) (kernels from : ℕ) (node : Node) → from < kernels → from < length ns → node ≡ get_or ns from node → None ≡ find (λ to. not (nat_eq (length (sent_to node to)) 0)) (range_with_len 0 kernels) → find (is_under_way (world_of s ns)) (pairs_from kernels from) ≡ find (is_under_way (world_of s ns)) (pairs_from kernels (from + 1))
-no_target s ns kernels from node within below at none =
-    ap (find (is_under_way (world_of s ns))) (pairs_from-more kernels from within)
-    ∙ find-none_first (is_under_way (world_of s ns)) (row kernels from) (pairs_from kernels (from + 1)) (row-find s ns kernels from node below at ∙ ap (option_map (λ (to : ℕ). (from, to))) (sym none))
-
--- one is
+-- one of this kernel is the first
 pub some_target : (s : Setting) (ns : List Node) (kernels from to : ℕ) (node : Node) → from < kernels → from < length ns → node ≡ get_or ns from node → Some to ≡ find (λ q. not (nat_eq (length (sent_to node q)) 0)) (range_with_len 0 kernels) → find (is_under_way (world_of s ns)) (pairs_from kernels from) ≡ Some (from, to)
 some_target s ns kernels from to node within below at some =
     ap (find (is_under_way (world_of s ns))) (pairs_from-more kernels from within)
     ∙ find-some_first (is_under_way (world_of s ns)) (row kernels from) (pairs_from kernels (from + 1)) (from, to) (row-find s ns kernels from node below at ∙ ap (option_map (λ (q : ℕ). (from, q))) (sym some))
+
+-- ---- nodes of which no packet is under way
+
+-- one node more
+pub quiet-more : (kernels n : ℕ) (ns : List Node) (node : Node) → n < length ns → node ≡ get_or ns n node → None ≡ find (λ to. not (nat_eq (length (sent_to node to)) 0)) (range_with_len 0 kernels) → AreQuietBelow kernels n ns → AreQuietBelow kernels (n + 1) ns
+quiet-more kernels n ns node below at none before from within = by (eqb_tells from n)
+  where
+    here : (to : ℕ) → sent_from ns n to ≡ sent_to node to
+    here to = ap (λ (f : ℕ → List Picture). f to) (map-read sent_to ns n node (λ _. []) below at)
+
+    last : find (λ to. not (nat_eq (length (sent_from ns n to)) 0)) (range_with_len 0 kernels) ≡ None
+    last = ap (λ (t : ℕ → Bool). find t (range_with_len 0 kernels)) (λ j to. not (nat_eq (length (here to j)) 0)) ∙ sym none
+
+    by : ((nat_eq from n ≡ true) × (from ≡ n)) ⊎ ((nat_eq from n ≡ false) × (from ≢ n)) → find (λ to. not (nat_eq (length (sent_from ns from to)) 0)) (range_with_len 0 kernels) ≡ None
+    by (inl t) = subst (λ k. find (λ to. not (nat_eq (length (sent_from ns k to)) 0)) (range_with_len 0 kernels) ≡ None) (sym t.1) last
+    by (inr t) = before from (let other : from ≢ n = t.1 in omega (arith, within))
+
+-- so the first pair does not begin with one of them
+pub pairs-quiet : (s : Setting) (ns : List Node) (kernels n : ℕ) → n ≤ kernels → AreQuietBelow kernels n ns → first_pair kernels (world_of s ns) ≡ find (is_under_way (world_of s ns)) (pairs_from kernels n)
+pairs-quiet s ns kernels zero within quiet = ap (find (is_under_way (world_of s ns))) (pairs-all kernels)
+pairs-quiet s ns kernels (suc n) within quiet =
+    let below : n < kernels = omega (arith, within) in
+    let next : n + 1 ≡ suc n = omega arith in
+    pairs-quiet s ns kernels n (omega (arith, within)) (λ from less. quiet from (omega (arith, less)))
+    ∙ ap (find (is_under_way (world_of s ns))) (pairs_from-more kernels n below)
+    ∙ find-none_first (is_under_way (world_of s ns)) (row kernels n) (pairs_from kernels (n + 1))
+    (find-map (is_under_way (world_of s ns)) (λ to. (n, to)) (range_with_len 0 kernels) ∙ ap (option_map (λ (to : ℕ). (n, to))) (quiet n (omega arith)))
+    ∙ ap (λ k. find (is_under_way (world_of s ns)) (pairs_from kernels k)) next
+
+-- numbers one of which is less are not equal
+less-apart : (a b : ℕ) → a < b → nat_eq a b ≡ false
+less-apart a b less = by (eqb_tells a b)
+  where
+    by : ((nat_eq a b ≡ true) × (a ≡ b)) ⊎ ((nat_eq a b ≡ false) × (a ≢ b)) → nat_eq a b ≡ false
+    by (inl t) = let same : a ≡ b = t.1 in absurd (omega (arith, less, same))
+    by (inr t) = t.0
+
+-- a packet that is taken leaves the packets of every other node as they were, but those of its taker
+taken-aside : (w : World) (from to k q : ℕ) → k < from → k < to → (happens w (Takes to from)).packets k q ≡ w.packets k q
+taken-aside w from to k q less_from less_to =
+    happens-packets w (Takes to from) k q
+    ∙ ap (λ b. cond (b && nat_eq q to) (rest (w.packets k q)) (w.packets k q) ++ sends_at w (Takes to from) k q) (less-apart k from less_from)
+    ∙ ap (λ b. w.packets k q ++ cond b (to_kernel q (outcome w (Takes to from)).packets) []) (less-apart k to less_to)
+    ∙ append-nil (w.packets k q)
 
 -- ---- settling
 
@@ -173,6 +214,16 @@ settling-more s k most i from to took a b c below some t is =
           ∙ ap (λ v. (is.events ++ e ∷ []) ++ settled k (most - (i + 1)) v) (sym (after-append (world_of s a) is.events (e ∷ [])));
       few = omega (arith, length-append is.events (e ∷ []), is.few);
     }
+
+-- the nodes before both that sent the packet and that took it are quiet as they were
+pub quiet-taken : (s : Setting) (k from to n : ℕ) (took : Bool) (b c : List Node) → Some (from, to) ≡ first_pair k (world_of s b) → IsTakenFirst s from to took b c → n ≤ from → n ≤ to → AreQuietBelow k from b → AreQuietBelow k n c
+quiet-taken s k from to n took b c some t least_from least_to quiet q below =
+    ap (λ (test : ℕ → Bool). find test (range_with_len 0 k)) (λ j r. not (nat_eq (length (same r j)) 0)) ∙ quiet q (omega (arith, below, least_from))
+  where
+    same : (r : ℕ) → sent_from c q r ≡ sent_from b q r
+    same r =
+        ap (λ (w : World). w.packets q r) (some-taken s k from to took b c some t).world
+        ∙ taken-aside (world_of s b) from to q r (omega (arith, below, least_from)) (omega (arith, below, least_to))
 
 -- how many nodes and events there are as settling goes on
 pub settling-ready : (s : Setting) (k most i n : ℕ) (a b : List Node) → length b ≡ length a → i ≤ most → n + most < 2 ^ 32 → IsSettling s k most i a b → AreReady s n a → (m : ℕ) × (m < 2 ^ 32) × AreReady s m b

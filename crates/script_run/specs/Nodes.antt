@@ -1,5 +1,6 @@
 -- Nodes: kernels with what was noted of their events and what they sent, as a world.
-use Rattle.std.specs.Prelude.{◌≡◌, ◌≢◌, ◌≤◌, ℕ, nat_eq, List, [], ◌∷◌, ◌++◌, length, map, All, slice_index_or, ◌*◌, Bool, true, false, Option, not, find}
+use Rattle.std.specs.Prelude.{◌≡◌, ◌≢◌, ◌≤◌, ◌<◌, ℕ, nat_eq, List, [], ◌∷◌, ◌++◌, length, map, All, slice_index_or, ◌*◌, Bool, true, false, Option, None, not, find}
+use Rattle.std.specs.List.{range_with_len}
 use Rattle.std.specs.Option.{option_to_list}
 use Rattle.charlotte_calls.specs.Packets.{packet_picture}
 use Rattle.charlotte_calls.specs.declared.packet.Packet.{Packet}
@@ -58,6 +59,14 @@ world_of s nodes =
       kernel = λ k. slice_index_or (map (λ n. state_of n.kernel) nodes) k (start_kernel s k);
       packets = λ from to. slice_index_or (map sent_to nodes) from (λ _. []) to;
     }
+
+-- the packets under way from one of these nodes to a kernel
+abbrev pub sent_from : List Node → ℕ → ℕ → List Picture
+sent_from nodes from to = slice_index_or (map sent_to nodes) from (λ _. []) to
+
+-- no packet of the first n nodes is under way to a kernel
+abbrev pub AreQuietBelow : ℕ → ℕ → List Node → Type 0
+AreQuietBelow kernels n nodes = (from : ℕ) → from < n → find (λ to. not (nat_eq (length (sent_from nodes from to)) 0)) (range_with_len 0 kernels) ≡ None
 
 -- what was noted at a kernel
 abbrev pub noted_at : List Node → ℕ → List Entry

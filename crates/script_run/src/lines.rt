@@ -1,11 +1,11 @@
 //! What the lines of a script do, on the nodes of its kernels.
-ghost use Rattle.std.specs.Prelude.{◌≡◌, ℕ, ◌+◌, ◌<◌, ◌^◌, All, IfOk, IfSome, OnOk, length, find, not, nat_eq};
+ghost use Rattle.std.specs.Prelude.{◌≡◌, ℕ, ◌+◌, ◌<◌, ◌≤◌, ◌^◌, All, IfOk, IfSome, OnOk, length, find, not, nat_eq};
 ghost use Rattle.std.specs.List.{range_with_len};
 ghost use Rattle.charlotte_calls.specs.Setting.{IsValid};
 ghost use Rattle.charlotte_calls.specs.declared.setting.Setting.{Setting as ASetting};
 ghost use Rattle.lynx_plan.specs.ScriptText.{FitsWhat};
 ghost use Rattle.lynx_plan.specs.declared.script.ScriptCall.TheVariants.{Ask, Take as TakeLine};
-ghost use Rattle.script_run.specs.Nodes.{AreReady, Goes, IsLineDone, IsTakenFirst, first_pair, sent_to, world_of};
+ghost use Rattle.script_run.specs.Nodes.{AreQuietBelow, AreReady, Goes, IsLineDone, IsTakenFirst, first_pair, sent_to, world_of};
 ghost use Rattle.script_run.specs.Performing.{most_settled, settled};
 
 use crate::node::Node;
@@ -92,29 +92,42 @@ fn take_first(nodes: &mut [Node], from: u8, to: u8) -> Result<bool, NoMemory>
     Ok(true)
 }
 
-/// Takes packets, the first of the first list that is not empty each time, until all lists are empty.
+/// Takes packets, the first of the first list that is not empty each time, until all lists are empty. The lists of the nodes before
+/// that which sent a packet and that which took it stay empty, so the next search begins behind them.
 fn settle(setting: &Setting, nodes: &mut [Node]) -> Result<(), NoMemory>
     requires valid { IsValid setting.now }
     requires ready { (n : ℕ) × (n + most_settled < 2 ^ 32) × AreReady setting.now n nodes.old }
     ensures { OnOk result (Goes setting.now nodes.old nodes.new (settled setting.now.kernels most_settled (world_of setting.now nodes.old))) }
 {
+    let mut quiet = 0;
     for _ in 0..MOST_SETTLED {
-        let Some((from, to)) = first_sent(setting.kernels, nodes) else {
+        let Some((from, to)) = first_sent(setting.kernels, quiet, nodes) else {
             return Ok(());
         };
         take_first(nodes, from, to)?;
+        quiet = lesser(from, to);
     }
     Ok(())
 }
 
-/// Where the first packet stands that a settling takes: from which kernel, and to which.
-fn first_sent(kernels: u8, nodes: &[Node]) -> Option<(u8, u8)>
+/// The lesser of two numbers.
+fn lesser(one: u8, other: u8) -> u8
+    ensures { (result ≤ one) × (result ≤ other) }
+{
+    if one <= other { one } else { other }
+}
+
+/// Where the first packet stands that a settling takes: from which kernel, and to which. No packet of the first kernels, `quiet`
+/// many, waits to be taken.
+fn first_sent(kernels: u8, quiet: u8, nodes: &[Node]) -> Option<(u8, u8)>
     requires count { length nodes.now ≡ kernels }
     requires lists { All (λ node. length node.sent.items ≡ 256) nodes.now }
+    requires before { AreQuietBelow kernels quiet nodes.now }
     ensures first { (s : ASetting) → result ≡ first_pair kernels (world_of s nodes.now) }
     ensures within { IfSome result (λ pair. (pair.0 < kernels) × (pair.1 < kernels)) }
+    ensures before { IfSome result (λ pair. AreQuietBelow kernels pair.0 nodes.now) }
 {
-    for from in 0..kernels {
+    for from in quiet..kernels {
         if let Some(to) = first_target(kernels, &nodes[usize::from(from)]) {
             return Some((from, to));
         }

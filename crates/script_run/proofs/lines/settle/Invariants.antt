@@ -1,5 +1,9 @@
+use Rattle.script_run.specs.Nodes.{AreQuietBelow}
 use Rattle.script_run.proofs.Settling.{IsSettling}
 use Rattle.script_run.proofs.lines.settle.Given as goal
 
 abbrev pub invariant-loop : goal.invariant-loop
-invariant-loop l = IsSettling l.setting l.setting.kernels 10000 l.counter l.fn.nodes l.nodes
+invariant-loop l = record {
+  settling : IsSettling l.setting l.setting.kernels 10000 l.counter l.fn.nodes l.nodes;
+  quiet : AreQuietBelow l.setting.kernels l.quiet l.nodes;
+}
