@@ -10,8 +10,8 @@ use std::hash::{Hash, Hasher};
 
 /// The bytes of a name, which are hashed all at once and not byte by byte.
 #[derive(Clone, Copy)]
-pub(crate) struct Key<'m> {
-    pub(crate) bytes: &'m [u8],
+pub struct Key<'m> {
+    pub bytes: &'m [u8],
 }
 
 impl<'m> PartialEq for Key<'m> {

@@ -19,6 +19,7 @@ mod walk;
 pub use exception::Exception;
 pub use expressions::{expression, member, operand};
 pub use held::{Held, agree, fits, has_length, is_link, is_row_or_link};
+pub use key::Key;
 pub use names::{Named, Names, arguments_of, is_entry, results_of};
 pub use row::Row16;
 pub use scope::Scope;
