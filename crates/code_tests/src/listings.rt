@@ -1,8 +1,9 @@
-//! Modules through `compile_source`, `compile` and `listing`: each instruction, each form of statement, and code at its limit.
+//! Modules through `compile_source`, `compile` and `listing`: each instruction, each form of statement, what code keeps of types, and code at its limit.
 
 use lynx_compile::compile_source;
 use lynx_source::{SourceFault, check_source};
-use lynx_threads::{compile, listing};
+use lynx_threads::{Code, compile, listing};
+use lynx_tree::TypeName;
 use std::alloc::{AllocError, Global};
 use std::str;
 use std::test::Fail;
@@ -114,6 +115,55 @@ fn links_are_compiled(rt: HostRuntime) -> Result<(), Fail> {
         ),
     ] {
         tried(rt.alloc(), body, want)?;
+    }
+    Ok(())
+}
+
+/// Whether code has a param that is a link and a variable of type int, and one operation, `a(int,bool):(text)`.
+fn has_declarations(code: &Code) -> bool {
+    let [TypeName::Link, TypeName::Int] = code.globals.as_slice() else {
+        return false;
+    };
+    let [op] = code.ops.as_slice() else {
+        return false;
+    };
+    code.params == 1
+        && op.signature.as_slice() == b"a(int,bool):(text)".as_slice()
+        && op.arguments.len() == 2
+        && op.results.len() == 1
+}
+
+/// Whether code has a body without variables, and an entry behind it with an int, a bool and a row.
+fn has_parts(code: &Code) -> bool {
+    let [main, entry] = code.parts.as_slice() else {
+        return false;
+    };
+    let [TypeName::Int, TypeName::Bool, TypeName::Row(3)] = entry.locals.as_slice() else {
+        return false;
+    };
+    main.op.is_none()
+        && main.locals.is_empty()
+        && main.start == 0
+        && entry.op == Some(0)
+        && entry.start == 3
+}
+
+/// What code keeps of declarations and of parts.
+#[test]
+fn declarations_are_kept(rt: HostRuntime) -> Result<(), Fail> {
+    let source =
+        "module m; op a (int, bool) : (text); param p : link; var n : int; entry e of a (x, y) var r : row 3; begin end; begin write n; end.";
+    let Ok(checked) = check_source(rt.alloc(), source.as_bytes()) else {
+        return Err("the module".into());
+    };
+    let Ok(code) = compile(rt.alloc(), &checked) else {
+        return Err("the code".into());
+    };
+    if !has_declarations(&code) {
+        return Err("the declarations".into());
+    }
+    if !has_parts(&code) {
+        return Err("the parts".into());
     }
     Ok(())
 }

@@ -6,6 +6,7 @@ use Rattle.lynx_source.specs.Sources.{Checks}
 use Rattle.lynx_source.specs.Stages.{Then}
 use Rattle.lynx_source.specs.declared.fault.SourceFault.{SourceFault}
 use Rattle.lynx_source.specs.declared.fault.SourceFault.TheVariants.{CodeTooLong, NoMemory}
+use Rattle.lynx_threads.specs.Agreement.{AgreesWithSource}
 use Rattle.lynx_threads.specs.declared.fault.CompileFault.{CompileFault}
 use Rattle.lynx_threads.specs.declared.fault.CompileFault.TheVariants as compile
 use Rattle.lynx_tree.specs.Trees.{ModuleTree}
@@ -24,9 +25,9 @@ Compiles source = Then (Checks source) IsMeasuredAs
 abbrev pub IsCompiledAs : List ℕ → Result ModuleTree SourceFault → Type 0
 IsCompiledAs source outcome = Compiles source outcome ⊎ (outcome ≡ Err NoMemory)
 
--- what a call gives: the code of the tree that the source is compiled as, or the fault
+-- what a call gives: the code of the tree that the source is compiled as, which does what the source means, or the fault
 abbrev pub GivesCode : List ℕ → Result Code SourceFault → Type 0
-GivesCode source (Ok code) = (m : ModuleTree) × IsCompiledAs source (Ok m) × IsCodeOf m code
+GivesCode source (Ok code) = (m : ModuleTree) × IsCompiledAs source (Ok m) × IsCodeOf m code × AgreesWithSource m code
 GivesCode source (Err fault) = IsCompiledAs source (Err fault)
 
 -- why a module that breaks no typing rule has no code

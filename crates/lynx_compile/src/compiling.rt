@@ -19,7 +19,8 @@ fn source_fault(fault: CompileFault) -> SourceFault
 }
 
 /// The code of the module that a source spells, or its first fault: that of the tokens, the grammar and its nesting or the typing rules,
-/// and where there is none of these, that the code has more than 65,535 instructions. The code borrows nothing from the source.
+/// and where there is none of these, that the code has more than 65,535 instructions. The code does what the source means, and borrows nothing
+/// from it.
 pub fn compile_source(alloc: Global, source: &[u8]) -> Result<Code, SourceFault>
     requires { length source.now < 4294967295 }
     ensures { GivesCode source.now result }

@@ -11,7 +11,7 @@ use Rattle.lynx_threads.specs.declared.tables.Tables.{Tables}
 
 -- what a table has at a name
 abbrev pub found : Places → List ℕ → Option ℕ
-found table name = get_by (λ k. bytes_eq name k.now) table.places
+found table name = get_by (λ k. bytes_eq name k.bytes.now) table.places
 
 abbrev pub first_of : Option ℕ → Option ℕ → Option ℕ
 first_of None other = other

@@ -8,12 +8,13 @@ ghost use Rattle.lynx_threads.specs.Tables.{found, first_of, IsTableOf};
 use indexmap::IndexMap;
 use lynx_lexer::{IdentRef, NoMemory};
 use lynx_tree::{EntryDecl, OpDecl, VarDecl};
+use lynx_typing::Key;
 use std::alloc::Global;
 
 /// The places of names in a list, from 0. A name that stands there twice has its first place.
 #[derive(Drop)]
 pub struct Places<'m> {
-    places: IndexMap<&'m [u8], u32>,
+    places: IndexMap<Key<'m>, u32>,
     count: u32,
 }
 
@@ -32,7 +33,8 @@ impl<'m> Places<'m> {
     pub fn look(&self, name: &IdentRef) -> Option<u32>
         ensures { result ≡ found self.now name.now }
     {
-        self.places.get(name.as_slice()).copied()
+        let bytes = name.as_slice();
+        self.places.get(&Key { bytes }).copied()
     }
 
     /// Gives a name the next place, where it has none.
@@ -40,11 +42,10 @@ impl<'m> Places<'m> {
         ensures count { self.new.count ≡ self.old.count }
         ensures found { OnOk result ((q : List ℕ) → found self.new q ≡ first_of (found self.old q) (if bytes_eq name.now q then Some self.old.count else None)) }
     {
-        let name = name.as_slice();
-        if self.places.contains_key(name) {
-            return Ok(());
+        let bytes = name.as_slice();
+        if let Some(first) = self.places.insert(Key { bytes }, self.count)? {
+            self.places.insert(Key { bytes }, first)?;
         }
-        self.places.insert(name, self.count)?;
         Ok(())
     }
 
@@ -60,9 +61,18 @@ impl<'m> Places<'m> {
         Ok(())
     }
 
+    /// Makes room for so many names more, so that the table does not grow name by name.
+    fn make_room(&mut self, more: usize) -> Result<(), NoMemory>
+        ensures { (names : List (List ℕ)) → IsTableOf names self.old → OnOk result (IsTableOf names self.new) }
+    {
+        self.places.reserve(more)?;
+        Ok(())
+    }
+
     pub fn add_names(&mut self, list: &[IdentRef<'m>]) -> Result<(), NoMemory>
         ensures { (names : List (List ℕ)) → IsTableOf names self.old → OnOk result (IsTableOf (names ++ list.now) self.new) }
     {
+        self.make_room(list.len())?;
         for name in list {
             self.add(name)?;
         }
@@ -72,6 +82,7 @@ impl<'m> Places<'m> {
     pub fn add_vars(&mut self, list: &[VarDecl<'m>]) -> Result<(), NoMemory>
         ensures { (names : List (List ℕ)) → IsTableOf names self.old → OnOk result (IsTableOf (names ++ map (λ v. v.name) (map var_tree list.now)) self.new) }
     {
+        self.make_room(list.len())?;
         for var in list {
             self.add(&var.name)?;
         }
@@ -81,6 +92,7 @@ impl<'m> Places<'m> {
     pub fn add_ops(&mut self, list: &[OpDecl<'m>]) -> Result<(), NoMemory>
         ensures { (names : List (List ℕ)) → IsTableOf names self.old → OnOk result (IsTableOf (names ++ map (λ op. op.name) (map op_tree list.now)) self.new) }
     {
+        self.make_room(list.len())?;
         for op in list {
             self.add(&op.name)?;
         }
@@ -90,6 +102,7 @@ impl<'m> Places<'m> {
     pub fn add_entries(&mut self, list: &[EntryDecl<'m>]) -> Result<(), NoMemory>
         ensures { (names : List (List ℕ)) → IsTableOf names self.old → OnOk result (IsTableOf (names ++ map (λ e. e.name) (map entry_tree list.now)) self.new) }
     {
+        self.make_room(list.len())?;
         for entry in list {
             self.add(&entry.name)?;
         }

@@ -14,7 +14,7 @@ returns-in_err-checked c =
 pub returns-in-Ok : goal.returns-in-Ok
 returns-in-Ok c =
     let m = module_tree c.in_ok-checked.checked in
-    (m, short_stays c.args.source.now m c.in_ok-checked.ensures c.in-Ok.ensures.fits, c.in-Ok.ensures.code)
+    (m, short_stays c.args.source.now m c.in_ok-checked.ensures c.in-Ok.ensures.fits, c.in-Ok.ensures.code, c.in-Ok.ensures.agrees)
 
 pub returns : goal.returns
 returns c =
