@@ -32,6 +32,7 @@ fn code_ops(alloc: Global, ops: &[OpDecl]) -> Result<Vec<CodeOp>, NoMemory>
     ensures { IfOk result (λ made. ArePairs IsOpOf (map op_tree ops.now) made.items) }
 {
     let mut made = Vec::new(alloc);
+    made.reserve(ops.len())?;
     for op in ops {
         let new = code_op(alloc, op)?;
         made.push(new)?;

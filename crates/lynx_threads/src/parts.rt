@@ -40,6 +40,7 @@ fn emit_body(code: &mut Vec<Instruction>, names: &Scope, body: &[Stmt]) -> Resul
 pub fn push_kinds(types: &mut Vec<TypeName>, vars: &[VarDecl]) -> Result<(), NoMemory>
     ensures { OnOk result (types.new.items ≡ types.old.items ++ map (λ v. v.kind) (map var_tree vars.now)) }
 {
+    types.reserve(vars.len())?;
     for var in vars {
         types.push(var.kind)?;
     }

@@ -1,4 +1,4 @@
-use Rattle.std.proofs.Common.{List, ◌+◌, ◌++◌, drop, map, sym, subst, arith}
+use Rattle.std.proofs.Common.{List, ◌+◌, ◌++◌, drop, map, sym, subst, ◌∙◌, arith}
 use Rattle.lynx_tree.specs.Trees.{op_tree}
 use Rattle.lynx_code.specs.Modules.{ArePairs, IsOpOf}
 use Rattle.lynx_code.specs.declared.code.CodeOp.{CodeOp}
@@ -7,7 +7,7 @@ use Rattle.lynx_threads.proofs.Pairing.{IsLeft}
 use Rattle.lynx_threads.proofs.compiling.code_ops.Goals as goal
 
 pub loop-op-init : goal.loop-op-init
-loop-op-init c rest pairs = subst (λ (made : List CodeOp). ArePairs IsOpOf (map op_tree c.args.ops.now) (made ++ rest)) (sym c.new-made.ensures.items) pairs
+loop-op-init c rest pairs = subst (λ (made : List CodeOp). ArePairs IsOpOf (map op_tree c.args.ops.now) (made ++ rest)) (sym (c.in_ok-reserve.ensures.items ∙ c.new-made.ensures.items)) pairs
 
 pub loop-op-preserved : goal.loop-op-preserved
 loop-op-preserved c =
