@@ -1,7 +1,7 @@
 //! The code of statements.
 
 ghost use Rattle.std.specs.Prelude.{◌≡◌, ◌≢◌, ◌<◌, ◌≤◌, ◌+◌, ◌∷◌, [], ◌++◌, List, ℕ, length, map, reverse, slice_get, true, Err, Some, OnOk, IfOk};
-ghost use Rattle.lynx_tree.specs.Trees.{expr_tree, expr_list, stmt_tree, stmt_list, handler_list, else_list, assign_tree, If, IfElse, While, Await, New, Connect, Accept, Reply, Try};
+ghost use Rattle.lynx_tree.specs.Trees.{expr_tree, expr_list, stmt_tree, stmt_list, handler_list, else_list, assign_tree, If, IfElse, While, Await, New, Bind, Unbind, Connect, Accept, Reply, Try};
 ghost use Rattle.lynx_code.specs.Generation.{expr_code, exprs_code, stmt_code, stmts_code, handlers_code, store, stores, exception_named};
 ghost use Rattle.lynx_code.specs.declared.instruction.Instruction.TheVariants as code_of;
 ghost use Rattle.lynx_threads.specs.declared.fault.CompileFault.TheVariants as faults;
@@ -63,14 +63,6 @@ fn short(number: usize) -> Result<u16, CompileFault>
         Ok(number) => Ok(number),
         Err(_) => Err(CompileFault::NoMemory),
     }
-}
-
-/// The number of an entry.
-fn entry_number(names: &Scope, entry: &IdentRef) -> Result<u16, CompileFault>
-    ensures ok { IfOk result (λ number. number ≡ (names_in names.now).entry entry.now) }
-    ensures err { result ≢ Err faults.CodeTooLong }
-{
-    short(names.entry(entry) as usize)
 }
 
 fn emit_two(
@@ -175,6 +167,32 @@ fn emit_reply(
     push(code, Instruction::Reply(count))
 }
 
+fn emit_bind(
+    code: &mut Vec<Instruction>,
+    names: &Scope,
+    link: &IdentRef,
+    entry: &IdentRef,
+) -> Result<(), CompileFault>
+    ensures ok { OnOk result (code.new.items ≡ code.old.items ++ stmt_code (names_in names.now) (length code.old.items) (Bind link.now entry.now)) }
+    ensures long { result ≡ Err faults.CodeTooLong → 65535 < length code.old.items + length (stmt_code (names_in names.now) (length code.old.items) (Bind link.now entry.now)) }
+{
+    let number = short(names.entry(entry) as usize)?;
+    emit_two(code, names.load(link), Instruction::Bind(number))
+}
+
+fn emit_unbind(
+    code: &mut Vec<Instruction>,
+    names: &Scope,
+    link: &IdentRef,
+    entry: &IdentRef,
+) -> Result<(), CompileFault>
+    ensures ok { OnOk result (code.new.items ≡ code.old.items ++ stmt_code (names_in names.now) (length code.old.items) (Unbind link.now entry.now)) }
+    ensures long { result ≡ Err faults.CodeTooLong → 65535 < length code.old.items + length (stmt_code (names_in names.now) (length code.old.items) (Unbind link.now entry.now)) }
+{
+    let number = short(names.entry(entry) as usize)?;
+    emit_two(code, names.load(link), Instruction::Unbind(number))
+}
+
 /// Adds the code of a statement.
 #[cycle(emit_statement)]
 fn emit_stmt(code: &mut Vec<Instruction>, names: &Scope, stmt: &Stmt) -> Result<(), CompileFault>
@@ -195,14 +213,8 @@ fn emit_stmt(code: &mut Vec<Instruction>, names: &Scope, stmt: &Stmt) -> Result<
         Stmt::Raise(name) => push(code, Instruction::Raise(exception(name))),
         Stmt::New { first, second } => emit_new(code, names, first, second),
         Stmt::Destroy(name) => emit_two(code, names.load(name), Instruction::Destroy),
-        Stmt::Bind { link, entry } => {
-            let number = entry_number(names, entry)?;
-            emit_two(code, names.load(link), Instruction::Bind(number))
-        }
-        Stmt::Unbind { link, entry } => {
-            let number = entry_number(names, entry)?;
-            emit_two(code, names.load(link), Instruction::Unbind(number))
-        }
+        Stmt::Bind { link, entry } => emit_bind(code, names, link, entry),
+        Stmt::Unbind { link, entry } => emit_unbind(code, names, link, entry),
         Stmt::Connect {
             op,
             link,
