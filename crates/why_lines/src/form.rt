@@ -1,0 +1,225 @@
+//! The forms of lines, and where each may stand.
+
+use crate::fields::{call_fields, packet_fields, push_named, step_fields};
+use crate::listing::Listing;
+use crate::place::Place;
+use charlotte_calls::NoMemory;
+use charlotte_text::{cut, push_number};
+
+#[derive(Clone, Copy, Debug, PartialEq, Eq)]
+pub(crate) enum Form {
+    First,
+    Kernels,
+    Process,
+    Wire,
+    Step,
+    Call,
+    Packet,
+    Note,
+    Quiet,
+    Open,
+    Spent,
+}
+
+/// All forms, in the order in which they are told.
+pub(crate) const FORMS: [Form; 11] = [
+    Form::First,
+    Form::Kernels,
+    Form::Process,
+    Form::Wire,
+    Form::Step,
+    Form::Call,
+    Form::Packet,
+    Form::Note,
+    Form::Quiet,
+    Form::Open,
+    Form::Spent,
+];
+
+impl Form {
+    /// The form that a line begins as, by its name.
+    pub(crate) fn of(line: &[u8]) -> Option<Form> {
+        let first = word(line, 0)?;
+        let form = Form::of_words(line, first)?;
+        if form.has_fields(line) {
+            Some(form)
+        } else {
+            None
+        }
+    }
+
+    fn of_words(line: &[u8], first: &[u8]) -> Option<Form> {
+        if first == b".".as_slice() {
+            Some(Form::Step)
+        } else if first == b"transcript".as_slice() {
+            Some(Form::First)
+        } else if first == b"kernels".as_slice() {
+            Some(Form::Kernels)
+        } else if first == b"process".as_slice() {
+            Some(Form::Process)
+        } else if first == b"wire".as_slice() {
+            Some(Form::Wire)
+        } else if first == b"note".as_slice() {
+            Some(Form::Note)
+        } else {
+            Form::of_others(line, first)
+        }
+    }
+
+    /// The same of a last line and of an entry.
+    fn of_others(line: &[u8], first: &[u8]) -> Option<Form> {
+        if first == b"quiet".as_slice() {
+            Some(Form::Quiet)
+        } else if first == b"open".as_slice() {
+            Some(Form::Open)
+        } else if first == b"spent".as_slice() {
+            Some(Form::Spent)
+        } else if !first.iter().all(|byte| byte.is_ascii_digit()) {
+            None
+        } else if word(line, 2)? == b"from".as_slice() {
+            Some(Form::Packet)
+        } else {
+            Some(Form::Call)
+        }
+    }
+
+    /// Whether the fields of a line are known, by the name that it has.
+    fn has_fields(self, line: &[u8]) -> bool {
+        match self {
+            Form::Step => word(line, 1).and_then(step_fields).is_some(),
+            Form::Call => word(line, 3).and_then(call_fields).is_some(),
+            Form::Packet => word(line, 4).and_then(packet_fields).is_some(),
+            _ => true,
+        }
+    }
+
+    /// Whether a line of the form may stand at a place, with some numbers.
+    pub(crate) fn may_stand(self, place: Place) -> bool {
+        match place {
+            Place::Start => self == Form::First,
+            Place::Version => self == Form::Kernels,
+            Place::Processes { processes, .. } => match self {
+                Form::Process => processes < 64,
+                Form::Wire => processes != 0,
+                other => other.is_behind_header(),
+            },
+            Place::Wires { wires, .. } => {
+                self.is_behind_header() || (self == Form::Wire && wires < 4096)
+            }
+            Place::Entry => self.is_behind_header() || self == Form::Step,
+            Place::Noted { .. } => matches!(self, Form::Note | Form::Quiet | Form::Open),
+            Place::Over => false,
+        }
+    }
+
+    /// Whether a line of the form may be the first behind a header.
+    fn is_behind_header(self) -> bool {
+        match self {
+            Form::Call | Form::Packet | Form::Note => true,
+            Form::Quiet | Form::Open | Form::Spent => true,
+            Form::First | Form::Kernels | Form::Process | Form::Wire | Form::Step => false,
+        }
+    }
+
+    /// Adds the form as it stands at a place, with the fields that a line has by its name.
+    pub(crate) fn add(
+        self,
+        forms: &mut Listing,
+        place: Place,
+        version: u8,
+        line: &[u8],
+    ) -> Result<(), NoMemory> {
+        match self {
+            Form::First => {
+                forms.add(b"transcript 1")?;
+                forms.add(b"transcript 2")
+            }
+            Form::Kernels => forms.add(b"kernels N, N from 1 to 8"),
+            Form::Process => add_process(forms, place),
+            Form::Wire => add_wire(forms, place),
+            Form::Step => {
+                forms.add(b". ")?;
+                let name = word(line, 1);
+                push_named(
+                    &mut forms.text,
+                    version,
+                    name,
+                    name.and_then(step_fields),
+                    b"STEP",
+                )
+            }
+            Form::Call => {
+                forms.add(b"STAMP kK pP ")?;
+                let name = word(line, 3);
+                push_named(
+                    &mut forms.text,
+                    version,
+                    name,
+                    name.and_then(call_fields),
+                    b"CALL",
+                )
+            }
+            Form::Packet => {
+                forms.add(b"STAMP kK from J ")?;
+                let name = word(line, 4);
+                push_named(
+                    &mut forms.text,
+                    version,
+                    name,
+                    name.and_then(packet_fields),
+                    b"PACKET",
+                )
+            }
+            Form::Note => {
+                add_note(forms, place, b"nothing")?;
+                add_note(forms, place, b"waits")
+            }
+            Form::Quiet => forms.add(b"quiet"),
+            Form::Open => forms.add(b"open"),
+            Form::Spent => forms.add(b"spent K"),
+        }
+    }
+}
+
+/// The word of a line with so many before it.
+fn word(line: &[u8], before: usize) -> Option<&[u8]> {
+    let mut rest = line;
+    for _ in 0..before {
+        rest = cut(b' ', rest).1?;
+    }
+    Some(cut(b' ', rest).0)
+}
+
+/// The next process.
+fn add_process(forms: &mut Listing, place: Place) -> Result<(), NoMemory> {
+    forms.add(b"process ")?;
+    if let Place::Processes { kernels, processes } = place {
+        push_number(&mut forms.text, u64::from(processes))?;
+        forms.text.extend_from_slice(b" on K, K below ")?;
+        push_number(&mut forms.text, u64::from(kernels))?;
+    }
+    Ok(())
+}
+
+/// A wire between processes that are there.
+fn add_wire(forms: &mut Listing, place: Place) -> Result<(), NoMemory> {
+    forms.add(b"wire I J, I and J below ")?;
+    match place {
+        Place::Processes { processes, .. } | Place::Wires { processes, .. } => {
+            push_number(&mut forms.text, u64::from(processes))?;
+        }
+        _ => {}
+    }
+    Ok(())
+}
+
+/// A note, behind one of an earlier line.
+fn add_note(forms: &mut Listing, place: Place, what: &[u8]) -> Result<(), NoMemory> {
+    forms.add(b"note LINE ")?;
+    forms.text.extend_from_slice(what)?;
+    if let Place::Noted { line } = place {
+        forms.text.extend_from_slice(b", LINE above ")?;
+        push_number(&mut forms.text, u64::from(line))?;
+    }
+    Ok(())
+}
