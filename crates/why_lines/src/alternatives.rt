@@ -1,14 +1,13 @@
 //! The lines that the kernels let stand next, where no service line is due.
 ghost use Rattle.why_lines.specs.Run.{IsRun};
 
-use crate::form::Form;
-use crate::listing::Listing;
-use crate::place::Place;
 use crate::printed::packet_line;
 use crate::run::{Doing, Run};
 use charlotte_calls::{NoMemory, Pid};
 use charlotte_text::{push_number, push_process};
+use line_forms::{Form, Listing};
 use std::alloc::Global;
+use transcript_reader::Place;
 
 /// Adds each line that may stand next: notes, last lines, calls, and packets.
 pub(crate) fn add_alternatives(
@@ -19,14 +18,13 @@ pub(crate) fn add_alternatives(
 ) -> Result<(), NoMemory>
     requires { IsRun run.now }
 {
-    let version = run.setting.version;
-    Form::Note.add(lines, place, version, b"")?;
+    Form::Note.add(lines, place)?;
     let last = if run.nodes.are_quiet() {
         Form::Quiet
     } else {
         Form::Open
     };
-    last.add(lines, place, version, b"")?;
+    last.add(lines, place)?;
     if let Place::Noted { .. } = place {
         return Ok(());
     }

@@ -1,11 +1,11 @@
 //! What is kept of one end.
 
 use crate::kept::push_kernel;
-use crate::listing::Listing;
 use crate::run::Run;
 use charlotte_calls::{EndId, MovingPicture, NoMemory};
 use charlotte_text::{push_end, push_number, push_process};
 use end_table::{Entry, HereView, Holder, Inward, Outward};
+use line_forms::Listing;
 use link_service::Place;
 
 /// Adds the entries of an end, one for each kernel that has one, and where it is in the link service.

@@ -1,58 +1,16 @@
-//! What was expected in the place of a line.
+//! What the kernels give in the place of a line.
 ghost use Rattle.why_lines.specs.Run.{IsRun};
 
 use crate::alternatives::{add_alternatives, first_packet};
-use crate::form::{FORMS, Form};
-use crate::listing::Listing;
-use crate::place::Place;
 use crate::printed::{call_line, step_line};
 use crate::run::{Doing, Run};
 use charlotte_calls::{Call, NoMemory, Pid};
+use line_forms::Listing;
 use std::alloc::Global;
-use transcript_forms::read_kind;
-use transcript_reader::LineKind;
+use transcript_reader::{LineKind, Place};
 
 /// What stands between alternatives.
-const OR: &[u8] = b" | ";
-
-/// The forms that may stand at a place. Of a line of a bad form that begins as one that may stand there, this form alone.
-pub(crate) fn expected_forms(
-    alloc: Global,
-    place: Place,
-    version: u8,
-    line: &[u8],
-) -> Result<Vec<u8>, NoMemory> {
-    let mut forms = Listing::new(alloc, OR);
-    if place == Place::Over {
-        forms.add(b"the end of the text")?;
-        return Ok(forms.text);
-    }
-    match misspelled(place, version, line) {
-        Some(form) => form.add(&mut forms, place, version, line)?,
-        None => add_forms(&mut forms, place, version)?,
-    }
-    Ok(forms.text)
-}
-
-/// The form that a line of a bad form begins as, if it may stand there.
-fn misspelled(place: Place, version: u8, line: &[u8]) -> Option<Form> {
-    let form = Form::of(line)?;
-    if read_kind(version, line).is_err() && form.may_stand(place) {
-        Some(form)
-    } else {
-        None
-    }
-}
-
-/// Each form that may stand at a place.
-fn add_forms(forms: &mut Listing, place: Place, version: u8) -> Result<(), NoMemory> {
-    for form in &FORMS {
-        if form.may_stand(place) {
-            form.add(forms, place, version, b"")?;
-        }
-    }
-    Ok(())
-}
+pub(crate) const OR: &[u8] = b" | ";
 
 /// What the kernels give in the place of a line that differs: the step that is due, the line with its right numbers, or each line that may
 /// stand there.

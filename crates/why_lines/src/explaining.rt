@@ -3,16 +3,16 @@ ghost use Rattle.std.specs.Prelude.{◌<◌, IfOk, length, map};
 ghost use Rattle.why_lines.specs.Run.{IsRun};
 ghost use Rattle.why_lines.specs.Why.{AreWhy};
 
-use crate::expected::{expected_forms, expected_lines};
+use crate::expected::{OR, expected_lines};
 use crate::kept::kept_items;
-use crate::place::Place;
 use crate::reached::{Reached, reach};
 use crate::run::{Run, run_before};
 use crate::shown::labelled_line;
 use crate::standing::{line_at, standing_line};
 use charlotte_calls::NoMemory;
+use line_forms::{Listing, expected_forms};
 use std::alloc::Global;
-use transcript_reader::LineKind;
+use transcript_reader::{LineKind, Place};
 
 /// What is told of the place of a line.
 #[derive(Debug, Drop)]
@@ -50,8 +50,10 @@ fn tell_reasons(alloc: Global, bytes: &[u8], number: u32) -> Result<Reasons, NoM
             return differing(alloc, place, &run, &kind);
         }
     }
+    let mut forms = Listing::new(alloc, OR);
+    expected_forms(&mut forms, place, version, line_at(bytes, number).text)?;
     Ok(Reasons {
-        expected: expected_forms(alloc, place, version, line_at(bytes, number).text)?,
+        expected: forms.text,
         kept: b"nothing".to_vec(alloc)?,
     })
 }

@@ -2,12 +2,12 @@
 ghost use Rattle.why_lines.specs.Run.{IsRun};
 
 use crate::ends::add_end;
-use crate::listing::Listing;
 use crate::named::{named_ends, named_process};
 use crate::run::{Doing, Run};
 use charlotte_calls::{NoMemory, Pid};
 use charlotte_text::{push_number, push_process};
 use journal_text::print_picture;
+use line_forms::Listing;
 use std::alloc::Global;
 use transcript_reader::LineKind;
 

@@ -1,10 +1,9 @@
 //! The lines before the one of a number, which are read and not replayed.
 ghost use Rattle.std.specs.Prelude.{◌<◌, length};
 
-use crate::place::Place;
 use charlotte_calls::{Items, NoMemory, Pid, Setting};
 use std::alloc::Global;
-use transcript_reader::{Line, LineKind, Reader};
+use transcript_reader::{Line, LineKind, Place, Reader};
 
 /// How far lines were read.
 #[derive(Debug, Drop)]
@@ -63,14 +62,13 @@ pub(crate) fn reach(alloc: Global, bytes: &[u8], number: u32) -> Result<Reached,
 {
     let mut reader = Reader::new(bytes);
     let mut header = Header::new(alloc);
-    let mut place = Place::Start;
     for _ in 1..number {
         let Some(line) = next_line(&mut reader) else {
             break;
         };
         header.tell(&line.what)?;
-        place = place.behind(&line.what);
     }
+    let place = reader.place();
     let next = match next_line(&mut reader) {
         Some(Line { number: _, what }) => Some(what),
         None => None,

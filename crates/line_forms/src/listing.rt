@@ -3,15 +3,16 @@
 use charlotte_calls::NoMemory;
 use std::alloc::Global;
 
-/// Items, with a mark between each two.
+/// A text of items, with a mark between each two.
 #[derive(Debug, Drop)]
-pub(crate) struct Listing {
-    pub(crate) text: Vec<u8>,
+pub struct Listing {
+    pub text: Vec<u8>,
     mark: &'static [u8],
 }
 
 impl Listing {
-    pub(crate) fn new(alloc: Global, mark: &'static [u8]) -> Listing {
+    /// A text of no items.
+    pub fn new(alloc: Global, mark: &'static [u8]) -> Listing {
         Listing {
             text: Vec::new(alloc),
             mark,
@@ -19,7 +20,7 @@ impl Listing {
     }
 
     /// Begins the next item, whose bytes are appended to the text.
-    pub(crate) fn begin(&mut self) -> Result<(), NoMemory> {
+    pub fn begin(&mut self) -> Result<(), NoMemory> {
         if !self.text.is_empty() {
             self.text.extend_from_slice(self.mark)?;
         }
@@ -27,7 +28,7 @@ impl Listing {
     }
 
     /// Adds an item.
-    pub(crate) fn add(&mut self, item: &[u8]) -> Result<(), NoMemory> {
+    pub fn add(&mut self, item: &[u8]) -> Result<(), NoMemory> {
         self.begin()?;
         self.text.extend_from_slice(item)?;
         Ok(())

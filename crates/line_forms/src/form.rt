@@ -1,13 +1,14 @@
 //! The forms of lines, and where each may stand.
 
-use crate::fields::{call_fields, packet_fields, push_named, step_fields};
+use crate::fields::{Fields, call_fields, packet_fields, push_fields, step_fields};
 use crate::listing::Listing;
-use crate::place::Place;
 use charlotte_calls::NoMemory;
 use charlotte_text::{cut, push_number};
+use transcript_reader::Place;
 
+/// The form of a line.
 #[derive(Clone, Copy, Debug, PartialEq, Eq)]
-pub(crate) enum Form {
+pub enum Form {
     First,
     Kernels,
     Process,
@@ -39,12 +40,11 @@ pub(crate) const FORMS: [Form; 11] = [
 impl Form {
     /// The form that a line begins as, by its name.
     pub(crate) fn of(line: &[u8]) -> Option<Form> {
-        let first = word(line, 0)?;
-        let form = Form::of_words(line, first)?;
-        if form.has_fields(line) {
-            Some(form)
-        } else {
+        let form = Form::of_words(line, word(line, 0)?)?;
+        if form.has_names() && form.name(line).is_none() {
             None
+        } else {
+            Some(form)
         }
     }
 
@@ -83,17 +83,31 @@ impl Form {
         }
     }
 
-    /// Whether the fields of a line are known, by the name that it has.
-    fn has_fields(self, line: &[u8]) -> bool {
+    /// Whether lines of this form have names, each with fields of its own.
+    fn has_names(self) -> bool {
+        matches!(self, Form::Step | Form::Call | Form::Packet)
+    }
+
+    /// The name in a line of this form, with the fields behind it.
+    fn name(self, line: &[u8]) -> Option<(&[u8], Fields)> {
         match self {
-            Form::Step => word(line, 1).and_then(step_fields).is_some(),
-            Form::Call => word(line, 3).and_then(call_fields).is_some(),
-            Form::Packet => word(line, 4).and_then(packet_fields).is_some(),
-            _ => true,
+            Form::Step => {
+                let name = word(line, 1)?;
+                Some((name, step_fields(name)?))
+            }
+            Form::Call => {
+                let name = word(line, 3)?;
+                Some((name, call_fields(name)?))
+            }
+            Form::Packet => {
+                let name = word(line, 4)?;
+                Some((name, packet_fields(name)?))
+            }
+            _ => None,
         }
     }
 
-    /// Whether a line of the form may stand at a place, with some numbers.
+    /// Whether some line of the form may stand in a place.
     pub(crate) fn may_stand(self, place: Place) -> bool {
         match place {
             Place::Start => self == Form::First,
@@ -121,14 +135,8 @@ impl Form {
         }
     }
 
-    /// Adds the form as it stands at a place, with the fields that a line has by its name.
-    pub(crate) fn add(
-        self,
-        forms: &mut Listing,
-        place: Place,
-        version: u8,
-        line: &[u8],
-    ) -> Result<(), NoMemory> {
+    /// Adds the form as it stands in a place: capitals stand for values, and `STEP`, `CALL` and `PACKET` for any of these.
+    pub fn add(self, forms: &mut Listing, place: Place) -> Result<(), NoMemory> {
         match self {
             Form::First => {
                 forms.add(b"transcript 1")?;
@@ -137,39 +145,9 @@ impl Form {
             Form::Kernels => forms.add(b"kernels N, N from 1 to 8"),
             Form::Process => add_process(forms, place),
             Form::Wire => add_wire(forms, place),
-            Form::Step => {
-                forms.add(b". ")?;
-                let name = word(line, 1);
-                push_named(
-                    &mut forms.text,
-                    version,
-                    name,
-                    name.and_then(step_fields),
-                    b"STEP",
-                )
-            }
-            Form::Call => {
-                forms.add(b"STAMP kK pP ")?;
-                let name = word(line, 3);
-                push_named(
-                    &mut forms.text,
-                    version,
-                    name,
-                    name.and_then(call_fields),
-                    b"CALL",
-                )
-            }
-            Form::Packet => {
-                forms.add(b"STAMP kK from J ")?;
-                let name = word(line, 4);
-                push_named(
-                    &mut forms.text,
-                    version,
-                    name,
-                    name.and_then(packet_fields),
-                    b"PACKET",
-                )
-            }
+            Form::Step => forms.add(b". STEP"),
+            Form::Call => forms.add(b"STAMP kK pP CALL"),
+            Form::Packet => forms.add(b"STAMP kK from J PACKET"),
             Form::Note => {
                 add_note(forms, place, b"nothing")?;
                 add_note(forms, place, b"waits")
@@ -177,6 +155,32 @@ impl Form {
             Form::Quiet => forms.add(b"quiet"),
             Form::Open => forms.add(b"open"),
             Form::Spent => forms.add(b"spent K"),
+        }
+    }
+
+    /// The same, with the name that stands in a line, and its fields.
+    pub(crate) fn add_named(
+        self,
+        forms: &mut Listing,
+        place: Place,
+        version: u8,
+        line: &[u8],
+    ) -> Result<(), NoMemory> {
+        let Some((name, fields)) = self.name(line) else {
+            return self.add(forms, place);
+        };
+        forms.add(self.before_name())?;
+        forms.text.extend_from_slice(name)?;
+        push_fields(&mut forms.text, version, fields)
+    }
+
+    /// What stands before the name in a line of this form.
+    fn before_name(self) -> &'static [u8] {
+        match self {
+            Form::Step => b". ",
+            Form::Call => b"STAMP kK pP ",
+            Form::Packet => b"STAMP kK from J ",
+            _ => b"",
         }
     }
 }

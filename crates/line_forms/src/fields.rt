@@ -119,29 +119,17 @@ fn short_step_fields(name: &[u8]) -> Option<Fields> {
     }
 }
 
-/// Appends a name and its fields, where there is such a name, and else the word that stands for any.
-pub(crate) fn push_named(
-    out: &mut Vec<u8>,
-    version: u8,
-    name: Option<&[u8]>,
-    fields: Option<Fields>,
-    any: &[u8],
-) -> Result<(), NoMemory> {
-    let (Some(name), Some(fields)) = (name, fields) else {
-        out.extend_from_slice(any)?;
-        return Ok(());
-    };
-    out.extend_from_slice(name)?;
+/// Appends the fields behind a name; ends and values may stand as often as a version allows.
+pub(crate) fn push_fields(out: &mut Vec<u8>, version: u8, fields: Fields) -> Result<(), NoMemory> {
     out.extend_from_slice(fields.text)?;
     match fields.more {
-        More::Nothing => {}
-        More::Ends => push_listed(out, version, b" +END")?,
-        More::Values => push_listed(out, version, b" +VALUE")?,
+        More::Nothing => Ok(()),
+        More::Ends => push_listed(out, version, b" +END"),
+        More::Values => push_listed(out, version, b" +VALUE"),
     }
-    Ok(())
 }
 
-/// Appends that this may stand as often as a version allows.
+/// Appends that this may stand once in version 1, and else up to eight times.
 fn push_listed(out: &mut Vec<u8>, version: u8, what: &[u8]) -> Result<(), NoMemory> {
     out.push(b'[')?;
     out.extend_from_slice(what)?;

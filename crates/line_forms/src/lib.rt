@@ -1,0 +1,11 @@
+//! The forms of the lines of a transcript, as they are told to people: which may stand in a place, and how each is written.
+#![tactic(auto)]
+
+mod fields;
+mod form;
+mod listing;
+mod standing;
+
+pub use form::Form;
+pub use listing::Listing;
+pub use standing::expected_forms;
