@@ -1,4 +1,7 @@
 //! The forms of lines, and where each may stand.
+ghost use Rattle.std.specs.Prelude.{◌≡◌};
+ghost use Rattle.line_forms.specs.Forms.{is_of_body, may_stand};
+ghost use Rattle.transcript_reader.specs.Lines.{seen};
 
 use crate::fields::{Fields, call_fields, packet_fields, push_fields, step_fields};
 use crate::listing::Listing;
@@ -108,26 +111,34 @@ impl Form {
     }
 
     /// Whether some line of the form may stand in a place.
-    pub(crate) fn may_stand(self, place: Place) -> bool {
+    pub(crate) fn may_stand(self, place: Place) -> bool
+        ensures { result ≡ may_stand (seen place) self }
+    {
         match place {
-            Place::Start => self == Form::First,
-            Place::Version => self == Form::Kernels,
-            Place::Processes { processes, .. } => match self {
-                Form::Process => processes < 64,
-                Form::Wire => processes != 0,
-                other => other.is_behind_header(),
+            Place::Start => matches!(self, Form::First),
+            Place::Version => matches!(self, Form::Kernels),
+            Place::Processes { kernels, processes } => match self {
+                Form::Process => 0 < kernels && processes < 64,
+                Form::Wire => 0 < processes,
+                _ => self.is_of_body(),
             },
-            Place::Wires { wires, .. } => {
-                self.is_behind_header() || (self == Form::Wire && wires < 4096)
-            }
-            Place::Entry => self.is_behind_header() || self == Form::Step,
+            Place::Wires { processes, wires } => match self {
+                Form::Wire => wires < 4096 && 0 < processes,
+                _ => self.is_of_body(),
+            },
+            Place::Entry => match self {
+                Form::Step => true,
+                _ => self.is_of_body(),
+            },
             Place::Noted { .. } => matches!(self, Form::Note | Form::Quiet | Form::Open),
             Place::Over => false,
         }
     }
 
-    /// Whether a line of the form may be the first behind a header.
-    fn is_behind_header(self) -> bool {
+    /// Whether a line of the form may be the first behind a header, and stand behind an entry.
+    fn is_of_body(self) -> bool
+        ensures { result ≡ is_of_body self }
+    {
         match self {
             Form::Call | Form::Packet | Form::Note => true,
             Form::Quiet | Form::Open | Form::Spent => true,
