@@ -1,5 +1,6 @@
 #!/usr/bin/env python3
-"""Proves the crates that the program is made of, and links it: build.py TOP, with a line `NAME NEED ..` for each crate on standard input.
+"""Proves the crates that a program is made of, and links it: build.py TOP, with a line `NAME NEED ..` for each crate on standard input, that of
+the program first.
 With `--minutes N` behind TOP it prints the minutes that this takes on N processors where nothing is proved, and does nothing.
 
 It is done by the toolchain's gate, in a copy that has those crates alone, without the edits that the prover has to refuse: as many crates
@@ -16,7 +17,6 @@ import sys
 import tempfile
 import time
 
-PROGRAM = "lynx"
 # Lines of sources to a second, where a crate was never measured.
 LINES_A_SECOND = 40
 # Of a part of the whole work that is smaller than this one, the time that it took tells nothing of the machine.
@@ -87,6 +87,7 @@ class Build:
     def __init__(self, top, needs):
         self.top = top
         self.needs = needs
+        self.program = next(iter(needs))
         self.work = Work(top, needs, max(1, os.cpu_count() or 1))
         self.left = set(needs)
         # those that no earlier run proved
@@ -96,7 +97,7 @@ class Build:
         self.waits = set()
         self.running = None
         self.room = None
-        self.out = f"{top}/crates/{PROGRAM}/out"
+        self.out = f"{top}/crates/{self.program}/out"
         os.makedirs(self.out, exist_ok=True)
         self.log = f"{self.out}/build-{os.getpid()}.log"
 
@@ -177,13 +178,13 @@ class Build:
             self.tell()
             time.sleep(0.2)
         self.read_log()
-        made = f"{self.room}/crates/{PROGRAM}/out/{PROGRAM}"
+        made = f"{self.room}/crates/{self.program}/out/{self.program}"
         if self.running.returncode or not os.path.exists(made):
             self.fail()
             return False
-        shutil.move(made, f"{self.out}/{PROGRAM}")
+        shutil.move(made, f"{self.out}/{self.program}")
         # so a source that was edited during the build is newer
-        os.utime(f"{self.out}/{PROGRAM}", (self.started, self.started))
+        os.utime(f"{self.out}/{self.program}", (self.started, self.started))
         say("built")
         os.remove(self.log)
         return True

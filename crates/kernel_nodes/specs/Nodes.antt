@@ -5,7 +5,7 @@ use Rattle.charlotte_calls.specs.declared.packet.Packet.{Packet}
 use Rattle.charlotte_calls.specs.declared.picture.Picture.{Picture}
 use Rattle.charlotte_calls.specs.declared.picture.PictureWhat.{PictureWhat}
 use Rattle.charlotte_calls.specs.declared.setting.Setting.{Setting}
-use Rattle.kernel_core.specs.State.{state_of}
+use Rattle.kernel_core.specs.State.{KernelView, state_of}
 use Rattle.kernel_step.specs.Kernel.{Outcome}
 use Rattle.kernel_step.specs.Start.{start_kernel}
 use Rattle.kernel_world.specs.World.{World, Event, Takes, happens, outcome, to_kernel}
@@ -47,6 +47,12 @@ world_of s nodes =
 pub record AreNodes (s : Setting) (ns : List Node) : Type 0 where
   pub count : length ns ≡ s.kernels
   pub nodes : All (IsNodeOf s) ns
+
+-- the kernel of this number, with a place for each process of the setting
+pub record IsKernelAt (s : Setting) (number : ℕ) (ns : List Node) (k : KernelView) : Type 0 where
+  pub below : number < s.kernels
+  pub state : (world_of s ns).kernel number ≡ state_of k
+  pub processes : length k.processes ≡ length s.homes
 
 -- an event happened, and this is noted of it
 pub record Happens (s : Setting) (e : Event) (made : Noted) (old new : List Node) : Type 0 where

@@ -1,4 +1,4 @@
-ghost use Rattle.std.specs.Prelude.{◌≡◌, ◌↔◌, ◌<◌, ℕ, ◌++◌, [], All, IfOk, IsTrue, OnOk, List, MatchOption, length, map};
+ghost use Rattle.std.specs.Prelude.{◌≡◌, ◌↔◌, ◌<◌, ℕ, ◌++◌, [], All, IfOk, IsTrue, OnOk, List, MatchOption, length, map, option_copied, option_map, slice_get};
 ghost use Rattle.charlotte_calls.specs.Packets.{packet_picture};
 ghost use Rattle.charlotte_calls.specs.Setting.{IsValid};
 ghost use Rattle.charlotte_calls.specs.declared.names.EndId.{EndId};
@@ -108,6 +108,14 @@ impl Node {
         ensures lists { length self.new.sent.items ≡ length self.old.sent.items }
     {
         self.sent[usize::from(to)].pop_front()
+    }
+
+    /// The oldest packet to a kernel that was not taken yet, lent.
+    pub(crate) fn first(&self, to: u8) -> Option<&Packet>
+        requires { length self.now.sent.items ≡ 256 }
+        ensures { option_map packet_picture (option_copied result) ≡ slice_get (sent_to self.now to) 0 }
+    {
+        self.sent[usize::from(to)].front()
     }
 
     /// Whether no packet of this node waits to be taken.

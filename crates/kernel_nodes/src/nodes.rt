@@ -1,4 +1,5 @@
-ghost use Rattle.std.specs.Prelude.{◌≡◌, ◌↔◌, ◌<◌, [], All, IfOk, IsTrue, List, length};
+ghost use Rattle.std.specs.Prelude.{◌≡◌, ◌↔◌, ◌≤◌, ◌<◌, [], All, IfOk, IsTrue, List, MatchOption, length, option_copied, option_map, slice_get};
+ghost use Rattle.charlotte_calls.specs.Packets.{packet_picture};
 ghost use Rattle.charlotte_calls.specs.Setting.{IsValid};
 ghost use Rattle.charlotte_calls.specs.declared.names.EndId.{EndId};
 ghost use Rattle.charlotte_calls.specs.declared.setting.Setting.{Setting as ASetting};
@@ -7,10 +8,11 @@ ghost use Rattle.kernel_step.specs.Kernel.{process_of};
 ghost use Rattle.kernel_step.specs.declared.phase.Phase.TheVariants.{Running};
 ghost use Rattle.kernel_world.specs.Run.{AllTaken};
 ghost use Rattle.kernel_world.specs.World.{Calls, start};
-ghost use Rattle.kernel_nodes.specs.Nodes.{AreNodes, Happens, TakesTold, world_of};
+ghost use Rattle.kernel_nodes.specs.Nodes.{AreNodes, Happens, IsKernelAt, TakesTold, world_of};
 
 use crate::node::Node;
-use charlotte_calls::{Call, NoMemory, PictureWhat, Pid, ServiceStep, Setting};
+use charlotte_calls::{Call, NoMemory, Packet, PictureWhat, Pid, ServiceStep, Setting};
+use kernel_core::Kernel;
 use std::alloc::Global;
 use transcript_matching::is_told;
 
@@ -83,6 +85,27 @@ impl Nodes {
         }
         let noted = self.nodes[usize::from(to)].take(from, packet)?;
         Ok(Some(noted))
+    }
+
+    /// The kernel of a number; `None` exactly where it is not there.
+    pub fn kernel(&self, kernel: u8) -> Option<&Kernel>
+        ensures { (s : ASetting) → AreNodes s self.now.nodes.items → MatchOption result (s.kernels ≤ kernel) (λ k. IsKernelAt s kernel self.now.nodes.items k.now) }
+    {
+        if usize::from(kernel) >= self.nodes.len() {
+            return None;
+        }
+        Some(&self.nodes[usize::from(kernel)].kernel)
+    }
+
+    /// The oldest packet from one kernel to another that was not taken, lent; `None` exactly where there is none.
+    pub fn first(&self, from: u8, to: u8) -> Option<&Packet>
+        requires { (s : ASetting) × AreNodes s self.now.nodes.items }
+        ensures { (s : ASetting) → option_map packet_picture (option_copied result) ≡ slice_get ((world_of s self.now.nodes.items).packets from to) 0 }
+    {
+        if usize::from(from) >= self.nodes.len() {
+            return None;
+        }
+        self.nodes[usize::from(from)].first(to)
     }
 
     /// Whether no packet is under way.

@@ -13,6 +13,7 @@ mod reader;
 pub use fault::LineFault;
 pub use law::{lines_are_told, told_is_written};
 pub use line::Line;
+pub use place::Place;
 pub use read::read_transcript;
 pub use reader::Reader;
 pub use transcript_reading::{LineKind, ServiceLine};

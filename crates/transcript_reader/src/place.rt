@@ -14,8 +14,10 @@ use transcript_reading::LineKind;
 
 /// What was read last, as far as the next line depends on it.
 #[derive(Clone, Copy, Debug, PartialEq, Eq)]
-pub(crate) enum Place {
+pub enum Place {
+    /// No line.
     Start,
+    /// The first line, which tells the version.
     Version,
     /// `kernels N` or a process: so many kernels, and so many processes so far.
     Processes { kernels: u8, processes: u8 },
@@ -25,6 +27,7 @@ pub(crate) enum Place {
     Entry,
     /// A note of a line of the script.
     Noted { line: u32 },
+    /// The last line.
     Over,
 }
 

@@ -53,6 +53,13 @@ impl<'a> Reader<'a> {
         }
     }
 
+    /// What was read last, as far as the next line depends on it.
+    pub fn place(&self) -> Place
+        ensures { seen result ≡ self.now.place }
+    {
+        self.place
+    }
+
     /// The next line; `None` exactly where the last line was read and nothing stands behind it; and a bad line where the
     /// next one cannot stand there, where it has no line feed and where there is none. After `None` and after a fault the
     /// reader is as before.

@@ -1,0 +1,4 @@
+pub mod Run
+pub mod Shown
+pub mod Standing
+pub mod Why

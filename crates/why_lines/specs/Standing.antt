@@ -1,0 +1,18 @@
+-- The lines of a text, as they stand.
+use Rattle.std.specs.Prelude.{ℕ, ◌-◌, Bool, true, false, List, [], ◌∷◌, drop}
+use Rattle.charlotte_text.specs.Reading.{parts}
+
+-- the text of a line, and whether a line feed ends it
+pub record Line : Type 0 where
+  pub text : List ℕ
+  pub ended : Bool
+
+-- the first of the texts that line feeds separate; behind the last of them stands none
+abbrev pub first_line : List (List ℕ) → Line
+first_line [] = record { text = []; ended = false }
+first_line (text ∷ []) = record { text = text; ended = false }
+first_line (text ∷ next ∷ others) = record { text = text; ended = true }
+
+-- the line of a number, from 1; nothing stands there where the text has fewer
+abbrev pub line_at : List ℕ → ℕ → Line
+line_at bytes number = first_line (drop (number - 1) (parts 10 bytes))
