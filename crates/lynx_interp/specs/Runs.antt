@@ -1,0 +1,53 @@
+-- The steps of a run.
+use Rattle.std.specs.Prelude.{◌≡◌, ℕ, List, Option, None, Some, slice_get, slice_set, ⊤}
+use Rattle.lynx_meaning.specs.Values.{Value}
+use Rattle.thread_turns.specs.Shapes.{program}
+use Rattle.thread_turns.specs.Threads.{Made, Standing, wanted_by}
+use Rattle.thread_turns.specs.Turns.{Beat, Goes, Stops, Act, Turns, comes, with_thread}
+use Rattle.thread_turns.specs.Turns as turns
+use Rattle.lynx_thread.specs.Operands.{IsCourse, StaysReady}
+use Rattle.lynx_thread.specs.Told.{action_of, told}
+use Rattle.lynx_thread.specs.declared.action.Action.{Action}
+use Rattle.lynx_thread.specs.declared.action.Move.{Move}
+use Rattle.sound_turns.specs.Sound.{IsAsking}
+use Rattle.lynx_interp.specs.Machines.{State}
+use Rattle.lynx_interp.specs.declared.stop.Stop.{Stop}
+use Rattle.lynx_interp.specs.declared.stop.Stop.TheVariants as stop
+
+abbrev pub stop_of : Stop → turns.Stop
+stop_of stop.Spent = turns.Spent
+stop_of (stop.Act thread action) = Act thread (action_of action)
+stop_of stop.AllBlocked = turns.AllBlocked
+stop_of stop.Finished = turns.Finished
+
+-- where a run stopped for an action, the thread waits for its outcome
+abbrev pub IsAsked : Stop → Turns → Type 0
+IsAsked (stop.Act thread action) t = IsAsking thread (wanted_by (action_of action)) t
+IsAsked _ t = ⊤
+
+-- ---- a turn
+
+-- this thread can go on
+abbrev pub CanGoOn : ℕ → State → Type 0
+CanGoOn n state =
+    (s : Standing) × (slice_get state.turns.threads n ≡ Some (Some s)) × StaysReady (program state.types state.instructions) state.turns.globals s
+
+-- it went on with so much fuel, and so much is left
+abbrev pub IsTurn : ℕ → ℕ → State → State → Move → ℕ → Type 0
+IsTurn n fuel before after made left =
+    (s t : Standing) × (slice_get before.turns.threads n ≡ Some (Some s))
+    × (after ≡ record before { turns = with_thread n (Some t) (record before.turns { globals = after.turns.globals }) })
+    × IsCourse (program before.types before.instructions) fuel before.turns.globals s left (told made after.turns.globals t)
+
+-- ---- what comes of a turn
+
+-- its thread may have asked for this
+abbrev pub after_turn : ℕ → ℕ → Option Action → Turns → Beat
+after_turn fuel n None t = Goes fuel t
+after_turn fuel n (Some a) t = Stops (Act n (action_of a)) fuel t
+
+-- those that wait are changed by what came of the turn of this thread
+abbrev pub Settles : ℕ → Move → Option Action → State → State → Type 0
+Settles n made action before after =
+    (after ≡ record before { turns = after.turns })
+    × ((fuel : ℕ) (s : Standing) → slice_get before.turns.threads n ≡ Some (Some s) → after_turn fuel n action after.turns ≡ comes fuel n before.turns (told made before.turns.globals s))

@@ -1,0 +1,92 @@
+-- An instruction that goes on with the outcome of its action.
+use Rattle.std.proofs.Common.{arith, ◌≡◌, ℕ, suc, ◌+◌, ◌<◌, List, [], ◌∷◌, ◌++◌, length, drop, reverse, Bool, true, false, ◌&&◌, nat_eq, Option, None, Some, Ok, Err, refl, ap, ◌∙◌, not-suc-le-zero}
+use Rattle.lynx_typing.specs.declared.exception.Exception.{Exception}
+use Rattle.lynx_meaning.specs.Code.{Thread, answered, asks, closes_accept, raises, tries_again}
+use Rattle.lynx_meaning.specs.Courses.{Action, Close}
+use Rattle.lynx_meaning.specs.Values.{Value}
+use Rattle.thread_turns.specs.Threads.{Outcome, Standing, Made, Went, in_turn, made}
+use Rattle.lynx_thread.specs.Closes.{raising}
+use Rattle.lynx_thread.specs.Outcomes.{first_given, raised_by, values_by}
+use Rattle.lynx_thread.proofs.Goes.{goes_on_trying}
+
+-- ---- by the outcome
+
+module _ (globals : List Value) (actions : List Action) (taken accepts raised : ℕ) (s : Standing) where
+  abbrev there : Thread
+  there = raising globals actions taken 1 raised s
+
+  pub raised_first : (o : Outcome) (x : Exception) → raised_by o ≡ Some x →
+      made false s (answered s.is_entry o (λ now. record now { accepts = accepts }) there) ≡ made false s (raises s.is_entry x there)
+  raised_first (Ok vs) x is = cc
+  raised_first (Err y) x is = let same : y ≡ x = cc in ap (λ z. made false s (raises s.is_entry z there)) same
+
+  pub given_values : (o : Outcome) → raised_by o ≡ None →
+      made false s (answered s.is_entry o (λ now. record now { accepts = accepts }) there) ≡
+      Went globals (record s { address = s.address + 1; stack = reverse (values_by o) ++ drop taken s.stack; accepts = accepts; given = []; wanted = None })
+  given_values (Ok vs) is =
+      ap
+      (λ (again : Bool). Went globals (record s { address = s.address + 1; stack = reverse vs ++ drop taken s.stack; accepts = accepts; given = []; wanted = None; again = again }))
+      (goes_on_trying s.again (length s.tries))
+  given_values (Err x) is = cc
+
+-- ---- by the action
+
+-- that changes nothing but the stack
+by_plain : (globals : List Value) (action : Action) (taken : ℕ) (s : Standing) (o : Outcome) (os : List Outcome) →
+    let given = record s { given = o ∷ os } in
+    made false given (asks s.is_entry action (drop taken s.stack) (in_turn globals given) (λ now. now)) ≡
+    made false given (answered s.is_entry o (λ now. record now { accepts = s.accepts }) (raising globals ([] ++ action ∷ []) taken 1 s.accepts given))
+by_plain globals action taken s (Ok vs) os = refl
+by_plain globals action taken s (Err x) os = refl
+
+with_plain : (globals : List Value) (action : Action) (taken : ℕ) (s : Standing) (os : List Outcome) → 0 < length os →
+    let given = record s { given = os } in
+    made false given (asks s.is_entry action (drop taken s.stack) (in_turn globals given) (λ now. now)) ≡
+    made false given (answered s.is_entry (first_given os) (λ now. record now { accepts = s.accepts }) (raising globals ([] ++ action ∷ []) taken 1 s.accepts given))
+with_plain globals action taken s [] some = absurd (not-suc-le-zero some)
+with_plain globals action taken s (o ∷ os) some = by_plain globals action taken s o os
+
+pub plain : (globals : List Value) (action : Action) (taken : ℕ) (s : Standing) → 0 < length s.given →
+    made false s (asks s.is_entry action (drop taken s.stack) (in_turn globals s) (λ now. now)) ≡
+    made false s (answered s.is_entry (first_given s.given) (λ now. record now { accepts = s.accepts }) (raising globals ([] ++ action ∷ []) taken 1 s.accepts s))
+plain globals action taken s some = with_plain globals action taken s s.given some
+
+-- after which one accept more is open
+by_accept : (globals : List Value) (action : Action) (s : Standing) (o : Outcome) (os : List Outcome) →
+    let given = record s { given = o ∷ os } in
+    made false given (asks s.is_entry action (drop 1 s.stack) (in_turn globals given) (λ now. record now { accepts = now.accepts + 1 })) ≡
+    made false given (answered s.is_entry o (λ now. record now { accepts = s.accepts + 1 }) (raising globals ([] ++ action ∷ []) 1 1 s.accepts given))
+by_accept globals action s (Ok vs) os = refl
+by_accept globals action s (Err x) os = refl
+
+with_accept : (globals : List Value) (action : Action) (s : Standing) (os : List Outcome) → 0 < length os →
+    let given = record s { given = os } in
+    made false given (asks s.is_entry action (drop 1 s.stack) (in_turn globals given) (λ now. record now { accepts = now.accepts + 1 })) ≡
+    made false given (answered s.is_entry (first_given os) (λ now. record now { accepts = s.accepts + 1 }) (raising globals ([] ++ action ∷ []) 1 1 s.accepts given))
+with_accept globals action s [] some = absurd (not-suc-le-zero some)
+with_accept globals action s (o ∷ os) some = by_accept globals action s o os
+
+pub accepting : (globals : List Value) (action : Action) (s : Standing) → 0 < length s.given →
+    made false s (asks s.is_entry action (drop 1 s.stack) (in_turn globals s) (λ now. record now { accepts = now.accepts + 1 })) ≡
+    made false s (answered s.is_entry (first_given s.given) (λ now. record now { accepts = s.accepts + 1 }) (raising globals ([] ++ action ∷ []) 1 1 s.accepts s))
+accepting globals action s some = with_accept globals action s s.given some
+
+-- the innermost accept is closed
+by_close : (globals : List Value) (k : ℕ) (s : Standing) (o : Outcome) (os : List Outcome) →
+    let given = record s { given = o ∷ os } in
+    made false given (closes_accept s.is_entry (suc k) (in_turn globals given)) ≡
+    made false given (answered s.is_entry o (λ now. record now { accepts = k }) (raising globals ([] ++ Close ∷ []) 0 1 k given))
+by_close globals k s (Ok vs) os = refl
+by_close globals k s (Err x) os = refl
+
+with_close : (globals : List Value) (k : ℕ) (s : Standing) (os : List Outcome) → 0 < length os →
+    let given = record s { given = os } in
+    made false given (closes_accept s.is_entry (suc k) (in_turn globals given)) ≡
+    made false given (answered s.is_entry (first_given os) (λ now. record now { accepts = k }) (raising globals ([] ++ Close ∷ []) 0 1 k given))
+with_close globals k s [] some = absurd (not-suc-le-zero some)
+with_close globals k s (o ∷ os) some = by_close globals k s o os
+
+pub closing : (globals : List Value) (k : ℕ) (s : Standing) → 0 < length s.given → s.accepts ≡ suc k →
+    made false s (closes_accept s.is_entry s.accepts (in_turn globals s)) ≡
+    made false s (answered s.is_entry (first_given s.given) (λ now. record now { accepts = k }) (raising globals ([] ++ Close ∷ []) 0 1 k s))
+closing globals k s some is = ap (λ n. made false s (closes_accept s.is_entry n (in_turn globals s))) is ∙ with_close globals k s s.given some

@@ -1,0 +1,4 @@
+pub mod Goes
+pub mod Closing
+pub mod Answering
+pub mod Courses

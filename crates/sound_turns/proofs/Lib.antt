@@ -1,0 +1,5 @@
+pub mod Finding
+pub mod Keeping
+pub mod Placing
+pub mod Turning
+pub mod Outside
