@@ -5,7 +5,7 @@ use Rattle.thread_turns.specs.Shapes.{program}
 use Rattle.thread_turns.specs.Threads.{Made, Standing, wanted_by}
 use Rattle.thread_turns.specs.Turns.{Beat, Goes, Stops, Act, Turns, comes, with_thread}
 use Rattle.thread_turns.specs.Turns as turns
-use Rattle.lynx_thread.specs.Operands.{IsCourse, StaysReady}
+use Rattle.thread_operands.specs.Operands.{IsCourse, StaysReady}
 use Rattle.lynx_thread.specs.Told.{action_of, told}
 use Rattle.lynx_thread.specs.declared.action.Action.{Action}
 use Rattle.lynx_thread.specs.declared.action.Move.{Move}

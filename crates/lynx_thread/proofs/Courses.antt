@@ -4,7 +4,7 @@ use Rattle.lynx_meaning.specs.Code.{Program, Next, Goes, Over, Comes, Stuck}
 use Rattle.lynx_meaning.specs.Courses.{Action, New, Destroy, Bind, Unbind, Connect, Accept, Close, Reply, Write, Await, Stop, Ended, Waits, Out}
 use Rattle.lynx_meaning.specs.Values.{Value}
 use Rattle.thread_turns.specs.Threads.{Standing, Made, Went, Acts, Awaits, Ends, Broken, acted, and_then, comes_of, course, fuel_after, goes_on, is_await, last_action, made}
-use Rattle.lynx_thread.specs.Operands.{HasCome, IsCourse, IsReady, StaysReady, after}
+use Rattle.thread_operands.specs.Operands.{HasCome, IsCourse, IsReady, StaysReady, after}
 
 -- ---- each instruction finds its operands
 

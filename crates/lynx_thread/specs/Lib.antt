@@ -2,5 +2,4 @@ pub mod Told
 pub mod Kept
 pub mod Closes
 pub mod Outcomes
-pub mod Operands
 pub mod Programs

@@ -7,7 +7,7 @@ ghost use Rattle.lynx_meaning.specs.Values as meaning;
 ghost use Rattle.lynx_meaning.specs.Values.{written};
 ghost use Rattle.thread_stack.specs.Stacks.{IsTop, TopIsLink};
 ghost use Rattle.lynx_thread.specs.Told.{told};
-ghost use Rattle.lynx_thread.specs.Operands.{HasValues, TopIsPlain, does};
+ghost use Rattle.thread_operands.specs.Operands.{HasValues, TopIsPlain, does};
 
 use crate::action::{Action, Move};
 use crate::outcomes::Answered;

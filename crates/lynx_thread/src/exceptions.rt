@@ -8,7 +8,7 @@ ghost use Rattle.lynx_meaning.specs.Values as meaning;
 ghost use Rattle.thread_turns.specs.Threads.{Went, in_turn, made};
 ghost use Rattle.lynx_thread.specs.Told.{told, outcome_of};
 ghost use Rattle.lynx_thread.specs.Kept.{opened_of};
-ghost use Rattle.lynx_thread.specs.Operands.{does};
+ghost use Rattle.thread_operands.specs.Operands.{does};
 ghost use Rattle.lynx_thread.specs.Closes.{lasting, kept_accepts, moment_after, raising};
 
 use crate::action::{Action, Given, Move};

@@ -7,7 +7,7 @@ ghost use Rattle.lynx_meaning.specs.Values as meaning;
 ghost use Rattle.thread_stack.specs.Stacks.{TopIsTruth};
 ghost use Rattle.thread_turns.specs.Threads.{Went, Awaits, in_turn, is_fresh, made};
 ghost use Rattle.lynx_thread.specs.Told.{told};
-ghost use Rattle.lynx_thread.specs.Operands.{does, IsOpen, IsPending};
+ghost use Rattle.thread_operands.specs.Operands.{does, IsOpen, IsPending};
 
 use crate::action::{Given, Move};
 use crate::exceptions::Raised;

@@ -9,7 +9,7 @@ ghost use Rattle.thread_stack.specs.Stacks.{TopIsInt, TopIsTruth, AreAlikeOnTop}
 ghost use Rattle.thread_values.specs.Told as values;
 ghost use Rattle.thread_turns.specs.Threads.{in_turn, made};
 ghost use Rattle.lynx_thread.specs.Told.{told};
-ghost use Rattle.lynx_thread.specs.Operands.{does, AreInts};
+ghost use Rattle.thread_operands.specs.Operands.{does, AreInts};
 
 use crate::action::Move;
 use crate::thread::Thread;

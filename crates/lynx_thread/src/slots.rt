@@ -6,7 +6,7 @@ ghost use Rattle.lynx_meaning.specs.Code.{Program};
 ghost use Rattle.lynx_meaning.specs.Values as meaning;
 ghost use Rattle.thread_stack.specs.Stacks.{IsRow, TopIsInt, TopIsLike};
 ghost use Rattle.lynx_thread.specs.Told.{told};
-ghost use Rattle.lynx_thread.specs.Operands.{AreInts, does};
+ghost use Rattle.thread_operands.specs.Operands.{AreInts, does};
 
 use crate::action::Move;
 use crate::thread::Thread;

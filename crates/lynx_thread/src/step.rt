@@ -6,7 +6,7 @@ ghost use Rattle.lynx_meaning.specs.Code.{Program};
 ghost use Rattle.lynx_meaning.specs.Values as meaning;
 ghost use Rattle.thread_turns.specs.Threads.{comes_of, fuel_after};
 ghost use Rattle.lynx_thread.specs.Told.{told};
-ghost use Rattle.lynx_thread.specs.Operands.{Finds, IsReady, StaysReady, IsCourse, does};
+ghost use Rattle.thread_operands.specs.Operands.{Finds, IsReady, StaysReady, IsCourse, does};
 ghost use Rattle.lynx_thread.specs.Programs.{program_of};
 
 use crate::action::Move;

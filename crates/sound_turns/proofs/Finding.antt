@@ -15,7 +15,7 @@ use Rattle.thread_turns.specs.Shapes.{ModuleTypes, OpTypes, Shape, Shapes, Accep
 use Rattle.thread_turns.specs.Threads.{Standing}
 use Rattle.shaped_code.specs.Sound.{Typed}
 use Rattle.shaped_code.proofs.Pairs.{is_found, same_length}
-use Rattle.lynx_thread.specs.Operands.{AreInts, Finds, HasValues, IsOpen, IsPending, TopIsPlain}
+use Rattle.thread_operands.specs.Operands.{AreInts, Finds, HasValues, IsOpen, IsPending, TopIsPlain}
 
 -- ---- on top of a stack
 

@@ -3,3 +3,6 @@ pub mod Keeping
 pub mod Placing
 pub mod Turning
 pub mod Outside
+pub mod Trying
+pub mod Falling
+pub mod Rounds

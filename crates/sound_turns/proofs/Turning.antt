@@ -11,7 +11,7 @@ use Rattle.thread_turns.specs.Threads.{Standing, Wanted, Made, Went, Acts, Await
 use Rattle.thread_turns.specs.Turns.{Beat, Turns, Goes, Stops, Act, Spent, acts, awaits, beat, beats, comes, is_ready_after, next_turn, stands, turn_of, wakes, with_fuel, with_thread}
 use Rattle.thread_turns.specs.Turns as turns
 use Rattle.shaped_code.specs.Sound.{Typed}
-use Rattle.lynx_thread.specs.Operands.{FindsInstruction, IsReady, StaysReady, after}
+use Rattle.thread_operands.specs.Operands.{FindsInstruction, IsReady, StaysReady, after}
 use Rattle.shaped_code.proofs.Whole.{instruction_at}
 use Rattle.sound_turns.specs.Sound.{AreSound, IsSoundThread, places_for}
 use Rattle.sound_turns.specs.Taken.{takes_by, takes_turn}
@@ -155,7 +155,7 @@ module _ (m : ModuleTypes) (parts : List (ℕ × List TypeName)) (instructions :
   awaits_again_there fuel n t globals now s u false =
       ap (λ (ts : List (Option Standing)). Goes fuel (record t { globals = now; threads = ts; running = None; ready = t.ready ++ t.awaiting; awaiting = [] ++ n ∷ [] })) (set_set t.threads n (Some s) (Some u))
 
-  comes_again : (fuel n : ℕ) (t : Turns) (globals : List Value) (s : Standing) (last : Made) → comes fuel n (with_thread n (Some s) (record t { globals = globals; running = Some n })) last ≡ comes fuel n t last
+  pub comes_again : (fuel n : ℕ) (t : Turns) (globals : List Value) (s : Standing) (last : Made) → comes fuel n (with_thread n (Some s) (record t { globals = globals; running = Some n })) last ≡ comes fuel n t last
   comes_again fuel n t globals s (Went now u) = ap (λ (ts : List (Option Standing)). Goes fuel (record t { globals = now; threads = ts; running = Some n })) (set_set t.threads n (Some s) (Some u))
   comes_again fuel n t globals s (Acts a now u) = acts_again fuel n t globals now s u a
   comes_again fuel n t globals s (Awaits now u) = awaits_again_there fuel n t globals now s u u.again

@@ -1,6 +1,6 @@
 use Rattle.std.proofs.Common.{◌+◌, ◌*◌, if◌then◌else◌}
 use Rattle.thread_turns.specs.Threads.{Went, is_fresh}
-use Rattle.lynx_thread.specs.Operands.{HasCome, StaysReady}
+use Rattle.thread_operands.specs.Operands.{HasCome, StaysReady}
 use Rattle.lynx_thread.specs.Programs.{program_of}
 use Rattle.lynx_thread.proofs.thread.Thread.run.Given as goal
 
