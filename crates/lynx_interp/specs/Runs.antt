@@ -1,9 +1,10 @@
 -- The steps of a run.
 use Rattle.std.specs.Prelude.{◌≡◌, ℕ, List, Option, None, Some, slice_get, slice_set, ⊤}
+use Rattle.lynx_meaning.specs.Code.{Program}
 use Rattle.lynx_meaning.specs.Values.{Value}
 use Rattle.thread_turns.specs.Shapes.{program}
 use Rattle.thread_turns.specs.Threads.{Made, Standing, wanted_by}
-use Rattle.thread_turns.specs.Turns.{Beat, Goes, Stops, Act, Turns, comes, with_thread}
+use Rattle.thread_turns.specs.Turns.{Beat, Goes, Stops, Act, Turns, beats, comes, with_thread}
 use Rattle.thread_turns.specs.Turns as turns
 use Rattle.thread_operands.specs.Operands.{IsCourse, StaysReady}
 use Rattle.lynx_thread.specs.Told.{action_of, told}
@@ -19,6 +20,15 @@ stop_of stop.Spent = turns.Spent
 stop_of (stop.Act thread action) = Act thread (action_of action)
 stop_of stop.AllBlocked = turns.AllBlocked
 stop_of stop.Finished = turns.Finished
+
+-- how far a run came: it goes on, or stops so
+abbrev pub beat_of : Option Stop → ℕ → Turns → Beat
+beat_of None left t = Goes left t
+beat_of (Some stop) left t = Stops (stop_of stop) left t
+
+-- some beats lead to this
+abbrev pub Comes : Program → ℕ → Turns → Beat → Type 0
+Comes p fuel t b = (k : ℕ) × (beats p k (Goes fuel t) ≡ b)
 
 -- where a run stopped for an action, the thread waits for its outcome
 abbrev pub IsAsked : Stop → Turns → Type 0

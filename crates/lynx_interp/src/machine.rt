@@ -67,6 +67,13 @@ impl Machine {
         })
     }
 
+    /// The code that it runs.
+    pub fn code(&self) -> &Code
+        ensures { self.now ≡ state_of result.now self.now.turns }
+    {
+        &self.code
+    }
+
     /// How many threads stand.
     pub fn standing(&self) -> u8
         ensures { result ≡ how_many self.now.turns.threads }

@@ -1,14 +1,17 @@
 //! A run: threads go on by turns.
 
-ghost use Rattle.std.specs.Prelude.{◌≡◌, ◌<◌, Bool, ℕ, true, false, None, Some, IsSome, IfOk, OnOk, MatchOption, is_some, length, slice_get};
+ghost use Rattle.std.specs.Prelude.{◌≡◌, ◌<◌, ℕ, true, None, Some, IfOk, IfSome, IfNone, OnOk, MatchOption, is_some, length, option_map, slice_get};
 ghost use Rattle.lynx_meaning.specs.Code.{Program};
 ghost use Rattle.thread_turns.specs.Shapes.{program};
 ghost use Rattle.thread_turns.specs.Threads.{Standing};
 ghost use Rattle.thread_turns.specs.Turns.{Runs, Stops, acts, awaits, beat, stands, wakes, with_thread};
 ghost use Rattle.lynx_thread.specs.Told.{action_of};
+ghost use Rattle.sound_turns.specs.Sound.{StayBlocked};
 ghost use Rattle.sound_turns.specs.Taken.{next_number, takes_turn};
 ghost use Rattle.lynx_interp.specs.Machines.{IsMachine};
-ghost use Rattle.lynx_interp.specs.Runs.{CanGoOn, IsAsked, IsTurn, Settles, stop_of};
+ghost use Rattle.sound_turns.specs.Weights.{weight};
+ghost use Rattle.lynx_interp.specs.Runs.{CanGoOn, Comes, IsAsked, IsTurn, Settles, beat_of, stop_of};
+ghost use Rattle.lynx_interp.specs.declared.stop.Stop.TheVariants as stop;
 
 use crate::machine::Machine;
 use crate::stop::Stop;
@@ -22,27 +25,38 @@ impl Machine {
         requires { IsMachine self.old }
         ensures runs { IfOk result (λ r. Runs (program self.old.types self.old.instructions) fuel self.old.turns (stop_of r.0) r.1 self.new.turns) }
         ensures asked { IfOk result (λ r. IsAsked r.0 self.new.turns) }
+        ensures blocked { OnOk result (StayBlocked self.old.turns self.new.turns) }
         ensures machine { OnOk result (IsMachine self.new) }
         ensures same { OnOk result (self.new ≡ record self.old { turns = self.new.turns }) }
     {
         let mut left = fuel;
-        'turns: loop {
-            if let Some(stop) = self.stops(left) {
+        'rounds: loop {
+            let (stopped, rest) = self.round(left)?;
+            left = rest;
+            if let Some(stop) = stopped {
                 return Ok((stop, left));
             }
-            let number = self.takes_turn();
-            let (made, rest) = self.turn(number, left)?;
-            left = rest;
-            if let Some(action) = self.settles(number, made)? {
-                return Ok((
-                    Stop::Act {
-                        thread: number,
-                        action,
-                    },
-                    left,
-                ));
-            }
         }
+    }
+
+    // The next thread takes its turn, and what comes of that changes those that wait. Tells how the run stops, if it does, and the fuel
+    // that is left.
+    fn round(&mut self, fuel: u32) -> Result<(Option<Stop>, u32), NoMemory>
+        requires { IsMachine self.old }
+        ensures come { IfOk result (λ r. Comes (program self.old.types self.old.instructions) fuel self.old.turns (beat_of r.0 r.1 self.new.turns)) }
+        ensures asked { IfOk result (λ r. IfSome r.0 (λ stop. IsAsked stop self.new.turns)) }
+        ensures blocked { OnOk result (StayBlocked self.old.turns self.new.turns) }
+        ensures less { IfOk result (λ r. IfNone r.0 (weight r.1 self.new.turns < weight fuel self.old.turns)) }
+        ensures machine { OnOk result (IsMachine self.new) }
+        ensures same { OnOk result (self.new ≡ record self.old { turns = self.new.turns }) }
+    {
+        if let Some(stop) = self.stops(fuel) {
+            return Ok((Some(stop), fuel));
+        }
+        let number = self.takes_turn();
+        let (made, left) = self.turn(number, fuel)?;
+        let action = self.settles(number, made)?;
+        Ok((stop_for(number, action), left))
     }
 
     // How a run stops where no thread goes on with so much fuel.
@@ -173,5 +187,15 @@ impl Machine {
         self.ready.extend_from_slice(&self.awaiting)?;
         self.awaiting.clear();
         Ok(())
+    }
+}
+
+// A run stops where its thread asks for an action.
+fn stop_for(thread: u8, action: Option<Action>) -> Option<Stop>
+    ensures { result ≡ option_map (λ asked. stop.Act thread asked) action }
+{
+    match action {
+        Some(action) => Some(Stop::Act { thread, action }),
+        None => None,
     }
 }

@@ -4,5 +4,5 @@ pub mod Placing
 pub mod Turning
 pub mod Outside
 pub mod Trying
-pub mod Falling
+pub mod Advancing
 pub mod Rounds

@@ -65,6 +65,10 @@ pub record AreSound (m : ModuleTypes) (parts : List (ℕ × List TypeName)) (ins
 abbrev pub IsAsking : ℕ → Wanted → Turns → Type 0
 IsAsking n wanted t = (s : Standing) × (slice_get t.threads n ≡ Some (Some s)) × (s.wanted ≡ Some wanted)
 
+-- each thread that connected or accepted, and has no outcome yet, is as before
+abbrev pub StayBlocked : Turns → Turns → Type 0
+StayBlocked before now = (n : ℕ) (s : Standing) → slice_get before.threads n ≡ Some (Some s) → is_ready_after s.wanted ≡ true → slice_get now.threads n ≡ Some (Some s)
+
 -- the outcome is an exception, or has the values that the action of this thread needs
 abbrev pub FitsAction : ModuleTypes → ℕ → Outcome → Turns → Type 0
 FitsAction m n outcome t = (wanted : Wanted) × IsAsking n wanted t × IfOk outcome (Typed (wanted_types m wanted))
