@@ -25,9 +25,9 @@ count_set (t ∷ ts) (suc n) s o here = let rest = count_set ts n s o here in om
 abbrev IsBehind : Made → Type 0
 IsBehind (Went globals s) = is_fresh s ≡ true
 IsBehind (Acts a globals s) = s.wanted ≡ Some (wanted_by a)
-IsBehind (Awaits globals s) = ⊤
-IsBehind (Ends globals) = ⊤
-IsBehind Broken = ⊤
+IsBehind (Awaits globals s) = Unit {0}
+IsBehind (Ends globals) = Unit {0}
+IsBehind Broken = Unit {0}
 
 acted_behind : (o : Option Action) (globals : List Value) (s : Standing) → IsBehind (acted o globals s)
 acted_behind None globals s = tt
@@ -59,7 +59,7 @@ Advances fuel here left (Went globals s) = 2 * left + amid s < 2 * fuel + here
 Advances fuel here left (Acts a globals s) = s.wanted ≡ Some (wanted_by a)
 Advances fuel here left (Awaits globals s) = 2 * left + amid s < 2 * fuel + here
 Advances fuel here left (Ends globals) = 2 * left < 2 * fuel + here
-Advances fuel here left Broken = ⊤
+Advances fuel here left Broken = Unit {0}
 
 at_most_one : (b : Bool) → one_unless b ≤ 1
 at_most_one true = omega arith
@@ -90,20 +90,20 @@ wider fuel more here there left (Ends globals) less advances = omega arith
 wider fuel more here there left Broken less advances = tt
 
 module _ (p : Program) where
-  same_advances : (fuel here now left : ℕ) (first last : Made) → Advances fuel here now first → (now, first) ≡ (left, last) → Advances fuel here left last
+  same_advances : (fuel here now left : ℕ) (first last : Made) → Advances fuel here now first → ◌≡◌ {A = ℕ × Made} (now, first) (left, last) → Advances fuel here left last
   same_advances fuel here now left first last advances e = subst (λ (q : ℕ × Made). Advances fuel here q.0 q.1) e advances
 
   -- what is said of turns of so many instructions at most
   abbrev Turn : ℕ → Type 0
-  Turn k = (fuel left : ℕ) (globals : List Value) (s : Standing) (last : Made) → course p (suc k) (suc fuel) globals s ≡ (left, last) → Advances (suc fuel) (amid s) left last
+  Turn k = (fuel left : ℕ) (globals : List Value) (s : Standing) (last : Made) → ◌≡◌ {A = ℕ × Made} (course p (suc k) (suc fuel) globals s) (left, last) → Advances (suc fuel) (amid s) left last
 
   -- it went on, and makes so many instructions more at most
-  more_advances : (k fuel here now left : ℕ) (globals : List Value) (s : Standing) (last : Made) → ((j : ℕ) → k ≡ suc j → Turn j) → 2 * now + amid s < 2 * fuel + here → course p k now globals s ≡ (left, last) → Advances fuel here left last
+  more_advances : (k fuel here now left : ℕ) (globals : List Value) (s : Standing) (last : Made) → ((j : ℕ) → k ≡ suc j → Turn j) → 2 * now + amid s < 2 * fuel + here → ◌≡◌ {A = ℕ × Made} (course p k now globals s) (left, last) → Advances fuel here left last
   more_advances zero fuel here now left globals s last turn advances e = same_advances fuel here now left (Went globals s) last advances e
   more_advances (suc k) fuel here zero left globals s last turn advances e = same_advances fuel here zero left (Went globals s) last advances e
   more_advances (suc k) fuel here (suc now) left globals s last turn advances e = wider (suc now) fuel (amid s) here left last advances (turn k refl now left globals s last e)
 
-  after_first : (k fuel here now left : ℕ) (first last : Made) → ((j : ℕ) → k ≡ suc j → Turn j) → Advances fuel here now first → and_then first (λ globals s. course p k now globals s) (λ over. (now, over)) ≡ (left, last) → Advances fuel here left last
+  after_first : (k fuel here now left : ℕ) (first last : Made) → ((j : ℕ) → k ≡ suc j → Turn j) → Advances fuel here now first → ◌≡◌ {A = ℕ × Made} (and_then first (λ globals s. course p k now globals s) (λ over. (now, over))) (left, last) → Advances fuel here left last
   after_first k fuel here now left (Went globals s) last turn advances e = more_advances k fuel here now left globals s last turn advances e
   after_first k fuel here now left (Acts a globals s) last turn advances e = same_advances fuel here now left (Acts a globals s) last advances e
   after_first k fuel here now left (Awaits globals s) last turn advances e = same_advances fuel here now left (Awaits globals s) last advances e

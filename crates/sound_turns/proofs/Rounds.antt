@@ -72,7 +72,7 @@ kept t u n s o here free changed k r there blocked =
 abbrev pub KeepsBlocked : Turns → Beat → Type 0
 KeepsBlocked t (Goes fuel u) = StayBlocked t u
 KeepsBlocked t (Stops stop fuel u) = StayBlocked t u
-KeepsBlocked t turns.Broken = ⊤
+KeepsBlocked t turns.Broken = Unit {0}
 
 comes_blocked : (left n : ℕ) (t : Turns) (s : Standing) (last : Made) → slice_get t.threads n ≡ Some (Some s) → is_ready_after s.wanted ≡ false → KeepsBlocked t (comes left n t last)
 comes_blocked left n t s (Went globals v) here free = kept t (with_thread n (Some v) (record t { globals = globals; running = Some n })) n s (Some v) here free refl
@@ -107,14 +107,14 @@ taken_weight fuel t None (n ∷ ready) = refl
 
 -- beats after beats
 pub beats_on : (p : Program) (k j : ℕ) (b c : Beat) (fuel : ℕ) (t : Turns) → beats p k b ≡ Goes fuel t → beats p j (Goes fuel t) ≡ c → beats p (k + j) b ≡ c
-beats_on p zero j b c fuel t is then =
+beats_on p zero j b c fuel t is onward =
     let size : zero + j ≡ j = omega arith in
-    ap (λ n. beats p n b) size ∙ ap (beats p j) is ∙ then
-beats_on p (suc k) j (Goes left u) c fuel t is then =
+    ap (λ n. beats p n b) size ∙ ap (beats p j) is ∙ onward
+beats_on p (suc k) j (Goes left u) c fuel t is onward =
     let size : suc k + j ≡ suc (k + j) = omega arith in
-    ap (λ n. beats p n (Goes left u)) size ∙ beats_on p k j (beat p left u) c fuel t is then
-beats_on p (suc k) j (Stops stop left u) c fuel t is then = cc
-beats_on p (suc k) j turns.Broken c fuel t is then = cc
+    ap (λ n. beats p n (Goes left u)) size ∙ beats_on p k j (beat p left u) c fuel t is onward
+beats_on p (suc k) j (Stops stop left u) c fuel t is onward = cc
+beats_on p (suc k) j turns.Broken c fuel t is onward = cc
 
 module _ (m : ModuleTypes) (parts : List (ℕ × List TypeName)) (instructions : List Instruction) where
   -- the thread that has the turn stands, and finds its operands

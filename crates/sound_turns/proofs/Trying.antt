@@ -14,11 +14,11 @@ use Rattle.thread_turns.specs.Threads as threads
 
 -- it asks for no try again
 abbrev Asks : Next → Type 0
-Asks (Goes t) = ⊤
+Asks (Goes t) = Unit {0}
 Asks (Over (Comes (Waits actions store))) = last_action actions ≡ Some Await → ⊥
-Asks (Over (Comes (Ended actions store))) = ⊤
-Asks (Over (Comes (Out actions))) = ⊤
-Asks (Over Stuck) = ⊤
+Asks (Over (Comes (Ended actions store))) = Unit {0}
+Asks (Over (Comes (Out actions))) = Unit {0}
+Asks (Over Stuck) = Unit {0}
 
 last_of : (actions : List Action) (a : Action) → last_action (actions ++ a ∷ []) ≡ Some a
 last_of [] a = refl
@@ -31,15 +31,15 @@ another actions a other e =
     other cc
 
 asked_with : (m : Moment) (a : Action) (given : List Answer) (next : Result (List Value) Exception → Moment → Next) → (a ≡ Await → ⊥) → ((g : Result (List Value) Exception) (now : Moment) → Asks (next g now)) → Asks (acts_with m a given next)
-asked_with m a [] next other then = another m.actions a other
-asked_with m a (g ∷ rest) next other then = then g.given (after m a g rest)
+asked_with m a [] next other onward = another m.actions a other
+asked_with m a (g ∷ rest) next other onward = onward g.given (after m a g rest)
 
 asked : (m : Moment) (a : Action) (next : Result (List Value) Exception → Moment → Next) → (a ≡ Await → ⊥) → ((g : Result (List Value) Exception) (now : Moment) → Asks (next g now)) → Asks (acts m a next)
-asked m a next other then = asked_with m a m.answers next other then
+asked m a next other onward = asked_with m a m.answers next other onward
 
 closing : (k : ℕ) (exception : Exception) (m : Moment) (next : Exception → Moment → Next) → ((x : Exception) (now : Moment) → Asks (next x now)) → Asks (closes k exception m next)
-closing zero exception m next then = then exception m
-closing (suc k) exception m next then = asked m Close (λ given now. closes k (instead given exception) now next) (λ e. cc) (λ g now. closing k (instead g exception) now next then)
+closing zero exception m next onward = onward exception m
+closing (suc k) exception m next onward = asked m Close (λ given now. closes k (instead given exception) now next) (λ e. cc) (λ g now. closing k (instead g exception) now next onward)
 
 ending : (is_entry : Bool) (m : Moment) → Asks (ends is_entry m)
 ending true m = asked m Close (λ given now. Over (Comes (Ended now.actions now.store))) (λ e. cc) (λ g now. tt)
@@ -111,26 +111,26 @@ comparing test t (Int b ∷ Int a ∷ stack) = tt
 comparing test t _ = tt
 
 with_truth : (next : Bool → List Value → Next) (stack : List Value) → ((b : Bool) (rest : List Value) → Asks (next b rest)) → Asks (by_truth next stack)
-with_truth next (Truth b ∷ stack) then = then b stack
-with_truth next _ then = tt
+with_truth next (Truth b ∷ stack) onward = onward b stack
+with_truth next _ onward = tt
 
 deciding : (truth : Bool) (address : ℕ) (t : Thread) → Asks (decides truth address t)
 deciding truth address t =
     with_truth (λ b stack. if truth_eq truth b then jumps address t.stack t else goes stack t) t.stack (λ b rest. by_choice (truth_eq truth b) (jumps address t.stack t) (goes rest t) tt tt)
 
 with_link : (next : Value → List Value → Next) (stack : List Value) → ((l : Value) (rest : List Value) → Asks (next l rest)) → Asks (by_link next stack)
-with_link next (Link n ∷ stack) then = then (Link n) stack
-with_link next _ then = tt
+with_link next (Link n ∷ stack) onward = onward (Link n) stack
+with_link next _ onward = tt
 
 with_values : (k : ℕ) (next : List Value → List Value → Next) (stack : List Value) → ((vs rest : List Value) → Asks (next vs rest)) → Asks (by_values k next stack)
-with_values k next stack then =
-    by_choice (nat_le k (length stack)) (next (reverse (take k stack)) (drop k stack)) stuck (then (reverse (take k stack)) (drop k stack)) tt
+with_values k next stack onward =
+    by_choice (nat_le k (length stack)) (next (reverse (take k stack)) (drop k stack)) stuck (onward (reverse (take k stack)) (drop k stack)) tt
 
 writing : (next : List ℕ → List Value → Next) (stack : List Value) → ((text : List ℕ) (rest : List Value) → Asks (next text rest)) → Asks (writes next stack)
-writing next (Int n ∷ stack) then = then (written (Int n)) stack
-writing next (Truth b ∷ stack) then = then (written (Truth b)) stack
-writing next (Text bytes ∷ stack) then = then (written (Text bytes)) stack
-writing next _ then = tt
+writing next (Int n ∷ stack) onward = onward (written (Int n)) stack
+writing next (Truth b ∷ stack) onward = onward (written (Truth b)) stack
+writing next (Text bytes ∷ stack) onward = onward (written (Text bytes)) stack
+writing next _ onward = tt
 
 untrying : (os : List Opened) (t : Thread) → Asks (untries os t)
 untrying [] t = tt
@@ -227,11 +227,11 @@ module _ (p : Program) (e : Bool) (t : Thread) (some : t.moment.answers ≡ [] �
 
 -- not a try of an await
 abbrev pub IsNoTry : Made → Type 0
-IsNoTry (Went globals s) = ⊤
-IsNoTry (Acts a globals s) = ⊤
+IsNoTry (Went globals s) = Unit {0}
+IsNoTry (Acts a globals s) = Unit {0}
 IsNoTry (Awaits globals s) = ⊥
-IsNoTry (Ends globals) = ⊤
-IsNoTry Broken = ⊤
+IsNoTry (Ends globals) = Unit {0}
+IsNoTry Broken = Unit {0}
 
 acted_is_no_try : (o : Option Action) (globals : List Value) (s : Standing) → (o ≡ Some Await → ⊥) → IsNoTry (acted o globals s)
 acted_is_no_try None globals s other = tt

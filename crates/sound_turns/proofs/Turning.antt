@@ -1,5 +1,6 @@
 -- Turns of sound threads.
-use Rattle.std.proofs.Common.{arith, ◌≡◌, ℕ, zero, suc, ◌+◌, ◌<◌, List, [], ◌∷◌, ◌++◌, length, Bool, true, false, if◌then◌else◌, Option, Some, None, is_some, slice_get, slice_set, refl, sym, ap, subst, ◌∙◌, ⊎_elim, inl, inr, length-set, list_any}
+use Rattle.std.proofs.Common.{arith, ◌≡◌, ℕ, zero, suc, ◌+◌, ◌<◌, List, [], ◌∷◌, ◌++◌, length, Bool, true, false, if◌then◌else◌, Option, Some, None, is_some, slice_get, slice_set, refl, sym, ap, subst, ◌∙◌, ⊎_elim, inl, inr, length-set}
+use Rattle.std.specs.List.{list_any}
 use Rattle.std.proofs.lemmas.Option.{slice_get_within}
 use Rattle.lynx_tree.specs.declared.declaration.TypeName.{TypeName}
 use Rattle.lynx_code.specs.declared.instruction.Instruction.{Instruction}
@@ -44,7 +45,7 @@ module _ (m : ModuleTypes) (parts : List (ℕ × List TypeName)) (instructions :
   -- ---- one instruction
 
   -- turns in which one thread has changed
-  with_changed : (t u : Turns) (n : ℕ) (o : Option Standing) (is : AreSound m parts instructions t) → n < length t.threads → u.threads ≡ slice_set t.threads n o → Typed m.globals u.globals →
+  pub with_changed : (t u : Turns) (n : ℕ) (o : Option Standing) (is : AreSound m parts instructions t) → n < length t.threads → u.threads ≡ slice_set t.threads n o → Typed m.globals u.globals →
       ((s : Standing) → o ≡ Some s → IsSoundThread m instructions is.shapes u.globals s) → ArePlaced u → AreSound m parts instructions u
   with_changed t u n o is there changed typed thread placed = record {
     shapes = is.shapes;
@@ -173,7 +174,7 @@ module _ (m : ModuleTypes) (parts : List (ℕ × List TypeName)) (instructions :
   MakesTurn n t left last first = (j : ℕ) × (beats p j first ≡ comes left n t last) × SoundBeat (comes left n t last)
 
   -- no instruction has begun
-  not_begun : (fuel left : ℕ) (t : Turns) (n : ℕ) (s : Standing) (last : Made) → AreSound m parts instructions t → t.running ≡ Some n → slice_get t.threads n ≡ Some (Some s) → (fuel, Went t.globals s) ≡ (left, last) →
+  not_begun : (fuel left : ℕ) (t : Turns) (n : ℕ) (s : Standing) (last : Made) → AreSound m parts instructions t → t.running ≡ Some n → slice_get t.threads n ≡ Some (Some s) → ◌≡◌ {A = ℕ × Made} (fuel, Went t.globals s) (left, last) →
       MakesTurn n t left last (Goes fuel t)
   not_begun fuel left t n s last is runs here e =
       let size : fuel ≡ left = ap (λ (q : ℕ × Made). q.0) e in
@@ -183,7 +184,7 @@ module _ (m : ModuleTypes) (parts : List (ℕ × List TypeName)) (instructions :
       (zero, stays, subst (λ (b : Beat). SoundBeat b) stays is)
 
   -- the last one is made
-  over : (fuel left : ℕ) (t : Turns) (n : ℕ) (first last : Made) → SoundBeat (comes fuel n t first) → (b : Beat) → b ≡ comes fuel n t first → (fuel, first) ≡ (left, last) → MakesTurn n t left last b
+  over : (fuel left : ℕ) (t : Turns) (n : ℕ) (first last : Made) → SoundBeat (comes fuel n t first) → (b : Beat) → b ≡ comes fuel n t first → ◌≡◌ {A = ℕ × Made} (fuel, first) (left, last) → MakesTurn n t left last b
   over fuel left t n first last sound b is e =
       let same : comes fuel n t first ≡ comes left n t last = ap (λ (q : ℕ × Made). comes q.0 n t q.1) e in
       (zero, is ∙ same, subst (λ (c : Beat). SoundBeat c) same sound)
@@ -268,14 +269,3 @@ module _ (m : ModuleTypes) (parts : List (ℕ × List TypeName)) (instructions :
 
   pub taken_beat : (t : Turns) (fuel : ℕ) → stands t ≡ true → beat p (suc fuel) t ≡ beat p (suc fuel) (takes_turn t)
   taken_beat t fuel stand = taken_by t fuel t.running t.ready refl refl stand
-
-  -- beats after beats
-  pub more_beats : (k j : ℕ) (b c : Beat) (fuel : ℕ) (t : Turns) → beats p k b ≡ Goes fuel t → beats p j (beat p fuel t) ≡ c → beats p (k + suc j) b ≡ c
-  more_beats zero j b c fuel t is then =
-      let size : zero + suc j ≡ suc j = omega arith in
-      ap (λ n. beats p n b) size ∙ ap (beats p (suc j)) is ∙ then
-  more_beats (suc k) j (Goes left u) c fuel t is then =
-      let size : suc k + suc j ≡ suc (k + suc j) = omega arith in
-      ap (λ n. beats p n (Goes left u)) size ∙ more_beats k j (beat p left u) c fuel t is then
-  more_beats (suc k) j (Stops stop left u) c fuel t is then = cc
-  more_beats (suc k) j turns.Broken c fuel t is then = cc
