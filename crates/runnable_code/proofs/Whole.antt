@@ -1,5 +1,6 @@
 -- The code of a module can be run.
-use Rattle.std.proofs.Common.{◌≡◌, ℕ, zero, suc, ◌+◌, List, [], ◌∷◌, ◌++◌, length, map, replicate, Bool, true, IsTrue, is_some, option_map, Option, Some, None, slice_get, refl, sym, ap, ◌∙◌, subst, map-append, length-map}
+use Rattle.std.proofs.Common.{◌≡◌, ℕ, zero, suc, ◌+◌, List, [], ◌∷◌, ◌++◌, length, map, replicate, Bool, true, IsTrue, is_some, option_map, Option, Some, None, slice_get, refl, sym, ap, ◌∙◌, subst}
+use Rattle.std.proofs.lemmas.List.{map-append}
 use Rattle.std.specs.List.{AllByRecursion}
 use Rattle.std.proofs.lemmas.Option.{none-some, same_Some, slice_get-map}
 use Rattle.lynx_tree.specs.Trees.{EntryTree, ModuleTree, OpTree}
@@ -66,7 +67,7 @@ entry_part_at : (m : ModuleTree) (made : Code) → IsCodeOf m made → (i : ℕ)
 entry_part_at m made is i p here =
     let c = part_at m made is (suc i) p here in
     let e = entry_at m (length (main_part m).instructions) m.entries i c.0 c.1 in
-    (e.0, e.1, c.3 ∙ e.2, c.4 ∙ e.3)
+    (e.0, e.1, (c.3 ∙ e.2, c.4 ∙ e.3))
 
 -- ---- an entry
 
