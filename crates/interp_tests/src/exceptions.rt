@@ -53,12 +53,24 @@ fn code_raises(rt: HostRuntime) -> Result<(), Fail> {
 #[test]
 fn actions_raise(rt: HostRuntime) -> Result<(), Fail> {
     for (exception, letters, want) in [
-        ("BUSYLINK", "B.", "0 destroy 1; 0 write caught; finished 992"),
-        ("DEADLINK", "D.", "0 destroy 1; 0 write caught; finished 992"),
+        (
+            "BUSYLINK",
+            "B.",
+            "0 destroy 1; 0 write caught; finished 992",
+        ),
+        (
+            "DEADLINK",
+            "D.",
+            "0 destroy 1; 0 write caught; finished 992",
+        ),
         ("NOLINK", "N.", "0 destroy 1; 0 write caught; finished 992"),
         ("FAILED", "F.", "0 destroy 1; 0 write caught; finished 992"),
         ("REPLIED", "R.", "0 destroy 1; 0 write caught; finished 992"),
-        ("LINKSFULL", "L.", "0 destroy 1; 0 write caught; finished 992"),
+        (
+            "LINKSFULL",
+            "L.",
+            "0 destroy 1; 0 write caught; finished 992",
+        ),
     ] {
         let alloc = rt.alloc();
         let mut source = String::from_str(

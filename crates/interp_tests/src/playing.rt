@@ -131,11 +131,7 @@ fn links(alloc: Global, count: u32) -> Result<Vec<LinkRef>, AllocError>
 }
 
 /// A thread of this entry, whose parameters have some values.
-pub(crate) fn started(
-    alloc: Global,
-    machine: &mut Machine,
-    entry: u16,
-) -> Result<Option<u8>, Fail>
+pub(crate) fn started(alloc: Global, machine: &mut Machine, entry: u16) -> Result<Option<u8>, Fail>
     requires { IsMachine machine.old }
     ensures { OnOk result (IsMachine machine.new) }
 {

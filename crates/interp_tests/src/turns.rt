@@ -47,11 +47,7 @@ fn threads_switch_only_where_they_block(rt: HostRuntime) -> Result<(), Fail> {
 #[test]
 fn awaits_are_tried_again(rt: HostRuntime) -> Result<(), Fail> {
     for (source, letters, want) in [
-        (
-            "module m; begin await false; end.",
-            "",
-            "blocked 998",
-        ),
+        ("module m; begin await false; end.", "", "blocked 998"),
         // one that finds true does not switch
         (
             "module m; op o () : (); entry e of o () begin write 'entry'; end; begin await true; write 'body'; end.",
@@ -95,8 +91,18 @@ fn fuel_is_spent_exactly(rt: HostRuntime) -> Result<(), Fail> {
         ("module m; begin while true do end; end.", 5, "", "spent 0"),
         ("module m; begin end.", 0, "", "spent 0"),
         ("module m; begin end.", 1, "", "finished 0"),
-        ("module m; begin write 1; end.", 2, ".", "0 write 1; spent 0"),
-        ("module m; begin write 1; end.", 3, ".", "0 write 1; finished 0"),
+        (
+            "module m; begin write 1; end.",
+            2,
+            ".",
+            "0 write 1; spent 0",
+        ),
+        (
+            "module m; begin write 1; end.",
+            3,
+            ".",
+            "0 write 1; finished 0",
+        ),
         // the close of an entry's end was answered, and its thread ends without fuel
         (
             "module m; op o () : (); entry e of o () begin end; begin end.",

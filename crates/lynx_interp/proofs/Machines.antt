@@ -1,6 +1,8 @@
 -- Machines at the start, with an outcome more, and with a thread more.
-use Rattle.std.proofs.Common.{arith, ◌≡◌, ℕ, ℤ, zero, suc, ◌+◌, List, [], ◌∷◌, ◌++◌, length, map, replicate, pos, negsuc, Bool, IsTrue, Option, Some, slice_get, option_map, refl, sym, ap, subst, ◌∙◌, true≢false, length-replicate}
+use Rattle.std.proofs.Common.{arith, ◌≡◌, ℕ, ℤ, zero, suc, ◌+◌, List, [], ◌∷◌, ◌++◌, length, map, replicate, take, drop, pos, negsuc, Bool, IsTrue, Option, Some, slice_get, option_map, refl, sym, ap, subst, ◌∙◌, true≢false, ◌≤◌, length-append}
+use Rattle.std.proofs.lemmas.List.{length-replicate}
 use Rattle.std.specs.List.{AllByRecursion}
+use Rattle.std.specs.Prelude.{slice_index_or}
 use Rattle.std.proofs.lemmas.Option.{slice_get-map}
 use Rattle.lynx_tree.specs.declared.declaration.TypeName.{TypeName}
 use Rattle.lynx_tree.specs.declared.declaration.TypeName.TheVariants as types
@@ -13,10 +15,11 @@ use Rattle.thread_turns.specs.Threads.{Outcome}
 use Rattle.thread_turns.specs.Turns.{Turns, IsFree, at_start, given_to, spawned}
 use Rattle.thread_values.specs.declared.value.LinkRef.{LinkRef}
 use Rattle.shaped_code.specs.Sound.{Typed}
+use Rattle.shaped_code.proofs.Pairs.{same_length}
 use Rattle.runnable_code.specs.Runnable.{HaveStarts, IsRunnable, Part, parameters, part_of}
 use Rattle.sound_turns.specs.Sound.{FitsAction}
 use Rattle.sound_turns.proofs.Outside.{given_sound, spawned_sound, start_sound}
-use Rattle.lynx_interp.specs.Machines.{IsMachine, State, place_of, start_globals, start_locals, state_of}
+use Rattle.lynx_interp.specs.Machines.{HasEntry, IsEntryFor, IsMachine, State, place_of, start_globals, start_locals, state_of}
 
 -- ---- variables at the start
 
@@ -67,6 +70,14 @@ locals_typed kinds ts others vs is typed have =
 
 -- ---- the start
 
+-- there is a variable for each param
+pub params_fit : (kinds others : List TypeName) (n k : ℕ) → kinds ≡ replicate n types.Link ++ others → k ≡ n → k ≤ length kinds
+params_fit kinds others n k is many =
+    let size = ap length is in
+    let both = length-append (replicate n types.Link) others in
+    let first = length-replicate n types.Link in
+    omega arith
+
 places_kept : (ks : List kept.Part) → map kept_part ks ≡ map place_of (map part_of ks)
 places_kept [] = refl
 places_kept (k ∷ ks) = ap (λ (ps : List (ℕ × List TypeName)). kept_part k ∷ ps) (places_kept ks)
@@ -89,6 +100,37 @@ start_machine code links is many =
     }
 
 -- ---- what the process does
+
+-- there is a variable for each value of a parameter
+pub has_entry : (s : State) (entry : ℕ) (values : List Value) → IsMachine s → IsEntryFor entry values s → HasEntry entry values s
+has_entry s entry values is for =
+    let p = for.0 in
+    let size : entry + 1 ≡ suc entry = omega arith in
+    let of_entry = is.parts.entries entry p (ap (slice_get s.parts) (sym size) ∙ for.1) in
+    let long = ap length of_entry.1 ∙ length-append (parameters s.types p) of_entry.0 in
+    let same = same_length (parameters s.types p) values for.2 in
+    (p, for.1, omega arith, is.parts.starts (entry + 1) p for.1)
+
+pub rest_start : (ts : List TypeName) (k n : ℕ) → HaveStarts ts → HaveStarts (take n (drop k ts))
+rest_start [] k n have = none_start k n
+  where
+    none_start : (k n : ℕ) → HaveStarts (take n (drop k []))
+    none_start zero zero = tt
+    none_start zero (suc n) = tt
+    none_start (suc k) zero = tt
+    none_start (suc k) (suc n) = tt
+rest_start (t ∷ ts) (suc k) n have = rest_start ts k n have.1
+rest_start (t ∷ ts) zero zero have = tt
+rest_start (t ∷ ts) zero (suc n) have = (have.0, rest_start ts zero n have.1)
+
+-- a part at its place
+part_at : (ps : List kept.Part) (n : ℕ) (d : kept.Part) (p : Part) → slice_get (map part_of ps) n ≡ Some p → part_of (slice_index_or ps n d) ≡ p
+part_at [] n d p here = cc
+part_at (q ∷ ps) zero d p here = cc
+part_at (q ∷ ps) (suc n) d p here = part_at ps n d p here
+
+pub part_there : (ps : List kept.Part) (n i : ℕ) (d : kept.Part) (p : Part) → i ≡ n → d ≡ slice_index_or ps i d → slice_get (map part_of ps) n ≡ Some p → part_of d ≡ p
+part_there ps n i d p same found here = ap part_of (found ∙ ap (λ (k : ℕ). slice_index_or ps k d) same) ∙ part_at ps n d p here
 
 pub given_machine : (s : State) (n : ℕ) (outcome : Outcome) → IsMachine s → FitsAction s.types n outcome s.turns → IsMachine (record s { turns = given_to n outcome s.turns })
 given_machine s n outcome is fits = record { sound = given_sound s.types (map place_of s.parts) s.instructions s.turns n outcome is.sound fits; parts = is.parts }

@@ -1,5 +1,5 @@
 -- A machine: the code that it runs, and its threads.
-use Rattle.std.specs.Prelude.{◌≡◌, ℕ, ◌+◌, List, [], ◌∷◌, ◌++◌, length, map, drop, Option, Some, None, slice_get}
+use Rattle.std.specs.Prelude.{◌≡◌, ℕ, ◌+◌, ◌≤◌, List, [], ◌∷◌, ◌++◌, length, map, drop, Option, Some, None, slice_get}
 use Rattle.lynx_code.specs.declared.code.Code.{Code}
 use Rattle.lynx_code.specs.declared.instruction.Instruction.{Instruction}
 use Rattle.lynx_meaning.specs.Values.{Value, Link, start_value}
@@ -9,7 +9,7 @@ use Rattle.thread_turns.specs.Shapes.{ModuleTypes, code_types}
 use Rattle.thread_turns.specs.Threads.{Standing}
 use Rattle.thread_turns.specs.Turns.{Turns, IsFree, spawned}
 use Rattle.thread_values.specs.declared.value.LinkRef.{LinkRef}
-use Rattle.runnable_code.specs.Runnable.{AreParts, Part, parameters, part_of}
+use Rattle.runnable_code.specs.Runnable.{AreParts, HaveStarts, Part, parameters, part_of}
 use Rattle.sound_turns.specs.Sound.{AreSound}
 
 -- ---- what a machine is
@@ -53,6 +53,10 @@ start_locals kinds values = values ++ map start_value (drop (length values) kind
 -- there is this entry, and these values are for its parameters
 abbrev pub IsEntryFor : ℕ → List Value → State → Type 0
 IsEntryFor entry values s = (p : Part) × (slice_get s.parts (entry + 1) ≡ Some p) × Typed (parameters s.types p) values
+
+-- there is this entry, with a variable for each of these values
+abbrev pub HasEntry : ℕ → List Value → State → Type 0
+HasEntry entry values s = (p : Part) × (slice_get s.parts (entry + 1) ≡ Some p) × (length values ≤ length p.locals) × HaveStarts p.locals
 
 -- a thread of the entry begins under a free number
 abbrev pub IsSpawned : ℕ → ℕ → List Value → State → State → Type 0

@@ -1,10 +1,10 @@
 //! A machine.
 
-ghost use Rattle.std.specs.Prelude.{◌≡◌, [], ◌∷◌, length, replicate, false, None, Some, IfOk};
+ghost use Rattle.std.specs.Prelude.{◌≡◌, ◌≤◌, [], ◌∷◌, length, replicate, false, None, Some, IfOk};
 ghost use Rattle.thread_turns.specs.Threads.{begun};
 ghost use Rattle.thread_turns.specs.Turns.{at_start};
 ghost use Rattle.lynx_interp.specs.Machines.{IsMachine, how_many, start_globals, state_of};
-ghost use Rattle.runnable_code.specs.Runnable.{IsRunnable};
+ghost use Rattle.runnable_code.specs.Runnable.{HaveStarts, IsRunnable};
 
 use crate::starts::{push_links, push_starts};
 use lynx_code::Code;
@@ -53,6 +53,14 @@ impl Machine {
         ensures start { IfOk result (λ machine. machine ≡ state_of code (at_start (start_globals code.globals.items links.items))) }
         ensures machine { IfOk result IsMachine }
     {
+        Machine::fresh(alloc, code, links)
+    }
+
+    fn fresh(alloc: Global, code: Code, links: Vec<LinkRef>) -> Result<Machine, NoMemory>
+        requires globals { HaveStarts code.globals.items }
+        requires params { length links.items ≤ length code.globals.items }
+        ensures { IfOk result (λ machine. machine ≡ state_of code (at_start (start_globals code.globals.items links.items))) }
+    {
         let mut globals = Variables::new(alloc);
         push_links(alloc, &mut globals, &links)?;
         push_starts(alloc, &mut globals, &code.globals[links.len()..])?;
@@ -94,7 +102,7 @@ fn body_alone(alloc: Global) -> Result<Vec<Option<Thread>>, NoMemory>
 {
     let mut threads = Vec::with_capacity(alloc, MOST_THREADS)?;
     threads.push(Some(Thread::new(alloc, false, 0, Variables::new(alloc))))?;
-    for _ in 1..MOST_THREADS {
+    for _ in 0..MOST_THREADS - 1 {
         threads.push(None)?;
     }
     Ok(threads)

@@ -1,19 +1,18 @@
 //! What the process does to the threads of its machine.
 
-ghost use Rattle.std.specs.Prelude.{◌≡◌, ◌+◌, ◌↔◌, [], ◌∷◌, ◌++◌, IfOk, OnOk, OnErr, IsNone, IfSome, IfNone, MatchOption, Some, None, slice_get};
+ghost use Rattle.std.specs.Prelude.{◌≡◌, ◌+◌, ◌↔◌, [], ◌∷◌, ◌++◌, true, IfOk, OnOk, OnErr, IsNone, IfSome, IfNone, MatchOption, Some, None, slice_get};
 ghost use Rattle.thread_turns.specs.Threads.{Standing, begun};
-ghost use Rattle.thread_turns.specs.Turns.{IsFree, given_to, is_ready_after, with_thread};
+ghost use Rattle.thread_turns.specs.Turns.{IsFree, given_to, is_ready_after, spawned, with_thread};
 ghost use Rattle.thread_values.specs.Told.{values_of};
 ghost use Rattle.sound_turns.specs.Sound.{FitsAction};
 ghost use Rattle.lynx_thread.specs.Told.{outcome_of};
 ghost use Rattle.runnable_code.specs.Runnable.{Part};
-ghost use Rattle.lynx_interp.specs.Machines.{IsEntryFor, IsMachine, IsSpawned, how_many, start_locals};
+ghost use Rattle.lynx_interp.specs.Machines.{HasEntry, IsEntryFor, IsMachine, IsSpawned, how_many, start_locals};
 
 use crate::machine::Machine;
-use crate::starts::{push_starts, push_values};
+use crate::starts::entry_variables;
 use lynx_lexer::NoMemory;
 use lynx_thread::{Given, Thread};
-use thread_stack::Variables;
 use thread_values::Value;
 
 impl Machine {
@@ -25,10 +24,7 @@ impl Machine {
         ensures given { OnOk result (self.new ≡ record self.old { turns = given_to thread (outcome_of outcome) self.old.turns }) }
         ensures machine { OnOk result (IsMachine self.new) }
     {
-        if self.hands(thread, outcome)? {
-            self.ready.push(thread)?;
-        }
-        Ok(())
+        self.gives(thread, outcome)
     }
 
     /// A new thread of this entry, whose parameters have these values, at the end of those that are ready. Its number; None exactly
@@ -45,11 +41,33 @@ impl Machine {
         let Some(number) = self.free_number() else {
             return Ok(None);
         };
+        self.begins(number, entry, values)?;
+        Ok(Some(number))
+    }
+
+    // A thread with an outcome is ready again, or keeps its turn.
+    fn gives(&mut self, thread: u8, outcome: Given) -> Result<(), NoMemory>
+        requires { (s : Standing) × (slice_get self.old.turns.threads thread ≡ Some (Some s)) }
+        ensures { OnOk result (self.new ≡ record self.old { turns = given_to thread (outcome_of outcome) self.old.turns }) }
+    {
+        if self.hands(thread, outcome)? {
+            self.ready.push(thread)?;
+        }
+        Ok(())
+    }
+
+    // A thread of an entry begins under a free number.
+    fn begins(&mut self, number: u8, entry: u16, values: Vec<Value>) -> Result<(), NoMemory>
+        requires free { IsFree number self.old.turns }
+        requires entry { HasEntry entry (values_of values.items) self.old }
+        ensures begun { OnOk result ((p : Part) → slice_get self.old.parts (entry + 1) ≡ Some p → self.new ≡ record self.old { turns = spawned number p.start (start_locals p.locals (values_of values.items)) self.old.turns }) }
+        ensures unchanged { OnErr result (self.new ≡ self.old) }
+    {
         let thread = self.new_thread(entry, values)?;
         self.ready.reserve(1)?;
         self.threads[usize::from(number)] = Some(thread);
         self.ready.push_reserved(number);
-        Ok(Some(number))
+        Ok(())
     }
 
     // The number of no thread.
@@ -66,14 +84,11 @@ impl Machine {
 
     // The thread of an entry before its first instruction.
     fn new_thread(&self, entry: u16, values: Vec<Value>) -> Result<Thread, NoMemory>
-        requires { IsEntryFor entry (values_of values.items) self.now }
+        requires { HasEntry entry (values_of values.items) self.now }
         ensures { IfOk result (λ thread. (p : Part) → slice_get self.now.parts (entry + 1) ≡ Some p → thread ≡ begun true p.start (start_locals p.locals (values_of values.items))) }
     {
         let part = &self.code.parts[usize::from(entry) + 1];
-        let mut locals = Variables::new(self.alloc);
-        let parameters = values.len();
-        push_values(self.alloc, &mut locals, values)?;
-        push_starts(self.alloc, &mut locals, &part.locals[parameters..])?;
+        let locals = entry_variables(self.alloc, &part.locals, values)?;
         Ok(Thread::new(self.alloc, true, part.start, locals))
     }
 

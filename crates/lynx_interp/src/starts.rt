@@ -1,12 +1,13 @@
 //! Variables as a thread begins.
 
-ghost use Rattle.std.specs.Prelude.{◌≡◌, [], ◌++◌, map, nat_abs, pos, replicate, IsTrue, OnOk};
+ghost use Rattle.std.specs.Prelude.{◌≡◌, ◌≤◌, [], ◌++◌, length, map, nat_abs, pos, replicate, IsTrue, IfOk, OnOk};
 ghost use Rattle.lynx_meaning.specs.Values.{Link};
 ghost use Rattle.lynx_meaning.specs.Values as meaning;
 ghost use Rattle.lynx_tree.specs.declared.declaration.TypeName.TheVariants as types;
 ghost use Rattle.thread_values.specs.Told.{value_of, values_of};
 ghost use Rattle.lynx_typing.specs.Types.{has_length};
 ghost use Rattle.runnable_code.specs.Runnable.{HaveStarts};
+ghost use Rattle.lynx_interp.specs.Machines.{start_locals};
 
 use lynx_lexer::NoMemory;
 use lynx_tree::TypeName;
@@ -29,12 +30,25 @@ pub(crate) fn push_links(
     Ok(())
 }
 
-/// Variables that hold these values.
-pub(crate) fn push_values(
+/// The variables of an entry, whose parameters have these values.
+pub(crate) fn entry_variables(
     alloc: Global,
-    variables: &mut Variables,
+    kinds: &[TypeName],
     values: Vec<Value>,
-) -> Result<(), NoMemory>
+) -> Result<Variables, NoMemory>
+    requires kinds { HaveStarts kinds.now }
+    requires values { length values.items ≤ length kinds.now }
+    ensures { IfOk result (λ variables. variables ≡ start_locals kinds.now (values_of values.items)) }
+{
+    let mut variables = Variables::new(alloc);
+    let parameters = values.len();
+    push_values(alloc, &mut variables, values)?;
+    push_starts(alloc, &mut variables, &kinds[parameters..])?;
+    Ok(variables)
+}
+
+/// Variables that hold these values.
+fn push_values(alloc: Global, variables: &mut Variables, values: Vec<Value>) -> Result<(), NoMemory>
     ensures { OnOk result (variables.new ≡ variables.old ++ values_of values.items) }
 {
     let mut rest = values;

@@ -1,16 +1,14 @@
 //! A run: threads go on by turns.
 
-ghost use Rattle.std.specs.Prelude.{◌≡◌, ◌<◌, ℕ, true, None, Some, IfOk, IfSome, IfNone, OnOk, MatchOption, is_some, length, option_map, slice_get};
-ghost use Rattle.lynx_meaning.specs.Code.{Program};
+ghost use Rattle.std.specs.Prelude.{◌≡◌, ◌<◌, ℕ, true, None, Some, IfOk, OnOk, MatchOption, is_some, length, option_map, slice_get};
 ghost use Rattle.thread_turns.specs.Shapes.{program};
 ghost use Rattle.thread_turns.specs.Threads.{Standing};
-ghost use Rattle.thread_turns.specs.Turns.{Runs, Stops, acts, awaits, beat, stands, wakes, with_thread};
+ghost use Rattle.thread_turns.specs.Turns.{Runs, acts, awaits, stands, wakes, with_thread};
 ghost use Rattle.lynx_thread.specs.Told.{action_of};
 ghost use Rattle.sound_turns.specs.Sound.{StayBlocked};
 ghost use Rattle.sound_turns.specs.Taken.{next_number, takes_turn};
 ghost use Rattle.lynx_interp.specs.Machines.{IsMachine};
-ghost use Rattle.sound_turns.specs.Weights.{weight};
-ghost use Rattle.lynx_interp.specs.Runs.{CanGoOn, Comes, IsAsked, IsTurn, Settles, beat_of, stop_of};
+ghost use Rattle.lynx_interp.specs.Runs.{CanGoOn, IsAsked, IsRound, IsTurn, MayGoOn, Settles, StopsAt, stop_of};
 ghost use Rattle.lynx_interp.specs.declared.stop.Stop.TheVariants as stop;
 
 use crate::machine::Machine;
@@ -33,26 +31,30 @@ impl Machine {
         'rounds: loop {
             let (stopped, rest) = self.round(left)?;
             left = rest;
-            if let Some(stop) = stopped {
-                return Ok((stop, left));
+            match stopped {
+                Some(stop) => return Ok((stop, left)),
+                None => {}
             }
         }
     }
 
-    // The next thread takes its turn, and what comes of that changes those that wait. Tells how the run stops, if it does, and the fuel
-    // that is left.
+    // The next thread takes its turn, where one can go on and there is fuel. Tells how the run stops, if it does, and the fuel that is left.
     fn round(&mut self, fuel: u32) -> Result<(Option<Stop>, u32), NoMemory>
         requires { IsMachine self.old }
-        ensures come { IfOk result (λ r. Comes (program self.old.types self.old.instructions) fuel self.old.turns (beat_of r.0 r.1 self.new.turns)) }
-        ensures asked { IfOk result (λ r. IfSome r.0 (λ stop. IsAsked stop self.new.turns)) }
-        ensures blocked { OnOk result (StayBlocked self.old.turns self.new.turns) }
-        ensures less { IfOk result (λ r. IfNone r.0 (weight r.1 self.new.turns < weight fuel self.old.turns)) }
-        ensures machine { OnOk result (IsMachine self.new) }
-        ensures same { OnOk result (self.new ≡ record self.old { turns = self.new.turns }) }
+        ensures { IfOk result (λ r. IsRound fuel self.old r.0 r.1 self.new) }
     {
         if let Some(stop) = self.stops(fuel) {
             return Ok((Some(stop), fuel));
         }
+        self.goes_on(fuel)
+    }
+
+    // The next thread takes its turn, and what comes of that changes those that wait.
+    fn goes_on(&mut self, fuel: u32) -> Result<(Option<Stop>, u32), NoMemory>
+        requires machine { IsMachine self.old }
+        requires goes_on { MayGoOn fuel self.old.turns }
+        ensures { IfOk result (λ r. IsRound fuel self.old r.0 r.1 self.new) }
+    {
         let number = self.takes_turn();
         let (made, left) = self.turn(number, fuel)?;
         let action = self.settles(number, made)?;
@@ -61,7 +63,7 @@ impl Machine {
 
     // How a run stops where no thread goes on with so much fuel.
     fn stops(&self, fuel: u32) -> Option<Stop>
-        ensures { MatchOption result ((stands self.now.turns ≡ true) × (is_some (next_number self.now.turns.running self.now.turns.ready) ≡ true) × (0 < fuel)) (λ stop. (p : Program) → beat p fuel self.now.turns ≡ Stops (stop_of stop) fuel self.now.turns) }
+        ensures { MatchOption result (MayGoOn fuel self.now.turns) (λ stop. StopsAt fuel self.now.turns stop) }
     {
         if !self.stands() {
             return Some(Stop::Finished);

@@ -151,6 +151,6 @@ law m made written tokens typed is =
       params = (
         map (λ v. v.kind) m.vars,
         kinds_kept m made clean is
-        ∙ ap (λ (ts : List TypeName). ts ++ map (λ v. v.kind) m.vars) (params_are_links _ m.params clean.params ∙ ap (λ n. replicate n types.Link) (sym is.params)),
+            ∙ ap (λ (ts : List TypeName). ts ++ map (λ v. v.kind) m.vars) (params_are_links _ m.params clean.params ∙ ap (λ n. replicate n types.Link) (sym is.params)),
       );
     }

@@ -21,7 +21,7 @@ use Rattle.sound_turns.proofs.Turning.{SoundBeat, comes_again, stays_ready, take
 
 -- ---- what a thread asks for
 
-acts_threads : (n : ℕ) (a : Action) (t : Turns) → (acts n a t).threads ≡ t.threads
+pub acts_threads : (n : ℕ) (a : Action) (t : Turns) → (acts n a t).threads ≡ t.threads
 acts_threads n New t = refl
 acts_threads n (Destroy link) t = refl
 acts_threads n (Bind link entry) t = refl

@@ -165,7 +165,7 @@ module _ (m : ModuleTypes) (parts : List (ℕ × List TypeName)) (instructions :
   comes_again fuel n t globals s Broken = refl
 
   -- the thread that has the turn has not changed
-  no_change : (t : Turns) (n : ℕ) (s : Standing) → t.running ≡ Some n → slice_get t.threads n ≡ Some (Some s) → with_thread n (Some s) (record t { running = Some n }) ≡ t
+  pub no_change : (t : Turns) (n : ℕ) (s : Standing) → t.running ≡ Some n → slice_get t.threads n ≡ Some (Some s) → with_thread n (Some s) (record t { running = Some n }) ≡ t
   no_change t n s runs here =
       ap (λ (ts : List (Option Standing)). record t { threads = ts; running = Some n }) (set_same t.threads n (Some s) here) ∙ ap (λ (r : Option ℕ). record t { running = r }) (sym runs)
 
