@@ -1,9 +1,9 @@
 -- An instruction that goes on with the outcome of its action.
-use Rattle.std.proofs.Common.{arith, ◌≡◌, ℕ, suc, ◌+◌, ◌<◌, List, [], ◌∷◌, ◌++◌, length, drop, reverse, Bool, true, false, ◌&&◌, nat_eq, Option, None, Some, Ok, Err, refl, ap, ◌∙◌, not-suc-le-zero}
+use Rattle.std.proofs.Common.{arith, ◌≡◌, ℕ, suc, ◌+◌, ◌<◌, List, [], ◌∷◌, ◌++◌, length, drop, reverse, Bool, true, false, ◌&&◌, nat_eq, Option, None, Some, Result, Ok, Err, IfOk, refl, ap, sym, subst, if◌then◌else◌, ◌∙◌, not-suc-le-zero}
 use Rattle.lynx_typing.specs.declared.exception.Exception.{Exception}
-use Rattle.lynx_meaning.specs.Code.{Thread, answered, asks, closes_accept, raises, tries_again}
-use Rattle.lynx_meaning.specs.Courses.{Action, Close}
-use Rattle.lynx_meaning.specs.Values.{Value}
+use Rattle.lynx_meaning.specs.Code.{Next, Thread, acts, answered, asks, by_truth, closes_accept, goes, raises, tries_again}
+use Rattle.lynx_meaning.specs.Courses.{Action, Await, Close}
+use Rattle.lynx_meaning.specs.Values.{Value, Truth}
 use Rattle.thread_turns.specs.Threads.{Outcome, Standing, Made, Went, in_turn, made}
 use Rattle.lynx_thread.specs.Closes.{raising}
 use Rattle.lynx_thread.specs.Outcomes.{first_given, raised_by, values_by}
@@ -46,10 +46,12 @@ with_plain : (globals : List Value) (action : Action) (taken : ℕ) (s : Standin
 with_plain globals action taken s [] some = absurd (not-suc-le-zero some)
 with_plain globals action taken s (o ∷ os) some = by_plain globals action taken s o os
 
-pub plain : (globals : List Value) (action : Action) (taken : ℕ) (s : Standing) → 0 < length s.given →
+pub plain : (globals : List Value) (action : Action) (taken accepts : ℕ) (s : Standing) → accepts ≡ s.accepts → 0 < length s.given →
     made false s (asks s.is_entry action (drop taken s.stack) (in_turn globals s) (λ now. now)) ≡
-    made false s (answered s.is_entry (first_given s.given) (λ now. record now { accepts = s.accepts }) (raising globals ([] ++ action ∷ []) taken 1 s.accepts s))
-plain globals action taken s some = with_plain globals action taken s s.given some
+    made false s (answered s.is_entry (first_given s.given) (λ now. record now { accepts = accepts }) (raising globals ([] ++ action ∷ []) taken 1 accepts s))
+plain globals action taken accepts s is some =
+    with_plain globals action taken s s.given some
+    ∙ ap (λ (n : ℕ). made false s (answered s.is_entry (first_given s.given) (λ now. record now { accepts = n }) (raising globals ([] ++ action ∷ []) taken 1 n s))) (sym is)
 
 -- after which one accept more is open
 by_accept : (globals : List Value) (action : Action) (s : Standing) (o : Outcome) (os : List Outcome) →
@@ -90,3 +92,34 @@ pub closing : (globals : List Value) (k : ℕ) (s : Standing) → 0 < length s.g
     made false s (closes_accept s.is_entry s.accepts (in_turn globals s)) ≡
     made false s (answered s.is_entry (first_given s.given) (λ now. record now { accepts = k }) (raising globals ([] ++ Close ∷ []) 0 1 k s))
 closing globals k s some is = ap (λ n. made false s (closes_accept s.is_entry n (in_turn globals s))) is ∙ with_close globals k s s.given some
+
+-- what an await does
+abbrev awaits : Bool → ℕ → Thread → Next
+awaits e address t =
+    by_truth (λ b stack. if b then goes stack t else acts t.moment Await (λ given now. tries_again e address given (record t { moment = now; stack = stack }))) t.stack
+
+-- it was given an exception
+by_await : (globals : List Value) (address : ℕ) (x : Exception) (s : Standing) (below : List Value) (os : List Outcome) → raised_by (first_given os) ≡ Some x →
+    let given = record s { stack = Truth false ∷ below; given = os } in
+    made true given (awaits s.is_entry address (in_turn globals given)) ≡ made true given (raises s.is_entry x (raising globals ([] ++ Await ∷ []) 1 1 s.accepts given))
+by_await globals address x s below [] is = cc
+by_await globals address x s below (Ok vs ∷ os) is = cc
+by_await globals address x s below (Err y ∷ os) is =
+    let same : y ≡ x = cc in
+    let given = record s { stack = Truth false ∷ below; given = Err y ∷ os } in
+    ap (λ (z : Exception). made true given (raises s.is_entry z (raising globals ([] ++ Await ∷ []) 1 1 s.accepts given))) same
+
+pub awaiting : (globals : List Value) (address accepts : ℕ) (x : Exception) (s : Standing) (below : List Value) → accepts ≡ s.accepts → s.stack ≡ Truth false ∷ below → raised_by (first_given s.given) ≡ Some x →
+    made true s (awaits s.is_entry address (in_turn globals s)) ≡ made true s (raises s.is_entry x (raising globals ([] ++ Await ∷ []) 1 1 accepts s))
+awaiting globals address accepts x s below same top is =
+    subst
+    (λ (stack : List Value). let now = record s { stack = stack } in
+      made true now (awaits s.is_entry address (in_turn globals now)) ≡ made true now (raises s.is_entry x (raising globals ([] ++ Await ∷ []) 1 1 s.accepts now)))
+    (sym top)
+    (by_await globals address x s below s.given is)
+    ∙ ap (λ (n : ℕ). made true s (raises s.is_entry x (raising globals ([] ++ Await ∷ []) 1 1 n s))) (sym same)
+
+-- what is known of an answer leads to something else
+pub where_ok : {X E : Type 0} {P Q : X → Type 0} (r : Result X E) → ((x : X) → P x → Q x) → IfOk r P → IfOk r Q
+where_ok (Ok x) leads is = leads x is
+where_ok (Err e) leads is = is

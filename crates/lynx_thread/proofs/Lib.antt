@@ -2,3 +2,4 @@ pub mod Goes
 pub mod Closing
 pub mod Answering
 pub mod Courses
+pub mod Places
