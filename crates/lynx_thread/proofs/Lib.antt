@@ -3,3 +3,4 @@ pub mod Closing
 pub mod Answering
 pub mod Courses
 pub mod Places
+pub mod Members

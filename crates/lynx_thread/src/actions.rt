@@ -70,7 +70,7 @@ impl Thread {
         ensures { IfOk result (λ move. (p : Program) (globals : List meaning.Value) → slice_get p.arguments op ≡ Some arguments → told move globals self.new ≡ does p (code.Connect op) globals self.old) }
     {
         if !self.is_fresh() {
-            return self.answered_after(arguments + 1);
+            return self.answered_after(arguments.checked_add(1).ok_or(NoMemory)?);
         }
         let link = self.operands.link();
         let values = self.operands.values(self.alloc, 1, arguments)?;
