@@ -1,5 +1,5 @@
 -- An instruction that goes on with the outcome of its action.
-use Rattle.std.proofs.Common.{arith, ◌≡◌, ℕ, suc, ◌+◌, ◌<◌, List, [], ◌∷◌, ◌++◌, length, take, drop, reverse, Bool, true, false, ◌&&◌, nat_eq, nat_le, Option, None, Some, Result, Ok, Err, IfOk, refl, ap, sym, subst, if◌then◌else◌, ◌∙◌, not-suc-le-zero}
+use Rattle.std.proofs.Common.{arith, ◌≡◌, ℕ, suc, ◌+◌, ◌<◌, ◌≤◌, List, [], ◌∷◌, ◌++◌, length, take, drop, reverse, Bool, true, false, ◌&&◌, nat_eq, nat_le, Option, None, Some, Result, Ok, Err, IfOk, refl, ap, sym, subst, if◌then◌else◌, ◌∙◌, not-suc-le-zero}
 use Rattle.std.proofs.lemmas.Bool.Decides.{nat_tests}
 use Rattle.lynx_typing.specs.declared.exception.Exception.{Exception}
 use Rattle.lynx_meaning.specs.Code.{Next, Over, Stuck, Thread, acts, answered, asks, by_link, by_truth, by_values, closes_accept, goes, raises, tries_again, writes}

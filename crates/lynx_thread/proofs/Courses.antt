@@ -51,11 +51,17 @@ from_there p (suc k) (suc fuel) left globals now s t is =
     (λ g u. from_there p k (fuel_after (suc fuel) s) left g now u t) is
 
 -- one instruction more
-pub one_more : (p : Program) (fuel left : ℕ) (globals now : List Value) (s t : Standing) (last : Made) → 0 < left → HasCome p fuel globals s left (Went now t) → last ≡ comes_of p now t →
-    IsCourse p fuel globals s (fuel_after left t) last
-one_more p fuel zero globals now s t last there come is = absurd (omega arith)
-one_more p fuel (suc left) globals now s t last there come is =
-    (come.0, from_there p come.0 fuel (suc left) globals now s t come.1 ∙ last_one p (fuel_after (suc left) t) (comes_of p now t) ∙ ap (λ (m : Made). (fuel_after (suc left) t, m)) (sym is))
+pub one_more : (p : Program) (fuel left rest : ℕ) (globals now : List Value) (s t : Standing) (last : Made) → rest ≡ fuel_after left t → 0 < left → HasCome p fuel globals s left (Went now t) →
+    last ≡ comes_of p now t → IsCourse p fuel globals s rest last
+one_more p fuel zero rest globals now s t last spent there come is = absurd (omega arith)
+one_more p fuel (suc left) rest globals now s t last spent there come is =
+    (
+      come.0,
+      from_there p come.0 fuel (suc left) globals now s t come.1
+      ∙ last_one p (fuel_after (suc left) t) (comes_of p now t)
+      ∙ ap (λ (m : Made). (fuel_after (suc left) t, m)) (sym is)
+      ∙ ap (λ (n : ℕ). (n, last)) (sym spent),
+    )
 
 pub has_come : (p : Program) (fuel left : ℕ) (globals : List Value) (s : Standing) (last : Made) → IsCourse p fuel globals s left last → HasCome p fuel globals s left last
 has_come p fuel left globals s last course_is = (suc course_is.0, course_is.1)

@@ -1,39 +1,34 @@
--- The instruction at an address, and an operation by its number.
-use Rattle.std.proofs.Common.{arith, ◌≡◌, ℕ, zero, suc, ◌<◌, List, [], ◌∷◌, length, map, Option, Some, None, slice_get, slice_index_or, refl, ap, sym, subst, le_of_suc-le-suc, suc-le-suc}
+-- An instruction that is told apart, and an operation by its number.
+use Rattle.std.proofs.Common.{arith, ◌≡◌, ℕ, zero, suc, ◌<◌, List, [], ◌∷◌, length, map, Some, slice_get, slice_index_or, ap, sym, ◌∙◌}
 use Rattle.lynx_code.specs.declared.code.CodeOp.{CodeOp}
 use Rattle.lynx_code.specs.declared.instruction.Instruction.{Instruction}
 use Rattle.lynx_meaning.specs.Code.{Program}
 use Rattle.lynx_meaning.specs.Values.{Value}
 use Rattle.thread_turns.specs.Shapes.{OpTypes, kept_op}
-use Rattle.thread_turns.specs.Threads.{Standing, comes_of}
-use Rattle.lynx_thread.specs.Operands.{Finds, FindsInstruction, HasValues, does}
+use Rattle.thread_turns.specs.Threads.{Made, Standing}
+use Rattle.lynx_thread.specs.Operands.{HasValues, does}
 
 -- ---- instructions
 
-pub is_there : (p : Program) (is : List Instruction) (k : ℕ) (globals : List Value) (s : Standing) → FindsInstruction p (slice_get is k) globals s → k < length is
-is_there p [] k globals s finds = absurd finds
-is_there p (i ∷ is) zero globals s finds = omega arith
-is_there p (i ∷ is) (suc k) globals s finds = let there : k < length is = is_there p is k globals s finds in omega arith
-
-pub it_is : (is : List Instruction) (k : ℕ) (i : Instruction) → k < length is → i ≡ slice_index_or is k i → slice_get is k ≡ Some i
-it_is [] k i there is_it = absurd (omega arith)
-it_is (j ∷ is) zero i there is_it = ap Some (sym is_it)
-it_is (j ∷ is) (suc k) i there is_it = it_is is k i (omega arith) is_it
-
-pub finds_it : (p : Program) (o : Option Instruction) (i : Instruction) (globals : List Value) (s : Standing) → o ≡ Some i → FindsInstruction p o globals s → Finds p i globals s
-finds_it p o i globals s is_it finds = subst (λ (j : Option Instruction). FindsInstruction p j globals s) is_it finds
+-- what is known of an instruction holds of one that is equal
+pub by_instruction : (p : Program) (globals : List Value) (s : Standing) {i j : Instruction} {m : Made} → i ≡ j → m ≡ does p j globals s → m ≡ does p i globals s
+by_instruction p globals s {i} {j} {m} same is = is ∙ ap (λ (k : Instruction). does p k globals s) (sym same)
 
 -- ---- operations
 
-abbrev counts : List CodeOp → List ℕ
+abbrev pub counts : List CodeOp → List ℕ
 counts ops = map (λ (op : OpTypes). length op.arguments) (map kept_op ops)
 
-pub has_op : (ops : List CodeOp) (k : ℕ) (stack : List Value) → HasValues (slice_get (counts ops) k) stack → k < length ops
+has_op : (ops : List CodeOp) (k : ℕ) (stack : List Value) → HasValues (slice_get (counts ops) k) stack → k < length ops
 has_op [] k stack has = absurd has
 has_op (o ∷ ops) zero stack has = omega arith
 has_op (o ∷ ops) (suc k) stack has = let there : k < length ops = has_op ops k stack has in omega arith
 
-pub op_is : (ops : List CodeOp) (k : ℕ) (o : CodeOp) → k < length ops → o ≡ slice_index_or ops k o → slice_get (counts ops) k ≡ Some (length o.arguments.items)
+op_is : (ops : List CodeOp) (k : ℕ) (o : CodeOp) → k < length ops → o ≡ slice_index_or ops k o → slice_get (counts ops) k ≡ Some (length o.arguments.items)
 op_is [] k o there is_it = absurd (omega arith)
 op_is (q ∷ ops) zero o there is_it = ap (λ (c : CodeOp). Some (length c.arguments.items)) (sym is_it)
 op_is (q ∷ ops) (suc k) o there is_it = op_is ops k o (omega arith) is_it
+
+-- where values of an operation stand on the stack, it is there, and has so many arguments
+pub count_is : (ops : List CodeOp) (k n : ℕ) (o : CodeOp) (stack : List Value) → HasValues (slice_get (counts ops) k) stack → o ≡ slice_index_or ops k o → n ≡ length o.arguments.items → slice_get (counts ops) k ≡ Some n
+count_is ops k n o stack has there size = op_is ops k o (has_op ops k stack has) there ∙ ap (λ (m : ℕ). Some m) (sym size)

@@ -66,11 +66,12 @@ impl Thread {
     /// The operation has so many arguments.
     pub(crate) fn connects(&mut self, op: u32, arguments: usize) -> Result<Move, NoMemory>
         requires place { self.old.address < usize.MAX }
+        requires count { arguments < usize.MAX }
         requires operands { HasValues (Some arguments) self.old.stack }
         ensures { IfOk result (λ move. (p : Program) (globals : List meaning.Value) → slice_get p.arguments op ≡ Some arguments → told move globals self.new ≡ does p (code.Connect op) globals self.old) }
     {
         if !self.is_fresh() {
-            return self.answered_after(arguments.checked_add(1).ok_or(NoMemory)?);
+            return self.answered_after(arguments + 1);
         }
         let link = self.operands.link();
         let values = self.operands.values(self.alloc, 1, arguments)?;
