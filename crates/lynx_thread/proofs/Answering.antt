@@ -10,27 +10,11 @@ use Rattle.thread_stack.specs.Stacks.{TopIsLink}
 use Rattle.lynx_thread.specs.Operands.{HasValues, TopIsPlain}
 use Rattle.lynx_thread.specs.Closes.{raising}
 use Rattle.lynx_thread.specs.Outcomes.{first_given, raised_by, values_by}
-use Rattle.lynx_thread.proofs.Goes.{goes_on_trying}
 
--- ---- by the outcome
-
-module _ (globals : List Value) (actions : List Action) (taken accepts raised : ℕ) (s : Standing) where
-  abbrev there : Thread
-  there = raising globals actions taken 1 raised s
-
-  pub raised_first : (o : Outcome) (x : Exception) → raised_by o ≡ Some x →
-      made false s (answered s.is_entry o (λ now. record now { accepts = accepts }) there) ≡ made false s (raises s.is_entry x there)
-  raised_first (Ok vs) x is = cc
-  raised_first (Err y) x is = let same : y ≡ x = cc in ap (λ z. made false s (raises s.is_entry z there)) same
-
-  pub given_values : (o : Outcome) → raised_by o ≡ None →
-      made false s (answered s.is_entry o (λ now. record now { accepts = accepts }) there) ≡
-      Went globals (record s { address = s.address + 1; stack = reverse (values_by o) ++ drop taken s.stack; accepts = accepts; given = []; wanted = None })
-  given_values (Ok vs) is =
-      ap
-      (λ (again : Bool). Went globals (record s { address = s.address + 1; stack = reverse vs ++ drop taken s.stack; accepts = accepts; given = []; wanted = None; again = again }))
-      (goes_on_trying s.again (length s.tries))
-  given_values (Err x) is = cc
+-- what is known of an answer leads to something else
+pub where_ok : {X E : Type 0} {P Q : X → Type 0} (r : Result X E) → ((x : X) → P x → Q x) → IfOk r P → IfOk r Q
+where_ok (Ok x) leads is = leads x is
+where_ok (Err e) leads is = is
 
 -- an instruction that was given something
 pub has_outcome : (os : List Outcome) → is_empty os ≡ false → 0 < length os
@@ -125,15 +109,10 @@ pub awaiting : (globals : List Value) (address accepts : ℕ) (x : Exception) (s
 awaiting globals address accepts x s below same top is =
     subst
     (λ (stack : List Value). let now = record s { stack = stack } in
-      made true now (awaits s.is_entry address (in_turn globals now)) ≡ made true now (raises s.is_entry x (raising globals ([] ++ Await ∷ []) 1 1 s.accepts now)))
+    made true now (awaits s.is_entry address (in_turn globals now)) ≡ made true now (raises s.is_entry x (raising globals ([] ++ Await ∷ []) 1 1 s.accepts now)))
     (sym top)
     (by_await globals address x s below s.given is)
     ∙ ap (λ (n : ℕ). made true s (raises s.is_entry x (raising globals ([] ++ Await ∷ []) 1 1 n s))) (sym same)
-
--- what is known of an answer leads to something else
-pub where_ok : {X E : Type 0} {P Q : X → Type 0} (r : Result X E) → ((x : X) → P x → Q x) → IfOk r P → IfOk r Q
-where_ok (Ok x) leads is = leads x is
-where_ok (Err e) leads is = is
 
 -- ---- by the operands that it takes
 
@@ -168,8 +147,7 @@ link_and_values k taken next (Truth b ∷ below) has size = absurd has
 link_and_values k taken next (Text bytes ∷ below) has size = absurd has
 link_and_values k taken next (Row numbers ∷ below) has size = absurd has
 link_and_values k taken next (Link l ∷ below) has size =
-    let one : suc k ≡ taken = omega arith in
-    (
+    let one : suc k ≡ taken = omega arith in (
       Link l,
       reverse (take k below),
       valued k (λ vs rest. next (Link l) vs rest) below has ∙ ap (λ (n : ℕ). next (Link l) (reverse (take k below)) (drop n (Link l ∷ below))) one,

@@ -2,13 +2,24 @@
 use Rattle.std.proofs.Common.{arith, ◌≡◌, ℕ, zero, suc, ◌+◌, ◌-◌, ◌<◌, ◌≤◌, List, [], ◌∷◌, ◌++◌, length, take, drop, Bool, true, false, not, if◌then◌else◌, ◌&&◌, nat_eq, Option, None, Some, refl, ap, sym, subst, ◌∙◌, not-suc-le-zero, le_of_suc-le-suc, length-drop}
 use Rattle.std.proofs.Math.Seq.{drop-nil}
 use Rattle.std.proofs.lemmas.List.{drop_all}
+use Rattle.std.proofs.lemmas.Bool.Decides.{nat_tests}
 use Rattle.lynx_typing.specs.declared.exception.Exception.{Exception}
 use Rattle.lynx_meaning.specs.Code.{Next, Over, Comes, Goes, Opened, Thread, closes, cut, ends, instead, raises, raises_in}
 use Rattle.lynx_meaning.specs.Courses.{Action, Close, Moment, Store, Waits}
 use Rattle.lynx_meaning.specs.Values.{Value}
 use Rattle.thread_turns.specs.Threads.{Outcome, Standing, Made, Went, Acts, Ends, NoValue, acted, answers, is_fresh, last_action, made}
 use Rattle.lynx_thread.specs.Closes.{lasting, kept_accepts, moment_after, raising}
-use Rattle.lynx_thread.proofs.Goes.{is_over}
+
+-- a try again is over where there is one open try less
+fewer : (n : ℕ) → nat_eq (suc n) n ≡ false
+fewer n = grind (arith, nat_tests)
+
+and_false : (b : Bool) → (b && false) ≡ false
+and_false true = refl
+and_false false = refl
+
+is_over : (b : Bool) (n : ℕ) → (b && nat_eq (suc n) n) ≡ false
+is_over b n = ap (λ c. b && c) (fewer n) ∙ and_false b
 
 -- amid an instruction, with these outcomes that it has not heard
 abbrev amid : List Value → List Value → List Outcome → List Action → Moment
@@ -122,8 +133,8 @@ module _ (b : Bool) (globals : List Value) (actions : List Action) (x : Exceptio
   landed s now o y is size fits same =
       subst
       (λ (u : Standing). closed_ones ≡ accepts - kept_accepts u.tries → closed_ones ≤ length u.given - heard → y ≡ lasting x (take closed_ones (drop heard u.given)) →
-          Went globals (record now { address = o.handlers; stack = cut o.height (drop taken now.stack); accepts = o.accepts; pending = Some y; given = []; wanted = None; again = false }) ≡
-          made b u (raises u.is_entry x (raising globals actions taken heard accepts u)))
+      Went globals (record now { address = o.handlers; stack = cut o.height (drop taken now.stack); accepts = o.accepts; pending = Some y; given = []; wanted = None; again = false }) ≡
+      made b u (raises u.is_entry x (raising globals actions taken heard accepts u)))
       (sym is)
       (λ size fits same. there size fits same)
       size

@@ -29,8 +29,7 @@ pub unchanged : {X : Type 0} (slot : ℕ) (index number : ℤ) (vs now : List Va
 unchanged slot index number vs now (Ok done) x failed set = cc
 unchanged {X} slot index number vs now (Err y) x failed set =
     let same : y ≡ x = cc in
-    let u = unset X index number set.0 set.1 y set.4 in
-    (
+    let u = unset X index number set.0 set.1 y set.4 in (
       u.0,
       set.3 ∙ ap (λ (v : Value). slice_set vs slot v) u.2 ∙ kept vs slot set.0 set.2,
       set.2 ∙ ap (λ (v : Value). Some v) u.1,

@@ -14,10 +14,10 @@ returns c =
     where_ok
     c.answered.result
     (λ move is p globals.
-        let s = c.args.self.now in
-        let found = linked (λ link stack. asks s.is_entry (Accept link c.args.op) stack (in_turn globals s) (λ now. record now { accepts = now.accepts + 1 })) s.stack c.requires.operands in
-        is globals ([] ++ Accept (Link found.0) c.args.op ∷ [])
-        ∙ sym
-        (accepting globals (Accept (Link found.0) c.args.op) c.self.inside.accepts c.in_ok-ok_or.field-0 s same (more ∙ ap (λ n. n + 1) same) (has_outcome s.given (sym c.is_fresh.ensures ∙ c.if-is_fresh.false)))
-        ∙ ap (λ (n : Next). made false s n) (sym found.1))
+    let s = c.args.self.now in
+    let found = linked (λ link stack. asks s.is_entry (Accept link c.args.op) stack (in_turn globals s) (λ now. record now { accepts = now.accepts + 1 })) s.stack c.requires.operands in
+    is globals ([] ++ Accept (Link found.0) c.args.op ∷ [])
+    ∙ sym
+    (accepting globals (Accept (Link found.0) c.args.op) c.self.inside.accepts c.in_ok-ok_or.field-0 s same (more ∙ ap (λ n. n + 1) same) (has_outcome s.given (sym c.is_fresh.ensures ∙ c.if-is_fresh.false)))
+    ∙ ap (λ (n : Next). made false s n) (sym found.1))
     c.answered.ensures

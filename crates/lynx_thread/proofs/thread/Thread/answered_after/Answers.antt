@@ -8,5 +8,5 @@ returns c =
     where_ok
     c.answered.result
     (λ move told_is globals action.
-        told_is globals ([] ++ action ∷ []) ∙ sym (plain globals action c.args.taken c.self.inside.accepts c.args.self.now (ap (λ (s : Standing). s.accepts) c.self.view_is) c.requires.given))
+    told_is globals ([] ++ action ∷ []) ∙ sym (plain globals action c.args.taken c.self.inside.accepts c.args.self.now (ap (λ (s : Standing). s.accepts) c.self.view_is) c.requires.given))
     c.answered.ensures

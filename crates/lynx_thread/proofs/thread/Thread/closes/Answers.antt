@@ -9,8 +9,8 @@ returns c =
     where_ok
     c.answered.result
     (λ move is p globals.
-        let s = c.args.self.now in
-        let same = ap (λ (u : Standing). u.accepts) c.self.view_is in
-        let one_less : s.accepts ≡ suc (c.self.inside.accepts - 1) = omega (arith, c.requires.accepts, same) in
-        is globals ([] ++ Close ∷ []) ∙ sym (closing globals (c.self.inside.accepts - 1) s (has_outcome s.given (sym c.is_fresh.ensures ∙ c.if-is_fresh.false)) one_less))
+    let s = c.args.self.now in
+    let same = ap (λ (u : Standing). u.accepts) c.self.view_is in
+    let one_less : s.accepts ≡ suc (c.self.inside.accepts - 1) = omega (arith, c.requires.accepts, same) in
+    is globals ([] ++ Close ∷ []) ∙ sym (closing globals (c.self.inside.accepts - 1) s (has_outcome s.given (sym c.is_fresh.ensures ∙ c.if-is_fresh.false)) one_less))
     c.answered.ensures

@@ -123,7 +123,7 @@ returns-in-End c = by_instruction (program_of c.args.code.now) c.args.globals.no
 pub connects-requires-clause-operands : goal.connects-requires-clause-operands
 connects-requires-clause-operands c =
     let has : HasValues (slice_get (counts c.args.code.now.ops.items) c.in-Connect.op) c.args.self.now.stack =
-      subst (λ (i : Instruction). Finds (program_of c.args.code.now) i c.args.globals.now c.args.self.now) c.in-Connect.is c.requires.finds in
+    subst (λ (i : Instruction). Finds (program_of c.args.code.now) i c.args.globals.now c.args.self.now) c.in-Connect.is c.requires.finds in
     subst
     (λ (k : Option ℕ). HasValues k c.args.self.now.stack)
     (count_is c.args.code.now.ops.items c.in-Connect.op c.len.result c.index.result.now c.args.self.now.stack has c.index.ensures (c.len.ensures ∙ c.index.result.now.arguments.ok.0))
@@ -135,7 +135,7 @@ connects-requires-clause-count c = let kept = c.index.result.now.arguments in om
 pub returns-in-Connect : goal.returns-in-Connect
 returns-in-Connect c =
     let has : HasValues (slice_get (counts c.args.code.now.ops.items) c.in-Connect.op) c.args.self.now.stack =
-      subst (λ (i : Instruction). Finds (program_of c.args.code.now) i c.args.globals.now c.args.self.now) c.in-Connect.is c.requires.finds in
+    subst (λ (i : Instruction). Finds (program_of c.args.code.now) i c.args.globals.now c.args.self.now) c.in-Connect.is c.requires.finds in
     let arguments = count_is c.args.code.now.ops.items c.in-Connect.op c.len.result c.index.result.now c.args.self.now.stack has c.index.ensures (c.len.ensures ∙ c.index.result.now.arguments.ok.0) in
     where_ok
     c.connects.result

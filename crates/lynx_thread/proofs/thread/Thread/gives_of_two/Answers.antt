@@ -16,7 +16,7 @@ returns-in_ok-push_int-in-Err-2 c = λ globals.
     let fits_too : SFits w64 c.args.second = search rules in
     let once : c.push_int-in-Err.new.self ≡ record c.args.self.now { stack = Int c.args.first ∷ c.args.self.now.stack } = simp to_z-of_z at c.in_ok-push_int-in-Err.ensures in
     let twice : c.push_int-in-Err-2.new.self ≡ record c.push_int-in-Err.new.self { stack = Int c.args.second ∷ c.push_int-in-Err.new.self.stack } =
-      simp to_z-of_z at c.in_ok-push_int-in-Err-2.ensures in
+    simp to_z-of_z at c.in_ok-push_int-in-Err-2.ensures in
     let pushed : c.push_int-in-Err-2.new.self ≡ s = twice ∙ ap (λ (u : Standing). record u { stack = Int c.args.second ∷ u.stack }) once in
     c.raises.ensures false globals
     ∙ ap (λ (u : Standing). made false u (raises u.is_entry c.in-Err.exception (in_turn globals u))) pushed

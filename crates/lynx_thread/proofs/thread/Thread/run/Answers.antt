@@ -13,7 +13,7 @@ pub instructions-preserved : goal.instructions-preserved
 instructions-preserved c =
     let p = program_of c.args.code.now in
     let went : Went c.step.new.globals c.step.new.self ≡ comes_of p c.instructions.globals c.instructions.self =
-      sym (ap (λ (m : Move). told m c.step.new.globals c.step.new.self) c.in-GoesOn.is) ∙ c.in_ok-other.ensures in
+    sym (ap (λ (m : Move). told m c.step.new.globals c.step.new.self) c.in-GoesOn.is) ∙ c.in_ok-other.ensures in
     record {
       ready = stays_ready p c.instructions.globals c.step.new.globals c.instructions.self c.step.new.self went c.instructions.invariant.ready;
       come = has_come p c.args.fuel c.fuel_after-left.result c.args.globals.now c.args.self.now (Went c.step.new.globals c.step.new.self)

@@ -22,7 +22,7 @@ returns-in-Err c = λ p globals.
     let twice = simp to_z-of_z at c.in_ok-push_int-2.ensures in
     let kept = unchanged c.args.slot index number c.self.inside.locals now c.set_member.result c.in-Err.exception c.in-Err.is set in
     let locals : s.locals ≡ c.self.inside.locals =
-      ap (λ (u : Standing). u.locals) c.pop_int-number.ensures ∙ ap (λ (u : Standing). u.locals) c.pop_int-index.ensures ∙ sym (ap (λ (u : Standing). u.locals) c.self.view_is) in
+    ap (λ (u : Standing). u.locals) c.pop_int-number.ensures ∙ ap (λ (u : Standing). u.locals) c.pop_int-index.ensures ∙ sym (ap (λ (u : Standing). u.locals) c.self.view_is) in
     c.raises.ensures false globals
     ∙ ap
     (λ (u : Standing). made false u (raises u.is_entry c.in-Err.exception (in_turn globals u)))
