@@ -1,15 +1,15 @@
 -- An instruction that goes on with the outcome of its action.
-use Rattle.std.proofs.Common.{arith, ◌≡◌, ℕ, suc, ◌+◌, ◌<◌, ◌≤◌, List, [], ◌∷◌, ◌++◌, length, take, drop, reverse, Bool, true, false, ◌&&◌, nat_eq, nat_le, Option, None, Some, Result, Ok, Err, IfOk, refl, ap, sym, subst, if◌then◌else◌, ◌∙◌, not-suc-le-zero}
+use Rattle.std.proofs.Common.{arith, ◌≡◌, ℕ, suc, ◌+◌, ◌<◌, ◌≤◌, List, [], ◌∷◌, ◌++◌, length, take, drop, reverse, Bool, true, false, nat_le, Some, Result, Ok, Err, IfOk, refl, ap, sym, subst, if◌then◌else◌, ◌∙◌, not-suc-le-zero}
 use Rattle.std.proofs.lemmas.Bool.Decides.{nat_tests}
 use Rattle.lynx_typing.specs.declared.exception.Exception.{Exception}
 use Rattle.lynx_meaning.specs.Code.{Next, Over, Stuck, Thread, acts, answered, asks, by_link, by_truth, by_values, closes_accept, goes, raises, tries_again, writes}
 use Rattle.lynx_meaning.specs.Courses.{Action, Await, Close}
 use Rattle.lynx_meaning.specs.Values.{Value, Int, Truth, Text, Row, Link, written}
-use Rattle.thread_turns.specs.Threads.{Outcome, Standing, Made, Went, in_turn, is_empty, made}
+use Rattle.thread_turns.specs.Threads.{Outcome, Standing, in_turn, is_empty, made}
 use Rattle.thread_stack.specs.Stacks.{TopIsLink}
 use Rattle.lynx_thread.specs.Operands.{HasValues, TopIsPlain}
 use Rattle.lynx_thread.specs.Closes.{raising}
-use Rattle.lynx_thread.specs.Outcomes.{first_given, raised_by, values_by}
+use Rattle.lynx_thread.specs.Outcomes.{first_given, raised_by}
 
 -- what is known of an answer leads to something else
 pub where_ok : {X E : Type 0} {P Q : X → Type 0} (r : Result X E) → ((x : X) → P x → Q x) → IfOk r P → IfOk r Q

@@ -4,8 +4,8 @@ use Rattle.std.proofs.Math.Seq.{drop-nil}
 use Rattle.std.proofs.lemmas.List.{drop_all}
 use Rattle.std.proofs.lemmas.Bool.Decides.{nat_tests}
 use Rattle.lynx_typing.specs.declared.exception.Exception.{Exception}
-use Rattle.lynx_meaning.specs.Code.{Next, Over, Comes, Goes, Opened, Thread, closes, cut, ends, instead, raises, raises_in}
-use Rattle.lynx_meaning.specs.Courses.{Action, Close, Moment, Store, Waits}
+use Rattle.lynx_meaning.specs.Code.{Next, Over, Comes, Goes, Opened, closes, cut, ends, instead, raises, raises_in}
+use Rattle.lynx_meaning.specs.Courses.{Action, Close, Moment, Waits}
 use Rattle.lynx_meaning.specs.Values.{Value}
 use Rattle.thread_turns.specs.Threads.{Outcome, Standing, Made, Went, Acts, Ends, NoValue, acted, answers, is_fresh, last_action, made}
 use Rattle.lynx_thread.specs.Closes.{lasting, kept_accepts, moment_after, raising}

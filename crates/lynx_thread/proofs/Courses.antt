@@ -1,9 +1,8 @@
 -- Instructions of a thread one after the other.
-use Rattle.std.proofs.Common.{arith, ◌≡◌, ℕ, zero, suc, ◌+◌, ◌-◌, ◌*◌, ◌<◌, List, [], ◌∷◌, Bool, Option, None, Some, slice_get, refl, ap, sym, ◌∙◌}
-use Rattle.lynx_meaning.specs.Code.{Program, Next, Goes, Over, Comes, Stuck}
-use Rattle.lynx_meaning.specs.Courses.{Action, New, Destroy, Bind, Unbind, Connect, Accept, Close, Reply, Write, Await, Stop, Ended, Waits, Out}
+use Rattle.std.proofs.Common.{arith, ◌≡◌, ℕ, zero, suc, ◌<◌, List, refl, ap, sym, ◌∙◌}
+use Rattle.lynx_meaning.specs.Code.{Program}
 use Rattle.lynx_meaning.specs.Values.{Value}
-use Rattle.thread_turns.specs.Threads.{Standing, Made, Went, Acts, Awaits, Ends, Broken, acted, and_then, comes_of, course, fuel_after, goes_on, is_await, last_action, made}
+use Rattle.thread_turns.specs.Threads.{Standing, Made, Went, Acts, Awaits, Ends, Broken, and_then, comes_of, course, fuel_after}
 use Rattle.lynx_thread.specs.Operands.{HasCome, IsCourse, IsReady, StaysReady, after}
 
 -- ---- each instruction finds its operands

@@ -1,8 +1,8 @@
-use Rattle.std.proofs.Common.{arith, rules, ◌≡◌, List, [], ◌∷◌, ◌++◌, ◌+◌, false, ap, sym, ◌∙◌}
+use Rattle.std.proofs.Common.{arith, rules, ◌≡◌, [], ◌∷◌, ◌++◌, ◌+◌, false, ap, sym, ◌∙◌}
 use Rattle.std.proofs.lemmas.Grind.{common_steps}
 use Rattle.lynx_meaning.specs.Code.{Next, asks}
 use Rattle.lynx_meaning.specs.Courses.{Accept}
-use Rattle.lynx_meaning.specs.Values.{Value, Link}
+use Rattle.lynx_meaning.specs.Values.{Link}
 use Rattle.thread_turns.specs.Threads.{Standing, in_turn, made}
 use Rattle.lynx_thread.proofs.Answering.{accepting, has_outcome, linked, where_ok}
 use Rattle.lynx_thread.proofs.thread.Thread.accepts.Goals as goal

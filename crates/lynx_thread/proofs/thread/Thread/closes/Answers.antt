@@ -1,4 +1,4 @@
-use Rattle.std.proofs.Common.{arith, ◌≡◌, List, [], ◌∷◌, ◌++◌, ◌-◌, suc, false, ap, sym, ◌∙◌}
+use Rattle.std.proofs.Common.{arith, ◌≡◌, [], ◌∷◌, ◌++◌, ◌-◌, suc, ap, sym, ◌∙◌}
 use Rattle.lynx_meaning.specs.Courses.{Close}
 use Rattle.thread_turns.specs.Threads.{Standing}
 use Rattle.lynx_thread.proofs.Answering.{closing, has_outcome, where_ok}

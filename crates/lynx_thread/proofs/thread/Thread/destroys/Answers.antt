@@ -1,7 +1,7 @@
-use Rattle.std.proofs.Common.{List, false, ap, sym, ◌∙◌}
+use Rattle.std.proofs.Common.{false, ap, sym, ◌∙◌}
 use Rattle.lynx_meaning.specs.Code.{Next, asks}
 use Rattle.lynx_meaning.specs.Courses.{Destroy}
-use Rattle.lynx_meaning.specs.Values.{Value, Link}
+use Rattle.lynx_meaning.specs.Values.{Link}
 use Rattle.thread_turns.specs.Threads.{in_turn, made}
 use Rattle.lynx_thread.proofs.Answering.{linked, where_ok}
 use Rattle.lynx_thread.proofs.thread.Thread.destroys.Goals as goal

@@ -1,4 +1,4 @@
-use Rattle.std.proofs.Common.{List, false, ap, sym, ◌∙◌}
+use Rattle.std.proofs.Common.{false, ap, sym, ◌∙◌}
 use Rattle.lynx_meaning.specs.Code.{Next, asks}
 use Rattle.lynx_meaning.specs.Courses.{Write}
 use Rattle.thread_turns.specs.Threads.{in_turn, made}
