@@ -1,14 +1,25 @@
 -- Exceptions that close accepts, and the end of a thread.
-use Rattle.std.proofs.Common.{arith, ◌≡◌, ℕ, zero, suc, ◌+◌, ◌-◌, ◌<◌, ◌≤◌, List, [], ◌∷◌, ◌++◌, length, take, drop, Bool, true, false, not, if◌then◌else◌, ◌&&◌, nat_eq, Option, Some, refl, ap, sym, ◌∙◌, not-suc-le-zero, le_of_suc-le-suc, length-drop}
+use Rattle.std.proofs.Common.{arith, ◌≡◌, ℕ, zero, suc, ◌+◌, ◌-◌, ◌<◌, ◌≤◌, List, [], ◌∷◌, ◌++◌, length, take, drop, Bool, true, false, not, if◌then◌else◌, ◌&&◌, nat_eq, Option, None, Some, refl, ap, sym, subst, ◌∙◌, not-suc-le-zero, le_of_suc-le-suc, length-drop}
 use Rattle.std.proofs.Math.Seq.{drop-nil}
 use Rattle.std.proofs.lemmas.List.{drop_all}
+use Rattle.std.proofs.lemmas.Bool.Decides.{nat_tests}
 use Rattle.lynx_typing.specs.declared.exception.Exception.{Exception}
-use Rattle.lynx_meaning.specs.Code.{Next, Over, Comes, Goes, Opened, Thread, closes, cut, ends, instead, raises, raises_in}
-use Rattle.lynx_meaning.specs.Courses.{Action, Close, Moment, Store, Waits}
+use Rattle.lynx_meaning.specs.Code.{Next, Over, Comes, Goes, Opened, closes, cut, ends, instead, raises, raises_in}
+use Rattle.lynx_meaning.specs.Courses.{Action, Close, Moment, Waits}
 use Rattle.lynx_meaning.specs.Values.{Value}
 use Rattle.thread_turns.specs.Threads.{Outcome, Standing, Made, Went, Acts, Ends, NoValue, acted, answers, is_fresh, last_action, made}
 use Rattle.lynx_thread.specs.Closes.{lasting, kept_accepts, moment_after, raising}
-use Rattle.lynx_thread.proofs.Goes.{is_over}
+
+-- a try again is over where there is one open try less
+fewer : (n : ℕ) → nat_eq (suc n) n ≡ false
+fewer n = grind (arith, nat_tests)
+
+and_false : (b : Bool) → (b && false) ≡ false
+and_false true = refl
+and_false false = refl
+
+is_over : (b : Bool) (n : ℕ) → (b && nat_eq (suc n) n) ≡ false
+is_over b n = ap (λ c. b && c) (fewer n) ∙ and_false b
 
 -- amid an instruction, with these outcomes that it has not heard
 abbrev amid : List Value → List Value → List Outcome → List Action → Moment
@@ -110,3 +121,42 @@ closed b false s globals locals actions (o ∷ os) some = refl
 pub end_closed : (b : Bool) (globals : List Value) (actions : List Action) (heard : ℕ) (s : Standing) → heard < length s.given →
     made b s (ends s.is_entry (moment_after globals actions heard s)) ≡ Ends globals
 end_closed b globals actions heard s some = closed b s.is_entry s globals s.locals actions (drop heard s.given) (omega (arith, length-drop heard s.given))
+
+-- ---- as the code comes to it
+
+module _ (b : Bool) (globals : List Value) (actions : List Action) (x : Exception) (taken heard accepts closed_ones : ℕ) where
+  -- a try was open
+  pub landed : (s now : Standing) (o : Opened) (y : Exception) → s ≡ record now { tries = o ∷ now.tries } → closed_ones ≡ accepts - kept_accepts s.tries → closed_ones ≤ length s.given - heard →
+      y ≡ lasting x (take closed_ones (drop heard s.given)) →
+      Went globals (record now { address = o.handlers; stack = cut o.height (drop taken now.stack); accepts = o.accepts; pending = Some y; given = []; wanted = None; again = false }) ≡
+      made b s (raises s.is_entry x (raising globals actions taken heard accepts s))
+  landed s now o y is size fits same =
+      subst
+      (λ (u : Standing). closed_ones ≡ accepts - kept_accepts u.tries → closed_ones ≤ length u.given - heard → y ≡ lasting x (take closed_ones (drop heard u.given)) →
+      Went globals (record now { address = o.handlers; stack = cut o.height (drop taken now.stack); accepts = o.accepts; pending = Some y; given = []; wanted = None; again = false }) ≡
+      made b u (raises u.is_entry x (raising globals actions taken heard accepts u)))
+      (sym is)
+      (λ size fits same. there size fits same)
+      size
+      fits
+      same
+    where
+      there : closed_ones ≡ accepts - o.accepts → closed_ones ≤ length now.given - heard → y ≡ lasting x (take closed_ones (drop heard now.given)) →
+          Went globals (record now { address = o.handlers; stack = cut o.height (drop taken now.stack); accepts = o.accepts; pending = Some y; given = []; wanted = None; again = false }) ≡
+          made b (record now { tries = o ∷ now.tries }) (raises now.is_entry x (raising globals actions taken heard accepts (record now { tries = o ∷ now.tries })))
+      there size fits same =
+          ap
+          (λ (z : Exception). Went globals (record now { address = o.handlers; stack = cut o.height (drop taken now.stack); accepts = o.accepts; pending = Some z; given = []; wanted = None; again = false }))
+          (same ∙ ap (λ (k : ℕ). lasting x (take k (drop heard now.given))) size)
+          ∙ sym (raise_lands b globals actions x taken heard accepts now o (omega (arith, length-drop heard now.given)))
+
+  -- none was
+  pub ended : (s now : Standing) (m : Made) → now ≡ s → s.tries ≡ [] → closed_ones ≡ accepts - kept_accepts s.tries → closed_ones ≤ length s.given - heard →
+      ((others : List Action) → m ≡ made b now (ends now.is_entry (moment_after globals others (heard + closed_ones) now))) → m ≡ made b s (raises s.is_entry x (raising globals actions taken heard accepts s))
+  ended s now m same none size fits is =
+      let kept : kept_accepts s.tries ≡ 0 = ap kept_accepts none in
+      let all : closed_ones ≡ accepts = omega (arith, size, kept) in
+      is (with_closes accepts actions)
+      ∙ ap (λ (u : Standing). made b u (ends u.is_entry (moment_after globals (with_closes accepts actions) (heard + closed_ones) u))) same
+      ∙ ap (λ (k : ℕ). made b s (ends s.is_entry (moment_after globals (with_closes accepts actions) (heard + k) s))) all
+      ∙ sym (raise_ends b globals actions x taken heard accepts s none (omega (arith, length-drop heard s.given)))

@@ -1,10 +1,9 @@
 -- Instructions of a thread one after the other.
-use Rattle.std.proofs.Common.{arith, ◌≡◌, ℕ, zero, suc, ◌+◌, ◌-◌, ◌*◌, ◌<◌, List, [], ◌∷◌, Bool, Option, None, Some, slice_get, refl, ap, sym, ◌∙◌}
-use Rattle.lynx_meaning.specs.Code.{Program, Next, Goes, Over, Comes, Stuck}
-use Rattle.lynx_meaning.specs.Courses.{Action, New, Destroy, Bind, Unbind, Connect, Accept, Close, Reply, Write, Await, Stop, Ended, Waits, Out}
+use Rattle.std.proofs.Common.{arith, ◌≡◌, ℕ, zero, suc, ◌<◌, List, refl, ap, sym, ◌∙◌}
+use Rattle.lynx_meaning.specs.Code.{Program}
 use Rattle.lynx_meaning.specs.Values.{Value}
-use Rattle.thread_turns.specs.Threads.{Standing, Made, Went, Acts, Awaits, Ends, Broken, acted, and_then, comes_of, course, fuel_after, goes_on, is_await, last_action, made}
-use Rattle.thread_operands.specs.Operands.{HasCome, IsCourse, IsReady, StaysReady, after}
+use Rattle.thread_turns.specs.Threads.{Standing, Made, Went, Acts, Awaits, Ends, Broken, and_then, comes_of, course, fuel_after}
+use Rattle.lynx_thread.specs.Operands.{HasCome, IsCourse, IsReady, StaysReady, after}
 
 -- ---- each instruction finds its operands
 
@@ -51,42 +50,16 @@ from_there p (suc k) (suc fuel) left globals now s t is =
     (λ g u. from_there p k (fuel_after (suc fuel) s) left g now u t) is
 
 -- one instruction more
-pub one_more : (p : Program) (fuel left : ℕ) (globals now : List Value) (s t : Standing) (last : Made) → 0 < left → HasCome p fuel globals s left (Went now t) → last ≡ comes_of p now t →
-    IsCourse p fuel globals s (fuel_after left t) last
-one_more p fuel zero globals now s t last there come is = absurd (omega arith)
-one_more p fuel (suc left) globals now s t last there come is =
-    (come.0, from_there p come.0 fuel (suc left) globals now s t come.1 ∙ last_one p (fuel_after (suc left) t) (comes_of p now t) ∙ ap (λ (m : Made). (fuel_after (suc left) t, m)) (sym is))
+pub one_more : (p : Program) (fuel left rest : ℕ) (globals now : List Value) (s t : Standing) (last : Made) → rest ≡ fuel_after left t → 0 < left → HasCome p fuel globals s left (Went now t) →
+    last ≡ comes_of p now t → IsCourse p fuel globals s rest last
+one_more p fuel zero rest globals now s t last spent there come is = absurd (omega arith)
+one_more p fuel (suc left) rest globals now s t last spent there come is = (
+  come.0,
+  from_there p come.0 fuel (suc left) globals now s t come.1
+      ∙ last_one p (fuel_after (suc left) t) (comes_of p now t)
+      ∙ ap (λ (m : Made). (fuel_after (suc left) t, m)) (sym is)
+      ∙ ap (λ (n : ℕ). (n, last)) (sym spent),
+)
 
 pub has_come : (p : Program) (fuel left : ℕ) (globals : List Value) (s : Standing) (last : Made) → IsCourse p fuel globals s left last → HasCome p fuel globals s left last
 has_come p fuel left globals s last course_is = (suc course_is.0, course_is.1)
-
--- the fuel is spent
-pub is_spent : (p : Program) (fuel left : ℕ) (globals now : List Value) (s t : Standing) → left ≡ 0 → HasCome p fuel globals s left (Went now t) → IsCourse p fuel globals s left (Went now t)
-is_spent p fuel left globals now s t none come =
-    (come.0, from_there p come.0 fuel left globals now s t come.1 ∙ ap (λ (n : ℕ). course p 1 n now t) none ∙ ap (λ (n : ℕ). (n, Went now t)) (sym none))
-
--- ---- an instruction that is done is given nothing
-
-is_done : (b : Bool) (s : Standing) (next : Next) (now : List Value) (t : Standing) → Went now t ≡ made b s next → t.given ≡ []
-is_done b s (Goes u) now t is = cc
-is_done b s (Over (Comes (Ended actions store))) now t is = cc
-is_done b s (Over (Comes (Out actions))) now t is = cc
-is_done b s (Over Stuck) now t is = cc
-is_done b s (Over (Comes (Waits actions store))) now t is = has_acted (last_action actions) store.globals s now t is
-  where
-    has_acted : (a : Option Action) (globals : List Value) (s : Standing) (now : List Value) (t : Standing) → Went now t ≡ acted a globals s → t.given ≡ []
-    has_acted None globals s now t is = cc
-    has_acted (Some New) globals s now t is = cc
-    has_acted (Some (Destroy link)) globals s now t is = cc
-    has_acted (Some (Bind link entry)) globals s now t is = cc
-    has_acted (Some (Unbind link entry)) globals s now t is = cc
-    has_acted (Some (Connect link op values)) globals s now t is = cc
-    has_acted (Some (Accept link op)) globals s now t is = cc
-    has_acted (Some Close) globals s now t is = cc
-    has_acted (Some (Reply values)) globals s now t is = cc
-    has_acted (Some (Write text)) globals s now t is = cc
-    has_acted (Some Await) globals s now t is = cc
-    has_acted (Some Stop) globals s now t is = cc
-
-pub went_is_fresh : (p : Program) (globals now : List Value) (s t : Standing) → Went now t ≡ comes_of p globals s → t.given ≡ []
-went_is_fresh p globals now s t is = is_done (is_await (slice_get p.instructions s.address)) s (goes_on p globals s) now t is

@@ -1,4 +1,5 @@
-pub mod Goes
 pub mod Closing
 pub mod Answering
+pub mod Members
+pub mod Places
 pub mod Courses

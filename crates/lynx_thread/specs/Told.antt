@@ -1,5 +1,5 @@
 -- What the code of a thread tells, as the meaning of code has it.
-use Rattle.std.specs.Prelude.{ℕ, List, map, reverse, Option, Result, Ok, Err}
+use Rattle.std.specs.Prelude.{List, Ok, Err}
 use Rattle.lynx_meaning.specs.Courses as meaning
 use Rattle.lynx_meaning.specs.Values.{Value, Link}
 use Rattle.thread_values.specs.Told.{values_of}

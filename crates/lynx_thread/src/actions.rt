@@ -66,6 +66,7 @@ impl Thread {
     /// The operation has so many arguments.
     pub(crate) fn connects(&mut self, op: u32, arguments: usize) -> Result<Move, NoMemory>
         requires place { self.old.address < usize.MAX }
+        requires count { arguments < usize.MAX }
         requires operands { HasValues (Some arguments) self.old.stack }
         ensures { IfOk result (λ move. (p : Program) (globals : List meaning.Value) → slice_get p.arguments op ≡ Some arguments → told move globals self.new ≡ does p (code.Connect op) globals self.old) }
     {

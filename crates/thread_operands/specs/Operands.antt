@@ -1,10 +1,10 @@
 -- What an instruction finds, and what it does.
-use Rattle.std.specs.Prelude.{◌≡◌, ℕ, zero, suc, ◌+◌, ◌<◌, ◌≤◌, List, [], ◌∷◌, length, Option, None, Some, slice_get, ⊤}
+use Rattle.std.specs.Prelude.{◌≡◌, ℕ, zero, suc, ◌<◌, ◌≤◌, List, [], ◌∷◌, length, Option, None, Some, slice_get, ⊤}
 use Rattle.lynx_typing.specs.declared.exception.Exception.{Exception}
 use Rattle.lynx_code.specs.declared.instruction.Instruction.{Instruction}
 use Rattle.lynx_code.specs.declared.instruction.Instruction.TheVariants as code
 use Rattle.lynx_meaning.specs.Code.{Opened, Program, step}
-use Rattle.lynx_meaning.specs.Values.{Value, Int, Truth, Text, Row, Link}
+use Rattle.lynx_meaning.specs.Values.{Value, Int, Truth, Text, Link}
 use Rattle.thread_stack.specs.Stacks.{TopIsInt, TopIsTruth, TopIsLink, TopIsLike, AreAlikeOnTop, IsRow}
 use Rattle.thread_turns.specs.Threads.{Standing, Made, Went, Broken, and_then, comes_of, course, in_turn, is_await, made}
 
