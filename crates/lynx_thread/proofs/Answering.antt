@@ -7,7 +7,7 @@ use Rattle.lynx_meaning.specs.Courses.{Action, Await, Close}
 use Rattle.lynx_meaning.specs.Values.{Value, Int, Truth, Text, Row, Link, written}
 use Rattle.thread_turns.specs.Threads.{Outcome, Standing, in_turn, is_empty, made}
 use Rattle.thread_stack.specs.Stacks.{TopIsLink}
-use Rattle.lynx_thread.specs.Operands.{HasValues, TopIsPlain}
+use Rattle.thread_operands.specs.Operands.{HasValues, TopIsPlain}
 use Rattle.lynx_thread.specs.Closes.{raising}
 use Rattle.lynx_thread.specs.Outcomes.{first_given, raised_by}
 

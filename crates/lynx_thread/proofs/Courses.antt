@@ -3,7 +3,7 @@ use Rattle.std.proofs.Common.{arith, ◌≡◌, ℕ, zero, suc, ◌<◌, List, r
 use Rattle.lynx_meaning.specs.Code.{Program}
 use Rattle.lynx_meaning.specs.Values.{Value}
 use Rattle.thread_turns.specs.Threads.{Standing, Made, Went, Acts, Awaits, Ends, Broken, and_then, comes_of, course, fuel_after}
-use Rattle.lynx_thread.specs.Operands.{HasCome, IsCourse, IsReady, StaysReady, after}
+use Rattle.thread_operands.specs.Operands.{HasCome, IsCourse, IsReady, StaysReady, after}
 
 -- ---- each instruction finds its operands
 

@@ -6,7 +6,7 @@ use Rattle.lynx_meaning.specs.Code.{Program}
 use Rattle.lynx_meaning.specs.Values.{Value}
 use Rattle.thread_turns.specs.Shapes.{OpTypes, kept_op}
 use Rattle.thread_turns.specs.Threads.{Made, Standing}
-use Rattle.lynx_thread.specs.Operands.{HasValues, does}
+use Rattle.thread_operands.specs.Operands.{HasValues, does}
 
 -- ---- instructions
 

@@ -1,6 +1,6 @@
 use Rattle.std.proofs.Common.{arith, ℕ, Option, slice_get, subst, ◌∙◌}
 use Rattle.lynx_code.specs.declared.instruction.Instruction.{Instruction}
-use Rattle.lynx_thread.specs.Operands.{Finds, HasValues}
+use Rattle.thread_operands.specs.Operands.{Finds, HasValues}
 use Rattle.lynx_thread.specs.Programs.{program_of}
 use Rattle.lynx_thread.proofs.Answering.{where_ok}
 use Rattle.lynx_thread.proofs.Places.{by_instruction, count_is, counts}
