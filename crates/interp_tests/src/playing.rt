@@ -5,6 +5,7 @@ ghost use Rattle.lynx_meaning.specs.Values.{HasType};
 ghost use Rattle.shaped_code.specs.Sound.{Typed};
 ghost use Rattle.thread_turns.specs.Shapes.{code_types};
 ghost use Rattle.thread_turns.specs.Threads.{wanted_by};
+ghost use Rattle.thread_turns.specs.Turns.{is_ready_after};
 ghost use Rattle.thread_values.specs.Told.{value_of, values_of};
 ghost use Rattle.lynx_thread.specs.Told.{action_of, outcome_of};
 ghost use Rattle.runnable_code.specs.Runnable.{IsRunnable};
@@ -22,7 +23,8 @@ use std::alloc::{AllocError, Global};
 use std::test::Fail;
 
 /// Runs a module with so much fuel. A digit starts a thread of the entry of this number. Any other letter runs the machine and tells the
-/// action at which it stops. That is given the values that it needs where the letter is a point, and else the exception of this letter.
+/// action at which it stops. That is given the values that it needs where the letter is a point, and else the exception of this letter;
+/// where it is a dash, only after one more run, in which no thread can go on.
 /// At the end the machine is run once more, and how it stops is told with the fuel that is left.
 pub(crate) fn played(
     alloc: Global,
@@ -84,6 +86,9 @@ fn played_letter(
         told.push_str(" starts; ")?;
         return Ok(fuel);
     }
+    if letter == b'-' {
+        return played_late(alloc, machine, told, fuel);
+    }
     let (stop, left) = machine.run(fuel).ok().ok_or("no memory")?;
     match stop {
         Stop::Act { thread, action } => {
@@ -93,6 +98,44 @@ fn played_letter(
             Ok(left)
         }
         _ => Err("it asks for no action".into()),
+    }
+}
+
+// An action whose outcome comes late. Answers the fuel that is left.
+fn played_late(
+    alloc: Global,
+    machine: &mut Machine,
+    told: &mut String,
+    fuel: u32,
+) -> Result<u32, Fail>
+    requires { IsMachine machine.old }
+    ensures { OnOk result (IsMachine machine.new) }
+{
+    let (first, left) = machine.run(fuel).ok().ok_or("no memory")?;
+    let Stop::Act { thread, action } = first else {
+        return Err("it asks for no action".into());
+    };
+    push_action(told, thread, &action)?;
+    if !blocks(&action) {
+        return Err("it does not block".into());
+    }
+    let outcome = outcome(alloc, machine, &action, b'.')?;
+    let (second, left) = machine.run(left).ok().ok_or("no memory")?;
+    match second {
+        Stop::AllBlocked => told.push_str("blocked; ")?,
+        _ => return Err("a thread goes on".into()),
+    }
+    machine.give(thread, outcome).ok().ok_or("no memory")?;
+    Ok(left)
+}
+
+// Its thread is blocked.
+fn blocks(action: &Action) -> bool
+    ensures { result ≡ is_ready_after (Some (wanted_by (action_of action.now))) }
+{
+    match action {
+        Action::Connect(..) | Action::Accept(..) => true,
+        _ => false,
     }
 }
 
@@ -114,6 +157,7 @@ fn code(alloc: Global, source: &str) -> Result<Code, Fail>
     let Ok(checked) = check_source(alloc, source.as_bytes()) else {
         return Err("no module".into());
     };
+    let _breaks_no_rule = checked.module();
     match compile(alloc, &checked) {
         Ok(code) => Ok(code),
         Err(_) => Err("no code".into()),

@@ -43,6 +43,26 @@ fn threads_switch_only_where_they_block(rt: HostRuntime) -> Result<(), Fail> {
     Ok(())
 }
 
+/// A thread that connected or accepted waits for its outcome.
+#[test]
+fn outcomes_come_later(rt: HostRuntime) -> Result<(), Fail> {
+    for (source, letters, want) in [
+        (
+            "module m; op o () : (int); param a : link; var n : int; begin connect o on a () : (n); write n; end.",
+            "-.",
+            "0 connect 1 0; blocked; 0 write 7; finished 994",
+        ),
+        (
+            "module m; op o () : (); param a : link; begin accept o on a () do write 'body'; end; end.",
+            "-..",
+            "0 accept 1 0; blocked; 0 write body; 0 close; finished 994",
+        ),
+    ] {
+        tried(rt.alloc(), source, 1000, letters, want)?;
+    }
+    Ok(())
+}
+
 /// An await that finds false is tried again where another thread has blocked or ended since.
 #[test]
 fn awaits_are_tried_again(rt: HostRuntime) -> Result<(), Fail> {

@@ -15,6 +15,8 @@ use Rattle.sound_turns.specs.Sound.{AreSound}
 -- ---- what a machine is
 
 pub record State : Type 0 where
+  pub code : Code
+  -- what its threads go by
   pub instructions : List Instruction
   pub types : ModuleTypes
   -- the body, and then the entries
@@ -26,7 +28,7 @@ place_of p = (p.start, p.locals)
 
 -- the machine of this code, with these turns
 abbrev pub state_of : Code → Turns → State
-state_of code turns = record { instructions = code.instructions.items; types = code_types code; parts = map part_of code.parts.items; turns = turns }
+state_of code turns = record { code = code; instructions = code.instructions.items; types = code_types code; parts = map part_of code.parts.items; turns = turns }
 
 -- how many threads stand
 abbrev pub how_many : List (Option Standing) → ℕ

@@ -5,8 +5,6 @@ mod machine;
 mod outside;
 mod starts;
 mod stop;
-#[cfg(test)]
-mod tests;
 mod turns;
 
 pub use lynx_thread::{Action, Given};
