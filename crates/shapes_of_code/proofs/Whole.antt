@@ -32,7 +32,7 @@ use Rattle.shapes_of_code.proofs.Walks.{Stand, all_back, all_front, back_stands,
 
 -- ---- what a module has
 
-abbrev op_types : OpTree → OpTypes
+abbrev pub op_types : OpTree → OpTypes
 op_types op = record { arguments = op.arguments; results = op.results }
 
 abbrev tree_types : ModuleTree → ModuleTypes
@@ -214,7 +214,7 @@ covers_shaped m is starts w =
 
 -- ---- the code as it is kept
 
-ops_kept : (ops : List OpTree) (kept : List CodeOp) → ArePairs IsOpOf ops kept → map kept_op kept ≡ map op_types ops
+pub ops_kept : (ops : List OpTree) (kept : List CodeOp) → ArePairs IsOpOf ops kept → map kept_op kept ≡ map op_types ops
 ops_kept [] [] h = refl
 ops_kept [] (k ∷ kept) h = absurd h
 ops_kept (op ∷ ops) [] h = absurd h

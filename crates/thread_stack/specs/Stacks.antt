@@ -1,8 +1,8 @@
 -- Operands and variables as they are kept, as values.
-use Rattle.std.specs.Prelude.{◌≡◌, ℕ, ℤ, List, [], ◌∷◌, map, slice_get, slice_set, OnErr, Option, Some, None, Result, Ok, Err, ⊤}
+use Rattle.std.specs.Prelude.{◌≡◌, ℕ, ℤ, List, [], ◌∷◌, map, slice_get, slice_set, OnErr, Bool, Option, Some, None, Result, Ok, Err, ⊤}
 use Rattle.lynx_typing.specs.declared.exception.Exception.{Exception}
 use Rattle.lynx_typing.specs.declared.exception.Exception.TheVariants as exceptions
-use Rattle.lynx_meaning.specs.Values.{Value, Given, Int, Truth, Text, Row, Link, member, with_member}
+use Rattle.lynx_meaning.specs.Values.{Value, Given, Int, Truth, Text, Row, Link, member, with_member, value_eq}
 use Rattle.thread_values.specs.Told.{value_of, stored}
 use Rattle.thread_values.specs.declared.value.Value as taken
 use Rattle.thread_stack.specs.declared.variables.Variable.{Variable}
@@ -56,6 +56,20 @@ TopIsText _ = ⊥
 abbrev pub TopIsRow : List Value → Type 0
 TopIsRow (Row numbers ∷ vs) = ⊤
 TopIsRow _ = ⊥
+
+-- two numbers, truths or texts
+abbrev pub AreAlikeOnTop : List Value → Type 0
+AreAlikeOnTop (Int b ∷ Int a ∷ vs) = ⊤
+AreAlikeOnTop (Truth b ∷ Truth a ∷ vs) = ⊤
+AreAlikeOnTop (Text b ∷ Text a ∷ vs) = ⊤
+AreAlikeOnTop _ = ⊥
+
+-- the two values on top are taken, and found equal or not
+abbrev pub IsCompared : List Value → List Value → Bool → Type 0
+IsCompared before after equal = (a b : Value) × (before ≡ b ∷ a ∷ after) × (equal ≡ value_eq a b)
+
+abbrev pub IsTop : Value → List Value → Type 0
+IsTop v stack = (below : List Value) × (stack ≡ v ∷ below)
 
 -- the value on top is taken, or there is none
 abbrev pub IsTaken : List Value → List Value → Option taken.Value → Type 0

@@ -1,9 +1,9 @@
 //! The stack of operands.
 
-ghost use Rattle.std.specs.Prelude.{◌≡◌, ◌≤◌, ◌-◌, [], ◌∷◌, length, drop, IfOk, OnOk};
+ghost use Rattle.std.specs.Prelude.{◌≡◌, ◌≤◌, ◌+◌, ◌-◌, [], ◌∷◌, ◌++◌, length, take, drop, reverse, IfOk, OnOk, MatchOption};
 ghost use Rattle.lynx_meaning.specs.Values.{Int, Truth, Text, Row, Link};
-ghost use Rattle.thread_stack.specs.Stacks.{TopIsInt, TopIsTruth, TopIsLink, TopIsText, TopIsRow, IsTaken};
-ghost use Rattle.thread_values.specs.Told.{value_of};
+ghost use Rattle.thread_stack.specs.Stacks.{TopIsInt, TopIsTruth, TopIsLink, TopIsText, TopIsRow, AreAlikeOnTop, IsTop, IsTaken, IsCompared, large_value};
+ghost use Rattle.thread_values.specs.Told.{value_of, values_of};
 
 use lynx_lexer::NoMemory;
 use std::alloc::Global;
@@ -24,6 +24,18 @@ pub(crate) enum Operand {
 pub(crate) enum Large {
     Text(ShortText),
     Row(Numbers),
+}
+
+impl Large {
+    // A value that is equal.
+    fn copy(&self) -> Value
+        ensures { value_of result ≡ large_value self.now }
+    {
+        match self {
+            Large::Text(text) => Value::Text(text.copy()),
+            Large::Row(numbers) => Value::Row(numbers.row()),
+        }
+    }
 }
 
 /// A stack of operands. Contracts see their values, the last one first.
@@ -174,6 +186,70 @@ impl Operands {
         }
     }
 
+    /// Takes two numbers, truths or texts from the top, and tells whether they are equal.
+    pub fn pop_alike(&mut self) -> bool
+        requires { AreAlikeOnTop self.old }
+        ensures { IsCompared self.old self.new result }
+    {
+        match self.operands.last() {
+            Some(Operand::Int(_)) => self.pop_int() == self.pop_int(),
+            Some(Operand::Bool(_)) => self.pop_bool() == self.pop_bool(),
+            _ => self.pop_text().as_slice() == self.pop_text().as_slice(),
+        }
+    }
+
+    /// The truth on top.
+    pub fn truth(&self) -> bool
+        requires { TopIsTruth self.now }
+        ensures { IsTop (Truth result) self.now }
+    {
+        match self.operands.split_last() {
+            Some((Operand::Bool(truth), _)) => *truth,
+            _ => unreachable!(),
+        }
+    }
+
+    /// The link on top.
+    pub fn link(&self) -> LinkRef
+        requires { TopIsLink self.now }
+        ensures { IsTop (Link result.0) self.now }
+    {
+        match self.operands.split_last() {
+            Some((Operand::Link(link), _)) => *link,
+            _ => unreachable!(),
+        }
+    }
+
+    /// The value on top.
+    pub fn top(&self) -> Option<Value>
+        ensures { MatchOption result (self.now ≡ []) (λ v. IsTop (value_of v) self.now) }
+    {
+        self.from_top().next()
+    }
+
+    /// So many values below those on top that are passed over, in the order in which they came.
+    pub fn values(&self, alloc: Global, passed: usize, count: usize) -> Result<Vec<Value>, NoMemory>
+        requires { passed + count ≤ length self.now }
+        ensures { IfOk result (λ values. values_of values.items ≡ reverse (take count (drop passed self.now))) }
+    {
+        let mut rest = self.from_top();
+        'passed: for _ in 0..passed {
+            let _above = rest.next();
+        }
+        let mut values = rest.gather(alloc, count)?;
+        values.reverse();
+        Ok(values)
+    }
+
+    fn from_top(&self) -> FromTop<'_>
+        ensures { result ≡ self.now }
+    {
+        FromTop {
+            operands: self.operands.as_slice(),
+            large: self.large.as_slice(),
+        }
+    }
+
     /// A value on top.
     pub fn push(&mut self, value: &Value) -> Result<(), NoMemory>
         ensures { OnOk result (self.new ≡ value_of value.now ∷ self.old) }
@@ -185,6 +261,16 @@ impl Operands {
             Value::Text(text) => self.push_text(text),
             Value::Row(row) => self.push_row(&Numbers::of(row)),
         }
+    }
+
+    /// Values on top, one after the other.
+    pub fn push_all(&mut self, values: &[Value]) -> Result<(), NoMemory>
+        ensures { OnOk result (self.new ≡ reverse (values_of values.now) ++ self.old) }
+    {
+        for value in values {
+            self.push(value)?;
+        }
+        Ok(())
     }
 
     /// Only the lowest operands stay, so many.
@@ -203,5 +289,60 @@ impl Operands {
         ensures { result ≡ length self.now }
     {
         self.operands.len()
+    }
+}
+
+/// What is left of a stack that is read from its top.
+#[derive(Debug, Drop)]
+struct FromTop<'a> {
+    operands: &'a [Operand],
+    large: &'a [Large],
+}
+
+impl<'a> Model for FromTop<'a> {
+    ghost use Rattle.std.specs.Prelude.{List, reverse};
+    ghost use Rattle.lynx_meaning.specs.Values as meaning;
+    ghost use Rattle.thread_stack.specs.Stacks.{stacked, AreTogether};
+
+    ghost Value = { List meaning.Value };
+
+    ghost view = { λ s. stacked (reverse s.operands.now) (reverse s.large.now) };
+
+    ghost invariant = { λ s. AreTogether (reverse s.operands.now) (reverse s.large.now) };
+}
+
+#[tactic(auto, using(crate::proofs::Stacked::on_top, crate::proofs::Stacked::together_on_top, crate::proofs::Stacked::large_on_top, crate::proofs::Stacked::large_together))]
+impl<'a> FromTop<'a> {
+    // The next value below.
+    fn next(&mut self) -> Option<Value>
+        ensures { IsTaken self.old self.new result }
+    {
+        let (operand, below) = self.operands.split_last()?;
+        self.operands = below;
+        match operand {
+            Operand::Int(number) => Some(Value::Int(*number)),
+            Operand::Bool(truth) => Some(Value::Bool(*truth)),
+            Operand::Link(link) => Some(Value::Link(*link)),
+            Operand::Large => {
+                let (value, below) = self.large.split_last()?;
+                self.large = below;
+                Some(value.copy())
+            }
+        }
+    }
+
+    // The next values below, from the top.
+    fn gather(&mut self, alloc: Global, count: usize) -> Result<Vec<Value>, NoMemory>
+        requires { count ≤ length self.old }
+        ensures { IfOk result (λ values. values_of values.items ≡ take count self.old) }
+    {
+        let mut values = Vec::with_capacity(alloc, count)?;
+        for _ in 0..count {
+            match self.next() {
+                Some(value) => values.push(value)?,
+                None => unreachable!(),
+            }
+        }
+        Ok(values)
     }
 }

@@ -1,0 +1,147 @@
+-- Machines at the start, with an outcome more, and with a thread more.
+use Rattle.std.proofs.Common.{arith, ◌≡◌, ℕ, ℤ, zero, suc, ◌+◌, List, [], ◌∷◌, ◌++◌, length, map, replicate, take, drop, pos, negsuc, Bool, IsTrue, Option, Some, slice_get, option_map, refl, sym, ap, subst, ◌∙◌, true≢false, ◌≤◌, length-append}
+use Rattle.std.proofs.lemmas.List.{length-replicate}
+use Rattle.std.specs.List.{AllByRecursion}
+use Rattle.std.specs.Prelude.{slice_index_or}
+use Rattle.std.proofs.lemmas.Option.{slice_get-map}
+use Rattle.lynx_tree.specs.declared.declaration.TypeName.{TypeName}
+use Rattle.lynx_tree.specs.declared.declaration.TypeName.TheVariants as types
+use Rattle.lynx_typing.specs.Types.{has_length, is_length}
+use Rattle.lynx_code.specs.declared.code.Code.{Code}
+use Rattle.lynx_code.specs.declared.code.Part as kept
+use Rattle.lynx_meaning.specs.Values.{Value, HasType, Link, is_int, start_value}
+use Rattle.thread_turns.specs.Shapes.{AreShapes, code_types, kept_part}
+use Rattle.thread_turns.specs.Threads.{Outcome}
+use Rattle.thread_turns.specs.Turns.{Turns, IsFree, at_start, given_to, spawned}
+use Rattle.thread_values.specs.declared.value.LinkRef.{LinkRef}
+use Rattle.shaped_code.specs.Sound.{Typed}
+use Rattle.shaped_code.proofs.Pairs.{same_length}
+use Rattle.runnable_code.specs.Runnable.{HaveStarts, IsRunnable, Part, parameters, part_of}
+use Rattle.sound_turns.specs.Sound.{FitsAction}
+use Rattle.sound_turns.proofs.Outside.{given_sound, spawned_sound, start_sound}
+use Rattle.lynx_interp.specs.Machines.{HasEntry, IsEntryFor, IsMachine, State, place_of, start_globals, start_locals, state_of}
+
+-- ---- variables at the start
+
+zeros_typed : (n : ℕ) → AllByRecursion (λ (member : ℤ). IsTrue (is_int member)) (replicate n (pos 0))
+zeros_typed zero = tt
+zeros_typed (suc n) = (refl, zeros_typed n)
+
+row_typed : (n : ℤ) → IsTrue (is_length n) → HasType (types.Row n) (start_value (types.Row n))
+row_typed (pos n) is = (ap pos (length-replicate n (pos 0)), zeros_typed n)
+row_typed (negsuc n) is = absurd (true≢false (sym is))
+
+start_typed : (t : TypeName) → IsTrue (has_length t) → HasType t (start_value t)
+start_typed types.Int is = refl
+start_typed types.Bool is = tt
+start_typed types.Text is = omega arith
+start_typed types.Link is = tt
+start_typed (types.Row n) is = row_typed n is
+
+starts_typed : (ts : List TypeName) → HaveStarts ts → Typed ts (map start_value ts)
+starts_typed [] have = tt
+starts_typed (t ∷ ts) have = (start_typed t have.0, starts_typed ts have.1)
+
+others_start : (ts us : List TypeName) → HaveStarts (ts ++ us) → HaveStarts us
+others_start [] us have = have
+others_start (t ∷ ts) us have = others_start ts us have.1
+
+-- the links of the params come before the other variables
+params_typed : (links : List LinkRef) (others : List TypeName) → HaveStarts others → Typed (replicate (length links) types.Link ++ others) (start_globals (replicate (length links) types.Link ++ others) links)
+params_typed [] others have = starts_typed others have
+params_typed (l ∷ links) others have = (tt, params_typed links others have)
+
+globals_typed : (kinds others : List TypeName) (n : ℕ) (links : List LinkRef) → kinds ≡ replicate n types.Link ++ others → length links ≡ n → HaveStarts kinds → Typed kinds (start_globals kinds links)
+globals_typed kinds others n links is many have =
+    let known : kinds ≡ replicate (length links) types.Link ++ others = is ∙ ap (λ k. replicate k types.Link ++ others) (sym many) in
+    subst (λ (ts : List TypeName). Typed ts (start_globals ts links)) (sym known)
+    (params_typed links others (others_start (replicate (length links) types.Link) others (subst (λ (ts : List TypeName). HaveStarts ts) known have)))
+
+-- the values of the parameters come before the other variables
+values_typed : (ts others : List TypeName) (vs : List Value) → Typed ts vs → HaveStarts others → Typed (ts ++ others) (start_locals (ts ++ others) vs)
+values_typed [] others [] typed have = starts_typed others have
+values_typed [] others (v ∷ vs) typed have = absurd typed
+values_typed (t ∷ ts) others [] typed have = absurd typed
+values_typed (t ∷ ts) others (v ∷ vs) typed have = (typed.0, values_typed ts others vs typed.1 have)
+
+locals_typed : (kinds ts others : List TypeName) (vs : List Value) → kinds ≡ ts ++ others → Typed ts vs → HaveStarts kinds → Typed kinds (start_locals kinds vs)
+locals_typed kinds ts others vs is typed have =
+    subst (λ (us : List TypeName). Typed us (start_locals us vs)) (sym is) (values_typed ts others vs typed (others_start ts others (subst (λ (us : List TypeName). HaveStarts us) is have)))
+
+-- ---- the start
+
+-- there is a variable for each param
+pub params_fit : (kinds others : List TypeName) (n k : ℕ) → kinds ≡ replicate n types.Link ++ others → k ≡ n → k ≤ length kinds
+params_fit kinds others n k is many =
+    let size = ap length is in
+    let both = length-append (replicate n types.Link) others in
+    let first = length-replicate n types.Link in
+    omega arith
+
+places_kept : (ks : List kept.Part) → map kept_part ks ≡ map place_of (map part_of ks)
+places_kept [] = refl
+places_kept (k ∷ ks) = ap (λ (ps : List (ℕ × List TypeName)). kept_part k ∷ ps) (places_kept ks)
+
+-- where a part begins, and the types of its variables
+part_place : (parts : List Part) (i : ℕ) (p : Part) → slice_get parts i ≡ Some p → slice_get (map place_of parts) i ≡ Some (p.start, p.locals)
+part_place parts i p here = slice_get-map place_of parts i ∙ ap (option_map place_of) here
+
+pub start_machine : (code : Code) (links : List LinkRef) → IsRunnable code → length links ≡ code.params → IsMachine (state_of code (at_start (start_globals code.globals.items links)))
+start_machine code links is many =
+    let parts : List Part = map part_of code.parts.items in
+    let places : List (ℕ × List TypeName) = map place_of parts in
+    let body = is.parts.body in
+    let at_first : (body.0.start, body.0.locals) ≡ (0, []) = ap (λ (n : ℕ). (n, body.0.locals)) body.2 ∙ ap (λ (ts : List TypeName). (0, ts)) body.3 in
+    record {
+      sound = start_sound (code_types code) places code.instructions.items is.shaped.0 (start_globals code.globals.items links)
+          (subst (λ (ps : List (ℕ × List TypeName)). AreShapes (code_types code) ps code.instructions.items is.shaped.0) (places_kept code.parts.items) is.shaped.1)
+          (globals_typed code.globals.items is.params.0 code.params links is.params.1 many is.globals) (part_place parts 0 body.0 body.1 ∙ ap Some at_first);
+      parts = is.parts;
+    }
+
+-- ---- what the process does
+
+-- there is a variable for each value of a parameter
+pub has_entry : (s : State) (entry : ℕ) (values : List Value) → IsMachine s → IsEntryFor entry values s → HasEntry entry values s
+has_entry s entry values is for =
+    let p = for.0 in
+    let size : entry + 1 ≡ suc entry = omega arith in
+    let of_entry = is.parts.entries entry p (ap (slice_get s.parts) (sym size) ∙ for.1) in
+    let long = ap length of_entry.1 ∙ length-append (parameters s.types p) of_entry.0 in
+    let same = same_length (parameters s.types p) values for.2 in
+    (p, for.1, omega arith, is.parts.starts (entry + 1) p for.1)
+
+pub rest_start : (ts : List TypeName) (k n : ℕ) → HaveStarts ts → HaveStarts (take n (drop k ts))
+rest_start [] k n have = none_start k n
+  where
+    none_start : (k n : ℕ) → HaveStarts (take n (drop k []))
+    none_start zero zero = tt
+    none_start zero (suc n) = tt
+    none_start (suc k) zero = tt
+    none_start (suc k) (suc n) = tt
+rest_start (t ∷ ts) (suc k) n have = rest_start ts k n have.1
+rest_start (t ∷ ts) zero zero have = tt
+rest_start (t ∷ ts) zero (suc n) have = (have.0, rest_start ts zero n have.1)
+
+-- a part at its place
+part_at : (ps : List kept.Part) (n : ℕ) (d : kept.Part) (p : Part) → slice_get (map part_of ps) n ≡ Some p → part_of (slice_index_or ps n d) ≡ p
+part_at [] n d p here = cc
+part_at (q ∷ ps) zero d p here = cc
+part_at (q ∷ ps) (suc n) d p here = part_at ps n d p here
+
+pub part_there : (ps : List kept.Part) (n i : ℕ) (d : kept.Part) (p : Part) → i ≡ n → d ≡ slice_index_or ps i d → slice_get (map part_of ps) n ≡ Some p → part_of d ≡ p
+part_there ps n i d p same found here = ap part_of (found ∙ ap (λ (k : ℕ). slice_index_or ps k d) same) ∙ part_at ps n d p here
+
+pub given_machine : (s : State) (n : ℕ) (outcome : Outcome) → IsMachine s → FitsAction s.types n outcome s.turns → IsMachine (record s { turns = given_to n outcome s.turns })
+given_machine s n outcome is fits = record { sound = given_sound s.types (map place_of s.parts) s.instructions s.turns n outcome is.sound fits; parts = is.parts }
+
+pub spawned_machine : (s : State) (n entry : ℕ) (values : List Value) (p : Part) → IsMachine s → IsFree n s.turns → slice_get s.parts (entry + 1) ≡ Some p → Typed (parameters s.types p) values →
+    IsMachine (record s { turns = spawned n p.start (start_locals p.locals values) s.turns })
+spawned_machine s n entry values p is free here typed =
+    let size : entry + 1 ≡ suc entry = omega arith in
+    let of_entry = is.parts.entries entry p (ap (slice_get s.parts) (sym size) ∙ here) in
+    record {
+      sound = spawned_sound s.types (map place_of s.parts) s.instructions s.turns n (entry + 1) p.start p.locals (start_locals p.locals values) is.sound free (part_place s.parts (entry + 1) p here)
+          (locals_typed p.locals (parameters s.types p) of_entry.0 values of_entry.1 typed (is.parts.starts (entry + 1) p here));
+      parts = is.parts;
+    }

@@ -1,0 +1,19 @@
+use Rattle.std.proofs.Common.{◌≡◌, sym, subst}
+use Rattle.std.proofs.lemmas.Result.{on_ok_weaker}
+use Rattle.thread_turns.specs.Turns.{given_to}
+use Rattle.lynx_thread.specs.Told.{outcome_of}
+use Rattle.lynx_interp.specs.Machines.{IsMachine, State}
+use Rattle.lynx_interp.proofs.Machines.{given_machine}
+use Rattle.lynx_interp.proofs.machine.Machine.give.Goals as goal
+
+pub gives-requires : goal.gives-requires
+gives-requires c = (c.requires.fits.1.0, c.requires.fits.1.1)
+
+pub returns-clause-machine : goal.returns-clause-machine
+returns-clause-machine c =
+    let before = c.args.self.now in
+    let outcome = outcome_of c.args.outcome in
+    on_ok_weaker c.gives.result
+    (λ (e : c.gives.new.self ≡ record before { turns = given_to c.args.thread outcome before.turns }).
+    subst (λ (m : State). IsMachine m) (sym e) (given_machine before c.args.thread outcome c.requires.machine c.requires.fits))
+    c.gives.ensures

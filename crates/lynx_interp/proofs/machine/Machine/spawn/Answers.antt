@@ -1,0 +1,20 @@
+use Rattle.std.proofs.Common.{arith, sym, subst, true≢false}
+use Rattle.thread_values.specs.Told.{values_of}
+use Rattle.lynx_interp.specs.Machines.{IsMachine, State}
+use Rattle.lynx_interp.proofs.Counting.{one_free}
+use Rattle.lynx_interp.proofs.Machines.{has_entry, spawned_machine}
+use Rattle.lynx_interp.proofs.machine.Machine.spawn.Goals as goal
+
+pub begins-requires-clause-entry : goal.begins-requires-clause-entry
+begins-requires-clause-entry c = has_entry c.args.self.now c.args.entry (values_of c.args.values.items) c.requires.machine c.requires.entry
+
+pub returns-clause-full : goal.returns-clause-full
+returns-clause-full c =
+    let less = one_free c.args.self.now.turns.threads c.in-Some.number c.in-Some.ensures in
+    (λ e. absurd (true≢false e), λ all. absurd (omega (arith, less, all, c.requires.machine.sound.many)))
+
+pub returns-clause-machine : goal.returns-clause-machine
+returns-clause-machine c =
+    let entry = c.requires.entry in
+    subst (λ (s : State). IsMachine s) (sym (c.in_ok-begins.ensures.begun entry.0 entry.1))
+    (spawned_machine c.args.self.now c.in-Some.number c.args.entry (values_of c.args.values.items) entry.0 c.requires.machine c.in-Some.ensures entry.1 entry.2)

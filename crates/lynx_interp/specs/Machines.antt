@@ -1,0 +1,67 @@
+-- A machine: the code that it runs, and its threads.
+use Rattle.std.specs.Prelude.{◌≡◌, ℕ, ◌+◌, ◌≤◌, List, [], ◌∷◌, ◌++◌, length, map, drop, Option, Some, None, slice_get}
+use Rattle.lynx_code.specs.declared.code.Code.{Code}
+use Rattle.lynx_code.specs.declared.instruction.Instruction.{Instruction}
+use Rattle.lynx_meaning.specs.Values.{Value, Link, start_value}
+use Rattle.lynx_tree.specs.declared.declaration.TypeName.{TypeName}
+use Rattle.shaped_code.specs.Sound.{Typed}
+use Rattle.thread_turns.specs.Shapes.{ModuleTypes, code_types}
+use Rattle.thread_turns.specs.Threads.{Standing}
+use Rattle.thread_turns.specs.Turns.{Turns, IsFree, spawned}
+use Rattle.thread_values.specs.declared.value.LinkRef.{LinkRef}
+use Rattle.runnable_code.specs.Runnable.{AreParts, HaveStarts, Part, parameters, part_of}
+use Rattle.sound_turns.specs.Sound.{AreSound}
+
+-- ---- what a machine is
+
+pub record State : Type 0 where
+  pub code : Code
+  -- what its threads go by
+  pub instructions : List Instruction
+  pub types : ModuleTypes
+  -- the body, and then the entries
+  pub parts : List Part
+  pub turns : Turns
+
+abbrev pub place_of : Part → ℕ × List TypeName
+place_of p = (p.start, p.locals)
+
+-- the machine of this code, with these turns
+abbrev pub state_of : Code → Turns → State
+state_of code turns = record { code = code; instructions = code.instructions.items; types = code_types code; parts = map part_of code.parts.items; turns = turns }
+
+-- how many threads stand
+abbrev pub how_many : List (Option Standing) → ℕ
+how_many [] = 0
+how_many (Some s ∷ os) = how_many os + 1
+how_many (None ∷ os) = how_many os
+
+-- ---- what holds of each machine
+
+pub record IsMachine (s : State) : Type 0 where
+  pub sound : AreSound s.types (map place_of s.parts) s.instructions s.turns
+  pub parts : AreParts s.types s.parts
+
+-- ---- the start
+
+-- the variables of the module at the start: the params hold these links
+abbrev pub start_globals : List TypeName → List LinkRef → List Value
+start_globals kinds links = map (λ l. Link l.0) links ++ map start_value (drop (length links) kinds)
+
+-- the variables of an entry, whose parameters have these values
+abbrev pub start_locals : List TypeName → List Value → List Value
+start_locals kinds values = values ++ map start_value (drop (length values) kinds)
+
+-- there is this entry, and these values are for its parameters
+abbrev pub IsEntryFor : ℕ → List Value → State → Type 0
+IsEntryFor entry values s = (p : Part) × (slice_get s.parts (entry + 1) ≡ Some p) × Typed (parameters s.types p) values
+
+-- there is this entry, with a variable for each of these values
+abbrev pub HasEntry : ℕ → List Value → State → Type 0
+HasEntry entry values s = (p : Part) × (slice_get s.parts (entry + 1) ≡ Some p) × (length values ≤ length p.locals) × HaveStarts p.locals
+
+-- a thread of the entry begins under a free number
+abbrev pub IsSpawned : ℕ → ℕ → List Value → State → State → Type 0
+IsSpawned n entry values before after =
+    IsFree n before.turns
+    × ((p : Part) → slice_get before.parts (entry + 1) ≡ Some p → after ≡ record before { turns = spawned n p.start (start_locals p.locals values) before.turns })

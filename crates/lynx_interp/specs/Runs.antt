@@ -1,0 +1,87 @@
+-- The steps of a run.
+use Rattle.std.specs.Prelude.{◌≡◌, ◌<◌, ℕ, List, true, Option, None, Some, IfSome, IfNone, is_some, slice_get, slice_set, ⊤}
+use Rattle.lynx_meaning.specs.Code.{Program}
+use Rattle.lynx_meaning.specs.Values.{Value}
+use Rattle.thread_turns.specs.Shapes.{program}
+use Rattle.thread_turns.specs.Threads.{Made, Standing, wanted_by}
+use Rattle.thread_turns.specs.Turns.{Beat, Goes, Stops, Act, Turns, beat, beats, comes, with_thread}
+use Rattle.thread_turns.specs.Turns as turns
+use Rattle.thread_operands.specs.Operands.{IsCourse, StaysReady}
+use Rattle.lynx_thread.specs.Told.{action_of, told}
+use Rattle.lynx_thread.specs.declared.action.Action.{Action}
+use Rattle.lynx_thread.specs.declared.action.Move.{Move}
+use Rattle.sound_turns.specs.Sound.{IsAsking, StayBlocked}
+use Rattle.sound_turns.specs.Taken.{next_number}
+use Rattle.sound_turns.specs.Weights.{weight}
+use Rattle.lynx_interp.specs.Machines.{IsMachine, State}
+use Rattle.lynx_interp.specs.declared.stop.Stop.{Stop}
+use Rattle.lynx_interp.specs.declared.stop.Stop.TheVariants as stop
+
+abbrev pub stop_of : Stop → turns.Stop
+stop_of stop.Spent = turns.Spent
+stop_of (stop.Act thread action) = Act thread (action_of action)
+stop_of stop.AllBlocked = turns.AllBlocked
+stop_of stop.Finished = turns.Finished
+
+-- how far a run came: it goes on, or stops so
+abbrev pub beat_of : Option Stop → ℕ → Turns → Beat
+beat_of None left t = Goes left t
+beat_of (Some stop) left t = Stops (stop_of stop) left t
+
+-- some beats lead to this
+abbrev pub Comes : Program → ℕ → Turns → Beat → Type 0
+Comes p fuel t b = (k : ℕ) × (beats p k (Goes fuel t) ≡ b)
+
+-- where a run stopped for an action, the thread waits for its outcome
+abbrev pub IsAsked : Stop → Turns → Type 0
+IsAsked (stop.Act thread action) t = IsAsking thread (wanted_by (action_of action)) t
+IsAsked _ t = ⊤
+
+-- ---- a turn
+
+-- this thread can go on
+abbrev pub CanGoOn : ℕ → State → Type 0
+CanGoOn n state =
+    (s : Standing) × (slice_get state.turns.threads n ≡ Some (Some s)) × StaysReady (program state.types state.instructions) state.turns.globals s
+
+-- it went on with so much fuel, and so much is left
+abbrev pub IsTurn : ℕ → ℕ → State → State → Move → ℕ → Type 0
+IsTurn n fuel before after made left =
+    (s t : Standing) × (slice_get before.turns.threads n ≡ Some (Some s))
+    × (after ≡ record before { turns = with_thread n (Some t) (record before.turns { globals = after.turns.globals }) })
+    × IsCourse (program before.types before.instructions) fuel before.turns.globals s left (told made after.turns.globals t)
+
+-- ---- what comes of a turn
+
+-- its thread may have asked for this
+abbrev pub after_turn : ℕ → ℕ → Option Action → Turns → Beat
+after_turn fuel n None t = Goes fuel t
+after_turn fuel n (Some a) t = Stops (Act n (action_of a)) fuel t
+
+-- those that wait are changed by what came of the turn of this thread
+abbrev pub Settles : ℕ → Move → Option Action → State → State → Type 0
+Settles n made action before after =
+    (after ≡ record before { turns = after.turns })
+    × ((fuel : ℕ) (s : Standing) → slice_get before.turns.threads n ≡ Some (Some s) → after_turn fuel n action after.turns ≡ comes fuel n before.turns (told made before.turns.globals s))
+
+-- ---- rounds
+
+-- a thread can go on, and there is fuel
+pub record MayGoOn (fuel : ℕ) (t : Turns) : Type 0 where
+  pub stands : turns.stands t ≡ true
+  pub next : is_some (next_number t.running t.ready) ≡ true
+  pub fueled : 0 < fuel
+
+-- a run with this fuel stops so at once
+pub record StopsAt (fuel : ℕ) (t : Turns) (stop : Stop) : Type 0 where
+  pub stops : (p : Program) → beat p fuel t ≡ Stops (stop_of stop) fuel t
+  pub asked : IsAsked stop t
+
+-- Some beats of a machine lead here: the run goes on, and less is left to do, or it stops so.
+pub record IsRound (fuel : ℕ) (before : State) (stopped : Option Stop) (left : ℕ) (now : State) : Type 0 where
+  pub come : Comes (program before.types before.instructions) fuel before.turns (beat_of stopped left now.turns)
+  pub asked : IfSome stopped (λ stop. IsAsked stop now.turns)
+  pub blocked : StayBlocked before.turns now.turns
+  pub less : IfNone stopped (weight left now.turns < weight fuel before.turns)
+  pub machine : IsMachine now
+  pub same : now ≡ record before { turns = now.turns }

@@ -1,0 +1,5 @@
+pub mod Closing
+pub mod Answering
+pub mod Members
+pub mod Places
+pub mod Courses

@@ -1,0 +1,6 @@
+//! The law that the code of every module can be run by a machine.
+#![tactic(auto)]
+
+mod law;
+
+pub use law::module_code_is_runnable;

@@ -1,0 +1,3 @@
+pub mod Sound
+pub mod Taken
+pub mod Weights

@@ -1,0 +1,2 @@
+//! What each instruction of a thread finds, and what it does: definitions.
+#![tactic(auto)]
