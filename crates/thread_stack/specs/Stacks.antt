@@ -64,6 +64,10 @@ AreAlikeOnTop (Truth b ∷ Truth a ∷ vs) = ⊤
 AreAlikeOnTop (Text b ∷ Text a ∷ vs) = ⊤
 AreAlikeOnTop _ = ⊥
 
+abbrev pub AreTextsOnTop : List Value → Type 0
+AreTextsOnTop (Text b ∷ Text a ∷ vs) = ⊤
+AreTextsOnTop _ = ⊥
+
 -- the two values on top are taken, and found equal or not
 abbrev pub IsCompared : List Value → List Value → Bool → Type 0
 IsCompared before after equal = (a b : Value) × (before ≡ b ∷ a ∷ after) × (equal ≡ value_eq a b)
