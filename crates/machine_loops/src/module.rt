@@ -1,0 +1,38 @@
+//! The machine of a module.
+
+ghost use Rattle.std.specs.Prelude.{IfOk};
+ghost use Rattle.runnable_code.specs.Runnable.{IsRunnable};
+ghost use Rattle.lynx_interp.specs.Machines.{IsMachine};
+
+use crate::trouble::Trouble;
+use lynx_code::Code;
+use lynx_interp::Machine;
+use lynx_source::check_source;
+use lynx_threads::compile;
+use std::alloc::Global;
+
+/// The machine of the module that a source spells, which has no params.
+pub(crate) fn machine_of(alloc: Global, source: &[u8]) -> Result<Machine, Trouble>
+    ensures { IfOk result IsMachine }
+{
+    let code = code_of(alloc, source)?;
+    if code.params != 0 {
+        return Err(Trouble::Loop);
+    }
+    Ok(Machine::start(alloc, code, Vec::new(alloc))?)
+}
+
+fn code_of(alloc: Global, source: &[u8]) -> Result<Code, Trouble>
+    ensures { IfOk result IsRunnable }
+{
+    if source.len() > 1_048_576 {
+        return Err(Trouble::Module);
+    }
+    let Ok(checked) = check_source(alloc, source) else {
+        return Err(Trouble::Module);
+    };
+    match compile(alloc, &checked) {
+        Ok(code) => Ok(code),
+        Err(_) => Err(Trouble::Module),
+    }
+}
