@@ -1,4 +1,5 @@
-//! `machine [--seconds] KIND COUNT`: runs a loop of bench/loops by so many turns, and prints how many instructions that were.
+//! `machine [--seconds] FILE COUNT`: runs the loop of a module by so many turns, as those of bench/loops, and prints how many instructions that
+//! were.
 //!
 //! It is what a proved interpreter is measured beside: plain Rust with the standard library alone, written for speed, and not proved. It
 //! prints `N instructions, answer V`, V being the value that the loop replies with at last; with `--seconds` also the processor
@@ -10,19 +11,14 @@ mod module;
 
 use std::env;
 use std::ffi::c_long;
+use std::fs;
+use std::path::Path;
 use std::process::ExitCode;
 
 use compiler::compile;
 use interpreter::{Action, Given, Machine, Stop, Value};
 use module::{checked, fail};
 
-const LOOPS: [(&str, &str); 5] = [
-    ("arithmetic", include_str!("../loops/arithmetic.lynx")),
-    ("rows", include_str!("../loops/rows.lynx")),
-    ("texts", include_str!("../loops/texts.lynx")),
-    ("exceptions", include_str!("../loops/exceptions.lynx")),
-    ("turns", include_str!("../loops/turns.lynx")),
-];
 /// The loop with as many threads as there may be, which take turns.
 const SHARED: &str = "turns";
 const THREADS: i64 = 32;
@@ -108,14 +104,14 @@ fn main() -> ExitCode {
         Some((&"--seconds", rest)) => (true, rest),
         _ => (false, &words[..]),
     };
-    if let &[kind, count] = rest {
+    if let &[file, count] = rest {
         let turns = count.parse().ok().filter(|turns| (1..=MOST_TURNS).contains(turns));
-        if let (Some(turns), Some((name, text))) = (turns, LOOPS.iter().find(|(name, _)| *name == kind)) {
-            measure(name, text, turns, tells_seconds);
+        if let (Some(turns), Ok(text)) = (turns, fs::read_to_string(file)) {
+            let name = Path::new(file).file_stem().and_then(|stem| stem.to_str()).unwrap_or(file);
+            measure(name, &text, turns, tells_seconds);
             return ExitCode::SUCCESS;
         }
     }
-    let names: Vec<&str> = LOOPS.iter().map(|(name, _)| *name).collect();
-    eprintln!("words: KIND COUNT, KIND one of {}, COUNT from 1 to {MOST_TURNS}", names.join(", "));
+    eprintln!("words: FILE COUNT, FILE a module and COUNT from 1 to {MOST_TURNS}");
     ExitCode::FAILURE
 }
