@@ -133,6 +133,7 @@ impl Machine {
                 Ok(None)
             }
             Move::Acts(action) => {
+                let action = Box::into_inner(action);
                 self.blocks_for(&action)?;
                 Ok(Some(action))
             }
