@@ -39,6 +39,6 @@ wanted_of (wanted.Arguments op) = threads.Arguments op
 -- what came of an instruction, which left these variables of the module and this thread
 abbrev pub told : Move → List Value → Standing → Made
 told move.GoesOn globals s = Went globals s
-told (move.Acts a) globals s = Acts (action_of a) globals s
+told (move.Acts a) globals s = Acts (action_of a.value) globals s
 told move.Awaits globals s = Awaits globals s
 told move.Ends globals s = Ends globals

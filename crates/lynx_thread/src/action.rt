@@ -39,7 +39,8 @@ pub enum Given {
 #[derive(Debug, Drop)]
 pub enum Move {
     GoesOn,
-    Acts(Action),
+    /// Boxed, since each instruction tells a move and few ask for an action.
+    Acts(Box<Action>),
     /// An await found false.
     Awaits,
     Ends,

@@ -17,6 +17,7 @@ use lynx_typing::ShortText;
 use thread_values::{Value, written_number, written_text, written_truth};
 
 impl Thread {
+    #[inline(never)]
     pub(crate) fn makes_links(&mut self) -> Result<Move, NoMemory>
         requires { self.old.address < usize.MAX }
         ensures { IfOk result (λ move. (p : Program) (globals : List meaning.Value) → told move globals self.new ≡ does p code.New globals self.old) }
@@ -24,9 +25,10 @@ impl Thread {
         if !self.is_fresh() {
             return self.answered_after(0);
         }
-        Ok(self.asks(Action::New))
+        self.asks(Action::New)
     }
 
+    #[inline(never)]
     pub(crate) fn destroys(&mut self) -> Result<Move, NoMemory>
         requires place { self.old.address < usize.MAX }
         requires operands { TopIsLink self.old.stack }
@@ -36,9 +38,10 @@ impl Thread {
             return self.answered_after(1);
         }
         let link = self.operands.link();
-        Ok(self.asks(Action::Destroy(link)))
+        self.asks(Action::Destroy(link))
     }
 
+    #[inline(never)]
     pub(crate) fn binds(&mut self, entry: u16) -> Result<Move, NoMemory>
         requires place { self.old.address < usize.MAX }
         requires operands { TopIsLink self.old.stack }
@@ -48,9 +51,10 @@ impl Thread {
             return self.answered_after(1);
         }
         let link = self.operands.link();
-        Ok(self.asks(Action::Bind(link, entry)))
+        self.asks(Action::Bind(link, entry))
     }
 
+    #[inline(never)]
     pub(crate) fn unbinds(&mut self, entry: u16) -> Result<Move, NoMemory>
         requires place { self.old.address < usize.MAX }
         requires operands { TopIsLink self.old.stack }
@@ -60,10 +64,11 @@ impl Thread {
             return self.answered_after(1);
         }
         let link = self.operands.link();
-        Ok(self.asks(Action::Unbind(link, entry)))
+        self.asks(Action::Unbind(link, entry))
     }
 
     /// The operation has so many arguments.
+    #[inline(never)]
     pub(crate) fn connects(&mut self, op: u32, arguments: usize) -> Result<Move, NoMemory>
         requires place { self.old.address < usize.MAX }
         requires count { arguments < usize.MAX }
@@ -75,9 +80,10 @@ impl Thread {
         }
         let link = self.operands.link();
         let values = self.operands.values(self.alloc, 1, arguments)?;
-        Ok(self.asks(Action::Connect(link, op, values)))
+        self.asks(Action::Connect(link, op, values))
     }
 
+    #[inline(never)]
     pub(crate) fn accepts(&mut self, op: u32) -> Result<Move, NoMemory>
         requires place { self.old.address < usize.MAX }
         requires operands { TopIsLink self.old.stack }
@@ -85,7 +91,7 @@ impl Thread {
     {
         if self.is_fresh() {
             let link = self.operands.link();
-            return Ok(self.asks(Action::Accept(link, op)));
+            return self.asks(Action::Accept(link, op));
         }
         let accepts = self.accepts;
         self.answered(Answered {
@@ -96,13 +102,14 @@ impl Thread {
     }
 
     /// The innermost open accept is closed.
+    #[inline(never)]
     pub(crate) fn closes(&mut self) -> Result<Move, NoMemory>
         requires place { self.old.address < usize.MAX }
         requires accepts { 0 < self.old.accepts }
         ensures { IfOk result (λ move. (p : Program) (globals : List meaning.Value) → told move globals self.new ≡ does p code.Close globals self.old) }
     {
         if self.is_fresh() {
-            return Ok(self.asks(Action::Close));
+            return self.asks(Action::Close);
         }
         let accepts = self.accepts - 1;
         self.answered(Answered {
@@ -112,6 +119,7 @@ impl Thread {
         })
     }
 
+    #[inline(never)]
     pub(crate) fn replies(&mut self, count: u16) -> Result<Move, NoMemory>
         requires place { self.old.address < usize.MAX }
         requires operands { count ≤ length self.old.stack }
@@ -122,9 +130,10 @@ impl Thread {
             return self.answered_after(count);
         }
         let values = self.operands.values(self.alloc, 0, count)?;
-        Ok(self.asks(Action::Reply(values)))
+        self.asks(Action::Reply(values))
     }
 
+    #[inline(never)]
     pub(crate) fn writes(&mut self) -> Result<Move, NoMemory>
         requires place { self.old.address < usize.MAX }
         requires operands { TopIsPlain self.old.stack }
@@ -134,7 +143,7 @@ impl Thread {
             return self.answered_after(1);
         }
         let text = self.written();
-        Ok(self.asks(Action::Write(text)))
+        self.asks(Action::Write(text))
     }
 
     // What stands on top, as it is written.
@@ -150,8 +159,9 @@ impl Thread {
         }
     }
 
-    pub(crate) fn stops(&mut self) -> Move
-        ensures { (p : Program) (globals : List meaning.Value) → told result globals self.new ≡ does p code.Stop globals self.old }
+    #[inline(never)]
+    pub(crate) fn stops(&mut self) -> Result<Move, NoMemory>
+        ensures { IfOk result (λ move. (p : Program) (globals : List meaning.Value) → told move globals self.new ≡ does p code.Stop globals self.old) }
     {
         self.asks(Action::StopAll)
     }

@@ -1,6 +1,6 @@
 //! Exceptions, and the end of a thread.
 
-ghost use Rattle.std.specs.Prelude.{◌≡◌, ◌+◌, ◌-◌, ◌≤◌, ℕ, List, [], length, take, drop, map, Bool, false, Some};
+ghost use Rattle.std.specs.Prelude.{◌≡◌, ◌+◌, ◌-◌, ◌≤◌, ℕ, List, [], length, take, drop, map, Bool, false, Some, IfOk};
 ghost use Rattle.lynx_code.specs.declared.instruction.Instruction.TheVariants as code;
 ghost use Rattle.lynx_meaning.specs.Code.{Program, cut, ends, instead, raises};
 ghost use Rattle.lynx_meaning.specs.Courses as courses;
@@ -13,6 +13,7 @@ ghost use Rattle.lynx_thread.specs.Closes.{lasting, kept_accepts, moment_after, 
 
 use crate::action::{Action, Given, Move};
 use crate::thread::{Opened, Thread};
+use lynx_lexer::NoMemory;
 use lynx_typing::Exception;
 
 /// An exception as it is raised: its instruction took so many operands and heard so many outcomes, and so many accepts are open.
@@ -26,8 +27,9 @@ pub(crate) struct Raised {
 
 impl Thread {
     /// An exception before the instruction took or heard anything.
-    pub(crate) fn raises(&mut self, exception: Exception) -> Move
-        ensures { (b : Bool) (globals : List meaning.Value) → told result globals self.new ≡ made b self.old (raises self.old.is_entry exception (in_turn globals self.old)) }
+    #[inline(never)]
+    pub(crate) fn raises(&mut self, exception: Exception) -> Result<Move, NoMemory>
+        ensures { IfOk result (λ move. (b : Bool) (globals : List meaning.Value) → told move globals self.new ≡ made b self.old (raises self.old.is_entry exception (in_turn globals self.old))) }
     {
         let accepts = self.accepts;
         self.raises_after(Raised {
@@ -40,10 +42,11 @@ impl Thread {
 
     /// An exception closes the accepts that were opened in the innermost open `try`, or all where none is open. Then it goes to the handlers
     /// of that `try`, or ends the thread.
-    pub(crate) fn raises_after(&mut self, raised: Raised) -> Move
+    #[inline(never)]
+    pub(crate) fn raises_after(&mut self, raised: Raised) -> Result<Move, NoMemory>
         requires taken { raised.taken ≤ length self.old.stack }
         requires heard { raised.heard ≤ length self.old.given }
-        ensures { (b : Bool) (globals : List meaning.Value) (actions : List courses.Action) → told result globals self.new ≡ made b self.old (raises self.old.is_entry raised.exception (raising globals actions raised.taken raised.heard raised.accepts self.old)) }
+        ensures { IfOk result (λ move. (b : Bool) (globals : List meaning.Value) (actions : List courses.Action) → told move globals self.new ≡ made b self.old (raises self.old.is_entry raised.exception (raising globals actions raised.taken raised.heard raised.accepts self.old))) }
     {
         let closes = self.closes_for(raised.accepts);
         if self.outcomes() - raised.heard < closes {
@@ -51,7 +54,7 @@ impl Thread {
         }
         let exception = self.exception_after(&raised, closes);
         match self.pop_try() {
-            Some(opened) => self.lands(exception, opened, raised.taken),
+            Some(opened) => Ok(self.lands(exception, opened, raised.taken)),
             None => self.ends_after(raised.heard + closes),
         }
     }
@@ -94,22 +97,23 @@ impl Thread {
     }
 
     /// The thread ends; one of an entry closes its request before.
-    pub(crate) fn ends(&mut self) -> Move
-        ensures { (p : Program) (globals : List meaning.Value) → told result globals self.new ≡ does p code.End globals self.old }
+    #[inline(never)]
+    pub(crate) fn ends(&mut self) -> Result<Move, NoMemory>
+        ensures { IfOk result (λ move. (p : Program) (globals : List meaning.Value) → told move globals self.new ≡ does p code.End globals self.old) }
     {
         self.ends_after(0)
     }
 
     // The thread ends after so many outcomes.
-    fn ends_after(&mut self, heard: usize) -> Move
+    fn ends_after(&mut self, heard: usize) -> Result<Move, NoMemory>
         requires { heard ≤ length self.old.given }
-        ensures { (b : Bool) (globals : List meaning.Value) (actions : List courses.Action) → told result globals self.new ≡ made b self.old (ends self.old.is_entry (moment_after globals actions heard self.old)) }
+        ensures { IfOk result (λ move. (b : Bool) (globals : List meaning.Value) (actions : List courses.Action) → told move globals self.new ≡ made b self.old (ends self.old.is_entry (moment_after globals actions heard self.old))) }
     {
         if !self.is_entry() {
-            return Move::Ends;
+            return Ok(Move::Ends);
         }
         if heard < self.outcomes() {
-            return Move::Ends;
+            return Ok(Move::Ends);
         }
         self.asks(Action::Close)
     }

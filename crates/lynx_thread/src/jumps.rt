@@ -41,6 +41,7 @@ impl Thread {
     }
 
     /// Goes on where the truth on top is true; else the condition is to be evaluated once more, from this address on.
+    #[inline(never)]
     pub(crate) fn awaits(&mut self, address: u16) -> Result<Move, NoMemory>
         requires place { self.old.address < usize.MAX }
         requires operands { TopIsTruth self.old.stack }
@@ -55,12 +56,12 @@ impl Thread {
         match self.first_exception() {
             Some(exception) => {
                 let accepts = self.accepts;
-                Ok(self.raises_after(Raised {
+                self.raises_after(Raised {
                     exception,
                     taken: 1,
                     heard: 1,
                     accepts,
-                }))
+                })
             }
             None => Ok(self.tries_again(address)),
         }
@@ -96,6 +97,7 @@ impl Thread {
     }
 
     /// A `try` is open from here on.
+    #[inline(never)]
     pub(crate) fn opens(&mut self, handlers: u16) -> Result<Move, NoMemory>
         requires { self.old.address < usize.MAX }
         ensures { IfOk result (λ move. (p : Program) (globals : List meaning.Value) → told move globals self.new ≡ does p (code.Try handlers) globals self.old) }
@@ -106,6 +108,7 @@ impl Thread {
     }
 
     /// The innermost open `try` is closed.
+    #[inline(never)]
     pub(crate) fn unopens(&mut self) -> Move
         requires place { self.old.address < usize.MAX }
         requires tries { IsOpen self.old.tries }
@@ -117,6 +120,7 @@ impl Thread {
     }
 
     /// Goes on where this exception is pending, and jumps where it is another one.
+    #[inline(never)]
     pub(crate) fn handles(&mut self, exception: Exception, address: u16) -> Move
         requires place { self.old.address < usize.MAX }
         requires pending { IsPending self.old.pending }
@@ -129,9 +133,10 @@ impl Thread {
     }
 
     /// Raises the pending exception once more.
-    pub(crate) fn raises_again(&mut self) -> Move
+    #[inline(never)]
+    pub(crate) fn raises_again(&mut self) -> Result<Move, NoMemory>
         requires { IsPending self.old.pending }
-        ensures { (p : Program) (globals : List meaning.Value) → told result globals self.new ≡ does p code.Again globals self.old }
+        ensures { IfOk result (λ move. (p : Program) (globals : List meaning.Value) → told move globals self.new ≡ does p code.Again globals self.old) }
     {
         let exception = self.pending_exception();
         self.raises(exception)

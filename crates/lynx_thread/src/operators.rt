@@ -1,10 +1,10 @@
 //! Literals and operators.
 
-ghost use Rattle.std.specs.Prelude.{◌≡◌, ◌<◌, ℕ, List, ◌∷◌, Bool, false, not, int_lt, int_le, IfOk};
+ghost use Rattle.std.specs.Prelude.{◌≡◌, ◌<◌, ℕ, List, ◌∷◌, Bool, false, not, int_lt, int_le, IfOk, OnOk};
 ghost use Rattle.lynx_code.specs.declared.instruction.Instruction.TheVariants as code;
 ghost use Rattle.lynx_meaning.specs.Code.{Program, gives, goes};
 ghost use Rattle.lynx_meaning.specs.Values as meaning;
-ghost use Rattle.lynx_meaning.specs.Values.{Int, Truth, value_eq};
+ghost use Rattle.lynx_meaning.specs.Values.{Int, Truth, Text, value_eq};
 ghost use Rattle.thread_stack.specs.Stacks.{TopIsInt, TopIsTruth, AreAlikeOnTop};
 ghost use Rattle.thread_values.specs.Told as values;
 ghost use Rattle.thread_turns.specs.Threads.{in_turn, made};
@@ -14,7 +14,7 @@ ghost use Rattle.thread_operands.specs.Operands.{does, AreInts};
 use crate::action::Move;
 use crate::thread::Thread;
 use lynx_code::Literal;
-use lynx_lexer::NoMemory;
+use lynx_lexer::{NoMemory, TextLit};
 use lynx_typing::{Exception, ShortText};
 use thread_values::{add, divide, multiply, negate, reduce, subtract};
 
@@ -26,15 +26,24 @@ impl Thread {
         match literal {
             Literal::Int(number) => self.push_int(*number)?,
             Literal::Bool(truth) => self.push_bool(*truth)?,
-            Literal::Text(inside) => match ShortText::from_slice(inside.as_slice()) {
-                Some(text) => self.push_text(&text)?,
-                None => unreachable!(),
-            },
+            Literal::Text(text) => self.push_literal_text(text)?,
         }
         Ok(self.goes())
     }
 
+    // A literal text comes on the stack.
+    #[inline(never)]
+    fn push_literal_text(&mut self, literal: &TextLit) -> Result<(), NoMemory>
+        ensures { OnOk result (self.new ≡ record self.old { stack = Text literal.now ∷ self.old.stack }) }
+    {
+        match ShortText::from_slice(literal.as_slice()) {
+            Some(text) => self.push_text(&text),
+            None => unreachable!(),
+        }
+    }
+
     // In place of two numbers comes what an operator gives of them; an exception leaves them there.
+    #[inline(always)]
     fn gives_of_two(
         &mut self,
         first: i64,
@@ -52,7 +61,7 @@ impl Thread {
             Err(exception) => {
                 self.push_int(first)?;
                 self.push_int(second)?;
-                Ok(self.raises(exception))
+                self.raises(exception)
             }
         }
     }
@@ -73,7 +82,7 @@ impl Thread {
             }
             Err(exception) => {
                 self.push_int(number)?;
-                Ok(self.raises(exception))
+                self.raises(exception)
             }
         }
     }

@@ -25,6 +25,7 @@ pub(crate) struct Answered {
 
 impl Thread {
     /// The values that its action was given come on the stack, or the exception is raised.
+    #[inline(never)]
     pub(crate) fn answered(&mut self, action: Answered) -> Result<Move, NoMemory>
         requires place { self.old.address < usize.MAX }
         requires taken { action.taken ≤ length self.old.stack }
@@ -32,12 +33,12 @@ impl Thread {
         ensures { IfOk result (λ move. (globals : List meaning.Value) (actions : List courses.Action) → told move globals self.new ≡ made false self.old (answered self.old.is_entry (first_given self.old.given) (λ now. record now { accepts = action.accepts }) (raising globals actions action.taken 1 action.accepts_where_raised self.old))) }
     {
         if let Some(exception) = self.first_exception() {
-            return Ok(self.raises_after(Raised {
+            return self.raises_after(Raised {
                 exception,
                 taken: action.taken,
                 heard: 1,
                 accepts: action.accepts_where_raised,
-            }));
+            });
         }
         self.drops(action.taken);
         self.push_given()?;
@@ -46,6 +47,7 @@ impl Thread {
     }
 
     /// The same for an action that changes nothing but the stack.
+    #[inline(never)]
     pub(crate) fn answered_after(&mut self, taken: usize) -> Result<Move, NoMemory>
         requires place { self.old.address < usize.MAX }
         requires taken { taken ≤ length self.old.stack }

@@ -1,6 +1,6 @@
 //! What instructions read and change of a thread.
 
-ghost use Rattle.std.specs.Prelude.{◌≡◌, ◌+◌, ◌-◌, ◌<◌, ◌≤◌, ℕ, List, [], ◌∷◌, ◌++◌, length, drop, reverse, true, false, None, Some, OnOk, MatchOption, slice_get, slice_set};
+ghost use Rattle.std.specs.Prelude.{◌≡◌, ◌+◌, ◌-◌, ◌<◌, ◌≤◌, ℕ, List, [], ◌∷◌, ◌++◌, length, drop, reverse, true, false, None, Some, IfOk, OnOk, MatchOption, slice_get, slice_set};
 ghost use Rattle.lynx_meaning.specs.Values as meaning;
 ghost use Rattle.lynx_meaning.specs.Values.{Int, Truth, Text};
 ghost use Rattle.thread_stack.specs.Stacks.{TopIsInt, TopIsTruth, AreAlikeOnTop, IsCompared, IsTop};
@@ -17,11 +17,13 @@ use thread_stack::Variables;
 
 impl Thread {
     /// The instruction asks for an action.
-    pub(crate) fn asks(&mut self, action: Action) -> Move
-        ensures { (globals : List meaning.Value) → told result globals self.new ≡ Acts (action_of action) globals (record self.old { wanted = Some (wanted_by (action_of action)) }) }
+    pub(crate) fn asks(&mut self, action: Action) -> Result<Move, NoMemory>
+        ensures { IfOk result (λ move. (globals : List meaning.Value) → told move globals self.new ≡ Acts (action_of action) globals (record self.old { wanted = Some (wanted_by (action_of action)) })) }
     {
-        self.wanted = Some(action.wanted());
-        Move::Acts(action)
+        let wanted = action.wanted();
+        let boxed = Box::new(self.alloc, action)?;
+        self.wanted = Some(wanted);
+        Ok(Move::Acts(boxed))
     }
 
     /// To the next instruction.
@@ -47,8 +49,18 @@ impl Thread {
     fn is_done(&mut self)
         ensures { self.new ≡ record self.old { given = []; wanted = None } }
     {
-        self.given.clear();
+        if !self.is_fresh() {
+            self.forgets();
+        }
         self.wanted = None;
+    }
+
+    // What it was given.
+    #[inline(never)]
+    fn forgets(&mut self)
+        ensures { self.new ≡ record self.old { given = [] } }
+    {
+        self.given.clear();
     }
 
     /// Its instruction begins.

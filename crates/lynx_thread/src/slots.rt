@@ -90,7 +90,7 @@ impl Thread {
         if let Err(exception) = globals.set_member(slot as usize, index, number) {
             self.push_int(index)?;
             self.push_int(number)?;
-            return Ok(self.raises(exception));
+            return self.raises(exception);
         }
         Ok(self.goes())
     }
@@ -106,7 +106,7 @@ impl Thread {
         if let Err(exception) = self.locals.set_member(slot as usize, index, number) {
             self.push_int(index)?;
             self.push_int(number)?;
-            return Ok(self.raises(exception));
+            return self.raises(exception);
         }
         Ok(self.goes())
     }

@@ -96,8 +96,8 @@ impl Thread {
             Instruction::Try(address) => self.opens(*address),
             Instruction::Untry => Ok(self.unopens()),
             Instruction::Case(exception, address) => Ok(self.handles(*exception, *address)),
-            Instruction::Again => Ok(self.raises_again()),
-            Instruction::Raise(exception) => Ok(self.raises(*exception)),
+            Instruction::Again => self.raises_again(),
+            Instruction::Raise(exception) => self.raises(*exception),
             Instruction::Write => self.writes(),
             Instruction::New => self.makes_links(),
             Instruction::Destroy => self.destroys(),
@@ -107,8 +107,8 @@ impl Thread {
             Instruction::Accept(op) => self.accepts(*op),
             Instruction::Close => self.closes(),
             Instruction::Reply(count) => self.replies(*count),
-            Instruction::Stop => Ok(self.stops()),
-            Instruction::End => Ok(self.ends()),
+            Instruction::Stop => self.stops(),
+            Instruction::End => self.ends(),
         }
     }
 }

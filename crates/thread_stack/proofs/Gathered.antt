@@ -1,5 +1,5 @@
 -- Values that come on a stack, or are read from its top, one after the other.
-use Rattle.std.proofs.Common.{arith, ◌≡◌, ℕ, suc, ◌+◌, ◌-◌, ◌<◌, ◌≤◌, Option, Some, None, List, [], ◌∷◌, ◌++◌, get_or, length, take, drop, reverse, ap, sym, subst, refl, ◌∙◌, append_assoc, add-one}
+use Rattle.std.proofs.Common.{arith, ◌≡◌, ℕ, suc, ◌+◌, ◌<◌, Option, Some, None, List, [], ◌∷◌, ◌++◌, get_or, length, take, drop, reverse, ap, sym, refl, ◌∙◌, append_assoc, add-one}
 use Rattle.std.proofs.Math.Seq.{take-suc, drop-cons}
 use Rattle.std.proofs.lemmas.List.{map-append, reverse-append}
 use Rattle.lynx_meaning.specs.Values.{Value}

@@ -1,11 +1,10 @@
 -- What is pushed last stands on top.
-use Rattle.std.proofs.Common.{arith, ◌≡◌, ℕ, suc, ◌-◌, ◌<◌, ◌≤◌, Option, Some, None, List, [], ◌∷◌, ◌++◌, reverse, length, drop, ap, ap₂, sym, refl, subst, ◌∙◌}
+use Rattle.std.proofs.Common.{arith, ◌≡◌, ℕ, suc, ◌-◌, ◌<◌, ◌≤◌, Option, Some, None, List, [], ◌∷◌, ◌++◌, reverse, length, drop, ap, sym, refl, subst, ◌∙◌}
 use Rattle.std.proofs.lemmas.List.{length-reverse, reverse-append}
-use Rattle.lynx_meaning.specs.Values.{Value, Int, Truth, Text, Row, Link}
+use Rattle.lynx_meaning.specs.Values.{Value}
 use Rattle.thread_stack.specs.declared.operands.Operand.{Operand}
 use Rattle.thread_stack.specs.declared.operands.Operand.TheVariants as operand
 use Rattle.thread_stack.specs.declared.operands.Large.{Large}
-use Rattle.thread_stack.specs.declared.operands.Large.TheVariants as large
 use Rattle.thread_values.specs.Told.{value_of}
 use Rattle.thread_values.specs.declared.value.Value as taken
 use Rattle.thread_stack.specs.Stacks.{stacked, AreTogether, IsTaken, large_value}

@@ -1,5 +1,5 @@
 -- Operands and variables as they are kept, as values.
-use Rattle.std.specs.Prelude.{◌≡◌, ℕ, ℤ, List, [], ◌∷◌, map, slice_get, slice_set, OnErr, Bool, Option, Some, None, Result, Ok, Err, ⊤}
+use Rattle.std.specs.Prelude.{◌≡◌, ℕ, ℤ, List, [], ◌∷◌, map, slice_get, slice_set, OnErr, Bool, Option, Some, None, Result, Err, ⊤}
 use Rattle.lynx_typing.specs.declared.exception.Exception.{Exception}
 use Rattle.lynx_typing.specs.declared.exception.Exception.TheVariants as exceptions
 use Rattle.lynx_meaning.specs.Values.{Value, Given, Int, Truth, Text, Row, Link, member, with_member, value_eq}
@@ -63,6 +63,10 @@ AreAlikeOnTop (Int b ∷ Int a ∷ vs) = ⊤
 AreAlikeOnTop (Truth b ∷ Truth a ∷ vs) = ⊤
 AreAlikeOnTop (Text b ∷ Text a ∷ vs) = ⊤
 AreAlikeOnTop _ = ⊥
+
+abbrev pub AreTextsOnTop : List Value → Type 0
+AreTextsOnTop (Text b ∷ Text a ∷ vs) = ⊤
+AreTextsOnTop _ = ⊥
 
 -- the two values on top are taken, and found equal or not
 abbrev pub IsCompared : List Value → List Value → Bool → Type 0

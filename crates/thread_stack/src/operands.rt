@@ -2,7 +2,7 @@
 
 ghost use Rattle.std.specs.Prelude.{◌≡◌, ◌≤◌, ◌+◌, ◌-◌, [], ◌∷◌, ◌++◌, length, take, drop, reverse, IfOk, OnOk, MatchOption};
 ghost use Rattle.lynx_meaning.specs.Values.{Int, Truth, Text, Row, Link};
-ghost use Rattle.thread_stack.specs.Stacks.{TopIsInt, TopIsTruth, TopIsLink, TopIsText, TopIsRow, AreAlikeOnTop, IsTop, IsTaken, IsCompared, large_value};
+ghost use Rattle.thread_stack.specs.Stacks.{TopIsInt, TopIsTruth, TopIsLink, TopIsText, TopIsRow, AreAlikeOnTop, AreTextsOnTop, IsTop, IsTaken, IsCompared, large_value};
 ghost use Rattle.thread_values.specs.Told.{value_of, values_of};
 
 use lynx_lexer::NoMemory;
@@ -94,6 +94,7 @@ impl Operands {
     }
 
     /// A text on top.
+    #[inline(never)]
     pub fn push_text(&mut self, text: &ShortText) -> Result<(), NoMemory>
         ensures { OnOk result (self.new ≡ Text text.now ∷ self.old) }
     {
@@ -104,6 +105,7 @@ impl Operands {
     }
 
     /// A row on top.
+    #[inline(never)]
     pub fn push_row(&mut self, numbers: &Numbers) -> Result<(), NoMemory>
         ensures { OnOk result (self.new ≡ Row numbers.now ∷ self.old) }
     {
@@ -147,6 +149,7 @@ impl Operands {
     }
 
     /// Takes the text on top.
+    #[inline(never)]
     pub fn pop_text(&mut self) -> ShortText
         requires { TopIsText self.old }
         ensures { self.old ≡ Text result ∷ self.new }
@@ -159,6 +162,7 @@ impl Operands {
     }
 
     /// Takes the row on top.
+    #[inline(never)]
     pub fn pop_row(&mut self) -> Numbers
         requires { TopIsRow self.old }
         ensures { self.old ≡ Row result ∷ self.new }
@@ -171,6 +175,7 @@ impl Operands {
     }
 
     /// Takes the value on top.
+    #[inline(never)]
     pub fn pop(&mut self) -> Option<Value>
         ensures { IsTaken self.old self.new result }
     {
@@ -194,8 +199,17 @@ impl Operands {
         match self.operands.last() {
             Some(Operand::Int(_)) => self.pop_int() == self.pop_int(),
             Some(Operand::Bool(_)) => self.pop_bool() == self.pop_bool(),
-            _ => self.pop_text().as_slice() == self.pop_text().as_slice(),
+            _ => self.pop_texts_alike(),
         }
+    }
+
+    // Takes two texts from the top, and tells whether they are equal.
+    #[inline(never)]
+    fn pop_texts_alike(&mut self) -> bool
+        requires { AreTextsOnTop self.old }
+        ensures { IsCompared self.old self.new result }
+    {
+        self.pop_text().as_slice() == self.pop_text().as_slice()
     }
 
     /// The truth on top.
@@ -221,6 +235,7 @@ impl Operands {
     }
 
     /// The value on top.
+    #[inline(never)]
     pub fn top(&self) -> Option<Value>
         ensures { MatchOption result (self.now ≡ []) (λ v. IsTop (value_of v) self.now) }
     {
@@ -228,6 +243,7 @@ impl Operands {
     }
 
     /// So many values below those on top that are passed over, in the order in which they came.
+    #[inline(never)]
     pub fn values(&self, alloc: Global, passed: usize, count: usize) -> Result<Vec<Value>, NoMemory>
         requires { passed + count ≤ length self.now }
         ensures { IfOk result (λ values. values_of values.items ≡ reverse (take count (drop passed self.now))) }
@@ -251,6 +267,7 @@ impl Operands {
     }
 
     /// A value on top.
+    #[inline(never)]
     pub fn push(&mut self, value: &Value) -> Result<(), NoMemory>
         ensures { OnOk result (self.new ≡ value_of value.now ∷ self.old) }
     {
@@ -264,6 +281,7 @@ impl Operands {
     }
 
     /// Values on top, one after the other.
+    #[inline(never)]
     pub fn push_all(&mut self, values: &[Value]) -> Result<(), NoMemory>
         ensures { OnOk result (self.new ≡ reverse (values_of values.now) ++ self.old) }
     {
@@ -274,6 +292,7 @@ impl Operands {
     }
 
     /// Only the lowest operands stay, so many.
+    #[inline(never)]
     #[tactic(auto, using(crate::proofs::Stacked::cut_one, crate::proofs::Stacked::cut_shorter, crate::proofs::Stacked::cut_done))]
     pub fn cut(&mut self, height: usize)
         ensures { self.new ≡ drop (length self.old - height) self.old }

@@ -2,8 +2,9 @@
 
 ghost use Rattle.std.specs.Prelude.{◌≡◌, ◌<◌, [], ◌∷◌, ◌++◌, length, slice_get, slice_set, Some, OnOk, IfOk};
 ghost use Rattle.lynx_meaning.specs.Values as meaning;
+ghost use Rattle.lynx_meaning.specs.Values.{Row, Text};
 ghost use Rattle.thread_values.specs.Told.{value_of, told};
-ghost use Rattle.thread_stack.specs.Stacks.{IsRow, IsRowSet, IsMemberSet, IsStored, TopIsLike, member_of, variable_value};
+ghost use Rattle.thread_stack.specs.Stacks.{IsRow, IsRowSet, IsMemberSet, IsStored, TopIsLike, TopIsRow, TopIsText, member_of, variable_value};
 
 use crate::operands::Operands;
 use lynx_lexer::NoMemory;
@@ -31,8 +32,8 @@ impl Variable {
             Variable::Int(number) => *number = operands.pop_int(),
             Variable::Bool(truth) => *truth = operands.pop_bool(),
             Variable::Link(link) => *link = operands.pop_link(),
-            Variable::Text(text) => **text = operands.pop_text(),
-            Variable::Row(numbers) => **numbers = operands.pop_row(),
+            Variable::Text(text) => take_text(text, operands),
+            Variable::Row(numbers) => take_row(numbers, operands),
         }
     }
 
@@ -90,6 +91,7 @@ impl Variables {
     }
 
     /// The value of a variable comes on the stack.
+    #[inline(always)]
     pub fn load(&self, slot: usize, operands: &mut Operands) -> Result<(), NoMemory>
         requires { slot < length self.now }
         ensures { OnOk result ((v : meaning.Value) → slice_get self.now slot ≡ Some v → operands.new ≡ v ∷ operands.old) }
@@ -129,4 +131,22 @@ impl Variables {
     {
         self.variables[slot].set_member(index, number)
     }
+}
+
+// The text on top of the stack takes the place of this one.
+#[inline(never)]
+fn take_text(text: &mut ShortText, operands: &mut Operands)
+    requires { TopIsText operands.old }
+    ensures { operands.old ≡ Text text.new ∷ operands.new }
+{
+    *text = operands.pop_text();
+}
+
+// The row on top of the stack takes the place of this one.
+#[inline(never)]
+fn take_row(numbers: &mut Numbers, operands: &mut Operands)
+    requires { TopIsRow operands.old }
+    ensures { operands.old ≡ Row numbers.new ∷ operands.new }
+{
+    *numbers = operands.pop_row();
 }

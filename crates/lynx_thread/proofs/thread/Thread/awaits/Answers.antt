@@ -2,15 +2,19 @@ use Rattle.std.proofs.Common.{Bool, [], ◌∷◌, ◌++◌, true, ap, sym, ◌�
 use Rattle.lynx_meaning.specs.Courses.{Await}
 use Rattle.lynx_meaning.specs.Values.{Truth}
 use Rattle.thread_turns.specs.Threads.{Standing}
-use Rattle.lynx_thread.proofs.Answering.{awaiting}
+use Rattle.lynx_thread.proofs.Answering.{awaiting, where_ok}
 use Rattle.lynx_thread.proofs.thread.Thread.awaits.Goals as goal
 
 pub returns-in-Some : goal.returns-in-Some
-returns-in-Some c = λ p globals.
+returns-in-Some c =
     let top = c.truth.ensures in
-    c.raises_after.ensures true globals ([] ++ Await ∷ [])
+    where_ok
+    c.raises_after.result
+    (λ move is p globals.
+    is true globals ([] ++ Await ∷ [])
     ∙ sym
     (awaiting globals c.args.address c.self.inside.accepts c.in-Some.exception c.args.self.now top.0
     (ap (λ (s : Standing). s.accepts) c.self.view_is)
     (top.1 ∙ ap (λ (b : Bool). Truth b ∷ top.0) c.if-truth.false)
-    (sym c.first_exception.ensures ∙ c.in-Some.is))
+    (sym c.first_exception.ensures ∙ c.in-Some.is)))
+    c.raises_after.ensures

@@ -88,7 +88,7 @@ pub returns-in-Case : goal.returns-in-Case
 returns-in-Case c = by_instruction (program_of c.args.code.now) c.args.globals.now c.args.self.now c.in-Case.is (c.handles.ensures (program_of c.args.code.now) c.args.globals.now)
 
 pub returns-in-Again : goal.returns-in-Again
-returns-in-Again c = by_instruction (program_of c.args.code.now) c.args.globals.now c.args.self.now c.in-Again.is (c.raises_again.ensures (program_of c.args.code.now) c.args.globals.now)
+returns-in-Again c = where_ok c.raises_again.result (λ move is. by_instruction (program_of c.args.code.now) c.args.globals.now c.args.self.now c.in-Again.is (is (program_of c.args.code.now) c.args.globals.now)) c.raises_again.ensures
 
 pub returns-in-Write : goal.returns-in-Write
 returns-in-Write c = where_ok c.writes.result (λ move is. by_instruction (program_of c.args.code.now) c.args.globals.now c.args.self.now c.in-Write.is (is (program_of c.args.code.now) c.args.globals.now)) c.writes.ensures
@@ -115,10 +115,10 @@ pub returns-in-Reply : goal.returns-in-Reply
 returns-in-Reply c = where_ok c.replies.result (λ move is. by_instruction (program_of c.args.code.now) c.args.globals.now c.args.self.now c.in-Reply.is (is (program_of c.args.code.now) c.args.globals.now)) c.replies.ensures
 
 pub returns-in-Stop : goal.returns-in-Stop
-returns-in-Stop c = by_instruction (program_of c.args.code.now) c.args.globals.now c.args.self.now c.in-Stop.is (c.stops.ensures (program_of c.args.code.now) c.args.globals.now)
+returns-in-Stop c = where_ok c.stops.result (λ move is. by_instruction (program_of c.args.code.now) c.args.globals.now c.args.self.now c.in-Stop.is (is (program_of c.args.code.now) c.args.globals.now)) c.stops.ensures
 
 pub returns-in-End : goal.returns-in-End
-returns-in-End c = by_instruction (program_of c.args.code.now) c.args.globals.now c.args.self.now c.in-End.is (c.ends.ensures (program_of c.args.code.now) c.args.globals.now)
+returns-in-End c = where_ok c.ends.result (λ move is. by_instruction (program_of c.args.code.now) c.args.globals.now c.args.self.now c.in-End.is (is (program_of c.args.code.now) c.args.globals.now)) c.ends.ensures
 
 pub connects-requires-clause-operands : goal.connects-requires-clause-operands
 connects-requires-clause-operands c =

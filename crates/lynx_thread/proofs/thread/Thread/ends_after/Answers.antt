@@ -1,4 +1,5 @@
 use Rattle.std.proofs.Common.{arith, sym, true, ◌≡◌, ◌∙◌, rules}
+use Rattle.lynx_thread.proofs.Answering.{where_ok}
 use Rattle.lynx_thread.proofs.Closing.{end_asks, end_closed}
 use Rattle.lynx_thread.proofs.thread.Thread.ends_after.Goals as goal
 
@@ -6,6 +7,9 @@ pub returns-then-heard-outcomes : goal.returns-then-heard-outcomes
 returns-then-heard-outcomes c = λ b globals actions. sym (end_closed b globals actions c.args.heard c.args.self.now (omega (arith, c.outcomes.ensures)))
 
 pub returns : goal.returns
-returns c = λ b globals actions.
+returns c =
     let entry : c.args.self.now.is_entry ≡ true = search rules in
-    c.asks.ensures globals ∙ sym (end_asks b globals actions c.args.heard c.args.self.now entry (omega (arith, c.outcomes.ensures)))
+    where_ok
+    c.asks.result
+    (λ move is b globals actions. is globals ∙ sym (end_asks b globals actions c.args.heard c.args.self.now entry (omega (arith, c.outcomes.ensures))))
+    c.asks.ensures

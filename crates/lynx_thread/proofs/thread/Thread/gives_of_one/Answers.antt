@@ -7,13 +7,18 @@ use Rattle.lynx_meaning.specs.Code.{gives, raises}
 use Rattle.lynx_meaning.specs.Values.{Int}
 use Rattle.thread_values.specs.Told as values
 use Rattle.thread_turns.specs.Threads.{Standing, in_turn, made}
+use Rattle.lynx_thread.proofs.Answering.{where_ok}
 use Rattle.lynx_thread.proofs.thread.Thread.gives_of_one.Goals as goal
 
 pub returns-in_ok-push_int-in-Err : goal.returns-in_ok-push_int-in-Err
-returns-in_ok-push_int-in-Err c = λ globals.
+returns-in_ok-push_int-in-Err c =
     let s : Standing = record c.args.self.now { stack = Int c.args.number ∷ c.args.self.now.stack } in
     let fits : SFits w64 c.args.number = search rules in
     let pushed : c.push_int-in-Err.new.self ≡ s = simp to_z-of_z at c.in_ok-push_int-in-Err.ensures in
-    c.raises.ensures false globals
+    where_ok
+    c.raises.result
+    (λ move is globals.
+    is false globals
     ∙ ap (λ (u : Standing). made false u (raises u.is_entry c.in-Err.exception (in_turn globals u))) pushed
-    ∙ ap (λ (found : Result ℤ Exception). made false s (gives s.is_entry (values.told found) c.args.self.now.stack (in_turn globals s))) (sym c.in-Err.is)
+    ∙ ap (λ (found : Result ℤ Exception). made false s (gives s.is_entry (values.told found) c.args.self.now.stack (in_turn globals s))) (sym c.in-Err.is))
+    c.raises.ensures
