@@ -1,10 +1,12 @@
 -- What comes of a turn changes those that wait.
 use Rattle.std.proofs.Common.{◌≡◌, ℕ, List, [], ◌∷◌, ◌++◌, Bool, true, false, Option, Some, None, slice_get, refl, sym, ap, ◌∙◌}
 use Rattle.lynx_meaning.specs.Courses as courses
-use Rattle.thread_turns.specs.Threads.{Standing}
-use Rattle.thread_turns.specs.Turns.{Act, Beat, Turns, Goes, Stops, acts, awaits, with_thread}
-use Rattle.lynx_thread.specs.Told.{action_of}
+use Rattle.lynx_meaning.specs.Values.{Value}
+use Rattle.thread_turns.specs.Threads.{Acts, Made, Standing}
+use Rattle.thread_turns.specs.Turns.{Act, Beat, Turns, Goes, Stops, acts, awaits, comes, with_thread}
+use Rattle.lynx_thread.specs.Told.{action_of, told}
 use Rattle.lynx_thread.specs.declared.action.Action.{Action}
+use Rattle.lynx_thread.specs.declared.action.Move.{Move}
 use Rattle.lynx_thread.specs.declared.action.Move.TheVariants as move
 use Rattle.sound_turns.proofs.Placing.{set_same}
 use Rattle.sound_turns.proofs.Rounds.{acts_threads}
@@ -44,12 +46,13 @@ awaited n old new stands changed = (
 )
 
 -- it asked for an action
-pub asked_for : (n : ℕ) (action : Action) (old new : State) → old.turns.running ≡ Some n →
-    ((k : ℕ) → old.turns.running ≡ Some k → new ≡ record old { turns = acts k (action_of action) old.turns }) → Settles n (move.Acts action) (Some action) old new
-asked_for n action old new runs changed = (
+pub asked_for : (n : ℕ) (made : Move) (action : Action) (old new : State) → ((globals : List Value) (s : Standing) → told made globals s ≡ Acts (action_of action) globals s) → old.turns.running ≡ Some n →
+    ((k : ℕ) → old.turns.running ≡ Some k → new ≡ record old { turns = acts k (action_of action) old.turns }) → Settles n made (Some action) old new
+asked_for n made action old new tells runs changed = (
   with_its_turns old new (acts n (action_of action) old.turns) (changed n runs),
   λ fuel s here.
       let asked = action_of action in
       ap (λ (m : State). Stops (Act n asked) fuel m.turns) (changed n runs)
-      ∙ ap (λ (u : Turns). Stops (Act n asked) fuel u) (sym (same_there n old.turns (acts n asked old.turns) s (acts_threads n asked old.turns) here)),
+      ∙ ap (λ (u : Turns). Stops (Act n asked) fuel u) (sym (same_there n old.turns (acts n asked old.turns) s (acts_threads n asked old.turns) here))
+      ∙ ap (λ (last : Made). comes fuel n old.turns last) (sym (tells old.turns.globals s)),
 )

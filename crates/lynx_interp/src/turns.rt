@@ -132,8 +132,8 @@ impl Machine {
                 self.ends(number)?;
                 Ok(None)
             }
-            Move::Acts(action) => {
-                let action = Box::into_inner(action);
+            Move::Acts(boxed) => {
+                let action = Box::into_inner(boxed);
                 self.blocks_for(&action)?;
                 Ok(Some(action))
             }

@@ -1,4 +1,7 @@
-use Rattle.std.proofs.Common.{None, Some, subst, sym}
+use Rattle.std.proofs.Common.{◌∙◌, None, ap, subst, sym}
+use Rattle.thread_turns.specs.Threads.{Acts}
+use Rattle.lynx_thread.specs.Told.{action_of, told}
+use Rattle.lynx_thread.specs.declared.action.Action.{Action}
 use Rattle.lynx_thread.specs.declared.action.Move.{Move}
 use Rattle.lynx_interp.specs.Runs.{Settles}
 use Rattle.lynx_interp.proofs.Settling.{asked_for, awaited, went_on}
@@ -15,5 +18,6 @@ returns-in_ok-awaits-in-Awaits c =
 
 pub returns-in_ok-blocks_for-in-Acts : goal.returns-in_ok-blocks_for-in-Acts
 returns-in_ok-blocks_for-in-Acts c =
-    subst (λ (m : Move). Settles c.args.number m (Some c.in-Acts.action) c.args.self.now c.blocks_for.new.self) (sym c.in-Acts.is)
-    (asked_for c.args.number c.in-Acts.action c.args.self.now c.blocks_for.new.self c.requires.runs c.in_ok-blocks_for-in-Acts.ensures)
+    let action = c.into_inner-action.result in
+    asked_for c.args.number c.args.made action c.args.self.now c.blocks_for.new.self
+    (λ globals s. ap (λ (m : Move). told m globals s) c.in-Acts.is ∙ ap (λ (a : Action). Acts (action_of a) globals s) (sym c.into_inner-action.ensures)) c.requires.runs c.in_ok-blocks_for-in-Acts.ensures
