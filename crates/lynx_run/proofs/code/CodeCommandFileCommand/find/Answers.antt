@@ -10,7 +10,7 @@ pub returns : goal.returns
 returns c =
     let made = c.in_ok-code.ensures in
     let read = subst (λ (bytes : List ℕ). IsCompiledAs bytes (Ok made.0)) c.as_slice.ensures.value made.1 in
-    (made.0, read, c.of.ensures ∙ ap lines_of (c.in_ok-text.ensures made.0 made.2.0), refl)
+    (made.0, read, c.of.ensures ∙ ap lines_of (c.in_ok-text.ensures made.0 made.2), refl)
 
 pub returns-in_err-code : goal.returns-in_err-code
 returns-in_err-code c =
