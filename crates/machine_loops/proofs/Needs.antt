@@ -1,5 +1,5 @@
 -- What actions and entries need, by the operations of the code.
-use Rattle.std.proofs.Common.{arith, ◌≡◌, ◌∙◌, ◌+◌, ◌<◌, length, ℕ, zero, suc, List, [], ◌∷◌, ◌++◌, map, take, Option, Some, None, option_map, slice_get, ap, sym, subst, refl}
+use Rattle.std.proofs.Common.{arith, ◌≡◌, ◌∙◌, ◌+◌, ◌<◌, length, ℕ, zero, suc, List, [], ◌∷◌, ◌++◌, map, take, Option, Some, option_map, slice_get, ap, sym, subst}
 use Rattle.std.specs.Prelude.{slice_index_or}
 use Rattle.std.proofs.lemmas.Option.{slice_get-map}
 use Rattle.lynx_tree.specs.declared.declaration.TypeName.{TypeName}
@@ -9,7 +9,6 @@ use Rattle.lynx_code.specs.declared.code.Part as kept
 use Rattle.lynx_meaning.specs.Values.{HasType}
 use Rattle.lynx_meaning.specs.Values as meaning
 use Rattle.thread_turns.specs.Shapes.{OpTypes, code_types, kept_op}
-use Rattle.thread_turns.specs.Turns.{Turns}
 use Rattle.thread_values.specs.Told.{value_of, values_of}
 use Rattle.thread_values.specs.declared.value.Value.{Value}
 use Rattle.shaped_code.specs.Sound.{Typed, types_of}
