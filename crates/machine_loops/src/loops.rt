@@ -1,11 +1,11 @@
 //! Loops: an entry that takes a number of turns, or a thread's number besides and is run by as many threads as there may be.
 
-ghost use Rattle.std.specs.Prelude.{◌≡◌, IfOk, OnOk};
+ghost use Rattle.std.specs.Prelude.{◌≡◌, IfOk, IfSome, OnOk};
+ghost use Rattle.lynx_meaning.specs.Values.{HasType};
 ghost use Rattle.shaped_code.specs.Sound.{Typed};
-ghost use Rattle.thread_turns.specs.Threads.{wanted_by};
-ghost use Rattle.thread_values.specs.Told.{values_of};
-ghost use Rattle.lynx_thread.specs.Told.{action_of, outcome_of};
-ghost use Rattle.sound_turns.specs.Sound.{wanted_types};
+ghost use Rattle.thread_turns.specs.Threads.{NoValue, wanted_by};
+ghost use Rattle.thread_values.specs.Told.{value_of, values_of};
+ghost use Rattle.lynx_thread.specs.Told.{action_of};
 ghost use Rattle.lynx_interp.specs.Machines.{IsEntryFor, IsMachine};
 
 use crate::trouble::Trouble;
@@ -18,6 +18,9 @@ const THREADS: i64 = 32;
 
 /// The fuel of one run of the machine, as of one step of a process.
 const FUEL: u32 = 1_000;
+
+/// The most runs of the machine.
+const MOST_RUNS: u32 = 1_000_000_000;
 
 /// What a loop tells.
 #[derive(Clone, Copy)]
@@ -105,15 +108,26 @@ fn values_for(alloc: Global, kinds: &[TypeName], numbers: &[i64]) -> Result<Vec<
     ensures { IfOk result (λ values. Typed kinds.now (values_of values.items)) }
 {
     let mut values = Vec::new(alloc);
-    for (at, kind) in kinds.iter().enumerate() {
-        match (kind, numbers.get(at)) {
-            (TypeName::Int, Some(number)) => {
-                values.push(Value::Int(*number)).map_err(|_| Trouble::NoMemory)?;
-            }
-            _ => return Err(Trouble::Loop),
+    for kind in kinds {
+        let Some(number) = numbers.get(values.len()) else {
+            return Err(Trouble::Loop);
+        };
+        match value_for(*kind, *number) {
+            Some(value) => values.push(value)?,
+            None => return Err(Trouble::Loop),
         }
     }
     Ok(values)
+}
+
+/// The value of a number, where this is the type of numbers.
+fn value_for(kind: TypeName, number: i64) -> Option<Value>
+    ensures { IfSome result (λ value. HasType kind (value_of value)) }
+{
+    match kind {
+        TypeName::Int => Some(Value::Int(number)),
+        _ => None,
+    }
 }
 
 /// Runs the machine until no thread stands.
@@ -121,25 +135,39 @@ fn finish(alloc: Global, machine: &mut Machine, told: &mut Told) -> Result<(), T
     requires { IsMachine machine.old }
     ensures { OnOk result (IsMachine machine.new) }
 {
-    let mut left = FUEL;
-    'steps: loop {
-        let (stop, rest) = machine.run(left)?;
-        told.instructions += u64::from(left - rest);
-        left = if rest == 0 { FUEL } else { rest };
-        match stop {
-            Stop::Spent => {}
-            Stop::Act { thread, action } => {
-                answered(told, &action)?;
-                machine.give(thread, Given::Values(Vec::new(alloc)))?;
-            }
-            Stop::AllBlocked => return Err(Trouble::Loop),
-            Stop::Finished => return Ok(()),
+    for _ in 0..MOST_RUNS {
+        if finishes(alloc, machine, told)? {
+            return Ok(());
         }
+    }
+    Err(Trouble::Loop)
+}
+
+/// Runs the machine once, and gives the outcome of what it asks for. Tells whether no thread stands.
+fn finishes(alloc: Global, machine: &mut Machine, told: &mut Told) -> Result<bool, Trouble>
+    requires { IsMachine machine.old }
+    ensures { OnOk result (IsMachine machine.new) }
+{
+    let (stop, left) = machine.run(FUEL)?;
+    told.instructions = told
+        .instructions
+        .saturating_add(u64::from(FUEL.saturating_sub(left)));
+    match stop {
+        Stop::Spent => Ok(false),
+        Stop::Act { thread, action } => {
+            answered(told, &action)?;
+            machine.give(thread, Given::Values(Vec::new(alloc)))?;
+            Ok(false)
+        }
+        Stop::AllBlocked => Err(Trouble::Loop),
+        Stop::Finished => Ok(true),
     }
 }
 
 /// The loops close their requests and reply with a number, and ask for nothing else.
-fn answered(told: &mut Told, action: &Action) -> Result<(), Trouble> {
+fn answered(told: &mut Told, action: &Action) -> Result<(), Trouble>
+    ensures { OnOk result (wanted_by (action_of action.now) ≡ NoValue) }
+{
     match action {
         Action::Close => Ok(()),
         Action::Reply(values) => match values.as_slice() {

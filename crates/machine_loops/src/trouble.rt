@@ -1,7 +1,7 @@
 //! Why no loop was run.
 
 use lynx_lexer::NoMemory;
-use std::alloc::AllocError;
+use std::alloc::{AllocError, AllocFailed};
 
 /// What went wrong.
 #[derive(Debug, Drop)]
@@ -36,6 +36,12 @@ impl From<NoMemory> for Trouble {
 
 impl From<AllocError> for Trouble {
     fn from(_: AllocError) -> Trouble {
+        Trouble::NoMemory
+    }
+}
+
+impl<T: Drop> From<AllocFailed<T>> for Trouble {
+    fn from(_: AllocFailed<T>) -> Trouble {
         Trouble::NoMemory
     }
 }

@@ -1,0 +1,6 @@
+use Rattle.machine_loops.proofs.Needs.{one_more}
+use Rattle.machine_loops.proofs.loops.values_for.Goals as goal
+
+pub loop-kind-preserved : goal.loop-kind-preserved
+loop-kind-preserved c =
+    one_more c.args.kinds.now c.loop-kind.values.items c.push.new.self.items c.loop-kind.kind-index _ c.in-Some-value_for.value c.loop-kind-test.true c.loop-kind.invariant c.in-Some-value_for.ensures c.in_ok-push-in-Some-value_for.ensures.items
