@@ -38,7 +38,9 @@ pub(crate) fn played(
     for letter in letters.as_bytes() {
         left = played_letter(alloc, &mut machine, &mut told, left, *letter)?;
     }
-    let (stop, left) = machine.run(left).ok().ok_or("no memory")?;
+    let Ok((stop, left)) = machine.run(left) else {
+        return Err("no memory".into());
+    };
     match stop {
         Stop::Spent => push_stop(&mut told, "spent", left)?,
         Stop::AllBlocked => push_stop(&mut told, "blocked", left)?,
@@ -89,13 +91,17 @@ fn played_letter(
     if letter == b'-' {
         return played_late(alloc, machine, told, fuel);
     }
-    let (stop, left) = machine.run(fuel).ok().ok_or("no memory")?;
+    let Ok((stop, left)) = machine.run(fuel) else {
+        return Err("no memory".into());
+    };
     match stop {
         Stop::Act { thread, action } => {
             push_action(told, thread, &action)?;
             let outcome = outcome(alloc, machine, &action, letter)?;
-            machine.give(thread, outcome).ok().ok_or("no memory")?;
-            Ok(left)
+            match machine.give(thread, outcome) {
+                Ok(()) => Ok(left),
+                Err(_) => Err("no memory".into()),
+            }
         }
         _ => Err("it asks for no action".into()),
     }
@@ -111,7 +117,9 @@ fn played_late(
     requires { IsMachine machine.old }
     ensures { OnOk result (IsMachine machine.new) }
 {
-    let (first, left) = machine.run(fuel).ok().ok_or("no memory")?;
+    let Ok((first, left)) = machine.run(fuel) else {
+        return Err("no memory".into());
+    };
     let Stop::Act { thread, action } = first else {
         return Err("it asks for no action".into());
     };
@@ -120,13 +128,17 @@ fn played_late(
         return Err("it does not block".into());
     }
     let outcome = outcome(alloc, machine, &action, b'.')?;
-    let (second, left) = machine.run(left).ok().ok_or("no memory")?;
+    let Ok((second, left)) = machine.run(left) else {
+        return Err("no memory".into());
+    };
     match second {
         Stop::AllBlocked => told.push_str("blocked; ")?,
         _ => return Err("a thread goes on".into()),
     }
-    machine.give(thread, outcome).ok().ok_or("no memory")?;
-    Ok(left)
+    match machine.give(thread, outcome) {
+        Ok(()) => Ok(left),
+        Err(_) => Err("no memory".into()),
+    }
 }
 
 // Its thread is blocked.
@@ -145,7 +157,10 @@ pub(crate) fn machine(alloc: Global, source: &str) -> Result<Machine, Fail>
 {
     let code = code(alloc, source)?;
     let links = links(alloc, code.params)?;
-    Ok(Machine::start(alloc, code, links).ok().ok_or("no memory")?)
+    match Machine::start(alloc, code, links) {
+        Ok(machine) => Ok(machine),
+        Err(_) => Err("no memory".into()),
+    }
 }
 
 fn code(alloc: Global, source: &str) -> Result<Code, Fail>
@@ -180,7 +195,10 @@ pub(crate) fn started(alloc: Global, machine: &mut Machine, entry: u16) -> Resul
     ensures { OnOk result (IsMachine machine.new) }
 {
     let values = parameters(alloc, machine, entry)?;
-    Ok(machine.spawn(entry, values).ok().ok_or("no memory")?)
+    match machine.spawn(entry, values) {
+        Ok(number) => Ok(number),
+        Err(_) => Err("no memory".into()),
+    }
 }
 
 fn parameters(alloc: Global, machine: &Machine, entry: u16) -> Result<Vec<Value>, Fail>
@@ -257,7 +275,10 @@ fn value(kind: TypeName) -> Option<Value>
     match kind {
         TypeName::Int => Some(Value::Int(7)),
         TypeName::Bool => Some(Value::Bool(true)),
-        TypeName::Text => ShortText::from_slice(b"t").map(Value::Text),
+        TypeName::Text => match ShortText::from_slice(b"t") {
+            Some(text) => Some(Value::Text(text)),
+            None => None,
+        },
         TypeName::Link => Some(Value::Link(LinkRef(9))),
         TypeName::Row(_) => None,
     }
