@@ -37,7 +37,7 @@ impl Thread {
         ensures { OnOk result (self.new ≡ record self.old { stack = Text literal.now ∷ self.old.stack }) }
     {
         match ShortText::from_slice(literal.as_slice()) {
-            Some(text) => self.push_text(&text),
+            Some(text) => self.push_text(text),
             None => unreachable!(),
         }
     }

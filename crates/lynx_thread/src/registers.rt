@@ -112,8 +112,8 @@ impl Thread {
         self.operands.push_bool(truth)
     }
 
-    pub(crate) fn push_text(&mut self, text: &ShortText) -> Result<(), NoMemory>
-        ensures { OnOk result (self.new ≡ record self.old { stack = Text text.now ∷ self.old.stack }) }
+    pub(crate) fn push_text(&mut self, text: ShortText) -> Result<(), NoMemory>
+        ensures { OnOk result (self.new ≡ record self.old { stack = Text text ∷ self.old.stack }) }
     {
         self.operands.push_text(text)
     }

@@ -95,11 +95,11 @@ impl Operands {
 
     /// A text on top.
     #[inline(never)]
-    pub fn push_text(&mut self, text: &ShortText) -> Result<(), NoMemory>
-        ensures { OnOk result (self.new ≡ Text text.now ∷ self.old) }
+    pub fn push_text(&mut self, text: ShortText) -> Result<(), NoMemory>
+        ensures { OnOk result (self.new ≡ Text text ∷ self.old) }
     {
         self.operands.reserve(1)?;
-        self.large.push(Large::Text(text.copy()))?;
+        self.large.push(Large::Text(text))?;
         self.operands.push_reserved(Operand::Large);
         Ok(())
     }
@@ -209,7 +209,30 @@ impl Operands {
         requires { AreTextsOnTop self.old }
         ensures { IsCompared self.old self.new result }
     {
-        self.pop_text().as_slice() == self.pop_text().as_slice()
+        let second = self.pop_text();
+        let alike = second.as_slice() == self.text().as_slice();
+        self.drop_text();
+        alike
+    }
+
+    // The text on top.
+    fn text(&self) -> &ShortText
+        requires { TopIsText self.now }
+        ensures { IsTop (Text result.now) self.now }
+    {
+        match (self.operands.split_last(), self.large.split_last()) {
+            (Some((Operand::Large, _)), Some((Large::Text(text), _))) => text,
+            _ => unreachable!(),
+        }
+    }
+
+    // The text on top is dropped.
+    fn drop_text(&mut self)
+        requires { TopIsText self.old }
+        ensures { self.new ≡ drop 1 self.old }
+    {
+        let _operand = self.operands.pop();
+        let _gone = self.large.pop();
     }
 
     /// The truth on top.
@@ -275,7 +298,7 @@ impl Operands {
             Value::Int(number) => self.push_int(*number),
             Value::Bool(truth) => self.push_bool(*truth),
             Value::Link(link) => self.push_link(*link),
-            Value::Text(text) => self.push_text(text),
+            Value::Text(text) => self.push_text(text.copy()),
             Value::Row(row) => self.push_row(&Numbers::of(row)),
         }
     }
