@@ -1,5 +1,5 @@
-ghost use Rattle.std.specs.Prelude.{◌≡◌, ◌≤◌, ◌<◌, ◌^◌, ◌∷◌, ◌++◌, ℕ, List, OnOk, OnErr, IfOk, length, take, map, option_copied};
-ghost use Rattle.charlotte_text.specs.Spelling.{end_text, ends_text, plus_text, process_text, IsEnd};
+ghost use Rattle.std.specs.Prelude.{◌≡◌, ◌≤◌, ◌<◌, ◌^◌, [], ◌∷◌, ◌++◌, ℕ, List, OnOk, OnErr, IfOk, length, take, map, option_copied};
+ghost use Rattle.charlotte_text.specs.Spelling.{end_text, ends_text, plus_text, process_text, side_text, IsEnd};
 ghost use Rattle.std.specs.List.{AllByRecursion};
 ghost use Rattle.charlotte_text.specs.Reading.{Gives, process_of, side_of, end_of, plus_end_of, ends_of, rest_parts};
 
@@ -14,12 +14,38 @@ pub fn push_end(out: &mut Vec<u8>, end: EndId) -> Result<(), NoMemory>
     ensures ok { OnOk result (out.new.items ≡ out.old.items ++ end_text end) }
     ensures err { OnErr result (out.new.items ≡ out.old.items) }
 {
+    if end.link.maker < 10 && end.link.count < 10 {
+        return push_short(out, end);
+    }
     let start = out.len();
     let pushed = push_parts(out, end);
     if pushed.is_err() {
         out.truncate(start);
     }
     pushed
+}
+
+// Of most ends maker and count have one digit, and they are appended at once.
+#[tactic(auto, using(std::proofs::lemmas::Fmt::decimal_digit))]
+fn push_short(out: &mut Vec<u8>, end: EndId) -> Result<(), NoMemory>
+    requires maker { end.link.maker < 10 }
+    requires count { end.link.count < 10 }
+    ensures ok { OnOk result (out.new.items ≡ out.old.items ++ end_text end) }
+    ensures err { OnErr result (out.new.items ≡ out.old.items) }
+{
+    let maker = b'0' + end.link.maker;
+    let count = b'0' + end.link.count as u8;
+    out.extend_from_slice(&[maker, b'.', count, letter(end.side)])?;
+    Ok(())
+}
+
+fn letter(side: Side) -> u8
+    ensures { result ∷ [] ≡ side_text side }
+{
+    match side {
+        Side::A => b'a',
+        Side::B => b'b',
+    }
 }
 
 fn push_parts(out: &mut Vec<u8>, end: EndId) -> Result<(), NoMemory>
