@@ -16,7 +16,7 @@ mod number;
 mod part;
 mod text;
 
-pub use call::{push_call, push_way, read_call, read_way};
+pub use call::{push_call, push_way, read_call, read_call_into, read_way};
 pub use fault::Fault;
 pub use law::{one_call, one_end, one_string_of_bytes};
 pub use name::{push_end, push_ends, push_process, read_end, read_ends, read_process};

@@ -1,4 +1,4 @@
-ghost use Rattle.std.specs.Prelude.{◌≡◌, ◌<◌, ◌^◌, ◌++◌, ℕ, OnOk, OnErr, IfOk, IsTrue};
+ghost use Rattle.std.specs.Prelude.{◌≡◌, ◌<◌, ◌^◌, [], ◌∷◌, ◌++◌, ℕ, OnOk, OnErr, IfOk, IsTrue};
 ghost use Rattle.std.specs.List.{list_all};
 ghost use Rattle.std.specs.Char.{is_ascii_digit};
 ghost use Rattle.std.specs.Str.Parse.{digits_value};
@@ -56,10 +56,21 @@ pub fn read_number(word: &[u8]) -> Result<Number, Fault>
 fn parse_number(word: &[u8]) -> Result<Number, Fault>
     ensures { result ≡ number_of word.now }
 {
-    if is_numeral(word) {
-        Ok(value(word))
-    } else {
-        Err(Fault::Form)
+    match word {
+        [digit] => one_digit(*digit),
+        _ if is_numeral(word) => Ok(value(word)),
+        _ => Err(Fault::Form),
+    }
+}
+
+// Most numbers of a line have one digit.
+#[tactic(auto, using(crate::proofs::Numbers::one_digit_number))]
+fn one_digit(digit: u8) -> Result<Number, Fault>
+    ensures { result ≡ number_of (digit ∷ []) }
+{
+    match digit {
+        b'0'..=b'9' => Ok(Number::Is(u64::from(digit - b'0'))),
+        _ => Err(Fault::Form),
     }
 }
 
