@@ -67,11 +67,15 @@ pub(crate) fn plain(byte: u8) -> bool
     matches!(byte, b'0'..=b'9' | b'A'..=b'Z' | b'a'..=b'z' | b'_' | b'.')
 }
 
-/// Whether each byte stands for itself.
+/// Whether each byte stands for itself. The loop has no early end, so that it is made of steps over many bytes.
 fn all_plain(bytes: &[u8]) -> bool
     ensures { result ≡ list_all is_plain bytes.now }
 {
-    bytes.iter().all(|byte| plain(*byte))
+    let mut all = true;
+    for byte in bytes {
+        all &= plain(*byte);
+    }
+    all
 }
 
 fn digit(value: u8) -> u8
