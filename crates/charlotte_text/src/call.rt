@@ -6,7 +6,7 @@ ghost use Rattle.charlotte_text.specs.Reading.{Puts, way_of, keyword_of, only_en
 use crate::fault::Fault;
 use crate::name::{push_end, push_ends, read_end, read_ends};
 use crate::part::{end_of_line, next_word};
-use crate::text::{push_bytes, read_bytes};
+use crate::text::{plain_bytes, push_bytes, read_bytes};
 use charlotte_calls::{Call, EndId, NoMemory, Way};
 
 /// The first word of a call.
@@ -190,6 +190,10 @@ fn read_send(rest: Option<&[u8]>, version: u8, call: &mut Call) -> Result<(), Fa
     let on = read_end(end)?;
     let (text, rest) = next_word(rest)?;
     let enclose = read_ends(rest, if version == 1 { 1 } else { 8 })?;
+    if let Some(bytes) = plain_bytes(text) {
+        *call = Call::Send { on, bytes, enclose };
+        return Ok(());
+    }
     let bytes = read_bytes(text)?;
     *call = Call::Send { on, bytes, enclose };
     Ok(())
@@ -214,6 +218,10 @@ fn read_print(rest: Option<&[u8]>, call: &mut Call) -> Result<(), Fault>
 {
     let (text, rest) = next_word(rest)?;
     end_of_line(rest)?;
+    if let Some(bytes) = plain_bytes(text) {
+        *call = Call::Print { bytes };
+        return Ok(());
+    }
     let bytes = read_bytes(text)?;
     *call = Call::Print { bytes };
     Ok(())
