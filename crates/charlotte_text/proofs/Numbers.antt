@@ -1,12 +1,12 @@
 -- Numbers and their digits.
-use Rattle.std.proofs.Common.{◌≡◌, ℕ, zero, suc, ◌^◌, ◌<◌, ◌≤◌, ◌-◌, Bool, true, false, cond, not, eqb, ltb, ◌||◌, List, [], ◌∷◌, length, get_or, Result, Ok, Err, refl, sym, ap, ◌∙◌, arith, rules, ◌⊎◌, inl, inr}
+use Rattle.std.proofs.Common.{◌≡◌, ℕ, zero, suc, ◌^◌, ◌<◌, ◌≤◌, ◌+◌, ◌-◌, ◌/◌, ◌%◌, Bool, true, false, cond, not, eqb, ltb, ◌||◌, List, [], ◌∷◌, ◌++◌, length, get_or, Result, Ok, Err, refl, sym, ap, ◌∙◌, arith, rules, ◌⊎◌, inl, inr}
 use Rattle.std.specs.List.{list_all}
 use Rattle.std.specs.Char.{is_ascii_digit}
 use Rattle.std.specs.Str.{IsUtf8}
 use Rattle.std.specs.Str.Parse.{digits_value, ParsesUnsigned}
 use Rattle.std.proofs.lemmas.Str.{IsUtf8-from_ascii}
 use Rattle.std.proofs.lemmas.Str.Parse.{IsNumeralModel, numerals_by_value, parse_digits, not_in_digits}
-use Rattle.std.proofs.lemmas.Fmt.{IsAscii-from_digits, decimal-digits_value, decimal_digit, first_decimal, decimal_nonempty, digits_decimal, digits_value-decimal}
+use Rattle.std.proofs.lemmas.Fmt.{IsAscii-from_digits, decimal-digits_value, decimal_digit, decimal_step, first_decimal, decimal_nonempty, digits_decimal, digits_value-decimal}
 use Rattle.std.proofs.lemmas.List.{get_or_default}
 use Rattle.std.specs.List.{All}
 use Rattle.std.specs.Int.{IsInRange}
@@ -100,6 +100,14 @@ is_number_text n lt = is_number_from (number_text n) (digits_decimal own n lt) (
 pub number_again : (n : ℕ) → n < 2 ^ 64 → number_of (number_text n) ≡ Ok (Is n)
 unfolding number_of
 number_again n lt = rw (is_number_text n lt, digits_value-decimal own n lt, lt-ltb n (2 ^ 64) lt) refl
+
+-- a number of two digits
+pub two_digits : (n : ℕ) → 10 ≤ n → n < 100 → number_text n ≡ (48 + n / 10) ∷ (48 + n % 10) ∷ []
+two_digits n h small = rw (decimal_step n h (omega arith), decimal_digit (n / 10) (omega arith)) refl
+
+-- a digit and a byte behind it
+pub digit_before : (n b : ℕ) → n < 10 → number_text n ++ b ∷ [] ≡ (48 + n) ∷ b ∷ []
+digit_before n b small = rw (decimal_digit n small) refl
 
 digit_number : (d : ℕ) → 48 ≤ d → d ≤ 57 → number_of (d ∷ []) ≡ Ok (Is (d - 48))
 digit_number d lo hi =

@@ -141,7 +141,12 @@ fn read_keyword(word: &[u8]) -> Result<Keyword, Fault>
 }
 
 #[tactic(auto, unfolding(crate::specs::Reading::operands_of))]
-fn read_operands(keyword: Keyword, rest: Option<&[u8]>, version: u8, call: &mut Call) -> Result<(), Fault>
+fn read_operands(
+    keyword: Keyword,
+    rest: Option<&[u8]>,
+    version: u8,
+    call: &mut Call,
+) -> Result<(), Fault>
     ensures { Puts result call.new (operands_of version keyword (rest_parts 32 (option_copied rest.entry))) }
 {
     match keyword {

@@ -1,5 +1,5 @@
-ghost use Rattle.std.specs.Prelude.{◌≡◌, ◌≤◌, ◌<◌, ◌^◌, [], ◌∷◌, ◌++◌, ℕ, List, OnOk, OnErr, IfOk, length, take, map, option_copied};
-ghost use Rattle.charlotte_text.specs.Spelling.{end_text, ends_text, plus_text, process_text, side_text, IsEnd};
+ghost use Rattle.std.specs.Prelude.{◌≡◌, ◌≤◌, ◌<◌, ◌^◌, [], ◌∷◌, ◌++◌, ℕ, List, OnOk, OnErr, IfOk, length, take, map, codes, option_copied};
+ghost use Rattle.charlotte_text.specs.Spelling.{number_text, end_text, ends_text, plus_text, process_text, side_text, IsEnd};
 ghost use Rattle.std.specs.List.{AllByRecursion};
 ghost use Rattle.charlotte_text.specs.Reading.{Gives, process_of, side_of, end_of, plus_end_of, ends_of, rest_parts};
 
@@ -52,13 +52,23 @@ fn push_parts(out: &mut Vec<u8>, end: EndId) -> Result<(), NoMemory>
     ensures ok { OnOk result (out.new.items ≡ out.old.items ++ end_text end) }
     ensures err { OnErr result (take (length out.old.items) out.new.items ≡ out.old.items) }
 {
-    push_number(out, u64::from(end.link.maker))?;
-    out.push(b'.')?;
+    push_maker(out, end.link.maker)?;
     push_number(out, u64::from(end.link.count))?;
-    out.push(match end.side {
-        Side::A => b'a',
-        Side::B => b'b',
-    })?;
+    out.push(letter(end.side))?;
+    Ok(())
+}
+
+/// The maker and its dot.
+fn push_maker(out: &mut Vec<u8>, maker: u8) -> Result<(), NoMemory>
+    ensures ok { OnOk result (out.new.items ≡ out.old.items ++ (number_text maker ++ codes ".")) }
+    ensures err { OnErr result (take (length out.old.items) out.new.items ≡ out.old.items) }
+{
+    if maker < 10 {
+        out.extend_from_slice(&[b'0' + maker, b'.'])?;
+    } else {
+        push_number(out, u64::from(maker))?;
+        out.push(b'.')?;
+    }
     Ok(())
 }
 

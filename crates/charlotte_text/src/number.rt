@@ -1,4 +1,4 @@
-ghost use Rattle.std.specs.Prelude.{◌≡◌, ◌<◌, ◌^◌, [], ◌∷◌, ◌++◌, ℕ, OnOk, OnErr, IfOk, IsTrue};
+ghost use Rattle.std.specs.Prelude.{◌≡◌, ◌<◌, ◌≤◌, ◌^◌, [], ◌∷◌, ◌++◌, ℕ, OnOk, OnErr, IfOk, IsTrue};
 ghost use Rattle.std.specs.List.{list_all};
 ghost use Rattle.std.specs.Char.{is_ascii_digit};
 ghost use Rattle.std.specs.Str.Parse.{digits_value};
@@ -27,6 +27,9 @@ pub fn push_number(out: &mut Vec<u8>, number: u64) -> Result<(), NoMemory>
     if number < 10 {
         return push_digit(out, number as u8);
     }
+    if number < 100 {
+        return push_two_digits(out, number as u8);
+    }
     let mut buffer = Buffer::new();
     out.extend_from_slice(buffer.format(number).as_bytes())?;
     Ok(())
@@ -40,6 +43,17 @@ fn push_digit(out: &mut Vec<u8>, digit: u8) -> Result<(), NoMemory>
     ensures err { OnErr result (out.new.items ≡ out.old.items) }
 {
     out.push(b'0' + digit)?;
+    Ok(())
+}
+
+#[tactic(auto, using(crate::proofs::Numbers::two_digits))]
+fn push_two_digits(out: &mut Vec<u8>, number: u8) -> Result<(), NoMemory>
+    requires two { 10 ≤ number }
+    requires no_more { number < 100 }
+    ensures ok { OnOk result (out.new.items ≡ out.old.items ++ number_text number) }
+    ensures err { OnErr result (out.new.items ≡ out.old.items) }
+{
+    out.extend_from_slice(&[b'0' + number / 10, b'0' + number % 10])?;
     Ok(())
 }
 
