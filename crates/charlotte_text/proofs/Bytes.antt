@@ -58,7 +58,7 @@ is_limited : (front kept : List ℕ) (t : Bool) → leb (length front) 256 ≡ t
 is_limited front kept true h e = (λ le. ap Ok (short_front front kept e (omega arith)), λ lt. absurd (omega (arith, leb-true _ _ h, ap length e, length-take 257 front)))
 is_limited front kept false h e = (λ le. absurd (omega (arith, leb-false _ _ h, ap length e, length-take 257 front)), λ lt. refl)
 
-not_long : (n : ℕ) → (256 < n → ⊥) → n ≤ 256
+pub not_long : (n : ℕ) → (256 < n → ⊥) → n ≤ 256
 not_long n h = elim (cases_lt 256 n) [ inl lt ↦ absurd (h lt) | inr le ↦ le ]
 
 pub finish : (front kept : List ℕ) (r : Option (List ℕ)) → kept ≡ take 257 front → (IsNone r ↔ (256 < length kept)) → IfSome r (λ s. s ≡ kept) → ok_or r Long ≡ limited front

@@ -1,17 +1,17 @@
 -- Numbers and their digits.
-use Rattle.std.proofs.Common.{◌≡◌, ℕ, zero, suc, ◌^◌, ◌<◌, Bool, true, false, cond, not, eqb, ltb, ◌||◌, List, [], ◌∷◌, length, get_or, Result, Ok, Err, refl, sym, ap, ◌∙◌, arith, rules, ◌⊎◌, inl, inr}
+use Rattle.std.proofs.Common.{◌≡◌, ℕ, zero, suc, ◌^◌, ◌<◌, ◌≤◌, ◌+◌, ◌-◌, ◌/◌, ◌%◌, Bool, true, false, cond, not, eqb, ltb, ◌||◌, List, [], ◌∷◌, ◌++◌, length, get_or, Result, Ok, Err, refl, sym, ap, ◌∙◌, arith, rules, ◌⊎◌, inl, inr}
 use Rattle.std.specs.List.{list_all}
 use Rattle.std.specs.Char.{is_ascii_digit}
 use Rattle.std.specs.Str.{IsUtf8}
 use Rattle.std.specs.Str.Parse.{digits_value, ParsesUnsigned}
 use Rattle.std.proofs.lemmas.Str.{IsUtf8-from_ascii}
 use Rattle.std.proofs.lemmas.Str.Parse.{IsNumeralModel, numerals_by_value, parse_digits, not_in_digits}
-use Rattle.std.proofs.lemmas.Fmt.{IsAscii-from_digits, decimal-digits_value, decimal_digit, first_decimal, decimal_nonempty, digits_decimal, digits_value-decimal}
+use Rattle.std.proofs.lemmas.Fmt.{IsAscii-from_digits, decimal-digits_value, decimal_digit, decimal_step, first_decimal, decimal_nonempty, digits_decimal, digits_value-decimal}
 use Rattle.std.proofs.lemmas.List.{get_or_default}
 use Rattle.std.specs.List.{All}
 use Rattle.std.specs.Int.{IsInRange}
 use Rattle.std.proofs.lemmas.Result.{OkIff-at_err}
-use Rattle.std.proofs.lemmas.Bool.{ltb-true, eqb-true, lt-ltb, ne_eqb, and_parts, and_from}
+use Rattle.std.proofs.lemmas.Bool.{ltb-true, leb-true, eqb-true, lt-ltb, ne_eqb, and_parts, and_from}
 use Rattle.charlotte_text.specs.declared.number.Number.{Number}
 use Rattle.charlotte_text.specs.declared.number.Number.TheVariants.{Is, Large}
 use Rattle.charlotte_text.specs.declared.fault.Fault.TheVariants.{Form}
@@ -100,6 +100,28 @@ is_number_text n lt = is_number_from (number_text n) (digits_decimal own n lt) (
 pub number_again : (n : ℕ) → n < 2 ^ 64 → number_of (number_text n) ≡ Ok (Is n)
 unfolding number_of
 number_again n lt = rw (is_number_text n lt, digits_value-decimal own n lt, lt-ltb n (2 ^ 64) lt) refl
+
+-- a number of two digits
+pub two_digits : (n : ℕ) → 10 ≤ n → n < 100 → number_text n ≡ (48 + n / 10) ∷ (48 + n % 10) ∷ []
+two_digits n h small = rw (decimal_step n h (omega arith), decimal_digit (n / 10) (omega arith)) refl
+
+-- a digit and a byte behind it
+pub digit_before : (n b : ℕ) → n < 10 → number_text n ++ b ∷ [] ≡ (48 + n) ∷ b ∷ []
+digit_before n b small = rw (decimal_digit n small) refl
+
+digit_number : (d : ℕ) → 48 ≤ d → d ≤ 57 → number_of (d ∷ []) ≡ Ok (Is (d - 48))
+digit_number d lo hi =
+    let text : number_text (d - 48) ≡ d ∷ [] = decimal_digit (d - 48) (omega arith) ∙ ap (λ x. x ∷ []) (omega arith) in
+    ap number_of (sym text) ∙ number_again (d - 48) (omega arith)
+
+digit_is : (d : ℕ) (t : Bool) → is_ascii_digit d ≡ t → number_of (d ∷ []) ≡ cond t (Ok (Is (d - 48))) (Err Form)
+unfolding number_of
+digit_is d true e = let h = and_parts _ _ e in digit_number d (leb-true _ _ h.0) (leb-true _ _ h.1)
+digit_is d false e = rw e refl
+
+-- the number of one byte
+pub one_digit_number : (d : ℕ) → number_of (d ∷ []) ≡ cond (is_ascii_digit d) (Ok (Is (d - 48))) (Err Form)
+one_digit_number d = digit_is d (is_ascii_digit d) refl
 
 below_ok : (limit : ℕ) (x : Number) (n : ℕ) → below limit x ≡ Ok n → (x ≡ Is n) × (n < limit)
 below_ok limit (Is m) n e = let h = held (ltb m limit) (Ok m) Form n e in let same : m ≡ n = ok_is m n h.1 in (ap Is same, rw (← same) (ltb-true _ _ h.0))

@@ -1,6 +1,7 @@
 -- Strings of bytes: what is read is spelled so, and what is spelled so is read.
-use Rattle.std.proofs.Common.{◌≡◌, ℕ, zero, suc, ◌+◌, ◌*◌, ◌/◌, ◌%◌, ◌<◌, ◌≤◌, true, false, cond, not, ◌&&◌, eqb, ltb, leb, List, [], ◌∷◌, ◌++◌, length, Result, Ok, Err, refl, sym, ap, subst, ◌∙◌, inl, inr, arith}
-use Rattle.std.specs.List.{All, flat_map}
+use Rattle.std.proofs.Common.{◌≡◌, ℕ, zero, suc, ◌+◌, ◌*◌, ◌/◌, ◌%◌, ◌<◌, ◌≤◌, true, false, cond, not, ◌&&◌, eqb, ltb, leb, Option, Some, None, ◌↔◌, List, [], ◌∷◌, ◌++◌, length, Result, Ok, Err, refl, sym, ap, subst, ◌∙◌, inl, inr, arith}
+use Rattle.std.specs.Prelude.{IsNone, IfSome}
+use Rattle.std.specs.List.{All, flat_map, list_all}
 use Rattle.std.specs.Str.{bytes_eq}
 use Rattle.std.proofs.lemmas.Bool.{eqb-true, eqb-false, ne_eqb, ltb-true, lt-ltb, leb-true, leb-false, le-leb, and_parts, not-true}
 use Rattle.std.proofs.lemmas.Bool.Decides.{nat_tests}
@@ -12,7 +13,7 @@ use Rattle.charlotte_text.specs.declared.fault.Fault.TheVariants.{Form, Long}
 use Rattle.charlotte_text.specs.Spelling.{is_plain, hex_digit, byte_text, bytes_text, AreBytes}
 use Rattle.charlotte_text.specs.Reading.{◌>>=◌, hex_value, escaped, byte_at, with_first, decoded, limited, spelled, bytes_of}
 use Rattle.charlotte_text.proofs.Steps.{bind_ok, ok_is, not_ok, chosen, held}
-use Rattle.charlotte_text.proofs.Bytes.{byte_first}
+use Rattle.charlotte_text.proofs.Bytes.{byte_first, decoded_plain, not_long}
 
 -- ---- digits
 
@@ -229,6 +230,19 @@ bytes_again (b ∷ bs) fits =
     let w : List ℕ = flat_map byte_text (b ∷ bs) in
     let long : 0 < length w = rw flat_map-cons (byte_long b (flat_map byte_text bs)) in
     rw (dash_free w (not_dash (b ∷ bs) fits (omega arith)), ne_eqb (length w) 0 (λ e. absurd (omega arith)), decoded_again (b ∷ bs) fits) refl
+
+plain_dash : (w : List ℕ) → list_all is_plain w ≡ true → w ≡ 45 ∷ [] → ⊥
+plain_dash w plain e = let k : list_all is_plain (45 ∷ []) ≡ true = rw e at plain in cc
+
+-- plain bytes are read as they stand
+plain_read : (w : List ℕ) → 0 < length w → list_all is_plain w ≡ true → length w ≤ 256 → bytes_of w ≡ Ok w
+unfolding bytes_of
+plain_read w lt plain le =
+    rw (dash_free w (plain_dash w plain), ne_eqb (length w) 0 (λ e. absurd (omega arith)), decoded_plain w plain, le-leb (length w) 256 le) refl
+
+pub plain_kept : (w : List ℕ) (r : Option (List ℕ)) → 0 < length w → list_all is_plain w ≡ true → (IsNone r ↔ (256 < length w)) → IfSome r (λ s. s ≡ w) → IfSome r (λ bs. bytes_of w ≡ Ok bs)
+plain_kept w None lt plain long same = tt
+plain_kept w (Some s) lt plain long same = plain_read w lt plain (not_long (length w) (λ lt. let none : IsNone (Some s) = long.1 lt in cc)) ∙ ap Ok (sym same)
 
 -- ---- no blank stands in a text
 

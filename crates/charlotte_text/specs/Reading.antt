@@ -30,6 +30,11 @@ abbrev pub Gives : {X Y : Type 0} → (X → Y) → Result X Fault → Result Y 
 Gives view (Ok x) read = read ≡ Ok (view x)
 Gives view (Err e) read = read ≡ Err e
 
+-- what a reader puts into a place is what is read
+abbrev pub Puts : {X : Type 0} → Result (Unit {0}) Fault → X → Result X Fault → Type 0
+Puts (Ok u) x read = read ≡ Ok x
+Puts (Err e) x read = read ≡ Err e
+
 -- the parts into which each place of a byte cuts a text
 abbrev pub parts : ℕ → List ℕ → List (List ℕ)
 parts separator text = slice_split (λ b. b == separator) text

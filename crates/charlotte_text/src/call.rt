@@ -1,12 +1,12 @@
 ghost use Rattle.std.specs.Prelude.{◌≡◌, ◌++◌, OnOk, OnErr, length, take};
 ghost use Rattle.std.specs.Prelude.{option_copied, Some, IfOk};
 ghost use Rattle.charlotte_text.specs.Spelling.{end_text, way_text, call_text, IsCall};
-ghost use Rattle.charlotte_text.specs.Reading.{way_of, keyword_of, only_end_of, send_of, cancel_of, print_of, operands_of, call_of, rest_parts};
+ghost use Rattle.charlotte_text.specs.Reading.{Puts, way_of, keyword_of, only_end_of, send_of, cancel_of, print_of, operands_of, call_of, rest_parts};
 
 use crate::fault::Fault;
 use crate::name::{push_end, push_ends, read_end, read_ends};
 use crate::part::{end_of_line, next_word};
-use crate::text::{push_bytes, read_bytes};
+use crate::text::{plain_bytes, push_bytes, read_bytes};
 use charlotte_calls::{Call, EndId, NoMemory, Way};
 
 /// The first word of a call.
@@ -97,13 +97,22 @@ pub fn read_call(words: Option<&[u8]>, version: u8) -> Result<Call, Fault>
     parse_call(words, version)
 }
 
-#[tactic(auto, unfolding(crate::specs::Reading::call_of))]
 fn parse_call(words: Option<&[u8]>, version: u8) -> Result<Call, Fault>
     ensures { result ≡ call_of version (rest_parts 32 (option_copied words.entry)) }
 {
+    let mut call = Call::Make;
+    read_call_into(words, version, &mut call)?;
+    Ok(call)
+}
+
+/// As `read_call`, with the call in the place of one that is there. Where there is a fault nothing is said of that place.
+#[tactic(auto, unfolding(crate::specs::Reading::call_of))]
+pub fn read_call_into(words: Option<&[u8]>, version: u8, call: &mut Call) -> Result<(), Fault>
+    ensures { Puts result call.new (call_of version (rest_parts 32 (option_copied words.entry))) }
+{
     let (word, rest) = next_word(words)?;
     let keyword = read_keyword(word)?;
-    read_operands(keyword, rest, version)
+    read_operands(keyword, rest, version, call)
 }
 
 #[tactic(auto, unfolding(crate::specs::Reading::keyword_of))]
@@ -132,23 +141,40 @@ fn read_keyword(word: &[u8]) -> Result<Keyword, Fault>
 }
 
 #[tactic(auto, unfolding(crate::specs::Reading::operands_of))]
-fn read_operands(keyword: Keyword, rest: Option<&[u8]>, version: u8) -> Result<Call, Fault>
-    ensures { result ≡ operands_of version keyword (rest_parts 32 (option_copied rest.entry)) }
+fn read_operands(
+    keyword: Keyword,
+    rest: Option<&[u8]>,
+    version: u8,
+    call: &mut Call,
+) -> Result<(), Fault>
+    ensures { Puts result call.new (operands_of version keyword (rest_parts 32 (option_copied rest.entry))) }
 {
     match keyword {
-        Keyword::Make => end_of_line(rest).map(|()| Call::Make),
-        Keyword::Destroy => Ok(Call::Destroy {
-            on: read_only_end(rest)?,
-        }),
-        Keyword::Send => read_send(rest, version),
-        Keyword::Receive => Ok(Call::Receive {
-            on: read_only_end(rest)?,
-        }),
-        Keyword::Cancel => read_cancel(rest),
-        Keyword::Wait => end_of_line(rest).map(|()| Call::Wait),
-        Keyword::Print => read_print(rest),
-        Keyword::Exit => end_of_line(rest).map(|()| Call::Exit),
+        Keyword::Make => {
+            end_of_line(rest)?;
+            *call = Call::Make;
+        }
+        Keyword::Destroy => {
+            let on = read_only_end(rest)?;
+            *call = Call::Destroy { on };
+        }
+        Keyword::Send => read_send(rest, version, call)?,
+        Keyword::Receive => {
+            let on = read_only_end(rest)?;
+            *call = Call::Receive { on };
+        }
+        Keyword::Cancel => read_cancel(rest, call)?,
+        Keyword::Wait => {
+            end_of_line(rest)?;
+            *call = Call::Wait;
+        }
+        Keyword::Print => read_print(rest, call)?,
+        Keyword::Exit => {
+            end_of_line(rest)?;
+            *call = Call::Exit;
+        }
     }
+    Ok(())
 }
 
 #[tactic(auto, unfolding(crate::specs::Reading::only_end_of))]
@@ -162,37 +188,48 @@ fn read_only_end(rest: Option<&[u8]>) -> Result<EndId, Fault>
 }
 
 #[tactic(auto, unfolding(crate::specs::Reading::send_of))]
-fn read_send(rest: Option<&[u8]>, version: u8) -> Result<Call, Fault>
-    ensures { result ≡ send_of version (rest_parts 32 (option_copied rest.entry)) }
+fn read_send(rest: Option<&[u8]>, version: u8, call: &mut Call) -> Result<(), Fault>
+    ensures { Puts result call.new (send_of version (rest_parts 32 (option_copied rest.entry))) }
 {
     let (end, rest) = next_word(rest)?;
     let on = read_end(end)?;
     let (text, rest) = next_word(rest)?;
     let enclose = read_ends(rest, if version == 1 { 1 } else { 8 })?;
+    if let Some(bytes) = plain_bytes(text) {
+        *call = Call::Send { on, bytes, enclose };
+        return Ok(());
+    }
     let bytes = read_bytes(text)?;
-    Ok(Call::Send { on, bytes, enclose })
+    *call = Call::Send { on, bytes, enclose };
+    Ok(())
 }
 
 #[tactic(auto, unfolding(crate::specs::Reading::cancel_of))]
-fn read_cancel(rest: Option<&[u8]>) -> Result<Call, Fault>
-    ensures { result ≡ cancel_of (rest_parts 32 (option_copied rest.entry)) }
+fn read_cancel(rest: Option<&[u8]>, call: &mut Call) -> Result<(), Fault>
+    ensures { Puts result call.new (cancel_of (rest_parts 32 (option_copied rest.entry))) }
 {
     let (end, rest) = next_word(rest)?;
     let on = read_end(end)?;
     let (word, rest) = next_word(rest)?;
     let way = parse_way(word)?;
     end_of_line(rest)?;
-    Ok(Call::Cancel { on, way })
+    *call = Call::Cancel { on, way };
+    Ok(())
 }
 
 #[tactic(auto, unfolding(crate::specs::Reading::print_of))]
-fn read_print(rest: Option<&[u8]>) -> Result<Call, Fault>
-    ensures { result ≡ print_of (rest_parts 32 (option_copied rest.entry)) }
+fn read_print(rest: Option<&[u8]>, call: &mut Call) -> Result<(), Fault>
+    ensures { Puts result call.new (print_of (rest_parts 32 (option_copied rest.entry))) }
 {
     let (text, rest) = next_word(rest)?;
     end_of_line(rest)?;
+    if let Some(bytes) = plain_bytes(text) {
+        *call = Call::Print { bytes };
+        return Ok(());
+    }
     let bytes = read_bytes(text)?;
-    Ok(Call::Print { bytes })
+    *call = Call::Print { bytes };
+    Ok(())
 }
 
 /// The direction that a word names, `in` or `out`.

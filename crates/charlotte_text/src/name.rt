@@ -1,5 +1,5 @@
-ghost use Rattle.std.specs.Prelude.{◌≡◌, ◌≤◌, ◌<◌, ◌^◌, ◌∷◌, ◌++◌, ℕ, List, OnOk, OnErr, IfOk, length, take, map, option_copied};
-ghost use Rattle.charlotte_text.specs.Spelling.{end_text, ends_text, plus_text, process_text, IsEnd};
+ghost use Rattle.std.specs.Prelude.{◌≡◌, ◌≤◌, ◌<◌, ◌^◌, [], ◌∷◌, ◌++◌, ℕ, List, OnOk, OnErr, IfOk, length, take, map, codes, option_copied};
+ghost use Rattle.charlotte_text.specs.Spelling.{number_text, end_text, ends_text, plus_text, process_text, side_text, IsEnd};
 ghost use Rattle.std.specs.List.{AllByRecursion};
 ghost use Rattle.charlotte_text.specs.Reading.{Gives, process_of, side_of, end_of, plus_end_of, ends_of, rest_parts};
 
@@ -14,6 +14,9 @@ pub fn push_end(out: &mut Vec<u8>, end: EndId) -> Result<(), NoMemory>
     ensures ok { OnOk result (out.new.items ≡ out.old.items ++ end_text end) }
     ensures err { OnErr result (out.new.items ≡ out.old.items) }
 {
+    if end.link.maker < 10 && end.link.count < 10 {
+        return push_short(out, end);
+    }
     let start = out.len();
     let pushed = push_parts(out, end);
     if pushed.is_err() {
@@ -22,17 +25,50 @@ pub fn push_end(out: &mut Vec<u8>, end: EndId) -> Result<(), NoMemory>
     pushed
 }
 
+// Of most ends maker and count have one digit, and they are appended at once.
+#[tactic(auto, using(std::proofs::lemmas::Fmt::decimal_digit))]
+fn push_short(out: &mut Vec<u8>, end: EndId) -> Result<(), NoMemory>
+    requires maker { end.link.maker < 10 }
+    requires count { end.link.count < 10 }
+    ensures ok { OnOk result (out.new.items ≡ out.old.items ++ end_text end) }
+    ensures err { OnErr result (out.new.items ≡ out.old.items) }
+{
+    let maker = b'0' + end.link.maker;
+    let count = b'0' + end.link.count as u8;
+    out.extend_from_slice(&[maker, b'.', count, letter(end.side)])?;
+    Ok(())
+}
+
+fn letter(side: Side) -> u8
+    ensures { result ∷ [] ≡ side_text side }
+{
+    match side {
+        Side::A => b'a',
+        Side::B => b'b',
+    }
+}
+
 fn push_parts(out: &mut Vec<u8>, end: EndId) -> Result<(), NoMemory>
     ensures ok { OnOk result (out.new.items ≡ out.old.items ++ end_text end) }
     ensures err { OnErr result (take (length out.old.items) out.new.items ≡ out.old.items) }
 {
-    push_number(out, u64::from(end.link.maker))?;
-    out.push(b'.')?;
+    push_maker(out, end.link.maker)?;
     push_number(out, u64::from(end.link.count))?;
-    out.push(match end.side {
-        Side::A => b'a',
-        Side::B => b'b',
-    })?;
+    out.push(letter(end.side))?;
+    Ok(())
+}
+
+/// The maker and its dot.
+fn push_maker(out: &mut Vec<u8>, maker: u8) -> Result<(), NoMemory>
+    ensures ok { OnOk result (out.new.items ≡ out.old.items ++ (number_text maker ++ codes ".")) }
+    ensures err { OnErr result (take (length out.old.items) out.new.items ≡ out.old.items) }
+{
+    if maker < 10 {
+        out.extend_from_slice(&[b'0' + maker, b'.'])?;
+    } else {
+        push_number(out, u64::from(maker))?;
+        out.push(b'.')?;
+    }
     Ok(())
 }
 

@@ -1,4 +1,4 @@
-ghost use Rattle.std.specs.Prelude.{◌≡◌, ◌<◌, ◌^◌, ◌++◌, ℕ, OnOk, OnErr, IfOk, IsTrue};
+ghost use Rattle.std.specs.Prelude.{◌≡◌, ◌<◌, ◌≤◌, ◌^◌, [], ◌∷◌, ◌++◌, ℕ, OnOk, OnErr, IfOk, IsTrue};
 ghost use Rattle.std.specs.List.{list_all};
 ghost use Rattle.std.specs.Char.{is_ascii_digit};
 ghost use Rattle.std.specs.Str.Parse.{digits_value};
@@ -27,6 +27,9 @@ pub fn push_number(out: &mut Vec<u8>, number: u64) -> Result<(), NoMemory>
     if number < 10 {
         return push_digit(out, number as u8);
     }
+    if number < 100 {
+        return push_two_digits(out, number as u8);
+    }
     let mut buffer = Buffer::new();
     out.extend_from_slice(buffer.format(number).as_bytes())?;
     Ok(())
@@ -43,6 +46,17 @@ fn push_digit(out: &mut Vec<u8>, digit: u8) -> Result<(), NoMemory>
     Ok(())
 }
 
+#[tactic(auto, using(crate::proofs::Numbers::two_digits))]
+fn push_two_digits(out: &mut Vec<u8>, number: u8) -> Result<(), NoMemory>
+    requires two { 10 ≤ number }
+    requires no_more { number < 100 }
+    ensures ok { OnOk result (out.new.items ≡ out.old.items ++ number_text number) }
+    ensures err { OnErr result (out.new.items ≡ out.old.items) }
+{
+    out.extend_from_slice(&[b'0' + number / 10, b'0' + number % 10])?;
+    Ok(())
+}
+
 /// The decimal number that a word is, of any size.
 pub fn read_number(word: &[u8]) -> Result<Number, Fault>
     ensures exact { result ≡ number_of word.now }
@@ -56,10 +70,21 @@ pub fn read_number(word: &[u8]) -> Result<Number, Fault>
 fn parse_number(word: &[u8]) -> Result<Number, Fault>
     ensures { result ≡ number_of word.now }
 {
-    if is_numeral(word) {
-        Ok(value(word))
-    } else {
-        Err(Fault::Form)
+    match word {
+        [digit] => one_digit(*digit),
+        _ if is_numeral(word) => Ok(value(word)),
+        _ => Err(Fault::Form),
+    }
+}
+
+// Most numbers of a line have one digit.
+#[tactic(auto, using(crate::proofs::Numbers::one_digit_number))]
+fn one_digit(digit: u8) -> Result<Number, Fault>
+    ensures { result ≡ number_of (digit ∷ []) }
+{
+    match digit {
+        b'0'..=b'9' => Ok(Number::Is(u64::from(digit - b'0'))),
+        _ => Err(Fault::Form),
     }
 }
 

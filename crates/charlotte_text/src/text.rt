@@ -1,4 +1,4 @@
-ghost use Rattle.std.specs.Prelude.{◌≡◌, ◌<◌, ◌++◌, ℕ, List, OnOk, OnErr, IfOk, if◌then◌else◌, true, nat_le, length, take};
+ghost use Rattle.std.specs.Prelude.{◌≡◌, ◌<◌, ◌++◌, ℕ, List, OnOk, OnErr, IfOk, IfSome, Ok, if◌then◌else◌, true, nat_le, length, take};
 ghost use Rattle.charlotte_text.specs.Spelling.{is_plain, hex_digit, byte_text, bytes_text, AreBytes};
 ghost use Rattle.charlotte_text.specs.Reading.{Gives, hex_value, escaped, byte_at, spelled, bytes_of};
 ghost use Rattle.std.specs.List.{flat_map, list_all};
@@ -67,11 +67,15 @@ pub(crate) fn plain(byte: u8) -> bool
     matches!(byte, b'0'..=b'9' | b'A'..=b'Z' | b'a'..=b'z' | b'_' | b'.')
 }
 
-/// Whether each byte stands for itself.
+/// Whether each byte stands for itself. The loop has no early end, so that it is made of steps over many bytes.
 fn all_plain(bytes: &[u8]) -> bool
     ensures { result ≡ list_all is_plain bytes.now }
 {
-    bytes.iter().all(|byte| plain(*byte))
+    let mut all = true;
+    for byte in bytes {
+        all &= plain(*byte);
+    }
+    all
 }
 
 fn digit(value: u8) -> u8
@@ -106,6 +110,17 @@ fn parse_bytes(word: &[u8]) -> Result<Bytes, Fault>
         return Err(Fault::Form);
     }
     decode(word)
+}
+
+/// The bytes that a word spells where all of them stand for themselves and are at most 256, which are not moved again.
+#[tactic(auto, using(crate::proofs::Texts::plain_kept))]
+pub(crate) fn plain_bytes(word: &[u8]) -> Option<Bytes>
+    ensures { IfSome result (λ bytes. bytes_of word.now ≡ Ok bytes) }
+{
+    if word.is_empty() || !all_plain(word) {
+        return None;
+    }
+    Bytes::from_slice(word)
 }
 
 // A word whose bytes all stand for themselves spells them.

@@ -32,6 +32,35 @@ impl Model for CompactScriptCall {
 }
 
 impl CompactScriptCall {
+    ghost use Rattle.lynx_plan.specs.declared.script.ScriptCall.TheVariants.{Ask, Take, Settle};
+
+    /// A process makes a call.
+    pub(crate) fn ask(process: Pid, call: CompactCall) -> CompactScriptCall
+        ensures { result ≡ Ask process call }
+    {
+        CompactScriptCall {
+            stored: StoredScriptCall::Ask(process, call),
+        }
+    }
+
+    /// Kernel `to` takes the first packet from kernel `from`.
+    pub(crate) fn take(from: u8, to: u8) -> CompactScriptCall
+        ensures { result ≡ Take from to }
+    {
+        CompactScriptCall {
+            stored: StoredScriptCall::Take { from, to },
+        }
+    }
+
+    /// Packets are taken until none is left.
+    pub(crate) fn settle() -> CompactScriptCall
+        ensures { result ≡ Settle }
+    {
+        CompactScriptCall {
+            stored: StoredScriptCall::Settle,
+        }
+    }
+
     /// The same.
     pub fn of(alloc: Global, what: &ScriptCall) -> Result<CompactScriptCall, NoMemory>
         ensures { IfOk result (λ c. c ≡ what.now) }

@@ -1,7 +1,6 @@
 ghost use Rattle.std.specs.Prelude.{◌≡◌, length};
 ghost use Rattle.lynx_plan.specs.Given.{Given, nothing};
 
-use crate::compact::CompactScriptCall;
 use crate::meaning::Meaning;
 use crate::script::{Script, ScriptLine};
 use crate::stage::Stage;
@@ -104,7 +103,6 @@ impl Draft {
                 self.stage = Stage::Wires;
             }
             Meaning::Line(what) => {
-                let what = CompactScriptCall::of(*self.lines.allocator(), &what)?;
                 self.lines.push(ScriptLine { line, what })?;
                 self.stage = Stage::Calls;
             }

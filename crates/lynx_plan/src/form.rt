@@ -1,9 +1,12 @@
-ghost use Rattle.std.specs.Prelude.{◌≡◌, option_copied};
+ghost use Rattle.std.specs.Prelude.{◌≡◌, ◌≢◌, ℕ, List, IfOk, option_copied};
 ghost use Rattle.charlotte_text.specs.Reading.{rest_parts, words};
+ghost use Rattle.lynx_plan.specs.declared.form.Lead.TheVariants as Lead;
 ghost use Rattle.lynx_plan.specs.Forms.{lead_of, one_number, two_numbers, placed, asked, led, form_of};
 
-use charlotte_calls::Call;
-use charlotte_text::{Fault, Number, end_of_line, next_word, read_call, read_number, read_process};
+use charlotte_calls::{Call, NoMemory};
+use charlotte_text::{Fault, Number, cut, end_of_line, next_word, read_call_into, read_number, read_process};
+use compact_calls::CompactCall;
+use std::alloc::Global;
 
 /// Which kind of line a first word begins.
 #[derive(Clone, Copy, Debug)]
@@ -25,25 +28,28 @@ pub(crate) enum Form {
     /// The process and its kernel.
     Process(Number, Number),
     Wire(Number, Number),
-    Ask(Number, Call),
+    Ask(Number, CompactCall),
     /// A call whose text has more than 256 bytes.
     LongAsk(Number),
     Take(Number, Number),
     Settle,
 }
 
-/// The form of a line of a script of this version.
-#[tactic(auto, unfolding(crate::specs::Forms::form_of))]
-pub(crate) fn script_form(version: u8, line: &[u8]) -> Result<Form, Fault>
-    ensures { result ≡ form_of version (words line.now) }
+/// The form of a line of a script of this version. A call is read into a place that is lent, and kept at its own length.
+#[tactic(auto, unfolding(crate::specs::Forms::form_of, crate::specs::Forms::led))]
+pub(crate) fn script_form(alloc: Global, version: u8, line: &[u8], place: &mut Call) -> Result<Result<Form, Fault>, NoMemory>
+    ensures { IfOk result (λ form. form ≡ form_of version (words line.now)) }
 {
-    let (word, rest) = next_word(Some(line))?;
-    led_form(version, read_lead(word), word, rest)
+    let (word, rest) = cut(b' ', line);
+    match read_lead(word) {
+        Lead::Other => call_of_process(alloc, version, word, rest, place),
+        lead => Ok(led_form(lead, rest)),
+    }
 }
 
 #[tactic(auto, unfolding(crate::specs::Forms::led))]
-fn led_form(version: u8, lead: Lead, word: &[u8], rest: Option<&[u8]>) -> Result<Form, Fault>
-    ensures { result ≡ led version lead word.now (rest_parts 32 (option_copied rest.entry)) }
+fn led_form(lead: Lead, rest: Option<&[u8]>) -> Result<Form, Fault>
+    ensures { lead ≢ Lead.Other → (version : ℕ) (word : List ℕ) → result ≡ led version lead word (rest_parts 32 (option_copied rest.entry)) }
 {
     match lead {
         Lead::Version => Ok(Form::Version(number(rest)?)),
@@ -60,23 +66,31 @@ fn led_form(version: u8, lead: Lead, word: &[u8], rest: Option<&[u8]>) -> Result
             let (from, to) = numbers(rest)?;
             Ok(Form::Take(from, to))
         }
-        Lead::Settle => {
+        Lead::Settle | Lead::Other => {
             end_of_line(rest)?;
             Ok(Form::Settle)
         }
-        Lead::Other => call_of_process(version, word, rest),
     }
 }
 
 #[tactic(auto, unfolding(crate::specs::Forms::asked))]
-fn call_of_process(version: u8, word: &[u8], rest: Option<&[u8]>) -> Result<Form, Fault>
-    ensures { result ≡ asked version word.now (rest_parts 32 (option_copied rest.entry)) }
+fn call_of_process(
+    alloc: Global,
+    version: u8,
+    word: &[u8],
+    rest: Option<&[u8]>,
+    place: &mut Call,
+) -> Result<Result<Form, Fault>, NoMemory>
+    ensures { IfOk result (λ form. form ≡ asked version word.now (rest_parts 32 (option_copied rest.entry))) }
 {
-    let process = read_process(word)?;
-    match read_call(rest, version) {
-        Ok(call) => Ok(Form::Ask(process, call)),
-        Err(Fault::Long) => Ok(Form::LongAsk(process)),
-        Err(Fault::Form) => Err(Fault::Form),
+    let process = match read_process(word) {
+        Ok(process) => process,
+        Err(fault) => return Ok(Err(fault)),
+    };
+    match read_call_into(rest, version, place) {
+        Ok(()) => Ok(Ok(Form::Ask(process, CompactCall::of(alloc, place)?))),
+        Err(Fault::Long) => Ok(Ok(Form::LongAsk(process))),
+        Err(Fault::Form) => Ok(Err(Fault::Form)),
     }
 }
 

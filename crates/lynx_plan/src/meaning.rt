@@ -1,4 +1,4 @@
-use crate::script::ScriptCall;
+use crate::compact::CompactScriptCall;
 use charlotte_calls::Pid;
 
 /// What a line says that fails no rule.
@@ -9,5 +9,5 @@ pub(crate) enum Meaning {
     /// The kernel of the next process.
     Process(u8),
     Wire(Pid, Pid),
-    Line(ScriptCall),
+    Line(CompactScriptCall),
 }

@@ -12,6 +12,7 @@ use crate::rule::Rule;
 use crate::rules::judge;
 use crate::script::Script;
 use crate::stage::Stage;
+use charlotte_calls::{Call, NoMemory};
 use charlotte_text::cut;
 use std::alloc::Global;
 
@@ -37,12 +38,13 @@ fn read_lines(alloc: Global, bytes: &[u8]) -> Result<Script, PlanFault>
     ensures { Gives result (script_of bytes.now) }
 {
     let mut draft = Draft::new(alloc);
+    let mut place = Call::Make;
     let mut line = 0;
     let mut rest = Some(bytes);
     while let Some(text) = rest {
         let (this, after) = cut(b'\n', text);
         line += 1;
-        read_line(&mut draft, line, this)?;
+        read_line(alloc, &mut draft, line, this, &mut place)?;
         rest = after;
     }
     match draft.stage() {
@@ -55,14 +57,14 @@ fn read_lines(alloc: Global, bytes: &[u8]) -> Result<Script, PlanFault>
 }
 
 #[tactic(auto, unfolding(crate::specs::Reading::line_read))]
-fn read_line(draft: &mut Draft, line: u32, text: &[u8]) -> Result<(), PlanFault>
+fn read_line(alloc: Global, draft: &mut Draft, line: u32, text: &[u8], place: &mut Call) -> Result<(), PlanFault>
     requires { length draft.old.homes ≤ 64 }
     ensures { MatchResult result (λ _. line_read line draft.old text.now ≡ Ok draft.new) (λ e. Fails e (line_read line draft.old text.now)) }
 {
     if skipped(text) {
         return Ok(());
     }
-    match read_meaning(draft, text) {
+    match read_meaning(alloc, draft, text, place)? {
         Ok(meaning) => draft.add(line, meaning)?,
         Err(rule) => {
             let rule = rule.number();
@@ -83,12 +85,12 @@ fn skipped(text: &[u8]) -> bool
 
 /// What a line says, or the least rule that it fails.
 #[tactic(auto, unfolding(crate::specs::Reading::meaning_at))]
-fn read_meaning(draft: &Draft, text: &[u8]) -> Result<Meaning, Rule>
+fn read_meaning(alloc: Global, draft: &Draft, text: &[u8], place: &mut Call) -> Result<Result<Meaning, Rule>, NoMemory>
     requires { length draft.now.homes ≤ 64 }
-    ensures { result ≡ meaning_at draft.now text.now }
+    ensures { IfOk result (λ meaning. meaning ≡ meaning_at draft.now text.now) }
 {
-    match script_form(draft.version(), text) {
-        Ok(form) => judge(draft, form),
-        Err(_) => Err(Rule::LineDoesNotStandThere),
+    match script_form(alloc, draft.version(), text, place)? {
+        Ok(form) => Ok(judge(draft, form)),
+        Err(_) => Ok(Err(Rule::LineDoesNotStandThere)),
     }
 }

@@ -1,11 +1,11 @@
 ghost use Rattle.std.specs.Prelude.{◌≡◌, ◌<◌, ◌≤◌, IsTrue, Some, None, if◌then◌else◌, length};
 ghost use Rattle.lynx_plan.specs.Rules.{allows, is_below, is_number, value, known_process, ruled, judged};
 
+use crate::compact::CompactScriptCall;
 use crate::draft::Draft;
 use crate::form::Form;
 use crate::meaning::Meaning;
 use crate::rule::Rule;
-use crate::script::ScriptCall;
 use crate::stage::Stage;
 use charlotte_calls::Pid;
 use charlotte_text::Number;
@@ -48,7 +48,7 @@ fn rule(draft: &Draft, form: Form) -> Result<Meaning, Rule>
         Form::Process(process, kernel) => rule_process(draft, process, kernel),
         Form::Wire(first, second) => rule_wire(draft, first, second),
         Form::Ask(process, call) => match known(draft, process) {
-            Some(pid) => Ok(Meaning::Line(ScriptCall::Ask(pid, call))),
+            Some(pid) => Ok(Meaning::Line(CompactScriptCall::ask(pid, call))),
             None => Err(Rule::ProcessIsNotThere),
         },
         Form::LongAsk(process) => match known(draft, process) {
@@ -56,7 +56,7 @@ fn rule(draft: &Draft, form: Form) -> Result<Meaning, Rule>
             None => Err(Rule::ProcessIsNotThere),
         },
         Form::Take(from, to) => rule_take(draft, from, to),
-        Form::Settle => Ok(Meaning::Line(ScriptCall::Settle)),
+        Form::Settle => Ok(Meaning::Line(CompactScriptCall::settle())),
     }
 }
 
@@ -120,10 +120,8 @@ fn rule_take(draft: &Draft, from: Number, to: Number) -> Result<Meaning, Rule>
     if !below(from, kernels) || !below(to, kernels) {
         return Err(Rule::KernelIsNotThere);
     }
-    Ok(Meaning::Line(ScriptCall::Take {
-        from: value(from) as u8,
-        to: value(to) as u8,
-    }))
+    let what = CompactScriptCall::take(value(from) as u8, value(to) as u8);
+    Ok(Meaning::Line(what))
 }
 
 /// The process of a number, where it is declared.
