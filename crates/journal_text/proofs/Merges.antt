@@ -150,7 +150,7 @@ pub record IsSoFar (all rests : ℕ → List Entry) (merged : List Placed) : Typ
   pub entries : (k : ℕ) → of_kernel k merged ++ rests k ≡ all k
   pub next : (k : ℕ) → IsNext merged k (rests k)
 
-IsSoFar-end : (all rests : ℕ → List Entry) (merged : List Placed) → IsSoFar all rests merged → ((k : ℕ) → rests k ≡ []) → (k : ℕ) → of_kernel k merged ≡ all k
+pub IsSoFar-end : (all rests : ℕ → List Entry) (merged : List Placed) → IsSoFar all rests merged → ((k : ℕ) → rests k ≡ []) → (k : ℕ) → of_kernel k merged ≡ all k
 IsSoFar-end all rests merged s h k = sym (append-nil (of_kernel k merged)) ∙ ap (λ es. of_kernel k merged ++ es) (sym (h k)) ∙ s.entries k
 
 AreInOrder-push : (ps : List Placed) (x y : Placed) → AreInOrder (ps ++ x ∷ []) → IsTrue (stands_before x y) → AreInOrder ((ps ++ x ∷ []) ++ y ∷ [])
@@ -229,13 +229,13 @@ IsPopped-first ls n head e es all first is =
     }
 
 -- the merge so far after the first entry of all is placed
-IsSoFar-popped : (all : ℕ → List Entry) (before after : List (List Entry)) (merged : List Placed) (placed : Placed) → IsPopped before after placed → AreRising (entries_at before placed.kernel) → IsSoFar all (entries_at before) merged → IsSoFar all (entries_at after) (merged ++ placed ∷ [])
+pub IsSoFar-popped : (all : ℕ → List Entry) (before after : List (List Entry)) (merged : List Placed) (placed : Placed) → IsPopped before after placed → AreRising (entries_at before placed.kernel) → IsSoFar all (entries_at before) merged → IsSoFar all (entries_at after) (merged ++ placed ∷ [])
 IsSoFar-popped all before after merged placed popped rising so_far =
     let ups : AreRising (placed.entry ∷ entries_at after placed.kernel) = subst (λ (xs : List Entry). AreRising xs) popped.entry rising in
     IsSoFar-more all (entries_at before) (entries_at after) merged placed.kernel placed.entry (entries_at after placed.kernel) so_far popped.entry refl popped.others ups popped.first
 
 -- what is left after that rises too
-AreRising-popped : (before after : List (List Entry)) (placed : Placed) → IsPopped before after placed → ((k : ℕ) → AreRising (entries_at before k)) → (k : ℕ) → AreRising (entries_at after k)
+pub AreRising-popped : (before after : List (List Entry)) (placed : Placed) → IsPopped before after placed → ((k : ℕ) → AreRising (entries_at before k)) → (k : ℕ) → AreRising (entries_at after k)
 AreRising-popped before after placed popped rising k =
     elim (eqb_tells k placed.kernel) [
       | inl w ↦ subst (λ (i : ℕ). AreRising (entries_at after i)) (sym w.1) (AreRising-tail placed.entry (entries_at after placed.kernel) (subst (λ (xs : List Entry). AreRising xs) popped.entry (rising placed.kernel)))

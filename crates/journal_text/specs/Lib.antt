@@ -2,4 +2,3 @@ pub mod Journal
 pub mod Heads
 pub mod Transcript
 pub mod TranscriptText
-pub mod Left

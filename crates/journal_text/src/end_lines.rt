@@ -7,7 +7,8 @@ use charlotte_calls::NoMemory;
 use charlotte_text::push_number;
 use std::alloc::Global;
 
-pub(crate) fn push_note_line(out: &mut Vec<u8>, note: ScriptNote) -> Result<(), NoMemory>
+/// Appends the line of a note, as `note 7 waits`.
+pub fn push_note_line(out: &mut Vec<u8>, note: ScriptNote) -> Result<(), NoMemory>
     ensures { OnOk result (out.new.items ≡ out.old.items ++ line (note_text note)) }
 {
     out.extend_from_slice(b"note ")?;
@@ -38,7 +39,8 @@ pub(crate) fn push_note_lines(
     Ok(())
 }
 
-pub(crate) fn push_last_line(out: &mut Vec<u8>, last: Last) -> Result<(), NoMemory>
+/// Appends the last line.
+pub fn push_last_line(out: &mut Vec<u8>, last: Last) -> Result<(), NoMemory>
     ensures { OnOk result (out.new.items ≡ out.old.items ++ line (last_text last)) }
 {
     match last {

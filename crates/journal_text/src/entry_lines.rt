@@ -4,9 +4,10 @@ ghost use Rattle.journal_text.specs.Journal.{placed_at};
 ghost use Rattle.journal_text.specs.Transcript.{line, happened_text, entry_text, step_text, entry_lines};
 
 use crate::call::push_kept_call;
+use crate::happened::{push_asking, push_taking};
 use crate::header_lines::empty_line;
-use crate::packet::push_packet;
-use crate::step::{push_of, push_step};
+use crate::packet::push_kept_packet;
+use crate::step::push_kept_step;
 use crate::{Entry, Happened, Placed};
 use charlotte_calls::NoMemory;
 use charlotte_text::push_number;
@@ -18,22 +19,18 @@ fn push_happened(out: &mut Vec<u8>, what: &Happened) -> Result<(), NoMemory>
 {
     match what {
         Happened::Asked { p, call } => {
-            push_of(out, b" ", *p)?;
-            out.push(b' ')?;
-            push_kept_call(out, call.stored())?;
+            push_asking(out, *p)?;
+            push_kept_call(out, call.stored())
         }
         Happened::Took { from, picture } => {
-            out.extend_from_slice(b" from ")?;
-            push_number(out, u64::from(*from))?;
-            out.push(b' ')?;
-            push_packet(out, picture.stored())?;
+            push_taking(out, *from)?;
+            push_kept_packet(out, picture.stored())
         }
     }
-    Ok(())
 }
 
 /// Appends the line of an entry of this kernel.
-pub(crate) fn push_entry_line(out: &mut Vec<u8>, kernel: u8, entry: &Entry) -> Result<(), NoMemory>
+fn push_entry_line(out: &mut Vec<u8>, kernel: u8, entry: &Entry) -> Result<(), NoMemory>
     ensures { OnOk result (out.new.items ≡ out.old.items ++ line (entry_text (placed_at kernel entry.now))) }
 {
     push_number(out, entry.stamp)?;
@@ -52,10 +49,10 @@ fn entry_line(alloc: Global, placed: &Placed) -> Result<Vec<u8>, NoMemory>
     Ok(text)
 }
 
-pub(crate) fn push_step_line(out: &mut Vec<u8>, step: &CompactStep) -> Result<(), NoMemory>
+fn push_step_line(out: &mut Vec<u8>, step: &CompactStep) -> Result<(), NoMemory>
     ensures { OnOk result (out.new.items ≡ out.old.items ++ line (step_text step.now)) }
 {
-    push_step(out, step.stored())?;
+    push_kept_step(out, step.stored())?;
     out.push(b'\n')?;
     Ok(())
 }

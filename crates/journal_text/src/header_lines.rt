@@ -14,7 +14,8 @@ pub(crate) fn empty_line(alloc: Global) -> Result<Vec<u8>, NoMemory>
     Ok(Vec::with_capacity(alloc, 40)?)
 }
 
-pub(crate) fn push_number_line(out: &mut Vec<u8>, word: &[u8], number: u8) -> Result<(), NoMemory>
+/// Appends the line of a word with its blank, and a number.
+pub fn push_number_line(out: &mut Vec<u8>, word: &[u8], number: u8) -> Result<(), NoMemory>
     ensures { OnOk result (out.new.items ≡ out.old.items ++ line (word.now ++ number_text number)) }
 {
     out.extend_from_slice(word)?;
@@ -31,7 +32,8 @@ pub(crate) fn number_line(alloc: Global, word: &[u8], number: u8) -> Result<Vec<
     Ok(text)
 }
 
-pub(crate) fn push_process_line(out: &mut Vec<u8>, number: usize, home: u8) -> Result<(), NoMemory>
+/// Appends the line of a process with its kernel, as `process 0 on 1`.
+pub fn push_process_line(out: &mut Vec<u8>, number: usize, home: u8) -> Result<(), NoMemory>
     ensures { OnOk result (out.new.items ≡ out.old.items ++ line (process_home_text number home)) }
 {
     out.extend_from_slice(b"process ")?;
@@ -50,7 +52,8 @@ fn process_line(alloc: Global, number: usize, home: u8) -> Result<Vec<u8>, NoMem
     Ok(text)
 }
 
-pub(crate) fn push_wire_line(out: &mut Vec<u8>, wire: (Pid, Pid)) -> Result<(), NoMemory>
+/// Appends the line of a wire, as `wire 0 1`.
+pub fn push_wire_line(out: &mut Vec<u8>, wire: (Pid, Pid)) -> Result<(), NoMemory>
     ensures { OnOk result (out.new.items ≡ out.old.items ++ line (wire_text wire)) }
 {
     out.extend_from_slice(b"wire")?;

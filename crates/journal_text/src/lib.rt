@@ -4,20 +4,20 @@
 mod call;
 mod end_lines;
 mod entry_lines;
+mod happened;
 mod header_lines;
 mod journal;
 mod last;
-mod merged;
 mod merging;
 mod packet;
 mod print;
 mod step;
-mod transcript;
 
+pub use end_lines::{push_last_line, push_note_line};
+pub use happened::{push_asked, push_step_line, push_took};
+pub use header_lines::{push_number_line, push_process_line, push_wire_line};
 pub use journal::Journal;
 pub use kernel_world::{Entry, Happened, Placed};
 pub use last::{Last, ScriptNote};
-pub use merged::Merged;
-pub use merging::{merge, merge_whole};
+pub use merging::{Head, earlier, merge, merge_whole};
 pub use print::{print_entry, print_header, print_picture, print_transcript};
-pub use transcript::TranscriptLines;

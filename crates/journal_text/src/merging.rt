@@ -11,9 +11,9 @@ use std::collections::VecDeque;
 
 /// The first entry of a kernel that is not placed yet.
 #[derive(Clone, Copy)]
-struct Head {
-    kernel: usize,
-    stamp: u64,
+pub struct Head {
+    pub kernel: usize,
+    pub stamp: u64,
 }
 
 /// All entries of at most eight journals, one for each kernel in order, by stamp and kernel. The entries are copied.
@@ -100,7 +100,7 @@ fn first_stamp(queue: &VecDeque<Entry>) -> Option<u64>
 }
 
 /// The first head so far or that of a later kernel: the one with the smaller stamp, and the first where they are equal.
-fn earlier(first: Option<Head>, kernel: usize, stamp: Option<u64>) -> Option<Head>
+pub fn earlier(first: Option<Head>, kernel: usize, stamp: Option<u64>) -> Option<Head>
     ensures { result ≡ earlier_head first kernel stamp }
 {
     let Some(stamp) = stamp else {

@@ -1,11 +1,12 @@
 ghost use Rattle.std.specs.Prelude.{◌≡◌, ◌++◌, ◌∷◌, [], OnOk, codes};
+ghost use Rattle.charlotte_calls.specs.Packets.{what_picture};
 ghost use Rattle.charlotte_text.specs.Spelling.{end_text, bytes_text};
 ghost use Rattle.compact_calls.specs.Stored.{what_of};
 ghost use Rattle.journal_text.specs.Transcript.{numbers_behind, numbers_text, value_text, values_text, packet_text};
 
-use charlotte_calls::{EndId, MovingPicture, NoMemory};
+use charlotte_calls::{EndId, MovingPicture, NoMemory, What};
 use charlotte_text::{push_bytes, push_end, push_number};
-use compact_calls::{Carried, StoredWhat};
+use compact_calls::StoredWhat;
 
 /// Appends numbers, each behind this byte.
 pub(crate) fn push_numbers(out: &mut Vec<u8>, mark: u8, numbers: &[u64]) -> Result<(), NoMemory>
@@ -109,24 +110,28 @@ fn push_about(
 }
 
 /// Appends what a parcel carries: its bytes, and its values.
-fn push_carried(out: &mut Vec<u8>, carried: &Carried) -> Result<(), NoMemory>
-    ensures { OnOk result (out.new.items ≡ out.old.items ++ codes " " ++ bytes_text carried.now.bytes ++ values_text carried.now.moving) }
+fn push_carried(out: &mut Vec<u8>, bytes: &[u8], values: &[MovingPicture]) -> Result<(), NoMemory>
+    ensures { OnOk result (out.new.items ≡ out.old.items ++ codes " " ++ bytes_text bytes.now ++ values_text values.now) }
 {
     out.push(b' ')?;
-    push_bytes(out, carried.bytes())?;
-    push_values(out, carried.moving())
+    push_bytes(out, bytes)?;
+    push_values(out, values)
 }
 
+/// Appends a parcel with its numbers: that of the message and of its receive, and where the opposite end is.
 fn push_parcel(
     out: &mut Vec<u8>,
     to: EndId,
-    numbers: &[u64],
-    carried: &Carried,
+    numbers: (u32, u32, u8, u32),
+    bytes: &[u8],
+    values: &[MovingPicture],
 ) -> Result<(), NoMemory>
-    ensures { OnOk result (out.new.items ≡ out.old.items ++ codes "parcel " ++ end_text to ++ numbers_text numbers.now ++ codes " " ++ bytes_text carried.now.bytes ++ values_text carried.now.moving) }
+    ensures { OnOk result (out.new.items ≡ out.old.items ++ codes "parcel " ++ end_text to ++ numbers_text (numbers.0 ∷ numbers.1 ∷ numbers.2 ∷ numbers.3 ∷ []) ++ codes " " ++ bytes_text bytes.now ++ values_text values.now) }
 {
-    push_form(out, b"parcel ", to, numbers)?;
-    push_carried(out, carried)
+    let (n, w, at, hops) = numbers;
+    let numbers = [u64::from(n), u64::from(w), u64::from(at), u64::from(hops)];
+    push_form(out, b"parcel ", to, &numbers)?;
+    push_carried(out, bytes, values)
 }
 
 fn push_back(out: &mut Vec<u8>, to: EndId, n: u32, values: &[MovingPicture]) -> Result<(), NoMemory>
@@ -136,8 +141,8 @@ fn push_back(out: &mut Vec<u8>, to: EndId, n: u32, values: &[MovingPicture]) -> 
     push_values(out, values)
 }
 
-/// Appends a packet, as `want 0.0a 1 0 0`.
-pub(crate) fn push_packet(out: &mut Vec<u8>, what: &StoredWhat) -> Result<(), NoMemory>
+/// Appends a packet as it is kept, as `want 0.0a 1 0 0`.
+pub(crate) fn push_kept_packet(out: &mut Vec<u8>, what: &StoredWhat) -> Result<(), NoMemory>
     ensures { OnOk result (out.new.items ≡ out.old.items ++ packet_text (what_of what.now)) }
 {
     match what {
@@ -154,13 +159,8 @@ pub(crate) fn push_packet(out: &mut Vec<u8>, what: &StoredWhat) -> Result<(), No
             hops,
             carried,
         } => {
-            let numbers = [
-                u64::from(*n),
-                u64::from(*w),
-                u64::from(*at),
-                u64::from(*hops),
-            ];
-            push_parcel(out, *to, &numbers, carried)
+            let numbers = (*n, *w, *at, *hops);
+            push_parcel(out, *to, numbers, carried.bytes(), carried.moving())
         }
         StoredWhat::Taken { to, n, at, hops } => push_about(out, b"taken ", *to, *n, *at, *hops),
         StoredWhat::Back { to, n, moving } => push_back(out, *to, *n, moving.as_slice()),
@@ -169,5 +169,35 @@ pub(crate) fn push_packet(out: &mut Vec<u8>, what: &StoredWhat) -> Result<(), No
         StoredWhat::Known { to, hops } => push_numbered(out, b"known ", *to, *hops),
         StoredWhat::Forget { to, hops } => push_numbered(out, b"forget ", *to, *hops),
         StoredWhat::GoneSeen { to } => push_on(out, b"goneseen ", *to),
+    }
+}
+
+/// Appends a packet, as `want 0.0a 1 0 0`.
+pub(crate) fn push_packet(out: &mut Vec<u8>, what: &What) -> Result<(), NoMemory>
+    ensures { OnOk result (out.new.items ≡ out.old.items ++ packet_text (what_picture what.now)) }
+{
+    match what {
+        What::Want { to, w, at, hops } => push_about(out, b"want ", *to, *w, *at, *hops),
+        What::Unwant { to, w, at, hops } => push_about(out, b"unwant ", *to, *w, *at, *hops),
+        What::Unwanted { to, w, at, hops } => push_about(out, b"unwanted ", *to, *w, *at, *hops),
+        What::Parcel {
+            to,
+            n,
+            w,
+            at,
+            hops,
+            bytes,
+            moving,
+        } => {
+            let numbers = (*n, *w, *at, *hops);
+            push_parcel(out, *to, numbers, bytes.as_slice(), moving.values())
+        }
+        What::Taken { to, n, at, hops } => push_about(out, b"taken ", *to, *n, *at, *hops),
+        What::Back { to, n, moving } => push_back(out, *to, *n, moving.values()),
+        What::Gone { to, at } => push_form(out, b"gone ", *to, &[u64::from(*at)]),
+        What::Moved { to, at, hops } => push_place(out, b"moved ", *to, *at, *hops),
+        What::Known { to, hops } => push_numbered(out, b"known ", *to, *hops),
+        What::Forget { to, hops } => push_numbered(out, b"forget ", *to, *hops),
+        What::GoneSeen { to } => push_on(out, b"goneseen ", *to),
     }
 }

@@ -6,7 +6,7 @@ ghost use Rattle.journal_text.specs.TranscriptText.{AreOfTranscript, IsTranscrip
 use crate::end_lines::{last_line, push_note_lines};
 use crate::entry_lines::{push_entry_lines, push_merged_lines};
 use crate::header_lines::{number_line, push_process_lines, push_wire_lines};
-use crate::packet::push_packet;
+use crate::packet::push_kept_packet;
 use crate::{Last, Placed, ScriptNote};
 use charlotte_calls::{NoMemory, Picture, Setting};
 use compact_calls::CompactPicture;
@@ -18,7 +18,7 @@ pub fn print_picture(alloc: Global, picture: &Picture) -> Result<Vec<u8>, NoMemo
 {
     let mut text = Vec::new(alloc);
     let picture = CompactPicture::of(alloc, picture)?;
-    push_packet(&mut text, picture.stored())?;
+    push_kept_packet(&mut text, picture.stored())?;
     Ok(text)
 }
 

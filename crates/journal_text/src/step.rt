@@ -4,7 +4,7 @@ ghost use Rattle.compact_calls.specs.Stored.{report_of, step_of};
 ghost use Rattle.journal_text.specs.Transcript.{cause_text, numbers_text, result_text, report_text, suffix_text, step_text};
 
 use crate::packet::{push_numbered, push_on};
-use charlotte_calls::{Cause, EndId, NoMemory, Outcome, Pid, Way};
+use charlotte_calls::{Cause, EndId, NoMemory, Outcome, Pid, Report, ServiceStep, Way};
 use charlotte_text::{push_bytes, push_ends, push_process, push_way};
 use compact_calls::{StoredReport, StoredStep};
 
@@ -60,19 +60,39 @@ fn push_result(
     Ok(())
 }
 
-fn push_report(out: &mut Vec<u8>, p: Pid, report: &StoredReport) -> Result<(), NoMemory>
-    ensures { OnOk result (out.new.items ≡ out.old.items ++ report_text p (report_of report.now)) }
+/// Appends a report up to how the activity was over.
+fn push_over(out: &mut Vec<u8>, p: Pid, on: EndId, way: Way) -> Result<(), NoMemory>
+    ensures { OnOk result (out.new.items ≡ out.old.items ++ codes ". report " ++ process_text p ++ codes " " ++ end_text on ++ codes " " ++ way_text way) }
 {
     push_of(out, b". report ", p)?;
-    push_on(out, b" ", report.on)?;
+    push_on(out, b" ", on)?;
     out.push(b' ')?;
-    push_way(out, report.way)?;
+    push_way(out, way)
+}
+
+fn push_kept_report(out: &mut Vec<u8>, p: Pid, report: &StoredReport) -> Result<(), NoMemory>
+    ensures { OnOk result (out.new.items ≡ out.old.items ++ report_text p (report_of report.now)) }
+{
+    push_over(out, p, report.on, report.way)?;
     push_result(
         out,
         report.way,
         report.outcome,
         report.message.bytes(),
         report.message.enclose(),
+    )
+}
+
+fn push_report(out: &mut Vec<u8>, p: Pid, report: &Report) -> Result<(), NoMemory>
+    ensures { OnOk result (out.new.items ≡ out.old.items ++ report_text p report.now) }
+{
+    push_over(out, p, report.on, report.way)?;
+    push_result(
+        out,
+        report.way,
+        report.outcome,
+        report.bytes.as_slice(),
+        report.enclosed.as_slice(),
     )
 }
 
@@ -138,8 +158,8 @@ fn push_back(out: &mut Vec<u8>, on: EndId, n: u32, dead: bool) -> Result<(), NoM
     push_suffix(out, dead, b"dead")
 }
 
-/// Appends a service step, as `. take 0.0a 1 p1 late`.
-pub(crate) fn push_step(out: &mut Vec<u8>, step: &StoredStep) -> Result<(), NoMemory>
+/// Appends a service step as it is kept, as `. take 0.0a 1 p1 late`.
+pub(crate) fn push_kept_step(out: &mut Vec<u8>, step: &StoredStep) -> Result<(), NoMemory>
     ensures { OnOk result (out.new.items ≡ out.old.items ++ step_text (step_of step.now)) }
 {
     match step {
@@ -150,7 +170,7 @@ pub(crate) fn push_step(out: &mut Vec<u8>, step: &StoredStep) -> Result<(), NoMe
         StoredStep::Receive { on } => push_on(out, b". receive ", *on),
         StoredStep::Cancel { on, way } => push_cancel(out, *on, *way),
         StoredStep::Wait { p } => push_of(out, b". wait ", *p),
-        StoredStep::Report { p, report } => push_report(out, *p, report),
+        StoredStep::Report { p, report } => push_kept_report(out, *p, report),
         StoredStep::Exit { p } => push_of(out, b". exit ", *p),
         StoredStep::Match { on, n } => push_numbered(out, b". match ", *on, *n),
         StoredStep::Take { on, n, p, late } => push_take(out, *on, *n, *p, *late),
@@ -159,5 +179,34 @@ pub(crate) fn push_step(out: &mut Vec<u8>, step: &StoredStep) -> Result<(), NoMe
         StoredStep::Free { on } => push_on(out, b". free ", *on),
         StoredStep::Notice { on, dead } => push_notice(out, *on, *dead),
         StoredStep::Back { on, n, dead } => push_back(out, *on, *n, *dead),
+    }
+}
+
+/// Appends a service step, as `. take 0.0a 1 p1 late`.
+pub(crate) fn push_step(out: &mut Vec<u8>, step: &ServiceStep) -> Result<(), NoMemory>
+    ensures { OnOk result (out.new.items ≡ out.old.items ++ step_text step.now) }
+{
+    match step {
+        ServiceStep::Make { p: _, a, b } => push_make(out, *a, *b),
+        ServiceStep::Refuse { p, call: _, cause } => push_refusal(out, *p, *cause),
+        ServiceStep::Destroy { on } => push_on(out, b". destroy ", *on),
+        ServiceStep::Send {
+            on,
+            n,
+            bytes: _,
+            enclose,
+        } => push_send(out, *on, *n, enclose.as_slice()),
+        ServiceStep::Receive { on } => push_on(out, b". receive ", *on),
+        ServiceStep::Cancel { on, way } => push_cancel(out, *on, *way),
+        ServiceStep::Wait { p } => push_of(out, b". wait ", *p),
+        ServiceStep::Report { p, report } => push_report(out, *p, report),
+        ServiceStep::Exit { p } => push_of(out, b". exit ", *p),
+        ServiceStep::Match { on, n } => push_numbered(out, b". match ", *on, *n),
+        ServiceStep::Take { on, n, p, late } => push_take(out, *on, *n, *p, *late),
+        ServiceStep::Complete { on, n } => push_numbered(out, b". complete ", *on, *n),
+        ServiceStep::Withdraw { on } => push_on(out, b". withdraw ", *on),
+        ServiceStep::Free { on } => push_on(out, b". free ", *on),
+        ServiceStep::Notice { on, dead } => push_notice(out, *on, *dead),
+        ServiceStep::Back { on, n, dead } => push_back(out, *on, *n, *dead),
     }
 }

@@ -12,8 +12,8 @@ mod whole;
 
 pub use fault::ReplayFault;
 pub use journal_text::{
-    Entry, Happened, Journal, Last, Merged, Placed, ScriptNote, TranscriptLines, merge,
-    print_entry, print_header, print_picture, print_transcript,
+    Entry, Happened, Journal, Last, Placed, ScriptNote, merge, print_entry, print_header,
+    print_picture, print_transcript,
 };
 pub use lines::Replay;
 pub use transcript_reader::{Line, LineFault, LineKind, Reader, ServiceLine, read_transcript};
