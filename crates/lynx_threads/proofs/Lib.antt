@@ -1,5 +1,6 @@
 pub mod Agreement
 pub mod Closing
+pub mod Counts
 pub mod Emitting
 pub mod Entries
 pub mod Loops

@@ -31,6 +31,10 @@ fn emit_body(code: &mut Vec<Instruction>, names: &Scope, body: &[Stmt]) -> Resul
     ensures fits { OnOk result (length code.new.items ≤ 65535) }
     ensures long { result ≡ Err faults.CodeTooLong → 65535 < length code.old.items + length (body_code (names_in names.now) (length code.old.items) (stmt_list body.now)) }
 {
+    // Each statement has an instruction, and the end has one.
+    if body.len() >= MOST {
+        return Err(CompileFault::CodeTooLong);
+    }
     emit_stmts(code, names, body)?;
     push(code, Instruction::End)?;
     Ok(())

@@ -22,15 +22,24 @@ use lynx_typing::rule::MODULE_NAME_IS_NEW;
 use lynx_typing::{Found, Names, Scope, Walk};
 use std::alloc::Global;
 
+/// How many names a module has.
+fn count_names(tree: &Module) -> usize {
+    tree.ops
+        .len()
+        .saturating_add(tree.params.len())
+        .saturating_add(tree.vars.len())
+        .saturating_add(tree.entries.len())
+}
+
 /// The first fault of a module.
 fn first_fault(alloc: Global, tree: &Module) -> Result<Option<Found>, NoMemory>
     requires { length (module_marks (module_tree tree.now)) < 4294967296 }
     ensures { IfOk result (λ found. first_found found ≡ first_fault (module_faults (module_tree tree.now))) }
 {
     let mut walk = Walk::start();
-    let mut names = Names::new(alloc);
+    let mut names = Names::with_capacity(alloc, count_names(tree))?;
     walk.skip(3);
-    ops(alloc, &mut walk, &mut names, &tree.ops)?;
+    ops(&mut walk, &mut names, &tree.ops)?;
     params(&mut walk, &mut names, &tree.params)?;
     vars(&mut walk, &mut names, MODULE_NAME_IS_NEW, &tree.vars)?;
     let news = declare_entries(alloc, &mut names, &tree.entries)?;

@@ -18,7 +18,6 @@ use lynx_typing::rule::{
     MODULE_NAME_IS_NEW, OP_FITS_PACKETS, OP_HAS_FEW_LINKS, PARAM_IS_LINK, ROW_HAS_LENGTH,
 };
 use lynx_typing::{Named, Names, Walk, has_length, is_link};
-use std::alloc::Global;
 
 /// How many tokens a type has.
 fn type_size(kind: TypeName) -> u32
@@ -80,12 +79,7 @@ fn declared<'m>(
 }
 
 /// Goes over an operation, and declares it.
-fn op<'m>(
-    alloc: Global,
-    walk: &mut Walk,
-    names: &mut Names<'m>,
-    op: &'m OpDecl,
-) -> Result<(), NoMemory>
+fn op<'m>(walk: &mut Walk, names: &mut Names<'m>, op: &'m OpDecl) -> Result<(), NoMemory>
     requires { walk.old.at + op_size (op_tree op.now) < 4294967296 }
     ensures at { OnOk result (walk.new.at ≡ walk.old.at + op_size (op_tree op.now)) }
     ensures first { OnOk result (walk.new.first ≡ first_with walk.old.first (news_faults 1 (look names.old) (op_named walk.old.at (op_tree op.now)) ++ op_faults walk.old.at (op_tree op.now))) }
@@ -98,8 +92,7 @@ fn op<'m>(
     let place = walk.at() + 1;
     declared(walk, names, MODULE_NAME_IS_NEW, &op.name, meaning)?;
     walk.demand(OP_HAS_FEW_LINKS, place, has_few_links(op));
-    let fits = fits_packets(alloc, op)?;
-    walk.demand(OP_FITS_PACKETS, place, fits);
+    walk.demand(OP_FITS_PACKETS, place, fits_packets(op));
     types(walk, &op.arguments);
     walk.skip(1);
     types(walk, &op.results);
@@ -109,7 +102,6 @@ fn op<'m>(
 
 /// Goes over operations, and declares them.
 pub(crate) fn ops<'m>(
-    alloc: Global,
     walk: &mut Walk,
     names: &mut Names<'m>,
     ops: &'m [OpDecl],
@@ -120,7 +112,7 @@ pub(crate) fn ops<'m>(
     ensures names { OnOk result ((q : List ℕ) → look names.new q ≡ then_declared (look names.old) (each_at op_size op_named walk.old.at (map op_tree ops.now)) q) }
 {
     for item in ops {
-        op(alloc, walk, names, item)?;
+        op(walk, names, item)?;
     }
     Ok(())
 }

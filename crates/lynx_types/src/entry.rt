@@ -105,7 +105,8 @@ fn locals<'m>(
     ensures first { OnOk result (walk.new.first ≡ first_with walk.old.first (news_faults 2 nowhere (locals_named walk.old.at (entry_tree entry.now) types.now) ++ each_at var_size var_faults (walk.old.at + length (names_marks 0 (entry_tree entry.now).parameters)) (entry_tree entry.now).vars)) }
     ensures names { IfOk result (λ names. (q : List ℕ) → look names q ≡ meaning_in (locals_named walk.old.at (entry_tree entry.now) types.now) q) }
 {
-    let mut names = Names::new(alloc);
+    let count = entry.parameters.len().saturating_add(entry.vars.len());
+    let mut names = Names::with_capacity(alloc, count)?;
     parameters(walk, &mut names, &entry.parameters, types)?;
     vars(walk, &mut names, LOCAL_NAME_IS_NEW, &entry.vars)?;
     Ok(names)

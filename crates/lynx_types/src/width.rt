@@ -1,14 +1,13 @@
 //! The links and the widest packets of operations.
 
-ghost use Rattle.std.specs.Prelude.{◌≡◌, ◌+◌, ◌≤◌, ◌&&◌, nat_le, IfOk, min};
+ghost use Rattle.std.specs.Prelude.{◌≡◌, ◌+◌, ◌≤◌, ◌&&◌, nat_le, length, min};
 ghost use Rattle.std.specs.List.{sum_by};
 ghost use Rattle.lynx_tree.specs.Trees.{op_tree};
-ghost use Rattle.lynx_typing.specs.Signatures.{widest, widest_request, widest_reply, links_among};
+ghost use Rattle.lynx_typing.specs.Signatures.{type_text, types_text, widest, widest_request, widest_reply, links_among};
 
-use lynx_lexer::NoMemory;
+use itoa::Buffer;
 use lynx_tree::{OpDecl, TypeName};
-use lynx_typing::{is_link, signature};
-use std::alloc::Global;
+use lynx_typing::is_link;
 
 /// The most links among an operation's arguments, and among its results.
 const MOST_LINKS: usize = 8;
@@ -18,6 +17,9 @@ const MOST_BYTES: u64 = 256;
 
 /// The bytes of a packet before the signature and the values.
 const HEAD_BYTES: u64 = 6;
+
+/// The signs of a signature, besides the commas.
+const SIGN_BYTES: u64 = 5;
 
 /// How many of the types are links.
 fn links_among(types: &[TypeName]) -> usize
@@ -39,7 +41,15 @@ pub(crate) fn has_few_links(op: &OpDecl) -> bool
     links_among(&op.arguments) <= MOST_LINKS && links_among(&op.results) <= MOST_LINKS
 }
 
-/// The bytes of the widest value of a type, behind so many others. What passes the bytes of a packet counts as one more than they.
+/// So many bytes and more. What passes the bytes of a packet counts as one more than they.
+fn plus(bytes: u64, more: u64) -> u64
+    requires { bytes ≤ 257 }
+    ensures { result ≡ min (bytes + more) 257 }
+{
+    (bytes + more.min(MOST_BYTES + 1)).min(MOST_BYTES + 1)
+}
+
+/// The bytes of the widest value of a type, behind so many others, with the same limit.
 fn behind(bytes: u64, kind: TypeName) -> u64
     requires { bytes ≤ 257 }
     ensures { result ≡ min (bytes + widest kind) 257 }
@@ -66,14 +76,46 @@ fn width(bytes: u64, types: &[TypeName]) -> u64
     sum
 }
 
-/// Whether the widest request and the widest reply of an operation are packets.
-pub(crate) fn fits_packets(alloc: Global, op: &OpDecl) -> Result<bool, NoMemory>
-    ensures { IfOk result (λ fits. fits ≡ (nat_le (widest_request (op_tree op.now)) 256 && nat_le (widest_reply (op_tree op.now)) 256)) }
+/// The bytes of a type in a signature.
+fn type_length(kind: TypeName) -> u64
+    ensures value { result ≡ length (type_text kind) }
+    ensures short { result ≤ 43 }
 {
-    let signature = signature(alloc, op)?;
-    let bytes = (signature.len() as u64).min(MOST_BYTES - HEAD_BYTES + 1);
-    Ok(
-        width(HEAD_BYTES + bytes, &op.arguments) <= MOST_BYTES
-            && width(HEAD_BYTES, &op.results) <= MOST_BYTES,
-    )
+    match kind {
+        TypeName::Int => 3,
+        TypeName::Bool | TypeName::Text | TypeName::Link => 4,
+        TypeName::Row(length) => 3 + Buffer::new().format(length).len() as u64,
+    }
+}
+
+/// The bytes of types with commas between them, behind so many others, with the same limit.
+fn spelled(bytes: u64, types: &[TypeName]) -> u64
+    requires { bytes ≤ 257 }
+    ensures { result ≡ min (bytes + length (types_text types.now)) 257 }
+{
+    let Some((first, rest)) = types.split_first() else {
+        return bytes;
+    };
+    let mut sum = plus(bytes, type_length(*first));
+    for kind in rest {
+        sum = plus(sum, 1 + type_length(*kind));
+    }
+    sum
+}
+
+/// The bytes of the widest request of an operation, with the same limit.
+fn request_width(op: &OpDecl) -> u64
+    ensures { result ≡ min (widest_request (op_tree op.now)) 257 }
+{
+    let name = op.name.as_slice().len() as u64;
+    let arguments = spelled(HEAD_BYTES + SIGN_BYTES + name, &op.arguments);
+    let signature = spelled(arguments, &op.results);
+    width(signature, &op.arguments)
+}
+
+/// Whether the widest request and the widest reply of an operation are packets.
+pub(crate) fn fits_packets(op: &OpDecl) -> bool
+    ensures { result ≡ (nat_le (widest_request (op_tree op.now)) 256 && nat_le (widest_reply (op_tree op.now)) 256) }
+{
+    request_width(op) <= MOST_BYTES && width(HEAD_BYTES, &op.results) <= MOST_BYTES
 }

@@ -45,7 +45,7 @@ statements-requires c =
 pub returns : goal.returns
 returns c =
     let m = module_tree c.args.tree.now in
-    let s0 = look c.new-names.result in
+    let s0 = look c.in_ok-names.names in
     let s1 = look c.ops.new.names in
     let s2 = look c.params.new.names in
     let s3 = look c.vars.new.names in
@@ -64,7 +64,7 @@ returns c =
     let start : c.skip.new.self.first ≡ None = c.skip.ensures.first ∙ c.start-walk.ensures.first in
     let scope : scope_of c.outside-scope.result ≡ s4 = same_scope (scope_of c.outside-scope.result) s4 c.outside-scope.ensures in
     c.first.ensures
-    ∙ module_first m s0 s1 s2 s3 s4 c.ops.new.walk.first c.params.new.walk.first c.vars.new.walk.first c.entries.new.walk.first c.statements.new.walk.first news c.new-names.ensures
+    ∙ module_first m s0 s1 s2 s3 s4 c.ops.new.walk.first c.params.new.walk.first c.vars.new.walk.first c.entries.new.walk.first c.statements.new.walk.first news c.in_ok-names.ensures
     (λ q. c.in_ok-ops.ensures.names q ∙ (λ j. then_declared s0 (each_at op_size op_named (at1 j) (map op_tree (ops j))) q))
     (λ q. c.in_ok-params.ensures.names q ∙ (λ j. then_declared s1 (each_at var_size var_named (at2 j) (map var_tree (params j))) q))
     (λ q. c.in_ok-vars.ensures.names q ∙ (λ j. then_declared s2 (each_at var_size var_named (at3 j) (map var_tree (vars j))) q))

@@ -20,6 +20,6 @@ returns-clause-first c =
     (news_faults 1 (look c.args.names.now) (op_named a op)) (op_has_few_links (a + 1) op) (op_fits_packets (a + 1) op)
     (omega (arith, c.in_ok-declared.ensures.at)) (omega (arith, c.in_ok-declared.ensures.at, size)) c.in_ok-declared.ensures.first
     (c.demand.ensures.first ∙ (λ j. first_with c.declared.new.walk.first (demand 5 (c.at-place.ensures j + 1) (c.has_few_links.ensures j))))
-    (c.demand-2.ensures.first ∙ (λ j. first_with c.demand.new.self.first (demand 24 (c.at-place.ensures j + 1) (c.in_ok-fits.ensures j))))
+    (c.demand-2.ensures.first ∙ (λ j. first_with c.demand.new.self.first (demand 24 (c.at-place.ensures j + 1) (c.fits_packets.ensures j))))
     (c.types.ensures.first ∙ ap (λ ts. first_with c.demand-2.new.self.first (types_faults (c.demand-2.new.self.at + 1) ts)) c.deref-3.ensures.value)
     (c.types-2.ensures.first ∙ (λ j. first_with (c.skip.ensures.first j) (types_faults (c.skip.new.self.at + 1) (c.deref-4.ensures.value j))))
