@@ -39,6 +39,15 @@ impl<'m> Names<'m> {
         }
     }
 
+    /// A table without names, with room for so many.
+    pub fn with_capacity(alloc: Global, names: usize) -> Result<Names<'m>, NoMemory>
+        ensures { IfOk result (λ made. (name : List ℕ) → look made name ≡ None) }
+    {
+        Ok(Names {
+            meanings: IndexMap::with_capacity(alloc, names)?,
+        })
+    }
+
     /// What a name means. None exactly where it is not declared.
     pub fn look(&self, name: &IdentRef) -> Option<Named<'m>>
         ensures { meaning_known result ≡ look self.now name.now }
