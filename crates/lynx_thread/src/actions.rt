@@ -14,7 +14,7 @@ use crate::outcomes::Answered;
 use crate::thread::Thread;
 use lynx_lexer::NoMemory;
 use lynx_typing::ShortText;
-use thread_values::{Value, written_number, written_text, written_truth};
+use thread_values::{Value, written_number, written_truth};
 
 impl Thread {
     #[inline(never)]
@@ -154,7 +154,7 @@ impl Thread {
         match self.operands.top() {
             Some(Value::Int(number)) => written_number(number),
             Some(Value::Bool(truth)) => written_truth(truth),
-            Some(Value::Text(text)) => written_text(&text),
+            Some(Value::Text(text)) => text,
             _ => unreachable!(),
         }
     }

@@ -25,7 +25,7 @@ impl Thread {
         if self.truth() == truth {
             return self.jumps(address);
         }
-        self.drops(1);
+        self.pop_bool();
         self.goes()
     }
 

@@ -4,7 +4,7 @@ ghost use Rattle.std.specs.Prelude.{◌≡◌, ◌<◌, ℕ, List, ◌∷◌, Bo
 ghost use Rattle.lynx_code.specs.declared.instruction.Instruction.TheVariants as code;
 ghost use Rattle.lynx_meaning.specs.Code.{Program, gives, goes};
 ghost use Rattle.lynx_meaning.specs.Values as meaning;
-ghost use Rattle.lynx_meaning.specs.Values.{Int, Truth, Text, value_eq};
+ghost use Rattle.lynx_meaning.specs.Values.{Int, Truth, value_eq};
 ghost use Rattle.thread_stack.specs.Stacks.{TopIsInt, TopIsTruth, AreAlikeOnTop};
 ghost use Rattle.thread_values.specs.Told as values;
 ghost use Rattle.thread_turns.specs.Threads.{in_turn, made};
@@ -14,8 +14,8 @@ ghost use Rattle.thread_operands.specs.Operands.{does, AreInts};
 use crate::action::Move;
 use crate::thread::Thread;
 use lynx_code::Literal;
-use lynx_lexer::{NoMemory, TextLit};
-use lynx_typing::{Exception, ShortText};
+use lynx_lexer::NoMemory;
+use lynx_typing::Exception;
 use thread_values::{add, divide, multiply, negate, reduce, subtract};
 
 impl Thread {
@@ -26,20 +26,9 @@ impl Thread {
         match literal {
             Literal::Int(number) => self.push_int(*number)?,
             Literal::Bool(truth) => self.push_bool(*truth)?,
-            Literal::Text(text) => self.push_literal_text(text)?,
+            Literal::Text(text) => self.push_text(text)?,
         }
         Ok(self.goes())
-    }
-
-    // A literal text comes on the stack.
-    #[inline(never)]
-    fn push_literal_text(&mut self, literal: &TextLit) -> Result<(), NoMemory>
-        ensures { OnOk result (self.new ≡ record self.old { stack = Text literal.now ∷ self.old.stack }) }
-    {
-        match ShortText::from_slice(literal.as_slice()) {
-            Some(text) => self.push_text(text),
-            None => unreachable!(),
-        }
     }
 
     // In place of two numbers comes what an operator gives of them; an exception leaves them there.

@@ -11,8 +11,8 @@ ghost use Rattle.lynx_thread.specs.Kept.{opened_of};
 
 use crate::action::{Action, Move};
 use crate::thread::{Opened, Thread};
-use lynx_lexer::NoMemory;
-use lynx_typing::{Exception, ShortText};
+use lynx_lexer::{NoMemory, TextLit};
+use lynx_typing::Exception;
 use thread_stack::Variables;
 
 impl Thread {
@@ -112,10 +112,10 @@ impl Thread {
         self.operands.push_bool(truth)
     }
 
-    pub(crate) fn push_text(&mut self, text: ShortText) -> Result<(), NoMemory>
-        ensures { OnOk result (self.new ≡ record self.old { stack = Text text ∷ self.old.stack }) }
+    pub(crate) fn push_text(&mut self, literal: &TextLit) -> Result<(), NoMemory>
+        ensures { OnOk result (self.new ≡ record self.old { stack = Text literal.now ∷ self.old.stack }) }
     {
-        self.operands.push_text(text)
+        self.operands.push_text(literal.as_slice())
     }
 
     /// So many operands are dropped.

@@ -1,53 +1,63 @@
 -- What is pushed last stands on top.
-use Rattle.std.proofs.Common.{arith, ◌≡◌, ℕ, suc, ◌-◌, ◌<◌, ◌≤◌, Option, Some, None, List, [], ◌∷◌, ◌++◌, reverse, length, drop, ap, sym, refl, subst, ◌∙◌}
-use Rattle.std.proofs.lemmas.List.{length-reverse, reverse-append}
-use Rattle.lynx_meaning.specs.Values.{Value}
+use Rattle.std.proofs.Common.{arith, ◌≡◌, ℕ, ℤ, suc, ◌-◌, ◌<◌, ◌≤◌, List, [], ◌∷◌, ◌++◌, reverse, length, take, drop, ap, sym, refl, subst, ◌∙◌}
+use Rattle.std.proofs.lemmas.List.{length-append, length-reverse, reverse-append}
+use Rattle.std.proofs.Math.Seq.{drop-append_seam, take-append_seam}
+use Rattle.lynx_meaning.specs.Values.{Value, Text, Row}
 use Rattle.thread_stack.specs.declared.operands.Operand.{Operand}
 use Rattle.thread_stack.specs.declared.operands.Operand.TheVariants as operand
-use Rattle.thread_stack.specs.declared.operands.Large.{Large}
-use Rattle.thread_values.specs.Told.{value_of}
-use Rattle.thread_values.specs.declared.value.Value as taken
-use Rattle.thread_stack.specs.Stacks.{stacked, AreTogether, IsTaken, large_value}
+use Rattle.thread_stack.specs.Stacks.{stacked, AreTogether}
 
 pub last_first : {X : Type 0} (xs : List X) (x : X) → reverse (xs ++ x ∷ []) ≡ x ∷ reverse xs
 last_first xs x = reverse-append xs (x ∷ [])
 
 -- an operand on top
-pub on_top : (before now : List Operand) (o : Operand) (vs : List Large) → now ≡ before ++ o ∷ [] → stacked (reverse now) vs ≡ stacked (o ∷ reverse before) vs
-on_top before now o vs e = ap (λ os. stacked (reverse os) vs) e ∙ ap (λ os. stacked os vs) (last_first before o)
+pub on_top : (before now : List Operand) (o : Operand) (bytes : List ℕ) (rows : List (List ℤ)) → now ≡ before ++ o ∷ [] → stacked (reverse now) bytes rows ≡ stacked (o ∷ reverse before) bytes rows
+on_top before now o bytes rows e = ap (λ os. stacked (reverse os) bytes rows) e ∙ ap (λ os. stacked os bytes rows) (last_first before o)
 
-pub together_on_top : (before now : List Operand) (o : Operand) (vs : List Large) → now ≡ before ++ o ∷ [] → AreTogether (reverse now) vs ≡ AreTogether (o ∷ reverse before) vs
-together_on_top before now o vs e = ap (λ os. AreTogether (reverse os) vs) e ∙ ap (λ os. AreTogether os vs) (last_first before o)
+pub together_on_top : (before now : List Operand) (o : Operand) (bytes : List ℕ) (rows : List (List ℤ)) → now ≡ before ++ o ∷ [] → AreTogether (reverse now) bytes rows ≡ AreTogether (o ∷ reverse before) bytes rows
+together_on_top before now o bytes rows e = ap (λ os. AreTogether (reverse os) bytes rows) e ∙ ap (λ os. AreTogether os bytes rows) (last_first before o)
 
--- with its large value
-pub large_on_top : (before now : List Operand) (vs ws : List Large) (v : Large) → now ≡ before ++ operand.Large ∷ [] → ws ≡ vs ++ v ∷ [] → stacked (reverse now) (reverse ws) ≡ large_value v ∷ stacked (reverse before) (reverse vs)
-large_on_top before now vs ws v e f = on_top before now operand.Large (reverse ws) e ∙ ap (λ ls. stacked (operand.Large ∷ reverse before) ls) (ap reverse f ∙ last_first vs v)
+-- a text, with its bytes
+behind : (bytes text : List ℕ) → length (bytes ++ text) - length text ≡ length bytes
+behind bytes text = omega (arith, length-append bytes text)
 
-pub large_together : (before now : List Operand) (vs ws : List Large) (v : Large) → now ≡ before ++ operand.Large ∷ [] → ws ≡ vs ++ v ∷ [] → AreTogether (reverse now) (reverse ws) ≡ AreTogether (reverse before) (reverse vs)
-large_together before now vs ws v e f = together_on_top before now operand.Large (reverse ws) e ∙ ap (λ ls. AreTogether (operand.Large ∷ reverse before) ls) (ap reverse f ∙ last_first vs v)
+pub text_on_top : (before now : List Operand) (bytes longer text : List ℕ) (rows : List (List ℤ)) → now ≡ before ++ operand.Text (length text) ∷ [] → longer ≡ bytes ++ text →
+    stacked (reverse now) longer rows ≡ Text text ∷ stacked (reverse before) bytes rows
+text_on_top before now bytes longer text rows e f =
+    on_top before now (operand.Text (length text)) longer rows e
+    ∙ ap (λ bs. stacked (operand.Text (length text) ∷ reverse before) bs rows) f
+    ∙ ap (λ k. Text (drop k (bytes ++ text)) ∷ stacked (reverse before) (take k (bytes ++ text)) rows) (behind bytes text)
+    ∙ ap (λ bs. Text bs ∷ stacked (reverse before) (take (length bytes) (bytes ++ text)) rows) (drop-append_seam bytes text)
+    ∙ ap (λ bs. Text text ∷ stacked (reverse before) bs rows) (take-append_seam bytes text)
+
+pub text_together : (before now : List Operand) (bytes longer text : List ℕ) (rows : List (List ℤ)) → now ≡ before ++ operand.Text (length text) ∷ [] → longer ≡ bytes ++ text →
+    length text ≤ 64 → AreTogether (reverse before) bytes rows → AreTogether (reverse now) longer rows
+text_together before now bytes longer text rows e f fits together =
+    let kept : take (length (bytes ++ text) - length text) (bytes ++ text) ≡ bytes = ap (λ k. take k (bytes ++ text)) (behind bytes text) ∙ take-append_seam bytes text in
+    let all : AreTogether (operand.Text (length text) ∷ reverse before) (bytes ++ text) rows =
+    (omega (arith, length-append bytes text), fits, subst (λ bs. AreTogether (reverse before) bs rows) (sym kept) together) in
+    subst (λ (T : Type 0). T) (sym (together_on_top before now (operand.Text (length text)) longer rows e)) (subst (λ bs. AreTogether (operand.Text (length text) ∷ reverse before) bs rows) (sym f) all)
+
+-- a row
+pub row_on_top : (before now : List Operand) (bytes : List ℕ) (rows more : List (List ℤ)) (row : List ℤ) → now ≡ before ++ operand.Row ∷ [] → more ≡ rows ++ row ∷ [] →
+    stacked (reverse now) bytes (reverse more) ≡ Row row ∷ stacked (reverse before) bytes (reverse rows)
+row_on_top before now bytes rows more row e f = on_top before now operand.Row bytes (reverse more) e ∙ ap (λ rs. stacked (operand.Row ∷ reverse before) bytes rs) (ap reverse f ∙ last_first rows row)
+
+pub row_together : (before now : List Operand) (bytes : List ℕ) (rows more : List (List ℤ)) (row : List ℤ) → now ≡ before ++ operand.Row ∷ [] → more ≡ rows ++ row ∷ [] →
+    AreTogether (reverse now) bytes (reverse more) ≡ AreTogether (reverse before) bytes (reverse rows)
+row_together before now bytes rows more row e f = together_on_top before now operand.Row bytes (reverse more) e ∙ ap (λ rs. AreTogether (operand.Row ∷ reverse before) bytes rs) (ap reverse f ∙ last_first rows row)
 
 -- ---- the lowest operands
 
-cut_cons : (height : ℕ) (v : Value) (now : List Value) → height ≤ length now → drop (length (v ∷ now) - height) (v ∷ now) ≡ drop (length now - height) now
-cut_cons height v now fits =
-    let e : length (v ∷ now) - height ≡ suc (length now - height) = omega arith in
-    ap (λ k. drop k (v ∷ now)) e
+pub cut_one : (height : ℕ) (before : List Value) → height < length before → drop (length before - height) before ≡ drop (length (drop 1 before) - height) (drop 1 before)
+cut_one height [] higher = absurd (omega arith)
+cut_one height (v ∷ vs) higher =
+    let e : length (v ∷ vs) - height ≡ suc (length vs - height) = omega arith in
+    ap (λ k. drop k (v ∷ vs)) e
 
-pub cut_one : (height : ℕ) (before now : List Value) (o : Option taken.Value) → height < length before → IsTaken before now o → drop (length before - height) before ≡ drop (length now - height) now
-cut_one height before now None higher is =
-    let low : height < 0 = subst (λ vs. height < length vs) is.0 higher in
-    let none : ⊥ = omega arith in
-    absurd none
-cut_one height before now (Some v) higher is =
-    let taller : height < length (value_of v ∷ now) = subst (λ vs. height < length vs) is higher in
-    subst (λ vs. drop (length vs - height) vs ≡ drop (length now - height) now) (sym is) (cut_cons height (value_of v) now (omega arith))
-
-pub cut_shorter : (height : ℕ) (before now : List Value) (o : Option taken.Value) → height < length before → IsTaken before now o → length now < length before
-cut_shorter height before now None higher is =
-    let low : height < 0 = subst (λ vs. height < length vs) is.0 higher in
-    let none : ⊥ = omega arith in
-    absurd none
-cut_shorter height before now (Some v) higher is = subst (λ vs. length now < length vs) (sym is) (omega arith)
+pub cut_shorter : (height : ℕ) (before : List Value) → height < length before → length (drop 1 before) < length before
+cut_shorter height [] higher = absurd (omega arith)
+cut_shorter height (v ∷ vs) higher = omega arith
 
 pub cut_done : (height : ℕ) (now : List Value) → length now ≤ height → drop (length now - height) now ≡ now
 cut_done height now fits =
@@ -56,13 +66,14 @@ cut_done height now fits =
 
 -- ---- how many there are
 
-depth : (ops : List Operand) (vs : List Large) → AreTogether ops vs → length (stacked ops vs) ≡ length ops
-depth [] vs together = refl
-depth (operand.Int n ∷ ops) vs together = omega (arith, depth ops vs together)
-depth (operand.Bool b ∷ ops) vs together = omega (arith, depth ops vs together)
-depth (operand.Link l ∷ ops) vs together = omega (arith, depth ops vs together)
-depth (operand.Large ∷ ops) [] together = absurd together
-depth (operand.Large ∷ ops) (v ∷ vs) together = omega (arith, depth ops vs together)
+depth : (ops : List Operand) (bytes : List ℕ) (rows : List (List ℤ)) → AreTogether ops bytes rows → length (stacked ops bytes rows) ≡ length ops
+depth [] bytes rows together = refl
+depth (operand.Int n ∷ ops) bytes rows together = omega (arith, depth ops bytes rows together)
+depth (operand.Bool b ∷ ops) bytes rows together = omega (arith, depth ops bytes rows together)
+depth (operand.Link l ∷ ops) bytes rows together = omega (arith, depth ops bytes rows together)
+depth (operand.Text n ∷ ops) bytes rows together = omega (arith, depth ops (take (length bytes - n) bytes) rows together.2)
+depth (operand.Row ∷ ops) bytes [] together = absurd together
+depth (operand.Row ∷ ops) bytes (row ∷ rows) together = omega (arith, depth ops bytes rows together)
 
-pub deep : (ops : List Operand) (vs : List Large) → AreTogether (reverse ops) (reverse vs) → length (stacked (reverse ops) (reverse vs)) ≡ length ops
-deep ops vs together = depth (reverse ops) (reverse vs) together ∙ length-reverse ops
+pub deep : (ops : List Operand) (bytes : List ℕ) (rows : List (List ℤ)) → AreTogether (reverse ops) bytes (reverse rows) → length (stacked (reverse ops) bytes (reverse rows)) ≡ length ops
+deep ops bytes rows together = depth (reverse ops) bytes (reverse rows) together ∙ length-reverse ops

@@ -1,5 +1,5 @@
 -- Operands and variables as they are kept, as values.
-use Rattle.std.specs.Prelude.{◌≡◌, ℕ, ℤ, List, [], ◌∷◌, map, slice_get, slice_set, OnErr, Bool, Option, Some, None, Result, Err, ⊤}
+use Rattle.std.specs.Prelude.{◌≡◌, ◌≤◌, ◌-◌, ℕ, ℤ, List, [], ◌∷◌, length, take, drop, map, slice_get, slice_set, OnErr, Bool, Option, Some, None, Result, Err, ⊤}
 use Rattle.lynx_typing.specs.declared.exception.Exception.{Exception}
 use Rattle.lynx_typing.specs.declared.exception.Exception.TheVariants as exceptions
 use Rattle.lynx_meaning.specs.Values.{Value, Given, Int, Truth, Text, Row, Link, member, with_member, value_eq}
@@ -9,31 +9,26 @@ use Rattle.thread_stack.specs.declared.variables.Variable.{Variable}
 use Rattle.thread_stack.specs.declared.variables.Variable.TheVariants as variable
 use Rattle.thread_stack.specs.declared.operands.Operand.{Operand}
 use Rattle.thread_stack.specs.declared.operands.Operand.TheVariants as operand
-use Rattle.thread_stack.specs.declared.operands.Large.{Large}
-use Rattle.thread_stack.specs.declared.operands.Large.TheVariants as large
 
-abbrev pub large_value : Large → Value
-large_value (large.Text bytes) = Text bytes
-large_value (large.Row numbers) = Row numbers
+-- the values of a stack, the last one first, as are the operands and the rows; the bytes of texts stand in the order in which they came
+abbrev pub stacked : List Operand → List ℕ → List (List ℤ) → List Value
+stacked [] bytes rows = []
+stacked (operand.Int n ∷ ops) bytes rows = Int n ∷ stacked ops bytes rows
+stacked (operand.Bool b ∷ ops) bytes rows = Truth b ∷ stacked ops bytes rows
+stacked (operand.Link l ∷ ops) bytes rows = Link l.0 ∷ stacked ops bytes rows
+stacked (operand.Text n ∷ ops) bytes rows = Text (drop (length bytes - n) bytes) ∷ stacked ops (take (length bytes - n) bytes) rows
+stacked (operand.Row ∷ ops) bytes [] = stacked ops bytes []
+stacked (operand.Row ∷ ops) bytes (row ∷ rows) = Row row ∷ stacked ops bytes rows
 
--- the values of a stack, the last one first, as are the operands and the large values
-abbrev pub stacked : List Operand → List Large → List Value
-stacked [] vs = []
-stacked (operand.Int n ∷ ops) vs = Int n ∷ stacked ops vs
-stacked (operand.Bool b ∷ ops) vs = Truth b ∷ stacked ops vs
-stacked (operand.Link l ∷ ops) vs = Link l.0 ∷ stacked ops vs
-stacked (operand.Large ∷ ops) [] = stacked ops []
-stacked (operand.Large ∷ ops) (v ∷ vs) = large_value v ∷ stacked ops vs
-
--- there is a large value for each large operand, and no other
-abbrev pub AreTogether : List Operand → List Large → Type 0
-AreTogether [] [] = ⊤
-AreTogether [] (v ∷ vs) = ⊥
-AreTogether (operand.Int n ∷ ops) vs = AreTogether ops vs
-AreTogether (operand.Bool b ∷ ops) vs = AreTogether ops vs
-AreTogether (operand.Link l ∷ ops) vs = AreTogether ops vs
-AreTogether (operand.Large ∷ ops) [] = ⊥
-AreTogether (operand.Large ∷ ops) (v ∷ vs) = AreTogether ops vs
+-- there are the bytes of each text, 64 at most, and a row for each operand that is one
+abbrev pub AreTogether : List Operand → List ℕ → List (List ℤ) → Type 0
+AreTogether [] bytes rows = ⊤
+AreTogether (operand.Int n ∷ ops) bytes rows = AreTogether ops bytes rows
+AreTogether (operand.Bool b ∷ ops) bytes rows = AreTogether ops bytes rows
+AreTogether (operand.Link l ∷ ops) bytes rows = AreTogether ops bytes rows
+AreTogether (operand.Text n ∷ ops) bytes rows = (n ≤ length bytes) × (n ≤ 64) × AreTogether ops (take (length bytes - n) bytes) rows
+AreTogether (operand.Row ∷ ops) bytes [] = ⊥
+AreTogether (operand.Row ∷ ops) bytes (row ∷ rows) = AreTogether ops bytes rows
 
 -- ---- what stands on top
 

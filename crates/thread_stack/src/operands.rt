@@ -2,7 +2,7 @@
 
 ghost use Rattle.std.specs.Prelude.{◌≡◌, ◌≤◌, ◌+◌, ◌-◌, [], ◌∷◌, ◌++◌, length, take, drop, reverse, IfOk, OnOk, MatchOption};
 ghost use Rattle.lynx_meaning.specs.Values.{Int, Truth, Text, Row, Link};
-ghost use Rattle.thread_stack.specs.Stacks.{TopIsInt, TopIsTruth, TopIsLink, TopIsText, TopIsRow, AreAlikeOnTop, AreTextsOnTop, IsTop, IsTaken, IsCompared, large_value};
+ghost use Rattle.thread_stack.specs.Stacks.{TopIsInt, TopIsTruth, TopIsLink, TopIsText, TopIsRow, AreAlikeOnTop, AreTextsOnTop, IsTop, IsTaken, IsCompared};
 ghost use Rattle.thread_values.specs.Told.{value_of, values_of};
 
 use lynx_lexer::NoMemory;
@@ -10,39 +10,22 @@ use std::alloc::Global;
 use std::marker::Model;
 use thread_values::{LinkRef, Numbers, ShortText, Value};
 
-/// An operand. A large one stands among the large values, in the same order.
+/// An operand. A text of so many bytes stands last among the bytes, and a row last among the rows.
 #[derive(Clone, Copy, Debug)]
 pub(crate) enum Operand {
     Int(i64),
     Bool(bool),
     Link(LinkRef),
-    Large,
-}
-
-/// A value that takes many bytes.
-#[derive(Debug, Drop)]
-pub(crate) enum Large {
-    Text(ShortText),
-    Row(Numbers),
-}
-
-impl Large {
-    // A value that is equal.
-    fn copy(&self) -> Value
-        ensures { value_of result ≡ large_value self.now }
-    {
-        match self {
-            Large::Text(text) => Value::Text(text.copy()),
-            Large::Row(numbers) => Value::Row(numbers.row()),
-        }
-    }
+    Text(usize),
+    Row,
 }
 
 /// A stack of operands. Contracts see their values, the last one first.
 #[derive(Debug, Drop)]
 pub struct Operands {
     operands: Vec<Operand>,
-    large: Vec<Large>,
+    bytes: Vec<u8>,
+    rows: Vec<Numbers>,
 }
 
 impl Model for Operands {
@@ -52,12 +35,12 @@ impl Model for Operands {
 
     ghost Value = { List meaning.Value };
 
-    ghost view = { λ s. stacked (reverse s.operands.items) (reverse s.large.items) };
+    ghost view = { λ s. stacked (reverse s.operands.items) s.bytes.items (reverse s.rows.items) };
 
-    ghost invariant = { λ s. AreTogether (reverse s.operands.items) (reverse s.large.items) };
+    ghost invariant = { λ s. AreTogether (reverse s.operands.items) s.bytes.items (reverse s.rows.items) };
 }
 
-#[tactic(auto, using(crate::proofs::Stacked::on_top, crate::proofs::Stacked::together_on_top, crate::proofs::Stacked::large_on_top, crate::proofs::Stacked::large_together))]
+#[tactic(auto, using(crate::proofs::Stacked::on_top, crate::proofs::Stacked::together_on_top, crate::proofs::Stacked::text_on_top, crate::proofs::Stacked::text_together, crate::proofs::Stacked::row_on_top, crate::proofs::Stacked::row_together))]
 impl Operands {
     /// No operands.
     pub fn new(alloc: Global) -> Operands
@@ -65,7 +48,8 @@ impl Operands {
     {
         Operands {
             operands: Vec::new(alloc),
-            large: Vec::new(alloc),
+            bytes: Vec::new(alloc),
+            rows: Vec::new(alloc),
         }
     }
 
@@ -93,14 +77,15 @@ impl Operands {
         Ok(())
     }
 
-    /// A text on top.
+    /// A text of these bytes on top.
     #[inline(never)]
-    pub fn push_text(&mut self, text: ShortText) -> Result<(), NoMemory>
-        ensures { OnOk result (self.new ≡ Text text ∷ self.old) }
+    pub fn push_text(&mut self, text: &[u8]) -> Result<(), NoMemory>
+        requires { length text.now ≤ 64 }
+        ensures { OnOk result (self.new ≡ Text text.now ∷ self.old) }
     {
         self.operands.reserve(1)?;
-        self.large.push(Large::Text(text))?;
-        self.operands.push_reserved(Operand::Large);
+        self.bytes.extend_from_slice(text)?;
+        self.operands.push_reserved(Operand::Text(text.len()));
         Ok(())
     }
 
@@ -110,8 +95,8 @@ impl Operands {
         ensures { OnOk result (self.new ≡ Row numbers.now ∷ self.old) }
     {
         self.operands.reserve(1)?;
-        self.large.push(Large::Row(numbers.copy()))?;
-        self.operands.push_reserved(Operand::Large);
+        self.rows.push(numbers.copy())?;
+        self.operands.push_reserved(Operand::Row);
         Ok(())
     }
 
@@ -154,11 +139,14 @@ impl Operands {
         requires { TopIsText self.old }
         ensures { self.old ≡ Text result ∷ self.new }
     {
-        self.operands.pop();
-        match self.large.pop() {
-            Some(Large::Text(text)) => text,
-            _ => unreachable!(),
-        }
+        let Some(Operand::Text(length)) = self.operands.pop() else {
+            unreachable!()
+        };
+        let (below, bytes) = self.bytes.split_at(self.bytes.len() - length);
+        let text = short(bytes);
+        let left = below.len();
+        self.bytes.truncate(left);
+        text
     }
 
     /// Takes the row on top.
@@ -168,9 +156,9 @@ impl Operands {
         ensures { self.old ≡ Row result ∷ self.new }
     {
         self.operands.pop();
-        match self.large.pop() {
-            Some(Large::Row(numbers)) => numbers,
-            _ => unreachable!(),
+        match self.rows.pop() {
+            Some(numbers) => numbers,
+            None => unreachable!(),
         }
     }
 
@@ -179,16 +167,9 @@ impl Operands {
     pub fn pop(&mut self) -> Option<Value>
         ensures { IsTaken self.old self.new result }
     {
-        match self.operands.pop()? {
-            Operand::Int(number) => Some(Value::Int(number)),
-            Operand::Bool(truth) => Some(Value::Bool(truth)),
-            Operand::Link(link) => Some(Value::Link(link)),
-            Operand::Large => match self.large.pop() {
-                Some(Large::Text(text)) => Some(Value::Text(text)),
-                Some(Large::Row(numbers)) => Some(Value::Row(numbers.row())),
-                None => unreachable!(),
-            },
-        }
+        let value = self.top()?;
+        self.drop_top();
+        Some(value)
     }
 
     /// Takes two numbers, truths or texts from the top, and tells whether they are equal.
@@ -209,30 +190,31 @@ impl Operands {
         requires { AreTextsOnTop self.old }
         ensures { IsCompared self.old self.new result }
     {
-        let second = self.pop_text();
-        let alike = second.as_slice() == self.text().as_slice();
-        self.drop_text();
+        let (Some(Operand::Text(second)), Some(Operand::Text(first))) = (
+            self.operands.pop(),
+            self.operands.pop(),
+        ) else {
+            unreachable!()
+        };
+        let (below, last) = self.bytes.split_at(self.bytes.len() - second);
+        let (below, before) = below.split_at(below.len() - first);
+        let alike = before == last;
+        let left = below.len();
+        self.bytes.truncate(left);
         alike
     }
 
-    // The text on top.
-    fn text(&self) -> &ShortText
-        requires { TopIsText self.now }
-        ensures { IsTop (Text result.now) self.now }
-    {
-        match (self.operands.split_last(), self.large.split_last()) {
-            (Some((Operand::Large, _)), Some((Large::Text(text), _))) => text,
-            _ => unreachable!(),
-        }
-    }
-
-    // The text on top is dropped.
-    fn drop_text(&mut self)
-        requires { TopIsText self.old }
+    // The value on top is dropped, if there is one.
+    fn drop_top(&mut self)
         ensures { self.new ≡ drop 1 self.old }
     {
-        let _operand = self.operands.pop();
-        let _gone = self.large.pop();
+        match self.operands.pop() {
+            Some(Operand::Text(length)) => self.bytes.truncate(self.bytes.len() - length),
+            Some(Operand::Row) => {
+                let _gone = self.rows.pop();
+            }
+            _ => {}
+        }
     }
 
     /// The truth on top.
@@ -285,7 +267,8 @@ impl Operands {
     {
         FromTop {
             operands: self.operands.as_slice(),
-            large: self.large.as_slice(),
+            bytes: self.bytes.as_slice(),
+            rows: self.rows.as_slice(),
         }
     }
 
@@ -298,7 +281,7 @@ impl Operands {
             Value::Int(number) => self.push_int(*number),
             Value::Bool(truth) => self.push_bool(*truth),
             Value::Link(link) => self.push_link(*link),
-            Value::Text(text) => self.push_text(text.copy()),
+            Value::Text(text) => self.push_text(text.as_slice()),
             Value::Row(row) => self.push_row(&Numbers::of(row)),
         }
     }
@@ -321,7 +304,7 @@ impl Operands {
         ensures { self.new ≡ drop (length self.old - height) self.old }
     {
         'above: while height < self.len() {
-            let _gone = self.pop();
+            self.drop_top();
         }
     }
 
@@ -338,7 +321,8 @@ impl Operands {
 #[derive(Debug, Drop)]
 struct FromTop<'a> {
     operands: &'a [Operand],
-    large: &'a [Large],
+    bytes: &'a [u8],
+    rows: &'a [Numbers],
 }
 
 impl<'a> Model for FromTop<'a> {
@@ -348,12 +332,12 @@ impl<'a> Model for FromTop<'a> {
 
     ghost Value = { List meaning.Value };
 
-    ghost view = { λ s. stacked (reverse s.operands.now) (reverse s.large.now) };
+    ghost view = { λ s. stacked (reverse s.operands.now) s.bytes.now (reverse s.rows.now) };
 
-    ghost invariant = { λ s. AreTogether (reverse s.operands.now) (reverse s.large.now) };
+    ghost invariant = { λ s. AreTogether (reverse s.operands.now) s.bytes.now (reverse s.rows.now) };
 }
 
-#[tactic(auto, using(crate::proofs::Stacked::on_top, crate::proofs::Stacked::together_on_top, crate::proofs::Stacked::large_on_top, crate::proofs::Stacked::large_together))]
+#[tactic(auto, using(crate::proofs::Stacked::on_top, crate::proofs::Stacked::together_on_top, crate::proofs::Stacked::text_on_top, crate::proofs::Stacked::text_together, crate::proofs::Stacked::row_on_top, crate::proofs::Stacked::row_together))]
 impl<'a> FromTop<'a> {
     // The next value below.
     fn next(&mut self) -> Option<Value>
@@ -365,10 +349,15 @@ impl<'a> FromTop<'a> {
             Operand::Int(number) => Some(Value::Int(*number)),
             Operand::Bool(truth) => Some(Value::Bool(*truth)),
             Operand::Link(link) => Some(Value::Link(*link)),
-            Operand::Large => {
-                let (value, below) = self.large.split_last()?;
-                self.large = below;
-                Some(value.copy())
+            Operand::Text(length) => {
+                let (below, text) = self.bytes.split_at(self.bytes.len() - *length);
+                self.bytes = below;
+                Some(Value::Text(short(text)))
+            }
+            Operand::Row => {
+                let (numbers, below) = self.rows.split_last()?;
+                self.rows = below;
+                Some(Value::Row(numbers.row()))
             }
         }
     }
@@ -386,5 +375,16 @@ impl<'a> FromTop<'a> {
             }
         }
         Ok(values)
+    }
+}
+
+// The text of these bytes.
+fn short(bytes: &[u8]) -> ShortText
+    requires { length bytes.now ≤ 64 }
+    ensures { result ≡ bytes.now }
+{
+    match ShortText::from_slice(bytes) {
+        Some(text) => text,
+        None => unreachable!(),
     }
 }

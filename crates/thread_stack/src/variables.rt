@@ -100,7 +100,7 @@ impl Variables {
             Variable::Int(number) => operands.push_int(*number),
             Variable::Bool(truth) => operands.push_bool(*truth),
             Variable::Link(link) => operands.push_link(*link),
-            Variable::Text(text) => operands.push_text(text.copy()),
+            Variable::Text(text) => operands.push_text(text.as_slice()),
             Variable::Row(numbers) => operands.push_row(numbers),
         }
     }

@@ -10,4 +10,4 @@ pub use arithmetic::{add, divide, multiply, negate, reduce, subtract};
 pub use lynx_typing::{Exception, Row16, ShortText};
 pub use numbers::Numbers;
 pub use value::{LinkRef, Value};
-pub use written::{written_number, written_text, written_truth};
+pub use written::{written_number, written_truth};

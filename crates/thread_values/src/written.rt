@@ -1,7 +1,7 @@
 //! What `write` prints.
 
 ghost use Rattle.std.specs.Prelude.{◌≡◌};
-ghost use Rattle.lynx_meaning.specs.Values.{written, Int, Truth, Text};
+ghost use Rattle.lynx_meaning.specs.Values.{written, Int, Truth};
 
 use itoa::Buffer;
 use lynx_typing::ShortText;
@@ -26,11 +26,4 @@ pub fn written_truth(truth: bool) -> ShortText
         Some(text) => text,
         None => unreachable!(),
     }
-}
-
-/// The bytes of a text.
-pub fn written_text(text: &ShortText) -> ShortText
-    ensures { result ≡ written (Text text.now) }
-{
-    text.copy()
 }

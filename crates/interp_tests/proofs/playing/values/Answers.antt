@@ -1,4 +1,4 @@
-use Rattle.interp_tests.proofs.Needs.{one_more}
+use Rattle.lynx_interp.proofs.Needs.{one_more}
 use Rattle.interp_tests.proofs.playing.values.Goals as goal
 
 pub loop-kind-preserved : goal.loop-kind-preserved

@@ -5,7 +5,7 @@ use Rattle.lynx_code.specs.declared.code.Part as kept
 use Rattle.lynx_tree.specs.declared.declaration.TypeName.{TypeName}
 use Rattle.shaped_code.specs.Sound.{Typed}
 use Rattle.thread_values.specs.Told.{values_of}
-use Rattle.machine_loops.proofs.Needs.{entry_for, found}
+use Rattle.lynx_interp.proofs.Needs.{entry_for, found}
 use Rattle.machine_loops.proofs.loops.parameters.Goals as goal
 
 pub returns-in-Some-get : goal.returns-in-Some-get

@@ -1,4 +1,4 @@
-use Rattle.machine_loops.proofs.Needs.{one_more}
+use Rattle.lynx_interp.proofs.Needs.{one_more}
 use Rattle.machine_loops.proofs.loops.values_for.Goals as goal
 
 pub loop-kind-preserved : goal.loop-kind-preserved
