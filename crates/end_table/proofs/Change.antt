@@ -49,6 +49,10 @@ Puts-Changes k old new e x h =
     kept true o has = refl
     kept false o has = has
 
+-- one that has nothing
+pub Puts-nothing : (k : ℕ) (old new : List (EndId × Entry)) (e : EndId) (x : Entry) → x ≡ Nothing → Changes old new e (Some x) → Puts (record { kernel = k; places = old }) (record { kernel = k; places = new }) e Nothing
+Puts-nothing k old new e x is h = subst (λ y. Puts (record { kernel = k; places = old }) (record { kernel = k; places = new }) e y) is (Puts-Changes k old new e x h)
+
 -- a place that the map loses is cleared
 pub Clears-Changes : (k : ℕ) (old new : List (EndId × Entry)) (e : EndId) → Changes old new e None → Clears (record { kernel = k; places = old }) (record { kernel = k; places = new }) e
 unfolding entries HasPlace put

@@ -79,6 +79,17 @@ impl Table {
         }
     }
 
+    /// Gives an end a place with nothing in it. Of a slot that no one gets back only the tag is written.
+    fn open(&mut self, end: EndId) -> Result<(), NoMemory>
+        ensures ok { OnOk result (Puts self.old self.new end Nothing) }
+        ensures same { OnErr result (self.new ≡ self.old) }
+    {
+        match self.slots.insert(end, Slot::nothing()) {
+            Ok(_) => Ok(()),
+            Err(_) => Err(NoMemory),
+        }
+    }
+
     /// Puts a slot at the place that the end has.
     fn keep(&mut self, end: EndId, slot: Slot)
         requires place { HasPlace self.old end }
@@ -178,7 +189,7 @@ impl Table {
         if self.has_place(end) {
             return Ok(());
         }
-        match self.store(end, Slot::nothing()) {
+        match self.open(end) {
             Ok(()) => Ok(()),
             Err(_) => Err(NoMemory),
         }
