@@ -3,7 +3,7 @@ ghost use Rattle.kernel_process.specs.Closing.{IsBegun};
 ghost use Rattle.kernel_step.specs.Kernel.{Kernel, begins};
 ghost use Rattle.kernel_step.specs.Progress.{progress};
 
-use charlotte_calls::{NoMemory, Pid, Room, Work};
+use charlotte_calls::{NoMemory, Packet, Pid, Room, Work};
 use std::alloc::Global;
 
 /// What an event adds, until it closes.
@@ -20,10 +20,12 @@ const PACKETS_OF_AN_END: usize = 9;
 
 impl Event {
     /// An event with this stamp that has added nothing. It has this room, room for the packets of so many ends that die besides,
-    /// for what its reports and answers bring, and for `own` answers more.
+    /// for what its reports and answers bring, and for `own` answers more. Its packets are to stand in the list `packets`, of which only the
+    /// room is taken: where that is enough, it costs no memory.
     #[tactic(auto, unfolding(kernel_step::specs::Progress::progress))]
     pub fn begin(
         alloc: Global,
+        mut packets: Vec<(u8, Packet)>,
         stamp: u64,
         room: Room,
         dying: usize,
@@ -38,7 +40,8 @@ impl Event {
         let most_packets = room.packets as usize + PACKETS_OF_AN_END * dying;
         let most_reports = room.reports as usize;
         let most_answers = room.answers as usize;
-        let packets = Vec::with_capacity(alloc, most_packets)?;
+        packets.clear();
+        packets.reserve(most_packets)?;
         let reports = Vec::with_capacity(alloc, most_reports)?;
         let answers = Vec::with_capacity(alloc, most_answers)?;
         let steps = Vec::with_capacity(alloc, room.steps as usize + most_reports)?;
