@@ -1,9 +1,9 @@
-ghost use Rattle.std.specs.Prelude.{◌≡◌, ◌+◌, ◌*◌, ◌<◌, ◌≤◌, ◌^◌, [], IfOk, vec_capacity, vec_len};
+ghost use Rattle.std.specs.Prelude.{◌≡◌, ◌+◌, ◌*◌, ◌<◌, ◌≤◌, ◌^◌, [], IfOk, OnOk, vec_capacity, vec_len};
 ghost use Rattle.kernel_process.specs.Closing.{IsBegun};
 ghost use Rattle.kernel_step.specs.Kernel.{Kernel, begins};
 ghost use Rattle.kernel_step.specs.Progress.{progress};
 
-use charlotte_calls::{NoMemory, Packet, Pid, Room, Work};
+use charlotte_calls::{NoMemory, Pid, Room, Work};
 use std::alloc::Global;
 
 /// What an event adds, until it closes.
@@ -19,13 +19,27 @@ pub struct Event {
 const PACKETS_OF_AN_END: usize = 9;
 
 impl Event {
+    /// An event that has added nothing and has no room yet, for `begin`.
+    pub fn unused(alloc: Global) -> Event {
+        let work = Work {
+            stamp: 0,
+            packets: Vec::new(alloc),
+            reports: Vec::new(alloc),
+            answers: Vec::new(alloc),
+            steps: Vec::new(alloc),
+        };
+        Event {
+            work,
+            answered: Vec::new(alloc),
+        }
+    }
+
     /// An event with this stamp that has added nothing. It has this room, room for the packets of so many ends that die besides,
-    /// for what its reports and answers bring, and for `own` answers more. Its packets are to stand in the list `packets`, of which only the
-    /// room is taken: where that is enough, it costs no memory.
+    /// for what its reports and answers bring, and for `own` answers more. It takes the lists of an event that is over, and memory
+    /// only where their room is not enough.
     #[tactic(auto, unfolding(kernel_step::specs::Progress::progress))]
     pub fn begin(
-        alloc: Global,
-        mut packets: Vec<(u8, Packet)>,
+        self,
         stamp: u64,
         room: Room,
         dying: usize,
@@ -40,19 +54,27 @@ impl Event {
         let most_packets = room.packets as usize + PACKETS_OF_AN_END * dying;
         let most_reports = room.reports as usize;
         let most_answers = room.answers as usize;
-        packets.clear();
-        packets.reserve(most_packets)?;
-        let reports = Vec::with_capacity(alloc, most_reports)?;
-        let answers = Vec::with_capacity(alloc, most_answers)?;
-        let steps = Vec::with_capacity(alloc, room.steps as usize + most_reports)?;
-        let answered = Vec::with_capacity(alloc, most_answers + most_reports + own)?;
-        let work = Work {
-            stamp,
-            packets,
-            reports,
-            answers,
-            steps,
-        };
+        let Event {
+            mut work,
+            mut answered,
+        } = self;
+        renew(&mut work.packets, most_packets)?;
+        renew(&mut work.reports, most_reports)?;
+        renew(&mut work.answers, most_answers)?;
+        renew(&mut work.steps, room.steps as usize + most_reports)?;
+        renew(&mut answered, most_answers + most_reports + own)?;
+        work.stamp = stamp;
         Ok(Event { work, answered })
     }
+}
+
+/// Empties a list, and gives it room for so many.
+#[inline(always)]
+fn renew<T: Drop>(list: &mut Vec<T>, most: usize) -> Result<(), NoMemory>
+    ensures empty { list.new.items ≡ [] }
+    ensures room { OnOk result (vec_len list.new + most ≤ vec_capacity list.new) }
+{
+    list.clear();
+    list.reserve(most)?;
+    Ok(())
 }
