@@ -1,4 +1,4 @@
-ghost use Rattle.std.specs.Prelude.{◌≡◌, ◌+◌, ◌*◌, ◌<◌, ◌≤◌, ◌^◌, [], IfOk, OnOk, vec_capacity, vec_len};
+ghost use Rattle.std.specs.Prelude.{◌≡◌, ◌+◌, ◌*◌, ◌<◌, ◌≤◌, ◌^◌, [], OnOk, vec_capacity, vec_len};
 ghost use Rattle.kernel_process.specs.Closing.{IsBegun};
 ghost use Rattle.kernel_step.specs.Kernel.{Kernel, begins};
 ghost use Rattle.kernel_step.specs.Progress.{progress};
@@ -34,37 +34,33 @@ impl Event {
         }
     }
 
-    /// An event with this stamp that has added nothing. It has this room, room for the packets of so many ends that die besides,
-    /// for what its reports and answers bring, and for `own` answers more. It takes the lists of an event that is over, and memory
-    /// only where their room is not enough.
+    /// The event becomes one with this stamp that has added nothing. It has this room, room for the packets of so many ends that die
+    /// besides, for what its reports and answers bring, and for `own` answers more. Memory is taken only where the room of the lists
+    /// that it has is not enough.
     #[tactic(auto, unfolding(kernel_step::specs::Progress::progress))]
     pub fn begin(
-        self,
+        &mut self,
         stamp: u64,
         room: Room,
         dying: usize,
         own: usize,
-    ) -> Result<Event, NoMemory>
+    ) -> Result<(), NoMemory>
         requires few { dying < 2 ^ 60 }
         requires one { own ≤ 1 }
-        ensures begins { IfOk result (λ event. (s : Kernel) → progress s.table event.work ≡ begins s stamp) }
-        ensures begun { IfOk result (IsBegun (record room { packets = room.packets + 9 * dying }) own) }
-        ensures stamp { IfOk result (λ event. event.work.stamp ≡ stamp) }
+        ensures begins { OnOk result ((s : Kernel) → progress s.table self.new.work ≡ begins s stamp) }
+        ensures begun { OnOk result (IsBegun (record room { packets = room.packets + 9 * dying }) own self.new) }
+        ensures stamp { OnOk result (self.new.work.stamp ≡ stamp) }
     {
         let most_packets = room.packets as usize + PACKETS_OF_AN_END * dying;
         let most_reports = room.reports as usize;
         let most_answers = room.answers as usize;
-        let Event {
-            mut work,
-            mut answered,
-        } = self;
-        renew(&mut work.packets, most_packets)?;
-        renew(&mut work.reports, most_reports)?;
-        renew(&mut work.answers, most_answers)?;
-        renew(&mut work.steps, room.steps as usize + most_reports)?;
-        renew(&mut answered, most_answers + most_reports + own)?;
-        work.stamp = stamp;
-        Ok(Event { work, answered })
+        renew(&mut self.work.packets, most_packets)?;
+        renew(&mut self.work.reports, most_reports)?;
+        renew(&mut self.work.answers, most_answers)?;
+        renew(&mut self.work.steps, room.steps as usize + most_reports)?;
+        renew(&mut self.answered, most_answers + most_reports + own)?;
+        self.work.stamp = stamp;
+        Ok(())
     }
 }
 
