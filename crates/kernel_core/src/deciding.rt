@@ -10,7 +10,7 @@ use crate::calling::{act_and_close, close_step, links_after, refresh_touched, to
 use crate::refusal::refusal;
 use crate::room::{reserve_active, reserve_made, room_of_call};
 use crate::state::{Request, State};
-use charlotte_calls::{Answer, Call, Cause, Effect, EndId, NoMemory, Pid, ServiceStep};
+use charlotte_calls::{Answer, Call, Cause, Effect, EndId, NoMemory, Packet, Pid, ServiceStep};
 use end_table::Table;
 use kernel_process::{Event, stand, wait};
 use std::alloc::Global;
@@ -104,12 +104,14 @@ fn perform(state: &mut State, request: Request, mine: &[EndId], event: Event) ->
     effect
 }
 
-/// The event of a call with this stamp. For want of memory nothing has changed that counts.
+/// The event of a call with this stamp, whose packets stand in a list that had other packets. For want of memory nothing has changed that
+/// counts.
 pub(crate) fn call_event(
     alloc: Global,
     state: &mut State,
     request: Request,
     stamp: u64,
+    packets: Vec<(u8, Packet)>,
 ) -> Result<Effect, NoMemory>
     requires consistent { IsConsistent state.old }
     requires process { request.p.0 < length state.old.processes }
@@ -117,7 +119,7 @@ pub(crate) fn call_event(
     ensures same { OnErr result (OnlyReserves state.old state.new) }
     ensures keeps { Keeps state.old state.new }
 {
-    match reserve_calling(alloc, state, &request, stamp) {
+    match reserve_calling(alloc, state, &request, stamp, packets) {
         Ok((mine, event)) => Ok(decide(state, request, mine.as_slice(), event)),
         Err(NoMemory) => Err(NoMemory),
     }
@@ -129,6 +131,7 @@ fn reserve_calling(
     state: &mut State,
     request: &Request,
     stamp: u64,
+    packets: Vec<(u8, Packet)>,
 ) -> Result<(Vec<EndId>, Event), NoMemory>
     requires process { request.now.p.0 < length state.old.processes }
     ensures request { IfOk result (λ r. IsRequest state.new request.now r.0.items) }
@@ -139,7 +142,8 @@ fn reserve_calling(
     reserve_active(&mut state.processes, &request.call)?;
     reserve_places(&mut state.table, state.made, &request.call)?;
     let mine = list_ends(alloc, &state.table, request.p, &request.call)?;
-    let event = Event::begin(alloc, stamp, room_of_call(&request.call), mine.len(), 1)?;
+    let room = room_of_call(&request.call);
+    let event = Event::begin(alloc, packets, stamp, room, mine.len(), 1)?;
     Ok((mine, event))
 }
 

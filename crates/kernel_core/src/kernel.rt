@@ -21,6 +21,7 @@ use kernel_process::{ControlBlock, Processes};
 use kernel_step::Phase;
 use std::alloc::Global;
 use std::marker::Model;
+use std::mem;
 
 /// One kernel: its table of ends, and its processes.
 #[derive(Drop)]
@@ -31,6 +32,8 @@ pub struct Kernel {
     /// The processes are those of the setting, by number. Those of other kernels stay as they start.
     state: State,
     stamp: u64,
+    /// The list of packets of an earlier event, of which the next one takes the room.
+    spare: Vec<(u8, Packet)>,
 }
 
 impl Model for Kernel {
@@ -67,6 +70,7 @@ impl Kernel {
             version: setting.version,
             state,
             stamp: 0,
+            spare: Vec::new(alloc),
         })
     }
 
@@ -86,7 +90,14 @@ impl Kernel {
         ensures processes { length self.new.processes ≡ length self.old.processes }
     {
         let stamp = stamp_after(self.stamp);
-        let called = call_event(self.alloc, &mut self.state, Request { p, call }, stamp);
+        let packets = mem::replace(&mut self.spare, Vec::new(self.alloc));
+        let called = call_event(
+            self.alloc,
+            &mut self.state,
+            Request { p, call },
+            stamp,
+            packets,
+        );
         match called {
             Ok(effect) => {
                 self.stamp = effect.stamp;
@@ -106,6 +117,7 @@ impl Kernel {
         ensures processes { length self.new.processes ≡ length self.old.processes }
     {
         let stamp = stamp_after(greater(self.stamp, packet.stamp));
+        let packets = mem::replace(&mut self.spare, Vec::new(self.alloc));
         let taken = take_event(
             self.alloc,
             &mut self.state,
@@ -113,6 +125,7 @@ impl Kernel {
             from,
             stamp,
             packet,
+            packets,
         );
         match taken {
             Ok(effect) => {
@@ -121,6 +134,13 @@ impl Kernel {
             }
             Err(not_taken) => Err(not_taken),
         }
+    }
+
+    /// Gives back the list of packets of an effect. The next event takes its room, and asks for no other where that is enough.
+    pub fn reuse(&mut self, packets: Vec<(u8, Packet)>)
+        ensures { self.new ≡ self.old }
+    {
+        self.spare = packets;
     }
 
     /// What the kernel keeps of a process.
@@ -159,6 +179,16 @@ impl Kernel {
     {
         let process = self.state.processes.at_mut(usize::from(p.0));
         process.answer.take()
+    }
+
+    /// Lets the standing answer of a process go, if there is one. It moves nothing, which `answer` does.
+    pub fn forget_answer(&mut self, p: Pid)
+        requires { p.0 < length self.old.processes }
+        ensures state { state_of self.new ≡ without_answer p (state_of self.old) }
+        ensures processes { length self.new.processes ≡ length self.old.processes }
+    {
+        let process = self.state.processes.at_mut(usize::from(p.0));
+        process.answer = None;
     }
 
     /// The stamp of the last event, 0 before the first.

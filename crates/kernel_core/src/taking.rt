@@ -136,20 +136,22 @@ fn reserve_taking(
     state: &mut State,
     what: &What,
     stamp: u64,
+    packets: Vec<(u8, Packet)>,
 ) -> Result<Event, NoMemory>
     ensures ready { IfOk result (IsReadyToTake state.new what.now) }
     ensures begins { IfOk result (λ event. (s : Kernel) → progress s.table event.work ≡ begins s stamp) }
     ensures same { OnlyReserves state.old state.new }
 {
     let room = room_of_packet(what);
-    let event = Event::begin(alloc, stamp, room, 0, 0)?;
+    let event = Event::begin(alloc, packets, stamp, room, 0, 0)?;
     let here = is_here(&state.table, addressee(what));
     reserve_processes(&mut state.processes, here, room.reports)?;
     reserve_brought(&mut state.table, what)?;
     Ok(event)
 }
 
-/// The event in which a kernel takes a packet, with this stamp. For want of memory the packet comes back.
+/// The event in which a kernel takes a packet, with this stamp; what it sends stands in a list that had other packets. For want of memory
+/// the packet comes back.
 pub(crate) fn take_event(
     alloc: Global,
     state: &mut State,
@@ -157,6 +159,7 @@ pub(crate) fn take_event(
     from: u8,
     stamp: u64,
     packet: Packet,
+    packets: Vec<(u8, Packet)>,
 ) -> Result<Effect, NotTaken>
     requires consistent { IsConsistent state.old }
     ensures part { IfOk result (λ effect. (s : Kernel) → s.table ≡ entries state.old.table
@@ -168,7 +171,7 @@ pub(crate) fn take_event(
     ensures keeps { Keeps state.old state.new }
     ensures made { state.new.made ≡ state.old.made }
 {
-    match reserve_taking(alloc, state, &packet.what, stamp) {
+    match reserve_taking(alloc, state, &packet.what, stamp, packets) {
         Ok(event) => Ok(take_packet(state, kernels, from, packet, event)),
         Err(NoMemory) => Err(NotTaken { packet }),
     }

@@ -23,22 +23,24 @@ use kernel_step::{first_of, push_step};
 use move_core::{enclose, settle};
 
 /// What a call does that is not refused; `mine` are the ends that the caller owns, in order, where it exits.
-pub fn act(table: &mut Table, made: u32, p: Pid, mine: &[EndId], call: Call, out: &mut Work)
+pub fn act(table: &mut Table, made: u32, p: Pid, mine: &[EndId], call: &Call, out: &mut Work)
     requires sound { (n : ℕ) × IsSound table.old.kernel made n (entries table.old) }
-    requires granted { (reported : Bool) × (refusal p (entries table.old) made mine.now reported call ≡ None) }
-    requires mine { IsCallWith p (entries table.old) mine.now call }
-    requires placed { IsPlacedFor call table.old made }
-    requires room { Fits (and_ends (length mine.now) (room_of_call call)) out.old }
-    ensures part { progress (entries table.new) out.new ≡ acts p table.old.kernel made mine.now call (progress (entries table.old) out.old) }
-    ensures room { Adds (and_ends (length mine.now) (room_of_call call)) out.old out.new }
+    requires granted { (reported : Bool) × (refusal p (entries table.old) made mine.now reported call.now ≡ None) }
+    requires mine { IsCallWith p (entries table.old) mine.now call.now }
+    requires placed { IsPlacedFor call.now table.old made }
+    requires room { Fits (and_ends (length mine.now) (room_of_call call.now)) out.old }
+    ensures part { progress (entries table.new) out.new ≡ acts p table.old.kernel made mine.now call.now (progress (entries table.old) out.old) }
+    ensures room { Adds (and_ends (length mine.now) (room_of_call call.now)) out.old out.new }
     ensures kernel { table.new.kernel ≡ table.old.kernel }
 {
     match call {
         Call::Make => make(table, made, p, out),
-        Call::Destroy { on } => destroy(table, p, on, out),
-        Call::Send { on, bytes, enclose } => send(table, p, on, bytes, enclose, out),
-        Call::Receive { on } => receive(table, p, on, out),
-        Call::Cancel { on, way } => cancel(table, p, on, way, out),
+        Call::Destroy { on } => destroy(table, p, *on, out),
+        Call::Send { on, bytes, enclose } => {
+            send(table, p, *on, bytes.copy(), enclose.copy(), out)
+        }
+        Call::Receive { on } => receive(table, p, *on, out),
+        Call::Cancel { on, way } => cancel(table, p, *on, *way, out),
         Call::Wait => push_step(out, ServiceStep::Wait { p }),
         Call::Print { .. } => {}
         Call::Exit => exit(table, p, mine, out),

@@ -1,5 +1,5 @@
 -- What a kernel does with a packet to an end that is not here: it changes no activity, and gives no report.
-use Rattle.std.proofs.Common.{◌≡◌, ℕ, Bool, false, List, [], Option, Some, None, nat_le, refl, sym, ap, subst, ◌∙◌, if◌then◌else◌}
+use Rattle.std.proofs.Common.{◌≡◌, ℕ, Bool, false, List, [], Option, Some, None, nat_le, refl, sym, ap, subst, ◌∙◌}
 use Rattle.charlotte_calls.specs.Names.{opposite}
 use Rattle.charlotte_calls.specs.declared.names.EndId.{EndId}
 use Rattle.charlotte_calls.specs.declared.names.Pid.{Pid}
@@ -13,15 +13,15 @@ use Rattle.end_table.specs.Table.{IsHere}
 use Rattle.end_table.specs.declared.entry.Entry.{Entry}
 use Rattle.end_table.specs.declared.entry.Entry.TheVariants as entry
 use Rattle.end_table.specs.declared.entry.HereView.{HereView}
-use Rattle.kernel_step.specs.Actions.{ends_idle, forgets, leaves}
+use Rattle.kernel_step.specs.Actions.{ends_idle, leaves}
 use Rattle.kernel_step.specs.Calls.{is_active}
 use Rattle.kernel_step.specs.Progress.{Progress, progress, sends, keeps}
-use Rattle.kernel_step.specs.Rows.{want_row, unwant_row, unwanted_row, is_here, passing, asks, pass_each, sends_back, parcel_row, awaits, taken_row, end_arrivals, means_back, back_row, erases, gone_row, mark_learns, moved_mark, moved_row, known_row, forget_row, goneseen_row, row}
+use Rattle.kernel_step.specs.Rows.{want_row, unwant_row, unwanted_row, is_here, passing, asks, pass_each, sends_back, parcel_row, awaits, taken_row, end_arrivals, means_back, back_row, erases, gone_row, moved_mark, moved_row, known_row, forget_row, goneseen_row, row}
 use Rattle.kernel_sound.specs.Sound.{IsSound, addressee}
 use Rattle.kernel_sound.proofs.Events.{begun-well, well-calm}
 use Rattle.kernel_sound.proofs.Goes.{GoesWell, sends-well, only-well}
 use Rattle.kernel_sound.proofs.Parcels.{asks-here, awaits-here, means_back-only, sends_back-well}
-use Rattle.kernel_sound.proofs.Rows.{erases-well, forget_row-well, goneseen_row-well, moved_mark-well}
+use Rattle.kernel_sound.proofs.Rows.{erases-well, forget_row-well, moved_mark-well}
 use Rattle.kernel_sound.proofs.Sends.{SendsOnly, either-keeps, fold-keeps, forgets-only, sends-only, tells_gone-only, only-same}
 use Rattle.kernel_sound.proofs.Values.{AreGone, AreGone-passing, end_arrivals-well}
 

@@ -1,29 +1,14 @@
 -- One process of a kernel changes.
 use Rattle.charlotte_calls.specs.declared.names.EndId.{EndId}
 use Rattle.charlotte_calls.specs.declared.names.Pid.{Pid}
-use Rattle.charlotte_calls.specs.declared.picture.PictureWhat.{PictureWhat}
-use Rattle.charlotte_calls.specs.declared.work.Work.{Work}
-use Rattle.end_table.proofs.EndEq.{end_eq-refl}
-use Rattle.end_table.specs.Owned.{owned}
-use Rattle.end_table.specs.Place.{end_eq}
-use Rattle.end_table.specs.Table.{entries, IfHere}
-use Rattle.end_table.specs.declared.entry.Entry.TheVariants as entry
 use Rattle.end_table.specs.declared.entry.Entry.{Entry}
-use Rattle.end_table.specs.declared.entry.HereView.{HereView}
-use Rattle.end_table.specs.declared.entry.Holder.TheVariants as holder
-use Rattle.end_table.specs.declared.entry.Holder.{Holder}
-use Rattle.kernel_sound.proofs.Rows.{row-well}
-use Rattle.kernel_sound.specs.Owners.{owner_in, owner_of}
-use Rattle.kernel_sound.specs.Sound.{IsSound, IsHeldWell, AreFor, addressee}
 use Rattle.kernel_process.specs.Parts.{process_state, no_process, process_at, with_parts}
 use Rattle.kernel_process.specs.Parts.{process_state, process_at, with_parts}
 use Rattle.kernel_process.specs.declared.process.ControlBlock.{ControlBlock}
-use Rattle.kernel_step.specs.Calls.{is_active}
 use Rattle.kernel_step.specs.Kernel.{Kernel, Process, closes}
 use Rattle.kernel_step.specs.Kernel.{Kernel, with_process, process_of}
-use Rattle.kernel_step.specs.Progress.{Progress, progress}
-use Rattle.kernel_step.specs.Rows.{row}
-use Rattle.std.proofs.Common.{◌<◌, IfSome, ◌≡◌, ℕ, Bool, false, List, [], map, refl, sym, ap, subst, ◌∙◌}
+use Rattle.kernel_step.specs.Progress.{Progress}
+use Rattle.std.proofs.Common.{◌<◌, ◌≡◌, ℕ, false, List, map, refl, sym, ap, subst, ◌∙◌}
 use Rattle.std.proofs.Common.{◌≡◌, ◌≢◌, ◌⊎◌, inl, inr, ℕ, ◌<◌, true, false, nat_eq, List, length, slice_set, map, ap, sym, subst, ◌∙◌, if◌then◌else◌, get_or, cond}
 use Rattle.std.proofs.lemmas.Bool.Decides.{eqb_tells}
 use Rattle.std.proofs.lemmas.Grind.{get_or-set_at}

@@ -1,14 +1,12 @@
 -- The sets of ends on which processes have started an activity.
-use Rattle.std.specs.Prelude.{◌≡◌, ℕ, Bool, false, nat_eq, ◌&&◌, List, length, slice_get, Some, if◌then◌else◌}
+use Rattle.std.specs.Prelude.{◌≡◌, Bool, false, nat_eq, ◌&&◌, List, slice_get, Some, if◌then◌else◌}
 use Rattle.std.specs.List.{list_any}
 use Rattle.charlotte_calls.specs.declared.names.EndId.{EndId}
 use Rattle.charlotte_calls.specs.declared.names.Pid.{Pid}
 use Rattle.end_table.specs.Owned.{owned}
 use Rattle.end_table.specs.Place.{end_eq}
-use Rattle.end_table.specs.Table.{TableView, entries}
 use Rattle.end_table.specs.declared.entry.Entry.{Entry}
 use Rattle.kernel_step.specs.Calls.{is_active}
-use Rattle.kernel_sound.specs.Sound.{IsSound}
 use Rattle.kernel_process.specs.declared.process.ControlBlock.{ControlBlock}
 
 -- the set of ends of a process, which is to have those with a started activity

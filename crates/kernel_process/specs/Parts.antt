@@ -1,13 +1,11 @@
 -- The processes of a kernel as the definitions see them, and what an event has come to as it ends.
-use Rattle.std.specs.Prelude.{◌≡◌, ℕ, ◌+◌, ◌≤◌, List, [], Bool, true, false, map, None, slice_index_or, vec_len, vec_capacity}
+use Rattle.std.specs.Prelude.{◌≡◌, ℕ, ◌+◌, ◌≤◌, List, [], map, None, slice_index_or, vec_len, vec_capacity}
 use Rattle.charlotte_calls.specs.declared.names.EndId.{EndId}
 use Rattle.charlotte_calls.specs.declared.work.Effect.{Effect}
-use Rattle.end_table.specs.Table.{TableView, entries}
 use Rattle.end_table.specs.declared.entry.Entry.{Entry}
 use Rattle.kernel_step.specs.Kernel.{Kernel, Outcome, Process}
 use Rattle.kernel_step.specs.Progress.{sent_picture}
-use Rattle.kernel_step.specs.declared.phase.Phase.{Phase}
-use Rattle.kernel_step.specs.declared.phase.Phase.TheVariants.{Running, Waiting, Cancelling, Exited}
+use Rattle.kernel_step.specs.declared.phase.Phase.TheVariants.{Running}
 use Rattle.kernel_process.specs.declared.process.ControlBlock.{ControlBlock}
 
 -- a number that no process has

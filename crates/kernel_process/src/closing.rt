@@ -20,7 +20,7 @@ use crate::process::Processes;
 use charlotte_calls::{Answer, Effect, EndId, Pid, Report, ServiceStep, Way, Work};
 use end_table::{Inward, Lent, Outward, Table};
 use kernel_step::Phase;
-use std::collections::VecDeque;
+use std::mem;
 
 /// A process goes on to another phase.
 pub fn turn(processes: &mut Processes, p: Pid, phase: Phase)
@@ -204,35 +204,35 @@ fn join_all(
     table: &mut Table,
     processes: &mut Processes,
     effect: &mut Effect,
-    mut reports: VecDeque<(Pid, Report)>,
+    reports: &mut Vec<(Pid, Report)>,
 )
-    requires reports { AreFor (length processes.old) reports.items }
-    requires places { HasPlaces (length reports.items) (length reports.items) effect.old }
-    requires spare { HaveSpareFor reports.items processes.old }
+    requires reports { AreFor (length processes.old) reports.old.items }
+    requires places { HasPlaces (length reports.old.items) (length reports.old.items) effect.old }
+    requires spare { HaveSpareFor reports.old.items processes.old }
     ensures part { (s : Kernel) → ended (with_parts (entries table.new) processes.new s) effect.new
-        ≡ join_reports reports.items (ended (with_parts (entries table.old) processes.old s) effect.old) }
+        ≡ join_reports reports.old.items (ended (with_parts (entries table.old) processes.old s) effect.old) }
     ensures calm { StaysCalm table.old table.new }
-    ensures kept { TakesAtMost (length reports.items) processes.old processes.new }
-    ensures places { GainsAtMost (length reports.items) (length reports.items) effect.old effect.new }
+    ensures kept { TakesAtMost (length reports.old.items) processes.old processes.new }
+    ensures places { GainsAtMost (length reports.old.items) (length reports.old.items) effect.old effect.new }
     ensures stamp { effect.new.stamp ≡ effect.old.stamp }
 {
-    if let Some((p, report)) = reports.pop_front() {
+    if let Some((p, report)) = take_first(reports) {
         join(table, processes, effect, p, report);
         join_all(table, processes, effect, reports);
     }
 }
 
 /// The answers come to stand, in order.
-fn answer_all(processes: &mut Processes, effect: &mut Effect, mut answers: VecDeque<(Pid, Answer)>)
-    requires answers { AreFor (length processes.old) answers.items }
-    requires places { HasPlaces (length answers.items) 0 effect.old }
+fn answer_all(processes: &mut Processes, effect: &mut Effect, answers: &mut Vec<(Pid, Answer)>)
+    requires answers { AreFor (length processes.old) answers.old.items }
+    requires places { HasPlaces (length answers.old.items) 0 effect.old }
     ensures part { (s : Kernel) (t : EndId → Entry) → ended (with_parts t processes.new s) effect.new
-        ≡ join_answers answers.items (ended (with_parts t processes.old s) effect.old) }
+        ≡ join_answers answers.old.items (ended (with_parts t processes.old s) effect.old) }
     ensures kept { TakesAtMost 0 processes.old processes.new }
-    ensures places { GainsAtMost (length answers.items) 0 effect.old effect.new }
+    ensures places { GainsAtMost (length answers.old.items) 0 effect.old effect.new }
     ensures stamp { effect.new.stamp ≡ effect.old.stamp }
 {
-    if let Some((p, answer)) = answers.pop_front() {
+    if let Some((p, answer)) = take_first(answers) {
         stand(processes, effect, p, answer);
         answer_all(processes, effect, answers);
     }
@@ -294,34 +294,48 @@ pub fn exit(processes: &mut Processes, effect: &mut Effect, p: Pid)
     effect.answered.push_reserved(p);
 }
 
-/// The event is over: its answers and reports reach their processes.
-pub fn close(table: &mut Table, processes: &mut Processes, event: Event) -> Effect
-    requires reports { AreFor (length processes.old) event.work.reports.items }
-    requires answers { AreFor (length processes.old) event.work.answers.items }
-    requires spare { HaveSpareFor event.work.reports.items processes.old }
-    requires room { CanClose 0 0 event }
-    ensures part { (s : Kernel) → ended (with_parts (entries table.new) processes.new (record s { stamp = event.work.stamp })) result
-        ≡ closes (with_parts (entries table.old) processes.old s) (progress (entries table.old) event.work) }
-    ensures stamp { result.stamp ≡ event.work.stamp }
-    ensures calm { StaysCalm table.old table.new }
-    ensures kept { TakesAtMost (length event.work.reports.items) processes.old processes.new }
-    ensures places { (a s : ℕ) → CanClose a s event → HasPlaces a s result }
+/// The first of a list leaves it. Lists of one event are short.
+#[inline(always)]
+fn take_first<T>(list: &mut Vec<T>) -> Option<T>
+    ensures items { list.old.items ≡ option_to_list result ++ list.new.items }
+    ensures rest { list.new.items ≡ drop 1 list.old.items }
+    ensures len { vec_len list.new + length (option_to_list result) ≡ vec_len list.old }
 {
-    let Event { work, answered } = event;
-    let Work {
-        stamp,
-        packets,
-        reports,
-        answers,
-        steps,
-    } = work;
+    if list.is_empty() {
+        return None;
+    }
+    Some(list.remove(0))
+}
+
+/// The event is over: its answers and reports reach their processes. What it leaves is only the room of its lists.
+pub fn close(table: &mut Table, processes: &mut Processes, event: &mut Event) -> Effect
+    requires reports { AreFor (length processes.old) event.old.work.reports.items }
+    requires answers { AreFor (length processes.old) event.old.work.answers.items }
+    requires spare { HaveSpareFor event.old.work.reports.items processes.old }
+    requires room { CanClose 0 0 event.old }
+    ensures part { (s : Kernel) → ended (with_parts (entries table.new) processes.new (record s { stamp = event.old.work.stamp })) result
+        ≡ closes (with_parts (entries table.old) processes.old s) (progress (entries table.old) event.old.work) }
+    ensures stamp { result.stamp ≡ event.old.work.stamp }
+    ensures calm { StaysCalm table.old table.new }
+    ensures kept { TakesAtMost (length event.old.work.reports.items) processes.old processes.new }
+    ensures places { (a s : ℕ) → CanClose a s event.old → HasPlaces a s result }
+{
     let mut effect = Effect {
-        stamp,
-        packets,
-        answered,
-        steps,
+        stamp: event.work.stamp,
+        packets: take_list(&mut event.work.packets),
+        answered: take_list(&mut event.answered),
+        steps: take_list(&mut event.work.steps),
     };
-    answer_all(processes, &mut effect, VecDeque::from(answers));
-    join_all(table, processes, &mut effect, VecDeque::from(reports));
+    answer_all(processes, &mut effect, &mut event.work.answers);
+    join_all(table, processes, &mut effect, &mut event.work.reports);
     effect
+}
+
+/// Takes a list, and leaves one without room in its place.
+#[inline(always)]
+fn take_list<T>(list: &mut Vec<T>) -> Vec<T>
+    ensures { result ≡ list.old }
+{
+    let alloc = *list.allocator();
+    mem::replace(list, Vec::new(alloc))
 }

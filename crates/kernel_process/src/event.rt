@@ -1,4 +1,4 @@
-ghost use Rattle.std.specs.Prelude.{◌≡◌, ◌+◌, ◌*◌, ◌<◌, ◌≤◌, ◌^◌, [], IfOk, vec_capacity, vec_len};
+ghost use Rattle.std.specs.Prelude.{◌≡◌, ◌+◌, ◌*◌, ◌<◌, ◌≤◌, ◌^◌, [], OnOk, vec_capacity, vec_len};
 ghost use Rattle.kernel_process.specs.Closing.{IsBegun};
 ghost use Rattle.kernel_step.specs.Kernel.{Kernel, begins};
 ghost use Rattle.kernel_step.specs.Progress.{progress};
@@ -19,37 +19,58 @@ pub struct Event {
 const PACKETS_OF_AN_END: usize = 9;
 
 impl Event {
-    /// An event with this stamp that has added nothing. It has this room, room for the packets of so many ends that die besides,
-    /// for what its reports and answers bring, and for `own` answers more.
+    /// An event that has added nothing and has no room yet, for `begin`.
+    pub fn unused(alloc: Global) -> Event {
+        let work = Work {
+            stamp: 0,
+            packets: Vec::new(alloc),
+            reports: Vec::new(alloc),
+            answers: Vec::new(alloc),
+            steps: Vec::new(alloc),
+        };
+        Event {
+            work,
+            answered: Vec::new(alloc),
+        }
+    }
+
+    /// The event becomes one with this stamp that has added nothing. It has this room, room for the packets of so many ends that die
+    /// besides, for what its reports and answers bring, and for `own` answers more. Memory is taken only where the room of the lists
+    /// that it has is not enough.
     #[tactic(auto, unfolding(kernel_step::specs::Progress::progress))]
     pub fn begin(
-        alloc: Global,
+        &mut self,
         stamp: u64,
         room: Room,
         dying: usize,
         own: usize,
-    ) -> Result<Event, NoMemory>
+    ) -> Result<(), NoMemory>
         requires few { dying < 2 ^ 60 }
         requires one { own ≤ 1 }
-        ensures begins { IfOk result (λ event. (s : Kernel) → progress s.table event.work ≡ begins s stamp) }
-        ensures begun { IfOk result (IsBegun (record room { packets = room.packets + 9 * dying }) own) }
-        ensures stamp { IfOk result (λ event. event.work.stamp ≡ stamp) }
+        ensures begins { OnOk result ((s : Kernel) → progress s.table self.new.work ≡ begins s stamp) }
+        ensures begun { OnOk result (IsBegun (record room { packets = room.packets + 9 * dying }) own self.new) }
+        ensures stamp { OnOk result (self.new.work.stamp ≡ stamp) }
     {
         let most_packets = room.packets as usize + PACKETS_OF_AN_END * dying;
         let most_reports = room.reports as usize;
         let most_answers = room.answers as usize;
-        let packets = Vec::with_capacity(alloc, most_packets)?;
-        let reports = Vec::with_capacity(alloc, most_reports)?;
-        let answers = Vec::with_capacity(alloc, most_answers)?;
-        let steps = Vec::with_capacity(alloc, room.steps as usize + most_reports)?;
-        let answered = Vec::with_capacity(alloc, most_answers + most_reports + own)?;
-        let work = Work {
-            stamp,
-            packets,
-            reports,
-            answers,
-            steps,
-        };
-        Ok(Event { work, answered })
+        renew(&mut self.work.packets, most_packets)?;
+        renew(&mut self.work.reports, most_reports)?;
+        renew(&mut self.work.answers, most_answers)?;
+        renew(&mut self.work.steps, room.steps as usize + most_reports)?;
+        renew(&mut self.answered, most_answers + most_reports + own)?;
+        self.work.stamp = stamp;
+        Ok(())
     }
+}
+
+/// Empties a list, and gives it room for so many.
+#[inline(always)]
+fn renew<T: Drop>(list: &mut Vec<T>, most: usize) -> Result<(), NoMemory>
+    ensures empty { list.new.items ≡ [] }
+    ensures room { OnOk result (vec_len list.new + most ≤ vec_capacity list.new) }
+{
+    list.clear();
+    list.reserve(most)?;
+    Ok(())
 }

@@ -10,5 +10,5 @@ mod process;
 pub use activity::clear;
 pub use closing::{close, exit, stand, turn, wait};
 pub use event::Event;
-pub use owners::{owner, refresh_owner};
+pub use owners::{owner, owner_in, refresh_owner};
 pub use process::{ControlBlock, Processes};

@@ -25,7 +25,7 @@ pub fn owner(table: &Table, end: EndId) -> Option<Pid>
 }
 
 /// The process that holds an end, if no message does.
-fn owner_in(holder: Holder) -> Option<Pid>
+pub fn owner_in(holder: Holder) -> Option<Pid>
     ensures { result ≡ owner_in holder }
 {
     match holder {

@@ -1,5 +1,4 @@
 -- One process is set, with an empty set of ends.
-use Rattle.std.proofs.Common.{refl}
 use Rattle.kernel_process.specs.Parts.{process_state}
 use Rattle.kernel_process.proofs.ActiveSets.{set_empties}
 use Rattle.std.proofs.Common.{ap}

@@ -1,5 +1,4 @@
 -- One process is set, with another set of ends.
-use Rattle.std.proofs.Common.{refl}
 use Rattle.kernel_process.specs.Parts.{process_state}
 use Rattle.kernel_process.proofs.ActiveSets.{set_refreshes}
 use Rattle.std.proofs.Common.{ap}

@@ -8,7 +8,7 @@ use Rattle.kernel_process.proofs.closing.+answer_all.Goals as goal
 pub returns-in-Some-clause-part : goal.returns-in-Some-clause-part
 returns-in-Some-clause-part t c =
     λ s u. c.answer_all.ensures.part s u
-    ∙ join_answers-more c.in-Some.p c.in-Some.answer c.pop_front.new.self.items (ended (with_parts u c.args.processes.now s) c.args.effect.now) _ (c.stand.ensures.part s u)
+    ∙ join_answers-more c.in-Some.p c.in-Some.answer c.take_first.new.list.items (ended (with_parts u c.args.processes.now s) c.args.effect.now) _ (c.stand.ensures.part s u)
     ∙ ap (λ xs. join_answers xs (ended (with_parts u c.args.processes.now s) c.args.effect.now)) (sym c.in-Some.ensures.items)
 
 pub returns-in-Some-clause-kept : goal.returns-in-Some-clause-kept
@@ -16,4 +16,4 @@ returns-in-Some-clause-kept t c = takes-both 0 0 0 _ _ _ (omega arith) c.stand.e
 
 pub returns-in_default-clause-part : goal.returns-in_default-clause-part
 returns-in_default-clause-part t c =
-    λ s u. join_answers-none c.args.answers.items _ (drop-same c.args.answers.items (c.in_default.ensures.items ∙ c.in_default.ensures.rest))
+    λ s u. join_answers-none c.args.answers.now.items _ (drop-same c.args.answers.now.items (c.in_default.ensures.items ∙ c.in_default.ensures.rest))

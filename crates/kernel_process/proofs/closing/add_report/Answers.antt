@@ -1,5 +1,5 @@
 -- The process that is set has the reports, and nothing else changes.
-use Rattle.std.proofs.Common.{◌++◌, [], ◌∷◌, ap, refl, get_or, arith}
+use Rattle.std.proofs.Common.{◌++◌, [], ◌∷◌, ap, refl, arith}
 use Rattle.kernel_step.specs.Kernel.{Process}
 use Rattle.kernel_process.specs.Parts.{process_state}
 use Rattle.kernel_process.proofs.Closes.{sets-by, takes-set}

@@ -1,5 +1,5 @@
 -- The first report leaves the process that is set, and nothing else changes.
-use Rattle.std.proofs.Common.{◌≡◌, ◌++◌, drop, option_to_list, subst, sym, ◌∙◌, ap, refl, get_or, arith, length, ◌<◌}
+use Rattle.std.proofs.Common.{◌≡◌, ◌++◌, drop, option_to_list, subst, sym, ◌∙◌, ap, refl, arith, length, ◌<◌}
 use Rattle.kernel_step.specs.Kernel.{Process, process_of}
 use Rattle.kernel_process.specs.Parts.{process_state, with_parts}
 use Rattle.kernel_process.proofs.Closes.{sets-by, takes-set}

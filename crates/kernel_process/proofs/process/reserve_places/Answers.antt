@@ -1,6 +1,5 @@
 -- One process more has room.
-use Rattle.std.proofs.Common.{◌≡◌, ◌+◌, ◌≤◌, ◌∙◌, map, arith}
-use Rattle.std.specs.VecDeque.{deque_len, deque_capacity}
+use Rattle.std.proofs.Common.{◌≤◌, ◌∙◌, arith}
 use Rattle.indexmap.specs.IndexSet.{spare}
 use Rattle.kernel_process.specs.Active.{started_ends}
 use Rattle.kernel_process.specs.Parts.{process_state}

@@ -1,8 +1,6 @@
 -- One process more has room.
-use Rattle.std.proofs.Common.{◌≡◌, ◌+◌, ◌≤◌, ◌∙◌, map, arith}
+use Rattle.std.proofs.Common.{◌+◌, ◌≤◌, ◌∙◌, arith}
 use Rattle.std.specs.VecDeque.{deque_len, deque_capacity}
-use Rattle.indexmap.specs.IndexSet.{spare}
-use Rattle.kernel_process.specs.Active.{started_ends}
 use Rattle.kernel_process.specs.Parts.{process_state}
 use Rattle.kernel_process.specs.declared.process.ControlBlock.{ControlBlock}
 use Rattle.kernel_process.proofs.Rooms.{same_map, set_more}

@@ -1,8 +1,6 @@
 -- The processes before the index have room, and all are as before in what others see of them.
 use Rattle.std.proofs.Common.{◌≡◌, ℕ, ◌+◌, ◌<◌, ◌≤◌, map, get_or}
 use Rattle.std.specs.VecDeque.{deque_len, deque_capacity}
-use Rattle.indexmap.specs.IndexSet.{spare}
-use Rattle.kernel_process.specs.Active.{started_ends}
 use Rattle.kernel_process.specs.Parts.{process_state}
 use Rattle.kernel_process.specs.declared.process.ControlBlock.{ControlBlock}
 use Rattle.kernel_process.proofs.process.reserve_reports.Given as goal

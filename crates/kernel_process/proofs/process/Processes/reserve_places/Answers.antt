@@ -1,5 +1,5 @@
 -- The sets alone grew.
-use Rattle.std.proofs.Common.{◌≡◌, map, ap, ◌∙◌, sym, subst}
+use Rattle.std.proofs.Common.{map, ap, ◌∙◌, sym, subst}
 use Rattle.std.proofs.lemmas.List.{with_items_is}
 use Rattle.kernel_process.specs.declared.process.ControlBlock.{ControlBlock}
 use Rattle.kernel_process.specs.Closing.{HaveSpare}
