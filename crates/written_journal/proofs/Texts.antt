@@ -1,0 +1,82 @@
+-- Entries in a text, and where they stand in it.
+use Rattle.std.proofs.Common.{◌≡◌, ℕ, ◌+◌, ◌-◌, ◌^◌, ◌<◌, IfSome, Option, None, Some, List, [], ◌∷◌, ◌++◌, length, map, take, drop, get_or, append_assoc, append-nil, ap, sym, ◌∙◌, refl, arith}
+use Rattle.std.specs.List.{concat, slice_get, slice_range, sum}
+use Rattle.std.proofs.lemmas.List.{map-append, take_more}
+use Rattle.std.proofs.lemmas.Option.{slice_get_within}
+use Rattle.std.proofs.lemmas.List.Concat.{flat_map-append, flat_map-cons, concat_is, length-flat_map}
+use Rattle.std.proofs.lemmas.List.Folds.{concat-append}
+use Rattle.std.proofs.lemmas.List.Sums.{sum-map}
+use Rattle.std.proofs.Math.Seq.{drop-append_seam, take-append_seam}
+use Rattle.charlotte_calls.specs.declared.calls.ServiceStep.{ServiceStep}
+use Rattle.journal_text.specs.Transcript.{line, step_text}
+use Rattle.kernel_world.specs.declared.entry.Entry.{Entry}
+use Rattle.written_journal.specs.Lines.{kept_lines, lines_of, step_lines, text_of}
+
+pub lines_of-nil : lines_of [] ≡ []
+unfolding lines_of
+lines_of-nil = refl
+
+pub text_of-nil : text_of [] ≡ []
+unfolding text_of lines_of
+text_of-nil = refl
+
+pub lines_of-cons : (e : Entry) (es : List Entry) → lines_of (e ∷ es) ≡ kept_lines e ++ lines_of es
+unfolding lines_of
+lines_of-cons e es = flat_map-cons kept_lines e es
+
+pub lines_of-append : (xs ys : List Entry) → lines_of (xs ++ ys) ≡ lines_of xs ++ lines_of ys
+unfolding lines_of
+lines_of-append xs ys = flat_map-append kept_lines xs ys
+
+pub text_of-is : (es : List Entry) → text_of es ≡ concat (lines_of es)
+unfolding text_of
+text_of-is es = refl
+
+pub text_of-append : (xs ys : List Entry) → text_of (xs ++ ys) ≡ text_of xs ++ text_of ys
+unfolding text_of
+text_of-append xs ys = ap concat (lines_of-append xs ys) ∙ concat-append (lines_of xs) (lines_of ys)
+
+pub text_of-cons : (e : Entry) (es : List Entry) → text_of (e ∷ es) ≡ concat (kept_lines e) ++ text_of es
+unfolding text_of
+text_of-cons e es = ap concat (lines_of-cons e es) ∙ concat-append (kept_lines e) (lines_of es)
+
+-- one entry more
+pub lines_of-push : (es : List Entry) (e : Entry) → lines_of (es ++ e ∷ []) ≡ lines_of es ++ kept_lines e
+lines_of-push es e =
+    lines_of-append es (e ∷ []) ∙ ap (λ ls. lines_of es ++ ls) (lines_of-cons e [] ∙ ap (λ ls. kept_lines e ++ ls) lines_of-nil ∙ append-nil (kept_lines e))
+
+pub text_of-push : (es : List Entry) (e : Entry) → text_of (es ++ e ∷ []) ≡ text_of es ++ concat (kept_lines e)
+text_of-push es e =
+    text_of-append es (e ∷ []) ∙ ap (λ t. text_of es ++ t) (text_of-cons e [] ∙ ap (λ t. concat (kept_lines e) ++ t) text_of-nil ∙ append-nil (concat (kept_lines e)))
+
+-- how long lines are together
+pub sum-lengths : (ls : List (List ℕ)) → sum (map length ls) ≡ length (concat ls)
+sum-lengths ls = sum-map length ls ∙ sym (ap length (concat_is ls) ∙ length-flat_map (λ x. x) ls)
+
+-- a part of a list, by what stands before it
+pub slice-at : {X : Type 0} (all xs ys zs : List X) (a b : ℕ) → all ≡ xs ++ (ys ++ zs) → a ≡ length xs → b ≡ a + length ys → slice_range all a b ≡ ys
+slice-at {X} all xs ys zs a b is at to =
+    let long : b - a ≡ length ys = omega arith in
+    ap (λ n. take n (drop a all)) long ∙ ap (λ l. take (length ys) (drop a l)) is ∙ ap (λ n. take (length ys) (drop n (xs ++ (ys ++ zs)))) at ∙ ap (take (length ys)) (drop-append_seam xs (ys ++ zs)) ∙ take-append_seam ys zs
+
+-- one step more
+steps-more : (steps : List ServiceStep) (i : ℕ) (step : ServiceStep) → i < length steps → step ≡ get_or steps i step → step_lines (take (i + 1) steps) ≡ step_lines (take i steps) ++ line (step_text step) ∷ []
+steps-more steps i step below is =
+    ap step_lines (take_more steps i step below ∙ ap (λ (x : ServiceStep). take i steps ++ x ∷ []) (sym is)) ∙ map-append (λ s. line (step_text s)) (take i steps) (step ∷ [])
+
+pub text-more : (old now new : List ℕ) (steps : List ServiceStep) (i : ℕ) (step : ServiceStep) → i < length steps → step ≡ get_or steps i step → now ≡ old ++ concat (step_lines (take i steps)) → new ≡ now ++ line (step_text step) → new ≡ old ++ concat (step_lines (take (i + 1) steps))
+text-more old now new steps i step below is so_far more =
+    let joined : concat (step_lines (take (i + 1) steps)) ≡ concat (step_lines (take i steps)) ++ line (step_text step) =
+    ap concat (steps-more steps i step below is) ∙ concat-append (step_lines (take i steps)) (line (step_text step) ∷ []) ∙ ap (λ t. concat (step_lines (take i steps)) ++ t) (append-nil (line (step_text step))) in
+    more ∙ ap (λ t. t ++ line (step_text step)) so_far ∙ append_assoc old (concat (step_lines (take i steps))) (line (step_text step)) ∙ ap (λ t. old ++ t) (sym joined)
+
+pub lengths-more : (old now new : List ℕ) (n : ℕ) (steps : List ServiceStep) (i : ℕ) (step : ServiceStep) → i < length steps → step ≡ get_or steps i step → now ≡ old ++ map length (step_lines (take i steps)) → new ≡ now ++ n ∷ [] → n ≡ length (line (step_text step)) → new ≡ old ++ map length (step_lines (take (i + 1) steps))
+lengths-more old now new n steps i step below is so_far more long =
+    let joined : map length (step_lines (take (i + 1) steps)) ≡ map length (step_lines (take i steps)) ++ length (line (step_text step)) ∷ [] =
+    ap (map length) (steps-more steps i step below is) ∙ map-append length (step_lines (take i steps)) (line (step_text step) ∷ []) in
+    more ∙ ap (λ ns. ns ++ n ∷ []) so_far ∙ ap (λ k. (old ++ map length (step_lines (take i steps))) ++ k ∷ []) long ∙ append_assoc old (map length (step_lines (take i steps))) (length (line (step_text step)) ∷ []) ∙ ap (λ ns. old ++ ns) (sym joined)
+
+-- the number of what is read can be raised by one
+pub read-within : {X : Type 0} (xs : List X) (n : ℕ) (r : Option X) → r ≡ slice_get xs n → length xs < 2 ^ 63 → IfSome r (λ _. n + 1 < 2 ^ 64)
+read-within xs n None e few = tt
+read-within xs n (Some x) e few = let below = slice_get_within xs n x (sym e) in omega arith

@@ -1,0 +1,49 @@
+//! What happened, as proofs keep it. It takes no memory, and nothing is done for it at run time.
+ghost use Rattle.std.specs.Prelude.{◌≡◌};
+ghost use base.Fml.{ftrue};
+ghost use Rattle.written_journal.specs.Told.{Told, nothing_told, told_code};
+
+use charlotte_calls::{Call, Packet, Pid, ServiceStep};
+use std::marker::Model;
+
+#[derive(Drop)]
+pub(crate) struct History {
+    ghost told: { Told } by { told_code },
+}
+
+impl Model for History {
+    ghost also_owns = { λ _. ftrue };
+}
+
+// What a history is told.
+#[derive(Clone, Copy, Drop)]
+pub(crate) enum Note<'a> {
+    // A process makes a call.
+    Asked(Pid, &'a Call),
+    // A kernel takes a packet from a kernel.
+    Took(u8, &'a Packet),
+    // What was begun got this stamp, and means these steps.
+    Done(u64, &'a [ServiceStep]),
+    // The event of this number at a kernel comes next in the order of all.
+    Next(u8, &'a History, usize),
+    // The events of the only kernel are all.
+    Alone(&'a History),
+}
+
+impl History {
+    ghost use Rattle.written_journal.specs.Noted.{noted};
+
+    pub(crate) fn new() -> History
+        ensures { result.told ≡ nothing_told }
+    {
+        History {}
+    }
+
+    // With one note more.
+    #[inline(always)]
+    pub(crate) fn then(&self, _note: &Note<'_>) -> History
+        ensures { result.told ≡ noted self.now.told _note.now }
+    {
+        History {}
+    }
+}

@@ -1,0 +1,16 @@
+//! What happens at kernels, written as text when it happens; the merge of such texts, and the transcript of a run.
+#![tactic(auto)]
+
+mod history;
+mod journal;
+mod lines;
+mod merged;
+mod merging;
+mod place;
+mod ranges;
+mod transcript;
+mod written;
+
+pub use journal::WrittenJournal;
+pub use merged::Merged;
+pub use transcript::TranscriptLines;
