@@ -57,7 +57,13 @@ fn read_lines(alloc: Global, bytes: &[u8]) -> Result<Script, PlanFault>
 }
 
 #[tactic(auto, unfolding(crate::specs::Reading::line_read))]
-fn read_line(alloc: Global, draft: &mut Draft, line: u32, text: &[u8], place: &mut Call) -> Result<(), PlanFault>
+fn read_line(
+    alloc: Global,
+    draft: &mut Draft,
+    line: u32,
+    text: &[u8],
+    place: &mut Call,
+) -> Result<(), PlanFault>
     requires { length draft.old.homes ≤ 64 }
     ensures { MatchResult result (λ _. line_read line draft.old text.now ≡ Ok draft.new) (λ e. Fails e (line_read line draft.old text.now)) }
 {
@@ -85,7 +91,12 @@ fn skipped(text: &[u8]) -> bool
 
 /// What a line says, or the least rule that it fails.
 #[tactic(auto, unfolding(crate::specs::Reading::meaning_at))]
-fn read_meaning(alloc: Global, draft: &Draft, text: &[u8], place: &mut Call) -> Result<Result<Meaning, Rule>, NoMemory>
+fn read_meaning(
+    alloc: Global,
+    draft: &Draft,
+    text: &[u8],
+    place: &mut Call,
+) -> Result<Result<Meaning, Rule>, NoMemory>
     requires { length draft.now.homes ≤ 64 }
     ensures { IfOk result (λ meaning. meaning ≡ meaning_at draft.now text.now) }
 {
