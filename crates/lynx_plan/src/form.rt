@@ -54,9 +54,11 @@ pub(crate) fn script_form(
     }
 }
 
+/// The form of a line that is no call of a process.
 #[tactic(auto, unfolding(crate::specs::Forms::led))]
 fn led_form(lead: Lead, rest: Option<&[u8]>) -> Result<Form, Fault>
-    ensures { lead ≢ Lead.Other → (version : ℕ) (word : List ℕ) → result ≡ led version lead word (rest_parts 32 (option_copied rest.entry)) }
+    requires { lead ≢ Lead.Other }
+    ensures { (version : ℕ) (word : List ℕ) → result ≡ led version lead word (rest_parts 32 (option_copied rest.entry)) }
 {
     match lead {
         Lead::Version => Ok(Form::Version(number(rest)?)),
@@ -73,13 +75,15 @@ fn led_form(lead: Lead, rest: Option<&[u8]>) -> Result<Form, Fault>
             let (from, to) = numbers(rest)?;
             Ok(Form::Take(from, to))
         }
-        Lead::Settle | Lead::Other => {
+        Lead::Settle => {
             end_of_line(rest)?;
             Ok(Form::Settle)
         }
+        Lead::Other => unreachable!(),
     }
 }
 
+/// The form of a call of a process.
 #[tactic(auto, unfolding(crate::specs::Forms::asked))]
 fn call_of_process(
     alloc: Global,
