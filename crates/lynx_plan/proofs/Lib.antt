@@ -5,3 +5,4 @@ pub mod Lines
 pub mod Words
 pub mod Spelled
 pub mod Again
+pub mod Places

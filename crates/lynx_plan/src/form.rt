@@ -4,7 +4,9 @@ ghost use Rattle.lynx_plan.specs.declared.form.Lead.TheVariants as Lead;
 ghost use Rattle.lynx_plan.specs.Forms.{lead_of, one_number, two_numbers, placed, asked, led, form_of};
 
 use charlotte_calls::{Call, NoMemory};
-use charlotte_text::{Fault, Number, cut, end_of_line, next_word, read_call_into, read_number, read_process};
+use charlotte_text::{
+    Fault, Number, cut, end_of_line, next_word, read_call_into, read_number, read_process,
+};
 use compact_calls::CompactCall;
 use std::alloc::Global;
 
@@ -37,7 +39,12 @@ pub(crate) enum Form {
 
 /// The form of a line of a script of this version. A call is read into a place that is lent, and kept at its own length.
 #[tactic(auto, unfolding(crate::specs::Forms::form_of, crate::specs::Forms::led))]
-pub(crate) fn script_form(alloc: Global, version: u8, line: &[u8], place: &mut Call) -> Result<Result<Form, Fault>, NoMemory>
+pub(crate) fn script_form(
+    alloc: Global,
+    version: u8,
+    line: &[u8],
+    place: &mut Call,
+) -> Result<Result<Form, Fault>, NoMemory>
     ensures { IfOk result (λ form. form ≡ form_of version (words line.now)) }
 {
     let (word, rest) = cut(b' ', line);
@@ -47,9 +54,11 @@ pub(crate) fn script_form(alloc: Global, version: u8, line: &[u8], place: &mut C
     }
 }
 
+/// The form of a line that is no call of a process.
 #[tactic(auto, unfolding(crate::specs::Forms::led))]
 fn led_form(lead: Lead, rest: Option<&[u8]>) -> Result<Form, Fault>
-    ensures { lead ≢ Lead.Other → (version : ℕ) (word : List ℕ) → result ≡ led version lead word (rest_parts 32 (option_copied rest.entry)) }
+    requires { lead ≢ Lead.Other }
+    ensures { (version : ℕ) (word : List ℕ) → result ≡ led version lead word (rest_parts 32 (option_copied rest.entry)) }
 {
     match lead {
         Lead::Version => Ok(Form::Version(number(rest)?)),
@@ -66,13 +75,15 @@ fn led_form(lead: Lead, rest: Option<&[u8]>) -> Result<Form, Fault>
             let (from, to) = numbers(rest)?;
             Ok(Form::Take(from, to))
         }
-        Lead::Settle | Lead::Other => {
+        Lead::Settle => {
             end_of_line(rest)?;
             Ok(Form::Settle)
         }
+        Lead::Other => unreachable!(),
     }
 }
 
+/// The form of a call of a process.
 #[tactic(auto, unfolding(crate::specs::Forms::asked))]
 fn call_of_process(
     alloc: Global,

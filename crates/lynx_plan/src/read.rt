@@ -1,4 +1,6 @@
-ghost use Rattle.std.specs.Prelude.{◌≡◌, ◌<◌, ◌≤◌, ◌+◌, ◌*◌, length, MatchResult, IfOk, Ok};
+ghost use Rattle.std.specs.List.{position};
+ghost use Rattle.charlotte_text.specs.Reading.{parts, rest_parts};
+ghost use Rattle.std.specs.Prelude.{◌≡◌, ◌==◌, ◌∷◌, option_copied, IfSome, ◌<◌, ◌≤◌, ◌+◌, ◌*◌, length, MatchResult, IfOk, Ok};
 ghost use Rattle.charlotte_calls.specs.Setting.{IsValid};
 ghost use Rattle.lynx_plan.specs.declared.script.Script.{Script};
 ghost use Rattle.lynx_plan.specs.ScriptText.{AreRisingLines, IsScriptText};
@@ -13,7 +15,7 @@ use crate::rules::judge;
 use crate::script::Script;
 use crate::stage::Stage;
 use charlotte_calls::{Call, NoMemory};
-use charlotte_text::cut;
+use memchr::memchr;
 use std::alloc::Global;
 
 /// The script that the bytes spell, or the first line that fails a rule and the least rule there.
@@ -42,7 +44,7 @@ fn read_lines(alloc: Global, bytes: &[u8]) -> Result<Script, PlanFault>
     let mut line = 0;
     let mut rest = Some(bytes);
     while let Some(text) = rest {
-        let (this, after) = cut(b'\n', text);
+        let (this, after) = first_line(text);
         line += 1;
         read_line(alloc, &mut draft, line, this, &mut place)?;
         rest = after;
@@ -56,8 +58,31 @@ fn read_lines(alloc: Global, bytes: &[u8]) -> Result<Script, PlanFault>
     }
 }
 
+/// The first line of a text, and what stands behind its line feed, if it has one.
+fn first_line(text: &[u8]) -> (&[u8], Option<&[u8]>)
+    ensures { parts 10 text.now ≡ result.0.now ∷ rest_parts 10 (option_copied result.1) }
+{
+    match line_feed_at(text) {
+        None => (text, None),
+        Some(at) => (&text[..at], Some(&text[at + 1..])),
+    }
+}
+
+fn line_feed_at(text: &[u8]) -> Option<usize>
+    ensures exact { position (λ b. b == 10) text.now ≡ result }
+    ensures within { IfSome result (λ at. at < length text.now) }
+{
+    memchr(b'\n', text)
+}
+
 #[tactic(auto, unfolding(crate::specs::Reading::line_read))]
-fn read_line(alloc: Global, draft: &mut Draft, line: u32, text: &[u8], place: &mut Call) -> Result<(), PlanFault>
+fn read_line(
+    alloc: Global,
+    draft: &mut Draft,
+    line: u32,
+    text: &[u8],
+    place: &mut Call,
+) -> Result<(), PlanFault>
     requires { length draft.old.homes ≤ 64 }
     ensures { MatchResult result (λ _. line_read line draft.old text.now ≡ Ok draft.new) (λ e. Fails e (line_read line draft.old text.now)) }
 {
@@ -85,7 +110,12 @@ fn skipped(text: &[u8]) -> bool
 
 /// What a line says, or the least rule that it fails.
 #[tactic(auto, unfolding(crate::specs::Reading::meaning_at))]
-fn read_meaning(alloc: Global, draft: &Draft, text: &[u8], place: &mut Call) -> Result<Result<Meaning, Rule>, NoMemory>
+fn read_meaning(
+    alloc: Global,
+    draft: &Draft,
+    text: &[u8],
+    place: &mut Call,
+) -> Result<Result<Meaning, Rule>, NoMemory>
     requires { length draft.now.homes ≤ 64 }
     ensures { IfOk result (λ meaning. meaning ≡ meaning_at draft.now text.now) }
 {
