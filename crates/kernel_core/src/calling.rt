@@ -46,7 +46,6 @@ pub(crate) enum Touched {
 }
 
 /// The event that means this step and adds nothing else is over.
-#[inline(always)]
 pub(crate) fn close_step(state: &mut State, meant: ServiceStep, mut event: Event) -> Effect
     requires reports { event.work.reports.items ≡ [] }
     requires answers { event.work.answers.items ≡ [] }
