@@ -4,7 +4,7 @@ use Rattle.charlotte_calls.specs.declared.calls.Call.{Call}
 use Rattle.charlotte_calls.specs.declared.names.EndId.{EndId}
 use Rattle.charlotte_calls.specs.declared.names.Pid.{Pid}
 use Rattle.charlotte_calls.specs.declared.work.Effect.{Effect}
-use Rattle.end_table.specs.Table.{TableView, entries}
+use Rattle.end_table.specs.Table.{entries}
 use Rattle.kernel_core.proofs.Reserved.{reserved-parts}
 use Rattle.kernel_core.proofs.Kernels.{state-parts, state-changed}
 use Rattle.kernel_core.specs.State.{KernelView, state_of}

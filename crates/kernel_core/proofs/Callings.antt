@@ -3,7 +3,6 @@ use Rattle.std.proofs.Common.{◌≡◌, ◌≢◌, ◌⊎◌, inl, inr, ℕ, �
 use Rattle.std.proofs.lemmas.Bool.Decides.{eqb_tells}
 use Rattle.charlotte_calls.specs.declared.calls.Call.{Call}
 use Rattle.charlotte_calls.specs.declared.calls.Call.TheVariants as call
-use Rattle.charlotte_calls.specs.declared.calls.ServiceStep.{ServiceStep}
 use Rattle.charlotte_calls.specs.declared.calls.ServiceStep.TheVariants as step
 use Rattle.charlotte_calls.specs.declared.names.EndId.{EndId}
 use Rattle.charlotte_calls.specs.declared.names.Pid.{Pid}
@@ -48,11 +47,10 @@ kept-calm n made old new xs ys calm kept is =
     }
 
 -- so they keep what every event keeps
-pub keeps-calm : (old : State) (t : TableView) (ys : List ControlBlock) (made : ℕ) → made ≡ old.made → StaysCalm old.table t → TakesAtMost 0 old.processes ys → IsConsistent old
-    → Keeps old (record { table = t; processes = ys; made = made })
-keeps-calm old t ys made links calm kept is =
+pub keeps-calm : (old new : State) → new.made ≡ old.made → StaysCalm old.table new.table → TakesAtMost 0 old.processes new.processes → IsConsistent old → Keeps old new
+keeps-calm old new links calm kept is =
     record {
-      consistent = subst (λ n. AreConsistent t ys n) (sym links) (kept-calm 0 old.made old.table t old.processes ys calm kept is);
+      consistent = subst (λ n. AreConsistent new.table new.processes n) (sym links) (kept-calm 0 old.made old.table new.table old.processes new.processes calm kept is);
       kernel = calm.kernel;
       length = kept.length;
     }

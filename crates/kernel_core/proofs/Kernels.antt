@@ -1,44 +1,25 @@
 -- A kernel as its parts, before and after an event.
-use Rattle.charlotte_calls.specs.declared.names.EndId.{EndId}
 use Rattle.charlotte_calls.specs.declared.names.Pid.{Pid}
 use Rattle.charlotte_calls.specs.declared.picture.Picture.{Picture}
-use Rattle.charlotte_calls.specs.declared.picture.PictureWhat.{PictureWhat}
 use Rattle.charlotte_calls.specs.declared.work.Effect.{Effect}
-use Rattle.charlotte_calls.specs.declared.work.Work.{Work}
-use Rattle.end_table.proofs.EndEq.{end_eq-refl}
-use Rattle.end_table.specs.Owned.{owned}
-use Rattle.end_table.specs.Place.{end_eq}
-use Rattle.end_table.specs.Table.{entries, IfHere}
 use Rattle.end_table.specs.Table.{entries}
-use Rattle.end_table.specs.declared.entry.Entry.TheVariants as entry
-use Rattle.end_table.specs.declared.entry.Entry.{Entry}
-use Rattle.end_table.specs.declared.entry.HereView.{HereView}
-use Rattle.end_table.specs.declared.entry.Holder.TheVariants as holder
-use Rattle.end_table.specs.declared.entry.Holder.{Holder}
-use Rattle.kernel_sound.proofs.Rows.{row-well}
-use Rattle.kernel_sound.specs.Owners.{owner_in, owner_of}
-use Rattle.kernel_sound.specs.Sound.{IsSound, IsHeldWell, AreFor, addressee}
+use Rattle.end_table.specs.Table.{entries}
 use Rattle.kernel_core.specs.Started.{takes_addressed}
 use Rattle.kernel_core.specs.State.{KernelView, state_of}
-use Rattle.kernel_process.specs.Parts.{process_state, no_process, process_at, with_parts}
+use Rattle.kernel_process.specs.Parts.{process_state, process_at, with_parts}
 use Rattle.kernel_core.specs.State.{KernelView, state_of}
 use Rattle.kernel_process.specs.Parts.{process_state, process_at, ended, with_parts}
 use Rattle.kernel_core.specs.State.{KernelView, state_of}
 use Rattle.kernel_process.specs.Parts.{process_state, process_at, with_parts}
 use Rattle.kernel_process.specs.declared.process.ControlBlock.{ControlBlock}
-use Rattle.kernel_step.specs.Calls.{is_active}
-use Rattle.kernel_step.specs.Kernel.{Kernel, Process, closes}
-use Rattle.kernel_step.specs.Kernel.{Kernel, with_process, process_of}
+use Rattle.kernel_step.specs.Kernel.{Process, closes}
+use Rattle.kernel_step.specs.Kernel.{with_process, process_of}
 use Rattle.kernel_step.specs.Kernel.{begins, closes, next_stamp, take_step}
-use Rattle.kernel_step.specs.Progress.{Progress, progress}
-use Rattle.kernel_step.specs.Rows.{row}
-use Rattle.std.proofs.Common.{◌<◌, IfSome, ◌≡◌, ℕ, Bool, false, List, [], map, refl, sym, ap, subst, ◌∙◌}
+use Rattle.std.proofs.Common.{◌<◌, ◌≡◌, ℕ, List, map, sym, ap, subst, ◌∙◌}
 use Rattle.std.proofs.Common.{◌≡◌, ℕ, List, map, max, ap, ◌∙◌}
-use Rattle.std.proofs.Common.{◌≡◌, ◌≢◌, ◌⊎◌, inl, inr, ℕ, ◌<◌, true, false, nat_eq, List, length, slice_set, map, ap, sym, subst, ◌∙◌, if◌then◌else◌, get_or, cond}
-use Rattle.std.proofs.lemmas.Bool.Decides.{eqb_tells}
-use Rattle.std.proofs.lemmas.Grind.{get_or-set_at}
-use Rattle.std.proofs.lemmas.List.{get_or-set_other, map-set, get_or-map, length-map}
-use Rattle.kernel_process.proofs.OneProcess.{process_of-at, process_at-at, process_at-set}
+use Rattle.std.proofs.Common.{◌≡◌, ℕ, ◌<◌, nat_eq, List, length, slice_set, map, ap, sym, subst, ◌∙◌, get_or, cond}
+use Rattle.std.proofs.lemmas.List.{length-map}
+use Rattle.kernel_process.proofs.OneProcess.{process_at-at, process_at-set}
 
 -- a kernel in the state that its parts have
 pub state-parts : (v : KernelView) (xs : List ControlBlock) → map process_state xs ≡ v.processes → with_parts (entries v.table) xs (state_of v) ≡ state_of v

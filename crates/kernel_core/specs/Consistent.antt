@@ -1,13 +1,6 @@
 -- What is true of the parts of every kernel.
-use Rattle.std.specs.Prelude.{◌≡◌, ℕ, Bool, false, nat_eq, ◌&&◌, List, length, map, slice_get, Some, if◌then◌else◌}
-use Rattle.std.specs.List.{list_any}
-use Rattle.charlotte_calls.specs.declared.names.EndId.{EndId}
-use Rattle.charlotte_calls.specs.declared.names.Pid.{Pid}
-use Rattle.end_table.specs.Owned.{owned}
-use Rattle.end_table.specs.Place.{end_eq}
+use Rattle.std.specs.Prelude.{◌≡◌, ℕ, List, length, map}
 use Rattle.end_table.specs.Table.{TableView, entries}
-use Rattle.end_table.specs.declared.entry.Entry.{Entry}
-use Rattle.kernel_step.specs.Calls.{is_active}
 use Rattle.kernel_sound.specs.Sound.{IsSound}
 use Rattle.kernel_process.specs.declared.process.ControlBlock.{ControlBlock}
 use Rattle.kernel_process.specs.Active.{Tells, started_ends}

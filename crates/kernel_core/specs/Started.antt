@@ -1,18 +1,21 @@
 -- What an event may take for granted as it begins: what it is about, and its room.
-use Rattle.std.specs.Prelude.{◌≡◌, ℕ, ◌<◌, List, length, if◌then◌else◌}
+use Rattle.std.specs.Prelude.{◌≡◌, ◌↔◌, ℕ, ◌<◌, List, length, if◌then◌else◌, IsTrue}
 use Rattle.charlotte_calls.specs.Packets.{is_addressed, what_picture}
 use Rattle.charlotte_calls.specs.declared.names.EndId.{EndId}
 use Rattle.charlotte_calls.specs.declared.packet.What.{What}
 use Rattle.charlotte_calls.specs.declared.picture.PictureWhat.{PictureWhat}
 use Rattle.end_table.specs.Table.{entries, IsHere}
+use Rattle.end_table.specs.declared.entry.Entry.{Entry}
 use Rattle.kernel_core.specs.Finishing.{HavePlaceFor, touched_by}
 use Rattle.kernel_core.specs.Stepping.{Begins, AreListedFor}
+use Rattle.kernel_core.specs.declared.taking.Found.{Found}
 use Rattle.kernel_core.specs.declared.state.Request.{Request}
 use Rattle.kernel_core.specs.declared.state.State.{State}
 use Rattle.kernel_event.specs.Places.{ArePlaced, IsPlacedFor, brought}
 use Rattle.kernel_event.specs.Room.{and_ends, room_of_call, room_of_packet}
 use Rattle.kernel_process.specs.Closing.{HaveSpare, HavePlace, IsBegun}
 use Rattle.kernel_process.specs.declared.event.Event.{Event}
+use Rattle.kernel_sound.specs.Owners.{owner_of}
 use Rattle.kernel_sound.specs.Sound.{addressee}
 use Rattle.kernel_step.specs.Progress.{Progress}
 use Rattle.kernel_step.specs.Rows.{row}
@@ -35,6 +38,12 @@ pub record IsReadyToTake (s : State) (what : What) (event : Event) : Type 0 wher
   pub placed : ArePlaced s.table (brought what)
   pub spare : IsHere (entries s.table (addressee (what_picture what))) → 0 < (room_of_packet what).reports → HaveSpare (room_of_packet what).reports s.processes
   pub place : IsHere (entries s.table (addressee (what_picture what))) → HavePlace s.processes
+
+-- this is how the end that a packet is addressed to is found
+pub record IsFound (t : EndId → Entry) (what : What) (to : Found) : Type 0 where
+  pub end : to.end ≡ addressee (what_picture what)
+  pub here : IsTrue to.here ↔ IsHere (t to.end)
+  pub owner : to.owner ≡ owner_of (t to.end)
 
 -- what a kernel does with a packet: one that names a kernel that is not there is dropped
 abbrev pub takes_addressed : ℕ → ℕ → ℕ → ℕ → PictureWhat → Progress → Progress

@@ -1,14 +1,9 @@
 -- What contracts see of a kernel, as the kernel state of the definitions.
-use Rattle.std.specs.Prelude.{◌≡◌, ℕ, ◌+◌, ◌≤◌, List, [], Bool, true, false, map, None, slice_index_or, vec_len, vec_capacity}
-use Rattle.charlotte_calls.specs.declared.names.EndId.{EndId}
-use Rattle.charlotte_calls.specs.declared.work.Effect.{Effect}
+use Rattle.std.specs.Prelude.{ℕ, List, Bool, true, false}
 use Rattle.end_table.specs.Table.{TableView, entries}
-use Rattle.end_table.specs.declared.entry.Entry.{Entry}
-use Rattle.kernel_step.specs.Kernel.{Kernel, Outcome, Process}
-use Rattle.kernel_step.specs.Progress.{sent_picture}
+use Rattle.kernel_step.specs.Kernel.{Kernel, Process}
 use Rattle.kernel_step.specs.declared.phase.Phase.{Phase}
 use Rattle.kernel_step.specs.declared.phase.Phase.TheVariants.{Running, Waiting, Cancelling, Exited}
-use Rattle.kernel_process.specs.declared.process.ControlBlock.{ControlBlock}
 unfoldable pub use Rattle.kernel_process.specs.Parts.{ended}
 use Rattle.kernel_process.specs.Parts.{process_at}
 

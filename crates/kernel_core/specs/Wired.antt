@@ -1,5 +1,5 @@
 -- A kernel that starts: what it has of the links of its setting, and its processes.
-use Rattle.std.specs.Prelude.{◌≡◌, ℕ, ◌<◌, [], length, slice_index, take}
+use Rattle.std.specs.Prelude.{◌≡◌, ℕ, ◌<◌, length, slice_index, take}
 use Rattle.std.specs.List.{fold}
 use Rattle.charlotte_calls.specs.Names.{opposite}
 use Rattle.charlotte_calls.specs.declared.names.EndId.{EndId}

@@ -59,7 +59,9 @@ pub(crate) fn close_step(state: &mut State, meant: ServiceStep, mut event: Event
     ensures made { state.new.made ≡ state.old.made }
 {
     push_step(&mut event.work, meant);
-    close(&mut state.table, &mut state.processes, event)
+    let effect = close(&mut state.table, &mut state.processes, &mut event);
+    state.over = event;
+    effect
 }
 
 /// How many links are made after a call that is not refused.
@@ -76,29 +78,31 @@ pub(crate) fn links_after(call: &Call, made: u32) -> u32
 /// What a call does, to the end of its event; the sets of active ends and the number of links stay.
 pub(crate) fn act_and_close(
     state: &mut State,
-    request: Request,
+    request: &Request,
     mine: &[EndId],
     mut event: Event,
 ) -> Effect
     requires consistent { IsConsistent state.old }
-    requires request { IsRequest state.old request mine.now }
-    requires granted { (reported : Bool) × (refusal request.p (entries state.old.table) state.old.made mine.now reported request.call ≡ None) }
-    requires other { request.call ≡ Call.Wait → ⊥ }
-    requires ready { IsReadyToCall state.old request mine.now event }
-    ensures part { (s : Kernel) → ended (with_parts (entries state.new.table) state.new.processes (record s { made = made_after request.call state.old.made; stamp = result.stamp })) result
-        ≡ finishes request.p state.old.table.kernel state.old.made request.call
-        (closes (record (turned request.p request.call (with_parts (entries state.old.table) state.old.processes s)) { made = made_after request.call state.old.made })
-        (acts request.p state.old.table.kernel state.old.made mine.now request.call (progress (entries state.old.table) event.work))) }
-    ensures sound { IsSound state.new.table.kernel (made_after request.call state.old.made) (length state.old.processes) (entries state.new.table) }
-    ensures calm { IsCalmAfter request.p (touched_by (entries state.old.table) request.call) (entries state.old.table) (entries state.new.table) }
+    requires request { IsRequest state.old request.now mine.now }
+    requires granted { (reported : Bool) × (refusal request.now.p (entries state.old.table) state.old.made mine.now reported request.now.call ≡ None) }
+    requires other { request.now.call ≡ Call.Wait → ⊥ }
+    requires ready { IsReadyToCall state.old request.now mine.now event }
+    ensures part { (s : Kernel) → ended (with_parts (entries state.new.table) state.new.processes (record s { made = made_after request.now.call state.old.made; stamp = result.stamp })) result
+        ≡ finishes request.now.p state.old.table.kernel state.old.made request.now.call
+        (closes (record (turned request.now.p request.now.call (with_parts (entries state.old.table) state.old.processes s)) { made = made_after request.now.call state.old.made })
+        (acts request.now.p state.old.table.kernel state.old.made mine.now request.now.call (progress (entries state.old.table) event.work))) }
+    ensures sound { IsSound state.new.table.kernel (made_after request.now.call state.old.made) (length state.old.processes) (entries state.new.table) }
+    ensures calm { IsCalmAfter request.now.p (touched_by (entries state.old.table) request.now.call) (entries state.old.table) (entries state.new.table) }
     ensures kept { TakesAtMost 0 state.old.processes state.new.processes }
     ensures kernel { state.new.table.kernel ≡ state.old.table.kernel }
 {
     let Request { p, call } = request;
-    let ending = ending_of(state.table.kernel(), state.made, &call);
-    turn_caller(&state.table, &mut state.processes, p, &call);
+    let p = *p;
+    let ending = ending_of(state.table.kernel(), state.made, call);
+    turn_caller(&state.table, &mut state.processes, p, call);
     act(&mut state.table, state.made, p, mine, call, &mut event.work);
-    let mut effect = close(&mut state.table, &mut state.processes, event);
+    let mut effect = close(&mut state.table, &mut state.processes, &mut event);
+    state.over = event;
     finish(&mut state.processes, &mut effect, p, ending);
     effect
 }

@@ -8,22 +8,22 @@ ghost use Rattle.kernel_core.specs.Stepping.{IsCalled, AreListedFor, IsRefusedFo
 
 use crate::calling::{act_and_close, close_step, links_after, refresh_touched, touched_by};
 use crate::refusal::refusal;
-use crate::room::{reserve_active, reserve_made, room_of_call};
+use crate::room::{begin, reserve_active, reserve_made, room_of_call};
 use crate::state::{Request, State};
-use charlotte_calls::{Answer, Call, Cause, Effect, EndId, NoMemory, Packet, Pid, ServiceStep};
+use charlotte_calls::{Answer, Call, Cause, Effect, EndId, NoMemory, Pid, ServiceStep};
 use end_table::Table;
 use kernel_process::{Event, stand, wait};
 use std::alloc::Global;
 
 /// The event of a call; `mine` are the ends that the caller owns, in order, where it exits.
-fn decide(state: &mut State, request: Request, mine: &[EndId], event: Event) -> Effect
+fn decide(state: &mut State, request: &Request, mine: &[EndId], event: Event) -> Effect
     requires consistent { IsConsistent state.old }
-    requires request { IsRequest state.old request mine.now }
-    requires ready { IsReadyToCall state.old request mine.now event }
-    ensures step { IsCalled state.old event.work.stamp state.new result request.p request.call }
+    requires request { IsRequest state.old request.now mine.now }
+    requires ready { IsReadyToCall state.old request.now mine.now event }
+    ensures step { IsCalled state.old event.work.stamp state.new result request.now.p request.now.call }
     ensures keeps { Keeps state.old state.new }
 {
-    match cause_of(state, &request) {
+    match cause_of(state, request) {
         Some(cause) => refuse(state, request, mine, cause, event),
         None => {
             if is_wait(&request.call) {
@@ -46,16 +46,23 @@ fn cause_of(state: &State, request: &Request) -> Option<Cause>
 }
 
 /// The event of a call that is refused.
-fn refuse(state: &mut State, request: Request, mine: &[EndId], cause: Cause, event: Event) -> Effect
+fn refuse(
+    state: &mut State,
+    request: &Request,
+    mine: &[EndId],
+    cause: Cause,
+    event: Event,
+) -> Effect
     requires consistent { IsConsistent state.old }
-    requires request { IsRequest state.old request mine.now }
-    requires refused { IsRefusedFor state.old.table state.old.processes state.old.made request.p request.call (Some cause) }
-    requires ready { IsReadyToCall state.old request mine.now event }
-    ensures step { IsCalled state.old event.work.stamp state.new result request.p request.call }
+    requires request { IsRequest state.old request.now mine.now }
+    requires refused { IsRefusedFor state.old.table state.old.processes state.old.made request.now.p request.now.call (Some cause) }
+    requires ready { IsReadyToCall state.old request.now mine.now event }
+    ensures step { IsCalled state.old event.work.stamp state.new result request.now.p request.now.call }
     ensures keeps { Keeps state.old state.new }
 {
     state.table.has_list_of(request.p);
-    let Request { p, call } = request;
+    let p = request.p;
+    let call = request.call.copy();
     let mut effect = close_step(state, ServiceStep::Refuse { p, call, cause }, event);
     stand(&mut state.processes, &mut effect, p, Answer::Refused(cause));
     effect
@@ -69,13 +76,13 @@ fn is_wait(call: &Call) -> bool
 }
 
 /// The event of a Wait that is not refused.
-fn wait_for_report(state: &mut State, request: Request, mine: &[EndId], event: Event) -> Effect
+fn wait_for_report(state: &mut State, request: &Request, mine: &[EndId], event: Event) -> Effect
     requires consistent { IsConsistent state.old }
-    requires request { IsRequest state.old request mine.now }
-    requires wait { request.call ≡ calls.Wait }
-    requires granted { IsRefusedFor state.old.table state.old.processes state.old.made request.p request.call None }
-    requires ready { IsReadyToCall state.old request mine.now event }
-    ensures step { IsCalled state.old event.work.stamp state.new result request.p request.call }
+    requires request { IsRequest state.old request.now mine.now }
+    requires wait { request.now.call ≡ calls.Wait }
+    requires granted { IsRefusedFor state.old.table state.old.processes state.old.made request.now.p request.now.call None }
+    requires ready { IsReadyToCall state.old request.now mine.now event }
+    ensures step { IsCalled state.old event.work.stamp state.new result request.now.p request.now.call }
     ensures keeps { Keeps state.old state.new }
 {
     let p = request.p;
@@ -86,13 +93,13 @@ fn wait_for_report(state: &mut State, request: Request, mine: &[EndId], event: E
 }
 
 /// The event of another call that is not refused.
-fn perform(state: &mut State, request: Request, mine: &[EndId], event: Event) -> Effect
+fn perform(state: &mut State, request: &Request, mine: &[EndId], event: Event) -> Effect
     requires consistent { IsConsistent state.old }
-    requires request { IsRequest state.old request mine.now }
-    requires granted { IsRefusedFor state.old.table state.old.processes state.old.made request.p request.call None }
-    requires other { request.call ≡ calls.Wait → ⊥ }
-    requires ready { IsReadyToCall state.old request mine.now event }
-    ensures step { IsCalled state.old event.work.stamp state.new result request.p request.call }
+    requires request { IsRequest state.old request.now mine.now }
+    requires granted { IsRefusedFor state.old.table state.old.processes state.old.made request.now.p request.now.call None }
+    requires other { request.now.call ≡ calls.Wait → ⊥ }
+    requires ready { IsReadyToCall state.old request.now mine.now event }
+    ensures step { IsCalled state.old event.work.stamp state.new result request.now.p request.now.call }
     ensures keeps { Keeps state.old state.new }
 {
     let p = request.p;
@@ -104,22 +111,20 @@ fn perform(state: &mut State, request: Request, mine: &[EndId], event: Event) ->
     effect
 }
 
-/// The event of a call with this stamp, whose packets stand in a list that had other packets. For want of memory nothing has changed that
-/// counts.
+/// The event of a call with this stamp. For want of memory nothing has changed that counts.
 pub(crate) fn call_event(
     alloc: Global,
     state: &mut State,
-    request: Request,
+    request: &Request,
     stamp: u64,
-    packets: Vec<(u8, Packet)>,
 ) -> Result<Effect, NoMemory>
     requires consistent { IsConsistent state.old }
-    requires process { request.p.0 < length state.old.processes }
-    ensures step { IfOk result (λ effect. IsCalled state.old stamp state.new effect request.p request.call) }
+    requires process { request.now.p.0 < length state.old.processes }
+    ensures step { IfOk result (λ effect. IsCalled state.old stamp state.new effect request.now.p request.now.call) }
     ensures same { OnErr result (OnlyReserves state.old state.new) }
     ensures keeps { Keeps state.old state.new }
 {
-    match reserve_calling(alloc, state, &request, stamp, packets) {
+    match reserve_calling(alloc, state, request, stamp) {
         Ok((mine, event)) => Ok(decide(state, request, mine.as_slice(), event)),
         Err(NoMemory) => Err(NoMemory),
     }
@@ -131,7 +136,6 @@ fn reserve_calling(
     state: &mut State,
     request: &Request,
     stamp: u64,
-    packets: Vec<(u8, Packet)>,
 ) -> Result<(Vec<EndId>, Event), NoMemory>
     requires process { request.now.p.0 < length state.old.processes }
     ensures request { IfOk result (λ r. IsRequest state.new request.now r.0.items) }
@@ -143,7 +147,7 @@ fn reserve_calling(
     reserve_places(&mut state.table, state.made, &request.call)?;
     let mine = list_ends(alloc, &state.table, request.p, &request.call)?;
     let room = room_of_call(&request.call);
-    let event = Event::begin(alloc, packets, stamp, room, mine.len(), 1)?;
+    let event = begin(alloc, &mut state.over, stamp, room, mine.len(), 1)?;
     Ok((mine, event))
 }
 

@@ -15,13 +15,12 @@ use crate::stamp::{greater, stamp_after};
 use crate::start::wire_links;
 use crate::state::{Request, State};
 use crate::taking::{NotTaken, take_event};
-use charlotte_calls::{Answer, Call, Effect, NoMemory, Packet, Pid, Setting};
+use charlotte_calls::{Answer, Call, Effect, NoMemory, Packet, Pid, ServiceStep, Setting};
 use end_table::Table;
-use kernel_process::{ControlBlock, Processes};
+use kernel_process::{ControlBlock, Event, Processes};
 use kernel_step::Phase;
 use std::alloc::Global;
 use std::marker::Model;
-use std::mem;
 
 /// One kernel: its table of ends, and its processes.
 #[derive(Drop)]
@@ -32,8 +31,6 @@ pub struct Kernel {
     /// The processes are those of the setting, by number. Those of other kernels stay as they start.
     state: State,
     stamp: u64,
-    /// The list of packets of an earlier event, of which the next one takes the room.
-    spare: Vec<(u8, Packet)>,
 }
 
 impl Model for Kernel {
@@ -63,6 +60,7 @@ impl Kernel {
             table,
             processes,
             made,
+            over: Event::unused(alloc),
         };
         Ok(Kernel {
             alloc,
@@ -70,7 +68,6 @@ impl Kernel {
             version: setting.version,
             state,
             stamp: 0,
-            spare: Vec::new(alloc),
         })
     }
 
@@ -90,14 +87,8 @@ impl Kernel {
         ensures processes { length self.new.processes ≡ length self.old.processes }
     {
         let stamp = stamp_after(self.stamp);
-        let packets = mem::replace(&mut self.spare, Vec::new(self.alloc));
-        let called = call_event(
-            self.alloc,
-            &mut self.state,
-            Request { p, call },
-            stamp,
-            packets,
-        );
+        let request = Request { p, call };
+        let called = call_event(self.alloc, &mut self.state, &request, stamp);
         match called {
             Ok(effect) => {
                 self.stamp = effect.stamp;
@@ -116,8 +107,23 @@ impl Kernel {
         ensures same { OnErr result (state_of self.new ≡ state_of self.old) }
         ensures processes { length self.new.processes ≡ length self.old.processes }
     {
+        let mut packet = packet;
+        match self.take_from(from, &mut packet) {
+            Ok(effect) => Ok(effect),
+            Err(NoMemory) => Err(NotTaken { packet }),
+        }
+    }
+
+    /// The same with a packet that stays where it is: nothing of it is moved but the values that it brings, which are taken out
+    /// of it. For want of memory it is as before, and so is the kernel.
+    pub fn take_from(&mut self, from: u8, packet: &mut Packet) -> Result<Effect, NoMemory>
+        ensures step { IfOk result (λ effect. ended (state_of self.new) effect ≡ take_step (state_of self.old) from (packet_picture packet.old)) }
+        ensures stamp { IfOk result (λ effect. effect.stamp ≡ self.new.stamp) }
+        ensures back { OnErr result (packet.new ≡ packet.old) }
+        ensures same { OnErr result (state_of self.new ≡ state_of self.old) }
+        ensures processes { length self.new.processes ≡ length self.old.processes }
+    {
         let stamp = stamp_after(greater(self.stamp, packet.stamp));
-        let packets = mem::replace(&mut self.spare, Vec::new(self.alloc));
         let taken = take_event(
             self.alloc,
             &mut self.state,
@@ -125,14 +131,13 @@ impl Kernel {
             from,
             stamp,
             packet,
-            packets,
         );
         match taken {
             Ok(effect) => {
                 self.stamp = effect.stamp;
                 Ok(effect)
             }
-            Err(not_taken) => Err(not_taken),
+            Err(NoMemory) => Err(NoMemory),
         }
     }
 
@@ -140,7 +145,15 @@ impl Kernel {
     pub fn reuse(&mut self, packets: Vec<(u8, Packet)>)
         ensures { self.new ≡ self.old }
     {
-        self.spare = packets;
+        self.state.over.work.packets = packets;
+    }
+
+    /// Gives back the other lists of an effect, of which the next event takes the room.
+    pub fn reuse_lists(&mut self, answered: Vec<Pid>, steps: Vec<ServiceStep>)
+        ensures { self.new ≡ self.old }
+    {
+        self.state.over.answered = answered;
+        self.state.over.work.steps = steps;
     }
 
     /// What the kernel keeps of a process.

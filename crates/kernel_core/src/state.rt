@@ -1,6 +1,6 @@
 use charlotte_calls::{Call, Pid};
 use end_table::Table;
-use kernel_process::Processes;
+use kernel_process::{Event, Processes};
 
 /// What the events of a kernel change.
 #[derive(Drop)]
@@ -9,6 +9,8 @@ pub(crate) struct State {
     pub(crate) processes: Processes,
     /// How many links the kernel has made.
     pub(crate) made: u32,
+    /// An event that is over, of whose lists the next one takes the room.
+    pub(crate) over: Event,
 }
 
 /// A call, with the process that makes it.

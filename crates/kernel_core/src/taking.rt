@@ -12,17 +12,17 @@ ghost use Rattle.kernel_step.specs.Calls.{is_active};
 ghost use Rattle.kernel_sound.specs.Sound.{addressee};
 ghost use Rattle.kernel_process.specs.Parts.{with_parts, ended, process_state};
 ghost use Rattle.kernel_core.specs.Consistent.{IsConsistent, Keeps, OnlyReserves};
-ghost use Rattle.kernel_core.specs.Started.{IsReadyToTake, takes_addressed};
+ghost use Rattle.kernel_core.specs.Started.{IsFound, IsReadyToTake, takes_addressed};
 ghost use Rattle.kernel_step.specs.Kernel.{Kernel, begins, closes};
 ghost use Rattle.kernel_step.specs.Progress.{progress};
 ghost use Rattle.kernel_step.specs.Rows.{row};
 
-use crate::room::{reserve_brought, reserve_processes, room_of_packet};
+use crate::room::{begin, reserve_brought, reserve_processes, room_of_packet};
 use crate::state::State;
 use charlotte_calls::{Effect, EndId, NoMemory, Packet, Pid, What};
 use end_table::{Lent, Table};
 use kernel_event::row;
-use kernel_process::{Event, Processes, close, owner, refresh_owner};
+use kernel_process::{Event, Processes, close, owner_in, refresh_owner};
 use std::alloc::Global;
 
 /// The packet that a kernel could not take for want of memory.
@@ -31,31 +31,54 @@ pub struct NotTaken {
     pub packet: Packet,
 }
 
+/// The end that a packet is addressed to, as its event finds it.
+#[derive(Clone, Copy)]
+struct Found {
+    end: EndId,
+    here: bool,
+    /// The process that owns it.
+    owner: Option<Pid>,
+}
+
 /// The event in which a kernel takes a packet from a kernel; all room that it needs was reserved.
-fn take(state: &mut State, from: u8, what: What, mut event: Event) -> Effect
+fn take(state: &mut State, from: u8, what: &mut What, to: Found, mut event: Event) -> Effect
     requires consistent { IsConsistent state.old }
-    requires ready { IsReadyToTake state.old what event }
+    requires ready { IsReadyToTake state.old what.old event }
+    requires found { IsFound (entries state.old.table) what.old to }
     ensures part { (s : Kernel) → ended (with_parts (entries state.new.table) state.new.processes (record s { stamp = result.stamp })) result
-        ≡ closes (with_parts (entries state.old.table) state.old.processes s) (row state.old.table.kernel state.old.made from (what_picture what) (progress (entries state.old.table) event.work)) }
+        ≡ closes (with_parts (entries state.old.table) state.old.processes s) (row state.old.table.kernel state.old.made from (what_picture what.old) (progress (entries state.old.table) event.work)) }
     ensures keeps { Keeps state.old state.new }
     ensures made { state.new.made ≡ state.old.made }
 {
-    let to = addressee(&what);
-    let here = is_here(&state.table, to);
-    let before = owner(&state.table, to);
     row(&mut state.table, state.made, from, what, &mut event.work);
-    let effect = close(&mut state.table, &mut state.processes, event);
-    refresh_if_here(&state.table, &mut state.processes, here, before, to);
+    let effect = close(&mut state.table, &mut state.processes, &mut event);
+    refresh_if_here(
+        &state.table,
+        &mut state.processes,
+        to.here,
+        to.owner,
+        to.end,
+    );
+    state.over = event;
     effect
 }
 
-/// Whether an end is here.
-fn is_here(table: &Table, end: EndId) -> bool
-    ensures { IsTrue result ↔ IsHere (entries table.now end) }
+/// How the event of a packet finds the end that the packet is addressed to.
+fn find(table: &Table, what: &What) -> Found
+    ensures { IsFound (entries table.now) what.now result }
 {
+    let end = addressee(what);
     match table.lend(end) {
-        Lent::Here(_) => true,
-        Lent::Nothing | Lent::Left { .. } | Lent::Destroyed(_) => false,
+        Lent::Here(living) => Found {
+            end,
+            here: true,
+            owner: owner_in(living.holder()),
+        },
+        Lent::Nothing | Lent::Left { .. } | Lent::Destroyed(_) => Found {
+            end,
+            here: false,
+            owner: None,
+        },
     }
 }
 
@@ -101,25 +124,32 @@ fn addressee(what: &What) -> EndId
 }
 
 /// The event of a packet, of which each named kernel is there or which is dropped.
-fn take_packet(state: &mut State, kernels: u8, from: u8, packet: Packet, event: Event) -> Effect
+fn take_packet(
+    state: &mut State,
+    kernels: u8,
+    from: u8,
+    packet: &mut Packet,
+    to: Found,
+    event: Event,
+) -> Effect
     requires consistent { IsConsistent state.old }
-    requires ready { IsReadyToTake state.old packet.what event }
+    requires ready { IsReadyToTake state.old packet.old.what event }
+    requires found { IsFound (entries state.old.table) packet.old.what to }
     ensures part { (s : Kernel) → ended (with_parts (entries state.new.table) state.new.processes (record s { stamp = result.stamp })) result
         ≡ closes (with_parts (entries state.old.table) state.old.processes s)
-        (takes_addressed kernels state.old.table.kernel state.old.made from (what_picture packet.what) (progress (entries state.old.table) event.work)) }
+        (takes_addressed kernels state.old.table.kernel state.old.made from (what_picture packet.old.what) (progress (entries state.old.table) event.work)) }
     ensures keeps { Keeps state.old state.new }
     ensures made { state.new.made ≡ state.old.made }
 {
     if packet.addressed(kernels) {
-        let (_, what) = packet.open();
-        take(state, from, what, event)
+        take(state, from, &mut packet.what, to, event)
     } else {
         pass(state, &packet.what, event)
     }
 }
 
 /// The event of a packet that is dropped.
-fn pass(state: &mut State, what: &What, event: Event) -> Effect
+fn pass(state: &mut State, what: &What, mut event: Event) -> Effect
     requires consistent { IsConsistent state.old }
     requires ready { IsReadyToTake state.old what.now event }
     ensures part { (s : Kernel) → ended (with_parts (entries state.new.table) state.new.processes (record s { stamp = result.stamp })) result
@@ -127,7 +157,9 @@ fn pass(state: &mut State, what: &What, event: Event) -> Effect
     ensures keeps { Keeps state.old state.new }
     ensures made { state.new.made ≡ state.old.made }
 {
-    close(&mut state.table, &mut state.processes, event)
+    let effect = close(&mut state.table, &mut state.processes, &mut event);
+    state.over = event;
+    effect
 }
 
 /// Reserves all that the event of a packet needs, so that nothing after it can fail.
@@ -135,44 +167,44 @@ fn reserve_taking(
     alloc: Global,
     state: &mut State,
     what: &What,
+    here: bool,
     stamp: u64,
-    packets: Vec<(u8, Packet)>,
 ) -> Result<Event, NoMemory>
+    requires here { IsHere (entries state.old.table (addressee (what_picture what.now))) → here ≡ true }
     ensures ready { IfOk result (IsReadyToTake state.new what.now) }
     ensures begins { IfOk result (λ event. (s : Kernel) → progress s.table event.work ≡ begins s stamp) }
     ensures same { OnlyReserves state.old state.new }
 {
     let room = room_of_packet(what);
-    let event = Event::begin(alloc, packets, stamp, room, 0, 0)?;
-    let here = is_here(&state.table, addressee(what));
+    let event = begin(alloc, &mut state.over, stamp, room, 0, 0)?;
     reserve_processes(&mut state.processes, here, room.reports)?;
     reserve_brought(&mut state.table, what)?;
     Ok(event)
 }
 
-/// The event in which a kernel takes a packet, with this stamp; what it sends stands in a list that had other packets. For want of memory
-/// the packet comes back.
+/// The event in which a kernel takes a packet, with this stamp. Its values are taken out of the packet. For want of memory the
+/// packet stays as it is.
 pub(crate) fn take_event(
     alloc: Global,
     state: &mut State,
     kernels: u8,
     from: u8,
     stamp: u64,
-    packet: Packet,
-    packets: Vec<(u8, Packet)>,
-) -> Result<Effect, NotTaken>
+    packet: &mut Packet,
+) -> Result<Effect, NoMemory>
     requires consistent { IsConsistent state.old }
     ensures part { IfOk result (λ effect. (s : Kernel) → s.table ≡ entries state.old.table
         → ended (with_parts (entries state.new.table) state.new.processes (record s { stamp = effect.stamp })) effect
         ≡ closes (with_parts (entries state.old.table) state.old.processes s)
-        (takes_addressed kernels state.old.table.kernel state.old.made from (what_picture packet.what) (begins s stamp))) }
-    ensures back { IfErr result (λ e. e.packet ≡ packet) }
+        (takes_addressed kernels state.old.table.kernel state.old.made from (what_picture packet.old.what) (begins s stamp))) }
+    ensures back { OnErr result (packet.new ≡ packet.old) }
     ensures same { OnErr result (OnlyReserves state.old state.new) }
     ensures keeps { Keeps state.old state.new }
     ensures made { state.new.made ≡ state.old.made }
 {
-    match reserve_taking(alloc, state, &packet.what, stamp, packets) {
-        Ok(event) => Ok(take_packet(state, kernels, from, packet, event)),
-        Err(NoMemory) => Err(NotTaken { packet }),
+    let to = find(&state.table, &packet.what);
+    match reserve_taking(alloc, state, &packet.what, to.here, stamp) {
+        Ok(event) => Ok(take_packet(state, kernels, from, packet, to, event)),
+        Err(NoMemory) => Err(NoMemory),
     }
 }

@@ -1,5 +1,5 @@
 -- What the end of an event changes of the table and of the processes.
-use Rattle.std.proofs.Common.{◌≡◌, ◌≢◌, ◌⊎◌, inl, inr, ℕ, ◌+◌, ◌<◌, ◌≤◌, Bool, true, false, nat_eq, eq-eqb, Some, List, [], ◌∷◌, ◌++◌, drop, length, slice_set, map, ap, sym, subst, ◌∙◌, refl, get_or, cond, arith}
+use Rattle.std.proofs.Common.{◌≡◌, ◌≢◌, ◌⊎◌, inl, inr, ℕ, ◌+◌, ◌<◌, ◌≤◌, Bool, true, false, nat_eq, true≢false, eq-eqb, Some, List, [], ◌∷◌, ◌++◌, drop, length, slice_set, map, ap, sym, subst, ◌∙◌, refl, get_or, cond, arith}
 use Rattle.std.specs.VecDeque.{deque_len, deque_capacity}
 use Rattle.std.proofs.lemmas.List.{map-set, get_or-map, length-set, set-get_or}
 use Rattle.std.proofs.lemmas.List.Elements.{All-set}
@@ -269,3 +269,15 @@ closes-by s t xs work e o after packets answered steps answers reports =
 -- the others are for processes too
 pub are_for-rest : {X : Type 0} (m n : ℕ) (x : Pid × X) (xs ys : List (Pid × X)) → ys ≡ x ∷ xs → m ≡ n → AreFor n ys → AreFor m xs
 are_for-rest m n x xs ys is same are = subst (λ k. AreFor k xs) (sym same) (subst (AreFor n) is are).1
+
+-- a list is empty where it is told so
+pub is_empty-none : {X : Type 0} (xs : List X) (n : ℕ) (b : Bool) → b ≡ nat_eq n 0 → b ≡ true → n ≡ length xs → xs ≡ []
+is_empty-none {X} xs n b is told len = none xs (by (eqb_tells n 0))
+  where
+    none : (ys : List X) → length ys ≡ 0 → ys ≡ []
+    none [] h = refl
+    none (y ∷ ys) h = absurd (omega arith)
+
+    by : ((nat_eq n 0 ≡ true) × (n ≡ 0)) ⊎ ((nat_eq n 0 ≡ false) × (n ≢ 0)) → length xs ≡ 0
+    by (inl t) = sym len ∙ t.1
+    by (inr t) = absurd (true≢false (sym told ∙ is ∙ t.0))

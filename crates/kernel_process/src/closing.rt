@@ -199,7 +199,31 @@ fn join(table: &mut Table, processes: &mut Processes, effect: &mut Effect, p: Pi
     }
 }
 
+/// The reports join the lists of their processes, in order. Most events have none.
+#[inline(always)]
+fn join_each(
+    table: &mut Table,
+    processes: &mut Processes,
+    effect: &mut Effect,
+    reports: &mut Vec<(Pid, Report)>,
+)
+    requires reports { AreFor (length processes.old) reports.old.items }
+    requires places { HasPlaces (length reports.old.items) (length reports.old.items) effect.old }
+    requires spare { HaveSpareFor reports.old.items processes.old }
+    ensures part { (s : Kernel) → ended (with_parts (entries table.new) processes.new s) effect.new
+        ≡ join_reports reports.old.items (ended (with_parts (entries table.old) processes.old s) effect.old) }
+    ensures calm { StaysCalm table.old table.new }
+    ensures kept { TakesAtMost (length reports.old.items) processes.old processes.new }
+    ensures places { GainsAtMost (length reports.old.items) (length reports.old.items) effect.old effect.new }
+    ensures stamp { effect.new.stamp ≡ effect.old.stamp }
+{
+    if !reports.is_empty() {
+        join_all(table, processes, effect, reports);
+    }
+}
+
 /// The reports join the lists of their processes, in order.
+#[inline(never)]
 fn join_all(
     table: &mut Table,
     processes: &mut Processes,
@@ -222,7 +246,24 @@ fn join_all(
     }
 }
 
+/// The answers come to stand, in order. Most events have none.
+#[inline(always)]
+fn answer_each(processes: &mut Processes, effect: &mut Effect, answers: &mut Vec<(Pid, Answer)>)
+    requires answers { AreFor (length processes.old) answers.old.items }
+    requires places { HasPlaces (length answers.old.items) 0 effect.old }
+    ensures part { (s : Kernel) (t : EndId → Entry) → ended (with_parts t processes.new s) effect.new
+        ≡ join_answers answers.old.items (ended (with_parts t processes.old s) effect.old) }
+    ensures kept { TakesAtMost 0 processes.old processes.new }
+    ensures places { GainsAtMost (length answers.old.items) 0 effect.old effect.new }
+    ensures stamp { effect.new.stamp ≡ effect.old.stamp }
+{
+    if !answers.is_empty() {
+        answer_all(processes, effect, answers);
+    }
+}
+
 /// The answers come to stand, in order.
+#[inline(never)]
 fn answer_all(processes: &mut Processes, effect: &mut Effect, answers: &mut Vec<(Pid, Answer)>)
     requires answers { AreFor (length processes.old) answers.old.items }
     requires places { HasPlaces (length answers.old.items) 0 effect.old }
@@ -326,8 +367,8 @@ pub fn close(table: &mut Table, processes: &mut Processes, event: &mut Event) ->
         answered: take_list(&mut event.answered),
         steps: take_list(&mut event.work.steps),
     };
-    answer_all(processes, &mut effect, &mut event.work.answers);
-    join_all(table, processes, &mut effect, &mut event.work.reports);
+    answer_each(processes, &mut effect, &mut event.work.answers);
+    join_each(table, processes, &mut effect, &mut event.work.reports);
     effect
 }
 

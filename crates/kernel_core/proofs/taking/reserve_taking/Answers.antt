@@ -1,5 +1,5 @@
 -- What was reserved is enough for the packet.
-use Rattle.std.proofs.Common.{◌≡◌, ◌<◌, true, sym, subst}
+use Rattle.std.proofs.Common.{◌≡◌, ◌<◌, true, subst}
 use Rattle.charlotte_calls.specs.Packets.{what_picture}
 use Rattle.charlotte_calls.specs.declared.names.EndId.{EndId}
 use Rattle.charlotte_calls.specs.declared.work.Room.{Room}
@@ -21,8 +21,7 @@ returns-clause-ready c =
       place = λ here. c.in_ok-reserve_processes.ensures.place (told here);
     }
   where
-    told : IsHere (entries c.reserve_brought.new.table (addressee (what_picture c.args.what.now))) → c.is_here-here.result ≡ true
+    told : IsHere (entries c.reserve_brought.new.table (addressee (what_picture c.args.what.now))) → c.args.here ≡ true
     told here =
-        c.is_here-here.ensures.1
-        (subst (λ (e : EndId). IsHere (entries c.args.state.now.table e)) (sym c.addressee.ensures)
-        (subst (λ (t : EndId → Entry). IsHere (t (addressee (what_picture c.args.what.now)))) c.reserve_brought.ensures.entries here))
+        c.requires.here
+        (subst (λ (t : EndId → Entry). IsHere (t (addressee (what_picture c.args.what.now)))) c.reserve_brought.ensures.entries here)

@@ -26,9 +26,9 @@ pub row-requires-clause-ready : goal.row-requires-clause-ready
 row-requires-clause-ready c = IsReady-sound c.args.state.now.table.kernel c.args.state.now.made (length c.args.state.now.processes) (entries c.args.state.now.table) c.requires.consistent.sound
 
 -- the row goes well
-goes : (c : goal.After-close-arg-2-1) → GoesWell c.args.state.now.table.kernel c.args.state.now.made (length c.args.state.now.processes) (λ p e. end_eq (addressee (what_picture c.args.what)) e) (entries c.args.state.now.table)
-    (row c.args.state.now.table.kernel c.args.state.now.made c.args.from (what_picture c.args.what) (progress (entries c.args.state.now.table) c.args.event.work))
-goes c = row-goes c.args.state.now.table.kernel c.args.state.now.made (length c.args.state.now.processes) c.args.from (what_picture c.args.what) (entries c.args.state.now.table) c.args.event.work c.requires.ready.begun.reports c.requires.ready.begun.answers c.requires.consistent.sound
+goes : (c : goal.After-event-1) → GoesWell c.args.state.now.table.kernel c.args.state.now.made (length c.args.state.now.processes) (λ p e. end_eq (addressee (what_picture c.args.what.now)) e) (entries c.args.state.now.table)
+    (row c.args.state.now.table.kernel c.args.state.now.made c.args.from (what_picture c.args.what.now) (progress (entries c.args.state.now.table) c.args.event.work))
+goes c = row-goes c.args.state.now.table.kernel c.args.state.now.made (length c.args.state.now.processes) c.args.from (what_picture c.args.what.now) (entries c.args.state.now.table) c.args.event.work c.requires.ready.begun.reports c.requires.ready.begun.answers c.requires.consistent.sound
 
 pub close-effect-requires-clause-reports : goal.close-effect-requires-clause-reports
 close-effect-requires-clause-reports c = well-reports _ _ _ _ _ (entries c.row.new.table) c.row.new.out _ c.row.ensures.part (goes c)
@@ -37,18 +37,18 @@ pub close-effect-requires-clause-answers : goal.close-effect-requires-clause-ans
 close-effect-requires-clause-answers c = well-answers _ _ _ _ _ (entries c.row.new.table) c.row.new.out _ c.row.ensures.part (goes c)
 
 pub close-effect-requires-clause-spare : goal.close-effect-requires-clause-spare
-close-effect-requires-clause-spare c = by c.is_here-here.result refl
+close-effect-requires-clause-spare c = by c.args.to.here refl
   where
-    by : (b : Bool) → c.is_here-here.result ≡ b → HaveSpareFor c.row.new.out.reports.items c.args.state.now.processes
-    by true is = part-spare (room_of_packet c.args.what) 0 c.args.event c.row.new.out c.args.state.now.processes c.requires.ready.begun c.row.ensures.room
-        (c.requires.ready.spare (subst (λ (e : EndId). IsHere (entries c.args.state.now.table e)) c.addressee-to.ensures (c.is_here-here.ensures.0 is)))
+    by : (b : Bool) → c.args.to.here ≡ b → HaveSpareFor c.row.new.out.reports.items c.args.state.now.processes
+    by true is = part-spare (room_of_packet c.args.what.now) 0 c.args.event c.row.new.out c.args.state.now.processes c.requires.ready.begun c.row.ensures.room
+        (c.requires.ready.spare (subst (λ (e : EndId). IsHere (entries c.args.state.now.table e)) c.requires.found.end (c.requires.found.here.0 is)))
     by false is = subst (λ rs. HaveSpareFor rs c.args.state.now.processes)
-        (sym (away-reports c.args.state.now.table.kernel c.args.state.now.made (length c.args.state.now.processes) c.args.from (what_picture c.args.what) (entries c.args.state.now.table) (entries c.row.new.table) c.args.event.work c.row.new.out
+        (sym (away-reports c.args.state.now.table.kernel c.args.state.now.made (length c.args.state.now.processes) c.args.from (what_picture c.args.what.now) (entries c.args.state.now.table) (entries c.row.new.table) c.args.event.work c.row.new.out
         c.requires.ready.begun.reports c.requires.ready.begun.answers c.requires.consistent.sound c.row.ensures.part
-        (λ here. true≢false (sym (c.is_here-here.ensures.1 (subst (λ (e : EndId). IsHere (entries c.args.state.now.table e)) (sym c.addressee-to.ensures) here)) ∙ is)))) tt
+        (λ here. true≢false (sym (c.requires.found.here.1 (subst (λ (e : EndId). IsHere (entries c.args.state.now.table e)) (sym c.requires.found.end) here)) ∙ is)))) tt
 
 pub close-effect-requires-clause-room : goal.close-effect-requires-clause-room
-close-effect-requires-clause-room c = part-closes (room_of_packet c.args.what) 0 c.args.event c.row.new.out c.requires.ready.begun c.row.ensures.room
+close-effect-requires-clause-room c = part-closes (room_of_packet c.args.what.now) 0 c.args.event c.row.new.out c.requires.ready.begun c.row.ensures.room
 
 pub row-requires-clause-room : goal.row-requires-clause-room
 row-requires-clause-room c =
@@ -57,14 +57,14 @@ row-requires-clause-room c =
 pub refresh_if_here-requires-clause-after : goal.refresh_if_here-requires-clause-after
 refresh_if_here-requires-clause-after c =
     let sound = c.close-effect.ensures.calm.sound c.args.state.now.made (length c.args.state.now.processes)
-    (subst (λ k. IsSound k c.args.state.now.made (length c.args.state.now.processes) (entries c.row.new.table)) (sym c.row.ensures.kernel) (row-sound c.args.state.now.table.kernel c.args.state.now.made (length c.args.state.now.processes) c.args.from (what_picture c.args.what) (entries c.args.state.now.table) (entries c.row.new.table) c.args.event.work c.row.new.out c.requires.ready.begun.reports c.requires.ready.begun.answers c.requires.consistent.sound c.row.ensures.part)) in
-    subst (λ n. IfSome (owner_of (entries c.close-effect.new.table c.addressee-to.result)) (λ p. p.0 < n)) (sym c.close-effect.ensures.kept.length)
-    (owner-below c.close-effect.new.table.kernel c.args.state.now.made (length c.args.state.now.processes) (entries c.close-effect.new.table) sound c.addressee-to.result)
+    (subst (λ k. IsSound k c.args.state.now.made (length c.args.state.now.processes) (entries c.row.new.table)) (sym c.row.ensures.kernel) (row-sound c.args.state.now.table.kernel c.args.state.now.made (length c.args.state.now.processes) c.args.from (what_picture c.args.what.now) (entries c.args.state.now.table) (entries c.row.new.table) c.args.event.work c.row.new.out c.requires.ready.begun.reports c.requires.ready.begun.answers c.requires.consistent.sound c.row.ensures.part)) in
+    subst (λ n. IfSome (owner_of (entries c.close-effect.new.table c.args.to.end)) (λ p. p.0 < n)) (sym c.close-effect.ensures.kept.length)
+    (owner-below c.close-effect.new.table.kernel c.args.state.now.made (length c.args.state.now.processes) (entries c.close-effect.new.table) sound c.args.to.end)
 
 pub refresh_if_here-requires-clause-place : goal.refresh_if_here-requires-clause-place
 refresh_if_here-requires-clause-place c = λ is.
     HavePlace-moved c.args.state.now.processes c.close-effect.new.processes c.close-effect.ensures.kept.active
-    (c.requires.ready.place (subst (λ (e : EndId). IsHere (entries c.args.state.now.table e)) c.addressee-to.ensures (c.is_here-here.ensures.0 is)))
+    (c.requires.ready.place (subst (λ (e : EndId). IsHere (entries c.args.state.now.table e)) c.requires.found.end (c.requires.found.here.0 is)))
 
 pub returns-clause-part : goal.returns-clause-part
 returns-clause-part c = λ s.
@@ -77,16 +77,16 @@ returns-clause-part c = λ s.
 pub returns-clause-keeps : goal.returns-clause-keeps
 returns-clause-keeps c =
     let sound = c.close-effect.ensures.calm.sound c.args.state.now.made (length c.args.state.now.processes)
-    (subst (λ k. IsSound k c.args.state.now.made (length c.args.state.now.processes) (entries c.row.new.table)) (sym c.row.ensures.kernel) (row-sound c.args.state.now.table.kernel c.args.state.now.made (length c.args.state.now.processes) c.args.from (what_picture c.args.what) (entries c.args.state.now.table) (entries c.row.new.table) c.args.event.work c.row.new.out c.requires.ready.begun.reports c.requires.ready.begun.answers c.requires.consistent.sound c.row.ensures.part)) in
+    (subst (λ k. IsSound k c.args.state.now.made (length c.args.state.now.processes) (entries c.row.new.table)) (sym c.row.ensures.kernel) (row-sound c.args.state.now.table.kernel c.args.state.now.made (length c.args.state.now.processes) c.args.from (what_picture c.args.what.now) (entries c.args.state.now.table) (entries c.row.new.table) c.args.event.work c.row.new.out c.requires.ready.begun.reports c.requires.ready.begun.answers c.requires.consistent.sound c.row.ensures.part)) in
     record {
       consistent = record {
         sound = subst (λ n. IsSound c.close-effect.new.table.kernel c.args.state.now.made n (entries c.close-effect.new.table)) (sym (c.refresh_if_here.ensures.length ∙ c.close-effect.ensures.kept.length)) sound;
         active =
-            c.refresh_if_here.ensures.told (entries c.args.state.now.table) c.owner-before.ensures
+            c.refresh_if_here.ensures.told (entries c.args.state.now.table) c.requires.found.owner
             (tells_same (entries c.args.state.now.table) (entries c.args.state.now.table) c.args.state.now.processes c.close-effect.new.processes c.requires.consistent.active (keys-moved c.args.state.now.processes c.close-effect.new.processes c.close-effect.ensures.kept.active) (λ p e. refl))
-            (λ p e apart. c.close-effect.ensures.calm.calm p e ∙ row-calm c.args.state.now.table.kernel c.args.state.now.made (length c.args.state.now.processes) c.args.from (what_picture c.args.what) (entries c.args.state.now.table) (entries c.row.new.table) c.args.event.work c.row.new.out c.requires.ready.begun.reports c.requires.ready.begun.answers c.requires.consistent.sound c.row.ensures.part p e (ap (λ to. end_eq to e) (sym c.addressee-to.ensures) ∙ apart))
-            (λ is p e. c.close-effect.ensures.calm.calm p e ∙ away-calm c.args.state.now.table.kernel c.args.state.now.made (length c.args.state.now.processes) c.args.from (what_picture c.args.what) (entries c.args.state.now.table) (entries c.row.new.table) c.args.event.work c.row.new.out c.requires.ready.begun.reports c.requires.ready.begun.answers c.requires.consistent.sound c.row.ensures.part
-            (λ here. true≢false (sym (c.is_here-here.ensures.1 (subst (λ (e : EndId). IsHere (entries c.args.state.now.table e)) (sym c.addressee-to.ensures) here)) ∙ is)) p e);
+            (λ p e apart. c.close-effect.ensures.calm.calm p e ∙ row-calm c.args.state.now.table.kernel c.args.state.now.made (length c.args.state.now.processes) c.args.from (what_picture c.args.what.now) (entries c.args.state.now.table) (entries c.row.new.table) c.args.event.work c.row.new.out c.requires.ready.begun.reports c.requires.ready.begun.answers c.requires.consistent.sound c.row.ensures.part p e (ap (λ to. end_eq to e) (sym c.requires.found.end) ∙ apart))
+            (λ is p e. c.close-effect.ensures.calm.calm p e ∙ away-calm c.args.state.now.table.kernel c.args.state.now.made (length c.args.state.now.processes) c.args.from (what_picture c.args.what.now) (entries c.args.state.now.table) (entries c.row.new.table) c.args.event.work c.row.new.out c.requires.ready.begun.reports c.requires.ready.begun.answers c.requires.consistent.sound c.row.ensures.part
+            (λ here. true≢false (sym (c.requires.found.here.1 (subst (λ (e : EndId). IsHere (entries c.args.state.now.table e)) (sym c.requires.found.end) here)) ∙ is)) p e);
       };
       kernel = c.close-effect.ensures.calm.kernel ∙ c.row.ensures.kernel;
       length = c.refresh_if_here.ensures.length ∙ c.close-effect.ensures.kept.length;

@@ -1,16 +1,24 @@
 -- The reserved room leaves everything as it was.
 use Rattle.charlotte_calls.specs.Packets.{what_picture}
-use Rattle.end_table.specs.Table.{entries}
+use Rattle.end_table.specs.Table.{entries, IsHere}
 use Rattle.kernel_core.proofs.Reserved.{reserved-keeps, reserved-parts}
-use Rattle.kernel_core.specs.Started.{takes_addressed}
+use Rattle.kernel_core.specs.Started.{IsFound, takes_addressed}
 use Rattle.kernel_process.specs.Parts.{with_parts}
 use Rattle.kernel_step.specs.Kernel.{closes}
 use Rattle.kernel_step.specs.Progress.{progress}
-use Rattle.std.proofs.Common.{sym, ap, ◌∙◌}
+use Rattle.std.proofs.Common.{sym, ap, subst, ◌∙◌}
 use Rattle.kernel_core.proofs.taking.take_event.Goals as goal
 
 pub take_packet-requires-clause-consistent : goal.take_packet-requires-clause-consistent
 take_packet-requires-clause-consistent c = (reserved-keeps c.args.state.now c.reserve_taking.new.state c.requires.consistent c.reserve_taking.ensures.same).consistent
+
+pub reserve_taking-requires : goal.reserve_taking-requires
+reserve_taking-requires c = record {
+  here = λ here. c.find-to.ensures.here.1 (subst (λ e. IsHere (entries c.args.state.now.table e)) (sym c.find-to.ensures.end) here);
+}
+
+pub take_packet-requires-clause-found : goal.take_packet-requires-clause-found
+take_packet-requires-clause-found c = subst (λ t. IsFound t c.args.packet.now.what c.find-to.result) (sym c.reserve_taking.ensures.same.entries) c.find-to.ensures
 
 pub returns-in-Ok-clause-keeps : goal.returns-in-Ok-clause-keeps
 returns-in-Ok-clause-keeps c =
@@ -26,9 +34,9 @@ returns-in-Err-clause-keeps c = reserved-keeps c.args.state.now c.reserve_taking
 pub returns-in-Ok-clause-part : goal.returns-in-Ok-clause-part
 returns-in-Ok-clause-part c = λ s same.
     c.take_packet.ensures.part s
-    ∙ ap (λ u. closes u (takes_addressed c.args.kernels c.reserve_taking.new.state.table.kernel c.reserve_taking.new.state.made c.args.from (what_picture c.args.packet.what) (progress (entries c.reserve_taking.new.state.table) c.in-Ok.event.work)))
+    ∙ ap (λ u. closes u (takes_addressed c.args.kernels c.reserve_taking.new.state.table.kernel c.reserve_taking.new.state.made c.args.from (what_picture c.args.packet.now.what) (progress (entries c.reserve_taking.new.state.table) c.in-Ok.event.work)))
     (reserved-parts c.args.state.now.table c.reserve_taking.new.state.table c.args.state.now.processes c.reserve_taking.new.state.processes s c.reserve_taking.ensures.same.entries c.reserve_taking.ensures.same.states)
-    ∙ ap (λ n. closes (with_parts (entries c.args.state.now.table) c.args.state.now.processes s) (takes_addressed c.args.kernels c.reserve_taking.new.state.table.kernel n c.args.from (what_picture c.args.packet.what) (progress (entries c.reserve_taking.new.state.table) c.in-Ok.event.work))) c.reserve_taking.ensures.same.made
-    ∙ ap (λ k. closes (with_parts (entries c.args.state.now.table) c.args.state.now.processes s) (takes_addressed c.args.kernels k c.args.state.now.made c.args.from (what_picture c.args.packet.what) (progress (entries c.reserve_taking.new.state.table) c.in-Ok.event.work))) c.reserve_taking.ensures.same.kernel
-    ∙ ap (λ d. closes (with_parts (entries c.args.state.now.table) c.args.state.now.processes s) (takes_addressed c.args.kernels c.args.state.now.table.kernel c.args.state.now.made c.args.from (what_picture c.args.packet.what) d))
+    ∙ ap (λ n. closes (with_parts (entries c.args.state.now.table) c.args.state.now.processes s) (takes_addressed c.args.kernels c.reserve_taking.new.state.table.kernel n c.args.from (what_picture c.args.packet.now.what) (progress (entries c.reserve_taking.new.state.table) c.in-Ok.event.work))) c.reserve_taking.ensures.same.made
+    ∙ ap (λ k. closes (with_parts (entries c.args.state.now.table) c.args.state.now.processes s) (takes_addressed c.args.kernels k c.args.state.now.made c.args.from (what_picture c.args.packet.now.what) (progress (entries c.reserve_taking.new.state.table) c.in-Ok.event.work))) c.reserve_taking.ensures.same.kernel
+    ∙ ap (λ d. closes (with_parts (entries c.args.state.now.table) c.args.state.now.processes s) (takes_addressed c.args.kernels c.args.state.now.table.kernel c.args.state.now.made c.args.from (what_picture c.args.packet.now.what) d))
     (ap (λ t. progress t c.in-Ok.event.work) (c.reserve_taking.ensures.same.entries ∙ sym same) ∙ c.in-Ok.ensures.begins s)

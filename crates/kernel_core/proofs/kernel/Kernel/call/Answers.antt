@@ -1,5 +1,5 @@
 -- The event is that of the kernel's parts.
-use Rattle.std.proofs.Common.{◌≡◌, map, sym, ap, subst, ◌∙◌, refl}
+use Rattle.std.proofs.Common.{◌≡◌, map, ap, subst, ◌∙◌, refl}
 use Rattle.end_table.specs.Table.{entries}
 use Rattle.kernel_core.proofs.CalledParts.{call-by_parts}
 use Rattle.kernel_core.proofs.Kernels.{state-same}

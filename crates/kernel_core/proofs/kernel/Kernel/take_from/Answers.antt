@@ -1,18 +1,18 @@
 -- The event is that of the kernel's parts.
-use Rattle.std.proofs.Common.{◌≡◌, map, sym, ap, subst, ◌∙◌, refl}
+use Rattle.std.proofs.Common.{◌≡◌, map, ap, subst, ◌∙◌, refl}
 use Rattle.charlotte_calls.specs.Packets.{packet_picture}
 use Rattle.kernel_core.proofs.Kernels.{state-same, take-by_parts}
 use Rattle.kernel_core.specs.State.{KernelView, state_of}
 use Rattle.kernel_process.specs.Parts.{process_state, ended}
 use Rattle.kernel_core.specs.contracts.kernel.Kernel.{the_view}
 use Rattle.kernel_step.specs.Kernel.{next_stamp, take_step}
-use Rattle.kernel_core.proofs.kernel.Kernel.take.Goals as goal
+use Rattle.kernel_core.proofs.kernel.Kernel.take_from.Goals as goal
 
 pub returns-in-Ok-clause-step : goal.returns-in-Ok-clause-step
 unfolding state_of
 returns-in-Ok-clause-step c =
-    subst (λ v. ended (state_of after) c.in-Ok.effect ≡ take_step (state_of v) c.args.from (packet_picture c.args.packet)) c.self.view_is
-    (take-by_parts (the_view c.self.inside) after c.self.inside.state.processes c.take_event-taken.new.state.processes c.args.from c.stamp_after-stamp.result (packet_picture c.args.packet) c.in-Ok.effect
+    subst (λ v. ended (state_of after) c.in-Ok.effect ≡ take_step (state_of v) c.args.from (packet_picture c.args.packet.now)) c.self.view_is
+    (take-by_parts (the_view c.self.inside) after c.self.inside.state.processes c.take_event-taken.new.state.processes c.args.from c.stamp_after-stamp.result (packet_picture c.args.packet.now) c.in-Ok.effect
     refl
     refl
     refl refl c.take_event-taken.ensures.keeps.kernel c.take_event-taken.ensures.made refl (c.stamp_after-stamp.ensures ∙ ap next_stamp c.greater.ensures)

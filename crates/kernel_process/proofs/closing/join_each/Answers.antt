@@ -1,0 +1,6 @@
+-- Where there are none, nothing changes.
+use Rattle.kernel_process.proofs.Closes.{is_empty-none, join_reports-none}
+use Rattle.kernel_process.proofs.closing.join_each.Goals as goal
+
+pub returns-else-not-is_empty-clause-part : goal.returns-else-not-is_empty-clause-part
+returns-else-not-is_empty-clause-part c = λ s. join_reports-none c.args.reports.now.items _ (is_empty-none c.args.reports.now.items _ _ c.is_empty.ensures c.if-not-is_empty.false c.args.reports.now.ok.0)
