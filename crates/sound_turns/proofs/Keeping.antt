@@ -1,12 +1,12 @@
 -- A thread of the shapes is one of the shapes behind its instruction.
-use Rattle.std.proofs.Common.{◌≡◌, ℕ, List, [], ◌∷◌, ◌++◌, Bool, Option, Some, None, Ok, Err, IfOk, slice_get, refl, sym, ap, subst, ◌∙◌}
+use Rattle.std.proofs.Common.{◌≡◌, ℕ, List, [], ◌∷◌, ◌++◌, Bool, Option, Some, None, Ok, slice_get, refl, sym, ap, subst, ◌∙◌}
 use Rattle.lynx_tree.specs.declared.declaration.TypeName.{TypeName}
 use Rattle.lynx_code.specs.declared.instruction.Instruction.{Instruction}
 use Rattle.lynx_meaning.specs.Code.{Next, Thread, Goes, Over, Comes, Stuck}
-use Rattle.lynx_meaning.specs.Courses.{Action, Answer, Store, New, Destroy, Bind, Unbind, Connect, Accept, Close, Reply, Write, Await, Stop, Ended, Waits, Out}
+use Rattle.lynx_meaning.specs.Courses.{Action, Store, New, Destroy, Bind, Unbind, Connect, Accept, Close, Reply, Write, Await, Stop, Ended, Waits, Out}
 use Rattle.lynx_meaning.specs.Values.{Value}
 use Rattle.thread_turns.specs.Shapes.{ModuleTypes, Shapes, AreShapes, IsThread, program}
-use Rattle.thread_turns.specs.Threads.{Outcome, Standing, Wanted, Made, Went, Acts, Awaits, Ends, Broken, acted, answers, comes_of, goes_on, in_turn, is_await, last_action, made, stands_at, tries_again, wanted_by}
+use Rattle.thread_turns.specs.Threads.{Outcome, Standing, Wanted, Made, Went, Acts, Awaits, Ends, Broken, acted, answers, comes_of, goes_on, in_turn, is_await, last_action, made, wanted_by}
 use Rattle.shaped_code.specs.Sound.{Typed, EndInAction, FirstFits, IsSound, needs, wants}
 use Rattle.shaped_code.proofs.Whole.{all_fit, never_stuck}
 use Rattle.sound_turns.specs.Sound.{IsSoundThread, wanted_types}

@@ -1,18 +1,17 @@
 -- What a process does to sound threads.
-use Rattle.std.proofs.Common.{arith, ◌≡◌, ℕ, zero, suc, ◌<◌, ◌≤◌, nat_eq, List, [], ◌∷◌, ◌++◌, length, replicate, Bool, true, false, if◌then◌else◌, Option, Some, None, Result, IfOk, IsSome, slice_get, slice_set, refl, sym, ap, subst, ◌∙◌}
+use Rattle.std.proofs.Common.{arith, ◌≡◌, ℕ, zero, suc, ◌≤◌, nat_eq, List, [], ◌∷◌, ◌++◌, replicate, Bool, true, false, if◌then◌else◌, Option, Some, None, IfOk, slice_get, refl, sym, subst}
 use Rattle.std.proofs.lemmas.Bool.Decides.{nat_tests}
 use Rattle.std.proofs.lemmas.Option.{slice_get_within}
 use Rattle.lynx_tree.specs.declared.declaration.TypeName.{TypeName}
 use Rattle.lynx_code.specs.declared.instruction.Instruction.{Instruction}
-use Rattle.lynx_meaning.specs.Courses.{Answer}
 use Rattle.lynx_meaning.specs.Values.{Value}
-use Rattle.thread_turns.specs.Shapes.{ModuleTypes, Shapes, AreShapes, IsThread}
-use Rattle.thread_turns.specs.Threads.{Outcome, Standing, Wanted, answers, begun, in_turn}
+use Rattle.thread_turns.specs.Shapes.{ModuleTypes, Shapes, AreShapes}
+use Rattle.thread_turns.specs.Threads.{Outcome, Standing, Wanted, answers, begun}
 use Rattle.thread_turns.specs.Turns.{Turns, IsFree, at_start, given_to, gives_to, is_ready_after, spawned, with_thread}
 use Rattle.shaped_code.specs.Sound.{Typed, FirstFits, needs}
 use Rattle.shaped_code.proofs.Whole.{begins_placed}
 use Rattle.sound_turns.specs.Sound.{AreSound, FitsAction, IsSoundThread, one_if, places, places_for, wanted_types}
-use Rattle.sound_turns.specs.Taken.{next_number, takes_by, takes_turn}
+use Rattle.sound_turns.specs.Taken.{takes_by, takes_turn}
 use Rattle.sound_turns.proofs.Placing.{is_given, is_new, is_ready, turn_taken}
 use Rattle.sound_turns.proofs.Turning.{with_changed}
 

@@ -1,11 +1,9 @@
 -- Threads at their numbers, and where they wait.
-use Rattle.std.proofs.Common.{arith, ◌≡◌, ◌≢◌, ℕ, zero, suc, ◌+◌, ◌≤◌, ◌<◌, List, [], ◌∷◌, ◌++◌, length, nat_eq, Bool, true, false, if◌then◌else◌, Option, Some, None, slice_get, slice_set, refl, sym, ap, subst, ◌∙◌, ◌⊎◌, ⊎_elim, inl, inr, not-suc-le-zero, le_of_suc-le-suc}
+use Rattle.std.proofs.Common.{arith, ◌≡◌, ℕ, zero, suc, ◌+◌, ◌≤◌, ◌<◌, List, [], ◌∷◌, ◌++◌, length, nat_eq, Bool, true, false, if◌then◌else◌, Option, Some, None, slice_get, slice_set, refl, sym, ap, subst, ◌∙◌, ◌⊎◌, ⊎_elim, inl, inr, not-suc-le-zero, le_of_suc-le-suc}
 use Rattle.std.proofs.lemmas.Bool.{eq-eqb, eqb-true, eqb-false}
 use Rattle.std.proofs.lemmas.Option.{slice_get_within}
-use Rattle.lynx_meaning.specs.Courses.{Action, New, Destroy, Bind, Unbind, Connect, Accept, Close, Reply, Write, Await, Stop}
-use Rattle.lynx_meaning.specs.Values.{Value}
-use Rattle.thread_turns.specs.Threads.{Standing, Wanted, wanted_by}
-use Rattle.thread_turns.specs.Turns.{Turns, acts, awaits, is_ready_after, wakes, with_thread}
+use Rattle.thread_turns.specs.Threads.{Standing, Wanted}
+use Rattle.thread_turns.specs.Turns.{Turns, is_ready_after, with_thread}
 use Rattle.sound_turns.specs.Sound.{one_if, places, places_for, times, times_in}
 
 -- ---- lists

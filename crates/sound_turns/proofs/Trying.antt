@@ -1,11 +1,11 @@
 -- A thread that was given something never finds false at an await: so it takes fuel, or comes behind its instruction.
-use Rattle.std.proofs.Common.{arith, ◌≡◌, ℕ, ℤ, zero, suc, ◌+◌, ◌-◌, List, [], ◌∷◌, ◌++◌, Bool, true, false, not, nat_lt, nat_le, int_le, int_lt, if◌then◌else◌, Option, Some, None, Result, Ok, Err, length, reverse, take, drop, slice_get, slice_set, bytes_eq, refl, sym, ap, subst, ◌∙◌}
+use Rattle.std.proofs.Common.{◌≡◌, ℕ, ℤ, zero, suc, ◌+◌, ◌-◌, List, [], ◌∷◌, ◌++◌, Bool, true, false, not, nat_lt, nat_le, int_le, int_lt, if◌then◌else◌, Option, Some, None, Result, Ok, Err, length, reverse, take, drop, slice_get, slice_set, bytes_eq, refl, sym, ◌∙◌}
 use Rattle.lynx_code.specs.declared.instruction.Instruction.{Instruction}
 use Rattle.lynx_code.specs.declared.instruction.Instruction.TheVariants as code
 use Rattle.lynx_typing.specs.Exceptions.{exception_text}
 use Rattle.lynx_typing.specs.declared.exception.Exception.{Exception}
-use Rattle.lynx_meaning.specs.Code.{Next, Goes, Over, CodeOutcome, Comes, Stuck, Opened, Program, Kind, Global, Local, Thread, acts, acts_with, again, answered, asks, by_link, by_truth, by_values, closes, closes_accept, compares, connects, cut, decides, ends, gives, goes, handles, instead, jumps, loads, loads_member, one_int, puts, raises, raises_in, stores, stores_member, step, stuck, fetched, tries_again, two_alike, two_ints, untries, variables, with_variables, writes}
-use Rattle.lynx_meaning.specs.Courses.{Action, Answer, Moment, Outcome, Store, New, Destroy, Bind, Unbind, Connect, Accept, Close, Reply, Write, Await, Stop, Ended, Waits, Out, after}
+use Rattle.lynx_meaning.specs.Code.{Next, Goes, Over, Comes, Stuck, Opened, Program, Kind, Global, Local, Thread, acts, acts_with, again, answered, asks, by_link, by_truth, by_values, closes, closes_accept, compares, connects, cut, decides, ends, gives, goes, handles, instead, jumps, loads, loads_member, one_int, puts, raises, raises_in, stores, stores_member, step, stuck, fetched, tries_again, two_alike, two_ints, untries, variables, with_variables, writes}
+use Rattle.lynx_meaning.specs.Courses.{Action, Answer, Moment, Outcome, New, Destroy, Bind, Unbind, Connect, Accept, Close, Reply, Write, Await, Stop, Ended, Waits, Out, after}
 use Rattle.lynx_meaning.specs.Values.{Value, Given, Int, Truth, Text, Row, Link, add, divide, member, multiply, negate, reduce, subtract, truth_eq, value_eq, with_member, written}
 use Rattle.thread_turns.specs.Threads.{Standing, Made, Went, Acts, Awaits, Ends, Broken, acted, answers, comes_of, goes_on, in_turn, is_await, is_empty, is_fresh, last_action, made}
 use Rattle.thread_turns.specs.Threads as threads

@@ -1,5 +1,5 @@
 -- Turns of sound threads.
-use Rattle.std.proofs.Common.{arith, ◌≡◌, ℕ, zero, suc, ◌+◌, ◌<◌, List, [], ◌∷◌, ◌++◌, length, Bool, true, false, if◌then◌else◌, Option, Some, None, is_some, slice_get, slice_set, refl, sym, ap, subst, ◌∙◌, ⊎_elim, inl, inr, length-set}
+use Rattle.std.proofs.Common.{◌≡◌, ℕ, zero, suc, ◌+◌, ◌<◌, List, [], ◌∷◌, ◌++◌, length, Bool, true, false, if◌then◌else◌, Option, Some, None, is_some, slice_get, slice_set, refl, sym, ap, subst, ◌∙◌, ⊎_elim, length-set}
 use Rattle.std.specs.List.{list_any}
 use Rattle.std.proofs.lemmas.Option.{slice_get_within}
 use Rattle.lynx_tree.specs.declared.declaration.TypeName.{TypeName}
@@ -9,7 +9,7 @@ use Rattle.lynx_meaning.specs.Courses.{Action, New, Destroy, Bind, Unbind, Conne
 use Rattle.lynx_meaning.specs.Values.{Value}
 use Rattle.thread_turns.specs.Shapes.{ModuleTypes, Shapes, AreShapes, program}
 use Rattle.thread_turns.specs.Threads.{Standing, Wanted, Made, Went, Acts, Awaits, Ends, Broken, and_then, comes_of, course, fuel_after, wanted_by}
-use Rattle.thread_turns.specs.Turns.{Beat, Turns, Goes, Stops, Act, Spent, acts, awaits, beat, beats, comes, is_ready_after, next_turn, stands, turn_of, wakes, with_fuel, with_thread}
+use Rattle.thread_turns.specs.Turns.{Beat, Turns, Goes, Stops, Act, acts, awaits, beat, beats, comes, is_ready_after, next_turn, stands, turn_of, wakes, with_thread}
 use Rattle.thread_turns.specs.Turns as turns
 use Rattle.shaped_code.specs.Sound.{Typed}
 use Rattle.thread_operands.specs.Operands.{FindsInstruction, IsReady, StaysReady, after}
@@ -18,7 +18,7 @@ use Rattle.sound_turns.specs.Sound.{AreSound, IsSoundThread, places_for}
 use Rattle.sound_turns.specs.Taken.{takes_by, takes_turn}
 use Rattle.sound_turns.proofs.Finding.{finds}
 use Rattle.sound_turns.proofs.Keeping.{SoundMade, made_sound, thread_with_globals}
-use Rattle.sound_turns.proofs.Placing.{ArePlaced, awaits_again, awaits_first, decided, get_other, get_set, keeps_turn, running_there, set_same, set_set, turn_taken, wakes_all}
+use Rattle.sound_turns.proofs.Placing.{ArePlaced, awaits_again, awaits_first, decided, get_other, get_set, keeps_turn, running_there, set_same, set_set, wakes_all}
 
 -- ---- the threads after one has changed
 
