@@ -1,7 +1,6 @@
 -- Threads that are counted and found.
 use Rattle.std.proofs.Common.{arith, ◌≡◌, ℕ, zero, suc, ◌+◌, ◌<◌, ◌≤◌, List, [], ◌∷◌, ◌++◌, length, replicate, take, ℤ, pos, negsuc, IsTrue, nat_abs, Bool, true, false, not, Option, Some, None, is_some, slice_get, refl, sym, ap, subst, ◌∙◌, ⊎_elim, true≢false, length-take-le}
 use Rattle.std.specs.Prelude.{slice_index_or}
-use Rattle.std.proofs.lemmas.Option.{none-some}
 use Rattle.thread_turns.specs.Threads.{Standing}
 use Rattle.std.proofs.lemmas.Bool.Decides.{nat_tests}
 use Rattle.lynx_typing.specs.Types.{is_length}

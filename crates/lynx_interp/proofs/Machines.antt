@@ -1,5 +1,5 @@
 -- Machines at the start, with an outcome more, and with a thread more.
-use Rattle.std.proofs.Common.{arith, ◌≡◌, ℕ, ℤ, zero, suc, ◌+◌, List, [], ◌∷◌, ◌++◌, length, map, replicate, take, drop, pos, negsuc, Bool, IsTrue, Option, Some, slice_get, option_map, refl, sym, ap, subst, ◌∙◌, true≢false, ◌≤◌, length-append}
+use Rattle.std.proofs.Common.{arith, ◌≡◌, ℕ, ℤ, zero, suc, ◌+◌, List, [], ◌∷◌, ◌++◌, length, map, replicate, take, drop, pos, negsuc, Bool, IsTrue, Some, slice_get, option_map, refl, sym, ap, subst, ◌∙◌, true≢false, ◌≤◌, length-append}
 use Rattle.std.proofs.lemmas.List.{length-replicate}
 use Rattle.std.specs.List.{AllByRecursion}
 use Rattle.std.specs.Prelude.{slice_index_or}
@@ -12,7 +12,7 @@ use Rattle.lynx_code.specs.declared.code.Part as kept
 use Rattle.lynx_meaning.specs.Values.{Value, HasType, Link, is_int, start_value}
 use Rattle.thread_turns.specs.Shapes.{AreShapes, code_types, kept_part}
 use Rattle.thread_turns.specs.Threads.{Outcome}
-use Rattle.thread_turns.specs.Turns.{Turns, IsFree, at_start, given_to, spawned}
+use Rattle.thread_turns.specs.Turns.{IsFree, at_start, given_to, spawned}
 use Rattle.thread_values.specs.declared.value.LinkRef.{LinkRef}
 use Rattle.shaped_code.specs.Sound.{Typed}
 use Rattle.shaped_code.proofs.Pairs.{same_length}

@@ -1,9 +1,7 @@
 -- A round of a machine, from what its functions tell.
-use Rattle.std.proofs.Common.{◌≡◌, ℕ, zero, suc, ◌+◌, ◌<◌, List, [], Bool, true, false, Option, Some, None, IfSome, IfNone, option_map, length, map, slice_get, refl, sym, ap, subst, ◌∙◌}
+use Rattle.std.proofs.Common.{◌≡◌, ℕ, suc, ◌+◌, Option, Some, None, option_map, map, slice_get, refl, sym, ap, subst, ◌∙◌}
 use Rattle.std.proofs.lemmas.Option.{slice_get_within}
-use Rattle.lynx_tree.specs.declared.declaration.TypeName.{TypeName}
 use Rattle.lynx_meaning.specs.Code.{Program}
-use Rattle.lynx_meaning.specs.Values.{Value}
 use Rattle.thread_turns.specs.Shapes.{program}
 use Rattle.thread_turns.specs.Threads.{Standing, Made, course}
 use Rattle.thread_turns.specs.Turns.{Act, Beat, Turns, Goes, Runs, Stops, beats, comes, stands, with_thread}
@@ -12,12 +10,11 @@ use Rattle.lynx_thread.specs.declared.action.Action.{Action}
 use Rattle.lynx_thread.specs.declared.action.Move.{Move}
 use Rattle.sound_turns.specs.Sound.{AreSound, StayBlocked}
 use Rattle.sound_turns.specs.Taken.{takes_turn}
-use Rattle.sound_turns.specs.Weights.{weight}
 use Rattle.sound_turns.proofs.Outside.{taken_sound}
 use Rattle.sound_turns.proofs.Placing.{get_set}
 use Rattle.sound_turns.proofs.Rounds as rounds
 use Rattle.lynx_interp.specs.Machines.{IsMachine, State, place_of}
-use Rattle.lynx_interp.specs.Runs.{CanGoOn, Comes, IsAsked, IsRound, IsTurn, MayGoOn, Settles, StopsAt, after_turn, beat_of, stop_of}
+use Rattle.lynx_interp.specs.Runs.{CanGoOn, Comes, IsAsked, IsRound, IsTurn, MayGoOn, Settles, StopsAt, after_turn, stop_of}
 use Rattle.lynx_interp.specs.declared.stop.Stop.{Stop}
 use Rattle.lynx_interp.specs.declared.stop.Stop.TheVariants as stop
 

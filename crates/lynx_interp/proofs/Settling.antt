@@ -1,9 +1,8 @@
 -- What comes of a turn changes those that wait.
-use Rattle.std.proofs.Common.{◌≡◌, ℕ, List, [], ◌∷◌, ◌++◌, Bool, true, false, Option, Some, None, slice_get, refl, sym, ap, ◌∙◌}
-use Rattle.lynx_meaning.specs.Courses as courses
+use Rattle.std.proofs.Common.{◌≡◌, ℕ, List, Bool, true, false, Option, Some, None, slice_get, refl, sym, ap, ◌∙◌}
 use Rattle.lynx_meaning.specs.Values.{Value}
 use Rattle.thread_turns.specs.Threads.{Acts, Made, Standing}
-use Rattle.thread_turns.specs.Turns.{Act, Beat, Turns, Goes, Stops, acts, awaits, comes, with_thread}
+use Rattle.thread_turns.specs.Turns.{Act, Turns, Goes, Stops, acts, awaits, comes, with_thread}
 use Rattle.lynx_thread.specs.Told.{action_of, told}
 use Rattle.lynx_thread.specs.declared.action.Action.{Action}
 use Rattle.lynx_thread.specs.declared.action.Move.{Move}

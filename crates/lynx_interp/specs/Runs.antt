@@ -1,9 +1,8 @@
 -- The steps of a run.
-use Rattle.std.specs.Prelude.{◌≡◌, ◌<◌, ℕ, List, true, Option, None, Some, IfSome, IfNone, is_some, slice_get, slice_set, ⊤}
+use Rattle.std.specs.Prelude.{◌≡◌, ◌<◌, ℕ, true, Option, None, Some, IfSome, IfNone, is_some, slice_get, ⊤}
 use Rattle.lynx_meaning.specs.Code.{Program}
-use Rattle.lynx_meaning.specs.Values.{Value}
 use Rattle.thread_turns.specs.Shapes.{program}
-use Rattle.thread_turns.specs.Threads.{Made, Standing, wanted_by}
+use Rattle.thread_turns.specs.Threads.{Standing, wanted_by}
 use Rattle.thread_turns.specs.Turns.{Beat, Goes, Stops, Act, Turns, beat, beats, comes, with_thread}
 use Rattle.thread_turns.specs.Turns as turns
 use Rattle.thread_operands.specs.Operands.{IsCourse, StaysReady}

@@ -1,4 +1,4 @@
-use Rattle.std.proofs.Common.{◌≡◌, ◌∙◌, ◌+◌, ◌≤◌, List, Some, ap, arith, length, slice_get, subst, sym, true}
+use Rattle.std.proofs.Common.{◌∙◌, ◌+◌, ◌≤◌, List, ap, arith, length, slice_get, subst, sym, true}
 use Rattle.std.proofs.lemmas.List.{length-map}
 use Rattle.lynx_meaning.specs.Values.{Value}
 use Rattle.lynx_tree.specs.declared.declaration.TypeName.{TypeName}

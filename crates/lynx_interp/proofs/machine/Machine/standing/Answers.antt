@@ -1,5 +1,4 @@
-use Rattle.std.proofs.Common.{arith, ap, ◌∙◌, length, List, Option, take, ◌∷◌, [], ◌+◌, ◌≡◌}
-use Rattle.lynx_interp.specs.Machines.{how_many}
+use Rattle.std.proofs.Common.{arith, ap, ◌∙◌, length}
 use Rattle.lynx_interp.proofs.Counting.{counted, few, nothing_there, one_there}
 use Rattle.lynx_interp.proofs.machine.Machine.standing.Goals as goal
 use Rattle.lynx_interp.proofs.machine.Machine.standing.Goals.{then-is_some, else-is_some}
