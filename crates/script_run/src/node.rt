@@ -20,7 +20,7 @@ ghost use Rattle.world_record.specs.Told.{IsTold};
 
 use charlotte_calls::{Effect, NoMemory, Packet, Pid, Setting};
 use compact_calls::CompactCall;
-use kernel_core::{Kernel, NotTaken};
+use kernel_core::Kernel;
 use std::alloc::Global;
 use std::collections::VecDeque;
 use written_journal::WrittenJournal;
@@ -74,20 +74,18 @@ impl Node {
         self.note(effect)
     }
 
-    /// Takes the first packet that a kernel sent to this one.
-    pub(crate) fn take(&mut self, from: u8, packet: Packet) -> Result<(), NoMemory>
+    /// Takes the first packet that a kernel sent to this one. What it brings is taken out of it.
+    pub(crate) fn take(&mut self, from: u8, packet: &mut Packet) -> Result<(), NoMemory>
         requires lists { length self.old.sent.items ≡ 256 }
         requires stamped { IsStamped self.old }
         requires in_range { IsInRange self.old }
-        requires time { max self.old.kernel.stamp packet.stamp < 2 ^ 64 - 1 }
-        requires told { (version : ℕ) × IsTold version (state_of self.old.kernel) × HasFewPacket version (what_picture packet.what) }
-        ensures after { OnOk result (IsAfter (Took from (packet_picture packet)) (take_step (state_of self.old.kernel) from (packet_picture packet)) self.old self.new) }
+        requires time { max self.old.kernel.stamp packet.old.stamp < 2 ^ 64 - 1 }
+        requires told { (version : ℕ) × IsTold version (state_of self.old.kernel) × HasFewPacket version (what_picture packet.old.what) }
+        ensures after { OnOk result (IsAfter (Took from (packet_picture packet.old)) (take_step (state_of self.old.kernel) from (packet_picture packet.old)) self.old self.new) }
     {
-        self.journal.took(from, &packet)?;
-        match self.kernel.take(from, packet) {
-            Ok(effect) => self.note(effect),
-            Err(NotTaken { packet: _ }) => Err(NoMemory),
-        }
+        self.journal.took(from, packet)?;
+        let effect = self.kernel.take_from(from, packet)?;
+        self.note(effect)
     }
 }
 
@@ -106,10 +104,11 @@ impl Node {
         let Effect {
             stamp,
             packets,
-            answered: _,
+            answered,
             steps,
         } = effect;
         self.journal.note(stamp, steps.as_slice())?;
+        self.kernel.reuse_lists(answered, steps);
         let sent = self.send_all(packets)?;
         self.kernel.reuse(sent);
         Ok(())
