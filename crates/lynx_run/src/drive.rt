@@ -6,13 +6,13 @@ ghost use Rattle.lynx_plan.specs.ScriptText.{AreRisingLines};
 ghost use Rattle.lynx_run.specs.Drive.{IsScriptOf, IsDriven, Drives};
 
 use charlotte_calls::NoMemory;
-use journal_text::TranscriptLines;
 use lynx_command::{End, Failure, FileCommand, MOST_BYTES, Output, Text, perform_file};
 use lynx_outside::{Files, Sink, Status};
 use lynx_plan::{Script, read_script};
 use script_run::{Performance, perform};
 use std::alloc::Global;
 use std::marker::Model;
+use written_journal::TranscriptLines;
 
 /// The transcript of a run, whose lines are made one after the other.
 #[derive(Drop)]
@@ -74,7 +74,7 @@ fn perform_script(alloc: Global, bytes: Vec<u8>, script: Script) -> Result<Trans
         notes,
         last,
     } = perform(alloc, &setting, lines)?;
-    let lines = TranscriptLines::of(alloc, setting, merged, notes, last);
+    let lines = TranscriptLines::of(setting, merged, notes, last);
     Ok(Transcript { lines })
 }
 

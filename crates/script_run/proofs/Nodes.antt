@@ -7,7 +7,7 @@ use Rattle.std.proofs.lemmas.Bool.Decides.{eqb_tells}
 use Rattle.charlotte_calls.specs.declared.picture.Picture.{Picture}
 use Rattle.charlotte_calls.specs.declared.setting.Setting.{Setting}
 use Rattle.kernel_core.specs.State.{KernelView, state_of}
-use Rattle.journal_text.specs.Journal.{Kept}
+use Rattle.written_journal.specs.Kept.{Happenings}
 use Rattle.kernel_step.specs.Kernel.{Kernel, Outcome}
 use Rattle.kernel_step.specs.Start.{start_kernel}
 use Rattle.kernel_world.specs.Ranges.{IsEntryInRange}
@@ -76,7 +76,7 @@ with_sent s ns k node new below at all kernel journal lists =
         | inr e ↦ ap (λ b. cond b (state_of new.kernel) ((world_of s ns).kernel q)) e.0
       ];
       entries = λ q. entries-set ns k new q below ∙ elim (eqb_tells q k) as (λ _. cond (nat_eq q k) new.journal.entries (noted_at ns q) ≡ noted_at ns q) [
-        | inl e ↦ ap (λ b. cond b new.journal.entries (noted_at ns q)) e.0 ∙ ap (λ (j : Kept). j.entries) journal ∙ sym (entries_at ns k node below at) ∙ ap (noted_at ns) (sym e.1)
+        | inl e ↦ ap (λ b. cond b new.journal.entries (noted_at ns q)) e.0 ∙ ap (λ (j : Happenings). j.entries) journal ∙ sym (entries_at ns k node below at) ∙ ap (noted_at ns) (sym e.1)
         | inr e ↦ ap (λ b. cond b new.journal.entries (noted_at ns q)) e.0
       ];
       packets_are = λ from to. packets-set s ns k new from to below;
@@ -87,7 +87,7 @@ with_sent s ns k node new below at all kernel journal lists =
     was : IsNodeOf s node
     was = subst (IsNodeOf s) (sym at) (All-get_or (IsNodeOf s) ns k node below all)
 
-    P : KernelView → Kept → Type 0
+    P : KernelView → Happenings → Type 0
     P x j = All (λ (e : Entry). e.stamp ≤ x.stamp) j.entries
 
     here : IsNodeOf s new
@@ -95,7 +95,7 @@ with_sent s ns k node new below at all kernel journal lists =
       processes = ap (λ (x : KernelView). length x.processes) kernel ∙ was.processes;
       lists = lists ∙ was.lists;
       stamped = subst (λ (x : KernelView). P x new.journal) (sym kernel) (subst (P node.kernel) (sym journal) was.stamped);
-      in_range = subst (λ (j : Kept). All IsEntryInRange j.entries) (sym journal) was.in_range;
+      in_range = subst (λ (j : Happenings). All IsEntryInRange j.entries) (sym journal) was.in_range;
     }
 
 -- nothing happened

@@ -11,7 +11,7 @@ use Rattle.charlotte_calls.specs.declared.setting.Setting.{Setting}
 use Rattle.charlotte_calls.specs.Packets.{packet_picture}
 use Rattle.charlotte_calls.specs.Setting.{IsValid}
 use Rattle.kernel_core.specs.State.{state_of}
-use Rattle.journal_text.specs.TranscriptText.{AreOfTranscript, AreRisingNotes, HasNotesOf, IsLastInRange, IsNoteInRange, IsShown}
+use Rattle.journal_text.specs.TranscriptText.{AreOfTranscript, AreRisingNotes, HasNotesOf, IsLastInRange, IsNoteInRange}
 use Rattle.journal_text.specs.declared.last.Last.{Last}
 use Rattle.journal_text.specs.declared.last.Last.TheVariants.{Quiet, Unsettled, Spent}
 use Rattle.journal_text.specs.declared.last.ScriptNote.{ScriptNote}
@@ -32,7 +32,6 @@ use Rattle.script_run.specs.declared.node.Node.{Node}
 use Rattle.script_run.proofs.Nodes.{state_at, entries_of, Goes-then}
 use Rattle.script_run.proofs.Runs.{Performs-more}
 use Rattle.world_record.proofs.Laws.{merge-record, record-shown}
-use Rattle.world_record.proofs.Worlds.{told-start}
 use Rattle.script_run.proofs.Sent.{Lists, sent_in, IsEmptyList, nothing_sent}
 
 -- ---- the start

@@ -85,10 +85,10 @@ fn take_first(nodes: &mut [Node], from: u8, to: u8) -> Result<bool, NoMemory>
     requires { (s : ASetting) × (n : ℕ) × (n < 2 ^ 32) × AreReady s n nodes.old × (from < s.kernels) × (to < s.kernels) }
     ensures { IfOk result (λ took. (s : ASetting) → (n : ℕ) → AreReady s n nodes.old → IsTakenFirst s from to took nodes.old nodes.new) }
 {
-    let Some(packet) = nodes[usize::from(from)].pop(to) else {
+    let Some(mut packet) = nodes[usize::from(from)].pop(to) else {
         return Ok(false);
     };
-    nodes[usize::from(to)].take(from, packet)?;
+    nodes[usize::from(to)].take(from, &mut packet)?;
     Ok(true)
 }
 

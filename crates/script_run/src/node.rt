@@ -1,4 +1,4 @@
-ghost use Rattle.std.specs.Prelude.{◌≡◌, ◌↔◌, ◌^◌, ◌<◌, ◌-◌, max, ℕ, nat_eq, not, ◌++◌, ◌∷◌, [], All, IfOk, IsTrue, OnOk, List, MatchOption, length, map};
+ghost use Rattle.std.specs.Prelude.{◌≡◌, ◌↔◌, ◌^◌, ◌<◌, ◌-◌, max, ℕ, nat_eq, not, ◌++◌, ◌∷◌, [], All, IfOk, IsTrue, OnOk, List, MatchOption, Some, length, map};
 ghost use Rattle.charlotte_calls.specs.Packets.{packet_picture, what_picture};
 ghost use Rattle.charlotte_calls.specs.Ranges.{IsCallInRange};
 ghost use Rattle.charlotte_calls.specs.Setting.{IsValid};
@@ -12,24 +12,24 @@ ghost use Rattle.kernel_step.specs.Kernel.{call_step, take_step, process_of, wit
 ghost use Rattle.kernel_step.specs.Progress.{sent_picture};
 ghost use Rattle.kernel_step.specs.Start.{start_kernel};
 ghost use Rattle.kernel_step.specs.declared.phase.Phase.TheVariants.{Running};
-ghost use Rattle.kernel_world.specs.Ranges.{IsHappenedInRange};
 ghost use Rattle.kernel_world.specs.World.{to_kernel};
+ghost use Rattle.kernel_world.specs.declared.entry.Happened.{Happened};
 ghost use Rattle.kernel_world.specs.declared.entry.Happened.TheVariants.{Asked, Took};
 ghost use Rattle.script_run.specs.Nodes.{sent_to, IsNodeOf, IsInRange, IsStamped, IsAfter, IsPopped, IsUnpopped};
 ghost use Rattle.world_record.specs.Told.{IsTold};
 
 use charlotte_calls::{Effect, NoMemory, Packet, Pid, Setting};
 use compact_calls::CompactCall;
-use journal_text::{Entry, Happened, Journal};
-use kernel_core::{Kernel, NotTaken};
+use kernel_core::Kernel;
 use std::alloc::Global;
 use std::collections::VecDeque;
+use written_journal::WrittenJournal;
 
 /// A kernel, what happened at it, and what it sent.
 #[derive(Drop)]
 pub(crate) struct Node {
     pub(crate) kernel: Kernel,
-    pub(crate) journal: Journal,
+    pub(crate) journal: WrittenJournal,
     /// The packets that were not taken yet, oldest first: a list for each number that a kernel may have.
     pub(crate) sent: Vec<VecDeque<Packet>>,
 }
@@ -49,7 +49,7 @@ impl Node {
     {
         Ok(Node {
             kernel: Kernel::start(alloc, id, setting)?,
-            journal: Journal::start(alloc),
+            journal: WrittenJournal::start(alloc),
             sent: empty_lists(alloc)?,
         })
     }
@@ -67,43 +67,36 @@ impl Node {
         ensures after { OnOk result ((mine : List EndId) × IsCallWith p (entries self.old.kernel.table) mine asked
             × IsAfter (Asked p asked) (call_step (without_answer p (state_of self.old.kernel)) p mine asked) self.old self.new) }
     {
-        self.journal.reserve(1)?;
-        let _ = self.kernel.answer(p);
         let call = asked.call();
+        self.journal.asked(p, &call)?;
+        self.kernel.forget_answer(p);
         let effect = self.kernel.call(p, call)?;
-        self.note(Happened::Asked { p, call: asked }, effect)
+        self.note(effect)
     }
 
-    /// Takes the first packet that a kernel sent to this one.
-    pub(crate) fn take(&mut self, from: u8, packet: Packet) -> Result<(), NoMemory>
+    /// Takes the first packet that a kernel sent to this one. What it brings is taken out of it.
+    pub(crate) fn take(&mut self, from: u8, packet: &mut Packet) -> Result<(), NoMemory>
         requires lists { length self.old.sent.items ≡ 256 }
         requires stamped { IsStamped self.old }
         requires in_range { IsInRange self.old }
-        requires time { max self.old.kernel.stamp packet.stamp < 2 ^ 64 - 1 }
-        requires told { (version : ℕ) × IsTold version (state_of self.old.kernel) × HasFewPacket version (what_picture packet.what) }
-        ensures after { OnOk result (IsAfter (Took from (packet_picture packet)) (take_step (state_of self.old.kernel) from (packet_picture packet)) self.old self.new) }
+        requires time { max self.old.kernel.stamp packet.old.stamp < 2 ^ 64 - 1 }
+        requires told { (version : ℕ) × IsTold version (state_of self.old.kernel) × HasFewPacket version (what_picture packet.old.what) }
+        ensures after { OnOk result (IsAfter (Took from (packet_picture packet.old)) (take_step (state_of self.old.kernel) from (packet_picture packet.old)) self.old self.new) }
     {
-        self.journal.reserve(1)?;
-        let took = Happened::took(self.alloc(), from, &packet.picture())?;
-        match self.kernel.take(from, packet) {
-            Ok(effect) => self.note(took, effect),
-            Err(NotTaken { packet: _ }) => Err(NoMemory),
-        }
+        self.journal.took(from, packet)?;
+        let effect = self.kernel.take_from(from, packet)?;
+        self.note(effect)
     }
 }
 
 impl Node {
-    fn alloc(&self) -> Global {
-        *self.sent.allocator()
-    }
-
-    /// Notes an event whose stamp is new, and sends its packets.
-    fn note(&mut self, what: Happened, effect: Effect) -> Result<(), NoMemory>
+    /// Notes the event that is begun, whose stamp is new, and sends its packets.
+    fn note(&mut self, effect: Effect) -> Result<(), NoMemory>
         requires lists { length self.old.sent.items ≡ 256 }
+        requires begun { (what : Happened) × (self.old.journal.begun ≡ Some what) }
         requires after_last { IsAfterLast self.old.journal.entries effect.stamp }
-        requires in_range { IsInRange self.old × IsHappenedInRange what }
         ensures kernel { self.new.kernel ≡ self.old.kernel }
-        ensures entries { OnOk result (self.new.journal.entries ≡ self.old.journal.entries ++ record { stamp = effect.stamp; what = what; steps = effect.steps.items } ∷ []) }
+        ensures entries { OnOk result ((what : Happened) → self.old.journal.begun ≡ Some what → self.new.journal.entries ≡ self.old.journal.entries ++ record { stamp = effect.stamp; what = what; steps = effect.steps.items } ∷ []) }
         ensures sent { OnOk result ((to : ℕ) → sent_to self.new to ≡ sent_to self.old to ++ to_kernel to (map sent_picture effect.packets.items)) }
         ensures lists { length self.new.sent.items ≡ length self.old.sent.items }
         ensures in_range { OnOk result (IsInRange self.new) }
@@ -111,25 +104,42 @@ impl Node {
         let Effect {
             stamp,
             packets,
-            answered: _,
+            answered,
             steps,
         } = effect;
-        let entry = Entry::of(self.alloc(), stamp, what, steps.as_slice())?;
-        self.journal.push(entry)?;
-        self.send_all(packets)
+        self.journal.note(stamp, steps.as_slice())?;
+        self.kernel.reuse_lists(answered, steps);
+        let sent = self.send_all(packets)?;
+        self.kernel.reuse(sent);
+        Ok(())
     }
 
-    fn send_all(&mut self, packets: Vec<(u8, Packet)>) -> Result<(), NoMemory>
+    /// Sends packets, and gives their emptied list back.
+    fn send_all(&mut self, packets: Vec<(u8, Packet)>) -> Result<Vec<(u8, Packet)>, NoMemory>
         requires { length self.old.sent.items ≡ 256 }
         ensures kernel { self.new.kernel ≡ self.old.kernel }
         ensures journal { self.new.journal ≡ self.old.journal }
         ensures sent { OnOk result ((to : ℕ) → sent_to self.new to ≡ sent_to self.old to ++ to_kernel to (map sent_picture packets.items)) }
         ensures lists { length self.new.sent.items ≡ length self.old.sent.items }
     {
-        for (to, packet) in packets {
+        let sent = self.send_each(VecDeque::from(packets))?;
+        Ok(Vec::from(sent))
+    }
+
+    fn send_each(
+        &mut self,
+        mut packets: VecDeque<(u8, Packet)>,
+    ) -> Result<VecDeque<(u8, Packet)>, NoMemory>
+        requires { length self.old.sent.items ≡ 256 }
+        ensures kernel { self.new.kernel ≡ self.old.kernel }
+        ensures journal { self.new.journal ≡ self.old.journal }
+        ensures sent { OnOk result ((to : ℕ) → sent_to self.new to ≡ sent_to self.old to ++ to_kernel to (map sent_picture packets.items)) }
+        ensures lists { length self.new.sent.items ≡ length self.old.sent.items }
+    {
+        while let Some((to, packet)) = packets.pop_front() {
             self.sent[usize::from(to)].push_back(packet)?;
         }
-        Ok(())
+        Ok(packets)
     }
 
     /// The oldest packet to a kernel that was not taken yet.

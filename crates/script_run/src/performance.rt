@@ -13,13 +13,14 @@ ghost use Rattle.script_run.specs.Performing.{IsLast, IsPerformance};
 use crate::lines::do_line;
 use crate::node::Node;
 use charlotte_calls::{Items, NoMemory, Setting};
-use journal_text::{Last, Merged, ScriptNote};
+use journal_text::{Last, ScriptNote};
 use lynx_plan::ScriptLine;
 use std::alloc::Global;
 use std::collections::VecDeque;
+use written_journal::Merged;
 
 /// What was done as a script was performed.
-#[derive(Debug, Drop)]
+#[derive(Drop)]
 pub struct Performance {
     /// The entries of the events, in the order of a merge.
     pub merged: Merged,

@@ -2,12 +2,12 @@
 
 use crate::holding::holds;
 use charlotte_calls::{Call, Pid, Way};
-use journal_text::TranscriptLines;
 use lynx_plan::{CompactScriptCall, PlanFault, Script, ScriptCall, read_script};
 use script_run::{Performance, perform};
 use std::alloc::Global;
 use std::process::Abort;
 use std::test::Fail;
+use written_journal::TranscriptLines;
 
 const SCRIPT: &str = "# one message
 kernels 2
@@ -105,7 +105,7 @@ fn has_transcript(rt: &impl Abort, alloc: Global) -> Result<(), Fail> {
         notes,
         last,
     } = perform(alloc, &setting, lines)?;
-    let mut rest = TranscriptLines::of(alloc, setting, merged, notes, last);
+    let mut rest = TranscriptLines::of(setting, merged, notes, last);
     let mut next = Vec::new(alloc);
     let mut text = Vec::new(alloc);
     for byte in TRANSCRIPT.as_bytes() {

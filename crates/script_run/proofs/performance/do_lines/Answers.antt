@@ -1,4 +1,4 @@
-use Rattle.std.proofs.Common.{◌≡◌, ℕ, ◌+◌, ◌*◌, ◌<◌, ◌≤◌, List, [], ◌∷◌, ◌++◌, All, length, append_assoc, append-nil, length-append, ap, sym, subst, refl, ◌∙◌, arith, rules}
+use Rattle.std.proofs.Common.{◌≡◌, ◌+◌, ◌*◌, ◌≤◌, List, [], ◌∷◌, ◌++◌, length, append_assoc, append-nil, length-append, ap, sym, subst, refl, ◌∙◌, arith, rules}
 use Rattle.std.proofs.lemmas.List.Elements.{All-same, All-head, All-tail}
 use Rattle.charlotte_calls.specs.declared.setting.Setting.{Setting}
 use Rattle.journal_text.specs.declared.last.ScriptNote.{ScriptNote}
@@ -6,7 +6,7 @@ use Rattle.lynx_plan.specs.declared.script.ScriptLine.{ScriptLine}
 use Rattle.lynx_plan.specs.ScriptText.{FitsWhat}
 use Rattle.script_run.specs.Nodes.{AreLinesDone}
 use Rattle.script_run.proofs.Nodes.{Goes-start, ready-after}
-use Rattle.script_run.proofs.Performances.{AreLinesSoFar, lines-none, lines-more}
+use Rattle.script_run.proofs.Performances.{lines-none, lines-more}
 use Rattle.script_run.proofs.performance.do_lines.Goals as goal
 
 pub loop-line-init : goal.loop-line-init

@@ -1,6 +1,4 @@
-use Rattle.std.proofs.Common.{◌≡◌, ◌++◌, All, length}
-use Rattle.lynx_plan.specs.ScriptText.{FitsWhat}
-use Rattle.lynx_plan.specs.declared.script.ScriptLine.{ScriptLine}
+use Rattle.std.proofs.Common.{length}
 use Rattle.script_run.proofs.Performances.{AreLinesSoFar}
 use Rattle.script_run.proofs.performance.do_lines.Given as goal
 

@@ -1,6 +1,6 @@
 use Rattle.std.proofs.Common.{◌<◌, length, length-set, ◌∙◌, rules}
-use Rattle.script_run.proofs.Sent.{sent_in-more}
-use Rattle.script_run.proofs.node.Node.send_all.Goals as goal
+use Rattle.script_run.proofs.Sent.{sent_in-next}
+use Rattle.script_run.proofs.node.Node.send_each.Goals as goal
 
 pub loop-to-preserved : goal.loop-to-preserved
 loop-to-preserved c =
@@ -10,5 +10,8 @@ loop-to-preserved c =
       kernel = c.loop-to.invariant.kernel;
       journal = c.loop-to.invariant.journal;
       lists = length-set now.sent.items c.from.result c.push_back.new.self ∙ c.loop-to.invariant.lists;
-      sent = sent_in-more now.sent.items c.args.self.now.sent.items c.from.result c.index_mut.result.now c.push_back.new.self c.in-Some.packet c.in-Some.to c.loop-to.yielded c.from.ensures below c.index_mut.ensures.value c.in_ok-push_back.ensures.items c.loop-to.invariant.sent;
+      sent = λ to.
+          sent_in-next now.sent.items c.from.result c.index_mut.result.now c.push_back.new.self c.in-Some.packet c.in-Some.to c.loop-to.packets.items c.pop_front.new.self.items
+          c.from.ensures below c.index_mut.ensures.value c.in_ok-push_back.ensures.items c.in-Some.ensures.items to
+          ∙ c.loop-to.invariant.sent to;
     }
