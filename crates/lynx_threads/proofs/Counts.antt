@@ -16,8 +16,7 @@ has_one : (names : Names) (at : ℕ) (s : StmtTree) → 0 < length (stmt_code na
 has_one names at (trees.Assign name value) = has (expr_code names at value) [] (store names name)
 has_one names at (trees.AssignMember name index value) =
     let i = expr_code names at index in
-    let v = expr_code names (at + length i) value ++ store_member names name ∷ [] in
-    omega (arith, length-append i v, has (expr_code names (at + length i) value) [] (store_member names name))
+    has (i ++ expr_code names (at + length i) value) [] (store_member names name)
 has_one names at (trees.If condition then_part) =
     let c = expr_code names at condition in
     let t = stmts_code names (at + length c + 1) then_part in
@@ -27,11 +26,11 @@ has_one names at (trees.IfElse condition then_part else_part) =
     let t = stmts_code names (at + length c + 1) then_part in
     let behind = at + length c + 1 + length t + 1 in
     let o = stmts_code names behind else_part in
-    has c (t ++ code.Jump (behind + length o) ∷ o) (code.JumpF behind)
+    has (c ++ code.JumpF behind ∷ t) o (code.Jump (behind + length o))
 has_one names at (trees.While condition body) =
     let c = expr_code names at condition in
     let b = stmts_code names (at + length c + 1) body in
-    has c (b ++ code.Jump at ∷ []) (code.JumpF (at + length c + 1 + length b + 1))
+    has (c ++ code.JumpF (at + length c + 1 + length b + 1) ∷ b) [] (code.Jump at)
 has_one names at (trees.Write value) = has (expr_code names at value) [] code.Write
 has_one names at (trees.Await condition) = has (expr_code names at condition) [] (code.Await at)
 has_one names at trees.Stop = omega arith

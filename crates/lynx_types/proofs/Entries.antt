@@ -17,7 +17,7 @@ use Rattle.lynx_typing.proofs.Members.{at_place}
 use Rattle.lynx_typing.proofs.Progress.{first_with-append, joined}
 use Rattle.lynx_types.specs.News.{nowhere, then_declared, news_faults, are_new, told_faults, first_or_int, locals_named}
 use Rattle.lynx_types.specs.Parts.{heading_faults}
-use Rattle.lynx_types.proofs.Actions.{found_then}
+use Rattle.lynx_statements.proofs.Actions.{found_then}
 use Rattle.lynx_types.proofs.Declarations.{next_names}
 use Rattle.lynx_types.proofs.News.{or_none, news-append, declared-append, meaning-append, same_scope, news_are_new, in_order}
 

@@ -1,5 +1,4 @@
 pub mod Parts
-pub mod Requests
 pub mod News
 pub mod WellTyped
 pub mod Answers

@@ -13,10 +13,8 @@ ghost use Rattle.lynx_types.specs.News.{nowhere, then_declared, news_faults, are
 ghost use Rattle.lynx_types.specs.Parts.{heading_faults};
 
 use crate::declaration::vars;
-use crate::list::behind_first;
-use crate::request::{Request, is_number_of, known};
-use crate::statement::statements;
 use lynx_lexer::{IdentRef, NoMemory};
+use lynx_statements::{Request, behind_first, is_number_of, known, statements};
 use lynx_tree::{EntryDecl, TypeName};
 use lynx_typing::rule::{
     ENTRY_HAS_PARAMETERS, ENTRY_IS_OF_OP, LOCAL_NAME_IS_NEW, MODULE_NAME_IS_NEW,

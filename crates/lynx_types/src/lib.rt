@@ -2,15 +2,11 @@
 //! and the signatures of operations.
 #![tactic(auto)]
 
-mod action;
 mod checked;
 mod checking;
 mod declaration;
 mod entry;
 mod fault;
-mod list;
-mod request;
-mod statement;
 mod width;
 
 pub use checked::Checked;

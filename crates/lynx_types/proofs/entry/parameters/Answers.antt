@@ -4,7 +4,7 @@ use Rattle.lynx_typing.specs.Meanings.{look}
 use Rattle.lynx_typing.specs.Progress.{first_with}
 use Rattle.lynx_typing.specs.Rules.{demand}
 use Rattle.lynx_typing.proofs.Members.{none_left}
-use Rattle.lynx_types.proofs.Sizes.{some_names}
+use Rattle.lynx_statements.proofs.Sizes.{some_names}
 use Rattle.lynx_types.proofs.Entries.{parameter_first, parameter_names}
 use Rattle.lynx_types.proofs.entry.parameters.Goals as goal
 

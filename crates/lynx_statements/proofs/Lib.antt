@@ -1,0 +1,4 @@
+pub mod Sizes
+pub mod Lists
+pub mod Actions
+pub mod Cases
