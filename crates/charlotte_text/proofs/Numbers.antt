@@ -105,6 +105,16 @@ number_again n lt = rw (is_number_text n lt, digits_value-decimal own n lt, lt-l
 pub two_digits : (n : ℕ) → 10 ≤ n → n < 100 → number_text n ≡ (48 + n / 10) ∷ (48 + n % 10) ∷ []
 two_digits n h small = rw (decimal_step n h (omega arith), decimal_digit (n / 10) (omega arith)) refl
 
+-- numbers of three, four and five digits
+pub three_digits : (n : ℕ) → 100 ≤ n → n < 1000 → number_text n ≡ (48 + n / 10 / 10) ∷ (48 + n / 10 % 10) ∷ (48 + n % 10) ∷ []
+three_digits n h small = rw (decimal_step n (omega arith) (omega arith), two_digits (n / 10) (omega arith) (omega arith)) refl
+
+pub four_digits : (n : ℕ) → 1000 ≤ n → n < 10000 → number_text n ≡ (48 + n / 10 / 10 / 10) ∷ (48 + n / 10 / 10 % 10) ∷ (48 + n / 10 % 10) ∷ (48 + n % 10) ∷ []
+four_digits n h small = rw (decimal_step n (omega arith) (omega arith), three_digits (n / 10) (omega arith) (omega arith)) refl
+
+pub five_digits : (n : ℕ) → 10000 ≤ n → n < 100000 → number_text n ≡ (48 + n / 10 / 10 / 10 / 10) ∷ (48 + n / 10 / 10 / 10 % 10) ∷ (48 + n / 10 / 10 % 10) ∷ (48 + n / 10 % 10) ∷ (48 + n % 10) ∷ []
+five_digits n h small = rw (decimal_step n (omega arith) (omega arith), four_digits (n / 10) (omega arith) (omega arith)) refl
+
 -- a digit and a byte behind it
 pub digit_before : (n b : ℕ) → n < 10 → number_text n ++ b ∷ [] ≡ (48 + n) ∷ b ∷ []
 digit_before n b small = rw (decimal_digit n small) refl

@@ -1,5 +1,5 @@
 -- How scripts and transcripts spell names, bytes and calls. Each value has one spelling.
-use Rattle.std.specs.Prelude.{ℕ, List, [], ◌∷◌, ◌++◌, Bool, ◌&&◌, ◌||◌, nat_le, ◌==◌, ◌+◌, ◌^◌, ◌<◌, ◌≤◌, length, ◌/◌, ◌%◌, if◌then◌else◌, codes, decimal}
+use Rattle.std.specs.Prelude.{ℕ, List, [], ◌∷◌, ◌++◌, Bool, ◌&&◌, ◌||◌, nat_le, ◌==◌, ◌+◌, ◌≤◌, length, ◌/◌, ◌%◌, if◌then◌else◌, codes, decimal}
 use Rattle.std.specs.List.{flat_map, AllByRecursion}
 pub use Rattle.charlotte_calls.specs.Ranges.{IsEnd, AreBytes}
 use Rattle.charlotte_calls.specs.declared.names.Side.{Side}

@@ -1,4 +1,4 @@
-ghost use Rattle.std.specs.Prelude.{◌≡◌, ◌<◌, ◌≤◌, ◌^◌, [], ◌∷◌, ◌++◌, ℕ, OnOk, OnErr, IfOk, IsTrue};
+ghost use Rattle.std.specs.Prelude.{◌≡◌, ◌+◌, ◌<◌, ◌≤◌, ◌^◌, [], ◌∷◌, ◌++◌, ℕ, OnOk, OnErr, IfOk, IsTrue};
 ghost use Rattle.std.specs.List.{list_all};
 ghost use Rattle.std.specs.Char.{is_ascii_digit};
 ghost use Rattle.std.specs.Str.Parse.{digits_value};
@@ -30,12 +30,15 @@ pub fn push_number(out: &mut Vec<u8>, number: u64) -> Result<(), NoMemory>
     if number < 100 {
         return push_two_digits(out, number as u8);
     }
+    if number < 100_000 {
+        return push_up_to_five_digits(out, number as u32);
+    }
     let mut buffer = Buffer::new();
     out.extend_from_slice(buffer.format(number).as_bytes())?;
     Ok(())
 }
 
-// Most numbers of a line have one digit, for which no buffer is made.
+// Most numbers of a line have one digit, and few have more than five: no buffer is made for them.
 #[tactic(auto, using(std::proofs::lemmas::Fmt::decimal_digit))]
 fn push_digit(out: &mut Vec<u8>, digit: u8) -> Result<(), NoMemory>
     requires { digit < 10 }
@@ -55,6 +58,78 @@ fn push_two_digits(out: &mut Vec<u8>, number: u8) -> Result<(), NoMemory>
 {
     out.extend_from_slice(&[b'0' + number / 10, b'0' + number % 10])?;
     Ok(())
+}
+
+fn push_up_to_five_digits(out: &mut Vec<u8>, number: u32) -> Result<(), NoMemory>
+    requires three { 100 ≤ number }
+    requires no_more { number < 100000 }
+    ensures ok { OnOk result (out.new.items ≡ out.old.items ++ number_text number) }
+    ensures err { OnErr result (out.new.items ≡ out.old.items) }
+{
+    if number < 1_000 {
+        return push_three_digits(out, number);
+    }
+    if number < 10_000 {
+        return push_four_digits(out, number);
+    }
+    push_five_digits(out, number)
+}
+
+#[tactic(auto, using(crate::proofs::Numbers::three_digits))]
+fn push_three_digits(out: &mut Vec<u8>, number: u32) -> Result<(), NoMemory>
+    requires three { 100 ≤ number }
+    requires no_more { number < 1000 }
+    ensures ok { OnOk result (out.new.items ≡ out.old.items ++ number_text number) }
+    ensures err { OnErr result (out.new.items ≡ out.old.items) }
+{
+    let front = number / 10;
+    out.extend_from_slice(&[digit(front / 10), digit(front % 10), digit(number % 10)])?;
+    Ok(())
+}
+
+#[tactic(auto, using(crate::proofs::Numbers::four_digits))]
+fn push_four_digits(out: &mut Vec<u8>, number: u32) -> Result<(), NoMemory>
+    requires four { 1000 ≤ number }
+    requires no_more { number < 10000 }
+    ensures ok { OnOk result (out.new.items ≡ out.old.items ++ number_text number) }
+    ensures err { OnErr result (out.new.items ≡ out.old.items) }
+{
+    let front = number / 10;
+    let first = front / 10;
+    out.extend_from_slice(&[
+        digit(first / 10),
+        digit(first % 10),
+        digit(front % 10),
+        digit(number % 10),
+    ])?;
+    Ok(())
+}
+
+#[tactic(auto, using(crate::proofs::Numbers::five_digits))]
+fn push_five_digits(out: &mut Vec<u8>, number: u32) -> Result<(), NoMemory>
+    requires five { 10000 ≤ number }
+    requires no_more { number < 100000 }
+    ensures ok { OnOk result (out.new.items ≡ out.old.items ++ number_text number) }
+    ensures err { OnErr result (out.new.items ≡ out.old.items) }
+{
+    let front = number / 10;
+    let middle = front / 10;
+    let first = middle / 10;
+    out.extend_from_slice(&[
+        digit(first / 10),
+        digit(first % 10),
+        digit(middle % 10),
+        digit(front % 10),
+        digit(number % 10),
+    ])?;
+    Ok(())
+}
+
+fn digit(number: u32) -> u8
+    requires { number < 10 }
+    ensures { result ≡ 48 + number }
+{
+    b'0' + number as u8
 }
 
 /// The decimal number that a word is, of any size.

@@ -27,6 +27,9 @@ fn answer(alloc: Global, source: &str) -> Result<String, AllocError> {
     Ok(answer)
 }
 
+/// How a module `m` goes on, and its listing, whose lines are parted by semicolons.
+type Row = (&'static str, &'static str);
+
 /// Tries a module `m` that goes on so. The lines of what is wanted are parted by semicolons.
 fn tried(alloc: Global, body: &str, want: &str) -> Result<(), Fail> {
     let mut source = String::from_str(alloc, "module m; ")?;
@@ -45,75 +48,81 @@ fn tried(alloc: Global, body: &str, want: &str) -> Result<(), Fail> {
 }
 
 /// Expressions, and where their values go.
+const EXPRESSIONS_ARE_COMPILED: &[Row] = &[
+    ("begin end.", "part main; 0 end"),
+    (
+        "var n : int; begin n := - 7 + 2 - 1; end.",
+        "part main; 0 push 7; 1 neg; 2 push 2; 3 add; 4 push 1; 5 sub; 6 storeg 0; 7 end",
+    ),
+    (
+        "var n : int; begin n := (n * 2) / 3 mod 4; end.",
+        "part main; 0 loadg 0; 1 push 2; 2 mul; 3 push 3; 4 div; 5 push 4; 6 mod; 7 storeg 0; 8 end",
+    ),
+    (
+        "var n : int; var r : row 3; begin r[n] := r[n + 1]; end.",
+        "part main; 0 loadg 0; 1 loadg 0; 2 push 1; 3 add; 4 atg 1; 5 putg 1; 6 end",
+    ),
+    (
+        "begin write 1 = 2; write 1 <> 2; write 1 < 2; write 1 <= 2; write 1 > 2; write 1 >= 2; end.",
+        "part main; 0 push 1; 1 push 2; 2 eq; 3 write; 4 push 1; 5 push 2; 6 ne; 7 write; 8 push 1; 9 push 2; 10 lt; 11 write; 12 push 1; 13 push 2; 14 le; 15 write; 16 push 1; 17 push 2; 18 gt; 19 write; 20 push 1; 21 push 2; 22 ge; 23 write; 24 end",
+    ),
+    (
+        "begin write not true and 'a' = '' and false; write true or false or true; end.",
+        "part main; 0 push true; 1 not; 2 andj 6; 3 push 'a'; 4 push ''; 5 eq; 6 andj 8; 7 push false; 8 write; 9 push true; 10 orj 12; 11 push false; 12 orj 14; 13 push true; 14 write; 15 end",
+    ),
+];
+
 #[test]
 fn expressions_are_compiled(rt: HostRuntime) -> Result<(), Fail> {
-    for (body, want) in [
-        ("begin end.", "part main; 0 end"),
-        (
-            "var n : int; begin n := - 7 + 2 - 1; end.",
-            "part main; 0 push 7; 1 neg; 2 push 2; 3 add; 4 push 1; 5 sub; 6 storeg 0; 7 end",
-        ),
-        (
-            "var n : int; begin n := (n * 2) / 3 mod 4; end.",
-            "part main; 0 loadg 0; 1 push 2; 2 mul; 3 push 3; 4 div; 5 push 4; 6 mod; 7 storeg 0; 8 end",
-        ),
-        (
-            "var n : int; var r : row 3; begin r[n] := r[n + 1]; end.",
-            "part main; 0 loadg 0; 1 loadg 0; 2 push 1; 3 add; 4 atg 1; 5 putg 1; 6 end",
-        ),
-        (
-            "begin write 1 = 2; write 1 <> 2; write 1 < 2; write 1 <= 2; write 1 > 2; write 1 >= 2; end.",
-            "part main; 0 push 1; 1 push 2; 2 eq; 3 write; 4 push 1; 5 push 2; 6 ne; 7 write; 8 push 1; 9 push 2; 10 lt; 11 write; 12 push 1; 13 push 2; 14 le; 15 write; 16 push 1; 17 push 2; 18 gt; 19 write; 20 push 1; 21 push 2; 22 ge; 23 write; 24 end",
-        ),
-        (
-            "begin write not true and 'a' = '' and false; write true or false or true; end.",
-            "part main; 0 push true; 1 not; 2 andj 6; 3 push 'a'; 4 push ''; 5 eq; 6 andj 8; 7 push false; 8 write; 9 push true; 10 orj 12; 11 push false; 12 orj 14; 13 push true; 14 write; 15 end",
-        ),
-    ] {
+    for (body, want) in EXPRESSIONS_ARE_COMPILED {
         tried(rt.alloc(), body, want)?;
     }
     Ok(())
 }
 
 /// Choices, loops and exceptions.
+const JUMPS_ARE_COMPILED: &[Row] = &[
+    (
+        "begin if true then stop; end; if false then else stop; end; end.",
+        "part main; 0 push true; 1 jumpf 3; 2 stop; 3 push false; 4 jumpf 6; 5 jump 7; 6 stop; 7 end",
+    ),
+    (
+        "var n : int; begin while n < 2 do n := n + 1; end; await n > 1; end.",
+        "part main; 0 loadg 0; 1 push 2; 2 lt; 3 jumpf 9; 4 loadg 0; 5 push 1; 6 add; 7 storeg 0; 8 jump 0; 9 loadg 0; 10 push 1; 11 gt; 12 await 9; 13 end",
+    ),
+    (
+        "begin try end; end.",
+        "part main; 0 try 3; 1 untry; 2 jump 4; 3 again; 4 end",
+    ),
+    (
+        "begin try raise RANGE; when DIVIDE do when RANGE do try stop; end; end; end.",
+        "part main; 0 try 4; 1 raise RANGE; 2 untry; 3 jump 14; 4 case DIVIDE 6; 5 jump 14; 6 case RANGE 13; 7 try 11; 8 stop; 9 untry; 10 jump 12; 11 again; 12 jump 14; 13 again; 14 end",
+    ),
+];
+
 #[test]
 fn jumps_are_compiled(rt: HostRuntime) -> Result<(), Fail> {
-    for (body, want) in [
-        (
-            "begin if true then stop; end; if false then else stop; end; end.",
-            "part main; 0 push true; 1 jumpf 3; 2 stop; 3 push false; 4 jumpf 6; 5 jump 7; 6 stop; 7 end",
-        ),
-        (
-            "var n : int; begin while n < 2 do n := n + 1; end; await n > 1; end.",
-            "part main; 0 loadg 0; 1 push 2; 2 lt; 3 jumpf 9; 4 loadg 0; 5 push 1; 6 add; 7 storeg 0; 8 jump 0; 9 loadg 0; 10 push 1; 11 gt; 12 await 9; 13 end",
-        ),
-        (
-            "begin try end; end.",
-            "part main; 0 try 3; 1 untry; 2 jump 4; 3 again; 4 end",
-        ),
-        (
-            "begin try raise RANGE; when DIVIDE do when RANGE do try stop; end; end; end.",
-            "part main; 0 try 4; 1 raise RANGE; 2 untry; 3 jump 14; 4 case DIVIDE 6; 5 jump 14; 6 case RANGE 13; 7 try 11; 8 stop; 9 untry; 10 jump 12; 11 again; 12 jump 14; 13 again; 14 end",
-        ),
-    ] {
+    for (body, want) in JUMPS_ARE_COMPILED {
         tried(rt.alloc(), body, want)?;
     }
     Ok(())
 }
 
 /// What is done with links, and the names of entries.
+const LINKS_ARE_COMPILED: &[Row] = &[
+    (
+        "param p : link; var l : link; begin new l, p; destroy l; end.",
+        "part main; 0 new; 1 storeg 0; 2 storeg 1; 3 loadg 1; 4 destroy; 5 end",
+    ),
+    (
+        "op o () : (); op a (int, bool) : (int, bool); param l : link; var n : int; var b : bool; entry e of o () var l : int; begin l := n; end; entry main of a (x, n) var r : row 2; begin r[x] := 1; reply (r[x], n); end; begin bind l to e; unbind l from main; connect a on l (n, b) : (n, b); accept a on l (n, b) do reply (n, b); end; connect o on l () : (); end.",
+        "part main; 0 loadg 0; 1 bind 0; 2 loadg 0; 3 unbind 1; 4 loadg 1; 5 loadg 2; 6 loadg 0; 7 connect 1; 8 storeg 2; 9 storeg 1; 10 loadg 0; 11 accept 1; 12 storeg 2; 13 storeg 1; 14 loadg 1; 15 loadg 2; 16 reply 2; 17 close; 18 loadg 0; 19 connect 0; 20 end; part e; 21 loadg 1; 22 storel 0; 23 end; part main; 24 loadl 0; 25 push 1; 26 putl 2; 27 loadl 0; 28 atl 2; 29 loadl 1; 30 reply 2; 31 end",
+    ),
+];
+
 #[test]
 fn links_are_compiled(rt: HostRuntime) -> Result<(), Fail> {
-    for (body, want) in [
-        (
-            "param p : link; var l : link; begin new l, p; destroy l; end.",
-            "part main; 0 new; 1 storeg 0; 2 storeg 1; 3 loadg 1; 4 destroy; 5 end",
-        ),
-        (
-            "op o () : (); op a (int, bool) : (int, bool); param l : link; var n : int; var b : bool; entry e of o () var l : int; begin l := n; end; entry main of a (x, n) var r : row 2; begin r[x] := 1; reply (r[x], n); end; begin bind l to e; unbind l from main; connect a on l (n, b) : (n, b); accept a on l (n, b) do reply (n, b); end; connect o on l () : (); end.",
-            "part main; 0 loadg 0; 1 bind 0; 2 loadg 0; 3 unbind 1; 4 loadg 1; 5 loadg 2; 6 loadg 0; 7 connect 1; 8 storeg 2; 9 storeg 1; 10 loadg 0; 11 accept 1; 12 storeg 2; 13 storeg 1; 14 loadg 1; 15 loadg 2; 16 reply 2; 17 close; 18 loadg 0; 19 connect 0; 20 end; part e; 21 loadg 1; 22 storel 0; 23 end; part main; 24 loadl 0; 25 push 1; 26 putl 2; 27 loadl 0; 28 atl 2; 29 loadl 1; 30 reply 2; 31 end",
-        ),
-    ] {
+    for (body, want) in LINKS_ARE_COMPILED {
         tried(rt.alloc(), body, want)?;
     }
     Ok(())

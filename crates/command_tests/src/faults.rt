@@ -1,6 +1,7 @@
 //! Each read and each put fails in turn.
 
-use crate::holding::holds;
+use crate::sinks::{held, holds};
+use charlotte_calls::NoMemory;
 use lynx_outside::{ListFiles, ListSink, Status};
 use lynx_run::lynx;
 use std::alloc::{AllocError, Global};
@@ -23,154 +24,181 @@ fn words_of(alloc: Global, line: &str) -> Result<Vec<String>, AllocError> {
     Ok(words)
 }
 
+fn file(alloc: Global, name: &str, bytes: &[u8]) -> Result<(String, Vec<u8>), AllocError> {
+    Ok((String::from_str(alloc, name)?, bytes.to_vec(alloc)?))
+}
+
 /// The files `s`, a script, and `m`, a module. The read of this number fails.
 fn files_of(alloc: Global, failing: u32) -> Result<ListFiles, AllocError> {
-    let script = (String::from_str(alloc, "s")?, SCRIPT.to_vec(alloc)?);
-    let module = (
-        String::from_str(alloc, "m")?,
-        b"module m; begin end.\n".to_vec(alloc)?,
-    );
+    let script = file(alloc, "s", SCRIPT)?;
+    let module = file(alloc, "m", b"module m; begin end.\n")?;
     Ok(ListFiles::of(vec![in alloc; script, module]?, vec![in alloc; failing]?))
 }
 
-/// The numbers, from 1, of the read, the put on out and the put on err that fail, and the room of out. 0 is none.
-#[derive(Clone, Copy)]
-struct Faults {
-    read: u32,
-    out: u32,
-    err: u32,
-    room: u32,
+/// With room for so many bytes. The put of this number fails.
+fn sink_of(alloc: Global, room: u32, failing: u32) -> Result<ListSink, NoMemory> {
+    ListSink::with(alloc, room, vec![in alloc; failing]?)
 }
 
-/// These words end with this status, and with these bytes on out and on err.
-fn end_so(
-    alloc: Global,
-    line: &str,
-    faults: Faults,
-    status: Status,
-    held: (&str, &str),
-) -> Result<(), Fail> {
-    let mut files = files_of(alloc, faults.read)?;
-    let mut out = ListSink::with(alloc, faults.room, vec![in alloc; faults.out]?)?;
-    let mut err = ListSink::with(alloc, AMPLE, vec![in alloc; faults.err]?)?;
-    let words = words_of(alloc, line)?;
-    let ended = lynx(alloc, words, &mut files, &mut out, &mut err);
+/// A line of words; the numbers, from 1, of the read, the put on out and the put on err that fail, where 0 is none; the room of out; the
+/// status; and what out and err hold then.
+type Row = (
+    &'static str,
+    (u32, u32, u32),
+    u32,
+    Status,
+    &'static str,
+    &'static str,
+);
+
+const ROWS: &[Row] = &[
+    ("help", (0, 0, 0), 4, Status::Usage, "", "lynx: usage\n"),
+    ("help", (0, 0, 1), 4, Status::WriteFault, "", ""),
+    (
+        "run p",
+        (0, 0, 0),
+        4,
+        Status::Refused,
+        "",
+        "lynx: run: not built\n",
+    ),
+    (
+        "drive s",
+        (1, 0, 0),
+        4,
+        Status::ReadFault,
+        "",
+        "lynx: s: read fault\n",
+    ),
+    (
+        "check m",
+        (1, 0, 0),
+        4,
+        Status::ReadFault,
+        "",
+        "lynx: m: read fault\n",
+    ),
+    (
+        "code m",
+        (1, 0, 0),
+        4,
+        Status::ReadFault,
+        "",
+        "lynx: m: read fault\n",
+    ),
+    ("drive s", (1, 0, 1), 4, Status::WriteFault, "", ""),
+    (
+        "drive t",
+        (0, 0, 0),
+        4,
+        Status::NoFile,
+        "",
+        "lynx: t: absent\n",
+    ),
+    (
+        "drive m",
+        (2, 0, 0),
+        4,
+        Status::Refused,
+        "",
+        "m:1: script 1\n",
+    ),
+    (
+        "check s",
+        (2, 0, 0),
+        4,
+        Status::Refused,
+        "",
+        "s:1:1: syntax\n",
+    ),
+    ("check s", (0, 0, 1), 4, Status::WriteFault, "", ""),
+    (
+        "code s",
+        (2, 0, 0),
+        4,
+        Status::Refused,
+        "",
+        "s:1:1: syntax\n",
+    ),
+    // out has room for four bytes
+    ("check m", (0, 0, 0), 4, Status::WriteFault, "ok m", ""),
+    ("drive s", (0, 0, 0), 4, Status::WriteFault, "tran", ""),
+    // out has room for the first line and a part of the second
+    (
+        "code m",
+        (0, 0, 0),
+        12,
+        Status::WriteFault,
+        "code m\npart ",
+        "",
+    ),
+    // each put on out, and nothing is put on err then
+    ("drive s", (0, 1, 1), AMPLE, Status::WriteFault, "", ""),
+    (
+        "drive s",
+        (0, 2, 1),
+        AMPLE,
+        Status::WriteFault,
+        "transcript 1\n",
+        "",
+    ),
+    (
+        "drive s",
+        (0, 3, 1),
+        AMPLE,
+        Status::WriteFault,
+        "transcript 1\nkernels 1\n",
+        "",
+    ),
+    (
+        "drive s",
+        (0, 4, 1),
+        AMPLE,
+        Status::WriteFault,
+        "transcript 1\nkernels 1\nprocess 0 on 0\n",
+        "",
+    ),
+    (
+        "drive s",
+        (0, 5, 1),
+        AMPLE,
+        Status::WriteFault,
+        "transcript 1\nkernels 1\nprocess 0 on 0\n1 k0 p0 print 1\n",
+        "",
+    ),
+    ("drive s", (0, 6, 1), AMPLE, Status::Done, TRANSCRIPT, ""),
+    (
+        "code m",
+        (0, 3, 1),
+        AMPLE,
+        Status::WriteFault,
+        "code m\npart main\n",
+        "",
+    ),
+    ("code m", (0, 4, 1), AMPLE, Status::Done, LISTING, ""),
+];
+
+fn ends_so(alloc: Global, row: &Row) -> Result<(), Fail> {
+    let (line, (read, put, told), room, status, out_text, err_text) = *row;
+    let mut files = files_of(alloc, read)?;
+    let mut out = sink_of(alloc, room, put)?;
+    let mut err = sink_of(alloc, AMPLE, told)?;
+    let ended = lynx(
+        alloc,
+        words_of(alloc, line)?,
+        &mut files,
+        &mut out,
+        &mut err,
+    );
     holds(ended == status, line)?;
-    holds(out.held() == held.0.as_bytes(), "what out holds")?;
-    holds(err.held() == held.1.as_bytes(), "what err holds")?;
-    Ok(())
+    held(&out, out_text)?;
+    held(&err, err_text)
 }
 
 #[test]
 fn reads_and_puts_fail_in_turn(rt: HostRuntime) -> Result<(), Fail> {
-    for (line, (read, out, err, room), status, held) in [
-        ("help", (0, 0, 0, 4), Status::Usage, ("", "lynx: usage\n")),
-        ("help", (0, 0, 1, 4), Status::WriteFault, ("", "")),
-        (
-            "run p",
-            (0, 0, 0, 4),
-            Status::Refused,
-            ("", "lynx: run: not built\n"),
-        ),
-        (
-            "drive s",
-            (1, 0, 0, 4),
-            Status::ReadFault,
-            ("", "lynx: s: read fault\n"),
-        ),
-        (
-            "check m",
-            (1, 0, 0, 4),
-            Status::ReadFault,
-            ("", "lynx: m: read fault\n"),
-        ),
-        (
-            "code m",
-            (1, 0, 0, 4),
-            Status::ReadFault,
-            ("", "lynx: m: read fault\n"),
-        ),
-        ("drive s", (1, 0, 1, 4), Status::WriteFault, ("", "")),
-        (
-            "drive t",
-            (0, 0, 0, 4),
-            Status::NoFile,
-            ("", "lynx: t: absent\n"),
-        ),
-        (
-            "drive m",
-            (2, 0, 0, 4),
-            Status::Refused,
-            ("", "m:1: script 1\n"),
-        ),
-        (
-            "check s",
-            (2, 0, 0, 4),
-            Status::Refused,
-            ("", "s:1:1: syntax\n"),
-        ),
-        ("check s", (0, 0, 1, 4), Status::WriteFault, ("", "")),
-        (
-            "code s",
-            (2, 0, 0, 4),
-            Status::Refused,
-            ("", "s:1:1: syntax\n"),
-        ),
-        // out has room for four bytes
-        ("check m", (0, 0, 0, 4), Status::WriteFault, ("ok m", "")),
-        ("drive s", (0, 0, 0, 4), Status::WriteFault, ("tran", "")),
-        // out has room for the first line and a part of the second
-        (
-            "code m",
-            (0, 0, 0, 12),
-            Status::WriteFault,
-            ("code m\npart ", ""),
-        ),
-        // each put on out, and nothing is put on err then
-        ("drive s", (0, 1, 1, AMPLE), Status::WriteFault, ("", "")),
-        (
-            "drive s",
-            (0, 2, 1, AMPLE),
-            Status::WriteFault,
-            ("transcript 1\n", ""),
-        ),
-        (
-            "drive s",
-            (0, 3, 1, AMPLE),
-            Status::WriteFault,
-            ("transcript 1\nkernels 1\n", ""),
-        ),
-        (
-            "drive s",
-            (0, 4, 1, AMPLE),
-            Status::WriteFault,
-            ("transcript 1\nkernels 1\nprocess 0 on 0\n", ""),
-        ),
-        (
-            "drive s",
-            (0, 5, 1, AMPLE),
-            Status::WriteFault,
-            (
-                "transcript 1\nkernels 1\nprocess 0 on 0\n1 k0 p0 print 1\n",
-                "",
-            ),
-        ),
-        ("drive s", (0, 6, 1, AMPLE), Status::Done, (TRANSCRIPT, "")),
-        (
-            "code m",
-            (0, 3, 1, AMPLE),
-            Status::WriteFault,
-            ("code m\npart main\n", ""),
-        ),
-        ("code m", (0, 4, 1, AMPLE), Status::Done, (LISTING, "")),
-    ] {
-        let faults = Faults {
-            read,
-            out,
-            err,
-            room,
-        };
-        end_so(rt.alloc(), line, faults, status, held)?;
+    for row in ROWS {
+        ends_so(rt.alloc(), row)?;
     }
     Ok(())
 }

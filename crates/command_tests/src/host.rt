@@ -1,7 +1,8 @@
 //! Files and writers of the host.
 
-use crate::holding::holds;
+use crate::sinks::holds;
 use lynx_outside::{Failed, FileAnswer, Files, HostFiles, HostSink, Sink};
+use std::alloc::Global;
 use std::io::{self, Write};
 use std::test::Fail;
 use std::{env, fs, process};
@@ -31,45 +32,55 @@ impl Write for Slow {
     }
 }
 
-fn takes_all_or_fails() -> Result<(), Fail> {
+#[test]
+fn writers_take_all_or_fail() -> Result<(), Fail> {
     let mut slow = Slow {
         taken: [0; 4],
         count: 0,
     };
     let mut sink = HostSink::of(&mut slow);
-    holds(sink.put(b"abc") == Ok(()), "a put")?;
-    holds(sink.put(b"de") == Err(Failed), "a put past the room")?;
-    holds(sink.put(b"") == Ok(()), "a put of nothing")?;
-    holds(&slow.taken == b"abcd", "what was taken")
+    let puts = [sink.put(b"abc"), sink.put(b"de"), sink.put(b"")];
+    let taken = &slow.taken == b"abcd";
+    holds(
+        taken && puts == [Ok(()), Err(Failed), Ok(())],
+        "puts up to and past the room",
+    )
+}
+
+/// What a read of a file of at most so many bytes gives, in words.
+fn read_so<F: Files>(alloc: Global, files: &mut F, path: &str, most: u32) -> &'static str {
+    match files.read(alloc, path, most) {
+        Ok(bytes) if bytes.as_slice() == b"four".as_slice() => "four",
+        Ok(_) => "other bytes",
+        Err(FileAnswer::Absent) => "absent",
+        Err(FileAnswer::TooBig) => "too big",
+        Err(FileAnswer::Failed) => "failed",
+        Err(FileAnswer::NoMemory) => "no memory",
+    }
+}
+
+/// A directory can be opened and not read. One without an end is read to one byte past the most.
+#[test]
+fn other_files_are_not_read(host: HostRuntime) -> Result<(), Fail> {
+    let mut files = HostFiles::of(&host);
+    let folder = read_so(host.alloc(), &mut files, "/", 9);
+    let endless = read_so(host.alloc(), &mut files, "/dev/zero", 9);
+    holds((folder, endless) == ("failed", "too big"), "other files")
 }
 
 #[test]
-fn files_are_read_and_writers_take_all_or_fail(host: HostRuntime) -> Result<(), Fail> {
+fn files_are_read(host: HostRuntime) -> Result<(), Fail> {
     let alloc = host.alloc();
     let name = format!(in alloc; "lynx-command-{}", process::id(host.process()))?;
     let path = env::temp_dir(&host)?.join(alloc, name.as_str())?;
     let mut files = HostFiles::of(&host);
-    holds(
-        matches!(files.read(alloc, path.as_str(), 9), Err(FileAnswer::Absent)),
-        "a file that is absent",
-    )?;
+    let before = read_so(alloc, &mut files, path.as_str(), 9);
     fs::write(&host, path.as_path(), "four")?;
-    let whole = files.read(alloc, path.as_str(), 4);
-    let too_big = files.read(alloc, path.as_str(), 3);
+    let whole = read_so(alloc, &mut files, path.as_str(), 4);
+    let long = read_so(alloc, &mut files, path.as_str(), 3);
     fs::remove_file(&host, path.as_path())?;
     holds(
-        whole?.as_slice() == b"four".as_slice(),
-        "a file of four bytes",
-    )?;
-    holds(matches!(too_big, Err(FileAnswer::TooBig)), "a file too big")?;
-    // A directory can be opened and not read. One without an end is read to one byte past the most.
-    holds(
-        matches!(files.read(alloc, "/", 9), Err(FileAnswer::Failed)),
-        "a folder",
-    )?;
-    holds(
-        matches!(files.read(alloc, "/dev/zero", 9), Err(FileAnswer::TooBig)),
-        "a file without an end",
-    )?;
-    takes_all_or_fails()
+        (before, whole, long) == ("absent", "four", "too big"),
+        "a file before it is there, whole, and too long",
+    )
 }

@@ -6,6 +6,6 @@ mod ends;
 #[cfg(test)]
 mod faults;
 #[cfg(test)]
-mod holding;
-#[cfg(test)]
 mod host;
+#[cfg(test)]
+mod sinks;

@@ -2,12 +2,14 @@
 ghost use Rattle.std.specs.Prelude.{◌≡◌, true, IfOk, [], ◌∷◌};
 ghost use Rattle.charlotte_calls.specs.Moving.{new_end};
 ghost use Rattle.end_table.specs.Table.{entries, HasPlace, IsHere};
+ghost use Rattle.kernel_step.specs.Enclosed.{IsReady};
 ghost use Rattle.kernel_step.specs.Progress.{HasRoom};
 
-use crate::holding::holds;
-use crate::samples::{END, OWNER, TO, ample, end_a, kept, sends, view};
-use charlotte_calls::{Cargo, EndId, LinkId, NoMemory, Packet, PictureWhat, Side, What, Work};
-use end_table::{Holder, Inward, Lent, Outward, Table};
+use crate::samples::{Begin, END, Send, ample, end_a, holds, kept};
+use crate::states::{is_idle, is_ready};
+use crate::telling::told;
+use charlotte_calls::{Cargo, EndId, LinkId, NoMemory, Side, Work};
+use end_table::{Inward, Lent, Table};
 use move_core::{
     Route, arrive, destroy, enclose, forget, give_back, gone_seen, known, leave, moved, room, route,
 };
@@ -19,6 +21,141 @@ const CARRIED: EndId = EndId {
     side: Side::A,
 };
 
+/// A call on the end. The carried end comes with the message 4 for the receive 1, or comes back with it.
+#[derive(Clone, Copy)]
+enum Act {
+    Arrive,
+    GiveBack,
+    Enclose,
+    Leave,
+    Forget,
+    Moved,
+    Known,
+    Destroy,
+    GoneSeen,
+}
+
+/// The call, the end that is looked at, what is told of it and of what the call adds, and the way to it.
+type Step = (Act, EndId, &'static str, Route);
+
+const IDLE: Begin = (0, Send::Idle, Inward::Idle);
+
+const POSTED: Begin = (0, Send::Idle, Inward::Posted { w: 1 });
+
+const MATCHED: Begin = (0, Send::Matched(4), Inward::Idle);
+
+/// How the end begins, and the calls.
+type Row = (Begin, &'static [Step]);
+
+const ROWS: [Row; 9] = [
+    // The carried end comes with its message, and tells its opposite.
+    (
+        POSTED,
+        &[(
+            Act::Arrive,
+            CARRIED,
+            "Owner(Pid(1)) Idle Idle; to 3: Moved { to: EndId { link: LinkId { maker: 2, count: 1 }, side: B }, at: 0, hops: 0 }; 0 reports, 0 steps",
+            Route::Here,
+        )],
+    ),
+    // A message comes back, and its end is the sender's again.
+    (
+        MATCHED,
+        &[(
+            Act::GiveBack,
+            CARRIED,
+            "Owner(Pid(1)) Idle Idle; to 3: Moved { to: EndId { link: LinkId { maker: 2, count: 1 }, side: B }, at: 0, hops: 0 }; 1 reports, 0 steps",
+            Route::Here,
+        )],
+    ),
+    // The carried end comes with a message that is not asked for, and goes back with it.
+    (
+        IDLE,
+        &[(
+            Act::Arrive,
+            CARRIED,
+            "left to 3, hops 1; to 3: Back { to: EndId { link: LinkId { maker: 0, count: 7 }, side: B }, n: 4, moving: Short { items: [MovingPicture { end: EndId { link: LinkId { maker: 2, count: 1 }, side: A }, hops: 1, hint: (3, 0), sent: 0, asked: 0, served: 0, want: 0, dead: false, trail: 1 }] } }; 0 reports, 0 steps",
+            Route::Forward(3),
+        )],
+    ),
+    // A message comes back that was not sent, and its end is destroyed.
+    (
+        IDLE,
+        &[(
+            Act::GiveBack,
+            CARRIED,
+            "destroyed; to 3: Gone { to: EndId { link: LinkId { maker: 2, count: 1 }, side: B }, at: 0 }; 0 reports, 0 steps",
+            Route::Stale,
+        )],
+    ),
+    // An end is enclosed.
+    (
+        IDLE,
+        &[(
+            Act::Enclose,
+            END,
+            "EnclosedIn(EndId { link: LinkId { maker: 2, count: 1 }, side: A }) Idle Idle; 0 reports, 0 steps",
+            Route::Here,
+        )],
+    ),
+    // An end leaves, and is forgotten.
+    (
+        IDLE,
+        &[
+            (
+                Act::Leave,
+                END,
+                "left to 3, hops 1; 0 reports, 0 steps",
+                Route::Forward(3),
+            ),
+            (
+                Act::Forget,
+                END,
+                "nothing; 0 reports, 0 steps",
+                Route::Stale,
+            ),
+        ],
+    ),
+    // The opposite end has moved to kernel 2.
+    (
+        IDLE,
+        &[(
+            Act::Moved,
+            END,
+            "Owner(Pid(1)) Idle Idle; to 2: Known { to: EndId { link: LinkId { maker: 0, count: 7 }, side: B }, hops: 1 }; 0 reports, 0 steps",
+            Route::Here,
+        )],
+    ),
+    // An end that has not moved hears that its move is known.
+    (
+        IDLE,
+        &[(
+            Act::Known,
+            END,
+            "Owner(Pid(1)) Idle Idle; 0 reports, 0 steps",
+            Route::Here,
+        )],
+    ),
+    // An end is destroyed, and this is known.
+    (
+        IDLE,
+        &[
+            (
+                Act::Destroy,
+                END,
+                "destroyed; to 3: Gone { to: EndId { link: LinkId { maker: 0, count: 7 }, side: B }, at: 0 }; 0 reports, 0 steps",
+                Route::Stale,
+            ),
+            (
+                Act::GoneSeen,
+                END,
+                "nothing; 0 reports, 0 steps",
+                Route::Stale,
+            ),
+        ],
+    ),
+];
+
 /// A cargo with the value of the carried end.
 fn carried() -> Cargo
     ensures { result ≡ new_end CARRIED 3 ∷ [] }
@@ -26,24 +163,6 @@ fn carried() -> Cargo
     let mut moving = Cargo::empty();
     moving.add(end_a(CARRIED.link));
     moving
-}
-
-/// The carried end comes with the message 4 for the receive 1.
-fn arrive_once(table: &mut Table, out: &mut Work)
-    requires place { HasPlace table.old CARRIED }
-    requires away { IsHere (entries table.old CARRIED) → ⊥ }
-    requires room { HasRoom 8 0 0 0 out.old }
-{
-    arrive(table, END, 4, 1, 3, carried(), out);
-}
-
-/// The carried end comes back with the message 4.
-fn return_once(table: &mut Table, out: &mut Work)
-    requires place { HasPlace table.old CARRIED }
-    requires away { IsHere (entries table.old CARRIED) → ⊥ }
-    requires room { HasRoom 8 1 0 0 out.old }
-{
-    give_back(table, END, 4, carried(), out);
 }
 
 /// Whether the carried end has no entry, after it got a place.
@@ -55,164 +174,56 @@ fn is_expected(table: &mut Table) -> Result<bool, NoMemory>
     Ok(matches!(table.lend(CARRIED), Lent::Nothing))
 }
 
-/// Who holds an end that is here.
-fn holder_of(table: &Table, end: EndId) -> Option<Holder> {
-    match table.lend(end) {
-        Lent::Here(living) => Some(living.holder()),
-        _ => None,
+fn perform(table: &mut Table, act: Act, out: &mut Work) -> Result<(), Fail>
+    requires { HasRoom 10 4 2 4 out.old }
+{
+    match act {
+        Act::Arrive | Act::GiveBack if is_expected(table)? => perform_carried(table, act, out),
+        Act::Enclose if is_idle(table) => enclose(table, END, CARRIED, out),
+        Act::Leave if is_idle(table) => {
+            leave(table, END, 3).destroy();
+        }
+        Act::Forget => forget(table, END, 1, out),
+        Act::Moved => moved(table, END, 2, 1, out),
+        Act::Known => known(table, END, 0, out),
+        Act::Destroy if is_ready(table) => destroy(table, END, out),
+        Act::GoneSeen => gone_seen(table, END, out),
+        _ => return Err("the end is not ready".into()),
+    }
+    Ok(())
+}
+
+fn perform_carried(table: &mut Table, act: Act, out: &mut Work)
+    requires place { HasPlace table.old CARRIED }
+    requires away { IsHere (entries table.old CARRIED) → ⊥ }
+    requires room { HasRoom 8 1 0 0 out.old }
+{
+    match act {
+        Act::Arrive => arrive(table, END, 4, 1, 3, carried(), out),
+        _ => give_back(table, END, 4, carried(), out),
     }
 }
 
-/// The carried end comes with its message, and tells its opposite.
-fn arrives(alloc: Global) -> Result<(), Fail> {
-    let mut table = kept(alloc, view(0, Outward::Idle, Inward::Posted { w: 1 }))?;
+fn gives(alloc: Global, table: &mut Table, (act, end, want, way): Step) -> Result<(), Fail> {
     let mut out = ample(alloc)?;
-    if is_expected(&mut table)? {
-        arrive_once(&mut table, &mut out);
+    perform(table, act, &mut out)?;
+    let text = told(alloc, table, end, &out)?;
+    holds(text.as_str() == want && route(table, end) == way, want)
+}
+
+fn each_gives(alloc: Global, (begin, steps): Row) -> Result<(), Fail> {
+    let mut table = kept(alloc, begin)?;
+    for step in steps {
+        gives(alloc, &mut table, *step)?;
     }
-    holds(
-        holder_of(&table, CARRIED) == Some(Holder::Owner(OWNER)),
-        "an end that came",
-    )?;
-    holds(
-        route(&table, CARRIED) == Route::Here,
-        "the way to an end that is here",
-    )?;
-    let to = CARRIED.opposite();
-    sends(alloc, &out, 3, &PictureWhat::Moved { to, at: 0, hops: 0 })
-}
-
-/// A message comes back, and its end is the sender's again.
-fn comes_back(alloc: Global) -> Result<(), Fail> {
-    let mut table = kept(alloc, view(0, Outward::Matched { n: 4 }, Inward::Idle))?;
-    let mut out = ample(alloc)?;
-    if is_expected(&mut table)? {
-        return_once(&mut table, &mut out);
-    }
-    holds(
-        holder_of(&table, CARRIED) == Some(Holder::Owner(OWNER)),
-        "an end that came back",
-    )?;
-    holds(
-        out.reports.len() == 1 && out.packets.len() == 1,
-        "the report of a message that came back",
-    )
-}
-
-/// The carried end comes with a message that is not asked for, and goes back with it.
-fn goes_back(alloc: Global) -> Result<(), Fail> {
-    let mut table = kept(alloc, view(0, Outward::Idle, Inward::Idle))?;
-    let mut out = ample(alloc)?;
-    if is_expected(&mut table)? {
-        arrive_once(&mut table, &mut out);
-    }
-    holds(
-        route(&table, CARRIED) == Route::Forward(3),
-        "the way to an end that went back",
-    )?;
-    match out.packets.first() {
-        Some(
-            (
-                3,
-                Packet {
-                    what: What::Back { n, moving, .. },
-                    ..
-                },
-            ),
-        ) => holds(*n == 4 && moving.len() == 1, "a message that goes back"),
-        _ => Err("nothing goes back".into()),
-    }
-}
-
-/// A message comes back that was not sent, and its end is destroyed.
-fn comes_back_to_nobody(alloc: Global) -> Result<(), Fail> {
-    let mut table = kept(alloc, view(0, Outward::Idle, Inward::Idle))?;
-    let mut out = ample(alloc)?;
-    if is_expected(&mut table)? {
-        return_once(&mut table, &mut out);
-    }
-    holds(
-        matches!(table.lend(CARRIED), Lent::Destroyed(_)),
-        "an end that came back to nobody",
-    )?;
-    let to = CARRIED.opposite();
-    sends(alloc, &out, 3, &PictureWhat::Gone { to, at: 0 })
-}
-
-/// An end is enclosed.
-fn encloses(alloc: Global) -> Result<(), Fail> {
-    let mut table = kept(alloc, view(0, Outward::Idle, Inward::Idle))?;
-    let mut out = ample(alloc)?;
-    enclose(&mut table, END, CARRIED, &mut out);
-    holds(
-        holder_of(&table, END) == Some(Holder::EnclosedIn(CARRIED)),
-        "an enclosed end",
-    )
-}
-
-/// An end leaves, and is forgotten.
-fn leaves(alloc: Global) -> Result<(), Fail> {
-    let mut table = kept(alloc, view(0, Outward::Idle, Inward::Idle))?;
-    let mut out = ample(alloc)?;
-    let left = leave(&mut table, END, 3).destroy();
-    holds(
-        left.hops() == 1 && left.trail() == 1,
-        "the value of an end that leaves",
-    )?;
-    holds(
-        route(&table, END) == Route::Forward(3),
-        "the way to an end that left",
-    )?;
-    forget(&mut table, END, 1, &mut out);
-    holds(
-        route(&table, END) == Route::Stale,
-        "the way to an end that is forgotten",
-    )
-}
-
-/// The opposite end has moved to kernel 2.
-fn learns(alloc: Global) -> Result<(), Fail> {
-    let mut table = kept(alloc, view(0, Outward::Idle, Inward::Idle))?;
-    let mut out = ample(alloc)?;
-    moved(&mut table, END, 2, 1, &mut out);
-    sends(alloc, &out, 2, &PictureWhat::Known { to: TO, hops: 1 })
-}
-
-/// An end that has not moved hears that its move is known.
-fn is_known(alloc: Global) -> Result<(), Fail> {
-    let mut table = kept(alloc, view(0, Outward::Idle, Inward::Idle))?;
-    let mut out = ample(alloc)?;
-    known(&mut table, END, 0, &mut out);
-    holds(
-        out.packets.is_empty() && room(&table, END).packets == 9,
-        "the room of an action",
-    )
-}
-
-/// An end is destroyed, and this is known.
-fn is_destroyed(alloc: Global) -> Result<(), Fail> {
-    let mut table = kept(alloc, view(0, Outward::Idle, Inward::Idle))?;
-    let mut out = ample(alloc)?;
-    destroy(&mut table, END, &mut out);
-    sends(alloc, &out, 3, &PictureWhat::Gone { to: TO, at: 0 })?;
-    let mut out = ample(alloc)?;
-    gone_seen(&mut table, END, &mut out);
-    holds(
-        matches!(table.lend(END), Lent::Nothing),
-        "an end whose death is known",
-    )
+    Ok(())
 }
 
 #[test]
 fn each_call_of_move_core(rt: HostRuntime) -> Result<(), Fail> {
-    let alloc = rt.alloc();
-    arrives(alloc)?;
-    comes_back(alloc)?;
-    goes_back(alloc)?;
-    comes_back_to_nobody(alloc)?;
-    encloses(alloc)?;
-    leaves(alloc)?;
-    learns(alloc)?;
-    is_known(alloc)?;
-    is_destroyed(alloc)
+    for row in ROWS {
+        each_gives(rt.alloc(), row)?;
+    }
+    let room = room(&kept(rt.alloc(), IDLE)?, END);
+    holds(room.packets == 9, "the room of an action")
 }

@@ -1,16 +1,13 @@
-//! What several tests use.
+//! The end on which the cores are tried, and how it begins.
 ghost use Rattle.std.specs.Prelude.{◌≡◌, IfOk};
 ghost use Rattle.charlotte_calls.specs.Moving.{new_end};
 ghost use Rattle.charlotte_calls.specs.declared.names.Side.TheVariants.{A};
-ghost use Rattle.end_table.specs.Table.{entries};
-ghost use Rattle.end_table.specs.declared.entry.Entry.TheVariants.{Here};
 ghost use Rattle.kernel_step.specs.Progress.{HasRoom};
 
-use crate::holding::holds;
-use charlotte_calls::{EndId, LinkId, Moving, NoMemory, PictureWhat, Pid, Side, Work};
+use charlotte_calls::{EndId, LinkId, Moving, NoMemory, Pid, Side, Work};
 use end_table::{HereView, Holder, Inward, NotStored, Outward, Table};
+use kernel_step::{no_bytes, no_ends};
 use std::alloc::Global;
-use std::fmt::Debug;
 use std::test::Fail;
 
 /// The end on which the cores are tried.
@@ -19,31 +16,12 @@ pub(crate) const END: EndId = EndId {
     side: Side::A,
 };
 
-/// Its opposite.
-pub(crate) const TO: EndId = EndId {
-    link: LinkId { maker: 0, count: 7 },
-    side: Side::B,
-};
-
 /// The process that owns it.
 pub(crate) const OWNER: Pid = Pid(1);
 
-/// Whether two values are printed alike for debugging, and so have the same fields.
-pub(crate) fn same_text<A: Debug, B: Debug>(alloc: Global, a: &A, b: &B) -> Result<bool, Fail> {
-    let first = format!(in alloc; "{a:?}")?;
-    let second = format!(in alloc; "{b:?}")?;
-    Ok(first.as_str() == second.as_str())
-}
-
-/// The first packet of these lists goes to this kernel, is this one and has their stamp.
-pub(crate) fn sends(alloc: Global, out: &Work, kernel: u8, want: &PictureWhat) -> Result<(), Fail> {
-    let (to, packet) = out.packets.first().ok_or("no packet")?;
-    let picture = packet.picture();
-    holds(
-        *to == kernel && picture.stamp == out.stamp,
-        "where a packet goes",
-    )?;
-    holds(same_text(alloc, &picture.what, want)?, "a packet")
+/// Fails the test, and tells what was looked at, unless this holds.
+pub(crate) fn holds(is_so: bool, what: &str) -> Result<(), Fail> {
+    if is_so { Ok(()) } else { Err(what.into()) }
 }
 
 /// Lists with ample room, at stamp 5.
@@ -68,27 +46,46 @@ pub(crate) fn end_a(link: LinkId) -> Moving
     a
 }
 
-/// The end at kernel 0 and owned; its opposite is at kernel 3, and its receive `wanted` asks.
-pub(crate) fn view(wanted: u32, outward: Outward, inward: Inward) -> HereView
-    ensures end { result.value.end ≡ END }
-    ensures outward { result.outward ≡ outward }
-    ensures inward { result.inward ≡ inward }
+/// How the end begins: the receive of its opposite that asks it, or 0; its send; and its receive.
+pub(crate) type Begin = (u32, Send, Inward);
+
+/// A send that is not started, one that waits and encloses nothing, or one that is matched.
+#[derive(Clone, Copy)]
+pub(crate) enum Send {
+    Idle,
+    Waiting(u32),
+    Matched(u32),
+}
+
+fn outward_of(send: Send) -> Outward {
+    match send {
+        Send::Idle => Outward::Idle,
+        Send::Waiting(n) => Outward::Waiting {
+            n,
+            bytes: no_bytes(),
+            enclosed: no_ends(),
+        },
+        Send::Matched(n) => Outward::Matched { n },
+    }
+}
+
+/// The end at kernel 0 and owned; its opposite is at kernel 3.
+fn view(begin: Begin) -> HereView
+    ensures { result.value.end ≡ END }
 {
+    let (wanted, send, inward) = begin;
     let mut value = end_a(END.link).destroy().picture();
     value.want = wanted;
     HereView {
         value,
         holder: Holder::Owner(OWNER),
-        outward,
+        outward: outward_of(send),
         inward,
     }
 }
 
 /// The table of kernel 0 with the end alone.
-pub(crate) fn kept(alloc: Global, view: HereView) -> Result<Table, NoMemory>
-    requires { view.value.end ≡ END }
-    ensures { IfOk result (λ t. entries t END ≡ Here view) }
-{
+pub(crate) fn kept(alloc: Global, begin: Begin) -> Result<Table, NoMemory> {
     let mut table = Table::start(alloc, 0);
     match table.install(end_a(END.link), Holder::Owner(OWNER)) {
         Ok(()) => {}
@@ -97,6 +94,6 @@ pub(crate) fn kept(alloc: Global, view: HereView) -> Result<Table, NoMemory>
             return Err(NoMemory);
         }
     }
-    table.change(END, view);
+    table.change(END, view(begin));
     Ok(table)
 }

@@ -54,7 +54,7 @@ pub(crate) fn played(
 }
 
 /// Tries a module, what its threads are given and what they do.
-pub(crate) fn tried(
+pub(crate) fn played_so(
     alloc: Global,
     source: &str,
     fuel: u32,
@@ -67,6 +67,14 @@ pub(crate) fn tried(
     } else {
         Err(told.as_str().into())
     }
+}
+
+/// A module, what its threads are given, and what they do.
+pub(crate) type Row = (&'static str, &'static str, &'static str);
+
+/// Tries a module with fuel for all that it does.
+pub(crate) fn tried(alloc: Global, (source, letters, want): Row) -> Result<(), Fail> {
+    played_so(alloc, source, 1000, letters, want)
 }
 
 // One letter. Answers the fuel that is left.

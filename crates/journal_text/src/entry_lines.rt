@@ -1,5 +1,6 @@
-ghost use Rattle.std.specs.Prelude.{◌≡◌, ◌++◌, IfOk, OnOk, map};
+ghost use Rattle.std.specs.Prelude.{◌≡◌, ◌++◌, IfOk, OnOk, codes, map};
 ghost use Rattle.std.specs.List.{flat_map};
+ghost use Rattle.charlotte_text.specs.Spelling.{number_text};
 ghost use Rattle.journal_text.specs.Journal.{placed_at};
 ghost use Rattle.journal_text.specs.Transcript.{line, happened_text, entry_text, step_text, entry_lines};
 
@@ -29,13 +30,21 @@ fn push_happened(out: &mut Vec<u8>, what: &Happened) -> Result<(), NoMemory>
     }
 }
 
+/// Appends the stamp and the kernel of an entry, with which its line begins, as `7 k1`.
+pub fn push_head(out: &mut Vec<u8>, stamp: u64, kernel: u8) -> Result<(), NoMemory>
+    ensures { OnOk result (out.new.items ≡ out.old.items ++ number_text stamp ++ codes " k" ++ number_text kernel) }
+{
+    push_number(out, stamp)?;
+    out.extend_from_slice(b" k")?;
+    push_number(out, u64::from(kernel))?;
+    Ok(())
+}
+
 /// Appends the line of an entry of this kernel.
 fn push_entry_line(out: &mut Vec<u8>, kernel: u8, entry: &Entry) -> Result<(), NoMemory>
     ensures { OnOk result (out.new.items ≡ out.old.items ++ line (entry_text (placed_at kernel entry.now))) }
 {
-    push_number(out, entry.stamp)?;
-    out.extend_from_slice(b" k")?;
-    push_number(out, u64::from(kernel))?;
+    push_head(out, entry.stamp, kernel)?;
     push_happened(out, &entry.what)?;
     out.push(b'\n')?;
     Ok(())

@@ -14,6 +14,7 @@ mod print;
 mod step;
 
 pub use end_lines::{push_last_line, push_note_line};
+pub use entry_lines::push_head;
 pub use happened::{push_asked, push_step_line, push_took};
 pub use header_lines::{push_number_line, push_process_line, push_wire_line};
 pub use journal::Journal;

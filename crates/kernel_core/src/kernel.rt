@@ -86,9 +86,22 @@ impl Kernel {
         ensures same { OnErr result (state_of self.new ≡ state_of self.old) }
         ensures processes { length self.new.processes ≡ length self.old.processes }
     {
+        self.ask(&Request { p, call })
+    }
+
+    /// The same with a call that stays where it is.
+    pub fn ask(&mut self, request: &Request) -> Result<Effect, NoMemory>
+        requires process { request.now.p.0 < length self.old.processes }
+        requires running { (process_of request.now.p (state_of self.old)).phase ≡ Running }
+        requires answered { (process_of request.now.p (state_of self.old)).answer ≡ None }
+        ensures step { IfOk result (λ effect. (mine : List EndId) × IsCallWith request.now.p (entries self.old.table) mine request.now.call
+            × (ended (state_of self.new) effect ≡ call_step (state_of self.old) request.now.p mine request.now.call)) }
+        ensures stamp { IfOk result (λ effect. effect.stamp ≡ self.new.stamp) }
+        ensures same { OnErr result (state_of self.new ≡ state_of self.old) }
+        ensures processes { length self.new.processes ≡ length self.old.processes }
+    {
         let stamp = stamp_after(self.stamp);
-        let request = Request { p, call };
-        let called = call_event(self.alloc, &mut self.state, &request, stamp);
+        let called = call_event(self.alloc, &mut self.state, request, stamp);
         match called {
             Ok(effect) => {
                 self.stamp = effect.stamp;

@@ -12,4 +12,5 @@ mod state;
 mod taking;
 
 pub use kernel::Kernel;
+pub use state::Request;
 pub use taking::NotTaken;

@@ -15,7 +15,7 @@ pub(crate) struct State {
 
 /// A call, with the process that makes it.
 #[derive(Drop)]
-pub(crate) struct Request {
-    pub(crate) p: Pid,
-    pub(crate) call: Call,
+pub struct Request {
+    pub p: Pid,
+    pub call: Call,
 }

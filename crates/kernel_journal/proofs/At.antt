@@ -1,8 +1,6 @@
 -- A replay takes one line more.
-use Rattle.std.proofs.Common.{◌≡◌, ◌⊎◌, ◌↔◌, inl, inr, ℕ, ◌+◌, ◌<◌, ◌≤◌, ◌^◌, Bool, true, false, List, [], ◌∷◌, ◌++◌, length, Option, None, Some, Ok, arith, ap, sym, subst, ◌∙◌, refl, append_assoc}
-use Rattle.charlotte_calls.specs.Setting.{IsValid}
+use Rattle.std.proofs.Common.{◌≡◌, ◌↔◌, inl, inr, ℕ, ◌≤◌, ◌^◌, true, false, List, [], ◌∷◌, ◌++◌, Option, None, Some, Ok, arith, ap, sym, subst, ◌∙◌, refl, append_assoc}
 use Rattle.charlotte_calls.specs.declared.calls.ServiceStep.{ServiceStep}
-use Rattle.charlotte_calls.specs.declared.setting.Setting.{Setting}
 use Rattle.journal_text.specs.declared.last.Last.{Last}
 use Rattle.journal_text.specs.declared.last.Last.TheVariants.{Quiet, Unsettled}
 use Rattle.kernel_nodes.proofs.Started.{quiet-or-not}
@@ -16,7 +14,7 @@ use Rattle.replay_lines.specs.Replay.{IsDifference, IsReplay, IsTrueLast}
 use Rattle.replay_lines.proofs.Header.{start-begins, start-left}
 use Rattle.replay_lines.proofs.Places.{IsBehind, IsNoteOrEnd, behind-entry, behind-is, behind-note, behind-over, behind-start, behind-version, told-more}
 use Rattle.replay_lines.proofs.Rest.{leads-end, leads-note, leads-notes, leads-notes-end, refutes-due, refutes-end, refutes-notes-end}
-use Rattle.kernel_journal.specs.At.{AreLeft, HasEnded, HasMet, IsAmongEntries, IsAmongNotes, IsAt, MayFollow, Meets, Passed, setting_of}
+use Rattle.kernel_journal.specs.At.{AreLeft, HasMet, IsAmongEntries, IsAt, MayFollow, Meets, Passed, setting_of}
 use Rattle.kernel_journal.specs.Body.{Differs, Fails, IsReady, Passes, course_of}
 use Rattle.kernel_journal.specs.Faults.{IsStopAt}
 use Rattle.kernel_journal.specs.declared.body.Body.{Body}
@@ -24,16 +22,16 @@ use Rattle.kernel_journal.specs.declared.fault.Stop.{Stop}
 use Rattle.kernel_journal.specs.declared.fault.Stop.TheVariants as stop
 use Rattle.kernel_journal.specs.declared.lines.Replay.{Replay}
 
-left-more : (taken : List LineKind) (k : LineKind) (Old New : List LineKind → Last → Type 0) → ((more : List LineKind) (last : Last) → IsReplay (taken ++ k ∷ more) last ↔ Old (k ∷ more) last) → ((more : List LineKind) (last : Last) → Old (k ∷ more) last ↔ New more last) → AreLeft (taken ++ k ∷ []) New
+pub left-more : (taken : List LineKind) (k : LineKind) (Old New : List LineKind → Last → Type 0) → ((more : List LineKind) (last : Last) → IsReplay (taken ++ k ∷ more) last ↔ Old (k ∷ more) last) → ((more : List LineKind) (last : Last) → Old (k ∷ more) last ↔ New more last) → AreLeft (taken ++ k ∷ []) New
 left-more taken k Old New left leads more last = (
   λ r. (leads more last).0 ((left more last).0 (subst (λ l. IsReplay l last) (append_assoc taken (k ∷ []) more) r)),
   λ f. subst (λ l. IsReplay l last) (sym (append_assoc taken (k ∷ []) more)) ((left more last).1 ((leads more last).1 f)),
 )
 
-kept-same : (a : Option Body) (b c : Body) → a ≡ Some b → a ≡ Some c → b ≡ c
+pub kept-same : (a : Option Body) (b c : Body) → a ≡ Some b → a ≡ Some c → b ≡ c
 kept-same a b c x y = let e : Some b ≡ Some c = sym x ∙ y in cc
 
-not-kept : {A : Type 0} (a : Option Body) (b : Body) → a ≡ None → a ≡ Some b → A
+pub not-kept : {A : Type 0} (a : Option Body) (b : Body) → a ≡ None → a ≡ Some b → A
 not-kept a b x y = let e : None ≡ Some b = sym x ∙ y in absurd (cc)
 
 -- ---- the kernels start where the header ends
@@ -183,13 +181,9 @@ record Begins (taken : List LineKind) : Type 0 where
   last : Last
   is : IsReplay (taken ++ more) last
 
--- the lines taken begin a transcript
-begins : (taken : List LineKind) (place behind : Place) (k : LineKind) (r : Replay) → IsAt taken place r → next place k ≡ Ok behind → is_body k ≡ true → Begins taken
-begins taken Start behind k r at e is = behind-start behind k is e
-begins taken Version behind k r at e is = behind-version behind k is e
-begins taken (Processes m n) behind k r at e is = record { more = line.End Quiet ∷ []; last = Quiet; is = start-begins (setting_of r.draft) taken at.0.0 }
-begins taken (Wires m n) behind k r at e is = record { more = line.End Quiet ∷ []; last = Quiet; is = start-begins (setting_of r.draft) taken at.0.0 }
-begins taken Entry behind k r at e is =
+-- lines up to an entry, or a step below it
+entries-begin : (taken : List LineKind) (r : Replay) → IsAmongEntries taken r → Begins taken
+entries-begin taken r at =
     let ends : HasLast at.body = has-last at.body in
     let few : at.body.events ≤ 2 ^ 31 = at.ready.few in
     record {
@@ -197,6 +191,14 @@ begins taken Entry behind k r at e is =
       last = ends.last;
       is = (at.left (step_kinds at.body.due.items ++ line.End ends.last ∷ []) ends.last).1 (record { events = []; allowed = tt; within = tt; few = omega (arith, few); order = tt; notes = []; shown = refl; true_last = ends.is_true });
     }
+
+-- the lines taken begin a transcript
+begins : (taken : List LineKind) (place behind : Place) (k : LineKind) (r : Replay) → IsAt taken place r → next place k ≡ Ok behind → is_body k ≡ true → Begins taken
+begins taken Start behind k r at e is = behind-start behind k is e
+begins taken Version behind k r at e is = behind-version behind k is e
+begins taken (Processes m n) behind k r at e is = record { more = line.End Quiet ∷ []; last = Quiet; is = start-begins (setting_of r.draft) taken at.0.0 }
+begins taken (Wires m n) behind k r at e is = record { more = line.End Quiet ∷ []; last = Quiet; is = start-begins (setting_of r.draft) taken at.0.0 }
+begins taken Entry behind k r at e is = entries-begin taken r at
 begins taken (Noted m) behind k r at e is =
     let ends : HasLast at.body = has-last at.body in
     record { more = line.End ends.last ∷ []; last = ends.last; is = (at.left (line.End ends.last ∷ []) ends.last).1 (record { notes = []; shown = refl; true_last = ends.is_true }) }
@@ -246,6 +248,12 @@ pub at-difference : (taken : List LineKind) (place behind : Place) (k : LineKind
 at-difference taken place behind k r b is at e meets d =
     let before : Begins taken = begins taken place behind k r at e is in
     record { more = before.more; last = before.last; begins = before.is; differs = may-not-follow taken place behind k b is e meets d }
+
+-- what may not follow an entry or a step
+pub among-difference : (taken : List LineKind) (k : LineKind) (r : Replay) (at : IsAmongEntries taken r) → Refutes (course_of at.body) k → IsDifference taken k
+among-difference taken k r at refutes =
+    let before : Begins taken = entries-begin taken r at in
+    record { more = before.more; last = before.last; begins = before.is; differs = λ more last replay. refutes more last ((at.left (k ∷ more) last).0 replay) }
 
 -- ---- a line of the header
 

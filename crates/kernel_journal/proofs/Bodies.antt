@@ -1,5 +1,5 @@
 -- A body takes one line more.
-use Rattle.std.proofs.Common.{◌≡◌, ◌⊎◌, ◌↔◌, inl, inr, Result, Ok, Err, OnOk, IfErr, not, ℕ, ◌+◌, ◌<◌, ◌≤◌, ◌^◌, Bool, true, false, IsTrue, List, [], ◌∷◌, length, All, Option, None, Some, get_or, arith, ap, sym, subst, ◌∙◌, refl}
+use Rattle.std.proofs.Common.{◌≡◌, ◌↔◌, inl, inr, Result, Ok, Err, OnOk, IfErr, not, ℕ, ◌+◌, ◌<◌, Bool, true, false, IsTrue, List, [], ◌∷◌, length, Option, Some, arith, ap, sym, subst, ◌∙◌, refl}
 use Rattle.std.proofs.lemmas.Bool.Decides.{eqb_tells}
 use Rattle.std.proofs.lemmas.List.Elements.{All-get_or}
 use Rattle.charlotte_calls.specs.Setting.{IsValid}
@@ -17,11 +17,10 @@ use Rattle.kernel_step.specs.Start.{home}
 use Rattle.kernel_world.specs.Run.{AllTaken, IsAllowed}
 use Rattle.kernel_world.specs.declared.entry.Happened.{Happened}
 use Rattle.kernel_world.specs.declared.entry.Happened.TheVariants.{Asked, Took}
-use Rattle.kernel_world.specs.World.{World, Event, Calls, Takes, asked_or_took, first_or, happens, kernel_of, nothing_sent, outcome}
+use Rattle.kernel_world.specs.World.{World, Event, Calls, Takes, first_or, happens, kernel_of, nothing_sent, outcome}
 use Rattle.transcript_reading.specs.Kinds.{happened_kind, shown_step, without_stamp}
-use Rattle.transcript_reading.specs.declared.line.LineKind.{LineKind}
 use Rattle.transcript_reading.specs.declared.line.LineKind.TheVariants as line
-use Rattle.replay_lines.specs.Course.{Course, Leads, Refutes, comes_after, goes_on}
+use Rattle.replay_lines.specs.Course.{Leads, Refutes, comes_after, goes_on}
 use Rattle.replay_lines.proofs.Rest.{event_kind, leads-entry, refutes-call, refutes-due, refutes-entry, refutes-many, refutes-taking, stamp_of}
 use Rattle.journal_text.specs.declared.last.Last.{Last}
 use Rattle.journal_text.specs.declared.last.Last.TheVariants.{Quiet, Unsettled}
@@ -50,7 +49,7 @@ event-course old mid new e stamp noted did is = λ i. record { setting = setting
     setting = is.setting ∙ did.setting
 
     world : world_in new ≡ happens (world_in old) e
-    world = (λ i. world_of (setting i) (is.nodes i).nodes.items) ∙ did.happens_is.world
+    world = ap (λ s. world_of s new.nodes.nodes.items) setting ∙ (is.nodes old.setting did.happens_is.nodes).1 ∙ did.happens_is.world
 
     events : new.events ≡ old.events + 1
     events = is.events ∙ ap (λ n. n + 1) did.events
@@ -72,7 +71,7 @@ event-ready old mid new e stamp noted ready few did is =
     let events : new.events ≡ old.events + 1 = is.events ∙ ap (λ n. n + 1) did.events in
     record {
       valid = subst IsValid (sym (is.setting ∙ did.setting)) ready.valid;
-      nodes = subst (λ s. AreNodes s new.nodes.nodes.items) (sym (is.setting ∙ did.setting)) (subst (λ (n : Nodes). AreNodes old.setting n.nodes.items) (sym is.nodes) did.happens_is.nodes);
+      nodes = subst (λ s. AreNodes s new.nodes.nodes.items) (sym (is.setting ∙ did.setting)) ((is.nodes old.setting did.happens_is.nodes).0);
       few = omega (arith, events, few);
     }
 

@@ -1,10 +1,11 @@
 -- A body of a replay as a course.
-use Rattle.std.specs.Prelude.{◌≡◌, ℕ, ◌+◌, ◌<◌, ◌≤◌, ◌^◌, IsTrue, [], length, Some}
+use Rattle.std.specs.Prelude.{◌≡◌, ℕ, ◌+◌, ◌<◌, ◌≤◌, ◌^◌, IsTrue, List, [], length, Some}
 use Rattle.charlotte_calls.specs.Setting.{IsValid}
 use Rattle.charlotte_calls.specs.declared.calls.Call.{Call}
 use Rattle.charlotte_calls.specs.declared.names.Pid.{Pid}
 use Rattle.charlotte_calls.specs.declared.setting.Setting.{Setting}
 use Rattle.kernel_nodes.specs.Nodes.{AreNodes, world_of}
+use Rattle.kernel_nodes.specs.declared.node.Node.{Node}
 use Rattle.kernel_nodes.specs.declared.nodes.Noted.{Noted}
 use Rattle.kernel_step.specs.Kernel.{process_of}
 use Rattle.kernel_step.specs.Start.{home}
@@ -59,12 +60,16 @@ abbrev pub Fails : Body → LineKind → Stop → Type 0
 Fails old kind stop.Differs = Differs old kind
 Fails old kind stop.NoMemory = Unit {0}
 
+-- these nodes of a setting are other ones in the same world
+abbrev pub AreSameNodes : List Node → List Node → Type 0
+AreSameNodes old new = (s : Setting) → AreNodes s old → AreNodes s new × (world_of s new ≡ world_of s old)
+
 -- an event was noted whose entry has this stamp and may stand there
 pub record IsNoted (stamp kernel : ℕ) (noted : Noted) (old new : Body) : Type 0 where
   pub same_stamp : noted.stamp ≡ stamp
   pub order : IsTrue (comes_after old.latest stamp kernel)
   pub setting : new.setting ≡ old.setting
-  pub nodes : new.nodes ≡ old.nodes
+  pub nodes : AreSameNodes old.nodes.nodes.items new.nodes.nodes.items
   pub events : new.events ≡ old.events + 1
   pub latest : new.latest ≡ Some (stamp, kernel)
   pub due : new.due.items ≡ noted.steps.items

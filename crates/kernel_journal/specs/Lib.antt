@@ -1,3 +1,4 @@
 pub mod Body
 pub mod At
 pub mod Faults
+pub mod Expected

@@ -1,7 +1,7 @@
 //! The entries of a transcript, replayed one line after the other.
 ghost use Rattle.std.specs.Prelude.{◌≡◌, ◌↔◌, ◌≤◌, ◌<◌, [], true, false, IfErr, IfOk, IsTrue, OnOk, length};
 ghost use Rattle.charlotte_calls.specs.Setting.{IsValid};
-ghost use Rattle.kernel_journal.specs.Body.{course_of, CanCall, Fails, Goes, IsNoted, IsReady, Passes, StopsAt};
+ghost use Rattle.kernel_journal.specs.Body.{course_of, AreSameNodes, CanCall, Fails, Goes, IsNoted, IsReady, Passes, StopsAt};
 ghost use Rattle.kernel_journal.specs.declared.fault.Stop.TheVariants as stops;
 ghost use Rattle.replay_lines.specs.Header.{is_body};
 ghost use Rattle.replay_lines.specs.Course.{comes_after, course_start};
@@ -12,9 +12,10 @@ ghost use Rattle.transcript_reading.specs.declared.line.LineKind.TheVariants as 
 use crate::fault::Stop;
 use charlotte_calls::{Call, NoMemory, Picture, Pid, ServiceStep, Setting};
 use journal_text::Last;
-use kernel_nodes::{Nodes, Noted};
+use kernel_nodes::{Nodes, Noted, Request};
 use std::alloc::Global;
 use std::collections::VecDeque;
+use std::mem;
 use transcript_matching::is_shown;
 use transcript_reading::{LineKind, ServiceLine};
 
@@ -52,7 +53,7 @@ impl Body {
     }
 
     /// Whether no step is due and the run may have one event more.
-    fn may_go_on(&self) -> bool
+    pub(crate) fn may_go_on(&self) -> bool
         ensures { IsTrue result ↔ ((self.now.due.items ≡ []) × (self.now.events < 2147483648)) }
     {
         self.due.is_empty() && self.events < MOST_EVENTS
@@ -71,7 +72,11 @@ impl Body {
         if !self.may_call(kernel, p, call) {
             return Err(Stop::Differs);
         }
-        let noted = self.nodes.call(kernel, p, call.copy())?;
+        let request = Request {
+            p,
+            call: call.copy(),
+        };
+        let noted = self.nodes.ask(kernel, &request)?;
         self.note(stamp, kernel, noted)
     }
 
@@ -116,7 +121,7 @@ impl Body {
     }
 
     /// Notes an event that happened, if the entry line has its stamp and may stand there.
-    fn note(&mut self, stamp: u64, kernel: u8, noted: Noted) -> Result<(), Stop>
+    pub(crate) fn note(&mut self, stamp: u64, kernel: u8, noted: Noted) -> Result<(), Stop>
         requires few { self.old.events < 2147483648 }
         ensures noted { OnOk result (IsNoted stamp kernel noted self.old self.new) }
         ensures differs { IfErr result (λ stop. (stop ≡ stops.Differs)
@@ -125,10 +130,24 @@ impl Body {
         if noted.stamp != stamp || !comes_after(self.latest, stamp, kernel) {
             return Err(Stop::Differs);
         }
+        let over = mem::replace(&mut self.due, VecDeque::from(noted.steps));
+        self.give_back(over);
         self.events += 1;
         self.latest = Some((stamp, kernel));
-        self.due = VecDeque::from(noted.steps);
         Ok(())
+    }
+
+    /// Gives the list of the steps of the last event back to its kernel.
+    fn give_back(&mut self, steps: VecDeque<ServiceStep>)
+        ensures setting { self.new.setting ≡ self.old.setting }
+        ensures nodes { AreSameNodes self.old.nodes.nodes.items self.new.nodes.nodes.items }
+        ensures events { self.new.events ≡ self.old.events }
+        ensures latest { self.new.latest ≡ self.old.latest }
+        ensures due { self.new.due ≡ self.old.due }
+    {
+        if let Some((_, kernel)) = self.latest {
+            self.nodes.reuse(kernel, Vec::from(steps));
+        }
     }
 
     /// The line of a service step.

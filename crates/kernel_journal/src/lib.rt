@@ -1,13 +1,16 @@
 //! Journals, their merge, transcripts, and the replay of transcripts.
 //!
 //! The first three are those of `journal_text` and `transcript_reader`, handed on. `Replay` takes the lines of a transcript one after the
-//! other and runs the kernels beside them; `replay` hands it all lines.
+//! other and runs the kernels beside them, and reads one itself where it is just what they expect; `replay` hands it all lines.
 #![tactic(auto)]
 
 mod body;
 mod draft;
+mod expected;
 mod fault;
 mod lines;
+mod reads;
+mod shown;
 mod whole;
 
 pub use fault::ReplayFault;

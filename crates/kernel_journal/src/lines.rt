@@ -1,23 +1,28 @@
-ghost use Rattle.std.specs.Prelude.{◌≡◌, List, [], ◌∷◌, ◌++◌, true, false, Ok, IfErr, IfOk, OnOk};
+ghost use Rattle.std.specs.Prelude.{◌≡◌, List, [], ◌∷◌, ◌++◌, true, false, Ok, IfErr, IfOk, MatchBool, OnOk};
 ghost use Rattle.transcript_reading.specs.Order.{Place, Start, next};
 ghost use Rattle.transcript_reading.specs.declared.line.LineKind.{LineKind as AKind};
 ghost use Rattle.replay_lines.specs.Header.{is_body};
 ghost use Rattle.kernel_journal.specs.At.{HasMet, IsAt, Passed};
+ghost use Rattle.kernel_journal.specs.Expected.{HasStopped, HasTaken};
 ghost use Rattle.kernel_journal.specs.Faults.{IsFaultAt, IsStopAt};
 ghost use Rattle.kernel_journal.specs.declared.fault.Stop.TheVariants as stops;
 
 use crate::body::Body;
 use crate::draft::Draft;
 use crate::fault::{ReplayFault, Stop};
+use charlotte_calls::Call;
 use journal_text::Last;
 use std::alloc::Global;
-use transcript_reader::Line;
+use transcript_reader::{Line, Reader};
 use transcript_reading::LineKind;
 
 /// A replay of a transcript, which takes one line after the other. It keeps the kernels and the packets that wait.
 #[derive(Drop)]
 pub struct Replay {
     alloc: Global,
+    /// The line that is expected is written here, and a call that comes next is read into its place.
+    text: Vec<u8>,
+    call: Call,
     pub(crate) draft: Draft,
     /// There once the header was taken, with the first line behind it.
     pub(crate) body: Option<Body>,
@@ -32,6 +37,8 @@ impl Replay {
     {
         Replay {
             alloc,
+            text: Vec::new(alloc),
+            call: Call::Make,
             draft: Draft::new(alloc),
             body: None,
             last: None,
@@ -50,6 +57,29 @@ impl Replay {
             Ok(()) => Ok(()),
             Err(Stop::Differs) => Err(ReplayFault::Differs { line: line.number }),
             Err(Stop::NoMemory) => Err(ReplayFault::NoMemory),
+        }
+    }
+
+    /// Reads the next line and takes it, where it is just what the kernels expect there: it is compared with the text of that, and no value is
+    /// made of it. `false`: it was not read, and may be any. After a fault no further line is taken.
+    pub fn take_expected(&mut self, reader: &mut Reader<'_>) -> Result<bool, ReplayFault>
+        requires { (taken : List AKind) × IsAt taken reader.old.place self.old }
+        ensures taken { IfOk result (λ took. (taken : List AKind) → IsAt taken reader.old.place self.old
+            → MatchBool took (HasTaken taken reader.old reader.new self.new) (IsAt taken reader.old.place self.new × (reader.new ≡ reader.old))) }
+        ensures fault { IfErr result (λ fault. (taken : List AKind) → IsAt taken reader.old.place self.old → HasStopped taken reader.old reader.new fault) }
+    {
+        if !reader.is_among_entries() {
+            return Ok(false);
+        }
+        match &mut self.body {
+            Some(body) => match body.take_expected(reader, &mut self.text, &mut self.call) {
+                Ok(took) => Ok(took),
+                Err(Stop::Differs) => Err(ReplayFault::Differs {
+                    line: reader.lines(),
+                }),
+                Err(Stop::NoMemory) => Err(ReplayFault::NoMemory),
+            },
+            None => Ok(false),
         }
     }
 

@@ -1,6 +1,5 @@
 -- One event at a node.
-use Rattle.std.proofs.Common.{◌≡◌, ℕ, List, ◌++◌, length, map, ap, sym, refl, ◌∙◌, Result, Ok, Err, OnOk, IfOk}
-use Rattle.charlotte_calls.specs.declared.calls.ServiceStep.{ServiceStep}
+use Rattle.std.proofs.Common.{◌≡◌, ℕ, ◌++◌, length, map, ap, sym, refl, ◌∙◌, Result, Ok, Err, OnOk, IfOk}
 use Rattle.charlotte_calls.specs.declared.names.Pid.{Pid}
 use Rattle.charlotte_calls.specs.declared.work.Effect.{Effect}
 use Rattle.end_table.specs.Table.{entries}

@@ -50,16 +50,15 @@ sent_in-push lists t before after packet below is items to = by (eqb_tells to t)
         ∙ ap (λ qs. sent_in lists to ++ qs) (sym (one-same to t (packet_picture packet) e.0))
     by (inr e) = map-set_other pictures lists t to after [] e.1 ∙ sym (append-nil (sent_in lists to)) ∙ ap (λ qs. sent_in lists to ++ qs) (sym (one-other to t (packet_picture packet) e.0))
 
--- one packet more was sent
-pub sent_in-more : (lists start : Lists) (t : ℕ) (before after : VecDeque Packet Global) (packet : Packet) (n : ℕ) (seen : List (ℕ × Packet)) → t ≡ n → t < length lists → before ≡ get_or lists t before → after.items ≡ before.items ++ packet ∷ [] → ((to : ℕ) → sent_in lists to ≡ sent_in start to ++ to_kernel to (map sent_picture seen)) → (to : ℕ) → sent_in (set lists t after) to ≡ sent_in start to ++ to_kernel to (map sent_picture (seen ++ (n, packet) ∷ []))
-sent_in-more lists start t before after packet n seen at below is items so_far to =
-    sent_in-push lists t before after packet below is items to
-    ∙ ap (λ qs. qs ++ to_kernel to ((t, packet_picture packet) ∷ [])) (so_far to)
-    ∙ append_assoc (sent_in start to) (to_kernel to (map sent_picture seen)) (to_kernel to ((t, packet_picture packet) ∷ []))
-    ∙ ap (λ qs. sent_in start to ++ qs)
-    (ap (λ m. to_kernel to (map sent_picture seen) ++ to_kernel to ((m, packet_picture packet) ∷ [])) at
-    ∙ sym (to_kernel-append to (map sent_picture seen) ((n, packet_picture packet) ∷ []))
-    ∙ ap (to_kernel to) (sym (map-append sent_picture seen ((n, packet) ∷ []))))
+-- the first of the packets that are left was sent
+pub sent_in-next : (lists : Lists) (t : ℕ) (before after : VecDeque Packet Global) (packet : Packet) (n : ℕ) (left rest : List (ℕ × Packet)) → t ≡ n → t < length lists → before ≡ get_or lists t before → after.items ≡ before.items ++ packet ∷ [] → left ≡ (n, packet) ∷ rest → (to : ℕ) → sent_in (set lists t after) to ++ to_kernel to (map sent_picture rest) ≡ sent_in lists to ++ to_kernel to (map sent_picture left)
+sent_in-next lists t before after packet n left rest at below is items first to =
+    ap (λ qs. qs ++ to_kernel to (map sent_picture rest)) (sent_in-push lists t before after packet below is items to)
+    ∙ append_assoc (sent_in lists to) (to_kernel to ((t, packet_picture packet) ∷ [])) (to_kernel to (map sent_picture rest))
+    ∙ ap (λ qs. sent_in lists to ++ qs)
+    (ap (λ m. to_kernel to ((m, packet_picture packet) ∷ []) ++ to_kernel to (map sent_picture rest)) at
+    ∙ sym (to_kernel-append to ((n, packet_picture packet) ∷ []) (map sent_picture rest))
+    ∙ ap (λ ls. to_kernel to (map sent_picture ls)) (sym first))
 
 -- the oldest packet to a kernel leaves its list
 pub popped : (old new : Node) (t n : ℕ) (before after : VecDeque Packet Global) (r : Option Packet) → new.sent.items ≡ set old.sent.items t after → t ≡ n → t < length old.sent.items → before ≡ get_or old.sent.items t before → before.items ≡ option_to_list r ++ after.items → (r ≡ None → before.items ≡ []) → MatchOption r (IsUnpopped n old new) (λ packet. IsPopped n packet old new)

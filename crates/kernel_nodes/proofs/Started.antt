@@ -9,8 +9,8 @@ use Rattle.charlotte_calls.specs.Packets.{packet_picture}
 use Rattle.kernel_core.specs.State.{state_of}
 use Rattle.kernel_step.specs.Start.{start_kernel}
 use Rattle.kernel_world.specs.Run.{AllTaken}
-use Rattle.kernel_world.specs.World.{World, start}
-use Rattle.kernel_nodes.specs.Nodes.{sent_to, world_of, AreNodes, IsNodeOf}
+use Rattle.kernel_world.specs.World.{start}
+use Rattle.kernel_nodes.specs.Nodes.{sent_to, world_of, IsNodeOf}
 use Rattle.kernel_nodes.specs.declared.node.Node.{Node}
 use Rattle.kernel_nodes.proofs.Worlds.{state_at}
 use Rattle.kernel_nodes.proofs.Sent.{Lists, sent_in, IsEmptyList, nothing_sent}

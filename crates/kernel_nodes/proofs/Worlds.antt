@@ -1,5 +1,5 @@
 -- Nodes as a world: one event.
-use Rattle.std.proofs.Common.{◌≡◌, ◌≢◌, ◌⊎◌, inl, inr, ℕ, zero, suc, ◌<◌, ◌≤◌, ◌&&◌, Bool, arith, nat_eq, List, [], ◌∷◌, ◌++◌, length, map, set, get_or, All, Option, None, Some, cond, ap, sym, subst, ◌∙◌, refl, length-set}
+use Rattle.std.proofs.Common.{◌≡◌, inl, inr, ℕ, zero, suc, ◌<◌, ◌≤◌, ◌&&◌, arith, nat_eq, List, [], ◌∷◌, ◌++◌, length, map, set, get_or, slice_get, All, None, Some, cond, ap, sym, subst, ◌∙◌, refl, length-set}
 use Rattle.std.proofs.lemmas.List.Elements.{All-set, All-get_or}
 use Rattle.std.proofs.lemmas.Bool.Decides.{eqb_tells}
 use Rattle.charlotte_calls.specs.Packets.{packet_picture, what_picture}
@@ -15,12 +15,13 @@ use Rattle.kernel_core.specs.State.{KernelView, state_of}
 use Rattle.kernel_step.specs.Calls.{IsCallWith}
 use Rattle.kernel_step.specs.Kernel.{Kernel, Outcome, call_step, take_step, without_answer}
 use Rattle.kernel_step.specs.Start.{start_kernel}
-use Rattle.kernel_world.specs.World.{World, Event, Calls, Takes, kernel_of, outcome, removes, rest, adds_all, happens, takes_first, to_kernel}
+use Rattle.kernel_world.specs.World.{World, Event, Calls, Takes, kernel_of, outcome, removes, rest, adds_all, takes_first, to_kernel}
 use Rattle.kernel_world.proofs.Packets.{adds_all-own, adds_all-other}
 use Rattle.kernel_nodes.specs.Nodes.{sent_to, AreNodes, Happens, IsNodeOf, IsNotedOf, IsAfter, IsFirst, IsPopped, IsUnpopped, TakesTold, world_of}
 use Rattle.kernel_nodes.specs.declared.node.Node.{Node}
 use Rattle.kernel_nodes.specs.declared.nodes.Noted.{Noted}
 use Rattle.kernel_nodes.proofs.Lists.{map-set_same, map-set_other, map-read}
+use Rattle.kernel_nodes.proofs.Sent.{sent_in}
 
 -- ---- what is at one kernel
 
@@ -40,11 +41,11 @@ state_of-table : (k : KernelView) → (state_of k).table ≡ entries k.table
 unfolding state_of
 state_of-table k = refl
 
--- no element has this number
-get_or-past : {X Y : Type 0} (f : X → Y) (xs : List X) (i : ℕ) (d : Y) → length xs ≤ i → get_or (map f xs) i d ≡ d
-get_or-past f [] i d le = refl
-get_or-past f (x ∷ xs) zero d le = absurd (omega (arith, le))
-get_or-past f (x ∷ xs) (suc i) d le = get_or-past f xs i d (omega (arith, le))
+-- an element that is not the default has a number below the length
+below-read : {X Y : Type 0} (f : X → Y) (xs : List X) (i : ℕ) (d : Y) → (get_or (map f xs) i d ≡ d → ⊥) → i < length xs
+below-read f [] i d other = absurd (other refl)
+below-read f (x ∷ xs) zero d other = omega arith
+below-read f (x ∷ xs) (suc i) d other = let below : i < length xs = below-read f xs i d other in omega (arith, below)
 
 -- ---- one node changes
 
@@ -148,49 +149,82 @@ call_happens s ns k i node new p c noted are i_is below at did =
     is : (world_of s ns).kernel i ≡ state_of node.kernel
     is = kernel_at s ns i node below at
 
+-- ---- nothing happens
+
+-- a node keeps its kernel and what it sent
+pub world_kept : (s : Setting) (ns : List Node) (k : ℕ) (node new : Node) → AreNodes s ns → k < length ns → node ≡ get_or ns k node → new.kernel ≡ node.kernel → new.sent ≡ node.sent → AreNodes s (set ns k new) × (world_of s (set ns k new) ≡ world_of s ns)
+world_kept s ns k node new are below at kernel sent = (
+  record { count = is.count ∙ are.count; nodes = is.nodes },
+  (λ j. record { kernel = λ q. is.kernel q j; packets = λ from to. packets from to j }),
+)
+  where
+    is : IsWithSent s ns (set ns k new) (λ from to. cond (nat_eq from k) (sent_to new to) ((world_of s ns).packets from to))
+    is = with_sent s ns k node new below at are.nodes kernel (ap (λ lists. length lists.items) sent)
+
+    packets : (from to : ℕ) → (world_of s (set ns k new)).packets from to ≡ (world_of s ns).packets from to
+    packets from to = is.packets_are from to ∙ elim (eqb_tells from k) as (λ _. cond (nat_eq from k) (sent_to new to) ((world_of s ns).packets from to) ≡ (world_of s ns).packets from to) [
+      | inl x ↦ ap (λ b. cond b (sent_to new to) ((world_of s ns).packets from to)) x.0 ∙ ap (λ lists. sent_in lists.items to) sent
+          ∙ sym (packets_at s ns k node below at to) ∙ ap (λ i. (world_of s ns).packets i to) (sym x.1)
+      | inr x ↦ ap (λ b. cond b (sent_to new to) ((world_of s ns).packets from to)) x.0
+    ]
+
 -- ---- a taking
 
--- the first packet is another, or there is none
-pub untold : (s : Setting) (ns : List Node) (from to : ℕ) (what : PictureWhat) (new : List Node) → (IsFirst what ((world_of s ns).packets from to) → ⊥) → TakesTold s from to what None ns new
-untold s ns from to what new h below = h
-
-first-none : (what : PictureWhat) (qs : List Picture) → qs ≡ [] → IsFirst what qs → ⊥
+-- the first of these packets, as it is read
+first-none : (what : PictureWhat) (qs : List Picture) → None ≡ slice_get qs 0 → IsFirst what qs → ⊥
 first-none what [] e is = is
 first-none what (q ∷ qs) e is = absurd (cc)
 
-first-other : (what : PictureWhat) (q : Picture) (qs others : List Picture) → qs ≡ q ∷ others → (q.what ≡ what → ⊥) → IsFirst what qs → ⊥
-first-other what q [] others e not is = is
-first-other what q (x ∷ xs) others e not is = not (sym (ap (λ (x : Picture). x.what) (heads e)) ∙ is)
-  where
-    heads : x ∷ xs ≡ q ∷ others → x ≡ q
-    heads e = cc
+heads : (q x : Picture) → Some q ≡ Some x → q ≡ x
+heads q x e = cc
 
-untold_empty : (s : Setting) (ns : List Node) (from to : ℕ) (what : PictureWhat) (new : List Node) → (world_of s ns).packets from to ≡ [] → TakesTold s from to what None ns new
-untold_empty s ns from to what new none = untold s ns from to what new (first-none what ((world_of s ns).packets from to) none)
+first-other : (what : PictureWhat) (q : Picture) (qs : List Picture) → Some q ≡ slice_get qs 0 → (q.what ≡ what → ⊥) → IsFirst what qs → ⊥
+first-other what q [] e not is = is
+first-other what q (x ∷ xs) e not is = not (ap (λ (y : Picture). y.what) (heads q x e) ∙ is)
+
+first-told : (what : PictureWhat) (q : Picture) (qs : List Picture) → Some q ≡ slice_get qs 0 → q.what ≡ what → IsFirst what qs
+first-told what q [] e told = absurd (cc)
+first-told what q (x ∷ xs) e told = sym (ap (λ (y : Picture). y.what) (heads q x e)) ∙ told
 
 -- a kernel is not there
-pub untold_away : (s : Setting) (ns : List Node) (from to : ℕ) (what : PictureWhat) (new : List Node) → AreNodes s ns → (length ns ≤ from) ⊎ (length ns ≤ to) → TakesTold s from to what None ns new
-untold_away s ns from to what new are (inl away) = untold_empty s ns from to what new (ap (λ (f : ℕ → List Picture). f to) (get_or-past sent_to ns from (λ _. []) away))
-untold_away s ns from to what new are (inr away) = λ below is. let count : length ns ≡ s.kernels = are.count in let le : length ns ≤ to = away in absurd (omega (arith, count, le, below))
+pub untold_away : (s : Setting) (ns : List Node) (from to : ℕ) (what : PictureWhat) (new : List Node) → AreNodes s ns → length ns ≤ to → TakesTold s from to what None ns new
+untold_away s ns from to what new are away below is = let count : length ns ≡ s.kernels = are.count in absurd (omega (arith, count, away, below))
 
-pub untold_none : (s : Setting) (ns : List Node) (from to i : ℕ) (node popped : Node) (what : PictureWhat) (new : List Node) → from ≡ i → i < length ns → node ≡ get_or ns i node → IsUnpopped to node popped → TakesTold s from to what None ns new
-untold_none s ns from to i node popped what new is_i below at pop =
-    untold_empty s ns from to what new (ap (λ m. (world_of s ns).packets m to) is_i ∙ packets_at s ns i node below at to ∙ pop.none)
+-- there is no packet
+pub untold_none : (s : Setting) (ns : List Node) (from to : ℕ) (what : PictureWhat) (new : List Node) → None ≡ slice_get ((world_of s ns).packets from to) 0 → TakesTold s from to what None ns new
+untold_none s ns from to what new none below = first-none what ((world_of s ns).packets from to) none
 
-pub untold_other : (s : Setting) (ns : List Node) (from to i : ℕ) (node popped : Node) (packet : Packet) (what : PictureWhat) (new : List Node) → from ≡ i → i < length ns → node ≡ get_or ns i node → IsPopped to packet node popped → (what_picture packet.what ≡ what → ⊥) → TakesTold s from to what None ns new
-untold_other s ns from to i node popped packet what new is_i below at pop other =
-    untold s ns from to what new (first-other what (packet_picture packet) ((world_of s ns).packets from to) (sent_to popped to) (ap (λ m. (world_of s ns).packets m to) is_i ∙ packets_at s ns i node below at to ∙ pop.first) other)
+-- the first packet tells something else
+pub untold_other : (s : Setting) (ns : List Node) (from to : ℕ) (packet : Packet) (what : PictureWhat) (new : List Node) → Some (packet_picture packet) ≡ slice_get ((world_of s ns).packets from to) 0 → (what_picture packet.what ≡ what → ⊥) → TakesTold s from to what None ns new
+untold_other s ns from to packet what new first other below = first-other what (packet_picture packet) ((world_of s ns).packets from to) first other
+
+-- it tells this, and was taken
+pub told_first : (s : Setting) (ns : List Node) (from to : ℕ) (packet : Packet) (what : PictureWhat) (noted : Noted) (new : List Node) → AreNodes s ns → to < length ns → Some (packet_picture packet) ≡ slice_get ((world_of s ns).packets from to) 0 → what_picture packet.what ≡ what → Happens s (Takes to from) noted ns new → TakesTold s from to what (Some noted) ns new
+told_first s ns from to packet what noted new are below first is taken = (
+  subst (λ n. to < n) are.count below,
+  first-told what (packet_picture packet) ((world_of s ns).packets from to) first is,
+  taken,
+)
+
+-- a packet is under way from a kernel that is there
+pub from_there : (s : Setting) (ns : List Node) (from to : ℕ) (q : Picture) → AreNodes s ns → Some q ≡ slice_get ((world_of s ns).packets from to) 0 → from < s.kernels
+from_there s ns from to q are first = subst (λ n. from < n) are.count (below-read sent_to ns from (λ _. []) nothing)
+  where
+    nothing : get_or (map sent_to ns) from (λ _. []) ≡ (λ _. []) → ⊥
+    nothing e = let no : Some q ≡ None = first ∙ ap (λ (f : ℕ → List Picture). slice_get (f to) 0) e in absurd (cc)
+
+-- a packet that is under way is the oldest of its node
+pub not_unpopped : (s : Setting) (ns : List Node) (from to i : ℕ) (q : Picture) (node popped : Node) → from ≡ i → i < length ns → node ≡ get_or ns i node → slice_get ((world_of s ns).packets from to) 0 ≡ Some q → IsUnpopped to node popped → ⊥
+not_unpopped s ns from to i q node popped is_i below at first pop =
+    let no : None ≡ Some q = sym (ap (λ qs. slice_get qs 0) (ap (λ m. (world_of s ns).packets m to) is_i ∙ packets_at s ns i node below at to ∙ pop.none)) ∙ first in absurd (cc)
 
 -- ms are the nodes once the packet is gone
-take_happens : (s : Setting) (ns : List Node) (from to : ℕ) (node popped mid new : Node) (packet : Packet) (what : PictureWhat) (noted : Noted) → AreNodes s ns → from < length ns → to < length ns → node ≡ get_or ns from node → IsPopped to packet node popped → popped.kernel ≡ node.kernel → length popped.sent.items ≡ length node.sent.items → what_picture packet.what ≡ what → mid ≡ get_or (set ns from popped) to mid
-    → IsNotedOf (take_step (state_of mid.kernel) from (packet_picture packet)) noted → IsAfter (take_step (state_of mid.kernel) from (packet_picture packet)) mid new → TakesTold s from to what (Some noted) ns (set (set ns from popped) to new)
-take_happens s ns from to node popped mid new packet what noted are below below_to at pop kernel lists told at_mid noted_is event = (
-  subst (λ n. to < n) are.count below_to,
-  subst (IsFirst what) (sym held) told,
-  event_happens s ns ms mid new (Takes to from) noted are (subst (λ m. to < m) (sym is.count) below_to) at_mid
-      (record { kernel = is.kernel; packets_are = packets; nodes = is.nodes; count = is.count })
-      (gives (λ o. IsAfter o mid new) event) (gives (λ o. IsNotedOf o noted) noted_is),
-)
+take_happens : (s : Setting) (ns : List Node) (from to : ℕ) (node popped mid new : Node) (packet : Packet) (noted : Noted) → AreNodes s ns → from < length ns → to < length ns → node ≡ get_or ns from node → IsPopped to packet node popped → popped.kernel ≡ node.kernel → length popped.sent.items ≡ length node.sent.items → mid ≡ get_or (set ns from popped) to mid
+    → IsNotedOf (take_step (state_of mid.kernel) from (packet_picture packet)) noted → IsAfter (take_step (state_of mid.kernel) from (packet_picture packet)) mid new → Happens s (Takes to from) noted ns (set (set ns from popped) to new)
+take_happens s ns from to node popped mid new packet noted are below below_to at pop kernel lists at_mid noted_is event =
+    event_happens s ns ms mid new (Takes to from) noted are (subst (λ m. to < m) (sym is.count) below_to) at_mid
+    (record { kernel = is.kernel; packets_are = packets; nodes = is.nodes; count = is.count })
+    (gives (λ o. IsAfter o mid new) event) (gives (λ o. IsNotedOf o noted) noted_is)
   where
     w : World
     w = world_of s ns
@@ -224,11 +258,11 @@ take_happens s ns from to node popped mid new packet what noted are below below_
     gives P h = subst (λ (qs : List Picture). P (takes_first (w.kernel to) from qs)) (sym held) (subst (λ (x : Kernel). P (take_step x from (packet_picture packet))) same h)
 
 -- the same, where the nodes are found by equal numbers
-pub take_happens_at : (s : Setting) (ns : List Node) (from to i j : ℕ) (node popped mid new : Node) (packet : Packet) (what : PictureWhat) (noted : Noted) → AreNodes s ns → from ≡ i → to ≡ j → i < length ns → j < length ns → node ≡ get_or ns i node → IsPopped to packet node popped → popped.kernel ≡ node.kernel → length popped.sent.items ≡ length node.sent.items → what_picture packet.what ≡ what → mid ≡ get_or (set ns i popped) j mid
-    → IsNotedOf (take_step (state_of mid.kernel) from (packet_picture packet)) noted → IsAfter (take_step (state_of mid.kernel) from (packet_picture packet)) mid new → TakesTold s from to what (Some noted) ns (set (set ns i popped) j new)
-take_happens_at s ns from to i j node popped mid new packet what noted are is_i is_j below below_to at pop kernel lists told at_mid noted_is event =
-    subst (λ m. TakesTold s from to what (Some noted) ns (set (set ns m popped) j new)) is_i
-    (subst (λ m. TakesTold s from to what (Some noted) ns (set (set ns from popped) m new)) is_j
-    (take_happens s ns from to node popped mid new packet what noted are (subst (λ m. m < length ns) (sym is_i) below) (subst (λ m. m < length ns) (sym is_j) below_to)
-    (subst (λ m. node ≡ get_or ns m node) (sym is_i) at) pop kernel lists told
+pub take_happens_at : (s : Setting) (ns : List Node) (from to i j : ℕ) (node popped mid new : Node) (packet : Packet) (noted : Noted) → AreNodes s ns → from ≡ i → to ≡ j → i < length ns → j < length ns → node ≡ get_or ns i node → IsPopped to packet node popped → popped.kernel ≡ node.kernel → length popped.sent.items ≡ length node.sent.items → mid ≡ get_or (set ns i popped) j mid
+    → IsNotedOf (take_step (state_of mid.kernel) from (packet_picture packet)) noted → IsAfter (take_step (state_of mid.kernel) from (packet_picture packet)) mid new → Happens s (Takes to from) noted ns (set (set ns i popped) j new)
+take_happens_at s ns from to i j node popped mid new packet noted are is_i is_j below below_to at pop kernel lists at_mid noted_is event =
+    subst (λ m. Happens s (Takes to from) noted ns (set (set ns m popped) j new)) is_i
+    (subst (λ m. Happens s (Takes to from) noted ns (set (set ns from popped) m new)) is_j
+    (take_happens s ns from to node popped mid new packet noted are (subst (λ m. m < length ns) (sym is_i) below) (subst (λ m. m < length ns) (sym is_j) below_to)
+    (subst (λ m. node ≡ get_or ns m node) (sym is_i) at) pop kernel lists
     (subst (λ m. mid ≡ get_or (set ns from popped) m mid) (sym is_j) (subst (λ m. mid ≡ get_or (set ns m popped) j mid) (sym is_i) at_mid)) noted_is event))

@@ -4,4 +4,5 @@
 mod node;
 mod nodes;
 
+pub use kernel_core::Request;
 pub use nodes::{Nodes, Noted};

@@ -13,17 +13,21 @@ ghost use Rattle.kernel_world.specs.World.{to_kernel};
 ghost use Rattle.kernel_nodes.specs.Nodes.{sent_to, IsNodeOf, IsAfter, IsNotedOf, IsPopped, IsUnpopped};
 
 use crate::nodes::Noted;
-use charlotte_calls::{Call, Effect, NoMemory, Packet, Pid, Setting};
-use kernel_core::{Kernel, NotTaken};
+use charlotte_calls::{Effect, NoMemory, Packet, Pid, ServiceStep, Setting};
+use kernel_core::{Kernel, Request};
 use std::alloc::Global;
 use std::collections::VecDeque;
+use std::mem;
 
 /// A kernel, and what it sent.
 #[derive(Drop)]
 pub(crate) struct Node {
+    alloc: Global,
     pub(crate) kernel: Kernel,
     /// The packets that were not taken yet, oldest first: a list for each number that a kernel may have.
     pub(crate) sent: Vec<VecDeque<Packet>>,
+    /// The processes to which the last event gave an answer: a list that the kernel gets back with that of its steps.
+    answered: Vec<Pid>,
 }
 
 /// How many numbers a packet may be addressed to.
@@ -39,35 +43,44 @@ impl Node {
         ensures node { IfOk result (λ node. IsNodeOf setting.now node) }
     {
         Ok(Node {
+            alloc,
             kernel: Kernel::start(alloc, id, setting)?,
             sent: empty_lists(alloc)?,
+            answered: Vec::new(alloc),
         })
     }
 
     /// A process that runs makes a call; the answer that stood is let go.
-    pub(crate) fn call(&mut self, p: Pid, call: Call) -> Result<Noted, NoMemory>
-        requires process { p.0 < length self.old.kernel.processes }
-        requires running { (process_of p (state_of self.old.kernel)).phase ≡ Running }
+    pub(crate) fn ask(&mut self, request: &Request) -> Result<Noted, NoMemory>
+        requires process { request.now.p.0 < length self.old.kernel.processes }
+        requires running { (process_of request.now.p (state_of self.old.kernel)).phase ≡ Running }
         requires lists { length self.old.sent.items ≡ 256 }
-        ensures after { IfOk result (λ noted. (mine : List EndId) × IsCallWith p (entries self.old.kernel.table) mine call
-            × IsNotedOf (call_step (without_answer p (state_of self.old.kernel)) p mine call) noted
-            × IsAfter (call_step (without_answer p (state_of self.old.kernel)) p mine call) self.old self.new) }
+        ensures after { IfOk result (λ noted. (mine : List EndId) × IsCallWith request.now.p (entries self.old.kernel.table) mine request.now.call
+            × IsNotedOf (call_step (without_answer request.now.p (state_of self.old.kernel)) request.now.p mine request.now.call) noted
+            × IsAfter (call_step (without_answer request.now.p (state_of self.old.kernel)) request.now.p mine request.now.call) self.old self.new) }
     {
-        let _ = self.kernel.answer(p);
-        let effect = self.kernel.call(p, call)?;
+        self.kernel.forget_answer(request.p);
+        let effect = self.kernel.ask(request)?;
         self.send(effect)
     }
 
-    /// Takes a packet that a kernel sent to this one.
-    pub(crate) fn take(&mut self, from: u8, packet: Packet) -> Result<Noted, NoMemory>
+    /// Takes a packet that a kernel sent to this one. What it brings is taken out of it.
+    pub(crate) fn take(&mut self, from: u8, packet: &mut Packet) -> Result<Noted, NoMemory>
         requires lists { length self.old.sent.items ≡ 256 }
-        ensures noted { IfOk result (λ noted. IsNotedOf (take_step (state_of self.old.kernel) from (packet_picture packet)) noted) }
-        ensures after { OnOk result (IsAfter (take_step (state_of self.old.kernel) from (packet_picture packet)) self.old self.new) }
+        ensures noted { IfOk result (λ noted. IsNotedOf (take_step (state_of self.old.kernel) from (packet_picture packet.old)) noted) }
+        ensures after { OnOk result (IsAfter (take_step (state_of self.old.kernel) from (packet_picture packet.old)) self.old self.new) }
     {
-        match self.kernel.take(from, packet) {
-            Ok(effect) => self.send(effect),
-            Err(NotTaken { packet: _ }) => Err(NoMemory),
-        }
+        let effect = self.kernel.take_from(from, packet)?;
+        self.send(effect)
+    }
+
+    /// Gives the lists of the last event back to the kernel: that of its steps, which is over, and that of its answers.
+    pub(crate) fn reuse(&mut self, steps: Vec<ServiceStep>)
+        ensures kernel { self.new.kernel ≡ self.old.kernel }
+        ensures sent { self.new.sent ≡ self.old.sent }
+    {
+        let answered = mem::replace(&mut self.answered, Vec::new(self.alloc));
+        self.kernel.reuse_lists(answered, steps);
     }
 
     /// Sends the packets of an event.
@@ -81,23 +94,39 @@ impl Node {
         let Effect {
             stamp,
             packets,
-            answered: _,
+            answered,
             steps,
         } = effect;
-        self.send_all(packets)?;
+        self.answered = answered;
+        let sent = self.send_all(packets)?;
+        self.kernel.reuse(sent);
         Ok(Noted { stamp, steps })
     }
 
-    fn send_all(&mut self, packets: Vec<(u8, Packet)>) -> Result<(), NoMemory>
+    /// Sends packets, and gives their emptied list back.
+    fn send_all(&mut self, packets: Vec<(u8, Packet)>) -> Result<Vec<(u8, Packet)>, NoMemory>
         requires { length self.old.sent.items ≡ 256 }
         ensures kernel { self.new.kernel ≡ self.old.kernel }
         ensures sent { OnOk result ((to : ℕ) → sent_to self.new to ≡ sent_to self.old to ++ to_kernel to (map sent_picture packets.items)) }
         ensures lists { length self.new.sent.items ≡ length self.old.sent.items }
     {
-        for (to, packet) in packets {
+        let sent = self.send_each(VecDeque::from(packets))?;
+        Ok(Vec::from(sent))
+    }
+
+    fn send_each(
+        &mut self,
+        mut packets: VecDeque<(u8, Packet)>,
+    ) -> Result<VecDeque<(u8, Packet)>, NoMemory>
+        requires { length self.old.sent.items ≡ 256 }
+        ensures kernel { self.new.kernel ≡ self.old.kernel }
+        ensures sent { OnOk result ((to : ℕ) → sent_to self.new to ≡ sent_to self.old to ++ to_kernel to (map sent_picture packets.items)) }
+        ensures lists { length self.new.sent.items ≡ length self.old.sent.items }
+    {
+        while let Some((to, packet)) = packets.pop_front() {
             self.sent[usize::from(to)].push_back(packet)?;
         }
-        Ok(())
+        Ok(packets)
     }
 
     /// The oldest packet to a kernel that was not taken yet.

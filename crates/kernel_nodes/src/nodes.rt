@@ -1,18 +1,19 @@
-ghost use Rattle.std.specs.Prelude.{◌≡◌, ◌↔◌, ◌≤◌, ◌<◌, [], All, IfOk, IsTrue, List, MatchOption, length, option_copied, option_map, slice_get};
+ghost use Rattle.std.specs.Prelude.{◌≡◌, ◌↔◌, ◌≤◌, ◌<◌, [], All, IfOk, IsTrue, List, MatchOption, Some, length, option_copied, option_map, slice_get};
 ghost use Rattle.charlotte_calls.specs.Packets.{packet_picture};
 ghost use Rattle.charlotte_calls.specs.Setting.{IsValid};
 ghost use Rattle.charlotte_calls.specs.declared.names.EndId.{EndId};
+ghost use Rattle.charlotte_calls.specs.declared.picture.Picture.{Picture as APicture};
 ghost use Rattle.charlotte_calls.specs.declared.setting.Setting.{Setting as ASetting};
 ghost use Rattle.kernel_step.specs.Calls.{IsCallWith};
 ghost use Rattle.kernel_step.specs.Kernel.{process_of};
 ghost use Rattle.kernel_step.specs.declared.phase.Phase.TheVariants.{Running};
 ghost use Rattle.kernel_world.specs.Run.{AllTaken};
-ghost use Rattle.kernel_world.specs.World.{Calls, start};
+ghost use Rattle.kernel_world.specs.World.{Calls, Takes, start};
 ghost use Rattle.kernel_nodes.specs.Nodes.{AreNodes, Happens, IsKernelAt, TakesTold, world_of};
 
 use crate::node::Node;
-use charlotte_calls::{Call, NoMemory, Packet, PictureWhat, Pid, ServiceStep, Setting};
-use kernel_core::Kernel;
+use charlotte_calls::{NoMemory, Packet, PictureWhat, Pid, ServiceStep, Setting};
+use kernel_core::{Kernel, Request};
 use std::alloc::Global;
 use transcript_matching::is_told;
 
@@ -53,14 +54,26 @@ impl Nodes {
     }
 
     /// A process that runs makes a call of its kernel; the answer that stood is let go. After want of memory no further call is made.
-    pub fn call(&mut self, kernel: u8, p: Pid, call: Call) -> Result<Noted, NoMemory>
-        requires { (s : ASetting) × AreNodes s self.old.nodes.items × (kernel < s.kernels) × (p.0 < length s.homes)
-            × ((process_of p ((world_of s self.old.nodes.items).kernel kernel)).phase ≡ Running) }
+    pub fn ask(&mut self, kernel: u8, request: &Request) -> Result<Noted, NoMemory>
+        requires { (s : ASetting) × AreNodes s self.old.nodes.items × (kernel < s.kernels) × (request.now.p.0 < length s.homes)
+            × ((process_of request.now.p ((world_of s self.old.nodes.items).kernel kernel)).phase ≡ Running) }
         ensures { IfOk result (λ noted. (s : ASetting) → AreNodes s self.old.nodes.items → (mine : List EndId)
-            × IsCallWith p ((world_of s self.old.nodes.items).kernel kernel).table mine call
-            × Happens s (Calls kernel p call mine) noted self.old.nodes.items self.new.nodes.items) }
+            × IsCallWith request.now.p ((world_of s self.old.nodes.items).kernel kernel).table mine request.now.call
+            × Happens s (Calls kernel request.now.p request.now.call mine) noted self.old.nodes.items self.new.nodes.items) }
     {
-        self.nodes[usize::from(kernel)].call(p, call)
+        self.nodes[usize::from(kernel)].ask(request)
+    }
+
+    /// Takes the first packet from one kernel to another, which is there. After want of memory no further call is made.
+    pub fn take_first(&mut self, from: u8, to: u8) -> Result<Noted, NoMemory>
+        requires { (s : ASetting) × (q : APicture) × AreNodes s self.old.nodes.items × (from < s.kernels) × (to < s.kernels)
+            × (slice_get ((world_of s self.old.nodes.items).packets from to) 0 ≡ Some q) }
+        ensures { IfOk result (λ noted. (s : ASetting) → AreNodes s self.old.nodes.items → Happens s (Takes to from) noted self.old.nodes.items self.new.nodes.items) }
+    {
+        let Some(mut packet) = self.nodes[usize::from(from)].pop(to) else {
+            unreachable!()
+        };
+        self.nodes[usize::from(to)].take(from, &mut packet)
     }
 
     /// Takes the first packet from one kernel to another, if it tells this; `None` exactly where there is none, the first tells
@@ -74,17 +87,27 @@ impl Nodes {
         requires { (s : ASetting) × AreNodes s self.old.nodes.items }
         ensures { IfOk result (λ noted. (s : ASetting) → AreNodes s self.old.nodes.items → TakesTold s from to what.now noted self.old.nodes.items self.new.nodes.items) }
     {
-        if usize::from(from) >= self.nodes.len() || usize::from(to) >= self.nodes.len() {
+        if usize::from(to) >= self.nodes.len() {
             return Ok(None);
         }
-        let Some(packet) = self.nodes[usize::from(from)].pop(to) else {
+        let Some(packet) = self.first(from, to) else {
             return Ok(None);
         };
         if !is_told(&packet.what, what) {
             return Ok(None);
         }
-        let noted = self.nodes[usize::from(to)].take(from, packet)?;
+        let noted = self.take_first(from, to)?;
         Ok(Some(noted))
+    }
+
+    /// Gives the list of the steps of an event that is over back to a kernel, which empties it: its next event takes the room. A
+    /// kernel that is not there lets it go.
+    pub fn reuse(&mut self, kernel: u8, steps: Vec<ServiceStep>)
+        ensures { (s : ASetting) → AreNodes s self.old.nodes.items → AreNodes s self.new.nodes.items × (world_of s self.new.nodes.items ≡ world_of s self.old.nodes.items) }
+    {
+        if usize::from(kernel) < self.nodes.len() {
+            self.nodes[usize::from(kernel)].reuse(steps);
+        }
     }
 
     /// The kernel of a number; `None` exactly where it is not there.

@@ -1,7 +1,6 @@
 //! Calls, their answers and causes, and service steps.
 
-use crate::holding::holds;
-use crate::samples::{end, same_text, some_bytes, two_ends};
+use crate::samples::{end, holds, same_text, some_bytes, two_ends};
 use charlotte_calls::{Answer, Call, Cause, Outcome, Pid, Report, ServiceStep, Side, Way};
 use std::alloc::Global;
 use std::test::Fail;
@@ -24,24 +23,34 @@ fn report() -> Result<Report, Fail> {
     })
 }
 
-/// Each call with the numbers of its causes, and whether it can be answered Ok, Made and Reported.
-fn calls() -> Result<[(Call, &'static [u8], [bool; 3]); 8], Fail> {
-    let (on, way) = (end(3, Side::A), Way::Inward);
-    let bytes = some_bytes()?;
-    Ok([
-        (Call::Make, &[9], [false, true, false]),
-        (Call::Destroy { on }, &[1], [true, false, false]),
-        (send()?, &[1, 2, 3, 4, 5, 6, 10], [true, false, false]),
-        (Call::Receive { on }, &[1, 2, 3], [true, false, false]),
-        (
-            Call::Cancel { on, way },
-            &[1, 3, 7, 8],
-            [true, false, false],
-        ),
-        (Call::Wait, &[8], [false, false, true]),
-        (Call::Print { bytes }, &[], [true, false, false]),
-        (Call::Exit, &[], [true, false, false]),
-    ])
+/// The numbers of a call's causes, and whether it can be answered Ok, Made and Reported. The rows are in the order of `call`.
+const FITS: [(&[u8], [bool; 3]); 8] = [
+    (&[9], [false, true, false]),
+    (&[1], [true, false, false]),
+    (&[1, 2, 3, 4, 5, 6, 10], [true, false, false]),
+    (&[1, 2, 3], [true, false, false]),
+    (&[1, 3, 7, 8], [true, false, false]),
+    (&[8], [false, false, true]),
+    (&[], [true, false, false]),
+    (&[], [true, false, false]),
+];
+
+/// The call of a row.
+fn call(row: usize) -> Result<Call, Fail> {
+    let on = end(3, Side::A);
+    let way = Way::Inward;
+    match row {
+        0 => Ok(Call::Make),
+        1 => Ok(Call::Destroy { on }),
+        2 => send(),
+        3 => Ok(Call::Receive { on }),
+        4 => Ok(Call::Cancel { on, way }),
+        5 => Ok(Call::Wait),
+        6 => Ok(Call::Print {
+            bytes: some_bytes()?,
+        }),
+        _ => Ok(Call::Exit),
+    }
 }
 
 /// The causes in the order of their numbers.
@@ -58,87 +67,114 @@ const CAUSES: [Cause; 10] = [
     Cause::EncloseTwice,
 ];
 
-/// Each call fits its own causes and answers, and no other.
-fn calls_fit(alloc: Global) -> Result<(), Fail> {
+/// Which of Ok, Made and Reported can answer a call.
+fn answers_of(call: &Call) -> Result<[bool; 3], Fail> {
     let made = Answer::Made(end(3, Side::A), end(3, Side::B));
     let reported = Answer::Reported(report()?);
-    for (cause, number) in CAUSES.iter().zip(1..=10) {
-        holds(cause.number() == number, "the number of a cause")?;
-    }
-    for (call, causes, fits) in &calls()? {
-        holds(same_text(alloc, &call.copy(), call)?, "the copy of a call")?;
-        let answered = [
-            call.fits(&Answer::Ok),
-            call.fits(&made),
-            call.fits(&reported),
-        ];
-        holds(answered == *fits, "the answers to a call")?;
-        for cause in CAUSES {
-            let refused = call.fits(&Answer::Refused(cause));
-            holds(
-                refused == causes.contains(&cause.number()),
-                "the causes of a call",
-            )?;
-        }
+    Ok([
+        call.fits(&Answer::Ok),
+        call.fits(&made),
+        call.fits(&reported),
+    ])
+}
+
+/// These are the numbers of a call's causes, and no other.
+fn has_causes(call: &Call, numbers: &[u8]) -> Result<(), Fail> {
+    for cause in CAUSES {
+        let refused = call.fits(&Answer::Refused(cause));
+        holds(
+            refused == numbers.contains(&cause.number()),
+            "the causes of a call",
+        )?;
     }
     Ok(())
 }
 
-fn steps() -> Result<[ServiceStep; 16], Fail> {
+/// The call of a row fits its own causes and answers, and no other.
+fn fits(alloc: Global, row: usize, (causes, answers): (&[u8], [bool; 3])) -> Result<(), Fail> {
+    let call = call(row)?;
+    holds(same_text(alloc, &call.copy(), &call)?, "the copy of a call")?;
+    holds(answers_of(&call)? == answers, "the answers to a call")?;
+    has_causes(&call, causes)
+}
+
+#[test]
+fn calls_fit_their_answers(rt: HostRuntime) -> Result<(), Fail> {
+    for (cause, number) in CAUSES.iter().zip(1..=10) {
+        holds(cause.number() == number, "the number of a cause")?;
+    }
+    for (row, want) in FITS.iter().enumerate() {
+        fits(rt.alloc(), row, *want)?;
+    }
+    Ok(())
+}
+
+/// A step of each kind.
+fn step(number: u8) -> Result<ServiceStep, Fail> {
     let (p, n, dead, late, way) = (Pid(1), 2, true, true, Way::Inward);
     let (on, a, b) = (end(5, Side::B), end(6, Side::A), end(6, Side::B));
-    Ok([
-        ServiceStep::Make { p, a, b },
-        ServiceStep::Refuse {
+    Ok(match number {
+        0 => ServiceStep::Make { p, a, b },
+        1 => ServiceStep::Refuse {
             p,
             call: send()?,
             cause: Cause::Busy,
         },
-        ServiceStep::Destroy { on },
-        ServiceStep::Send {
+        2 => ServiceStep::Destroy { on },
+        3 => ServiceStep::Send {
             on,
             n,
             bytes: some_bytes()?,
             enclose: two_ends()?,
         },
-        ServiceStep::Receive { on },
-        ServiceStep::Cancel { on, way },
-        ServiceStep::Wait { p },
-        ServiceStep::Report {
+        4 => ServiceStep::Receive { on },
+        5 => ServiceStep::Cancel { on, way },
+        6 => ServiceStep::Wait { p },
+        7 => ServiceStep::Report {
             p,
             report: report()?,
         },
-        ServiceStep::Exit { p },
-        ServiceStep::Match { on, n },
-        ServiceStep::Take { on, n, p, late },
-        ServiceStep::Complete { on, n },
-        ServiceStep::Withdraw { on },
-        ServiceStep::Free { on },
-        ServiceStep::Notice { on, dead },
-        ServiceStep::Back { on, n, dead },
-    ])
+        8 => ServiceStep::Exit { p },
+        9 => ServiceStep::Match { on, n },
+        10 => ServiceStep::Take { on, n, p, late },
+        11 => ServiceStep::Complete { on, n },
+        12 => ServiceStep::Withdraw { on },
+        13 => ServiceStep::Free { on },
+        14 => ServiceStep::Notice { on, dead },
+        _ => ServiceStep::Back { on, n, dead },
+    })
+}
+
+/// An answer of each kind.
+fn answer(number: u8) -> Result<Answer, Fail> {
+    Ok(match number {
+        0 => Answer::Ok,
+        1 => Answer::Made(end(1, Side::A), end(1, Side::B)),
+        2 => Answer::Reported(report()?),
+        _ => Answer::Refused(Cause::EncloseSame),
+    })
+}
+
+fn step_is_copied(alloc: Global, number: u8) -> Result<(), Fail> {
+    let step = step(number)?;
+    holds(same_text(alloc, &step.copy(), &step)?, "the copy of a step")
+}
+
+fn answer_is_copied(alloc: Global, number: u8) -> Result<(), Fail> {
+    let answer = answer(number)?;
+    holds(
+        same_text(alloc, &answer.copy(), &answer)?,
+        "the copy of an answer",
+    )
 }
 
 #[test]
-fn calls_answers_and_steps(rt: HostRuntime) -> Result<(), Fail> {
-    calls_fit(rt.alloc())?;
-    for step in steps()? {
-        holds(
-            same_text(rt.alloc(), &step.copy(), &step)?,
-            "the copy of a step",
-        )?;
+fn steps_and_answers_are_copied(rt: HostRuntime) -> Result<(), Fail> {
+    for number in 0..16 {
+        step_is_copied(rt.alloc(), number)?;
     }
-    for answer in [
-        Answer::Ok,
-        Answer::Made(end(1, Side::A), end(1, Side::B)),
-        Answer::Reported(report()?),
-        Answer::Refused(Cause::EncloseSame),
-    ] {
-        let copied = answer.copy();
-        holds(
-            same_text(rt.alloc(), &copied, &answer)?,
-            "the copy of an answer",
-        )?;
+    for number in 0..4 {
+        answer_is_copied(rt.alloc(), number)?;
     }
     Ok(())
 }

@@ -1,12 +1,9 @@
-//! One kernel through its public calls, and packets that no kernel sends. What scripts can say stands in .ci/rows/runs.
+//! One kernel through its public calls, and packets that no kernel sends. The rows of .ci/rows/runs show what the packets and the steps
+//! say, as one_message_on_one_kernel, which begins as these do.
 
-use crate::holding::holds;
 use crate::node::Node;
-use charlotte_calls::{
-    Answer, Bytes, Call, CargoPicture, Cause, EndId, Ends, LinkId, Outcome, Packet, PictureWhat,
-    Pid, Report, ServiceStep, Side, Way, What,
-};
-use end_table::Entry;
+use crate::samples::holds;
+use charlotte_calls::{Bytes, Call, EndId, Ends, LinkId, Packet, Pid, Side, Way, What};
 use std::test::Fail;
 
 const P0: Pid = Pid(0);
@@ -26,220 +23,160 @@ const B: EndId = EndId {
     side: Side::B,
 };
 
-fn text(bytes: &[u8]) -> Result<Bytes, Fail> {
-    Ok(Bytes::from_slice(bytes).ok_or("bytes")?)
+/// An end that is not there.
+const NOWHERE: EndId = EndId {
+    link: LinkId { maker: 0, count: 9 },
+    side: Side::B,
+};
+
+/// What happens to the kernel: a process asks, it takes its oldest packet, or one that no kernel sent.
+#[derive(Clone, Copy)]
+enum Act {
+    Make,
+    Destroy(EndId),
+    Send,
+    Receive,
+    Cancel(EndId, Way),
+    Wait,
+    Print,
+    Exit,
+    Take,
+    /// A want of the receive 3 for this end, from this kernel, with this stamp.
+    Stray(u64, EndId, u8),
 }
 
-fn no_ends() -> Result<Ends, Fail> {
-    Ok(Ends::from_slice(&[]).ok_or("ends")?)
-}
+/// By which process, and what is told of the event.
+type Row = (Act, Pid, &'static str);
 
-/// Process 1 waits for a message, and process 0 sends it: the want is matched, and the parcel with it is sent.
-fn a_message_is_sent(node: &mut Node) -> Result<(), Fail> {
-    let (on, w, n, at, hops) = (B, 1, 1, 0, 0);
-    let want = PictureWhat::Want { to: A, w, at, hops };
-    let receive = node.call(P1, Call::Receive { on })?;
-    receive.gives(1, &[P1], &[want], &[ServiceStep::Receive { on }])?;
-    let wait = node.call(P1, Call::Wait)?;
-    wait.gives(2, &[], &[], &[ServiceStep::Wait { p: P1 }])?;
-    holds(node.phase(P1)? == (false, true), "whether a process waits")?;
-    node.answers(P1, None)?;
-    let send = node.call(
-        P0,
-        Call::Send {
-            on: A,
-            bytes: text(b"hello")?,
-            enclose: no_ends()?,
-        },
-    )?;
-    let step = ServiceStep::Send {
-        on: A,
-        n,
-        bytes: text(b"hello")?,
-        enclose: no_ends()?,
-    };
-    send.gives(3, &[P0], &[], &[step])?;
-    let parcel = PictureWhat::Parcel {
-        to: B,
-        n,
-        w,
-        at,
-        hops,
-        bytes: text(b"hello")?,
-        moving: CargoPicture::from_slice(&[]).ok_or("values")?,
-    };
-    let matched = node.take()?;
-    matched.gives(4, &[], &[parcel], &[ServiceStep::Match { on: A, n }])
-}
+/// Process 1 waits for a message, and process 0 sends it.
+const A_MESSAGE: &[Row] = &[
+    (Act::Receive, P1, "1 rr p1 Ok >Want .Receive"),
+    (Act::Wait, P1, "2 rw .Wait"),
+    (Act::Send, P0, "3 rw p0 Ok .Send"),
+    (Act::Take, P0, "4 rw >Parcel .Match"),
+    (Act::Take, P1, "5 rr p1 Inward Done >Taken .Take .Report"),
+    (Act::Take, P0, "6 rr .Complete"),
+];
 
-/// The parcel is taken, which answers the Wait.
-fn a_message_is_taken(node: &mut Node) -> Result<(), Fail> {
-    let (on, n, at, hops) = (A, 1, 0, 0);
-    let report = Report {
-        on: B,
-        way: Way::Inward,
-        outcome: Outcome::Done,
-        bytes: text(b"hello")?,
-        enclosed: no_ends()?,
-    };
-    let take = ServiceStep::Take {
-        on,
-        n,
-        p: P1,
-        late: false,
-    };
-    let told = ServiceStep::Report {
-        p: P1,
-        report: report.copy(),
-    };
-    let taken = PictureWhat::Taken {
-        to: on,
-        n,
-        at,
-        hops,
-    };
-    node.take()?.gives(5, &[P1], &[taken], &[take, told])?;
-    holds(node.phase(P1)? == (true, false), "whether a process waits")?;
-    node.answers(P1, Some(Answer::Reported(report)))?;
-    node.take()?
-        .gives(6, &[], &[], &[ServiceStep::Complete { on, n }])
-}
+/// A packet for an end that is not there, and one that names a kernel that is not there, change nothing but the stamp.
+const STRAYS: &[Row] = &[
+    (Act::Stray(41, NOWHERE, 0), P0, "42 rr"),
+    (Act::Stray(7, A, 1), P0, "43 rr"),
+];
 
-/// The call of a process is answered so at once.
-fn is_answered(node: &mut Node, p: Pid, call: Call, want: Answer) -> Result<(), Fail> {
-    node.call(p, call)?;
-    node.answers(p, Some(want))
-}
+/// A link is made, and an end is destroyed.
+const ENDS: &[Row] = &[
+    (Act::Stray(7, A, 0), P0, "44 rr"),
+    (Act::Make, P0, "45 rr p0 Made 1 .Make"),
+    (Act::Destroy(A), P0, "46 rr p0 Ok >Gone .Destroy"),
+    (Act::Destroy(A), P0, "47 rr p0 Refused(NoEnd) .Refuse"),
+];
 
-/// A Cancel by process 1 of its receive waits.
-fn a_cancel_waits(node: &mut Node) -> Result<(), Fail> {
-    let (on, way) = (B, Way::Inward);
-    node.call(P1, Call::Cancel { on, way })?;
-    holds(node.phase(P1)? == (false, true), "whether a process waits")?;
-    node.answers(P1, None)
+/// The answers that stand after the calls, behind a message that was taken.
+const ANSWERS: &[Row] = &[
+    (Act::Wait, P0, "7 rr p0 Outward Done .Wait .Report"),
+    (Act::Wait, P0, "8 rr p0 Refused(NoActivity) .Refuse"),
+    (Act::Print, P0, "9 rr p0 Ok"),
+    (Act::Send, P0, "10 rr p0 Ok .Send"),
+    (Act::Send, P0, "11 rr p0 Refused(Busy) .Refuse"),
+    (Act::Cancel(A, Way::Outward), P0, "12 rr p0 Ok .Cancel"),
+];
+
+/// A Cancel is answered when the opposite end has heard it, when a message was faster, and when the link died.
+const CANCELS: &[Row] = &[
+    (Act::Receive, P1, "13 rr p1 Ok >Want .Receive"),
+    (Act::Cancel(B, Way::Inward), P1, "14 rw >Unwant .Cancel"),
+    (Act::Take, P0, "15 rw"),
+    (Act::Take, P0, "16 rw >Unwanted .Withdraw"),
+    (Act::Take, P1, "17 rr p1 Ok .Free"),
+    (Act::Receive, P1, "18 rr p1 Ok >Want .Receive"),
+    (Act::Send, P0, "19 rr p0 Ok .Send"),
+    (Act::Take, P0, "20 rr >Parcel .Match"),
+    (Act::Cancel(B, Way::Inward), P1, "21 rw >Unwant .Cancel"),
+    (Act::Take, P1, "22 rr p1 Refused(Late) >Taken .Take"),
+    (Act::Take, P0, "23 rr"),
+    (Act::Take, P0, "24 rr .Complete"),
+    (Act::Wait, P1, "25 rr p1 Inward Done .Wait .Report"),
+    (Act::Receive, P1, "26 rr p1 Ok >Want .Receive"),
+    (Act::Cancel(B, Way::Inward), P1, "27 rw >Unwant .Cancel"),
+    (Act::Destroy(A), P0, "28 rw p0 Ok >Gone .Destroy"),
+    (Act::Take, P0, "29 rw"),
+    (Act::Take, P0, "30 rw"),
+    (Act::Take, P1, "31 rr p1 Refused(Dead) >GoneSeen .Notice"),
+    (Act::Exit, P0, "32 er p0 Ok .Exit"),
+];
+
+fn hello() -> Result<Bytes, Fail> {
+    Ok(Bytes::from_slice(b"hello").ok_or("bytes")?)
 }
 
 fn send() -> Result<Call, Fail> {
     Ok(Call::Send {
         on: A,
-        bytes: text(b"hello")?,
-        enclose: no_ends()?,
+        bytes: hello()?,
+        enclose: Ends::from_slice(&[]).ok_or("ends")?,
     })
 }
 
-/// The report Done of an activity.
-fn done(on: EndId, way: Way, bytes: &[u8]) -> Result<Answer, Fail> {
-    Ok(Answer::Reported(Report {
-        on,
-        way,
-        outcome: Outcome::Done,
-        bytes: text(bytes)?,
-        enclosed: no_ends()?,
-    }))
-}
-
-/// A Cancel is answered when the opposite end has heard it, when a message was faster, and when the link died.
-fn cancels_are_answered(node: &mut Node) -> Result<(), Fail> {
-    is_answered(node, P1, Call::Receive { on: B }, Answer::Ok)?;
-    a_cancel_waits(node)?;
-    // want, unwant, unwanted
-    node.take()?;
-    node.take()?;
-    node.take()?;
-    node.answers(P1, Some(Answer::Ok))?;
-    is_answered(node, P1, Call::Receive { on: B }, Answer::Ok)?;
-    is_answered(node, P0, send()?, Answer::Ok)?;
-    // want
-    node.take()?;
-    a_cancel_waits(node)?;
-    // parcel
-    node.take()?;
-    node.answers(P1, Some(Answer::Refused(Cause::Late)))?;
-    // unwant, taken
-    node.take()?;
-    node.take()?;
-    let received = done(B, Way::Inward, b"hello")?;
-    is_answered(node, P1, Call::Wait, received)?;
-    is_answered(node, P1, Call::Receive { on: B }, Answer::Ok)?;
-    a_cancel_waits(node)?;
-    is_answered(node, P0, Call::Destroy { on: A }, Answer::Ok)?;
-    // want, unwant, gone
-    node.take()?;
-    node.take()?;
-    node.take()?;
-    node.answers(P1, Some(Answer::Refused(Cause::Dead)))
-}
-
-/// The answers that stand after the calls of the processes, behind a message that was taken.
-fn calls_are_answered(node: &mut Node) -> Result<(), Fail> {
-    let sent = done(A, Way::Outward, b"")?;
-    is_answered(node, P0, Call::Wait, sent)?;
-    is_answered(node, P0, Call::Wait, Answer::Refused(Cause::NoActivity))?;
-    let bytes = text(b"hi")?;
-    is_answered(node, P0, Call::Print { bytes }, Answer::Ok)?;
-    is_answered(node, P0, send()?, Answer::Ok)?;
-    is_answered(node, P0, send()?, Answer::Refused(Cause::Busy))?;
-    let (on, way) = (A, Way::Outward);
-    is_answered(node, P0, Call::Cancel { on, way }, Answer::Ok)?;
-    cancels_are_answered(node)?;
-    is_answered(node, P0, Call::Exit, Answer::Ok)?;
-    holds(node.phase(P0)? == (false, false), "whether a process runs")
-}
-
-/// A packet that no kernel sent: the receive 3 asks an end, from a kernel.
-fn stray(stamp: u64, to: EndId, at: u8) -> Packet {
-    let (w, hops) = (3, 0);
-    Packet {
-        stamp,
-        what: What::Want { to, w, at, hops },
+/// The call of an act that is one.
+fn call_of(act: Act) -> Result<Call, Fail> {
+    match act {
+        Act::Make => Ok(Call::Make),
+        Act::Destroy(on) => Ok(Call::Destroy { on }),
+        Act::Send => send(),
+        Act::Receive => Ok(Call::Receive { on: B }),
+        Act::Cancel(on, way) => Ok(Call::Cancel { on, way }),
+        Act::Wait => Ok(Call::Wait),
+        Act::Print => Ok(Call::Print { bytes: hello()? }),
+        Act::Exit => Ok(Call::Exit),
+        Act::Take | Act::Stray(..) => Err("no call".into()),
     }
 }
 
-/// The number of the receive that asks end a.
-fn wanted(node: &Node) -> Option<u32> {
-    match node.look(A) {
-        Entry::Here(view) => Some(view.value.want),
-        _ => None,
+fn happens(node: &mut Node, act: Act, p: Pid) -> Result<String, Fail> {
+    match act {
+        Act::Take => node.take(),
+        Act::Stray(stamp, to, at) => {
+            let (w, hops) = (3, 0);
+            let what = What::Want { to, w, at, hops };
+            node.take_this(Packet { stamp, what })
+        }
+        _ => node.call(p, call_of(act)?),
     }
 }
 
-/// A packet for an end that is not there, and one that names a kernel that is not there, change nothing but the stamp.
-fn strays_are_dropped(node: &mut Node) -> Result<(), Fail> {
-    let mut nowhere = B;
-    nowhere.link.count = 9;
-    node.take_this(stray(41, nowhere, 0))?
-        .gives(42, &[], &[], &[])?;
-    holds(
-        matches!(node.look(nowhere), Entry::Nothing),
-        "an end that is nowhere",
-    )?;
-    node.take_this(stray(7, A, 1))?.gives(43, &[], &[], &[])?;
-    holds(wanted(node) == Some(0), "the receive that is wanted")?;
-    node.take_this(stray(7, A, 0))?.gives(44, &[], &[], &[])?;
-    holds(wanted(node) == Some(3), "the receive that is wanted")?;
+fn gives(node: &mut Node, (act, p, want): Row) -> Result<(), Fail> {
+    let text = happens(node, act, p)?;
+    holds(text.as_str() == want, want)
+}
+
+fn each_gives(node: &mut Node, rows: &[Row]) -> Result<(), Fail> {
+    for row in rows {
+        gives(node, *row)?;
+    }
     Ok(())
 }
 
 #[test]
-fn a_kernel_does_calls_and_takes_packets(rt: HostRuntime) -> Result<(), Fail> {
+fn strays_are_dropped(rt: HostRuntime) -> Result<(), Fail> {
     let mut node = Node::start(rt.alloc())?;
-    a_message_is_sent(&mut node)?;
-    a_message_is_taken(&mut node)?;
-    strays_are_dropped(&mut node)?;
-    node.call(P0, Call::Make)?;
-    let mut made = A;
-    made.link.count = 1;
-    node.answers(P0, Some(Answer::Made(made, made.opposite())))?;
-    node.call(P0, Call::Destroy { on: A })?;
-    node.answers(P0, Some(Answer::Ok))?;
+    each_gives(&mut node, A_MESSAGE)?;
+    each_gives(&mut node, STRAYS)?;
+    holds(node.wanted(A) == Some(0), "the receive that is wanted")?;
+    each_gives(&mut node, &ENDS[..1])?;
+    holds(node.wanted(A) == Some(3), "the receive that is wanted")?;
+    each_gives(&mut node, &ENDS[1..])?;
     holds(
-        matches!(node.look(A), Entry::Destroyed(_)),
-        "a destroyed end",
-    )?;
-    node.call(P0, Call::Destroy { on: A })?;
-    node.answers(P0, Some(Answer::Refused(Cause::NoEnd)))?;
-    let mut other = Node::start(rt.alloc())?;
-    a_message_is_sent(&mut other)?;
-    a_message_is_taken(&mut other)?;
-    calls_are_answered(&mut other)
+        (node.wanted(NOWHERE), node.wanted(A)) == (None, None),
+        "ends that are not here",
+    )
+}
+
+#[test]
+fn calls_are_answered(rt: HostRuntime) -> Result<(), Fail> {
+    let mut node = Node::start(rt.alloc())?;
+    for rows in [A_MESSAGE, ANSWERS, CANCELS] {
+        each_gives(&mut node, rows)?;
+    }
+    Ok(())
 }

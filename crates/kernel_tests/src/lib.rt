@@ -4,8 +4,6 @@
 #[cfg(test)]
 mod calls;
 #[cfg(test)]
-mod holding;
-#[cfg(test)]
 mod kernel;
 #[cfg(test)]
 mod node;

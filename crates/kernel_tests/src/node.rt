@@ -1,15 +1,13 @@
-//! Kernel 0 with two processes, one wire and the packets that it sends to itself, and what an event of it gave.
-ghost use Rattle.std.specs.Prelude.{◌≡◌, length};
+//! Kernel 0 with two processes, one wire and the packets that it sends to itself, and what is told of an event.
+ghost use Rattle.std.specs.Prelude.{◌≡◌, ◌<◌, length, IfOk};
+ghost use Rattle.charlotte_calls.specs.Setting.{IsValid};
 
-use crate::holding::holds;
-use crate::samples::same_text;
-use charlotte_calls::{
-    Answer, Call, Effect, EndId, Items, Packet, PictureWhat, Pid, ServiceStep, Setting,
-};
-use end_table::Entry;
+use charlotte_calls::{Answer, Call, Effect, EndId, Items, Packet, Pid, ServiceStep, Setting};
+use end_table::{Lent, Table};
 use kernel_core::{Kernel, NotTaken};
-use std::alloc::Global;
+use std::alloc::{AllocError, Global};
 use std::collections::VecDeque;
+use std::fmt::{Debug, Write};
 use std::test::Fail;
 
 /// The kernel, and the packets that it has not taken, oldest first.
@@ -21,138 +19,166 @@ pub(crate) struct Node {
     ghost counted: { 2 ≡ length kernel.processes },
 }
 
+/// One kernel with two processes and a wire between them.
+fn setting(alloc: Global) -> Result<Setting, Fail>
+    ensures valid { IfOk result (λ s. IsValid s) }
+    ensures there { IfOk result (λ s. 0 < s.kernels) }
+    ensures two { IfOk result (λ s. length s.homes ≡ 2) }
+{
+    let homes = vec![in alloc; 0, 0]?;
+    let wires = vec![in alloc; (Pid(0), Pid(1))]?;
+    let setting = Setting {
+        version: 1,
+        kernels: 1,
+        homes: Items::of(homes),
+        wires: Items::of(wires),
+    };
+    if setting.valid() && setting.homes.len() == 2 {
+        Ok(setting)
+    } else {
+        Err("a bad setting".into())
+    }
+}
+
 impl Node {
     pub(crate) fn start(alloc: Global) -> Result<Node, Fail> {
-        let setting = Setting {
-            version: 1,
-            kernels: 1,
-            homes: Items::of(vec![in alloc; 0, 0]?),
-            wires: Items::of(vec![in alloc; (Pid(0), Pid(1))]?),
-        };
-        if !setting.valid() || setting.homes.len() != 2 {
-            return Err("a bad setting".into());
-        }
+        let setting = setting(alloc)?;
+        let kernel = Kernel::start(alloc, 0, &setting)?;
+        let flying = VecDeque::new(alloc);
         Ok(Node {
             alloc,
-            kernel: Kernel::start(alloc, 0, &setting)?,
-            flying: VecDeque::new(alloc),
+            kernel,
+            flying,
         })
     }
 
-    /// A call event first takes the standing answer of the process away.
-    pub(crate) fn call(&mut self, p: Pid, call: Call) -> Result<Event, Fail> {
+    /// A process asks. What is told of this event.
+    pub(crate) fn call(&mut self, p: Pid, call: Call) -> Result<String, Fail> {
         if p.0 >= 2 {
             return Err("no such process".into());
         }
-        let _answer = self.kernel.answer(p);
+        self.kernel.forget_answer(p);
         if !self.kernel.running(p) {
             return Err("the process does not run".into());
         }
         let effect = self.kernel.call(p, call)?;
-        self.send(effect)
+        self.tell(effect)
     }
 
     /// The kernel takes its oldest packet.
-    pub(crate) fn take(&mut self) -> Result<Event, Fail> {
+    pub(crate) fn take(&mut self) -> Result<String, Fail> {
         let packet = self.flying.pop_front().ok_or("no packet flies")?;
         self.take_this(packet)
     }
 
     /// The kernel takes a packet that no kernel sent.
-    pub(crate) fn take_this(&mut self, packet: Packet) -> Result<Event, Fail> {
+    pub(crate) fn take_this(&mut self, packet: Packet) -> Result<String, Fail> {
         match self.kernel.take(0, packet) {
-            Ok(effect) => self.send(effect),
+            Ok(effect) => self.tell(effect),
             Err(NotTaken { packet: _ }) => Err("no memory".into()),
         }
     }
 
-    /// The packets of an event fly, and all carry its stamp, which is the kernel's.
-    fn send(&mut self, effect: Effect) -> Result<Event, Fail> {
-        let Effect {
-            stamp,
-            packets,
-            answered,
-            steps,
-        } = effect;
-        let mut sent = Vec::new(self.alloc);
+    /// What is told of an event: its stamp, which phase each process is in, the answers, the packets, and the steps.
+    fn tell(&mut self, effect: Effect) -> Result<String, Fail> {
+        let same = self.kernel.stamp() == effect.stamp;
+        let (first, second) = (self.phase(Pid(0)), self.phase(Pid(1)));
+        let mut text = format!(in self.alloc; "{} {first}{second}", effect.stamp)?;
+        self.push_answers(&mut text, effect.answered.as_slice())?;
+        self.send(&mut text, effect.packets, effect.stamp)?;
+        push_steps(self.alloc, &mut text, effect.steps.as_slice())?;
+        if same {
+            Ok(text)
+        } else {
+            Err("a kernel with another stamp".into())
+        }
+    }
+
+    /// Runs, waits, or has ended.
+    fn phase(&self, p: Pid) -> char {
+        if p.0 >= 2 {
+            return '-';
+        }
+        if self.kernel.waiting(p) {
+            'w'
+        } else if self.kernel.running(p) {
+            'r'
+        } else {
+            'e'
+        }
+    }
+
+    /// Takes the standing answers of these processes, and adds them.
+    fn push_answers(&mut self, text: &mut String, answered: &[Pid]) -> Result<(), Fail> {
+        for p in answered {
+            if p.0 < 2 {
+                push_answer(text, p.0, self.kernel.answer(*p))?;
+            }
+        }
+        Ok(())
+    }
+
+    /// The packets of an event fly, and their kinds are added.
+    fn send(
+        &mut self,
+        text: &mut String,
+        packets: Vec<(u8, Packet)>,
+        stamp: u64,
+    ) -> Result<(), Fail> {
         for (to, packet) in packets {
             if packet.stamp != stamp || to != 0 {
                 return Err("a packet with another stamp, or to another kernel".into());
             }
-            sent.push(packet.picture().what)?;
+            push_kind(self.alloc, text, " >", &packet.picture().what)?;
             self.flying.push_back(packet)?;
         }
-        if self.kernel.stamp() != stamp {
-            return Err("a kernel with another stamp".into());
-        }
-        Ok(Event {
-            alloc: self.alloc,
-            stamp,
-            answered,
-            packets: sent,
-            steps,
-        })
-    }
-
-    /// Takes the standing answer of a process, which is this.
-    pub(crate) fn answers(&mut self, p: Pid, want: Option<Answer>) -> Result<(), Fail> {
-        if p.0 >= 2 {
-            return Err("no such process".into());
-        }
-        let answer = self.kernel.answer(p);
-        holds(
-            same_text(self.alloc, &answer, &want)?,
-            "the standing answer",
-        )?;
         Ok(())
     }
 
-    /// Whether a process runs, and whether it is in a Wait or a Cancel that is not answered.
-    pub(crate) fn phase(&self, p: Pid) -> Result<(bool, bool), Fail> {
-        if p.0 >= 2 {
-            return Err("no such process".into());
-        }
-        Ok((self.kernel.running(p), self.kernel.waiting(p)))
+    /// The receive that asks an end that is here.
+    pub(crate) fn wanted(&self, end: EndId) -> Option<u32> {
+        wanted(self.table(), end)
     }
 
-    /// What the kernel keeps of an end.
-    pub(crate) fn look(&self, end: EndId) -> Entry {
-        self.kernel.table().look(end)
+    fn table(&self) -> &Table {
+        self.kernel.table()
     }
 }
 
-/// What an event gave, with the packets as plain data.
-#[derive(Drop)]
-pub(crate) struct Event {
+fn wanted(table: &Table, end: EndId) -> Option<u32> {
+    match table.lend(end) {
+        Lent::Here(living) => Some(living.value().want),
+        _ => None,
+    }
+}
+
+/// As ` p1 Ok`; of a report its way and its outcome, and of a link that was made its number.
+fn push_answer(text: &mut String, p: u16, answer: Option<Answer>) -> Result<(), AllocError> {
+    match answer {
+        None => write!(text, " p{p} none"),
+        Some(Answer::Made(a, _)) => write!(text, " p{p} Made {}", a.link.count),
+        Some(Answer::Reported(report)) => {
+            write!(text, " p{p} {:?} {:?}", report.way, report.outcome)
+        }
+        Some(answer) => write!(text, " p{p} {answer:?}"),
+    }
+}
+
+fn push_steps(alloc: Global, text: &mut String, steps: &[ServiceStep]) -> Result<(), AllocError> {
+    for step in steps {
+        push_kind(alloc, text, " .", step)?;
+    }
+    Ok(())
+}
+
+/// Adds the name of a variant, behind a sign.
+fn push_kind<A: Debug>(
     alloc: Global,
-    stamp: u64,
-    answered: Vec<Pid>,
-    packets: Vec<PictureWhat>,
-    steps: Vec<ServiceStep>,
-}
-
-impl Event {
-    /// It had this stamp, answered these processes, sent these packets and meant these steps.
-    pub(crate) fn gives(
-        &self,
-        stamp: u64,
-        answered: &[Pid],
-        packets: &[PictureWhat],
-        steps: &[ServiceStep],
-    ) -> Result<(), Fail> {
-        holds(self.stamp == stamp, "the stamp of an event")?;
-        holds(
-            self.answered.as_slice() == answered,
-            "the processes that an event answers",
-        )?;
-        holds(
-            same_text(self.alloc, &self.packets.as_slice(), &packets)?,
-            "the packets of an event",
-        )?;
-        holds(
-            same_text(self.alloc, &self.steps.as_slice(), &steps)?,
-            "the steps of an event",
-        )?;
-        Ok(())
-    }
+    text: &mut String,
+    sign: &str,
+    value: &A,
+) -> Result<(), AllocError> {
+    let whole = format!(in alloc; "{value:?}")?;
+    text.push_str(sign)?;
+    text.push_str(whole.split(' ').next().unwrap_or("?"))
 }

@@ -1,8 +1,10 @@
 //! Packets and their pictures.
 
-use crate::holding::holds;
-use crate::samples::{same_text, some_bytes};
-use charlotte_calls::{Cargo, EndId, LinkId, Moving, Packet, PictureWhat, Side, What};
+use crate::samples::{holds, same_text, some_bytes};
+use charlotte_calls::{
+    Cargo, EndId, LinkId, Moving, MovingPicture, Packet, PictureWhat, Side, What,
+};
+use std::alloc::Global;
 use std::test::Fail;
 
 const TO: EndId = EndId {
@@ -45,85 +47,103 @@ fn back(hint: u8, trail: u8) -> Packet {
     })
 }
 
-/// One packet of each kind that names this kernel, and then one of each kind that names none.
-fn packets(at: u8) -> Result<[Packet; 11], Fail> {
+/// A packet of each kind; those below 8 name this kernel, and the others name none.
+fn kind(number: u8, at: u8) -> Result<Packet, Fail> {
     let (to, w, n, hops) = (TO, 1, 2, 3);
-    Ok([
-        packet(What::Want { to, w, at, hops }),
-        packet(What::Unwant { to, w, at, hops }),
-        packet(What::Unwanted { to, w, at, hops }),
-        packet(What::Taken { to, n, at, hops }),
-        packet(What::Gone { to, at }),
-        packet(What::Moved { to, at, hops }),
-        parcel(at, 0, 0)?,
-        back(at, 0),
-        packet(What::Known { to, hops }),
-        packet(What::Forget { to, hops }),
-        packet(What::GoneSeen { to }),
-    ])
+    match number {
+        0 => Ok(packet(What::Want { to, w, at, hops })),
+        1 => Ok(packet(What::Unwant { to, w, at, hops })),
+        2 => Ok(packet(What::Unwanted { to, w, at, hops })),
+        3 => Ok(packet(What::Taken { to, n, at, hops })),
+        4 => Ok(packet(What::Gone { to, at })),
+        5 => Ok(packet(What::Moved { to, at, hops })),
+        6 => parcel(at, 0, 0),
+        7 => Ok(back(at, 0)),
+        8 => Ok(packet(What::Known { to, hops })),
+        9 => Ok(packet(What::Forget { to, hops })),
+        _ => Ok(packet(What::GoneSeen { to })),
+    }
 }
 
-/// A packet names kernels that are there: its own, and those of hints and trails.
+/// Whether a packet names kernels that are there: a kernel, how many there are, and whether it is among them.
+const OWN: [(u8, u8, bool); 4] = [(0, 1, true), (0, 0, false), (7, 8, true), (7, 7, false)];
+
+fn is_addressed(number: u8, (at, kernels, want): (u8, u8, bool)) -> Result<(), Fail> {
+    let addressed = kind(number, at)?.addressed(kernels);
+    holds(
+        addressed == want || number >= 8,
+        "whether a packet names kernels that are there",
+    )
+}
+
+/// The hint and the trail of a value, how many kernels there are, and whether it names only these.
+const CARRIED: [(u8, u8, u8, bool); 7] = [
+    (0, 0, 1, true),
+    (2, 0, 2, false),
+    (2, 0, 3, true),
+    (0, 4, 2, false),
+    (0, 4, 3, true),
+    (0, 128, 7, false),
+    (7, 255, 8, true),
+];
+
+fn carries_addressed((hint, trail, kernels, want): (u8, u8, u8, bool)) -> Result<(), Fail> {
+    let returned = back(hint, trail).addressed(kernels);
+    let sent = parcel(0, hint, trail)?.addressed(kernels);
+    holds(
+        (returned, sent) == (want, want),
+        "whether a message names kernels that are there",
+    )
+}
+
+#[test]
 fn packets_name_kernels() -> Result<(), Fail> {
-    for (at, kernels, want) in [(0, 1, true), (0, 0, false), (7, 8, true), (7, 7, false)] {
-        for (packet, named) in packets(at)?.iter().zip(0..11) {
-            let addressed = packet.addressed(kernels);
-            holds(
-                addressed == want || named >= 8,
-                "whether a packet names kernels that are there",
-            )?;
+    for row in OWN {
+        for number in 0..11 {
+            is_addressed(number, row)?;
         }
     }
-    for (hint, trail, kernels, want) in [
-        (0, 0, 1, true),
-        (2, 0, 2, false),
-        (2, 0, 3, true),
-        (0, 4, 2, false),
-        (0, 4, 3, true),
-        (0, 128, 7, false),
-        (7, 255, 8, true),
-    ] {
-        holds(
-            back(hint, trail).addressed(kernels) == want,
-            "whether a back names kernels that are there",
-        )?;
-        let addressed = parcel(0, hint, trail)?.addressed(kernels);
-        holds(
-            addressed == want,
-            "whether a packet names kernels that are there",
-        )?;
+    for row in CARRIED {
+        carries_addressed(row)?;
     }
     Ok(())
 }
 
+/// The values of a picture of a packet that carries some are those of `cargo`.
+fn carries_both(values: &[MovingPicture]) -> bool {
+    match values {
+        [first, second] => first.end == TO.opposite() && second.end == TO,
+        _ => false,
+    }
+}
+
 /// A packet without values and its picture are printed alike, since their fields have the same names.
+fn is_pictured(alloc: Global, packet: Packet) -> Result<bool, Fail> {
+    let picture = packet.picture();
+    if let PictureWhat::Parcel { moving, .. } | PictureWhat::Back { moving, .. } = &picture.what {
+        return Ok(carries_both(moving.as_slice()));
+    }
+    let (stamp, what) = packet.open();
+    let again = Packet { stamp, what };
+    let same = same_text(alloc, &picture.what, &again.what)?;
+    Ok(same && (stamp, picture.stamp) == (9, 9))
+}
+
+fn picture_is_copied(alloc: Global, number: u8) -> Result<bool, Fail> {
+    let picture = kind(number, 4)?.picture();
+    same_text(alloc, &picture.copy(), &picture)
+}
+
 #[test]
 fn a_picture_has_the_fields_of_its_packet(rt: HostRuntime) -> Result<(), Fail> {
-    packets_name_kernels()?;
-    for packet in packets(4)? {
-        let picture = packet.picture();
-        let copied = picture.copy();
+    for number in 0..11 {
         holds(
-            same_text(rt.alloc(), &copied, &picture)?,
-            "the copy of a picture",
-        )?;
-        if let PictureWhat::Parcel { moving, .. }
-        | PictureWhat::Back { moving, .. } = &picture.what
-        {
-            let values = moving.as_slice();
-            holds(values.len() == 2, "how many values a picture has")?;
-            holds(
-                (values[0].end, values[1].end) == (TO.opposite(), TO),
-                "the order of values",
-            )?;
-            continue;
-        }
-        let (stamp, what) = packet.open();
-        let again = Packet { stamp, what };
-        holds((stamp, picture.stamp) == (9, 9), "the stamp of a packet")?;
-        holds(
-            same_text(rt.alloc(), &picture.what, &again.what)?,
+            is_pictured(rt.alloc(), kind(number, 4)?)?,
             "the picture of a packet",
+        )?;
+        holds(
+            picture_is_copied(rt.alloc(), number)?,
+            "the copy of a picture",
         )?;
     }
     Ok(())

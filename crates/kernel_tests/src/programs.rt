@@ -4,8 +4,7 @@ ghost use Rattle.charlotte_calls.specs.declared.calls.Call.TheVariants as call;
 ghost use Rattle.kernel_tests.specs.Listed.{Listed, listed_step, done_of, asked_of};
 ghost use Rattle.charlotte_calls.specs.Program.{steps, state_after, MayBeGiven, MayFollow, EndsAfterExit, IsOfVersion};
 
-use crate::holding::holds;
-use crate::samples::end;
+use crate::samples::{end, holds};
 use charlotte_calls::{Answer, Call, Next, NoMemory, Program, Side};
 use std::alloc::Global;
 use std::collections::VecDeque;

@@ -26,3 +26,8 @@ pub(crate) fn same_text<A: Debug, B: Debug>(alloc: Global, a: &A, b: &B) -> Resu
     let second = format!(in alloc; "{b:?}")?;
     Ok(first.as_str() == second.as_str())
 }
+
+/// Fails the test, and tells what was looked at, unless this holds.
+pub(crate) fn holds(is_so: bool, what: &str) -> Result<(), Fail> {
+    if is_so { Ok(()) } else { Err(what.into()) }
+}

@@ -1,4 +1,4 @@
-use crate::holding::holds;
+use crate::samples::holds;
 use charlotte_calls::{Items, Pid, Setting};
 use std::alloc::Global;
 use std::test::Fail;
@@ -23,24 +23,28 @@ fn is_valid(
     Ok(setting.valid())
 }
 
+/// The version and the kernels; the processes; the wires; and whether they are valid together.
+type Row = ((u8, u8), (usize, u8), (usize, u16, u16), bool);
+
+const ROWS: [Row; 13] = [
+    ((0, 1), (1, 0), (1, 0, 0), false),
+    ((1, 1), (0, 0), (0, 0, 0), true),
+    ((1, 1), (1, 0), (1, 0, 0), true),
+    ((2, 8), (64, 7), (4096, 63, 0), true),
+    ((3, 1), (1, 0), (1, 0, 0), false),
+    ((1, 0), (0, 0), (0, 0, 0), false),
+    ((1, 9), (1, 0), (1, 0, 0), false),
+    ((1, 8), (65, 0), (1, 0, 0), false),
+    ((1, 8), (1, 0), (4097, 0, 0), false),
+    ((1, 1), (0, 0), (1, 0, 0), false),
+    ((1, 2), (2, 2), (1, 1, 1), false),
+    ((1, 2), (2, 1), (1, 2, 1), false),
+    ((1, 2), (2, 1), (1, 1, 2), false),
+];
+
 #[test]
 fn settings_keep_the_limits_and_name_what_is_there(rt: HostRuntime) -> Result<(), Fail> {
-    let table = [
-        ((0, 1), (1, 0), (1, 0, 0), false),
-        ((1, 1), (0, 0), (0, 0, 0), true),
-        ((1, 1), (1, 0), (1, 0, 0), true),
-        ((2, 8), (64, 7), (4096, 63, 0), true),
-        ((3, 1), (1, 0), (1, 0, 0), false),
-        ((1, 0), (0, 0), (0, 0, 0), false),
-        ((1, 9), (1, 0), (1, 0, 0), false),
-        ((1, 8), (65, 0), (1, 0, 0), false),
-        ((1, 8), (1, 0), (4097, 0, 0), false),
-        ((1, 1), (0, 0), (1, 0, 0), false),
-        ((1, 2), (2, 2), (1, 1, 1), false),
-        ((1, 2), (2, 1), (1, 2, 1), false),
-        ((1, 2), (2, 1), (1, 1, 2), false),
-    ];
-    for (limits, homes, wires, want) in table {
+    for (limits, homes, wires, want) in ROWS {
         let valid = is_valid(rt.alloc(), limits, homes, wires)?;
         holds(valid == want, "whether a setting is valid")?;
     }

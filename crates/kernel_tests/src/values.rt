@@ -1,47 +1,57 @@
 //! The values of calls, packets and ends.
 
-use crate::holding::holds;
+use crate::samples::holds;
 use charlotte_calls::{
     Bytes, Cargo, CargoPicture, EndId, Ends, Items, LinkId, Moving, MovingPicture, NoMemory, Side,
 };
+use std::alloc::Global;
 use std::test::Fail;
 
-/// Lists in a value hold what they were made of up to their capacity, and no more. Items come back.
-#[test]
-fn lists_keep_their_limits(rt: HostRuntime) -> Result<(), Fail> {
+/// Lists in a value hold what they were made of up to their capacity, and no more.
+fn bytes_keep(count: usize) -> Result<(), Fail> {
     let bytes = [7; 257];
+    let some = bytes.get(..count).ok_or("a longer slice")?;
+    let kept = Bytes::from_slice(some).map(|list| list.copy().as_slice() == some);
+    holds(kept == (count <= 256).then_some(true), "what a list keeps")
+}
+
+fn ends_keep(count: usize) -> Result<(), Fail> {
     let mut ends = [EndId::default(); 9];
     ends[7].side = Side::B;
+    let some = ends.get(..count).ok_or("a longer slice")?;
+    let kept = Ends::from_slice(some).map(|list| list.copy().as_slice() == some);
+    holds(kept == (count <= 8).then_some(true), "what a list keeps")
+}
+
+fn values_keep(count: usize) -> Result<(), Fail> {
     let mut values = [MovingPicture::default(); 9];
     values[7].hops = 1;
+    let some = values.get(..count).ok_or("a longer slice")?;
+    let kept = CargoPicture::from_slice(some).map(|list| list.copy().as_slice() == some);
+    holds(kept == (count <= 8).then_some(true), "what a list keeps")
+}
+
+/// Items are read, counted and handed back.
+fn items_come_back(alloc: Global) -> Result<(), Fail> {
+    let items = Items::of(vec![in alloc; 3, 1, 2]?);
+    let counted = (items.len(), items.is_empty()) == (3, false);
+    let read = items.as_slice() == [3, 1, 2].as_slice();
+    let handed = items.into_vec().as_slice() == [3, 1, 2].as_slice();
+    holds(counted && read && handed, "items")
+}
+
+#[test]
+fn lists_keep_their_limits(rt: HostRuntime) -> Result<(), Fail> {
     for count in [0, 1, 256, 257] {
-        let some = bytes.get(..count).ok_or("a longer slice")?;
-        let kept = Bytes::from_slice(some).map(|list| list.copy().as_slice() == some);
-        holds(kept == (count <= 256).then_some(true), "what a list keeps")?;
+        bytes_keep(count)?;
     }
     for count in [0, 1, 8, 9] {
-        let some = ends.get(..count).ok_or("a longer slice")?;
-        let kept = Ends::from_slice(some).map(|list| list.copy().as_slice() == some);
-        holds(kept == (count <= 8).then_some(true), "what a list keeps")?;
-        let some = values.get(..count).ok_or("a longer slice")?;
-        let kept = CargoPicture::from_slice(some).map(|list| list.copy().as_slice() == some);
-        holds(kept == (count <= 8).then_some(true), "what a list keeps")?;
+        ends_keep(count)?;
+        values_keep(count)?;
     }
-    let items = Items::of(vec![in rt.alloc(); 3, 1, 2]?);
-    holds(items.as_slice() == [3, 1, 2].as_slice(), "items")?;
-    holds(
-        (items.len(), items.is_empty()) == (3, false),
-        "how many items there are",
-    )?;
-    holds(
-        items.into_vec().as_slice() == [3, 1, 2].as_slice(),
-        "items that are handed back",
-    )?;
-    holds(
-        format!(in rt.alloc(); "{NoMemory}")?.as_str() == "no memory",
-        "the text of a want of memory",
-    )?;
-    Ok(())
+    items_come_back(rt.alloc())?;
+    let text = format!(in rt.alloc(); "{NoMemory}")?;
+    holds(text.as_str() == "no memory", "the text of a want of memory")
 }
 
 /// What is set in a value.
@@ -108,28 +118,28 @@ fn destroyed(value: Option<Moving>) -> Option<MovingPicture> {
     })
 }
 
-/// What was set is read, goes through a cargo, and is left in the mark.
-#[test]
-fn a_value_keeps_its_fields(_rt: HostRuntime) -> Result<(), Fail> {
-    let (mut a, b) = Moving::pair(SET.end.link, 2, 5);
-    let opposites = a.end() == b.end().opposite();
-    let hints = (a.hint(), b.hint());
-    set(&mut a);
-    let (seen, picture) = (read(&a), a.picture());
+/// What was set is read, goes through a cargo, and is left in the mark. Whether each was so.
+fn goes_through_a_cargo(a: Moving, b: Moving) -> (bool, [Option<MovingPicture>; 3]) {
     let mut cargo = Cargo::empty();
     cargo.add(b);
     cargo.add(a);
     let carried = cargo.len() == 2 && cargo.picture().as_slice() == cargo.values();
-    let named = (cargo.addressed(4), cargo.addressed(3));
+    let named = (cargo.addressed(4), cargo.addressed(3)) == (true, false);
     let first = destroyed(cargo.next());
     let second = destroyed(cargo.next());
     let third = destroyed(cargo.next());
     cargo.close();
-    holds(opposites && hints == ((5, 0), (2, 0)), "a pair")?;
-    holds(seen == SET && picture == SET, "the fields of a value")?;
-    holds(carried && named == (true, false), "a cargo")?;
-    holds(
-        first.is_some() && second == Some(SET) && third.is_none(),
-        "the marks of a cargo",
-    )
+    (carried && named, [first, second, third])
+}
+
+#[test]
+fn a_value_keeps_its_fields(_rt: HostRuntime) -> Result<(), Fail> {
+    let (mut a, b) = Moving::pair(SET.end.link, 2, 5);
+    let opposites = a.end() == b.end().opposite();
+    let hints = (a.hint(), b.hint()) == ((5, 0), (2, 0));
+    set(&mut a);
+    let seen = read(&a) == SET && a.picture() == SET;
+    let (carried, marks) = goes_through_a_cargo(a, b);
+    let left = marks[0].is_some() && marks[1] == Some(SET) && marks[2].is_none();
+    holds(opposites && hints && seen && carried && left, "a value")
 }

@@ -8,31 +8,34 @@ use charlotte_calls::{
     ServiceStep,
 };
 
-pub(crate) fn tell_u8(number: u8)
+/// That a number is in the range of its type.
+pub fn tell_u8(number: u8)
     ensures { IsU8 number }
 {
     let _ = number;
 }
 
-fn tell_u32(number: u32)
+pub(crate) fn tell_u32(number: u32)
     ensures { IsU32 number }
 {
     let _ = number;
 }
 
-pub(crate) fn tell_u64(number: u64)
+/// That a number is in the range of its type.
+pub fn tell_u64(number: u64)
     ensures { IsU64 number }
 {
     let _ = number;
 }
 
-pub(crate) fn tell_pid(p: Pid)
+/// That the number of a process is in the range of its type.
+pub fn tell_pid(p: Pid)
     ensures { IsPid p }
 {
     let _ = p.0;
 }
 
-fn tell_end(end: EndId)
+pub(crate) fn tell_end(end: EndId)
     ensures { IsEnd end }
 {
     let _ = (end.link.maker, end.link.count);
@@ -44,7 +47,7 @@ fn tell_each_byte(bytes: &[u8])
     let _ = bytes;
 }
 
-fn tell_bytes(bytes: &Bytes)
+pub(crate) fn tell_bytes(bytes: &Bytes)
     ensures { AreBytesInRange bytes.now }
 {
     tell_each_byte(bytes.as_slice());
@@ -78,7 +81,7 @@ fn tell_value(value: MovingPicture)
     tell_u8(value.trail);
 }
 
-fn tell_each_value(values: &[MovingPicture])
+pub(crate) fn tell_each_value(values: &[MovingPicture])
     ensures { All IsValueInRange values.now }
 {
     for value in values {
@@ -92,7 +95,8 @@ fn tell_values(values: &CargoPicture)
     tell_each_value(values.as_slice());
 }
 
-pub(crate) fn tell_call(call: &Call)
+/// That the numbers of a call are in the range of their types.
+pub fn tell_call(call: &Call)
     ensures { IsCallInRange call.now }
 {
     match call {
@@ -108,7 +112,7 @@ pub(crate) fn tell_call(call: &Call)
 }
 
 /// The numbers of a packet with a receive: its number, its kernel and its hops.
-fn tell_wanted(to: EndId, w: u32, at: u8, hops: u32)
+pub(crate) fn tell_wanted(to: EndId, w: u32, at: u8, hops: u32)
     ensures { IsEnd to × IsU32 w × IsU8 at × IsU32 hops }
 {
     tell_end(to);
@@ -117,7 +121,7 @@ fn tell_wanted(to: EndId, w: u32, at: u8, hops: u32)
     tell_u32(hops);
 }
 
-fn tell_packet(what: &PictureWhat)
+fn tell_what(what: &PictureWhat)
     ensures { IsPacketInRange what.now }
 {
     match what {
@@ -161,11 +165,12 @@ fn tell_packet(what: &PictureWhat)
     }
 }
 
-pub(crate) fn tell_picture(picture: &Picture)
+/// That the numbers of a picture are in the range of their types.
+pub fn tell_picture(picture: &Picture)
     ensures { IsPictureInRange picture.now }
 {
     tell_u64(picture.stamp);
-    tell_packet(&picture.what);
+    tell_what(&picture.what);
 }
 
 fn tell_report(report: &Report)
@@ -183,7 +188,8 @@ fn tell_numbered(on: EndId, n: u32)
     tell_u32(n);
 }
 
-fn tell_step(step: &ServiceStep)
+/// That the numbers of a step are in the range of their types.
+pub fn tell_step(step: &ServiceStep)
     ensures { IsStepInRange step.now }
 {
     match step {
@@ -227,7 +233,8 @@ fn tell_step(step: &ServiceStep)
     }
 }
 
-pub(crate) fn tell_steps(steps: &[ServiceStep])
+/// That the numbers of each step are in the range of their types.
+pub fn tell_steps(steps: &[ServiceStep])
     ensures { All IsStepInRange steps.now }
 {
     for step in steps {

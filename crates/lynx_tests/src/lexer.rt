@@ -1,5 +1,5 @@
-use crate::holding::holds;
-use lynx_lexer::{Ident, Kind, LexFault, TextLit, Token, tokens};
+use crate::limits::holds;
+use lynx_lexer::{Kind, LexFault, Token, tokens};
 use std::alloc::{AllocError, Global};
 use std::fmt::Write;
 use std::str;
@@ -48,71 +48,56 @@ fn answer(alloc: Global, source: &str) -> Result<String, AllocError> {
     Ok(text)
 }
 
-/// Names have 1 to 32 bytes, texts at most 64.
-fn names_and_texts_have_limits() -> Result<(), Fail> {
-    for length in [0, 1, 32, 33] {
-        let name = Ident::from_slice(&[b'x'; 33][..length]);
-        let kept = name.map(|name| name.as_slice().len());
-        holds(
-            kept == (1..=32).contains(&length).then_some(length),
-            "what a name keeps",
-        )?;
-    }
-    for length in [0, 1, 64, 65] {
-        let text = TextLit::from_slice(&[b'x'; 65][..length]);
-        let kept = text.map(|text| text.as_slice().len());
-        holds(
-            kept == (length <= 64).then_some(length),
-            "what a text keeps",
-        )?;
-    }
-    Ok(())
+/// Sources, and their tokens or first fault.
+const ROWS: &[(&str, &str)] = &[
+    ("module m;", "module@0-6 <m>@7-8 ;@8-9 "),
+    ("x:=7-2", "<x>@0-1 :=@1-3 7@3-4 -@4-5 2@5-6 "),
+    (
+        "a<b<=c<>d>=e>f=g:h",
+        "<a>@0-1 <@1-2 <b>@2-3 <=@3-5 <c>@5-6 <>@6-8 <d>@8-9 >=@9-11 <e>@11-12 >@12-13 <f>@13-14 =@14-15 <g>@15-16 :@16-17 <h>@17-18 ",
+    ),
+    (
+        "1abc2_ End mod modx",
+        "1@0-1 <abc2_>@1-6 <End>@7-10 mod@11-14 <modx>@15-19 ",
+    ),
+    ("'ab' '' '-- it'", "'ab'@0-4 ''@5-7 '-- it'@8-15 "),
+    ("a-- # ' _\nb--", "<a>@0-1 <b>@10-11 "),
+    (
+        "\ta\r\n(b)[0];.,+*/",
+        "<a>@1-2 (@4-5 <b>@5-6 )@6-7 [@7-8 0@8-9 ]@9-10 ;@10-11 .@11-12 ,@12-13 +@13-14 *@14-15 /@15-16 ",
+    ),
+    ("a---b\n-", "<a>@0-1 -@6-7 "),
+    ("007 9223372036854775807", "7@0-3 9223372036854775807@4-23 "),
+    ("", ""),
+    (" \t\r\n-- no line feed", ""),
+    (
+        "aaaaaaaaaaaaaaaaaaaaaaaaaaaaaaaa",
+        "<aaaaaaaaaaaaaaaaaaaaaaaaaaaaaaaa>@0-32 ",
+    ),
+    (
+        "'xxxxxxxxxxxxxxxxxxxxxxxxxxxxxxxxxxxxxxxxxxxxxxxxxxxxxxxxxxxxxxxx'",
+        "'xxxxxxxxxxxxxxxxxxxxxxxxxxxxxxxxxxxxxxxxxxxxxxxxxxxxxxxxxxxxxxxx'@0-66 ",
+    ),
+    // each fault; more of them are tried on the program (.ci/rows/modules)
+    ("module m; begin n := 2 # 3; end.", "fault 1 at 23"),
+    ("module m;\nbegin\n  x := 'ab;\nend.\n", "fault 2 at 23"),
+    ("a 00000000000000000009223372036854775808 #", "fault 3 at 2"),
+    (
+        "; 'xxxxxxxxxxxxxxxxxxxxxxxxxxxxxxxxxxxxxxxxxxxxxxxxxxxxxxxxxxxxxxxxy'",
+        "fault 4 at 2",
+    ),
+    ("(aaaaaaaaaaaaaaaaaaaaaaaaaaaaaaaab)", "fault 5 at 1"),
+];
+
+fn lexes(alloc: Global, source: &str, want: &str) -> Result<(), Fail> {
+    let found = answer(alloc, source)?;
+    holds(found.as_str() == want, source)
 }
 
 #[test]
 fn sources_have_their_tokens_or_first_fault(rt: HostRuntime) -> Result<(), Fail> {
-    names_and_texts_have_limits()?;
-    for (source, want) in [
-        ("module m;", "module@0-6 <m>@7-8 ;@8-9 "),
-        ("x:=7-2", "<x>@0-1 :=@1-3 7@3-4 -@4-5 2@5-6 "),
-        (
-            "a<b<=c<>d>=e>f=g:h",
-            "<a>@0-1 <@1-2 <b>@2-3 <=@3-5 <c>@5-6 <>@6-8 <d>@8-9 >=@9-11 <e>@11-12 >@12-13 <f>@13-14 =@14-15 <g>@15-16 :@16-17 <h>@17-18 ",
-        ),
-        (
-            "1abc2_ End mod modx",
-            "1@0-1 <abc2_>@1-6 <End>@7-10 mod@11-14 <modx>@15-19 ",
-        ),
-        ("'ab' '' '-- it'", "'ab'@0-4 ''@5-7 '-- it'@8-15 "),
-        ("a-- # ' _\nb--", "<a>@0-1 <b>@10-11 "),
-        (
-            "\ta\r\n(b)[0];.,+*/",
-            "<a>@1-2 (@4-5 <b>@5-6 )@6-7 [@7-8 0@8-9 ]@9-10 ;@10-11 .@11-12 ,@12-13 +@13-14 *@14-15 /@15-16 ",
-        ),
-        ("a---b\n-", "<a>@0-1 -@6-7 "),
-        ("007 9223372036854775807", "7@0-3 9223372036854775807@4-23 "),
-        ("", ""),
-        (" \t\r\n-- no line feed", ""),
-        (
-            "aaaaaaaaaaaaaaaaaaaaaaaaaaaaaaaa",
-            "<aaaaaaaaaaaaaaaaaaaaaaaaaaaaaaaa>@0-32 ",
-        ),
-        (
-            "'xxxxxxxxxxxxxxxxxxxxxxxxxxxxxxxxxxxxxxxxxxxxxxxxxxxxxxxxxxxxxxxx'",
-            "'xxxxxxxxxxxxxxxxxxxxxxxxxxxxxxxxxxxxxxxxxxxxxxxxxxxxxxxxxxxxxxxx'@0-66 ",
-        ),
-        // each fault; more of them are tried on the program (.ci/rows/modules)
-        ("module m; begin n := 2 # 3; end.", "fault 1 at 23"),
-        ("module m;\nbegin\n  x := 'ab;\nend.\n", "fault 2 at 23"),
-        ("a 00000000000000000009223372036854775808 #", "fault 3 at 2"),
-        (
-            "; 'xxxxxxxxxxxxxxxxxxxxxxxxxxxxxxxxxxxxxxxxxxxxxxxxxxxxxxxxxxxxxxxxy'",
-            "fault 4 at 2",
-        ),
-        ("(aaaaaaaaaaaaaaaaaaaaaaaaaaaaaaaab)", "fault 5 at 1"),
-    ] {
-        let found = answer(rt.alloc(), source)?;
-        holds(found.as_str() == want, source)?;
+    for (source, want) in ROWS {
+        lexes(rt.alloc(), source, want)?;
     }
     Ok(())
 }

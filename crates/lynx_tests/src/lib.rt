@@ -2,9 +2,9 @@
 #![tactic(auto)]
 
 #[cfg(test)]
-mod holding;
-#[cfg(test)]
 mod lexer;
+#[cfg(test)]
+mod limits;
 #[cfg(test)]
 mod source;
 #[cfg(test)]

@@ -1,9 +1,9 @@
 //! Signatures of operations, and values of texts and rows.
 
-use crate::holding::holds;
+use crate::limits::holds;
 use lynx_lexer::tokens;
 use lynx_syntax::parse;
-use lynx_types::{Exception, Row16, ShortText, signature};
+use lynx_types::signature;
 use std::alloc::{AllocError, Global};
 use std::str;
 use std::test::Fail;
@@ -39,44 +39,5 @@ fn signatures_have_no_blanks(rt: HostRuntime) -> Result<(), Fail> {
         text.as_str()
             == "add(int,int):(int)\no():()\nall(bool,text,link,row16):(row9223372036854775807,text)\n",
         "signatures",
-    )?;
-    Ok(())
-}
-
-#[test]
-fn texts_rows_and_exceptions_have_their_limits(rt: HostRuntime) -> Result<(), Fail> {
-    for length in [0, 1, 64, 65] {
-        let text = ShortText::from_slice(&[b'x'; 65][..length]);
-        let kept = text.map(|text| text.copy().as_slice().len());
-        holds(
-            kept == (length <= 64).then_some(length),
-            "what a list keeps",
-        )?;
-    }
-    for length in [0, 1, 16, 17] {
-        let row = Row16::from_slice(&[-7_i64; 17][..length]);
-        let kept = row.map(|row| row.copy().as_slice().len());
-        holds(
-            kept == (1..=16).contains(&length).then_some(length),
-            "what a list keeps",
-        )?;
-    }
-    for name in [
-        "BUSYLINK",
-        "DEADLINK",
-        "NOLINK",
-        "DIVIDE",
-        "OVERFLOW",
-        "RANGE",
-        "FAILED",
-        "REPLIED",
-        "LINKSFULL",
-    ] {
-        let spelled = Exception::from_slice(name.as_bytes()).map(|exception| exception.as_slice());
-        holds(spelled == Some(name.as_bytes()), name)?;
-    }
-    for name in ["range", "RANGES"] {
-        holds(Exception::from_slice(name.as_bytes()) == None, name)?;
-    }
-    Ok(())
+    )
 }

@@ -1,15 +1,15 @@
 -- Types and declarations, one and those behind it.
-use Rattle.std.proofs.Common.{◌≡◌, ℕ, suc, ◌+◌, ◌<◌, List, [], ◌∷◌, ◌++◌, Option, length, map, drop, get_or, refl, sym, ap, ◌∙◌, append_assoc, arith, length-append}
+use Rattle.std.proofs.Common.{◌≡◌, ℕ, ◌+◌, ◌<◌, List, [], ◌∷◌, ◌++◌, Option, length, map, drop, get_or, refl, sym, ap, ◌∙◌, arith, length-append}
 use Rattle.std.specs.List.{flat_map}
 use Rattle.std.proofs.lemmas.List.{drop_more}
 use Rattle.lynx_lexer.specs.declared.keyword.Keyword.TheVariants as keywords
 use Rattle.lynx_lexer.specs.declared.sign.Sign.TheVariants as signs
 use Rattle.lynx_tree.specs.declared.declaration.TypeName.{TypeName}
 use Rattle.lynx_tree.specs.declared.declaration.TypeName.TheVariants as types
-use Rattle.lynx_tree.specs.Grammar.{Mark, word, mark, name, type_marks, types_marks, op_marks}
+use Rattle.lynx_tree.specs.Grammar.{Mark, word, mark, name, type_marks, types_marks}
 use Rattle.lynx_tree.specs.Trees.{OpTree}
 use Rattle.lynx_typing.specs.Modules.{type_faults, types_faults}
-use Rattle.lynx_typing.specs.Names.{Meaning, Declared, Scope, each_at, op_size}
+use Rattle.lynx_typing.specs.Names.{Declared, Scope, each_at, op_size}
 use Rattle.lynx_typing.specs.Rules.{Fault}
 use Rattle.lynx_typing.specs.Progress.{first_with}
 use Rattle.lynx_typing.proofs.Members.{at_place}

@@ -1,10 +1,9 @@
 -- Entries: their parameters, their locals, and one entry and those behind it.
 use Rattle.std.proofs.Common.{◌≡◌, ℕ, ◌+◌, ◌*◌, ◌<◌, List, [], ◌∷◌, ◌++◌, Bool, not, Option, Some, cond, is_some, length, map, drop, get_or, refl, sym, ap, ◌∙◌, append_assoc, arith, length-append}
-use Rattle.std.proofs.lemmas.List.{drop_more}
 use Rattle.lynx_lexer.specs.declared.keyword.Keyword.TheVariants as keywords
 use Rattle.lynx_lexer.specs.declared.sign.Sign.TheVariants as signs
 use Rattle.lynx_tree.specs.declared.declaration.TypeName.{TypeName}
-use Rattle.lynx_tree.specs.Grammar.{Mark, word, name, mark, names_marks, vars_marks, stmts_marks, entry_marks}
+use Rattle.lynx_tree.specs.Grammar.{Mark, word, name, mark, names_marks, vars_marks, stmts_marks}
 use Rattle.lynx_tree.specs.Trees.{EntryTree, entry_tree}
 use Rattle.std.specs.Str.{bytes_eq}
 use Rattle.lynx_tree.specs.declared.declaration.EntryDecl.{EntryDecl}
@@ -19,7 +18,7 @@ use Rattle.lynx_types.specs.News.{nowhere, then_declared, news_faults, are_new, 
 use Rattle.lynx_types.specs.Parts.{heading_faults}
 use Rattle.lynx_statements.proofs.Actions.{found_then}
 use Rattle.lynx_types.proofs.Declarations.{next_names}
-use Rattle.lynx_types.proofs.News.{or_none, news-append, declared-append, meaning-append, same_scope, news_are_new, in_order}
+use Rattle.lynx_types.proofs.News.{or_none, news-append, declared-append, same_scope, news_are_new, in_order}
 
 -- ---- parameters
 

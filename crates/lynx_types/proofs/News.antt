@@ -9,7 +9,7 @@ use Rattle.lynx_typing.specs.Rules.{Fault, demand}
 use Rattle.lynx_typing.specs.Progress.{first_with}
 use Rattle.lynx_typing.proofs.Order.{swap}
 use Rattle.lynx_typing.proofs.Progress.{first_with-append}
-use Rattle.lynx_types.specs.News.{nowhere, then_declared, news_faults, are_new, told_faults}
+use Rattle.lynx_types.specs.News.{then_declared, news_faults, are_new, told_faults}
 
 -- ---- scopes
 

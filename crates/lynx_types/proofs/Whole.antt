@@ -6,7 +6,7 @@ use Rattle.lynx_lexer.specs.declared.sign.Sign.TheVariants as signs
 use Rattle.lynx_tree.specs.Grammar.{Mark, word, name, mark, op_marks, var_marks, vars_marks, entry_marks, stmts_marks, module_marks}
 use Rattle.lynx_tree.specs.Trees.{ModuleTree}
 use Rattle.lynx_typing.specs.Modules.{names_are_new, op_faults, param_faults, var_faults, entry_faults, first_fault, module_faults}
-use Rattle.lynx_typing.specs.Names.{Declared, Scope, meaning_in, each_at, op_size, op_named, var_size, var_named, entry_size, entry_named, ops_at, params_at, vars_at, entries_at, body_at, module_names, module_scope}
+use Rattle.lynx_typing.specs.Names.{Declared, Scope, each_at, op_size, op_named, var_size, var_named, entry_size, entry_named, ops_at, params_at, vars_at, entries_at, body_at, module_names, module_scope}
 use Rattle.lynx_typing.specs.Progress.{first_with}
 use Rattle.lynx_typing.specs.Rules.{Fault, Outside, module_name_is_new}
 use Rattle.lynx_typing.specs.Statements.{stmts_faults, stmts_size}

@@ -1,10 +1,10 @@
 -- Which names are new where names already stand, and what they all mean afterwards.
-use Rattle.std.specs.Prelude.{ℕ, ◌+◌, List, [], ◌∷◌, ◌++◌, length, Bool, not, is_some, Option, None}
+use Rattle.std.specs.Prelude.{ℕ, ◌+◌, List, [], ◌∷◌, ◌++◌, length, Bool, not, is_some, None}
 use Rattle.lynx_tree.specs.declared.declaration.TypeName.{TypeName}
 use Rattle.lynx_tree.specs.declared.declaration.TypeName.TheVariants as types
 use Rattle.lynx_tree.specs.Grammar.{names_marks}
 use Rattle.lynx_tree.specs.Trees.{EntryTree}
-use Rattle.lynx_typing.specs.Names.{Meaning, Declared, Scope, or_outside, meaning_in, parameters_named, each_at, var_size, var_named}
+use Rattle.lynx_typing.specs.Names.{Declared, Scope, or_outside, meaning_in, parameters_named, each_at, var_size, var_named}
 use Rattle.lynx_typing.specs.Rules.{Fault, demand}
 
 -- no name stands

@@ -1,5 +1,5 @@
 -- What a walk over the parts of an expression says of it.
-use Rattle.std.proofs.Common.{◌≡◌, ℕ, suc, ◌+◌, List, [], ◌∷◌, ◌++◌, Bool, true, Option, Some, None, is_some, cond, ◌&&◌, length, refl, sym, ap, ◌∙◌, arith, length-append}
+use Rattle.std.proofs.Common.{◌≡◌, ℕ, ◌+◌, List, [], ◌∷◌, ◌++◌, Bool, Option, Some, None, is_some, cond, ◌&&◌, length, sym, ap, ◌∙◌, arith, length-append}
 use Rattle.std.specs.Global.{Vec, Box}
 use Rattle.lynx_lexer.specs.declared.sign.Sign.{Sign}
 use Rattle.lynx_tree.specs.declared.expression.Expr as expr

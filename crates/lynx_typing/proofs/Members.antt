@@ -1,16 +1,16 @@
 -- The members of a chain: the next one and those behind it.
-use Rattle.std.proofs.Common.{◌≡◌, ℕ, ◌+◌, ◌<◌, ◌≤◌, List, [], ◌∷◌, ◌++◌, length, drop, get_or, refl, sym, ap, ◌∙◌, arith, length-append}
+use Rattle.std.proofs.Common.{◌≡◌, ℕ, ◌+◌, ◌<◌, ◌≤◌, List, [], ◌∷◌, ◌++◌, length, drop, get_or, sym, ap, ◌∙◌, arith, length-append}
 use Rattle.std.proofs.lemmas.List.{drop_more, drop_all}
 use Rattle.lynx_lexer.specs.declared.sign.Sign.{Sign}
 use Rattle.lynx_lexer.specs.declared.keyword.Keyword.TheVariants as keywords
 use Rattle.lynx_tree.specs.declared.expression.Expr as expr
 use Rattle.lynx_tree.specs.declared.expression.TermSign.{TermSign}
 use Rattle.lynx_tree.specs.declared.declaration.TypeName.TheVariants as types
-use Rattle.lynx_tree.specs.Grammar.{Mark, word, expr_marks, behind_marks, sum_marks, term_marks}
+use Rattle.lynx_tree.specs.Grammar.{Mark, word, behind_marks, sum_marks, term_marks}
 use Rattle.lynx_tree.specs.Trees.{expr_tree, expr_list, sum_list, term_list}
 use Rattle.lynx_tree.specs.Trees as trees
 use Rattle.lynx_typing.specs.Names.{Scope}
-use Rattle.lynx_typing.specs.Rules.{Fault, wants}
+use Rattle.lynx_typing.specs.Rules.{wants}
 use Rattle.lynx_typing.specs.Expressions.{expr_size, value_faults, bools_faults, sum_faults, term_faults}
 
 -- the members from a place on

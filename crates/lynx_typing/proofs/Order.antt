@@ -1,7 +1,7 @@
 -- The first of faults does not depend on their order.
 use Rattle.std.proofs.Common.{◌≡◌, ◌<◌, ◌≤◌, ◌⊎◌, inl, inr, List, [], ◌∷◌, Bool, true, false, Option, Some, None, cond, ◌||◌, ◌&&◌, ltb, eqb, leb, refl, sym, ap, ◌∙◌, arith}
-use Rattle.std.specs.Bool.{passes, fails}
-use Rattle.std.proofs.lemmas.Bool.{ltb-true, ltb-false, eqb-true, eqb-false, leb-true, leb-false}
+use Rattle.std.specs.Bool.{fails}
+use Rattle.std.proofs.lemmas.Bool.{ltb-false, eqb-true, eqb-false, leb-false}
 use Rattle.lynx_typing.specs.Rules.{Fault}
 use Rattle.lynx_typing.specs.Modules.{is_no_later, first_of_two, first_fault}
 use Rattle.lynx_typing.specs.Progress.{earlier, first_with}

@@ -1,5 +1,5 @@
 -- The first fault on a walk: what was found so far and what comes are one list.
-use Rattle.std.proofs.Common.{◌≡◌, ℕ, ◌+◌, List, [], ◌∷◌, ◌++◌, Bool, true, false, Option, Some, None, is_some, cond, ◌&&◌, refl, sym, ap, ◌∙◌, rules}
+use Rattle.std.proofs.Common.{◌≡◌, ℕ, ◌+◌, List, [], ◌∷◌, ◌++◌, Bool, true, false, Option, None, is_some, cond, ◌&&◌, refl, sym, ap, ◌∙◌}
 use Rattle.lynx_tree.specs.Trees.{ExprTree}
 use Rattle.lynx_tree.specs.Trees as trees
 use Rattle.lynx_typing.specs.Types.{Held}

@@ -1,7 +1,6 @@
 -- How many tokens the parts of a module have: their nesting does not matter.
-use Rattle.std.proofs.Common.{◌≡◌, ℕ, zero, suc, ◌+◌, List, [], ◌∷◌, ◌++◌, length, map, refl, sym, ap, ◌∙◌, arith, length-append}
-use Rattle.std.specs.List.{flat_map}
-use Rattle.lynx_tree.specs.Trees.{ExprTree, ExprTrees, SumTail, TermTail, StmtTree, StmtTrees, HandlerTrees}
+use Rattle.std.proofs.Common.{◌≡◌, ℕ, suc, ◌+◌, [], ◌∷◌, ◌++◌, length, refl, ◌∙◌, arith, length-append}
+use Rattle.lynx_tree.specs.Trees.{ExprTree, ExprTrees, SumTail, TermTail}
 use Rattle.lynx_tree.specs.Trees as trees
 use Rattle.lynx_tree.specs.Grammar.{Mark, expr_marks, chain_marks, behind_marks, sum_marks, term_marks}
 

@@ -1,5 +1,5 @@
 -- What names mean in the tables of the program.
-use Rattle.std.specs.Prelude.{List, ℕ, Option, None, Some}
+use Rattle.std.specs.Prelude.{List, Option, None, Some}
 use Rattle.std.specs.Str.{bytes_eq}
 use Rattle.std.specs.HashMap.{get_by}
 use denote.Ref.{Bor}

@@ -73,50 +73,60 @@ fn differs(alloc: Global, number: u32, text: &str, line: u32) -> Result<(), Fail
     gives(alloc, other.as_slice(), Err(ReplayFault::Differs { line }))
 }
 
+/// Texts, and their last lines.
+const WHOLE: [(&str, Last); 3] = [
+    (TRANSCRIPT, Last::Quiet),
+    ("transcript 2\nkernels 8\nspent 7\n", Last::Spent(7)),
+    (
+        "transcript 1\nkernels 1\nprocess 0 on 0\nwire 0 0\n1 k0 p0 receive 0.0b\n. receive 0.0b\nopen\n",
+        Last::Unsettled,
+    ),
+];
+
 #[test]
 fn a_transcript_is_replayed(rt: HostRuntime) -> Result<(), Fail> {
-    gives(rt.alloc(), TRANSCRIPT.as_bytes(), Ok(Last::Quiet))?;
-    let spent = with_line(rt.alloc(), 21, "")?;
-    gives(rt.alloc(), spent.as_slice(), Ok(Last::Quiet))?;
-    gives(
-        rt.alloc(),
-        b"transcript 2\nkernels 8\nspent 7\n",
-        Ok(Last::Spent(7)),
-    )?;
-    gives(
-        rt.alloc(),
-        b"transcript 1\nkernels 1\nprocess 0 on 0\nwire 0 0\n1 k0 p0 receive 0.0b\n. receive 0.0b\nopen\n",
-        Ok(Last::Unsettled),
-    )
+    for (text, last) in WHOLE {
+        gives(rt.alloc(), text.as_bytes(), Ok(last))?;
+    }
+    let without_note = with_line(rt.alloc(), 21, "")?;
+    gives(rt.alloc(), without_note.as_slice(), Ok(Last::Quiet))
 }
+
+/// A line, the text in its place, and the first line that differs.
+const DIFFERENT: &[(u32, &str, u32)] = &[
+    // The stamp, the kernel and the process of a call.
+    (6, "2 k0 p1 cancel 0.0a out\n", 6),
+    (6, "1 k1 p1 cancel 0.0a out\n", 6),
+    (6, "1 k7 p1 cancel 0.0a out\n", 6),
+    (6, "1 k0 p7 cancel 0.0a out\n", 6),
+    // A step that is another, missing, too many, or of another form.
+    (7, ". refuse p1 NoEnd\n", 7),
+    (7, "", 7),
+    (7, ". refuse p1 NoActivity\n. refuse p1 NoActivity\n", 8),
+    (9, ". wait p0\n", 9),
+    // A stamp that does not rise.
+    (8, "1 k0 p1 receive 0.0a\n", 8),
+    // A packet of another kernel, with another number, with other bytes, and one that was not sent.
+    (12, "3 k0 from 0 want 0.0a 1 1 0\n", 12),
+    (16, "5 k0 from 1 taken 0.0a 2 1 0\n", 16),
+    (14, "4 k1 from 0 parcel 0.0b 1 1 0 0 hullo\n", 14),
+    (21, "6 k1 from 0 taken 0.0a 1 1 0\n", 21),
+    // A report, and a last line that lies.
+    (20, ". report p0 0.0b in done hallo\n", 20),
+    (22, "open\n", 22),
+    (21, "6 k1 p0 receive 0.0b\n. receive 0.0b\n", 23),
+];
 
 #[test]
 fn a_line_that_differs_is_named(rt: HostRuntime) -> Result<(), Fail> {
-    for (number, text, line) in [
-        // The stamp, the kernel and the process of a call.
-        (6, "2 k0 p1 cancel 0.0a out\n", 6),
-        (6, "1 k1 p1 cancel 0.0a out\n", 6),
-        (6, "1 k7 p1 cancel 0.0a out\n", 6),
-        (6, "1 k0 p7 cancel 0.0a out\n", 6),
-        // A step that is another, missing, too many, or of another form.
-        (7, ". refuse p1 NoEnd\n", 7),
-        (7, "", 7),
-        (7, ". refuse p1 NoActivity\n. refuse p1 NoActivity\n", 8),
-        (9, ". wait p0\n", 9),
-        // A stamp that does not rise.
-        (8, "1 k0 p1 receive 0.0a\n", 8),
-        // A packet of another kernel, with another number, with other bytes, and one that was not sent.
-        (12, "3 k0 from 0 want 0.0a 1 1 0\n", 12),
-        (16, "5 k0 from 1 taken 0.0a 2 1 0\n", 16),
-        (14, "4 k1 from 0 parcel 0.0b 1 1 0 0 hullo\n", 14),
-        (21, "6 k1 from 0 taken 0.0a 1 1 0\n", 21),
-        // A report, and a last line that lies.
-        (20, ". report p0 0.0b in done hallo\n", 20),
-        (22, "open\n", 22),
-        (21, "6 k1 p0 receive 0.0b\n. receive 0.0b\n", 23),
-    ] {
-        differs(rt.alloc(), number, text, line)?;
+    for (number, text, line) in DIFFERENT {
+        differs(rt.alloc(), *number, text, *line)?;
     }
+    Ok(())
+}
+
+#[test]
+fn an_end_that_lies_is_named(rt: HostRuntime) -> Result<(), Fail> {
     gives(
         rt.alloc(),
         b"transcript 2\nkernels 2\nspent 2\n",

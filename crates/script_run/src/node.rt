@@ -20,7 +20,7 @@ ghost use Rattle.world_record.specs.Told.{IsTold};
 
 use charlotte_calls::{Effect, NoMemory, Packet, Pid, Setting};
 use compact_calls::CompactCall;
-use kernel_core::Kernel;
+use kernel_core::{Kernel, Request};
 use std::alloc::Global;
 use std::collections::VecDeque;
 use written_journal::WrittenJournal;
@@ -68,9 +68,10 @@ impl Node {
             × IsAfter (Asked p asked) (call_step (without_answer p (state_of self.old.kernel)) p mine asked) self.old self.new) }
     {
         let call = asked.call();
-        self.journal.asked(p, &call)?;
+        let request = Request { p, call };
+        self.journal.asked(p, &request.call)?;
         self.kernel.forget_answer(p);
-        let effect = self.kernel.call(p, call)?;
+        let effect = self.kernel.ask(&request)?;
         self.note(effect)
     }
 

@@ -1,7 +1,6 @@
 //! Journals, their merge, and transcripts that no script has.
 ghost use Rattle.std.specs.Prelude.{◌≡◌, IfOk};
 
-use crate::holding::holds;
 use charlotte_calls::{
     Bytes, Call, EndId, Ends, Items, Picture, PictureWhat, Pid, ServiceStep, Setting, Short,
 };
@@ -11,6 +10,11 @@ use journal_text::{
 };
 use std::alloc::Global;
 use std::test::Fail;
+
+/// Fails the test, and tells what was looked at, unless this holds.
+pub(crate) fn holds(is_so: bool, what: &str) -> Result<(), Fail> {
+    if is_so { Ok(()) } else { Err(what.into()) }
+}
 
 pub(crate) fn text(bytes: &[u8]) -> Result<Bytes, Fail> {
     Ok(Short::from_slice(bytes).ok_or("at most 256 bytes")?)
@@ -49,19 +53,41 @@ pub(crate) fn same_lines(lines: &[Vec<u8>], wanted: &[&str]) -> Result<(), Fail>
     Ok(())
 }
 
+fn made(alloc: Global, stamp: u64) -> Result<Entry, Fail>
+    ensures { IfOk result (λ entry. entry.stamp ≡ stamp) }
+{
+    let a = EndId::default();
+    let (p, b) = (Pid(0), a.opposite());
+    asked(
+        alloc,
+        stamp,
+        0,
+        &Call::Make,
+        &[ServiceStep::Make { p, a, b }],
+    )
+}
+
+fn seen(alloc: Global, stamp: u64) -> Result<Entry, Fail>
+    ensures { IfOk result (λ entry. entry.stamp ≡ stamp) }
+{
+    let to = EndId::default();
+    took(alloc, stamp, PictureWhat::GoneSeen { to })
+}
+
 /// The journal of a Make and a packet with these stamps.
-fn of_two(alloc: Global, first: u64, second: u64) -> Result<Journal, Fail> {
-    holds(first < second, "rising stamps")?;
-    let end = EndId::default();
+fn of_two(alloc: Global, (first, second): (u64, u64)) -> Result<Journal, Fail> {
+    if second <= first {
+        return Err("stamps that do not rise".into());
+    }
+    let (make, seen) = (made(alloc, first)?, seen(alloc, second)?);
     let mut journal = Journal::start(alloc);
     journal.reserve(2)?;
-    let make = ServiceStep::Make {
-        p: Pid(0),
-        a: end,
-        b: end.opposite(),
-    };
-    journal.push(asked(alloc, first, 0, &Call::Make, &[make])?)?;
-    journal.push(took(alloc, second, PictureWhat::GoneSeen { to: end })?)?;
+    journal.push(make)?;
+    journal.push(seen)?;
+    Ok(journal)
+}
+
+fn copied(alloc: Global, journal: &Journal) -> Result<Journal, Fail> {
     holds(
         journal.entries().len() == 2,
         "how many entries a journal has",
@@ -69,14 +95,24 @@ fn of_two(alloc: Global, first: u64, second: u64) -> Result<Journal, Fail> {
     Ok(journal.copy(alloc)?)
 }
 
+/// Three journals.
+fn journals(alloc: Global) -> Result<Vec<Journal>, Fail> {
+    let mut journals = Vec::new(alloc);
+    for stamps in [(1, 4), (1, 2), (2, 3)] {
+        journals.push(copied(alloc, &of_two(alloc, stamps)?)?)?;
+    }
+    Ok(journals)
+}
+
+/// The stamps of all entries in order, and their kernels.
+const MERGED: [(u64, u8); 6] = [(1, 0), (1, 1), (2, 1), (2, 2), (3, 2), (4, 0)];
+
 /// The entries have these stamps and kernels.
-fn same_order(merged: &[Placed], wanted: &[(u64, u8)]) -> Result<(), Fail> {
-    holds(merged.len() == wanted.len(), "how many entries there are")?;
-    for (placed, want) in merged.iter().zip(wanted) {
-        holds(
-            (placed.entry.stamp, placed.kernel) == *want,
-            "a stamp and its kernel",
-        )?;
+fn are_in_order(merged: &[Placed]) -> Result<(), Fail> {
+    holds(merged.len() == MERGED.len(), "how many entries there are")?;
+    for (placed, want) in merged.iter().zip(&MERGED) {
+        let is = (placed.entry.stamp, placed.kernel);
+        holds(is == *want, "a stamp and its kernel")?;
     }
     Ok(())
 }
@@ -91,51 +127,49 @@ fn setting(alloc: Global) -> Result<Setting, Fail> {
 }
 
 /// Entries, notes and a last line that go together in no run have their lines all the same.
+const LINES: [&str; 13] = [
+    "transcript 2\n",
+    "kernels 8\n",
+    "process 0 on 0\n",
+    "process 1 on 7\n",
+    "wire 0 1\n",
+    "1 k0 p0 make\n",
+    ". make 0.0a 0.0b\n",
+    "1 k1 p0 make\n",
+    ". make 0.0a 0.0b\n",
+    "2 k1 from 0 goneseen 0.0a\n",
+    "note 7 nothing\n",
+    "note 4294967295 waits\n",
+    "spent 3\n",
+];
+
+const NOTES: [ScriptNote; 2] = [
+    ScriptNote {
+        line: 7,
+        waits: false,
+    },
+    ScriptNote {
+        line: 4_294_967_295,
+        waits: true,
+    },
+];
+
 fn are_printed(alloc: Global, merged: &[Placed]) -> Result<(), Fail> {
-    let notes = [
-        ScriptNote {
-            line: 7,
-            waits: false,
-        },
-        ScriptNote {
-            line: 4_294_967_295,
-            waits: true,
-        },
-    ];
-    let lines = print_transcript(alloc, &setting(alloc)?, merged, &notes, Last::Spent(3))?;
-    let wanted = [
-        "transcript 2\n",
-        "kernels 8\n",
-        "process 0 on 0\n",
-        "process 1 on 7\n",
-        "wire 0 1\n",
-        "1 k0 p0 make\n",
-        ". make 0.0a 0.0b\n",
-        "1 k1 p0 make\n",
-        ". make 0.0a 0.0b\n",
-        "2 k1 from 0 goneseen 0.0a\n",
-        "note 7 nothing\n",
-        "note 4294967295 waits\n",
-        "spent 3\n",
-    ];
-    same_lines(&lines, &wanted)?;
-    same_lines(&print_header(alloc, &setting(alloc)?)?, &wanted[..5])?;
-    Ok(())
+    let setting = setting(alloc)?;
+    let lines = print_transcript(alloc, &setting, merged, &NOTES, Last::Spent(3))?;
+    same_lines(&lines, &LINES)?;
+    same_lines(&print_header(alloc, &setting)?, &LINES[..5])
 }
 
 #[test]
 fn journals_are_merged_by_stamp_and_then_by_kernel(rt: HostRuntime) -> Result<(), Fail> {
     let alloc = rt.alloc();
-    let journals = vec![in alloc;
-        of_two(alloc, 1, 4)?,
-        of_two(alloc, 1, 2)?,
-        of_two(alloc, 2, 3)?,
-    ]?;
-    holds(journals.len() <= 8, "at most eight journals")?;
-    let wanted = [(1, 0), (1, 1), (2, 1), (2, 2), (3, 2), (4, 0)];
+    let journals = journals(alloc)?;
+    if journals.len() > 8 {
+        return Err("more than eight journals".into());
+    }
     let merged = merge(alloc, &journals)?;
-    same_order(&merged, &wanted)?;
+    are_in_order(&merged)?;
     are_printed(alloc, merged.get(..3).ok_or("no entry")?)?;
-    same_order(&merge_whole(alloc, journals)?, &wanted)?;
-    Ok(())
+    are_in_order(&merge_whole(alloc, journals)?)
 }

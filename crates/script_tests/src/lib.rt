@@ -4,8 +4,6 @@
 #[cfg(test)]
 mod forms;
 #[cfg(test)]
-mod holding;
-#[cfg(test)]
 mod journals;
 #[cfg(test)]
 mod scripts;

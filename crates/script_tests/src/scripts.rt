@@ -1,11 +1,10 @@
 //! A script, from its text to its transcript. The others are performed by the program (.ci/rows).
 
-use crate::holding::holds;
-use charlotte_calls::{Call, Pid, Way};
-use lynx_plan::{CompactScriptCall, PlanFault, Script, ScriptCall, read_script};
+use crate::journals::holds;
+use charlotte_calls::{Pid, Setting};
+use lynx_plan::{CompactScriptCall, PlanFault, Script, ScriptLine, read_script};
 use script_run::{Performance, perform};
 use std::alloc::Global;
-use std::process::Abort;
 use std::test::Fail;
 use written_journal::TranscriptLines;
 
@@ -47,56 +46,78 @@ note 10 nothing
 quiet
 ";
 
-/// What the text of the script says.
-fn is_read(alloc: Global, script: &Script) -> Result<(), Fail> {
-    holds(
-        (script.setting.version, script.setting.kernels) == (1, 2),
-        "the version and the kernels",
-    )?;
-    holds(
-        script.setting.homes.as_slice() == [1, 0].as_slice(),
-        "the homes",
-    )?;
-    holds(
-        script.setting.wires.as_slice() == [(Pid(1), Pid(0))].as_slice(),
-        "the wires",
-    )?;
-    let lines = script.lines.as_slice();
-    holds(lines.len() == 6, "how many lines there are")?;
-    holds(
-        (lines[0].line, lines[1].line, lines[4].line) == (7, 8, 11),
-        "the numbers of lines",
-    )?;
-    let first = CompactScriptCall::of(alloc, &lines[0].what.script_call())?;
-    holds(
-        matches!(
-            first.script_call(),
-            ScriptCall::Ask(
-                Pid(1),
-                Call::Cancel {
-                    way: Way::Outward,
-                    ..
-                }
-            )
-        ),
-        "a call",
-    )?;
-    holds(
-        matches!(
-            lines[3].what.script_call(),
-            ScriptCall::Take { from: 0, to: 1 }
-        ),
-        "a take",
-    )?;
-    holds(
-        matches!(lines[4].what.script_call(), ScriptCall::Settle),
-        "a settle",
-    )?;
+/// What is said before the calls.
+fn has_setting(setting: &Setting) -> bool {
+    setting.version == 1
+        && setting.kernels == 2
+        && setting.homes.as_slice() == [1, 0].as_slice()
+        && setting.wires.as_slice() == [(Pid(1), Pid(0))].as_slice()
+}
+
+/// The number of a line, and what it calls.
+fn told_line(alloc: Global, line: &ScriptLine) -> Result<String, Fail> {
+    let compact = CompactScriptCall::of(alloc, &line.what.script_call())?;
+    let call = compact.script_call();
+    Ok(format!(in alloc; "{}: {call:?}", line.line)?)
+}
+
+/// Some lines of the script, as they are printed for debugging.
+const LINES: [(usize, &str); 4] = [
+    (
+        0,
+        "7: Ask(Pid(1), Cancel { on: EndId { link: LinkId { maker: 0, count: 0 }, side: A }, way: Outward })",
+    ),
+    (
+        1,
+        "8: Ask(Pid(0), Receive { on: EndId { link: LinkId { maker: 0, count: 0 }, side: B } })",
+    ),
+    (3, "10: Take { from: 0, to: 1 }"),
+    (4, "11: Settle"),
+];
+
+fn is_line(alloc: Global, lines: &[ScriptLine], (number, want): (usize, &str)) -> Result<(), Fail> {
+    let line = lines.get(number).ok_or("no such line")?;
+    let text = told_line(alloc, line)?;
+    holds(text.as_str() == want, want)
+}
+
+#[test]
+fn a_script_is_read(rt: HostRuntime) -> Result<(), Fail> {
+    let script = read_script(rt.alloc(), SCRIPT.as_bytes())?;
+    holds(has_setting(&script.setting), "the setting")?;
+    holds(script.lines.len() == 6, "how many lines there are")?;
+    for row in LINES {
+        is_line(rt.alloc(), script.lines.as_slice(), row)?;
+    }
     Ok(())
 }
 
+#[test]
+fn a_script_is_refused(rt: HostRuntime) -> Result<(), Fail> {
+    let refused = read_script(rt.alloc(), b"kernels 2\n\ntake 0 2").err();
+    holds(
+        refused == Some(PlanFault::BadPlan { line: 3, rule: 4 }),
+        "the line and the rule of a script that is refused",
+    )
+}
+
+/// The text of all lines.
+fn text_of(alloc: Global, mut rest: TranscriptLines) -> Result<Vec<u8>, Fail> {
+    let mut next = Vec::new(alloc);
+    let mut text = Vec::new(alloc);
+    for _ in 0..100 {
+        if !rest.next_line(&mut next)? {
+            return Ok(text);
+        }
+        text.extend_from_slice(next.as_slice())?;
+    }
+    Err("too many lines".into())
+}
+
 /// The lines that the script gives are those of the transcript.
-fn has_transcript(rt: &impl Abort, alloc: Global) -> Result<(), Fail> {
+#[test]
+fn a_script_is_performed(rt: HostRuntime) -> Result<(), Fail> {
+    let alloc = rt.alloc();
     let bytes = SCRIPT.as_bytes();
     assert!(rt; bytes.len() < 100_000);
     let Script { setting, lines } = read_script(alloc, bytes)?;
@@ -105,29 +126,6 @@ fn has_transcript(rt: &impl Abort, alloc: Global) -> Result<(), Fail> {
         notes,
         last,
     } = perform(alloc, &setting, lines)?;
-    let mut rest = TranscriptLines::of(setting, merged, notes, last);
-    let mut next = Vec::new(alloc);
-    let mut text = Vec::new(alloc);
-    for byte in TRANSCRIPT.as_bytes() {
-        if *byte == b'\n' {
-            holds(rest.next_line(&mut next)?, "a line")?;
-            text.extend_from_slice(next.as_slice())?;
-        }
-    }
-    holds(!rest.next_line(&mut next)?, "nothing behind the last line")?;
-    holds(text.as_slice() == TRANSCRIPT.as_bytes(), "the transcript")?;
-    Ok(())
-}
-
-#[test]
-fn a_script_is_read_and_performed(rt: HostRuntime) -> Result<(), Fail> {
-    let script = read_script(rt.alloc(), SCRIPT.as_bytes())?;
-    is_read(rt.alloc(), &script)?;
-    has_transcript(&rt, rt.alloc())?;
-    let refused = read_script(rt.alloc(), b"kernels 2\n\ntake 0 2").err();
-    holds(
-        refused == Some(PlanFault::BadPlan { line: 3, rule: 4 }),
-        "the line and the rule of a script that is refused",
-    )?;
-    Ok(())
+    let text = text_of(alloc, TranscriptLines::of(setting, merged, notes, last))?;
+    holds(text.as_slice() == TRANSCRIPT.as_bytes(), "the transcript")
 }

@@ -3,8 +3,6 @@
 #![tactic(auto)]
 
 #[cfg(test)]
-mod holding;
-#[cfg(test)]
 mod links;
 #[cfg(test)]
 mod processes;

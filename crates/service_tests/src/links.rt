@@ -1,12 +1,13 @@
 //! The ends of two links, and each call of `service_links` on them.
 
-use crate::holding::holds;
+use crate::service::{holds, push_words};
 use charlotte_calls::{Bytes, Cause, EndId, Ends, LinkId, Pid, Side, Way};
 use service_links::{
-    Letter, Links, cancel_cause, destroy_cause, no_ends, receive_cause, send_cause,
+    KeptEnd, Letter, Links, cancel_cause, destroy_cause, no_ends, receive_cause, send_cause,
 };
 use service_step::{Inward, Place};
-use std::alloc::Global;
+use std::alloc::{AllocError, Global};
+use std::fmt::Write;
 use std::test::Fail;
 
 const P0: Pid = Pid(0);
@@ -46,6 +47,129 @@ const D: EndId = EndId {
     side: Side::B,
 };
 
+/// A call on the links. The messages are those of end A, and a receive is that of end B.
+#[derive(Clone, Copy)]
+enum Act {
+    /// Nothing is called; an end is looked at.
+    Look,
+    /// The send of this number starts; its message carries C.
+    StartSend(u32),
+    /// Its message carries nothing.
+    StartEmpty(u32),
+    WithdrawSend,
+    Post,
+    MatchSend(u32),
+    TakeMessage,
+    FinishSend,
+    Idle(Way, EndId),
+    ReturnMessage,
+    Notice(EndId),
+    Destroy(EndId),
+    DestroyEach(&'static [EndId]),
+}
+
+/// A call, an end, and what is told of it then: its place, its receive, the causes of a Cancel of its send by process 0 and of a
+/// Receive on it by process 1, and which of the words of `words` hold.
+type Row = (Act, EndId, &'static str);
+
+/// The send 1 is taken back, and the send 2 is matched and taken.
+const CARRIES: &[Row] = &[
+    (
+        Act::Look,
+        A,
+        "Owned(Pid(0)) Idle Some(NoActivity) Some(NoEnd) idle",
+    ),
+    (Act::Look, NONE, "Unmade"),
+    (
+        Act::StartSend(1),
+        A,
+        "Owned(Pid(0)) Idle None Some(NoEnd) active waiting",
+    ),
+    (
+        Act::Look,
+        C,
+        "InMessage(EndId { link: LinkId { maker: 0, count: 0 }, side: A }, 1) Idle Some(NoEnd) Some(NoEnd) idle",
+    ),
+    (
+        Act::WithdrawSend,
+        C,
+        "Owned(Pid(0)) Idle Some(NoActivity) Some(NoEnd) idle",
+    ),
+    (
+        Act::Look,
+        A,
+        "Owned(Pid(0)) Idle Some(NoActivity) Some(NoEnd) idle",
+    ),
+    (
+        Act::StartSend(2),
+        A,
+        "Owned(Pid(0)) Idle None Some(NoEnd) active waiting",
+    ),
+    (
+        Act::Post,
+        B,
+        "Owned(Pid(1)) Posted Some(NoEnd) Some(Busy) active",
+    ),
+    (
+        Act::MatchSend(2),
+        A,
+        "Owned(Pid(0)) Idle Some(Late) Some(NoEnd) active matched",
+    ),
+    (
+        Act::Look,
+        B,
+        "Owned(Pid(1)) Matched(2) Some(NoEnd) Some(Busy) active",
+    ),
+    (
+        Act::TakeMessage,
+        A,
+        "Owned(Pid(0)) Idle Some(Late) Some(NoEnd) active taken",
+    ),
+    (Act::Look, C, "Owned(Pid(1)) Idle Some(NoEnd) None idle"),
+    (
+        Act::FinishSend,
+        A,
+        "Owned(Pid(0)) Idle Some(Late) Some(NoEnd)",
+    ),
+    (
+        Act::Idle(Way::Outward, A),
+        A,
+        "Owned(Pid(0)) Idle Some(NoActivity) Some(NoEnd) idle",
+    ),
+    (
+        Act::Idle(Way::Inward, B),
+        B,
+        "Owned(Pid(1)) Idle Some(NoEnd) None idle",
+    ),
+];
+
+/// A matched message comes back, the death of its link is noticed, and ends are destroyed.
+const DIES: &[Row] = &[
+    (
+        Act::StartEmpty(3),
+        A,
+        "Owned(Pid(0)) Idle None Some(NoEnd) active",
+    ),
+    (
+        Act::MatchSend(3),
+        A,
+        "Owned(Pid(0)) Idle Some(Late) Some(NoEnd) active",
+    ),
+    (
+        Act::ReturnMessage,
+        A,
+        "Owned(Pid(0)) Idle Some(Dead) Some(NoEnd) noticed",
+    ),
+    (
+        Act::Notice(D),
+        D,
+        "Owned(Pid(1)) Idle Some(NoEnd) Some(Dead) idle noticed",
+    ),
+    (Act::Destroy(A), A, "Destroyed"),
+    (Act::DestroyEach(&[B, C]), B, "Destroyed"),
+    (Act::Look, C, "Destroyed"),
+];
+
 /// The send `n` of end A is started, with a message that carries these ends.
 fn starts(alloc: Global, links: &mut Links, n: u32, carried: &Ends) -> Result<(), Fail> {
     let bytes = Bytes::from_slice(b"hi").ok_or("bytes")?;
@@ -54,123 +178,100 @@ fn starts(alloc: Global, links: &mut Links, n: u32, carried: &Ends) -> Result<()
     Ok(())
 }
 
-/// Whether a message was taken that carries C.
-fn carries_c(taken: &Option<Letter>) -> bool {
-    match taken {
-        Some(letter) => letter.enclosed() == [C].as_slice(),
-        None => false,
-    }
+/// The message of end A is taken, and carries C.
+fn takes(links: &mut Links) -> Result<(), Fail> {
+    let letter = links.take_message(A, P1).ok_or("no message")?;
+    holds(
+        letter.enclosed() == [C].as_slice(),
+        "the message that is taken",
+    )
 }
 
 /// Both links are made: process 0 owns their ends a, process 1 their ends b.
 fn made(alloc: Global) -> Result<Links, Fail> {
     let mut links = Links::empty(alloc);
-    holds(!links.look(A).place().is_made(), "an end of no link")?;
     links.add(LINK, (P0, P1))?;
     links.add(OTHER, (P0, P1))?;
-    holds(
-        links.look(D).place() == Place::Owned(P1) && !links.look(NONE).place().is_made(),
-        "the ends of a maker",
-    )?;
     Ok(links)
 }
 
-/// Nothing is refused but what is not a process's own, and a Cancel of nothing.
-fn has_causes(links: &Links) -> Result<(), Fail> {
-    holds(
-        destroy_cause(links, P0, A) == None && destroy_cause(links, P1, A) == Some(Cause::NoEnd),
-        "the cause of a Destroy",
-    )?;
-    holds(
-        send_cause(links, P0, A, &[C]) == None
-            && send_cause(links, P0, A, &[D]) == Some(Cause::EncloseNoEnd),
-        "the cause of a Send",
-    )?;
-    holds(
-        receive_cause(links, P1, B) == None,
-        "the cause of a Receive",
-    )?;
-    holds(
-        cancel_cause(links, P0, A, Way::Outward) == Some(Cause::NoActivity),
-        "the cause of a Cancel",
-    )
+fn perform(alloc: Global, links: &mut Links, act: Act) -> Result<(), Fail> {
+    match act {
+        Act::Look => {}
+        Act::StartSend(n) => starts(alloc, links, n, &Ends::from_slice(&[C]).ok_or("ends")?)?,
+        Act::StartEmpty(n) => starts(alloc, links, n, &no_ends())?,
+        Act::WithdrawSend => links.withdraw_send(P0, A),
+        Act::Post => links.turn_inward(Inward::Posted, B),
+        Act::MatchSend(n) => links.match_send(A, n),
+        Act::TakeMessage => takes(links)?,
+        Act::FinishSend => links.finish_send(A),
+        Act::Idle(way, e) => links.idle(way, e),
+        Act::ReturnMessage => links.return_message(A),
+        Act::Notice(e) => links.notice(e),
+        Act::Destroy(e) => links.destroy(e),
+        Act::DestroyEach(ends) => links.destroy_each(P1, ends),
+    }
+    Ok(())
 }
 
-/// The send 1 is taken back, and the send 2 is matched and taken.
-fn carries(alloc: Global, links: &mut Links) -> Result<(), Fail> {
-    let c = Ends::from_slice(&[C]).ok_or("ends")?;
-    starts(alloc, links, 1, &c)?;
-    holds(
-        links.look(A).waiting_ends().as_slice() == [C].as_slice(),
-        "the ends of a message that waits",
-    )?;
-    holds(
-        links.look(C).place() == Place::InMessage(A, 1),
-        "an end in a message",
-    )?;
-    links.withdraw_send(P0, A);
-    holds(
-        links.look(C).place() == Place::Owned(P0) && links.look(A).is_idle(),
-        "a send that is taken back",
-    )?;
-    starts(alloc, links, 2, &c)?;
-    links.turn_inward(Inward::Posted, B);
-    links.match_send(A, 2);
-    holds(
-        links.look(A).matched_ends().as_slice() == [C].as_slice(),
-        "the ends of a message that is matched",
-    )?;
-    holds(
-        links.look(B).inward() == Inward::Matched(2),
-        "a matched receive",
-    )?;
-    let taken = links.take_message(A, P1);
-    holds(carries_c(&taken), "the message that is taken")?;
-    holds(
-        links.look(C).place() == Place::Owned(P1) && links.look(A).is_taken(),
-        "a message that is taken",
-    )?;
-    links.finish_send(A);
-    holds(
-        cancel_cause(links, P0, A, Way::Outward) == Some(Cause::Late),
-        "the cause of a Cancel",
-    )?;
-    links.idle(Way::Outward, A);
-    links.idle(Way::Inward, B);
-    holds(
-        links.look(A).is_idle() && links.look(B).is_idle(),
-        "ends that are idle again",
-    )
+/// What holds of an end, in words.
+fn words(end: &KeptEnd) -> [(bool, &'static str); 6] {
+    [
+        (end.is_idle(), " idle"),
+        (end.is_active(), " active"),
+        (end.waiting_ends().as_slice() == [C].as_slice(), " waiting"),
+        (end.matched_ends().as_slice() == [C].as_slice(), " matched"),
+        (end.is_taken(), " taken"),
+        (end.noticed(), " noticed"),
+    ]
 }
 
-/// A matched message comes back, the death of its link is noticed, and ends are destroyed.
-fn dies(alloc: Global, links: &mut Links) -> Result<(), Fail> {
-    starts(alloc, links, 3, &no_ends())?;
-    links.match_send(A, 3);
-    links.return_message(A);
-    holds(
-        links.look(A).noticed() && !links.look(A).is_idle() && !links.look(A).is_active(),
-        "a message that came back",
-    )?;
-    links.notice(D);
-    holds(
-        receive_cause(links, P1, D) == Some(Cause::Dead),
-        "the cause of a Receive",
-    )?;
-    links.destroy(A);
-    links.destroy_each(P1, &[B, C]);
-    holds(
-        links.look(A).place().is_destroyed()
-            && links.look(B).place().is_destroyed()
-            && links.look(C).place().is_destroyed(),
-        "ends that are destroyed",
-    )
+fn told(alloc: Global, links: &Links, e: EndId) -> Result<String, AllocError> {
+    let end = links.look(e);
+    if end.place().is_destroyed() {
+        return String::from_str(alloc, "Destroyed");
+    }
+    if !end.place().is_made() {
+        return String::from_str(alloc, "Unmade");
+    }
+    let causes = (
+        cancel_cause(links, P0, e, Way::Outward),
+        receive_cause(links, P1, e),
+    );
+    let mut text = format!(in alloc; "{:?} {:?}", end.place(), end.inward())?;
+    write!(text, " {:?} {:?}", causes.0, causes.1)?;
+    push_words(&mut text, &words(end))?;
+    Ok(text)
+}
+
+fn gives(alloc: Global, links: &mut Links, (act, e, want): Row) -> Result<(), Fail> {
+    perform(alloc, links, act)?;
+    let text = told(alloc, links, e)?;
+    holds(text.as_str() == want, want)
 }
 
 #[test]
 fn each_call_of_service_links(rt: HostRuntime) -> Result<(), Fail> {
     let mut links = made(rt.alloc())?;
-    has_causes(&links)?;
-    carries(rt.alloc(), &mut links)?;
-    dies(rt.alloc(), &mut links)
+    for rows in [CARRIES, DIES] {
+        for row in rows {
+            gives(rt.alloc(), &mut links, *row)?;
+        }
+    }
+    Ok(())
+}
+
+/// Nothing is refused but what is not a process's own.
+#[test]
+fn ends_are_refused_to_others(rt: HostRuntime) -> Result<(), Fail> {
+    let links = made(rt.alloc())?;
+    let destroys = (destroy_cause(&links, P0, A), destroy_cause(&links, P1, A));
+    let sends = (
+        send_cause(&links, P0, A, &[C]),
+        send_cause(&links, P0, A, &[D]),
+    );
+    holds(
+        destroys == (None, Some(Cause::NoEnd)) && sends == (None, Some(Cause::EncloseNoEnd)),
+        "the causes of a Destroy and of a Send",
+    )
 }

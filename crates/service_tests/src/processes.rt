@@ -1,86 +1,200 @@
 //! Two processes, and each call of `service_processes` on one of them.
+ghost use Rattle.std.specs.Prelude.{◌≡◌, length};
 
-use crate::holding::holds;
+use crate::service::{holds, push_words};
 use charlotte_calls::{EndId, Items, LinkId, Outcome, Pid, Side, Way};
 use service_processes::{KeptReport, Processes};
 use service_step::Phase;
-use std::alloc::Global;
+use std::alloc::{AllocError, Global};
+use std::fmt::Write;
 use std::test::Fail;
 
 const P: Pid = Pid(1);
 
-const fn end(count: u32) -> EndId {
-    EndId {
-        link: LinkId { maker: 0, count },
-        side: Side::A,
+const X: EndId = EndId {
+    link: LinkId { maker: 0, count: 0 },
+    side: Side::A,
+};
+
+const Y: EndId = EndId {
+    link: LinkId { maker: 0, count: 1 },
+    side: Side::A,
+};
+
+const Z: EndId = EndId {
+    link: LinkId { maker: 0, count: 2 },
+    side: Side::A,
+};
+
+/// A call for the process. A report is on the end that is named.
+#[derive(Clone, Copy)]
+enum Act {
+    Hold(EndId),
+    Activate(EndId),
+    Learn(EndId),
+    LearnBoth(EndId, EndId),
+    ForgetLastActive,
+    Forget(EndId),
+    Cancel(EndId),
+    Wait,
+    Wake(EndId),
+    /// To a Cancel of the first end, a report on the second.
+    Tell(EndId, EndId),
+    TellReserved(EndId, EndId),
+    Gain(EndId, EndId),
+    Give,
+    End,
+}
+
+/// A call, and what is told of the process then: its phase, the numbers of the ends that it holds, the end that was active last, and
+/// the end of its oldest report.
+type Row = (Act, &'static str);
+
+const ENDS: [Row; 6] = [
+    (Act::Hold(X), "running, holds 0, last None, report None"),
+    (
+        Act::Activate(X),
+        "running, holds 0, last Some(0), report None",
+    ),
+    (Act::Learn(X), "running, holds 0, last Some(0), report None"),
+    (
+        Act::LearnBoth(Y, Z),
+        "running, holds 0 1 2, last Some(2), report None",
+    ),
+    (
+        Act::ForgetLastActive,
+        "running, holds 0 1 2, last Some(1), report None",
+    ),
+    (
+        Act::Forget(Y),
+        "running, holds 0 2, last Some(0), report None",
+    ),
+];
+
+const REPORTS: [Row; 9] = [
+    (Act::Cancel(X), "cancelling, holds, last None, report None"),
+    (Act::Wake(Y), "cancelling, holds, last None, report None"),
+    (Act::Tell(X, X), "running, holds, last None, report Some(0)"),
+    (Act::Gain(Y, Z), "running, holds, last None, report Some(0)"),
+    (Act::Wait, "waiting, holds, last None, report Some(0)"),
+    (Act::Give, "running, holds, last None, report Some(1)"),
+    (Act::Give, "running, holds, last None, report Some(2)"),
+    (Act::Give, "running, holds, last None, report None"),
+    (
+        Act::TellReserved(X, Y),
+        "running, holds, last None, report Some(1)",
+    ),
+];
+
+/// What a process does, in words; a Cancel is that on X.
+fn words(phase: Phase) -> [(bool, &'static str); 4] {
+    [
+        (phase.is_running(), "running"),
+        (phase.is_cancelling(X), "cancelling"),
+        (phase == Phase::Waiting, "waiting"),
+        (phase == Phase::Ended, "ended"),
+    ]
+}
+
+/// Two processes.
+#[derive(Drop)]
+struct Two {
+    alloc: Global,
+    processes: Processes,
+    ghost counted: { 2 ≡ length processes },
+}
+
+impl Two {
+    fn fresh(alloc: Global) -> Result<Two, Fail> {
+        let processes = Processes::fresh(alloc, 2)?;
+        Ok(Two { alloc, processes })
+    }
+
+    fn report(&self, end: EndId) -> Option<KeptReport> {
+        let bytes = Items::of(Vec::new(self.alloc));
+        let enclosed = Items::of(Vec::new(self.alloc));
+        Some(KeptReport::of(end, Way::Outward, Outcome::Done, bytes, enclosed))
+    }
+
+    fn perform(&mut self, act: Act) -> Result<(), Fail> {
+        match act {
+            Act::Hold(e) => self.processes.hold(P, e)?,
+            Act::Activate(e) => self.processes.activate(P, e)?,
+            Act::Learn(e) => self.processes.learn(P, e)?,
+            Act::LearnBoth(first, second) => self.processes.learn_each(P, &[first, second])?,
+            Act::ForgetLastActive => self.processes.forget_last_active(P),
+            Act::Forget(e) => self.processes.forget(P, e),
+            _ => self.perform_on_reports(act)?,
+        }
+        Ok(())
+    }
+
+    fn perform_on_reports(&mut self, act: Act) -> Result<(), Fail> {
+        match act {
+            Act::Cancel(e) => self.processes.turn(P, Phase::Cancelling(e)),
+            Act::Wait => self.processes.turn(P, Phase::Waiting),
+            Act::Wake(e) => self.processes.wake(P, e),
+            Act::Tell(e, on) => {
+                let report = self.report(on);
+                self.processes.tell(P, e, report, None)?;
+            }
+            Act::TellReserved(e, on) => {
+                let report = self.report(on);
+                self.processes.reserve(P)?;
+                self.processes.tell_reserved(P, e, report);
+            }
+            Act::Gain(first, second) => {
+                let reports = (self.report(first), self.report(second));
+                self.processes.gain(P, reports.0, reports.1)?;
+            }
+            Act::Give => self.processes.give(P),
+            _ => self.processes.end(P),
+        }
+        Ok(())
+    }
+
+    fn told(&self) -> Result<String, AllocError> {
+        let last = self.processes.last_active(P).map(|e| e.link.count);
+        let oldest = self
+            .processes
+            .oldest(P)
+            .map(|report| report.on().link.count);
+        let mut text = String::new(self.alloc);
+        push_words(&mut text, &words(self.processes.phase(P)))?;
+        text.push_str(", holds")?;
+        for e in self.processes.held(P) {
+            write!(text, " {}", e.link.count)?;
+        }
+        write!(text, ", last {last:?}, report {oldest:?}")?;
+        Ok(text)
+    }
+
+    fn gives(&mut self, (act, want): Row) -> Result<(), Fail> {
+        self.perform(act)?;
+        let text = self.told()?;
+        holds(text.as_str() == want, want)
     }
 }
 
-fn report(alloc: Global, count: u32) -> KeptReport {
-    let bytes = Items::of(Vec::new(alloc));
-    let enclosed = Items::of(Vec::new(alloc));
-    KeptReport::of(end(count), Way::Outward, Outcome::Done, bytes, enclosed)
+#[test]
+fn a_process_knows_its_ends(rt: HostRuntime) -> Result<(), Fail> {
+    let mut two = Two::fresh(rt.alloc())?;
+    for row in ENDS {
+        two.gives(row)?;
+    }
+    two.gives((Act::End, "ended, holds 0 2, last Some(0), report None"))
 }
 
 #[test]
-fn each_call_of_service_processes(rt: HostRuntime) -> Result<(), Fail> {
-    let (a, b, c) = (end(0), end(1), end(2));
-    let mut processes = Processes::fresh(rt.alloc(), 2)?;
-    holds(processes.phase(P).is_running(), "a new process")?;
+fn a_process_has_reports(rt: HostRuntime) -> Result<(), Fail> {
+    let mut two = Two::fresh(rt.alloc())?;
+    for row in REPORTS {
+        two.gives(row)?;
+    }
+    let (phase, has) = (two.processes.phase(Pid(2)), two.processes.has_report(P));
     holds(
-        processes.phase(Pid(2)) == Phase::Ended,
-        "a process that is not there",
+        phase == Phase::Ended && has,
+        "a process that is not there, and one with a report",
     )?;
-    processes.hold(P, a)?;
-    holds(
-        processes.held(P).len() == 1 && processes.last_active(P) == None,
-        "an end without an activity",
-    )?;
-    processes.activate(P, a)?;
-    processes.learn(P, a)?;
-    processes.learn_each(P, &[b, c])?;
-    holds(
-        processes.held(P) == [a, b, c].as_slice() && processes.last_active(P) == Some(c),
-        "the ends that are known",
-    )?;
-    processes.forget_last_active(P);
-    holds(
-        processes.held(P).len() == 3 && processes.last_active(P) == Some(b),
-        "the end that was active last",
-    )?;
-    processes.forget(P, b);
-    holds(
-        processes.held(P).len() == 2 && processes.last_active(P) == Some(a),
-        "an end that is forgotten",
-    )?;
-    processes.turn(P, Phase::Cancelling(a));
-    processes.wake(P, b);
-    holds(
-        processes.phase(P).is_cancelling(a),
-        "a Cancel of another end",
-    )?;
-    processes.tell(P, a, Some(report(rt.alloc(), 0)), None)?;
-    holds(
-        processes.phase(P).is_running() && processes.has_report(P),
-        "a Cancel that is over",
-    )?;
-    processes.gain(P, Some(report(rt.alloc(), 1)), Some(report(rt.alloc(), 2)))?;
-    processes.turn(P, Phase::Waiting);
-    processes.give(P);
-    let oldest = processes.oldest(P).map(|report| report.on());
-    holds(
-        processes.phase(P).is_running() && oldest == Some(end(1)),
-        "the oldest report",
-    )?;
-    processes.reserve(P)?;
-    processes.tell_reserved(P, a, Some(report(rt.alloc(), 3)));
-    processes.give(P);
-    processes.give(P);
-    let oldest = processes.oldest(P).map(|report| report.on());
-    holds(oldest == Some(end(3)), "a report for which room was made")?;
-    processes.end(P);
-    holds(
-        processes.phase(P) == Phase::Ended && !processes.has_report(P),
-        "a process that ended",
-    )
+    two.gives((Act::End, "ended, holds, last None, report None"))
 }

@@ -1,11 +1,10 @@
 //! The table of steps. A row has the steps before, its own steps, and the number of the last where that is not allowed.
 
-use crate::holding::holds;
 use crate::service::Act::{
     Cancels, Completes, Destroys, Exits, Frees, Makes, Matches, Notices, Receives, Refuses,
     Reports, Returns, Sends, Takes, Waits, Withdraws,
 };
-use crate::service::{A, Act, Ask, B, C, D, E, F, LATER, M, N, P, Q, row};
+use crate::service::{A, Act, Ask, B, C, D, E, F, LATER, M, N, P, Q, holds, row};
 use charlotte_calls::Cause::{
     Busy, Dead, EncloseBusy, EncloseNoEnd, EncloseSame, EncloseTwice, Late, LinksFull, NoActivity,
     NoEnd,
@@ -274,8 +273,10 @@ const IN_VERSION_2: &[Row] = &[
     (NOTHING, &[Sends(A, 1, &[C, C])], Some(4)),
 ];
 
+type At = (&'static [Act], &'static [Act], EndId, Place);
+
 /// Where an end is after these steps, each of which is allowed.
-const PLACES: &[(&[Act], &[Act], EndId, Place)] = &[
+const PLACES: &[At] = &[
     (NOTHING, &[], A, Place::Owned(P)),
     (NOTHING, &[], F, Place::Owned(Q)),
     (NOTHING, &[], M, Place::Unmade),
@@ -304,32 +305,51 @@ const PLACES: &[(&[Act], &[Act], EndId, Place)] = &[
     ),
 ];
 
-fn each(alloc: Global, version: u8, rows: &[Row]) -> Result<(), Fail> {
-    for (before, acts, refused) in rows {
-        let _service = row(alloc, version, (before, acts), *refused)?;
+fn is_row(alloc: Global, version: u8, (before, acts, refused): Row) -> Result<(), Fail> {
+    let _service = row(alloc, version, (before, acts), refused)?;
+    Ok(())
+}
+
+#[test]
+fn each_call_is_allowed_or_not(rt: HostRuntime) -> Result<(), Fail> {
+    for row in CALLS {
+        is_row(rt.alloc(), 1, *row)?;
     }
     Ok(())
 }
 
 #[test]
-fn each_step_is_allowed_or_not(rt: HostRuntime) -> Result<(), Fail> {
-    each(rt.alloc(), 1, CALLS)?;
-    each(rt.alloc(), 1, EVENTS)?;
-    each(rt.alloc(), 2, IN_VERSION_2)
-}
-
-#[test]
-fn a_take_at_the_start_is_not_allowed(rt: HostRuntime) -> Result<(), Fail> {
-    let take = [Takes(A, 1, Q, false)];
-    let _service = row(rt.alloc(), 1, (NOTHING, &take), Some(11))?;
+fn each_event_is_allowed_or_not(rt: HostRuntime) -> Result<(), Fail> {
+    for row in EVENTS {
+        is_row(rt.alloc(), 1, *row)?;
+    }
     Ok(())
 }
 
 #[test]
+fn each_message_of_version_2_is_allowed_or_not(rt: HostRuntime) -> Result<(), Fail> {
+    for row in IN_VERSION_2 {
+        is_row(rt.alloc(), 2, *row)?;
+    }
+    Ok(())
+}
+
+const TAKE: Row = (NOTHING, &[Takes(A, 1, Q, false)], Some(11));
+
+#[test]
+fn a_take_at_the_start_is_not_allowed(rt: HostRuntime) -> Result<(), Fail> {
+    is_row(rt.alloc(), 1, TAKE)
+}
+
+fn is_at(alloc: Global, (before, acts, end, place): At) -> Result<(), Fail> {
+    let service = row(alloc, 1, (before, acts), None)?;
+    holds(service.place(end) == place, "the place of an end")
+}
+
+#[test]
 fn each_end_is_at_its_place(rt: HostRuntime) -> Result<(), Fail> {
-    for (before, acts, end, place) in PLACES {
-        let service = row(rt.alloc(), 1, (before, acts), None)?;
-        holds(service.place(*end) == *place, "the place of an end")?;
+    for row in PLACES {
+        is_at(rt.alloc(), *row)?;
     }
     Ok(())
 }

@@ -1,12 +1,13 @@
 //! Services that make the steps of a row.
+ghost use Rattle.std.specs.Prelude.{IfOk};
+ghost use Rattle.charlotte_calls.specs.Setting.{IsValid};
 
-use crate::holding::holds;
 use charlotte_calls::{
     Bytes, Call, Cause, EndId, Ends, Items, LinkId, Outcome, Pid, Report, ServiceStep, Setting,
     Side, Way,
 };
 use link_service::{ApplyFault, Service};
-use std::alloc::Global;
+use std::alloc::{AllocError, Global};
 use std::test::Fail;
 
 pub(crate) const P: Pid = Pid(0);
@@ -105,6 +106,24 @@ pub(crate) enum Act {
     Returns(EndId, u32, bool),
 }
 
+/// Fails the test, and tells what was looked at, unless this holds.
+pub(crate) fn holds(is_so: bool, what: &str) -> Result<(), Fail> {
+    if is_so { Ok(()) } else { Err(what.into()) }
+}
+
+/// Adds the words that hold.
+pub(crate) fn push_words(
+    text: &mut String,
+    words: &[(bool, &'static str)],
+) -> Result<(), AllocError> {
+    for (is_so, word) in words {
+        if *is_so {
+            text.push_str(word)?;
+        }
+    }
+    Ok(())
+}
+
 fn bytes() -> Result<Bytes, Fail> {
     Ok(Bytes::from_slice(b"x").ok_or("one byte")?)
 }
@@ -173,16 +192,26 @@ fn step_of(act: Act) -> Result<ServiceStep, Fail> {
 }
 
 /// Two processes on two kernels, and three links from the first to the second.
-fn start(alloc: Global, version: u8) -> Result<Service, Fail> {
+fn setting(alloc: Global, version: u8) -> Result<Setting, Fail>
+    ensures { IfOk result (λ s. IsValid s) }
+{
+    let homes = vec![in alloc; 0, 1]?;
+    let wires = vec![in alloc; (P, Q), (P, Q), (P, Q)]?;
     let setting = Setting {
         version,
         kernels: 2,
-        homes: Items::of(vec![in alloc; 0, 1]?),
-        wires: Items::of(vec![in alloc; (P, Q), (P, Q), (P, Q)]?),
+        homes: Items::of(homes),
+        wires: Items::of(wires),
     };
-    if !setting.valid() {
-        return Err(Fail::from("the setting is valid"));
+    if setting.valid() {
+        Ok(setting)
+    } else {
+        Err("the setting is valid".into())
     }
+}
+
+fn start(alloc: Global, version: u8) -> Result<Service, Fail> {
+    let setting = setting(alloc, version)?;
     Ok(Service::start(alloc, &setting)?)
 }
 

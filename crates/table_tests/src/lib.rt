@@ -2,7 +2,7 @@
 #![tactic(auto)]
 
 #[cfg(test)]
-mod holding;
+mod acts;
 #[cfg(test)]
 mod samples;
 #[cfg(test)]

@@ -1,9 +1,6 @@
 //! What several tests use.
-ghost use Rattle.std.specs.Prelude.{◌≡◌};
-ghost use Rattle.charlotte_calls.specs.Moving.{new_end};
-ghost use Rattle.charlotte_calls.specs.declared.names.Side.TheVariants.{A};
-
 use charlotte_calls::{Bytes, EndId, Ends, LinkId, Moving, Pid, Side};
+use end_table::Outward;
 use std::test::Fail;
 
 /// The end on which the table is tried.
@@ -12,30 +9,33 @@ pub(crate) const END: EndId = EndId {
     side: Side::A,
 };
 
-/// The process that owns it.
+/// The process that owns it at first.
 pub(crate) const OWNER: Pid = Pid(1);
 
-/// An end of a link of kernel 1.
-pub(crate) fn end(count: u32, side: Side) -> EndId {
-    EndId {
-        link: LinkId { maker: 1, count },
-        side,
-    }
-}
-
-pub(crate) fn some_bytes() -> Result<Bytes, Fail> {
-    Ok(Bytes::from_slice(b"hi").ok_or("bytes")?)
-}
-
-pub(crate) fn two_ends() -> Result<Ends, Fail> {
-    Ok(Ends::from_slice(&[end(8, Side::B), end(7, Side::A)]).ok_or("ends")?)
+/// Fails the test, and tells what was looked at, unless this holds.
+pub(crate) fn holds(is_so: bool, what: &str) -> Result<(), Fail> {
+    if is_so { Ok(()) } else { Err(what.into()) }
 }
 
 /// End a of a link, whose opposite is at kernel 3.
-pub(crate) fn end_a(link: LinkId) -> Moving
-    ensures { result ≡ new_end (record { link = link; side = A }) 3 }
-{
+pub(crate) fn end_a(link: LinkId) -> Moving {
     let (a, b) = Moving::pair(link, 0, 3);
     b.destroy();
     a
+}
+
+/// End b of a link.
+pub(crate) fn end_b(maker: u8, count: u32) -> Moving {
+    let (a, b) = Moving::pair(LinkId { maker, count }, 1, 1);
+    a.destroy();
+    b
+}
+
+/// A send that waits.
+pub(crate) fn waiting(n: u32) -> Result<Outward, Fail> {
+    Ok(Outward::Waiting {
+        n,
+        bytes: Bytes::from_slice(b"hi").ok_or("bytes")?,
+        enclosed: Ends::from_slice(&[]).ok_or("ends")?,
+    })
 }

@@ -1,16 +1,23 @@
 -- What an audit of a text answers.
-use Rattle.std.specs.Prelude.{ℕ, List}
+use Rattle.std.specs.Prelude.{◌≡◌, ℕ, List, [], ◌∷◌, ◌++◌, None, Ok, Err}
 use Rattle.journal_text.specs.declared.last.Last.{Last}
-use Rattle.kernel_journal.specs.Faults.{IsFirstDifference, IsReplayOf, kinds_in}
+use Rattle.kernel_journal.specs.At.{IsAt}
+use Rattle.kernel_journal.specs.Expected.{HasDiffered}
+use Rattle.kernel_journal.specs.Faults.{IsFaultAt, IsFirstDifference, IsReplayOf, kinds_in}
 use Rattle.kernel_journal.specs.declared.fault.ReplayFault.{ReplayFault}
 use Rattle.kernel_journal.specs.declared.fault.ReplayFault.TheVariants as replay
+use Rattle.kernel_journal.specs.declared.lines.Replay.{Replay}
 use Rattle.replay_law.specs.Law.{IsLawfulReplay}
 use Rattle.transcript_audit.specs.declared.fault.AuditFault.{AuditFault}
 use Rattle.transcript_audit.specs.declared.fault.AuditFault.TheVariants.{NoTranscript, NoMemory}
+use Rattle.transcript_audit.specs.declared.halt.Halt.{Halt}
+use Rattle.transcript_audit.specs.declared.halt.Halt.TheVariants as halt
+use Rattle.transcript_reader.specs.Lines.{Unread, lines_left, lines_read, next_line, with_all}
 use Rattle.transcript_reader.specs.Text.{AreLines, IsBadLine}
 use Rattle.transcript_reader.specs.declared.fault.LineFault.{LineFault}
 use Rattle.transcript_reader.specs.declared.fault.LineFault.TheVariants as reading
 use Rattle.transcript_reader.specs.declared.line.Line.{Line}
+use Rattle.transcript_reading.specs.declared.line.LineKind.{LineKind}
 
 -- The text is the transcript of a run with this last line, and its service lines are one lawful run of the link service.
 pub record IsAudited (bytes : List ℕ) (last : Last) : Type 0 where
@@ -37,18 +44,47 @@ IsFaultOf bytes NoMemory = Unit {0}
 
 -- ---- inside
 
-abbrev pub IsBadFault : List ℕ → AuditFault → Type 0
-IsBadFault bytes (NoTranscript number) = IsBadLine bytes number
-IsBadFault bytes NoMemory = Unit {0}
+-- all lines were read and taken before
+pub record HasReadAll (taken : List LineKind) (old : Unread) (r : Replay) : Type 0 where
+  pub none : next_line old ≡ Ok None
+  pub at : IsAt taken old.place r
 
-abbrev pub IsFaultIn : List ℕ → AuditFault → Type 0
-IsFaultIn bytes (NoTranscript number) = IsDifferent bytes number
-IsFaultIn bytes NoMemory = Unit {0}
+-- the next line was read and differs, or cannot stand and was not read
+abbrev pub HasHalted : List LineKind → Unread → Unread → Halt → Type 0
+HasHalted taken old new (halt.Bad number) = next_line old ≡ Err number
+HasHalted taken old new (halt.Differs number) = HasDiffered taken old new number
+HasHalted taken old new halt.NoMemory = Unit {0}
+
+-- the line that was read last differs from what the kernels give, and no line before it; these are left
+pub record DiffersBehind (bytes : List ℕ) (left : Unread) (number : ℕ) : Type 0 where
+  pub before : List Line
+  pub line : Line
+  pub rest : with_all (before ++ line ∷ []) (lines_left left) ≡ lines_read bytes
+  pub differs : IsFaultAt (kinds_in before) line (replay.Differs number)
+
+-- why the replay of a text halted, of which this is left
+abbrev pub IsHaltBehind : List ℕ → Unread → Halt → Type 0
+IsHaltBehind bytes left (halt.Bad number) = IsBadLine bytes number
+IsHaltBehind bytes left (halt.Differs number) = DiffersBehind bytes left number
+IsHaltBehind bytes left halt.NoMemory = Unit {0}
+
+-- each line that is left can stand where it stands
+abbrev pub AreRest : Unread → Type 0
+AreRest left = (lines : List Line) × (lines_left left ≡ Ok lines)
+
+-- the line of the fault cannot
+abbrev pub IsBadRest : Unread → LineFault → Type 0
+IsBadRest left (reading.BadLine number) = lines_left left ≡ Err number
+IsBadRest left reading.NoMemory = Unit {0}
 
 abbrev pub fault_of_lines : LineFault → AuditFault
 fault_of_lines (reading.BadLine number) = NoTranscript number
 fault_of_lines reading.NoMemory = NoMemory
 
-abbrev pub fault_of_replay : ReplayFault → AuditFault
-fault_of_replay (replay.Differs number) = NoTranscript number
-fault_of_replay replay.NoMemory = NoMemory
+abbrev pub halt_of_lines : LineFault → Halt
+halt_of_lines (reading.BadLine number) = halt.Bad number
+halt_of_lines reading.NoMemory = halt.NoMemory
+
+abbrev pub halt_of_replay : ReplayFault → Halt
+halt_of_replay (replay.Differs number) = halt.Differs number
+halt_of_replay replay.NoMemory = halt.NoMemory

@@ -1,7 +1,6 @@
 ghost use Rattle.std.specs.Prelude.{◌≡◌};
-ghost use Rattle.transcript_audit.specs.Audit.{fault_of_lines, fault_of_replay};
+ghost use Rattle.transcript_audit.specs.Audit.{fault_of_lines};
 
-use kernel_journal::ReplayFault;
 use std::error::Error;
 use std::fmt;
 use transcript_reader::LineFault;
@@ -34,17 +33,6 @@ impl From<LineFault> for AuditFault {
         match fault {
             LineFault::BadLine { line } => AuditFault::NoTranscript { line },
             LineFault::NoMemory => AuditFault::NoMemory,
-        }
-    }
-}
-
-impl From<ReplayFault> for AuditFault {
-    ghost from_gives = { λ f e. e ≡ fault_of_replay f };
-
-    fn from(fault: ReplayFault) -> AuditFault {
-        match fault {
-            ReplayFault::Differs { line } => AuditFault::NoTranscript { line },
-            ReplayFault::NoMemory => AuditFault::NoMemory,
         }
     }
 }

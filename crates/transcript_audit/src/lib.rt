@@ -3,6 +3,7 @@
 
 mod auditing;
 mod fault;
+mod halt;
 mod law;
 
 pub use auditing::audit;

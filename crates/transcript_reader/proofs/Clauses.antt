@@ -1,5 +1,5 @@
 -- The clauses of the reader, and the lines that are left.
-use Rattle.std.proofs.Common.{◌≡◌, ℕ, ◌+◌, ◌<◌, ◌≤◌, true, false, cond, eqb, List, [], ◌∷◌, ◌++◌, length, Option, Some, None, Result, Ok, Err, refl, sym, ap, subst, ◌∙◌, arith}
+use Rattle.std.proofs.Common.{◌≡◌, ℕ, ◌+◌, ◌<◌, ◌≤◌, true, false, cond, eqb, Bool, List, [], ◌∷◌, ◌++◌, length, Option, Some, None, Result, Ok, Err, refl, sym, ap, subst, ◌∙◌, arith}
 use Rattle.std.specs.Prelude.{IfOk, IfErr}
 use Rattle.std.specs.Global.{Vec}
 use Rattle.std.proofs.lemmas.List.Sums.{count_by-le-length}
@@ -7,14 +7,14 @@ use Rattle.std.proofs.lemmas.List.Splits.{length-slice_split}
 use Rattle.charlotte_text.specs.declared.fault.Fault.{Fault}
 use Rattle.charlotte_text.specs.Reading.{parts}
 use Rattle.charlotte_text.proofs.Parts.{first_part}
-use Rattle.transcript_reading.specs.Order.{Place}
+use Rattle.transcript_reading.specs.Order.{Place, Start, Version, Processes, Wires, Entry, Noted, Over, next}
 use Rattle.transcript_reading.specs.declared.line.LineKind.{LineKind}
 use Rattle.transcript_reader.specs.declared.fault.LineFault.{LineFault}
 use Rattle.transcript_reader.specs.declared.fault.LineFault.TheVariants.{BadLine, NoMemory}
 use Rattle.transcript_reader.specs.declared.line.Line.{Line}
-use Rattle.transcript_reader.specs.Lines.{Unread, version_after, stand, is_ended, stood, first_text, next_line, with_first, then_lines, lines_from, lines_left, lines_read, GivesNext, GivesLines}
+use Rattle.transcript_reader.specs.Lines.{Unread, version_after, stand, is_ended, stood, first_text, next_line, with_all, with_first, then_lines, lines_from, lines_left, lines_read, GivesNext, GivesLines}
 use Rattle.transcript_reader.specs.Text.{AreLines, IsBadLine, IsFaultOf}
-use Rattle.transcript_reader.proofs.Texts.{no_lines, with_all, all_ok, all_err, lines_found, bad_found, lines_only, bad_only}
+use Rattle.transcript_reader.proofs.Texts.{no_lines, Stands, stands_read, all_ok, all_err, lines_found, bad_found, lines_only, bad_only}
 
 -- ---- the clauses
 
@@ -162,3 +162,52 @@ gives_fault ls old new NoMemory total g so_far = absurd g
 pub gives_all : (ls : List Line) (old new : Unread) (o : Option Line) (total : Result (List Line) ℕ) → ((l : Line) → o ≡ Some l → ⊥) → GivesNext old (Ok o) new → with_all ls (lines_left old) ≡ total → total ≡ Ok ls
 gives_all ls old new None total none g so_far = lines_end ls old total g.0 so_far
 gives_all ls old new (Some l) total none g so_far = absurd (none l refl)
+
+-- ---- the place behind a line, and behind all
+
+stood_follows : (number version : ℕ) (place : Place) (text : List ℕ) (ts : List (List ℕ)) (l : Line) (u : Unread) (r : Result (LineKind × Place) Fault) → stand version place text ≡ r → stood number ts version r ≡ given l u → next place l.what ≡ Ok u.place
+stood_follows number version place text ts l u (Ok x) is e =
+    let m : Line = record { number = number; what = x.0 } in
+    let w : Unread = record { lines = number; version = version_after version x.0; place = x.1; texts = ts } in
+    let same = pair_is m l w u e in
+    let stands : Stands version place text x.0 x.1 = stands_read version place text x is in
+    ap (λ (y : Line). next place y.what) (sym same.0) ∙ stands.follows ∙ ap (λ (y : Unread). Ok y.place) same.1
+stood_follows number version place text ts l u (Err d) is e = absurd cc
+
+first_follows : (number version : ℕ) (place : Place) (ts : List (List ℕ)) (l : Line) (u : Unread) → first_text number version place ts ≡ given l u → next place l.what ≡ Ok u.place
+first_follows number version place [] l u e = absurd cc
+first_follows number version place (text ∷ []) l u e =
+    elim (is_ended place text) as (λ b. cond b (Ok None) (Err number) ≡ given l u → next place l.what ≡ Ok u.place) [ true ↦ λ h. absurd cc | false ↦ λ h. absurd cc ] e
+first_follows number version place (text ∷ t ∷ ts) l u e = stood_follows number version place text (t ∷ ts) l u (stand version place text) refl e
+
+-- a line that is read may stand where it stands
+pub next_follows : (old new : Unread) (l : Line) → next_line old ≡ Ok (Some (l, new)) → next old.place l.what ≡ Ok new.place
+unfolding next_line
+next_follows old new l e = first_follows (old.lines + 1) old.version old.place old.texts l new e
+
+not_over : (number : ℕ) (b : Bool) → false ≡ b → cond b no_more (Err number) ≡ no_more → ⊥
+not_over number true is e = cc
+not_over number false is e = cc
+
+ended_over : (number : ℕ) (place : Place) (text : List ℕ) (b : Bool) → is_ended place text ≡ b → cond b no_more (Err number) ≡ no_more → place ≡ Over
+ended_over number Over text b is e = refl
+ended_over number Start text b is e = absurd (not_over number b is e)
+ended_over number Version text b is e = absurd (not_over number b is e)
+ended_over number (Processes m n) text b is e = absurd (not_over number b is e)
+ended_over number (Wires m n) text b is e = absurd (not_over number b is e)
+ended_over number Entry text b is e = absurd (not_over number b is e)
+ended_over number (Noted m) text b is e = absurd (not_over number b is e)
+
+all_over : (number version : ℕ) (place : Place) (ts : List (List ℕ)) → first_text number version place ts ≡ no_more → place ≡ Over
+all_over number version place [] e = absurd cc
+all_over number version place (text ∷ []) e = ended_over number place text (is_ended place text) refl e
+all_over number version place (text ∷ t ∷ ts) e = absurd (not_none (stand version place text) e)
+  where
+    not_none : (r : Result (LineKind × Place) Fault) → stood number (t ∷ ts) version r ≡ no_more → ⊥
+    not_none (Ok x) h = cc
+    not_none (Err d) h = cc
+
+-- all lines were read behind the last one alone
+pub next_over : (old : Unread) → next_line old ≡ Ok None → old.place ≡ Over
+unfolding next_line
+next_over old e = all_over (old.lines + 1) old.version old.place old.texts e

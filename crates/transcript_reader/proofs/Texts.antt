@@ -10,7 +10,7 @@ use Rattle.charlotte_text.proofs.Steps.{bind_ok, ok_is, not_ok}
 use Rattle.transcript_reading.specs.Forms.{kind_of}
 use Rattle.transcript_reading.specs.Order.{Place, Start, Version, Processes, Wires, Entry, Noted, Over, next, follows}
 use Rattle.transcript_reading.specs.declared.line.LineKind.{LineKind}
-use Rattle.transcript_reader.specs.Lines.{version_after, stand, is_ended, with_first, then_lines, lines_from, lines_read}
+use Rattle.transcript_reader.specs.Lines.{version_after, stand, is_ended, with_all, with_first, then_lines, lines_from, lines_read}
 use Rattle.transcript_forms.specs.Spelling.{kind_text, IsKind}
 use Rattle.transcript_reader.specs.Text.{kind_line, AreKinds, version_behind, kinds_text, numbered, AreLines, IsBadLine}
 use Rattle.transcript_reader.specs.declared.line.Line.{Line}
@@ -54,12 +54,12 @@ stays bytes text e = sym (join_with_byte-slice_split 10 bytes) ∙ ap (join_with
 -- ---- one line
 
 -- a line that may stand
-record Stands (version : ℕ) (place : Place) (text : List ℕ) (k : LineKind) (p : Place) : Type 0 where
-  spelled : text ≡ kind_text k
-  is : IsKind version k
-  follows : next place k ≡ Ok p
+pub record Stands (version : ℕ) (place : Place) (text : List ℕ) (k : LineKind) (p : Place) : Type 0 where
+  pub spelled : text ≡ kind_text k
+  pub is : IsKind version k
+  pub follows : next place k ≡ Ok p
 
-stands_read : (version : ℕ) (place : Place) (text : List ℕ) (x : LineKind × Place) → stand version place text ≡ Ok x → Stands version place text x.0 x.1
+pub stands_read : (version : ℕ) (place : Place) (text : List ℕ) (x : LineKind × Place) → stand version place text ≡ Ok x → Stands version place text x.0 x.1
 unfolding stand
 stands_read version place text x e =
     let k = bind_ok (kind_of version (words text)) (λ k. next place k >>= λ p. Ok (k, p)) x e in
@@ -67,7 +67,7 @@ stands_read version place text x e =
     let t = text_takes version text k.0 k.1 in
     subst (λ (y : LineKind × Place). Stands version place text y.0 y.1) (ok_is (k.0, p.0) x p.2) (record { spelled = t.0; is = t.1; follows = p.1 })
 
-stands_again : (version : ℕ) (place : Place) (k : LineKind) (p : Place) → IsKind version k → next place k ≡ Ok p → stand version place (kind_text k) ≡ Ok (k, p)
+pub stands_again : (version : ℕ) (place : Place) (k : LineKind) (p : Place) → IsKind version k → next place k ≡ Ok p → stand version place (kind_text k) ≡ Ok (k, p)
 unfolding stand
 stands_again version place k p is e = rw (text_again version k is, e) refl
 
@@ -261,10 +261,6 @@ bad_found bytes n e =
     }
 
 -- ---- a text of lines is read
-
-abbrev pub with_all : List Line → Result (List Line) ℕ → Result (List Line) ℕ
-with_all [] r = r
-with_all (l ∷ ls) r = with_first l (with_all ls r)
 
 pub all_ok : (ls : List Line) → with_all ls (Ok []) ≡ Ok ls
 all_ok [] = refl

@@ -84,6 +84,11 @@ abbrev pub with_first : Line → Result (List Line) ℕ → Result (List Line) �
 with_first l (Ok ls) = Ok (l ∷ ls)
 with_first l (Err number) = Err number
 
+-- lines before others
+abbrev pub with_all : List Line → Result (List Line) ℕ → Result (List Line) ℕ
+with_all [] r = r
+with_all (l ∷ ls) r = with_first l (with_all ls r)
+
 -- a line of this number, and those behind it
 abbrev pub then_lines : ℕ → (LineKind → Place → Result (List Line) ℕ) → Result (LineKind × Place) Fault → Result (List Line) ℕ
 then_lines number others (Ok x) = with_first (record { number = number; what = x.0 }) (others x.0 x.1)

@@ -1,9 +1,11 @@
 //! Reading of transcripts, line by line: which line each is, and the first that cannot stand where it stands.
 //!
-//! A `Reader` gives one line after the other and takes no memory. `read_transcript` collects the lines.
+//! A `Reader` gives one line after the other and takes no memory. `read_transcript` collects the lines. Where it is known which line has to
+//! come next, a `Reader` tells whether it does, without making a value of it.
 #![tactic(auto)]
 
 mod fault;
+mod guess;
 mod law;
 mod line;
 mod place;
@@ -11,6 +13,7 @@ mod read;
 mod reader;
 
 pub use fault::LineFault;
+pub use guess::{Ahead, CallAhead, PacketAhead};
 pub use law::{lines_are_told, told_is_written};
 pub use line::Line;
 pub use place::Place;

@@ -1,9 +1,13 @@
 //! A reader of one line after the other.
-ghost use Rattle.std.specs.Prelude.{◌≡◌, ◌<◌, length};
-ghost use Rattle.charlotte_text.specs.Reading.{Gives};
+ghost use Rattle.std.specs.Prelude.{◌≡◌, ◌↔◌, ◌+◌, ◌<◌, IsTrue, MatchBool, length};
+ghost use Rattle.charlotte_text.specs.Reading.{Gives, parts};
 ghost use Rattle.transcript_reader.specs.Lines.{GivesNext, is_ended, seen, stand, unread, version_after};
+ghost use Rattle.transcript_reader.specs.Next.{IsEntryLine, Reads};
+ghost use Rattle.transcript_reading.specs.Order.{Entry};
+ghost use Rattle.transcript_reading.specs.declared.line.LineKind.{LineKind as AKind};
 
 use crate::fault::LineFault;
+use crate::guess::{Ahead, look_ahead};
 use crate::line::Line;
 use crate::place::{Place, next_place};
 use charlotte_text::{Fault, cut};
@@ -85,6 +89,62 @@ impl<'a> Reader<'a> {
             }
             Err(_) => Err(LineFault::BadLine { line }),
         }
+    }
+
+    /// How many lines were read.
+    pub fn lines(&self) -> u32
+        ensures { result ≡ self.now.lines }
+    {
+        self.lines
+    }
+
+    /// The version that the first line told, and 0 before it was read.
+    pub fn version(&self) -> u8
+        ensures { result ≡ self.now.version }
+    {
+        self.version
+    }
+
+    /// Whether an entry, or a step below it, was read last.
+    pub fn is_among_entries(&self) -> bool
+        ensures { IsTrue result ↔ (self.now.place ≡ Entry) }
+    {
+        match self.place {
+            Place::Entry => true,
+            Place::Start | Place::Version | Place::Over => false,
+            Place::Processes { .. } | Place::Wires { .. } | Place::Noted { .. } => false,
+        }
+    }
+
+    /// A guess at the next line, for who knows which line has to come: `next_is_entry` then tells whether it does.
+    pub fn peek(&self) -> Ahead<'a> {
+        look_ahead(self.rest)
+    }
+
+    /// Whether the next line is this one, of an entry or of a step; if so, it is read. The line before it has to be such a line, too.
+    pub fn next_is_entry(&mut self, text: &[u8]) -> bool
+        requires { (k : AKind) × IsEntryLine self.old.version k text.now }
+        ensures { MatchBool result ((k : AKind) → IsEntryLine self.old.version k text.now → Reads self.old k self.new) (self.new ≡ self.old) }
+    {
+        if !self.is_among_entries() {
+            return false;
+        }
+        match self.rest.strip_prefix(text) {
+            Some(rest) => {
+                self.pass(rest);
+                true
+            }
+            None => false,
+        }
+    }
+
+    /// Passes a line behind which this is left.
+    fn pass(&mut self, rest: &'a [u8])
+        requires { self.old.lines + 1 + length (parts 10 rest.now) < 4294967296 }
+        ensures { self.new ≡ record { lines = self.old.lines + 1; version = self.old.version; place = self.old.place; texts = parts 10 rest.now } }
+    {
+        self.rest = rest;
+        self.lines += 1;
     }
 }
 

@@ -7,7 +7,7 @@ ghost use Rattle.why_lines.specs.Run.{IsRun, MayCall};
 use crate::reached::next_line;
 use charlotte_calls::{Call, NoMemory, PictureWhat, Pid, ServiceStep, Setting};
 use kernel_core::Kernel;
-use kernel_nodes::{Nodes, Noted};
+use kernel_nodes::{Nodes, Noted, Request};
 use link_service::{ApplyFault, Service};
 use std::alloc::Global;
 use std::collections::VecDeque;
@@ -110,7 +110,11 @@ impl Run {
         if !self.runs_at(p, kernel) {
             return Ok(false);
         }
-        let noted = self.nodes.call(kernel, p, call.copy())?;
+        let request = Request {
+            p,
+            call: call.copy(),
+        };
+        let noted = self.nodes.ask(kernel, &request)?;
         self.note(kernel, noted);
         Ok(true)
     }

@@ -1,11 +1,10 @@
 -- One journal: what is begun, and what is noted.
-use Rattle.std.proofs.Common.{◌≡◌, ℕ, ◌+◌, ◌-◌, List, [], ◌∷◌, ◌++◌, Option, None, Some, All, IfSome, length, map, take, append_assoc, append-nil, ap, sym, subst, ◌∙◌, arith, length-append}
+use Rattle.std.proofs.Common.{◌≡◌, ℕ, ◌+◌, ◌-◌, List, [], ◌∷◌, ◌++◌, Option, None, Some, All, IfSome, length, map, append_assoc, append-nil, ap, sym, subst, ◌∙◌, arith, length-append}
 use Rattle.std.specs.List.{concat}
 use Rattle.std.proofs.lemmas.List.{map-append}
 use Rattle.std.proofs.lemmas.List.Elements.{All-push}
 use Rattle.charlotte_calls.specs.Ranges.{IsU64, IsStepInRange}
 use Rattle.kernel_world.specs.Ranges.{IsEntryInRange, IsHappenedInRange}
-use Rattle.std.proofs.Math.Seq.{take-append_seam}
 use Rattle.charlotte_calls.specs.declared.calls.ServiceStep.{ServiceStep}
 use Rattle.journal_text.specs.Journal.{IsAfterLast}
 use Rattle.journal_text.proofs.Rising.{AreRising-push}
@@ -35,35 +34,15 @@ start-written w t text lengths events is =
       begun_in_range = tt;
     })
 
--- what was begun is cut off
-pub cut : (w : Written) (whole : ℕ) (t : Told) → IsWritten w whole t → take whole w.text.items ≡ text_of t.entries
-cut w whole t is =
-    ap (λ n. take n w.text.items) is.up_to ∙ ap (take (length (text_of t.entries))) is.kept.text ∙ take-append_seam (text_of t.entries) (begun_text t.begun)
-
--- something else is begun
-pub written-begun : (old new : Written) (whole : ℕ) (t : Told) (what : Happened) → IsWritten old whole t → IsHappenedInRange what → new.text.items ≡ take whole old.text.items ++ happened_line what → new.lengths ≡ old.lengths → new.events ≡ old.events → IsWritten new whole (record t { begun = Some what })
-written-begun old new whole t what is in_range text lengths events =
-    record {
-      kept = record {
-        text = text ∙ ap (λ x. x ++ happened_line what) (cut old whole t is);
-        lengths = ap (λ v. v.items) lengths ∙ is.kept.lengths;
-        events_are = ap (λ v. v.items) events ∙ is.kept.events_are;
-      };
-      up_to = is.up_to;
-      rising = is.rising;
-      in_range = is.in_range;
-      begun_in_range = in_range;
-    }
-
 -- what was begun is noted
-pub written-noted : (old new : Written) (whole : ℕ) (t : Told) (what : Happened) (stamp : ℕ) (steps : List ServiceStep) → IsWritten old whole t → t.begun ≡ Some what → IsAfterLast t.entries stamp → IsU64 stamp → All IsStepInRange steps → new.text.items ≡ old.text.items ++ concat (step_lines steps) → new.lengths.items ≡ old.lengths.items ++ (length old.text.items - whole) ∷ map length (step_lines steps) → new.events.items ≡ old.events.items ++ record { stamp = stamp; kernel = 0; lines = length steps + 1 } ∷ [] → IsWritten new (length new.text.items) (record t { entries = t.entries ++ record { stamp = stamp; what = what; steps = steps } ∷ []; begun = None })
+pub written-noted : (old new : Written) (whole : ℕ) (t : Told) (what : Happened) (stamp : ℕ) (steps : List ServiceStep) → IsWritten old whole t → t.begun ≡ Some what → IsAfterLast t.entries stamp → IsU64 stamp → All IsStepInRange steps → new.text.items ≡ old.text.items ++ concat (step_lines steps) → new.lengths.items ≡ old.lengths.items ++ (length old.text.items - whole) ∷ map length (step_lines steps) → new.events.items ≡ old.events.items ++ record { stamp = stamp; lines = length steps + 1 } ∷ [] → IsWritten new (length new.text.items) (record t { entries = t.entries ++ record { stamp = stamp; what = what; steps = steps } ∷ []; begun = None })
 written-noted old new whole t what stamp steps is begun after early steps_in_range text lengths events =
     record {
       kept = record {
         text = now ∙ sym (append-nil (text_of all));
         lengths = lengths ∙ ap (λ n. old.lengths.items ++ n ∷ map length (step_lines steps)) long ∙ ap (λ ns. ns ++ length (happened_line what) ∷ map length (step_lines steps)) is.kept.lengths
             ∙ sym (map-append length (lines_of t.entries) (kept_lines e)) ∙ ap (map length) (sym (lines_of-push t.entries e));
-        events_are = events ∙ ap (λ (es : List Event). es ++ event_of 0 e ∷ []) is.kept.events_are ∙ sym (map-append (event_of 0) t.entries (e ∷ []));
+        events_are = events ∙ ap (λ (es : List Event). es ++ event_of e ∷ []) is.kept.events_are ∙ sym (map-append event_of t.entries (e ∷ []));
       };
       up_to = ap length now;
       rising = AreRising-push t.entries e is.rising after;
@@ -87,7 +66,7 @@ written-noted old new whole t what stamp steps is begun after early steps_in_ran
     long = omega (arith, ap length before, length-append (text_of t.entries) (happened_line what), is.up_to)
 
 -- the same, by what a history was told
-pub noted-told : (old new : Written) (whole now : ℕ) (t later : Told) (value : Happenings) (stamp : ℕ) (steps : List ServiceStep) → IsWritten old whole t → happenings t ≡ value → (what : Happened) × (value.begun ≡ Some what) → IsAfterLast value.entries stamp → IsU64 stamp → All IsStepInRange steps → new.text.items ≡ old.text.items ++ concat (step_lines steps) → new.lengths.items ≡ old.lengths.items ++ (length old.text.items - whole) ∷ map length (step_lines steps) → new.events.items ≡ old.events.items ++ record { stamp = stamp; kernel = 0; lines = length steps + 1 } ∷ [] → now ≡ length new.text.items → later ≡ record t { entries = t.entries ++ done t.begun stamp steps; begun = None } → IsWritten new now later
+pub noted-told : (old new : Written) (whole now : ℕ) (t later : Told) (value : Happenings) (stamp : ℕ) (steps : List ServiceStep) → IsWritten old whole t → happenings t ≡ value → (what : Happened) × (value.begun ≡ Some what) → IsAfterLast value.entries stamp → IsU64 stamp → All IsStepInRange steps → new.text.items ≡ old.text.items ++ concat (step_lines steps) → new.lengths.items ≡ old.lengths.items ++ (length old.text.items - whole) ∷ map length (step_lines steps) → new.events.items ≡ old.events.items ++ record { stamp = stamp; lines = length steps + 1 } ∷ [] → now ≡ length new.text.items → later ≡ record t { entries = t.entries ++ done t.begun stamp steps; begun = None } → IsWritten new now later
 noted-told old new whole now t later value stamp steps is view begun after early steps_in_range text lengths events at told =
     subst (λ (n : ℕ). IsWritten new n later) (sym at) (subst (λ (x : Told). IsWritten new (length new.text.items) x) (sym same)
     (written-noted old new whole t begun.0 stamp steps is what (subst (λ es. IsAfterLast es stamp) (sym (ap (λ (v : Happenings). v.entries) view)) after) early steps_in_range text lengths events))

@@ -1,6 +1,7 @@
 pub mod Walks
 pub mod Texts
 pub mod Journals
-pub mod Queues
-pub mod MergedText
-pub mod GivenLines
+pub mod Kept
+pub mod Merges
+pub mod Given
+pub mod InOrder

@@ -1,11 +1,10 @@
 -- Entries in a text, and where they stand in it.
-use Rattle.std.proofs.Common.{◌≡◌, ℕ, ◌+◌, ◌-◌, ◌^◌, ◌<◌, IfSome, Option, None, Some, List, [], ◌∷◌, ◌++◌, length, map, take, drop, get_or, append_assoc, append-nil, ap, sym, ◌∙◌, refl, arith}
-use Rattle.std.specs.List.{concat, slice_get, slice_range, sum}
-use Rattle.std.proofs.lemmas.List.{map-append, take_more}
-use Rattle.std.proofs.lemmas.Option.{slice_get_within}
-use Rattle.std.proofs.lemmas.List.Concat.{flat_map-append, flat_map-cons, concat_is, length-flat_map}
+use Rattle.std.proofs.Common.{◌≡◌, inl, inr, ℕ, ◌+◌, ◌-◌, ◌<◌, List, [], ◌∷◌, ◌++◌, length, map, take, drop, get_or, append_assoc, append-nil, ap, sym, ◌∙◌, refl, arith}
+use Rattle.std.specs.List.{concat, slice_range}
+use Rattle.std.proofs.lemmas.Bool.Decides.{leb_tells}
+use Rattle.std.proofs.lemmas.List.{drop_all, drop_more, map-append, take_more, take-append-drop}
+use Rattle.std.proofs.lemmas.List.Concat.{flat_map-append, flat_map-cons}
 use Rattle.std.proofs.lemmas.List.Folds.{concat-append}
-use Rattle.std.proofs.lemmas.List.Sums.{sum-map}
 use Rattle.std.proofs.Math.Seq.{drop-append_seam, take-append_seam}
 use Rattle.charlotte_calls.specs.declared.calls.ServiceStep.{ServiceStep}
 use Rattle.journal_text.specs.Transcript.{line, step_text}
@@ -49,9 +48,28 @@ pub text_of-push : (es : List Entry) (e : Entry) → text_of (es ++ e ∷ []) �
 text_of-push es e =
     text_of-append es (e ∷ []) ∙ ap (λ t. text_of es ++ t) (text_of-cons e [] ∙ ap (λ t. concat (kept_lines e) ++ t) text_of-nil ∙ append-nil (concat (kept_lines e)))
 
--- how long lines are together
-pub sum-lengths : (ls : List (List ℕ)) → sum (map length ls) ≡ length (concat ls)
-sum-lengths ls = sum-map length ls ∙ sym (ap length (concat_is ls) ∙ length-flat_map (λ x. x) ls)
+-- entries around the one of a number
+pub record IsAt (es : List Entry) (n : ℕ) (e : Entry) (rest : List Entry) : Type 0 where
+  pub within : n < length es
+  pub here : (d : Entry) → get_or es n d ≡ e
+  pub upto : take (n + 1) es ≡ take n es ++ e ∷ []
+  pub behind : drop (n + 1) es ≡ rest
+  pub whole : es ≡ take n es ++ e ∷ rest
+
+pub at-drop : (es : List Entry) (n : ℕ) (e : Entry) (rest : List Entry) → drop n es ≡ e ∷ rest → IsAt es n e rest
+at-drop es n e rest left =
+    elim (leb_tells (length es) n) [
+      | inl w ↦ let none : drop n es ≡ [] = drop_all n es w.1 in absurd (cc)
+      | inr w ↦
+          let here : (d : Entry) → get_or es n d ≡ e = λ d. cc (drop_more es n d w.1) in
+          record {
+            within = w.1;
+            here = here;
+            upto = take_more es n e w.1 ∙ ap (λ (x : Entry). take n es ++ x ∷ []) (here e);
+            behind = cc (drop_more es n e w.1);
+            whole = sym (take-append-drop n es) ∙ ap (λ l. take n es ++ l) left;
+          }
+    ]
 
 -- a part of a list, by what stands before it
 pub slice-at : {X : Type 0} (all xs ys zs : List X) (a b : ℕ) → all ≡ xs ++ (ys ++ zs) → a ≡ length xs → b ≡ a + length ys → slice_range all a b ≡ ys
@@ -75,8 +93,3 @@ lengths-more old now new n steps i step below is so_far more long =
     let joined : map length (step_lines (take (i + 1) steps)) ≡ map length (step_lines (take i steps)) ++ length (line (step_text step)) ∷ [] =
     ap (map length) (steps-more steps i step below is) ∙ map-append length (step_lines (take i steps)) (line (step_text step) ∷ []) in
     more ∙ ap (λ ns. ns ++ n ∷ []) so_far ∙ ap (λ k. (old ++ map length (step_lines (take i steps))) ++ k ∷ []) long ∙ append_assoc old (map length (step_lines (take i steps))) (length (line (step_text step)) ∷ []) ∙ ap (λ ns. old ++ ns) (sym joined)
-
--- the number of what is read can be raised by one
-pub read-within : {X : Type 0} (xs : List X) (n : ℕ) (r : Option X) → r ≡ slice_get xs n → length xs < 2 ^ 63 → IfSome r (λ _. n + 1 < 2 ^ 64)
-read-within xs n None e few = tt
-read-within xs n (Some x) e few = let below = slice_get_within xs n x (sym e) in omega arith

@@ -4,21 +4,14 @@ use Rattle.journal_text.specs.Journal.{AreRising}
 use Rattle.kernel_world.specs.Ranges.{IsEntryInRange, IsHappenedInRange}
 use Rattle.kernel_world.specs.declared.entry.Entry.{Entry}
 use Rattle.kernel_world.specs.declared.entry.Happened.{Happened}
-use Rattle.kernel_world.specs.declared.entry.Placed.{Placed}
 use Rattle.written_journal.specs.Lines.{happened_line, lines_of, text_of}
 use Rattle.written_journal.specs.Told.{Told}
 use Rattle.written_journal.specs.declared.written.Event.{Event}
 use Rattle.written_journal.specs.declared.written.Written.{Written}
 
 -- what stands of an entry beside its text
-abbrev pub event_of : ℕ → Entry → Event
-event_of kernel e = record { stamp = e.stamp; kernel = kernel; lines = length e.steps + 1 }
-
-abbrev pub events_of : List Placed → List Event
-events_of ps = map (λ p. event_of p.kernel p.entry) ps
-
-abbrev pub entries_of : List Placed → List Entry
-entries_of ps = map (λ p. p.entry) ps
+abbrev pub event_of : Entry → Event
+event_of e = record { stamp = e.stamp; lines = length e.steps + 1 }
 
 -- the text of what is begun
 abbrev pub begun_text : Option Happened → List ℕ
@@ -26,14 +19,14 @@ begun_text None = []
 begun_text (Some what) = happened_line what
 
 -- entries are kept in a text, behind which something else may stand
-pub record AreKept (w : Written) (es : List Entry) (events : List Event) (behind : List ℕ) : Type 0 where
+pub record AreKept (w : Written) (es : List Entry) (behind : List ℕ) : Type 0 where
   pub text : w.text.items ≡ text_of es ++ behind
   pub lengths : w.lengths.items ≡ map length (lines_of es)
-  pub events_are : w.events.items ≡ events
+  pub events_are : w.events.items ≡ map event_of es
 
 -- a journal has what was told: the text of its entries, which goes up to a place, and that of what is begun
 pub record IsWritten (w : Written) (whole : ℕ) (t : Told) : Type 0 where
-  pub kept : AreKept w t.entries (map (event_of 0) t.entries) (begun_text t.begun)
+  pub kept : AreKept w t.entries (begun_text t.begun)
   pub up_to : whole ≡ length (text_of t.entries)
   pub rising : AreRising t.entries
   -- they are values of their types

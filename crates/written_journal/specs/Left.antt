@@ -1,15 +1,10 @@
 -- The lines of a transcript that are not given yet.
-use Rattle.std.specs.Prelude.{◌≡◌, ℕ, ◌+◌, Bool, true, false, List, [], ◌∷◌, ◌++◌, Option, None, Some, length, map, take, drop, codes}
-use Rattle.std.specs.List.{concat, flat_map}
+use Rattle.std.specs.Prelude.{◌≡◌, ℕ, Bool, true, false, List, [], ◌∷◌, ◌++◌, Option, None, Some, map, drop, codes}
 use Rattle.charlotte_calls.specs.declared.names.Pid.{Pid}
 use Rattle.charlotte_text.specs.Spelling.{number_text}
-use Rattle.journal_text.specs.Transcript.{line, wire_text, note_text, last_text, entry_lines, process_lines}
+use Rattle.journal_text.specs.Transcript.{line, wire_text, note_text, last_text, process_lines}
 use Rattle.journal_text.specs.declared.last.Last.{Last}
 use Rattle.journal_text.specs.declared.last.ScriptNote.{ScriptNote}
-use Rattle.kernel_world.specs.declared.entry.Placed.{Placed}
-use Rattle.written_journal.specs.Kept.{entries_of}
-use Rattle.written_journal.specs.Lines.{lines_of}
-use Rattle.written_journal.specs.declared.lines.LinePlace.{LinePlace}
 use Rattle.written_journal.specs.declared.transcript.Header.{Header}
 
 -- the line of a word and a number, if there is one
@@ -27,15 +22,6 @@ lines_in h = number_line (codes "transcript ") h.version ++ number_line (codes "
 abbrev pub header_left : Option Header → List (List ℕ)
 header_left None = []
 header_left (Some h) = lines_in h
-
--- the lines of entries: those of the one whose first line is given, and those of the entries behind it
-abbrev pub lines_left : List Placed → LinePlace → List (List ℕ)
-lines_left placed p = take p.left (drop p.given (lines_of (entries_of placed))) ++ flat_map entry_lines (drop p.events placed)
-
--- a place between two lines
-pub record IsLinePlace (placed : List Placed) (p : LinePlace) : Type 0 where
-  pub lines : p.given + p.left ≡ length (lines_of (entries_of (take p.events placed)))
-  pub bytes : p.bytes ≡ length (concat (take p.given (lines_of (entries_of placed))))
 
 abbrev pub note_lines : List ScriptNote → List (List ℕ)
 note_lines notes = map (λ n. line (note_text n)) notes

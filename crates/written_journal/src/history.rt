@@ -26,8 +26,8 @@ pub(crate) enum Note<'a> {
     Done(u64, &'a [ServiceStep]),
     // The event of this number at a kernel comes next in the order of all.
     Next(u8, &'a History, usize),
-    // The events of the only kernel are all.
-    Alone(&'a History),
+    // The first event in the order of all is taken out.
+    Taken,
 }
 
 impl History {

@@ -7,10 +7,10 @@ ghost use Rattle.kernel_world.specs.declared.entry.Happened.TheVariants.{Asked, 
 ghost use Rattle.written_journal.specs.Lines.{happened_line};
 
 use crate::history::{History, Note};
-use crate::ranges::{tell_call, tell_packet, tell_pid, tell_steps, tell_u8, tell_u64};
 use crate::written::Written;
 use charlotte_calls::{Call, NoMemory, Packet, Pid, ServiceStep};
 use journal_text::{push_asked, push_took};
+use kernel_world::{tell_call, tell_packet, tell_pid, tell_steps, tell_u8, tell_u64};
 use std::alloc::Global;
 use std::marker::Model;
 

@@ -6,8 +6,9 @@ mod journal;
 mod lines;
 mod merged;
 mod merging;
-mod place;
-mod ranges;
+mod order;
+mod reader;
+mod reading;
 mod transcript;
 mod written;
 

@@ -1,107 +1,81 @@
-ghost use Rattle.std.specs.Prelude.{◌≡◌, ◌++◌, ◌∷◌, ◌<◌, [], IfOk, OnErr, OnOk, codes};
-ghost use Rattle.charlotte_text.specs.Spelling.{number_text};
-ghost use Rattle.written_journal.specs.Left.{GivesFirst, IsLinePlace, lines_left};
+ghost use Rattle.std.specs.Prelude.{◌≡◌, [], IfOk, List, OnErr};
+ghost use Rattle.std.specs.List.{flat_map};
+ghost use Rattle.journal_text.specs.Transcript.{entry_lines};
+ghost use Rattle.kernel_world.specs.declared.entry.Placed.{Placed};
+ghost use Rattle.written_journal.specs.Given.{AreLeft, rest_at};
+ghost use Rattle.written_journal.specs.Left.{GivesFirst};
 
 use crate::Merged;
-use crate::written::Event;
+use crate::order::Order;
+use crate::reader::Reader;
 use charlotte_calls::NoMemory;
-use charlotte_text::push_number;
+use std::marker::Model;
 
-/// Which lines of merged entries are given.
-#[derive(Clone, Copy)]
-pub(crate) struct LinePlace {
-    /// The events whose first line is given.
-    pub(crate) events: usize,
-    /// The lines that are left of the last of them.
-    pub(crate) left: usize,
-    /// The lines that are given, and how long they are in the text.
-    pub(crate) given: usize,
-    pub(crate) bytes: usize,
+/// The lines of merged entries that are not given yet. Contracts see them as a list.
+#[derive(Drop)]
+pub(crate) struct MergedLines {
+    readers: Vec<Reader>,
+    /// The kernel of the last entry whose first line is given.
+    kernel: u8,
+    /// The entries behind it.
+    order: Order,
 }
 
-impl LinePlace {
-    /// No line is given.
-    pub(crate) fn start() -> LinePlace
-        ensures { result ≡ record { events = 0; left = 0; given = 0; bytes = 0 } }
+impl Model for MergedLines {
+    ghost use Rattle.std.specs.Prelude.{ℕ, List, ◌++◌};
+    ghost use Rattle.std.specs.List.{flat_map};
+    ghost use Rattle.journal_text.specs.Transcript.{entry_lines};
+    ghost use Rattle.written_journal.specs.Given.{AreLeft, rest_at};
+
+    ghost Value = { List (List ℕ) };
+
+    ghost view = { λ m. (rest_at m.readers.items m.kernel).lines ++ flat_map entry_lines m.order };
+
+    ghost invariant = { λ m. AreLeft m.readers.items m.kernel m.order };
+}
+
+impl MergedLines {
+    /// All lines of merged entries.
+    pub(crate) fn of(merged: Merged) -> MergedLines
+        ensures { result ≡ flat_map entry_lines merged }
     {
-        LinePlace {
-            events: 0,
-            left: 0,
-            given: 0,
-            bytes: 0,
+        let Merged { readers, order } = merged;
+        MergedLines {
+            readers,
+            kernel: 0,
+            order,
         }
     }
-}
 
-/// Appends the next line of merged entries, if one is left.
-pub(crate) fn next_line(
-    merged: &Merged,
-    place: &mut LinePlace,
-    out: &mut Vec<u8>,
-) -> Result<bool, NoMemory>
-    requires empty { out.old.items ≡ [] }
-    requires place { IsLinePlace merged.now place.old }
-    ensures given { IfOk result (λ some. GivesFirst some (lines_left merged.now place.old) (lines_left merged.now place.new) out.new.items) }
-    ensures place { IsLinePlace merged.now place.new }
-    ensures same { OnErr result (place.new ≡ place.old) }
-{
-    if place.left == 0 {
-        return first_line(merged, place, out);
+    /// Appends the next line, if one is left.
+    pub(crate) fn next_line(&mut self, out: &mut Vec<u8>) -> Result<bool, NoMemory>
+        requires { out.old.items ≡ [] }
+        ensures given { IfOk result (λ some. GivesFirst some self.old self.new out.new.items) }
+        ensures same { OnErr result (self.new ≡ self.old) }
+    {
+        if step_line(&mut self.readers, self.kernel, out)? {
+            return Ok(true);
+        }
+        let Some(kernel) = self.order.first() else {
+            return Ok(false);
+        };
+        self.readers[usize::from(kernel)].first_line(kernel, out)?;
+        self.kernel = kernel;
+        self.order.pop();
+        Ok(true)
     }
-    step_line(merged, place, out)?;
-    Ok(true)
 }
 
-/// Appends the first line of the next event, if there is one.
-fn first_line(merged: &Merged, place: &mut LinePlace, out: &mut Vec<u8>) -> Result<bool, NoMemory>
-    requires empty { out.old.items ≡ [] }
-    requires none { place.old.left ≡ 0 }
-    requires place { IsLinePlace merged.now place.old }
-    ensures given { IfOk result (λ some. GivesFirst some (lines_left merged.now place.old) (lines_left merged.now place.new) out.new.items) }
-    ensures place { IsLinePlace merged.now place.new }
-    ensures same { OnErr result (place.new ≡ place.old) }
+/// Appends the next line of the event that is begun at this kernel, if one is left.
+fn step_line(readers: &mut [Reader], kernel: u8, out: &mut Vec<u8>) -> Result<bool, NoMemory>
+    requires { out.old.items ≡ [] }
+    ensures given { IfOk result (λ some. GivesFirst some (rest_at readers.old kernel).lines (rest_at readers.new kernel).lines out.new.items) }
+    ensures left { (placed : List Placed) → AreLeft readers.old kernel placed → AreLeft readers.new kernel placed }
+    ensures same { OnErr result (readers.new ≡ readers.old) }
 {
-    let Some(event) = merged.event(place.events) else {
+    let place = usize::from(kernel);
+    if readers.len() <= place {
         return Ok(false);
-    };
-    let line = merged.line(place.given, place.bytes);
-    push_head(out, event)?;
-    out.extend_from_slice(line)?;
-    *place = LinePlace {
-        events: place.events + 1,
-        left: event.lines - 1,
-        given: place.given + 1,
-        bytes: place.bytes + line.len(),
-    };
-    Ok(true)
-}
-
-/// Appends the next line of the event of which lines are left.
-fn step_line(merged: &Merged, place: &mut LinePlace, out: &mut Vec<u8>) -> Result<(), NoMemory>
-    requires empty { out.old.items ≡ [] }
-    requires some { 0 < place.old.left }
-    requires place { IsLinePlace merged.now place.old }
-    ensures given { OnOk result (lines_left merged.now place.old ≡ out.new.items ∷ lines_left merged.now place.new) }
-    ensures place { IsLinePlace merged.now place.new }
-    ensures same { OnErr result (place.new ≡ place.old) }
-{
-    let line = merged.line(place.given, place.bytes);
-    out.extend_from_slice(line)?;
-    *place = LinePlace {
-        events: place.events,
-        left: place.left - 1,
-        given: place.given + 1,
-        bytes: place.bytes + line.len(),
-    };
-    Ok(())
-}
-
-/// Appends the stamp and the kernel of an event, as `7 k1`.
-fn push_head(out: &mut Vec<u8>, event: Event) -> Result<(), NoMemory>
-    ensures { OnOk result (out.new.items ≡ out.old.items ++ number_text event.stamp ++ codes " k" ++ number_text event.kernel) }
-{
-    push_number(out, event.stamp)?;
-    out.extend_from_slice(b" k")?;
-    push_number(out, u64::from(event.kernel))?;
-    Ok(())
+    }
+    readers[place].step_line(out)
 }

@@ -1,10 +1,10 @@
 //! The lines of a transcript, one after the other.
-ghost use Rattle.std.specs.Prelude.{◌≡◌, ◌++◌, [], drop, IfOk, OnErr, OnOk};
+ghost use Rattle.std.specs.Prelude.{◌≡◌, ◌++◌, [], drop, IfOk, OnErr};
 ghost use Rattle.journal_text.specs.Transcript.{process_lines, transcript_lines};
 ghost use Rattle.written_journal.specs.Left.{GivesFirst, header_left, last_line, lines_in, note_lines, number_line, wire_lines};
 
 use crate::Merged;
-use crate::lines::{LinePlace, next_line};
+use crate::lines::MergedLines;
 use charlotte_calls::{Items, NoMemory, Pid, Setting};
 use journal_text::{
     Last, ScriptNote, push_last_line, push_note_line, push_number_line, push_process_line,
@@ -29,21 +29,18 @@ struct Header {
 pub struct TranscriptLines {
     /// Until all its lines are given.
     header: Option<Header>,
-    merged: Merged,
-    place: LinePlace,
+    entries: MergedLines,
     notes: VecDeque<ScriptNote>,
     last: Option<Last>,
 }
 
 impl Model for TranscriptLines {
     ghost use Rattle.std.specs.Prelude.{ℕ, List, ◌++◌};
-    ghost use Rattle.written_journal.specs.Left.{header_left, lines_left, IsLinePlace, note_lines, last_line};
+    ghost use Rattle.written_journal.specs.Left.{header_left, note_lines, last_line};
 
     ghost Value = { List (List ℕ) };
 
-    ghost view = { λ t. header_left t.header ++ lines_left t.merged t.place ++ note_lines t.notes.items ++ last_line t.last };
-
-    ghost invariant = { λ t. IsLinePlace t.merged t.place };
+    ghost view = { λ t. header_left t.header ++ t.entries ++ note_lines t.notes.items ++ last_line t.last };
 }
 
 impl TranscriptLines {
@@ -71,8 +68,7 @@ impl TranscriptLines {
         };
         TranscriptLines {
             header: Some(header),
-            merged,
-            place: LinePlace::start(),
+            entries: MergedLines::of(merged),
             notes: VecDeque::from(notes.into_vec()),
             last: Some(last),
         }
@@ -88,7 +84,7 @@ impl TranscriptLines {
         if next_of_header(&mut self.header, line)? {
             return Ok(true);
         }
-        if next_line(&self.merged, &mut self.place, line)? {
+        if self.entries.next_line(line)? {
             return Ok(true);
         }
         if next_note(&mut self.notes, line)? {

@@ -1,7 +1,6 @@
-use Rattle.std.proofs.Common.{List, All, length, ◌≤◌, sym, subst}
+use Rattle.std.proofs.Common.{◌≤◌, subst}
 use Rattle.std.proofs.lemmas.List.Elements.{recursion_from_All}
 use Rattle.charlotte_calls.specs.Ranges.{IsEnd, AreEndsInRange}
-use Rattle.charlotte_calls.specs.declared.names.EndId.{EndId}
 use Rattle.kernel_world.proofs.ranges.tell_ends.Goals as goal
 
 pub returns : goal.returns

@@ -1,17 +1,14 @@
-use Rattle.std.proofs.Common.{rules, ◌≡◌, ◌+◌, ◌<◌, ◌&&◌, subst, ap, sym, refl, ◌∙◌, arith, length-append, drop}
+use Rattle.std.proofs.Common.{rules, ◌≡◌, ◌+◌, ◌<◌, ◌&&◌, subst, ap, sym, refl, ◌∙◌, arith, drop}
 use Rattle.lynx_tree.specs.declared.declaration.TypeName.TheVariants.{Int, Bool}
-use Rattle.lynx_tree.specs.Grammar.{Mark}
 use Rattle.lynx_tree.specs.Trees.{expr_tree, expr_list, sum_list, term_list}
 use Rattle.lynx_tree.specs.Trees as trees
 use Rattle.lynx_typing.specs.Expressions.{expr_size, expr_faults, value_faults, bools_faults, sum_faults, term_faults}
 use Rattle.lynx_typing.specs.Rules.{wants}
 use Rattle.lynx_typing.specs.Meanings.{scope_of}
-use Rattle.lynx_typing.specs.Progress.{first_with, is_clean}
-use borrow.Author.Sizes.{sizes}
-use Rattle.std.proofs.lemmas.Grind.{common_steps}
+use Rattle.lynx_typing.specs.Progress.{first_with}
 use Rattle.lynx_tree.specs.declared.expression.Expr.TheViews.{the_lemmas}
 use Rattle.lynx_typing.proofs.Arms.{or_tree, and_tree, sum_tree, term_tree, bracket_tree, and_size, bracket_size, member_size, arm_at, arm_first, arm_held, operand_clean, relation_tree, relation_first, relation_clean, member_first, sum_size, sum_first, sum_clean, term_size, term_first, term_clean}
-use Rattle.lynx_typing.proofs.Members.{bools-size, bools-parts, next_bool, bool-split, next_sum, sum-split, next_term, term-split, none_left, bools_left, sums_left, terms_left}
+use Rattle.lynx_typing.proofs.Members.{bools-parts, next_bool, bool-split, next_sum, sum-split, next_term, term-split, none_left}
 use Rattle.lynx_typing.proofs.Progress.{joined, left_first, left_clean, end_first}
 use Rattle.lynx_typing.proofs.expressions.+type_expression.Goals as goal
 

@@ -1,6 +1,5 @@
 use Rattle.std.proofs.Common.{◌≡◌, length}
-use Rattle.transcript_reader.specs.Lines.{lines_left, lines_read}
-use Rattle.transcript_reader.proofs.Texts.{with_all}
+use Rattle.transcript_reader.specs.Lines.{lines_left, lines_read, with_all}
 use Rattle.transcript_reader.proofs.read.read_lines.Given as goal
 
 abbrev pub invariant-loop-lines : goal.invariant-loop-lines

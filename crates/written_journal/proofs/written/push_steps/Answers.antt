@@ -12,5 +12,5 @@ loop-step-preserved c =
     omega (arith, ap length more, length-append c.loop-step.text.items (line (step_text c.step-item.result))) in
     record {
       text = text-more c.args.text.now.items c.loop-step.text.items c.push_step_line.new.out.items c.args.steps.now c.loop-step.step-index c.step-item.result c.loop-step-test.true c.step-item.is c.loop-step.invariant.text more;
-      lengths = lengths-more c.args.lengths.now.items c.loop-step.lengths.items c.push.new.self.items (c.len.result - c.len-from.result) c.args.steps.now c.loop-step.step-index c.step-item.result c.loop-step-test.true c.step-item.is c.loop-step.invariant.lengths c.in_ok-push.ensures.items long;
+      lengths = lengths-more c.args.lengths.now.items c.loop-step.lengths.items c.push_length.new.lengths.items (c.len.result - c.len-from.result) c.args.steps.now c.loop-step.step-index c.step-item.result c.loop-step-test.true c.step-item.is c.loop-step.invariant.lengths c.in_ok-push_length.ensures long;
     }

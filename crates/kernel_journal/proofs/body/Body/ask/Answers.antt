@@ -1,7 +1,6 @@
-use Rattle.std.proofs.Common.{sym, refl, subst}
-use Rattle.charlotte_calls.specs.declared.calls.Call.{Call}
+use Rattle.std.proofs.Common.{refl, subst}
 use Rattle.kernel_world.specs.declared.entry.Happened.TheVariants.{Asked}
-use Rattle.kernel_journal.proofs.Bodies.{HasCalled, MayGoOn, ask-goes, ask-ready, ask-stops, call-stops, if_err, late-stops, not-so, on_ok}
+use Rattle.kernel_journal.proofs.Bodies.{HasCalled, ask-goes, ask-ready, ask-stops, call-stops, if_err, late-stops, not-so, on_ok}
 use Rattle.kernel_journal.proofs.body.Body.ask.Goals as goal
 
 pub returns-then-not-may_go_on-clause-differs : goal.returns-then-not-may_go_on-clause-differs
@@ -12,15 +11,15 @@ returns-then-not-may_call-clause-differs c = call-stops c.args.self.now c.args.s
 
 pub returns-clause-ready : goal.returns-clause-ready
 returns-clause-ready c =
-    let called = subst (HasCalled c.args.self.now c.args.kernel c.args.p c.in_ok-noted.noted c.call.new.self) c.copy.ensures (c.in_ok-noted.ensures c.args.self.now.setting c.requires.nodes) in
-    on_ok c.note.result (λ is. ask-ready c.args.self.now c.note.new.self c.call.new.self c.args.stamp c.args.kernel c.args.p c.args.call.now c.in_ok-noted.noted c.requires (c.if-not-may_go_on.ensures.0 refl) called is) c.note.ensures.noted
+    let called = subst (HasCalled c.args.self.now c.args.kernel c.args.p c.in_ok-noted.noted c.ask.new.self) c.copy.ensures (c.in_ok-noted.ensures c.args.self.now.setting c.requires.nodes) in
+    on_ok c.note.result (λ is. ask-ready c.args.self.now c.note.new.self c.ask.new.self c.args.stamp c.args.kernel c.args.p c.args.call.now c.in_ok-noted.noted c.requires (c.if-not-may_go_on.ensures.0 refl) called is) c.note.ensures.noted
 
 pub returns-clause-leads : goal.returns-clause-leads
 returns-clause-leads c =
-    let called = subst (HasCalled c.args.self.now c.args.kernel c.args.p c.in_ok-noted.noted c.call.new.self) c.copy.ensures (c.in_ok-noted.ensures c.args.self.now.setting c.requires.nodes) in
-    on_ok c.note.result (λ is. ask-goes c.args.self.now c.note.new.self c.call.new.self c.args.stamp c.args.kernel c.args.p c.args.call.now c.in_ok-noted.noted c.requires (c.if-not-may_go_on.ensures.0 refl) (c.if-not-may_call.ensures.0 refl) called is) c.note.ensures.noted
+    let called = subst (HasCalled c.args.self.now c.args.kernel c.args.p c.in_ok-noted.noted c.ask.new.self) c.copy.ensures (c.in_ok-noted.ensures c.args.self.now.setting c.requires.nodes) in
+    on_ok c.note.result (λ is. ask-goes c.args.self.now c.note.new.self c.ask.new.self c.args.stamp c.args.kernel c.args.p c.args.call.now c.in_ok-noted.noted c.requires (c.if-not-may_go_on.ensures.0 refl) (c.if-not-may_call.ensures.0 refl) called is) c.note.ensures.noted
 
 pub returns-clause-differs : goal.returns-clause-differs
 returns-clause-differs c =
-    let called = subst (HasCalled c.args.self.now c.args.kernel c.args.p c.in_ok-noted.noted c.call.new.self) c.copy.ensures (c.in_ok-noted.ensures c.args.self.now.setting c.requires.nodes) in
-    if_err c.note.result (λ s d. ask-stops c.args.self.now c.call.new.self c.args.stamp c.args.kernel c.args.p c.args.call.now c.in_ok-noted.noted s (c.if-not-may_go_on.ensures.0 refl) (c.if-not-may_call.ensures.0 refl) called d) c.note.ensures.differs
+    let called = subst (HasCalled c.args.self.now c.args.kernel c.args.p c.in_ok-noted.noted c.ask.new.self) c.copy.ensures (c.in_ok-noted.ensures c.args.self.now.setting c.requires.nodes) in
+    if_err c.note.result (λ s d. ask-stops c.args.self.now c.ask.new.self c.args.stamp c.args.kernel c.args.p c.args.call.now c.in_ok-noted.noted s (c.if-not-may_go_on.ensures.0 refl) (c.if-not-may_call.ensures.0 refl) called d) c.note.ensures.differs

@@ -1,4 +1,4 @@
-use Rattle.std.proofs.Common.{sym, refl, subst}
+use Rattle.std.proofs.Common.{refl, subst}
 use Rattle.kernel_journal.proofs.Bodies.{HasTaken, if_err, late-packet, not-so, on_ok, stamped-stops, take-goes, take-ready, take-stops, taking-stops}
 use Rattle.kernel_journal.proofs.body.Body.take.Goals as goal
 

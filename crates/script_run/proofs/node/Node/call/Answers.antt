@@ -27,24 +27,24 @@ note-requires-clause-begun c =
 pub note-requires-clause-after_last : goal.note-requires-clause-after_last
 note-requires-clause-after_last c =
     let k : KernelView = c.args.self.now.kernel in
-    let step = subst (HasStep c.forget_answer.new.self c.call.new.self c.args.p c.in_ok-effect.effect) c.call-call.ensures c.in_ok-effect.ensures.step in
+    let step = subst (HasStep c.forget_answer.new.self c.ask.new.self c.args.p c.in_ok-effect.effect) c.call-call.ensures c.in_ok-effect.ensures.step in
     let o : Outcome = call_step (without_answer c.args.p (state_of k)) c.args.p step.0 c.args.asked in
     let same : call_step (state_of c.forget_answer.new.self) c.args.p step.0 c.args.asked ≡ o =
     ap (λ (s : Kernel). call_step s c.args.p step.0 c.args.asked) c.forget_answer.ensures.state in
-    let is : IsEffectOf c.call.new.self c.in_ok-effect.effect o = effect_of c.call.new.self c.in_ok-effect.effect o (step.2 ∙ same) c.in_ok-effect.ensures.stamp in
+    let is : IsEffectOf c.ask.new.self c.in_ok-effect.effect o = effect_of c.ask.new.self c.in_ok-effect.effect o (step.2 ∙ same) c.in_ok-effect.ensures.stamp in
     let up = call-later k c.args.p step.0 c.args.asked c.requires.told c.requires.time in
     subst (λ n. IsAfterLast c.asked-2.new.self.entries n) (sym is.stamp) (subst (λ (es : List Entry). IsAfterLast es o.kernel.stamp) (sym c.in_ok-asked.ensures.entries) (after_last c.args.self.now.journal.entries k.stamp o.kernel.stamp c.requires.stamped up))
 
 pub returns : goal.returns
 returns c =
     let k : KernelView = c.args.self.now.kernel in
-    let step = subst (HasStep c.forget_answer.new.self c.call.new.self c.args.p c.in_ok-effect.effect) c.call-call.ensures c.in_ok-effect.ensures.step in
+    let step = subst (HasStep c.forget_answer.new.self c.ask.new.self c.args.p c.in_ok-effect.effect) c.call-call.ensures c.in_ok-effect.ensures.step in
     let mine : List EndId = step.0 in
     let asked : Call = c.args.asked in
     let o : Outcome = call_step (without_answer c.args.p (state_of k)) c.args.p mine asked in
     let same : call_step (state_of c.forget_answer.new.self) c.args.p mine asked ≡ o =
     ap (λ (s : Kernel). call_step s c.args.p mine asked) c.forget_answer.ensures.state in
-    let is : IsEffectOf c.call.new.self c.in_ok-effect.effect o = effect_of c.call.new.self c.in_ok-effect.effect o (step.2 ∙ same) c.in_ok-effect.ensures.stamp in
+    let is : IsEffectOf c.ask.new.self c.in_ok-effect.effect o = effect_of c.ask.new.self c.in_ok-effect.effect o (step.2 ∙ same) c.in_ok-effect.ensures.stamp in
     let up = call-later k c.args.p mine asked c.requires.told c.requires.time in
     let table : entries c.forget_answer.new.self.table ≡ entries k.table = table-without_answer c.forget_answer.new.self k c.args.p c.forget_answer.ensures.state in
     let with : IsCallWith c.args.p (entries k.table) mine asked =
@@ -55,7 +55,7 @@ returns c =
           (λ noted sent in_range. (
             mine,
             with,
-            noted-after c.args.self.now c.note.new.self c.call.new.self (Asked c.args.p asked) c.in_ok-effect.effect c.asked-2.new.self.entries o is
+            noted-after c.args.self.now c.note.new.self c.ask.new.self (Asked c.args.p asked) c.in_ok-effect.effect c.asked-2.new.self.entries o is
                 c.note.ensures.kernel (c.in_ok-effect.ensures.processes ∙ c.forget_answer.ensures.processes) c.note.ensures.lists up c.requires.stamped in_range c.in_ok-asked.ensures.entries
                 (noted (Asked c.args.p asked) begun) sent,
           ))

@@ -1,0 +1,132 @@
+//! The next line of a text, where it is just what the kernels expect there.
+ghost use Rattle.std.specs.Prelude.{◌≡◌, ◌<◌, [], IfErr, IfOk, MatchBool, OnOk};
+ghost use Rattle.charlotte_calls.specs.declared.picture.PictureWhat.{PictureWhat as AWhat};
+ghost use Rattle.charlotte_calls.specs.declared.setting.Setting.{Setting as ASetting};
+ghost use Rattle.kernel_journal.specs.Body.{Goes, IsReady, StopsAt};
+ghost use Rattle.kernel_journal.specs.Expected.{ReadsDue, ReadsFirst, Stands, TookNext, Waits, told_packet};
+ghost use Rattle.kernel_nodes.specs.Nodes.{AreNodes};
+ghost use Rattle.transcript_reading.specs.declared.line.LineKind.TheVariants as line;
+
+use crate::body::Body;
+use crate::fault::Stop;
+use crate::reads::{reads_call, reads_packet, reads_step};
+use charlotte_calls::{Call, NoMemory};
+use kernel_nodes::Nodes;
+use transcript_reader::{Ahead, CallAhead, PacketAhead, Reader};
+
+impl Body {
+    /// Takes the next line, where it shows the step that is due, or is the entry of a packet that waits or of a call. `false`: it was
+    /// not read. The text is written over, and so is the call.
+    pub(crate) fn take_expected(
+        &mut self,
+        reader: &mut Reader<'_>,
+        text: &mut Vec<u8>,
+        call: &mut Call,
+    ) -> Result<bool, Stop>
+        requires { IsReady self.old }
+        ensures took { IfOk result (λ took. MatchBool took (TookNext self.old reader.old self.new reader.new) ((self.new ≡ self.old) × (reader.new ≡ reader.old))) }
+        ensures stands { IfErr result (Stands self.old reader.old reader.new) }
+    {
+        if !self.due.is_empty() {
+            return self.show_next(reader, text);
+        }
+        match reader.peek() {
+            Ahead::Packet(ahead) => self.take_next(reader, text, ahead),
+            Ahead::Call(ahead) => self.ask_next(reader, text, ahead, call),
+            Ahead::Other => Ok(false),
+        }
+    }
+
+    /// The line of the step that is due.
+    fn show_next(&mut self, reader: &mut Reader<'_>, text: &mut Vec<u8>) -> Result<bool, Stop>
+        requires { IsReady self.old }
+        ensures took { IfOk result (λ took. MatchBool took (TookNext self.old reader.old self.new reader.new) ((self.new ≡ self.old) × (reader.new ≡ reader.old))) }
+        ensures stands { IfErr result (Stands self.old reader.old reader.new) }
+    {
+        if !self.reads_due(reader, text)? {
+            return Ok(false);
+        }
+        let _ = self.due.pop_front();
+        Ok(true)
+    }
+
+    /// Whether the next line shows the step that is due; if so, it is read.
+    fn reads_due(&self, reader: &mut Reader<'_>, text: &mut Vec<u8>) -> Result<bool, NoMemory>
+        ensures { IfOk result (λ read. MatchBool read (ReadsDue self.now.due.items reader.old reader.new) (reader.new ≡ reader.old)) }
+    {
+        match self.due.front() {
+            Some(step) => reads_step(reader, text, step),
+            None => Ok(false),
+        }
+    }
+
+    /// The entry of a packet that waits.
+    fn take_next(
+        &mut self,
+        reader: &mut Reader<'_>,
+        text: &mut Vec<u8>,
+        ahead: PacketAhead,
+    ) -> Result<bool, Stop>
+        requires { IsReady self.old }
+        ensures took { IfOk result (λ took. MatchBool took (TookNext self.old reader.old self.new reader.new) ((self.new ≡ self.old) × (reader.new ≡ reader.old))) }
+        ensures stands { IfErr result (Stands self.old reader.old reader.new) }
+    {
+        if ahead.kernel >= self.setting.kernels || !self.may_go_on() {
+            return Ok(false);
+        }
+        let is_read = reads_first(&self.nodes, reader, text, ahead)?;
+        if !is_read {
+            return Ok(false);
+        }
+        self.take_first(ahead)?;
+        Ok(true)
+    }
+
+    /// The first packet from a kernel to another, which waits, is taken.
+    fn take_first(&mut self, ahead: PacketAhead) -> Result<(), Stop>
+        requires ready { IsReady self.old }
+        requires go { (self.old.due.items ≡ []) × (self.old.events < 2147483648) }
+        requires waits { (what : AWhat) × Waits self.old ahead.from ahead.kernel what }
+        ensures ready { OnOk result (IsReady self.new) }
+        ensures leads { OnOk result ((what : AWhat) → Waits self.old ahead.from ahead.kernel what → Goes self.old (line.PacketEntry ahead.stamp ahead.kernel ahead.from (told_packet what)) self.new) }
+        ensures differs { IfErr result (λ stop. (what : AWhat) → Waits self.old ahead.from ahead.kernel what → StopsAt self.old (line.PacketEntry ahead.stamp ahead.kernel ahead.from (told_packet what)) stop) }
+    {
+        let noted = self.nodes.take_first(ahead.from, ahead.kernel)?;
+        self.note(ahead.stamp, ahead.kernel, noted)
+    }
+
+    /// The entry of a call.
+    fn ask_next(
+        &mut self,
+        reader: &mut Reader<'_>,
+        text: &mut Vec<u8>,
+        ahead: CallAhead<'_>,
+        call: &mut Call,
+    ) -> Result<bool, Stop>
+        requires { IsReady self.old }
+        ensures took { IfOk result (λ took. MatchBool took (TookNext self.old reader.old self.new reader.new) ((self.new ≡ self.old) × (reader.new ≡ reader.old))) }
+        ensures stands { IfErr result (Stands self.old reader.old reader.new) }
+    {
+        if !reads_call(reader, text, ahead, call)? {
+            return Ok(false);
+        }
+        self.ask(ahead.stamp, ahead.kernel, ahead.p, call)?;
+        Ok(true)
+    }
+}
+
+/// Whether the next line is the guessed entry of the first packet that waits on that way; if so, it is read.
+fn reads_first(
+    nodes: &Nodes,
+    reader: &mut Reader<'_>,
+    text: &mut Vec<u8>,
+    ahead: PacketAhead,
+) -> Result<bool, NoMemory>
+    requires { (s : ASetting) × AreNodes s nodes.now.nodes.items }
+    ensures { IfOk result (λ read. MatchBool read ((s : ASetting) → AreNodes s nodes.now.nodes.items → ReadsFirst s nodes.now ahead reader.old reader.new) (reader.new ≡ reader.old)) }
+{
+    match nodes.first(ahead.from, ahead.kernel) {
+        Some(packet) => reads_packet(reader, text, ahead, packet),
+        None => Ok(false),
+    }
+}

@@ -1,9 +1,0 @@
-use Rattle.std.proofs.lemmas.List.Elements.{recursion_from_All}
-use Rattle.std.proofs.Common.{subst}
-use Rattle.charlotte_calls.specs.Ranges.{IsValueInRange, AreValuesInRange}
-use Rattle.written_journal.proofs.ranges.tell_values.Goals as goal
-
-pub returns : goal.returns
-returns c =
-    subst AreValuesInRange c.values.ensures.same
-    (record { each = recursion_from_All IsValueInRange c.values.result.now c.tell_each_value.ensures; few = c.values.ensures.within })
