@@ -1,5 +1,7 @@
 //! Names, bytes and calls, each with its one spelling. Malformed ones are tried on the program too (.ci/rows/scripts).
 
+ghost use Rattle.std.specs.Prelude.{◌≤◌};
+
 use crate::journals::holds;
 use charlotte_calls::{EndId, LinkId, NoMemory, Pid, Side, Way};
 use charlotte_text::{
@@ -87,7 +89,9 @@ fn is_end_read() -> bool {
 }
 
 /// How many of two ends are read, where at most so many may stand.
-fn ends_read(most: usize) -> Option<usize> {
+fn ends_read(most: usize) -> Option<usize>
+    requires { most ≤ 8 }
+{
     match read_ends(Some(b"+0.1a +0.2a"), most) {
         Ok(ends) => Some(ends.as_slice().len()),
         Err(_) => None,
