@@ -1,5 +1,5 @@
 -- The report answers the Wait, or goes behind the others.
-use Rattle.std.proofs.Common.{◌≡◌, [], ◌∷◌, List, ap, ◌∙◌, sym, arith}
+use Rattle.std.proofs.Common.{[], ◌∷◌, List, ap, ◌∙◌, sym, arith}
 use Rattle.charlotte_calls.specs.declared.calls.Report.{Report}
 use Rattle.charlotte_calls.specs.declared.names.Pid.{Pid}
 use Rattle.end_table.specs.Table.{entries}
