@@ -1,5 +1,5 @@
 -- Packets that bring values: their parts, in the order of their row.
-use Rattle.std.proofs.Common.{arith, length-append, ◌≤◌, ◌≡◌, ℕ, ◌+◌, Bool, true, false, not, ◌&&◌, ◌||◌, List, [], ◌∷◌, Some, length, map, refl, sym, ap, subst, ◌∙◌}
+use Rattle.std.proofs.Common.{arith, length-append, ◌≤◌, ◌≡◌, ℕ, ◌+◌, Bool, true, false, not, ◌&&◌, ◌||◌, List, [], ◌∷◌, Option, Some, None, IsSome, true≢false, length, map, refl, sym, ap, subst, ◌∙◌}
 use Rattle.std.proofs.lemmas.List.{append-nil, length-map}
 use Rattle.std.specs.List.{list_any}
 use Rattle.charlotte_calls.specs.declared.calls.ServiceStep.TheVariants as step
@@ -100,6 +100,12 @@ adds-length word adds d = omega (arith, lengths)
     lengths =
         ap (λ l. length (word (record d { packets = l })).packets) (sym (append-nil d.packets))
         ∙ ap (λ u. length u.packets) (adds d.packets bare) ∙ length-append d.packets (word bare).packets
+
+-- a parcel without values is its message alone
+pub parcel-plain : (k made : ℕ) (to : EndId) (n at hops : ℕ) (bytes : List ℕ) (o : Option HereView) (d : Progress) → IsSome o → arrived_row k n at hops bytes [] o d ≡ parcel_row k made to n at hops bytes [] o d
+unfolding settle_each tell_arrivals
+parcel-plain k made to n at hops bytes None d some = absurd (true≢false (sym some))
+parcel-plain k made to n at hops bytes (Some v) d some = refl
 
 -- a parcel that is taken: its parts, before they are put in order
 module _ (k n at hops : ℕ) (bytes : List ℕ) (came : List MovingPicture) (xs : List EndId) (v : HereView) (t t1 t2 : EndId → Entry) (out0 out1 out2 : Work) (none : out0.packets.items ≡ [])

@@ -36,9 +36,7 @@ pub fn act(table: &mut Table, made: u32, p: Pid, mine: &[EndId], call: &Call, ou
     match call {
         Call::Make => make(table, made, p, out),
         Call::Destroy { on } => destroy(table, p, *on, out),
-        Call::Send { on, bytes, enclose } => {
-            send(table, p, *on, bytes.copy(), enclose.copy(), out)
-        }
+        Call::Send { on, bytes, enclose } => { send(table, p, *on, bytes, enclose, out) }
         Call::Receive { on } => receive(table, p, *on, out),
         Call::Cancel { on, way } => cancel(table, p, *on, *way, out),
         Call::Wait => push_step(out, ServiceStep::Wait { p }),
@@ -150,18 +148,20 @@ fn cancel_receive(table: &mut Table, p: Pid, on: EndId, out: &mut Work)
 }
 
 /// Send: the ends that it encloses are held by it, and a send is started.
-fn send(table: &mut Table, p: Pid, on: EndId, bytes: Bytes, enclose: Ends, out: &mut Work)
+fn send(table: &mut Table, p: Pid, on: EndId, bytes: &Bytes, enclose: &Ends, out: &mut Work)
     requires own { (e : EndId) → IsOfEnd e (entries table.old e) }
-    requires granted { on_owned (owned p (entries table.old on)) (send_causes p (entries table.old) on enclose) ≡ None }
+    requires granted { on_owned (owned p (entries table.old on)) (send_causes p (entries table.old) on enclose.now) ≡ None }
     requires room { HasRoom 1 0 0 2 out.old }
     ensures part { progress (entries table.new) out.new
-        ≡ acts_on (owned p (entries table.old on)) (λ v so_far. starts_send table.old.kernel bytes enclose v (encloses on enclose so_far)) (progress (entries table.old) out.old) }
+        ≡ acts_on (owned p (entries table.old on)) (λ v so_far. starts_send table.old.kernel bytes.now enclose.now v (encloses on enclose.now so_far)) (progress (entries table.old) out.old) }
     ensures room { AddsAtMost 1 0 0 2 out.old out.new }
     ensures kernel { table.new.kernel ≡ table.old.kernel }
 {
     if let Some(_living) = table.owned(p, on) {
         enclose_each(table, on, enclose.as_slice(), out);
-        start_send(table, on, bytes, enclose, out);
+        let message = bytes.copy();
+        let ends = enclose.copy();
+        start_send(table, on, message, ends, out);
     }
 }
 

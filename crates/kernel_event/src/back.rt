@@ -26,13 +26,20 @@ pub(crate) struct Returned {
 }
 
 /// The row back: at its matched send the message is reported as destroyed, and its ends are the sender's again. Anywhere
-/// else its ends are destroyed.
-pub(crate) fn back(table: &mut Table, made: u32, returned: Returned, moving: Cargo, out: &mut Work)
-    requires placed { ArePlaced table.old moving }
+/// else its ends are destroyed. The values are taken out of the packet.
+#[inline(never)]
+pub(crate) fn back(
+    table: &mut Table,
+    made: u32,
+    returned: Returned,
+    moving: &mut Cargo,
+    out: &mut Work,
+)
+    requires placed { ArePlaced table.old moving.old }
     requires first { out.old.packets.items ≡ [] }
     requires room { HasRoom PACKETS_OF_BACK 3 1 1 out.old }
     ensures part { progress (entries table.new) out.new
-        ≡ back_row table.old.kernel made returned.from returned.to returned.n moving (awaits returned.n (entries table.old returned.to)) (progress (entries table.old) out.old) }
+        ≡ back_row table.old.kernel made returned.from returned.to returned.n moving.old (awaits returned.n (entries table.old returned.to)) (progress (entries table.old) out.old) }
     ensures room { AddsAtMost PACKETS_OF_BACK 3 1 1 out.old out.new }
     ensures kernel { table.new.kernel ≡ table.old.kernel }
 {
@@ -46,12 +53,12 @@ pub(crate) fn back(table: &mut Table, made: u32, returned: Returned, moving: Car
 }
 
 /// The ends of a message that comes back where its send is not matched are destroyed.
-fn end_brought(table: &mut Table, made: u32, returned: Returned, moving: Cargo, out: &mut Work)
+fn end_brought(table: &mut Table, made: u32, returned: Returned, moving: &mut Cargo, out: &mut Work)
     requires unmatched { awaits returned.n (entries table.old returned.to) ≡ None }
-    requires placed { ArePlaced table.old moving }
+    requires placed { ArePlaced table.old moving.old }
     requires room { HasRoom MOST_ENDS 1 0 1 out.old }
     ensures part { progress (entries table.new) out.new
-        ≡ back_row table.old.kernel made returned.from returned.to returned.n moving None (progress (entries table.old) out.old) }
+        ≡ back_row table.old.kernel made returned.from returned.to returned.n moving.old None (progress (entries table.old) out.old) }
     ensures room { AddsAtMost MOST_ENDS 1 0 1 out.old out.new }
     ensures kernel { table.new.kernel ≡ table.old.kernel }
 {
@@ -94,16 +101,16 @@ fn take_back(
     made: u32,
     returned: Returned,
     mut view: HereView,
-    moving: Cargo,
+    moving: &mut Cargo,
     out: &mut Work,
 )
     requires matched { awaits returned.n (entries table.old returned.to) ≡ Some view }
     requires here { entries table.old view.value.end ≡ Here view }
-    requires placed { ArePlaced table.old moving }
+    requires placed { ArePlaced table.old moving.old }
     requires first { out.old.packets.items ≡ [] }
     requires room { HasRoom PACKETS_OF_BACK 3 1 1 out.old }
     ensures part { progress (entries table.new) out.new
-        ≡ back_row table.old.kernel made returned.from returned.to returned.n moving (Some view) (progress (entries table.old) out.old) }
+        ≡ back_row table.old.kernel made returned.from returned.to returned.n moving.old (Some view) (progress (entries table.old) out.old) }
     ensures room { AddsAtMost PACKETS_OF_BACK 3 1 1 out.old out.new }
     ensures kernel { table.new.kernel ≡ table.old.kernel }
 {

@@ -11,9 +11,9 @@ use charlotte_calls::{Cargo, EndId, Moving};
 use end_table::{Lent, Table};
 use kernel_step::ends_in;
 
-/// The values that leave or end here. Those that are not carried are spent.
-pub(crate) fn passing(table: &Table, made: u32, moving: Cargo) -> Cargo
-    ensures { result ≡ passing table.now.kernel made (entries table.now) moving }
+/// The values that leave or end here, taken out of what a packet brings. Those that are not carried are spent.
+pub(crate) fn passing(table: &Table, made: u32, moving: &mut Cargo) -> Cargo
+    ensures { result ≡ passing table.now.kernel made (entries table.now) moving.old }
 {
     let _count = moving.len();
     let mut passed = Cargo::empty();
@@ -21,12 +21,12 @@ pub(crate) fn passing(table: &Table, made: u32, moving: Cargo) -> Cargo
     passed
 }
 
-fn add_passing(table: &Table, made: u32, mut moving: Cargo, passed: &mut Cargo)
-    requires { length passed.old + length moving ≤ MOST_ENDS }
-    ensures { passed.new ≡ passed.old ++ passing table.now.kernel made (entries table.now) moving }
+fn add_passing(table: &Table, made: u32, moving: &mut Cargo, passed: &mut Cargo)
+    requires { length passed.old + length moving.old ≤ MOST_ENDS }
+    ensures { passed.new ≡ passed.old ++ passing table.now.kernel made (entries table.now) moving.old }
 {
     match moving.next() {
-        None => moving.close(),
+        None => {}
         Some(first) => {
             add_if(is_carried(table, made, &first), first, passed);
             add_passing(table, made, moving, passed);
@@ -34,9 +34,9 @@ fn add_passing(table: &Table, made: u32, mut moving: Cargo, passed: &mut Cargo)
     }
 }
 
-/// The values that become Here, one after the other. Those that are not carried are spent.
-pub(crate) fn arriving(table: &Table, made: u32, moving: Cargo) -> Cargo
-    ensures { (h : Holder) → result ≡ arriving table.now.kernel made h (entries table.now) moving }
+/// The values that become Here, one after the other, taken out of what a packet brings. Those that are not carried are spent.
+pub(crate) fn arriving(table: &Table, made: u32, moving: &mut Cargo) -> Cargo
+    ensures { (h : Holder) → result ≡ arriving table.now.kernel made h (entries table.now) moving.old }
 {
     let _count = moving.len();
     let mut came = Cargo::empty();
@@ -45,12 +45,12 @@ pub(crate) fn arriving(table: &Table, made: u32, moving: Cargo) -> Cargo
 }
 
 #[tactic(auto, using(crate::proofs::CarriedValues::arrivings))]
-fn add_arriving(table: &Table, made: u32, mut moving: Cargo, came: &mut Cargo)
-    requires { length came.old + length moving ≤ MOST_ENDS }
-    ensures { (h : Holder) → came.new ≡ came.old ++ arriving table.now.kernel made h (with_here h came.old (entries table.now)) moving }
+fn add_arriving(table: &Table, made: u32, moving: &mut Cargo, came: &mut Cargo)
+    requires { length came.old + length moving.old ≤ MOST_ENDS }
+    ensures { (h : Holder) → came.new ≡ came.old ++ arriving table.now.kernel made h (with_here h came.old (entries table.now)) moving.old }
 {
     match moving.next() {
-        None => moving.close(),
+        None => {}
         Some(first) => {
             add_if(is_new(table, made, &first, came), first, came);
             add_arriving(table, made, moving, came);

@@ -1,4 +1,4 @@
-ghost use Rattle.std.specs.Prelude.{◌≡◌, ℕ, List, [], None, IsSome};
+ghost use Rattle.std.specs.Prelude.{◌≡◌, true, ℕ, List, [], None, IsSome};
 ghost use Rattle.end_table.specs.Table.{entries};
 ghost use Rattle.kernel_event.specs.Places.{ArePlaced};
 ghost use Rattle.kernel_step.specs.Progress.{progress, HasRoom, AddsAtMost};
@@ -10,12 +10,12 @@ use crate::order::put_behind;
 use cancel_core::arrived;
 use charlotte_calls::{Bytes, Cargo, EndId, Work};
 use end_table::Table;
-use kernel_step::{ends_in, receiver};
+use kernel_step::{ends_in, no_ends, receiver};
 use move_core::arrive;
 
-/// A message in a parcel, without the values that the parcel brings.
-#[derive(Drop)]
-pub(crate) struct Message {
+/// A message in a parcel, without its bytes and its values.
+#[derive(Clone, Copy)]
+pub(crate) struct Head {
     pub(crate) to: EndId,
     pub(crate) n: u32,
     /// The receive that it is for.
@@ -23,65 +23,120 @@ pub(crate) struct Message {
     /// The kernel and the hops of the end that sent it.
     pub(crate) at: u8,
     pub(crate) hops: u32,
-    pub(crate) bytes: Bytes,
 }
 
 /// The row parcel: at the receive that it was sent for the message is taken, and its ends become Here. Anywhere else the
-/// ends leave again, and go back with it.
-pub(crate) fn parcel(table: &mut Table, made: u32, message: Message, moving: Cargo, out: &mut Work)
-    requires placed { ArePlaced table.old moving }
+/// ends leave again, and go back with it. The values are taken out of the packet.
+#[inline(never)]
+pub(crate) fn parcel(
+    table: &mut Table,
+    made: u32,
+    head: Head,
+    bytes: &Bytes,
+    moving: &mut Cargo,
+    out: &mut Work,
+)
+    requires placed { ArePlaced table.old moving.old }
     requires first { out.old.packets.items ≡ [] }
     requires room { HasRoom PACKETS_OF_PARCEL 1 1 1 out.old }
     ensures part { progress (entries table.new) out.new
-        ≡ parcel_row table.old.kernel made message.to message.n message.at message.hops message.bytes moving (asks message.w (entries table.old message.to)) (progress (entries table.old) out.old) }
+        ≡ parcel_row table.old.kernel made head.to head.n head.at head.hops bytes.now moving.old (asks head.w (entries table.old head.to)) (progress (entries table.old) out.old) }
     ensures room { AddsAtMost PACKETS_OF_PARCEL 1 1 1 out.old out.new }
     ensures kernel { table.new.kernel ≡ table.old.kernel }
 {
-    match receiver(table, message.to, message.w) {
-        Some(_) => take_parcel(table, made, message, moving, out),
-        None => pass_parcel(table, made, &message, moving, out),
+    match receiver(table, head.to, head.w) {
+        Some(_) => take_parcel(table, made, head, bytes, moving, out),
+        None => pass_parcel(table, made, head, moving, out),
     }
 }
 
 /// The message goes back, and its ends leave with it.
-fn pass_parcel(table: &mut Table, made: u32, message: &Message, moving: Cargo, out: &mut Work)
-    requires unasked { asks message.now.w (entries table.old message.now.to) ≡ None }
-    requires placed { ArePlaced table.old moving }
+#[inline(never)]
+fn pass_parcel(table: &mut Table, made: u32, head: Head, moving: &mut Cargo, out: &mut Work)
+    requires unasked { asks head.w (entries table.old head.to) ≡ None }
+    requires placed { ArePlaced table.old moving.old }
     requires room { HasRoom MOST_ENDS 0 0 0 out.old }
     ensures part { (hops : ℕ) (bytes : List ℕ) → progress (entries table.new) out.new
-        ≡ parcel_row table.old.kernel made message.now.to message.now.n message.now.at hops bytes moving None (progress (entries table.old) out.old) }
+        ≡ parcel_row table.old.kernel made head.to head.n head.at hops bytes moving.old None (progress (entries table.old) out.old) }
     ensures room { AddsAtMost MOST_ENDS 0 0 0 out.old out.new }
     ensures kernel { table.new.kernel ≡ table.old.kernel }
 {
     let passed = passing(table, made, moving);
-    arrive(
-        table, message.to, message.n, message.w, message.at, passed, out,
-    );
+    arrive(table, head.to, head.n, head.w, head.at, passed, out);
 }
 
 /// The message is taken by the started receive of an end that is here.
-fn take_parcel(table: &mut Table, made: u32, message: Message, moving: Cargo, out: &mut Work)
-    requires asked { IsSome (asks message.w (entries table.old message.to)) }
-    requires placed { ArePlaced table.old moving }
+fn take_parcel(
+    table: &mut Table,
+    made: u32,
+    head: Head,
+    bytes: &Bytes,
+    moving: &mut Cargo,
+    out: &mut Work,
+)
+    requires asked { IsSome (asks head.w (entries table.old head.to)) }
+    requires placed { ArePlaced table.old moving.old }
     requires first { out.old.packets.items ≡ [] }
     requires room { HasRoom PACKETS_OF_PARCEL 1 1 1 out.old }
     ensures part { progress (entries table.new) out.new
-        ≡ parcel_row table.old.kernel made message.to message.n message.at message.hops message.bytes moving (asks message.w (entries table.old message.to)) (progress (entries table.old) out.old) }
+        ≡ parcel_row table.old.kernel made head.to head.n head.at head.hops bytes.now moving.old (asks head.w (entries table.old head.to)) (progress (entries table.old) out.old) }
     ensures room { AddsAtMost PACKETS_OF_PARCEL 1 1 1 out.old out.new }
     ensures kernel { table.new.kernel ≡ table.old.kernel }
 {
-    let Message {
-        to,
-        n,
-        w,
-        at,
-        hops,
-        bytes,
-    } = message;
+    if is_empty(moving) {
+        take_plain(table, head, bytes, out);
+    } else {
+        take_laden(table, made, head, bytes, moving, out);
+    }
+}
+
+/// Whether a cargo has no values.
+fn is_empty(moving: &Cargo) -> bool
+    ensures { result ≡ true → moving.now ≡ [] }
+{
+    match moving.values() {
+        [] => true,
+        [_, ..] => false,
+    }
+}
+
+/// A message that brings no ends is taken.
+fn take_plain(table: &mut Table, head: Head, bytes: &Bytes, out: &mut Work)
+    requires asked { IsSome (asks head.w (entries table.old head.to)) }
+    requires room { HasRoom PACKETS_OF_PARCEL 1 1 1 out.old }
+    ensures part { (made : ℕ) → progress (entries table.new) out.new
+        ≡ parcel_row table.old.kernel made head.to head.n head.at head.hops bytes.now [] (asks head.w (entries table.old head.to)) (progress (entries table.old) out.old) }
+    ensures room { AddsAtMost PACKETS_OF_PARCEL 1 1 1 out.old out.new }
+    ensures kernel { table.new.kernel ≡ table.old.kernel }
+{
+    let Head { to, n, w, at, hops } = head;
+    arrived(table, to, n, w, at, hops, bytes.copy(), no_ends(), out);
+}
+
+/// A message is taken, and the ends that it brings become Here.
+#[inline(never)]
+fn take_laden(
+    table: &mut Table,
+    made: u32,
+    head: Head,
+    bytes: &Bytes,
+    moving: &mut Cargo,
+    out: &mut Work,
+)
+    requires asked { IsSome (asks head.w (entries table.old head.to)) }
+    requires placed { ArePlaced table.old moving.old }
+    requires first { out.old.packets.items ≡ [] }
+    requires room { HasRoom PACKETS_OF_PARCEL 1 1 1 out.old }
+    ensures part { progress (entries table.new) out.new
+        ≡ parcel_row table.old.kernel made head.to head.n head.at head.hops bytes.now moving.old (asks head.w (entries table.old head.to)) (progress (entries table.old) out.old) }
+    ensures room { AddsAtMost PACKETS_OF_PARCEL 1 1 1 out.old out.new }
+    ensures kernel { table.new.kernel ≡ table.old.kernel }
+{
+    let Head { to, n, w, at, hops } = head;
     let came = arriving(table, made, moving);
     let ends = ends_in(&came);
     arrive(table, to, n, w, at, came, out);
     let moves = out.packets.len();
-    arrived(table, to, n, w, at, hops, bytes, ends, out);
+    arrived(table, to, n, w, at, hops, bytes.copy(), ends, out);
     put_behind(out, moves, moves + 1);
 }

@@ -8,18 +8,17 @@ ghost use Rattle.kernel_step.specs.Enclosed.{IsReady};
 ghost use Rattle.kernel_event.specs.Places.{ArePlaced, brought};
 ghost use Rattle.kernel_event.specs.Room.{room_of_packet, Fits, Adds};
 ghost use Rattle.kernel_step.specs.Progress.{progress, HasRoom, AddsAtMost};
-ghost use Rattle.kernel_step.specs.Rows.{asks, awaits, back_row, parcel_row, row, gone_row, gone_here};
-ghost use Rattle.kernel_step.specs.declared.bounds.TheConstants.{PACKETS_OF_BACK, PACKETS_OF_NOTICE, PACKETS_OF_PARCEL};
+ghost use Rattle.kernel_step.specs.Rows.{row, gone_row, gone_here};
+ghost use Rattle.kernel_step.specs.declared.bounds.TheConstants.{PACKETS_OF_NOTICE};
 
 use crate::back::{Returned, back};
 use crate::death::{notice_first, tell_seen};
-use crate::parcel::{Message, parcel};
+use crate::parcel::{Head, parcel};
 use cancel_core::{finished, unwant, unwanted, want};
-use charlotte_calls::{Bytes, Cargo, EndId, ServiceStep, What, Work};
+use charlotte_calls::{EndId, ServiceStep, What, Work};
 use end_table::{Entry, HereView, Table};
 use kernel_step::{is_withdrawing, push_packet, push_step};
 use move_core::{forget, gone_seen, known, moved};
-use std::mem;
 
 /// What a kernel that has made so many links does with a packet from a kernel. The values that the packet brings are taken out of it.
 pub fn row(table: &mut Table, made: u32, from: u8, what: &mut What, out: &mut Work)
@@ -52,7 +51,7 @@ pub fn row(table: &mut Table, made: u32, from: u8, what: &mut What, out: &mut Wo
                 at: *at,
                 hops: *hops,
             };
-            parcel_in(table, made, head, bytes, moving, out)
+            parcel(table, made, head, bytes, moving, out)
         }
         What::Taken { to, n, at, hops } => finished(table, *to, *n, *at, *hops, out),
         What::Back { to, n, moving } => {
@@ -61,7 +60,7 @@ pub fn row(table: &mut Table, made: u32, from: u8, what: &mut What, out: &mut Wo
                 to: *to,
                 n: *n,
             };
-            back_in(table, made, returned, moving, out)
+            back(table, made, returned, moving, out)
         }
         What::Gone { to, at } => gone(table, *to, *at, out),
         What::Moved { to, at, hops } => moved(table, *to, *at, *hops, out),
@@ -69,66 +68,6 @@ pub fn row(table: &mut Table, made: u32, from: u8, what: &mut What, out: &mut Wo
         What::Forget { to, hops } => forget(table, *to, *hops, out),
         What::GoneSeen { to } => gone_seen(table, *to, out),
     }
-}
-
-/// A message in a parcel, without its bytes and its values.
-#[derive(Clone, Copy)]
-struct Head {
-    to: EndId,
-    n: u32,
-    w: u32,
-    at: u8,
-    hops: u32,
-}
-
-/// The row parcel, of a message that stands in its packet: only its values are taken out.
-#[inline(never)]
-fn parcel_in(
-    table: &mut Table,
-    made: u32,
-    head: Head,
-    bytes: &Bytes,
-    moving: &mut Cargo,
-    out: &mut Work,
-)
-    requires placed { ArePlaced table.old moving.old }
-    requires first { out.old.packets.items ≡ [] }
-    requires room { HasRoom PACKETS_OF_PARCEL 1 1 1 out.old }
-    ensures part { progress (entries table.new) out.new
-        ≡ parcel_row table.old.kernel made head.to head.n head.at head.hops bytes.now moving.old (asks head.w (entries table.old head.to)) (progress (entries table.old) out.old) }
-    ensures room { AddsAtMost PACKETS_OF_PARCEL 1 1 1 out.old out.new }
-    ensures kernel { table.new.kernel ≡ table.old.kernel }
-{
-    let message = Message {
-        to: head.to,
-        n: head.n,
-        w: head.w,
-        at: head.at,
-        hops: head.hops,
-        bytes: bytes.copy(),
-    };
-    parcel(table, made, message, values_of(moving), out)
-}
-
-/// The row back, of a message whose values stand in its packet, and are taken out.
-#[inline(never)]
-fn back_in(table: &mut Table, made: u32, returned: Returned, moving: &mut Cargo, out: &mut Work)
-    requires placed { ArePlaced table.old moving.old }
-    requires first { out.old.packets.items ≡ [] }
-    requires room { HasRoom PACKETS_OF_BACK 3 1 1 out.old }
-    ensures part { progress (entries table.new) out.new
-        ≡ back_row table.old.kernel made returned.from returned.to returned.n moving.old (awaits returned.n (entries table.old returned.to)) (progress (entries table.old) out.old) }
-    ensures room { AddsAtMost PACKETS_OF_BACK 3 1 1 out.old out.new }
-    ensures kernel { table.new.kernel ≡ table.old.kernel }
-{
-    back(table, made, returned, values_of(moving), out)
-}
-
-/// Takes out the values that a packet brings.
-fn values_of(moving: &mut Cargo) -> Cargo
-    ensures { result ≡ moving.old }
-{
-    mem::replace(moving, Cargo::empty())
 }
 
 /// The row gone: the opposite end, at kernel `at`, is destroyed.

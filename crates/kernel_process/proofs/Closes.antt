@@ -29,7 +29,7 @@ use Rattle.kernel_process.proofs.OneProcess.{process_of-at, with_parts-set}
 use Rattle.kernel_sound.proofs.Reports.{IsSound-reported, is_active-reported_put}
 use Rattle.kernel_process.specs.Closing.{HaveSpare, HaveSpareFor}
 use Rattle.kernel_sound.specs.Sound.{AreFor, IsSound}
-use Rattle.kernel_process.specs.Parts.{ended, process_state, with_parts}
+use Rattle.kernel_process.specs.Parts.{ended, process_state, tells_first, with_parts}
 use Rattle.kernel_process.specs.Steady.{StaysCalm, TakesAtMost}
 use Rattle.kernel_process.specs.declared.process.ControlBlock.{ControlBlock}
 
@@ -183,19 +183,46 @@ unfolding ended
 exits-by s after e f p is packets answered steps =
     λ j. record { kernel = is j; packets = map sent_picture (packets j); answered = answered j; steps = steps j }
 
--- a report answers the Wait of its process, which keeps the other reports
-pub answers_wait-by : (t u : EndId → Entry) (xs : List ControlBlock) (s : Kernel) (e f : Effect) (p : Pid) (r : Report) → u ≡ put t r.on (reported_entry r.way (t r.on))
+-- a report is told, and its activity is idle
+pub tells-by : (t u : EndId → Entry) (xs : List ControlBlock) (s : Kernel) (e f : Effect) (p : Pid) (r : Report) (others : List Report) → u ≡ put t r.on (reported_entry r.way (t r.on))
     → f.packets.items ≡ e.packets.items → f.answered.items ≡ e.answered.items → f.steps.items ≡ e.steps.items ++ step.Report p r ∷ []
-    → stands p (answer.Reported r) (ended (with_parts u xs s) f) ≡ answers_wait p r (process_of p (with_parts t xs s)).reports (ended (with_parts t xs s) e)
-unfolding ended with_parts answers_wait
-answers_wait-by t u xs s e f p r is packets answered steps =
-    λ j. stands p (answer.Reported r) (record { kernel = told j; packets = map sent_picture (packets j); answered = answered j; steps = steps j })
-  where
-    now : EndId → Entry
-    now = put t r.on (reported_entry r.way (t r.on))
+    → ended (with_parts u xs s) f ≡ tells_first p (r ∷ others) (ended (with_parts t xs s) e)
+unfolding ended with_parts
+tells-by t u xs s e f p r others is packets answered steps =
+    λ j. record { kernel = with_parts (is j) xs s; packets = map sent_picture (packets j); answered = answered j; steps = steps j }
 
-    told : with_parts u xs s ≡ with_process p (process_of p (with_parts now xs s)) (with_parts now xs s)
-    told = ap (λ z. with_parts z xs s) is ∙ sym (with_process-same p (with_parts now xs s))
+-- none is told
+pub tells-none : (p : Pid) (rs : List Report) (o : Outcome) → rs ≡ [] → o ≡ tells_first p rs o
+tells-none p rs o none = ap (λ l. tells_first p l o) (sym none)
+
+-- a report that is told answers the Wait of its process, which keeps the other reports
+pub answers_wait-told : (p : Pid) (r : Report) (o : Outcome) → stands p (answer.Reported r) (tells_first p (r ∷ []) o) ≡ answers_wait p r (process_of p o.kernel).reports o
+unfolding answers_wait
+answers_wait-told p r o =
+    λ j. stands p (answer.Reported r) (record o { kernel = same j; steps = o.steps ++ step.Report p r ∷ [] })
+  where
+    now : Kernel
+    now = record o.kernel { table = put o.kernel.table r.on (reported_entry r.way (o.kernel.table r.on)) }
+
+    same : now ≡ with_process p (process_of p now) now
+    same = sym (with_process-same p now)
+
+-- the first of its reports leaves the list of a process, once it is told, and answers its Wait
+pub waits-told : (p : Pid) (r : Report) (all others : List Report) (s after : Kernel) (e : Effect) (o : Outcome) → all ≡ r ∷ others → ended s e ≡ tells_first p all o
+    → after ≡ with_process p (record (process_of p s) { reports = others }) s → stands p (answer.Reported r) (ended after e) ≡ waits p all o
+unfolding ended answers_wait
+waits-told p r all others s after e o is told left =
+    ap (λ k. stands p (answer.Reported r) (ended k e)) left
+    ∙ ap (λ z. stands p (answer.Reported r) (record z { kernel = with_process p (record (process_of p z.kernel) { reports = others }) z.kernel })) (told ∙ ap (λ l. tells_first p l o) is)
+    ∙ ap (λ l. waits p l o) (sym is)
+
+-- a Wait that finds no report
+pub waits-idle : (p : Pid) (all : List Report) (s after : Kernel) (e : Effect) (o : Outcome) → all ≡ [] → ended s e ≡ tells_first p all o → after ≡ turns p Waiting s → ended after e ≡ waits p all o
+unfolding ended
+waits-idle p all s after e o none told turned =
+    ap (λ k. ended k e) turned
+    ∙ ap {A = Outcome} {B = Outcome} (λ z. record z { kernel = turns p Waiting z.kernel }) (told ∙ ap (λ l. tells_first p l o) none)
+    ∙ ap (λ l. waits p l o) (sym none)
 
 -- the reports are those that were left before
 pub answers_wait-left : (p : Pid) (r : Report) (others : List Report) (s after : Kernel) (e : Effect) → after ≡ with_process p (record (process_of p s) { reports = others }) s
@@ -213,6 +240,16 @@ answers_wait-left p r others s after e is =
 
     told : with_process p (process_of p (with_process p x s)) (record (with_process p x s) { table = now }) ≡ with_process p x (record s { table = now })
     told = ap (λ y. with_process p y (record (with_process p x s) { table = now })) (with_process-at p x s) ∙ with_process-twice p x x now s
+
+-- the first of a list that has one, and the others
+pub front-some : {X : Type 0} (xs : List X) (n : ℕ) (x : X) → n ≡ length xs → 0 < n → x ≡ get_or xs 0 x → xs ≡ x ∷ drop 1 xs
+front-some [] n x len some is = absurd (omega arith)
+front-some (y ∷ ys) n x len some is = ap (λ z. z ∷ ys) (sym is)
+
+-- and of one that has none
+pub front-none : {X : Type 0} (xs : List X) (n : ℕ) → n ≡ length xs → (0 < n → ⊥) → xs ≡ []
+front-none [] n len none = refl
+front-none (y ∷ ys) n len none = absurd (none (omega (arith, len)))
 
 -- a list that is its own rest is empty
 pub drop-same : {X : Type 0} (xs : List X) → xs ≡ drop 1 xs → xs ≡ []
@@ -232,10 +269,10 @@ joins-behind p r s after e not_waiting is =
     ap (λ k. ended k e) is
     ∙ sym (ap (λ b. cond b (answers_wait p r [] (ended s e)) (record (ended s e) { kernel = with_process p (record (process_of p s) { reports = (process_of p s).reports ++ r ∷ [] }) s })) not_waiting)
 
--- a Wait that finds no report
-pub waits-none : (p : Pid) (s after : Kernel) (e : Effect) → (process_of p s).reports ≡ [] → after ≡ turns p Waiting s → ended after e ≡ waits p (process_of p s).reports (ended s e)
-unfolding ended
-waits-none p s after e none is = ap (λ k. ended k e) is ∙ ap (λ rs. waits p rs (ended s e)) (sym none)
+-- the only report joins
+pub join_reports-only : (p : Pid) (r : Report) (xs : List (Pid × Report)) (s : Kernel) (e : Effect) (o : Outcome) → xs ≡ (p, r) ∷ [] → o ≡ joins p r (process_of p s).phase (ended s e) → o ≡ join_reports xs (ended s e)
+unfolding ended join_reports
+join_reports-only p r xs s e o only is = is ∙ ap (λ l. join_reports l (ended s e)) (sym only)
 
 -- the first report joins, and then the others
 pub join_reports-more : (p : Pid) (r : Report) (xs : List (Pid × Report)) (s : Kernel) (e : Effect) (o : Outcome) → o ≡ joins p r (process_of p s).phase (ended s e) → join_reports xs o ≡ join_reports ((p, r) ∷ xs) (ended s e)

@@ -19,6 +19,7 @@ use end_table::{Inward, Living, Outward, Table};
 use indexmap::IndexSet;
 
 /// The set of process `p` has this end exactly where `started` says so.
+#[inline(always)]
 pub fn refresh(processes: &mut Processes, p: Pid, end: EndId, started: bool)
     requires process { p.0 < length processes.old }
     requires place { HavePlace processes.old }
@@ -55,6 +56,7 @@ pub fn clear(processes: &mut Processes, p: Pid)
 }
 
 /// The set has this end exactly where `started` says so, and every other end as before.
+#[inline(always)]
 fn note(active: &mut IndexSet<EndId>, end: EndId, started: bool)
     requires { 1 ≤ spare active.old }
     ensures { (e : EndId) → list_any (end_eq e) active.new.keys ≡ (if end_eq end e then started else list_any (end_eq e) active.old.keys) }
@@ -67,6 +69,7 @@ fn note(active: &mut IndexSet<EndId>, end: EndId, started: bool)
 }
 
 #[tactic(auto, unfolding(end_table::specs::Place::end_eq))]
+#[inline(always)]
 fn add(active: &mut IndexSet<EndId>, end: EndId)
     requires { 1 ≤ spare active.old }
     ensures { (e : EndId) → list_any (end_eq e) active.new.keys ≡ (if end_eq end e then true else list_any (end_eq e) active.old.keys) }

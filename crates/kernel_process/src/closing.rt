@@ -1,9 +1,12 @@
-ghost use Rattle.std.specs.Prelude.{◌≡◌, true, false, ℕ, ◌+◌, ◌<◌, ◌≤◌, ◌++◌, [], ◌∷◌, Some, length, drop, option_to_list, vec_len, vec_capacity};
+ghost use Rattle.std.specs.Prelude.{◌≡◌, true, false, ℕ, ◌+◌, ◌<◌, ◌≤◌, ◌++◌, [], ◌∷◌, List, Some, IfSome, IfNone, length, drop, option_to_list, vec_len, vec_capacity};
 ghost use Rattle.charlotte_calls.specs.declared.calls.Answer.TheVariants as answer;
+ghost use Rattle.charlotte_calls.specs.declared.calls.Report.{Report};
 ghost use Rattle.charlotte_calls.specs.declared.names.EndId.{EndId};
+ghost use Rattle.charlotte_calls.specs.declared.names.Pid.{Pid};
 ghost use Rattle.end_table.specs.Place.{put};
 ghost use Rattle.charlotte_calls.specs.declared.names.Way.TheVariants as way;
-ghost use Rattle.end_table.specs.Table.{entries, IsHereAnd};
+ghost use Rattle.end_table.specs.Table.{entries};
+ghost use Rattle.end_table.specs.declared.entry.Entry.TheVariants.{Here};
 ghost use Rattle.end_table.specs.declared.entry.Inward.TheVariants as inward;
 ghost use Rattle.end_table.specs.declared.entry.Outward.TheVariants as outward;
 ghost use Rattle.end_table.specs.declared.entry.Entry.{Entry};
@@ -12,13 +15,14 @@ ghost use Rattle.kernel_step.specs.Progress.{progress};
 ghost use Rattle.kernel_step.specs.declared.phase.Phase.TheVariants.{Running, Exited};
 ghost use Rattle.kernel_process.specs.Closing.{HaveSpare, HaveSpareFor, CanClose};
 ghost use Rattle.kernel_sound.specs.Sound.{AreFor};
-ghost use Rattle.kernel_process.specs.Parts.{ended, with_parts, process_state, process_at, HasPlaces, GainsAtMost};
+ghost use Rattle.kernel_process.specs.Parts.{ended, tells_first, with_parts, process_state, process_at, HasPlaces, GainsAtMost};
 ghost use Rattle.kernel_process.specs.Steady.{StaysCalm, TakesAtMost};
+ghost use Rattle.kernel_process.specs.declared.process.ControlBlock.{ControlBlock};
 
 use crate::event::Event;
 use crate::process::Processes;
 use charlotte_calls::{Answer, Effect, EndId, Pid, Report, ServiceStep, Way, Work};
-use end_table::{Inward, Lent, Outward, Table};
+use end_table::{Inward, Lent, Living, Outward, Table};
 use kernel_step::Phase;
 use std::mem;
 
@@ -84,8 +88,8 @@ fn settle_send(table: &mut Table, on: EndId)
     ensures entries { entries table.new ≡ put (entries table.old) on (reported_entry way.Outward (entries table.old on)) }
     ensures kernel { table.new.kernel ≡ table.old.kernel }
 {
-    if is_sent(table, on) {
-        let value = table.here(on).value();
+    if let Some(living) = sent(table, on) {
+        let value = living.value();
         table.set_outward(on, value, Outward::Idle);
     }
 }
@@ -95,31 +99,41 @@ fn settle_receive(table: &mut Table, on: EndId)
     ensures entries { entries table.new ≡ put (entries table.old) on (reported_entry way.Inward (entries table.old on)) }
     ensures kernel { table.new.kernel ≡ table.old.kernel }
 {
-    if is_received(table, on) {
-        let value = table.here(on).value();
+    if let Some(living) = received(table, on) {
+        let value = living.value();
         table.set_inward(on, value, Inward::Idle);
     }
 }
 
-/// Whether a send is over at an end that is here.
-fn is_sent(table: &Table, on: EndId) -> bool
-    ensures yes { result ≡ true → IsHereAnd (entries table.now on) (λ v. v.outward ≡ outward.Unreported) }
-    ensures no { result ≡ false → reported_entry way.Outward (entries table.now on) ≡ entries table.now on }
+/// An end that is here and whose send is over, lent.
+fn sent(table: &Table, on: EndId) -> Option<&Living>
+    ensures here { IfSome result (λ l. entries table.now on ≡ Here l.now) }
+    ensures own { IfSome result (λ l. l.now.value.end ≡ on) }
+    ensures over { IfSome result (λ l. l.now.outward ≡ outward.Unreported) }
+    ensures none { IfNone result (reported_entry way.Outward (entries table.now on) ≡ entries table.now on) }
 {
     match table.lend(on) {
-        Lent::Here(living) => matches!(living.outward(), Outward::Unreported),
-        Lent::Nothing | Lent::Left { .. } | Lent::Destroyed(_) => false,
+        Lent::Here(living) => match living.outward() {
+            Outward::Unreported => Some(living),
+            Outward::Idle | Outward::Waiting { .. } | Outward::Matched { .. } => None,
+        },
+        Lent::Nothing | Lent::Left { .. } | Lent::Destroyed(_) => None,
     }
 }
 
-/// Whether a receive is over at an end that is here.
-fn is_received(table: &Table, on: EndId) -> bool
-    ensures yes { result ≡ true → IsHereAnd (entries table.now on) (λ v. v.inward ≡ inward.Unreported) }
-    ensures no { result ≡ false → reported_entry way.Inward (entries table.now on) ≡ entries table.now on }
+/// An end that is here and whose receive is over, lent.
+fn received(table: &Table, on: EndId) -> Option<&Living>
+    ensures here { IfSome result (λ l. entries table.now on ≡ Here l.now) }
+    ensures own { IfSome result (λ l. l.now.value.end ≡ on) }
+    ensures over { IfSome result (λ l. l.now.inward ≡ inward.Unreported) }
+    ensures none { IfNone result (reported_entry way.Inward (entries table.now on) ≡ entries table.now on) }
 {
     match table.lend(on) {
-        Lent::Here(living) => matches!(living.inward(), Inward::Unreported),
-        Lent::Nothing | Lent::Left { .. } | Lent::Destroyed(_) => false,
+        Lent::Here(living) => match living.inward() {
+            Inward::Unreported => Some(living),
+            Inward::Idle | Inward::Posted { .. } | Inward::Withdrawing { .. } => None,
+        },
+        Lent::Nothing | Lent::Left { .. } | Lent::Destroyed(_) => None,
     }
 }
 
@@ -134,6 +148,22 @@ pub fn stand(processes: &mut Processes, effect: &mut Effect, p: Pid, answer: Ans
 {
     run_again(processes, p, answer);
     effect.answered.push_reserved(p);
+}
+
+/// A report of a process is told, and its activity is idle.
+fn tell(table: &mut Table, effect: &mut Effect, p: Pid, report: &Report)
+    requires places { HasPlaces 0 1 effect.old }
+    ensures part { (s : Kernel) (xs : List ControlBlock) (others : List Report) → ended (with_parts (entries table.new) xs s) effect.new
+        ≡ tells_first p (report.now ∷ others) (ended (with_parts (entries table.old) xs s) effect.old) }
+    ensures calm { StaysCalm table.old table.new }
+    ensures places { GainsAtMost 0 1 effect.old effect.new }
+    ensures stamp { effect.new.stamp ≡ effect.old.stamp }
+{
+    settle_report(table, report.on, report.way);
+    effect.steps.push_reserved(ServiceStep::Report {
+        p,
+        report: report.copy(),
+    });
 }
 
 /// A report answers the Wait of its process, which keeps the reports that it has.
@@ -153,11 +183,7 @@ fn answer_wait(
     ensures places { GainsAtMost 1 1 effect.old effect.new }
     ensures stamp { effect.new.stamp ≡ effect.old.stamp }
 {
-    settle_report(table, report.on, report.way);
-    effect.steps.push_reserved(ServiceStep::Report {
-        p,
-        report: report.copy(),
-    });
+    tell(table, effect, p, &report);
     stand(processes, effect, p, Answer::Reported(report));
 }
 
@@ -218,8 +244,80 @@ fn join_each(
     ensures stamp { effect.new.stamp ≡ effect.old.stamp }
 {
     if !reports.is_empty() {
-        join_all(table, processes, effect, reports);
+        join_some(table, processes, effect, reports);
     }
+}
+
+/// The reports join the lists of their processes, in order. Most often there is one, which is moved once.
+#[inline(never)]
+fn join_some(
+    table: &mut Table,
+    processes: &mut Processes,
+    effect: &mut Effect,
+    reports: &mut Vec<(Pid, Report)>,
+)
+    requires reports { AreFor (length processes.old) reports.old.items }
+    requires places { HasPlaces (length reports.old.items) (length reports.old.items) effect.old }
+    requires spare { HaveSpareFor reports.old.items processes.old }
+    ensures part { (s : Kernel) → ended (with_parts (entries table.new) processes.new s) effect.new
+        ≡ join_reports reports.old.items (ended (with_parts (entries table.old) processes.old s) effect.old) }
+    ensures calm { StaysCalm table.old table.new }
+    ensures kept { TakesAtMost (length reports.old.items) processes.old processes.new }
+    ensures places { GainsAtMost (length reports.old.items) (length reports.old.items) effect.old effect.new }
+    ensures stamp { effect.new.stamp ≡ effect.old.stamp }
+{
+    match only_process(reports.as_slice()) {
+        Some(p) => join_only(table, processes, effect, p, reports),
+        None => join_all(table, processes, effect, reports),
+    }
+}
+
+/// The process of the report, where there is one report.
+fn only_process(reports: &[(Pid, Report)]) -> Option<Pid>
+    ensures { IfSome result (λ p. (r : Report) × (reports.now ≡ (p, r) ∷ [])) }
+{
+    match reports {
+        [(p, _)] => Some(*p),
+        _ => None,
+    }
+}
+
+/// The only report joins the list of its process; where the process is in a Wait, the report answers it.
+fn join_only(
+    table: &mut Table,
+    processes: &mut Processes,
+    effect: &mut Effect,
+    p: Pid,
+    reports: &mut Vec<(Pid, Report)>,
+)
+    requires only { (r : Report) × (reports.old.items ≡ (p, r) ∷ []) }
+    requires process { p.0 < length processes.old }
+    requires places { HasPlaces 1 1 effect.old }
+    requires spare { HaveSpare 1 processes.old }
+    ensures part { (s : Kernel) → ended (with_parts (entries table.new) processes.new s) effect.new
+        ≡ join_reports reports.old.items (ended (with_parts (entries table.old) processes.old s) effect.old) }
+    ensures calm { StaysCalm table.old table.new }
+    ensures kept { TakesAtMost 1 processes.old processes.new }
+    ensures places { GainsAtMost 1 1 effect.old effect.new }
+    ensures stamp { effect.new.stamp ≡ effect.old.stamp }
+{
+    if is_in_wait(processes, p) {
+        clear_reports(processes, p);
+        let report = take_only(reports);
+        answer_wait(table, processes, effect, p, report);
+    } else {
+        let report = take_only(reports);
+        add_report(processes, p, report);
+    }
+}
+
+/// Takes out the report of a list that has one.
+fn take_only(reports: &mut Vec<(Pid, Report)>) -> Report
+    requires { 0 < vec_len reports.old }
+    ensures { (p : Pid) (r : Report) → reports.old.items ≡ (p, r) ∷ [] → result ≡ r }
+{
+    let (_, report) = reports.take_last();
+    report
 }
 
 /// The reports join the lists of their processes, in order.
@@ -279,6 +377,22 @@ fn answer_all(processes: &mut Processes, effect: &mut Effect, answers: &mut Vec<
     }
 }
 
+/// The oldest report of a process is told, if there is one, and its activity is idle.
+fn tell_first(table: &mut Table, processes: &Processes, effect: &mut Effect, p: Pid)
+    requires process { p.0 < length processes.now }
+    requires places { HasPlaces 0 1 effect.old }
+    ensures part { (s : Kernel) → ended (with_parts (entries table.new) processes.now s) effect.new
+        ≡ tells_first p (process_of p (with_parts (entries table.old) processes.now s)).reports (ended (with_parts (entries table.old) processes.now s) effect.old) }
+    ensures calm { StaysCalm table.old table.new }
+    ensures places { GainsAtMost 0 1 effect.old effect.new }
+    ensures stamp { effect.new.stamp ≡ effect.old.stamp }
+{
+    match processes.at(usize::from(p.0)).reports.front() {
+        Some(report) => tell(table, effect, p, report),
+        None => {}
+    }
+}
+
 /// The oldest report of a process leaves its list.
 fn first_report(processes: &mut Processes, p: Pid) -> Option<Report>
     requires { p.0 < length processes.old }
@@ -303,8 +417,9 @@ pub fn wait(table: &mut Table, processes: &mut Processes, effect: &mut Effect, p
     ensures kept { TakesAtMost 0 processes.old processes.new }
     ensures stamp { effect.new.stamp ≡ effect.old.stamp }
 {
+    tell_first(table, processes, effect, p);
     match first_report(processes, p) {
-        Some(report) => answer_wait(table, processes, effect, p, report),
+        Some(report) => stand(processes, effect, p, Answer::Reported(report)),
         None => turn(processes, p, Phase::Waiting),
     }
 }

@@ -50,6 +50,7 @@ pub fn refresh_owner(table: &Table, processes: &mut Processes, before: Option<Pi
 }
 
 /// An end changed, which this process owned before.
+#[inline(always)]
 fn refresh_owned(table: &Table, processes: &mut Processes, p: Pid, end: EndId)
     requires process { p.0 < length processes.old }
     requires after { IfSome (owner_of (entries table.now end)) (λ q. q.0 < length processes.old) }
@@ -68,6 +69,7 @@ fn refresh_owned(table: &Table, processes: &mut Processes, p: Pid, end: EndId)
 }
 
 /// The set of the end's owner, if there is one, tells of it; no set did before.
+#[inline(never)]
 fn enlist(table: &Table, processes: &mut Processes, end: EndId)
     requires after { IfSome (owner_of (entries table.now end)) (λ p. p.0 < length processes.old) }
     requires place { HavePlace processes.old }

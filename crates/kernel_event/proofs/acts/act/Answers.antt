@@ -1,5 +1,4 @@
 use Rattle.std.proofs.Common.{ap, sym, subst, ◌∙◌}
-use Rattle.charlotte_calls.specs.declared.calls.Call.TheVariants as call
 use Rattle.end_table.specs.Table.{entries}
 use Rattle.kernel_event.proofs.ActsParts.{AreOfOne-all, acts-cancel}
 use Rattle.kernel_sound.proofs.Needs.{IsReady-sound}
@@ -34,10 +33,7 @@ returns-in-Destroy-clause-part c =
 pub returns-in-Send-clause-part : goal.returns-in-Send-clause-part
 unfolding acts progress
 returns-in-Send-clause-part c =
-    c.send.ensures.part
-    ∙ ap (λ bytes. acts c.args.p c.args.table.now.kernel c.args.made c.args.mine.now (call.Send c.in-Send.on bytes c.copy-in-Send.result) (progress (entries c.args.table.now) c.args.out.now)) c.copy.ensures
-    ∙ ap (λ ends. acts c.args.p c.args.table.now.kernel c.args.made c.args.mine.now (call.Send c.in-Send.on c.in-Send.bytes ends) (progress (entries c.args.table.now) c.args.out.now)) c.copy-in-Send.ensures
-    ∙ ap (λ q. acts c.args.p c.args.table.now.kernel c.args.made c.args.mine.now q (progress (entries c.args.table.now) c.args.out.now)) (sym c.in-Send.is)
+    c.send.ensures.part ∙ ap (λ q. acts c.args.p c.args.table.now.kernel c.args.made c.args.mine.now q (progress (entries c.args.table.now) c.args.out.now)) (sym c.in-Send.is)
 
 pub returns-in-Receive-clause-part : goal.returns-in-Receive-clause-part
 unfolding acts progress

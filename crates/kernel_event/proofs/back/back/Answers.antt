@@ -8,4 +8,4 @@ use Rattle.kernel_event.proofs.back.back.Goals as goal
 pub returns-in-None-clause-part : goal.returns-in-None-clause-part
 returns-in-None-clause-part c =
     c.end_brought.ensures.part
-    ∙ ap (λ o. back_row c.args.table.now.kernel c.args.made c.args.returned.from c.args.returned.to c.args.returned.n c.args.moving o (progress (entries c.args.table.now) c.args.out.now)) (sym (sym c.in-None.ensures.view))
+    ∙ ap (λ o. back_row c.args.table.now.kernel c.args.made c.args.returned.from c.args.returned.to c.args.returned.n c.args.moving.now o (progress (entries c.args.table.now) c.args.out.now)) (sym (sym c.in-None.ensures.view))

@@ -7,7 +7,7 @@ use Rattle.kernel_step.specs.Rows.{is_here, means_back, give_back_row, end_arriv
 use Rattle.kernel_event.proofs.back.end_brought.Goals as goal
 
 pub give_back-requires-clause-away : goal.give_back-requires-clause-away
-give_back-requires-clause-away c = passed-away c.args.table.now c.args.made c.args.moving c.requires.placed c.passing-passed.result c.passing-passed.ensures
+give_back-requires-clause-away c = passed-away c.args.table.now c.args.made c.args.moving.now c.requires.placed c.passing-passed.result c.passing-passed.ensures
 
 pub returns-clause-part : goal.returns-clause-part
 unfolding progress

@@ -9,5 +9,5 @@ use Rattle.kernel_event.proofs.carried.arriving.Goals as goal
 pub returns : goal.returns
 returns c = λ h.
     c.add_arriving.ensures h
-    ∙ ap (λ l. l ++ arriving c.args.table.now.kernel c.args.made h (with_here h l (entries c.args.table.now)) c.args.moving) c.empty-came.ensures
-    ∙ ap (λ t. arriving c.args.table.now.kernel c.args.made h t c.args.moving) (with_here-none h (entries c.args.table.now))
+    ∙ ap (λ l. l ++ arriving c.args.table.now.kernel c.args.made h (with_here h l (entries c.args.table.now)) c.args.moving.now) c.empty-came.ensures
+    ∙ ap (λ t. arriving c.args.table.now.kernel c.args.made h t c.args.moving.now) (with_here-none h (entries c.args.table.now))

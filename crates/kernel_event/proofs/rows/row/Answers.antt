@@ -28,7 +28,7 @@ returns-in-Unwanted-clause-part c = of_kind _ _ _ (entries c.args.table.now) c.a
 
 pub returns-in-Parcel-clause-part : goal.returns-in-Parcel-clause-part
 unfolding progress
-returns-in-Parcel-clause-part c = of_kind _ _ _ (entries c.args.table.now) c.args.out.now _ _ _ c.in-Parcel.is c.parcel_in.ensures.part
+returns-in-Parcel-clause-part c = of_kind _ _ _ (entries c.args.table.now) c.args.out.now _ _ _ c.in-Parcel.is c.parcel.ensures.part
 
 pub returns-in-Taken-clause-part : goal.returns-in-Taken-clause-part
 unfolding progress
@@ -36,7 +36,7 @@ returns-in-Taken-clause-part c = of_kind _ _ _ (entries c.args.table.now) c.args
 
 pub returns-in-Back-clause-part : goal.returns-in-Back-clause-part
 unfolding progress
-returns-in-Back-clause-part c = of_kind _ _ _ (entries c.args.table.now) c.args.out.now _ _ _ c.in-Back.is c.back_in.ensures.part
+returns-in-Back-clause-part c = of_kind _ _ _ (entries c.args.table.now) c.args.out.now _ _ _ c.in-Back.is c.back.ensures.part
 
 pub returns-in-Gone-clause-part : goal.returns-in-Gone-clause-part
 unfolding progress

@@ -1,15 +1,15 @@
--- The activity that is reported is idle, and the answer stands.
-use Rattle.std.proofs.Common.{◌++◌, [], ◌∷◌, ap, ◌∙◌, refl}
-use Rattle.charlotte_calls.specs.declared.calls.ServiceStep.TheVariants as step
+-- The report is told, and the answer stands.
+use Rattle.std.proofs.Common.{[], ap, ◌∙◌}
+use Rattle.charlotte_calls.specs.declared.calls.Answer.TheVariants as answer
 use Rattle.end_table.specs.Table.{entries}
-use Rattle.kernel_process.proofs.Closes.{answers_wait-by, calm-by}
+use Rattle.kernel_process.proofs.Closes.{answers_wait-told}
+use Rattle.kernel_process.specs.Parts.{ended, with_parts}
+use Rattle.kernel_step.specs.Kernel.{stands}
 use Rattle.kernel_process.proofs.closing.answer_wait.Goals as goal
 
 pub returns-clause-part : goal.returns-clause-part
+unfolding ended
 returns-clause-part c =
-    λ s. c.stand.ensures.part s (entries c.settle_report.new.table)
-    ∙ answers_wait-by (entries c.args.table.now) (entries c.settle_report.new.table) c.args.processes.now s c.args.effect.now _ c.args.p c.args.report c.settle_report.ensures.entries refl refl
-    (c.push_reserved.ensures.items ∙ ap (λ r. c.args.effect.now.steps.items ++ step.Report c.args.p r ∷ []) c.copy.ensures)
-
-pub returns-clause-calm : goal.returns-clause-calm
-returns-clause-calm c = calm-by c.args.table.now c.settle_report.new.table c.args.report.way c.args.report.on c.settle_report.ensures.entries c.settle_report.ensures.kernel
+    λ s. c.stand.ensures.part s (entries c.tell.new.table)
+    ∙ ap (stands c.args.p (answer.Reported c.args.report)) (c.tell.ensures.part s c.args.processes.now [])
+    ∙ answers_wait-told c.args.p c.args.report (ended (with_parts (entries c.args.table.now) c.args.processes.now s) c.args.effect.now)

@@ -6,6 +6,6 @@ use Rattle.kernel_process.proofs.Closes.{put-same}
 use Rattle.kernel_step.specs.Kernel.{reported_entry}
 use Rattle.kernel_process.proofs.closing.settle_receive.Goals as goal
 
-pub returns-else-is_received-clause-entries : goal.returns-else-is_received-clause-entries
-returns-else-is_received-clause-entries c =
-    sym (put-same (entries c.args.table.now) c.args.on (reported_entry way.Inward (entries c.args.table.now c.args.on)) (c.is_received.ensures.no c.if-is_received.false))
+pub returns-in_default-clause-entries : goal.returns-in_default-clause-entries
+returns-in_default-clause-entries c =
+    sym (put-same (entries c.args.table.now) c.args.on (reported_entry way.Inward (entries c.args.table.now c.args.on)) c.in_default.ensures.none)

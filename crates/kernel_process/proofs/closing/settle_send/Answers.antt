@@ -6,6 +6,6 @@ use Rattle.kernel_process.proofs.Closes.{put-same}
 use Rattle.kernel_step.specs.Kernel.{reported_entry}
 use Rattle.kernel_process.proofs.closing.settle_send.Goals as goal
 
-pub returns-else-is_sent-clause-entries : goal.returns-else-is_sent-clause-entries
-returns-else-is_sent-clause-entries c =
-    sym (put-same (entries c.args.table.now) c.args.on (reported_entry way.Outward (entries c.args.table.now c.args.on)) (c.is_sent.ensures.no c.if-is_sent.false))
+pub returns-in_default-clause-entries : goal.returns-in_default-clause-entries
+returns-in_default-clause-entries c =
+    sym (put-same (entries c.args.table.now) c.args.on (reported_entry way.Outward (entries c.args.table.now c.args.on)) c.in_default.ensures.none)

@@ -1,0 +1,25 @@
+-- There is one report, or they join one after the other.
+use Rattle.std.proofs.Common.{[], length, ap, subst, sym, ◌∙◌}
+use Rattle.kernel_process.proofs.Closes.{spare-first}
+use Rattle.kernel_process.specs.Parts.{GainsAtMost, HasPlaces}
+use Rattle.kernel_process.specs.Steady.{TakesAtMost}
+use Rattle.kernel_sound.specs.Sound.{AreFor}
+use Rattle.kernel_process.proofs.closing.join_some.Goals as goal
+
+pub join_only-requires-clause-only : goal.join_only-requires-clause-only
+join_only-requires-clause-only c = (c.in-Some.ensures.0, sym c.as_slice.ensures.value ∙ c.in-Some.ensures.1)
+
+pub join_only-requires-clause-process : goal.join_only-requires-clause-process
+join_only-requires-clause-process c = (subst (AreFor (length c.args.processes.now)) (sym c.as_slice.ensures.value ∙ c.in-Some.ensures.1) c.requires.reports).0
+
+pub join_only-requires-clause-places : goal.join_only-requires-clause-places
+join_only-requires-clause-places c = subst (λ n. HasPlaces n n c.args.effect.now) (ap length (sym c.as_slice.ensures.value ∙ c.in-Some.ensures.1)) c.requires.places
+
+pub join_only-requires-clause-spare : goal.join_only-requires-clause-spare
+join_only-requires-clause-spare c = spare-first c.in-Some.p c.in-Some.ensures.0 [] c.args.reports.now.items c.args.processes.now (sym c.as_slice.ensures.value ∙ c.in-Some.ensures.1) c.requires.spare
+
+pub returns-in-Some-clause-kept : goal.returns-in-Some-clause-kept
+returns-in-Some-clause-kept c = subst (λ n. TakesAtMost n c.args.processes.now c.join_only.new.processes) (sym (ap length (sym c.as_slice.ensures.value ∙ c.in-Some.ensures.1))) c.join_only.ensures.kept
+
+pub returns-in-Some-clause-places : goal.returns-in-Some-clause-places
+returns-in-Some-clause-places c = subst (λ n. GainsAtMost n n c.args.effect.now c.join_only.new.effect) (sym (ap length (sym c.as_slice.ensures.value ∙ c.in-Some.ensures.1))) c.join_only.ensures.places
