@@ -4,8 +4,10 @@ pub mod CalledParts
 pub mod Callings
 pub mod ExitSilent
 pub mod Fresh
+pub mod Happened
 pub mod Kernels
 pub mod Performs
 pub mod Reserved
 pub mod Stepped
+pub mod Touched
 pub mod Wired

@@ -13,9 +13,10 @@ use Rattle.charlotte_calls.specs.declared.work.Work.{Work}
 use Rattle.end_table.specs.Owned.{AreEndsOf}
 use Rattle.end_table.specs.Table.{TableView, entries}
 use Rattle.kernel_core.proofs.Performs.{call-acts, call-refused}
+use Rattle.kernel_core.proofs.Touched.{granted-touched}
 use Rattle.kernel_process.proofs.OneProcess.{process_of-at}
 use Rattle.kernel_sound.specs.Acts.{acts, made_after}
-use Rattle.kernel_core.specs.Finishing.{finishes, turned}
+use Rattle.kernel_core.specs.Finishing.{finishes, touched_by, touched_of, turned}
 use Rattle.kernel_process.specs.Parts.{process_state, process_at, with_parts, ended}
 use Rattle.kernel_core.specs.Stepping.{HasParts, IsStepOf, Begins, AreListedFor, IsRefusedFor}
 use Rattle.kernel_process.specs.declared.process.ControlBlock.{ControlBlock}
@@ -107,6 +108,10 @@ module _ (t : TableView) (xs : List ControlBlock) (made : ℕ) (p : Pid) (c : Ca
   pub granted-parts : (mine : List EndId) → IsCallWith p (entries t) mine c → (reported : Bool) × (refusal p (entries t) made mine reported c ≡ None)
   unfolding sample
   granted-parts mine ends = (has_report (process_of p (sample t xs made)), granted (sample t xs made) mine (sample-parts t xs made) ends)
+
+  -- and what such a call may change
+  pub touched-parts : (mine : List EndId) → IsCallWith p (entries t) mine c → touched_of p c ≡ touched_by (entries t) c
+  touched-parts mine ends = let some = granted-parts mine ends in granted-touched p (entries t) made mine some.0 c some.1
 
   -- a Make that is not refused leaves the limit of links
   pub granted-make : c ≡ call.Make → made < link_limit

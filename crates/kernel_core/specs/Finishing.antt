@@ -67,19 +67,20 @@ turned_to p (Some on) s = turns p (Cancelling on) s
 
 -- how a call that is no Wait ends
 abbrev pub ending_of : ℕ → ℕ → Call → Ending
-ending_of k made call.Make = let a = made_end k made in ending.Answer (answer.Made a (opposite a))
-ending_of k made (call.Destroy on) = ending.Answer answer.Ok
-ending_of k made (call.Send on bytes xs) = ending.Answer answer.Ok
-ending_of k made (call.Receive on) = ending.Answer answer.Ok
-ending_of k made (call.Cancel on way.Outward) = ending.Answer answer.Ok
+ending_of k made call.Make = let a = made_end k made in ending.Made a (opposite a)
+ending_of k made (call.Destroy on) = ending.Done
+ending_of k made (call.Send on bytes xs) = ending.Done
+ending_of k made (call.Receive on) = ending.Done
+ending_of k made (call.Cancel on way.Outward) = ending.Done
 ending_of k made (call.Cancel on way.Inward) = ending.Later
 ending_of k made call.Wait = ending.Later
-ending_of k made (call.Print bytes) = ending.Answer answer.Ok
+ending_of k made (call.Print bytes) = ending.Done
 ending_of k made call.Exit = ending.Exit
 
 -- so the event comes to
 abbrev pub finished : Pid → Ending → Outcome → Outcome
-finished p (ending.Answer a) o = stands p a o
+finished p ending.Done o = stands p answer.Ok o
+finished p (ending.Made a b) o = stands p (answer.Made a b) o
 finished p ending.Later o = o
 finished p ending.Exit o = exits p o
 
@@ -93,6 +94,17 @@ touched_by t (call.Cancel on w) = touched.End on (owner_of (t on))
 touched_by t call.Wait = touched.Nothing
 touched_by t (call.Print bytes) = touched.Nothing
 touched_by t call.Exit = touched.Caller
+
+-- the same of a call of p that is not refused: an end that it is on is the caller's
+abbrev pub touched_of : Pid → Call → Touched
+touched_of p call.Make = touched.Nothing
+touched_of p (call.Destroy on) = touched.End on (Some p)
+touched_of p (call.Send on bytes xs) = touched.End on (Some p)
+touched_of p (call.Receive on) = touched.End on (Some p)
+touched_of p (call.Cancel on w) = touched.End on (Some p)
+touched_of p call.Wait = touched.Nothing
+touched_of p (call.Print bytes) = touched.Nothing
+touched_of p call.Exit = touched.Caller
 
 -- whether it may change the activity of a process at an end
 abbrev pub touches : Pid → Touched → Pid → EndId → Bool

@@ -11,7 +11,7 @@ ghost use Rattle.kernel_process.specs.Closing.{CanClose};
 ghost use Rattle.kernel_process.specs.Parts.{with_parts, ended, process_state, HasPlaces};
 ghost use Rattle.kernel_process.specs.Steady.{StaysCalm, TakesAtMost};
 ghost use Rattle.kernel_core.specs.Consistent.{IsConsistent};
-ghost use Rattle.kernel_core.specs.Finishing.{finishes, finished, ending_of, touched_by, turned, turned_on, turned_to, AreOwnersBelow, HavePlaceFor, IsCalmAfter};
+ghost use Rattle.kernel_core.specs.Finishing.{finishes, finished, ending_of, touched_by, touched_of, turned, turned_on, turned_to, AreOwnersBelow, HavePlaceFor, IsCalmAfter};
 ghost use Rattle.kernel_core.specs.Started.{IsRequest, IsReadyToCall};
 ghost use Rattle.kernel_step.specs.Calls.{link_limit, refusal};
 ghost use Rattle.kernel_step.specs.Kernel.{Kernel, closes};
@@ -21,14 +21,16 @@ use crate::state::{Request, State};
 use charlotte_calls::{Answer, Call, Effect, EndId, LinkId, Pid, ServiceStep, Side, Way};
 use end_table::{Inward, Living, Table};
 use kernel_event::act;
-use kernel_process::{Event, Processes, clear, close, exit, owner, refresh_owner, stand, turn};
+use kernel_process::{Processes, clear, close, exit, refresh_owner, stand, turn};
 use kernel_step::{Phase, push_step};
 
 /// How a call that is no Wait ends.
 #[derive(Drop)]
 enum Ending {
-    /// With this answer.
-    Answer(Answer),
+    /// It was done.
+    Done,
+    /// The link that it made has these ends.
+    Made(EndId, EndId),
     /// Its answer comes to stand in a later event.
     Later,
     /// The process exits.
@@ -45,23 +47,22 @@ pub(crate) enum Touched {
     Caller,
 }
 
-/// The event that means this step and adds nothing else is over.
-pub(crate) fn close_step(state: &mut State, meant: ServiceStep, mut event: Event) -> Effect
-    requires reports { event.work.reports.items ≡ [] }
-    requires answers { event.work.answers.items ≡ [] }
-    requires room { HasRoom 0 0 0 1 event.work }
-    requires closes { CanClose 0 1 event }
-    ensures part { (s : Kernel) → ended (with_parts (entries state.new.table) state.new.processes (record s { stamp = result.stamp })) result
-        ≡ closes (with_parts (entries state.old.table) state.old.processes s) (means meant (progress (entries state.old.table) event.work)) }
+/// The event that means this step and adds nothing else is over; what it gives is put into `effect`.
+#[inline(always)]
+pub(crate) fn close_step(state: &mut State, meant: ServiceStep, effect: &mut Effect)
+    requires reports { state.old.event.work.reports.items ≡ [] }
+    requires answers { state.old.event.work.answers.items ≡ [] }
+    requires room { HasRoom 0 0 0 1 state.old.event.work }
+    requires closes { CanClose 0 1 state.old.event }
+    ensures part { (s : Kernel) → ended (with_parts (entries state.new.table) state.new.processes (record s { stamp = effect.new.stamp })) effect.new
+        ≡ closes (with_parts (entries state.old.table) state.old.processes s) (means meant (progress (entries state.old.table) state.old.event.work)) }
     ensures calm { StaysCalm state.old.table state.new.table }
     ensures kept { TakesAtMost 0 state.old.processes state.new.processes }
-    ensures places { (a s : ℕ) → CanClose a (s + 1) event → HasPlaces a s result }
+    ensures places { (a s : ℕ) → CanClose a (s + 1) state.old.event → HasPlaces a s effect.new }
     ensures made { state.new.made ≡ state.old.made }
 {
-    push_step(&mut event.work, meant);
-    let effect = close(&mut state.table, &mut state.processes, &mut event);
-    state.over = event;
-    effect
+    push_step(&mut state.event.work, meant);
+    *effect = close(&mut state.table, &mut state.processes, &mut state.event);
 }
 
 /// How many links are made after a call that is not refused.
@@ -75,22 +76,22 @@ pub(crate) fn links_after(call: &Call, made: u32) -> u32
     }
 }
 
-/// What a call does, to the end of its event; the sets of active ends and the number of links stay.
+/// What a call does, to the end of its event, which is put into `effect`; the sets of active ends and the number of links stay.
 pub(crate) fn act_and_close(
     state: &mut State,
     request: &Request,
     mine: &[EndId],
-    mut event: Event,
-) -> Effect
+    effect: &mut Effect,
+)
     requires consistent { IsConsistent state.old }
     requires request { IsRequest state.old request.now mine.now }
     requires granted { (reported : Bool) × (refusal request.now.p (entries state.old.table) state.old.made mine.now reported request.now.call ≡ None) }
     requires other { request.now.call ≡ Call.Wait → ⊥ }
-    requires ready { IsReadyToCall state.old request.now mine.now event }
-    ensures part { (s : Kernel) → ended (with_parts (entries state.new.table) state.new.processes (record s { made = made_after request.now.call state.old.made; stamp = result.stamp })) result
+    requires ready { IsReadyToCall state.old request.now mine.now state.old.event }
+    ensures part { (s : Kernel) → ended (with_parts (entries state.new.table) state.new.processes (record s { made = made_after request.now.call state.old.made; stamp = effect.new.stamp })) effect.new
         ≡ finishes request.now.p state.old.table.kernel state.old.made request.now.call
         (closes (record (turned request.now.p request.now.call (with_parts (entries state.old.table) state.old.processes s)) { made = made_after request.now.call state.old.made })
-        (acts request.now.p state.old.table.kernel state.old.made mine.now request.now.call (progress (entries state.old.table) event.work))) }
+        (acts request.now.p state.old.table.kernel state.old.made mine.now request.now.call (progress (entries state.old.table) state.old.event.work))) }
     ensures sound { IsSound state.new.table.kernel (made_after request.now.call state.old.made) (length state.old.processes) (entries state.new.table) }
     ensures calm { IsCalmAfter request.now.p (touched_by (entries state.old.table) request.now.call) (entries state.old.table) (entries state.new.table) }
     ensures kept { TakesAtMost 0 state.old.processes state.new.processes }
@@ -100,11 +101,16 @@ pub(crate) fn act_and_close(
     let p = *p;
     let ending = ending_of(state.table.kernel(), state.made, call);
     turn_caller(&state.table, &mut state.processes, p, call);
-    act(&mut state.table, state.made, p, mine, call, &mut event.work);
-    let mut effect = close(&mut state.table, &mut state.processes, &mut event);
-    state.over = event;
-    finish(&mut state.processes, &mut effect, p, ending);
-    effect
+    act(
+        &mut state.table,
+        state.made,
+        p,
+        mine,
+        call,
+        &mut state.event.work,
+    );
+    *effect = close(&mut state.table, &mut state.processes, &mut state.event);
+    finish(&mut state.processes, effect, p, ending);
 }
 
 /// How a call that is no Wait ends, at a kernel that made so many links before.
@@ -121,13 +127,13 @@ fn ending_of(kernel: u8, made: u32, call: &Call) -> Ending
                 link,
                 side: Side::A,
             };
-            Ending::Answer(Answer::Made(a, a.opposite()))
+            Ending::Made(a, a.opposite())
         }
         Call::Cancel { way, .. } => ending_of_cancel(*way),
         Call::Wait => Ending::Later,
         Call::Exit => Ending::Exit,
         Call::Destroy { .. } | Call::Send { .. } | Call::Receive { .. } | Call::Print { .. } => {
-            Ending::Answer(Answer::Ok)
+            Ending::Done
         }
     }
 }
@@ -137,7 +143,7 @@ fn ending_of_cancel(way: Way) -> Ending
     ensures { (k made : ℕ) (on : EndId) → result ≡ ending_of k made (Call.Cancel on way) }
 {
     match way {
-        Way::Outward => Ending::Answer(Answer::Ok),
+        Way::Outward => Ending::Done,
         Way::Inward => Ending::Later,
     }
 }
@@ -151,7 +157,8 @@ fn finish(processes: &mut Processes, effect: &mut Effect, p: Pid, ending: Ending
     ensures stamp { effect.new.stamp ≡ effect.old.stamp }
 {
     match ending {
-        Ending::Answer(answer) => stand(processes, effect, p, answer),
+        Ending::Done => stand(processes, effect, p, Answer::Ok),
+        Ending::Made(a, b) => stand(processes, effect, p, Answer::Made(a, b)),
         Ending::Later => {}
         Ending::Exit => exit(processes, effect, p),
     }
@@ -217,9 +224,9 @@ fn posted_in(living: &Living) -> Option<EndId>
     }
 }
 
-/// Whose activities a call may change.
-pub(crate) fn touched_by(table: &Table, call: &Call) -> Touched
-    ensures { result ≡ touched_by (entries table.now) call.now }
+/// Whose activities a call may change that is not refused: an end that it is on is the caller's.
+pub(crate) fn touched_of(p: Pid, call: &Call) -> Touched
+    ensures { result ≡ touched_of p call.now }
 {
     match call {
         Call::Destroy { on }
@@ -227,7 +234,7 @@ pub(crate) fn touched_by(table: &Table, call: &Call) -> Touched
         | Call::Receive { on }
         | Call::Cancel { on, .. } => Touched::End {
             on: *on,
-            before: owner(table, *on),
+            before: Some(p),
         },
         Call::Make | Call::Wait | Call::Print { .. } => Touched::Nothing,
         Call::Exit => Touched::Caller,

@@ -6,30 +6,30 @@ ghost use Rattle.kernel_core.specs.Consistent.{IsConsistent, Keeps, OnlyReserves
 ghost use Rattle.kernel_core.specs.Started.{IsRequest, IsReadyToCall};
 ghost use Rattle.kernel_core.specs.Stepping.{IsCalled, AreListedFor, IsRefusedFor};
 
-use crate::calling::{act_and_close, close_step, links_after, refresh_touched, touched_by};
+use crate::calling::{act_and_close, close_step, links_after, refresh_touched, touched_of};
 use crate::refusal::refusal;
-use crate::room::{begin, reserve_active, reserve_made, room_of_call};
-use crate::state::{Request, State};
+use crate::room::{reserve_active, reserve_made, room_of_call};
+use crate::state::{Request, State, no_effect};
 use charlotte_calls::{Answer, Call, Cause, Effect, EndId, NoMemory, Pid, ServiceStep};
 use end_table::Table;
-use kernel_process::{Event, stand, wait};
+use kernel_process::{stand, wait};
 use std::alloc::Global;
 
-/// The event of a call; `mine` are the ends that the caller owns, in order, where it exits.
-fn decide(state: &mut State, request: &Request, mine: &[EndId], event: Event) -> Effect
+/// The event of a call, which is put into `effect`; `mine` are the ends that the caller owns, in order, where it exits.
+fn decide(state: &mut State, request: &Request, mine: &[EndId], effect: &mut Effect)
     requires consistent { IsConsistent state.old }
     requires request { IsRequest state.old request.now mine.now }
-    requires ready { IsReadyToCall state.old request.now mine.now event }
-    ensures step { IsCalled state.old event.work.stamp state.new result request.now.p request.now.call }
+    requires ready { IsReadyToCall state.old request.now mine.now state.old.event }
+    ensures step { IsCalled state.old state.old.event.work.stamp state.new effect.new request.now.p request.now.call }
     ensures keeps { Keeps state.old state.new }
 {
     match cause_of(state, request) {
-        Some(cause) => refuse(state, request, mine, cause, event),
+        Some(cause) => refuse(state, request, mine, cause, effect),
         None => {
             if is_wait(&request.call) {
-                wait_for_report(state, request, mine, event)
+                wait_for_report(state, request, mine, effect)
             } else {
-                perform(state, request, mine, event)
+                perform(state, request, mine, effect)
             }
         }
     }
@@ -46,26 +46,19 @@ fn cause_of(state: &State, request: &Request) -> Option<Cause>
 }
 
 /// The event of a call that is refused.
-fn refuse(
-    state: &mut State,
-    request: &Request,
-    mine: &[EndId],
-    cause: Cause,
-    event: Event,
-) -> Effect
+fn refuse(state: &mut State, request: &Request, mine: &[EndId], cause: Cause, effect: &mut Effect)
     requires consistent { IsConsistent state.old }
     requires request { IsRequest state.old request.now mine.now }
     requires refused { IsRefusedFor state.old.table state.old.processes state.old.made request.now.p request.now.call (Some cause) }
-    requires ready { IsReadyToCall state.old request.now mine.now event }
-    ensures step { IsCalled state.old event.work.stamp state.new result request.now.p request.now.call }
+    requires ready { IsReadyToCall state.old request.now mine.now state.old.event }
+    ensures step { IsCalled state.old state.old.event.work.stamp state.new effect.new request.now.p request.now.call }
     ensures keeps { Keeps state.old state.new }
 {
     state.table.has_list_of(request.p);
     let p = request.p;
     let call = request.call.copy();
-    let mut effect = close_step(state, ServiceStep::Refuse { p, call, cause }, event);
-    stand(&mut state.processes, &mut effect, p, Answer::Refused(cause));
-    effect
+    close_step(state, ServiceStep::Refuse { p, call, cause }, effect);
+    stand(&mut state.processes, effect, p, Answer::Refused(cause));
 }
 
 fn is_wait(call: &Call) -> bool
@@ -76,42 +69,41 @@ fn is_wait(call: &Call) -> bool
 }
 
 /// The event of a Wait that is not refused.
-fn wait_for_report(state: &mut State, request: &Request, mine: &[EndId], event: Event) -> Effect
+fn wait_for_report(state: &mut State, request: &Request, mine: &[EndId], effect: &mut Effect)
     requires consistent { IsConsistent state.old }
     requires request { IsRequest state.old request.now mine.now }
     requires wait { request.now.call ≡ calls.Wait }
     requires granted { IsRefusedFor state.old.table state.old.processes state.old.made request.now.p request.now.call None }
-    requires ready { IsReadyToCall state.old request.now mine.now event }
-    ensures step { IsCalled state.old event.work.stamp state.new result request.now.p request.now.call }
+    requires ready { IsReadyToCall state.old request.now mine.now state.old.event }
+    ensures step { IsCalled state.old state.old.event.work.stamp state.new effect.new request.now.p request.now.call }
     ensures keeps { Keeps state.old state.new }
 {
     let p = request.p;
     state.table.has_list_of(p);
-    let mut effect = close_step(state, ServiceStep::Wait { p }, event);
-    wait(&mut state.table, &mut state.processes, &mut effect, p);
-    effect
+    close_step(state, ServiceStep::Wait { p }, effect);
+    wait(&mut state.table, &mut state.processes, effect, p);
 }
 
 /// The event of another call that is not refused.
-fn perform(state: &mut State, request: &Request, mine: &[EndId], event: Event) -> Effect
+fn perform(state: &mut State, request: &Request, mine: &[EndId], effect: &mut Effect)
     requires consistent { IsConsistent state.old }
     requires request { IsRequest state.old request.now mine.now }
     requires granted { IsRefusedFor state.old.table state.old.processes state.old.made request.now.p request.now.call None }
     requires other { request.now.call ≡ calls.Wait → ⊥ }
-    requires ready { IsReadyToCall state.old request.now mine.now event }
-    ensures step { IsCalled state.old event.work.stamp state.new result request.now.p request.now.call }
+    requires ready { IsReadyToCall state.old request.now mine.now state.old.event }
+    ensures step { IsCalled state.old state.old.event.work.stamp state.new effect.new request.now.p request.now.call }
     ensures keeps { Keeps state.old state.new }
 {
     let p = request.p;
-    let touched = touched_by(&state.table, &request.call);
+    let touched = touched_of(p, &request.call);
     let links = links_after(&request.call, state.made);
-    let effect = act_and_close(state, request, mine, event);
+    act_and_close(state, request, mine, effect);
     refresh_touched(&state.table, &mut state.processes, p, touched);
     state.made = links;
-    effect
 }
 
 /// The event of a call with this stamp. For want of memory nothing has changed that counts.
+#[inline(always)]
 pub(crate) fn call_event(
     alloc: Global,
     state: &mut State,
@@ -125,7 +117,11 @@ pub(crate) fn call_event(
     ensures keeps { Keeps state.old state.new }
 {
     match reserve_calling(alloc, state, request, stamp) {
-        Ok((mine, event)) => Ok(decide(state, request, mine.as_slice(), event)),
+        Ok(mine) => {
+            let mut effect = no_effect(alloc);
+            decide(state, request, mine.as_slice(), &mut effect);
+            Ok(effect)
+        }
         Err(NoMemory) => Err(NoMemory),
     }
 }
@@ -136,19 +132,19 @@ fn reserve_calling(
     state: &mut State,
     request: &Request,
     stamp: u64,
-) -> Result<(Vec<EndId>, Event), NoMemory>
+) -> Result<Vec<EndId>, NoMemory>
     requires process { request.now.p.0 < length state.old.processes }
-    ensures request { IfOk result (λ r. IsRequest state.new request.now r.0.items) }
-    ensures ready { IfOk result (λ r. IsReadyToCall state.new request.now r.0.items r.1) }
-    ensures stamp { IfOk result (λ r. r.1.work.stamp ≡ stamp) }
+    ensures request { IfOk result (λ mine. IsRequest state.new request.now mine.items) }
+    ensures ready { IfOk result (λ mine. IsReadyToCall state.new request.now mine.items state.new.event) }
+    ensures stamp { OnOk result (state.new.event.work.stamp ≡ stamp) }
     ensures same { OnlyReserves state.old state.new }
 {
     reserve_active(&mut state.processes, &request.call)?;
     reserve_places(&mut state.table, state.made, &request.call)?;
     let mine = list_ends(alloc, &state.table, request.p, &request.call)?;
     let room = room_of_call(&request.call);
-    let event = begin(alloc, &mut state.over, stamp, room, mine.len(), 1)?;
-    Ok((mine, event))
+    state.event.begin(stamp, room, mine.len(), 1)?;
+    Ok(mine)
 }
 
 /// Where the call is a Make, both ends of the new link get places.

@@ -11,7 +11,7 @@ ghost use Rattle.kernel_core.specs.State.{state_of, is_pending};
 ghost use Rattle.kernel_process.specs.Parts.{ended, process_state};
 
 use crate::deciding::call_event;
-use crate::stamp::{greater, stamp_after};
+use crate::stamp::{greater, stamp_after, stamp_with};
 use crate::start::wire_links;
 use crate::state::{Request, State};
 use crate::taking::{NotTaken, take_event};
@@ -60,7 +60,7 @@ impl Kernel {
             table,
             processes,
             made,
-            over: Event::unused(alloc),
+            event: Event::unused(alloc),
         };
         Ok(Kernel {
             alloc,
@@ -102,13 +102,8 @@ impl Kernel {
     {
         let stamp = stamp_after(self.stamp);
         let called = call_event(self.alloc, &mut self.state, request, stamp);
-        match called {
-            Ok(effect) => {
-                self.stamp = effect.stamp;
-                Ok(effect)
-            }
-            Err(NoMemory) => Err(NoMemory),
-        }
+        self.stamp = stamp_with(&called, self.stamp);
+        called
     }
 
     /// Takes a packet from a kernel. Every packet, sensible or not, is taken by the rules of its kind. For want of memory
@@ -145,28 +140,37 @@ impl Kernel {
             stamp,
             packet,
         );
-        match taken {
-            Ok(effect) => {
-                self.stamp = effect.stamp;
-                Ok(effect)
-            }
-            Err(NoMemory) => Err(NoMemory),
-        }
+        self.stamp = stamp_with(&taken, self.stamp);
+        taken
     }
 
     /// Gives back the list of packets of an effect. The next event takes its room, and asks for no other where that is enough.
     pub fn reuse(&mut self, packets: Vec<(u8, Packet)>)
         ensures { self.new ≡ self.old }
     {
-        self.state.over.work.packets = packets;
+        self.state.event.work.packets = packets;
     }
 
     /// Gives back the other lists of an effect, of which the next event takes the room.
     pub fn reuse_lists(&mut self, answered: Vec<Pid>, steps: Vec<ServiceStep>)
         ensures { self.new ≡ self.old }
     {
-        self.state.over.answered = answered;
-        self.state.over.work.steps = steps;
+        self.reuse_answered(answered);
+        self.reuse_steps(steps);
+    }
+
+    /// Gives back the list of the processes that were answered.
+    pub fn reuse_answered(&mut self, answered: Vec<Pid>)
+        ensures { self.new ≡ self.old }
+    {
+        self.state.event.answered = answered;
+    }
+
+    /// Gives back the list of the steps.
+    pub fn reuse_steps(&mut self, steps: Vec<ServiceStep>)
+        ensures { self.new ≡ self.old }
+    {
+        self.state.event.work.steps = steps;
     }
 
     /// What the kernel keeps of a process.

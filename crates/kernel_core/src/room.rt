@@ -1,5 +1,5 @@
 //! The room that an event takes before it changes anything, so that nothing after it can fail for want of memory.
-ghost use Rattle.std.specs.Prelude.{◌≡◌, ◌+◌, ◌*◌, ◌^◌, ◌<◌, ◌≤◌, true, [], ◌∷◌, map, length, MatchOption, IfOk, OnOk};
+ghost use Rattle.std.specs.Prelude.{◌≡◌, ◌<◌, true, [], ◌∷◌, map, length, MatchOption, OnOk};
 ghost use Rattle.charlotte_calls.specs.Names.{opposite};
 ghost use Rattle.charlotte_calls.specs.declared.names.EndId.{EndId};
 ghost use Rattle.charlotte_calls.specs.declared.picture.MovingPicture.{MovingPicture};
@@ -7,9 +7,7 @@ ghost use Rattle.end_table.specs.Table.{entries, HasPlace, KeepsPlaces};
 ghost use Rattle.kernel_step.specs.Calls.{made_end};
 ghost use Rattle.end_table.specs.declared.entry.Entry.{Entry};
 ghost use Rattle.kernel_core.specs.Finishing.{HavePlaceFor, touched_by};
-ghost use Rattle.kernel_process.specs.Closing.{HaveSpare, HavePlace, IsBegun};
-ghost use Rattle.kernel_step.specs.Kernel.{Kernel, begins};
-ghost use Rattle.kernel_step.specs.Progress.{progress};
+ghost use Rattle.kernel_process.specs.Closing.{HaveSpare, HavePlace};
 ghost use Rattle.kernel_event.specs.Room.{room_of_packet, room_of_call};
 ghost use Rattle.kernel_process.specs.Active.{started_ends};
 ghost use Rattle.kernel_event.specs.Places.{brought, ArePlaced};
@@ -17,28 +15,7 @@ ghost use Rattle.kernel_process.specs.Parts.{process_state};
 
 use charlotte_calls::{Call, EndId, LinkId, MovingPicture, NoMemory, Room, Side, What};
 use end_table::Table;
-use kernel_process::{Event, Processes};
-use std::alloc::Global;
-use std::mem;
-
-/// An event with this stamp that has added nothing, with this room, in the lists of one that is over.
-pub(crate) fn begin(
-    alloc: Global,
-    over: &mut Event,
-    stamp: u64,
-    room: Room,
-    dying: usize,
-    own: usize,
-) -> Result<Event, NoMemory>
-    requires few { dying < 2 ^ 60 }
-    requires one { own ≤ 1 }
-    ensures begins { IfOk result (λ event. (s : Kernel) → progress s.table event.work ≡ begins s stamp) }
-    ensures begun { IfOk result (IsBegun (record room { packets = room.packets + 9 * dying }) own) }
-    ensures stamp { IfOk result (λ event. event.work.stamp ≡ stamp) }
-{
-    over.begin(stamp, room, dying, own)?;
-    Ok(mem::replace(over, Event::unused(alloc)))
-}
+use kernel_process::Processes;
 
 /// How much the packet's part of an event may add.
 pub(crate) fn room_of_packet(what: &What) -> Room

@@ -1,6 +1,7 @@
-use charlotte_calls::{Call, Pid};
+use charlotte_calls::{Call, Effect, Pid};
 use end_table::Table;
 use kernel_process::{Event, Processes};
+use std::alloc::Global;
 
 /// What the events of a kernel change.
 #[derive(Drop)]
@@ -9,8 +10,8 @@ pub(crate) struct State {
     pub(crate) processes: Processes,
     /// How many links the kernel has made.
     pub(crate) made: u32,
-    /// An event that is over, of whose lists the next one takes the room.
-    pub(crate) over: Event,
+    /// The event that is under way. Where none is, the last one, of whose lists the next takes the room.
+    pub(crate) event: Event,
 }
 
 /// A call, with the process that makes it.
@@ -18,4 +19,14 @@ pub(crate) struct State {
 pub struct Request {
     pub p: Pid,
     pub call: Call,
+}
+
+/// The effect of no event.
+pub(crate) fn no_effect(alloc: Global) -> Effect {
+    Effect {
+        stamp: 0,
+        packets: Vec::new(alloc),
+        answered: Vec::new(alloc),
+        steps: Vec::new(alloc),
+    }
 }

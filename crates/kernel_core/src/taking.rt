@@ -1,4 +1,4 @@
-ghost use Rattle.std.specs.Prelude.{◌≡◌, ◌<◌, ◌↔◌, true, false, length, map, IfOk, IfErr, IfSome, IsTrue, OnErr};
+ghost use Rattle.std.specs.Prelude.{◌≡◌, ◌<◌, ◌↔◌, true, false, length, map, IfOk, IfErr, IfSome, IsTrue, OnErr, OnOk};
 ghost use Rattle.charlotte_calls.specs.Packets.{what_picture};
 ghost use Rattle.charlotte_calls.specs.declared.names.EndId.{EndId};
 ghost use Rattle.charlotte_calls.specs.declared.names.Pid.{Pid};
@@ -17,12 +17,12 @@ ghost use Rattle.kernel_step.specs.Kernel.{Kernel, begins, closes};
 ghost use Rattle.kernel_step.specs.Progress.{progress};
 ghost use Rattle.kernel_step.specs.Rows.{row};
 
-use crate::room::{begin, reserve_brought, reserve_processes, room_of_packet};
-use crate::state::State;
+use crate::room::{reserve_brought, reserve_processes, room_of_packet};
+use crate::state::{State, no_effect};
 use charlotte_calls::{Effect, EndId, NoMemory, Packet, Pid, What};
 use end_table::{Lent, Table};
 use kernel_event::row;
-use kernel_process::{Event, Processes, close, owner_in, refresh_owner};
+use kernel_process::{Processes, close, owner_in, refresh_owner};
 use std::alloc::Global;
 
 /// The packet that a kernel could not take for want of memory.
@@ -40,18 +40,24 @@ struct Found {
     owner: Option<Pid>,
 }
 
-/// The event in which a kernel takes a packet from a kernel; all room that it needs was reserved.
-fn take(state: &mut State, from: u8, what: &mut What, to: Found, mut event: Event) -> Effect
+/// The event in which a kernel takes a packet from a kernel, put into `effect`; all room that it needs was reserved.
+fn take(state: &mut State, from: u8, what: &mut What, to: Found, effect: &mut Effect)
     requires consistent { IsConsistent state.old }
-    requires ready { IsReadyToTake state.old what.old event }
+    requires ready { IsReadyToTake state.old what.old state.old.event }
     requires found { IsFound (entries state.old.table) what.old to }
-    ensures part { (s : Kernel) → ended (with_parts (entries state.new.table) state.new.processes (record s { stamp = result.stamp })) result
-        ≡ closes (with_parts (entries state.old.table) state.old.processes s) (row state.old.table.kernel state.old.made from (what_picture what.old) (progress (entries state.old.table) event.work)) }
+    ensures part { (s : Kernel) → ended (with_parts (entries state.new.table) state.new.processes (record s { stamp = effect.new.stamp })) effect.new
+        ≡ closes (with_parts (entries state.old.table) state.old.processes s) (row state.old.table.kernel state.old.made from (what_picture what.old) (progress (entries state.old.table) state.old.event.work)) }
     ensures keeps { Keeps state.old state.new }
     ensures made { state.new.made ≡ state.old.made }
 {
-    row(&mut state.table, state.made, from, what, &mut event.work);
-    let effect = close(&mut state.table, &mut state.processes, &mut event);
+    row(
+        &mut state.table,
+        state.made,
+        from,
+        what,
+        &mut state.event.work,
+    );
+    *effect = close(&mut state.table, &mut state.processes, &mut state.event);
     refresh_if_here(
         &state.table,
         &mut state.processes,
@@ -59,8 +65,6 @@ fn take(state: &mut State, from: u8, what: &mut What, to: Found, mut event: Even
         to.owner,
         to.end,
     );
-    state.over = event;
-    effect
 }
 
 /// How the event of a packet finds the end that the packet is addressed to.
@@ -130,60 +134,53 @@ fn take_packet(
     from: u8,
     packet: &mut Packet,
     to: Found,
-    event: Event,
-) -> Effect
+    effect: &mut Effect,
+)
     requires consistent { IsConsistent state.old }
-    requires ready { IsReadyToTake state.old packet.old.what event }
+    requires ready { IsReadyToTake state.old packet.old.what state.old.event }
     requires found { IsFound (entries state.old.table) packet.old.what to }
-    ensures part { (s : Kernel) → ended (with_parts (entries state.new.table) state.new.processes (record s { stamp = result.stamp })) result
+    ensures part { (s : Kernel) → ended (with_parts (entries state.new.table) state.new.processes (record s { stamp = effect.new.stamp })) effect.new
         ≡ closes (with_parts (entries state.old.table) state.old.processes s)
-        (takes_addressed kernels state.old.table.kernel state.old.made from (what_picture packet.old.what) (progress (entries state.old.table) event.work)) }
+        (takes_addressed kernels state.old.table.kernel state.old.made from (what_picture packet.old.what) (progress (entries state.old.table) state.old.event.work)) }
     ensures keeps { Keeps state.old state.new }
     ensures made { state.new.made ≡ state.old.made }
 {
     if packet.addressed(kernels) {
-        take(state, from, &mut packet.what, to, event)
+        take(state, from, &mut packet.what, to, effect)
     } else {
-        pass(state, &packet.what, event)
+        pass(state, &packet.what, effect)
     }
 }
 
 /// The event of a packet that is dropped.
-fn pass(state: &mut State, what: &What, mut event: Event) -> Effect
+fn pass(state: &mut State, what: &What, effect: &mut Effect)
     requires consistent { IsConsistent state.old }
-    requires ready { IsReadyToTake state.old what.now event }
-    ensures part { (s : Kernel) → ended (with_parts (entries state.new.table) state.new.processes (record s { stamp = result.stamp })) result
-        ≡ closes (with_parts (entries state.old.table) state.old.processes s) (progress (entries state.old.table) event.work) }
+    requires ready { IsReadyToTake state.old what.now state.old.event }
+    ensures part { (s : Kernel) → ended (with_parts (entries state.new.table) state.new.processes (record s { stamp = effect.new.stamp })) effect.new
+        ≡ closes (with_parts (entries state.old.table) state.old.processes s) (progress (entries state.old.table) state.old.event.work) }
     ensures keeps { Keeps state.old state.new }
     ensures made { state.new.made ≡ state.old.made }
 {
-    let effect = close(&mut state.table, &mut state.processes, &mut event);
-    state.over = event;
-    effect
+    *effect = close(&mut state.table, &mut state.processes, &mut state.event);
 }
 
 /// Reserves all that the event of a packet needs, so that nothing after it can fail.
-fn reserve_taking(
-    alloc: Global,
-    state: &mut State,
-    what: &What,
-    here: bool,
-    stamp: u64,
-) -> Result<Event, NoMemory>
+fn reserve_taking(state: &mut State, what: &What, here: bool, stamp: u64) -> Result<(), NoMemory>
     requires here { IsHere (entries state.old.table (addressee (what_picture what.now))) → here ≡ true }
-    ensures ready { IfOk result (IsReadyToTake state.new what.now) }
-    ensures begins { IfOk result (λ event. (s : Kernel) → progress s.table event.work ≡ begins s stamp) }
+    ensures ready { OnOk result (IsReadyToTake state.new what.now state.new.event) }
+    ensures begins { OnOk result ((s : Kernel) → progress s.table state.new.event.work ≡ begins s stamp) }
     ensures same { OnlyReserves state.old state.new }
 {
     let room = room_of_packet(what);
-    let event = begin(alloc, &mut state.over, stamp, room, 0, 0)?;
+    state.event.begin(stamp, room, 0, 0)?;
     reserve_processes(&mut state.processes, here, room.reports)?;
     reserve_brought(&mut state.table, what)?;
-    Ok(event)
+    Ok(())
 }
 
 /// The event in which a kernel takes a packet, with this stamp. Its values are taken out of the packet. For want of memory the
 /// packet stays as it is.
+#[inline(always)]
 pub(crate) fn take_event(
     alloc: Global,
     state: &mut State,
@@ -203,8 +200,12 @@ pub(crate) fn take_event(
     ensures made { state.new.made ≡ state.old.made }
 {
     let to = find(&state.table, &packet.what);
-    match reserve_taking(alloc, state, &packet.what, to.here, stamp) {
-        Ok(event) => Ok(take_packet(state, kernels, from, packet, to, event)),
+    match reserve_taking(state, &packet.what, to.here, stamp) {
+        Ok(()) => {
+            let mut effect = no_effect(alloc);
+            take_packet(state, kernels, from, packet, to, &mut effect);
+            Ok(effect)
+        }
         Err(NoMemory) => Err(NoMemory),
     }
 }

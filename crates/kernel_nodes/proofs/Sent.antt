@@ -60,6 +60,10 @@ sent_in-next lists t before after packet n left rest at below is items first to 
     ∙ sym (to_kernel-append to ((n, packet_picture packet) ∷ []) (map sent_picture rest))
     ∙ ap (λ ls. to_kernel to (map sent_picture ls)) (sym first))
 
+-- what is seen in front is what is taken there
+pub first-same : (x y : ℕ × Packet) (xs rest : List (ℕ × Packet)) → x ≡ get_or xs 0 x → xs ≡ y ∷ rest → x ≡ y
+first-same x y xs rest is first = is ∙ ap (λ l. get_or l 0 x) first
+
 -- the oldest packet to a kernel leaves its list
 pub popped : (old new : Node) (t n : ℕ) (before after : VecDeque Packet Global) (r : Option Packet) → new.sent.items ≡ set old.sent.items t after → t ≡ n → t < length old.sent.items → before ≡ get_or old.sent.items t before → before.items ≡ option_to_list r ++ after.items → (r ≡ None → before.items ≡ []) → MatchOption r (IsUnpopped n old new) (λ packet. IsPopped n packet old new)
 popped old new t n before after r now at below is items empty = by r items empty

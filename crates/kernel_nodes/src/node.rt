@@ -13,21 +13,17 @@ ghost use Rattle.kernel_world.specs.World.{to_kernel};
 ghost use Rattle.kernel_nodes.specs.Nodes.{sent_to, IsNodeOf, IsAfter, IsNotedOf, IsPopped, IsUnpopped};
 
 use crate::nodes::Noted;
-use charlotte_calls::{Effect, NoMemory, Packet, Pid, ServiceStep, Setting};
+use charlotte_calls::{Effect, NoMemory, Packet, ServiceStep, Setting};
 use kernel_core::{Kernel, Request};
 use std::alloc::Global;
 use std::collections::VecDeque;
-use std::mem;
 
 /// A kernel, and what it sent.
 #[derive(Drop)]
 pub(crate) struct Node {
-    alloc: Global,
     pub(crate) kernel: Kernel,
     /// The packets that were not taken yet, oldest first: a list for each number that a kernel may have.
     pub(crate) sent: Vec<VecDeque<Packet>>,
-    /// The processes to which the last event gave an answer: a list that the kernel gets back with that of its steps.
-    answered: Vec<Pid>,
 }
 
 /// How many numbers a packet may be addressed to.
@@ -43,10 +39,8 @@ impl Node {
         ensures node { IfOk result (λ node. IsNodeOf setting.now node) }
     {
         Ok(Node {
-            alloc,
             kernel: Kernel::start(alloc, id, setting)?,
             sent: empty_lists(alloc)?,
-            answered: Vec::new(alloc),
         })
     }
 
@@ -74,16 +68,16 @@ impl Node {
         self.send(effect)
     }
 
-    /// Gives the lists of the last event back to the kernel: that of its steps, which is over, and that of its answers.
+    /// Gives the list of the steps of an event that is over back to the kernel.
     pub(crate) fn reuse(&mut self, steps: Vec<ServiceStep>)
         ensures kernel { self.new.kernel ≡ self.old.kernel }
         ensures sent { self.new.sent ≡ self.old.sent }
     {
-        let answered = mem::replace(&mut self.answered, Vec::new(self.alloc));
-        self.kernel.reuse_lists(answered, steps);
+        self.kernel.reuse_steps(steps);
     }
 
-    /// Sends the packets of an event.
+    /// Sends the packets of an event, and gives the kernel its lists back, but for that of the steps.
+    #[inline(always)]
     fn send(&mut self, effect: Effect) -> Result<Noted, NoMemory>
         requires { length self.old.sent.items ≡ 256 }
         ensures noted { IfOk result (λ noted. (noted.stamp ≡ effect.stamp) × (noted.steps ≡ effect.steps)) }
@@ -97,14 +91,28 @@ impl Node {
             answered,
             steps,
         } = effect;
-        self.answered = answered;
+        self.kernel.reuse_answered(answered);
         let sent = self.send_all(packets)?;
         self.kernel.reuse(sent);
         Ok(Noted { stamp, steps })
     }
 
-    /// Sends packets, and gives their emptied list back.
+    /// Sends packets, and gives their emptied list back. Most events have none.
+    #[inline(always)]
     fn send_all(&mut self, packets: Vec<(u8, Packet)>) -> Result<Vec<(u8, Packet)>, NoMemory>
+        requires { length self.old.sent.items ≡ 256 }
+        ensures kernel { self.new.kernel ≡ self.old.kernel }
+        ensures sent { OnOk result ((to : ℕ) → sent_to self.new to ≡ sent_to self.old to ++ to_kernel to (map sent_picture packets.items)) }
+        ensures lists { length self.new.sent.items ≡ length self.old.sent.items }
+    {
+        if packets.is_empty() {
+            return Ok(packets);
+        }
+        self.send_some(packets)
+    }
+
+    #[inline(never)]
+    fn send_some(&mut self, packets: Vec<(u8, Packet)>) -> Result<Vec<(u8, Packet)>, NoMemory>
         requires { length self.old.sent.items ≡ 256 }
         ensures kernel { self.new.kernel ≡ self.old.kernel }
         ensures sent { OnOk result ((to : ℕ) → sent_to self.new to ≡ sent_to self.old to ++ to_kernel to (map sent_picture packets.items)) }
@@ -123,8 +131,13 @@ impl Node {
         ensures sent { OnOk result ((to : ℕ) → sent_to self.new to ≡ sent_to self.old to ++ to_kernel to (map sent_picture packets.items)) }
         ensures lists { length self.new.sent.items ≡ length self.old.sent.items }
     {
-        while let Some((to, packet)) = packets.pop_front() {
-            self.sent[usize::from(to)].push_back(packet)?;
+        while let Some((to, _)) = packets.front() {
+            let list = &mut self.sent[usize::from(*to)];
+            list.reserve(1)?;
+            let Some((_, packet)) = packets.pop_front() else {
+                unreachable!()
+            };
+            list.push_back_reserved(packet);
         }
         Ok(packets)
     }

@@ -10,8 +10,8 @@ decide-requires-clause-consistent c = (reserved-keeps c.args.state.now c.reserve
 
 pub returns-in-Ok-clause-step : goal.returns-in-Ok-clause-step
 returns-in-Ok-clause-step c =
-    called-before c.args.state.now c.reserve_calling.new.state c.decide.new.state c.args.stamp c.decide.result c.args.request.now.p c.args.request.now.call c.reserve_calling.ensures.same
-    (subst (λ n. IsCalled c.reserve_calling.new.state n c.decide.new.state c.decide.result c.args.request.now.p c.args.request.now.call) c.in-Ok.ensures.stamp c.decide.ensures.step)
+    called-before c.args.state.now c.reserve_calling.new.state c.decide.new.state c.args.stamp c.decide.new.effect c.args.request.now.p c.args.request.now.call c.reserve_calling.ensures.same
+    (subst (λ n. IsCalled c.reserve_calling.new.state n c.decide.new.state c.decide.new.effect c.args.request.now.p c.args.request.now.call) c.in-Ok.ensures.stamp c.decide.ensures.step)
 
 pub returns-in-Ok-clause-keeps : goal.returns-in-Ok-clause-keeps
 returns-in-Ok-clause-keeps c =

@@ -14,7 +14,7 @@ use Rattle.kernel_core.proofs.taking.reserve_taking.Goals as goal
 pub returns-clause-ready : goal.returns-clause-ready
 returns-clause-ready c =
     record {
-      begun = begun-plain (room_of_packet c.args.what.now) c.room_of_packet-room.result 0 c.in_ok-event.event c.room_of_packet-room.ensures c.in_ok-event.ensures.begun;
+      begun = begun-plain (room_of_packet c.args.what.now) c.room_of_packet-room.result 0 c.begin.new.self c.room_of_packet-room.ensures c.in_ok-begin.ensures.begun;
       placed = c.in_ok-reserve_brought.ensures.placed;
       spare = λ here. subst (λ (r : Room). 0 < r.reports → HaveSpare r.reports c.reserve_processes.new.processes) c.room_of_packet-room.ensures
           (c.in_ok-reserve_processes.ensures.spare (told here));

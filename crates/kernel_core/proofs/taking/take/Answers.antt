@@ -26,29 +26,29 @@ pub row-requires-clause-ready : goal.row-requires-clause-ready
 row-requires-clause-ready c = IsReady-sound c.args.state.now.table.kernel c.args.state.now.made (length c.args.state.now.processes) (entries c.args.state.now.table) c.requires.consistent.sound
 
 -- the row goes well
-goes : (c : goal.After-event-1) → GoesWell c.args.state.now.table.kernel c.args.state.now.made (length c.args.state.now.processes) (λ p e. end_eq (addressee (what_picture c.args.what.now)) e) (entries c.args.state.now.table)
-    (row c.args.state.now.table.kernel c.args.state.now.made c.args.from (what_picture c.args.what.now) (progress (entries c.args.state.now.table) c.args.event.work))
-goes c = row-goes c.args.state.now.table.kernel c.args.state.now.made (length c.args.state.now.processes) c.args.from (what_picture c.args.what.now) (entries c.args.state.now.table) c.args.event.work c.requires.ready.begun.reports c.requires.ready.begun.answers c.requires.consistent.sound
+goes : (c : goal.After-close-arg-3-1) → GoesWell c.args.state.now.table.kernel c.args.state.now.made (length c.args.state.now.processes) (λ p e. end_eq (addressee (what_picture c.args.what.now)) e) (entries c.args.state.now.table)
+    (row c.args.state.now.table.kernel c.args.state.now.made c.args.from (what_picture c.args.what.now) (progress (entries c.args.state.now.table) c.args.state.now.event.work))
+goes c = row-goes c.args.state.now.table.kernel c.args.state.now.made (length c.args.state.now.processes) c.args.from (what_picture c.args.what.now) (entries c.args.state.now.table) c.args.state.now.event.work c.requires.ready.begun.reports c.requires.ready.begun.answers c.requires.consistent.sound
 
-pub close-effect-requires-clause-reports : goal.close-effect-requires-clause-reports
-close-effect-requires-clause-reports c = well-reports _ _ _ _ _ (entries c.row.new.table) c.row.new.out _ c.row.ensures.part (goes c)
+pub close-requires-clause-reports : goal.close-requires-clause-reports
+close-requires-clause-reports c = well-reports _ _ _ _ _ (entries c.row.new.table) c.row.new.out _ c.row.ensures.part (goes c)
 
-pub close-effect-requires-clause-answers : goal.close-effect-requires-clause-answers
-close-effect-requires-clause-answers c = well-answers _ _ _ _ _ (entries c.row.new.table) c.row.new.out _ c.row.ensures.part (goes c)
+pub close-requires-clause-answers : goal.close-requires-clause-answers
+close-requires-clause-answers c = well-answers _ _ _ _ _ (entries c.row.new.table) c.row.new.out _ c.row.ensures.part (goes c)
 
-pub close-effect-requires-clause-spare : goal.close-effect-requires-clause-spare
-close-effect-requires-clause-spare c = by c.args.to.here refl
+pub close-requires-clause-spare : goal.close-requires-clause-spare
+close-requires-clause-spare c = by c.args.to.here refl
   where
     by : (b : Bool) → c.args.to.here ≡ b → HaveSpareFor c.row.new.out.reports.items c.args.state.now.processes
-    by true is = part-spare (room_of_packet c.args.what.now) 0 c.args.event c.row.new.out c.args.state.now.processes c.requires.ready.begun c.row.ensures.room
+    by true is = part-spare (room_of_packet c.args.what.now) 0 c.args.state.now.event c.row.new.out c.args.state.now.processes c.requires.ready.begun c.row.ensures.room
         (c.requires.ready.spare (subst (λ (e : EndId). IsHere (entries c.args.state.now.table e)) c.requires.found.end (c.requires.found.here.0 is)))
     by false is = subst (λ rs. HaveSpareFor rs c.args.state.now.processes)
-        (sym (away-reports c.args.state.now.table.kernel c.args.state.now.made (length c.args.state.now.processes) c.args.from (what_picture c.args.what.now) (entries c.args.state.now.table) (entries c.row.new.table) c.args.event.work c.row.new.out
+        (sym (away-reports c.args.state.now.table.kernel c.args.state.now.made (length c.args.state.now.processes) c.args.from (what_picture c.args.what.now) (entries c.args.state.now.table) (entries c.row.new.table) c.args.state.now.event.work c.row.new.out
         c.requires.ready.begun.reports c.requires.ready.begun.answers c.requires.consistent.sound c.row.ensures.part
         (λ here. true≢false (sym (c.requires.found.here.1 (subst (λ (e : EndId). IsHere (entries c.args.state.now.table e)) (sym c.requires.found.end) here)) ∙ is)))) tt
 
-pub close-effect-requires-clause-room : goal.close-effect-requires-clause-room
-close-effect-requires-clause-room c = part-closes (room_of_packet c.args.what.now) 0 c.args.event c.row.new.out c.requires.ready.begun c.row.ensures.room
+pub close-requires-clause-room : goal.close-requires-clause-room
+close-requires-clause-room c = part-closes (room_of_packet c.args.what.now) 0 c.args.state.now.event c.row.new.out c.requires.ready.begun c.row.ensures.room
 
 pub row-requires-clause-room : goal.row-requires-clause-room
 row-requires-clause-room c =
@@ -56,38 +56,38 @@ row-requires-clause-room c =
 
 pub refresh_if_here-requires-clause-after : goal.refresh_if_here-requires-clause-after
 refresh_if_here-requires-clause-after c =
-    let sound = c.close-effect.ensures.calm.sound c.args.state.now.made (length c.args.state.now.processes)
-    (subst (λ k. IsSound k c.args.state.now.made (length c.args.state.now.processes) (entries c.row.new.table)) (sym c.row.ensures.kernel) (row-sound c.args.state.now.table.kernel c.args.state.now.made (length c.args.state.now.processes) c.args.from (what_picture c.args.what.now) (entries c.args.state.now.table) (entries c.row.new.table) c.args.event.work c.row.new.out c.requires.ready.begun.reports c.requires.ready.begun.answers c.requires.consistent.sound c.row.ensures.part)) in
-    subst (λ n. IfSome (owner_of (entries c.close-effect.new.table c.args.to.end)) (λ p. p.0 < n)) (sym c.close-effect.ensures.kept.length)
-    (owner-below c.close-effect.new.table.kernel c.args.state.now.made (length c.args.state.now.processes) (entries c.close-effect.new.table) sound c.args.to.end)
+    let sound = c.close.ensures.calm.sound c.args.state.now.made (length c.args.state.now.processes)
+    (subst (λ k. IsSound k c.args.state.now.made (length c.args.state.now.processes) (entries c.row.new.table)) (sym c.row.ensures.kernel) (row-sound c.args.state.now.table.kernel c.args.state.now.made (length c.args.state.now.processes) c.args.from (what_picture c.args.what.now) (entries c.args.state.now.table) (entries c.row.new.table) c.args.state.now.event.work c.row.new.out c.requires.ready.begun.reports c.requires.ready.begun.answers c.requires.consistent.sound c.row.ensures.part)) in
+    subst (λ n. IfSome (owner_of (entries c.close.new.table c.args.to.end)) (λ p. p.0 < n)) (sym c.close.ensures.kept.length)
+    (owner-below c.close.new.table.kernel c.args.state.now.made (length c.args.state.now.processes) (entries c.close.new.table) sound c.args.to.end)
 
 pub refresh_if_here-requires-clause-place : goal.refresh_if_here-requires-clause-place
 refresh_if_here-requires-clause-place c = λ is.
-    HavePlace-moved c.args.state.now.processes c.close-effect.new.processes c.close-effect.ensures.kept.active
+    HavePlace-moved c.args.state.now.processes c.close.new.processes c.close.ensures.kept.active
     (c.requires.ready.place (subst (λ (e : EndId). IsHere (entries c.args.state.now.table e)) c.requires.found.end (c.requires.found.here.0 is)))
 
 pub returns-clause-part : goal.returns-clause-part
 returns-clause-part c = λ s.
-    ap (λ u. ended u c.close-effect.result) (with_parts-kept (entries c.close-effect.new.table) c.close-effect.new.processes c.refresh_if_here.new.processes (record s { stamp = c.close-effect.result.stamp }) c.refresh_if_here.ensures.kept)
-    ∙ ap (λ n. ended (with_parts (entries c.close-effect.new.table) c.close-effect.new.processes (record s { stamp = n })) c.close-effect.result) c.close-effect.ensures.stamp
-    ∙ c.close-effect.ensures.part s
+    ap (λ u. ended u c.close.result) (with_parts-kept (entries c.close.new.table) c.close.new.processes c.refresh_if_here.new.processes (record s { stamp = c.close.result.stamp }) c.refresh_if_here.ensures.kept)
+    ∙ ap (λ n. ended (with_parts (entries c.close.new.table) c.close.new.processes (record s { stamp = n })) c.close.result) c.close.ensures.stamp
+    ∙ c.close.ensures.part s
     ∙ closes-table (entries c.row.new.table) (entries c.args.state.now.table) c.args.state.now.processes s (progress (entries c.row.new.table) c.row.new.out)
     ∙ ap (closes (with_parts (entries c.args.state.now.table) c.args.state.now.processes s)) c.row.ensures.part
 
 pub returns-clause-keeps : goal.returns-clause-keeps
 returns-clause-keeps c =
-    let sound = c.close-effect.ensures.calm.sound c.args.state.now.made (length c.args.state.now.processes)
-    (subst (λ k. IsSound k c.args.state.now.made (length c.args.state.now.processes) (entries c.row.new.table)) (sym c.row.ensures.kernel) (row-sound c.args.state.now.table.kernel c.args.state.now.made (length c.args.state.now.processes) c.args.from (what_picture c.args.what.now) (entries c.args.state.now.table) (entries c.row.new.table) c.args.event.work c.row.new.out c.requires.ready.begun.reports c.requires.ready.begun.answers c.requires.consistent.sound c.row.ensures.part)) in
+    let sound = c.close.ensures.calm.sound c.args.state.now.made (length c.args.state.now.processes)
+    (subst (λ k. IsSound k c.args.state.now.made (length c.args.state.now.processes) (entries c.row.new.table)) (sym c.row.ensures.kernel) (row-sound c.args.state.now.table.kernel c.args.state.now.made (length c.args.state.now.processes) c.args.from (what_picture c.args.what.now) (entries c.args.state.now.table) (entries c.row.new.table) c.args.state.now.event.work c.row.new.out c.requires.ready.begun.reports c.requires.ready.begun.answers c.requires.consistent.sound c.row.ensures.part)) in
     record {
       consistent = record {
-        sound = subst (λ n. IsSound c.close-effect.new.table.kernel c.args.state.now.made n (entries c.close-effect.new.table)) (sym (c.refresh_if_here.ensures.length ∙ c.close-effect.ensures.kept.length)) sound;
+        sound = subst (λ n. IsSound c.close.new.table.kernel c.args.state.now.made n (entries c.close.new.table)) (sym (c.refresh_if_here.ensures.length ∙ c.close.ensures.kept.length)) sound;
         active =
             c.refresh_if_here.ensures.told (entries c.args.state.now.table) c.requires.found.owner
-            (tells_same (entries c.args.state.now.table) (entries c.args.state.now.table) c.args.state.now.processes c.close-effect.new.processes c.requires.consistent.active (keys-moved c.args.state.now.processes c.close-effect.new.processes c.close-effect.ensures.kept.active) (λ p e. refl))
-            (λ p e apart. c.close-effect.ensures.calm.calm p e ∙ row-calm c.args.state.now.table.kernel c.args.state.now.made (length c.args.state.now.processes) c.args.from (what_picture c.args.what.now) (entries c.args.state.now.table) (entries c.row.new.table) c.args.event.work c.row.new.out c.requires.ready.begun.reports c.requires.ready.begun.answers c.requires.consistent.sound c.row.ensures.part p e (ap (λ to. end_eq to e) (sym c.requires.found.end) ∙ apart))
-            (λ is p e. c.close-effect.ensures.calm.calm p e ∙ away-calm c.args.state.now.table.kernel c.args.state.now.made (length c.args.state.now.processes) c.args.from (what_picture c.args.what.now) (entries c.args.state.now.table) (entries c.row.new.table) c.args.event.work c.row.new.out c.requires.ready.begun.reports c.requires.ready.begun.answers c.requires.consistent.sound c.row.ensures.part
+            (tells_same (entries c.args.state.now.table) (entries c.args.state.now.table) c.args.state.now.processes c.close.new.processes c.requires.consistent.active (keys-moved c.args.state.now.processes c.close.new.processes c.close.ensures.kept.active) (λ p e. refl))
+            (λ p e apart. c.close.ensures.calm.calm p e ∙ row-calm c.args.state.now.table.kernel c.args.state.now.made (length c.args.state.now.processes) c.args.from (what_picture c.args.what.now) (entries c.args.state.now.table) (entries c.row.new.table) c.args.state.now.event.work c.row.new.out c.requires.ready.begun.reports c.requires.ready.begun.answers c.requires.consistent.sound c.row.ensures.part p e (ap (λ to. end_eq to e) (sym c.requires.found.end) ∙ apart))
+            (λ is p e. c.close.ensures.calm.calm p e ∙ away-calm c.args.state.now.table.kernel c.args.state.now.made (length c.args.state.now.processes) c.args.from (what_picture c.args.what.now) (entries c.args.state.now.table) (entries c.row.new.table) c.args.state.now.event.work c.row.new.out c.requires.ready.begun.reports c.requires.ready.begun.answers c.requires.consistent.sound c.row.ensures.part
             (λ here. true≢false (sym (c.requires.found.here.1 (subst (λ (e : EndId). IsHere (entries c.args.state.now.table e)) (sym c.requires.found.end) here)) ∙ is)) p e);
       };
-      kernel = c.close-effect.ensures.calm.kernel ∙ c.row.ensures.kernel;
-      length = c.refresh_if_here.ensures.length ∙ c.close-effect.ensures.kept.length;
+      kernel = c.close.ensures.calm.kernel ∙ c.row.ensures.kernel;
+      length = c.refresh_if_here.ensures.length ∙ c.close.ensures.kept.length;
     }

@@ -2,6 +2,7 @@
 use Rattle.std.proofs.Common.{◌≡◌, map, ap, subst, ◌∙◌, refl}
 use Rattle.end_table.specs.Table.{entries}
 use Rattle.kernel_core.proofs.CalledParts.{call-by_parts}
+use Rattle.kernel_core.proofs.Happened.{both_err, both_ok}
 use Rattle.kernel_core.proofs.Kernels.{state-same}
 use Rattle.kernel_core.specs.State.{KernelView, state_of}
 use Rattle.kernel_process.specs.Parts.{process_state, ended}
@@ -10,17 +11,19 @@ use Rattle.kernel_step.specs.Calls.{IsCallWith}
 use Rattle.kernel_step.specs.Kernel.{call_step}
 use Rattle.kernel_core.proofs.kernel.Kernel.ask.Goals as goal
 
-pub returns-in-Ok-clause-step : goal.returns-in-Ok-clause-step
-returns-in-Ok-clause-step c =
-    let called = c.in-Ok.ensures.step in (
+pub returns-clause-step : goal.returns-clause-step
+returns-clause-step c =
+    both_ok c.call_event-called.result
+    (λ effect called stamp. (
       called.0,
       subst (λ v. IsCallWith c.args.request.now.p (entries v.table) called.0 c.args.request.now.call) c.self.view_is called.1,
-      subst (λ v. ended (state_of after) c.in-Ok.effect ≡ call_step (state_of v) c.args.request.now.p called.0 c.args.request.now.call) c.self.view_is
-          (call-by_parts (the_view c.self.inside) after c.self.inside.state.processes c.call_event-called.new.state.processes c.stamp_after-stamp.result c.in-Ok.effect c.args.request.now.p called.0 c.args.request.now.call
+      subst (λ v. ended (state_of after) effect ≡ call_step (state_of v) c.args.request.now.p called.0 c.args.request.now.call) c.self.view_is
+          (call-by_parts (the_view c.self.inside) after c.self.inside.state.processes c.call_event-called.new.state.processes c.stamp_after-stamp.result effect c.args.request.now.p called.0 c.args.request.now.call
           refl
           refl
-          refl refl c.call_event-called.ensures.keeps.kernel refl c.stamp_after-stamp.ensures called.2),
-    )
+          refl refl c.call_event-called.ensures.keeps.kernel stamp c.stamp_after-stamp.ensures called.2),
+    ))
+    c.call_event-called.ensures.step c.stamp_with-self-inside.ensures.happened
   where
     after : KernelView
     after = record {
@@ -29,10 +32,11 @@ returns-in-Ok-clause-step c =
       table = c.call_event-called.new.state.table;
       processes = map process_state c.call_event-called.new.state.processes;
       made = c.call_event-called.new.state.made;
-      stamp = c.in-Ok.effect.stamp;
+      stamp = c.stamp_with-self-inside.result;
     }
 
-pub returns-in-Err-clause-same : goal.returns-in-Err-clause-same
-returns-in-Err-clause-same c =
-    state-same (the_view c.self.inside) _ refl refl c.in-Err.ensures.same.kernel c.in-Err.ensures.same.entries c.in-Err.ensures.same.states c.in-Err.ensures.same.made refl
-    ∙ ap state_of c.self.view_is
+pub returns-clause-same : goal.returns-clause-same
+returns-clause-same c =
+    both_err c.call_event-called.result
+    (λ same stamp. state-same (the_view c.self.inside) _ refl refl same.kernel same.entries same.states same.made stamp ∙ ap state_of c.self.view_is)
+    c.call_event-called.ensures.same c.stamp_with-self-inside.ensures.kept

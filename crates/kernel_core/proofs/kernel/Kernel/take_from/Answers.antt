@@ -1,6 +1,7 @@
 -- The event is that of the kernel's parts.
 use Rattle.std.proofs.Common.{◌≡◌, map, ap, subst, ◌∙◌, refl}
 use Rattle.charlotte_calls.specs.Packets.{packet_picture}
+use Rattle.kernel_core.proofs.Happened.{both_err, both_ok}
 use Rattle.kernel_core.proofs.Kernels.{state-same, take-by_parts}
 use Rattle.kernel_core.specs.State.{KernelView, state_of}
 use Rattle.kernel_process.specs.Parts.{process_state, ended}
@@ -8,15 +9,17 @@ use Rattle.kernel_core.specs.contracts.kernel.Kernel.{the_view}
 use Rattle.kernel_step.specs.Kernel.{next_stamp, take_step}
 use Rattle.kernel_core.proofs.kernel.Kernel.take_from.Goals as goal
 
-pub returns-in-Ok-clause-step : goal.returns-in-Ok-clause-step
+pub returns-clause-step : goal.returns-clause-step
 unfolding state_of
-returns-in-Ok-clause-step c =
-    subst (λ v. ended (state_of after) c.in-Ok.effect ≡ take_step (state_of v) c.args.from (packet_picture c.args.packet.now)) c.self.view_is
-    (take-by_parts (the_view c.self.inside) after c.self.inside.state.processes c.take_event-taken.new.state.processes c.args.from c.stamp_after-stamp.result (packet_picture c.args.packet.now) c.in-Ok.effect
+returns-clause-step c =
+    both_ok c.take_event-taken.result
+    (λ effect part stamp. subst (λ v. ended (state_of after) effect ≡ take_step (state_of v) c.args.from (packet_picture c.args.packet.now)) c.self.view_is
+    (take-by_parts (the_view c.self.inside) after c.self.inside.state.processes c.take_event-taken.new.state.processes c.args.from c.stamp_after-stamp.result (packet_picture c.args.packet.now) effect
     refl
     refl
-    refl refl c.take_event-taken.ensures.keeps.kernel c.take_event-taken.ensures.made refl (c.stamp_after-stamp.ensures ∙ ap next_stamp c.greater.ensures)
-    (c.in-Ok.ensures.part (state_of (the_view c.self.inside)) refl))
+    refl refl c.take_event-taken.ensures.keeps.kernel c.take_event-taken.ensures.made stamp (c.stamp_after-stamp.ensures ∙ ap next_stamp c.greater.ensures)
+    (part (state_of (the_view c.self.inside)) refl)))
+    c.take_event-taken.ensures.part c.stamp_with-self-inside.ensures.happened
   where
     after : KernelView
     after = record {
@@ -25,10 +28,11 @@ returns-in-Ok-clause-step c =
       table = c.take_event-taken.new.state.table;
       processes = map process_state c.take_event-taken.new.state.processes;
       made = c.take_event-taken.new.state.made;
-      stamp = c.in-Ok.effect.stamp;
+      stamp = c.stamp_with-self-inside.result;
     }
 
-pub returns-in-Err-clause-same : goal.returns-in-Err-clause-same
-returns-in-Err-clause-same c =
-    state-same (the_view c.self.inside) _ refl refl c.in-Err.ensures.same.kernel c.in-Err.ensures.same.entries c.in-Err.ensures.same.states c.in-Err.ensures.same.made refl
-    ∙ ap state_of c.self.view_is
+pub returns-clause-same : goal.returns-clause-same
+returns-clause-same c =
+    both_err c.take_event-taken.result
+    (λ same stamp. state-same (the_view c.self.inside) _ refl refl same.kernel same.entries same.states same.made stamp ∙ ap state_of c.self.view_is)
+    c.take_event-taken.ensures.same c.stamp_with-self-inside.ensures.kept
