@@ -1,5 +1,5 @@
 -- The next line of a text is taken, where it is just what the kernels expect there.
-use Rattle.std.proofs.Common.{◌≡◌, ℕ, ◌+◌, ◌≤◌, ◌^◌, Bool, true, false, IfOk, Result, Ok, Err, IsTrue, MatchBool, List, [], ◌∷◌, ◌++◌, Some, slice_get, refl, sym, ap, subst, ◌∙◌}
+use Rattle.std.proofs.Common.{◌≡◌, ℕ, ◌+◌, ◌≤◌, ◌^◌, Bool, true, false, IsTrue, MatchBool, List, [], ◌∷◌, ◌++◌, Some, slice_get, refl, sym, ap, subst, ◌∙◌}
 use Rattle.charlotte_calls.specs.Packets.{packet_picture, what_picture}
 use Rattle.charlotte_calls.specs.Setting.{IsValid}
 use Rattle.charlotte_calls.specs.declared.packet.Packet.{Packet}
@@ -61,16 +61,11 @@ first-is p [] e = absurd cc
 first-is p (q ∷ qs) e = let same : packet_picture p ≡ q = cc in ap (λ (x : Picture). x.what) (sym same)
 
 -- the first packet that waits is read
-pub first-read : {E : Type 0} (r : Result Bool E) (nodes : Nodes) (ahead : PacketAhead) (p : Packet) (u v : Unread) → ((s : Setting) → Some (packet_picture p) ≡ slice_get ((world_of s nodes.nodes.items).packets ahead.from ahead.kernel) 0)
-    → IfOk r (λ read. MatchBool read (Reads u (line.PacketEntry ahead.stamp ahead.kernel ahead.from (told_packet (what_picture p.what))) v) (v ≡ u))
-    → IfOk r (λ read. MatchBool read ((s : Setting) → AreNodes s nodes.nodes.items → ReadsFirst s nodes ahead u v) (v ≡ u))
-first-read (Ok true) nodes ahead p u v first read = λ s are. record { what = what_picture p.what; first = first-is p ((world_of s nodes.nodes.items).packets ahead.from ahead.kernel) (first s); read = read }
-first-read (Ok false) nodes ahead p u v first same = same
-first-read (Err e) nodes ahead p u v first read = tt
-
-pub first-was : (b : Bool) (s : Setting) (nodes : Nodes) (ahead : PacketAhead) (u v : Unread) → b ≡ true → AreNodes s nodes.nodes.items → MatchBool b ((t : Setting) → AreNodes t nodes.nodes.items → ReadsFirst t nodes ahead u v) (v ≡ u) → ReadsFirst s nodes ahead u v
-first-was true s nodes ahead u v is are reads = reads s are
-first-was false s nodes ahead u v is are same = absurd cc
+pub first-read : (b : Bool) (nodes : Nodes) (ahead : PacketAhead) (p : Packet) (u v : Unread) → ((s : Setting) → Some (packet_picture p) ≡ slice_get ((world_of s nodes.nodes.items).packets ahead.from ahead.kernel) 0)
+    → MatchBool b (Reads u (line.PacketEntry ahead.stamp ahead.kernel ahead.from (told_packet (what_picture p.what))) v) (v ≡ u)
+    → MatchBool b ((s : Setting) → AreNodes s nodes.nodes.items → ReadsFirst s nodes ahead u v) (v ≡ u)
+first-read true nodes ahead p u v first read = λ s are. record { what = what_picture p.what; first = first-is p ((world_of s nodes.nodes.items).packets ahead.from ahead.kernel) (first s); read = read }
+first-read false nodes ahead p u v first same = same
 
 taken-of : (b : Body) (n : Nodes) (k from : ℕ) (what : PictureWhat) (noted : Noted) → Waits b from k what → Happens b.setting (Takes k from) noted b.nodes.nodes.items n.nodes.items → HasTaken b k from (told_packet what) (Some noted) n
 taken-of b n k from what noted w h = (w.0, w.1, h)

@@ -1,19 +1,22 @@
 -- The texts of steps and of entries are lines that may come next.
-use Rattle.std.proofs.Common.{◌≡◌, ℕ, Bool, true, false, MatchBool, List, refl, ap, ◌∙◌, arith}
+use Rattle.std.proofs.Common.{◌≡◌, ℕ, Bool, true, false, MatchBool, List, ◌++◌, append_assoc, codes, refl, ap, ◌∙◌, arith}
 use Rattle.charlotte_calls.specs.Packets.{packet_picture, what_picture}
 use Rattle.charlotte_calls.specs.Ranges.{IsPictureInRange, IsPid, IsStepInRange, IsU8, IsU64}
 use Rattle.charlotte_calls.specs.declared.calls.Call.{Call}
 use Rattle.charlotte_calls.specs.declared.calls.ServiceStep.{ServiceStep}
 use Rattle.charlotte_calls.specs.declared.calls.ServiceStep.TheVariants as step
-use Rattle.charlotte_calls.specs.declared.names.Pid.{Pid}
 use Rattle.charlotte_calls.specs.declared.packet.Packet.{Packet}
-use Rattle.charlotte_text.specs.Spelling.{IsCall}
-use Rattle.journal_text.specs.Transcript.{entry_text, line as line_of, step_text}
+use Rattle.charlotte_text.specs.Reading.{parts}
+use Rattle.charlotte_text.specs.Spelling.{IsCall, call_text, number_text, process_text}
+use Rattle.journal_text.specs.Transcript.{packet_text, step_text}
 use Rattle.journal_text.specs.TranscriptText.{HasFewPacket}
-use Rattle.kernel_world.specs.declared.entry.Happened.TheVariants.{Asked, Took}
-use Rattle.transcript_forms.specs.Spelling.{bare_entry, bare_step, HasShown}
+use Rattle.transcript_forms.specs.Spelling.{bare_step, HasShown}
+use Rattle.transcript_reader.specs.Ahead.{head_text}
 use Rattle.transcript_reader.specs.Lines.{Unread}
-use Rattle.transcript_reader.specs.Next.{IsEntryLine, Reads}
+use Rattle.transcript_reader.specs.Next.{IsAhead, Reads}
+use Rattle.transcript_reader.specs.declared.guess.Ahead.TheVariants as heads
+use Rattle.transcript_reader.specs.declared.guess.CallAhead.{CallAhead}
+use Rattle.transcript_reader.specs.declared.guess.PacketAhead.{PacketAhead}
 use Rattle.transcript_reading.specs.Kinds.{shown_step}
 use Rattle.transcript_reading.specs.Order.{next}
 use Rattle.transcript_reading.specs.declared.line.LineKind.{LineKind}
@@ -59,23 +62,36 @@ bare_range (step.Free on) is = is
 bare_range (step.Notice on dead) is = is
 bare_range (step.Back on n dead) is = is
 
-pub step_line : (version : ℕ) (s : ServiceStep) (text : List ℕ) → HasShown version (shown_step s) → IsStepInRange s → text ≡ line_of (step_text s) → IsEntryLine version (line.Service (shown_step s)) text
+-- what is unread begins with the line of a step
+pub step_ahead : (u : Unread) (s : ServiceStep) (rest left : List ℕ) → HasShown u.version (shown_step s) → IsStepInRange s → u.texts ≡ parts 10 rest → rest ≡ step_text s ++ left → IsAhead u (line.Service (shown_step s)) left
 unfolding next
-step_line version s text shown fits e = record { spelled = e ∙ ap line_of (same_line s); kind = (bare_range s fits, shown); stands = refl }
+step_ahead u s rest left shown fits texts e = record { texts = texts ∙ ap (parts 10) (e ∙ ap (λ (t : List ℕ). t ++ left) (same_line s)); kind = (bare_range s fits, shown); stands = refl }
 
 -- ---- entries
 
-pub packet_line : (version stamp kernel from : ℕ) (packet : Packet) (text : List ℕ) → HasFewPacket version (what_picture packet.what) → IsU64 stamp → IsU8 kernel → IsU8 from → IsPictureInRange (packet_picture packet)
-    → text ≡ line_of (entry_text (bare_entry stamp kernel (Took from (packet_picture packet)))) → IsEntryLine version (line.PacketEntry stamp kernel from (told_packet (what_picture packet.what))) text
-unfolding next
-packet_line version stamp kernel from packet text few is_stamp is_kernel is_from fits e = record { spelled = e; kind = (is_stamp, is_kernel, is_from, refl, fits.what, few); stands = refl }
+same_entry : (a b c d p left : List ℕ) → (a ++ b ++ c ++ d) ++ (p ++ left) ≡ (a ++ (b ++ c ++ d ++ p)) ++ left
+same_entry a b c d p left = simp append_assoc
 
-pub call_line : (version stamp kernel : ℕ) (p : Pid) (c : Call) (text : List ℕ) → IsU64 stamp → IsU8 kernel → IsPid p → IsCall version c → text ≡ line_of (entry_text (bare_entry stamp kernel (Asked p c))) → IsEntryLine version (line.CallEntry stamp kernel p c) text
+entry_ahead : (texts : List (List ℕ)) (a b c d p rest left : List ℕ) → texts ≡ parts 10 ((a ++ b ++ c ++ d) ++ rest) → rest ≡ p ++ left → texts ≡ parts 10 ((a ++ (b ++ c ++ d ++ p)) ++ left)
+entry_ahead texts a b c d p rest left e f = e ∙ ap (parts 10) (ap (λ (t : List ℕ). (a ++ b ++ c ++ d) ++ t) f ∙ same_entry a b c d p left)
+
+abbrev stamp_text : ℕ → ℕ → List ℕ
+stamp_text stamp kernel = number_text stamp ++ codes " k" ++ number_text kernel
+
+pub packet_ahead : (u : Unread) (a : PacketAhead) (packet : Packet) (rest left : List ℕ) → HasFewPacket u.version (what_picture packet.what) → IsU64 a.stamp → IsU8 a.kernel → IsU8 a.from → IsPictureInRange (packet_picture packet)
+    → u.texts ≡ parts 10 (head_text (heads.Packet a) ++ rest) → rest ≡ packet_text (what_picture packet.what) ++ left → IsAhead u (line.PacketEntry a.stamp a.kernel a.from (told_packet (what_picture packet.what))) left
 unfolding next
-call_line version stamp kernel p c text is_stamp is_kernel is_p is e = record { spelled = e; kind = (is_stamp, is_kernel, is_p, is); stands = refl }
+packet_ahead u a packet rest left few is_stamp is_kernel is_from fits texts e =
+    record { texts = entry_ahead u.texts (stamp_text a.stamp a.kernel) (codes " from ") (number_text a.from) (codes " ") (packet_text (what_picture packet.what)) rest left texts e; kind = (is_stamp, is_kernel, is_from, refl, fits.what, few); stands = refl }
+
+pub call_ahead : (u : Unread) (a : CallAhead) (c : Call) (rest left : List ℕ) → IsU64 a.stamp → IsU8 a.kernel → IsPid a.p → IsCall u.version c
+    → u.texts ≡ parts 10 (head_text (heads.Call a) ++ rest) → rest ≡ call_text c ++ left → IsAhead u (line.CallEntry a.stamp a.kernel a.p c) left
+unfolding next
+call_ahead u a c rest left is_stamp is_kernel is_p is texts e =
+    record { texts = entry_ahead u.texts (stamp_text a.stamp a.kernel) (codes " ") (process_text a.p) (codes " ") (call_text c) rest left texts e; kind = (is_stamp, is_kernel, is_p, is); stands = refl }
 
 -- ---- a line that is read
 
-pub read_as : (b : Bool) (u v : Unread) (k : LineKind) (text : List ℕ) → IsEntryLine u.version k text → MatchBool b ((l : LineKind) → IsEntryLine u.version l text → Reads u l v) (v ≡ u) → MatchBool b (Reads u k v) (v ≡ u)
-read_as true u v k text is reads = reads k is
-read_as false u v k text is same = same
+pub read_as : (b : Bool) (u v : Unread) (k : LineKind) (left : List ℕ) → IsAhead u k left → MatchBool b ((l : LineKind) → IsAhead u l left → Reads u l v) (v ≡ u) → MatchBool b (Reads u k v) (v ≡ u)
+read_as true u v k left is reads = reads k is
+read_as false u v k left is same = same

@@ -60,24 +60,34 @@ impl Body {
     }
 
     /// The entry of a call.
-    pub(crate) fn ask(&mut self, stamp: u64, kernel: u8, p: Pid, call: &Call) -> Result<(), Stop>
+    pub(crate) fn ask(&mut self, stamp: u64, kernel: u8, request: &Request) -> Result<(), Stop>
+        requires { IsReady self.old }
+        ensures ready { OnOk result (IsReady self.new) }
+        ensures leads { OnOk result (Goes self.old (line.CallEntry stamp kernel request.now.p request.now.call) self.new) }
+        ensures differs { IfErr result (StopsAt self.old (line.CallEntry stamp kernel request.now.p request.now.call)) }
+    {
+        if !self.may_go_on() {
+            return Err(Stop::Differs);
+        }
+        if !self.may_call(kernel, request.p, &request.call) {
+            return Err(Stop::Differs);
+        }
+        let noted = self.nodes.ask(kernel, request)?;
+        self.note(stamp, kernel, noted)
+    }
+
+    /// The entry of a call that was read.
+    fn ask_told(&mut self, stamp: u64, kernel: u8, p: Pid, call: &Call) -> Result<(), Stop>
         requires { IsReady self.old }
         ensures ready { OnOk result (IsReady self.new) }
         ensures leads { OnOk result (Goes self.old (line.CallEntry stamp kernel p call.now) self.new) }
         ensures differs { IfErr result (StopsAt self.old (line.CallEntry stamp kernel p call.now)) }
     {
-        if !self.may_go_on() {
-            return Err(Stop::Differs);
-        }
-        if !self.may_call(kernel, p, call) {
-            return Err(Stop::Differs);
-        }
         let request = Request {
             p,
             call: call.copy(),
         };
-        let noted = self.nodes.ask(kernel, &request)?;
-        self.note(stamp, kernel, noted)
+        self.ask(stamp, kernel, &request)
     }
 
     /// The entry of a packet that a kernel took.
@@ -183,7 +193,7 @@ impl Body {
                 kernel,
                 p,
                 call,
-            } => self.ask(*stamp, *kernel, *p, call),
+            } => self.ask_told(*stamp, *kernel, *p, call),
             LineKind::PacketEntry {
                 stamp,
                 kernel,

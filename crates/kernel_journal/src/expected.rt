@@ -1,81 +1,81 @@
 //! The next line of a text, where it is just what the kernels expect there.
-ghost use Rattle.std.specs.Prelude.{◌≡◌, ◌<◌, [], IfErr, IfOk, MatchBool, OnOk};
+ghost use Rattle.std.specs.Prelude.{◌≡◌, ◌<◌, ◌++◌, [], IfErr, IfOk, MatchBool, OnOk};
 ghost use Rattle.charlotte_calls.specs.declared.picture.PictureWhat.{PictureWhat as AWhat};
 ghost use Rattle.charlotte_calls.specs.declared.setting.Setting.{Setting as ASetting};
 ghost use Rattle.kernel_journal.specs.Body.{Goes, IsReady, StopsAt};
 ghost use Rattle.kernel_journal.specs.Expected.{ReadsDue, ReadsFirst, Stands, TookNext, Waits, told_packet};
+ghost use Rattle.charlotte_text.specs.Reading.{parts};
 ghost use Rattle.kernel_nodes.specs.Nodes.{AreNodes};
+ghost use Rattle.transcript_reader.specs.Ahead.{head_text};
+ghost use Rattle.transcript_reader.specs.declared.guess.Ahead.TheVariants as heads;
 ghost use Rattle.transcript_reading.specs.declared.line.LineKind.TheVariants as line;
 
 use crate::body::Body;
 use crate::fault::Stop;
 use crate::reads::{reads_call, reads_packet, reads_step};
-use charlotte_calls::{Call, NoMemory};
-use kernel_nodes::Nodes;
+use kernel_nodes::{Nodes, Request};
 use transcript_reader::{Ahead, CallAhead, PacketAhead, Reader};
 
 impl Body {
     /// Takes the next line, where it shows the step that is due, or is the entry of a packet that waits or of a call. `false`: it was
-    /// not read. The text is written over, and so is the call.
+    /// not read. The request is written over.
     pub(crate) fn take_expected(
         &mut self,
         reader: &mut Reader<'_>,
-        text: &mut Vec<u8>,
-        call: &mut Call,
+        request: &mut Request,
     ) -> Result<bool, Stop>
         requires { IsReady self.old }
         ensures took { IfOk result (λ took. MatchBool took (TookNext self.old reader.old self.new reader.new) ((self.new ≡ self.old) × (reader.new ≡ reader.old))) }
         ensures stands { IfErr result (Stands self.old reader.old reader.new) }
     {
         if !self.due.is_empty() {
-            return self.show_next(reader, text);
+            return Ok(self.show_next(reader));
         }
         match reader.peek() {
-            Ahead::Packet(ahead) => self.take_next(reader, text, ahead),
-            Ahead::Call(ahead) => self.ask_next(reader, text, ahead, call),
-            Ahead::Other => Ok(false),
-        }
-    }
-
-    /// The line of the step that is due.
-    fn show_next(&mut self, reader: &mut Reader<'_>, text: &mut Vec<u8>) -> Result<bool, Stop>
-        requires { IsReady self.old }
-        ensures took { IfOk result (λ took. MatchBool took (TookNext self.old reader.old self.new reader.new) ((self.new ≡ self.old) × (reader.new ≡ reader.old))) }
-        ensures stands { IfErr result (Stands self.old reader.old reader.new) }
-    {
-        if !self.reads_due(reader, text)? {
-            return Ok(false);
-        }
-        let _ = self.due.pop_front();
-        Ok(true)
-    }
-
-    /// Whether the next line shows the step that is due; if so, it is read.
-    fn reads_due(&self, reader: &mut Reader<'_>, text: &mut Vec<u8>) -> Result<bool, NoMemory>
-        ensures { IfOk result (λ read. MatchBool read (ReadsDue self.now.due.items reader.old reader.new) (reader.new ≡ reader.old)) }
-    {
-        match self.due.front() {
-            Some(step) => reads_step(reader, text, step),
+            Some((Ahead::Packet(ahead), rest)) => self.take_next(reader, ahead, rest),
+            Some((Ahead::Call(ahead), rest)) => self.ask_next(reader, ahead, rest, request),
             None => Ok(false),
         }
     }
 
-    /// The entry of a packet that waits.
-    fn take_next(
-        &mut self,
-        reader: &mut Reader<'_>,
-        text: &mut Vec<u8>,
-        ahead: PacketAhead,
-    ) -> Result<bool, Stop>
+    /// The line of the step that is due.
+    fn show_next(&mut self, reader: &mut Reader<'_>) -> bool
         requires { IsReady self.old }
+        ensures { MatchBool result (TookNext self.old reader.old self.new reader.new) ((self.new ≡ self.old) × (reader.new ≡ reader.old)) }
+    {
+        if !self.reads_due(reader) {
+            return false;
+        }
+        let _ = self.due.pop_front();
+        true
+    }
+
+    /// Whether the next line shows the step that is due; if so, it is read.
+    fn reads_due(&self, reader: &mut Reader<'_>) -> bool
+        ensures { MatchBool result (ReadsDue self.now.due.items reader.old reader.new) (reader.new ≡ reader.old) }
+    {
+        match self.due.front() {
+            Some(step) => reads_step(reader, step),
+            None => false,
+        }
+    }
+
+    /// The entry of a packet that waits.
+    fn take_next<'a>(
+        &mut self,
+        reader: &mut Reader<'a>,
+        ahead: PacketAhead,
+        rest: &'a [u8],
+    ) -> Result<bool, Stop>
+        requires ready { IsReady self.old }
+        requires begins { reader.old.texts ≡ parts 10 (head_text (heads.Packet ahead) ++ rest.now) }
         ensures took { IfOk result (λ took. MatchBool took (TookNext self.old reader.old self.new reader.new) ((self.new ≡ self.old) × (reader.new ≡ reader.old))) }
         ensures stands { IfErr result (Stands self.old reader.old reader.new) }
     {
         if ahead.kernel >= self.setting.kernels || !self.may_go_on() {
             return Ok(false);
         }
-        let is_read = reads_first(&self.nodes, reader, text, ahead)?;
-        if !is_read {
+        if !reads_first(&self.nodes, reader, ahead, rest) {
             return Ok(false);
         }
         self.take_first(ahead)?;
@@ -96,37 +96,40 @@ impl Body {
     }
 
     /// The entry of a call.
-    fn ask_next(
+    fn ask_next<'a>(
         &mut self,
-        reader: &mut Reader<'_>,
-        text: &mut Vec<u8>,
-        ahead: CallAhead<'_>,
-        call: &mut Call,
+        reader: &mut Reader<'a>,
+        ahead: CallAhead,
+        rest: &'a [u8],
+        request: &mut Request,
     ) -> Result<bool, Stop>
-        requires { IsReady self.old }
+        requires ready { IsReady self.old }
+        requires begins { reader.old.texts ≡ parts 10 (head_text (heads.Call ahead) ++ rest.now) }
         ensures took { IfOk result (λ took. MatchBool took (TookNext self.old reader.old self.new reader.new) ((self.new ≡ self.old) × (reader.new ≡ reader.old))) }
         ensures stands { IfErr result (Stands self.old reader.old reader.new) }
     {
-        if !reads_call(reader, text, ahead, call)? {
+        if !reads_call(reader, ahead, rest, &mut request.call) {
             return Ok(false);
         }
-        self.ask(ahead.stamp, ahead.kernel, ahead.p, call)?;
+        request.p = ahead.p;
+        self.ask(ahead.stamp, ahead.kernel, request)?;
         Ok(true)
     }
 }
 
-/// Whether the next line is the guessed entry of the first packet that waits on that way; if so, it is read.
-fn reads_first(
+/// Whether the next line, which begins so, is the entry of the first packet that waits on that way; if so, it is read.
+fn reads_first<'a>(
     nodes: &Nodes,
-    reader: &mut Reader<'_>,
-    text: &mut Vec<u8>,
+    reader: &mut Reader<'a>,
     ahead: PacketAhead,
-) -> Result<bool, NoMemory>
-    requires { (s : ASetting) × AreNodes s nodes.now.nodes.items }
-    ensures { IfOk result (λ read. MatchBool read ((s : ASetting) → AreNodes s nodes.now.nodes.items → ReadsFirst s nodes.now ahead reader.old reader.new) (reader.new ≡ reader.old)) }
+    rest: &'a [u8],
+) -> bool
+    requires are { (s : ASetting) × AreNodes s nodes.now.nodes.items }
+    requires begins { reader.old.texts ≡ parts 10 (head_text (heads.Packet ahead) ++ rest.now) }
+    ensures { MatchBool result ((s : ASetting) → AreNodes s nodes.now.nodes.items → ReadsFirst s nodes.now ahead reader.old reader.new) (reader.new ≡ reader.old) }
 {
     match nodes.first(ahead.from, ahead.kernel) {
-        Some(packet) => reads_packet(reader, text, ahead, packet),
-        None => Ok(false),
+        Some(packet) => reads_packet(reader, ahead, rest, packet),
+        None => false,
     }
 }

@@ -10,8 +10,9 @@ ghost use Rattle.kernel_journal.specs.declared.fault.Stop.TheVariants as stops;
 use crate::body::Body;
 use crate::draft::Draft;
 use crate::fault::{ReplayFault, Stop};
-use charlotte_calls::Call;
+use charlotte_calls::{Call, Pid};
 use journal_text::Last;
+use kernel_nodes::Request;
 use std::alloc::Global;
 use transcript_reader::{Line, Reader};
 use transcript_reading::LineKind;
@@ -20,9 +21,8 @@ use transcript_reading::LineKind;
 #[derive(Drop)]
 pub struct Replay {
     alloc: Global,
-    /// The line that is expected is written here, and a call that comes next is read into its place.
-    text: Vec<u8>,
-    call: Call,
+    /// A call that comes next is read into its place.
+    request: Request,
     pub(crate) draft: Draft,
     /// There once the header was taken, with the first line behind it.
     pub(crate) body: Option<Body>,
@@ -37,8 +37,10 @@ impl Replay {
     {
         Replay {
             alloc,
-            text: Vec::new(alloc),
-            call: Call::Make,
+            request: Request {
+                p: Pid(0),
+                call: Call::Make,
+            },
             draft: Draft::new(alloc),
             body: None,
             last: None,
@@ -72,7 +74,7 @@ impl Replay {
             return Ok(false);
         }
         match &mut self.body {
-            Some(body) => match body.take_expected(reader, &mut self.text, &mut self.call) {
+            Some(body) => match body.take_expected(reader, &mut self.request) {
                 Ok(took) => Ok(took),
                 Err(Stop::Differs) => Err(ReplayFault::Differs {
                     line: reader.lines(),

@@ -1,5 +1,5 @@
 -- The next line, where it is the one that is expected.
-use Rattle.std.proofs.Common.{◌≡◌, eqb, ℕ, ◌+◌, ◌<◌, List, [], ◌∷◌, ◌++◌, length, Ok, refl, sym, ap, subst, ◌∙◌, append_assoc, arith}
+use Rattle.std.proofs.Common.{◌≡◌, eqb, ℕ, ◌+◌, ◌<◌, List, ◌∷◌, ◌++◌, length, Ok, refl, sym, ap, subst, ◌∙◌, arith}
 use Rattle.std.proofs.lemmas.List.Splits.{slice_split_at}
 use Rattle.charlotte_text.specs.Reading.{parts}
 use Rattle.transcript_forms.specs.Spelling.{kind_text}
@@ -8,7 +8,7 @@ use Rattle.transcript_reading.specs.Order.{Entry, next}
 use Rattle.transcript_reading.specs.declared.line.LineKind.{LineKind}
 use Rattle.transcript_reading.specs.declared.line.LineKind.TheVariants as kind
 use Rattle.transcript_reader.specs.Lines.{Unread, stand, version_after}
-use Rattle.transcript_reader.specs.Next.{IsEntryLine, Reads}
+use Rattle.transcript_reader.specs.Next.{IsAhead, Reads}
 use Rattle.transcript_reader.proofs.Clauses.{next_stood}
 use Rattle.transcript_reader.proofs.Texts.{stands_again}
 
@@ -30,19 +30,18 @@ same_version version (kind.Note note) e = refl
 same_version version (kind.End last) e = refl
 
 -- the line is the first of those that are left
-first_is : (version : ℕ) (k : LineKind) (bytes text rest : List ℕ) → IsEntryLine version k text → bytes ≡ text ++ rest → parts 10 bytes ≡ kind_text k ∷ parts 10 rest
-first_is version k bytes text rest is e =
-    ap (parts 10) (e ∙ ap (λ (t : List ℕ). t ++ rest) is.spelled ∙ append_assoc (kind_text k) (10 ∷ []) rest)
-    ∙ slice_split_at (λ b. eqb b 10) (kind_text k) 10 rest (text_free version k is.kind) refl
+first_is : (u : Unread) (k : LineKind) (left rest : List ℕ) → IsAhead u k left → left ≡ 10 ∷ rest → u.texts ≡ kind_text k ∷ parts 10 rest
+first_is u k left rest is e =
+    is.texts ∙ ap (λ (l : List ℕ). parts 10 (kind_text k ++ l)) e ∙ slice_split_at (λ b. eqb b 10) (kind_text k) 10 rest (text_free u.version k is.kind) refl
 
 -- there are no more lines than can be counted
-pub fewer : (version lines : ℕ) (k : LineKind) (bytes text rest : List ℕ) → IsEntryLine version k text → bytes ≡ text ++ rest → lines + length (parts 10 bytes) < 4294967296 → lines + 1 + length (parts 10 rest) < 4294967296
-fewer version lines k bytes text rest is e few = omega (arith, few, ap length (first_is version k bytes text rest is e))
+pub fewer : (u : Unread) (k : LineKind) (bytes left rest : List ℕ) → u.texts ≡ parts 10 bytes → left ≡ 10 ∷ rest → IsAhead u k left → u.lines + length (parts 10 bytes) < 4294967296 → u.lines + 1 + length (parts 10 rest) < 4294967296
+fewer u k bytes left rest texts e is few = omega (arith, few, ap length (sym texts ∙ first_is u k left rest is e))
 
-pub reads : (u : Unread) (k : LineKind) (bytes text rest : List ℕ) → u.place ≡ Entry → u.texts ≡ parts 10 bytes → bytes ≡ text ++ rest → IsEntryLine u.version k text → Reads u k (passed u rest)
-reads u k bytes text rest among texts e is = record {
+pub reads : (u : Unread) (k : LineKind) (bytes left rest : List ℕ) → u.place ≡ Entry → u.texts ≡ parts 10 bytes → left ≡ 10 ∷ rest → IsAhead u k left → Reads u k (passed u rest)
+reads u k bytes left rest among texts e is = record {
   line = next_stood u u.lines u.version u.place bytes (kind_text k) rest k u.place u.version (λ i. record { lines = u.lines; version = u.version; place = u.place; texts = texts i })
-      (first_is u.version k bytes text rest is e) (subst (λ p. stand u.version p (kind_text k) ≡ Ok (k, p)) (sym among) (stands_again u.version Entry k Entry is.kind is.stands)) (same_version u.version k is.stands);
+      (sym texts ∙ first_is u k left rest is e) (subst (λ p. stand u.version p (kind_text k) ≡ Ok (k, p)) (sym among) (stands_again u.version Entry k Entry is.kind is.stands)) (same_version u.version k is.stands);
   counted = refl;
   before = among;
   behind = among;

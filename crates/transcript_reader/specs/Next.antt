@@ -1,15 +1,15 @@
 -- The next line of a transcript, where it is expected to be a certain one.
-use Rattle.std.specs.Prelude.{◌≡◌, ◌+◌, ℕ, List, Some, Ok}
-use Rattle.transcript_forms.specs.Spelling.{IsKind}
+use Rattle.std.specs.Prelude.{◌≡◌, ◌+◌, ◌++◌, ℕ, List, Some, Ok}
+use Rattle.charlotte_text.specs.Reading.{parts}
+use Rattle.transcript_forms.specs.Spelling.{IsKind, kind_text}
 use Rattle.transcript_reading.specs.Order.{Entry, next}
 use Rattle.transcript_reading.specs.declared.line.LineKind.{LineKind}
 use Rattle.transcript_reader.specs.Lines.{Unread, next_line}
-use Rattle.transcript_reader.specs.Text.{kind_line}
 
--- a text is this line, of an entry or of a step below one
-pub record IsEntryLine (version : ℕ) (k : LineKind) (text : List ℕ) : Type 0 where
-  pub spelled : text ≡ kind_line k
-  pub kind : IsKind version k
+-- what is unread begins with the text of this line, of an entry or of a step below one, behind which this is left
+pub record IsAhead (u : Unread) (k : LineKind) (left : List ℕ) : Type 0 where
+  pub texts : u.texts ≡ parts 10 (kind_text k ++ left)
+  pub kind : IsKind u.version k
   pub stands : next Entry k ≡ Ok Entry
 
 -- this line comes next behind an entry or a step, and was read

@@ -1,24 +1,25 @@
-//! A guess at what a text begins with. It reads numbers alone, and tests no form.
-use charlotte_calls::Pid;
-use charlotte_text::cut;
+//! With what the entry begins that comes next.
+ghost use Rattle.std.specs.Prelude.{◌≡◌, ◌++◌, IfSome, codes};
+ghost use Rattle.charlotte_text.specs.Spelling.{number_text, process_text};
+ghost use Rattle.transcript_reader.specs.Ahead.{head_text};
 
-/// What a line may turn out to be. It promises nothing: who expects a line compares it.
+use crate::behind::{behind_byte, behind_word};
+use crate::number::leading_number;
+use charlotte_calls::Pid;
+
+/// With what an entry begins, up to its call or its packet.
 #[derive(Clone, Copy, Debug)]
-pub enum Ahead<'a> {
-    Call(CallAhead<'a>),
+pub enum Ahead {
+    Call(CallAhead),
     Packet(PacketAhead),
-    /// Anything else.
-    Other,
 }
 
 /// The entry of a call, as `7 k1 p3 CALL`.
 #[derive(Clone, Copy, Debug)]
-pub struct CallAhead<'a> {
+pub struct CallAhead {
     pub stamp: u64,
     pub kernel: u8,
     pub p: Pid,
-    /// The words of the call.
-    pub words: &'a [u8],
 }
 
 /// The entry of a packet, as `7 k1 from 0 PACKET`.
@@ -29,64 +30,64 @@ pub struct PacketAhead {
     pub from: u8,
 }
 
-/// A guess at the line that a text begins with.
-pub(crate) fn look_ahead(text: &[u8]) -> Ahead<'_> {
-    let (stamp, rest) = leading_number(text);
+/// With what an entry begins, and what stands behind that; `None` promises nothing.
+#[inline(always)]
+pub(crate) fn look_ahead(text: &[u8]) -> Option<(Ahead, &[u8])>
+    ensures { IfSome result (λ x. text.now ≡ head_text x.0 ++ x.1.now) }
+{
+    let (stamp, rest) = leading_number(text)?;
+    let (kernel, rest) = leading_byte(behind_word(rest, b" k")?)?;
+    let rest = behind_byte(rest, b' ')?;
     match rest {
-        [b' ', b'k', rest @ ..] => {
-            let (kernel, rest) = leading_byte(rest);
-            match rest {
-                [b' ', b'p', rest @ ..] => call_ahead(stamp, kernel, rest),
-                [b' ', b'f', b'r', b'o', b'm', b' ', rest @ ..] => {
-                    let (from, _) = leading_byte(rest);
-                    Ahead::Packet(PacketAhead {
-                        stamp,
-                        kernel,
-                        from,
-                    })
-                }
-                _ => Ahead::Other,
-            }
+        [b'p', ..] => {
+            let (p, rest) = leading_process(rest)?;
+            Some((Ahead::Call(CallAhead { stamp, kernel, p }), rest))
         }
-        _ => Ahead::Other,
+        _ => {
+            let (from, rest) = leading_origin(rest)?;
+            Some((
+                Ahead::Packet(PacketAhead {
+                    stamp,
+                    kernel,
+                    from,
+                }),
+                rest,
+            ))
+        }
     }
 }
 
-/// Behind the `p` of the process that makes the call.
-fn call_ahead(stamp: u64, kernel: u8, text: &[u8]) -> Ahead<'_> {
-    let (p, rest) = leading_number(text);
-    match rest {
-        [b' ', rest @ ..] => {
-            let (words, _) = cut(b'\n', rest);
-            Ahead::Call(CallAhead {
-                stamp,
-                kernel,
-                p: Pid((p & 0xffff) as u16),
-                words,
-            })
-        }
-        _ => Ahead::Other,
+/// A process and its blank.
+#[inline(always)]
+fn leading_process(text: &[u8]) -> Option<(Pid, &[u8])>
+    ensures { IfSome result (λ x. text.now ≡ process_text x.0 ++ codes " " ++ x.1.now) }
+{
+    let (number, rest) = leading_number(behind_byte(text, b'p')?)?;
+    let rest = behind_byte(rest, b' ')?;
+    if number >= 65536 {
+        return None;
     }
+    Some((Pid(number as u16), rest))
 }
 
-/// The low byte of the number that a text begins with, and what stands behind that.
-fn leading_byte(text: &[u8]) -> (u8, &[u8]) {
-    let (number, rest) = leading_number(text);
-    ((number & 0xff) as u8, rest)
+/// The kernel that a packet comes from, and its blank.
+#[inline(always)]
+fn leading_origin(text: &[u8]) -> Option<(u8, &[u8])>
+    ensures { IfSome result (λ x. text.now ≡ codes "from " ++ number_text x.0 ++ codes " " ++ x.1.now) }
+{
+    let (from, rest) = leading_byte(behind_word(text, b"from ")?)?;
+    let rest = behind_byte(rest, b' ')?;
+    Some((from, rest))
 }
 
-/// The number that a text begins with, which wraps, and what stands behind it.
-fn leading_number(text: &[u8]) -> (u64, &[u8]) {
-    let mut number = 0u64;
-    for (at, byte) in text.iter().enumerate() {
-        match byte {
-            b'0'..=b'9' => {
-                number = number
-                    .wrapping_mul(10)
-                    .wrapping_add(u64::from(*byte - b'0'));
-            }
-            _ => return (number, &text[at..]),
-        }
+/// A number below 256.
+#[inline(always)]
+fn leading_byte(text: &[u8]) -> Option<(u8, &[u8])>
+    ensures { IfSome result (λ x. text.now ≡ number_text x.0 ++ x.1.now) }
+{
+    let (number, rest) = leading_number(text)?;
+    if number >= 256 {
+        return None;
     }
-    (number, &[])
+    Some((number as u8, rest))
 }

@@ -1,11 +1,13 @@
 //! A reader of one line after the other.
-ghost use Rattle.std.specs.Prelude.{◌≡◌, ◌↔◌, ◌+◌, ◌<◌, IsTrue, MatchBool, length};
+ghost use Rattle.std.specs.Prelude.{◌≡◌, ◌↔◌, ◌+◌, ◌<◌, ◌++◌, IfSome, IsTrue, MatchBool, length};
 ghost use Rattle.charlotte_text.specs.Reading.{Gives, parts};
 ghost use Rattle.transcript_reader.specs.Lines.{GivesNext, is_ended, seen, stand, unread, version_after};
-ghost use Rattle.transcript_reader.specs.Next.{IsEntryLine, Reads};
+ghost use Rattle.transcript_reader.specs.Ahead.{head_text};
+ghost use Rattle.transcript_reader.specs.Next.{IsAhead, Reads};
 ghost use Rattle.transcript_reading.specs.Order.{Entry};
 ghost use Rattle.transcript_reading.specs.declared.line.LineKind.{LineKind as AKind};
 
+use crate::behind::behind_byte;
 use crate::fault::LineFault;
 use crate::guess::{Ahead, look_ahead};
 use crate::line::Line;
@@ -109,27 +111,35 @@ impl<'a> Reader<'a> {
     pub fn is_among_entries(&self) -> bool
         ensures { IsTrue result ↔ (self.now.place ≡ Entry) }
     {
-        match self.place {
-            Place::Entry => true,
-            Place::Start | Place::Version | Place::Over => false,
-            Place::Processes { .. } | Place::Wires { .. } | Place::Noted { .. } => false,
-        }
+        is_entry(self.place)
     }
 
-    /// A guess at the next line, for who knows which line has to come: `next_is_entry` then tells whether it does.
-    pub fn peek(&self) -> Ahead<'a> {
+    /// What was not read yet.
+    pub fn rest(&self) -> &'a [u8]
+        ensures { self.now.texts ≡ parts 10 result.now }
+    {
+        self.rest
+    }
+
+    /// With what the entry begins that comes next, and what stands behind that. `None` promises nothing.
+    #[inline(always)]
+    pub fn peek(&self) -> Option<(Ahead, &'a [u8])>
+        ensures { IfSome result (λ x. self.now.texts ≡ parts 10 (head_text x.0 ++ x.1.now)) }
+    {
         look_ahead(self.rest)
     }
 
-    /// Whether the next line is this one, of an entry or of a step; if so, it is read. The line before it has to be such a line, too.
-    pub fn next_is_entry(&mut self, text: &[u8]) -> bool
-        requires { (k : AKind) × IsEntryLine self.old.version k text.now }
-        ensures { MatchBool result ((k : AKind) → IsEntryLine self.old.version k text.now → Reads self.old k self.new) (self.new ≡ self.old) }
+    /// Passes the next line, which is one of an entry or of a step up to where this is left, if it ends there. The line before it has to be
+    /// such a line, too; else none is passed.
+    #[inline(always)]
+    pub fn pass_line(&mut self, left: &'a [u8]) -> bool
+        requires { (k : AKind) × IsAhead self.old k left.now }
+        ensures { MatchBool result ((k : AKind) → IsAhead self.old k left.now → Reads self.old k self.new) (self.new ≡ self.old) }
     {
-        if !self.is_among_entries() {
+        if !is_entry(self.place) {
             return false;
         }
-        match self.rest.strip_prefix(text) {
+        match behind_byte(left, b'\n') {
             Some(rest) => {
                 self.pass(rest);
                 true
@@ -145,6 +155,17 @@ impl<'a> Reader<'a> {
     {
         self.rest = rest;
         self.lines += 1;
+    }
+}
+
+/// Whether an entry, or a step below it, was read last.
+fn is_entry(place: Place) -> bool
+    ensures { IsTrue result ↔ (seen place ≡ Entry) }
+{
+    match place {
+        Place::Entry => true,
+        Place::Start | Place::Version | Place::Over => false,
+        Place::Processes { .. } | Place::Wires { .. } | Place::Noted { .. } => false,
     }
 }
 

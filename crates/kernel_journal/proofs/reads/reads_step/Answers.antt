@@ -1,19 +1,19 @@
-use Rattle.std.proofs.Common.{ℕ, refl, subst, ◌∙◌}
+use Rattle.std.proofs.Common.{ℕ, refl, subst}
 use Rattle.transcript_forms.specs.Spelling.{HasShown}
-use Rattle.transcript_reader.specs.Next.{IsEntryLine}
+use Rattle.transcript_reader.specs.Next.{IsAhead}
 use Rattle.transcript_reading.specs.Kinds.{shown_step}
 use Rattle.transcript_reading.specs.declared.line.LineKind.TheVariants as line
-use Rattle.kernel_journal.proofs.Texts.{read_as, step_line}
+use Rattle.kernel_journal.proofs.Texts.{read_as, step_ahead}
 use Rattle.kernel_journal.proofs.reads.reads_step.Goals as goal
 
-pub next_is_entry-requires : goal.next_is_entry-requires
-next_is_entry-requires c = (
+pub pass_line-requires : goal.pass_line-requires
+pass_line-requires c = (
   line.Service (shown_step c.args.step.now),
-  step_line c.args.reader.now.version c.args.step.now c.as_slice.result.now (subst (λ (v : ℕ). HasShown v (shown_step c.args.step.now)) c.version.ensures (c.if-not-has_shown.ensures.0 refl)) c.tell_step.ensures (c.as_slice.ensures.value ∙ c.in_ok-write_step.ensures),
+  step_ahead c.args.reader.now c.args.step.now c.rest.result.now c.in-Some.left.now (subst (λ (v : ℕ). HasShown v (shown_step c.args.step.now)) c.version.ensures (c.if-not-has_shown.ensures.0 refl)) c.tell_step.ensures c.rest.ensures c.in-Some.ensures,
 )
 
-pub returns : goal.returns
-returns c =
-    let is : IsEntryLine c.args.reader.now.version (line.Service (shown_step c.args.step.now)) c.as_slice.result.now =
-    step_line c.args.reader.now.version c.args.step.now c.as_slice.result.now (subst (λ (v : ℕ). HasShown v (shown_step c.args.step.now)) c.version.ensures (c.if-not-has_shown.ensures.0 refl)) c.tell_step.ensures (c.as_slice.ensures.value ∙ c.in_ok-write_step.ensures) in
-    read_as c.next_is_entry.result c.args.reader.now c.next_is_entry.new.self (line.Service (shown_step c.args.step.now)) c.as_slice.result.now is c.next_is_entry.ensures
+pub returns-in-Some : goal.returns-in-Some
+returns-in-Some c =
+    let is : IsAhead c.args.reader.now (line.Service (shown_step c.args.step.now)) c.in-Some.left.now =
+    step_ahead c.args.reader.now c.args.step.now c.rest.result.now c.in-Some.left.now (subst (λ (v : ℕ). HasShown v (shown_step c.args.step.now)) c.version.ensures (c.if-not-has_shown.ensures.0 refl)) c.tell_step.ensures c.rest.ensures c.in-Some.ensures in
+    read_as c.pass_line.result c.args.reader.now c.pass_line.new.self (line.Service (shown_step c.args.step.now)) c.in-Some.left.now is c.pass_line.ensures

@@ -4,8 +4,8 @@ use Rattle.kernel_journal.proofs.Bodies.{fails-call, fails-packet, if_err}
 use Rattle.kernel_journal.proofs.body.Body.pass.Goals as goal
 
 pub returns-in-CallEntry-clause-fails : goal.returns-in-CallEntry-clause-fails
-returns-in-CallEntry-clause-fails c = subst (λ k. IfErr c.ask.result (Fails c.args.self.now k)) (sym c.in-CallEntry.is)
-    (if_err c.ask.result (λ s d. fails-call c.args.self.now c.in-CallEntry.stamp c.in-CallEntry.kernel c.in-CallEntry.p c.in-CallEntry.call s d) c.ask.ensures.differs)
+returns-in-CallEntry-clause-fails c = subst (λ k. IfErr c.ask_told.result (Fails c.args.self.now k)) (sym c.in-CallEntry.is)
+    (if_err c.ask_told.result (λ s d. fails-call c.args.self.now c.in-CallEntry.stamp c.in-CallEntry.kernel c.in-CallEntry.p c.in-CallEntry.call s d) c.ask_told.ensures.differs)
 
 pub returns-in-PacketEntry-clause-fails : goal.returns-in-PacketEntry-clause-fails
 returns-in-PacketEntry-clause-fails c = subst (λ k. IfErr c.take.result (Fails c.args.self.now k)) (sym c.in-PacketEntry.is)

@@ -5,7 +5,7 @@ use Rattle.kernel_journal.proofs.lines.Replay.take_expected.Goals as goal
 
 pub returns-in-Ok-clause-taken : goal.returns-in-Ok-clause-taken
 returns-in-Ok-clause-taken c taken at =
-    let new : Replay = record { alloc = c.args.self.now.alloc; text = c.take_expected.new.text; call = c.take_expected.new.call; draft = c.args.self.now.draft; body = Some c.take_expected.new.self; last = c.args.self.now.last } in
+    let new : Replay = record { alloc = c.args.self.now.alloc; request = c.take_expected.new.request; draft = c.args.self.now.draft; body = Some c.take_expected.new.self; last = c.args.self.now.last } in
     expected c.in-Ok.took taken c.args.self.now new c.in-Some.body c.take_expected.new.self c.args.reader.now c.take_expected.new.reader (c.if-not-is_among_entries.ensures.0 refl) c.in-Some.is refl c.in-Ok.ensures.took at
 
 pub returns-in-Err-Differs-clause-fault : goal.returns-in-Err-Differs-clause-fault

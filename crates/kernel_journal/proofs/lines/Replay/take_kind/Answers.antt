@@ -32,6 +32,6 @@ returns-in-Note-clause-taken c =
 pub returns-in_ok-pass-in-End-clause-taken : goal.returns-in_ok-pass-in-End-clause-taken
 returns-in_ok-pass-in-End-clause-taken c taken place behind at e =
     let p = c.in_ok-pass-in-End.ensures.passed taken place behind at e in
-    let new : Replay = record { alloc = c.pass-in-End.new.self.alloc; text = c.pass-in-End.new.self.text; call = c.pass-in-End.new.self.call; draft = c.pass-in-End.new.self.draft; body = c.pass-in-End.new.self.body; last = Some c.in-End.last } in
+    let new : Replay = record { alloc = c.pass-in-End.new.self.alloc; request = c.pass-in-End.new.self.request; draft = c.pass-in-End.new.self.draft; body = c.pass-in-End.new.self.body; last = Some c.in-End.last } in
     at-passed taken place behind c.args.kind.now new (ap is_body c.in-End.is) e
     (record { old_body = p.old_body; body = p.body; kept = p.kept; meets = p.meets; ready = p.ready; passes = p.passes }) (subst (λ k. IsLastKept k new) (sym c.in-End.is) refl)

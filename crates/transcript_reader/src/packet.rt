@@ -1,0 +1,130 @@
+//! Whether a text begins with a packet.
+ghost use Rattle.std.specs.Prelude.{◌≡◌, ◌∷◌, ◌++◌, [], IfSome, codes};
+ghost use Rattle.charlotte_calls.specs.Packets.{what_picture};
+ghost use Rattle.charlotte_text.specs.Spelling.{bytes_text, end_text};
+ghost use Rattle.journal_text.specs.Transcript.{bit, numbers_behind, numbers_text, packet_text, value_text, values_text};
+
+use crate::behind::{behind_byte, behind_bytes, behind_end, behind_number, behind_word};
+use crate::step::{behind_count, behind_numbered, behind_on};
+use charlotte_calls::{EndId, MovingPicture, What};
+
+/// What stands behind a packet, as `want 0.0a 1 0 0`, in a text that begins with it. `None` promises nothing.
+pub fn behind_packet<'a>(text: &'a [u8], what: &What) -> Option<&'a [u8]>
+    ensures { IfSome result (λ rest. text.now ≡ packet_text (what_picture what.now) ++ rest.now) }
+{
+    match what {
+        What::Want { to, w, at, hops } => behind_about(text, b"want ", *to, (*w, *at, *hops)),
+        What::Unwant { to, w, at, hops } => behind_about(text, b"unwant ", *to, (*w, *at, *hops)),
+        What::Unwanted { to, w, at, hops } => {
+            behind_about(text, b"unwanted ", *to, (*w, *at, *hops))
+        }
+        What::Parcel {
+            to,
+            n,
+            w,
+            at,
+            hops,
+            bytes,
+            moving,
+        } => {
+            let rest = behind_parcel(text, *to, (*n, *w, *at, *hops))?;
+            behind_carried(rest, bytes.as_slice(), moving.values())
+        }
+        What::Taken { to, n, at, hops } => behind_about(text, b"taken ", *to, (*n, *at, *hops)),
+        What::Back { to, n, moving } => {
+            behind_values(behind_numbered(text, b"back ", *to, *n)?, moving.values())
+        }
+        What::Gone { to, at } => behind_numbered(text, b"gone ", *to, u32::from(*at)),
+        What::Moved { to, at, hops } => behind_place(behind_on(text, b"moved ", *to)?, *at, *hops),
+        What::Known { to, hops } => behind_numbered(text, b"known ", *to, *hops),
+        What::Forget { to, hops } => behind_numbered(text, b"forget ", *to, *hops),
+        What::GoneSeen { to } => behind_on(text, b"goneseen ", *to),
+    }
+}
+
+/// Behind the kernel of an end and its hops.
+#[inline(always)]
+fn behind_place(text: &[u8], at: u8, hops: u32) -> Option<&[u8]>
+    ensures { IfSome result (λ rest. text.now ≡ numbers_text (at ∷ hops ∷ []) ++ rest.now) }
+{
+    behind_count(behind_count(text, u32::from(at))?, hops)
+}
+
+/// Behind a word with its blank, an end, the number of an activity, and where its opposite end is.
+#[inline(always)]
+fn behind_about<'a>(
+    text: &'a [u8],
+    word: &[u8],
+    to: EndId,
+    numbers: (u32, u8, u32),
+) -> Option<&'a [u8]>
+    ensures { IfSome result (λ rest. text.now ≡ word.now ++ end_text to ++ numbers_text (numbers.0 ∷ numbers.1 ∷ numbers.2 ∷ []) ++ rest.now) }
+{
+    let (number, at, hops) = numbers;
+    behind_place(behind_numbered(text, word, to, number)?, at, hops)
+}
+
+/// Behind a parcel up to its numbers: that of the message and of its receive, and where the opposite end is.
+#[inline(always)]
+fn behind_parcel(text: &[u8], to: EndId, numbers: (u32, u32, u8, u32)) -> Option<&[u8]>
+    ensures { IfSome result (λ rest. text.now ≡ codes "parcel " ++ end_text to ++ numbers_text (numbers.0 ∷ numbers.1 ∷ numbers.2 ∷ numbers.3 ∷ []) ++ rest.now) }
+{
+    let (n, w, at, hops) = numbers;
+    let rest = behind_numbered(text, b"parcel ", to, n)?;
+    behind_place(behind_count(rest, w)?, at, hops)
+}
+
+/// Behind what a parcel carries: its bytes, and its values.
+#[inline(always)]
+fn behind_carried<'a>(text: &'a [u8], bytes: &[u8], values: &[MovingPicture]) -> Option<&'a [u8]>
+    ensures { IfSome result (λ rest. text.now ≡ codes " " ++ bytes_text bytes.now ++ values_text values.now ++ rest.now) }
+{
+    let rest = behind_bytes(behind_byte(text, b' ')?, bytes)?;
+    behind_values(rest, values)
+}
+
+#[inline(always)]
+fn behind_values<'a>(text: &'a [u8], values: &[MovingPicture]) -> Option<&'a [u8]>
+    ensures { IfSome result (λ rest. text.now ≡ values_text values.now ++ rest.now) }
+{
+    let mut rest = text;
+    for value in values {
+        rest = behind_value(behind_word(rest, b" +")?, value)?;
+    }
+    Some(rest)
+}
+
+fn behind_value<'a>(text: &'a [u8], value: &MovingPicture) -> Option<&'a [u8]>
+    ensures { IfSome result (λ rest. text.now ≡ value_text value.now ++ rest.now) }
+{
+    let fields = [
+        value.hops,
+        u32::from(value.hint.0),
+        value.hint.1,
+        value.sent,
+        value.asked,
+        value.served,
+        value.want,
+        number_of(value.dead),
+        u32::from(value.trail),
+    ];
+    behind_fields(behind_end(text, value.end)?, &fields)
+}
+
+/// 1 for yes and 0 for no.
+fn number_of(said: bool) -> u32
+    ensures { result ≡ bit said }
+{
+    if said { 1 } else { 0 }
+}
+
+/// Behind numbers, each behind a colon.
+fn behind_fields<'a>(text: &'a [u8], numbers: &[u32]) -> Option<&'a [u8]>
+    ensures { IfSome result (λ rest. text.now ≡ numbers_behind 58 numbers.now ++ rest.now) }
+{
+    let mut rest = text;
+    for number in numbers {
+        rest = behind_number(behind_byte(rest, b':')?, u64::from(*number))?;
+    }
+    Some(rest)
+}
