@@ -187,9 +187,9 @@ entries-begin taken r at =
     let ends : HasLast at.body = has-last at.body in
     let few : at.body.events ≤ 2 ^ 31 = at.ready.few in
     record {
-      more = step_kinds at.body.due.items ++ line.End ends.last ∷ [];
+      more = step_kinds at.body.due ++ line.End ends.last ∷ [];
       last = ends.last;
-      is = (at.left (step_kinds at.body.due.items ++ line.End ends.last ∷ []) ends.last).1 (record { events = []; allowed = tt; within = tt; few = omega (arith, few); order = tt; notes = []; shown = refl; true_last = ends.is_true });
+      is = (at.left (step_kinds at.body.due ++ line.End ends.last ∷ []) ends.last).1 (record { events = []; allowed = tt; within = tt; few = omega (arith, few); order = tt; notes = []; shown = refl; true_last = ends.is_true });
     }
 
 -- the lines taken begin a transcript
@@ -213,18 +213,18 @@ open-differs (line.Wire x y) b is d = absurd (cc)
 open-differs (line.CallEntry i j p c) b is d = d
 open-differs (line.PacketEntry i j from q) b is d = d
 open-differs (line.Service s) b is d = d
-open-differs (line.Note n) b is d = by b.due.items refl
+open-differs (line.Note n) b is d = by b.due refl
   where
-    by : (ss : List ServiceStep) → b.due.items ≡ ss → Refutes (course_of b) (line.Note n)
+    by : (ss : List ServiceStep) → b.due ≡ ss → Refutes (course_of b) (line.Note n)
     by [] none = absurd (d none)
     by (s ∷ ss) due = refutes-due (course_of b) s ss (line.Note n) due (λ h. absurd (cc))
-open-differs (line.End l) b is d = by b.due.items refl
+open-differs (line.End l) b is d = by b.due refl
   where
-    by : (ss : List ServiceStep) → b.due.items ≡ ss → Refutes (course_of b) (line.End l)
+    by : (ss : List ServiceStep) → b.due ≡ ss → Refutes (course_of b) (line.End l)
     by [] none = refutes-end (course_of b) l none (d none)
     by (s ∷ ss) due = refutes-due (course_of b) s ss (line.End l) due (λ h. absurd (cc))
 
-noted-differs : (m : ℕ) (k : LineKind) (b : Body) → IsNoteOrEnd k → b.due.items ≡ [] → Differs b k → (more : List LineKind) (last : Last) → IsRestOfNotes (course_of b) (k ∷ more) last → ⊥
+noted-differs : (m : ℕ) (k : LineKind) (b : Body) → IsNoteOrEnd k → b.due ≡ [] → Differs b k → (more : List LineKind) (last : Last) → IsRestOfNotes (course_of b) (k ∷ more) last → ⊥
 noted-differs m (line.First v) b is none d more last rest = is
 noted-differs m (line.Kernels n) b is none d more last rest = is
 noted-differs m (line.Process p n) b is none d more last rest = is

@@ -57,10 +57,10 @@ event-course old mid new e stamp noted did is = λ i. record { setting = setting
     latest : new.latest ≡ Some (stamp_of (world_in old) e, kernel_of e)
     latest = is.latest ∙ ap (λ n. Some (n, kernel_of e)) (sym is.same_stamp ∙ did.happens_is.noted.stamp)
 
-    due : new.due.items ≡ (outcome (world_in old) e).steps
+    due : new.due ≡ (outcome (world_in old) e).steps
     due = is.due ∙ did.happens_is.noted.steps
 
-pub event-goes : (old mid new : Body) (e : Event) (stamp : ℕ) (noted : Noted) → IsReady old → old.due.items ≡ [] → old.events < 2147483648 → IsAllowed old.setting (world_in old) e → kernel_of e < old.setting.kernels → IsAfterEvent old mid e noted → IsNoted stamp (kernel_of e) noted mid new
+pub event-goes : (old mid new : Body) (e : Event) (stamp : ℕ) (noted : Noted) → IsReady old → old.due ≡ [] → old.events < 2147483648 → IsAllowed old.setting (world_in old) e → kernel_of e < old.setting.kernels → IsAfterEvent old mid e noted → IsNoted stamp (kernel_of e) noted mid new
     → Leads (course_of old) (event_kind (world_in old) stamp e) (course_of new)
 event-goes old mid new e stamp noted ready none few allowed within did is =
     subst (λ c. Leads (course_of old) (event_kind (world_in old) stamp e) c) (sym (event-course old mid new e stamp noted did is))
@@ -75,7 +75,7 @@ event-ready old mid new e stamp noted ready few did is =
       few = omega (arith, events, few);
     }
 
-pub event-stops : (old mid : Body) (e : Event) (stamp : ℕ) (noted : Noted) → old.due.items ≡ [] → IsAllowed old.setting (world_in old) e → IsAfterEvent old mid e noted → (noted.stamp ≡ stamp → IsTrue (comes_after mid.latest stamp (kernel_of e)) → ⊥)
+pub event-stops : (old mid : Body) (e : Event) (stamp : ℕ) (noted : Noted) → old.due ≡ [] → IsAllowed old.setting (world_in old) e → IsAfterEvent old mid e noted → (noted.stamp ≡ stamp → IsTrue (comes_after mid.latest stamp (kernel_of e)) → ⊥)
     → Refutes (course_of old) (event_kind (world_in old) stamp e)
 event-stops old mid e stamp noted none allowed did not =
     refutes-entry (course_of old) e stamp none allowed (λ stamp_is order. not (did.happens_is.noted.stamp ∙ stamp_is) (subst (λ l. IsTrue (comes_after l stamp (kernel_of e))) (sym did.latest) order))
@@ -83,10 +83,10 @@ event-stops old mid e stamp noted none allowed did not =
 -- ---- what may not go on
 
 -- a step is due, or there were too many events
-pub late-stops : (b : Body) (stamp k : ℕ) (x : Happened) → ((b.due.items ≡ []) × (b.events < 2147483648) → ⊥) → Refutes (course_of b) (happened_kind stamp k x)
-late-stops b stamp k x not = by b.due.items refl
+pub late-stops : (b : Body) (stamp k : ℕ) (x : Happened) → ((b.due ≡ []) × (b.events < 2147483648) → ⊥) → Refutes (course_of b) (happened_kind stamp k x)
+late-stops b stamp k x not = by b.due refl
   where
-    by : (ss : List ServiceStep) → b.due.items ≡ ss → Refutes (course_of b) (happened_kind stamp k x)
+    by : (ss : List ServiceStep) → b.due ≡ ss → Refutes (course_of b) (happened_kind stamp k x)
     by [] none = refutes-many (course_of b) stamp k x none (λ few. not (none, omega (arith, few)))
     by (s ∷ ss) due = refutes-due (course_of b) s ss (happened_kind stamp k x) due (λ h. no_service x h)
       where
@@ -103,7 +103,7 @@ call-allowed b k p c mine can with = (can.0, can.1, can.2, can.3, with)
 pub home-within : (s : Setting) (k : ℕ) (p : Pid) → IsValid s → p.0 < length s.homes → home s p ≡ k → k < s.kernels
 home-within s k p valid below at = subst (λ i. i < s.kernels) at (All-get_or (λ h. h < s.kernels) s.homes p.0 0 below valid.homes)
 
-pub call-stops : (b : Body) (stamp k : ℕ) (p : Pid) (c : Call) → b.due.items ≡ [] → (CanCall b.setting (world_in b) k p c → ⊥) → Refutes (course_of b) (line.CallEntry stamp k p c)
+pub call-stops : (b : Body) (stamp k : ℕ) (p : Pid) (c : Call) → b.due ≡ [] → (CanCall b.setting (world_in b) k p c → ⊥) → Refutes (course_of b) (line.CallEntry stamp k p c)
 call-stops b stamp k p c none not = refutes-call (course_of b) stamp k p c none (λ mine allowed. not (allowed.0, allowed.1, allowed.2, allowed.3))
 
 -- ---- takings
@@ -126,11 +126,11 @@ taking-allowed b k from picture first = first-there picture ((world_in b).packet
 first-of : (what : Picture) (q : Picture) (qs others : List Picture) → qs ≡ q ∷ others → what ≡ without_stamp q → IsFirst what.what qs
 first-of what q qs others at shown = subst (IsFirst what.what) (sym at) (sym (ap (λ (x : Picture). x.what) shown))
 
-pub taking-stops : (b : Body) (stamp k from : ℕ) (picture : Picture) → b.due.items ≡ [] → (k < b.setting.kernels → IsFirst picture.what ((world_in b).packets from k) → ⊥) → Refutes (course_of b) (line.PacketEntry stamp k from picture)
+pub taking-stops : (b : Body) (stamp k from : ℕ) (picture : Picture) → b.due ≡ [] → (k < b.setting.kernels → IsFirst picture.what ((world_in b).packets from k) → ⊥) → Refutes (course_of b) (line.PacketEntry stamp k from picture)
 taking-stops b stamp k from picture none not = refutes-taking (course_of b) stamp k from picture none (λ below q qs at shown. not below (first-of picture q ((world_in b).packets from k) qs at shown))
 
 -- no line shows a stamp
-pub stamped-stops : (b : Body) (stamp k from : ℕ) (picture : Picture) → b.due.items ≡ [] → (picture.stamp ≡ 0 → ⊥) → Refutes (course_of b) (line.PacketEntry stamp k from picture)
+pub stamped-stops : (b : Body) (stamp k from : ℕ) (picture : Picture) → b.due ≡ [] → (picture.stamp ≡ 0 → ⊥) → Refutes (course_of b) (line.PacketEntry stamp k from picture)
 stamped-stops b stamp k from picture none not = refutes-taking (course_of b) stamp k from picture none (λ below q qs at shown. not (ap (λ (x : Picture). x.stamp) shown))
 
 -- ---- what the calls of a body need
@@ -155,7 +155,7 @@ abbrev pub with_nodes : Body → Nodes → Body
 with_nodes b n = record { setting = b.setting; nodes = n; events = b.events; latest = b.latest; due = b.due }
 
 abbrev pub MayGoOn : Body → Type 0
-MayGoOn b = (b.due.items ≡ []) × (b.events < 2147483648)
+MayGoOn b = (b.due ≡ []) × (b.events < 2147483648)
 
 abbrev pub HasCalled : Body → ℕ → Pid → Noted → Nodes → Call → Type 0
 HasCalled old k p noted n c = (mine : List EndId) × IsCallWith p ((world_in old).kernel k).table mine c × Happens old.setting (Calls k p c mine) noted old.nodes.nodes.items n.nodes.items
@@ -210,7 +210,7 @@ ends-open b r last is tells = subst (λ l. IsTrue (not r) ↔ IsTrueLast b.setti
 
 -- the same of the line of a packet, whatever stamp it has
 pub late-packet : (b : Body) (stamp k from : ℕ) (q : Picture) → (MayGoOn b → ⊥) → Refutes (course_of b) (line.PacketEntry stamp k from q)
-late-packet b stamp k from q none_more = by b.due.items refl
+late-packet b stamp k from q none_more = by b.due refl
   where
     unstamped : q.stamp ≡ 0 → without_stamp q ≡ q
     unstamped zero = λ i. record { stamp = sym zero i; what = q.what }
@@ -218,7 +218,7 @@ late-packet b stamp k from q none_more = by b.due.items refl
     no_service : (s : ServiceStep) → line.Service (shown_step s) ≡ line.PacketEntry stamp k from q → ⊥
     no_service s h = absurd (cc)
 
-    by : (ss : List ServiceStep) → b.due.items ≡ ss → Refutes (course_of b) (line.PacketEntry stamp k from q)
+    by : (ss : List ServiceStep) → b.due ≡ ss → Refutes (course_of b) (line.PacketEntry stamp k from q)
     by [] none = elim (eqb_tells q.stamp 0) [
       | inl z ↦ subst (λ x. Refutes (course_of b) (line.PacketEntry stamp k from x)) (unstamped z.1) (refutes-many (course_of b) stamp k (Took from q) none (λ few. none_more (none, omega (arith, few))))
       | inr z ↦ stamped-stops b stamp k from q none z.1

@@ -39,7 +39,7 @@ ready-as old new ready setting nodes events = record {
 }
 
 -- the step that was due is shown
-pub due-took : (old new : Body) (u v : Unread) (r : ReadsDue old.due.items u v) → IsReady old → new.setting ≡ old.setting → new.nodes ≡ old.nodes → new.events ≡ old.events → new.latest ≡ old.latest → new.due.items ≡ r.others → TookNext old u new v
+pub due-took : (old new : Body) (u v : Unread) (r : ReadsDue old.due u v) → IsReady old → new.setting ≡ old.setting → new.nodes ≡ old.nodes → new.events ≡ old.events → new.latest ≡ old.latest → new.due ≡ r.others → TookNext old u new v
 due-took old new u v r ready setting nodes events latest due = record {
   kind = line.Service (shown_step r.first);
   read = r.read;

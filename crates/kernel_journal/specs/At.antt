@@ -34,7 +34,7 @@ pub record IsAmongNotes (taken : List LineKind) (r : Replay) : Type 0 where
   pub body : Body
   pub kept : r.body ≡ Some body
   pub ready : IsReady body
-  pub none : body.due.items ≡ []
+  pub none : body.due ≡ []
   pub left : AreLeft taken (IsRestOfNotes (course_of body))
 
 pub record HasEnded (taken : List LineKind) (r : Replay) : Type 0 where
@@ -56,7 +56,7 @@ MayFollow _ c more last = IsRest c more last
 
 -- no step is due behind a note
 abbrev pub IsNoteReady : Place → Body → Type 0
-IsNoteReady (Noted note) b = b.due.items ≡ []
+IsNoteReady (Noted note) b = b.due ≡ []
 IsNoteReady _ b = Unit {0}
 
 -- a body meets the line that comes next

@@ -23,7 +23,7 @@ use Rattle.kernel_journal.specs.declared.fault.Stop.TheVariants as stop
 -- how far a body has come
 abbrev pub course_of : Body → Course
 course_of b =
-    record { setting = b.setting; world = world_of b.setting b.nodes.nodes.items; events = b.events; latest = b.latest; due = b.due.items }
+    record { setting = b.setting; world = world_of b.setting b.nodes.nodes.items; events = b.events; latest = b.latest; due = b.due }
 
 -- what is true of every body
 pub record IsReady (b : Body) : Type 0 where
@@ -46,14 +46,14 @@ StopsAt old kind stop.NoMemory = Unit {0}
 
 -- a body passed a line behind the header
 abbrev pub Passes : Body → LineKind → Body → Type 0
-Passes old (line.Note note) new = (new ≡ old) × (old.due.items ≡ [])
-Passes old (line.End last) new = (new ≡ old) × (old.due.items ≡ []) × IsTrueLast old.setting (world_of old.setting old.nodes.nodes.items) last
+Passes old (line.Note note) new = (new ≡ old) × (old.due ≡ [])
+Passes old (line.End last) new = (new ≡ old) × (old.due ≡ []) × IsTrueLast old.setting (world_of old.setting old.nodes.nodes.items) last
 Passes old kind new = Goes old kind new
 
 -- it differs
 abbrev pub Differs : Body → LineKind → Type 0
-Differs old (line.Note note) = old.due.items ≡ [] → ⊥
-Differs old (line.End last) = old.due.items ≡ [] → IsTrueLast old.setting (world_of old.setting old.nodes.nodes.items) last → ⊥
+Differs old (line.Note note) = old.due ≡ [] → ⊥
+Differs old (line.End last) = old.due ≡ [] → IsTrueLast old.setting (world_of old.setting old.nodes.nodes.items) last → ⊥
 Differs old kind = Refutes (course_of old) kind
 
 abbrev pub Fails : Body → LineKind → Stop → Type 0
@@ -72,4 +72,4 @@ pub record IsNoted (stamp kernel : ℕ) (noted : Noted) (old new : Body) : Type 
   pub nodes : AreSameNodes old.nodes.nodes.items new.nodes.nodes.items
   pub events : new.events ≡ old.events + 1
   pub latest : new.latest ≡ Some (stamp, kernel)
-  pub due : new.due.items ≡ noted.steps.items
+  pub due : new.due ≡ noted.steps.items

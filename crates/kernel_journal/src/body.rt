@@ -9,12 +9,12 @@ ghost use Rattle.replay_lines.specs.Replay.{IsTrueLast};
 ghost use Rattle.kernel_world.specs.Run.{AllTaken, IsCallOf};
 ghost use Rattle.transcript_reading.specs.declared.line.LineKind.TheVariants as line;
 
+use crate::due::Due;
 use crate::fault::Stop;
-use charlotte_calls::{Call, NoMemory, Picture, Pid, ServiceStep, Setting};
+use charlotte_calls::{Call, NoMemory, Picture, Pid, Setting};
 use journal_text::Last;
 use kernel_nodes::{Nodes, Noted, Request};
 use std::alloc::Global;
-use std::collections::VecDeque;
 use std::mem;
 use transcript_matching::is_shown;
 use transcript_reading::{LineKind, ServiceLine};
@@ -32,7 +32,7 @@ pub(crate) struct Body {
     /// Stamp and kernel of the last entry.
     pub(crate) latest: Option<(u64, u8)>,
     /// The service steps of the last event that no line has shown yet.
-    pub(crate) due: VecDeque<ServiceStep>,
+    pub(crate) due: Due,
 }
 
 impl Body {
@@ -48,13 +48,13 @@ impl Body {
             nodes,
             events: 0,
             latest: None,
-            due: VecDeque::new(alloc),
+            due: Due::none(alloc),
         })
     }
 
     /// Whether no step is due and the run may have one event more.
     pub(crate) fn may_go_on(&self) -> bool
-        ensures { IsTrue result ↔ ((self.now.due.items ≡ []) × (self.now.events < 2147483648)) }
+        ensures { IsTrue result ↔ ((self.now.due ≡ []) × (self.now.events < 2147483648)) }
     {
         self.due.is_empty() && self.events < MOST_EVENTS
     }
@@ -140,7 +140,7 @@ impl Body {
         if noted.stamp != stamp || !comes_after(self.latest, stamp, kernel) {
             return Err(Stop::Differs);
         }
-        let over = mem::replace(&mut self.due, VecDeque::from(noted.steps));
+        let over = mem::replace(&mut self.due, Due::of(noted.steps));
         self.give_back(over);
         self.events += 1;
         self.latest = Some((stamp, kernel));
@@ -148,7 +148,7 @@ impl Body {
     }
 
     /// Gives the list of the steps of the last event back to its kernel.
-    fn give_back(&mut self, steps: VecDeque<ServiceStep>)
+    fn give_back(&mut self, steps: Due)
         ensures setting { self.new.setting ≡ self.old.setting }
         ensures nodes { AreSameNodes self.old.nodes.nodes.items self.new.nodes.nodes.items }
         ensures events { self.new.events ≡ self.old.events }
@@ -156,7 +156,7 @@ impl Body {
         ensures due { self.new.due ≡ self.old.due }
     {
         if let Some((_, kernel)) = self.latest {
-            self.nodes.reuse(kernel, Vec::from(steps));
+            self.nodes.reuse(kernel, steps.into_room());
         }
     }
 
@@ -167,9 +167,10 @@ impl Body {
         ensures leads { OnOk result (Goes self.old (line.Service shown.now) self.new) }
         ensures differs { IfErr result (StopsAt self.old (line.Service shown.now)) }
     {
-        match self.due.pop_front() {
+        match self.due.first() {
             Some(step) => {
-                if is_shown(&step, shown) {
+                if is_shown(step, shown) {
+                    self.due.pass_first();
                     Ok(())
                 } else {
                     Err(Stop::Differs)

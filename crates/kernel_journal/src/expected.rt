@@ -46,15 +46,15 @@ impl Body {
         if !self.reads_due(reader) {
             return false;
         }
-        let _ = self.due.pop_front();
+        self.due.pass_first();
         true
     }
 
     /// Whether the next line shows the step that is due; if so, it is read.
     fn reads_due(&self, reader: &mut Reader<'_>) -> bool
-        ensures { MatchBool result (ReadsDue self.now.due.items reader.old reader.new) (reader.new ≡ reader.old) }
+        ensures { MatchBool result (ReadsDue self.now.due reader.old reader.new) (reader.new ≡ reader.old) }
     {
-        match self.due.front() {
+        match self.due.first() {
             Some(step) => reads_step(reader, step),
             None => false,
         }
@@ -85,7 +85,7 @@ impl Body {
     /// The first packet from a kernel to another, which waits, is taken.
     fn take_first(&mut self, ahead: PacketAhead) -> Result<(), Stop>
         requires ready { IsReady self.old }
-        requires go { (self.old.due.items ≡ []) × (self.old.events < 2147483648) }
+        requires go { (self.old.due ≡ []) × (self.old.events < 2147483648) }
         requires waits { (what : AWhat) × Waits self.old ahead.from ahead.kernel what }
         ensures ready { OnOk result (IsReady self.new) }
         ensures leads { OnOk result ((what : AWhat) → Waits self.old ahead.from ahead.kernel what → Goes self.old (line.PacketEntry ahead.stamp ahead.kernel ahead.from (told_packet what)) self.new) }

@@ -6,6 +6,7 @@
 
 mod body;
 mod draft;
+mod due;
 mod expected;
 mod fault;
 mod lines;
