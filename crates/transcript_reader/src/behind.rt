@@ -14,6 +14,18 @@ pub(crate) fn behind_word<'a>(text: &'a [u8], word: &[u8]) -> Option<&'a [u8]>
     text.strip_prefix(word)
 }
 
+/// Behind a word of a few bytes, which are compared one by one.
+#[inline(always)]
+pub(crate) fn behind_short<'a>(text: &'a [u8], word: &[u8]) -> Option<&'a [u8]>
+    ensures { IfSome result (λ rest. text.now ≡ word.now ++ rest.now) }
+{
+    let mut rest = text;
+    for byte in word {
+        rest = behind_byte(rest, *byte)?;
+    }
+    Some(rest)
+}
+
 /// Behind a byte.
 #[inline(always)]
 pub(crate) fn behind_byte(text: &[u8], byte: u8) -> Option<&[u8]>
@@ -81,7 +93,7 @@ pub(crate) fn behind_ends<'a>(text: &'a [u8], ends: &[EndId]) -> Option<&'a [u8]
 {
     let mut rest = text;
     for end in ends {
-        rest = behind_end(behind_word(rest, b" +")?, *end)?;
+        rest = behind_end(behind_short(rest, b" +")?, *end)?;
     }
     Some(rest)
 }
@@ -100,8 +112,8 @@ pub(crate) fn behind_way(text: &[u8], way: Way) -> Option<&[u8]>
     ensures { IfSome result (λ rest. text.now ≡ way_text way ++ rest.now) }
 {
     match way {
-        Way::Inward => behind_word(text, b"in"),
-        Way::Outward => behind_word(text, b"out"),
+        Way::Inward => behind_short(text, b"in"),
+        Way::Outward => behind_short(text, b"out"),
     }
 }
 

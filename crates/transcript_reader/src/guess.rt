@@ -3,7 +3,7 @@ ghost use Rattle.std.specs.Prelude.{◌≡◌, ◌++◌, IfSome, codes};
 ghost use Rattle.charlotte_text.specs.Spelling.{number_text, process_text};
 ghost use Rattle.transcript_reader.specs.Ahead.{head_text};
 
-use crate::behind::{behind_byte, behind_word};
+use crate::behind::{behind_byte, behind_short};
 use crate::number::leading_number;
 use charlotte_calls::Pid;
 
@@ -36,7 +36,7 @@ pub(crate) fn look_ahead(text: &[u8]) -> Option<(Ahead, &[u8])>
     ensures { IfSome result (λ x. text.now ≡ head_text x.0 ++ x.1.now) }
 {
     let (stamp, rest) = leading_number(text)?;
-    let (kernel, rest) = leading_byte(behind_word(rest, b" k")?)?;
+    let (kernel, rest) = leading_byte(behind_short(rest, b" k")?)?;
     let rest = behind_byte(rest, b' ')?;
     match rest {
         [b'p', ..] => {
@@ -75,7 +75,7 @@ fn leading_process(text: &[u8]) -> Option<(Pid, &[u8])>
 fn leading_origin(text: &[u8]) -> Option<(u8, &[u8])>
     ensures { IfSome result (λ x. text.now ≡ codes "from " ++ number_text x.0 ++ codes " " ++ x.1.now) }
 {
-    let (from, rest) = leading_byte(behind_word(text, b"from ")?)?;
+    let (from, rest) = leading_byte(behind_short(text, b"from ")?)?;
     let rest = behind_byte(rest, b' ')?;
     Some((from, rest))
 }

@@ -4,8 +4,8 @@ ghost use Rattle.charlotte_text.specs.Spelling.{end_text, ends_text, process_tex
 ghost use Rattle.journal_text.specs.Transcript.{cause_text, numbers_text, report_text, result_text, step_text, suffix_text};
 
 use crate::behind::{
-    behind_byte, behind_bytes, behind_end, behind_ends, behind_number, behind_process, behind_way,
-    behind_word,
+    behind_byte, behind_bytes, behind_end, behind_ends, behind_number, behind_process,
+    behind_short, behind_way, behind_word,
 };
 use charlotte_calls::{Cause, EndId, Outcome, Pid, Report, ServiceStep, Way};
 
@@ -124,7 +124,7 @@ fn behind_report<'a>(text: &'a [u8], p: Pid, report: &Report) -> Option<&'a [u8]
     ensures { IfSome result (λ rest. text.now ≡ report_text p report.now ++ rest.now) }
 {
     let rest = behind_of(text, b". report ", p)?;
-    let rest = behind_on(rest, b" ", report.on)?;
+    let rest = behind_end(behind_byte(rest, b' ')?, report.on)?;
     let rest = behind_way(behind_byte(rest, b' ')?, report.way)?;
     behind_result(rest, report)
 }
@@ -134,7 +134,7 @@ fn behind_result<'a>(text: &'a [u8], report: &Report) -> Option<&'a [u8]>
     ensures { IfSome result (λ rest. text.now ≡ result_text report.now.way report.now.outcome report.now.bytes report.now.enclosed ++ rest.now) }
 {
     match (report.way, report.outcome) {
-        (Way::Outward, Outcome::Done) => behind_word(text, b" done"),
+        (Way::Outward, Outcome::Done) => behind_short(text, b" done"),
         (Way::Outward, Outcome::Destroyed) => {
             behind_ends(
                 behind_word(text, b" destroyed")?,
@@ -142,7 +142,7 @@ fn behind_result<'a>(text: &'a [u8], report: &Report) -> Option<&'a [u8]>
             )
         }
         (Way::Inward, Outcome::Done) => {
-            let rest = behind_bytes(behind_word(text, b" done ")?, report.bytes.as_slice())?;
+            let rest = behind_bytes(behind_short(text, b" done ")?, report.bytes.as_slice())?;
             behind_ends(rest, report.enclosed.as_slice())
         }
         (Way::Inward, Outcome::Destroyed) => behind_word(text, b" destroyed"),
@@ -156,7 +156,7 @@ fn behind_suffix<'a>(text: &'a [u8], said: bool, word: &[u8]) -> Option<&'a [u8]
     if !said {
         return Some(text);
     }
-    behind_word(behind_byte(text, b' ')?, word)
+    behind_short(behind_byte(text, b' ')?, word)
 }
 
 #[inline(always)]
@@ -164,7 +164,7 @@ fn behind_take(text: &[u8], on: EndId, n: u32, p: Pid, late: bool) -> Option<&[u
     ensures { IfSome result (λ rest. text.now ≡ codes ". take " ++ end_text on ++ numbers_text (n ∷ []) ++ codes " " ++ process_text p ++ suffix_text late (codes "late") ++ rest.now) }
 {
     let rest = behind_numbered(text, b". take ", on, n)?;
-    behind_suffix(behind_of(rest, b" ", p)?, late, b"late")
+    behind_suffix(behind_process(behind_byte(rest, b' ')?, p)?, late, b"late")
 }
 
 fn behind_notice(text: &[u8], on: EndId, dead: bool) -> Option<&[u8]>
