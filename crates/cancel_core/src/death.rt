@@ -48,14 +48,14 @@ fn note_death(table: &mut Table, on: EndId) -> Outward
     ensures others { (q : EndId) → end_eq on q ≡ false → entries table.new q ≡ entries table.old q }
     ensures kernel { table.new.kernel ≡ table.old.kernel }
 {
+    let was = table.outward(on);
     let living = table.here(on);
     let noticed = HereView {
         value: noticed_value(living.value()),
         holder: living.holder(),
-        outward: noticed_outward(living.outward()),
+        outward: noticed_outward(&was),
         inward: noticed_inward(living.inward()),
     };
-    let was = living.outward().copy();
     table.change(on, noticed);
     was
 }

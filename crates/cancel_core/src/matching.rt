@@ -10,8 +10,8 @@ ghost use Rattle.kernel_step.specs.Progress.{progress, HasRoom, AddsAtMost};
 
 use crate::enclosed::leave_each;
 use charlotte_calls::{Bytes, Cargo, EndId, Ends, MovingPicture, ServiceStep, What, Work};
-use end_table::{Outward, Table};
-use kernel_step::{keep_inward, keep_outward, push_packet, push_step};
+use end_table::{Outward, Sending, Table};
+use kernel_step::{keep_inward, keep_sending, push_packet, push_step};
 
 /// A message that is sent: the send n of its end, and the ends that it encloses.
 #[derive(Drop)]
@@ -35,8 +35,8 @@ pub(crate) fn match_waiting(table: &mut Table, on: EndId, value: MovingPicture, 
     let living = table.here(on);
     let inward = living.inward();
     match living.outward() {
-        Outward::Waiting { .. } => match_waited(table, on, value, out),
-        Outward::Idle | Outward::Matched { .. } | Outward::Unreported => {
+        Sending::Waiting { .. } => match_waited(table, on, value, out),
+        Sending::Idle | Sending::Matched { .. } | Sending::Unreported => {
             keep_inward(table, on, value, inward)
         }
     }
@@ -53,7 +53,7 @@ fn match_waited(table: &mut Table, on: EndId, value: MovingPicture, out: &mut Wo
     ensures room { AddsAtMost 1 0 0 1 out.old out.new }
     ensures kernel { table.new.kernel ≡ table.old.kernel }
 {
-    match keep_outward(table, on, value, Outward::Idle) {
+    match table.outward(on) {
         Outward::Waiting { n, bytes, enclosed } => {
             let message = Message { n, bytes, enclosed };
             send_parcel(table, on, value, message, out)
@@ -88,7 +88,7 @@ pub(crate) fn send_parcel(
     let hops = value.hops;
     value.served = w;
     value.want = 0;
-    keep_outward(table, on, value, Outward::Matched { n });
+    keep_sending(table, on, value, Sending::Matched { n });
     let mut moving = Cargo::empty();
     leave_each(table, enclosed.as_slice(), hint_kernel, &mut moving);
     push_step(out, ServiceStep::Match { on, n });

@@ -11,9 +11,9 @@ ghost use Rattle.kernel_step.specs.Rows.{want_row, want_here, wants, awaits, tak
 use crate::enclosed::hold_each;
 use crate::matching::{Message, match_waiting, send_parcel};
 use charlotte_calls::{Bytes, EndId, Ends, Outcome, ServiceStep, Way, What, Work};
-use end_table::{Lent, Outward, Table};
+use end_table::{Lent, Sending, Table};
 use kernel_step::{
-    enclosed_ends, keep_inward, keep_outward, learn, learn_value, no_ends, push_packet, push_step,
+    enclosed_ends, keep_inward, keep_sending, learn, learn_value, no_ends, push_packet, push_step,
     report, resend_on_news, send_report, sender,
 };
 
@@ -51,12 +51,7 @@ pub fn start_send(table: &mut Table, on: EndId, bytes: Bytes, enclose: Ends, out
         send_parcel(table, on, value, message, out);
         return;
     }
-    let waiting = Outward::Waiting {
-        n,
-        bytes,
-        enclosed: enclose,
-    };
-    keep_outward(table, on, value, waiting);
+    table.wait(on, value, n, bytes, enclose);
 }
 
 /// Cancel of a send that waits: it never happened, and the ends that it enclosed are its owner's again.
@@ -73,8 +68,8 @@ pub fn withdraw_send(table: &mut Table, on: EndId, out: &mut Work)
     let living = table.here(on);
     let value = living.value();
     let holder = living.holder();
-    let sent = keep_outward(table, on, value, Outward::Idle);
-    let enclosed = enclosed_ends(&sent);
+    let enclosed = enclosed_ends(&table.outward(on));
+    keep_sending(table, on, value, Sending::Idle);
     hold_each(table, holder, enclosed.as_slice());
     push_step(
         out,
@@ -177,7 +172,7 @@ fn complete(table: &mut Table, on: EndId, n: u32, at: u8, hops: u32, out: &mut W
     report(out, holder, send_report(on, Outcome::Done, no_ends()));
     let news = learn_value(&mut value, at, hops);
     resend_on_news(out, kernel, news, value, inward);
-    keep_outward(table, on, value, Outward::Unreported);
+    keep_sending(table, on, value, Sending::Unreported);
 }
 
 /// The row unwant: the receive w of the opposite end is withdrawn, unless it was matched.

@@ -4,3 +4,6 @@ pub mod Owned
 pub mod Table
 pub mod Slot
 pub mod Lent
+pub mod CodedEnd
+pub mod Message
+pub mod Messages

@@ -1,6 +1,6 @@
 ghost use Rattle.std.specs.Prelude.{◌≡◌};
 
-use crate::Living;
+use crate::{Living, MessageSeen};
 use charlotte_calls::{Bytes, EndId, Ends, Mark, MovingPicture, Pid};
 
 /// Who holds an end that is here.
@@ -48,6 +48,20 @@ impl Outward {
     }
 }
 
+/// The activity outward on an end, as a table keeps it: the message of a send that waits is kept elsewhere.
+#[derive(Drop)]
+pub enum Sending {
+    Idle,
+    Waiting {
+        n: u32,
+        message: MessageSeen,
+    },
+    Matched {
+        n: u32,
+    },
+    Unreported,
+}
+
 /// The activity inward on an end: a receive.
 #[derive(Clone, Copy, Debug, PartialEq, Eq)]
 pub enum Inward {
@@ -81,8 +95,8 @@ pub enum Entry {
     Destroyed(Mark),
 }
 
-/// An entry that is lent: an end that is here stays in the table, with its message.
-#[derive(Clone, Copy, Debug)]
+/// An entry that is lent: an end that is here stays in the table.
+#[derive(Clone, Copy)]
 pub enum Lent<'a> {
     Nothing,
     Here(&'a Living),

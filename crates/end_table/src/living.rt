@@ -1,27 +1,28 @@
 ghost use Rattle.std.specs.Prelude.{◌≡◌};
 ghost use Rattle.end_table.specs.Entries.{settled, learned, is_news};
+ghost use Rattle.end_table.specs.Message.{outward_of};
 ghost use Rattle.end_table.specs.Owned.{is_owner};
 
-use crate::{HereView, Holder, Inward, Outward};
+use crate::{Holder, Inward, Sending};
 use charlotte_calls::{Moving, MovingPicture, Pid};
 use std::marker::Model;
 use std::mem;
 
-/// An end that is here, with its value and its message, as a table lends it. Contracts see it as plain data.
-#[derive(Debug)]
+/// An end that is here, with its value, as a table lends it. Contracts see it as plain data.
 pub struct Living {
     moving: Moving,
     holder: Holder,
-    outward: Outward,
+    outward: Sending,
     inward: Inward,
 }
 
 impl Model for Living {
     ghost use Rattle.end_table.specs.declared.entry.HereView.{HereView};
+    ghost use Rattle.end_table.specs.Message.{outward_of};
 
     ghost Value = { HereView };
 
-    ghost view = { λ l. record { value = l.moving; holder = l.holder; outward = l.outward; inward = l.inward } };
+    ghost view = { λ l. record { value = l.moving; holder = l.holder; outward = outward_of l.outward; inward = l.inward } };
 }
 
 impl Living {
@@ -33,7 +34,7 @@ impl Living {
         Living {
             moving,
             holder,
-            outward: Outward::Idle,
+            outward: Sending::Idle,
             inward: Inward::Idle,
         }
     }
@@ -52,9 +53,9 @@ impl Living {
         self.holder
     }
 
-    /// The send, with its message.
-    pub fn outward(&self) -> &Outward
-        ensures { result.now ≡ self.now.outward }
+    /// The send.
+    pub fn outward(&self) -> &Sending
+        ensures { outward_of result.now ≡ self.now.outward }
     {
         &self.outward
     }
@@ -66,18 +67,6 @@ impl Living {
         self.inward
     }
 
-    /// The whole, as plain data.
-    pub fn view(&self) -> HereView
-        ensures { result ≡ self.now }
-    {
-        HereView {
-            value: self.moving.picture(),
-            holder: self.holder,
-            outward: self.outward.copy(),
-            inward: self.inward,
-        }
-    }
-
     pub(crate) fn is_owned_by(&self, p: Pid) -> bool
         ensures { result ≡ is_owner p self.now.holder }
     {
@@ -85,22 +74,6 @@ impl Living {
             Holder::Owner(owner) => p.0 == owner.0,
             Holder::EnclosedIn(_) => false,
         }
-    }
-
-    pub(crate) fn change(&mut self, view: HereView)
-        requires { view.value.end ≡ self.old.value.end }
-        ensures { self.new ≡ view }
-    {
-        let HereView {
-            value,
-            holder,
-            outward,
-            inward,
-        } = view;
-        set_fields(&mut self.moving, value);
-        self.holder = holder;
-        self.outward = outward;
-        self.inward = inward;
     }
 
     /// Sets value and receive.
@@ -115,10 +88,10 @@ impl Living {
 
     /// Sets value and send, and answers what the send was.
     #[inline(always)]
-    pub(crate) fn set_outward(&mut self, value: MovingPicture, outward: Outward) -> Outward
+    pub(crate) fn set_outward(&mut self, value: MovingPicture, outward: Sending) -> Sending
         requires { value.end ≡ self.old.value.end }
-        ensures was { result ≡ self.old.outward }
-        ensures set { self.new ≡ record self.old { value = value; outward = outward } }
+        ensures was { outward_of result ≡ self.old.outward }
+        ensures set { self.new ≡ record self.old { value = value; outward = outward_of outward } }
     {
         set_fields(&mut self.moving, value);
         mem::replace(&mut self.outward, outward)

@@ -2,11 +2,12 @@ ghost use Rattle.std.specs.Prelude.{◌≡◌, is_some, ◌<◌, ◌↔◌, IsTr
 ghost use Rattle.end_table.specs.Entries.{gains_one, left_value, left_entry, ended_entry, learned, is_news};
 ghost use Rattle.end_table.specs.Lent.{lent_entry};
 ghost use Rattle.end_table.specs.Table.{IsHere, IfHere, IsDestroyed, IfDestroyed, HasLeftUpTo};
+ghost use Rattle.end_table.specs.Message.{outward_of};
 ghost use Rattle.end_table.specs.Owned.{owned};
 ghost use Rattle.end_table.specs.declared.entry.Entry.TheVariants.{Nothing, Here, Left, Destroyed};
 
 use crate::living::Living;
-use crate::{Entry, HereView, Holder, Inward, Lent, Outward};
+use crate::{Holder, Inward, Lent, Sending};
 use charlotte_calls::{Mark, Moving, MovingPicture, Pid};
 use std::marker::Model;
 use std::mem;
@@ -19,7 +20,7 @@ fn gains_one(number: u32) -> u32
 }
 
 /// What happens to the value of an end that leaves this kernel.
-pub(crate) fn leave(moving: &mut Moving, kernel: u8)
+fn leave(moving: &mut Moving, kernel: u8)
     requires { kernel < 8 }
     ensures { moving.new ≡ left_value kernel moving.old }
 {
@@ -28,7 +29,6 @@ pub(crate) fn leave(moving: &mut Moving, kernel: u8)
 }
 
 /// What stands in a slot.
-#[derive(Debug)]
 enum Content {
     /// Nothing yet: the place is reserved.
     Nothing,
@@ -49,7 +49,6 @@ impl Content {
 }
 
 /// The place of one end. Contracts see it as its entry. A slot that is let go spends the value in it.
-#[derive(Debug)]
 pub(crate) struct Slot {
     content: Content,
 }
@@ -90,7 +89,7 @@ impl Slot {
     }
 
     /// What an end with this value leaves behind when it goes to a kernel.
-    pub(crate) fn left(to: u8, moving: &Moving) -> Slot
+    fn left(to: u8, moving: &Moving) -> Slot
         ensures { result ≡ left_entry to moving.now }
     {
         if moving.dead() {
@@ -105,7 +104,7 @@ impl Slot {
     }
 
     /// What an end with this mark leaves behind when it is destroyed.
-    pub(crate) fn ended(mark: Mark) -> Slot
+    fn ended(mark: Mark) -> Slot
         ensures { result ≡ ended_entry mark }
     {
         if mark.dead() {
@@ -113,20 +112,6 @@ impl Slot {
         }
         Slot {
             content: Content::Destroyed(mark),
-        }
-    }
-
-    pub(crate) fn look(&self) -> Entry
-        ensures { result ≡ self.now }
-    {
-        match &self.content {
-            Content::Nothing => Entry::Nothing,
-            Content::Here(living) => Entry::Here(living.view()),
-            Content::Left { to, hops } => Entry::Left {
-                to: *to,
-                hops: *hops,
-            },
-            Content::Destroyed(mark) => Entry::Destroyed(*mark),
         }
     }
 
@@ -146,7 +131,7 @@ impl Slot {
 
     /// Takes out the end that is here, and leaves nothing.
     #[inline(always)]
-    pub(crate) fn take(&mut self) -> Living
+    fn take(&mut self) -> Living
         requires { IsHere self.old }
         ensures living { self.old ≡ Here result }
         ensures nothing { self.new ≡ Nothing }
@@ -158,16 +143,29 @@ impl Slot {
         }
     }
 
-    /// Changes the end that is here, all but its name.
-    pub(crate) fn change(&mut self, view: HereView)
+    /// Takes out the value of an end that leaves this kernel, and leaves what it leaves behind.
+    #[inline(always)]
+    pub(crate) fn leave(&mut self, to: u8, kernel: u8) -> Moving
         requires here { IsHere self.old }
-        requires same_end { IfHere self.old (λ v. view.value.end ≡ v.value.end) }
-        ensures { self.new ≡ Here view }
+        requires kernel { kernel < 8 }
+        ensures value { IfHere self.old (λ v. result ≡ left_value kernel v.value) }
+        ensures left { IfHere self.old (λ v. self.new ≡ left_entry to v.value) }
     {
-        match &mut self.content {
-            Content::Here(living) => living.change(view),
-            _ => unreachable!(),
-        }
+        let mut moving = self.take().into_moving();
+        *self = Slot::left(to, &moving);
+        leave(&mut moving, kernel);
+        moving
+    }
+
+    /// Destroys the end that is here, and leaves what it leaves behind. It answers the mark of the end.
+    pub(crate) fn end(&mut self) -> Mark
+        requires { IsHere self.old }
+        ensures mark { IfHere self.old (λ v. result ≡ v.value) }
+        ensures ended { IfHere self.old (λ v. self.new ≡ ended_entry v.value) }
+    {
+        let mark = self.take().into_moving().destroy();
+        *self = Slot::ended(mark);
+        mark
     }
 
     /// Sets value and receive of the end that is here.
@@ -185,11 +183,11 @@ impl Slot {
 
     /// Sets value and send of the end that is here, and answers what the send was.
     #[inline(always)]
-    pub(crate) fn set_outward(&mut self, value: MovingPicture, outward: Outward) -> Outward
+    pub(crate) fn set_outward(&mut self, value: MovingPicture, outward: Sending) -> Sending
         requires here { IsHere self.old }
         requires same_end { IfHere self.old (λ v. value.end ≡ v.value.end) }
-        ensures was { IfHere self.old (λ v. result ≡ v.outward) }
-        ensures set { IfHere self.old (λ v. self.new ≡ Here (record v { value = value; outward = outward })) }
+        ensures was { IfHere self.old (λ v. outward_of result ≡ v.outward) }
+        ensures set { IfHere self.old (λ v. self.new ≡ Here (record v { value = value; outward = outward_of outward })) }
     {
         match &mut self.content {
             Content::Here(living) => living.set_outward(value, outward),

@@ -1,41 +1,45 @@
-ghost use Rattle.std.specs.Prelude.{◌≡◌, ◌<◌, false, List, OnOk, OnErr, IfOk, IfErr, IsOk, IfSome, IsTrue, ◌↔◌, option_copied};
+ghost use Rattle.std.specs.Prelude.{None, ◌≡◌, ◌<◌, false, List, OnOk, OnErr, IfOk, IfErr, IsOk, IfSome, IsTrue, ◌↔◌, option_copied};
 ghost use Rattle.std.specs.Bool.{OnTrue, OnFalse};
 ghost use Rattle.std.specs.List.{IsDistinct};
 ghost use Rattle.std.specs.Map.{keys_of};
 ghost use Rattle.charlotte_calls.specs.declared.names.EndId.{EndId};
 ghost use Rattle.end_table.specs.Place.{put, end_eq};
+ghost use Rattle.end_table.specs.Message.{outward_of, message_of};
 ghost use Rattle.end_table.specs.Entries.{left_value, left_entry, ended_entry, learned, is_news, settled};
 ghost use Rattle.end_table.specs.Table.{entries, HasPlace, Puts, IsHere, IsHereAnd, IfHere, IsIdle, IsDestroyed, IfDestroyed, HasLeftUpTo, IsOfEnd, KeepsPlaces, Clears};
 ghost use Rattle.end_table.specs.Owned.{AreEndsOf, owned};
 ghost use Rattle.end_table.specs.Lent.{lent_entry};
 ghost use Rattle.end_table.specs.Slot.{owned_ends};
 ghost use Rattle.end_table.specs.declared.entry.Entry.TheVariants.{Nothing, Here, Left, Destroyed};
+ghost use Rattle.end_table.specs.declared.entry.Outward.TheVariants.{Waiting};
 
-use crate::slot::{Slot, leave};
-use crate::{Entry, HereView, Holder, Inward, Lent, Living, Outward};
-use charlotte_calls::{EndId, Mark, Moving, MovingPicture, NoMemory, Pid};
-use indexmap::IndexMap;
-use std::alloc::{AllocError, Global};
+use crate::message::{Message, MessageSeen};
+use crate::messages::Messages;
+use crate::places::Places;
+use crate::{Entry, HereView, Holder, Inward, Lent, Living, Outward, Sending};
+use charlotte_calls::{Bytes, EndId, Ends, Mark, Moving, MovingPicture, NoMemory, Pid};
+use std::alloc::Global;
 use std::marker::Model;
 
 /// What one kernel keeps of each end. Contracts see the number of the kernel and the entry at each place.
 ///
-/// An end has one entry. A look-up costs one hash; nothing but `owned_by` goes over the table.
+/// An end has one entry. A look-up costs one hash; nothing but `owned_by` goes over the table. Messages of sends that wait
+/// are kept beside the places, so that an end without one takes a third of the memory of one with it.
 #[derive(Drop)]
 pub struct Table {
-    kernel: u8,
-    slots: IndexMap<EndId, Slot>,
+    places: Places,
+    messages: Messages,
 }
 
 impl Model for Table {
-    ghost use Rattle.std.specs.Prelude.{◌<◌};
-    ghost use Rattle.end_table.specs.Table.{TableView, IsWellKept};
+    ghost use Rattle.end_table.specs.Table.{TableView};
+    ghost use Rattle.end_table.specs.Message.{HoldsMessages};
 
     ghost Value = { TableView };
 
-    ghost view = { λ t. record { kernel = t.kernel; places = t.slots.entries } };
+    ghost view = { λ t. t.places };
 
-    ghost invariant = { λ t. IsWellKept (record { kernel = t.kernel; places = t.slots.entries }) };
+    ghost invariant = { λ t. HoldsMessages t.places t.messages };
 }
 
 /// The value that a table could not store for want of memory.
@@ -52,8 +56,8 @@ impl Table {
         ensures empty { entries result ≡ λ _. Nothing }
     {
         Table {
-            kernel,
-            slots: IndexMap::new(alloc),
+            places: Places::start(alloc, kernel),
+            messages: Messages::new(alloc),
         }
     }
 
@@ -62,64 +66,7 @@ impl Table {
         ensures kernel { result ≡ self.now.kernel }
         ensures below { result < 8 }
     {
-        self.kernel
-    }
-
-    /// Puts a slot at the place of an end. Without memory for a new place the slot comes back.
-    fn store(&mut self, end: EndId, slot: Slot) -> Result<(), Slot>
-        requires { IsOfEnd end slot }
-        ensures ok { OnOk result (Puts self.old self.new end slot) }
-        ensures same { OnErr result (self.new ≡ self.old) }
-        ensures back { IfErr result (λ s. s ≡ slot) }
-        ensures succeeds { HasPlace self.old end → IsOk result }
-    {
-        match self.slots.insert(end, slot) {
-            Ok(_) => Ok(()),
-            Err(failed) => Err(failed.value.1),
-        }
-    }
-
-    /// Gives an end a place with nothing in it. Of a slot that no one gets back only the tag is written.
-    fn open(&mut self, end: EndId) -> Result<(), NoMemory>
-        ensures ok { OnOk result (Puts self.old self.new end Nothing) }
-        ensures same { OnErr result (self.new ≡ self.old) }
-    {
-        match self.slots.insert(end, Slot::nothing()) {
-            Ok(_) => Ok(()),
-            Err(_) => Err(NoMemory),
-        }
-    }
-
-    /// Puts a slot at the place that the end has.
-    fn keep(&mut self, end: EndId, slot: Slot)
-        requires place { HasPlace self.old end }
-        requires own { IsOfEnd end slot }
-        ensures { Puts self.old self.new end slot }
-    {
-        match self.slots.get_mut(&end) {
-            Some(place) => *place = slot,
-            None => unreachable!(),
-        }
-    }
-
-    /// Takes the place of an end away. The last place comes into its stead, so no others move.
-    fn remove(&mut self, end: EndId)
-        ensures { Clears self.old self.new end }
-    {
-        self.slots.swap_remove(&end);
-    }
-
-    /// Takes out what stands at the place of an end that is here, and leaves nothing there.
-    fn take(&mut self, end: EndId) -> Living
-        requires { IsHere (entries self.old end) }
-        ensures living { entries self.old end ≡ Here result }
-        ensures own { result.value.end ≡ end }
-        ensures nothing { Puts self.old self.new end Nothing }
-    {
-        match self.slots.get_mut(&end) {
-            Some(slot) => slot.take(),
-            None => unreachable!(),
-        }
+        self.places.kernel()
     }
 
     /// What the kernel keeps of an end. `Nothing` comes exactly where there is no entry.
@@ -128,9 +75,11 @@ impl Table {
         ensures own { IsOfEnd end result }
         ensures placed { (result ≡ Nothing → ⊥) → HasPlace self.now end }
     {
-        match self.slots.get(&end) {
-            Some(slot) => slot.look(),
-            None => Entry::Nothing,
+        match self.places.lend(end) {
+            Lent::Nothing => Entry::Nothing,
+            Lent::Here(_) => Entry::Here(self.view(end)),
+            Lent::Left { to, hops } => Entry::Left { to, hops },
+            Lent::Destroyed(mark) => Entry::Destroyed(mark),
         }
     }
 
@@ -140,10 +89,7 @@ impl Table {
         ensures entry { lent_entry result ≡ entries self.now end }
         ensures own { IsOfEnd end (lent_entry result) }
     {
-        match self.slots.get(&end) {
-            Some(slot) => slot.lend(),
-            None => Lent::Nothing,
-        }
+        self.places.lend(end)
     }
 
     /// An end that is here, lent.
@@ -171,11 +117,38 @@ impl Table {
         }
     }
 
-    /// Whether an end has a place.
-    fn has_place(&self, end: EndId) -> bool
-        ensures { IsTrue result ↔ HasPlace self.now end }
+    /// An end that is here, as plain data.
+    pub fn view(&self, end: EndId) -> HereView
+        requires { IsHere (entries self.now end) }
+        ensures { entries self.now end ≡ Here result }
     {
-        self.slots.contains_key(&end)
+        let living = self.here(end);
+        HereView {
+            value: living.value(),
+            holder: living.holder(),
+            outward: self.outward(end),
+            inward: living.inward(),
+        }
+    }
+
+    /// The send of an end that is here, with its message.
+    pub fn outward(&self, end: EndId) -> Outward
+        requires { IsHere (entries self.now end) }
+        ensures { IfHere (entries self.now end) (λ v. result ≡ v.outward) }
+    {
+        match self.here(end).outward() {
+            Sending::Idle => Outward::Idle,
+            Sending::Waiting { n, .. } => match self.messages.get(end) {
+                Some(message) => Outward::Waiting {
+                    n: *n,
+                    bytes: message.bytes.copy(),
+                    enclosed: message.enclosed.copy(),
+                },
+                None => unreachable!(),
+            },
+            Sending::Matched { n } => Outward::Matched { n: *n },
+            Sending::Unreported => Outward::Unreported,
+        }
     }
 
     /// Gives an end a place, so that an `install` there takes no memory.
@@ -186,13 +159,11 @@ impl Table {
         ensures kernel { self.new.kernel ≡ self.old.kernel }
         ensures err { OnErr result (self.new ≡ self.old) }
     {
-        if self.has_place(end) {
+        if self.places.has_place(end) {
             return Ok(());
         }
-        match self.open(end) {
-            Ok(()) => Ok(()),
-            Err(_) => Err(NoMemory),
-        }
+        self.messages.reserve(self.places.len() + 1)?;
+        self.places.open(end)
     }
 
     /// Makes the end of a value Here: with that value and holder, and both activities idle. The old entry is overwritten.
@@ -204,17 +175,12 @@ impl Table {
         ensures back { IfErr result (λ n. n.moving ≡ moving) }
         ensures succeeds { HasPlace self.old moving.end → IsOk result }
     {
-        let end = moving.end();
-        let slot = Slot::here(Living::settled(moving, holder));
-        if self.has_place(end) {
-            self.keep(end, slot);
-            return Ok(());
-        }
-        match self.store(end, slot) {
-            Ok(()) => Ok(()),
-            Err(slot) => Err(NotStored {
-                moving: slot.into_moving(),
-            }),
+        match self.reserve(moving.end()) {
+            Ok(()) => {
+                self.places.settle(moving, holder);
+                Ok(())
+            }
+            Err(NoMemory) => Err(NotStored { moving }),
         }
     }
 
@@ -227,11 +193,7 @@ impl Table {
         ensures value { IfHere (entries self.old end) (λ v. result ≡ left_value self.old.kernel v.value) }
         ensures left { IfHere (entries self.old end) (λ v. Puts self.old self.new end (left_entry to v.value)) }
     {
-        let mut moving = self.take(end).into_moving();
-        let slot = Slot::left(to, &moving);
-        leave(&mut moving, self.kernel());
-        self.keep(end, slot);
-        moving
+        self.places.take_out(end, to)
     }
 
     /// Destroys an end that is here. The entry becomes Destroyed with its mark, or Nothing where the end is dead.
@@ -242,9 +204,7 @@ impl Table {
         ensures mark { IfHere (entries self.old end) (λ v. result ≡ v.value) }
         ensures ended { IfHere (entries self.old end) (λ v. Puts self.old self.new end (ended_entry v.value)) }
     {
-        let mark = self.take(end).into_moving().destroy();
-        self.keep(end, Slot::ended(mark));
-        mark
+        self.places.end_here(end)
     }
 
     /// Sets the hint of the mark of a destroyed end.
@@ -253,10 +213,15 @@ impl Table {
         ensures own { IsOfEnd end (entries self.old end) }
         ensures hinted { IfDestroyed (entries self.old end) (λ m. Puts self.old self.new end (Destroyed (record m { hint = hint }))) }
     {
-        match self.slots.get_mut(&end) {
-            Some(slot) => slot.set_hint(hint),
-            None => unreachable!(),
-        }
+        self.places.hint_mark(end, hint)
+    }
+
+    /// Takes the place of an end without a message that waits away.
+    fn remove(&mut self, end: EndId)
+        ensures { Clears self.old self.new end }
+    {
+        self.messages.forget(end);
+        self.places.remove(end);
     }
 
     /// Makes the entry of a destroyed end Nothing.
@@ -274,17 +239,8 @@ impl Table {
         ensures places { (q : EndId) → end_eq end q ≡ false → HasPlace self.old q → HasPlace self.new q }
         ensures kernel { self.new.kernel ≡ self.old.kernel }
     {
-        if self.has_nothing(end) {
+        if self.places.has_nothing(end) {
             self.remove(end);
-        }
-    }
-
-    fn has_nothing(&self, end: EndId) -> bool
-        ensures { IsTrue result ↔ (entries self.now end ≡ Nothing) }
-    {
-        match self.slots.get(&end) {
-            Some(slot) => slot.is_nothing(),
-            None => true,
         }
     }
 
@@ -294,20 +250,11 @@ impl Table {
         ensures retired { OnTrue result (Clears self.old self.new end) }
         ensures kept { OnFalse result (self.new ≡ self.old) }
     {
-        if self.has_left_up_to(end, upto) {
+        if self.places.has_left_up_to(end, upto) {
             self.remove(end);
             return true;
         }
         false
-    }
-
-    fn has_left_up_to(&self, end: EndId, upto: u32) -> bool
-        ensures { IsTrue result ↔ HasLeftUpTo upto (entries self.now end) }
-    {
-        match self.slots.get(&end) {
-            Some(slot) => slot.is_left_up_to(upto),
-            None => false,
-        }
     }
 
     /// Makes an end that is here exactly this view, which is of that end.
@@ -316,10 +263,15 @@ impl Table {
         requires same_end { view.value.end ≡ end }
         ensures { Puts self.old self.new end (Here view) }
     {
-        match self.slots.get_mut(&end) {
-            Some(slot) => slot.change(view),
-            None => unreachable!(),
-        }
+        let HereView {
+            value,
+            holder,
+            outward,
+            inward,
+        } = view;
+        self.set_outward(end, value, outward);
+        self.set_inward(end, value, inward);
+        self.set_holder(end, holder);
     }
 
     /// Sets the fields and the receive of an end that is here, and leaves its holder and its send.
@@ -329,25 +281,51 @@ impl Table {
         requires same_end { value.end ≡ end }
         ensures { IfHere (entries self.old end) (λ v. Puts self.old self.new end (Here (record v { value = value; inward = inward }))) }
     {
-        match self.slots.get_mut(&end) {
-            Some(slot) => slot.set_inward(value, inward),
-            None => unreachable!(),
-        }
+        self.places.set_inward(end, value, inward)
     }
 
     /// Sets the fields and the send of an end that is here, and leaves its holder and its receive. It answers what the
     /// send was, with its message.
-    #[inline(always)]
     pub fn set_outward(&mut self, end: EndId, value: MovingPicture, outward: Outward) -> Outward
         requires here { IsHere (entries self.old end) }
         requires same_end { value.end ≡ end }
         ensures was { IfHere (entries self.old end) (λ v. result ≡ v.outward) }
         ensures set { IfHere (entries self.old end) (λ v. Puts self.old self.new end (Here (record v { value = value; outward = outward }))) }
     {
-        match self.slots.get_mut(&end) {
-            Some(slot) => slot.set_outward(value, outward),
-            None => unreachable!(),
+        let was = self.outward(end);
+        match outward {
+            Outward::Idle => self.set_sending(end, value, Sending::Idle),
+            Outward::Waiting { n, bytes, enclosed } => self.wait(end, value, n, bytes, enclosed),
+            Outward::Matched { n } => self.set_sending(end, value, Sending::Matched { n }),
+            Outward::Unreported => self.set_sending(end, value, Sending::Unreported),
         }
+        was
+    }
+
+    /// Sets the fields of an end that is here, and its send, which does not wait.
+    #[inline(always)]
+    pub fn set_sending(&mut self, end: EndId, value: MovingPicture, sending: Sending)
+        requires here { IsHere (entries self.old end) }
+        requires same_end { value.end ≡ end }
+        requires no_message { message_of (outward_of sending) ≡ None }
+        ensures { IfHere (entries self.old end) (λ v. Puts self.old self.new end (Here (record v { value = value; outward = outward_of sending }))) }
+    {
+        self.places.set_outward(end, value, sending);
+    }
+
+    /// Sets the fields of an end that is here, and its send, which waits with this message.
+    pub fn wait(&mut self, end: EndId, value: MovingPicture, n: u32, bytes: Bytes, enclosed: Ends)
+        requires here { IsHere (entries self.old end) }
+        requires same_end { value.end ≡ end }
+        ensures { IfHere (entries self.old end) (λ v. Puts self.old self.new end (Here (record v { value = value; outward = Waiting n bytes enclosed }))) }
+    {
+        let message = Message { bytes, enclosed };
+        let waiting = Sending::Waiting {
+            n,
+            message: MessageSeen::of(&message),
+        };
+        self.places.set_outward(end, value, waiting);
+        self.messages.put(end, message);
     }
 
     /// Sets the holder of an end that is here.
@@ -356,10 +334,7 @@ impl Table {
         ensures own { IsOfEnd end (entries self.old end) }
         ensures set { IfHere (entries self.old end) (λ v. Puts self.old self.new end (Here (record v { holder = holder }))) }
     {
-        match self.slots.get_mut(&end) {
-            Some(slot) => slot.set_holder(holder),
-            None => unreachable!(),
-        }
+        self.places.set_holder(end, holder)
     }
 
     /// Lets an end that is here hear that the opposite end is at a kernel with these hops, and answers whether that was news:
@@ -370,17 +345,14 @@ impl Table {
         ensures news { IfHere (entries self.old end) (λ v. result ≡ is_news v.value hops) }
         ensures learned { IfHere (entries self.old end) (λ v. Puts self.old self.new end (Here (record v { value = learned kernel hops v.value }))) }
     {
-        match self.slots.get_mut(&end) {
-            Some(slot) => slot.learn(kernel, hops),
-            None => unreachable!(),
-        }
+        self.places.hint(end, kernel, hops)
     }
 
     /// The ends that a process owns, each once, in order of maker, count and side.
     pub fn owned_by(&self, p: Pid) -> Result<Vec<EndId>, NoMemory>
         ensures { IfOk result (λ ends. AreEndsOf p (entries self.now) ends.items) }
     {
-        let mut ends = self.owned_anyhow(p)?;
+        let mut ends = self.places.owned_anyhow(p)?;
         ends.sort_unstable();
         Ok(ends)
     }
@@ -389,26 +361,6 @@ impl Table {
     pub fn has_list_of(&self, p: Pid)
         ensures { (mine : List EndId) × AreEndsOf p (entries self.now) mine }
     {
-        self.has_distinct_places();
-    }
-
-    #[tactic(auto, unfolding(crate::specs::Place::end_eq))]
-    fn has_distinct_places(&self)
-        ensures { IsDistinct end_eq (keys_of self.now.places) }
-    {
-        let _count = self.slots.len();
-    }
-
-    /// The ends that a process owns, in the order of their places.
-    #[tactic(auto, unfolding(crate::specs::Place::end_eq))]
-    fn owned_anyhow(&self, p: Pid) -> Result<Vec<EndId>, AllocError>
-        ensures ends { IfOk result (λ ends. ends.items ≡ owned_ends p self.now.places) }
-        ensures distinct { IsDistinct end_eq (keys_of self.now.places) }
-    {
-        self.slots
-            .iter()
-            .filter(|(_, slot)| slot.is_owned_by(p))
-            .map(|(end, _)| *end)
-            .collect(*self.slots.allocator())
+        self.places.has_distinct_places();
     }
 }

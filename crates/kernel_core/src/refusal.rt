@@ -3,6 +3,7 @@ ghost use Rattle.std.specs.List.{list_any};
 ghost use Rattle.charlotte_calls.specs.declared.calls.Cause.TheVariants as cause;
 ghost use Rattle.charlotte_calls.specs.declared.names.EndId.{EndId};
 ghost use Rattle.charlotte_calls.specs.declared.names.Way.TheVariants as way;
+ghost use Rattle.end_table.specs.Message.{outward_of};
 ghost use Rattle.end_table.specs.Owned.{owned};
 ghost use Rattle.end_table.specs.Place.{end_eq};
 ghost use Rattle.end_table.specs.Table.{entries};
@@ -11,7 +12,7 @@ ghost use Rattle.kernel_step.specs.Kernel.{has_report};
 ghost use Rattle.kernel_process.specs.Parts.{process_state};
 
 use charlotte_calls::{Call, Cause, EndId, Pid, Way};
-use end_table::{Inward, Living, Outward, Table};
+use end_table::{Inward, Living, Sending, Table};
 use kernel_process::ControlBlock;
 use kernel_step::first_of;
 
@@ -117,13 +118,13 @@ fn cancel_refusal(table: &Table, p: Pid, on: EndId, way: Way) -> Option<Cause>
 }
 
 /// The cause of a Cancel of this send, on an end that is not dead.
-fn cancel_send_cause(outward: &Outward) -> Option<Cause>
-    ensures { result ≡ first_cause ((is_late way.Outward (outward_activity outward.now), cause.Late) ∷ (is_free (outward_activity outward.now), cause.NoActivity) ∷ []) }
+fn cancel_send_cause(outward: &Sending) -> Option<Cause>
+    ensures { result ≡ first_cause ((is_late way.Outward (outward_activity (outward_of outward.now)), cause.Late) ∷ (is_free (outward_activity (outward_of outward.now)), cause.NoActivity) ∷ []) }
 {
     match outward {
-        Outward::Idle => Some(Cause::NoActivity),
-        Outward::Waiting { .. } => None,
-        Outward::Matched { .. } | Outward::Unreported => Some(Cause::Late),
+        Sending::Idle => Some(Cause::NoActivity),
+        Sending::Waiting { .. } => None,
+        Sending::Matched { .. } | Sending::Unreported => Some(Cause::Late),
     }
 }
 
@@ -148,10 +149,10 @@ fn wait_refusal(process: &ControlBlock) -> Option<Cause>
     None
 }
 
-fn is_free_outward(outward: &Outward) -> bool
-    ensures { result ≡ is_free (outward_activity outward.now) }
+fn is_free_outward(outward: &Sending) -> bool
+    ensures { result ≡ is_free (outward_activity (outward_of outward.now)) }
 {
-    matches!(outward, Outward::Idle)
+    matches!(outward, Sending::Idle)
 }
 
 fn is_free_inward(inward: Inward) -> bool

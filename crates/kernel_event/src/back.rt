@@ -44,8 +44,8 @@ pub(crate) fn back(
     ensures kernel { table.new.kernel ≡ table.old.kernel }
 {
     match sender(table, returned.to, returned.n) {
-        Some(living) => {
-            let view = living.view();
+        Some(_) => {
+            let view = table.view(returned.to);
             take_back(table, made, returned, view, moving, out)
         }
         None => end_brought(table, made, returned, moving, out),

@@ -4,6 +4,7 @@ ghost use Rattle.std.specs.List.{list_any};
 ghost use Rattle.charlotte_calls.specs.declared.names.EndId.{EndId};
 ghost use Rattle.charlotte_calls.specs.declared.names.Pid.{Pid};
 ghost use Rattle.indexmap.specs.IndexSet.{spare};
+ghost use Rattle.end_table.specs.Message.{outward_of};
 ghost use Rattle.end_table.specs.Owned.{owned};
 ghost use Rattle.end_table.specs.Place.{end_eq};
 ghost use Rattle.end_table.specs.Table.{entries};
@@ -15,7 +16,7 @@ ghost use Rattle.kernel_process.specs.declared.process.ControlBlock.{ControlBloc
 
 use crate::process::Processes;
 use charlotte_calls::{EndId, Pid};
-use end_table::{Inward, Living, Outward, Table};
+use end_table::{Inward, Living, Sending, Table};
 use indexmap::IndexSet;
 
 /// The set of process `p` has this end exactly where `started` says so.
@@ -105,10 +106,10 @@ pub fn has_activity(living: &Living) -> bool
     is_started_outward(living.outward()) || is_started_inward(living.inward())
 }
 
-fn is_started_outward(outward: &Outward) -> bool
-    ensures { result ≡ is_started (outward_activity outward.now) }
+fn is_started_outward(outward: &Sending) -> bool
+    ensures { result ≡ is_started (outward_activity (outward_of outward.now)) }
 {
-    matches!(outward, Outward::Waiting { .. } | Outward::Matched { .. })
+    matches!(outward, Sending::Waiting { .. } | Sending::Matched { .. })
 }
 
 fn is_started_inward(inward: Inward) -> bool

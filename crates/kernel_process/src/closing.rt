@@ -22,7 +22,7 @@ ghost use Rattle.kernel_process.specs.declared.process.ControlBlock.{ControlBloc
 use crate::event::Event;
 use crate::process::Processes;
 use charlotte_calls::{Answer, Effect, EndId, Pid, Report, ServiceStep, Way, Work};
-use end_table::{Inward, Lent, Living, Outward, Table};
+use end_table::{Inward, Lent, Living, Sending, Table};
 use kernel_step::Phase;
 use std::mem;
 
@@ -90,7 +90,7 @@ fn settle_send(table: &mut Table, on: EndId)
 {
     if let Some(living) = sent(table, on) {
         let value = living.value();
-        table.set_outward(on, value, Outward::Idle);
+        table.set_sending(on, value, Sending::Idle);
     }
 }
 
@@ -114,8 +114,8 @@ fn sent(table: &Table, on: EndId) -> Option<&Living>
 {
     match table.lend(on) {
         Lent::Here(living) => match living.outward() {
-            Outward::Unreported => Some(living),
-            Outward::Idle | Outward::Waiting { .. } | Outward::Matched { .. } => None,
+            Sending::Unreported => Some(living),
+            Sending::Idle | Sending::Waiting { .. } | Sending::Matched { .. } => None,
         },
         Lent::Nothing | Lent::Left { .. } | Lent::Destroyed(_) => None,
     }

@@ -1,7 +1,8 @@
-ghost use Rattle.std.specs.Prelude.{◌≡◌, false, [], ◌∷◌, MatchOption};
+ghost use Rattle.std.specs.Prelude.{◌≡◌, false, [], ◌∷◌, None, MatchOption};
 ghost use Rattle.charlotte_calls.specs.declared.names.EndId.{EndId};
 ghost use Rattle.charlotte_calls.specs.declared.work.Work.{Work};
 ghost use Rattle.end_table.specs.Entries.{is_news, learned};
+ghost use Rattle.end_table.specs.Message.{message_of, outward_of};
 ghost use Rattle.end_table.specs.Place.{end_eq};
 ghost use Rattle.end_table.specs.Table.{entries, Puts, IfHere, IsHere, IsHereAnd, IsIdle};
 ghost use Rattle.end_table.specs.declared.entry.Entry.TheVariants.{Here};
@@ -9,7 +10,7 @@ ghost use Rattle.kernel_step.specs.Actions.{here, held, leaves_here, value_leavi
 ghost use Rattle.kernel_step.specs.Progress.{progress, keeps};
 
 use charlotte_calls::{EndId, Moving, MovingPicture};
-use end_table::{Holder, Inward, Outward, Table};
+use end_table::{Holder, Inward, Sending, Table};
 
 /// Keeps other fields and another receive of an end that is here.
 #[inline(always)]
@@ -24,19 +25,19 @@ pub fn keep_inward(table: &mut Table, on: EndId, value: MovingPicture, inward: I
     table.set_inward(on, value, inward);
 }
 
-/// Keeps other fields and another send of an end that is here. It answers what the send was, with its message.
+/// Keeps other fields of an end that is here, and another send, which does not wait.
 #[inline(always)]
-pub fn keep_outward(table: &mut Table, on: EndId, value: MovingPicture, outward: Outward) -> Outward
+pub fn keep_sending(table: &mut Table, on: EndId, value: MovingPicture, sending: Sending)
     requires here { IsHere (entries table.old on) }
     requires same_end { value.end ≡ on }
-    ensures was { IfHere (entries table.old on) (λ v. result ≡ v.outward) }
+    requires no_message { message_of (outward_of sending) ≡ None }
     ensures part { IfHere (entries table.old on) (λ v. (out : Work) → progress (entries table.new) out
-        ≡ keeps on (Here (record v { value = value; outward = outward })) (progress (entries table.old) out)) }
-    ensures puts { IfHere (entries table.old on) (λ v. Puts table.old table.new on (Here (record v { value = value; outward = outward }))) }
+        ≡ keeps on (Here (record v { value = value; outward = outward_of sending })) (progress (entries table.old) out)) }
+    ensures puts { IfHere (entries table.old on) (λ v. Puts table.old table.new on (Here (record v { value = value; outward = outward_of sending }))) }
     ensures others { (q : EndId) → end_eq on q ≡ false → entries table.new q ≡ entries table.old q }
     ensures kernel { table.new.kernel ≡ table.old.kernel }
 {
-    table.set_outward(on, value, outward)
+    table.set_sending(on, value, sending);
 }
 
 /// LEARN: an end learns that its opposite is at a kernel with these hops. It answers whether that was news.

@@ -5,7 +5,7 @@ ghost use Rattle.kernel_step.specs.Actions.{is_withdrawing};
 ghost use Rattle.kernel_step.specs.Rows.{asks, awaits};
 
 use charlotte_calls::EndId;
-use end_table::{Inward, Lent, Living, Outward, Table};
+use end_table::{Inward, Lent, Living, Sending, Table};
 
 /// An end whose receive w is started, lent.
 pub fn receiver(table: &Table, to: EndId, w: u32) -> Option<&Living>
@@ -31,7 +31,7 @@ pub fn sender(table: &Table, to: EndId, n: u32) -> Option<&Living>
 {
     match table.lend(to) {
         Lent::Here(living) => match living.outward() {
-            Outward::Matched { n: matched } if *matched == n => Some(living),
+            Sending::Matched { n: matched } if *matched == n => Some(living),
             _ => None,
         },
         _ => None,

@@ -13,8 +13,8 @@ use crate::ending::tell_gone;
 use crate::parcel::settle_and_tell;
 use crate::settling::settle;
 use charlotte_calls::{Cargo, EndId, Moving, MovingPicture, Outcome, Work};
-use end_table::{Holder, Outward, Table};
-use kernel_step::{ends_in, keep_outward, report, send_report, sender};
+use end_table::{Holder, Sending, Table};
+use kernel_step::{ends_in, keep_sending, report, send_report, sender};
 
 /// Of a back all but its NOTICE: at its matched send the report Destroyed, and each end that it brings becomes Here again
 /// and tells its opposite so. Anywhere else each is destroyed.
@@ -48,7 +48,7 @@ fn return_ends(table: &mut Table, on: EndId, moving: Cargo, out: &mut Work)
     let living = table.here(on);
     let value = living.value();
     let holder = living.holder();
-    keep_outward(table, on, value, Outward::Unreported);
+    keep_sending(table, on, value, Sending::Unreported);
     report(
         out,
         holder,

@@ -105,7 +105,7 @@ pub fn destroy(table: &mut Table, on: EndId, out: &mut Work)
     ensures kernel { table.new.kernel ≡ table.old.kernel }
 {
     let kernel = table.kernel();
-    let enclosed = enclosed_ends(table.here(on).outward());
+    let enclosed = enclosed_ends(&table.outward(on));
     let value = end_entry(table, on);
     end_each(table, enclosed.as_slice(), out);
     tell_gone(out, kernel, value);
