@@ -1,6 +1,9 @@
 -- From what a map says of its keys to what a table says of its ends.
-use Rattle.std.proofs.Common.{◌≡◌, ℕ, ◌<◌, Bool, true, false, cond, List, [], Option, None, Some, is_some, unwrap_or, refl, sym, ap, subst, ◌∙◌, true≢false, if◌then◌else◌}
+use Rattle.std.proofs.Common.{◌≡◌, ℕ, ◌<◌, ◌≤◌, ◌+◌, Bool, true, false, cond, List, [], Option, None, Some, is_some, unwrap_or, refl, sym, ap, subst, ◌∙◌, true≢false, if◌then◌else◌, arith}
 use Rattle.std.specs.Map.{lookup}
+use Rattle.std.specs.Prelude.{OnOk, OnErr}
+use Rattle.std.specs.declared.result.Result.{Result}
+use Rattle.std.specs.declared.result.Result.TheVariants as result
 use Rattle.std.specs.HashMap.{HashMap, WritesThrough, get_by}
 use Rattle.charlotte_calls.specs.declared.names.EndId.{EndId}
 use Rattle.end_table.specs.declared.entry.Entry.{Entry}
@@ -8,9 +11,10 @@ use Rattle.end_table.specs.declared.entry.Entry.TheVariants.{Nothing}
 use Rattle.end_table.specs.declared.entry.Entry.TheVariants as entry
 use Rattle.end_table.specs.declared.entry.HereView.{HereView}
 use Rattle.charlotte_calls.specs.declared.picture.MovingPicture.{MovingPicture}
-use Rattle.end_table.specs.Entries.{learned, is_news}
+use Rattle.end_table.specs.Entries.{learned, is_news, left_entry, ended_entry, gains_one}
+use Rattle.end_table.specs.Message.{HasNoMorePlaces}
 use Rattle.end_table.specs.Place.{end_eq, put}
-use Rattle.end_table.specs.Table.{TableView, entries, HasPlace, Puts, Clears, IsWellKept, IsOfEnd, IsHere, IfHere, IsDestroyed, IfDestroyed}
+use Rattle.end_table.specs.Table.{TableView, entries, HasPlace, Puts, Clears, IsWellKept, IsOfEnd, IsHere, IsHereAnd, IsIdle, IfHere, IsDestroyed, IfDestroyed}
 use Rattle.end_table.proofs.EndEq.{end_eq-same, end_eq-refl, put-put}
 
 -- the entry that a map has at a key
@@ -204,3 +208,67 @@ entries-no_place t e none = by (lookup (end_eq e) t.places) none
     by : (o : Option Entry) → (is_some o ≡ true → ⊥) → entry_in o ≡ Nothing
     by None none = refl
     by (Some x) none = absurd (none refl)
+
+-- a write through `get_mut` makes no place
+pub HasNoMorePlaces-WritesThrough : {S : Type 0} (k : ℕ) (m n : HashMap EndId Entry S) (e : EndId) (w : Entry) → WritesThrough end_eq (end_eq e) m w n
+    → HasNoMorePlaces (record { kernel = k; places = m.entries }) (record { kernel = k; places = n.entries })
+HasNoMorePlaces-WritesThrough k m n e w h = let same = h.2 in omega arith
+
+-- what is there at an end that has no entry is `Nothing`, so one with an entry has a place
+pub HasPlace-lent : (k : ℕ) (places : List (EndId × Entry)) (e : EndId) (x : Entry) → Some x ≡ lookup (end_eq e) places → HasPlace (record { kernel = k; places = places }) e
+unfolding HasPlace
+HasPlace-lent k places e x some = ap is_some (sym some)
+
+-- the entry that a value leaves behind is of no other end
+pub IsOfEnd-left : (to : ℕ) (m : MovingPicture) (e : EndId) → IsOfEnd e (left_entry to m)
+IsOfEnd-left to m e = by m.dead
+  where
+    by : (b : Bool) → IsOfEnd e (if b then Nothing else entry.Left to (gains_one m.hops))
+    by true = tt
+    by false = tt
+
+-- and the one that it leaves when it is destroyed is of its end
+pub IsOfEnd-ended : (m : MovingPicture) (e : EndId) → m.end ≡ e → IsOfEnd e (ended_entry m)
+IsOfEnd-ended m e own = by m.dead
+  where
+    by : (b : Bool) → IsOfEnd e (if b then Nothing else entry.Destroyed m)
+    by true = tt
+    by false = own
+
+-- an entry that is here and idle is here
+pub IsHere-idle : (x : Entry) → IsHereAnd x IsIdle → IsHere x
+IsHere-idle (entry.Here v) idle = tt
+IsHere-idle entry.Nothing idle = absurd idle
+IsHere-idle (entry.Left to hops) idle = absurd idle
+IsHere-idle (entry.Destroyed m) idle = absurd idle
+
+-- one place more, or none
+pub one_at_most : (b : Bool) (new old : ℕ) → new ≡ old + (if b then 0 else 1) → new ≤ old + 1
+one_at_most true new old is = omega arith
+one_at_most false new old is = omega arith
+
+-- an end that is here has a place
+pub HasPlace-here : (t : TableView) (e : EndId) → IsHere (entries t e) → HasPlace t e
+HasPlace-here t e here = HasPlace-entry t e (λ nothing. subst IsHere nothing here)
+
+-- where send, receive and holder of an end are set in turn, the whole view is put
+pub Puts-each : (t₀ t₁ t₂ t₃ : TableView) (e : EndId) (w : HereView) → IsHere (entries t₀ e)
+    → IfHere (entries t₀ e) (λ v. Puts t₀ t₁ e (entry.Here (record v { value = w.value; outward = w.outward })))
+    → IfHere (entries t₁ e) (λ v. Puts t₁ t₂ e (entry.Here (record v { value = w.value; inward = w.inward })))
+    → IfHere (entries t₂ e) (λ v. Puts t₂ t₃ e (entry.Here (record v { holder = w.holder })))
+    → Puts t₀ t₃ e (entry.Here w)
+Puts-each t₀ t₁ t₂ t₃ e w here first second third = by (entries t₀ e) here first
+  where
+    by : (x : Entry) → IsHere x → IfHere x (λ v. Puts t₀ t₁ e (entry.Here (record v { value = w.value; outward = w.outward }))) → Puts t₀ t₃ e (entry.Here w)
+    by (entry.Here v) here first =
+        let next = subst (λ x. IfHere x (λ v. Puts t₁ t₂ e (entry.Here (record v { value = w.value; inward = w.inward })))) first.at second in
+        let last = subst (λ x. IfHere x (λ v. Puts t₂ t₃ e (entry.Here (record v { holder = w.holder })))) next.at third in
+        puts_twice t₀ t₁ t₃ e _ _ first (puts_twice t₁ t₂ t₃ e _ _ next last)
+    by entry.Nothing here first = absurd here
+    by (entry.Left to hops) here first = absurd here
+    by (entry.Destroyed m) here first = absurd here
+
+-- a place with nothing in it changes no entry, and none does without memory for it
+pub entries-opened : {A B : Type 0} (old new : TableView) (e : EndId) (r : Result A B) → OnOk r (Puts old new e Nothing) → OnErr r (new ≡ old) → entries old e ≡ Nothing → entries new ≡ entries old
+entries-opened old new e (result.Ok a) puts same nothing = puts.after ∙ put-nothing (entries old) e nothing
+entries-opened old new e (result.Err b) puts same nothing = ap entries same

@@ -2,3 +2,5 @@ pub mod Listed
 pub mod EndEq
 pub mod Change
 pub mod Owned
+pub mod Walks
+pub mod Holding

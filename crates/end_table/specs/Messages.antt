@@ -1,5 +1,5 @@
 -- The messages of sends that wait, by the ends that send them.
-use Rattle.std.specs.Prelude.{◌≡◌, ◌≤◌, ℕ, List, cond, Option, None, Some}
+use Rattle.std.specs.Prelude.{◌≡◌, ℕ, List, cond, Option}
 use Rattle.std.specs.Map.{lookup}
 use Rattle.charlotte_calls.specs.declared.names.EndId.{EndId}
 use Rattle.end_table.specs.declared.message.Message.{Message}
@@ -11,6 +11,5 @@ pub record MessagesView : Type 0 where
   pub most : ℕ
 
 -- one end's message is this one afterwards, if any, and every other end keeps its message
-pub record HasAt (old new : MessagesView) (end : EndId) (message : Option Message) : Type 0 where
-  pub each : (q : EndId) → lookup (end_eq q) new.kept ≡ cond (end_eq end q) message (lookup (end_eq q) old.kept)
-  pub most : old.most ≤ new.most
+abbrev pub HasAt : MessagesView → MessagesView → EndId → Option Message → Type 0
+HasAt old new end message = (q : EndId) → lookup (end_eq q) new.kept ≡ cond (end_eq end q) message (lookup (end_eq q) old.kept)

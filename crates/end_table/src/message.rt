@@ -30,8 +30,7 @@ impl MessageSeen {
     /// What proofs see of this message.
     #[inline(always)]
     pub(crate) fn of(_message: &Message) -> MessageSeen
-        ensures bytes { result.bytes ≡ _message.now.bytes }
-        ensures enclosed { result.enclosed ≡ _message.now.enclosed }
+        ensures { ◌≡◌ {A = List ℕ × List EndId} (result.bytes, result.enclosed) (_message.now.bytes, _message.now.enclosed) }
     {
         MessageSeen {}
     }

@@ -1,4 +1,4 @@
-ghost use Rattle.std.specs.Prelude.{◌≡◌, ◌<◌, ◌≤◌, length, [], None, Some, OnOk, option_copied};
+ghost use Rattle.std.specs.Prelude.{◌≡◌, ◌<◌, ◌≤◌, ◌+◌, length, [], None, Some, OnOk, option_copied};
 ghost use Rattle.std.specs.List.{IsDistinct};
 ghost use Rattle.std.specs.Map.{lookup, keys_of};
 ghost use Rattle.end_table.specs.Place.{end_eq};
@@ -69,7 +69,8 @@ impl Messages {
     /// Keeps the message of an end, in place of the one before. There is room for it where it is the first.
     pub(crate) fn put(&mut self, end: EndId, message: Message)
         requires { IsDistinct end_eq (keys_of self.old.kept) → lookup (end_eq end) self.old.kept ≡ None → length self.old.kept < self.old.most }
-        ensures { HasAt self.old self.new end (Some message) }
+        ensures put { HasAt self.old self.new end (Some message) }
+        ensures room { self.old.most ≤ self.new.most }
     {
         match self.kept.get_mut(&end) {
             Some(place) => *place = message,
@@ -80,8 +81,10 @@ impl Messages {
     /// Keeps the first message of an end.
     #[inline(never)]
     fn add(&mut self, end: EndId, message: Message)
-        requires { IsDistinct end_eq (keys_of self.old.kept) → length self.old.kept < self.old.most }
-        ensures { HasAt self.old self.new end (Some message) }
+        requires room { IsDistinct end_eq (keys_of self.old.kept) → length self.old.kept < self.old.most }
+        requires absent { lookup (end_eq end) self.old.kept ≡ None }
+        ensures put { HasAt self.old self.new end (Some message) }
+        ensures room { self.old.most ≤ self.new.most }
     {
         match self.kept.insert(end, message) {
             Ok(_) => {}
@@ -91,7 +94,9 @@ impl Messages {
 
     /// Lets go what is kept of an end.
     pub(crate) fn forget(&mut self, end: EndId)
-        ensures { HasAt self.old self.new end None }
+        ensures none { HasAt self.old self.new end None }
+        ensures absent { lookup (end_eq end) self.old.kept ≡ None → self.old.most ≤ self.new.most }
+        ensures room { self.old.most ≤ self.new.most + 1 }
     {
         if self.kept.contains_key(&end) {
             self.kept.swap_remove(&end);

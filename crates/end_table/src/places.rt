@@ -1,4 +1,4 @@
-ghost use Rattle.std.specs.Prelude.{◌≡◌, ◌≤◌, ◌<◌, ◌+◌, length, [], List, OnOk, OnErr, IfOk, IfErr, IsOk, IfSome, IsTrue, ◌↔◌};
+ghost use Rattle.std.specs.Prelude.{◌≡◌, ◌≤◌, ◌<◌, ◌+◌, ◌^◌, length, [], List, OnOk, OnErr, IfOk, IfErr, IsOk, IfSome, IsTrue, ◌↔◌};
 ghost use Rattle.std.specs.Bool.{OnTrue, OnFalse};
 ghost use Rattle.std.specs.List.{IsDistinct};
 ghost use Rattle.std.specs.Map.{keys_of};
@@ -80,12 +80,13 @@ impl Places {
     }
 
     /// Makes the end of a value Here, at the place that it has. The old entry is overwritten.
-    pub(crate) fn settle(&mut self, moving: Moving, holder: Holder)
-        requires { HasPlace self.old moving.end }
-        ensures put { Puts self.old self.new moving.end (Here (settled holder moving)) }
+    pub(crate) fn settle(&mut self, end: EndId, moving: Moving, holder: Holder)
+        requires place { HasPlace self.old end }
+        requires own { moving.end ≡ end }
+        ensures put { Puts self.old self.new end (Here (settled holder moving)) }
         ensures count { HasNoMorePlaces self.old self.new }
     {
-        match self.slots.get_mut(&moving.end()) {
+        match self.slots.get_mut(&end) {
             Some(place) => *place = Slot::here(Living::settled(moving, holder)),
             None => unreachable!(),
         }
@@ -95,6 +96,7 @@ impl Places {
     pub(crate) fn remove(&mut self, end: EndId)
         ensures cleared { Clears self.old self.new end }
         ensures count { HasNoMorePlaces self.old self.new }
+        ensures fewer { HasPlace self.old end → length self.new.places < length self.old.places }
     {
         self.slots.swap_remove(&end);
     }

@@ -158,12 +158,16 @@ impl Table {
         ensures places { KeepsPlaces self.old self.new }
         ensures kernel { self.new.kernel ≡ self.old.kernel }
         ensures err { OnErr result (self.new ≡ self.old) }
+        ensures succeeds { HasPlace self.old end → IsOk result }
     {
         if self.places.has_place(end) {
             return Ok(());
         }
         self.messages.reserve(self.places.len() + 1)?;
-        self.places.open(end)
+        match self.places.open(end) {
+            Ok(()) => Ok(()),
+            Err(_) => Err(NoMemory),
+        }
     }
 
     /// Makes the end of a value Here: with that value and holder, and both activities idle. The old entry is overwritten.
@@ -175,9 +179,10 @@ impl Table {
         ensures back { IfErr result (λ n. n.moving ≡ moving) }
         ensures succeeds { HasPlace self.old moving.end → IsOk result }
     {
-        match self.reserve(moving.end()) {
+        let end = moving.end();
+        match self.reserve(end) {
             Ok(()) => {
-                self.places.settle(moving, holder);
+                self.places.settle(end, moving, holder);
                 Ok(())
             }
             Err(NoMemory) => Err(NotStored { moving }),

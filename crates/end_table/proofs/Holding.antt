@@ -1,0 +1,209 @@
+-- How a table keeps the messages of sends that wait, as its entries change.
+use Rattle.std.proofs.Common.{◌≡◌, ℕ, ◌≤◌, ◌<◌, ◌+◌, ◌||◌, suc, Bool, true, false, true≢false, List, [], ◌∷◌, length, Option, None, Some, IsSome, is_some, IfSome, cond, if◌then◌else◌, refl, sym, ap, subst, ◌∙◌, arith}
+use Rattle.std.specs.HashMap.{HashMap, spare}
+use Rattle.std.specs.List.{AllByRecursion, IsDistinct, list_any}
+use Rattle.std.specs.Map.{lookup, keys_of}
+use Rattle.std.specs.Prelude.{OnOk, OnErr}
+use Rattle.std.specs.declared.result.Result.{Result}
+use Rattle.std.specs.declared.result.Result.TheVariants as result
+use Rattle.std.proofs.lemmas.Map.Steps.{length-le_from_keys}
+use Rattle.std.proofs.lemmas.Map.Made.{is_some-lookup}
+use Rattle.std.proofs.lemmas.Map.Entries.{length-keys_of}
+use Rattle.std.proofs.lemmas.Map.Keys.{IsDistinct-cons}
+use Rattle.charlotte_calls.specs.declared.names.EndId.{EndId}
+use Rattle.charlotte_calls.specs.declared.picture.MovingPicture.{MovingPicture}
+use Rattle.end_table.specs.Entries.{left_entry, ended_entry, gains_one}
+use Rattle.end_table.specs.Message.{HoldsMessages, HasNoMorePlaces, waiting_message, message_of}
+use Rattle.end_table.specs.Messages.{MessagesView, HasAt}
+use Rattle.end_table.specs.Place.{end_eq}
+use Rattle.end_table.specs.Table.{TableView, entries, HasPlace, Puts, Clears, IsHere, IfHere, IsDestroyed, IfDestroyed}
+use Rattle.end_table.specs.declared.entry.Entry.{Entry}
+use Rattle.end_table.specs.declared.entry.Entry.TheVariants as entry
+use Rattle.end_table.specs.declared.entry.HereView.{HereView}
+use Rattle.end_table.specs.declared.message.Message.{Message}
+use Rattle.end_table.proofs.Change.{HasPlace-entry}
+use Rattle.end_table.proofs.EndEq.{end_eq-same, end_eq-refl}
+use Rattle.end_table.proofs.Owned.{end_eq-equivalence}
+
+-- the message of an entry, if one waits there, is what these messages have of the end
+abbrev pub IsKept : MessagesView → EndId → Entry → Type 0
+IsKept messages end x = IfSome (waiting_message x) (λ m. lookup (end_eq end) messages.kept ≡ Some m)
+
+-- messages change at one end alone
+abbrev pub ChangesAt : EndId → MessagesView → MessagesView → Type 0
+ChangesAt end old new = (q : EndId) → end_eq end q ≡ false → lookup (end_eq q) new.kept ≡ lookup (end_eq q) old.kept
+
+pub ChangesAt-HasAt : (end : EndId) (old new : MessagesView) (message : Option Message) → HasAt old new end message → ChangesAt end old new
+ChangesAt-HasAt end old new message has q apart = has q ∙ rw apart refl
+
+module _ (old new : TableView) (end : EndId) (from to : MessagesView) (changes : ChangesAt end from to) (holds : HoldsMessages old from) (room : length new.places ≤ to.most) where
+  -- an entry is put, whose message is kept
+  pub HoldsMessages-Puts : (x : Entry) → Puts old new end x → IsKept to end x → HoldsMessages new to
+  HoldsMessages-Puts x puts kept =
+      record {
+        each = λ q. by (end_eq end q) q refl;
+        placed = λ q some. placed (end_eq end q) q refl some;
+        room = room;
+      }
+    where
+      by : (b : Bool) (q : EndId) → end_eq end q ≡ b → IsKept to q (entries new q)
+      by true q same = subst (λ z. IsKept to z (entries new z)) (end_eq-same end q same) (subst (IsKept to end) (sym puts.at) kept)
+      by false q apart = rw (puts.others q apart, changes q apart) (holds.each q)
+
+      placed : (b : Bool) (q : EndId) → end_eq end q ≡ b → IsSome (lookup (end_eq q) to.kept) → HasPlace new q
+      placed true q same some = subst (HasPlace new) (end_eq-same end q same) puts.placed
+      placed false q apart some = puts.places q (holds.placed q (subst IsSome (changes q apart) some))
+
+  -- an end that is here becomes a function of its view, whose message is kept
+  pub HoldsMessages-changes : (f : HereView → Entry) → ((v : HereView) → entries old end ≡ entry.Here v → IsKept to end (f v)) → IsHere (entries old end)
+      → IfHere (entries old end) (λ v. Puts old new end (f v)) → HoldsMessages new to
+  HoldsMessages-changes f kept here puts = by (entries old end) refl here puts
+    where
+      by : (x : Entry) → entries old end ≡ x → IsHere x → IfHere x (λ v. Puts old new end (f v)) → HoldsMessages new to
+      by (entry.Here v) is here puts = HoldsMessages-Puts (f v) puts (kept v is)
+      by entry.Nothing is here puts = absurd here
+      by (entry.Left k hops) is here puts = absurd here
+      by (entry.Destroyed m) is here puts = absurd here
+
+  -- a mark changes
+  pub HoldsMessages-marked : (f : MovingPicture → MovingPicture) → IsDestroyed (entries old end) → IfDestroyed (entries old end) (λ m. Puts old new end (entry.Destroyed (f m))) → HoldsMessages new to
+  HoldsMessages-marked f there puts = by (entries old end) there puts
+    where
+      by : (x : Entry) → IsDestroyed x → IfDestroyed x (λ m. Puts old new end (entry.Destroyed (f m))) → HoldsMessages new to
+      by (entry.Destroyed m) there puts = HoldsMessages-Puts (entry.Destroyed (f m)) puts tt
+      by (entry.Here v) there puts = absurd there
+      by entry.Nothing there puts = absurd there
+      by (entry.Left k hops) there puts = absurd there
+
+  -- an entry is cleared, and nothing is kept of the end
+  pub HoldsMessages-Clears : Clears old new end → lookup (end_eq end) to.kept ≡ None → HoldsMessages new to
+  HoldsMessages-Clears clears none =
+      record {
+        each = λ q. by (end_eq end q) q refl;
+        placed = λ q some. placed (end_eq end q) q refl some;
+        room = room;
+      }
+    where
+      by : (b : Bool) (q : EndId) → end_eq end q ≡ b → IsKept to q (entries new q)
+      by true q same = subst (λ z. IsKept to z (entries new z)) (end_eq-same end q same) (subst (IsKept to end) (sym clears.at) tt)
+      by false q apart = rw (clears.others q apart, changes q apart) (holds.each q)
+
+      placed : (b : Bool) (q : EndId) → end_eq end q ≡ b → IsSome (lookup (end_eq q) to.kept) → HasPlace new q
+      placed true q same some = absurd (true≢false (sym (subst (λ z. IsSome (lookup (end_eq z) to.kept)) (sym (end_eq-same end q same)) some) ∙ ap is_some none))
+      placed false q apart some = clears.places q apart (holds.placed q (subst IsSome (changes q apart) some))
+
+-- what waits at an end that is here is kept under whatever leaves its send
+pub IsKept-same : (t : TableView) (messages : MessagesView) (end : EndId) → HoldsMessages t messages → (v : HereView) → entries t end ≡ entry.Here v
+    → IfSome (message_of v.outward) (λ m. lookup (end_eq end) messages.kept ≡ Some m)
+IsKept-same t messages end holds v is = subst (IsKept messages end) is (holds.each end)
+
+-- a table without entries holds no messages
+pub HoldsMessages-empty : (t : TableView) (messages : MessagesView) → entries t ≡ (λ _. entry.Nothing) → t.places ≡ [] → messages.kept ≡ [] → HoldsMessages t messages
+HoldsMessages-empty t messages nothing none empty =
+    record {
+      each = λ q. rw nothing tt;
+      placed = λ q some. absurd (true≢false (sym some ∙ ap (λ es. is_some (lookup (end_eq q) es)) empty));
+      room = rw none (omega arith);
+    }
+
+-- a message that is new takes one place of the room
+pub room-put : {S : Type 0} (m n : HashMap EndId Message S) {old : Option Message} → old ≡ None
+    → length n.entries ≡ length m.entries + (if is_some old then 0 else 1) → spare m ≤ spare n + 1
+    → length m.entries + spare m ≤ length n.entries + spare n
+room-put m n none len room = let more = len ∙ ap (λ (o : Option Message). length m.entries + (if is_some o then 0 else 1)) none in omega arith
+
+-- what is removed may take a place of the room along
+pub room-removed : {S : Type 0} (m n : HashMap EndId Message S) (b : Bool) → length n.entries + (if b then 1 else 0) ≡ length m.entries → spare m ≤ spare n
+    → length m.entries + spare m ≤ (length n.entries + spare n) + 1
+room-removed m n true len room = omega arith
+room-removed m n false len room = omega arith
+
+-- nothing changes where there is nothing to remove
+pub HasAt-none : (v : MessagesView) (end : EndId) → lookup (end_eq end) v.kept ≡ None → HasAt v v end None
+HasAt-none v end none q = by (end_eq end q) refl
+  where
+    by : (b : Bool) → end_eq end q ≡ b → lookup (end_eq q) v.kept ≡ cond b None (lookup (end_eq q) v.kept)
+    by true same = subst (λ z. lookup (end_eq z) v.kept ≡ None) (end_eq-same end q same) none
+    by false apart = refl
+
+-- after a removal there is room for one message fewer at most, and one place fewer where there was a message
+pub room-fewer : (old new : TableView) (from to : MessagesView) (end : EndId) → HoldsMessages old from → HasNoMorePlaces old new
+    → (HasPlace old end → length new.places < length old.places) → (lookup (end_eq end) from.kept ≡ None → from.most ≤ to.most) → from.most ≤ to.most + 1
+    → length new.places ≤ to.most
+room-fewer old new from to end holds count fewer absent room = by (lookup (end_eq end) from.kept) refl
+  where
+    by : (o : Option Message) → lookup (end_eq end) from.kept ≡ o → length new.places ≤ to.most
+    by None none = let most = absent none in let fits = holds.room in omega arith
+    by (Some m) some = let less = fewer (holds.placed end (ap is_some some)) in let fits = holds.room in omega arith
+
+-- no key is the same as one that is not among them
+apart_from : (q : EndId) (xs : List EndId) → list_any (end_eq q) xs ≡ false → AllByRecursion (λ y. end_eq q y ≡ false) xs
+apart_from q [] h = tt
+apart_from q (x ∷ xs) h = by (end_eq q x) refl h (apart_from q xs)
+  where
+    by : (b : Bool) → end_eq q x ≡ b → (b || list_any (end_eq q) xs) ≡ false → (list_any (end_eq q) xs ≡ false → AllByRecursion (λ y. end_eq q y ≡ false) xs)
+        → AllByRecursion (λ y. end_eq q y ≡ false) (x ∷ xs)
+    by true is h rest = absurd (true≢false h)
+    by false is h rest = (is, rest h)
+
+-- where an end with a place has no message yet, there is room for one
+pub has_room : (t : TableView) (messages : MessagesView) (end : EndId) → HoldsMessages t messages → HasPlace t end
+    → IsDistinct end_eq (keys_of messages.kept) → lookup (end_eq end) messages.kept ≡ None → length messages.kept < messages.most
+unfolding HasPlace
+has_room t messages end holds place distinct none =
+    let fits = length-le_from_keys end_eq-equivalence (end ∷ keys_of messages.kept) t.places (IsDistinct-cons end_eq end (keys_of messages.kept) (apart_from end (keys_of messages.kept) (sym (is_some-lookup (end_eq end) messages.kept) ∙ ap is_some none)) distinct)
+          (λ q h. within q (end_eq q end) refl h) in
+    let same = length-keys_of messages.kept in
+    let room = holds.room in
+    omega arith
+  where
+    within : (q : EndId) (b : Bool) → end_eq q end ≡ b → list_any (end_eq q) (end ∷ keys_of messages.kept) ≡ true → IsSome (lookup (end_eq q) t.places)
+    within q true same h = subst (λ z. IsSome (lookup (end_eq z) t.places)) (sym (end_eq-same q end same)) place
+    within q false apart h =
+        holds.placed q (is_some-lookup (end_eq q) messages.kept ∙ subst (λ b. (b || list_any (end_eq q) (keys_of messages.kept)) ≡ true) apart h)
+
+-- what is not there is `None`
+pub none_from_is_some : {X : Type 0} (o : Option X) → is_some o ≡ false → o ≡ None
+none_from_is_some None h = refl
+none_from_is_some (Some x) h = absurd (true≢false h)
+
+pub some_not_none : {X : Type 0} (o : Option X) → is_some o ≡ true → o ≡ None → ⊥
+some_not_none o some none = true≢false (sym some ∙ ap is_some none)
+
+-- a place with nothing in it has no message, and there is room for one more
+pub HoldsMessages-opened : {A B : Type 0} (old new : TableView) (end : EndId) (from to : MessagesView) (r : Result A B) → OnOk r (Puts old new end entry.Nothing) → OnErr r (new ≡ old)
+    → to.kept ≡ from.kept → length new.places ≤ to.most → HoldsMessages old from → HoldsMessages new to
+HoldsMessages-opened old new end from to (result.Ok a) puts same kept room holds =
+    HoldsMessages-Puts old new end from to (λ q apart. ap (λ es. lookup (end_eq q) es) kept) holds room entry.Nothing puts tt
+HoldsMessages-opened old new end from to (result.Err b) puts same kept room holds =
+    record {
+      each = λ q. rw (kept, same) (holds.each q);
+      placed = λ q some. rw same (holds.placed q (subst (λ es. IsSome (lookup (end_eq q) es)) kept some));
+      room = room;
+    }
+
+-- what leaves, and what was destroyed, has no message
+pub IsKept-left : (messages : MessagesView) (end : EndId) (to : ℕ) (m : MovingPicture) → IsKept messages end (left_entry to m)
+IsKept-left messages end to m = by m.dead
+  where
+    by : (b : Bool) → IsKept messages end (if b then entry.Nothing else entry.Left to (gains_one m.hops))
+    by true = tt
+    by false = tt
+
+pub IsKept-ended : (messages : MessagesView) (end : EndId) (m : MovingPicture) → IsKept messages end (ended_entry m)
+IsKept-ended messages end m = by m.dead
+  where
+    by : (b : Bool) → IsKept messages end (if b then entry.Nothing else entry.Destroyed m)
+    by true = tt
+    by false = tt
+
+-- what there is at the end afterwards
+pub none-HasAt : (old new : MessagesView) (end : EndId) → HasAt old new end None → lookup (end_eq end) new.kept ≡ None
+none-HasAt old new end has = has end ∙ rw (end_eq-refl end) refl
+
+pub is-HasAt : (old new : MessagesView) (end : EndId) (m : Message) → HasAt old new end (Some m) → lookup (end_eq end) new.kept ≡ Some m
+is-HasAt old new end m has = has end ∙ rw (end_eq-refl end) refl
+
+-- a message as proofs see it, put together
+abbrev pub seen : List ℕ × List EndId → Option Message
+seen p = Some (record { bytes = p.0; enclosed = p.1 })

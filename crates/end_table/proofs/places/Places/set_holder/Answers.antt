@@ -1,0 +1,41 @@
+use Rattle.std.proofs.Common.{subst, sym}
+use Rattle.end_table.specs.Place.{end_eq}
+use Rattle.end_table.specs.declared.entry.Entry.TheVariants.{Here}
+use Rattle.end_table.specs.Table.{IsHere, IsOfEnd, entries}
+use Rattle.end_table.proofs.Change.{Changes-WritesThrough, HasNoMorePlaces-WritesThrough, Puts-Changes, IsWellKept-Puts, entries-some, entries-none, IfHere-Puts, IsOfEnd-set}
+use Rattle.end_table.proofs.places.Places.set_holder.Goals as goal
+
+pub set_holder-requires : goal.set_holder-requires
+unfolding end_eq
+set_holder-requires c =
+    subst IsHere (entries-some _ _ _ _ c.in-Some.ensures.value) (subst (λ t. IsHere (entries t c.args.end)) (sym c.self.view_is) c.requires)
+
+pub unreachable-requires : goal.unreachable-requires
+unfolding end_eq
+unreachable-requires c =
+    subst IsHere (entries-none _ _ _ c.in-None.ensures.value) (subst (λ t. IsHere (entries t c.args.end)) (sym c.self.view_is) c.requires)
+
+pub invariant_of-self : goal.invariant_of-self
+unfolding end_eq
+invariant_of-self c =
+    let at = entries-some c.self.inside.kernel c.self.inside.slots.entries c.args.end c.in-Some.slot.now c.in-Some.ensures.value in
+    IsWellKept-Puts _ _ _ _ c.self.invariant
+    (IsOfEnd-set (λ v. Here (record v { holder = c.args.holder })) c.in-Some.slot.now c.set_holder.new.self c.args.end (λ v own. own)
+    (subst IsHere at (subst (λ t. IsHere (entries t c.args.end)) (sym c.self.view_is) c.requires))
+    (subst (IsOfEnd c.args.end) at (c.self.invariant.own c.args.end)) c.set_holder.ensures)
+    (Puts-Changes _ _ _ _ _ (Changes-WritesThrough _ _ _ _ _ c.in-Some.ensures.value (c.get_mut.follows.holds c.set_holder.new.self)))
+
+pub returns-clause-set : goal.returns-clause-set
+unfolding end_eq
+returns-clause-set c =
+    rw (← c.self.view_is)
+    (IfHere-Puts _ _ _ _ _ _ c.in-Some.ensures.value (Changes-WritesThrough _ _ _ _ _ c.in-Some.ensures.value (c.get_mut.follows.holds c.set_holder.new.self))
+    (λ v. Here (record v { holder = c.args.holder })) c.set_holder.ensures)
+
+pub returns-clause-own : goal.returns-clause-own
+unfolding end_eq
+returns-clause-own c = rw (← c.self.view_is) (c.self.invariant.own c.args.end)
+
+pub returns-clause-count : goal.returns-clause-count
+unfolding end_eq
+returns-clause-count c = rw (← c.self.view_is) (HasNoMorePlaces-WritesThrough c.self.inside.kernel c.self.inside.slots _ c.args.end _ (c.get_mut.follows.holds c.set_holder.new.self))
