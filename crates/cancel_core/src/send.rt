@@ -13,7 +13,7 @@ use crate::matching::{Message, match_waiting, send_parcel};
 use charlotte_calls::{Bytes, EndId, Ends, Outcome, ServiceStep, Way, What, Work};
 use end_table::{Lent, Sending, Table};
 use kernel_step::{
-    enclosed_ends, keep_inward, keep_sending, learn, learn_value, no_ends, push_packet, push_step,
+    enclosed_ends, keep_inward, keep_sending, keep_waiting, learn, learn_value, no_ends, push_packet, push_step,
     report, resend_on_news, send_report, sender,
 };
 
@@ -51,7 +51,7 @@ pub fn start_send(table: &mut Table, on: EndId, bytes: Bytes, enclose: Ends, out
         send_parcel(table, on, value, message, out);
         return;
     }
-    table.wait(on, value, n, bytes, enclose);
+    keep_waiting(table, on, value, n, bytes, enclose);
 }
 
 /// Cancel of a send that waits: it never happened, and the ends that it enclosed are its owner's again.

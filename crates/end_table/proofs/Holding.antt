@@ -1,5 +1,5 @@
 -- How a table keeps the messages of sends that wait, as its entries change.
-use Rattle.std.proofs.Common.{◌≡◌, ℕ, ◌≤◌, ◌<◌, ◌+◌, ◌||◌, suc, Bool, true, false, true≢false, List, [], ◌∷◌, length, Option, None, Some, IsSome, is_some, IfSome, cond, if◌then◌else◌, refl, sym, ap, subst, ◌∙◌, arith}
+use Rattle.std.proofs.Common.{◌≡◌, ℕ, ◌≤◌, ◌<◌, ◌+◌, ◌||◌, Bool, true, false, true≢false, List, [], ◌∷◌, length, Option, None, Some, IsSome, is_some, IfSome, cond, if◌then◌else◌, refl, sym, ap, subst, ◌∙◌, arith}
 use Rattle.std.specs.HashMap.{HashMap, spare}
 use Rattle.std.specs.List.{AllByRecursion, IsDistinct, list_any}
 use Rattle.std.specs.Map.{lookup, keys_of}
@@ -21,7 +21,6 @@ use Rattle.end_table.specs.declared.entry.Entry.{Entry}
 use Rattle.end_table.specs.declared.entry.Entry.TheVariants as entry
 use Rattle.end_table.specs.declared.entry.HereView.{HereView}
 use Rattle.end_table.specs.declared.message.Message.{Message}
-use Rattle.end_table.proofs.Change.{HasPlace-entry}
 use Rattle.end_table.proofs.EndEq.{end_eq-same, end_eq-refl}
 use Rattle.end_table.proofs.Owned.{end_eq-equivalence}
 
@@ -152,7 +151,7 @@ pub has_room : (t : TableView) (messages : MessagesView) (end : EndId) → Holds
 unfolding HasPlace
 has_room t messages end holds place distinct none =
     let fits = length-le_from_keys end_eq-equivalence (end ∷ keys_of messages.kept) t.places (IsDistinct-cons end_eq end (keys_of messages.kept) (apart_from end (keys_of messages.kept) (sym (is_some-lookup (end_eq end) messages.kept) ∙ ap is_some none)) distinct)
-          (λ q h. within q (end_eq q end) refl h) in
+    (λ q h. within q (end_eq q end) refl h) in
     let same = length-keys_of messages.kept in
     let room = holds.room in
     omega arith

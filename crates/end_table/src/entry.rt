@@ -52,13 +52,8 @@ impl Outward {
 #[derive(Drop)]
 pub enum Sending {
     Idle,
-    Waiting {
-        n: u32,
-        message: MessageSeen,
-    },
-    Matched {
-        n: u32,
-    },
+    Waiting { n: u32, message: MessageSeen },
+    Matched { n: u32 },
     Unreported,
 }
 

@@ -201,7 +201,12 @@ impl Places {
     /// Sets the fields and the send of an end that is here, and leaves its holder and its receive. It answers what the
     /// send was.
     #[inline(always)]
-    pub(crate) fn set_outward(&mut self, end: EndId, value: MovingPicture, outward: Sending) -> Sending
+    pub(crate) fn set_outward(
+        &mut self,
+        end: EndId,
+        value: MovingPicture,
+        outward: Sending,
+    ) -> Sending
         requires here { IsHere (entries self.old end) }
         requires same_end { value.end ≡ end }
         ensures was { IfHere (entries self.old end) (λ v. outward_of result ≡ v.outward) }

@@ -1,15 +1,12 @@
 ghost use Rattle.std.specs.Prelude.{None, ◌≡◌, ◌<◌, false, List, OnOk, OnErr, IfOk, IfErr, IsOk, IfSome, IsTrue, ◌↔◌, option_copied};
 ghost use Rattle.std.specs.Bool.{OnTrue, OnFalse};
-ghost use Rattle.std.specs.List.{IsDistinct};
-ghost use Rattle.std.specs.Map.{keys_of};
 ghost use Rattle.charlotte_calls.specs.declared.names.EndId.{EndId};
-ghost use Rattle.end_table.specs.Place.{put, end_eq};
+ghost use Rattle.end_table.specs.Place.{end_eq};
 ghost use Rattle.end_table.specs.Message.{outward_of, message_of};
 ghost use Rattle.end_table.specs.Entries.{left_value, left_entry, ended_entry, learned, is_news, settled};
 ghost use Rattle.end_table.specs.Table.{entries, HasPlace, Puts, IsHere, IsHereAnd, IfHere, IsIdle, IsDestroyed, IfDestroyed, HasLeftUpTo, IsOfEnd, KeepsPlaces, Clears};
 ghost use Rattle.end_table.specs.Owned.{AreEndsOf, owned};
 ghost use Rattle.end_table.specs.Lent.{lent_entry};
-ghost use Rattle.end_table.specs.Slot.{owned_ends};
 ghost use Rattle.end_table.specs.declared.entry.Entry.TheVariants.{Nothing, Here, Left, Destroyed};
 ghost use Rattle.end_table.specs.declared.entry.Outward.TheVariants.{Waiting};
 
@@ -24,7 +21,7 @@ use std::marker::Model;
 /// What one kernel keeps of each end. Contracts see the number of the kernel and the entry at each place.
 ///
 /// An end has one entry. A look-up costs one hash; nothing but `owned_by` goes over the table. Messages of sends that wait
-/// are kept beside the places, so that an end without one takes a third of the memory of one with it.
+/// are kept beside the places: most ends have none, and a place is small and moved at little cost.
 #[derive(Drop)]
 pub struct Table {
     places: Places,
@@ -191,7 +188,6 @@ impl Table {
 
     /// Takes out the value of an end that leaves to another kernel. It gains a hop and has this kernel in its trail.
     /// The entry becomes Left with these hops, or Nothing where the end is dead.
-    #[tactic(auto, using(crate::proofs::Change::puts_twice))]
     pub fn take_out(&mut self, end: EndId, to: u8) -> Moving
         requires { IsHereAnd (entries self.old end) IsIdle }
         ensures own { IsOfEnd end (entries self.old end) }
@@ -202,7 +198,6 @@ impl Table {
     }
 
     /// Destroys an end that is here. The entry becomes Destroyed with its mark, or Nothing where the end is dead.
-    #[tactic(auto, using(crate::proofs::Change::puts_twice))]
     pub fn end_here(&mut self, end: EndId) -> Mark
         requires { IsHere (entries self.old end) }
         ensures own { IsOfEnd end (entries self.old end) }
@@ -221,7 +216,7 @@ impl Table {
         self.places.hint_mark(end, hint)
     }
 
-    /// Takes the place of an end without a message that waits away.
+    /// Takes the place of an end away, and what is kept of its messages.
     fn remove(&mut self, end: EndId)
         ensures { Clears self.old self.new end }
     {

@@ -6,10 +6,11 @@ ghost use Rattle.end_table.specs.Message.{message_of, outward_of};
 ghost use Rattle.end_table.specs.Place.{end_eq};
 ghost use Rattle.end_table.specs.Table.{entries, Puts, IfHere, IsHere, IsHereAnd, IsIdle};
 ghost use Rattle.end_table.specs.declared.entry.Entry.TheVariants.{Here};
+ghost use Rattle.end_table.specs.declared.entry.Outward.TheVariants.{Waiting};
 ghost use Rattle.kernel_step.specs.Actions.{here, held, leaves_here, value_leaving};
 ghost use Rattle.kernel_step.specs.Progress.{progress, keeps};
 
-use charlotte_calls::{EndId, Moving, MovingPicture};
+use charlotte_calls::{Bytes, EndId, Ends, Moving, MovingPicture};
 use end_table::{Holder, Inward, Sending, Table};
 
 /// Keeps other fields and another receive of an end that is here.
@@ -38,6 +39,24 @@ pub fn keep_sending(table: &mut Table, on: EndId, value: MovingPicture, sending:
     ensures kernel { table.new.kernel ≡ table.old.kernel }
 {
     table.set_sending(on, value, sending);
+}
+
+/// Keeps other fields of an end that is here, and the send n, which waits with this message.
+pub fn keep_waiting(
+    table: &mut Table,
+    on: EndId,
+    value: MovingPicture,
+    n: u32,
+    bytes: Bytes,
+    enclosed: Ends,
+)
+    requires here { IsHere (entries table.old on) }
+    requires same_end { value.end ≡ on }
+    ensures part { IfHere (entries table.old on) (λ v. (out : Work) → progress (entries table.new) out
+        ≡ keeps on (Here (record v { value = value; outward = Waiting n bytes enclosed })) (progress (entries table.old) out)) }
+    ensures kernel { table.new.kernel ≡ table.old.kernel }
+{
+    table.wait(on, value, n, bytes, enclosed);
 }
 
 /// LEARN: an end learns that its opposite is at a kernel with these hops. It answers whether that was news.

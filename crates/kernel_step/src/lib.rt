@@ -18,7 +18,7 @@ pub use bounds::{
     PACKETS_OF_PARCEL,
 };
 pub use enclosed::{enclosed_ends, ends_in};
-pub use ends::{first_of, hold, keep_inward, keep_sending, learn_value, leave};
+pub use ends::{first_of, hold, keep_inward, keep_sending, keep_waiting, learn_value, leave};
 pub use news::{learn, resend_on_news, tell_moved};
 pub use owners::{answer, no_bytes, no_ends, report, send_report};
 pub use phase::Phase;

@@ -18,6 +18,6 @@ returns-then-contains_key-clause-room c = rw (← c.self.view_is) (room-removed 
 
 pub returns-else-contains_key-clause-none : goal.returns-else-contains_key-clause-none
 unfolding end_eq
-returns-else-contains_key-clause-none c = 
+returns-else-contains_key-clause-none c =
     HasAt-none c.args.self.now c.args.end
     (subst (λ v. lookup (end_eq c.args.end) v.kept ≡ None) c.self.view_is (none_from_is_some _ (sym c.contains_key.ensures ∙ c.if-contains_key.false)))

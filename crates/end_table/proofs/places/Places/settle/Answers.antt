@@ -1,5 +1,4 @@
 use Rattle.std.proofs.Common.{◌∙◌, ap, subst, sym}
-use Rattle.end_table.specs.Entries.{settled}
 use Rattle.end_table.specs.Place.{end_eq}
 use Rattle.end_table.specs.Table.{HasPlace, IsOfEnd}
 use Rattle.end_table.specs.declared.entry.Entry.TheVariants.{Here}

@@ -1,4 +1,4 @@
-use Rattle.std.proofs.Common.{◌≡◌, refl, subst, sym, arith}
+use Rattle.std.proofs.Common.{refl, subst, sym, arith}
 use Rattle.end_table.specs.Table.{IsHere, entries}
 use Rattle.end_table.specs.Entries.{ended_entry}
 use Rattle.end_table.proofs.Holding.{IsKept-ended}

@@ -1,6 +1,5 @@
-use Rattle.std.proofs.Common.{◌≡◌, refl, subst, sym, arith}
+use Rattle.std.proofs.Common.{refl, subst, sym, arith}
 use Rattle.end_table.specs.Table.{IsDestroyed, entries}
-use Rattle.end_table.specs.declared.entry.Entry.TheVariants.{Destroyed}
 use Rattle.end_table.proofs.Holding.{HoldsMessages-marked}
 use Rattle.end_table.proofs.table.Table.hint_mark.Goals as goal
 

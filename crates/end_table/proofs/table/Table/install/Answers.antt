@@ -1,4 +1,4 @@
-use Rattle.std.proofs.Common.{IsOk, refl, true≢false, sym, subst, arith}
+use Rattle.std.proofs.Common.{IsOk, refl, sym, subst, arith}
 use Rattle.end_table.specs.Table.{HasPlace}
 use Rattle.end_table.proofs.Holding.{HoldsMessages-Puts}
 use Rattle.end_table.proofs.table.Table.install.Goals as goal

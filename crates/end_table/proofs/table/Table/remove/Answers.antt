@@ -1,4 +1,3 @@
-use Rattle.std.proofs.Common.{refl, ap, ◌∙◌}
 use Rattle.end_table.proofs.Holding.{ChangesAt-HasAt, HoldsMessages-Clears, room-fewer, none-HasAt}
 use Rattle.end_table.proofs.table.Table.remove.Goals as goal
 

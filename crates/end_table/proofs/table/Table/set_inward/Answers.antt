@@ -1,4 +1,4 @@
-use Rattle.std.proofs.Common.{◌≡◌, refl, subst, sym, arith}
+use Rattle.std.proofs.Common.{refl, subst, sym, arith}
 use Rattle.end_table.specs.Table.{IsHere, entries}
 use Rattle.end_table.specs.declared.entry.Entry.TheVariants.{Here}
 use Rattle.end_table.proofs.Holding.{HoldsMessages-changes, IsKept-same}

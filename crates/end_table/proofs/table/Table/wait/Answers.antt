@@ -1,4 +1,4 @@
-use Rattle.std.proofs.Common.{◌≡◌, Some, ap, refl, subst, sym, ◌∙◌, arith}
+use Rattle.std.proofs.Common.{ap, subst, sym, ◌∙◌, arith}
 use Rattle.end_table.specs.Table.{IsHere, entries}
 use Rattle.end_table.specs.declared.entry.Entry.TheVariants.{Here}
 use Rattle.end_table.specs.Message.{outward_of}
