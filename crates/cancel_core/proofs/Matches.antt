@@ -59,32 +59,12 @@ waited P entry.Nothing n bytes xs here is was = absurd here
 waited P (entry.Left to hops) n bytes xs here is was = absurd here
 waited P (entry.Destroyed m) n bytes xs here is was = absurd here
 
--- an entry that is kept twice is kept as it is at last
-keeps-over : (e : EndId) (x y : Entry) (old mid : EndId → Entry) (out : Work) → mid ≡ put old e y → keeps e x (progress mid out) ≡ keeps e x (progress old out)
-unfolding keeps progress
-keeps-over e x y old mid out h = ap (λ t. progress t out) (ap (λ t. put t e x) h ∙ put-put old e y x)
-
--- and so MATCH does not tell how its end was kept before
-matches-over : (k : ℕ) (v : HereView) (n : ℕ) (bytes : List ℕ) (xs : List EndId) (y : Entry) (old mid : EndId → Entry) (out : Work) → mid ≡ put old v.value.end y → matches k v n bytes xs (progress mid out) ≡ matches k v n bytes xs (progress old out)
-unfolding matches
-matches-over k v n bytes xs y old mid out h =
-    let with_kept = λ (d : Progress). sends (hint_kernel v) (packet.Parcel (opposite v.value.end) n v.value.want k v.value.hops bytes (values_leaving k d.table xs)) (means (step.Match v.value.end n) (leave_each (hint_kernel v) xs d)) in
-    ap with_kept (keeps-over v.value.end (entry.Here (matched_view v n)) y old mid out h)
-
--- MATCH of a send that waits, after its message was taken out
-pub match_waited-made : (k mid_k : ℕ) (old mid : TableView) (e : EndId) (value : MovingPicture) (x : Entry) (n : ℕ) (bytes : List ℕ) (xs : List EndId) (out : Work) (after : Progress)
-    → value.end ≡ e → mid_k ≡ k → IfHere x (λ v. outward.Waiting n bytes xs ≡ v.outward)
-    → IfHere x (λ v. Puts old mid e (entry.Here (record v { value = value; outward = outward.Idle })))
-    → IfHere (entries mid e) (λ w. (o : Outward) → after ≡ matches mid_k (record w { value = value; outward = o }) n bytes xs (progress (entries mid) out))
-    → IfHere x (λ v. after ≡ match_waiting k (record v { value = value }) v.outward (progress (entries old) out))
-match_waited-made k mid_k old mid e value (entry.Here v) n bytes xs out after same kernel was puts made =
-    let kept : HereView = record v { value = value } in
-    let at = subst (λ y. IfHere y (λ w. (o : Outward) → after ≡ matches mid_k (record w { value = value; outward = o }) n bytes xs (progress (entries mid) out))) puts.at made in
-    at v.outward
-    ∙ ap (λ q. matches q kept n bytes xs (progress (entries mid) out)) kernel
-    ∙ matches-over k kept n bytes xs (entry.Here (record v { value = value; outward = outward.Idle })) (entries old) (entries mid) out
-    (puts.after ∙ ap (λ q. put (entries old) q (entry.Here (record v { value = value; outward = outward.Idle }))) (sym same))
-    ∙ ap (λ o. match_waiting k kept o (progress (entries old) out)) was
-match_waited-made k mid_k old mid e value entry.Nothing n bytes xs out after same kernel was puts made = tt
-match_waited-made k mid_k old mid e value (entry.Left to hops) n bytes xs out after same kernel was puts made = tt
-match_waited-made k mid_k old mid e value (entry.Destroyed m) n bytes xs out after same kernel was puts made = tt
+-- MATCH of a send that waits, whose message was looked up
+pub match_waited-made : (k : ℕ) (value : MovingPicture) (x : Entry) (n : ℕ) (bytes : List ℕ) (xs : List EndId) (d after : Progress)
+    → IfHere x (λ v. outward.Waiting n bytes xs ≡ v.outward)
+    → IfHere x (λ v. (o : Outward) → after ≡ matches k (record v { value = value; outward = o }) n bytes xs d)
+    → IfHere x (λ v. after ≡ match_waiting k (record v { value = value }) v.outward d)
+match_waited-made k value (entry.Here v) n bytes xs d after was made = made v.outward ∙ ap (λ o. match_waiting k (record v { value = value }) o d) was
+match_waited-made k value entry.Nothing n bytes xs d after was made = tt
+match_waited-made k value (entry.Left to hops) n bytes xs d after was made = tt
+match_waited-made k value (entry.Destroyed m) n bytes xs d after was made = tt

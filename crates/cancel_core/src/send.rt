@@ -13,8 +13,8 @@ use crate::matching::{Message, match_waiting, send_parcel};
 use charlotte_calls::{Bytes, EndId, Ends, Outcome, ServiceStep, Way, What, Work};
 use end_table::{Lent, Sending, Table};
 use kernel_step::{
-    enclosed_ends, keep_inward, keep_sending, keep_waiting, learn, learn_value, no_ends, push_packet, push_step,
-    report, resend_on_news, send_report, sender,
+    enclosed_ends, keep_inward, keep_sending, keep_waiting, learn, learn_value, no_ends,
+    push_packet, push_step, report, resend_on_news, send_report, sender,
 };
 
 /// Send: a send of these bytes, which encloses these ends, is started, and matched where a receive wants it.

@@ -1,5 +1,5 @@
 -- The sets of the ends on which processes have started an activity.
-use Rattle.std.proofs.Common.{◌≡◌, ◌≢◌, ◌⊎◌, inl, inr, ℕ, ◌<◌, Bool, true, false, true≢false, cond, nat_eq, ◌&&◌, List, [], length, slice_set, slice_get, Some, map, ap, sym, subst, ◌∙◌, refl, get_or, if◌then◌else◌}
+use Rattle.std.proofs.Common.{◌≡◌, ◌≢◌, ◌⊎◌, inl, inr, ℕ, ◌<◌, Bool, true, false, true≢false, cond, nat_eq, ◌&&◌, List, [], ◌∷◌, length, arith, slice_set, slice_get, Some, map, ap, sym, subst, ◌∙◌, refl, get_or, if◌then◌else◌}
 use Rattle.std.specs.List.{list_any}
 use Rattle.std.proofs.lemmas.Bool.Decides.{eqb_tells}
 use Rattle.std.proofs.lemmas.Grind.{get_or-set_at}
@@ -31,6 +31,15 @@ apart a b e = by (eqb_tells a b)
     by : ((nat_eq a b ≡ true) × (a ≡ b)) ⊎ ((nat_eq a b ≡ false) × (a ≢ b)) → nat_eq a b ≡ false
     by (inl t) = absurd (e t.1)
     by (inr t) = t.0
+
+-- nothing is taken out of a set that has nothing
+pub none-removed : (xs : List EndId) (end e : EndId) → length xs ≡ 0 → list_any (end_eq e) xs ≡ (if end_eq end e then false else list_any (end_eq e) xs)
+none-removed [] end e none = by (end_eq end e)
+  where
+    by : (b : Bool) → false ≡ cond b false false
+    by true = refl
+    by false = refl
+none-removed (x ∷ xs) end e none = absurd (omega arith)
 
 -- what one process is, where it or another one is set
 set_process : (R : ℕ → ControlBlock → ControlBlock → Type 0) (xs : List ControlBlock) (i : ℕ) (d y : ControlBlock) → i < length xs → R i y (get_or xs i d) → ((q : ℕ) (x : ControlBlock) → q ≢ i → R q x x)

@@ -81,8 +81,18 @@ fn add(active: &mut IndexSet<EndId>, end: EndId)
     }
 }
 
-#[tactic(auto, unfolding(end_table::specs::Place::end_eq))]
+/// Takes an end out of a set, which most often is empty.
 fn remove(active: &mut IndexSet<EndId>, end: EndId)
+    ensures keys { (e : EndId) → list_any (end_eq e) active.new.keys ≡ (if end_eq end e then false else list_any (end_eq e) active.old.keys) }
+    ensures room { spare active.old ≤ spare active.new }
+{
+    if !active.is_empty() {
+        take_out(active, end);
+    }
+}
+
+#[tactic(auto, unfolding(end_table::specs::Place::end_eq))]
+fn take_out(active: &mut IndexSet<EndId>, end: EndId)
     ensures keys { (e : EndId) → list_any (end_eq e) active.new.keys ≡ (if end_eq end e then false else list_any (end_eq e) active.old.keys) }
     ensures room { spare active.old ≤ spare active.new }
 {

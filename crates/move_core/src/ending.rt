@@ -7,16 +7,16 @@ ghost use Rattle.end_table.specs.Entries.{ended_entry};
 ghost use Rattle.end_table.specs.Place.{end_eq};
 ghost use Rattle.end_table.specs.Table.{entries, IfHere, IsHere};
 ghost use Rattle.end_table.specs.declared.entry.Entry.{Entry};
-ghost use Rattle.end_table.specs.declared.entry.Entry.TheVariants.{Destroyed};
-ghost use Rattle.kernel_step.specs.Actions.{here, tells_gone, ends_idle, ends_idle_here, end_each, ends};
+ghost use Rattle.end_table.specs.declared.entry.Entry.TheVariants.{Destroyed, Here};
+ghost use Rattle.kernel_step.specs.Actions.{enclosed_of, here, tells_gone, ends_idle, ends_idle_here, end_each, ends};
 ghost use Rattle.kernel_step.specs.Enclosed.{AreEnclosed, IsReady};
 ghost use Rattle.kernel_step.specs.Progress.{progress, sends, keeps, HasRoom, AddsAtMost};
 ghost use Rattle.kernel_step.specs.Rows.{goneseen_row, erases};
 ghost use Rattle.kernel_step.specs.declared.bounds.TheConstants.{MOST_FORGETS, PACKETS_OF_END};
 
-use charlotte_calls::{EndId, Mark, MovingPicture, What, Work};
-use end_table::{Lent, Table};
-use kernel_step::{enclosed_ends, first_of, forget, push_packet};
+use charlotte_calls::{EndId, Ends, Mark, MovingPicture, What, Work};
+use end_table::{Lent, Living, Sending, Table};
+use kernel_step::{enclosed_ends, first_of, forget, no_ends, push_packet};
 
 /// The opposite end is told of the destruction, unless the link is known to be dead.
 #[tactic(auto, unfolding(kernel_step::specs::Actions::tells_gone))]
@@ -92,6 +92,17 @@ fn end_each(table: &mut Table, ends: &[EndId], out: &mut Work)
     }
 }
 
+/// The ends that the send of an end that is here encloses.
+fn enclosed_by(table: &Table, living: &Living) -> Ends
+    requires { entries table.now living.now.value.end ≡ Here living.now }
+    ensures { result ≡ enclosed_of living.now.outward }
+{
+    match living.outward() {
+        Sending::Waiting { .. } => enclosed_ends(&table.outward(living.value().end)),
+        Sending::Idle | Sending::Matched { .. } | Sending::Unreported => no_ends(),
+    }
+}
+
 /// The action END at an end that is here: it is destroyed, then the ends that its waiting message encloses, and the
 /// opposite of each that is not dead is told so.
 #[tactic(auto, unfolding(kernel_step::specs::Actions::ends))]
@@ -105,7 +116,7 @@ pub fn destroy(table: &mut Table, on: EndId, out: &mut Work)
     ensures kernel { table.new.kernel ≡ table.old.kernel }
 {
     let kernel = table.kernel();
-    let enclosed = enclosed_ends(&table.outward(on));
+    let enclosed = enclosed_by(table, table.here(on));
     let value = end_entry(table, on);
     end_each(table, enclosed.as_slice(), out);
     tell_gone(out, kernel, value);

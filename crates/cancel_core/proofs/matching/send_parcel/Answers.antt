@@ -14,18 +14,18 @@ use Rattle.cancel_core.proofs.matching.send_parcel.Goals as goal
 
 pub leave_each-requires-clause-enclosed : goal.leave_each-requires-clause-enclosed
 leave_each-requires-clause-enclosed c =
-    rw c.as_slice.ensures.same (AreEnclosed-others _ _ c.args.on _ c.keep_outward.ensures.others c.requires.apart c.requires.enclosed)
+    rw c.as_slice.ensures.same (AreEnclosed-others _ _ c.args.on _ c.keep_sending.ensures.others c.requires.apart c.requires.enclosed)
 
 pub returns-clause-part : goal.returns-clause-part
 returns-clause-part c =
-    let left : progress (entries c.leave_each.new.table) c.args.out.now ≡ leave_each c.args.value.hint.0 c.args.message.enclosed (progress (entries c.keep_outward.new.table) c.args.out.now) =
-    c.leave_each.ensures.part c.args.out.now ∙ ap (λ xs. leave_each c.args.value.hint.0 xs (progress (entries c.keep_outward.new.table) c.args.out.now)) c.as_slice.ensures.same in
-    let values : c.leave_each.new.cargo ≡ values_leaving c.args.table.now.kernel (entries c.keep_outward.new.table) c.args.message.enclosed =
+    let left : progress (entries c.leave_each.new.table) c.args.out.now ≡ leave_each c.args.value.hint.0 c.args.message.enclosed (progress (entries c.keep_sending.new.table) c.args.out.now) =
+    c.leave_each.ensures.part c.args.out.now ∙ ap (λ xs. leave_each c.args.value.hint.0 xs (progress (entries c.keep_sending.new.table) c.args.out.now)) c.as_slice.ensures.same in
+    let values : c.leave_each.new.cargo ≡ values_leaving c.args.table.now.kernel (entries c.keep_sending.new.table) c.args.message.enclosed =
     c.leave_each.ensures.cargo
-    ∙ ap (λ ms. ms ++ values_leaving c.keep_outward.new.table.kernel (entries c.keep_outward.new.table) c.as_slice.result.now) c.empty-moving.ensures
-    ∙ ap (λ k. values_leaving k (entries c.keep_outward.new.table) c.as_slice.result.now) c.keep_outward.ensures.kernel
-    ∙ ap (λ xs. values_leaving c.args.table.now.kernel (entries c.keep_outward.new.table) xs) c.as_slice.ensures.same in
-    let kept_is : HereView → Type 0 = λ v. (out : Work) → progress (entries c.keep_outward.new.table) out
+    ∙ ap (λ ms. ms ++ values_leaving c.keep_sending.new.table.kernel (entries c.keep_sending.new.table) c.as_slice.result.now) c.empty-moving.ensures
+    ∙ ap (λ k. values_leaving k (entries c.keep_sending.new.table) c.as_slice.result.now) c.keep_sending.ensures.kernel
+    ∙ ap (λ xs. values_leaving c.args.table.now.kernel (entries c.keep_sending.new.table) xs) c.as_slice.ensures.same in
+    let kept_is : HereView → Type 0 = λ v. (out : Work) → progress (entries c.keep_sending.new.table) out
     ≡ keeps c.args.on (Here (record v { value = record c.args.value { served = c.args.value.want; want = 0 }; outward = Matched c.args.message.n })) (progress (entries c.args.table.now) out) in
     let made_is : HereView → Type 0 = λ v. (o : Outward) → progress (entries c.leave_each.new.table) c.push_packet.new.out
     ≡ matches c.args.table.now.kernel (record v { value = c.args.value; outward = o }) c.args.message.n c.args.message.bytes c.args.message.enclosed (progress (entries c.args.table.now) c.args.out.now) in
@@ -34,4 +34,4 @@ returns-clause-part c =
     matches-made c.args.table.now.kernel (record v { value = c.args.value; outward = o }) c.args.message.n c.args.message.bytes c.args.message.enclosed _ _ _ c.args.out.now _ _ c.args.on
     c.requires.same_end (kept c.args.out.now) left values
     (cc (c.push_packet.ensures.part (entries c.leave_each.new.table), c.push_step.ensures.part (entries c.leave_each.new.table))))
-    c.keep_outward.ensures.part
+    c.keep_sending.ensures.part
