@@ -22,8 +22,8 @@ pub(crate) fn is_ready(table: &Table) -> bool
     ensures here { result ≡ true → IsHere (entries table.now END) }
     ensures ready { result ≡ true → IsReady (entries table.now) END }
 {
-    match table.lend(END) {
-        Lent::Here(living) => encloses_nothing(living.outward()),
+    match table.look(END) {
+        Entry::Here(view) => encloses_nothing(&view.outward),
         _ => false,
     }
 }

@@ -11,8 +11,9 @@ pub(crate) fn push_end(text: &mut String, table: &Table, end: EndId) -> Result<(
         Lent::Nothing => text.push_str("nothing"),
         Lent::Left { to, hops } => write!(text, "left to {to}, hops {hops}"),
         Lent::Destroyed(_) => text.push_str("destroyed"),
-        Lent::Here(living) => {
-            let (holder, outward, inward) = (living.holder(), living.outward(), living.inward());
+        Lent::Here(_) => {
+            let view = table.view(end);
+            let (holder, outward, inward) = (view.holder, &view.outward, view.inward);
             write!(text, "{holder:?} {outward:?} {inward:?}")
         }
     }

@@ -4,7 +4,7 @@ ghost use Rattle.end_table.specs.Table.{entries, IsDestroyed, IsHere, IsHereAnd,
 
 use crate::samples::{END, OWNER, end_a, waiting};
 use charlotte_calls::{Moving, Pid};
-use end_table::{Entry, HereView, Holder, Inward, Lent, Living, NotStored, Outward, Table};
+use end_table::{Entry, HereView, Holder, Inward, Lent, NotStored, Outward, Table};
 use std::alloc::{AllocError, Global};
 use std::test::Fail;
 
@@ -169,14 +169,13 @@ pub(crate) fn told(alloc: Global, table: &Table) -> Result<String, AllocError> {
         Lent::Nothing => String::from_str(alloc, "nothing"),
         Lent::Left { to, hops } => format!(in alloc; "left to {to}, hops {hops}"),
         Lent::Destroyed(mark) => format!(in alloc; "destroyed, hint {:?}", mark.hint()),
-        Lent::Here(living) => told_living(alloc, living),
+        Lent::Here(_) => told_view(alloc, &table.view(END)),
     }
 }
 
-fn told_living(alloc: Global, living: &Living) -> Result<String, AllocError> {
-    let (holder, inward) = (living.holder(), living.inward());
-    let outward = living.outward().copy();
-    let value = living.value();
+fn told_view(alloc: Global, view: &HereView) -> Result<String, AllocError> {
+    let (holder, outward, inward) = (view.holder, &view.outward, view.inward);
+    let value = view.value;
     let numbers = (value.hint, value.hops, value.trail, value.asked);
     format!(in alloc; "{holder:?} {outward:?} {inward:?} {numbers:?}")
 }
