@@ -35,7 +35,7 @@ pub fn arrive(table: &mut Table, to: EndId, n: u32, w: u32, at: u8, moving: Carg
 }
 
 /// Each of these ends becomes Here for a holder, and tells its opposite so.
-pub(crate) fn settle_and_tell(table: &mut Table, holder: Holder, moving: Cargo, out: &mut Work)
+pub(crate) fn settle_and_tell(table: &mut Table, holder: Holder, mut moving: Cargo, out: &mut Work)
     requires away { AreAway table.old moving }
     requires apart { AreApart moving }
     requires room { HasRoom MOST_ENDS 0 0 0 out.old }
@@ -46,7 +46,8 @@ pub(crate) fn settle_and_tell(table: &mut Table, holder: Holder, moving: Cargo, 
 {
     let kernel = table.kernel();
     tell_arrivals(out, kernel, moving.values());
-    settle_each(table, holder, moving);
+    settle_each(table, holder, &mut moving);
+    moving.close();
 }
 
 /// LEAVE of an end that a packet brought: its value.

@@ -1,4 +1,4 @@
-ghost use Rattle.std.specs.Prelude.{◌≡◌, length, Some, None};
+ghost use Rattle.std.specs.Prelude.{◌≡◌, [], length, Some, None};
 ghost use Rattle.charlotte_calls.specs.declared.names.EndId.{EndId};
 ghost use Rattle.charlotte_calls.specs.declared.picture.MovingPicture.{MovingPicture};
 ghost use Rattle.charlotte_calls.specs.declared.work.Work.{Work};
@@ -33,14 +33,15 @@ pub fn settle(table: &mut Table, moving: Moving, holder: Holder)
 }
 
 /// Each of these ends becomes Here, in order.
-pub(crate) fn settle_each(table: &mut Table, holder: Holder, mut moving: Cargo)
-    requires away { AreAway table.old moving }
-    requires apart { AreApart moving }
-    ensures part { (out : Work) → progress (entries table.new) out ≡ settle_each holder moving (progress (entries table.old) out) }
+pub(crate) fn settle_each(table: &mut Table, holder: Holder, moving: &mut Cargo)
+    requires away { AreAway table.old moving.old }
+    requires apart { AreApart moving.old }
+    ensures part { (out : Work) → progress (entries table.new) out ≡ settle_each holder moving.old (progress (entries table.old) out) }
     ensures kernel { table.new.kernel ≡ table.old.kernel }
+    ensures none { moving.new ≡ [] }
 {
     match moving.next() {
-        None => moving.close(),
+        None => {}
         Some(first) => {
             settle(table, first, holder);
             settle_each(table, holder, moving);

@@ -8,10 +8,10 @@ use Rattle.move_core.proofs.settling.+settle_each.Goals as goal
 
 pub settle_each-requires : goal.settle_each-requires
 settle_each-requires t c =
-    let e : c.args.moving ≡ c.in-Some.first ∷ c.next.new.self = c.in-Some.ensures.rest in
+    let e : c.args.moving.now ≡ c.in-Some.first ∷ c.next.new.self = c.in-Some.ensures.rest in
     let away : AreAway c.args.table.now (c.in-Some.first ∷ c.next.new.self) = AreAway-first _ _ _ _ e c.requires.away in
     let apart : AreApart (c.in-Some.first ∷ c.next.new.self) = AreApart-first _ _ _ e c.requires.apart in
-    let long : length c.args.moving ≡ length (c.in-Some.first ∷ c.next.new.self) = ap length e in
+    let long : length c.args.moving.now ≡ length (c.in-Some.first ∷ c.next.new.self) = ap length e in
     (omega (arith, long, c.decreases), (AreAway-others _ _ _ _ c.settle.ensures.puts _ apart.0 away.2, apart.1))
 
 pub returns-in-Some-clause-part : goal.returns-in-Some-clause-part
