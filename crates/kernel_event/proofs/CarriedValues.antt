@@ -92,6 +92,11 @@ pub with_here-none : (h : Holder) (t : EndId → Entry) → with_here h [] t ≡
 unfolding with_here
 with_here-none h t = refl
 
+-- whether one of these values has an end
+pub any-ends : (e : EndId) (ms : List MovingPicture) → list_any (λ m. end_eq e m.end) ms ≡ list_any (end_eq e) (ends_in ms)
+any-ends e [] = refl
+any-ends e (m ∷ ms) = ap (λ b. end_eq e m.end || b) (any-ends e ms)
+
 pub ruleset passings = (passing-more)
 
 pub ruleset arrivings = (arriving-more, with_here-none)

@@ -7,9 +7,8 @@ ghost use Rattle.kernel_step.specs.Rows.{is_carried, passing, arriving, ends_in,
 ghost use Rattle.kernel_event.specs.Arrived.{with_here};
 ghost use Rattle.kernel_step.specs.declared.bounds.TheConstants.{MOST_ENDS};
 
-use charlotte_calls::{Cargo, EndId, Moving};
+use charlotte_calls::{Cargo, EndId, Moving, MovingPicture};
 use end_table::{Lent, Table};
-use kernel_step::ends_in;
 
 /// The values that leave or end here, taken out of what a packet brings. Those that are not carried are spent.
 pub(crate) fn passing(table: &Table, made: u32, moving: &mut Cargo) -> Cargo
@@ -85,12 +84,18 @@ pub(crate) fn is_here(table: &Table, end: EndId) -> bool
 }
 
 /// Whether the cargo has a value of this end.
-#[tactic(auto, unfolding(end_table::specs::Place::end_eq))]
 fn has_end(cargo: &Cargo, end: EndId) -> bool
     ensures { result ≡ list_any (end_eq end) (ends_in cargo.now) }
 {
-    let ends = ends_in(cargo);
-    ends.as_slice().iter().any(|other| end == *other)
+    is_among(end, cargo.values())
+}
+
+/// Whether one of these values is of this end.
+#[tactic(auto, unfolding(end_table::specs::Place::end_eq))]
+fn is_among(end: EndId, values: &[MovingPicture]) -> bool
+    ensures { result ≡ list_any (λ m. end_eq end m.end) values.now }
+{
+    values.iter().any(|value| end == value.end)
 }
 
 /// Adds a value that is carried, and spends another.
