@@ -8,6 +8,7 @@ pub mod Happened
 pub mod Kernels
 pub mod Performs
 pub mod Reserved
+pub mod Silent
 pub mod Stepped
 pub mod Touched
 pub mod Wired

@@ -74,20 +74,19 @@ pub(crate) fn reserve_active(processes: &mut Processes, call: &Call) -> Result<(
     }
 }
 
-/// Where a packet is to an end that is here, each process gets room for so many reports, and for one more end with a started
-/// activity.
+/// Where a packet is heard, each process gets room for so many reports, and for one more end with a started activity.
 pub(crate) fn reserve_processes(
     processes: &mut Processes,
-    here: bool,
+    heard: bool,
     most: u32,
 ) -> Result<(), NoMemory>
     ensures kept { map process_state processes.new ≡ map process_state processes.old }
     ensures active { map started_ends processes.new ≡ map started_ends processes.old }
-    ensures spare { OnOk result (here ≡ true → 0 < most → HaveSpare most processes.new) }
-    ensures place { OnOk result (here ≡ true → HavePlace processes.new) }
+    ensures spare { OnOk result (heard ≡ true → 0 < most → HaveSpare most processes.new) }
+    ensures place { OnOk result (heard ≡ true → HavePlace processes.new) }
     ensures length { length processes.new ≡ length processes.old }
 {
-    if !here {
+    if !heard {
         return Ok(());
     }
     reserve_reports(processes, most)?;

@@ -3,7 +3,7 @@ ghost use Rattle.charlotte_calls.specs.Packets.{what_picture};
 ghost use Rattle.charlotte_calls.specs.declared.names.EndId.{EndId};
 ghost use Rattle.charlotte_calls.specs.declared.names.Pid.{Pid};
 ghost use Rattle.end_table.specs.Owned.{owned};
-ghost use Rattle.end_table.specs.Table.{entries, IsHere};
+ghost use Rattle.end_table.specs.Table.{entries};
 ghost use Rattle.end_table.specs.declared.entry.Entry.{Entry};
 ghost use Rattle.kernel_process.specs.Active.{Tells};
 ghost use Rattle.kernel_process.specs.Closing.{HavePlace};
@@ -12,7 +12,7 @@ ghost use Rattle.kernel_step.specs.Calls.{is_active};
 ghost use Rattle.kernel_sound.specs.Sound.{addressee};
 ghost use Rattle.kernel_process.specs.Parts.{with_parts, ended, process_state};
 ghost use Rattle.kernel_core.specs.Consistent.{IsConsistent, Keeps, OnlyReserves};
-ghost use Rattle.kernel_core.specs.Started.{IsFound, IsReadyToTake, takes_addressed};
+ghost use Rattle.kernel_core.specs.Started.{IsFound, IsHeard, IsReadyToTake, is_silent, takes_addressed};
 ghost use Rattle.kernel_step.specs.Kernel.{Kernel, begins, closes};
 ghost use Rattle.kernel_step.specs.Progress.{progress};
 ghost use Rattle.kernel_step.specs.Rows.{row};
@@ -35,8 +35,9 @@ pub struct NotTaken {
 #[derive(Clone, Copy)]
 struct Found {
     end: EndId,
-    here: bool,
-    /// The process that owns it.
+    /// Whether the packet may change activities and give reports: it is not silent, and the end is here.
+    heard: bool,
+    /// The process that owns the end, where the packet is heard.
     owner: Option<Pid>,
 }
 
@@ -58,52 +59,72 @@ fn take(state: &mut State, from: u8, what: &mut What, to: Found, effect: &mut Ef
         &mut state.event.work,
     );
     *effect = close(&mut state.table, &mut state.processes, &mut state.event);
-    refresh_if_here(
+    refresh_if_heard(
         &state.table,
         &mut state.processes,
-        to.here,
+        to.heard,
         to.owner,
         to.end,
     );
 }
 
-/// How the event of a packet finds the end that the packet is addressed to.
+/// How the event of a packet finds the end that the packet is addressed to. Where the packet is silent it is not looked up.
 fn find(table: &Table, what: &What) -> Found
     ensures { IsFound (entries table.now) what.now result }
 {
     let end = addressee(what);
+    if is_silent(what) {
+        return Found {
+            end,
+            heard: false,
+            owner: None,
+        };
+    }
     match table.lend(end) {
         Lent::Here(living) => Found {
             end,
-            here: true,
+            heard: true,
             owner: owner_in(living.holder()),
         },
         Lent::Nothing | Lent::Left { .. } | Lent::Destroyed(_) => Found {
             end,
-            here: false,
+            heard: false,
             owner: None,
         },
     }
 }
 
-/// The sets of active ends tell again of an end that was here, with the process that owned it; of no other end has an event of a
-/// packet changed the activities.
-fn refresh_if_here(
+/// Whether a packet of this kind changes no activity, and gives no report.
+fn is_silent(what: &What) -> bool
+    ensures { result ≡ is_silent (what_picture what.now) }
+{
+    match what {
+        What::Want { .. } | What::Unwant { .. } => true,
+        What::Moved { .. } | What::Known { .. } => true,
+        What::Forget { .. } | What::GoneSeen { .. } => true,
+        What::Unwanted { .. } | What::Parcel { .. } | What::Taken { .. } => false,
+        What::Back { .. } | What::Gone { .. } => false,
+    }
+}
+
+/// The sets of active ends tell again of the end that heard a packet, with the process that owned it; of no other end has an event of
+/// a packet changed the activities.
+fn refresh_if_heard(
     table: &Table,
     processes: &mut Processes,
-    here: bool,
+    heard: bool,
     before: Option<Pid>,
     end: EndId,
 )
-    requires before { IfSome before (λ p. p.0 < length processes.old) }
+    requires before { heard ≡ true → IfSome before (λ p. p.0 < length processes.old) }
     requires after { IfSome (owner_of (entries table.now end)) (λ p. p.0 < length processes.old) }
-    requires place { here ≡ true → HavePlace processes.old }
-    ensures told { (t : EndId → Entry) → before ≡ owner_of (t end) → Tells t processes.old → IsCalmBut end t (entries table.now)
-        → (here ≡ false → (p : Pid) (e : EndId) → is_active (owned p (entries table.now e)) ≡ is_active (owned p (t e))) → Tells (entries table.now) processes.new }
+    requires place { heard ≡ true → HavePlace processes.old }
+    ensures told { (t : EndId → Entry) → (heard ≡ true → before ≡ owner_of (t end)) → Tells t processes.old → IsCalmBut end t (entries table.now)
+        → (heard ≡ false → (p : Pid) (e : EndId) → is_active (owned p (entries table.now e)) ≡ is_active (owned p (t e))) → Tells (entries table.now) processes.new }
     ensures kept { map process_state processes.new ≡ map process_state processes.old }
     ensures length { length processes.new ≡ length processes.old }
 {
-    if here {
+    if heard {
         refresh_owner(table, processes, before, end);
     }
 }
@@ -165,15 +186,15 @@ fn pass(state: &mut State, what: &What, effect: &mut Effect)
 }
 
 /// Reserves all that the event of a packet needs, so that nothing after it can fail.
-fn reserve_taking(state: &mut State, what: &What, here: bool, stamp: u64) -> Result<(), NoMemory>
-    requires here { IsHere (entries state.old.table (addressee (what_picture what.now))) → here ≡ true }
+fn reserve_taking(state: &mut State, what: &What, heard: bool, stamp: u64) -> Result<(), NoMemory>
+    requires heard { IsHeard (entries state.old.table) (what_picture what.now) → heard ≡ true }
     ensures ready { OnOk result (IsReadyToTake state.new what.now state.new.event) }
     ensures begins { OnOk result ((s : Kernel) → progress s.table state.new.event.work ≡ begins s stamp) }
     ensures same { OnlyReserves state.old state.new }
 {
     let room = room_of_packet(what);
     state.event.begin(stamp, room, 0, 0)?;
-    reserve_processes(&mut state.processes, here, room.reports)?;
+    reserve_processes(&mut state.processes, heard, room.reports)?;
     reserve_brought(&mut state.table, what)?;
     Ok(())
 }
@@ -200,7 +221,7 @@ pub(crate) fn take_event(
     ensures made { state.new.made ≡ state.old.made }
 {
     let to = find(&state.table, &packet.what);
-    match reserve_taking(state, &packet.what, to.here, stamp) {
+    match reserve_taking(state, &packet.what, to.heard, stamp) {
         Ok(()) => {
             let mut effect = no_effect(alloc);
             take_packet(state, kernels, from, packet, to, &mut effect);

@@ -1,6 +1,6 @@
 -- The reserved room leaves everything as it was.
 use Rattle.charlotte_calls.specs.Packets.{what_picture}
-use Rattle.end_table.specs.Table.{entries, IsHere}
+use Rattle.end_table.specs.Table.{entries}
 use Rattle.kernel_core.proofs.Reserved.{reserved-keeps, reserved-parts}
 use Rattle.kernel_core.specs.Started.{IsFound, takes_addressed}
 use Rattle.kernel_process.specs.Parts.{with_parts}
@@ -13,9 +13,7 @@ pub take_packet-requires-clause-consistent : goal.take_packet-requires-clause-co
 take_packet-requires-clause-consistent c = (reserved-keeps c.args.state.now c.reserve_taking.new.state c.requires.consistent c.reserve_taking.ensures.same).consistent
 
 pub reserve_taking-requires : goal.reserve_taking-requires
-reserve_taking-requires c = record {
-  here = λ here. c.find-to.ensures.here.1 (subst (λ e. IsHere (entries c.args.state.now.table e)) (sym c.find-to.ensures.end) here);
-}
+reserve_taking-requires c = record { heard = c.find-to.ensures.heard.1 }
 
 pub take_packet-requires-clause-found : goal.take_packet-requires-clause-found
 take_packet-requires-clause-found c = subst (λ t. IsFound t c.args.packet.now.what c.find-to.result) (sym c.reserve_taking.ensures.same.entries) c.find-to.ensures
