@@ -30,24 +30,6 @@ pub enum Outward {
     Unreported,
 }
 
-impl Outward {
-    /// An equal value.
-    pub fn copy(&self) -> Outward
-        ensures { result ≡ self.now }
-    {
-        match self {
-            Outward::Idle => Outward::Idle,
-            Outward::Waiting { n, bytes, enclosed } => Outward::Waiting {
-                n: *n,
-                bytes: bytes.copy(),
-                enclosed: enclosed.copy(),
-            },
-            Outward::Matched { n } => Outward::Matched { n: *n },
-            Outward::Unreported => Outward::Unreported,
-        }
-    }
-}
-
 /// The activity outward on an end, as a table keeps it: the message of a send that waits is kept elsewhere.
 #[derive(Drop)]
 pub enum Sending {

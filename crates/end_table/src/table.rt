@@ -117,7 +117,8 @@ impl Table {
     /// An end that is here, as plain data.
     pub fn view(&self, end: EndId) -> HereView
         requires { IsHere (entries self.now end) }
-        ensures { entries self.now end ≡ Here result }
+        ensures view { entries self.now end ≡ Here result }
+        ensures own { result.value.end ≡ end }
     {
         let living = self.here(end);
         HereView {
@@ -284,25 +285,21 @@ impl Table {
         self.places.set_inward(end, value, inward)
     }
 
-    /// Sets the fields and the send of an end that is here, and leaves its holder and its receive. It answers what the
-    /// send was, with its message.
-    pub fn set_outward(&mut self, end: EndId, value: MovingPicture, outward: Outward) -> Outward
+    /// Sets the fields and the send of an end that is here, and leaves its holder and its receive.
+    fn set_outward(&mut self, end: EndId, value: MovingPicture, outward: Outward)
         requires here { IsHere (entries self.old end) }
         requires same_end { value.end ≡ end }
-        ensures was { IfHere (entries self.old end) (λ v. result ≡ v.outward) }
-        ensures set { IfHere (entries self.old end) (λ v. Puts self.old self.new end (Here (record v { value = value; outward = outward }))) }
+        ensures { IfHere (entries self.old end) (λ v. Puts self.old self.new end (Here (record v { value = value; outward = outward }))) }
     {
-        let was = self.outward(end);
         match outward {
             Outward::Idle => self.set_sending(end, value, Sending::Idle),
             Outward::Waiting { n, bytes, enclosed } => self.wait(end, value, n, bytes, enclosed),
             Outward::Matched { n } => self.set_sending(end, value, Sending::Matched { n }),
             Outward::Unreported => self.set_sending(end, value, Sending::Unreported),
         }
-        was
     }
 
-    /// Sets the fields of an end that is here, and its send, which does not wait.
+    /// Sets the fields and the send of an end that is here, where no message waits afterwards.
     #[inline(always)]
     pub fn set_sending(&mut self, end: EndId, value: MovingPicture, sending: Sending)
         requires here { IsHere (entries self.old end) }
@@ -313,7 +310,7 @@ impl Table {
         self.places.set_outward(end, value, sending);
     }
 
-    /// Sets the fields of an end that is here, and its send, which waits with this message.
+    /// Sets the fields and the send of an end that is here: the send n waits with this message.
     pub fn wait(&mut self, end: EndId, value: MovingPicture, n: u32, bytes: Bytes, enclosed: Ends)
         requires here { IsHere (entries self.old end) }
         requires same_end { value.end ≡ end }

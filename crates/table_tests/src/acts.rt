@@ -2,7 +2,7 @@
 ghost use Rattle.std.specs.Prelude.{◌≡◌, true};
 ghost use Rattle.end_table.specs.Table.{entries, IsDestroyed, IsHere, IsHereAnd, IsIdle};
 
-use crate::samples::{END, OWNER, end_a, waiting};
+use crate::samples::{END, OWNER, end_a, message};
 use charlotte_calls::{Moving, Pid};
 use end_table::{Entry, HereView, Holder, Inward, Lent, NotStored, Outward, Table};
 use std::alloc::{AllocError, Global};
@@ -25,7 +25,7 @@ pub(crate) enum Act {
     Hint(u8, u32),
     SetInward(u32),
     SetDead,
-    SetOutward(u32),
+    Wait(u32),
     SetHolder(Pid),
     Change(u32),
 }
@@ -112,9 +112,10 @@ fn perform_here(table: &mut Table, act: Act) -> Result<bool, Fail> {
             table.set_inward(END, value, Inward::Unreported);
             Ok(true)
         }
-        Act::SetOutward(n) => {
-            let was = table.set_outward(END, value, waiting(n)?);
-            Ok(matches!(was, Outward::Idle))
+        Act::Wait(n) => {
+            let (bytes, enclosed) = message(n)?;
+            table.wait(END, value, n, bytes, enclosed);
+            Ok(true)
         }
         Act::SetHolder(p) => {
             table.set_holder(END, Holder::Owner(p));

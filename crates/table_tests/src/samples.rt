@@ -1,6 +1,5 @@
 //! What several tests use.
 use charlotte_calls::{Bytes, EndId, Ends, LinkId, Moving, Pid, Side};
-use end_table::Outward;
 use std::test::Fail;
 
 /// The end on which the table is tried.
@@ -31,11 +30,9 @@ pub(crate) fn end_b(maker: u8, count: u32) -> Moving {
     b
 }
 
-/// A send that waits.
-pub(crate) fn waiting(n: u32) -> Result<Outward, Fail> {
-    Ok(Outward::Waiting {
-        n,
-        bytes: Bytes::from_slice(b"hi").ok_or("bytes")?,
-        enclosed: Ends::from_slice(&[]).ok_or("ends")?,
-    })
+/// A message that tells a number.
+pub(crate) fn message(n: u32) -> Result<(Bytes, Ends), Fail> {
+    let bytes = Bytes::from_slice(&n.to_le_bytes()).ok_or("bytes")?;
+    let ends = Ends::from_slice(&[]).ok_or("ends")?;
+    Ok((bytes, ends))
 }

@@ -85,9 +85,24 @@ const IS_SET: &[Row] = &[
         "Owner(Pid(1)) Matched { n: 3 } Idle ((6, 2), 0, 0, 1)",
     ),
     (
-        Act::SetOutward(4),
-        false,
-        "Owner(Pid(1)) Waiting { n: 4, bytes: Short { items: [104, 105] }, enclosed: Short { items: [] } } Idle ((6, 2), 0, 0, 1)",
+        Act::Wait(4),
+        true,
+        "Owner(Pid(1)) Waiting { n: 4, bytes: Short { items: [4, 0, 0, 0] }, enclosed: Short { items: [] } } Idle ((6, 2), 0, 0, 1)",
+    ),
+    (
+        Act::Wait(5),
+        true,
+        "Owner(Pid(1)) Waiting { n: 5, bytes: Short { items: [5, 0, 0, 0] }, enclosed: Short { items: [] } } Idle ((6, 2), 0, 0, 1)",
+    ),
+    (
+        Act::Change(6),
+        true,
+        "Owner(Pid(1)) Matched { n: 6 } Idle ((6, 2), 0, 0, 1)",
+    ),
+    (
+        Act::Wait(7),
+        true,
+        "Owner(Pid(1)) Waiting { n: 7, bytes: Short { items: [7, 0, 0, 0] }, enclosed: Short { items: [] } } Idle ((6, 2), 0, 0, 1)",
     ),
 ];
 
