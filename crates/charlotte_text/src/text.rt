@@ -52,16 +52,17 @@ fn push_byte(out: &mut Vec<u8>, byte: u8) -> Result<(), NoMemory>
     ensures ok { OnOk result (out.new.items ≡ out.old.items ++ byte_text byte) }
     ensures err { OnErr result (out.new.items ≡ out.old.items) }
 {
-    if plain(byte) {
+    if is_plain(byte) {
         out.push(byte)?;
     } else {
-        out.extend_from_slice(&[b'%', digit(byte / 16), digit(byte % 16)])?;
+        out.extend_from_slice(&[b'%', hex_digit(byte / 16), hex_digit(byte % 16)])?;
     }
     Ok(())
 }
 
-/// Whether the byte stands for itself in a text.
-pub(crate) fn plain(byte: u8) -> bool
+/// Whether the byte stands for itself in a text, as letters, digits, `_` and `.` do.
+#[inline(always)]
+pub fn is_plain(byte: u8) -> bool
     ensures { result ≡ is_plain byte }
 {
     matches!(byte, b'0'..=b'9' | b'A'..=b'Z' | b'a'..=b'z' | b'_' | b'.')
@@ -73,12 +74,13 @@ fn all_plain(bytes: &[u8]) -> bool
 {
     let mut all = true;
     for byte in bytes {
-        all &= plain(*byte);
+        all &= is_plain(*byte);
     }
     all
 }
 
-fn digit(value: u8) -> u8
+/// The upper-case hexadecimal digit of a value below 16.
+pub fn hex_digit(value: u8) -> u8
     requires { value < 16 }
     ensures { result ≡ hex_digit value }
 {
@@ -156,7 +158,7 @@ fn read_byte(text: &[u8]) -> Result<(u8, &[u8]), Fault>
     ensures shorter { IfOk result (λ x. length x.1.now < length text.now) }
 {
     match text {
-        [byte, rest @ ..] if plain(*byte) => Ok((*byte, rest)),
+        [byte, rest @ ..] if is_plain(*byte) => Ok((*byte, rest)),
         [b'%', high, low, rest @ ..] => Ok((unescape(*high, *low)?, rest)),
         _ => Err(Fault::Form),
     }
@@ -166,7 +168,7 @@ fn unescape(high: u8, low: u8) -> Result<u8, Fault>
     ensures { result ≡ escaped high low }
 {
     let (high, low) = (digit_value(high), digit_value(low));
-    if high < 16 && low < 16 && !plain(16 * high + low) {
+    if high < 16 && low < 16 && !is_plain(16 * high + low) {
         Ok(16 * high + low)
     } else {
         Err(Fault::Form)

@@ -1,10 +1,11 @@
 //! What stands behind a value in a text that begins with it. `None` promises nothing: who expects the value may read the text in another way.
 ghost use Rattle.std.specs.Prelude.{◌≡◌, ◌<◌, ◌≤◌, ◌∷◌, ◌++◌, IfSome};
 ghost use Rattle.std.specs.List.{flat_map};
-ghost use Rattle.charlotte_text.specs.Spelling.{byte_text, bytes_text, end_text, ends_text, hex_digit, is_plain, number_text, process_text, side_text, way_text};
+ghost use Rattle.charlotte_text.specs.Spelling.{byte_text, bytes_text, end_text, ends_text, number_text, process_text, side_text, way_text};
 
 use crate::number::leading_number;
 use charlotte_calls::{EndId, Pid, Side, Way};
+use charlotte_text::{hex_digit, is_plain};
 
 /// Behind a word.
 #[inline(always)]
@@ -142,28 +143,12 @@ fn behind_each<'a>(text: &'a [u8], bytes: &[u8]) -> Option<&'a [u8]>
 fn behind_spelled(text: &[u8], byte: u8) -> Option<&[u8]>
     ensures { IfSome result (λ rest. text.now ≡ byte_text byte ++ rest.now) }
 {
-    if plain(byte) {
+    if is_plain(byte) {
         return behind_byte(text, byte);
     }
     let rest = behind_byte(text, b'%')?;
-    behind_byte(behind_byte(rest, hex(byte / 16))?, hex(byte % 16))
-}
-
-fn hex(value: u8) -> u8
-    requires { value < 16 }
-    ensures { result ≡ hex_digit value }
-{
-    if value <= 9 {
-        b'0' + value
-    } else {
-        b'A' - 10 + value
-    }
-}
-
-/// Whether a byte stands for itself.
-#[inline(always)]
-pub(crate) fn plain(byte: u8) -> bool
-    ensures { result ≡ is_plain byte }
-{
-    matches!(byte, b'0'..=b'9' | b'A'..=b'Z' | b'a'..=b'z' | b'_' | b'.')
+    behind_byte(
+        behind_byte(rest, hex_digit(byte / 16))?,
+        hex_digit(byte % 16),
+    )
 }

@@ -3,10 +3,10 @@ ghost use Rattle.std.specs.Prelude.{◌≡◌, ◌≤◌, ◌++◌, ℕ, IfSome,
 ghost use Rattle.std.specs.List.{list_all};
 ghost use Rattle.charlotte_text.specs.Spelling.{IsCall, IsEnd, call_text, end_text, is_plain, side_text};
 
-use crate::behind::{behind_byte, behind_word, plain};
+use crate::behind::{behind_byte, behind_word};
 use crate::number::leading_number;
 use charlotte_calls::{Bytes, Call, EndId, Ends, LinkId, Side};
-use charlotte_text::read_call_into;
+use charlotte_text::{is_plain, read_call_into};
 
 /// Puts the call that a text begins with into its place: what stands behind it. `None` promises nothing, and leaves any call there.
 pub fn read_leading_call<'a>(text: &'a [u8], version: u8, call: &mut Call) -> Option<&'a [u8]>
@@ -95,7 +95,7 @@ fn plain_count(text: &[u8]) -> usize
     ensures plain { list_all is_plain (take result text.now) ≡ true }
 {
     let mut count = 0;
-    while count < text.len() && plain(text[count]) {
+    while count < text.len() && is_plain(text[count]) {
         count += 1;
     }
     count
