@@ -8,15 +8,36 @@ use crate::behind::{behind_byte, behind_bytes, behind_end, behind_number, behind
 use crate::step::{behind_count, behind_numbered, behind_on};
 use charlotte_calls::{EndId, MovingPicture, What};
 
+/// What a packet tells of an activity: its number, and the kernel and the hops of the opposite end.
+#[derive(Clone, Copy)]
+struct About {
+    number: u32,
+    at: u8,
+    hops: u32,
+}
+
+impl About {
+    #[inline(always)]
+    fn new(number: u32, at: u8, hops: u32) -> About
+        ensures { result ≡ record { number = number; at = at; hops = hops } }
+    {
+        About { number, at, hops }
+    }
+}
+
 /// What stands behind a packet, as `want 0.0a 1 0 0`, in a text that begins with it. `None` promises nothing.
 pub fn behind_packet<'a>(text: &'a [u8], what: &What) -> Option<&'a [u8]>
     ensures { IfSome result (λ rest. text.now ≡ packet_text (what_picture what.now) ++ rest.now) }
 {
     match what {
-        What::Want { to, w, at, hops } => behind_about(text, b"want ", *to, (*w, *at, *hops)),
-        What::Unwant { to, w, at, hops } => behind_about(text, b"unwant ", *to, (*w, *at, *hops)),
+        What::Want { to, w, at, hops } => {
+            behind_about(text, b"want ", *to, About::new(*w, *at, *hops))
+        }
+        What::Unwant { to, w, at, hops } => {
+            behind_about(text, b"unwant ", *to, About::new(*w, *at, *hops))
+        }
         What::Unwanted { to, w, at, hops } => {
-            behind_about(text, b"unwanted ", *to, (*w, *at, *hops))
+            behind_about(text, b"unwanted ", *to, About::new(*w, *at, *hops))
         }
         What::Parcel {
             to,
@@ -27,10 +48,12 @@ pub fn behind_packet<'a>(text: &'a [u8], what: &What) -> Option<&'a [u8]>
             bytes,
             moving,
         } => {
-            let rest = behind_parcel(text, *to, (*n, *w, *at, *hops))?;
+            let rest = behind_parcel(text, *to, *n, About::new(*w, *at, *hops))?;
             behind_carried(rest, bytes.as_slice(), moving.values())
         }
-        What::Taken { to, n, at, hops } => behind_about(text, b"taken ", *to, (*n, *at, *hops)),
+        What::Taken { to, n, at, hops } => {
+            behind_about(text, b"taken ", *to, About::new(*n, *at, *hops))
+        }
         What::Back { to, n, moving } => {
             behind_values(behind_numbered(text, b"back ", *to, *n)?, moving.values())
         }
@@ -50,28 +73,26 @@ fn behind_place(text: &[u8], at: u8, hops: u32) -> Option<&[u8]>
     behind_count(behind_count(text, u32::from(at))?, hops)
 }
 
-/// Behind a word with its blank, an end, the number of an activity, and where its opposite end is.
+/// Behind a word with its blank, an end, and what a packet tells of an activity.
 #[inline(always)]
-fn behind_about<'a>(
-    text: &'a [u8],
-    word: &[u8],
-    to: EndId,
-    numbers: (u32, u8, u32),
-) -> Option<&'a [u8]>
-    ensures { IfSome result (λ rest. text.now ≡ word.now ++ end_text to ++ numbers_text (numbers.0 ∷ numbers.1 ∷ numbers.2 ∷ []) ++ rest.now) }
+fn behind_about<'a>(text: &'a [u8], word: &[u8], to: EndId, about: About) -> Option<&'a [u8]>
+    ensures { IfSome result (λ rest. text.now ≡ word.now ++ end_text to ++ numbers_text (about.number ∷ about.at ∷ about.hops ∷ []) ++ rest.now) }
 {
-    let (number, at, hops) = numbers;
-    behind_place(behind_numbered(text, word, to, number)?, at, hops)
+    let rest = behind_numbered(text, word, to, about.number)?;
+    behind_place(rest, about.at, about.hops)
 }
 
-/// Behind a parcel up to its numbers: that of the message and of its receive, and where the opposite end is.
+/// Behind a parcel up to its numbers: that of the message, and what it tells of the receive.
 #[inline(always)]
-fn behind_parcel(text: &[u8], to: EndId, numbers: (u32, u32, u8, u32)) -> Option<&[u8]>
-    ensures { IfSome result (λ rest. text.now ≡ codes "parcel " ++ end_text to ++ numbers_text (numbers.0 ∷ numbers.1 ∷ numbers.2 ∷ numbers.3 ∷ []) ++ rest.now) }
+fn behind_parcel(text: &[u8], to: EndId, n: u32, receive: About) -> Option<&[u8]>
+    ensures { IfSome result (λ rest. text.now ≡ codes "parcel " ++ end_text to ++ numbers_text (n ∷ receive.number ∷ receive.at ∷ receive.hops ∷ []) ++ rest.now) }
 {
-    let (n, w, at, hops) = numbers;
     let rest = behind_numbered(text, b"parcel ", to, n)?;
-    behind_place(behind_count(rest, w)?, at, hops)
+    behind_place(
+        behind_count(rest, receive.number)?,
+        receive.at,
+        receive.hops,
+    )
 }
 
 /// Behind what a parcel carries: its bytes, and its values.
