@@ -4,7 +4,7 @@ ghost use Rattle.charlotte_text.specs.Spelling.{end_text, way_text, call_text, I
 ghost use Rattle.charlotte_text.specs.Reading.{Puts, way_of, keyword_of, only_end_of, send_of, cancel_of, print_of, operands_of, call_of, rest_parts};
 
 use crate::fault::Fault;
-use crate::name::{push_end, push_ends, read_end, read_ends};
+use crate::name::{most_ends, push_end, push_ends, read_end, read_ends};
 use crate::part::{end_of_line, next_word};
 use crate::text::{plain_bytes, push_bytes, read_bytes};
 use charlotte_calls::{Call, EndId, NoMemory, Way};
@@ -194,7 +194,7 @@ fn read_send(rest: Option<&[u8]>, version: u8, call: &mut Call) -> Result<(), Fa
     let (end, rest) = next_word(rest)?;
     let on = read_end(end)?;
     let (text, rest) = next_word(rest)?;
-    let enclose = read_ends(rest, if version == 1 { 1 } else { 8 })?;
+    let enclose = read_ends(rest, most_ends(version))?;
     if let Some(bytes) = plain_bytes(text) {
         *call = Call::Send { on, bytes, enclose };
         return Ok(());

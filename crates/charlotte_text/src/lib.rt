@@ -4,8 +4,9 @@
 //! Each ensures that the buffer then ends with the spelling, and that it is as before where there was no memory.
 //!
 //! Readers take a word or what is left of a line: `read_number`, `read_below`, `read_end`, `read_ends`, `read_process`,
-//! `read_bytes`, `read_way`, `read_call`, over `next_word` and `end_of_line`. Each finds a value exactly where the bytes
-//! spell it, and takes no memory. A number or a text that is too large is told apart from bytes of another form.
+//! `read_bytes`, `read_way`, `read_call`, over `next_word` and `end_of_line`; `next_part` and `end_of_parts` are these for parts that
+//! another byte separates. Each finds a value exactly where the bytes spell it, and takes no memory. A number or a text that is
+//! too large is told apart from bytes of another form.
 //! `is_plain` and `hex_digit` tell how one byte of a text is spelled.
 //! A call takes some 400 bytes, so `read_call_into` puts it into a place that the caller has.
 #![tactic(auto)]
@@ -21,7 +22,7 @@ mod text;
 pub use call::{push_call, push_way, read_call, read_call_into, read_way};
 pub use fault::Fault;
 pub use law::{one_call, one_end, one_string_of_bytes};
-pub use name::{push_end, push_ends, push_process, read_end, read_ends, read_process};
+pub use name::{most_ends, push_end, push_ends, push_process, read_end, read_ends, read_process};
 pub use number::{Number, push_number, read_below, read_number};
-pub use part::{cut, end_of_line, next_word};
+pub use part::{cut, end_of_line, end_of_parts, next_part, next_word};
 pub use text::{hex_digit, is_plain, push_bytes, read_bytes};

@@ -1,11 +1,11 @@
 ghost use Rattle.std.specs.Prelude.{◌≡◌, ◌≤◌, ◌<◌, ◌^◌, [], ◌∷◌, ◌++◌, ℕ, List, OnOk, OnErr, IfOk, length, take, map, codes, option_copied};
-ghost use Rattle.charlotte_text.specs.Spelling.{number_text, end_text, ends_text, plus_text, process_text, side_text, IsEnd};
+ghost use Rattle.charlotte_text.specs.Spelling.{number_text, end_text, ends_text, most_ends, plus_text, process_text, side_text, IsEnd};
 ghost use Rattle.std.specs.List.{AllByRecursion};
 ghost use Rattle.charlotte_text.specs.Reading.{Gives, process_of, side_of, end_of, plus_end_of, ends_of, rest_parts};
 
 use crate::fault::Fault;
 use crate::number::{Number, push_number, read_below, read_number};
-use crate::part::{cut, no_part};
+use crate::part::{cut, end_of_parts, next_part};
 use arrayvec::ArrayVec;
 use charlotte_calls::{EndId, Ends, LinkId, NoMemory, Pid, Side};
 
@@ -151,9 +151,8 @@ fn parse_end(word: &[u8]) -> Result<EndId, Fault>
     ensures { result ≡ end_of word.now }
 {
     let (maker, rest) = cut(b'.', word);
-    let tail = rest.ok_or(Fault::Form)?;
-    let (tail, rest) = cut(b'.', tail);
-    no_part(b'.', rest)?;
+    let (tail, rest) = next_part(b'.', rest)?;
+    end_of_parts(b'.', rest)?;
     let (count, side) = split_side(tail)?;
     let maker = read_below(maker, 256)? as u8;
     let count = read_below(count, 4_294_967_296)? as u32;
@@ -172,6 +171,14 @@ fn split_side(word: &[u8]) -> Result<(&[u8], Side), Fault>
         Some((b'b', count)) => Ok((count, Side::B)),
         _ => Err(Fault::Form),
     }
+}
+
+/// How many ends a message or values a packet may have in a version: one in version 1, else eight.
+pub fn most_ends(version: u8) -> usize
+    ensures exact { result ≡ most_ends version }
+    ensures within { result ≤ 8 }
+{
+    if version == 1 { 1 } else { 8 }
 }
 
 /// The ends that the words name of which this is left, each behind a plus. `Form` where they are more than `most`.

@@ -21,24 +21,31 @@ fn first_at(separator: u8, text: &[u8]) -> Option<usize>
     text.iter().position(|byte| *byte == separator)
 }
 
+/// The next part of a text that a byte cuts into parts and of which this is left, and what is then left. `Form` where no part is left.
+pub fn next_part(separator: u8, rest: Option<&[u8]>) -> Result<(&[u8], Option<&[u8]>), Fault>
+    ensures { Gives (λ x. (x.0.now, rest_parts separator (option_copied x.1))) result (part_at (rest_parts separator (option_copied rest.entry))) }
+{
+    let text = rest.ok_or(Fault::Form)?;
+    Ok(cut(separator, text))
+}
+
 /// The next word of a line of which this is left, and what is then left. `Form` where no word is left.
 pub fn next_word(rest: Option<&[u8]>) -> Result<(&[u8], Option<&[u8]>), Fault>
     ensures { Gives (λ x. (x.0.now, rest_parts 32 (option_copied x.1))) result (part_at (rest_parts 32 (option_copied rest.entry))) }
 {
-    let line = rest.ok_or(Fault::Form)?;
-    Ok(cut(b' ', line))
+    next_part(b' ', rest)
 }
 
 /// Nothing is left of a line. `Form` where a word is left.
 pub fn end_of_line(rest: Option<&[u8]>) -> Result<(), Fault>
     ensures { Gives (λ _. tt) result (ended (rest_parts 32 (option_copied rest.entry))) }
 {
-    no_part(b' ', rest)
+    end_of_parts(b' ', rest)
 }
 
-/// Nothing is left of a text that a byte cuts into parts.
+/// Nothing is left of a text that a byte cuts into parts. `Form` where a part is left.
 #[tactic(auto, using(crate::proofs::Parts::ended_rest))]
-pub(crate) fn no_part(separator: u8, rest: Option<&[u8]>) -> Result<(), Fault>
+pub fn end_of_parts(separator: u8, rest: Option<&[u8]>) -> Result<(), Fault>
     ensures { Gives (λ _. tt) result (ended (rest_parts separator (option_copied rest.entry))) }
 {
     match rest {

@@ -21,4 +21,6 @@ pub use journal::Journal;
 pub use kernel_world::{Entry, Happened, Placed};
 pub use last::{Last, ScriptNote};
 pub use merging::{Head, earlier, merge, merge_whole};
+pub use packet::value_fields;
 pub use print::{print_entry, print_header, print_picture, print_transcript};
+pub use step::cause_name;

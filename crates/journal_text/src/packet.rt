@@ -2,7 +2,7 @@ ghost use Rattle.std.specs.Prelude.{◌≡◌, ◌++◌, ◌∷◌, [], OnOk, co
 ghost use Rattle.charlotte_calls.specs.Packets.{what_picture};
 ghost use Rattle.charlotte_text.specs.Spelling.{end_text, bytes_text};
 ghost use Rattle.compact_calls.specs.Stored.{what_of};
-ghost use Rattle.journal_text.specs.Transcript.{numbers_behind, numbers_text, value_text, values_text, packet_text};
+ghost use Rattle.journal_text.specs.Transcript.{fields_text, numbers_behind, numbers_text, value_text, values_text, packet_text};
 
 use charlotte_calls::{EndId, MovingPicture, NoMemory, What};
 use charlotte_text::{push_bytes, push_end, push_number};
@@ -42,11 +42,12 @@ pub(crate) fn push_form(
     Ok(())
 }
 
-fn push_value(out: &mut Vec<u8>, value: &MovingPicture) -> Result<(), NoMemory>
-    ensures { OnOk result (out.new.items ≡ out.old.items ++ value_text value.now) }
+/// The numbers of the value of an end, as its text has them behind the end.
+#[inline(always)]
+pub fn value_fields(value: &MovingPicture) -> [u64; 9]
+    ensures { value_text value.now ≡ end_text value.now.end ++ fields_text result }
 {
-    push_end(out, value.end)?;
-    let fields = [
+    [
         u64::from(value.hops),
         u64::from(value.hint.0),
         u64::from(value.hint.1),
@@ -56,8 +57,14 @@ fn push_value(out: &mut Vec<u8>, value: &MovingPicture) -> Result<(), NoMemory>
         u64::from(value.want),
         u64::from(value.dead),
         u64::from(value.trail),
-    ];
-    push_numbers(out, b':', &fields)?;
+    ]
+}
+
+fn push_value(out: &mut Vec<u8>, value: &MovingPicture) -> Result<(), NoMemory>
+    ensures { OnOk result (out.new.items ≡ out.old.items ++ value_text value.now) }
+{
+    push_end(out, value.end)?;
+    push_numbers(out, b':', &value_fields(value))?;
     Ok(())
 }
 

@@ -17,22 +17,22 @@ pub(crate) fn push_of(out: &mut Vec<u8>, word: &[u8], p: Pid) -> Result<(), NoMe
     Ok(())
 }
 
-fn push_cause(out: &mut Vec<u8>, cause: Cause) -> Result<(), NoMemory>
-    ensures { OnOk result (out.new.items ≡ out.old.items ++ cause_text cause) }
+/// The name of a cause of refusal.
+pub fn cause_name(cause: Cause) -> &'static [u8]
+    ensures { result.now ≡ cause_text cause }
 {
     match cause {
-        Cause::NoEnd => out.extend_from_slice(b"NoEnd")?,
-        Cause::Busy => out.extend_from_slice(b"Busy")?,
-        Cause::Dead => out.extend_from_slice(b"Dead")?,
-        Cause::EncloseNoEnd => out.extend_from_slice(b"EncloseNoEnd")?,
-        Cause::EncloseBusy => out.extend_from_slice(b"EncloseBusy")?,
-        Cause::EncloseSame => out.extend_from_slice(b"EncloseSame")?,
-        Cause::Late => out.extend_from_slice(b"Late")?,
-        Cause::NoActivity => out.extend_from_slice(b"NoActivity")?,
-        Cause::LinksFull => out.extend_from_slice(b"LinksFull")?,
-        Cause::EncloseTwice => out.extend_from_slice(b"EncloseTwice")?,
+        Cause::NoEnd => b"NoEnd",
+        Cause::Busy => b"Busy",
+        Cause::Dead => b"Dead",
+        Cause::EncloseNoEnd => b"EncloseNoEnd",
+        Cause::EncloseBusy => b"EncloseBusy",
+        Cause::EncloseSame => b"EncloseSame",
+        Cause::Late => b"Late",
+        Cause::NoActivity => b"NoActivity",
+        Cause::LinksFull => b"LinksFull",
+        Cause::EncloseTwice => b"EncloseTwice",
     }
-    Ok(())
 }
 
 fn push_result(
@@ -118,7 +118,8 @@ fn push_refusal(out: &mut Vec<u8>, p: Pid, cause: Cause) -> Result<(), NoMemory>
 {
     push_of(out, b". refuse ", p)?;
     out.push(b' ')?;
-    push_cause(out, cause)
+    out.extend_from_slice(cause_name(cause))?;
+    Ok(())
 }
 
 fn push_send(out: &mut Vec<u8>, on: EndId, n: u32, enclose: &[EndId]) -> Result<(), NoMemory>

@@ -6,7 +6,7 @@ ghost use Rattle.transcript_reading.specs.Forms.{first_of, u8_of, u32_of, bit_of
 
 use crate::word::{read_bit, read_u8, read_u32};
 use charlotte_calls::EndId;
-use charlotte_text::{Fault, cut, read_end};
+use charlotte_text::{Fault, end_of_parts, next_part, read_end};
 use std::marker::Model;
 
 /// What colons separate and is not read yet. Contracts see it as a list.
@@ -36,21 +36,16 @@ impl<'a> Fields<'a> {
     fn next(&mut self) -> Result<&'a [u8], Fault>
         ensures { MatchResult result (λ w. part_at self.old ≡ Ok (w.now, self.new)) (λ e. part_at self.old ≡ Err e) }
     {
-        let text = self.rest.ok_or(Fault::Form)?;
-        let (field, rest) = cut(b':', text);
+        let (field, rest) = next_part(b':', self.rest)?;
         self.rest = rest;
         Ok(field)
     }
 
     /// No field is left, or the value has another form.
-    #[tactic(auto, using(charlotte_text::proofs::Parts::ended_rest))]
     pub(crate) fn finish(self) -> Result<(), Fault>
         ensures { Gives (λ _. tt) result (ended self.entry) }
     {
-        match self.rest {
-            None => Ok(()),
-            Some(_) => Err(Fault::Form),
-        }
+        end_of_parts(b':', self.rest)
     }
 
     /// The next field, an end.

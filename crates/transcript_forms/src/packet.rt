@@ -7,10 +7,10 @@ ghost use Rattle.transcript_forms.specs.Cursor.{only_as, end_number_as, wanted_a
 ghost use Rattle.transcript_reading.specs.Forms.{value_of, plus_value_of, values_of, wanted_of, parcel_of, back_of, gone_of, moved_of, end_number_of, named_packet_of, packet_of};
 
 use crate::fields::Fields;
-use crate::words::{Words, most_ends};
+use crate::words::Words;
 use arrayvec::ArrayVec;
 use charlotte_calls::{CargoPicture, EndId, MovingPicture, PictureWhat};
-use charlotte_text::Fault;
+use charlotte_text::{Fault, most_ends};
 
 /// The words of a packet, from its name on.
 #[tactic(auto, unfolding(transcript_reading::specs::Forms::packet_of))]

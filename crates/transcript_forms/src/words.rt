@@ -1,5 +1,5 @@
 //! The words of a line, one after the other.
-ghost use Rattle.std.specs.Prelude.{◌≡◌, ◌∷◌, ◌≤◌, [], Ok, Err, MatchOption, MatchResult};
+ghost use Rattle.std.specs.Prelude.{◌≡◌, ◌∷◌, [], Ok, Err, MatchOption, MatchResult};
 ghost use Rattle.charlotte_text.specs.Reading.{Gives, words, part_at, ended, end_of, ends_of, bytes_of, way_of, call_of};
 ghost use Rattle.charlotte_text.specs.Spelling.{most_ends};
 ghost use Rattle.transcript_forms.specs.Cursor.{Takes};
@@ -10,17 +10,10 @@ use crate::word::{
 };
 use charlotte_calls::{Bytes, Call, Cause, EndId, Ends, Outcome, Pid, Way};
 use charlotte_text::{
-    Fault, cut, end_of_line, next_word, read_bytes, read_call, read_end, read_ends, read_way,
+    Fault, cut, end_of_line, most_ends, next_word, read_bytes, read_call, read_end, read_ends,
+    read_way,
 };
 use std::marker::Model;
-
-/// How many ends or values a line of a version may have.
-pub(crate) fn most_ends(version: u8) -> usize
-    ensures exact { result ≡ most_ends version }
-    ensures within { result ≤ 8 }
-{
-    if version == 1 { 1 } else { 8 }
-}
 
 /// The words of a line that are not read yet. Contracts see them as a list.
 #[derive(Debug, Drop)]

@@ -34,15 +34,6 @@ pub if_some : {A : Type 0} {P R : A → Type 0} (r : Option A) → ((x : A) → 
 if_some (Some x) f p = f x p
 if_some None f p = tt
 
--- ---- values
-
--- the value of an end, and what stands behind it
-pub value_then : (v : MovingPicture) (text behind_end rest : List ℕ) (at dead trail : ℕ) → at ≡ v.hint.0 → dead ≡ bit v.dead → trail ≡ v.trail → text ≡ end_text v.end ++ behind_end
-    → behind_end ≡ numbers_behind 58 (v.hops ∷ at ∷ v.hint.1 ∷ v.sent ∷ v.asked ∷ v.served ∷ v.want ∷ dead ∷ trail ∷ []) ++ rest → text ≡ value_text v ++ rest
-value_then v text behind_end rest at dead trail is_at is_dead is_trail e f =
-    e ∙ ap (λ (x : List ℕ). end_text v.end ++ x) (f ∙ (λ i. numbers_behind 58 (v.hops ∷ is_at i ∷ v.hint.1 ∷ v.sent ∷ v.asked ∷ v.served ∷ v.want ∷ is_dead i ∷ is_trail i ∷ []) ++ rest))
-    ∙ sym (append_assoc (end_text v.end) (fields_text (v.hops ∷ v.hint.0 ∷ v.hint.1 ∷ v.sent ∷ v.asked ∷ v.served ∷ v.want ∷ bit v.dead ∷ v.trail ∷ [])) rest)
-
 -- ---- calls
 
 abbrev pub there : List ℕ → Option (List ℕ)

@@ -2,11 +2,12 @@
 ghost use Rattle.std.specs.Prelude.{◌≡◌, ◌∷◌, ◌++◌, [], IfSome, codes};
 ghost use Rattle.charlotte_calls.specs.Packets.{what_picture};
 ghost use Rattle.charlotte_text.specs.Spelling.{bytes_text, end_text};
-ghost use Rattle.journal_text.specs.Transcript.{bit, numbers_behind, numbers_text, packet_text, value_text, values_text};
+ghost use Rattle.journal_text.specs.Transcript.{numbers_behind, numbers_text, packet_text, value_text, values_text};
 
 use crate::behind::{behind_byte, behind_bytes, behind_end, behind_number, behind_word};
 use crate::step::{behind_count, behind_numbered, behind_on};
 use charlotte_calls::{EndId, MovingPicture, What};
+use journal_text::value_fields;
 
 /// What a packet tells of an activity: its number, and the kernel and the hops of the opposite end.
 #[derive(Clone, Copy)]
@@ -88,11 +89,8 @@ fn behind_parcel(text: &[u8], to: EndId, n: u32, receive: About) -> Option<&[u8]
     ensures { IfSome result (λ rest. text.now ≡ codes "parcel " ++ end_text to ++ numbers_text (n ∷ receive.number ∷ receive.at ∷ receive.hops ∷ []) ++ rest.now) }
 {
     let rest = behind_numbered(text, b"parcel ", to, n)?;
-    behind_place(
-        behind_count(rest, receive.number)?,
-        receive.at,
-        receive.hops,
-    )
+    let rest = behind_count(rest, receive.number)?;
+    behind_place(rest, receive.at, receive.hops)
 }
 
 /// Behind what a parcel carries: its bytes, and its values.
@@ -118,34 +116,16 @@ fn behind_values<'a>(text: &'a [u8], values: &[MovingPicture]) -> Option<&'a [u8
 fn behind_value<'a>(text: &'a [u8], value: &MovingPicture) -> Option<&'a [u8]>
     ensures { IfSome result (λ rest. text.now ≡ value_text value.now ++ rest.now) }
 {
-    let fields = [
-        value.hops,
-        u32::from(value.hint.0),
-        value.hint.1,
-        value.sent,
-        value.asked,
-        value.served,
-        value.want,
-        number_of(value.dead),
-        u32::from(value.trail),
-    ];
-    behind_fields(behind_end(text, value.end)?, &fields)
-}
-
-/// 1 for yes and 0 for no.
-fn number_of(said: bool) -> u32
-    ensures { result ≡ bit said }
-{
-    if said { 1 } else { 0 }
+    behind_fields(behind_end(text, value.end)?, &value_fields(value))
 }
 
 /// Behind numbers, each behind a colon.
-fn behind_fields<'a>(text: &'a [u8], numbers: &[u32]) -> Option<&'a [u8]>
+fn behind_fields<'a>(text: &'a [u8], numbers: &[u64]) -> Option<&'a [u8]>
     ensures { IfSome result (λ rest. text.now ≡ numbers_behind 58 numbers.now ++ rest.now) }
 {
     let mut rest = text;
     for number in numbers {
-        rest = behind_number(behind_byte(rest, b':')?, u64::from(*number))?;
+        rest = behind_number(behind_byte(rest, b':')?, *number)?;
     }
     Some(rest)
 }

@@ -8,6 +8,7 @@ use crate::behind::{
     behind_short, behind_way, behind_word,
 };
 use charlotte_calls::{Cause, EndId, Outcome, Pid, Report, ServiceStep, Way};
+use journal_text::cause_name;
 
 /// What stands behind a service step, as `. take 0.0a 1 p1 late`, in a text that begins with it. `None` promises nothing.
 pub fn behind_step<'a>(text: &'a [u8], step: &ServiceStep) -> Option<&'a [u8]>
@@ -85,24 +86,7 @@ fn behind_refusal(text: &[u8], p: Pid, cause: Cause) -> Option<&[u8]>
     ensures { IfSome result (λ rest. text.now ≡ codes ". refuse " ++ process_text p ++ codes " " ++ cause_text cause ++ rest.now) }
 {
     let rest = behind_of(text, b". refuse ", p)?;
-    behind_cause(behind_byte(rest, b' ')?, cause)
-}
-
-fn behind_cause(text: &[u8], cause: Cause) -> Option<&[u8]>
-    ensures { IfSome result (λ rest. text.now ≡ cause_text cause ++ rest.now) }
-{
-    match cause {
-        Cause::NoEnd => behind_word(text, b"NoEnd"),
-        Cause::Busy => behind_word(text, b"Busy"),
-        Cause::Dead => behind_word(text, b"Dead"),
-        Cause::EncloseNoEnd => behind_word(text, b"EncloseNoEnd"),
-        Cause::EncloseBusy => behind_word(text, b"EncloseBusy"),
-        Cause::EncloseSame => behind_word(text, b"EncloseSame"),
-        Cause::Late => behind_word(text, b"Late"),
-        Cause::NoActivity => behind_word(text, b"NoActivity"),
-        Cause::LinksFull => behind_word(text, b"LinksFull"),
-        Cause::EncloseTwice => behind_word(text, b"EncloseTwice"),
-    }
+    behind_word(behind_byte(rest, b' ')?, cause_name(cause))
 }
 
 #[inline(always)]
