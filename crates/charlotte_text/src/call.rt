@@ -5,7 +5,7 @@ ghost use Rattle.charlotte_text.specs.Reading.{Puts, way_of, keyword_of, only_en
 
 use crate::fault::Fault;
 use crate::name::{most_ends, push_end, push_ends, read_end, read_ends};
-use crate::part::{end_of_line, next_word};
+use crate::part::{end_of_line, is_word, next_word};
 use crate::text::{plain_bytes, push_bytes, read_bytes};
 use charlotte_calls::{Call, EndId, NoMemory, Way};
 
@@ -119,21 +119,21 @@ pub fn read_call_into(words: Option<&[u8]>, version: u8, call: &mut Call) -> Res
 fn read_keyword(word: &[u8]) -> Result<Keyword, Fault>
     ensures { result ≡ keyword_of word.now }
 {
-    if word == b"make".as_slice() {
+    if is_word(word, b"make") {
         Ok(Keyword::Make)
-    } else if word == b"destroy".as_slice() {
+    } else if is_word(word, b"destroy") {
         Ok(Keyword::Destroy)
-    } else if word == b"send".as_slice() {
+    } else if is_word(word, b"send") {
         Ok(Keyword::Send)
-    } else if word == b"receive".as_slice() {
+    } else if is_word(word, b"receive") {
         Ok(Keyword::Receive)
-    } else if word == b"cancel".as_slice() {
+    } else if is_word(word, b"cancel") {
         Ok(Keyword::Cancel)
-    } else if word == b"wait".as_slice() {
+    } else if is_word(word, b"wait") {
         Ok(Keyword::Wait)
-    } else if word == b"print".as_slice() {
+    } else if is_word(word, b"print") {
         Ok(Keyword::Print)
-    } else if word == b"exit".as_slice() {
+    } else if is_word(word, b"exit") {
         Ok(Keyword::Exit)
     } else {
         Err(Fault::Form)
@@ -245,9 +245,9 @@ pub fn read_way(word: &[u8]) -> Result<Way, Fault>
 fn parse_way(word: &[u8]) -> Result<Way, Fault>
     ensures { result ≡ way_of word.now }
 {
-    if word == b"in".as_slice() {
+    if is_word(word, b"in") {
         Ok(Way::Inward)
-    } else if word == b"out".as_slice() {
+    } else if is_word(word, b"out") {
         Ok(Way::Outward)
     } else {
         Err(Fault::Form)

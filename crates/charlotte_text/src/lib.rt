@@ -24,5 +24,5 @@ pub use fault::Fault;
 pub use law::{one_call, one_end, one_string_of_bytes};
 pub use name::{most_ends, push_end, push_ends, push_process, read_end, read_ends, read_process};
 pub use number::{Number, push_number, read_below, read_number};
-pub use part::{cut, end_of_line, end_of_parts, next_part, next_word};
+pub use part::{cut, end_of_line, end_of_parts, is_word, next_part, next_word};
 pub use text::{hex_digit, is_plain, push_bytes, read_bytes};

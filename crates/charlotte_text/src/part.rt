@@ -1,5 +1,6 @@
 ghost use Rattle.std.specs.Prelude.{◌≡◌, ◌==◌, ◌<◌, ◌∷◌, IfSome, length, option_copied};
 ghost use Rattle.std.specs.List.{position};
+ghost use Rattle.std.specs.Str.{bytes_eq};
 ghost use Rattle.charlotte_text.specs.Reading.{Gives, parts, rest_parts, part_at, ended};
 
 use crate::fault::Fault;
@@ -34,6 +35,14 @@ pub fn next_word(rest: Option<&[u8]>) -> Result<(&[u8], Option<&[u8]>), Fault>
     ensures { Gives (λ x. (x.0.now, rest_parts 32 (option_copied x.1))) result (part_at (rest_parts 32 (option_copied rest.entry))) }
 {
     next_part(b' ', rest)
+}
+
+/// Whether a word is this one.
+#[inline(always)]
+pub fn is_word(word: &[u8], this: &[u8]) -> bool
+    ensures { result ≡ bytes_eq word.now this.now }
+{
+    word == this
 }
 
 /// Nothing is left of a line. `Form` where a word is left.

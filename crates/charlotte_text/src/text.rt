@@ -4,6 +4,7 @@ ghost use Rattle.charlotte_text.specs.Reading.{Gives, hex_value, escaped, byte_a
 ghost use Rattle.std.specs.List.{flat_map, list_all};
 
 use crate::fault::Fault;
+use crate::part::is_word;
 use arrayvec::ArrayVec;
 use charlotte_calls::{Bytes, NoMemory};
 
@@ -105,7 +106,7 @@ pub fn read_bytes(word: &[u8]) -> Result<Bytes, Fault>
 fn parse_bytes(word: &[u8]) -> Result<Bytes, Fault>
     ensures { result ≡ bytes_of word.now }
 {
-    if word == b"-".as_slice() {
+    if is_word(word, b"-") {
         return Bytes::from_slice(&[]).ok_or(Fault::Long);
     }
     if word.is_empty() {

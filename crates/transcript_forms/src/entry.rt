@@ -6,7 +6,7 @@ use crate::packet::read_packet;
 use crate::word::{read_pid, read_u64};
 use crate::words::Words;
 use charlotte_calls::Picture;
-use charlotte_text::Fault;
+use charlotte_text::{Fault, is_word};
 use transcript_reading::LineKind;
 
 /// An entry, by its first word and those behind it.
@@ -32,7 +32,7 @@ fn read_happened(
     let Some(word) = words.pop() else {
         return Err(Fault::Form);
     };
-    if word == b"from".as_slice() {
+    if is_word(word, b"from") {
         read_took(version, stamp, kernel, words)
     } else {
         read_asked(version, stamp, kernel, word, words)

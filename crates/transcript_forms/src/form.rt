@@ -9,7 +9,7 @@ use crate::entry::read_entry;
 use crate::step::read_step;
 use crate::word::is_numeral;
 use crate::words::Words;
-use charlotte_text::Fault;
+use charlotte_text::{Fault, is_word};
 use journal_text::{Last, ScriptNote};
 use transcript_reading::LineKind;
 
@@ -43,23 +43,23 @@ fn parse_kind(version: u8, text: &[u8]) -> Result<LineKind, Fault>
 fn read_named(version: u8, name: &[u8], words: Words<'_>) -> Result<LineKind, Fault>
     ensures { result ≡ named_line_of version name.now words.entry }
 {
-    if name == b".".as_slice() {
+    if is_word(name, b".") {
         read_step(version, words).map(|step| LineKind::Service(step))
-    } else if name == b"transcript".as_slice() {
+    } else if is_word(name, b"transcript") {
         read_only_u8(words).map(|version| LineKind::First { version })
-    } else if name == b"kernels".as_slice() {
+    } else if is_word(name, b"kernels") {
         read_only_u8(words).map(|kernels| LineKind::Kernels(kernels))
-    } else if name == b"process".as_slice() {
+    } else if is_word(name, b"process") {
         read_home(words)
-    } else if name == b"wire".as_slice() {
+    } else if is_word(name, b"wire") {
         read_wire(words)
-    } else if name == b"note".as_slice() {
+    } else if is_word(name, b"note") {
         read_note(words)
-    } else if name == b"quiet".as_slice() {
+    } else if is_word(name, b"quiet") {
         words.finish().map(|()| LineKind::End(Last::Quiet))
-    } else if name == b"open".as_slice() {
+    } else if is_word(name, b"open") {
         words.finish().map(|()| LineKind::End(Last::Unsettled))
-    } else if name == b"spent".as_slice() {
+    } else if is_word(name, b"spent") {
         read_only_u8(words).map(|kernel| LineKind::End(Last::Spent(kernel)))
     } else {
         Err(Fault::Form)
@@ -82,7 +82,7 @@ fn read_home(mut words: Words<'_>) -> Result<LineKind, Fault>
 {
     let p = words.numbered()?;
     let on = words.next()?;
-    if on != b"on".as_slice() {
+    if !is_word(on, b"on") {
         return Err(Fault::Form);
     }
     let kernel = words.u8()?;

@@ -10,7 +10,7 @@ use crate::fields::Fields;
 use crate::words::Words;
 use arrayvec::ArrayVec;
 use charlotte_calls::{CargoPicture, EndId, MovingPicture, PictureWhat};
-use charlotte_text::{Fault, most_ends};
+use charlotte_text::{Fault, is_word, most_ends};
 
 /// The words of a packet, from its name on.
 #[tactic(auto, unfolding(transcript_reading::specs::Forms::packet_of))]
@@ -27,27 +27,27 @@ pub(crate) fn read_packet(version: u8, mut words: Words<'_>) -> Result<PictureWh
 fn read_named(version: u8, name: &[u8], words: Words<'_>) -> Result<PictureWhat, Fault>
     ensures { result ≡ named_packet_of version name.now words.entry }
 {
-    if name == b"want".as_slice() {
+    if is_word(name, b"want") {
         read_want(words)
-    } else if name == b"unwant".as_slice() {
+    } else if is_word(name, b"unwant") {
         read_unwant(words)
-    } else if name == b"unwanted".as_slice() {
+    } else if is_word(name, b"unwanted") {
         read_unwanted(words)
-    } else if name == b"parcel".as_slice() {
+    } else if is_word(name, b"parcel") {
         read_parcel(version, words)
-    } else if name == b"taken".as_slice() {
+    } else if is_word(name, b"taken") {
         read_taken(words)
-    } else if name == b"back".as_slice() {
+    } else if is_word(name, b"back") {
         read_back(version, words)
-    } else if name == b"gone".as_slice() {
+    } else if is_word(name, b"gone") {
         read_gone(words)
-    } else if name == b"moved".as_slice() {
+    } else if is_word(name, b"moved") {
         read_moved(words)
-    } else if name == b"known".as_slice() {
+    } else if is_word(name, b"known") {
         read_known(words)
-    } else if name == b"forget".as_slice() {
+    } else if is_word(name, b"forget") {
         read_forget(words)
-    } else if name == b"goneseen".as_slice() {
+    } else if is_word(name, b"goneseen") {
         read_gone_seen(words)
     } else {
         Err(Fault::Form)

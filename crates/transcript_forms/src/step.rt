@@ -7,7 +7,7 @@ use crate::packet::read_end_number;
 use crate::report::read_report;
 use crate::words::Words;
 use charlotte_calls::{EndId, Pid};
-use charlotte_text::Fault;
+use charlotte_text::{Fault, is_word};
 use transcript_reading::ServiceLine;
 
 /// The words of a service step, behind the dot.
@@ -25,37 +25,37 @@ pub(crate) fn read_step(version: u8, mut words: Words<'_>) -> Result<ServiceLine
 fn read_named(version: u8, name: &[u8], words: Words<'_>) -> Result<ServiceLine, Fault>
     ensures { result ≡ named_step_of version name.now words.entry }
 {
-    if name == b"make".as_slice() {
+    if is_word(name, b"make") {
         read_make(words)
-    } else if name == b"refuse".as_slice() {
+    } else if is_word(name, b"refuse") {
         read_refuse(words)
-    } else if name == b"destroy".as_slice() {
+    } else if is_word(name, b"destroy") {
         read_only_end(words).map(|on| ServiceLine::Destroy { on })
-    } else if name == b"send".as_slice() {
+    } else if is_word(name, b"send") {
         read_send(version, words)
-    } else if name == b"receive".as_slice() {
+    } else if is_word(name, b"receive") {
         read_only_end(words).map(|on| ServiceLine::Receive { on })
-    } else if name == b"cancel".as_slice() {
+    } else if is_word(name, b"cancel") {
         read_cancel(words)
-    } else if name == b"wait".as_slice() {
+    } else if is_word(name, b"wait") {
         read_only_pid(words).map(|p| ServiceLine::Wait { p })
-    } else if name == b"report".as_slice() {
+    } else if is_word(name, b"report") {
         read_report(version, words)
-    } else if name == b"exit".as_slice() {
+    } else if is_word(name, b"exit") {
         read_only_pid(words).map(|p| ServiceLine::Exit { p })
-    } else if name == b"match".as_slice() {
+    } else if is_word(name, b"match") {
         read_end_number(words).map(|(on, n)| ServiceLine::Match { on, n })
-    } else if name == b"take".as_slice() {
+    } else if is_word(name, b"take") {
         read_take(words)
-    } else if name == b"complete".as_slice() {
+    } else if is_word(name, b"complete") {
         read_end_number(words).map(|(on, n)| ServiceLine::Complete { on, n })
-    } else if name == b"withdraw".as_slice() {
+    } else if is_word(name, b"withdraw") {
         read_only_end(words).map(|on| ServiceLine::Withdraw { on })
-    } else if name == b"free".as_slice() {
+    } else if is_word(name, b"free") {
         read_only_end(words).map(|on| ServiceLine::Free { on })
-    } else if name == b"notice".as_slice() {
+    } else if is_word(name, b"notice") {
         read_notice(words)
-    } else if name == b"back".as_slice() {
+    } else if is_word(name, b"back") {
         read_back(words)
     } else {
         Err(Fault::Form)

@@ -4,7 +4,7 @@ ghost use Rattle.charlotte_text.specs.Reading.{is_number};
 ghost use Rattle.transcript_reading.specs.Forms.{u8_of, u32_of, u64_of, numbered_of, pid_of, kernel_of, bit_of, cause_of, outcome_of, waits_of};
 
 use charlotte_calls::{Cause, Outcome, Pid};
-use charlotte_text::{Fault, Number, read_below, read_number};
+use charlotte_text::{Fault, Number, is_word, read_below, read_number};
 
 /// Whether the word is a number, of any size.
 #[tactic(auto, unfolding(charlotte_text::specs::Reading::number_of))]
@@ -85,25 +85,25 @@ pub(crate) fn read_bit(word: &[u8]) -> Result<bool, Fault>
 pub(crate) fn read_cause(word: &[u8]) -> Result<Cause, Fault>
     ensures { result ≡ cause_of word.now }
 {
-    if word == b"NoEnd".as_slice() {
+    if is_word(word, b"NoEnd") {
         Ok(Cause::NoEnd)
-    } else if word == b"Busy".as_slice() {
+    } else if is_word(word, b"Busy") {
         Ok(Cause::Busy)
-    } else if word == b"Dead".as_slice() {
+    } else if is_word(word, b"Dead") {
         Ok(Cause::Dead)
-    } else if word == b"EncloseNoEnd".as_slice() {
+    } else if is_word(word, b"EncloseNoEnd") {
         Ok(Cause::EncloseNoEnd)
-    } else if word == b"EncloseBusy".as_slice() {
+    } else if is_word(word, b"EncloseBusy") {
         Ok(Cause::EncloseBusy)
-    } else if word == b"EncloseSame".as_slice() {
+    } else if is_word(word, b"EncloseSame") {
         Ok(Cause::EncloseSame)
-    } else if word == b"Late".as_slice() {
+    } else if is_word(word, b"Late") {
         Ok(Cause::Late)
-    } else if word == b"NoActivity".as_slice() {
+    } else if is_word(word, b"NoActivity") {
         Ok(Cause::NoActivity)
-    } else if word == b"LinksFull".as_slice() {
+    } else if is_word(word, b"LinksFull") {
         Ok(Cause::LinksFull)
-    } else if word == b"EncloseTwice".as_slice() {
+    } else if is_word(word, b"EncloseTwice") {
         Ok(Cause::EncloseTwice)
     } else {
         Err(Fault::Form)
@@ -115,9 +115,9 @@ pub(crate) fn read_cause(word: &[u8]) -> Result<Cause, Fault>
 pub(crate) fn read_outcome(word: &[u8]) -> Result<Outcome, Fault>
     ensures { result ≡ outcome_of word.now }
 {
-    if word == b"done".as_slice() {
+    if is_word(word, b"done") {
         Ok(Outcome::Done)
-    } else if word == b"destroyed".as_slice() {
+    } else if is_word(word, b"destroyed") {
         Ok(Outcome::Destroyed)
     } else {
         Err(Fault::Form)
@@ -129,9 +129,9 @@ pub(crate) fn read_outcome(word: &[u8]) -> Result<Outcome, Fault>
 pub(crate) fn read_waits(word: &[u8]) -> Result<bool, Fault>
     ensures { result ≡ waits_of word.now }
 {
-    if word == b"waits".as_slice() {
+    if is_word(word, b"waits") {
         Ok(true)
-    } else if word == b"nothing".as_slice() {
+    } else if is_word(word, b"nothing") {
         Ok(false)
     } else {
         Err(Fault::Form)
