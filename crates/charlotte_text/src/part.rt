@@ -39,10 +39,10 @@ pub fn next_word(rest: Option<&[u8]>) -> Result<(&[u8], Option<&[u8]>), Fault>
 
 /// Whether a word is this one.
 #[inline(always)]
-pub fn is_word(word: &[u8], this: &[u8]) -> bool
+pub fn is_word<const N: usize>(word: &[u8], this: &[u8; N]) -> bool
     ensures { result ≡ bytes_eq word.now this.now }
 {
-    word == this
+    word == this.as_slice()
 }
 
 /// Nothing is left of a line. `Form` where a word is left.
