@@ -57,7 +57,7 @@ pub fn push_wire_line(out: &mut Vec<u8>, wire: (Pid, Pid)) -> Result<(), NoMemor
     ensures { OnOk result (out.new.items ≡ out.old.items ++ line (wire_text wire)) }
 {
     out.extend_from_slice(b"wire")?;
-    push_numbers(out, b' ', &[u64::from(wire.0.0), u64::from(wire.1.0)])?;
+    push_numbers(out, b' ', &[u32::from(wire.0.0), u32::from(wire.1.0)])?;
     out.push(b'\n')?;
     Ok(())
 }

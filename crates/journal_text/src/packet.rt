@@ -9,12 +9,12 @@ use charlotte_text::{push_bytes, push_end, push_number};
 use compact_calls::StoredWhat;
 
 /// Appends numbers, each behind this byte.
-pub(crate) fn push_numbers(out: &mut Vec<u8>, mark: u8, numbers: &[u64]) -> Result<(), NoMemory>
+pub(crate) fn push_numbers(out: &mut Vec<u8>, mark: u8, numbers: &[u32]) -> Result<(), NoMemory>
     ensures { OnOk result (out.new.items ≡ out.old.items ++ numbers_behind mark numbers.now) }
 {
     for number in numbers {
         out.push(mark)?;
-        push_number(out, *number)?;
+        push_number(out, u64::from(*number))?;
     }
     Ok(())
 }
@@ -33,7 +33,7 @@ pub(crate) fn push_form(
     out: &mut Vec<u8>,
     word: &[u8],
     end: EndId,
-    numbers: &[u64],
+    numbers: &[u32],
 ) -> Result<(), NoMemory>
     ensures { OnOk result (out.new.items ≡ out.old.items ++ word.now ++ end_text end ++ numbers_text numbers.now) }
 {
@@ -44,19 +44,19 @@ pub(crate) fn push_form(
 
 /// The numbers of the value of an end, as its text has them behind the end.
 #[inline(always)]
-pub fn value_fields(value: &MovingPicture) -> [u64; 9]
+pub fn value_fields(value: &MovingPicture) -> [u32; 9]
     ensures { value_text value.now ≡ end_text value.now.end ++ fields_text result }
 {
     [
-        u64::from(value.hops),
-        u64::from(value.hint.0),
-        u64::from(value.hint.1),
-        u64::from(value.sent),
-        u64::from(value.asked),
-        u64::from(value.served),
-        u64::from(value.want),
-        u64::from(value.dead),
-        u64::from(value.trail),
+        value.hops,
+        u32::from(value.hint.0),
+        value.hint.1,
+        value.sent,
+        value.asked,
+        value.served,
+        value.want,
+        u32::from(value.dead),
+        u32::from(value.trail),
     ]
 }
 
@@ -87,14 +87,14 @@ pub(crate) fn push_numbered(
 ) -> Result<(), NoMemory>
     ensures { OnOk result (out.new.items ≡ out.old.items ++ word.now ++ end_text end ++ numbers_text (number ∷ [])) }
 {
-    push_form(out, word, end, &[u64::from(number)])
+    push_form(out, word, end, &[number])
 }
 
 /// Appends a word with its blank, an end, the kernel of its opposite end and the hops of that.
 fn push_place(out: &mut Vec<u8>, word: &[u8], to: EndId, at: u8, hops: u32) -> Result<(), NoMemory>
     ensures { OnOk result (out.new.items ≡ out.old.items ++ word.now ++ end_text to ++ numbers_text (at ∷ hops ∷ [])) }
 {
-    push_form(out, word, to, &[u64::from(at), u64::from(hops)])
+    push_form(out, word, to, &[u32::from(at), hops])
 }
 
 /// Appends a word with its blank, an end, the number of an activity, and where its opposite end is.
@@ -108,12 +108,7 @@ fn push_about(
 ) -> Result<(), NoMemory>
     ensures { OnOk result (out.new.items ≡ out.old.items ++ word.now ++ end_text to ++ numbers_text (number ∷ at ∷ hops ∷ [])) }
 {
-    push_form(
-        out,
-        word,
-        to,
-        &[u64::from(number), u64::from(at), u64::from(hops)],
-    )
+    push_form(out, word, to, &[number, u32::from(at), hops])
 }
 
 /// Appends what a parcel carries: its bytes, and its values.
@@ -136,7 +131,7 @@ fn push_parcel(
     ensures { OnOk result (out.new.items ≡ out.old.items ++ codes "parcel " ++ end_text to ++ numbers_text (numbers.0 ∷ numbers.1 ∷ numbers.2 ∷ numbers.3 ∷ []) ++ codes " " ++ bytes_text bytes.now ++ values_text values.now) }
 {
     let (n, w, at, hops) = numbers;
-    let numbers = [u64::from(n), u64::from(w), u64::from(at), u64::from(hops)];
+    let numbers = [n, w, u32::from(at), hops];
     push_form(out, b"parcel ", to, &numbers)?;
     push_carried(out, bytes, values)
 }
@@ -171,7 +166,7 @@ pub(crate) fn push_kept_packet(out: &mut Vec<u8>, what: &StoredWhat) -> Result<(
         }
         StoredWhat::Taken { to, n, at, hops } => push_about(out, b"taken ", *to, *n, *at, *hops),
         StoredWhat::Back { to, n, moving } => push_back(out, *to, *n, moving.as_slice()),
-        StoredWhat::Gone { to, at } => push_form(out, b"gone ", *to, &[u64::from(*at)]),
+        StoredWhat::Gone { to, at } => push_form(out, b"gone ", *to, &[u32::from(*at)]),
         StoredWhat::Moved { to, at, hops } => push_place(out, b"moved ", *to, *at, *hops),
         StoredWhat::Known { to, hops } => push_numbered(out, b"known ", *to, *hops),
         StoredWhat::Forget { to, hops } => push_numbered(out, b"forget ", *to, *hops),
@@ -201,7 +196,7 @@ pub(crate) fn push_packet(out: &mut Vec<u8>, what: &What) -> Result<(), NoMemory
         }
         What::Taken { to, n, at, hops } => push_about(out, b"taken ", *to, *n, *at, *hops),
         What::Back { to, n, moving } => push_back(out, *to, *n, moving.values()),
-        What::Gone { to, at } => push_form(out, b"gone ", *to, &[u64::from(*at)]),
+        What::Gone { to, at } => push_form(out, b"gone ", *to, &[u32::from(*at)]),
         What::Moved { to, at, hops } => push_place(out, b"moved ", *to, *at, *hops),
         What::Known { to, hops } => push_numbered(out, b"known ", *to, *hops),
         What::Forget { to, hops } => push_numbered(out, b"forget ", *to, *hops),

@@ -120,12 +120,12 @@ fn behind_value<'a>(text: &'a [u8], value: &MovingPicture) -> Option<&'a [u8]>
 }
 
 /// Behind numbers, each behind a colon.
-fn behind_fields<'a>(text: &'a [u8], numbers: &[u64]) -> Option<&'a [u8]>
+fn behind_fields<'a>(text: &'a [u8], numbers: &[u32]) -> Option<&'a [u8]>
     ensures { IfSome result (λ rest. text.now ≡ numbers_behind 58 numbers.now ++ rest.now) }
 {
     let mut rest = text;
     for number in numbers {
-        rest = behind_number(behind_byte(rest, b':')?, *number)?;
+        rest = behind_number(behind_byte(rest, b':')?, u64::from(*number))?;
     }
     Some(rest)
 }
