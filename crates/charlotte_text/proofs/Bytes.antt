@@ -2,7 +2,7 @@
 use Rattle.std.proofs.Common.{◌≡◌, ℕ, zero, suc, ◌<◌, ◌≤◌, ◌↔◌, Bool, true, false, cond, eqb, leb, inl, inr, Option, Some, None, List, [], ◌∷◌, ◌++◌, length, take, Result, Ok, Err, refl, sym, ap, ◌∙◌, arith}
 use Rattle.std.specs.Prelude.{IsNone, IfSome, ok_or, ◌&&◌}
 use Rattle.std.specs.List.{flat_map, list_all}
-use Rattle.std.proofs.lemmas.Bool.{leb-true, leb-false, eqb-true, eqb-false, cases_lt}
+use Rattle.std.proofs.lemmas.Bool.{leb-true, leb-false, eqb-true, eqb-false, cases_lt, and_parts}
 use Rattle.std.proofs.lemmas.List.{length-append, length-take, take_all, take-append-le, nil_from_length}
 use Rattle.charlotte_text.specs.declared.fault.Fault.{Fault}
 use Rattle.charlotte_text.specs.declared.fault.Fault.TheVariants.{Form, Long}
@@ -65,7 +65,7 @@ pub finish : (front kept : List ℕ) (r : Option (List ℕ)) → kept ≡ take 2
 finish front kept None e long same = (is_limited front kept (leb (length front) 256) refl e).1 (long.0 refl)
 finish front kept (Some s) e long same = ap Ok same ∙ (is_limited front kept (leb (length front) 256) refl e).0 (not_long (length kept) (λ lt. let none : IsNone (Some s) = long.1 lt in cc))
 
-nonzero : (n : ℕ) → (n ≡ 0 → ⊥) → 0 < n
+pub nonzero : (n : ℕ) → (n ≡ 0 → ⊥) → 0 < n
 nonzero zero h = absurd (h refl)
 nonzero (suc n) h = omega arith
 
@@ -86,25 +86,21 @@ all_read front rest word empty e t so_far =
 
 -- ---- bytes that all stand for themselves
 
-both : (a b : Bool) → (a && b) ≡ true → (a ≡ true) × (b ≡ true)
-both true b h = (refl, h)
-both false b h = absurd (cc)
-
 pub plain_text : (bs : List ℕ) → list_all is_plain bs ≡ true → flat_map byte_text bs ≡ bs
 plain_text [] h = refl
 plain_text (b ∷ bs) h =
-    let p = both (is_plain b) (list_all is_plain bs) h in
+    let p = and_parts (is_plain b) (list_all is_plain bs) h in
     rw p.0 (ap (λ xs. b ∷ xs) (plain_text bs p.1))
 
 pub decoded_plain : (word : List ℕ) → list_all is_plain word ≡ true → decoded word ≡ Ok word
 unfolding decoded
 decoded_plain [] h = refl
-decoded_plain (b ∷ []) h = rw (both (is_plain b) true h).0 refl
+decoded_plain (b ∷ []) h = rw (and_parts (is_plain b) true h).0 refl
 decoded_plain (b ∷ i ∷ []) h =
-    let p = both (is_plain b) (list_all is_plain (i ∷ [])) h in
+    let p = and_parts (is_plain b) (list_all is_plain (i ∷ [])) h in
     rw p.0 (ap (with_first b) (decoded_plain (i ∷ []) p.1))
 decoded_plain (b ∷ i ∷ l ∷ rest) h =
-    let p = both (is_plain b) (list_all is_plain (i ∷ l ∷ rest)) h in
+    let p = and_parts (is_plain b) (list_all is_plain (i ∷ l ∷ rest)) h in
     rw p.0 (ap (with_first b) (decoded_plain (i ∷ l ∷ rest) p.1))
 
 within : (word : List ℕ) (t : Bool) → leb (length word) 256 ≡ t → (length word ≤ 256 → Ok word ≡ cond t (Ok word) (Err Long)) × (256 < length word → Err Long ≡ cond t (Ok word) (Err Long))

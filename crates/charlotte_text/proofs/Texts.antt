@@ -13,7 +13,7 @@ use Rattle.charlotte_text.specs.declared.fault.Fault.TheVariants.{Form, Long}
 use Rattle.charlotte_text.specs.Spelling.{is_plain, hex_digit, byte_text, bytes_text, AreBytes}
 use Rattle.charlotte_text.specs.Reading.{◌>>=◌, hex_value, escaped, byte_at, with_first, decoded, limited, spelled, bytes_of}
 use Rattle.charlotte_text.proofs.Steps.{bind_ok, ok_is, not_ok, chosen, held}
-use Rattle.charlotte_text.proofs.Bytes.{byte_first, decoded_plain, not_long}
+use Rattle.charlotte_text.proofs.Bytes.{byte_first, decoded_plain, not_long, nonzero}
 
 -- ---- digits
 
@@ -124,10 +124,6 @@ limited_ok xs bs e =
       | inr k ↦ absurd (not_ok bs Long k.1)
     ]
 
-positive : (n : ℕ) → (n ≡ 0 → ⊥) → 0 < n
-positive zero h = absurd (h refl)
-positive (suc n) h = omega arith
-
 -- what a text of any length spells
 pub record Spells (w bs : List ℕ) : Type 0 where
   pub text : w ≡ bytes_text bs
@@ -136,7 +132,7 @@ pub record Spells (w bs : List ℕ) : Type 0 where
 spells : (w bs : List ℕ) → eqb (length w) 0 ≡ false → decoded w ≡ Ok bs → Spells w bs
 spells w bs e d =
     let t = decoded_takes w bs d in
-    let long : 0 < length w = positive (length w) (eqb-false _ _ e) in
+    let long : 0 < length w = nonzero (length w) (eqb-false _ _ e) in
     record { text = t.0 ∙ sym (spelled_shape bs (omega (arith, ap length t.0))); bytes = t.1 }
 
 pub bytes_takes : (w bs : List ℕ) → bytes_of w ≡ Ok bs → Spells w bs × (length bs ≤ 256)

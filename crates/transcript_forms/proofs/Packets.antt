@@ -17,7 +17,7 @@ use Rattle.charlotte_text.proofs.Steps.{bind_ok, ok_is, not_ok, held}
 use Rattle.journal_text.specs.Transcript.{bit, value_text}
 use Rattle.journal_text.specs.TranscriptText.{HasFewPacket}
 use Rattle.transcript_reading.specs.Forms.{first_of, only_of, u8_of, u32_of, bit_of, value_of, plus_value_of, values_of, wanted_of, parcel_of, back_of, gone_of, moved_of, end_number_of, named_packet_of, packet_of}
-use Rattle.transcript_reading.proofs.Packets.{plus_value_text, packet_name, packet_rest, end_numbers}
+use Rattle.transcript_reading.proofs.Packets.{plus_value_text, packet_name, packet_rest, end_numbers, fields}
 use Rattle.transcript_reading.proofs.Words.{joined_map}
 use Rattle.transcript_forms.proofs.Taking.{first_ok, only_ok, first_then, only_then, named_ok, cons_is, u8_takes, u32_takes, bit_takes, text_takes}
 
@@ -26,9 +26,6 @@ use Rattle.transcript_forms.proofs.Taking.{first_ok, only_ok, first_then, only_t
 abbrev value : EndId → ℕ → ℕ → ℕ → ℕ → ℕ → ℕ → ℕ → Bool → ℕ → MovingPicture
 value end hops hint_kernel hint_hops sent asked served want dead trail =
     record { end = end; hops = hops; hint = (hint_kernel, hint_hops); sent = sent; asked = asked; served = served; want = want; dead = dead; trail = trail }
-
-abbrev fields : MovingPicture → List ℕ
-fields v = v.hops ∷ v.hint.0 ∷ v.hint.1 ∷ v.sent ∷ v.asked ∷ v.served ∷ v.want ∷ bit v.dead ∷ v.trail ∷ []
 
 abbrev IsValue : List ℕ → MovingPicture → Type 0
 IsValue w v = (w ≡ value_text v) × IsValueInRange v

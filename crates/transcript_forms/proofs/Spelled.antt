@@ -23,6 +23,7 @@ use Rattle.transcript_reading.specs.declared.line.LineKind.{LineKind}
 use Rattle.transcript_reading.specs.declared.line.LineKind.TheVariants as kind
 use Rattle.transcript_reading.specs.declared.line.ServiceLine.{ServiceLine}
 use Rattle.transcript_reading.specs.declared.line.ServiceLine.TheVariants as service
+use Rattle.transcript_reading.proofs.Lines.{entry_spelled, entry_again, call_shape, before_call, asked_again, from_shape, home_shape, wire_shape}
 use Rattle.transcript_reading.proofs.Names.{number_word, wide8, wide32, u8_again, u32_again, u64_again, numbered_again, pid_again, pid_wide, kernel_again, letter_word, call_spelled}
 use Rattle.transcript_reading.proofs.Packets.{packet_name, packet_rest, packet_spelled, packet_again}
 use Rattle.transcript_reading.proofs.Steps.{step_spelled, step_again}
@@ -34,29 +35,6 @@ use Rattle.transcript_forms.proofs.Taking.{waits_text}
 
 -- ---- the words are the spelling
 
-entry_shape : (a b t : List ℕ) → a ++ 32 ∷ ((107 ∷ b) ++ 32 ∷ t) ≡ ((a ++ 32 ∷ 107 ∷ []) ++ b) ++ 32 ∷ t
-entry_shape a b t = simp append_assoc
-
-entry_spelled : (stamp kernel : ℕ) (t w : List ℕ) (ws : List (List ℕ)) → IsU64 stamp → IsU8 kernel → IsSpelled t (w ∷ ws)
-    → IsSpelled (((number_text stamp ++ 32 ∷ 107 ∷ []) ++ number_text kernel) ++ 32 ∷ t) (number_text stamp ∷ (107 ∷ number_text kernel) ∷ w ∷ ws)
-entry_spelled stamp kernel t w ws stamped below s =
-    same_text _ _ _ (entry_shape (number_text stamp) (number_text kernel) t)
-    (word_before (number_text stamp) _ (107 ∷ number_text kernel) (w ∷ ws) (number_word stamp stamped)
-    (word_before (107 ∷ number_text kernel) t w ws (letter_word 107 kernel (omega arith) (wide8 kernel below)) s))
-
-call_shape : (a b : List ℕ) → (112 ∷ a) ++ 32 ∷ b ≡ ((112 ∷ a) ++ 32 ∷ []) ++ b
-call_shape a b = simp append_assoc
-
-before_call : (w : List ℕ) (c : Call) → IsWord w → IsSpelled (call_text c) (call_words c) → IsSpelled (w ++ 32 ∷ call_text c) (w ∷ call_words c)
-before_call w call.Make is s = word_before w _ _ _ is s
-before_call w (call.Destroy on) is s = word_before w _ _ _ is s
-before_call w (call.Send on bytes enclose) is s = word_before w _ _ _ is s
-before_call w (call.Receive on) is s = word_before w _ _ _ is s
-before_call w (call.Cancel on way) is s = word_before w _ _ _ is s
-before_call w call.Wait is s = word_before w _ _ _ is s
-before_call w (call.Print bytes) is s = word_before w _ _ _ is s
-before_call w call.Exit is s = word_before w _ _ _ is s
-
 -- a call that a line can spell has values of its types
 pub call_range : (v : ℕ) (c : Call) → IsCall v c → IsCallInRange c
 call_range v call.Make is = tt
@@ -67,15 +45,6 @@ call_range v (call.Cancel on way) is = is
 call_range v call.Wait is = tt
 call_range v (call.Print bytes) is = record { each = is.0; few = is.1 }
 call_range v call.Exit is = tt
-
-from_shape : (a b : List ℕ) → codes "from " ++ (a ++ 32 ∷ b) ≡ (codes "from " ++ (a ++ 32 ∷ [])) ++ b
-from_shape a b = simp append_assoc
-
-home_shape : (a b : List ℕ) → codes "process " ++ (a ++ 32 ∷ (codes "on" ++ 32 ∷ b)) ≡ (codes "process " ++ a ++ codes " on ") ++ b
-home_shape a b = simp append_assoc
-
-wire_shape : (a b : List ℕ) → codes "wire " ++ (a ++ 32 ∷ b) ≡ codes "wire " ++ (a ++ (32 ∷ (b ++ [])))
-wire_shape a b = simp append-nil
 
 waits_word : (waits : Bool) → IsWord (waits_text waits)
 waits_word true = word_codes (codes "waits") refl
@@ -118,15 +87,6 @@ kind_spelled v (kind.End Unsettled) is = one_word (codes "open") (word_codes (co
 kind_spelled v (kind.End (Spent kernel)) is = number_spelled (codes "spent") kernel (word_codes (codes "spent") refl) is
 
 -- ---- and are read again
-
-entry_again : (v stamp kernel : ℕ) (w : List ℕ) (ws : List (List ℕ)) (k : LineKind) → IsU64 stamp → IsU8 kernel → happened_of v stamp kernel (w ∷ ws) ≡ Ok k
-    → kind_of v (number_text stamp ∷ (107 ∷ number_text kernel) ∷ w ∷ ws) ≡ Ok k
-unfolding kind_of entry_of
-entry_again v stamp kernel w ws k stamped below e = rw (is_number_text stamp stamped, u64_again stamp stamped, kernel_again kernel below) e
-
-asked_again : (v stamp kernel : ℕ) (p : Pid) (c : Call) → IsPid p → call_of v (call_words c) ≡ Ok c → happened_of v stamp kernel (process_text p ∷ call_words c) ≡ Ok (kind.CallEntry stamp kernel p c)
-unfolding happened_of asked_of
-asked_again v stamp kernel p c is e = rw (pid_again p is, e) refl
 
 waits_again : (waits : Bool) → waits_of (waits_text waits) ≡ Ok waits
 unfolding waits_of

@@ -23,7 +23,7 @@ use Rattle.transcript_reading.specs.Forms.{first_of, only_of, u32_of, pid_of, ca
 use Rattle.transcript_reading.specs.declared.line.ServiceLine.{ServiceLine}
 use Rattle.transcript_reading.specs.declared.line.ServiceLine.TheVariants as service
 use Rattle.transcript_reading.proofs.Packets.{end_numbers}
-use Rattle.transcript_reading.proofs.Steps.{step_name, step_rest}
+use Rattle.transcript_reading.proofs.Steps.{step_name, step_rest, result_words, suffix_words, report}
 use Rattle.transcript_forms.specs.Spelling.{bare_step, HasShown}
 use Rattle.transcript_forms.proofs.Packets.{few, end_number_takes}
 use Rattle.transcript_forms.proofs.Taking.{first_ok, only_ok, none_ok, named_ok, cons_is, u32_takes, pid_takes, cause_takes, outcome_text, outcome_takes, text_takes}
@@ -39,11 +39,6 @@ no_ends = record { each = tt; few = omega arith }
 ends_range : (v : ℕ) (es : List EndId) → AllByRecursion IsEnd es → length es ≤ most_ends v → AreEndsInRange es
 ends_range v es each le = record { each = each; few = few v (length es) le }
 
--- a word that stands only where it was said
-abbrev suffix_words : Bool → List ℕ → List (List ℕ)
-suffix_words true word = word ∷ []
-suffix_words false word = []
-
 suffix_takes : (said : List ℕ) (ws : List (List ℕ)) (b : Bool) → suffix_of said ws ≡ Ok b → ws ≡ suffix_words b said
 unfolding suffix_of
 suffix_takes said [] b e = ap (λ (x : Bool). suffix_words x said) (ok_is false b e)
@@ -55,20 +50,10 @@ suffix_takes said (w ∷ ws) b e =
 
 -- ---- reports
 
--- the words of how an activity was over
-abbrev result_words : Way → Outcome → List ℕ → List EndId → List (List ℕ)
-result_words Outward Done bytes ends = codes "done" ∷ []
-result_words Outward Destroyed bytes ends = codes "destroyed" ∷ map plus_text ends
-result_words Inward Done bytes ends = codes "done" ∷ bytes_text bytes ∷ map plus_text ends
-result_words Inward Destroyed bytes ends = codes "destroyed" ∷ []
-
 record IsResult (v : ℕ) (on : EndId) (way : Way) (outcome : Outcome) (ws : List (List ℕ)) (r : Report) : Type 0 where
   words : end_text on ∷ way_text way ∷ outcome_text outcome ∷ ws ≡ end_text r.on ∷ way_text r.way ∷ result_words r.way r.outcome r.bytes r.enclosed
   range : IsReportInRange r
   shown : IsShownReport v r.way r.outcome r.bytes r.enclosed
-
-abbrev report : EndId → Way → Outcome → List ℕ → List EndId → Report
-report on way outcome bytes ends = record { on = on; way = way; outcome = outcome; bytes = bytes; enclosed = ends }
 
 abbrev behind : EndId → Way → Outcome → List (List ℕ) → List (List ℕ)
 behind on way outcome ws = end_text on ∷ way_text way ∷ outcome_text outcome ∷ ws

@@ -6,6 +6,7 @@ use Rattle.std.proofs.lemmas.Bool.Decides.{eqb_tells}
 use Rattle.charlotte_calls.specs.declared.names.EndId.{EndId}
 use Rattle.charlotte_calls.specs.declared.picture.MovingPicture.{MovingPicture}
 use Rattle.transcript_matching.specs.Equal.{end_eq, value_eq}
+use Rattle.std.proofs.lemmas.Bool.{and_from, and_parts}
 
 -- a test of two items tells whether they are the same
 record Tells {X : Type 0} (eq : X → X → Bool) : Type 0 where
@@ -20,19 +21,11 @@ end_eq-own : (a : EndId) → end_eq a a ≡ true
 unfolding end_eq
 end_eq-own a = search rules
 
-split-by : (p q : Bool) → (p && q) ≡ true → (p ≡ true) × (q ≡ true)
-split-by true q h = (refl, h)
-split-by false q h = absurd (true≢false (sym h))
-
 split : {p q : Bool} → (p && q) ≡ true → (p ≡ true) × (q ≡ true)
-split {p} {q} h = split-by p q h
-
-and_true-by : (p q : Bool) → p ≡ true → q ≡ true → (p && q) ≡ true
-and_true-by true q h k = k
-and_true-by false q h k = absurd (true≢false (sym h))
+split {p} {q} h = and_parts p q h
 
 and_true : {p q : Bool} → p ≡ true → q ≡ true → (p && q) ≡ true
-and_true {p} {q} h k = and_true-by p q h k
+and_true {p} {q} h k = and_from p q h k
 
 number-same : (m n : ℕ) → (m == n) ≡ true → m ≡ n
 number-same m n h = elim (eqb_tells m n) [ inl x ↦ x.1 | inr x ↦ absurd (true≢false (sym h ∙ x.0)) ]
@@ -82,16 +75,12 @@ value_eq-own a =
     and_true (end_eq-own a.end) (and_true (number-own a.hops) (and_true (and_true (number-own a.hint.0) (number-own a.hint.1)) (and_true (number-own a.sent) (and_true (number-own a.asked)
     (and_true (number-own a.served) (and_true (number-own a.want) (and_true (bits-own a.dead) (number-own a.trail))))))))
 
-first_two : (a b : Bool) → (a && b) ≡ true → (a ≡ true) × (b ≡ true)
-first_two true b h = (refl, h)
-first_two false b h = absurd (true≢false (sym h))
-
 lists-same : {X : Type 0} (eq : X → X → Bool) → Tells eq → (xs ys : List X) → pointwise eq xs ys ≡ true → xs ≡ ys
 lists-same eq tells [] [] h = refl
 lists-same eq tells [] (y ∷ ys) h = absurd (true≢false (sym h))
 lists-same eq tells (x ∷ xs) [] h = absurd (true≢false (sym h))
 lists-same eq tells (x ∷ xs) (y ∷ ys) h =
-    let both = first_two (eq x y) (pointwise eq xs ys) h in λ i. tells.same x y both.0 i ∷ lists-same eq tells xs ys both.1 i
+    let both = and_parts (eq x y) (pointwise eq xs ys) h in λ i. tells.same x y both.0 i ∷ lists-same eq tells xs ys both.1 i
 
 lists-own : {X : Type 0} (eq : X → X → Bool) → Tells eq → (xs : List X) → pointwise eq xs xs ≡ true
 lists-own eq tells [] = refl

@@ -30,10 +30,6 @@ pub matched : {A : Type 0} (N : Type 0) (P : A → Type 0) (r : Option A) → Ma
 matched N P None is = tt
 matched N P (Some x) is = is
 
-pub if_some : {A : Type 0} {P R : A → Type 0} (r : Option A) → ((x : A) → P x → R x) → IfSome r P → IfSome r R
-if_some (Some x) f p = f x p
-if_some None f p = tt
-
 -- ---- calls
 
 abbrev pub there : List ℕ → Option (List ℕ)

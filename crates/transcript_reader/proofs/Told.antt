@@ -37,6 +37,7 @@ use Rattle.transcript_reading.specs.declared.line.ServiceLine.TheVariants as ser
 use Rattle.transcript_forms.proofs.Spelled.{call_range, text_takes, text_again}
 use Rattle.transcript_forms.specs.Spelling.{bare_step, kind_text, IsKind}
 use Rattle.transcript_reader.specs.Text.{kinds_text}
+use Rattle.transcript_reading.proofs.Order.{IsThere}
 
 abbrev nobody : Setting
 nobody = record { version = 0; kernels = 0; homes = []; wires = [] }
@@ -352,9 +353,6 @@ entry_told v (kind.Note n ∷ ks) t f each w = (body_told v (kind.Note n) ks t f
 entry_told v (kind.End last ∷ ks) t f each w = (body_told v (kind.End last) ks t f each.0 each.1 w (λ u g x. entry_told v ks u g each.1 x)).whole
 
 -- ---- wires
-
-abbrev pub IsThere : ℕ → Pid × Pid → Type 0
-IsThere processes wire = (wire.0.0 < processes) × (wire.1.0 < processes)
 
 abbrev wires_text : List (Pid × Pid) → List (List ℕ)
 wires_text wires = map (λ wire. line (wire_text wire)) wires

@@ -58,23 +58,23 @@ lines_append v (l ∷ ls) ms (k ∷ ks) js a b = (a.0, lines_append v ls ms ks j
 entry_shape : (a b t : List ℕ) → a ++ 32 ∷ ((107 ∷ b) ++ 32 ∷ t) ≡ ((a ++ 32 ∷ 107 ∷ []) ++ b) ++ 32 ∷ t
 entry_shape a b t = simp append_assoc
 
-entry_spelled : (stamp kernel : ℕ) (t w : List ℕ) (ws : List (List ℕ)) → IsU64 stamp → IsU8 kernel → IsSpelled t (w ∷ ws)
+pub entry_spelled : (stamp kernel : ℕ) (t w : List ℕ) (ws : List (List ℕ)) → IsU64 stamp → IsU8 kernel → IsSpelled t (w ∷ ws)
     → IsSpelled (((number_text stamp ++ 32 ∷ 107 ∷ []) ++ number_text kernel) ++ 32 ∷ t) (number_text stamp ∷ (107 ∷ number_text kernel) ∷ w ∷ ws)
 entry_spelled stamp kernel t w ws stamped below s =
     same_text _ _ _ (entry_shape (number_text stamp) (number_text kernel) t)
     (word_before (number_text stamp) _ (107 ∷ number_text kernel) (w ∷ ws) (number_word stamp stamped)
     (word_before (107 ∷ number_text kernel) t w ws (letter_word 107 kernel (omega arith) (wide8 kernel below)) s))
 
-entry_again : (v stamp kernel : ℕ) (w : List ℕ) (ws : List (List ℕ)) (k : LineKind) → IsU64 stamp → IsU8 kernel → happened_of v stamp kernel (w ∷ ws) ≡ Ok k
+pub entry_again : (v stamp kernel : ℕ) (w : List ℕ) (ws : List (List ℕ)) (k : LineKind) → IsU64 stamp → IsU8 kernel → happened_of v stamp kernel (w ∷ ws) ≡ Ok k
     → kind_of v (number_text stamp ∷ (107 ∷ number_text kernel) ∷ w ∷ ws) ≡ Ok k
 unfolding kind_of entry_of
 entry_again v stamp kernel w ws k stamped below e = rw (is_number_text stamp stamped, u64_again stamp stamped, kernel_again kernel below) e
 
-call_shape : (a b : List ℕ) → (112 ∷ a) ++ 32 ∷ b ≡ ((112 ∷ a) ++ 32 ∷ []) ++ b
+pub call_shape : (a b : List ℕ) → (112 ∷ a) ++ 32 ∷ b ≡ ((112 ∷ a) ++ 32 ∷ []) ++ b
 call_shape a b = simp append_assoc
 
 -- the words of a call begin with its name
-before_call : (w : List ℕ) (c : Call) → IsWord w → IsSpelled (call_text c) (call_words c) → IsSpelled (w ++ 32 ∷ call_text c) (w ∷ call_words c)
+pub before_call : (w : List ℕ) (c : Call) → IsWord w → IsSpelled (call_text c) (call_words c) → IsSpelled (w ++ 32 ∷ call_text c) (w ∷ call_words c)
 before_call w call.Make is s = word_before w _ _ _ is s
 before_call w (call.Destroy on) is s = word_before w _ _ _ is s
 before_call w (call.Send on bytes enclose) is s = word_before w _ _ _ is s
@@ -84,11 +84,11 @@ before_call w call.Wait is s = word_before w _ _ _ is s
 before_call w (call.Print bytes) is s = word_before w _ _ _ is s
 before_call w call.Exit is s = word_before w _ _ _ is s
 
-asked_again : (v stamp kernel : ℕ) (p : Pid) (c : Call) → IsPid p → call_of v (call_words c) ≡ Ok c → happened_of v stamp kernel (process_text p ∷ call_words c) ≡ Ok (kind.CallEntry stamp kernel p c)
+pub asked_again : (v stamp kernel : ℕ) (p : Pid) (c : Call) → IsPid p → call_of v (call_words c) ≡ Ok c → happened_of v stamp kernel (process_text p ∷ call_words c) ≡ Ok (kind.CallEntry stamp kernel p c)
 unfolding happened_of asked_of
 asked_again v stamp kernel p c is e = rw (pid_again p is, e) refl
 
-from_shape : (a b : List ℕ) → codes "from " ++ (a ++ 32 ∷ b) ≡ (codes "from " ++ (a ++ 32 ∷ [])) ++ b
+pub from_shape : (a b : List ℕ) → codes "from " ++ (a ++ 32 ∷ b) ≡ (codes "from " ++ (a ++ 32 ∷ [])) ++ b
 from_shape a b = simp append_assoc
 
 pub happened_line : (v stamp kernel : ℕ) (what : Happened) → IsU64 stamp → IsU8 kernel → IsHappenedInRange what → HasFew v what
@@ -145,7 +145,7 @@ pub kernels_line : (v n : ℕ) → IsU8 n → IsLineOf v (line (codes "kernels "
 unfolding kind_of named_line_of
 kernels_line v n lt = number_line v (codes "kernels") n (kind.Kernels n) (word_codes (codes "kernels") refl) lt (rw (u8_again n lt) refl)
 
-home_shape : (a b : List ℕ) → codes "process " ++ (a ++ 32 ∷ (codes "on" ++ 32 ∷ b)) ≡ (codes "process " ++ a ++ codes " on ") ++ b
+pub home_shape : (a b : List ℕ) → codes "process " ++ (a ++ 32 ∷ (codes "on" ++ 32 ∷ b)) ≡ (codes "process " ++ a ++ codes " on ") ++ b
 home_shape a b = simp append_assoc
 
 home_line : (v : ℕ) (p : Pid) (home : ℕ) → IsPid p → IsU8 home → IsLineOf v (line (process_home_text p.0 home)) (kind.Process p home)
@@ -165,7 +165,7 @@ process_lines_of v number (home ∷ homes) few lt =
 abbrev pub IsWireInRange : Pid × Pid → Type 0
 IsWireInRange wire = IsPid wire.0 × IsPid wire.1
 
-wire_shape : (a b : List ℕ) → codes "wire " ++ (a ++ 32 ∷ b) ≡ codes "wire " ++ (a ++ (32 ∷ (b ++ [])))
+pub wire_shape : (a b : List ℕ) → codes "wire " ++ (a ++ 32 ∷ b) ≡ codes "wire " ++ (a ++ (32 ∷ (b ++ [])))
 wire_shape a b = simp append-nil
 
 wire_line : (v : ℕ) (wire : Pid × Pid) → IsWireInRange wire → IsLineOf v (line (wire_text wire)) (kind.Wire wire.0 wire.1)

@@ -167,7 +167,7 @@ processes_follow kernels i (home ∷ homes) few all =
     rw (eq-eqb i i refl, lt-ltb i 64 (omega arith), lt-ltb home kernels (All-head (λ h. h < kernels) home homes all))
     (processes_follow kernels (i + 1) homes (omega arith) (All-tail (λ h. h < kernels) home homes all) ∙ ap (λ m. Ok (Processes kernels m)) (omega arith))
 
-abbrev IsThere : ℕ → Pid × Pid → Type 0
+abbrev pub IsThere : ℕ → Pid × Pid → Type 0
 IsThere processes wire = (wire.0.0 < processes) × (wire.1.0 < processes)
 
 wires_more : (m j : ℕ) (ws : List (Pid × Pid)) → j + length ws ≤ 4096 → All (IsThere m) ws → GoesOn (wire_kinds ws) (Wires m j)

@@ -21,7 +21,7 @@ use Rattle.transcript_reading.proofs.Words.{IsMark, IsWord, AreWords, IsFree, Is
 
 -- ---- the value of an end
 
-abbrev fields : MovingPicture → List ℕ
+abbrev pub fields : MovingPicture → List ℕ
 fields v = v.hops ∷ v.hint.0 ∷ v.hint.1 ∷ v.sent ∷ v.asked ∷ v.served ∷ v.want ∷ bit v.dead ∷ v.trail ∷ []
 
 bit_small : (b : Bool) → bit b < 2
@@ -153,8 +153,8 @@ pub numbered_spelled : (name : List ℕ) (e : EndId) (ns : List ℕ) → IsWord 
 numbered_spelled name e ns is end lt =
     word_before name (end_text e ++ numbers_text ns) (end_text e) (map number_text ns) is (words_behind number_text (end_text e) ns (end_word e end) (numbers_words ns lt))
 
-back_shape : (a b c : List ℕ) → a ++ 32 ∷ (b ++ c) ≡ (a ++ (32 ∷ (b ++ []))) ++ c
-back_shape a b c = simp append_assoc
+pub three_shape : (a b c : List ℕ) → a ++ 32 ∷ (b ++ c) ≡ (a ++ (32 ∷ (b ++ []))) ++ c
+three_shape a b c = simp append_assoc
 
 parcel_shape : (e a b c d t v : List ℕ) → e ++ 32 ∷ (a ++ 32 ∷ (b ++ 32 ∷ (c ++ 32 ∷ (d ++ 32 ∷ (t ++ v))))) ≡ ((((e ++ (32 ∷ (a ++ (32 ∷ (b ++ (32 ∷ (c ++ (32 ∷ (d ++ []))))))))) ++ 32 ∷ []) ++ t) ++ v)
 parcel_shape e a b c d t v = simp append_assoc
@@ -171,7 +171,7 @@ packet_spelled (packet.Parcel to n w at hops bytes moving) is =
     (words_behind plus_value_text (bytes_text bytes) moving (bytes_word bytes) (values_words moving is.6.each))))))))
 packet_spelled (packet.Taken to n at hops) is = numbered_spelled (codes "taken") to (n ∷ at ∷ hops ∷ []) (word_codes (codes "taken") refl) is.0 (wide32 n is.1, (wide8 at is.2, (wide32 hops is.3, tt)))
 packet_spelled (packet.Back to n moving) is =
-    same_text _ _ _ (ap (λ (t : List ℕ). codes "back " ++ t) (back_shape (end_text to) (number_text n) (values_text moving)))
+    same_text _ _ _ (ap (λ (t : List ℕ). codes "back " ++ t) (three_shape (end_text to) (number_text n) (values_text moving)))
     (word_before (codes "back") _ _ _ (word_codes (codes "back") refl) (word_before (end_text to) _ _ _ (end_word to is.0)
     (words_behind plus_value_text (number_text n) moving (number_word n (wide32 n is.1)) (values_words moving is.2.each))))
 packet_spelled (packet.Gone to at) is = numbered_spelled (codes "gone") to (at ∷ []) (word_codes (codes "gone") refl) is.0 (wide8 at is.1, tt)

@@ -29,20 +29,20 @@ use Rattle.transcript_reading.specs.Kinds.{shown_step}
 use Rattle.transcript_reading.specs.declared.line.ServiceLine.{ServiceLine}
 use Rattle.transcript_reading.specs.declared.line.ServiceLine.TheVariants as service
 use Rattle.transcript_reading.proofs.Names.{number_word, wide32, u32_again, pid_again, pid_wide, letter_word, end_word, ends_words, bytes_word, way_word, text_again}
-use Rattle.transcript_reading.proofs.Packets.{end_numbers, numbered_spelled, end_number_again}
+use Rattle.transcript_reading.proofs.Packets.{end_numbers, numbered_spelled, end_number_again, three_shape}
 use Rattle.transcript_reading.proofs.Words.{IsWord, IsSpelled, word_codes, same_text, one_word, word_before, words_behind}
 
 -- ---- the words of a step
 
 -- the words of how an activity was over
-abbrev result_words : Way → Outcome → List ℕ → List EndId → List (List ℕ)
+abbrev pub result_words : Way → Outcome → List ℕ → List EndId → List (List ℕ)
 result_words Outward Done bytes ends = codes "done" ∷ []
 result_words Outward Destroyed bytes ends = codes "destroyed" ∷ map plus_text ends
 result_words Inward Done bytes ends = codes "done" ∷ bytes_text bytes ∷ map plus_text ends
 result_words Inward Destroyed bytes ends = codes "destroyed" ∷ []
 
 -- a word that stands only where it was said
-abbrev suffix_words : Bool → List ℕ → List (List ℕ)
+abbrev pub suffix_words : Bool → List ℕ → List (List ℕ)
 suffix_words true word = word ∷ []
 suffix_words false word = []
 
@@ -120,9 +120,6 @@ suffixed w word false is suffix = same_text w (w ++ []) (w ∷ []) (sym (append-
 
 two_shape : (a b : List ℕ) → a ++ 32 ∷ b ≡ (a ++ 32 ∷ []) ++ b
 two_shape a b = simp append_assoc
-
-three_shape : (a b c : List ℕ) → a ++ 32 ∷ (b ++ c) ≡ (a ++ (32 ∷ (b ++ []))) ++ c
-three_shape a b c = simp append_assoc
 
 take_shape : (a b c d : List ℕ) → a ++ 32 ∷ (b ++ 32 ∷ (c ++ d)) ≡ (((a ++ (32 ∷ (b ++ []))) ++ 32 ∷ []) ++ c) ++ d
 take_shape a b c d = simp append_assoc
@@ -213,7 +210,7 @@ abbrev result_from : ℕ → EndId → Way → List (List ℕ) → Result Report
 result_from v on way [] = Err Form
 result_from v on way (w ∷ ws) = outcome_of w >>= λ outcome. result_of v on way outcome ws
 
-abbrev report : EndId → Way → Outcome → List ℕ → List EndId → Report
+abbrev pub report : EndId → Way → Outcome → List ℕ → List EndId → Report
 report on way outcome bytes ends = record { on = on; way = way; outcome = outcome; bytes = bytes; enclosed = ends }
 
 bare : (on : EndId) (way : Way) (outcome : Outcome) (bytes : List ℕ) (ends : List EndId) → bytes ≡ [] → ends ≡ [] → bare_report on way outcome ≡ report on way outcome bytes ends
