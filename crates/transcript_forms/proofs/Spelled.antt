@@ -1,30 +1,28 @@
 -- The words of a line are its spelling, and are read again.
-use Rattle.std.proofs.Common.{◌≡◌, ℕ, Bool, true, false, cond, codes, List, [], ◌∷◌, ◌++◌, Ok, refl, sym, ap, ◌∙◌, append_assoc, append-nil, arith, IfOk, Result, Err}
+use Rattle.std.proofs.Common.{◌≡◌, ℕ, Bool, true, false, cond, codes, List, [], ◌∷◌, ◌++◌, Ok, refl, sym, ap, ◌∙◌, arith, IfOk, Result, Err}
 use Rattle.std.specs.List.{join_with_byte}
 use Rattle.std.proofs.lemmas.List.Splits.{join_with_byte-slice_split}
-use Rattle.charlotte_calls.specs.Ranges.{IsPid, IsU8, IsU64, IsCallInRange}
+use Rattle.charlotte_calls.specs.Ranges.{IsU8, IsCallInRange}
 use Rattle.charlotte_calls.specs.declared.calls.Call.{Call}
 use Rattle.charlotte_calls.specs.declared.calls.Call.TheVariants as call
-use Rattle.charlotte_calls.specs.declared.names.Pid.{Pid}
 use Rattle.charlotte_calls.specs.declared.picture.Picture.{Picture}
 use Rattle.charlotte_text.specs.declared.fault.Fault.{Fault}
 use Rattle.charlotte_text.specs.Spelling.{number_text, process_text, call_text, IsCall}
-use Rattle.charlotte_text.specs.Reading.{words, call_of}
+use Rattle.charlotte_text.specs.Reading.{words}
 use Rattle.charlotte_text.proofs.Calls.{call_words, call_again}
-use Rattle.charlotte_text.proofs.Numbers.{is_number_text}
 use Rattle.journal_text.specs.Transcript.{packet_text}
 use Rattle.journal_text.specs.declared.last.Last.TheVariants.{Quiet, Unsettled, Spent}
 use Rattle.journal_text.specs.TranscriptText.{IsShownStep}
 use Rattle.kernel_world.specs.declared.entry.Happened.{Happened}
 use Rattle.kernel_world.specs.declared.entry.Happened.TheVariants.{Asked}
-use Rattle.transcript_reading.specs.Forms.{packet_of, took_of, asked_of, happened_of, entry_of, home_of, wire_of, waits_of, note_of, named_line_of, kind_of}
+use Rattle.transcript_reading.specs.Forms.{packet_of, took_of, happened_of, home_of, wire_of, waits_of, note_of, named_line_of, kind_of}
 use Rattle.transcript_reading.specs.Kinds.{shown_step}
 use Rattle.transcript_reading.specs.declared.line.LineKind.{LineKind}
 use Rattle.transcript_reading.specs.declared.line.LineKind.TheVariants as kind
 use Rattle.transcript_reading.specs.declared.line.ServiceLine.{ServiceLine}
 use Rattle.transcript_reading.specs.declared.line.ServiceLine.TheVariants as service
 use Rattle.transcript_reading.proofs.Lines.{entry_spelled, entry_again, call_shape, before_call, asked_again, from_shape, home_shape, wire_shape}
-use Rattle.transcript_reading.proofs.Names.{number_word, wide8, wide32, u8_again, u32_again, u64_again, numbered_again, pid_again, pid_wide, kernel_again, letter_word, call_spelled}
+use Rattle.transcript_reading.proofs.Names.{number_word, wide8, wide32, u8_again, u32_again, numbered_again, pid_wide, letter_word, call_spelled}
 use Rattle.transcript_reading.proofs.Packets.{packet_name, packet_rest, packet_spelled, packet_again}
 use Rattle.transcript_reading.proofs.Steps.{step_spelled, step_again}
 use Rattle.transcript_reading.proofs.Words.{IsWord, IsFree, IsSpelled, word_codes, spelled_words, spelled_free, same_text, one_word, word_before}

@@ -1,5 +1,5 @@
 -- Service steps that were read: each is spelled so.
-use Rattle.std.proofs.Common.{◌≡◌, ℕ, ◌≤◌, Bool, true, false, cond, codes, List, [], ◌∷◌, length, map, Result, Ok, Err, refl, ap, subst, ◌∙◌, arith}
+use Rattle.std.proofs.Common.{◌≡◌, ℕ, ◌≤◌, Bool, true, false, cond, codes, List, [], ◌∷◌, length, Result, Ok, Err, refl, ap, subst, ◌∙◌, arith}
 use Rattle.std.specs.List.{AllByRecursion}
 use Rattle.std.specs.Str.{bytes_eq}
 use Rattle.std.proofs.lemmas.Slice.Eq.{bytes_eq-Decides}
@@ -13,7 +13,7 @@ use Rattle.charlotte_calls.specs.declared.names.Way.{Way}
 use Rattle.charlotte_calls.specs.declared.names.Way.TheVariants.{Inward, Outward}
 use Rattle.charlotte_text.specs.declared.fault.Fault.{Fault}
 use Rattle.charlotte_text.specs.declared.fault.Fault.TheVariants.{Form}
-use Rattle.charlotte_text.specs.Spelling.{end_text, plus_text, process_text, bytes_text, way_text, most_ends}
+use Rattle.charlotte_text.specs.Spelling.{end_text, process_text, way_text, most_ends}
 use Rattle.charlotte_text.specs.Reading.{◌>>=◌, ended, end_of, ends_of, bytes_of, way_of}
 use Rattle.charlotte_text.proofs.Calls.{way_takes}
 use Rattle.charlotte_text.proofs.Names.{end_takes, ends_take}

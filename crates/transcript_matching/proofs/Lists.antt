@@ -1,12 +1,11 @@
 -- Lists are the same where `==` tells so.
-use Rattle.std.proofs.Common.{◌≡◌, inl, inr, ℕ, ◌==◌, Bool, true, false, true≢false, not, ◌&&◌, ◌↔◌, IsTrue, List, [], ◌∷◌, refl, sym, ap, ◌∙◌, rules}
+use Rattle.std.proofs.Common.{◌≡◌, ℕ, ◌==◌, Bool, true, false, true≢false, ◌&&◌, ◌↔◌, IsTrue, List, [], ◌∷◌, refl, sym, ap, ◌∙◌, rules}
 use Rattle.std.proofs.Math.Bool.{beq}
 use Rattle.std.specs.Cmp.Lexicographic.{pointwise}
-use Rattle.std.proofs.lemmas.Bool.Decides.{eqb_tells}
+use Rattle.std.proofs.lemmas.Bool.{and_from, and_parts, eq-eqb, eqb-true}
 use Rattle.charlotte_calls.specs.declared.names.EndId.{EndId}
 use Rattle.charlotte_calls.specs.declared.picture.MovingPicture.{MovingPicture}
 use Rattle.transcript_matching.specs.Equal.{end_eq, value_eq}
-use Rattle.std.proofs.lemmas.Bool.{and_from, and_parts}
 
 -- a test of two items tells whether they are the same
 record Tells {X : Type 0} (eq : X → X → Bool) : Type 0 where
@@ -27,9 +26,6 @@ split {p} {q} h = and_parts p q h
 and_true : {p q : Bool} → p ≡ true → q ≡ true → (p && q) ≡ true
 and_true {p} {q} h k = and_from p q h k
 
-number-same : (m n : ℕ) → (m == n) ≡ true → m ≡ n
-number-same m n h = elim (eqb_tells m n) [ inl x ↦ x.1 | inr x ↦ absurd (true≢false (sym h ∙ x.0)) ]
-
 bits-same : (p q : Bool) → beq p q ≡ true → p ≡ q
 bits-same true true h = refl
 bits-same true false h = absurd (true≢false (sym h))
@@ -41,7 +37,7 @@ bits-own true = refl
 bits-own false = refl
 
 number-own : (m : ℕ) → (m == m) ≡ true
-number-own m = elim (eqb_tells m m) [ inl x ↦ x.0 | inr x ↦ absurd (x.1 refl) ]
+number-own m = eq-eqb m m refl
 
 value_eq-same : (a b : MovingPicture) → value_eq a b ≡ true → a ≡ b
 unfolding value_eq end_eq
@@ -59,14 +55,14 @@ value_eq-same a b h =
     let dead : a.dead ≡ b.dead = bits-same a.dead b.dead on_dead.0 in
     λ i. record {
       end = end_is i;
-      hops = number-same a.hops b.hops on_hops.0 i;
-      hint = (number-same a.hint.0 b.hint.0 hint.0 i, number-same a.hint.1 b.hint.1 hint.1 i);
-      sent = number-same a.sent b.sent on_sent.0 i;
-      asked = number-same a.asked b.asked on_asked.0 i;
-      served = number-same a.served b.served on_served.0 i;
-      want = number-same a.want b.want on_want.0 i;
+      hops = eqb-true a.hops b.hops on_hops.0 i;
+      hint = (eqb-true a.hint.0 b.hint.0 hint.0 i, eqb-true a.hint.1 b.hint.1 hint.1 i);
+      sent = eqb-true a.sent b.sent on_sent.0 i;
+      asked = eqb-true a.asked b.asked on_asked.0 i;
+      served = eqb-true a.served b.served on_served.0 i;
+      want = eqb-true a.want b.want on_want.0 i;
       dead = dead i;
-      trail = number-same a.trail b.trail on_dead.1 i;
+      trail = eqb-true a.trail b.trail on_dead.1 i;
     }
 
 value_eq-own : (a : MovingPicture) → value_eq a a ≡ true

@@ -5,12 +5,10 @@ use Rattle.std.proofs.lemmas.Fmt.{decimal_digit, decimal_step}
 use Rattle.charlotte_calls.specs.declared.calls.Call.{Call}
 use Rattle.charlotte_calls.specs.declared.calls.Call.TheVariants as call
 use Rattle.charlotte_calls.specs.declared.names.EndId.{EndId}
-use Rattle.charlotte_calls.specs.declared.picture.MovingPicture.{MovingPicture}
 use Rattle.charlotte_text.specs.Reading.{bytes_of, call_of, rest_parts}
 use Rattle.charlotte_text.specs.Spelling.{AreBytes, IsCall, IsEnd, bytes_text, call_text, end_text, is_plain, number_text}
 use Rattle.charlotte_text.proofs.Clauses.{call_fits, call_found}
 use Rattle.charlotte_text.proofs.Texts.{Spells, bytes_takes, plain_kept}
-use Rattle.journal_text.specs.Transcript.{bit, fields_text, numbers_behind, value_text}
 
 -- a digit is a number
 pub digit_first : (d v : ℕ) (rest : List ℕ) → 48 ≤ d → d ≤ 57 → v ≡ d - 48 → d ∷ rest ≡ number_text v ++ rest
