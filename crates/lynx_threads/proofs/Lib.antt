@@ -1,3 +1,4 @@
+pub mod Arms
 pub mod Agreement
 pub mod Closing
 pub mod Counts

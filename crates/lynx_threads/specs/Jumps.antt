@@ -1,6 +1,6 @@
 -- Jumps over statements.
-use Rattle.std.specs.Prelude.{ℕ, ◌+◌, List, [], ◌∷◌, ◌++◌, length, Option, None, Some}
-use Rattle.lynx_tree.specs.Trees.{ExprTree, StmtTree, StmtTrees, HandlerTrees, If, IfElse, no_handlers, more_handlers}
+use Rattle.std.specs.Prelude.{ℕ, ◌+◌, List, [], ◌∷◌, ◌++◌, length, Bool, true, false, Option, None, Some}
+use Rattle.lynx_tree.specs.Trees.{ExprTree, StmtTree, StmtTrees, HandlerTrees, If, IfElse, While, New, Destroy, Bind, Unbind, Connect, Accept, Reply, Try, no_handlers, more_handlers}
 use Rattle.lynx_code.specs.Generation.{Names, stmts_code, handlers_code, exception_named}
 use Rattle.lynx_typing.specs.Exceptions.{exception_of}
 use Rattle.lynx_code.specs.declared.instruction.Instruction.{Instruction}
@@ -39,3 +39,22 @@ caught_code names behind at handlers = handlers_code names behind at handlers ++
 abbrev pub choice_tree : ExprTree → StmtTrees → Option StmtTrees → StmtTree
 choice_tree condition then_part None = If condition then_part
 choice_tree condition then_part (Some else_part) = IfElse condition then_part else_part
+
+-- a statement with others inside
+abbrev pub has_statements : StmtTree → Bool
+has_statements (If condition then_part) = true
+has_statements (IfElse condition then_part else_part) = true
+has_statements (While condition body) = true
+has_statements (Accept op link arguments body) = true
+has_statements (Try body handlers) = true
+has_statements _ = false
+
+-- a statement that acts on links, with no others inside
+abbrev pub acts_on_links : StmtTree → Bool
+acts_on_links (New first second) = true
+acts_on_links (Destroy name) = true
+acts_on_links (Bind link entry) = true
+acts_on_links (Unbind link entry) = true
+acts_on_links (Connect op link values results) = true
+acts_on_links (Reply values) = true
+acts_on_links _ = false

@@ -1,6 +1,6 @@
 //! The code of statements.
 
-ghost use Rattle.std.specs.Prelude.{◌≡◌, ◌≢◌, ◌<◌, ◌≤◌, ◌+◌, ◌∷◌, [], ◌++◌, List, ℕ, length, map, reverse, slice_get, true, Err, Some, OnOk, IfOk};
+ghost use Rattle.std.specs.Prelude.{◌≡◌, ◌≢◌, ◌<◌, ◌≤◌, ◌+◌, ◌∷◌, [], ◌++◌, List, ℕ, length, map, reverse, slice_get, true, false, Err, Some, OnOk, IfOk};
 ghost use Rattle.lynx_tree.specs.Trees.{expr_tree, expr_list, stmt_tree, stmt_list, handler_list, else_list, assign_tree, If, IfElse, While, Await, New, Bind, Unbind, Connect, Accept, Reply, Try};
 ghost use Rattle.lynx_code.specs.Generation.{expr_code, exprs_code, stmt_code, stmts_code, handlers_code, store, stores, exception_named};
 ghost use Rattle.lynx_code.specs.declared.instruction.Instruction.TheVariants as code_of;
@@ -9,7 +9,7 @@ ghost use Rattle.lynx_code.specs.declared.instruction.Instruction.{Instruction};
 ghost use Rattle.lynx_code.specs.Generation.{Names};
 ghost use Rattle.lynx_tree.specs.Trees.{HandlerTrees};
 ghost use Rattle.lynx_typing.specs.declared.exception.Exception.{Exception};
-ghost use Rattle.lynx_threads.specs.Jumps.{jump_to, over_code, handler_code, handlers_count, guarded_code, caught_code, choice_tree};
+ghost use Rattle.lynx_threads.specs.Jumps.{jump_to, over_code, handler_code, handlers_count, guarded_code, caught_code, choice_tree, has_statements, acts_on_links};
 ghost use Rattle.lynx_threads.specs.Tables.{names_in};
 ghost use Rattle.lynx_typing.specs.Exceptions.{exception_of};
 
@@ -193,24 +193,13 @@ fn emit_unbind(
     emit_two(code, names.load(link), Instruction::Unbind(number))
 }
 
-/// Adds the code of a statement.
-#[cycle(emit_statement)]
-fn emit_stmt(code: &mut Vec<Instruction>, names: &Scope, stmt: &Stmt) -> Result<(), CompileFault>
+/// Adds the code of a statement that acts on links.
+fn emit_link(code: &mut Vec<Instruction>, names: &Scope, stmt: &Stmt) -> Result<(), CompileFault>
+    requires { acts_on_links (stmt_tree stmt.now) ≡ true }
     ensures ok { OnOk result (code.new.items ≡ code.old.items ++ stmt_code (names_in names.now) (length code.old.items) (stmt_tree stmt.now)) }
     ensures long { result ≡ Err faults.CodeTooLong → 65535 < length code.old.items + length (stmt_code (names_in names.now) (length code.old.items) (stmt_tree stmt.now)) }
 {
     match stmt {
-        Stmt::Assign { name, index, value } => emit_assign(code, names, name, index, value),
-        Stmt::If {
-            condition,
-            then,
-            otherwise,
-        } => emit_choice(code, names, condition, then, otherwise),
-        Stmt::While { condition, body } => emit_while(code, names, condition, body),
-        Stmt::Write(value) => emit_then(code, names, value, Instruction::Write),
-        Stmt::Await(condition) => emit_await(code, names, condition),
-        Stmt::Stop => push(code, Instruction::Stop),
-        Stmt::Raise(name) => push(code, Instruction::Raise(exception(name))),
         Stmt::New { first, second } => emit_new(code, names, first, second),
         Stmt::Destroy(name) => emit_two(code, names.load(name), Instruction::Destroy),
         Stmt::Bind { link, entry } => emit_bind(code, names, link, entry),
@@ -221,14 +210,48 @@ fn emit_stmt(code: &mut Vec<Instruction>, names: &Scope, stmt: &Stmt) -> Result<
             values,
             results,
         } => emit_connect(code, names, op, link, values, results),
+        Stmt::Reply(values) => emit_reply(code, names, values),
+        _ => unreachable!(),
+    }
+}
+
+/// Adds the code of a statement with no others inside.
+fn emit_action(code: &mut Vec<Instruction>, names: &Scope, stmt: &Stmt) -> Result<(), CompileFault>
+    requires { has_statements (stmt_tree stmt.now) ≡ false }
+    ensures ok { OnOk result (code.new.items ≡ code.old.items ++ stmt_code (names_in names.now) (length code.old.items) (stmt_tree stmt.now)) }
+    ensures long { result ≡ Err faults.CodeTooLong → 65535 < length code.old.items + length (stmt_code (names_in names.now) (length code.old.items) (stmt_tree stmt.now)) }
+{
+    match stmt {
+        Stmt::Assign { name, index, value } => emit_assign(code, names, name, index, value),
+        Stmt::Write(value) => emit_then(code, names, value, Instruction::Write),
+        Stmt::Await(condition) => emit_await(code, names, condition),
+        Stmt::Stop => push(code, Instruction::Stop),
+        Stmt::Raise(name) => push(code, Instruction::Raise(exception(name))),
+        _ => emit_link(code, names, stmt),
+    }
+}
+
+/// Adds the code of a statement.
+#[cycle(emit_statement)]
+fn emit_stmt(code: &mut Vec<Instruction>, names: &Scope, stmt: &Stmt) -> Result<(), CompileFault>
+    ensures ok { OnOk result (code.new.items ≡ code.old.items ++ stmt_code (names_in names.now) (length code.old.items) (stmt_tree stmt.now)) }
+    ensures long { result ≡ Err faults.CodeTooLong → 65535 < length code.old.items + length (stmt_code (names_in names.now) (length code.old.items) (stmt_tree stmt.now)) }
+{
+    match stmt {
+        Stmt::If {
+            condition,
+            then,
+            otherwise,
+        } => emit_choice(code, names, condition, then, otherwise),
+        Stmt::While { condition, body } => emit_while(code, names, condition, body),
         Stmt::Accept {
             op,
             link,
             names: arguments,
             body,
         } => emit_accept(code, names, op, link, arguments, body),
-        Stmt::Reply(values) => emit_reply(code, names, values),
         Stmt::Try { body, handlers } => emit_try(code, names, body, handlers),
+        _ => emit_action(code, names, stmt),
     }
 }
 

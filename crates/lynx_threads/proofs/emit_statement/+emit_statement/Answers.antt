@@ -7,6 +7,7 @@ use Rattle.lynx_tree.specs.Trees.{expr_tree, stmt_list, handler_list}
 use Rattle.lynx_tree.specs.declared.statement.Stmt as stmt
 use Rattle.lynx_threads.specs.Jumps.{over_code}
 use Rattle.lynx_threads.specs.Tables.{names_in}
+use Rattle.lynx_threads.proofs.Arms.{has_none}
 use Rattle.lynx_threads.proofs.Emitting.{as_failed, each_end, each_long, same_ok, same_long}
 use Rattle.lynx_threads.proofs.Statements.{stmt_here, handler_here, stmts_are, handlers_are}
 use Rattle.lynx_threads.proofs.Wholes.{seq, one, then_ok, is_ok, one_long, no_more, seq_ok, seq_first, seq_second, seq_more, if_is, choice_is, while_is, accept_is, choice_view, while_view, accept_view, try_view, handler_view, handlers_number, try_first, try_second, try_third, try_is}
@@ -29,6 +30,9 @@ emit_stmt-emit_accept-requires t c =
 pub emit_stmt-emit_try-requires : goal.emit_stmt-emit_try-requires
 emit_stmt-emit_try-requires t c =
     omega (arith, c.decreases, ap stmt_weight (try_view c.args.stmt.now c.in-Try.body c.in-Try.handlers c.deref-in-Try.result.now c.deref-in-Try-2.result.now c.in-Try.is c.deref-in-Try.ensures.value c.deref-in-Try-2.ensures.value))
+
+pub emit_stmt-emit_action-requires : goal.emit_stmt-emit_action-requires
+emit_stmt-emit_action-requires t c = has_none c.args.stmt.now c.in_default.not-If c.in_default.not-While c.in_default.not-Accept c.in_default.not-Try
 
 pub emit_stmts-emit_stmt-requires : goal.emit_stmts-emit_stmt-requires
 emit_stmts-emit_stmt-requires t c = omega (arith, c.decreases, one_stmt c.args.stmts.now c.loop-stmt.stmt-index c.stmt-item.result (omega arith) c.stmt-item.is)
