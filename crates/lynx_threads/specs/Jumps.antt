@@ -46,7 +46,7 @@ has_statements (If condition then_part) = true
 has_statements (IfElse condition then_part else_part) = true
 has_statements (While condition body) = true
 has_statements (Accept op link arguments body) = true
-has_statements (Try body handlers) = true
+has_statements (Try body caught) = true
 has_statements _ = false
 
 -- a statement that acts on links, with no others inside

@@ -78,10 +78,10 @@ fn emit_two(
 }
 
 /// Adds the instructions that store into variables, from the last one to the first.
-fn emit_stores(
+fn emit_stores<'s>(
     code: &mut Vec<Instruction>,
     names: &Scope,
-    list: &[IdentRef],
+    list: &[IdentRef<'s>],
 ) -> Result<(), CompileFault>
     ensures ok { OnOk result (code.new.items ≡ code.old.items ++ stores (names_in names.now) list.now) }
     ensures long { result ≡ Err faults.CodeTooLong → 65535 < length code.old.items + length (stores (names_in names.now) list.now) }
@@ -93,12 +93,12 @@ fn emit_stores(
     Ok(())
 }
 
-fn emit_assign(
+fn emit_assign<'s>(
     code: &mut Vec<Instruction>,
     names: &Scope,
-    name: &IdentRef,
-    index: &Option<Box<Expr>>,
-    value: &Expr,
+    name: &IdentRef<'s>,
+    index: &Option<Box<Expr<'s>>>,
+    value: &Expr<'s>,
 ) -> Result<(), CompileFault>
     ensures ok { OnOk result (code.new.items ≡ code.old.items ++ stmt_code (names_in names.now) (length code.old.items) (assign_tree name.now index.now value.now)) }
     ensures long { result ≡ Err faults.CodeTooLong → 65535 < length code.old.items + length (stmt_code (names_in names.now) (length code.old.items) (assign_tree name.now index.now value.now)) }
@@ -112,10 +112,10 @@ fn emit_assign(
     }
 }
 
-fn emit_await(
+fn emit_await<'s>(
     code: &mut Vec<Instruction>,
     names: &Scope,
-    condition: &Expr,
+    condition: &Expr<'s>,
 ) -> Result<(), CompileFault>
     ensures ok { OnOk result (code.new.items ≡ code.old.items ++ stmt_code (names_in names.now) (length code.old.items) (Await (expr_tree condition.now))) }
     ensures long { result ≡ Err faults.CodeTooLong → 65535 < length code.old.items + length (stmt_code (names_in names.now) (length code.old.items) (Await (expr_tree condition.now))) }
@@ -124,11 +124,11 @@ fn emit_await(
     emit_then(code, names, condition, Instruction::Await(start))
 }
 
-fn emit_new(
+fn emit_new<'s>(
     code: &mut Vec<Instruction>,
     names: &Scope,
-    first: &IdentRef,
-    second: &IdentRef,
+    first: &IdentRef<'s>,
+    second: &IdentRef<'s>,
 ) -> Result<(), CompileFault>
     ensures ok { OnOk result (code.new.items ≡ code.old.items ++ stmt_code (names_in names.now) (length code.old.items) (New first.now second.now)) }
     ensures long { result ≡ Err faults.CodeTooLong → 65535 < length code.old.items + length (stmt_code (names_in names.now) (length code.old.items) (New first.now second.now)) }
@@ -137,13 +137,13 @@ fn emit_new(
     emit_two(code, names.store(second), names.store(first))
 }
 
-fn emit_connect(
+fn emit_connect<'s>(
     code: &mut Vec<Instruction>,
     names: &Scope,
-    op: &IdentRef,
-    link: &IdentRef,
-    values: &[Expr],
-    results: &[IdentRef],
+    op: &IdentRef<'s>,
+    link: &IdentRef<'s>,
+    values: &[Expr<'s>],
+    results: &[IdentRef<'s>],
 ) -> Result<(), CompileFault>
     ensures ok { OnOk result (code.new.items ≡ code.old.items ++ stmt_code (names_in names.now) (length code.old.items) (Connect op.now link.now (expr_list values.now) results.now)) }
     ensures long { result ≡ Err faults.CodeTooLong → 65535 < length code.old.items + length (stmt_code (names_in names.now) (length code.old.items) (Connect op.now link.now (expr_list values.now) results.now)) }
@@ -154,10 +154,10 @@ fn emit_connect(
 }
 
 #[tactic(auto, using(crate::proofs::Loops::how_many_are))]
-fn emit_reply(
+fn emit_reply<'s>(
     code: &mut Vec<Instruction>,
     names: &Scope,
-    values: &[Expr],
+    values: &[Expr<'s>],
 ) -> Result<(), CompileFault>
     ensures ok { OnOk result (code.new.items ≡ code.old.items ++ stmt_code (names_in names.now) (length code.old.items) (Reply (expr_list values.now))) }
     ensures long { result ≡ Err faults.CodeTooLong → 65535 < length code.old.items + length (stmt_code (names_in names.now) (length code.old.items) (Reply (expr_list values.now))) }
@@ -167,11 +167,11 @@ fn emit_reply(
     push(code, Instruction::Reply(count))
 }
 
-fn emit_bind(
+fn emit_bind<'s>(
     code: &mut Vec<Instruction>,
     names: &Scope,
-    link: &IdentRef,
-    entry: &IdentRef,
+    link: &IdentRef<'s>,
+    entry: &IdentRef<'s>,
 ) -> Result<(), CompileFault>
     ensures ok { OnOk result (code.new.items ≡ code.old.items ++ stmt_code (names_in names.now) (length code.old.items) (Bind link.now entry.now)) }
     ensures long { result ≡ Err faults.CodeTooLong → 65535 < length code.old.items + length (stmt_code (names_in names.now) (length code.old.items) (Bind link.now entry.now)) }
@@ -180,11 +180,11 @@ fn emit_bind(
     emit_two(code, names.load(link), Instruction::Bind(number))
 }
 
-fn emit_unbind(
+fn emit_unbind<'s>(
     code: &mut Vec<Instruction>,
     names: &Scope,
-    link: &IdentRef,
-    entry: &IdentRef,
+    link: &IdentRef<'s>,
+    entry: &IdentRef<'s>,
 ) -> Result<(), CompileFault>
     ensures ok { OnOk result (code.new.items ≡ code.old.items ++ stmt_code (names_in names.now) (length code.old.items) (Unbind link.now entry.now)) }
     ensures long { result ≡ Err faults.CodeTooLong → 65535 < length code.old.items + length (stmt_code (names_in names.now) (length code.old.items) (Unbind link.now entry.now)) }
@@ -194,7 +194,11 @@ fn emit_unbind(
 }
 
 /// Adds the code of a statement that acts on links.
-fn emit_link(code: &mut Vec<Instruction>, names: &Scope, stmt: &Stmt) -> Result<(), CompileFault>
+fn emit_link<'s>(
+    code: &mut Vec<Instruction>,
+    names: &Scope,
+    stmt: &Stmt<'s>,
+) -> Result<(), CompileFault>
     requires { acts_on_links (stmt_tree stmt.now) ≡ true }
     ensures ok { OnOk result (code.new.items ≡ code.old.items ++ stmt_code (names_in names.now) (length code.old.items) (stmt_tree stmt.now)) }
     ensures long { result ≡ Err faults.CodeTooLong → 65535 < length code.old.items + length (stmt_code (names_in names.now) (length code.old.items) (stmt_tree stmt.now)) }
@@ -216,7 +220,11 @@ fn emit_link(code: &mut Vec<Instruction>, names: &Scope, stmt: &Stmt) -> Result<
 }
 
 /// Adds the code of a statement with no others inside.
-fn emit_action(code: &mut Vec<Instruction>, names: &Scope, stmt: &Stmt) -> Result<(), CompileFault>
+fn emit_action<'s>(
+    code: &mut Vec<Instruction>,
+    names: &Scope,
+    stmt: &Stmt<'s>,
+) -> Result<(), CompileFault>
     requires { has_statements (stmt_tree stmt.now) ≡ false }
     ensures ok { OnOk result (code.new.items ≡ code.old.items ++ stmt_code (names_in names.now) (length code.old.items) (stmt_tree stmt.now)) }
     ensures long { result ≡ Err faults.CodeTooLong → 65535 < length code.old.items + length (stmt_code (names_in names.now) (length code.old.items) (stmt_tree stmt.now)) }
@@ -233,7 +241,11 @@ fn emit_action(code: &mut Vec<Instruction>, names: &Scope, stmt: &Stmt) -> Resul
 
 /// Adds the code of a statement.
 #[cycle(emit_statement)]
-fn emit_stmt(code: &mut Vec<Instruction>, names: &Scope, stmt: &Stmt) -> Result<(), CompileFault>
+fn emit_stmt<'s>(
+    code: &mut Vec<Instruction>,
+    names: &Scope,
+    stmt: &Stmt<'s>,
+) -> Result<(), CompileFault>
     ensures ok { OnOk result (code.new.items ≡ code.old.items ++ stmt_code (names_in names.now) (length code.old.items) (stmt_tree stmt.now)) }
     ensures long { result ≡ Err faults.CodeTooLong → 65535 < length code.old.items + length (stmt_code (names_in names.now) (length code.old.items) (stmt_tree stmt.now)) }
 {
@@ -257,10 +269,10 @@ fn emit_stmt(code: &mut Vec<Instruction>, names: &Scope, stmt: &Stmt) -> Result<
 
 /// Adds the code of statements.
 #[cycle(emit_statement)]
-pub fn emit_stmts(
+pub fn emit_stmts<'s>(
     code: &mut Vec<Instruction>,
     names: &Scope,
-    stmts: &[Stmt],
+    stmts: &[Stmt<'s>],
 ) -> Result<(), CompileFault>
     ensures ok { OnOk result (code.new.items ≡ code.old.items ++ stmts_code (names_in names.now) (length code.old.items) (stmt_list stmts.now)) }
     ensures long { result ≡ Err faults.CodeTooLong → 65535 < length code.old.items + length (stmts_code (names_in names.now) (length code.old.items) (stmt_list stmts.now)) }
@@ -273,12 +285,12 @@ pub fn emit_stmts(
 
 /// Adds the code of statements behind a jump over them and over so many instructions more.
 #[cycle(emit_statement)]
-fn emit_over(
+fn emit_over<'s>(
     code: &mut Vec<Instruction>,
     names: &Scope,
     jump: Jump,
     more: u16,
-    stmts: &[Stmt],
+    stmts: &[Stmt<'s>],
 ) -> Result<(), CompileFault>
     ensures ok { OnOk result (code.new.items ≡ code.old.items ++ over_code (names_in names.now) (jump_to jump) more (length code.old.items) (stmt_list stmts.now)) }
     ensures long { result ≡ Err faults.CodeTooLong → 65535 < length code.old.items + length (over_code (names_in names.now) (jump_to jump) more (length code.old.items) (stmt_list stmts.now)) + more }
@@ -292,11 +304,11 @@ fn emit_over(
 }
 
 #[cycle(emit_statement)]
-fn emit_if(
+fn emit_if<'s>(
     code: &mut Vec<Instruction>,
     names: &Scope,
-    condition: &Expr,
-    then: &[Stmt],
+    condition: &Expr<'s>,
+    then: &[Stmt<'s>],
 ) -> Result<(), CompileFault>
     ensures ok { OnOk result (code.new.items ≡ code.old.items ++ stmt_code (names_in names.now) (length code.old.items) (If (expr_tree condition.now) (stmt_list then.now))) }
     ensures long { result ≡ Err faults.CodeTooLong → 65535 < length code.old.items + length (stmt_code (names_in names.now) (length code.old.items) (If (expr_tree condition.now) (stmt_list then.now))) }
@@ -306,12 +318,12 @@ fn emit_if(
 }
 
 #[cycle(emit_statement)]
-fn emit_if_else(
+fn emit_if_else<'s>(
     code: &mut Vec<Instruction>,
     names: &Scope,
-    condition: &Expr,
-    then: &[Stmt],
-    otherwise: &[Stmt],
+    condition: &Expr<'s>,
+    then: &[Stmt<'s>],
+    otherwise: &[Stmt<'s>],
 ) -> Result<(), CompileFault>
     ensures ok { OnOk result (code.new.items ≡ code.old.items ++ stmt_code (names_in names.now) (length code.old.items) (IfElse (expr_tree condition.now) (stmt_list then.now) (stmt_list otherwise.now))) }
     ensures long { result ≡ Err faults.CodeTooLong → 65535 < length code.old.items + length (stmt_code (names_in names.now) (length code.old.items) (IfElse (expr_tree condition.now) (stmt_list then.now) (stmt_list otherwise.now))) }
@@ -323,12 +335,12 @@ fn emit_if_else(
 
 /// Adds the code of a choice, which may have another side.
 #[cycle(emit_statement)]
-fn emit_choice(
+fn emit_choice<'s>(
     code: &mut Vec<Instruction>,
     names: &Scope,
-    condition: &Expr,
-    then: &[Stmt],
-    otherwise: &Option<Vec<Stmt>>,
+    condition: &Expr<'s>,
+    then: &[Stmt<'s>],
+    otherwise: &Option<Vec<Stmt<'s>>>,
 ) -> Result<(), CompileFault>
     ensures ok { OnOk result (code.new.items ≡ code.old.items ++ stmt_code (names_in names.now) (length code.old.items) (choice_tree (expr_tree condition.now) (stmt_list then.now) (else_list otherwise.now))) }
     ensures long { result ≡ Err faults.CodeTooLong → 65535 < length code.old.items + length (stmt_code (names_in names.now) (length code.old.items) (choice_tree (expr_tree condition.now) (stmt_list then.now) (else_list otherwise.now))) }
@@ -340,11 +352,11 @@ fn emit_choice(
 }
 
 #[cycle(emit_statement)]
-fn emit_while(
+fn emit_while<'s>(
     code: &mut Vec<Instruction>,
     names: &Scope,
-    condition: &Expr,
-    body: &[Stmt],
+    condition: &Expr<'s>,
+    body: &[Stmt<'s>],
 ) -> Result<(), CompileFault>
     ensures ok { OnOk result (code.new.items ≡ code.old.items ++ stmt_code (names_in names.now) (length code.old.items) (While (expr_tree condition.now) (stmt_list body.now))) }
     ensures long { result ≡ Err faults.CodeTooLong → 65535 < length code.old.items + length (stmt_code (names_in names.now) (length code.old.items) (While (expr_tree condition.now) (stmt_list body.now))) }
@@ -356,13 +368,13 @@ fn emit_while(
 }
 
 #[cycle(emit_statement)]
-fn emit_accept(
+fn emit_accept<'s>(
     code: &mut Vec<Instruction>,
     names: &Scope,
-    op: &IdentRef,
-    link: &IdentRef,
-    arguments: &[IdentRef],
-    body: &[Stmt],
+    op: &IdentRef<'s>,
+    link: &IdentRef<'s>,
+    arguments: &[IdentRef<'s>],
+    body: &[Stmt<'s>],
 ) -> Result<(), CompileFault>
     ensures ok { OnOk result (code.new.items ≡ code.old.items ++ stmt_code (names_in names.now) (length code.old.items) (Accept op.now link.now arguments.now (stmt_list body.now))) }
     ensures long { result ≡ Err faults.CodeTooLong → 65535 < length code.old.items + length (stmt_code (names_in names.now) (length code.old.items) (Accept op.now link.now arguments.now (stmt_list body.now))) }
@@ -375,10 +387,10 @@ fn emit_accept(
 
 /// Adds the code of a handler, whose jump behind the `try` is kept open.
 #[cycle(emit_statement)]
-fn emit_handler(
+fn emit_handler<'s>(
     code: &mut Vec<Instruction>,
     names: &Scope,
-    handler: &Handler,
+    handler: &Handler<'s>,
 ) -> Result<(), CompileFault>
     ensures ok { OnOk result (code.new.items ≡ code.old.items ++ handler_code (names_in names.now) 0 (length code.old.items) handler.now.name (stmt_list handler.now.body.items)) }
     ensures long { result ≡ Err faults.CodeTooLong → 65535 < length code.old.items + length (handler_code (names_in names.now) 0 (length code.old.items) handler.now.name (stmt_list handler.now.body.items)) }
@@ -390,10 +402,10 @@ fn emit_handler(
 
 /// Adds the code of handlers, whose jumps behind the `try` are kept open.
 #[cycle(emit_statement)]
-fn emit_handlers(
+fn emit_handlers<'s>(
     code: &mut Vec<Instruction>,
     names: &Scope,
-    handlers: &[Handler],
+    handlers: &[Handler<'s>],
 ) -> Result<(), CompileFault>
     ensures ok { OnOk result (code.new.items ≡ code.old.items ++ handlers_code (names_in names.now) 0 (length code.old.items) (handler_list handlers.now)) }
     ensures long { result ≡ Err faults.CodeTooLong → 65535 < length code.old.items + length (handlers_code (names_in names.now) 0 (length code.old.items) (handler_list handlers.now)) }
@@ -450,10 +462,10 @@ fn close_try(code: &mut Vec<Instruction>, first: usize, count: usize, end: u16)
 
 /// Adds the code of the body of a `try`, whose jump over the handlers is kept open as the last instruction.
 #[cycle(emit_statement)]
-fn emit_guarded(
+fn emit_guarded<'s>(
     code: &mut Vec<Instruction>,
     names: &Scope,
-    body: &[Stmt],
+    body: &[Stmt<'s>],
 ) -> Result<(), CompileFault>
     ensures ok { OnOk result (code.new.items ≡ code.old.items ++ guarded_code (names_in names.now) (length code.old.items) (stmt_list body.now)) }
     ensures long { result ≡ Err faults.CodeTooLong → 65535 < length code.old.items + length (guarded_code (names_in names.now) (length code.old.items) (stmt_list body.now)) }
@@ -464,10 +476,10 @@ fn emit_guarded(
 
 /// Adds the code of the handlers of a `try`, whose jumps behind it are kept open.
 #[cycle(emit_statement)]
-fn emit_caught(
+fn emit_caught<'s>(
     code: &mut Vec<Instruction>,
     names: &Scope,
-    handlers: &[Handler],
+    handlers: &[Handler<'s>],
 ) -> Result<(), CompileFault>
     ensures ok { OnOk result (code.new.items ≡ code.old.items ++ caught_code (names_in names.now) 0 (length code.old.items) (handler_list handlers.now)) }
     ensures long { result ≡ Err faults.CodeTooLong → 65535 < length code.old.items + length (caught_code (names_in names.now) 0 (length code.old.items) (handler_list handlers.now)) }
@@ -478,11 +490,11 @@ fn emit_caught(
 
 /// Adds the code of a `try`.
 #[cycle(emit_statement)]
-fn emit_try(
+fn emit_try<'s>(
     code: &mut Vec<Instruction>,
     names: &Scope,
-    body: &[Stmt],
-    handlers: &[Handler],
+    body: &[Stmt<'s>],
+    handlers: &[Handler<'s>],
 ) -> Result<(), CompileFault>
     ensures ok { OnOk result (code.new.items ≡ code.old.items ++ stmt_code (names_in names.now) (length code.old.items) (Try (stmt_list body.now) (handler_list handlers.now))) }
     ensures long { result ≡ Err faults.CodeTooLong → 65535 < length code.old.items + length (stmt_code (names_in names.now) (length code.old.items) (Try (stmt_list body.now) (handler_list handlers.now))) }

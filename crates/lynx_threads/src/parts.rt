@@ -26,7 +26,11 @@ pub struct Emitted {
 }
 
 /// Adds the code of a body, and its end.
-fn emit_body(code: &mut Vec<Instruction>, names: &Scope, body: &[Stmt]) -> Result<(), CompileFault>
+fn emit_body<'m>(
+    code: &mut Vec<Instruction>,
+    names: &Scope,
+    body: &[Stmt<'m>],
+) -> Result<(), CompileFault>
     ensures ok { OnOk result (code.new.items ≡ code.old.items ++ body_code (names_in names.now) (length code.old.items) (stmt_list body.now)) }
     ensures fits { OnOk result (length code.new.items ≤ 65535) }
     ensures long { result ≡ Err faults.CodeTooLong → 65535 < length code.old.items + length (body_code (names_in names.now) (length code.old.items) (stmt_list body.now)) }
@@ -167,11 +171,11 @@ fn main_name() -> Ident
 }
 
 /// Compiles the body of a module, at the first address.
-fn compile_main(
+fn compile_main<'m>(
     alloc: Global,
     code: &mut Vec<Instruction>,
-    tables: &Tables,
-    tree: &Module,
+    tables: &Tables<'m>,
+    tree: &Module<'m>,
 ) -> Result<Part, CompileFault>
     requires tables { AreTablesOf (module_tree tree.now) tables.now }
     requires first { code.old.items ≡ [] }
@@ -190,6 +194,28 @@ fn compile_main(
     })
 }
 
+/// Compiles the body of a module and its entries: adds their code and their parts.
+fn emit_parts<'m>(
+    alloc: Global,
+    code: &mut Vec<Instruction>,
+    parts: &mut Vec<Part>,
+    tables: &Tables<'m>,
+    tree: &Module<'m>,
+) -> Result<(), CompileFault>
+    requires tables { AreTablesOf (module_tree tree.now) tables.now }
+    requires code { code.old.items ≡ [] }
+    requires parts { parts.old.items ≡ [] }
+    ensures parts { OnOk result (ArePairs IsPartOf (parts_of (module_tree tree.now)) parts.new.items) }
+    ensures ok { OnOk result (code.new.items ≡ module_code (module_tree tree.now)) }
+    ensures fits { OnOk result (length code.new.items ≤ 65535) }
+    ensures long { result ≡ Err faults.CodeTooLong → 65535 < length (module_code (module_tree tree.now)) }
+{
+    let main = compile_main(alloc, code, tables, tree)?;
+    parts.push(main)?;
+    compile_entries(alloc, code, parts, tables, tree, &tree.entries)?;
+    Ok(())
+}
+
 /// Compiles the parts of a module.
 pub fn compile_parts(alloc: Global, tree: &Module) -> Result<Emitted, CompileFault>
     ensures parts { IfOk result (λ made. ArePairs IsPartOf (parts_of (module_tree tree.now)) made.parts.items) }
@@ -204,16 +230,7 @@ pub fn compile_parts(alloc: Global, tree: &Module) -> Result<Emitted, CompileFau
     let tables = Tables::of(alloc, tree)?;
     let mut instructions = Vec::new(alloc);
     let mut parts = Vec::new(alloc);
-    let main = compile_main(alloc, &mut instructions, &tables, tree)?;
-    parts.push(main)?;
-    compile_entries(
-        alloc,
-        &mut instructions,
-        &mut parts,
-        &tables,
-        tree,
-        &tree.entries,
-    )?;
+    emit_parts(alloc, &mut instructions, &mut parts, &tables, tree)?;
     Ok(Emitted {
         parts,
         instructions,
