@@ -49,34 +49,34 @@ fn term_operator(sign: TermSign) -> Instruction
 /// Adds the code of an expression.
 #[cycle(emit_expression)]
 pub fn emit_expr(
+    expr: &Expr,
     code: &mut Vec<Instruction>,
     names: &Scope,
-    expr: &Expr,
 ) -> Result<(), CompileFault>
     ensures ok { OnOk result (code.new.items ≡ code.old.items ++ expr_code (names_in names.now) (length code.old.items) (expr_tree expr.now)) }
     ensures long { result ≡ Err faults.CodeTooLong → 65535 < length code.old.items + length (expr_code (names_in names.now) (length code.old.items) (expr_tree expr.now)) }
 {
     match expr {
-        Expr::Or(members) => emit_chain(code, names, true, members),
-        Expr::And(members) => emit_chain(code, names, false, members),
+        Expr::Or(members) => emit_chain(true, members, code, names),
+        Expr::And(members) => emit_chain(false, members, code, names),
         Expr::Relation {
             first,
             sign,
             second,
         } => {
-            emit_expr(code, names, first)?;
-            emit_then(code, names, second, relation(*sign))
+            emit_expr(first, code, names)?;
+            emit_then(second, relation(*sign), code, names)
         }
         Expr::Sum { first, rest } => {
-            emit_expr(code, names, first)?;
-            emit_sums(code, names, rest)
+            emit_expr(first, code, names)?;
+            emit_sums(rest, code, names)
         }
         Expr::Term { first, rest } => {
-            emit_expr(code, names, first)?;
-            emit_terms(code, names, rest)
+            emit_expr(first, code, names)?;
+            emit_terms(rest, code, names)
         }
-        Expr::Minus(inner) => emit_then(code, names, inner, Instruction::Neg),
-        Expr::Not(inner) => emit_then(code, names, inner, Instruction::Not),
+        Expr::Minus(inner) => emit_then(inner, Instruction::Neg, code, names),
+        Expr::Not(inner) => emit_then(inner, Instruction::Not, code, names),
         Expr::Number(number) => push(code, Instruction::Push(Literal::Int(*number))),
         Expr::Text(inside) => push(code, Instruction::Push(Literal::Text(inside.to_text()))),
         Expr::True => push(code, Instruction::Push(Literal::Bool(true))),
@@ -85,33 +85,33 @@ pub fn emit_expr(
         Expr::Name {
             name,
             index: Some(index),
-        } => emit_then(code, names, index, names.load_member(name)),
-        Expr::Bracket(inner) => emit_expr(code, names, inner),
+        } => emit_then(index, names.load_member(name), code, names),
+        Expr::Bracket(inner) => emit_expr(inner, code, names),
     }
 }
 
 /// Adds the code of an expression, and an instruction behind it.
 #[cycle(emit_expression)]
 pub fn emit_then(
-    code: &mut Vec<Instruction>,
-    names: &Scope,
     expr: &Expr,
     instruction: Instruction,
+    code: &mut Vec<Instruction>,
+    names: &Scope,
 ) -> Result<(), CompileFault>
     ensures ok { OnOk result (code.new.items ≡ code.old.items ++ (expr_code (names_in names.now) (length code.old.items) (expr_tree expr.now) ++ instruction ∷ [])) }
     ensures long { result ≡ Err faults.CodeTooLong → 65535 < length code.old.items + length (expr_code (names_in names.now) (length code.old.items) (expr_tree expr.now) ++ instruction ∷ []) }
 {
-    emit_expr(code, names, expr)?;
+    emit_expr(expr, code, names)?;
     push(code, instruction)
 }
 
 /// Adds the code of a chain of `or`, or else of `and`.
 #[cycle(emit_expression)]
 fn emit_chain(
-    code: &mut Vec<Instruction>,
-    names: &Scope,
     or: bool,
     members: &[Expr],
+    code: &mut Vec<Instruction>,
+    names: &Scope,
 ) -> Result<(), CompileFault>
     ensures ok { OnOk result (code.new.items ≡ code.old.items ++ chain_code (names_in names.now) (chain_jump or) (length code.old.items) (expr_list members.now)) }
     ensures long { result ≡ Err faults.CodeTooLong → 65535 < length code.old.items + length (chain_code (names_in names.now) (chain_jump or) (length code.old.items) (expr_list members.now)) }
@@ -119,9 +119,9 @@ fn emit_chain(
     let Some((first, rest)) = members.split_first() else {
         return Ok(());
     };
-    emit_expr(code, names, first)?;
+    emit_expr(first, code, names)?;
     for member in rest {
-        emit_member(code, names, or, member)?;
+        emit_member(or, member, code, names)?;
     }
     Ok(())
 }
@@ -129,17 +129,17 @@ fn emit_chain(
 /// Adds the code of a member of a chain behind the first, with the jump over it.
 #[cycle(emit_expression)]
 fn emit_member(
-    code: &mut Vec<Instruction>,
-    names: &Scope,
     or: bool,
     member: &Expr,
+    code: &mut Vec<Instruction>,
+    names: &Scope,
 ) -> Result<(), CompileFault>
     ensures ok { OnOk result (code.new.items ≡ code.old.items ++ member_code (names_in names.now) (chain_jump or) (length code.old.items) (expr_tree member.now)) }
     ensures long { result ≡ Err faults.CodeTooLong → 65535 < length code.old.items + length (member_code (names_in names.now) (chain_jump or) (length code.old.items) (expr_tree member.now)) }
 {
     let at = code.len();
     push(code, Instruction::End)?;
-    emit_expr(code, names, member)?;
+    emit_expr(member, code, names)?;
     let end = behind(code, 0)?;
     set(code, at, chain_jump(or, end));
     Ok(())
@@ -158,15 +158,15 @@ fn chain_jump(or: bool, address: u16) -> Instruction
 /// Adds the code of the members of a sum behind the first.
 #[cycle(emit_expression)]
 fn emit_sums(
+    members: &[(Sign, Expr)],
     code: &mut Vec<Instruction>,
     names: &Scope,
-    members: &[(Sign, Expr)],
 ) -> Result<(), CompileFault>
     ensures ok { OnOk result (code.new.items ≡ code.old.items ++ sum_code (names_in names.now) (length code.old.items) (sum_list members.now)) }
     ensures long { result ≡ Err faults.CodeTooLong → 65535 < length code.old.items + length (sum_code (names_in names.now) (length code.old.items) (sum_list members.now)) }
 {
     for (sign, member) in members {
-        emit_then(code, names, member, sum_operator(*sign))?;
+        emit_then(member, sum_operator(*sign), code, names)?;
     }
     Ok(())
 }
@@ -174,30 +174,30 @@ fn emit_sums(
 /// Adds the code of the members of a term behind the first.
 #[cycle(emit_expression)]
 fn emit_terms(
+    members: &[(TermSign, Expr)],
     code: &mut Vec<Instruction>,
     names: &Scope,
-    members: &[(TermSign, Expr)],
 ) -> Result<(), CompileFault>
     ensures ok { OnOk result (code.new.items ≡ code.old.items ++ term_code (names_in names.now) (length code.old.items) (term_list members.now)) }
     ensures long { result ≡ Err faults.CodeTooLong → 65535 < length code.old.items + length (term_code (names_in names.now) (length code.old.items) (term_list members.now)) }
 {
     for (sign, member) in members {
-        emit_then(code, names, member, term_operator(*sign))?;
+        emit_then(member, term_operator(*sign), code, names)?;
     }
     Ok(())
 }
 
 /// Adds the code of expressions.
 pub fn emit_exprs(
+    values: &[Expr],
     code: &mut Vec<Instruction>,
     names: &Scope,
-    values: &[Expr],
 ) -> Result<(), CompileFault>
     ensures ok { OnOk result (code.new.items ≡ code.old.items ++ exprs_code (names_in names.now) (length code.old.items) (expr_list values.now)) }
     ensures long { result ≡ Err faults.CodeTooLong → 65535 < length code.old.items + length (exprs_code (names_in names.now) (length code.old.items) (expr_list values.now)) }
 {
     for value in values {
-        emit_expr(code, names, value)?;
+        emit_expr(value, code, names)?;
     }
     Ok(())
 }

@@ -78,10 +78,10 @@ fn emit_two(
 }
 
 /// Adds the instructions that store into variables, from the last one to the first.
-fn emit_stores<'s>(
+fn emit_stores(
+    list: &[IdentRef],
     code: &mut Vec<Instruction>,
     names: &Scope,
-    list: &[IdentRef<'s>],
 ) -> Result<(), CompileFault>
     ensures ok { OnOk result (code.new.items ≡ code.old.items ++ stores (names_in names.now) list.now) }
     ensures long { result ≡ Err faults.CodeTooLong → 65535 < length code.old.items + length (stores (names_in names.now) list.now) }
@@ -93,42 +93,42 @@ fn emit_stores<'s>(
     Ok(())
 }
 
-fn emit_assign<'s>(
+fn emit_assign(
+    name: &IdentRef,
+    index: &Option<Box<Expr>>,
+    value: &Expr,
     code: &mut Vec<Instruction>,
     names: &Scope,
-    name: &IdentRef<'s>,
-    index: &Option<Box<Expr<'s>>>,
-    value: &Expr<'s>,
 ) -> Result<(), CompileFault>
     ensures ok { OnOk result (code.new.items ≡ code.old.items ++ stmt_code (names_in names.now) (length code.old.items) (assign_tree name.now index.now value.now)) }
     ensures long { result ≡ Err faults.CodeTooLong → 65535 < length code.old.items + length (stmt_code (names_in names.now) (length code.old.items) (assign_tree name.now index.now value.now)) }
 {
     match index {
-        None => emit_then(code, names, value, names.store(name)),
+        None => emit_then(value, names.store(name), code, names),
         Some(index) => {
-            emit_expr(code, names, index)?;
-            emit_then(code, names, value, names.store_member(name))
+            emit_expr(index, code, names)?;
+            emit_then(value, names.store_member(name), code, names)
         }
     }
 }
 
-fn emit_await<'s>(
+fn emit_await(
+    condition: &Expr,
     code: &mut Vec<Instruction>,
     names: &Scope,
-    condition: &Expr<'s>,
 ) -> Result<(), CompileFault>
     ensures ok { OnOk result (code.new.items ≡ code.old.items ++ stmt_code (names_in names.now) (length code.old.items) (Await (expr_tree condition.now))) }
     ensures long { result ≡ Err faults.CodeTooLong → 65535 < length code.old.items + length (stmt_code (names_in names.now) (length code.old.items) (Await (expr_tree condition.now))) }
 {
     let start = behind(code, 0)?;
-    emit_then(code, names, condition, Instruction::Await(start))
+    emit_then(condition, Instruction::Await(start), code, names)
 }
 
-fn emit_new<'s>(
+fn emit_new(
+    first: &IdentRef,
+    second: &IdentRef,
     code: &mut Vec<Instruction>,
     names: &Scope,
-    first: &IdentRef<'s>,
-    second: &IdentRef<'s>,
 ) -> Result<(), CompileFault>
     ensures ok { OnOk result (code.new.items ≡ code.old.items ++ stmt_code (names_in names.now) (length code.old.items) (New first.now second.now)) }
     ensures long { result ≡ Err faults.CodeTooLong → 65535 < length code.old.items + length (stmt_code (names_in names.now) (length code.old.items) (New first.now second.now)) }
@@ -137,41 +137,41 @@ fn emit_new<'s>(
     emit_two(code, names.store(second), names.store(first))
 }
 
-fn emit_connect<'s>(
+fn emit_connect(
+    op: &IdentRef,
+    link: &IdentRef,
+    values: &[Expr],
+    results: &[IdentRef],
     code: &mut Vec<Instruction>,
     names: &Scope,
-    op: &IdentRef<'s>,
-    link: &IdentRef<'s>,
-    values: &[Expr<'s>],
-    results: &[IdentRef<'s>],
 ) -> Result<(), CompileFault>
     ensures ok { OnOk result (code.new.items ≡ code.old.items ++ stmt_code (names_in names.now) (length code.old.items) (Connect op.now link.now (expr_list values.now) results.now)) }
     ensures long { result ≡ Err faults.CodeTooLong → 65535 < length code.old.items + length (stmt_code (names_in names.now) (length code.old.items) (Connect op.now link.now (expr_list values.now) results.now)) }
 {
-    emit_exprs(code, names, values)?;
+    emit_exprs(values, code, names)?;
     emit_two(code, names.load(link), Instruction::Connect(names.op(op)))?;
-    emit_stores(code, names, results)
+    emit_stores(results, code, names)
 }
 
 #[tactic(auto, using(crate::proofs::Loops::how_many_are))]
-fn emit_reply<'s>(
+fn emit_reply(
+    values: &[Expr],
     code: &mut Vec<Instruction>,
     names: &Scope,
-    values: &[Expr<'s>],
 ) -> Result<(), CompileFault>
     ensures ok { OnOk result (code.new.items ≡ code.old.items ++ stmt_code (names_in names.now) (length code.old.items) (Reply (expr_list values.now))) }
     ensures long { result ≡ Err faults.CodeTooLong → 65535 < length code.old.items + length (stmt_code (names_in names.now) (length code.old.items) (Reply (expr_list values.now))) }
 {
     let count = short(values.len())?;
-    emit_exprs(code, names, values)?;
+    emit_exprs(values, code, names)?;
     push(code, Instruction::Reply(count))
 }
 
-fn emit_bind<'s>(
+fn emit_bind(
+    link: &IdentRef,
+    entry: &IdentRef,
     code: &mut Vec<Instruction>,
     names: &Scope,
-    link: &IdentRef<'s>,
-    entry: &IdentRef<'s>,
 ) -> Result<(), CompileFault>
     ensures ok { OnOk result (code.new.items ≡ code.old.items ++ stmt_code (names_in names.now) (length code.old.items) (Bind link.now entry.now)) }
     ensures long { result ≡ Err faults.CodeTooLong → 65535 < length code.old.items + length (stmt_code (names_in names.now) (length code.old.items) (Bind link.now entry.now)) }
@@ -180,11 +180,11 @@ fn emit_bind<'s>(
     emit_two(code, names.load(link), Instruction::Bind(number))
 }
 
-fn emit_unbind<'s>(
+fn emit_unbind(
+    link: &IdentRef,
+    entry: &IdentRef,
     code: &mut Vec<Instruction>,
     names: &Scope,
-    link: &IdentRef<'s>,
-    entry: &IdentRef<'s>,
 ) -> Result<(), CompileFault>
     ensures ok { OnOk result (code.new.items ≡ code.old.items ++ stmt_code (names_in names.now) (length code.old.items) (Unbind link.now entry.now)) }
     ensures long { result ≡ Err faults.CodeTooLong → 65535 < length code.old.items + length (stmt_code (names_in names.now) (length code.old.items) (Unbind link.now entry.now)) }
@@ -194,58 +194,46 @@ fn emit_unbind<'s>(
 }
 
 /// Adds the code of a statement that acts on links.
-fn emit_link<'s>(
-    code: &mut Vec<Instruction>,
-    names: &Scope,
-    stmt: &Stmt<'s>,
-) -> Result<(), CompileFault>
+fn emit_link(stmt: &Stmt, code: &mut Vec<Instruction>, names: &Scope) -> Result<(), CompileFault>
     requires { acts_on_links (stmt_tree stmt.now) ≡ true }
     ensures ok { OnOk result (code.new.items ≡ code.old.items ++ stmt_code (names_in names.now) (length code.old.items) (stmt_tree stmt.now)) }
     ensures long { result ≡ Err faults.CodeTooLong → 65535 < length code.old.items + length (stmt_code (names_in names.now) (length code.old.items) (stmt_tree stmt.now)) }
 {
     match stmt {
-        Stmt::New { first, second } => emit_new(code, names, first, second),
+        Stmt::New { first, second } => emit_new(first, second, code, names),
         Stmt::Destroy(name) => emit_two(code, names.load(name), Instruction::Destroy),
-        Stmt::Bind { link, entry } => emit_bind(code, names, link, entry),
-        Stmt::Unbind { link, entry } => emit_unbind(code, names, link, entry),
+        Stmt::Bind { link, entry } => emit_bind(link, entry, code, names),
+        Stmt::Unbind { link, entry } => emit_unbind(link, entry, code, names),
         Stmt::Connect {
             op,
             link,
             values,
             results,
-        } => emit_connect(code, names, op, link, values, results),
-        Stmt::Reply(values) => emit_reply(code, names, values),
+        } => emit_connect(op, link, values, results, code, names),
+        Stmt::Reply(values) => emit_reply(values, code, names),
         _ => unreachable!(),
     }
 }
 
 /// Adds the code of a statement with no others inside.
-fn emit_action<'s>(
-    code: &mut Vec<Instruction>,
-    names: &Scope,
-    stmt: &Stmt<'s>,
-) -> Result<(), CompileFault>
+fn emit_action(stmt: &Stmt, code: &mut Vec<Instruction>, names: &Scope) -> Result<(), CompileFault>
     requires { has_statements (stmt_tree stmt.now) ≡ false }
     ensures ok { OnOk result (code.new.items ≡ code.old.items ++ stmt_code (names_in names.now) (length code.old.items) (stmt_tree stmt.now)) }
     ensures long { result ≡ Err faults.CodeTooLong → 65535 < length code.old.items + length (stmt_code (names_in names.now) (length code.old.items) (stmt_tree stmt.now)) }
 {
     match stmt {
-        Stmt::Assign { name, index, value } => emit_assign(code, names, name, index, value),
-        Stmt::Write(value) => emit_then(code, names, value, Instruction::Write),
-        Stmt::Await(condition) => emit_await(code, names, condition),
+        Stmt::Assign { name, index, value } => emit_assign(name, index, value, code, names),
+        Stmt::Write(value) => emit_then(value, Instruction::Write, code, names),
+        Stmt::Await(condition) => emit_await(condition, code, names),
         Stmt::Stop => push(code, Instruction::Stop),
         Stmt::Raise(name) => push(code, Instruction::Raise(exception(name))),
-        _ => emit_link(code, names, stmt),
+        _ => emit_link(stmt, code, names),
     }
 }
 
 /// Adds the code of a statement.
 #[cycle(emit_statement)]
-fn emit_stmt<'s>(
-    code: &mut Vec<Instruction>,
-    names: &Scope,
-    stmt: &Stmt<'s>,
-) -> Result<(), CompileFault>
+fn emit_stmt(stmt: &Stmt, code: &mut Vec<Instruction>, names: &Scope) -> Result<(), CompileFault>
     ensures ok { OnOk result (code.new.items ≡ code.old.items ++ stmt_code (names_in names.now) (length code.old.items) (stmt_tree stmt.now)) }
     ensures long { result ≡ Err faults.CodeTooLong → 65535 < length code.old.items + length (stmt_code (names_in names.now) (length code.old.items) (stmt_tree stmt.now)) }
 {
@@ -254,164 +242,164 @@ fn emit_stmt<'s>(
             condition,
             then,
             otherwise,
-        } => emit_choice(code, names, condition, then, otherwise),
-        Stmt::While { condition, body } => emit_while(code, names, condition, body),
+        } => emit_choice(condition, then, otherwise, code, names),
+        Stmt::While { condition, body } => emit_while(condition, body, code, names),
         Stmt::Accept {
             op,
             link,
             names: arguments,
             body,
-        } => emit_accept(code, names, op, link, arguments, body),
-        Stmt::Try { body, handlers } => emit_try(code, names, body, handlers),
-        _ => emit_action(code, names, stmt),
+        } => emit_accept(op, link, arguments, body, code, names),
+        Stmt::Try { body, handlers } => emit_try(body, handlers, code, names),
+        _ => emit_action(stmt, code, names),
     }
 }
 
 /// Adds the code of statements.
 #[cycle(emit_statement)]
-pub fn emit_stmts<'s>(
+pub fn emit_stmts(
+    stmts: &[Stmt],
     code: &mut Vec<Instruction>,
     names: &Scope,
-    stmts: &[Stmt<'s>],
 ) -> Result<(), CompileFault>
     ensures ok { OnOk result (code.new.items ≡ code.old.items ++ stmts_code (names_in names.now) (length code.old.items) (stmt_list stmts.now)) }
     ensures long { result ≡ Err faults.CodeTooLong → 65535 < length code.old.items + length (stmts_code (names_in names.now) (length code.old.items) (stmt_list stmts.now)) }
 {
     for stmt in stmts {
-        emit_stmt(code, names, stmt)?;
+        emit_stmt(stmt, code, names)?;
     }
     Ok(())
 }
 
 /// Adds the code of statements behind a jump over them and over so many instructions more.
 #[cycle(emit_statement)]
-fn emit_over<'s>(
-    code: &mut Vec<Instruction>,
-    names: &Scope,
+fn emit_over(
+    stmts: &[Stmt],
     jump: Jump,
     more: u16,
-    stmts: &[Stmt<'s>],
+    code: &mut Vec<Instruction>,
+    names: &Scope,
 ) -> Result<(), CompileFault>
     ensures ok { OnOk result (code.new.items ≡ code.old.items ++ over_code (names_in names.now) (jump_to jump) more (length code.old.items) (stmt_list stmts.now)) }
     ensures long { result ≡ Err faults.CodeTooLong → 65535 < length code.old.items + length (over_code (names_in names.now) (jump_to jump) more (length code.old.items) (stmt_list stmts.now)) + more }
 {
     let at = code.len();
     push(code, Instruction::End)?;
-    emit_stmts(code, names, stmts)?;
+    emit_stmts(stmts, code, names)?;
     let end = behind(code, more)?;
     set(code, at, jump.to(end));
     Ok(())
 }
 
 #[cycle(emit_statement)]
-fn emit_if<'s>(
+fn emit_if(
+    condition: &Expr,
+    then: &[Stmt],
     code: &mut Vec<Instruction>,
     names: &Scope,
-    condition: &Expr<'s>,
-    then: &[Stmt<'s>],
 ) -> Result<(), CompileFault>
     ensures ok { OnOk result (code.new.items ≡ code.old.items ++ stmt_code (names_in names.now) (length code.old.items) (If (expr_tree condition.now) (stmt_list then.now))) }
     ensures long { result ≡ Err faults.CodeTooLong → 65535 < length code.old.items + length (stmt_code (names_in names.now) (length code.old.items) (If (expr_tree condition.now) (stmt_list then.now))) }
 {
-    emit_expr(code, names, condition)?;
-    emit_over(code, names, Jump::IfFalse, 0, then)
+    emit_expr(condition, code, names)?;
+    emit_over(then, Jump::IfFalse, 0, code, names)
 }
 
 #[cycle(emit_statement)]
-fn emit_if_else<'s>(
+fn emit_if_else(
+    condition: &Expr,
+    then: &[Stmt],
+    otherwise: &[Stmt],
     code: &mut Vec<Instruction>,
     names: &Scope,
-    condition: &Expr<'s>,
-    then: &[Stmt<'s>],
-    otherwise: &[Stmt<'s>],
 ) -> Result<(), CompileFault>
     ensures ok { OnOk result (code.new.items ≡ code.old.items ++ stmt_code (names_in names.now) (length code.old.items) (IfElse (expr_tree condition.now) (stmt_list then.now) (stmt_list otherwise.now))) }
     ensures long { result ≡ Err faults.CodeTooLong → 65535 < length code.old.items + length (stmt_code (names_in names.now) (length code.old.items) (IfElse (expr_tree condition.now) (stmt_list then.now) (stmt_list otherwise.now))) }
 {
-    emit_expr(code, names, condition)?;
-    emit_over(code, names, Jump::IfFalse, 1, then)?;
-    emit_over(code, names, Jump::Always, 0, otherwise)
+    emit_expr(condition, code, names)?;
+    emit_over(then, Jump::IfFalse, 1, code, names)?;
+    emit_over(otherwise, Jump::Always, 0, code, names)
 }
 
 /// Adds the code of a choice, which may have another side.
 #[cycle(emit_statement)]
-fn emit_choice<'s>(
+fn emit_choice(
+    condition: &Expr,
+    then: &[Stmt],
+    otherwise: &Option<Vec<Stmt>>,
     code: &mut Vec<Instruction>,
     names: &Scope,
-    condition: &Expr<'s>,
-    then: &[Stmt<'s>],
-    otherwise: &Option<Vec<Stmt<'s>>>,
 ) -> Result<(), CompileFault>
     ensures ok { OnOk result (code.new.items ≡ code.old.items ++ stmt_code (names_in names.now) (length code.old.items) (choice_tree (expr_tree condition.now) (stmt_list then.now) (else_list otherwise.now))) }
     ensures long { result ≡ Err faults.CodeTooLong → 65535 < length code.old.items + length (stmt_code (names_in names.now) (length code.old.items) (choice_tree (expr_tree condition.now) (stmt_list then.now) (else_list otherwise.now))) }
 {
     match otherwise {
-        None => emit_if(code, names, condition, then),
-        Some(otherwise) => emit_if_else(code, names, condition, then, otherwise),
+        None => emit_if(condition, then, code, names),
+        Some(otherwise) => emit_if_else(condition, then, otherwise, code, names),
     }
 }
 
 #[cycle(emit_statement)]
-fn emit_while<'s>(
+fn emit_while(
+    condition: &Expr,
+    body: &[Stmt],
     code: &mut Vec<Instruction>,
     names: &Scope,
-    condition: &Expr<'s>,
-    body: &[Stmt<'s>],
 ) -> Result<(), CompileFault>
     ensures ok { OnOk result (code.new.items ≡ code.old.items ++ stmt_code (names_in names.now) (length code.old.items) (While (expr_tree condition.now) (stmt_list body.now))) }
     ensures long { result ≡ Err faults.CodeTooLong → 65535 < length code.old.items + length (stmt_code (names_in names.now) (length code.old.items) (While (expr_tree condition.now) (stmt_list body.now))) }
 {
     let start = behind(code, 0)?;
-    emit_expr(code, names, condition)?;
-    emit_over(code, names, Jump::IfFalse, 1, body)?;
+    emit_expr(condition, code, names)?;
+    emit_over(body, Jump::IfFalse, 1, code, names)?;
     push(code, Instruction::Jump(start))
 }
 
 #[cycle(emit_statement)]
-fn emit_accept<'s>(
+fn emit_accept(
+    op: &IdentRef,
+    link: &IdentRef,
+    arguments: &[IdentRef],
+    body: &[Stmt],
     code: &mut Vec<Instruction>,
     names: &Scope,
-    op: &IdentRef<'s>,
-    link: &IdentRef<'s>,
-    arguments: &[IdentRef<'s>],
-    body: &[Stmt<'s>],
 ) -> Result<(), CompileFault>
     ensures ok { OnOk result (code.new.items ≡ code.old.items ++ stmt_code (names_in names.now) (length code.old.items) (Accept op.now link.now arguments.now (stmt_list body.now))) }
     ensures long { result ≡ Err faults.CodeTooLong → 65535 < length code.old.items + length (stmt_code (names_in names.now) (length code.old.items) (Accept op.now link.now arguments.now (stmt_list body.now))) }
 {
     emit_two(code, names.load(link), Instruction::Accept(names.op(op)))?;
-    emit_stores(code, names, arguments)?;
-    emit_stmts(code, names, body)?;
+    emit_stores(arguments, code, names)?;
+    emit_stmts(body, code, names)?;
     push(code, Instruction::Close)
 }
 
 /// Adds the code of a handler, whose jump behind the `try` is kept open.
 #[cycle(emit_statement)]
-fn emit_handler<'s>(
+fn emit_handler(
+    handler: &Handler,
     code: &mut Vec<Instruction>,
     names: &Scope,
-    handler: &Handler<'s>,
 ) -> Result<(), CompileFault>
     ensures ok { OnOk result (code.new.items ≡ code.old.items ++ handler_code (names_in names.now) 0 (length code.old.items) handler.now.name (stmt_list handler.now.body.items)) }
     ensures long { result ≡ Err faults.CodeTooLong → 65535 < length code.old.items + length (handler_code (names_in names.now) 0 (length code.old.items) handler.now.name (stmt_list handler.now.body.items)) }
 {
     let jump = Jump::Case(exception(&handler.name));
-    emit_over(code, names, jump, 1, &handler.body)?;
+    emit_over(&handler.body, jump, 1, code, names)?;
     push(code, Instruction::Jump(0))
 }
 
 /// Adds the code of handlers, whose jumps behind the `try` are kept open.
 #[cycle(emit_statement)]
-fn emit_handlers<'s>(
+fn emit_handlers(
+    handlers: &[Handler],
     code: &mut Vec<Instruction>,
     names: &Scope,
-    handlers: &[Handler<'s>],
 ) -> Result<(), CompileFault>
     ensures ok { OnOk result (code.new.items ≡ code.old.items ++ handlers_code (names_in names.now) 0 (length code.old.items) (handler_list handlers.now)) }
     ensures long { result ≡ Err faults.CodeTooLong → 65535 < length code.old.items + length (handlers_code (names_in names.now) 0 (length code.old.items) (handler_list handlers.now)) }
 {
     for handler in handlers {
-        emit_handler(code, names, handler)?;
+        emit_handler(handler, code, names)?;
     }
     Ok(())
 }
@@ -462,46 +450,46 @@ fn close_try(code: &mut Vec<Instruction>, first: usize, count: usize, end: u16)
 
 /// Adds the code of the body of a `try`, whose jump over the handlers is kept open as the last instruction.
 #[cycle(emit_statement)]
-fn emit_guarded<'s>(
+fn emit_guarded(
+    body: &[Stmt],
     code: &mut Vec<Instruction>,
     names: &Scope,
-    body: &[Stmt<'s>],
 ) -> Result<(), CompileFault>
     ensures ok { OnOk result (code.new.items ≡ code.old.items ++ guarded_code (names_in names.now) (length code.old.items) (stmt_list body.now)) }
     ensures long { result ≡ Err faults.CodeTooLong → 65535 < length code.old.items + length (guarded_code (names_in names.now) (length code.old.items) (stmt_list body.now)) }
 {
-    emit_over(code, names, Jump::Try, 2, body)?;
+    emit_over(body, Jump::Try, 2, code, names)?;
     emit_two(code, Instruction::Untry, Instruction::End)
 }
 
 /// Adds the code of the handlers of a `try`, whose jumps behind it are kept open.
 #[cycle(emit_statement)]
-fn emit_caught<'s>(
+fn emit_caught(
+    handlers: &[Handler],
     code: &mut Vec<Instruction>,
     names: &Scope,
-    handlers: &[Handler<'s>],
 ) -> Result<(), CompileFault>
     ensures ok { OnOk result (code.new.items ≡ code.old.items ++ caught_code (names_in names.now) 0 (length code.old.items) (handler_list handlers.now)) }
     ensures long { result ≡ Err faults.CodeTooLong → 65535 < length code.old.items + length (caught_code (names_in names.now) 0 (length code.old.items) (handler_list handlers.now)) }
 {
-    emit_handlers(code, names, handlers)?;
+    emit_handlers(handlers, code, names)?;
     push(code, Instruction::Again)
 }
 
 /// Adds the code of a `try`.
 #[cycle(emit_statement)]
-fn emit_try<'s>(
+fn emit_try(
+    body: &[Stmt],
+    handlers: &[Handler],
     code: &mut Vec<Instruction>,
     names: &Scope,
-    body: &[Stmt<'s>],
-    handlers: &[Handler<'s>],
 ) -> Result<(), CompileFault>
     ensures ok { OnOk result (code.new.items ≡ code.old.items ++ stmt_code (names_in names.now) (length code.old.items) (Try (stmt_list body.now) (handler_list handlers.now))) }
     ensures long { result ≡ Err faults.CodeTooLong → 65535 < length code.old.items + length (stmt_code (names_in names.now) (length code.old.items) (Try (stmt_list body.now) (handler_list handlers.now))) }
 {
-    emit_guarded(code, names, body)?;
+    emit_guarded(body, code, names)?;
     let first = code.len();
-    emit_caught(code, names, handlers)?;
+    emit_caught(handlers, code, names)?;
     let end = behind(code, 0)?;
     close_try(code, first, handlers.len(), end);
     Ok(())

@@ -26,11 +26,7 @@ pub struct Emitted {
 }
 
 /// Adds the code of a body, and its end.
-fn emit_body<'m>(
-    code: &mut Vec<Instruction>,
-    names: &Scope,
-    body: &[Stmt<'m>],
-) -> Result<(), CompileFault>
+fn emit_body(body: &[Stmt], code: &mut Vec<Instruction>, names: &Scope) -> Result<(), CompileFault>
     ensures ok { OnOk result (code.new.items ≡ code.old.items ++ body_code (names_in names.now) (length code.old.items) (stmt_list body.now)) }
     ensures fits { OnOk result (length code.new.items ≤ 65535) }
     ensures long { result ≡ Err faults.CodeTooLong → 65535 < length code.old.items + length (body_code (names_in names.now) (length code.old.items) (stmt_list body.now)) }
@@ -39,7 +35,7 @@ fn emit_body<'m>(
     if body.len() >= MOST {
         return Err(CompileFault::CodeTooLong);
     }
-    emit_stmts(code, names, body)?;
+    emit_stmts(body, code, names)?;
     push(code, Instruction::End)?;
     Ok(())
 }
@@ -104,26 +100,26 @@ fn op_number(tables: &Tables, name: &IdentRef) -> u32
 /// Adds the code of an entry.
 fn emit_entry<'m>(
     alloc: Global,
+    entry: &EntryDecl<'m>,
     code: &mut Vec<Instruction>,
     tables: &Tables<'m>,
-    entry: &EntryDecl<'m>,
 ) -> Result<(), CompileFault>
     ensures ok { (m : ModuleTree) → AreTablesOf m tables.now → OnOk result (code.new.items ≡ code.old.items ++ (entry_part m (length code.old.items) (entry_tree entry.now)).instructions) }
     ensures fits { OnOk result (length code.new.items ≤ 65535) }
     ensures long { (m : ModuleTree) → AreTablesOf m tables.now → result ≡ Err faults.CodeTooLong → 65535 < length code.old.items + length (entry_part m (length code.old.items) (entry_tree entry.now)).instructions }
 {
     let names = entry_names(alloc, entry)?;
-    emit_body(code, &tables.scope(&names), &entry.body)?;
+    emit_body(&entry.body, code, &tables.scope(&names))?;
     Ok(())
 }
 
 /// Compiles an entry: adds its code, and answers its part.
 fn compile_entry<'m>(
     alloc: Global,
+    entry: &EntryDecl<'m>,
+    tree: &Module<'m>,
     code: &mut Vec<Instruction>,
     tables: &Tables<'m>,
-    tree: &Module<'m>,
-    entry: &EntryDecl<'m>,
 ) -> Result<Part, CompileFault>
     requires { AreTablesOf (module_tree tree.now) tables.now }
     ensures part { IfOk result (IsPartOf (entry_part (module_tree tree.now) (length code.old.items) (entry_tree entry.now))) }
@@ -132,7 +128,7 @@ fn compile_entry<'m>(
     ensures long { result ≡ Err faults.CodeTooLong → 65535 < length code.old.items + length (entry_part (module_tree tree.now) (length code.old.items) (entry_tree entry.now)).instructions }
 {
     let start = behind(code, 0)?;
-    emit_entry(alloc, code, tables, entry)?;
+    emit_entry(alloc, entry, code, tables)?;
     Ok(Part {
         name: entry.name.to_ident(),
         op: Some(op_number(tables, &entry.op)),
@@ -144,11 +140,11 @@ fn compile_entry<'m>(
 /// Compiles entries of a module: adds their code and their parts.
 fn compile_entries<'m>(
     alloc: Global,
+    entries: &[EntryDecl<'m>],
+    tree: &Module<'m>,
     code: &mut Vec<Instruction>,
     parts: &mut Vec<Part>,
     tables: &Tables<'m>,
-    tree: &Module<'m>,
-    entries: &[EntryDecl<'m>],
 ) -> Result<(), CompileFault>
     requires tables { AreTablesOf (module_tree tree.now) tables.now }
     requires fits { length code.old.items ≤ 65535 }
@@ -158,7 +154,7 @@ fn compile_entries<'m>(
     ensures long { result ≡ Err faults.CodeTooLong → 65535 < length code.old.items + length (instructions_of (entry_parts (module_tree tree.now) (length code.old.items) (map entry_tree entries.now))) }
 {
     for entry in entries {
-        let part = compile_entry(alloc, code, tables, tree, entry)?;
+        let part = compile_entry(alloc, entry, tree, code, tables)?;
         parts.push(part)?;
     }
     Ok(())
@@ -173,9 +169,9 @@ fn main_name() -> Ident
 /// Compiles the body of a module, at the first address.
 fn compile_main<'m>(
     alloc: Global,
+    tree: &Module<'m>,
     code: &mut Vec<Instruction>,
     tables: &Tables<'m>,
-    tree: &Module<'m>,
 ) -> Result<Part, CompileFault>
     requires tables { AreTablesOf (module_tree tree.now) tables.now }
     requires first { code.old.items ≡ [] }
@@ -185,7 +181,7 @@ fn compile_main<'m>(
     ensures long { result ≡ Err faults.CodeTooLong → 65535 < length (main_part (module_tree tree.now)).instructions }
 {
     let none = Places::new(alloc);
-    emit_body(code, &tables.scope(&none), &tree.body)?;
+    emit_body(&tree.body, code, &tables.scope(&none))?;
     Ok(Part {
         name: main_name(),
         op: None,
@@ -197,10 +193,10 @@ fn compile_main<'m>(
 /// Compiles the body of a module and its entries: adds their code and their parts.
 fn emit_parts<'m>(
     alloc: Global,
+    tree: &Module<'m>,
     code: &mut Vec<Instruction>,
     parts: &mut Vec<Part>,
     tables: &Tables<'m>,
-    tree: &Module<'m>,
 ) -> Result<(), CompileFault>
     requires tables { AreTablesOf (module_tree tree.now) tables.now }
     requires code { code.old.items ≡ [] }
@@ -210,9 +206,9 @@ fn emit_parts<'m>(
     ensures fits { OnOk result (length code.new.items ≤ 65535) }
     ensures long { result ≡ Err faults.CodeTooLong → 65535 < length (module_code (module_tree tree.now)) }
 {
-    let main = compile_main(alloc, code, tables, tree)?;
+    let main = compile_main(alloc, tree, code, tables)?;
     parts.push(main)?;
-    compile_entries(alloc, code, parts, tables, tree, &tree.entries)?;
+    compile_entries(alloc, &tree.entries, tree, code, parts, tables)?;
     Ok(())
 }
 
@@ -230,7 +226,7 @@ pub fn compile_parts(alloc: Global, tree: &Module) -> Result<Emitted, CompileFau
     let tables = Tables::of(alloc, tree)?;
     let mut instructions = Vec::new(alloc);
     let mut parts = Vec::new(alloc);
-    emit_parts(alloc, &mut instructions, &mut parts, &tables, tree)?;
+    emit_parts(alloc, tree, &mut instructions, &mut parts, &tables)?;
     Ok(Emitted {
         parts,
         instructions,
