@@ -292,9 +292,9 @@ fn emit_over(
 }
 
 #[cycle(emit_statement)]
-fn emit_if(
-    condition: &Expr,
-    then: &[Stmt],
+fn emit_if<'t, 'm>(
+    condition: &'t Expr<'m>,
+    then: &'t [Stmt<'m>],
     code: &mut Vec<Instruction>,
     names: &Scope,
 ) -> Result<(), CompileFault>
@@ -306,10 +306,10 @@ fn emit_if(
 }
 
 #[cycle(emit_statement)]
-fn emit_if_else(
-    condition: &Expr,
-    then: &[Stmt],
-    otherwise: &[Stmt],
+fn emit_if_else<'t, 'm>(
+    condition: &'t Expr<'m>,
+    then: &'t [Stmt<'m>],
+    otherwise: &'t [Stmt<'m>],
     code: &mut Vec<Instruction>,
     names: &Scope,
 ) -> Result<(), CompileFault>
@@ -323,10 +323,10 @@ fn emit_if_else(
 
 /// Adds the code of a choice, which may have another side.
 #[cycle(emit_statement)]
-fn emit_choice(
-    condition: &Expr,
-    then: &[Stmt],
-    otherwise: &Option<Vec<Stmt>>,
+fn emit_choice<'t, 'm>(
+    condition: &'t Expr<'m>,
+    then: &'t [Stmt<'m>],
+    otherwise: &'t Option<Vec<Stmt<'m>>>,
     code: &mut Vec<Instruction>,
     names: &Scope,
 ) -> Result<(), CompileFault>
@@ -340,9 +340,9 @@ fn emit_choice(
 }
 
 #[cycle(emit_statement)]
-fn emit_while(
-    condition: &Expr,
-    body: &[Stmt],
+fn emit_while<'t, 'm>(
+    condition: &'t Expr<'m>,
+    body: &'t [Stmt<'m>],
     code: &mut Vec<Instruction>,
     names: &Scope,
 ) -> Result<(), CompileFault>
@@ -356,11 +356,11 @@ fn emit_while(
 }
 
 #[cycle(emit_statement)]
-fn emit_accept(
-    op: &IdentRef,
-    link: &IdentRef,
-    arguments: &[IdentRef],
-    body: &[Stmt],
+fn emit_accept<'t, 'm>(
+    op: &'t IdentRef<'m>,
+    link: &'t IdentRef<'m>,
+    arguments: &'t [IdentRef<'m>],
+    body: &'t [Stmt<'m>],
     code: &mut Vec<Instruction>,
     names: &Scope,
 ) -> Result<(), CompileFault>
@@ -478,9 +478,9 @@ fn emit_caught(
 
 /// Adds the code of a `try`.
 #[cycle(emit_statement)]
-fn emit_try(
-    body: &[Stmt],
-    handlers: &[Handler],
+fn emit_try<'t, 'm>(
+    body: &'t [Stmt<'m>],
+    handlers: &'t [Handler<'m>],
     code: &mut Vec<Instruction>,
     names: &Scope,
 ) -> Result<(), CompileFault>
