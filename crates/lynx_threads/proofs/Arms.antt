@@ -1,5 +1,5 @@
 -- Which statements are left behind the arms of a match.
-use Rattle.std.proofs.Common.{◌≡◌, ℕ, List, Bool, true, false, true≢false, Option, None, Some, refl, sym, ap, ◌∙◌}
+use Rattle.std.proofs.Common.{◌≡◌, ℕ, List, true, false, true≢false, Option, None, Some, refl, sym, ap, ◌∙◌}
 use Rattle.std.specs.Global.{Vec, Box}
 use Rattle.lynx_tree.specs.declared.expression.Expr as expr
 use Rattle.lynx_tree.specs.declared.statement.Handler.{Handler}

@@ -1,5 +1,5 @@
-pub mod Arms
 pub mod Agreement
+pub mod Arms
 pub mod Closing
 pub mod Counts
 pub mod Emitting
