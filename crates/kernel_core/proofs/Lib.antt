@@ -6,6 +6,7 @@ pub mod ExitSilent
 pub mod Fresh
 pub mod Happened
 pub mod Kernels
+pub mod Overwritten
 pub mod Performs
 pub mod Reserved
 pub mod Silent

@@ -1,7 +1,8 @@
 -- What contracts see of a kernel, as the kernel state of the definitions.
-use Rattle.std.specs.Prelude.{ℕ, List, Bool, true, false}
+use Rattle.std.specs.Prelude.{ℕ, List, [], ◌∷◌, Bool, true, false}
+use Rattle.charlotte_calls.specs.declared.names.Pid.{Pid}
 use Rattle.end_table.specs.Table.{TableView, entries}
-use Rattle.kernel_step.specs.Kernel.{Kernel, Process}
+use Rattle.kernel_step.specs.Kernel.{Kernel, Process, without_answer}
 use Rattle.kernel_step.specs.declared.phase.Phase.{Phase}
 use Rattle.kernel_step.specs.declared.phase.Phase.TheVariants.{Running, Waiting, Cancelling, Exited}
 unfoldable pub use Rattle.kernel_process.specs.Parts.{ended}
@@ -36,3 +37,8 @@ is_pending Running = false
 is_pending Waiting = true
 is_pending (Cancelling on) = true
 is_pending Exited = false
+
+-- the standing answer of a process is taken away where an event gave none
+abbrev pub unanswered : Pid → List Pid → Kernel → Kernel
+unanswered p [] s = without_answer p s
+unanswered p (q ∷ qs) s = s

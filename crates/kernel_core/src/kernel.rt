@@ -7,7 +7,7 @@ ghost use Rattle.kernel_step.specs.Calls.{IsCallWith};
 ghost use Rattle.kernel_step.specs.Kernel.{call_step, take_step, process_of, without_answer};
 ghost use Rattle.kernel_step.specs.Start.{start_kernel};
 ghost use Rattle.kernel_step.specs.declared.phase.Phase.TheVariants.{Running};
-ghost use Rattle.kernel_core.specs.State.{state_of, is_pending};
+ghost use Rattle.kernel_core.specs.State.{state_of, is_pending, unanswered};
 ghost use Rattle.kernel_process.specs.Parts.{ended, process_state};
 
 use crate::deciding::call_event;
@@ -94,6 +94,48 @@ impl Kernel {
         requires process { request.now.p.0 < length self.old.processes }
         requires running { (process_of request.now.p (state_of self.old)).phase ≡ Running }
         requires answered { (process_of request.now.p (state_of self.old)).answer ≡ None }
+        ensures step { IfOk result (λ effect. (mine : List EndId) × IsCallWith request.now.p (entries self.old.table) mine request.now.call
+            × (ended (state_of self.new) effect ≡ call_step (state_of self.old) request.now.p mine request.now.call)) }
+        ensures stamp { IfOk result (λ effect. effect.stamp ≡ self.new.stamp) }
+        ensures same { OnErr result (state_of self.new ≡ state_of self.old) }
+        ensures processes { length self.new.processes ≡ length self.old.processes }
+    {
+        self.step(request)
+    }
+
+    /// The same of a process whose standing answer, if there is one, is let go. It moves nothing, which `forget_answer` does.
+    pub fn ask_again(&mut self, request: &Request) -> Result<Effect, NoMemory>
+        requires process { request.now.p.0 < length self.old.processes }
+        ensures step { IfOk result (λ effect. (mine : List EndId) × IsCallWith request.now.p (entries self.old.table) mine request.now.call
+            × (ended (state_of self.new) effect ≡ call_step (without_answer request.now.p (state_of self.old)) request.now.p mine request.now.call)) }
+        ensures stamp { IfOk result (λ effect. effect.stamp ≡ self.new.stamp) }
+        ensures processes { length self.new.processes ≡ length self.old.processes }
+    {
+        let called = self.step(request);
+        self.let_go(request.p, &called);
+        called
+    }
+
+    /// The standing answer of a process is let go where its call brought none.
+    fn let_go(&mut self, p: Pid, called: &Result<Effect, NoMemory>)
+        requires { p.0 < length self.old.processes }
+        ensures state { IfOk called.now (λ effect. state_of self.new ≡ unanswered p effect.answered.items (state_of self.old)) }
+        ensures stamp { self.new.stamp ≡ self.old.stamp }
+        ensures processes { length self.new.processes ≡ length self.old.processes }
+    {
+        match called {
+            Ok(effect) => {
+                if effect.answered.is_empty() {
+                    self.forget_answer(p);
+                }
+            }
+            Err(NoMemory) => {}
+        }
+    }
+
+    /// The step of a call.
+    fn step(&mut self, request: &Request) -> Result<Effect, NoMemory>
+        requires process { request.now.p.0 < length self.old.processes }
         ensures step { IfOk result (λ effect. (mine : List EndId) × IsCallWith request.now.p (entries self.old.table) mine request.now.call
             × (ended (state_of self.new) effect ≡ call_step (state_of self.old) request.now.p mine request.now.call)) }
         ensures stamp { IfOk result (λ effect. effect.stamp ≡ self.new.stamp) }

@@ -32,11 +32,6 @@ effect_of k effect o e at =
       steps = ap (λ (x : Outcome). x.steps) e;
     }
 
--- the table stays where an answer is taken away
-pub table-without_answer : (a b : KernelView) (p : Pid) → state_of a ≡ without_answer p (state_of b) → entries a.table ≡ entries b.table
-unfolding state_of
-table-without_answer a b p e = ap (λ (s : Kernel). s.table) e
-
 -- the packets of an event were sent
 pub sent-after : (old new : Node) (k : KernelView) (effect : Effect) (o : Outcome) → IsEffectOf k effect o → new.kernel ≡ k → length k.processes ≡ length old.kernel.processes → length new.sent.items ≡ length old.sent.items → ((to : ℕ) → sent_to new to ≡ sent_to old to ++ to_kernel to (map sent_picture effect.packets.items)) → IsAfter o old new
 sent-after old new k effect o is kernel processes lists sent =

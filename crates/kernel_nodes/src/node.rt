@@ -53,8 +53,7 @@ impl Node {
             × IsNotedOf (call_step (without_answer request.now.p (state_of self.old.kernel)) request.now.p mine request.now.call) noted
             × IsAfter (call_step (without_answer request.now.p (state_of self.old.kernel)) request.now.p mine request.now.call) self.old self.new) }
     {
-        self.kernel.forget_answer(request.p);
-        let effect = self.kernel.ask(request)?;
+        let effect = self.kernel.ask_again(request)?;
         self.send(effect)
     }
 

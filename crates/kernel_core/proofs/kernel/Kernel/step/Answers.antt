@@ -9,7 +9,7 @@ use Rattle.kernel_process.specs.Parts.{process_state, ended}
 use Rattle.kernel_core.specs.contracts.kernel.Kernel.{the_view}
 use Rattle.kernel_step.specs.Calls.{IsCallWith}
 use Rattle.kernel_step.specs.Kernel.{call_step}
-use Rattle.kernel_core.proofs.kernel.Kernel.ask.Goals as goal
+use Rattle.kernel_core.proofs.kernel.Kernel.step.Goals as goal
 
 pub returns-clause-step : goal.returns-clause-step
 returns-clause-step c =
