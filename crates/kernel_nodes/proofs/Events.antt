@@ -32,6 +32,14 @@ effect_of k effect o e at =
       steps = ap (λ (x : Outcome). x.steps) e;
     }
 
+-- a node sent the packets of an event, and this is noted of it
+pub record IsSentBy (effect : Effect) (noted : Noted) (old new : Node) : Type 0 where
+  pub stamp : noted.stamp ≡ effect.stamp
+  pub steps : noted.steps ≡ effect.steps
+  pub kernel : new.kernel ≡ old.kernel
+  pub sent : (to : ℕ) → sent_to new to ≡ sent_to old to ++ to_kernel to (map sent_picture effect.packets.items)
+  pub lists : length new.sent.items ≡ length old.sent.items
+
 -- the packets of an event were sent
 pub sent-after : (old new : Node) (k : KernelView) (effect : Effect) (o : Outcome) → IsEffectOf k effect o → new.kernel ≡ k → length k.processes ≡ length old.kernel.processes → length new.sent.items ≡ length old.sent.items → ((to : ℕ) → sent_to new to ≡ sent_to old to ++ to_kernel to (map sent_picture effect.packets.items)) → IsAfter o old new
 sent-after old new k effect o is kernel processes lists sent =

@@ -1,8 +1,7 @@
 -- The lists of packets that a node sent, while one of them changes.
-use Rattle.std.proofs.Common.{◌≡◌, ◌≢◌, ◌⊎◌, inl, inr, ℕ, ◌<◌, true, false, nat_eq, List, [], ◌∷◌, ◌++◌, length, map, set, get_or, Option, None, Some, MatchOption, ap, ◌∙◌, sym, refl, append_assoc, append-nil, Global, All, zero, suc}
+use Rattle.std.proofs.Common.{◌≡◌, ◌≢◌, ◌⊎◌, inl, inr, ℕ, ◌<◌, true, false, nat_eq, List, [], ◌∷◌, ◌++◌, length, map, set, get_or, ap, ◌∙◌, sym, refl, append_assoc, append-nil, Global, All, zero, suc}
 use Rattle.std.specs.Prelude.{slice_index_or}
 use Rattle.std.specs.List.{filter}
-use Rattle.std.specs.Option.{option_to_list}
 use Rattle.std.specs.declared.collections.VecDeque.{VecDeque}
 use Rattle.std.proofs.lemmas.List.{map-append}
 use Rattle.std.proofs.lemmas.List.Elements.{filter-append, All-head, All-tail}
@@ -12,8 +11,6 @@ use Rattle.charlotte_calls.specs.declared.packet.Packet.{Packet}
 use Rattle.charlotte_calls.specs.declared.picture.Picture.{Picture}
 use Rattle.kernel_step.specs.Progress.{sent_picture}
 use Rattle.kernel_world.specs.World.{to_kernel}
-use Rattle.kernel_nodes.specs.Nodes.{sent_to, IsPopped, IsUnpopped}
-use Rattle.kernel_nodes.specs.declared.node.Node.{Node}
 use Rattle.kernel_nodes.proofs.Lists.{map-set_same, map-set_other, map-read}
 
 -- the lists of a node
@@ -64,31 +61,16 @@ sent_in-next lists t before after packet n left rest at below is items first to 
 pub first-same : (x y : ℕ × Packet) (xs rest : List (ℕ × Packet)) → x ≡ get_or xs 0 x → xs ≡ y ∷ rest → x ≡ y
 first-same x y xs rest is first = is ∙ ap (λ l. get_or l 0 x) first
 
--- the oldest packet to a kernel leaves its list
-pub popped : (old new : Node) (t n : ℕ) (before after : VecDeque Packet Global) (r : Option Packet) → new.sent.items ≡ set old.sent.items t after → t ≡ n → t < length old.sent.items → before ≡ get_or old.sent.items t before → before.items ≡ option_to_list r ++ after.items → (r ≡ None → before.items ≡ []) → MatchOption r (IsUnpopped n old new) (λ packet. IsPopped n packet old new)
-popped old new t n before after r now at below is items empty = by r items empty
-  where
-    old_at : sent_to old n ≡ map packet_picture before.items
-    old_at = ap (sent_to old) (sym at) ∙ map-read pictures old.sent.items t before [] below is
+-- the list to a kernel is another, and the others are as before
+pub sent_in-set : (lists : Lists) (t n : ℕ) (list : VecDeque Packet Global) → t ≡ n → t < length lists → sent_in (set lists t list) n ≡ map packet_picture list.items
+sent_in-set lists t n list at below = ap (sent_in (set lists t list)) (sym at) ∙ map-set_same pictures lists t list [] below
 
-    new_at : sent_to new n ≡ map packet_picture after.items
-    new_at = ap (λ ls. sent_in ls n) now ∙ ap (sent_in (set old.sent.items t after)) (sym at) ∙ map-set_same pictures old.sent.items t after [] below
+pub sent_in-others : (lists : Lists) (t n : ℕ) (list : VecDeque Packet Global) → t ≡ n → (q : ℕ) → q ≢ n → sent_in (set lists t list) q ≡ sent_in lists q
+sent_in-others lists t n list at q other = map-set_other pictures lists t q list [] (λ e. other (e ∙ at))
 
-    others : (q : ℕ) → q ≢ n → sent_to new q ≡ sent_to old q
-    others q ne = ap (λ ls. sent_in ls q) now ∙ map-set_other pictures old.sent.items t q after [] (λ e. ne (e ∙ at))
-
-    by : (r : Option Packet) → before.items ≡ option_to_list r ++ after.items → (r ≡ None → before.items ≡ []) → MatchOption r (IsUnpopped n old new) (λ packet. IsPopped n packet old new)
-    by None items empty = record {
-      none = old_at ∙ ap (map packet_picture) (empty refl);
-      same = λ q. elim (eqb_tells q n) [
-        | inl e ↦ ap (sent_to new) e.1 ∙ new_at ∙ ap (map packet_picture) (sym items) ∙ sym old_at ∙ ap (sent_to old) (sym e.1)
-        | inr e ↦ others q e.1
-      ];
-    }
-    by (Some packet) items empty = record {
-      first = old_at ∙ ap (map packet_picture) items ∙ ap (λ qs. packet_picture packet ∷ qs) (sym new_at);
-      others = others;
-    }
+-- the list to a kernel as it is read
+pub sent_in-read : (lists : Lists) (t n : ℕ) (list : VecDeque Packet Global) → t ≡ n → t < length lists → list ≡ get_or lists t list → map packet_picture list.items ≡ sent_in lists n
+sent_in-read lists t n list at below is = sym (map-read pictures lists t list [] below is) ∙ ap (sent_in lists) at
 
 abbrev pub IsEmptyList : VecDeque Packet Global → Type 0
 IsEmptyList list = list.items ≡ []

@@ -1,5 +1,5 @@
 -- Nodes as a world: one event.
-use Rattle.std.proofs.Common.{◌≡◌, inl, inr, ℕ, zero, suc, ◌<◌, ◌≤◌, ◌&&◌, arith, nat_eq, List, [], ◌∷◌, ◌++◌, length, map, set, get_or, slice_get, All, None, Some, cond, ap, sym, subst, ◌∙◌, refl, length-set}
+use Rattle.std.proofs.Common.{◌≡◌, ◌≢◌, inl, inr, ℕ, zero, suc, true, ◌<◌, ◌≤◌, ◌&&◌, arith, nat_eq, List, [], ◌∷◌, ◌++◌, length, map, set, get_or, slice_get, drop, All, None, Some, cond, ap, sym, subst, ◌∙◌, refl, length-set}
 use Rattle.std.proofs.lemmas.List.Elements.{All-set, All-get_or}
 use Rattle.std.proofs.lemmas.Bool.Decides.{eqb_tells}
 use Rattle.charlotte_calls.specs.Packets.{packet_picture, what_picture}
@@ -10,18 +10,20 @@ use Rattle.charlotte_calls.specs.declared.packet.Packet.{Packet}
 use Rattle.charlotte_calls.specs.declared.picture.Picture.{Picture}
 use Rattle.charlotte_calls.specs.declared.picture.PictureWhat.{PictureWhat}
 use Rattle.charlotte_calls.specs.declared.setting.Setting.{Setting}
+use Rattle.charlotte_calls.specs.declared.work.Effect.{Effect}
 use Rattle.end_table.specs.Table.{entries}
-use Rattle.kernel_core.specs.State.{KernelView, state_of}
+use Rattle.kernel_core.specs.State.{KernelView, ended, state_of}
 use Rattle.kernel_step.specs.Calls.{IsCallWith}
 use Rattle.kernel_step.specs.Kernel.{Kernel, Outcome, call_step, take_step, without_answer}
 use Rattle.kernel_step.specs.Start.{start_kernel}
 use Rattle.kernel_world.specs.World.{World, Event, Calls, Takes, kernel_of, outcome, removes, rest, adds_all, takes_first, to_kernel}
 use Rattle.kernel_world.proofs.Packets.{adds_all-own, adds_all-other}
-use Rattle.kernel_nodes.specs.Nodes.{sent_to, AreNodes, Happens, IsNodeOf, IsNotedOf, IsAfter, IsFirst, IsPopped, IsUnpopped, TakesTold, world_of}
+use Rattle.kernel_nodes.specs.Nodes.{sent_to, AreNodes, Happens, IsNodeOf, IsNotedOf, IsAfter, IsFirst, TakesTold, world_of}
 use Rattle.kernel_nodes.specs.declared.node.Node.{Node}
 use Rattle.kernel_nodes.specs.declared.nodes.Noted.{Noted}
 use Rattle.kernel_nodes.proofs.Lists.{map-set_same, map-set_other, map-read}
 use Rattle.kernel_nodes.proofs.Sent.{sent_in}
+use Rattle.kernel_nodes.proofs.Events.{IsEffectOf, IsSentBy, effect_of, noted-of}
 
 -- ---- what is at one kernel
 
@@ -83,11 +85,40 @@ with_sent s ns k node new below at all kernel lists =
     was : IsNodeOf s node
     was = node_at s ns k node all below at
 
-pub unsent : (s : Setting) (ns : List Node) → All (IsNodeOf s) ns → IsWithSent s ns ns (λ from to. (world_of s ns).packets from to)
-unsent s ns all = record { kernel = λ q. refl; packets_are = λ from to. refl; nodes = all; count = refl }
+-- the kernel of a node changes alone
+record IsWithKernel (s : Setting) (ns ms : List Node) (k : ℕ) (x : Kernel) : Type 0 where
+  pub kernel : (q : ℕ) → (world_of s ms).kernel q ≡ cond (nat_eq q k) x ((world_of s ns).kernel q)
+  pub packets_are : (from to : ℕ) → (world_of s ms).packets from to ≡ (world_of s ns).packets from to
+  pub nodes : All (IsNodeOf s) ms
+  pub count : length ms ≡ length ns
 
--- ms are the nodes ns once the packet that the event takes is gone
-pub event_happens : (s : Setting) (ns ms : List Node) (mid new : Node) (e : Event) (noted : Noted) → AreNodes s ns → kernel_of e < length ms → mid ≡ get_or ms (kernel_of e) mid → IsWithSent s ns ms (removes e (world_of s ns).packets) → IsAfter (outcome (world_of s ns) e) mid new → IsNotedOf (outcome (world_of s ns) e) noted → Happens s e noted ns (set ms (kernel_of e) new)
+with_kernel : (s : Setting) (ns : List Node) (k : ℕ) (node new : Node) → k < length ns → node ≡ get_or ns k node → All (IsNodeOf s) ns → length new.kernel.processes ≡ length node.kernel.processes → new.sent ≡ node.sent → IsWithKernel s ns (set ns k new) k (state_of new.kernel)
+with_kernel s ns k node new below at all processes sent =
+    record {
+      kernel = λ q. kernel-set s ns k new q below;
+      packets_are = λ from to. packets-set s ns k new from to below ∙ elim (eqb_tells from k) as (λ _. cond (nat_eq from k) (sent_to new to) ((world_of s ns).packets from to) ≡ (world_of s ns).packets from to) [
+        | inl x ↦ ap (λ b. cond b (sent_to new to) ((world_of s ns).packets from to)) x.0 ∙ ap (λ lists. sent_in lists.items to) sent
+            ∙ sym (packets_at s ns k node below at to) ∙ ap (λ i. (world_of s ns).packets i to) (sym x.1)
+        | inr x ↦ ap (λ b. cond b (sent_to new to) ((world_of s ns).packets from to)) x.0
+      ];
+      nodes = All-set (IsNodeOf s) ns k new (record { processes = processes ∙ was.processes; lists = ap (λ lists. length lists.items) sent ∙ was.lists }) all;
+      count = length-set ns k new;
+    }
+  where
+    was : IsNodeOf s node
+    was = node_at s ns k node all below at
+
+-- ms are the nodes ns once the packet that an event at kernel k takes is gone; that kernel may be another
+record IsReadied (s : Setting) (ns ms : List Node) (k : ℕ) (packets : ℕ → ℕ → List Picture) : Type 0 where
+  pub kernel : (q : ℕ) → q ≢ k → (world_of s ms).kernel q ≡ (world_of s ns).kernel q
+  pub packets_are : (from to : ℕ) → (world_of s ms).packets from to ≡ packets from to
+  pub nodes : All (IsNodeOf s) ms
+  pub count : length ms ≡ length ns
+
+unsent : (s : Setting) (ns : List Node) (k : ℕ) → All (IsNodeOf s) ns → IsReadied s ns ns k (λ from to. (world_of s ns).packets from to)
+unsent s ns k all = record { kernel = λ q other. refl; packets_are = λ from to. refl; nodes = all; count = refl }
+
+event_happens : (s : Setting) (ns ms : List Node) (mid new : Node) (e : Event) (noted : Noted) → AreNodes s ns → kernel_of e < length ms → mid ≡ get_or ms (kernel_of e) mid → IsReadied s ns ms (kernel_of e) (removes e (world_of s ns).packets) → IsAfter (outcome (world_of s ns) e) mid new → IsNotedOf (outcome (world_of s ns) e) noted → Happens s e noted ns (set ms (kernel_of e) new)
 event_happens s ns ms mid new e noted are below at is event noted_is =
     record {
       world = λ j. record { kernel = λ q. kernel q j; packets = λ from to. packets from to j };
@@ -111,7 +142,10 @@ event_happens s ns ms mid new e noted are below at is event noted_is =
     here = record { processes = event.processes ∙ was.processes; lists = event.lists ∙ was.lists }
 
     kernel : (q : ℕ) → (world_of s (set ms k new)).kernel q ≡ cond (nat_eq q k) o.kernel (w.kernel q)
-    kernel q = kernel-set s ms k new q below ∙ ap (λ (x : Kernel). cond (nat_eq q k) x ((world_of s ms).kernel q)) event.kernel ∙ ap (λ (x : Kernel). cond (nat_eq q k) o.kernel x) (is.kernel q)
+    kernel q = kernel-set s ms k new q below ∙ ap (λ (x : Kernel). cond (nat_eq q k) x ((world_of s ms).kernel q)) event.kernel ∙ elim (eqb_tells q k) as (λ _. cond (nat_eq q k) o.kernel ((world_of s ms).kernel q) ≡ cond (nat_eq q k) o.kernel (w.kernel q)) [
+      | inl x ↦ ap (λ b. cond b o.kernel ((world_of s ms).kernel q)) x.0 ∙ sym (ap (λ b. cond b o.kernel (w.kernel q)) x.0)
+      | inr x ↦ ap (λ (y : Kernel). cond (nat_eq q k) o.kernel y) (is.kernel q x.1)
+    ]
 
     packets : (from to : ℕ) → (world_of s (set ms k new)).packets from to ≡ adds_all k o.packets (removes e w.packets) from to
     packets from to = packets-set s ms k new from to below ∙ elim (eqb_tells from k) as (λ _. cond (nat_eq from k) (sent_to new to) ((world_of s ms).packets from to) ≡ adds_all k o.packets (removes e w.packets) from to) [
@@ -138,7 +172,7 @@ call_happens s ns k i node new p c noted are i_is below at did =
     subst (λ n. CallHappens s n p c noted ns (set ns i new)) i_is (
       mine,
       subst (λ t. IsCallWith p t mine c) (sym (ap (λ (x : Kernel). x.table) is ∙ state_of-table node.kernel)) did.1,
-      event_happens s ns ns node new (Calls i p c mine) noted are below at (unsent s ns are.nodes)
+      event_happens s ns ns node new (Calls i p c mine) noted are below at (unsent s ns i are.nodes)
           (subst (λ (x : Kernel). IsAfter (call_step (without_answer p x) p mine c) node new) (sym is) did.3)
           (subst (λ (x : Kernel). IsNotedOf (call_step (without_answer p x) p mine c) noted) (sym is) did.2),
     )
@@ -213,56 +247,140 @@ from_there s ns from to q are first = subst (λ n. from < n) are.count (below-re
     nothing : get_or (map sent_to ns) from (λ _. []) ≡ (λ _. []) → ⊥
     nothing e = let no : Some q ≡ None = first ∙ ap (λ (f : ℕ → List Picture). slice_get (f to) 0) e in absurd (cc)
 
--- a packet that is under way is the oldest of its node
-pub not_unpopped : (s : Setting) (ns : List Node) (from to i : ℕ) (q : Picture) (node popped : Node) → from ≡ i → i < length ns → node ≡ get_or ns i node → slice_get ((world_of s ns).packets from to) 0 ≡ Some q → IsUnpopped to node popped → ⊥
-not_unpopped s ns from to i q node popped is_i below at first pop =
-    let no : None ≡ Some q = sym (ap (λ qs. slice_get qs 0) (ap (λ m. (world_of s ns).packets m to) is_i ∙ packets_at s ns i node below at to ∙ pop.none)) ∙ first in absurd (cc)
+-- a packet that is under way is in the list of its node
+pub is_there : (list : List Packet) (q : Picture) → slice_get (map packet_picture list) 0 ≡ Some q → (packet : Packet) × (others : List Packet) × (list ≡ packet ∷ others)
+is_there [] q first = let no : None ≡ Some q = first in absurd (cc)
+is_there (packet ∷ others) q first = (packet, others, refl)
 
--- ms are the nodes once the packet is gone
-take_happens : (s : Setting) (ns : List Node) (from to : ℕ) (node popped mid new : Node) (packet : Packet) (noted : Noted) → AreNodes s ns → from < length ns → to < length ns → node ≡ get_or ns from node → IsPopped to packet node popped → popped.kernel ≡ node.kernel → length popped.sent.items ≡ length node.sent.items → mid ≡ get_or (set ns from popped) to mid
-    → IsNotedOf (take_step (state_of mid.kernel) from (packet_picture packet)) noted → IsAfter (take_step (state_of mid.kernel) from (packet_picture packet)) mid new → Happens s (Takes to from) noted ns (set (set ns from popped) to new)
-take_happens s ns from to node popped mid new packet noted are below below_to at pop kernel lists at_mid noted_is event =
-    event_happens s ns ms mid new (Takes to from) noted are (subst (λ m. to < m) (sym is.count) below_to) at_mid
-    (record { kernel = is.kernel; packets_are = packets; nodes = is.nodes; count = is.count })
-    (gives (λ o. IsAfter o mid new) event) (gives (λ o. IsNotedOf o noted) noted_is)
-  where
-    w : World
-    w = world_of s ns
+pub under_way : (s : Setting) (ns : List Node) (from to i : ℕ) (q : Picture) (node : Node) (list : List Packet) → from ≡ i → i < length ns → node ≡ get_or ns i node → map packet_picture list ≡ sent_to node to → slice_get ((world_of s ns).packets from to) 0 ≡ Some q → (packet : Packet) × (others : List Packet) × (list ≡ packet ∷ others)
+under_way s ns from to i q node list is_i below at is first =
+    is_there list q (ap (λ qs. slice_get qs 0) (is ∙ sym (packets_at s ns i node below at to) ∙ ap (λ m. (world_of s ns).packets m to) (sym is_i)) ∙ first)
 
-    ms : List Node
-    ms = set ns from popped
+same-number : (n : ℕ) → nat_eq n n ≡ true
+same-number n = elim (eqb_tells n n) [
+  | inl e ↦ e.0
+  | inr e ↦ absurd (e.1 refl)
+]
 
-    is : IsWithSent s ns ms (λ f t. cond (nat_eq f from) (sent_to popped t) (w.packets f t))
-    is = with_sent s ns from node popped below at are.nodes kernel lists
+-- all packets but the first
+all-but-first : (list : List Packet) → map packet_picture (drop 1 list) ≡ rest (map packet_picture list)
+all-but-first [] = refl
+all-but-first (packet ∷ others) = refl
 
-    held : w.packets from to ≡ packet_picture packet ∷ sent_to popped to
-    held = packets_at s ns from node below at to ∙ pop.first
+-- node i lends its list of packets to kernel `to`, node j takes the first of it, and the list goes back; at last node j sends
+pub record IsTaking (ns : List Node) (to i j : ℕ) (list left : List Packet) (n0 n1 m0 m1 p0 p1 r0 : Node) : Type 0 where
+  pub below : i < length ns
+  pub below_to : j < length ns
+  pub lends_at : n0 ≡ get_or ns i n0
+  pub lent : map packet_picture list ≡ sent_to n0 to
+  pub lends : n1.kernel ≡ n0.kernel
+  pub lends_lists : length n1.sent.items ≡ length n0.sent.items
+  pub lends_others : (q : ℕ) → q ≢ to → sent_to n1 q ≡ sent_to n0 q
+  pub takes_at : m0 ≡ get_or (set ns i n1) j m0
+  pub takes : m1.sent ≡ m0.sent
+  pub takes_processes : length m1.kernel.processes ≡ length m0.kernel.processes
+  pub left_is : left ≡ drop 1 list
+  pub gets_at : p0 ≡ get_or (set (set ns i n1) j m1) i p0
+  pub gets_list : sent_to p1 to ≡ map packet_picture left
+  pub gets : p1.kernel ≡ p0.kernel
+  pub gets_lists : length p1.sent.items ≡ length p0.sent.items
+  pub gets_others : (q : ℕ) → q ≢ to → sent_to p1 q ≡ sent_to p0 q
+  pub sends_at : r0 ≡ get_or (set (set (set ns i n1) j m1) i p1) j r0
 
-    inner : (t : ℕ) → sent_to popped t ≡ cond (nat_eq t to) (rest (w.packets from t)) (w.packets from t)
-    inner t = elim (eqb_tells t to) as (λ _. sent_to popped t ≡ cond (nat_eq t to) (rest (w.packets from t)) (w.packets from t)) [
-      | inl x ↦ ap (sent_to popped) x.1 ∙ ap rest (sym held) ∙ ap (λ i. rest (w.packets from i)) (sym x.1) ∙ sym (ap (λ b. cond b (rest (w.packets from t)) (w.packets from t)) x.0)
-      | inr x ↦ pop.others t x.1 ∙ sym (packets_at s ns from node below at t) ∙ sym (ap (λ b. cond b (rest (w.packets from t)) (w.packets from t)) x.0)
-    ]
+module _ (s : Setting) (ns : List Node) (from to : ℕ) (are : AreNodes s ns) (list left : List Packet) (n0 n1 m0 m1 p0 p1 r0 : Node) (is : IsTaking ns to from to list left n0 n1 m0 m1 p0 p1 r0) where
+  abbrev w : World
+  w = world_of s ns
 
-    packets : (f t : ℕ) → (world_of s ms).packets f t ≡ removes (Takes to from) w.packets f t
-    packets f t = is.packets_are f t ∙ elim (eqb_tells f from) as (λ _. cond (nat_eq f from) (sent_to popped t) (w.packets f t) ≡ cond (nat_eq f from && nat_eq t to) (rest (w.packets f t)) (w.packets f t)) [
-      | inl x ↦ ap (λ b. cond b (sent_to popped t) (w.packets f t)) x.0 ∙ inner t ∙ ap (λ i. cond (nat_eq t to) (rest (w.packets i t)) (w.packets i t)) (sym x.1)
-          ∙ sym (ap (λ b. cond (b && nat_eq t to) (rest (w.packets f t)) (w.packets f t)) x.0)
-      | inr x ↦ ap (λ b. cond b (sent_to popped t) (w.packets f t)) x.0 ∙ sym (ap (λ b. cond (b && nat_eq t to) (rest (w.packets f t)) (w.packets f t)) x.0)
-    ]
+  abbrev lent : List Node
+  lent = set ns from n1
 
-    same : state_of mid.kernel ≡ w.kernel to
-    same = sym (kernel_at s ms to mid (subst (λ m. to < m) (sym is.count) below_to) at_mid) ∙ is.kernel to
+  abbrev took : List Node
+  took = set lent to m1
 
-    gives : (P : Outcome → Type 0) → P (take_step (state_of mid.kernel) from (packet_picture packet)) → P (takes_first (w.kernel to) from (w.packets from to))
-    gives P h = subst (λ (qs : List Picture). P (takes_first (w.kernel to) from qs)) (sym held) (subst (λ (x : Kernel). P (take_step x from (packet_picture packet))) same h)
+  abbrev back : List Node
+  back = set took from p1
+
+  one : IsWithSent s ns lent (λ f t. cond (nat_eq f from) (sent_to n1 t) (w.packets f t))
+  one = with_sent s ns from n0 n1 is.below is.lends_at are.nodes is.lends is.lends_lists
+
+  two : IsWithKernel s lent took to (state_of m1.kernel)
+  two = with_kernel s lent to m0 m1 (subst (λ m. to < m) (sym one.count) is.below_to) is.takes_at one.nodes is.takes_processes is.takes
+
+  below_two : from < length took
+  below_two = subst (λ m. from < m) (sym (two.count ∙ one.count)) is.below
+
+  three : IsWithSent s took back (λ f t. cond (nat_eq f from) (sent_to p1 t) ((world_of s took).packets f t))
+  three = with_sent s took from p0 p1 below_two is.gets_at two.nodes is.gets is.gets_lists
+
+  below_three : to < length back
+  below_three = subst (λ m. to < m) (sym (three.count ∙ two.count ∙ one.count)) is.below_to
+
+  inner : (t : ℕ) → sent_to p1 t ≡ cond (nat_eq t to) (rest (w.packets from t)) (w.packets from t)
+  inner t = elim (eqb_tells t to) as (λ _. sent_to p1 t ≡ cond (nat_eq t to) (rest (w.packets from t)) (w.packets from t)) [
+    | inl x ↦ ap (sent_to p1) x.1 ∙ is.gets_list ∙ ap (map packet_picture) is.left_is ∙ all-but-first list ∙ ap rest (is.lent ∙ sym (packets_at s ns from n0 is.below is.lends_at to))
+        ∙ ap (λ i. rest (w.packets from i)) (sym x.1) ∙ sym (ap (λ b. cond b (rest (w.packets from t)) (w.packets from t)) x.0)
+    | inr x ↦ is.gets_others t x.1 ∙ sym (packets_at s took from p0 below_two is.gets_at t) ∙ two.packets_are from t ∙ one.packets_are from t
+        ∙ ap (λ b. cond b (sent_to n1 t) (w.packets from t)) (same-number from) ∙ is.lends_others t x.1 ∙ sym (packets_at s ns from n0 is.below is.lends_at t)
+        ∙ sym (ap (λ b. cond b (rest (w.packets from t)) (w.packets from t)) x.0)
+  ]
+
+  packets : (f t : ℕ) → (world_of s back).packets f t ≡ removes (Takes to from) w.packets f t
+  packets f t = three.packets_are f t ∙ elim (eqb_tells f from) as (λ _. cond (nat_eq f from) (sent_to p1 t) ((world_of s took).packets f t) ≡ cond (nat_eq f from && nat_eq t to) (rest (w.packets f t)) (w.packets f t)) [
+    | inl x ↦ ap (λ b. cond b (sent_to p1 t) ((world_of s took).packets f t)) x.0 ∙ inner t ∙ ap (λ i. cond (nat_eq t to) (rest (w.packets i t)) (w.packets i t)) (sym x.1)
+        ∙ sym (ap (λ b. cond (b && nat_eq t to) (rest (w.packets f t)) (w.packets f t)) x.0)
+    | inr x ↦ ap (λ b. cond b (sent_to p1 t) ((world_of s took).packets f t)) x.0 ∙ two.packets_are f t ∙ one.packets_are f t
+        ∙ ap (λ b. cond b (sent_to n1 t) (w.packets f t)) x.0 ∙ sym (ap (λ b. cond (b && nat_eq t to) (rest (w.packets f t)) (w.packets f t)) x.0)
+  ]
+
+  kernel : (q : ℕ) → q ≢ to → (world_of s back).kernel q ≡ w.kernel q
+  kernel q other = three.kernel q ∙ two.kernel q ∙ elim (eqb_tells q to) as (λ _. cond (nat_eq q to) (state_of m1.kernel) ((world_of s lent).kernel q) ≡ w.kernel q) [
+    | inl x ↦ absurd (other x.1)
+    | inr x ↦ ap (λ b. cond b (state_of m1.kernel) ((world_of s lent).kernel q)) x.0 ∙ one.kernel q
+  ]
+
+  readied : IsReadied s ns back to (removes (Takes to from) w.packets)
+  readied = record { kernel = kernel; packets_are = packets; nodes = three.nodes; count = three.count ∙ two.count ∙ one.count }
+
+  -- the kernel that took is that which sends
+  same : state_of r0.kernel ≡ state_of m1.kernel
+  same = sym (kernel_at s back to r0 below_three is.sends_at) ∙ three.kernel to ∙ two.kernel to ∙ ap (λ b. cond b (state_of m1.kernel) ((world_of s lent).kernel to)) (same-number to)
+
+  take_happens : (r1 : Node) (packet : Packet) (others : List Packet) (effect : Effect) (noted : Noted) → list ≡ packet ∷ others → ended (state_of m1.kernel) effect ≡ take_step (state_of m0.kernel) from (packet_picture packet) → effect.stamp ≡ m1.kernel.stamp
+      → IsSentBy effect noted r0 r1 → Happens s (Takes to from) noted ns (set back to r1)
+  take_happens r1 packet others effect noted first step stamp sent =
+      event_happens s ns back r0 r1 (Takes to from) noted are below_three is.sends_at readied (gives (λ o. IsAfter o r0 r1) after) (gives (λ o. IsNotedOf o noted) (noted-of m1.kernel effect o noted about sent.stamp sent.steps))
+    where
+      o : Outcome
+      o = take_step (state_of m0.kernel) from (packet_picture packet)
+
+      about : IsEffectOf m1.kernel effect o
+      about = effect_of m1.kernel effect o step stamp
+
+      after : IsAfter o r0 r1
+      after = record {
+        kernel = ap state_of sent.kernel ∙ same ∙ about.kernel;
+        sent = λ t. sent.sent t ∙ ap (λ qs. sent_to r0 t ++ to_kernel t qs) about.packets;
+        processes = ap (λ (x : KernelView). length x.processes) sent.kernel;
+        lists = sent.lists;
+      }
+
+      held : w.packets from to ≡ packet_picture packet ∷ map packet_picture others
+      held = packets_at s ns from n0 is.below is.lends_at to ∙ sym is.lent ∙ ap (map packet_picture) first
+
+      was : state_of m0.kernel ≡ w.kernel to
+      was = sym (kernel_at s lent to m0 (subst (λ m. to < m) (sym one.count) is.below_to) is.takes_at) ∙ one.kernel to
+
+      gives : (P : Outcome → Type 0) → P o → P (takes_first (w.kernel to) from (w.packets from to))
+      gives P h = subst (λ (qs : List Picture). P (takes_first (w.kernel to) from qs)) (sym held) (subst (λ (x : Kernel). P (take_step x from (packet_picture packet))) was h)
 
 -- the same, where the nodes are found by equal numbers
-pub take_happens_at : (s : Setting) (ns : List Node) (from to i j : ℕ) (node popped mid new : Node) (packet : Packet) (noted : Noted) → AreNodes s ns → from ≡ i → to ≡ j → i < length ns → j < length ns → node ≡ get_or ns i node → IsPopped to packet node popped → popped.kernel ≡ node.kernel → length popped.sent.items ≡ length node.sent.items → mid ≡ get_or (set ns i popped) j mid
-    → IsNotedOf (take_step (state_of mid.kernel) from (packet_picture packet)) noted → IsAfter (take_step (state_of mid.kernel) from (packet_picture packet)) mid new → Happens s (Takes to from) noted ns (set (set ns i popped) j new)
-take_happens_at s ns from to i j node popped mid new packet noted are is_i is_j below below_to at pop kernel lists at_mid noted_is event =
-    subst (λ m. Happens s (Takes to from) noted ns (set (set ns m popped) j new)) is_i
-    (subst (λ m. Happens s (Takes to from) noted ns (set (set ns from popped) m new)) is_j
-    (take_happens s ns from to node popped mid new packet noted are (subst (λ m. m < length ns) (sym is_i) below) (subst (λ m. m < length ns) (sym is_j) below_to)
-    (subst (λ m. node ≡ get_or ns m node) (sym is_i) at) pop kernel lists
-    (subst (λ m. mid ≡ get_or (set ns from popped) m mid) (sym is_j) (subst (λ m. mid ≡ get_or (set ns m popped) j mid) (sym is_i) at_mid)) noted_is event))
+abbrev TakeHappens : Setting → List Node → ℕ → ℕ → ℕ → ℕ → Type 0
+TakeHappens s ns from to i j =
+    (list left : List Packet) (n0 n1 m0 m1 p0 p1 r0 r1 : Node) (packet : Packet) (others : List Packet) (effect : Effect) (noted : Noted) → IsTaking ns to i j list left n0 n1 m0 m1 p0 p1 r0 → list ≡ packet ∷ others
+    → ended (state_of m1.kernel) effect ≡ take_step (state_of m0.kernel) from (packet_picture packet) → effect.stamp ≡ m1.kernel.stamp → IsSentBy effect noted r0 r1
+    → Happens s (Takes to from) noted ns (set (set (set (set ns i n1) j m1) i p1) j r1)
+
+pub take_happens_at : (s : Setting) (ns : List Node) (from to i j : ℕ) → AreNodes s ns → from ≡ i → to ≡ j → TakeHappens s ns from to i j
+take_happens_at s ns from to i j are is_i is_j =
+    subst (λ m. TakeHappens s ns from to i m) is_j (subst (λ m. TakeHappens s ns from to m to) is_i
+    (λ list left n0 n1 m0 m1 p0 p1 r0 r1 packet others effect noted is. take_happens s ns from to are list left n0 n1 m0 m1 p0 p1 r0 is r1 packet others effect noted))

@@ -1,7 +1,6 @@
 -- Kernels with what they sent, as a world.
-use Rattle.std.specs.Prelude.{◌≡◌, ◌≢◌, ◌<◌, ℕ, List, [], ◌∷◌, ◌++◌, length, map, All, slice_index_or, Option, Some, None}
+use Rattle.std.specs.Prelude.{◌≡◌, ◌<◌, ℕ, List, [], ◌∷◌, ◌++◌, length, map, All, slice_index_or, Option, Some, None}
 use Rattle.charlotte_calls.specs.Packets.{packet_picture}
-use Rattle.charlotte_calls.specs.declared.packet.Packet.{Packet}
 use Rattle.charlotte_calls.specs.declared.picture.Picture.{Picture}
 use Rattle.charlotte_calls.specs.declared.picture.PictureWhat.{PictureWhat}
 use Rattle.charlotte_calls.specs.declared.setting.Setting.{Setting}
@@ -69,13 +68,3 @@ IsFirst what (q ∷ qs) = q.what ≡ what
 abbrev pub TakesTold : Setting → ℕ → ℕ → PictureWhat → Option Noted → List Node → List Node → Type 0
 TakesTold s from to what (Some noted) old new = (to < s.kernels) × IsFirst what ((world_of s old).packets from to) × Happens s (Takes to from) noted old new
 TakesTold s from to what None old new = to < s.kernels → IsFirst what ((world_of s old).packets from to) → ⊥
-
--- a packet was the oldest from a node to a kernel, and is not there any more
-pub record IsPopped (to : ℕ) (packet : Packet) (old new : Node) : Type 0 where
-  pub first : sent_to old to ≡ packet_picture packet ∷ sent_to new to
-  pub others : (q : ℕ) → q ≢ to → sent_to new q ≡ sent_to old q
-
--- there was none
-pub record IsUnpopped (to : ℕ) (old new : Node) : Type 0 where
-  pub none : sent_to old to ≡ []
-  pub same : (q : ℕ) → sent_to new q ≡ sent_to old q

@@ -1,22 +1,24 @@
-ghost use Rattle.std.specs.Prelude.{◌≡◌, ◌↔◌, ◌<◌, ℕ, ◌++◌, [], All, IfOk, IsTrue, OnOk, List, MatchOption, length, map, option_copied, option_map, slice_get};
+ghost use Rattle.std.specs.Prelude.{◌≡◌, ◌≢◌, ◌↔◌, ◌<◌, ℕ, ◌++◌, [], ◌∷◌, All, IfOk, IsTrue, OnOk, List, drop, length, map, option_copied, option_map, slice_get};
 ghost use Rattle.charlotte_calls.specs.Packets.{packet_picture};
 ghost use Rattle.charlotte_calls.specs.Setting.{IsValid};
 ghost use Rattle.charlotte_calls.specs.declared.names.EndId.{EndId};
+ghost use Rattle.charlotte_calls.specs.declared.packet.Packet.{Packet as APacket};
 ghost use Rattle.end_table.specs.Table.{entries};
-ghost use Rattle.kernel_core.specs.State.{state_of};
+ghost use Rattle.kernel_core.specs.State.{ended, state_of};
 ghost use Rattle.kernel_step.specs.Calls.{IsCallWith};
 ghost use Rattle.kernel_step.specs.Kernel.{call_step, take_step, process_of, without_answer};
 ghost use Rattle.kernel_step.specs.Progress.{sent_picture};
 ghost use Rattle.kernel_step.specs.Start.{start_kernel};
 ghost use Rattle.kernel_step.specs.declared.phase.Phase.TheVariants.{Running};
 ghost use Rattle.kernel_world.specs.World.{to_kernel};
-ghost use Rattle.kernel_nodes.specs.Nodes.{sent_to, IsNodeOf, IsAfter, IsNotedOf, IsPopped, IsUnpopped};
+ghost use Rattle.kernel_nodes.specs.Nodes.{sent_to, IsNodeOf, IsAfter, IsNotedOf};
 
 use crate::nodes::Noted;
 use charlotte_calls::{Effect, NoMemory, Packet, ServiceStep, Setting};
 use kernel_core::{Kernel, Request};
 use std::alloc::Global;
 use std::collections::VecDeque;
+use std::mem;
 
 /// A kernel, and what it sent.
 #[derive(Drop)]
@@ -57,14 +59,50 @@ impl Node {
         self.send(effect)
     }
 
-    /// Takes a packet that a kernel sent to this one. What it brings is taken out of it.
-    pub(crate) fn take(&mut self, from: u8, packet: &mut Packet) -> Result<Noted, NoMemory>
-        requires lists { length self.old.sent.items ≡ 256 }
-        ensures noted { IfOk result (λ noted. IsNotedOf (take_step (state_of self.old.kernel) from (packet_picture packet.old)) noted) }
-        ensures after { OnOk result (IsAfter (take_step (state_of self.old.kernel) from (packet_picture packet.old)) self.old self.new) }
+    /// Takes the first of the packets that a kernel sent to this one, where it lies. What it brings is taken out of it.
+    #[inline(always)]
+    pub(crate) fn take(
+        &mut self,
+        from: u8,
+        waiting: &mut VecDeque<Packet>,
+    ) -> Result<Effect, NoMemory>
+        requires some { (packet : APacket) × (others : List APacket) × (waiting.old.items ≡ packet ∷ others) }
+        ensures step { IfOk result (λ effect. (packet : APacket) (others : List APacket) → waiting.old.items ≡ packet ∷ others
+            → ended (state_of self.new.kernel) effect ≡ take_step (state_of self.old.kernel) from (packet_picture packet)) }
+        ensures left { OnOk result (waiting.new.items ≡ drop 1 waiting.old.items) }
+        ensures stamp { IfOk result (λ effect. effect.stamp ≡ self.new.kernel.stamp) }
+        ensures processes { length self.new.kernel.processes ≡ length self.old.kernel.processes }
+        ensures sent { self.new.sent ≡ self.old.sent }
     {
-        let effect = self.kernel.take_from(from, packet)?;
-        self.send(effect)
+        let effect = self.kernel.take_from(from, &mut waiting[0])?;
+        let _taken = waiting.pop_front();
+        Ok(effect)
+    }
+
+    /// Takes out the list of the packets to a kernel.
+    #[inline(always)]
+    pub(crate) fn lift(&mut self, to: u8) -> VecDeque<Packet>
+        requires { length self.old.sent.items ≡ 256 }
+        ensures list { map packet_picture result.items ≡ sent_to self.old to }
+        ensures others { (q : ℕ) → q ≢ to → sent_to self.new q ≡ sent_to self.old q }
+        ensures kernel { self.new.kernel ≡ self.old.kernel }
+        ensures lists { length self.new.sent.items ≡ length self.old.sent.items }
+    {
+        let list = &mut self.sent[usize::from(to)];
+        let alloc = *list.allocator();
+        mem::replace(list, VecDeque::new(alloc))
+    }
+
+    /// Puts a list in the place of that of the packets to a kernel.
+    #[inline(always)]
+    pub(crate) fn lower(&mut self, to: u8, list: VecDeque<Packet>)
+        requires { length self.old.sent.items ≡ 256 }
+        ensures list { sent_to self.new to ≡ map packet_picture list.items }
+        ensures others { (q : ℕ) → q ≢ to → sent_to self.new q ≡ sent_to self.old q }
+        ensures kernel { self.new.kernel ≡ self.old.kernel }
+        ensures lists { length self.new.sent.items ≡ length self.old.sent.items }
+    {
+        self.sent[usize::from(to)] = list;
     }
 
     /// Gives the list of the steps of an event that is over back to the kernel.
@@ -77,7 +115,7 @@ impl Node {
 
     /// Sends the packets of an event, and gives the kernel its lists back, but for that of the steps.
     #[inline(always)]
-    fn send(&mut self, effect: Effect) -> Result<Noted, NoMemory>
+    pub(crate) fn send(&mut self, effect: Effect) -> Result<Noted, NoMemory>
         requires { length self.old.sent.items ≡ 256 }
         ensures noted { IfOk result (λ noted. (noted.stamp ≡ effect.stamp) × (noted.steps ≡ effect.steps)) }
         ensures kernel { self.new.kernel ≡ self.old.kernel }
@@ -139,16 +177,6 @@ impl Node {
             list.push_back_reserved(packet);
         }
         Ok(packets)
-    }
-
-    /// The oldest packet to a kernel that was not taken yet.
-    pub(crate) fn pop(&mut self, to: u8) -> Option<Packet>
-        requires { length self.old.sent.items ≡ 256 }
-        ensures packet { MatchOption result (IsUnpopped to self.old self.new) (λ packet. IsPopped to packet self.old self.new) }
-        ensures kernel { self.new.kernel ≡ self.old.kernel }
-        ensures lists { length self.new.sent.items ≡ length self.old.sent.items }
-    {
-        self.sent[usize::from(to)].pop_front()
     }
 
     /// The oldest packet to a kernel that was not taken yet, lent.

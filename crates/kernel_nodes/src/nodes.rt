@@ -70,10 +70,12 @@ impl Nodes {
             × (slice_get ((world_of s self.old.nodes.items).packets from to) 0 ≡ Some q) }
         ensures { IfOk result (λ noted. (s : ASetting) → AreNodes s self.old.nodes.items → Happens s (Takes to from) noted self.old.nodes.items self.new.nodes.items) }
     {
-        let Some(mut packet) = self.nodes[usize::from(from)].pop(to) else {
-            unreachable!()
-        };
-        self.nodes[usize::from(to)].take(from, &mut packet)
+        let sender = usize::from(from);
+        let taker = usize::from(to);
+        let mut waiting = self.nodes[sender].lift(to);
+        let effect = self.nodes[taker].take(from, &mut waiting)?;
+        self.nodes[sender].lower(to, waiting);
+        self.nodes[taker].send(effect)
     }
 
     /// Takes the first packet from one kernel to another, if it tells this; `None` exactly where there is none, the first tells

@@ -1,24 +1,43 @@
 use Rattle.std.proofs.Common.{◌<◌, List, arith, length, sym}
-use Rattle.kernel_nodes.specs.Nodes.{IsPopped, IsUnpopped}
 use Rattle.kernel_nodes.specs.declared.node.Node.{Node}
 use Rattle.kernel_nodes.proofs.Events.{if_ok_both}
-use Rattle.kernel_nodes.proofs.Worlds.{not_unpopped, take_happens_at}
+use Rattle.kernel_nodes.proofs.Worlds.{IsTaking, take_happens_at, under_way}
 use Rattle.kernel_nodes.proofs.nodes.Nodes.take_first.Goals as goal
 
-pub unreachable-requires : goal.unreachable-requires
-unreachable-requires c =
+pub take-requires : goal.take-requires
+take-requires c =
     let ns : List Node = c.args.self.now.nodes.items in
-    let below : c.from.result < length ns = omega (arith, c.from.ensures, c.requires.2.count, c.requires.3) in
-    let none : IsUnpopped c.args.to c.index_mut.result.now c.pop.new.self = c.in_default.ensures.packet in
-    not_unpopped c.requires.0 ns c.args.from c.args.to c.from.result c.requires.1 c.index_mut.result.now c.pop.new.self (sym c.from.ensures) below c.index_mut.ensures.value c.requires.5 none
+    let below : c.from-sender.result < length ns = omega (arith, c.from-sender.ensures, c.requires.2.count, c.requires.3) in
+    record { some = under_way c.requires.0 ns c.args.from c.args.to c.from-sender.result c.requires.1 c.index_mut.result.now c.lift-waiting.result.items (sym c.from-sender.ensures) below c.index_mut.ensures.value c.lift-waiting.ensures.list c.requires.5 }
 
 pub returns : goal.returns
 returns c =
     let ns : List Node = c.args.self.now.nodes.items in
-    let below : c.from.result < length ns = omega (arith, c.from.ensures, c.requires.2.count, c.requires.3) in
-    let below_to : c.from-2.result < length ns = omega (arith, c.from-2.ensures, c.requires.2.count, c.requires.4) in
-    let popped : IsPopped c.args.to c.in-Some.packet c.index_mut.result.now c.pop.new.self = c.in-Some.ensures.packet in
-    if_ok_both c.take.result
-    (λ noted noted_is event s are. take_happens_at s ns c.args.from c.args.to c.from.result c.from-2.result c.index_mut.result.now c.pop.new.self c.index_mut-2.result.now c.take.new.self c.in-Some.packet noted are
-    (sym c.from.ensures) (sym c.from-2.ensures) below below_to c.index_mut.ensures.value popped c.in-Some.ensures.kernel c.in-Some.ensures.lists c.index_mut-2.ensures.value noted_is event)
-    c.take.ensures.noted c.take.ensures.after
+    let below : c.from-sender.result < length ns = omega (arith, c.from-sender.ensures, c.requires.2.count, c.requires.3) in
+    let below_to : c.from-taker.result < length ns = omega (arith, c.from-taker.ensures, c.requires.2.count, c.requires.4) in
+    let some = under_way c.requires.0 ns c.args.from c.args.to c.from-sender.result c.requires.1 c.index_mut.result.now c.lift-waiting.result.items (sym c.from-sender.ensures) below c.index_mut.ensures.value c.lift-waiting.ensures.list c.requires.5 in
+    let taking : IsTaking ns c.args.to c.from-sender.result c.from-taker.result c.lift-waiting.result.items c.take.new.waiting.items c.index_mut.result.now c.lift-waiting.new.self c.index_mut-2.result.now c.take.new.self c.index_mut-3.result.now c.lower.new.self c.index_mut-4.result.now =
+    record {
+      below = below;
+      below_to = below_to;
+      lends_at = c.index_mut.ensures.value;
+      lent = c.lift-waiting.ensures.list;
+      lends = c.lift-waiting.ensures.kernel;
+      lends_lists = c.lift-waiting.ensures.lists;
+      lends_others = c.lift-waiting.ensures.others;
+      takes_at = c.index_mut-2.ensures.value;
+      takes = c.in_ok-effect.ensures.sent;
+      takes_processes = c.in_ok-effect.ensures.processes;
+      left_is = c.in_ok-effect.ensures.left;
+      gets_at = c.index_mut-3.ensures.value;
+      gets_list = c.lower.ensures.list;
+      gets = c.lower.ensures.kernel;
+      gets_lists = c.lower.ensures.lists;
+      gets_others = c.lower.ensures.others;
+      sends_at = c.index_mut-4.ensures.value;
+    } in
+    if_ok_both c.send.result
+    (λ noted about sent s are. take_happens_at s ns c.args.from c.args.to c.from-sender.result c.from-taker.result are (sym c.from-sender.ensures) (sym c.from-taker.ensures)
+    _ _ _ _ _ _ _ _ _ c.send.new.self some.0 some.1 c.in_ok-effect.effect noted taking some.2 (c.in_ok-effect.ensures.step some.0 some.1 some.2) c.in_ok-effect.ensures.stamp
+    (record { stamp = about.0; steps = about.1; kernel = c.send.ensures.kernel; sent = sent; lists = c.send.ensures.lists }))
+    c.send.ensures.noted c.send.ensures.sent
