@@ -11,14 +11,15 @@ use Rattle.charlotte_calls.specs.declared.packet.Packet.{Packet}
 use Rattle.charlotte_calls.specs.declared.picture.Picture.{Picture}
 use Rattle.kernel_step.specs.Progress.{sent_picture}
 use Rattle.kernel_world.specs.World.{to_kernel}
+use Rattle.kernel_nodes.specs.Nodes.{picture_in}
 use Rattle.kernel_nodes.proofs.Lists.{map-set_same, map-set_other, map-read}
 
 -- the lists of a node
 abbrev pub Lists : Type 0
-Lists = List (VecDeque Packet Global)
+Lists = List (VecDeque (ℕ × Packet) Global)
 
-abbrev pub pictures : VecDeque Packet Global → List Picture
-pictures list = map packet_picture list.items
+abbrev pub pictures : VecDeque (ℕ × Packet) Global → List Picture
+pictures list = map picture_in list.items
 
 abbrev pub sent_in : Lists → ℕ → List Picture
 sent_in lists to = slice_index_or (map pictures lists) to []
@@ -34,49 +35,64 @@ one-same to t q e = rw e refl
 one-other : (to t : ℕ) (q : Picture) → nat_eq to t ≡ false → to_kernel to ((t, q) ∷ []) ≡ []
 one-other to t q e = rw e refl
 
--- a packet joins the list of its kernel
-pub sent_in-push : (lists : Lists) (t : ℕ) (before after : VecDeque Packet Global) (packet : Packet) → t < length lists → before ≡ get_or lists t before → after.items ≡ before.items ++ packet ∷ [] → (to : ℕ) → sent_in (set lists t after) to ≡ sent_in lists to ++ to_kernel to ((t, packet_picture packet) ∷ [])
-sent_in-push lists t before after packet below is items to = by (eqb_tells to t)
-  where
-    here : sent_in (set lists t after) t ≡ sent_in lists t ++ packet_picture packet ∷ []
-    here = map-set_same pictures lists t after [] below ∙ ap (map packet_picture) items ∙ map-append packet_picture before.items (packet ∷ [])
-        ∙ ap (λ qs. qs ++ packet_picture packet ∷ []) (sym (map-read pictures lists t before [] below is))
+-- packets that are no pictures are none
+pub no-pictures : (xs : List (ℕ × Packet)) → map picture_in xs ≡ [] → xs ≡ []
+no-pictures [] e = refl
+no-pictures (x ∷ xs) e = let no : picture_in x ∷ map picture_in xs ≡ [] = e in cc
 
-    by : ((nat_eq to t ≡ true) × (to ≡ t)) ⊎ ((nat_eq to t ≡ false) × (to ≢ t)) → sent_in (set lists t after) to ≡ sent_in lists to ++ to_kernel to ((t, packet_picture packet) ∷ [])
-    by (inl e) = ap (sent_in (set lists t after)) e.1 ∙ here ∙ ap (λ n. sent_in lists n ++ packet_picture packet ∷ []) (sym e.1)
-        ∙ ap (λ qs. sent_in lists to ++ qs) (sym (one-same to t (packet_picture packet) e.0))
-    by (inr e) = map-set_other pictures lists t to after [] e.1 ∙ sym (append-nil (sent_in lists to)) ∙ ap (λ qs. sent_in lists to ++ qs) (sym (one-other to t (packet_picture packet) e.0))
+-- a packet joins the list of its kernel
+pub sent_in-push : (lists : Lists) (t : ℕ) (before after : VecDeque (ℕ × Packet) Global) (sent : ℕ × Packet) → t < length lists → before ≡ get_or lists t before → after.items ≡ before.items ++ sent ∷ [] → (to : ℕ) → sent_in (set lists t after) to ≡ sent_in lists to ++ to_kernel to ((t, picture_in sent) ∷ [])
+sent_in-push lists t before after sent below is items to = by (eqb_tells to t)
+  where
+    here : sent_in (set lists t after) t ≡ sent_in lists t ++ picture_in sent ∷ []
+    here = map-set_same pictures lists t after [] below ∙ ap (map picture_in) items ∙ map-append picture_in before.items (sent ∷ [])
+        ∙ ap (λ qs. qs ++ picture_in sent ∷ []) (sym (map-read pictures lists t before [] below is))
+
+    by : ((nat_eq to t ≡ true) × (to ≡ t)) ⊎ ((nat_eq to t ≡ false) × (to ≢ t)) → sent_in (set lists t after) to ≡ sent_in lists to ++ to_kernel to ((t, picture_in sent) ∷ [])
+    by (inl e) = ap (sent_in (set lists t after)) e.1 ∙ here ∙ ap (λ n. sent_in lists n ++ picture_in sent ∷ []) (sym e.1)
+        ∙ ap (λ qs. sent_in lists to ++ qs) (sym (one-same to t (picture_in sent) e.0))
+    by (inr e) = map-set_other pictures lists t to after [] e.1 ∙ sym (append-nil (sent_in lists to)) ∙ ap (λ qs. sent_in lists to ++ qs) (sym (one-other to t (picture_in sent) e.0))
 
 -- the first of the packets that are left was sent
-pub sent_in-next : (lists : Lists) (t : ℕ) (before after : VecDeque Packet Global) (packet : Packet) (n : ℕ) (left rest : List (ℕ × Packet)) → t ≡ n → t < length lists → before ≡ get_or lists t before → after.items ≡ before.items ++ packet ∷ [] → left ≡ (n, packet) ∷ rest → (to : ℕ) → sent_in (set lists t after) to ++ to_kernel to (map sent_picture rest) ≡ sent_in lists to ++ to_kernel to (map sent_picture left)
-sent_in-next lists t before after packet n left rest at below is items first to =
-    ap (λ qs. qs ++ to_kernel to (map sent_picture rest)) (sent_in-push lists t before after packet below is items to)
-    ∙ append_assoc (sent_in lists to) (to_kernel to ((t, packet_picture packet) ∷ [])) (to_kernel to (map sent_picture rest))
+pub sent_in-next : (lists : Lists) (t : ℕ) (before after : VecDeque (ℕ × Packet) Global) (sent : ℕ × Packet) (left rest : List (ℕ × Packet)) → t ≡ sent.0 → t < length lists → before ≡ get_or lists t before → after.items ≡ before.items ++ sent ∷ [] → left ≡ sent ∷ rest → (to : ℕ) → sent_in (set lists t after) to ++ to_kernel to (map sent_picture rest) ≡ sent_in lists to ++ to_kernel to (map sent_picture left)
+sent_in-next lists t before after sent left rest at below is items first to =
+    ap (λ qs. qs ++ to_kernel to (map sent_picture rest)) (sent_in-push lists t before after sent below is items to)
+    ∙ append_assoc (sent_in lists to) (to_kernel to ((t, picture_in sent) ∷ [])) (to_kernel to (map sent_picture rest))
     ∙ ap (λ qs. sent_in lists to ++ qs)
-    (ap (λ m. to_kernel to ((m, packet_picture packet) ∷ []) ++ to_kernel to (map sent_picture rest)) at
-    ∙ sym (to_kernel-append to ((n, packet_picture packet) ∷ []) (map sent_picture rest))
+    (ap (λ m. to_kernel to ((m, picture_in sent) ∷ []) ++ to_kernel to (map sent_picture rest)) at
+    ∙ sym (to_kernel-append to (sent_picture sent ∷ []) (map sent_picture rest))
     ∙ ap (λ ls. to_kernel to (map sent_picture ls)) (sym first))
+
+-- where no packet waits the list of one is as good as its packet
+pub sent_in-only : (lists : Lists) (t n : ℕ) (before after : VecDeque (ℕ × Packet) Global) (packet : Packet) (sent : List (ℕ × Packet)) → t ≡ n → t < length lists → before ≡ get_or lists t before → sent_in lists n ≡ [] → sent ≡ (n, packet) ∷ [] → after.items ≡ sent → (to : ℕ) → sent_in (set lists t after) to ≡ sent_in lists to ++ to_kernel to (map sent_picture sent)
+sent_in-only lists t n before after packet sent at below is none only items to =
+    sent_in-push lists t before after (n, packet) below is (items ∙ only ∙ ap (λ l. l ++ (n, packet) ∷ []) (sym nothing)) to
+    ∙ ap (λ m. sent_in lists to ++ to_kernel to ((m, packet_picture packet) ∷ [])) at
+    ∙ ap (λ l. sent_in lists to ++ to_kernel to (map sent_picture l)) (sym only)
+  where
+    nothing : before.items ≡ []
+    nothing = no-pictures before.items (sym (map-read pictures lists t before [] below is) ∙ ap (sent_in lists) at ∙ none)
 
 -- what is seen in front is what is taken there
 pub first-same : (x y : ℕ × Packet) (xs rest : List (ℕ × Packet)) → x ≡ get_or xs 0 x → xs ≡ y ∷ rest → x ≡ y
 first-same x y xs rest is first = is ∙ ap (λ l. get_or l 0 x) first
 
 -- the list to a kernel is another, and the others are as before
-pub sent_in-set : (lists : Lists) (t n : ℕ) (list : VecDeque Packet Global) → t ≡ n → t < length lists → sent_in (set lists t list) n ≡ map packet_picture list.items
+pub sent_in-set : (lists : Lists) (t n : ℕ) (list : VecDeque (ℕ × Packet) Global) → t ≡ n → t < length lists → sent_in (set lists t list) n ≡ map picture_in list.items
 sent_in-set lists t n list at below = ap (sent_in (set lists t list)) (sym at) ∙ map-set_same pictures lists t list [] below
 
-pub sent_in-others : (lists : Lists) (t n : ℕ) (list : VecDeque Packet Global) → t ≡ n → (q : ℕ) → q ≢ n → sent_in (set lists t list) q ≡ sent_in lists q
+pub sent_in-others : (lists : Lists) (t n : ℕ) (list : VecDeque (ℕ × Packet) Global) → t ≡ n → (q : ℕ) → q ≢ n → sent_in (set lists t list) q ≡ sent_in lists q
 sent_in-others lists t n list at q other = map-set_other pictures lists t q list [] (λ e. other (e ∙ at))
 
 -- the list to a kernel as it is read
-pub sent_in-read : (lists : Lists) (t n : ℕ) (list : VecDeque Packet Global) → t ≡ n → t < length lists → list ≡ get_or lists t list → map packet_picture list.items ≡ sent_in lists n
+pub sent_in-read : (lists : Lists) (t n : ℕ) (list : VecDeque (ℕ × Packet) Global) → t ≡ n → t < length lists → list ≡ get_or lists t list → map picture_in list.items ≡ sent_in lists n
 sent_in-read lists t n list at below is = sym (map-read pictures lists t list [] below is) ∙ ap (sent_in lists) at
 
-abbrev pub IsEmptyList : VecDeque Packet Global → Type 0
+abbrev pub IsEmptyList : VecDeque (ℕ × Packet) Global → Type 0
 IsEmptyList list = list.items ≡ []
 
 -- nothing was sent where each list is empty
 pub nothing_sent : (lists : Lists) → All IsEmptyList lists → (to : ℕ) → sent_in lists to ≡ []
 nothing_sent [] all to = refl
-nothing_sent (x ∷ xs) all zero = ap (map packet_picture) (All-head IsEmptyList x xs all)
+nothing_sent (x ∷ xs) all zero = ap (map picture_in) (All-head IsEmptyList x xs all)
 nothing_sent (x ∷ xs) all (suc to) = nothing_sent xs (All-tail IsEmptyList x xs all) to

@@ -2,10 +2,8 @@
 use Rattle.std.proofs.Common.{◌≡◌, ◌⊎◌, inl, inr, ℕ, ◌+◌, zero, suc, List, [], ◌∷◌, ◌++◌, length, map, get_or, All, arith, ap, sym, ◌∙◌, refl, length-append}
 use Rattle.std.proofs.lemmas.List.{map-append, length-map}
 use Rattle.std.proofs.lemmas.List.Elements.{All-push, All-head, All-tail, All-cons, All-nil}
-use Rattle.charlotte_calls.specs.declared.packet.Packet.{Packet}
 use Rattle.charlotte_calls.specs.declared.picture.Picture.{Picture}
 use Rattle.charlotte_calls.specs.declared.setting.Setting.{Setting}
-use Rattle.charlotte_calls.specs.Packets.{packet_picture}
 use Rattle.kernel_core.specs.State.{state_of}
 use Rattle.kernel_step.specs.Start.{start_kernel}
 use Rattle.kernel_world.specs.Run.{AllTaken}
@@ -13,7 +11,7 @@ use Rattle.kernel_world.specs.World.{start}
 use Rattle.kernel_nodes.specs.Nodes.{sent_to, world_of, IsNodeOf}
 use Rattle.kernel_nodes.specs.declared.node.Node.{Node}
 use Rattle.kernel_nodes.proofs.Worlds.{state_at}
-use Rattle.kernel_nodes.proofs.Sent.{Lists, sent_in, IsEmptyList, nothing_sent}
+use Rattle.kernel_nodes.proofs.Sent.{Lists, sent_in, IsEmptyList, no-pictures, nothing_sent}
 
 get_or-push : {X : Type 0} (ys : List X) (y d : X) (q : ℕ) → (q ≡ length ys → y ≡ d) → get_or (ys ++ y ∷ []) q d ≡ get_or ys q d
 get_or-push [] y d zero same = same refl
@@ -55,10 +53,6 @@ pub all-taken : (s : Setting) (ns : List Node) → All IsQuietNode ns → AllTak
 all-taken s [] all from to = refl
 all-taken s (n ∷ ns) all zero to = nothing_sent n.sent.items (All-head IsQuietNode n ns all) to
 all-taken s (n ∷ ns) all (suc from) to = all-taken s ns (All-tail IsQuietNode n ns all) from to
-
-no-pictures : (xs : List Packet) → map packet_picture xs ≡ [] → xs ≡ []
-no-pictures [] e = refl
-no-pictures (x ∷ xs) e = let no : packet_picture x ∷ map packet_picture xs ≡ [] = e in cc
 
 empty-lists : (lists : Lists) → ((to : ℕ) → sent_in lists to ≡ []) → All IsEmptyList lists
 empty-lists [] none = All-nil IsEmptyList

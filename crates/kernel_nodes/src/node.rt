@@ -1,4 +1,4 @@
-ghost use Rattle.std.specs.Prelude.{◌≡◌, ◌≢◌, ◌↔◌, ◌<◌, ℕ, ◌++◌, [], ◌∷◌, All, IfOk, IsTrue, OnOk, List, drop, length, map, option_copied, option_map, slice_get};
+ghost use Rattle.std.specs.Prelude.{◌≡◌, ◌≢◌, ◌↔◌, ◌<◌, ℕ, ◌++◌, [], ◌∷◌, All, IfOk, IfSome, IsTrue, OnOk, List, drop, length, map, option_copied, option_map, slice_get};
 ghost use Rattle.charlotte_calls.specs.Packets.{packet_picture};
 ghost use Rattle.charlotte_calls.specs.Setting.{IsValid};
 ghost use Rattle.charlotte_calls.specs.declared.names.EndId.{EndId};
@@ -11,7 +11,7 @@ ghost use Rattle.kernel_step.specs.Progress.{sent_picture};
 ghost use Rattle.kernel_step.specs.Start.{start_kernel};
 ghost use Rattle.kernel_step.specs.declared.phase.Phase.TheVariants.{Running};
 ghost use Rattle.kernel_world.specs.World.{to_kernel};
-ghost use Rattle.kernel_nodes.specs.Nodes.{sent_to, IsNodeOf, IsAfter, IsNotedOf};
+ghost use Rattle.kernel_nodes.specs.Nodes.{picture_in, sent_to, IsNodeOf, IsAfter, IsNotedOf};
 
 use crate::nodes::Noted;
 use charlotte_calls::{Effect, NoMemory, Packet, ServiceStep, Setting};
@@ -24,8 +24,8 @@ use std::mem;
 #[derive(Drop)]
 pub(crate) struct Node {
     pub(crate) kernel: Kernel,
-    /// The packets that were not taken yet, oldest first: a list for each number that a kernel may have.
-    pub(crate) sent: Vec<VecDeque<Packet>>,
+    /// The packets that were not taken yet, oldest first, as its events gave them: a list for each number that a kernel may have.
+    pub(crate) sent: Vec<VecDeque<(u8, Packet)>>,
 }
 
 /// How many numbers a packet may be addressed to.
@@ -64,26 +64,26 @@ impl Node {
     pub(crate) fn take(
         &mut self,
         from: u8,
-        waiting: &mut VecDeque<Packet>,
+        waiting: &mut VecDeque<(u8, Packet)>,
     ) -> Result<Effect, NoMemory>
-        requires some { (packet : APacket) × (others : List APacket) × (waiting.old.items ≡ packet ∷ others) }
-        ensures step { IfOk result (λ effect. (packet : APacket) (others : List APacket) → waiting.old.items ≡ packet ∷ others
-            → ended (state_of self.new.kernel) effect ≡ take_step (state_of self.old.kernel) from (packet_picture packet)) }
+        requires some { (sent : ℕ × APacket) × (others : List (ℕ × APacket)) × (waiting.old.items ≡ sent ∷ others) }
+        ensures step { IfOk result (λ effect. (sent : ℕ × APacket) (others : List (ℕ × APacket)) → waiting.old.items ≡ sent ∷ others
+            → ended (state_of self.new.kernel) effect ≡ take_step (state_of self.old.kernel) from (picture_in sent)) }
         ensures left { OnOk result (waiting.new.items ≡ drop 1 waiting.old.items) }
         ensures stamp { IfOk result (λ effect. effect.stamp ≡ self.new.kernel.stamp) }
         ensures processes { length self.new.kernel.processes ≡ length self.old.kernel.processes }
         ensures sent { self.new.sent ≡ self.old.sent }
     {
-        let effect = self.kernel.take_from(from, &mut waiting[0])?;
+        let effect = self.kernel.take_from(from, &mut waiting[0].1)?;
         let _taken = waiting.pop_front();
         Ok(effect)
     }
 
     /// Takes out the list of the packets to a kernel.
     #[inline(always)]
-    pub(crate) fn lift(&mut self, to: u8) -> VecDeque<Packet>
+    pub(crate) fn lift(&mut self, to: u8) -> VecDeque<(u8, Packet)>
         requires { length self.old.sent.items ≡ 256 }
-        ensures list { map packet_picture result.items ≡ sent_to self.old to }
+        ensures list { map picture_in result.items ≡ sent_to self.old to }
         ensures others { (q : ℕ) → q ≢ to → sent_to self.new q ≡ sent_to self.old q }
         ensures kernel { self.new.kernel ≡ self.old.kernel }
         ensures lists { length self.new.sent.items ≡ length self.old.sent.items }
@@ -95,9 +95,9 @@ impl Node {
 
     /// Puts a list in the place of that of the packets to a kernel.
     #[inline(always)]
-    pub(crate) fn lower(&mut self, to: u8, list: VecDeque<Packet>)
+    pub(crate) fn lower(&mut self, to: u8, list: VecDeque<(u8, Packet)>)
         requires { length self.old.sent.items ≡ 256 }
-        ensures list { sent_to self.new to ≡ map packet_picture list.items }
+        ensures list { sent_to self.new to ≡ map picture_in list.items }
         ensures others { (q : ℕ) → q ≢ to → sent_to self.new q ≡ sent_to self.old q }
         ensures kernel { self.new.kernel ≡ self.old.kernel }
         ensures lists { length self.new.sent.items ≡ length self.old.sent.items }
@@ -148,8 +148,34 @@ impl Node {
         self.send_some(packets)
     }
 
+    /// Sends packets, and gives an emptied list back. One packet that goes where none waits is not moved: its list changes places with the empty one.
     #[inline(never)]
     fn send_some(&mut self, packets: Vec<(u8, Packet)>) -> Result<Vec<(u8, Packet)>, NoMemory>
+        requires { length self.old.sent.items ≡ 256 }
+        ensures kernel { self.new.kernel ≡ self.old.kernel }
+        ensures sent { OnOk result ((to : ℕ) → sent_to self.new to ≡ sent_to self.old to ++ to_kernel to (map sent_picture packets.items)) }
+        ensures lists { length self.new.sent.items ≡ length self.old.sent.items }
+    {
+        match only_to(packets.as_slice()) {
+            Some(to) if self.sent[usize::from(to)].is_empty() => Ok(self.send_only(to, packets)),
+            _ => self.send_many(packets),
+        }
+    }
+
+    /// The only packet is sent where none waits, in its list.
+    fn send_only(&mut self, to: u8, packets: Vec<(u8, Packet)>) -> Vec<(u8, Packet)>
+        requires lists { length self.old.sent.items ≡ 256 }
+        requires only { (packet : APacket) × (packets.items ≡ (to, packet) ∷ []) }
+        requires none { sent_to self.old to ≡ [] }
+        ensures kernel { self.new.kernel ≡ self.old.kernel }
+        ensures sent { (q : ℕ) → sent_to self.new q ≡ sent_to self.old q ++ to_kernel q (map sent_picture packets.items) }
+        ensures lists { length self.new.sent.items ≡ length self.old.sent.items }
+    {
+        let list = &mut self.sent[usize::from(to)];
+        Vec::from(mem::replace(list, VecDeque::from(packets)))
+    }
+
+    fn send_many(&mut self, packets: Vec<(u8, Packet)>) -> Result<Vec<(u8, Packet)>, NoMemory>
         requires { length self.old.sent.items ≡ 256 }
         ensures kernel { self.new.kernel ≡ self.old.kernel }
         ensures sent { OnOk result ((to : ℕ) → sent_to self.new to ≡ sent_to self.old to ++ to_kernel to (map sent_picture packets.items)) }
@@ -171,7 +197,7 @@ impl Node {
         while let Some((to, _)) = packets.front() {
             let list = &mut self.sent[usize::from(*to)];
             list.reserve(1)?;
-            let Some((_, packet)) = packets.pop_front() else {
+            let Some(packet) = packets.pop_front() else {
                 unreachable!()
             };
             list.push_back_reserved(packet);
@@ -184,7 +210,10 @@ impl Node {
         requires { length self.now.sent.items ≡ 256 }
         ensures { option_map packet_picture (option_copied result) ≡ slice_get (sent_to self.now to) 0 }
     {
-        self.sent[usize::from(to)].front()
+        match self.sent[usize::from(to)].front() {
+            Some((_, packet)) => Some(packet),
+            None => None,
+        }
     }
 
     /// Whether no packet of this node waits to be taken.
@@ -195,7 +224,17 @@ impl Node {
     }
 }
 
-fn empty_lists(alloc: Global) -> Result<Vec<VecDeque<Packet>>, NoMemory>
+/// The kernel to which the packet goes, where there is one packet.
+fn only_to(packets: &[(u8, Packet)]) -> Option<u8>
+    ensures { IfSome result (λ to. (packet : APacket) × (packets.now ≡ (to, packet) ∷ [])) }
+{
+    match packets {
+        [(to, _)] => Some(*to),
+        _ => None,
+    }
+}
+
+fn empty_lists(alloc: Global) -> Result<Vec<VecDeque<(u8, Packet)>>, NoMemory>
     ensures { IfOk result (λ lists. (length lists.items ≡ 256) × All (λ list. list.items ≡ []) lists.items) }
 {
     let mut lists = Vec::with_capacity(alloc, NUMBERS)?;

@@ -10,7 +10,7 @@ loop-to-preserved c =
       kernel = c.loop-to.invariant.kernel;
       lists = length-set now.sent.items c.from.result c.push_back_reserved.new.self ∙ c.loop-to.invariant.lists;
       sent = λ to.
-          sent_in-next now.sent.items c.from.result c.index_mut-list.result.now c.push_back_reserved.new.self c.in-Some-pop_front.packet c.in-Some-pop_front.field-0-0 c.loop-to.packets.items c.pop_front.new.self.items
+          sent_in-next now.sent.items c.from.result c.index_mut-list.result.now c.push_back_reserved.new.self c.in-Some-pop_front.packet c.loop-to.packets.items c.pop_front.new.self.items
           (c.from.ensures ∙ ap (λ p. p.0) (first-same _ _ _ _ c.in-Some.ensures.lookup c.in-Some-pop_front.ensures.items)) below c.index_mut-list.ensures.value
           (c.push_back_reserved.ensures.items ∙ ap (λ ps. ps ++ c.in-Some-pop_front.packet ∷ []) c.reserve.ensures.items) c.in-Some-pop_front.ensures.items to
           ∙ c.loop-to.invariant.sent to;
