@@ -43,6 +43,7 @@ pub(crate) fn match_waiting(table: &mut Table, on: EndId, value: MovingPicture, 
 }
 
 /// MATCH of a send that waits: its message is taken out of the table.
+#[inline(always)]
 fn match_waited(table: &mut Table, on: EndId, value: MovingPicture, out: &mut Work)
     requires here { IsHereAnd (entries table.old on) (λ v. IsWaiting v.outward) }
     requires same_end { value.end ≡ on }
@@ -64,6 +65,7 @@ fn match_waited(table: &mut Table, on: EndId, value: MovingPicture, out: &mut Wo
 
 /// MATCH of a send of an end with the receive that is wanted of it.
 #[tactic(auto, unfolding(kernel_step::specs::Actions::matches))]
+#[inline(always)]
 pub(crate) fn send_parcel(
     table: &mut Table,
     on: EndId,

@@ -43,6 +43,7 @@ pub fn post(table: &mut Table, on: EndId, out: &mut Work)
 
 /// Of a parcel at the receive that it was sent for: the message is taken and reported, and the sender is told.
 /// Anywhere else it does nothing.
+#[inline(always)]
 pub fn arrived(
     table: &mut Table,
     to: EndId,
@@ -84,6 +85,7 @@ struct Arrival {
 
 /// A message is taken by the started receive of an end that is here.
 #[tactic(auto, unfolding(kernel_step::specs::Rows::receives, kernel_step::specs::Actions::resends_on_news))]
+#[inline(always)]
 fn receive(table: &mut Table, on: EndId, message: Arrival, out: &mut Work)
     requires here { IsHere (entries table.old on) }
     requires room { HasRoom 3 1 1 1 out.old }

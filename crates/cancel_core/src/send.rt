@@ -20,6 +20,7 @@ use kernel_step::{
 /// Send: a send of these bytes, which encloses these ends, is started, and matched where a receive wants it.
 /// That the ends are held by the send is set before.
 #[tactic(auto, unfolding(kernel_step::specs::Calls::starts_send))]
+#[inline(always)]
 pub fn start_send(table: &mut Table, on: EndId, bytes: Bytes, enclose: Ends, out: &mut Work)
     requires here { IsHere (entries table.old on) }
     requires enclosed { AreEnclosed (entries table.old) enclose }

@@ -166,6 +166,7 @@ impl Kernel {
 
     /// The same with a packet that stays where it is: nothing of it is moved but the values that it brings, which are taken out
     /// of it. For want of memory it is as before, and so is the kernel.
+    #[inline(always)]
     pub fn take_from(&mut self, from: u8, packet: &mut Packet) -> Result<Effect, NoMemory>
         ensures step { IfOk result (λ effect. ended (state_of self.new) effect ≡ take_step (state_of self.old) from (packet_picture packet.old)) }
         ensures stamp { IfOk result (λ effect. effect.stamp ≡ self.new.stamp) }

@@ -42,6 +42,7 @@ struct Found {
 }
 
 /// The event in which a kernel takes a packet from a kernel, put into `effect`; all room that it needs was reserved.
+#[inline(always)]
 fn take(state: &mut State, from: u8, what: &mut What, to: Found, effect: &mut Effect)
     requires consistent { IsConsistent state.old }
     requires ready { IsReadyToTake state.old what.old state.old.event }
@@ -149,6 +150,7 @@ fn addressee(what: &What) -> EndId
 }
 
 /// The event of a packet, of which each named kernel is there or which is dropped.
+#[inline(always)]
 fn take_packet(
     state: &mut State,
     kernels: u8,

@@ -21,6 +21,7 @@ use kernel_step::{is_withdrawing, push_packet, push_step};
 use move_core::{forget, gone_seen, known, moved};
 
 /// What a kernel that has made so many links does with a packet from a kernel. The values that the packet brings are taken out of it.
+#[inline(always)]
 pub fn row(table: &mut Table, made: u32, from: u8, what: &mut What, out: &mut Work)
     requires ready { (e : EndId) → IsReady (entries table.old) e }
     requires placed { ArePlaced table.old (brought what.old) }

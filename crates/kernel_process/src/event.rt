@@ -38,6 +38,7 @@ impl Event {
     /// besides, for what its reports and answers bring, and for `own` answers more. Memory is taken only where the room of the lists
     /// that it has is not enough.
     #[tactic(auto, unfolding(kernel_step::specs::Progress::progress))]
+    #[inline(always)]
     pub fn begin(
         &mut self,
         stamp: u64,

@@ -35,6 +35,7 @@ pub fn owner_in(holder: Holder) -> Option<Pid>
 }
 
 /// An end changed, which a process owned before: the sets of active ends tell of it again.
+#[inline(always)]
 pub fn refresh_owner(table: &Table, processes: &mut Processes, before: Option<Pid>, end: EndId)
     requires before { IfSome before (λ p. p.0 < length processes.old) }
     requires after { IfSome (owner_of (entries table.now end)) (λ p. p.0 < length processes.old) }

@@ -71,6 +71,7 @@ pub fn resend_on_news(out: &mut Work, kernel: u8, news: bool, value: MovingPictu
 
 /// An end that is here learns that its opposite is at a kernel with these hops, and nothing else happens to it.
 #[tactic(auto, unfolding(crate::specs::Actions::learns, crate::specs::Actions::resends_on_news))]
+#[inline(always)]
 pub fn learn(table: &mut Table, on: EndId, at: u8, hops: u32, out: &mut Work)
     requires here { IsHere (entries table.old on) }
     requires room { HasRoom 2 0 0 0 out.old }

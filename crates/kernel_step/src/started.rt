@@ -8,6 +8,7 @@ use charlotte_calls::EndId;
 use end_table::{Inward, Lent, Living, Sending, Table};
 
 /// An end whose receive w is started, lent.
+#[inline(always)]
 pub fn receiver(table: &Table, to: EndId, w: u32) -> Option<&Living>
     ensures view { option_copied result ≡ asks w (entries table.now to) }
     ensures here { IfSome result (λ l. entries table.now to ≡ Here l.now) }
@@ -24,6 +25,7 @@ pub fn receiver(table: &Table, to: EndId, w: u32) -> Option<&Living>
 }
 
 /// An end whose send n is matched, lent.
+#[inline(always)]
 pub fn sender(table: &Table, to: EndId, n: u32) -> Option<&Living>
     ensures view { option_copied result ≡ awaits n (entries table.now to) }
     ensures here { IfSome result (λ l. entries table.now to ≡ Here l.now) }
