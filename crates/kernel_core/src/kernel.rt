@@ -109,6 +109,7 @@ impl Kernel {
         ensures step { IfOk result (λ effect. (mine : List EndId) × IsCallWith request.now.p (entries self.old.table) mine request.now.call
             × (ended (state_of self.new) effect ≡ call_step (without_answer request.now.p (state_of self.old)) request.now.p mine request.now.call)) }
         ensures stamp { IfOk result (λ effect. effect.stamp ≡ self.new.stamp) }
+        ensures same { OnErr result (state_of self.new ≡ state_of self.old) }
         ensures processes { length self.new.processes ≡ length self.old.processes }
     {
         let called = self.step(request);
@@ -120,6 +121,7 @@ impl Kernel {
     fn let_go(&mut self, p: Pid, called: &Result<Effect, NoMemory>)
         requires { p.0 < length self.old.processes }
         ensures state { IfOk called.now (λ effect. state_of self.new ≡ unanswered p effect.answered.items (state_of self.old)) }
+        ensures same { OnErr called.now (self.new ≡ self.old) }
         ensures stamp { self.new.stamp ≡ self.old.stamp }
         ensures processes { length self.new.processes ≡ length self.old.processes }
     {
