@@ -1,29 +1,28 @@
 -- Lines of one journal that are given one after the other.
 use Rattle.std.proofs.Common.{◌≡◌, inl, inr, ℕ, zero, suc, ◌+◌, ◌-◌, ◌<◌, ◌≤◌, List, [], ◌∷◌, ◌++◌, length, take, drop, get_or, append_assoc, ap, sym, ◌∙◌, refl, arith, length-append, codes}
-use Rattle.std.specs.List.{concat}
 use Rattle.charlotte_text.specs.Spelling.{number_text}
 use Rattle.std.proofs.lemmas.Bool.Decides.{leb_tells}
 use Rattle.std.proofs.lemmas.List.{drop_more, length-map, take-append-drop, take_more}
-use Rattle.std.proofs.lemmas.List.Folds.{concat-append}
 use Rattle.std.proofs.Math.Seq.{drop-append_seam, get_or-append_seam, take-append_seam}
 use Rattle.journal_text.specs.Journal.{placed_at}
 use Rattle.journal_text.specs.Transcript.{entry_text, happened_text, line, step_text}
 use Rattle.kernel_world.specs.declared.entry.Entry.{Entry}
 use Rattle.written_journal.specs.Given.{IsPlace, rest_behind}
 use Rattle.written_journal.specs.Lines.{happened_line, kept_lines, lines_of, step_lines}
+use Rattle.written_journal.specs.Packed.{kept, kept_text}
 use Rattle.written_journal.specs.declared.reader.Place.{Place}
-use Rattle.written_journal.proofs.Texts.{IsAt, at-drop, lines_of-append, lines_of-cons, lines_of-nil, lines_of-push}
+use Rattle.written_journal.proofs.Texts.{IsAt, at-drop, kept_text-append, lines_of-append, lines_of-cons, lines_of-nil, lines_of-push}
 
 -- before all lines
 pub start-place : (es : List Entry) → IsPlace es (record { events = 0; left = 0; lines = 0; bytes = 0 })
 start-place es = record { upto = sym (ap length lines_of-nil); long = refl }
 
 -- the bytes up to the next line
-long-behind : (all : List (List ℕ)) (n bytes : ℕ) → n < length all → bytes ≡ length (concat (take n all)) → bytes + length (get_or all n []) ≡ length (concat (take (n + 1) all))
+long-behind : (all : List (List ℕ)) (n bytes : ℕ) → n < length all → bytes ≡ length (kept_text (take n all)) → bytes + length (kept (get_or all n [])) ≡ length (kept_text (take (n + 1) all))
 long-behind all n bytes below is =
-    let here : List ℕ = get_or all n [] in
-    let more : concat (take (n + 1) all) ≡ concat (take n all) ++ (here ++ []) = ap concat (take_more all n [] below) ∙ concat-append (take n all) (here ∷ []) in
-    omega (arith, is, ap length more, length-append (concat (take n all)) (here ++ []), length-append here [])
+    let here : List ℕ = kept (get_or all n []) in
+    let more : kept_text (take (n + 1) all) ≡ kept_text (take n all) ++ (here ++ []) = ap kept_text (take_more all n [] below) ∙ kept_text-append (take n all) (get_or all n [] ∷ []) in
+    omega (arith, is, ap length more, length-append (kept_text (take n all)) (here ++ []), length-append here [])
 
 -- ---- a line of the event that is begun
 
@@ -48,13 +47,13 @@ pub record IsStepped (es : List Entry) (p q : Place) (text : List ℕ) : Type 0 
   pub given : (rest_behind es p).lines ≡ text ∷ (rest_behind es q).lines
   pub place : IsPlace es q
 
-pub stepped : (es : List Entry) (p : Place) (text : List ℕ) → IsPlace es p → 0 < p.left → text ≡ get_or (lines_of es) p.lines [] → IsStepped es p (record { events = p.events; left = p.left - 1; lines = p.lines + 1; bytes = p.bytes + length text }) text
-stepped es p text is some here =
+pub stepped : (es : List Entry) (p : Place) (text : List ℕ) (long : ℕ) → IsPlace es p → 0 < p.left → text ≡ get_or (lines_of es) p.lines [] → long ≡ length (kept (get_or (lines_of es) p.lines [])) → IsStepped es p (record { events = p.events; left = p.left - 1; lines = p.lines + 1; bytes = p.bytes + long }) text
+stepped es p text long is some here many =
     record {
       given = one-less (lines_of es) p.lines p.left some (line-below es p is some) ∙ ap (λ (t : List ℕ). t ∷ take (p.left - 1) (drop (p.lines + 1) (lines_of es))) (sym here);
       place = record {
         upto = omega (arith, is.upto, some);
-        long = ap (λ (t : List ℕ). p.bytes + length t) here ∙ long-behind (lines_of es) p.lines p.bytes (line-below es p is some) is.long;
+        long = ap (λ n. p.bytes + n) many ∙ long-behind (lines_of es) p.lines p.bytes (line-below es p is some) is.long;
       };
     }
 
@@ -63,7 +62,7 @@ pub none-left : (es : List Entry) (p : Place) → IsPlace es p → (rest_behind 
 none-left es p is none =
     elim (leb_tells p.left 0) [
       | inl w ↦ omega (arith, w.1)
-      | inr w ↦ let some = (stepped es p (get_or (lines_of es) p.lines []) is w.1 refl).given in absurd (cc)
+      | inr w ↦ let some = (stepped es p (get_or (lines_of es) p.lines []) (length (kept (get_or (lines_of es) p.lines []))) is w.1 refl refl).given in absurd (cc)
     ]
 
 -- ---- the first line of the next event
@@ -113,8 +112,8 @@ module _ (es : List Entry) (p : Place) (e : Entry) (rest : List Entry) (is : IsP
       ∙ ap (λ ls. take (length (step_lines e.steps)) (drop (length upto) ls)) split
       ∙ ap (take (length (step_lines e.steps))) (drop-append_seam upto (step_lines e.steps ++ lines_of rest)) ∙ take-append_seam (step_lines e.steps) (lines_of rest)
 
-  pub begun : (count : ℕ) (text : List ℕ) → count ≡ length e.steps → text ≡ get_or (lines_of es) p.lines [] → IsBegun es p (record { events = p.events + 1; left = count; lines = p.lines + 1; bytes = p.bytes + length text }) e rest
-  begun count text many here =
+  pub begun : (count long : ℕ) → count ≡ length e.steps → long ≡ length (kept (get_or (lines_of es) p.lines [])) → IsBegun es p (record { events = p.events + 1; left = count; lines = p.lines + 1; bytes = p.bytes + long }) e rest
+  begun count long many here =
       let below : p.lines < length (lines_of es) = first.below in
       let upto : lines_of (take (p.events + 1) es) ≡ before ++ kept_lines e = ap lines_of at.upto ∙ lines_of-push (take p.events es) e in
       record {
@@ -122,6 +121,6 @@ module _ (es : List Entry) (p : Place) (e : Entry) (rest : List Entry) (is : IsP
             ∙ ap (λ (xs : List Entry). record { lines = step_lines e.steps; entries = xs }) at.behind;
         place = record {
           upto = omega (arith, given, many, ap length upto, length-append before (kept_lines e), length-map e.steps (λ s. line (step_text s)));
-          long = ap (λ (t : List ℕ). p.bytes + length t) here ∙ long-behind (lines_of es) p.lines p.bytes below is.long;
+          long = ap (λ n. p.bytes + n) here ∙ long-behind (lines_of es) p.lines p.bytes below is.long;
         };
       }

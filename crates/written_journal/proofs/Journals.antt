@@ -1,6 +1,5 @@
 -- One journal: what is begun, and what is noted.
-use Rattle.std.proofs.Common.{◌≡◌, ℕ, ◌+◌, ◌-◌, List, [], ◌∷◌, ◌++◌, Option, None, Some, All, IfSome, length, map, append_assoc, append-nil, ap, sym, subst, ◌∙◌, arith, length-append}
-use Rattle.std.specs.List.{concat}
+use Rattle.std.proofs.Common.{◌≡◌, ℕ, ◌+◌, List, [], ◌∷◌, ◌++◌, Option, None, Some, All, IfSome, drop, length, map, take, append-nil, ap, sym, subst, ◌∙◌, arith}
 use Rattle.std.proofs.lemmas.List.{map-append}
 use Rattle.std.proofs.lemmas.List.Elements.{All-push}
 use Rattle.charlotte_calls.specs.Ranges.{IsU64, IsStepInRange}
@@ -13,19 +12,20 @@ use Rattle.kernel_world.specs.declared.entry.Happened.{Happened}
 use Rattle.written_journal.specs.Kept.{Happenings, IsWritten, begun_text, event_of, happenings}
 use Rattle.written_journal.specs.Lines.{happened_line, kept_lines, lines_of, step_lines, text_of}
 use Rattle.written_journal.specs.Noted.{done}
+use Rattle.written_journal.specs.Packed.{kept_text, line_note}
 use Rattle.written_journal.specs.Told.{Told, nothing_told}
 use Rattle.written_journal.specs.declared.written.Event.{Event}
 use Rattle.written_journal.specs.declared.written.Written.{Written}
-use Rattle.written_journal.proofs.Texts.{lines_of-nil, lines_of-push, text_of-nil, text_of-push}
+use Rattle.written_journal.proofs.Texts.{IsCut, cut-at, lines_of-nil, lines_of-push, text_of-nil, text_of-push}
 
 -- nothing is written
-pub start-written : (w : Written) (t : Told) → w.text.items ≡ [] → w.lengths.items ≡ [] → w.events.items ≡ [] → t ≡ nothing_told → IsWritten w 0 t
-start-written w t text lengths events is =
+pub start-written : (w : Written) (t : Told) → w.text.items ≡ [] → w.notes.items ≡ [] → w.events.items ≡ [] → t ≡ nothing_told → IsWritten w 0 t
+start-written w t text notes events is =
     subst (λ (x : Told). IsWritten w 0 x) (sym is)
     (record {
       kept = record {
         text = text ∙ sym (ap (λ x. x ++ []) text_of-nil);
-        lengths = lengths ∙ sym (ap (map length) lines_of-nil);
+        notes = notes ∙ sym (ap (map line_note) lines_of-nil);
         events_are = events;
       };
       up_to = sym (ap length text_of-nil);
@@ -35,13 +35,13 @@ start-written w t text lengths events is =
     })
 
 -- what was begun is noted
-pub written-noted : (old new : Written) (whole : ℕ) (t : Told) (what : Happened) (stamp : ℕ) (steps : List ServiceStep) → IsWritten old whole t → t.begun ≡ Some what → IsAfterLast t.entries stamp → IsU64 stamp → All IsStepInRange steps → new.text.items ≡ old.text.items ++ concat (step_lines steps) → new.lengths.items ≡ old.lengths.items ++ (length old.text.items - whole) ∷ map length (step_lines steps) → new.events.items ≡ old.events.items ++ record { stamp = stamp; lines = length steps + 1 } ∷ [] → IsWritten new (length new.text.items) (record t { entries = t.entries ++ record { stamp = stamp; what = what; steps = steps } ∷ []; begun = None })
-written-noted old new whole t what stamp steps is begun after early steps_in_range text lengths events =
+pub written-noted : (old new : Written) (whole : ℕ) (t : Told) (what : Happened) (stamp : ℕ) (steps : List ServiceStep) → IsWritten old whole t → t.begun ≡ Some what → IsAfterLast t.entries stamp → IsU64 stamp → All IsStepInRange steps → new.text.items ≡ take whole old.text.items ++ kept_text (drop whole old.text.items ∷ step_lines steps) → new.notes.items ≡ old.notes.items ++ map line_note (drop whole old.text.items ∷ step_lines steps) → new.events.items ≡ old.events.items ++ record { stamp = stamp; lines = length steps + 1 } ∷ [] → IsWritten new (length new.text.items) (record t { entries = t.entries ++ record { stamp = stamp; what = what; steps = steps } ∷ []; begun = None })
+written-noted old new whole t what stamp steps is begun after early steps_in_range text notes events =
     record {
       kept = record {
         text = now ∙ sym (append-nil (text_of all));
-        lengths = lengths ∙ ap (λ n. old.lengths.items ++ n ∷ map length (step_lines steps)) long ∙ ap (λ ns. ns ++ length (happened_line what) ∷ map length (step_lines steps)) is.kept.lengths
-            ∙ sym (map-append length (lines_of t.entries) (kept_lines e)) ∙ ap (map length) (sym (lines_of-push t.entries e));
+        notes = notes ∙ ap (λ d. old.notes.items ++ map line_note (d ∷ step_lines steps)) at.behind ∙ ap (λ ns. ns ++ map line_note (kept_lines e)) is.kept.notes
+            ∙ sym (map-append line_note (lines_of t.entries) (kept_lines e)) ∙ ap (map line_note) (sym (lines_of-push t.entries e));
         events_are = events ∙ ap (λ (es : List Event). es ++ event_of e ∷ []) is.kept.events_are ∙ sym (map-append event_of t.entries (e ∷ []));
       };
       up_to = ap length now;
@@ -59,17 +59,17 @@ written-noted old new whole t what stamp steps is begun after early steps_in_ran
     before : old.text.items ≡ text_of t.entries ++ happened_line what
     before = is.kept.text ∙ ap (λ b. text_of t.entries ++ begun_text b) begun
 
-    now : new.text.items ≡ text_of all
-    now = text ∙ ap (λ x. x ++ concat (step_lines steps)) before ∙ append_assoc (text_of t.entries) (happened_line what) (concat (step_lines steps)) ∙ sym (text_of-push t.entries e)
+    at : IsCut old.text.items (text_of t.entries) (happened_line what) whole
+    at = cut-at old.text.items (text_of t.entries) (happened_line what) whole before is.up_to
 
-    long : length old.text.items - whole ≡ length (happened_line what)
-    long = omega (arith, ap length before, length-append (text_of t.entries) (happened_line what), is.up_to)
+    now : new.text.items ≡ text_of all
+    now = text ∙ ap (λ d. take whole old.text.items ++ kept_text (d ∷ step_lines steps)) at.behind ∙ ap (λ b. b ++ kept_text (kept_lines e)) at.before ∙ sym (text_of-push t.entries e)
 
 -- the same, by what a history was told
-pub noted-told : (old new : Written) (whole now : ℕ) (t later : Told) (value : Happenings) (stamp : ℕ) (steps : List ServiceStep) → IsWritten old whole t → happenings t ≡ value → (what : Happened) × (value.begun ≡ Some what) → IsAfterLast value.entries stamp → IsU64 stamp → All IsStepInRange steps → new.text.items ≡ old.text.items ++ concat (step_lines steps) → new.lengths.items ≡ old.lengths.items ++ (length old.text.items - whole) ∷ map length (step_lines steps) → new.events.items ≡ old.events.items ++ record { stamp = stamp; lines = length steps + 1 } ∷ [] → now ≡ length new.text.items → later ≡ record t { entries = t.entries ++ done t.begun stamp steps; begun = None } → IsWritten new now later
-noted-told old new whole now t later value stamp steps is view begun after early steps_in_range text lengths events at told =
+pub noted-told : (old new : Written) (whole now : ℕ) (t later : Told) (value : Happenings) (stamp : ℕ) (steps : List ServiceStep) → IsWritten old whole t → happenings t ≡ value → (what : Happened) × (value.begun ≡ Some what) → IsAfterLast value.entries stamp → IsU64 stamp → All IsStepInRange steps → new.text.items ≡ take whole old.text.items ++ kept_text (drop whole old.text.items ∷ step_lines steps) → new.notes.items ≡ old.notes.items ++ map line_note (drop whole old.text.items ∷ step_lines steps) → new.events.items ≡ old.events.items ++ record { stamp = stamp; lines = length steps + 1 } ∷ [] → now ≡ length new.text.items → later ≡ record t { entries = t.entries ++ done t.begun stamp steps; begun = None } → IsWritten new now later
+noted-told old new whole now t later value stamp steps is view begun after early steps_in_range text notes events at told =
     subst (λ (n : ℕ). IsWritten new n later) (sym at) (subst (λ (x : Told). IsWritten new (length new.text.items) x) (sym same)
-    (written-noted old new whole t begun.0 stamp steps is what (subst (λ es. IsAfterLast es stamp) (sym (ap (λ (v : Happenings). v.entries) view)) after) early steps_in_range text lengths events))
+    (written-noted old new whole t begun.0 stamp steps is what (subst (λ es. IsAfterLast es stamp) (sym (ap (λ (v : Happenings). v.entries) view)) after) early steps_in_range text notes events))
   where
     what : t.begun ≡ Some begun.0
     what = ap (λ (v : Happenings). v.begun) view ∙ begun.1

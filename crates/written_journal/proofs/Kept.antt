@@ -1,17 +1,17 @@
 -- What stands in a journal, by numbers and places.
 use Rattle.std.proofs.Common.{◌≡◌, ℕ, zero, suc, ◌+◌, ◌<◌, ◌≤◌, List, [], ◌∷◌, ◌++◌, Option, None, Some, option_map, length, map, take, drop, get_or, append_assoc, ap, sym, subst, ◌∙◌, refl, arith, length-append}
-use Rattle.std.specs.List.{concat, slice_get, slice_range}
+use Rattle.std.specs.List.{slice_get, slice_range}
 use Rattle.std.proofs.lemmas.List.{drop_more, get_or-map, length-map, take-append-drop}
-use Rattle.std.proofs.lemmas.List.Folds.{concat-append}
 use Rattle.std.proofs.lemmas.Option.{slice_get-map}
 use Rattle.journal_text.specs.Heads.{first_stamp}
 use Rattle.kernel_world.specs.declared.entry.Entry.{Entry}
 use Rattle.written_journal.specs.Kept.{AreKept, Happenings, IsWritten, begun_text, event_of, happenings}
 use Rattle.written_journal.specs.Lines.{lines_of}
+use Rattle.written_journal.specs.Packed.{kept, kept_text, line_note}
 use Rattle.written_journal.specs.Told.{Told}
 use Rattle.written_journal.specs.declared.written.Event.{Event}
 use Rattle.written_journal.specs.declared.written.Written.{Written}
-use Rattle.written_journal.proofs.Texts.{at-drop, slice-at, text_of-is}
+use Rattle.written_journal.proofs.Texts.{at-drop, kept_text-append, slice-at, text_of-is}
 
 -- what contracts see of a journal is kept
 pub are-kept : (w : Written) (whole : ℕ) (t : Told) (value : Happenings) → IsWritten w whole t → happenings t ≡ value → AreKept w value.entries (begun_text t.begun)
@@ -51,18 +51,18 @@ first_stamp-is events es n is =
 -- ---- a line
 
 pub record IsLineAt (w : Written) (text : List ℕ) (number from : ℕ) : Type 0 where
-  pub long : (d : ℕ) → get_or w.lengths.items number d ≡ length text
-  pub within : number < length w.lengths.items
-  pub part : slice_range w.text.items from (from + length text) ≡ text
-  pub part_within : from + length text ≤ length w.text.items
+  pub note : (d : ℕ) → get_or w.notes.items number d ≡ line_note text
+  pub within : number < length w.notes.items
+  pub part : slice_range w.text.items from (from + length (kept text)) ≡ kept text
+  pub part_within : from + length (kept text) ≤ length w.text.items
 
-line-at : (w : Written) (es : List Entry) (behind : List ℕ) (number from : ℕ) → AreKept w es behind → number < length (lines_of es) → from ≡ length (concat (take number (lines_of es))) → IsLineAt w (get_or (lines_of es) number []) number from
-line-at w es behind number from kept below at =
+line-at : (w : Written) (es : List Entry) (behind : List ℕ) (number from : ℕ) → AreKept w es behind → number < length (lines_of es) → from ≡ length (kept_text (take number (lines_of es))) → IsLineAt w (get_or (lines_of es) number []) number from
+line-at w es behind number from is below at =
     record {
-      long = λ d. ap (λ ns. get_or ns number d) kept.lengths ∙ get_or-map length all number [] d below;
-      within = omega (arith, below, ap length kept.lengths, length-map all length);
-      part = slice-at w.text.items before here (others ++ behind) from (from + length here) text at refl;
-      part_within = omega (arith, at, ap length text, length-append before (here ++ (others ++ behind)), length-append here (others ++ behind));
+      note = λ d. ap (λ ns. get_or ns number d) is.notes ∙ get_or-map line_note all number [] d below;
+      within = omega (arith, below, ap length is.notes, length-map all line_note);
+      part = slice-at w.text.items before (kept here) (others ++ behind) from (from + length (kept here)) text at refl;
+      part_within = omega (arith, at, ap length text, length-append before (kept here ++ (others ++ behind)), length-append (kept here) (others ++ behind));
     }
   where
     all : List (List ℕ)
@@ -72,17 +72,17 @@ line-at w es behind number from kept below at =
     here = get_or all number []
 
     before : List ℕ
-    before = concat (take number all)
+    before = kept_text (take number all)
 
     others : List ℕ
-    others = concat (drop (number + 1) all)
+    others = kept_text (drop (number + 1) all)
 
-    joined : concat all ≡ before ++ (here ++ others)
-    joined = ap concat (sym (take-append-drop number all) ∙ ap (λ l. take number all ++ l) (drop_more all number [] below)) ∙ concat-append (take number all) (here ∷ drop (number + 1) all)
+    joined : kept_text all ≡ before ++ (kept here ++ others)
+    joined = ap kept_text (sym (take-append-drop number all) ∙ ap (λ l. take number all ++ l) (drop_more all number [] below)) ∙ kept_text-append (take number all) (here ∷ drop (number + 1) all)
 
-    text : w.text.items ≡ before ++ (here ++ (others ++ behind))
-    text = kept.text ∙ ap (λ t. t ++ behind) (text_of-is es ∙ joined) ∙ append_assoc before (here ++ others) behind ∙ ap (λ t. before ++ t) (append_assoc here others behind)
+    text : w.text.items ≡ before ++ (kept here ++ (others ++ behind))
+    text = is.text ∙ ap (λ t. t ++ behind) (text_of-is es ∙ joined) ∙ append_assoc before (kept here ++ others) behind ∙ ap (λ t. before ++ t) (append_assoc (kept here) others behind)
 
 -- the same, of what contracts see of a journal
-pub line-of : (w : Written) (whole : ℕ) (t : Told) (value : Happenings) (number from : ℕ) → IsWritten w whole t → happenings t ≡ value → number < length (lines_of value.entries) → from ≡ length (concat (take number (lines_of value.entries))) → IsLineAt w (get_or (lines_of value.entries) number []) number from
+pub line-of : (w : Written) (whole : ℕ) (t : Told) (value : Happenings) (number from : ℕ) → IsWritten w whole t → happenings t ≡ value → number < length (lines_of value.entries) → from ≡ length (kept_text (take number (lines_of value.entries))) → IsLineAt w (get_or (lines_of value.entries) number []) number from
 line-of w whole t value number from is view below at = line-at w value.entries (begun_text t.begun) number from (are-kept w whole t value is view) below at

@@ -1,4 +1,5 @@
 pub mod Walks
+pub mod Packed
 pub mod Texts
 pub mod Journals
 pub mod Kept

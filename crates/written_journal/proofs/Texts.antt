@@ -1,8 +1,8 @@
 -- Entries in a text, and where they stand in it.
-use Rattle.std.proofs.Common.{◌≡◌, inl, inr, ℕ, ◌+◌, ◌-◌, ◌<◌, List, [], ◌∷◌, ◌++◌, length, map, take, drop, get_or, append_assoc, append-nil, ap, sym, ◌∙◌, refl, arith}
+use Rattle.std.proofs.Common.{◌≡◌, inl, inr, ℕ, ◌+◌, ◌-◌, ◌*◌, ◌<◌, ◌≤◌, Bool, cond, List, [], ◌∷◌, ◌++◌, length, map, take, drop, get_or, append_assoc, append-nil, ap, sym, ◌∙◌, refl, arith, length-append}
 use Rattle.std.specs.List.{concat, slice_range}
 use Rattle.std.proofs.lemmas.Bool.Decides.{leb_tells}
-use Rattle.std.proofs.lemmas.List.{drop_all, drop_more, map-append, take_more, take-append-drop}
+use Rattle.std.proofs.lemmas.List.{drop_all, drop_more, length-take-le, map-append, take_more, take-append-drop}
 use Rattle.std.proofs.lemmas.List.Concat.{flat_map-append, flat_map-cons}
 use Rattle.std.proofs.lemmas.List.Folds.{concat-append}
 use Rattle.std.proofs.Math.Seq.{drop-append_seam, take-append_seam}
@@ -10,6 +10,7 @@ use Rattle.charlotte_calls.specs.declared.calls.ServiceStep.{ServiceStep}
 use Rattle.journal_text.specs.Transcript.{line, step_text}
 use Rattle.kernel_world.specs.declared.entry.Entry.{Entry}
 use Rattle.written_journal.specs.Lines.{kept_lines, lines_of, step_lines, text_of}
+use Rattle.written_journal.specs.Packed.{kept, kept_text, line_note, packs}
 
 pub lines_of-nil : lines_of [] ≡ []
 unfolding lines_of
@@ -27,26 +28,29 @@ pub lines_of-append : (xs ys : List Entry) → lines_of (xs ++ ys) ≡ lines_of 
 unfolding lines_of
 lines_of-append xs ys = flat_map-append kept_lines xs ys
 
-pub text_of-is : (es : List Entry) → text_of es ≡ concat (lines_of es)
+pub text_of-is : (es : List Entry) → text_of es ≡ kept_text (lines_of es)
 unfolding text_of
 text_of-is es = refl
 
+pub kept_text-append : (xs ys : List (List ℕ)) → kept_text (xs ++ ys) ≡ kept_text xs ++ kept_text ys
+kept_text-append xs ys = ap concat (map-append kept xs ys) ∙ concat-append (map kept xs) (map kept ys)
+
 pub text_of-append : (xs ys : List Entry) → text_of (xs ++ ys) ≡ text_of xs ++ text_of ys
 unfolding text_of
-text_of-append xs ys = ap concat (lines_of-append xs ys) ∙ concat-append (lines_of xs) (lines_of ys)
+text_of-append xs ys = ap kept_text (lines_of-append xs ys) ∙ kept_text-append (lines_of xs) (lines_of ys)
 
-pub text_of-cons : (e : Entry) (es : List Entry) → text_of (e ∷ es) ≡ concat (kept_lines e) ++ text_of es
+pub text_of-cons : (e : Entry) (es : List Entry) → text_of (e ∷ es) ≡ kept_text (kept_lines e) ++ text_of es
 unfolding text_of
-text_of-cons e es = ap concat (lines_of-cons e es) ∙ concat-append (kept_lines e) (lines_of es)
+text_of-cons e es = ap kept_text (lines_of-cons e es) ∙ kept_text-append (kept_lines e) (lines_of es)
 
 -- one entry more
 pub lines_of-push : (es : List Entry) (e : Entry) → lines_of (es ++ e ∷ []) ≡ lines_of es ++ kept_lines e
 lines_of-push es e =
     lines_of-append es (e ∷ []) ∙ ap (λ ls. lines_of es ++ ls) (lines_of-cons e [] ∙ ap (λ ls. kept_lines e ++ ls) lines_of-nil ∙ append-nil (kept_lines e))
 
-pub text_of-push : (es : List Entry) (e : Entry) → text_of (es ++ e ∷ []) ≡ text_of es ++ concat (kept_lines e)
+pub text_of-push : (es : List Entry) (e : Entry) → text_of (es ++ e ∷ []) ≡ text_of es ++ kept_text (kept_lines e)
 text_of-push es e =
-    text_of-append es (e ∷ []) ∙ ap (λ t. text_of es ++ t) (text_of-cons e [] ∙ ap (λ t. concat (kept_lines e) ++ t) text_of-nil ∙ append-nil (concat (kept_lines e)))
+    text_of-append es (e ∷ []) ∙ ap (λ t. text_of es ++ t) (text_of-cons e [] ∙ ap (λ t. kept_text (kept_lines e) ++ t) text_of-nil ∙ append-nil (kept_text (kept_lines e)))
 
 -- entries around the one of a number
 pub record IsAt (es : List Entry) (n : ℕ) (e : Entry) (rest : List Entry) : Type 0 where
@@ -82,14 +86,36 @@ steps-more : (steps : List ServiceStep) (i : ℕ) (step : ServiceStep) → i < l
 steps-more steps i step below is =
     ap step_lines (take_more steps i step below ∙ ap (λ (x : ServiceStep). take i steps ++ x ∷ []) (sym is)) ∙ map-append (λ s. line (step_text s)) (take i steps) (step ∷ [])
 
-pub text-more : (old now new : List ℕ) (steps : List ServiceStep) (i : ℕ) (step : ServiceStep) → i < length steps → step ≡ get_or steps i step → now ≡ old ++ concat (step_lines (take i steps)) → new ≡ now ++ line (step_text step) → new ≡ old ++ concat (step_lines (take (i + 1) steps))
+pub text-more : (old now new : List ℕ) (steps : List ServiceStep) (i : ℕ) (step : ServiceStep) → i < length steps → step ≡ get_or steps i step → now ≡ old ++ kept_text (step_lines (take i steps)) → new ≡ now ++ kept (line (step_text step)) → new ≡ old ++ kept_text (step_lines (take (i + 1) steps))
 text-more old now new steps i step below is so_far more =
-    let joined : concat (step_lines (take (i + 1) steps)) ≡ concat (step_lines (take i steps)) ++ line (step_text step) =
-    ap concat (steps-more steps i step below is) ∙ concat-append (step_lines (take i steps)) (line (step_text step) ∷ []) ∙ ap (λ t. concat (step_lines (take i steps)) ++ t) (append-nil (line (step_text step))) in
-    more ∙ ap (λ t. t ++ line (step_text step)) so_far ∙ append_assoc old (concat (step_lines (take i steps))) (line (step_text step)) ∙ ap (λ t. old ++ t) (sym joined)
+    let before : List (List ℕ) = step_lines (take i steps) in
+    let joined : kept_text (step_lines (take (i + 1) steps)) ≡ kept_text before ++ kept (line (step_text step)) =
+    ap kept_text (steps-more steps i step below is) ∙ kept_text-append before (line (step_text step) ∷ []) ∙ ap (λ t. kept_text before ++ t) (append-nil (kept (line (step_text step)))) in
+    more ∙ ap (λ t. t ++ kept (line (step_text step))) so_far ∙ append_assoc old (kept_text before) (kept (line (step_text step))) ∙ ap (λ t. old ++ t) (sym joined)
 
-pub lengths-more : (old now new : List ℕ) (n : ℕ) (steps : List ServiceStep) (i : ℕ) (step : ServiceStep) → i < length steps → step ≡ get_or steps i step → now ≡ old ++ map length (step_lines (take i steps)) → new ≡ now ++ n ∷ [] → n ≡ length (line (step_text step)) → new ≡ old ++ map length (step_lines (take (i + 1) steps))
-lengths-more old now new n steps i step below is so_far more long =
-    let joined : map length (step_lines (take (i + 1) steps)) ≡ map length (step_lines (take i steps)) ++ length (line (step_text step)) ∷ [] =
-    ap (map length) (steps-more steps i step below is) ∙ map-append length (step_lines (take i steps)) (line (step_text step) ∷ []) in
-    more ∙ ap (λ ns. ns ++ n ∷ []) so_far ∙ ap (λ k. (old ++ map length (step_lines (take i steps))) ++ k ∷ []) long ∙ append_assoc old (map length (step_lines (take i steps))) (length (line (step_text step)) ∷ []) ∙ ap (λ ns. old ++ ns) (sym joined)
+pub notes-more : (old now new : List ℕ) (steps : List ServiceStep) (i : ℕ) (step : ServiceStep) → i < length steps → step ≡ get_or steps i step → now ≡ old ++ map line_note (step_lines (take i steps)) → new ≡ now ++ line_note (line (step_text step)) ∷ [] → new ≡ old ++ map line_note (step_lines (take (i + 1) steps))
+notes-more old now new steps i step below is so_far more =
+    let before : List (List ℕ) = step_lines (take i steps) in
+    let joined : map line_note (step_lines (take (i + 1) steps)) ≡ map line_note before ++ line_note (line (step_text step)) ∷ [] =
+    ap (map line_note) (steps-more steps i step below is) ∙ map-append line_note before (line (step_text step) ∷ []) in
+    more ∙ ap (λ ns. ns ++ line_note (line (step_text step)) ∷ []) so_far ∙ append_assoc old (map line_note before) (line_note (line (step_text step)) ∷ []) ∙ ap (λ ns. old ++ ns) (sym joined)
+
+-- what stands behind a place, and what stands before it
+pub record IsCut (all xs ys : List ℕ) (at : ℕ) : Type 0 where
+  pub before : take at all ≡ xs
+  pub behind : drop at all ≡ ys
+
+pub cut-at : (all xs ys : List ℕ) (at : ℕ) → all ≡ xs ++ ys → at ≡ length xs → IsCut all xs ys at
+cut-at all xs ys at is place =
+    record {
+      before = ap (take at) is ∙ ap (λ n. take n (xs ++ ys)) place ∙ take-append_seam xs ys;
+      behind = ap (drop at) is ∙ ap (λ n. drop n (xs ++ ys)) place ∙ drop-append_seam xs ys;
+    }
+
+-- what stands behind a place is put there, and how long that is
+pub long-at : (all text put : List ℕ) (from n : ℕ) → from ≤ length all → text ≡ take from all ++ put → n ≡ length text → n - from ≡ length put
+long-at all text put from n within is long = omega (arith, within, long, ap length is, length-append (take from all) put, length-take-le from all within)
+
+pub noted-line : (old now new text : List ℕ) (n : ℕ) (is_packed : Bool) → now ≡ old → n ≡ length (kept text) → is_packed ≡ packs text → new ≡ now ++ (2 * n + cond is_packed 1 0) ∷ [] → new ≡ old ++ line_note text ∷ []
+noted-line old now new text n is_packed same long is more =
+    more ∙ ap (λ ns. ns ++ (2 * n + cond is_packed 1 0) ∷ []) same ∙ ap (λ k. old ++ (2 * k + cond is_packed 1 0) ∷ []) long ∙ ap (λ p. old ++ (2 * length (kept text) + cond p 1 0) ∷ []) is

@@ -1,11 +1,11 @@
 -- Journals whose lines are given one after the other, and what is left of each.
 use Rattle.std.specs.Prelude.{◌≡◌, ◌≢◌, ℕ, ◌+◌, List, [], length, take, drop, slice_index_or}
-use Rattle.std.specs.List.{concat}
 use Rattle.kernel_world.specs.Run.{of_kernel}
 use Rattle.kernel_world.specs.declared.entry.Entry.{Entry}
 use Rattle.kernel_world.specs.declared.entry.Placed.{Placed}
 use Rattle.written_journal.specs.Kept.{Happenings}
 use Rattle.written_journal.specs.Lines.{lines_of}
+use Rattle.written_journal.specs.Packed.{kept_text}
 use Rattle.written_journal.specs.declared.reader.Place.{Place}
 
 -- what is left of a journal: lines of the entry whose first line is given, and the entries behind it
@@ -24,7 +24,7 @@ rest_behind es p = record { lines = take p.left (drop p.lines (lines_of es)); en
 -- a place between two lines
 pub record IsPlace (es : List Entry) (p : Place) : Type 0 where
   pub upto : p.lines + p.left ≡ length (lines_of (take p.events es))
-  pub long : p.bytes ≡ length (concat (take p.lines (lines_of es)))
+  pub long : p.bytes ≡ length (kept_text (take p.lines (lines_of es)))
 
 -- what is left of the journal of a kernel
 abbrev pub rest_at : List Rest → ℕ → Rest

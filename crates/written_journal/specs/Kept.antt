@@ -5,6 +5,7 @@ use Rattle.kernel_world.specs.Ranges.{IsEntryInRange, IsHappenedInRange}
 use Rattle.kernel_world.specs.declared.entry.Entry.{Entry}
 use Rattle.kernel_world.specs.declared.entry.Happened.{Happened}
 use Rattle.written_journal.specs.Lines.{happened_line, lines_of, text_of}
+use Rattle.written_journal.specs.Packed.{line_note}
 use Rattle.written_journal.specs.Told.{Told}
 use Rattle.written_journal.specs.declared.written.Event.{Event}
 use Rattle.written_journal.specs.declared.written.Written.{Written}
@@ -21,7 +22,7 @@ begun_text (Some what) = happened_line what
 -- entries are kept in a text, behind which something else may stand
 pub record AreKept (w : Written) (es : List Entry) (behind : List ℕ) : Type 0 where
   pub text : w.text.items ≡ text_of es ++ behind
-  pub lengths : w.lengths.items ≡ map length (lines_of es)
+  pub notes : w.notes.items ≡ map line_note (lines_of es)
   pub events_are : w.events.items ≡ map event_of es
 
 -- a journal has what was told: the text of its entries, which goes up to a place, and that of what is begun

@@ -1,5 +1,6 @@
 pub mod Told
 pub mod Noted
+pub mod Packed
 pub mod Lines
 pub mod Kept
 pub mod Merging

@@ -7,9 +7,12 @@ mod lines;
 mod merged;
 mod merging;
 mod order;
+mod pack;
+mod piece;
 mod reader;
 mod reading;
 mod transcript;
+mod unpack;
 mod written;
 
 pub use journal::WrittenJournal;

@@ -7,6 +7,7 @@ ghost use Rattle.written_journal.specs.Left.{GivesFirst};
 ghost use Rattle.written_journal.specs.Lines.{step_lines};
 
 use crate::WrittenJournal;
+use crate::reading::push_line;
 use charlotte_calls::NoMemory;
 use journal_text::push_head;
 use std::marker::Model;
@@ -18,7 +19,7 @@ pub(crate) struct Place {
     events: usize,
     /// The lines that are left of the last of them.
     left: u32,
-    /// The lines that are given, and how long they are in the text.
+    /// The lines that are given, and how long they are as they are kept.
     lines: usize,
     bytes: usize,
 }
@@ -67,12 +68,12 @@ impl Reader {
             return Ok(false);
         }
         let line = self.journal.line(self.place.lines, self.place.bytes);
-        out.extend_from_slice(line)?;
+        push_line(out, line.bytes, line.packed)?;
         self.place = Place {
             events: self.place.events,
             left: self.place.left - 1,
             lines: self.place.lines + 1,
-            bytes: self.place.bytes + line.len(),
+            bytes: self.place.bytes + line.bytes.len(),
         };
         Ok(true)
     }
@@ -88,12 +89,12 @@ impl Reader {
         let event = self.journal.event(self.place.events);
         let line = self.journal.line(self.place.lines, self.place.bytes);
         push_head(out, event.stamp, kernel)?;
-        out.extend_from_slice(line)?;
+        push_line(out, line.bytes, line.packed)?;
         self.place = Place {
             events: self.place.events + 1,
             left: event.lines - 1,
             lines: self.place.lines + 1,
-            bytes: self.place.bytes + line.len(),
+            bytes: self.place.bytes + line.bytes.len(),
         };
         Ok(())
     }

@@ -1,14 +1,23 @@
 //! What stands in a journal, by numbers and places.
-ghost use Rattle.std.specs.Prelude.{◌≡◌, ◌+◌, ◌^◌, ◌<◌, ◌∷◌, [], IfSome, List, drop, length, slice_index_or, take};
-ghost use Rattle.std.specs.List.{concat};
+ghost use Rattle.std.specs.Prelude.{◌≡◌, ◌+◌, ◌^◌, ◌<◌, ◌∷◌, ◌++◌, [], IfSome, List, OnOk, drop, length, slice_index_or, take};
 ghost use Rattle.journal_text.specs.Heads.{first_stamp};
 ghost use Rattle.journal_text.specs.Journal.{AreRising};
 ghost use Rattle.kernel_world.specs.declared.entry.Entry.{Entry};
 ghost use Rattle.written_journal.specs.Kept.{event_of};
 ghost use Rattle.written_journal.specs.Lines.{lines_of};
+ghost use Rattle.written_journal.specs.Packed.{given, kept, kept_text};
 
 use crate::WrittenJournal;
+use crate::unpack::push_unpacked;
 use crate::written::Event;
+use charlotte_calls::NoMemory;
+
+/// A line as it is kept.
+#[derive(Clone, Copy)]
+pub(crate) struct KeptLine<'a> {
+    pub(crate) bytes: &'a [u8],
+    pub(crate) packed: bool,
+}
 
 impl WrittenJournal {
     /// The stamp of the event of a number, if there is one.
@@ -31,14 +40,32 @@ impl WrittenJournal {
     }
 
     /// A line as it is kept, which begins at this place of the text.
-    pub(crate) fn line(&self, number: usize, from: usize) -> &[u8]
+    #[inline(always)]
+    pub(crate) fn line(&self, number: usize, from: usize) -> KeptLine<'_>
         requires within { number < length (lines_of self.now.entries) }
-        requires from { from ≡ length (concat (take number (lines_of self.now.entries))) }
-        ensures line { result.now ≡ slice_index_or (lines_of self.now.entries) number [] }
+        requires from { from ≡ length (kept_text (take number (lines_of self.now.entries))) }
+        ensures text { given result.packed result.bytes.now ≡ slice_index_or (lines_of self.now.entries) number [] }
+        ensures long { length result.bytes.now ≡ length (kept (slice_index_or (lines_of self.now.entries) number [])) }
         ensures number { number + 1 < 2 ^ 64 }
-        ensures bytes { from + length result.now < 2 ^ 64 }
+        ensures bytes { from + length result.bytes.now < 2 ^ 64 }
     {
-        let length = usize::from(self.written.lengths[number]);
-        &self.written.text[from..from + length]
+        let note = self.written.notes[number];
+        let length = usize::from(note / 2);
+        KeptLine {
+            bytes: &self.written.text[from..from + length],
+            packed: note % 2 == 1,
+        }
     }
+}
+
+/// Appends the text of a line that is kept so.
+#[inline(always)]
+pub(crate) fn push_line(out: &mut Vec<u8>, kept: &[u8], packed: bool) -> Result<(), NoMemory>
+    ensures { OnOk result (out.new.items ≡ out.old.items ++ given packed kept.now) }
+{
+    if packed {
+        return push_unpacked(out, kept);
+    }
+    out.extend_from_slice(kept)?;
+    Ok(())
 }
