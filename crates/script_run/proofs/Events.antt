@@ -7,7 +7,6 @@ use Rattle.charlotte_calls.specs.declared.names.EndId.{EndId}
 use Rattle.charlotte_calls.specs.declared.names.Pid.{Pid}
 use Rattle.charlotte_calls.specs.declared.picture.Picture.{Picture}
 use Rattle.charlotte_calls.specs.declared.work.Effect.{Effect}
-use Rattle.end_table.specs.Table.{entries}
 use Rattle.kernel_core.specs.State.{KernelView, state_of, ended}
 use Rattle.journal_text.specs.TranscriptText.{HasFewCall, HasFewPacket}
 use Rattle.kernel_step.specs.Kernel.{Kernel, Outcome, call_step, take_step, next_stamp, process_of, without_answer}
@@ -42,11 +41,6 @@ effect_of k effect o e at =
       packets = ap (λ (x : Outcome). x.packets) e;
       steps = ap (λ (x : Outcome). x.steps) e;
     }
-
--- the table stays where an answer is taken away
-pub table-without_answer : (a b : KernelView) (p : Pid) → state_of a ≡ without_answer p (state_of b) → entries a.table ≡ entries b.table
-unfolding state_of
-table-without_answer a b p e = ap (λ (s : Kernel). s.table) e
 
 -- the answer alone is taken away
 pub process-without_answer : (p : Pid) (s : Kernel) → process_of p (without_answer p s) ≡ record (process_of p s) { answer = None }

@@ -70,8 +70,7 @@ impl Node {
         let call = asked.call();
         let request = Request { p, call };
         self.journal.asked(p, &request.call)?;
-        self.kernel.forget_answer(p);
-        let effect = self.kernel.ask(&request)?;
+        let effect = self.kernel.ask_again(&request)?;
         self.note(effect)
     }
 
