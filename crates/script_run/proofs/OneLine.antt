@@ -9,7 +9,6 @@ use Rattle.charlotte_calls.specs.declared.names.Pid.{Pid}
 use Rattle.charlotte_calls.specs.declared.packet.Packet.{Packet}
 use Rattle.charlotte_calls.specs.declared.picture.Picture.{Picture}
 use Rattle.charlotte_calls.specs.declared.setting.Setting.{Setting}
-use Rattle.charlotte_calls.specs.Packets.{packet_picture}
 use Rattle.charlotte_calls.specs.Ranges.{IsCallInRange}
 use Rattle.charlotte_text.specs.Spelling.{IsCall, most_ends}
 use Rattle.end_table.specs.Table.{entries}
@@ -24,7 +23,7 @@ use Rattle.kernel_world.specs.Run.{IsCallOf}
 use Rattle.kernel_world.specs.World.{World, Calls, Takes, takes_first, nothing_sent, first_or, rest, removes}
 use Rattle.kernel_world.specs.declared.entry.Happened.TheVariants.{Asked, Took}
 use Rattle.lynx_plan.specs.declared.script.ScriptCall.TheVariants.{Ask, Take}
-use Rattle.script_run.specs.Nodes.{sent_to, IsNodeOf, IsAfter, IsPopped, IsUnpopped, IsTakenFirst, IsLineDone, world_of, AreReady, Goes}
+use Rattle.script_run.specs.Nodes.{picture_in, sent_to, IsNodeOf, IsAfter, IsPopped, IsUnpopped, IsTakenFirst, IsLineDone, world_of, AreReady, Goes}
 use Rattle.script_run.specs.Performing.{Asks, TakesFirst, waits_note, nothing_note}
 use Rattle.world_record.specs.Told.{IsTold, IsToldPacket}
 use Rattle.script_run.specs.declared.node.Node.{Node}
@@ -140,7 +139,7 @@ ask-runs s ns k node new line p c mine there fits at_home below at runs all with
 -- ---- a taking
 
 -- ms are the nodes once the packet is gone
-pub take-goes : (s : Setting) (ns : List Node) (from to : ℕ) (node popped mid new : Node) (packet : Packet) → from < length ns → to < length ns → node ≡ get_or ns from node → IsPopped to packet node popped → popped.kernel ≡ node.kernel → popped.journal ≡ node.journal → length popped.sent.items ≡ length node.sent.items → All (IsNodeOf s) ns → mid ≡ get_or (set ns from popped) to mid → IsAfter (Took from (packet_picture packet)) (take_step (state_of mid.kernel) from (packet_picture packet)) mid new → IsTakenFirst s from to true ns (set (set ns from popped) to new)
+pub take-goes : (s : Setting) (ns : List Node) (from to : ℕ) (node popped mid new : Node) (packet : ℕ × Packet) → from < length ns → to < length ns → node ≡ get_or ns from node → IsPopped to packet node popped → popped.kernel ≡ node.kernel → popped.journal ≡ node.journal → length popped.sent.items ≡ length node.sent.items → All (IsNodeOf s) ns → mid ≡ get_or (set ns from popped) to mid → IsAfter (Took from (picture_in packet)) (take_step (state_of mid.kernel) from (picture_in packet)) mid new → IsTakenFirst s from to true ns (set (set ns from popped) to new)
 take-goes s ns from to node popped mid new packet below below_to at pop kernel journal lists all at_mid event = (
   some,
   event_goes s ns ms mid new (Takes to from) (subst (λ m. to < m) (sym is.count) below_to) at_mid
@@ -156,11 +155,11 @@ take-goes s ns from to node popped mid new packet below below_to at pop kernel j
     is : IsWithSent s ns ms (λ f t. cond (nat_eq f from) (sent_to popped t) (w.packets f t))
     is = with_sent s ns from node popped below at all kernel journal lists
 
-    held : w.packets from to ≡ packet_picture packet ∷ sent_to popped to
+    held : w.packets from to ≡ picture_in packet ∷ sent_to popped to
     held = packets_at s ns from node below at to ∙ pop.first
 
     some : w.packets from to ≢ []
-    some e = let no : [] ≡ packet_picture packet ∷ sent_to popped to = sym e ∙ held in cc
+    some e = let no : [] ≡ picture_in packet ∷ sent_to popped to = sym e ∙ held in cc
 
     inner : (t : ℕ) → sent_to popped t ≡ cond (nat_eq t to) (rest (w.packets from t)) (w.packets from t)
     inner t = elim (eqb_tells t to) as (λ _. sent_to popped t ≡ cond (nat_eq t to) (rest (w.packets from t)) (w.packets from t)) [
@@ -180,7 +179,7 @@ take-goes s ns from to node popped mid new packet below below_to at pop kernel j
 
     event_there : IsAfter (Took from (first_or nothing_sent (w.packets from to))) (takes_first (w.kernel to) from (w.packets from to)) mid new
     event_there = subst (λ (qs : List Picture). IsAfter (Took from (first_or nothing_sent qs)) (takes_first (w.kernel to) from qs) mid new) (sym held)
-        (subst (λ (x : Kernel). IsAfter (Took from (packet_picture packet)) (take_step x from (packet_picture packet)) mid new) same event)
+        (subst (λ (x : Kernel). IsAfter (Took from (picture_in packet)) (take_step x from (picture_in packet)) mid new) same event)
 
 take-line : (line from to : ℕ) (qs : List Picture) → qs ≢ [] → TakesFirst line from to qs (Takes to from ∷ []) []
 take-line line from to [] ne = absurd (ne refl)
@@ -198,7 +197,7 @@ pub line-took_none : (s : Setting) (line from to : ℕ) (ns ms : List Node) → 
 line-took_none s line from to ns ms t = record { events = []; does = take-none line from to ((world_of s ns).packets from to) t.0; goes = t.1; few = omega arith }
 
 -- the same, where the nodes are found by equal numbers
-pub take-goes_at : (s : Setting) (ns : List Node) (from to i j : ℕ) (node popped mid new : Node) (packet : Packet) → from ≡ i → to ≡ j → i < length ns → j < length ns → node ≡ get_or ns i node → IsPopped to packet node popped → popped.kernel ≡ node.kernel → popped.journal ≡ node.journal → length popped.sent.items ≡ length node.sent.items → All (IsNodeOf s) ns → mid ≡ get_or (set ns i popped) j mid → IsAfter (Took from (packet_picture packet)) (take_step (state_of mid.kernel) from (packet_picture packet)) mid new → IsTakenFirst s from to true ns (set (set ns i popped) j new)
+pub take-goes_at : (s : Setting) (ns : List Node) (from to i j : ℕ) (node popped mid new : Node) (packet : ℕ × Packet) → from ≡ i → to ≡ j → i < length ns → j < length ns → node ≡ get_or ns i node → IsPopped to packet node popped → popped.kernel ≡ node.kernel → popped.journal ≡ node.journal → length popped.sent.items ≡ length node.sent.items → All (IsNodeOf s) ns → mid ≡ get_or (set ns i popped) j mid → IsAfter (Took from (picture_in packet)) (take_step (state_of mid.kernel) from (picture_in packet)) mid new → IsTakenFirst s from to true ns (set (set ns i popped) j new)
 take-goes_at s ns from to i j node popped mid new packet is_i is_j below below_to at pop kernel journal lists all at_mid event =
     subst (λ m. IsTakenFirst s from to true ns (set (set ns m popped) j new)) is_i
     (subst (λ m. IsTakenFirst s from to true ns (set (set ns from popped) m new)) is_j

@@ -5,10 +5,8 @@ use Rattle.std.proofs.lemmas.List.{map-append, length-map}
 use Rattle.std.proofs.lemmas.List.Elements.{All-push, All-head, All-tail, All-cons, All-nil}
 use Rattle.charlotte_calls.specs.declared.calls.Call.{Call}
 use Rattle.charlotte_calls.specs.declared.names.Pid.{Pid}
-use Rattle.charlotte_calls.specs.declared.packet.Packet.{Packet}
 use Rattle.charlotte_calls.specs.declared.picture.Picture.{Picture}
 use Rattle.charlotte_calls.specs.declared.setting.Setting.{Setting}
-use Rattle.charlotte_calls.specs.Packets.{packet_picture}
 use Rattle.charlotte_calls.specs.Setting.{IsValid}
 use Rattle.kernel_core.specs.State.{state_of}
 use Rattle.journal_text.specs.TranscriptText.{AreOfTranscript, AreRisingNotes, HasNotesOf, IsLastInRange, IsNoteInRange}
@@ -32,7 +30,7 @@ use Rattle.script_run.specs.declared.node.Node.{Node}
 use Rattle.script_run.proofs.Nodes.{state_at, entries_of, Goes-then}
 use Rattle.script_run.proofs.Runs.{Performs-more}
 use Rattle.world_record.proofs.Laws.{merge-record, record-shown}
-use Rattle.script_run.proofs.Sent.{Lists, sent_in, IsEmptyList, nothing_sent}
+use Rattle.script_run.proofs.Sent.{Lists, sent_in, IsEmptyList, no-pictures, nothing_sent}
 
 -- ---- the start
 
@@ -171,10 +169,6 @@ pub all-taken : (s : Setting) (ns : List Node) → All IsQuietNode ns → AllTak
 all-taken s [] all from to = refl
 all-taken s (n ∷ ns) all zero to = nothing_sent n.sent.items (All-head IsQuietNode n ns all) to
 all-taken s (n ∷ ns) all (suc from) to = all-taken s ns (All-tail IsQuietNode n ns all) from to
-
-no-pictures : (xs : List Packet) → map packet_picture xs ≡ [] → xs ≡ []
-no-pictures [] e = refl
-no-pictures (x ∷ xs) e = let no : packet_picture x ∷ map packet_picture xs ≡ [] = e in cc
 
 empty-lists : (lists : Lists) → ((to : ℕ) → sent_in lists to ≡ []) → All IsEmptyList lists
 empty-lists [] none = All-nil IsEmptyList

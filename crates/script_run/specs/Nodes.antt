@@ -21,9 +21,13 @@ use Rattle.script_run.specs.Performing.{Does, Performs, most_settled, pairs}
 use Rattle.world_record.specs.Told.{IsToldWorld}
 use Rattle.script_run.specs.declared.node.Node.{Node}
 
+-- a packet that an event gave, as plain data
+abbrev pub picture_in : ℕ × Packet → Picture
+picture_in sent = packet_picture sent.1
+
 -- the packets that a node sent to a kernel and that were not taken, oldest first
 abbrev pub sent_to : Node → ℕ → List Picture
-sent_to node to = slice_index_or (map (λ list. map packet_picture list.items) node.sent.items) to []
+sent_to node to = slice_index_or (map (λ list. map picture_in list.items) node.sent.items) to []
 
 abbrev pub IsStamped : Node → Type 0
 IsStamped node = All (λ e. e.stamp ≤ node.kernel.stamp) node.journal.entries
@@ -109,8 +113,8 @@ abbrev pub first_pair : ℕ → World → Option (ℕ × ℕ)
 first_pair kernels w = find (λ pair. not (nat_eq (length (w.packets pair.0 pair.1)) 0)) (pairs kernels)
 
 -- a packet was the oldest from a node to a kernel, and is not there any more
-pub record IsPopped (to : ℕ) (packet : Packet) (old new : Node) : Type 0 where
-  pub first : sent_to old to ≡ packet_picture packet ∷ sent_to new to
+pub record IsPopped (to : ℕ) (packet : ℕ × Packet) (old new : Node) : Type 0 where
+  pub first : sent_to old to ≡ picture_in packet ∷ sent_to new to
   pub others : (q : ℕ) → q ≢ to → sent_to new q ≡ sent_to old q
 
 -- there was none

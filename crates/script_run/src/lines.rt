@@ -88,7 +88,7 @@ fn take_first(nodes: &mut [Node], from: u8, to: u8) -> Result<bool, NoMemory>
     let Some(mut packet) = nodes[usize::from(from)].pop(to) else {
         return Ok(false);
     };
-    nodes[usize::from(to)].take(from, &mut packet)?;
+    nodes[usize::from(to)].take(from, &mut packet.1)?;
     Ok(true)
 }
 

@@ -1,8 +1,9 @@
-ghost use Rattle.std.specs.Prelude.{◌≡◌, ◌↔◌, ◌^◌, ◌<◌, ◌-◌, max, ℕ, nat_eq, not, ◌++◌, ◌∷◌, [], All, IfOk, IsTrue, OnOk, List, MatchOption, Some, length, map};
+ghost use Rattle.std.specs.Prelude.{◌≡◌, ◌↔◌, ◌^◌, ◌<◌, ◌-◌, max, ℕ, nat_eq, not, ◌++◌, ◌∷◌, [], All, IfOk, IfSome, IsTrue, OnOk, List, MatchOption, Some, length, map};
 ghost use Rattle.charlotte_calls.specs.Packets.{packet_picture, what_picture};
 ghost use Rattle.charlotte_calls.specs.Ranges.{IsCallInRange};
 ghost use Rattle.charlotte_calls.specs.Setting.{IsValid};
 ghost use Rattle.charlotte_calls.specs.declared.names.EndId.{EndId};
+ghost use Rattle.charlotte_calls.specs.declared.packet.Packet.{Packet as APacket};
 ghost use Rattle.end_table.specs.Table.{entries};
 ghost use Rattle.kernel_core.specs.State.{state_of};
 ghost use Rattle.journal_text.specs.Journal.{IsAfterLast};
@@ -23,6 +24,7 @@ use compact_calls::CompactCall;
 use kernel_core::{Kernel, Request};
 use std::alloc::Global;
 use std::collections::VecDeque;
+use std::mem;
 use written_journal::WrittenJournal;
 
 /// A kernel, what happened at it, and what it sent.
@@ -30,8 +32,8 @@ use written_journal::WrittenJournal;
 pub(crate) struct Node {
     pub(crate) kernel: Kernel,
     pub(crate) journal: WrittenJournal,
-    /// The packets that were not taken yet, oldest first: a list for each number that a kernel may have.
-    pub(crate) sent: Vec<VecDeque<Packet>>,
+    /// The packets that were not taken yet, oldest first, as its events gave them: a list for each number that a kernel may have.
+    pub(crate) sent: Vec<VecDeque<(u8, Packet)>>,
 }
 
 /// How many numbers a packet may be addressed to.
@@ -122,6 +124,47 @@ impl Node {
         ensures sent { OnOk result ((to : ℕ) → sent_to self.new to ≡ sent_to self.old to ++ to_kernel to (map sent_picture packets.items)) }
         ensures lists { length self.new.sent.items ≡ length self.old.sent.items }
     {
+        if packets.is_empty() {
+            return Ok(packets);
+        }
+        self.send_some(packets)
+    }
+
+    /// Sends packets, and gives an emptied list back. One packet that goes where none waits is not moved: its list changes places with the empty one.
+    fn send_some(&mut self, packets: Vec<(u8, Packet)>) -> Result<Vec<(u8, Packet)>, NoMemory>
+        requires { length self.old.sent.items ≡ 256 }
+        ensures kernel { self.new.kernel ≡ self.old.kernel }
+        ensures journal { self.new.journal ≡ self.old.journal }
+        ensures sent { OnOk result ((to : ℕ) → sent_to self.new to ≡ sent_to self.old to ++ to_kernel to (map sent_picture packets.items)) }
+        ensures lists { length self.new.sent.items ≡ length self.old.sent.items }
+    {
+        match only_to(packets.as_slice()) {
+            Some(to) if self.sent[usize::from(to)].is_empty() => Ok(self.send_only(to, packets)),
+            _ => self.send_many(packets),
+        }
+    }
+
+    /// The only packet is sent where none waits, in its list.
+    fn send_only(&mut self, to: u8, packets: Vec<(u8, Packet)>) -> Vec<(u8, Packet)>
+        requires lists { length self.old.sent.items ≡ 256 }
+        requires only { (packet : APacket) × (packets.items ≡ (to, packet) ∷ []) }
+        requires none { sent_to self.old to ≡ [] }
+        ensures kernel { self.new.kernel ≡ self.old.kernel }
+        ensures journal { self.new.journal ≡ self.old.journal }
+        ensures sent { (q : ℕ) → sent_to self.new q ≡ sent_to self.old q ++ to_kernel q (map sent_picture packets.items) }
+        ensures lists { length self.new.sent.items ≡ length self.old.sent.items }
+    {
+        let list = &mut self.sent[usize::from(to)];
+        Vec::from(mem::replace(list, VecDeque::from(packets)))
+    }
+
+    fn send_many(&mut self, packets: Vec<(u8, Packet)>) -> Result<Vec<(u8, Packet)>, NoMemory>
+        requires { length self.old.sent.items ≡ 256 }
+        ensures kernel { self.new.kernel ≡ self.old.kernel }
+        ensures journal { self.new.journal ≡ self.old.journal }
+        ensures sent { OnOk result ((to : ℕ) → sent_to self.new to ≡ sent_to self.old to ++ to_kernel to (map sent_picture packets.items)) }
+        ensures lists { length self.new.sent.items ≡ length self.old.sent.items }
+    {
         let sent = self.send_each(VecDeque::from(packets))?;
         Ok(Vec::from(sent))
     }
@@ -136,14 +179,19 @@ impl Node {
         ensures sent { OnOk result ((to : ℕ) → sent_to self.new to ≡ sent_to self.old to ++ to_kernel to (map sent_picture packets.items)) }
         ensures lists { length self.new.sent.items ≡ length self.old.sent.items }
     {
-        while let Some((to, packet)) = packets.pop_front() {
-            self.sent[usize::from(to)].push_back(packet)?;
+        while let Some((to, _)) = packets.front() {
+            let list = &mut self.sent[usize::from(*to)];
+            list.reserve(1)?;
+            let Some(packet) = packets.pop_front() else {
+                unreachable!()
+            };
+            list.push_back_reserved(packet);
         }
         Ok(packets)
     }
 
     /// The oldest packet to a kernel that was not taken yet.
-    pub(crate) fn pop(&mut self, to: u8) -> Option<Packet>
+    pub(crate) fn pop(&mut self, to: u8) -> Option<(u8, Packet)>
         requires { length self.old.sent.items ≡ 256 }
         ensures packet { MatchOption result (IsUnpopped to self.old self.new) (λ packet. IsPopped to packet self.old self.new) }
         ensures kernel { self.new.kernel ≡ self.old.kernel }
@@ -169,7 +217,17 @@ impl Node {
     }
 }
 
-fn empty_lists(alloc: Global) -> Result<Vec<VecDeque<Packet>>, NoMemory>
+/// The kernel to which the packet goes, where there is one packet.
+fn only_to(packets: &[(u8, Packet)]) -> Option<u8>
+    ensures { IfSome result (λ to. (packet : APacket) × (packets.now ≡ (to, packet) ∷ [])) }
+{
+    match packets {
+        [(to, _)] => Some(*to),
+        _ => None,
+    }
+}
+
+fn empty_lists(alloc: Global) -> Result<Vec<VecDeque<(u8, Packet)>>, NoMemory>
     ensures { IfOk result (λ lists. (length lists.items ≡ 256) × All (λ list. list.items ≡ []) lists.items) }
 {
     let mut lists = Vec::with_capacity(alloc, NUMBERS)?;

@@ -1,8 +1,7 @@
 use Rattle.std.proofs.Common.{◌≡◌, ◌<◌, ◌≤◌, List, length, get_or, set, ap, sym, subst, ◌∙◌, arith, rules}
-use Rattle.charlotte_calls.specs.Packets.{packet_picture}
 use Rattle.charlotte_calls.specs.declared.setting.Setting.{Setting}
 use Rattle.kernel_step.specs.Kernel.{Kernel}
-use Rattle.script_run.specs.Nodes.{world_of, sent_to}
+use Rattle.script_run.specs.Nodes.{picture_in, sent_to, world_of}
 use Rattle.world_record.specs.Told.{IsTold}
 use Rattle.script_run.specs.declared.node.Node.{Node}
 use Rattle.script_run.proofs.OneLine.{take-goes_at, take-nothing, mid-same, first-told, state_of-stamp}
@@ -31,8 +30,8 @@ take-requires-clause-time c =
     let below_to : c.from-2.result < length ns = search rules in
     let popped = c.in-Some.ensures in
     let same = mid-same s ns c.from.result node c.pop.new.self below at ready.nodes popped.kernel popped.journal popped.lists c.from-2.result mid below_to at_mid in
-    let first = first-told s c.requires.1 ns c.from.result c.args.to node (packet_picture c.in-Some.packet) (sent_to c.pop.new.self c.args.to) ready below at popped.packet.first in
-    let packet : c.in-Some.packet.stamp ≤ c.requires.1 = first.stamp in
+    let first = first-told s c.requires.1 ns c.from.result c.args.to node (picture_in c.in-Some.packet) (sent_to c.pop.new.self c.args.to) ready below at popped.packet.first in
+    let packet : c.in-Some.packet.1.stamp ≤ c.requires.1 = first.stamp in
     let stamp : mid.kernel.stamp ≡ ((world_of s ns).kernel c.from-2.result).stamp = sym (state_of-stamp mid.kernel) ∙ ap (λ (x : Kernel). x.stamp) same in
     let le : ((world_of s ns).kernel c.from-2.result).stamp ≤ c.requires.1 = ready.told.stamps c.from-2.result in
     let early = c.requires.2 in
@@ -52,7 +51,7 @@ take-requires-clause-told c =
     let below_to : c.from-2.result < length ns = search rules in
     let popped = c.in-Some.ensures in
     let same = mid-same s ns c.from.result node c.pop.new.self below at ready.nodes popped.kernel popped.journal popped.lists c.from-2.result mid below_to at_mid in
-    let first = first-told s c.requires.1 ns c.from.result c.args.to node (packet_picture c.in-Some.packet) (sent_to c.pop.new.self c.args.to) ready below at popped.packet.first in
+    let first = first-told s c.requires.1 ns c.from.result c.args.to node (picture_in c.in-Some.packet) (sent_to c.pop.new.self c.args.to) ready below at popped.packet.first in
     (s.version, subst (IsTold s.version) (sym same) (ready.told.kernels c.from-2.result), first.few)
 
 pub returns : goal.returns

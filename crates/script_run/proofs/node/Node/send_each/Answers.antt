@@ -1,5 +1,5 @@
-use Rattle.std.proofs.Common.{◌<◌, length, length-set, ◌∙◌, rules}
-use Rattle.script_run.proofs.Sent.{sent_in-next}
+use Rattle.std.proofs.Common.{◌<◌, ◌++◌, ◌∷◌, [], length, length-set, ap, ◌∙◌, rules}
+use Rattle.script_run.proofs.Sent.{first-same, sent_in-next}
 use Rattle.script_run.proofs.node.Node.send_each.Goals as goal
 
 pub loop-to-preserved : goal.loop-to-preserved
@@ -9,9 +9,10 @@ loop-to-preserved c =
     record {
       kernel = c.loop-to.invariant.kernel;
       journal = c.loop-to.invariant.journal;
-      lists = length-set now.sent.items c.from.result c.push_back.new.self ∙ c.loop-to.invariant.lists;
+      lists = length-set now.sent.items c.from.result c.push_back_reserved.new.self ∙ c.loop-to.invariant.lists;
       sent = λ to.
-          sent_in-next now.sent.items c.from.result c.index_mut.result.now c.push_back.new.self c.in-Some.packet c.in-Some.to c.loop-to.packets.items c.pop_front.new.self.items
-          c.from.ensures below c.index_mut.ensures.value c.in_ok-push_back.ensures.items c.in-Some.ensures.items to
+          sent_in-next now.sent.items c.from.result c.index_mut-list.result.now c.push_back_reserved.new.self c.in-Some-pop_front.packet c.loop-to.packets.items c.pop_front.new.self.items
+          (c.from.ensures ∙ ap (λ p. p.0) (first-same _ _ _ _ c.in-Some.ensures.lookup c.in-Some-pop_front.ensures.items)) below c.index_mut-list.ensures.value
+          (c.push_back_reserved.ensures.items ∙ ap (λ ps. ps ++ c.in-Some-pop_front.packet ∷ []) c.reserve.ensures.items) c.in-Some-pop_front.ensures.items to
           ∙ c.loop-to.invariant.sent to;
     }
