@@ -104,6 +104,7 @@ impl Kernel {
     }
 
     /// The same of a process whose standing answer, if there is one, is let go. It moves nothing, which `forget_answer` does.
+    #[inline(always)]
     pub fn ask_again(&mut self, request: &Request) -> Result<Effect, NoMemory>
         requires process { request.now.p.0 < length self.old.processes }
         ensures step { IfOk result (λ effect. (mine : List EndId) × IsCallWith request.now.p (entries self.old.table) mine request.now.call
@@ -118,6 +119,7 @@ impl Kernel {
     }
 
     /// The standing answer of a process is let go where its call brought none.
+    #[inline(always)]
     fn let_go(&mut self, p: Pid, called: &Result<Effect, NoMemory>)
         requires { p.0 < length self.old.processes }
         ensures state { IfOk called.now (λ effect. state_of self.new ≡ unanswered p effect.answered.items (state_of self.old)) }
@@ -136,6 +138,7 @@ impl Kernel {
     }
 
     /// The step of a call.
+    #[inline(always)]
     fn step(&mut self, request: &Request) -> Result<Effect, NoMemory>
         requires process { request.now.p.0 < length self.old.processes }
         ensures step { IfOk result (λ effect. (mine : List EndId) × IsCallWith request.now.p (entries self.old.table) mine request.now.call

@@ -70,6 +70,7 @@ fn take(state: &mut State, from: u8, what: &mut What, to: Found, effect: &mut Ef
 }
 
 /// How the event of a packet finds the end that the packet is addressed to. Where the packet is silent it is not looked up.
+#[inline(always)]
 fn find(table: &Table, what: &What) -> Found
     ensures { IsFound (entries table.now) what.now result }
 {
@@ -110,6 +111,7 @@ fn is_silent(what: &What) -> bool
 
 /// The sets of active ends tell again of the end that heard a packet, with the process that owned it; of no other end has an event of
 /// a packet changed the activities.
+#[inline(always)]
 fn refresh_if_heard(
     table: &Table,
     processes: &mut Processes,
@@ -188,6 +190,7 @@ fn pass(state: &mut State, what: &What, effect: &mut Effect)
 }
 
 /// Reserves all that the event of a packet needs, so that nothing after it can fail.
+#[inline(always)]
 fn reserve_taking(state: &mut State, what: &What, heard: bool, stamp: u64) -> Result<(), NoMemory>
     requires heard { IsHeard (entries state.old.table) (what_picture what.now) → heard ≡ true }
     ensures ready { OnOk result (IsReadyToTake state.new what.now state.new.event) }
