@@ -35,6 +35,12 @@ one-same to t q e = rw e refl
 one-other : (to t : ℕ) (q : Picture) → nat_eq to t ≡ false → to_kernel to ((t, q) ∷ []) ≡ []
 one-other to t q e = rw e refl
 
+same-number : (to t : ℕ) → t ≡ to → nat_eq to t ≡ true
+same-number to t is = elim (eqb_tells to t) [ inl e ↦ e.0 | inr e ↦ absurd (e.1 (sym is)) ]
+
+other-number : (to t : ℕ) → to ≢ t → nat_eq to t ≡ false
+other-number to t other = elim (eqb_tells to t) [ inl e ↦ absurd (other e.1) | inr e ↦ e.0 ]
+
 -- packets that are no pictures are none
 pub no-pictures : (xs : List (ℕ × Packet)) → map picture_in xs ≡ [] → xs ≡ []
 no-pictures [] e = refl
@@ -63,15 +69,34 @@ sent_in-next lists t before after sent left rest at below is items first to =
     ∙ sym (to_kernel-append to (sent_picture sent ∷ []) (map sent_picture rest))
     ∙ ap (λ ls. to_kernel to (map sent_picture ls)) (sym first))
 
--- where no packet waits the list of one is as good as its packet
-pub sent_in-only : (lists : Lists) (t n : ℕ) (before after : VecDeque (ℕ × Packet) Global) (packet : Packet) (sent : List (ℕ × Packet)) → t ≡ n → t < length lists → before ≡ get_or lists t before → sent_in lists n ≡ [] → sent ≡ (n, packet) ∷ [] → after.items ≡ sent → (to : ℕ) → sent_in (set lists t after) to ≡ sent_in lists to ++ to_kernel to (map sent_picture sent)
-sent_in-only lists t n before after packet sent at below is none only items to =
-    sent_in-push lists t before after (n, packet) below is (items ∙ only ∙ ap (λ l. l ++ (n, packet) ∷ []) (sym nothing)) to
-    ∙ ap (λ m. sent_in lists to ++ to_kernel to ((m, packet_picture packet) ∷ [])) at
-    ∙ ap (λ l. sent_in lists to ++ to_kernel to (map sent_picture l)) (sym only)
+-- packets that all go to a kernel
+abbrev pub AllGoTo : ℕ → List (ℕ × Packet) → Type 0
+AllGoTo n sent = All (λ p. p.0 ≡ n) sent
+
+-- there they are all that goes to it
+to_kernel-all : (n : ℕ) (sent : List (ℕ × Packet)) → AllGoTo n sent → to_kernel n (map sent_picture sent) ≡ map picture_in sent
+to_kernel-all n [] all = refl
+to_kernel-all n (p ∷ ps) all =
+    to_kernel-append n (sent_picture p ∷ []) (map sent_picture ps)
+    ∙ ap (λ qs. qs ++ to_kernel n (map sent_picture ps)) (one-same n p.0 (picture_in p) (same-number n p.0 (All-head (λ x. x.0 ≡ n) p ps all)))
+    ∙ ap (λ qs. picture_in p ∷ qs) (to_kernel-all n ps (All-tail (λ x. x.0 ≡ n) p ps all))
+
+-- and nothing goes to another
+to_kernel-none : (to n : ℕ) (sent : List (ℕ × Packet)) → to ≢ n → AllGoTo n sent → to_kernel to (map sent_picture sent) ≡ []
+to_kernel-none to n [] other all = refl
+to_kernel-none to n (p ∷ ps) other all =
+    to_kernel-append to (sent_picture p ∷ []) (map sent_picture ps)
+    ∙ ap (λ qs. qs ++ to_kernel to (map sent_picture ps)) (one-other to p.0 (picture_in p) (other-number to p.0 (λ e. other (e ∙ All-head (λ x. x.0 ≡ n) p ps all))))
+    ∙ to_kernel-none to n ps other (All-tail (λ x. x.0 ≡ n) p ps all)
+
+-- where no packet waits the list of packets to one kernel is as good as its packets
+pub sent_in-together : (lists : Lists) (t n : ℕ) (after : VecDeque (ℕ × Packet) Global) (sent : List (ℕ × Packet)) → t ≡ n → t < length lists → sent_in lists n ≡ [] → AllGoTo n sent → after.items ≡ sent → (to : ℕ) → sent_in (set lists t after) to ≡ sent_in lists to ++ to_kernel to (map sent_picture sent)
+sent_in-together lists t n after sent at below none all items to = by (eqb_tells to n)
   where
-    nothing : before.items ≡ []
-    nothing = no-pictures before.items (sym (map-read pictures lists t before [] below is) ∙ ap (sent_in lists) at ∙ none)
+    by : ((nat_eq to n ≡ true) × (to ≡ n)) ⊎ ((nat_eq to n ≡ false) × (to ≢ n)) → sent_in (set lists t after) to ≡ sent_in lists to ++ to_kernel to (map sent_picture sent)
+    by (inl e) = ap (sent_in (set lists t after)) (e.1 ∙ sym at) ∙ map-set_same pictures lists t after [] below ∙ ap (map picture_in) items ∙ sym (to_kernel-all n sent all)
+        ∙ ap (λ qs. qs ++ to_kernel n (map sent_picture sent)) (sym none) ∙ ap (λ m. sent_in lists m ++ to_kernel m (map sent_picture sent)) (sym e.1)
+    by (inr e) = map-set_other pictures lists t to after [] (λ x. e.1 (x ∙ at)) ∙ sym (append-nil (sent_in lists to)) ∙ ap (λ qs. sent_in lists to ++ qs) (sym (to_kernel-none to n sent e.1 all))
 
 -- what is seen in front is what is taken there
 pub first-same : (x y : ℕ × Packet) (xs rest : List (ℕ × Packet)) → x ≡ get_or xs 0 x → xs ≡ y ∷ rest → x ≡ y

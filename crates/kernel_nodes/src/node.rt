@@ -31,6 +31,9 @@ pub(crate) struct Node {
 /// How many numbers a packet may be addressed to.
 const NUMBERS: usize = 256;
 
+/// For how many packets a list without any keeps its room. A longer one, which an exit filled, is let go, and its memory serves other kernels.
+const MOST_KEPT: usize = 64;
+
 impl Node {
     /// A kernel of a setting before any event.
     pub(crate) fn start(alloc: Global, id: u8, setting: &Setting) -> Result<Node, NoMemory>
@@ -102,7 +105,7 @@ impl Node {
         ensures kernel { self.new.kernel ≡ self.old.kernel }
         ensures lists { length self.new.sent.items ≡ length self.old.sent.items }
     {
-        self.sent[usize::from(to)] = list;
+        self.sent[usize::from(to)] = kept(list);
     }
 
     /// Gives the list of the steps of an event that is over back to the kernel.
@@ -130,7 +133,9 @@ impl Node {
         } = effect;
         self.kernel.reuse_answered(answered);
         let sent = self.send_all(packets)?;
-        self.kernel.reuse(sent);
+        if sent.capacity() <= MOST_KEPT {
+            self.kernel.reuse(sent);
+        }
         Ok(Noted { stamp, steps })
     }
 
@@ -148,7 +153,7 @@ impl Node {
         self.send_some(packets)
     }
 
-    /// Sends packets, and gives an emptied list back. One packet that goes where none waits is not moved: its list changes places with the empty one.
+    /// Sends packets, and gives an emptied list back. Those that all go where none waits are not moved: their list changes places with the empty one.
     #[inline(never)]
     fn send_some(&mut self, packets: Vec<(u8, Packet)>) -> Result<Vec<(u8, Packet)>, NoMemory>
         requires { length self.old.sent.items ≡ 256 }
@@ -156,16 +161,16 @@ impl Node {
         ensures sent { OnOk result ((to : ℕ) → sent_to self.new to ≡ sent_to self.old to ++ to_kernel to (map sent_picture packets.items)) }
         ensures lists { length self.new.sent.items ≡ length self.old.sent.items }
     {
-        match only_to(packets.as_slice()) {
-            Some(to) if self.sent[usize::from(to)].is_empty() => Ok(self.send_only(to, packets)),
+        match target_of_all(packets.as_slice()) {
+            Some(to) if self.sent[usize::from(to)].is_empty() => Ok(self.send_together(to, packets)),
             _ => self.send_many(packets),
         }
     }
 
-    /// The only packet is sent where none waits, in its list.
-    fn send_only(&mut self, to: u8, packets: Vec<(u8, Packet)>) -> Vec<(u8, Packet)>
+    /// Packets to one kernel are sent where none waits, in their list.
+    fn send_together(&mut self, to: u8, packets: Vec<(u8, Packet)>) -> Vec<(u8, Packet)>
         requires lists { length self.old.sent.items ≡ 256 }
-        requires only { (packet : APacket) × (packets.items ≡ (to, packet) ∷ []) }
+        requires together { All (λ sent. sent.0 ≡ to) packets.items }
         requires none { sent_to self.old to ≡ [] }
         ensures kernel { self.new.kernel ≡ self.old.kernel }
         ensures sent { (q : ℕ) → sent_to self.new q ≡ sent_to self.old q ++ to_kernel q (map sent_picture packets.items) }
@@ -224,13 +229,27 @@ impl Node {
     }
 }
 
-/// The kernel to which the packet goes, where there is one packet.
-fn only_to(packets: &[(u8, Packet)]) -> Option<u8>
-    ensures { IfSome result (λ to. (packet : APacket) × (packets.now ≡ (to, packet) ∷ [])) }
+/// The kernel to which these packets go, where all go to one.
+fn target_of_all(packets: &[(u8, Packet)]) -> Option<u8>
+    ensures { IfSome result (λ to. All (λ sent. sent.0 ≡ to) packets.now) }
 {
-    match packets {
-        [(to, _)] => Some(*to),
-        _ => None,
+    let (first, _) = packets.first()?;
+    if packets.iter().all(|(to, _)| to == first) {
+        Some(*first)
+    } else {
+        None
+    }
+}
+
+/// The list, or one without room where it has room for many packets and holds none.
+#[inline(always)]
+fn kept(list: VecDeque<(u8, Packet)>) -> VecDeque<(u8, Packet)>
+    ensures { result.items ≡ list.items }
+{
+    if list.is_empty() && list.capacity() > MOST_KEPT {
+        VecDeque::new(*list.allocator())
+    } else {
+        list
     }
 }
 

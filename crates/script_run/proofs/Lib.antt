@@ -1,10 +1,7 @@
 pub mod Events
-pub mod Lists
-pub mod Nodes
 pub mod OneLine
 pub mod Performances
 pub mod Ranges
 pub mod Runs
-pub mod Sent
 pub mod Settling
 pub mod Stamps

@@ -8,12 +8,10 @@ use Rattle.charlotte_calls.specs.declared.names.Pid.{Pid}
 use Rattle.charlotte_calls.specs.declared.picture.Picture.{Picture}
 use Rattle.charlotte_calls.specs.declared.setting.Setting.{Setting}
 use Rattle.charlotte_calls.specs.Setting.{IsValid}
-use Rattle.kernel_core.specs.State.{state_of}
 use Rattle.journal_text.specs.TranscriptText.{AreOfTranscript, AreRisingNotes, HasNotesOf, IsLastInRange, IsNoteInRange}
 use Rattle.journal_text.specs.declared.last.Last.{Last}
 use Rattle.journal_text.specs.declared.last.Last.TheVariants.{Quiet, Unsettled, Spent}
 use Rattle.journal_text.specs.declared.last.ScriptNote.{ScriptNote}
-use Rattle.kernel_step.specs.Start.{start_kernel}
 use Rattle.kernel_step.specs.declared.phase.Phase.{Phase}
 use Rattle.kernel_step.specs.declared.phase.Phase.TheVariants.{Running, Waiting, Cancelling, Exited}
 use Rattle.kernel_world.specs.Ranges.{IsPlacedInRange}
@@ -24,65 +22,67 @@ use Rattle.lynx_plan.specs.ScriptText.{AreRisingLines, FitsWhat}
 use Rattle.lynx_plan.specs.declared.script.ScriptLine.{ScriptLine}
 use Rattle.lynx_plan.specs.declared.script.ScriptCall.{ScriptCall}
 use Rattle.lynx_plan.specs.declared.script.ScriptCall.TheVariants.{Ask, Take, Settle}
-use Rattle.script_run.specs.Nodes.{sent_to, world_of, noted_at, IsNodeOf, AreLinesDone, AreReady, IsLineDone, Goes}
+use Rattle.kernel_nodes.specs.Nodes.{AreNodes}
+use Rattle.kernel_world.specs.Ranges.{IsEntryInRange}
+use Rattle.script_run.specs.Recorded.{noted_at, world_at, AreLinesDone, AreReady, Goes, IsLineDone}
+use Rattle.script_run.specs.declared.recorded.Recorded.{Recorded}
+use Rattle.script_run.proofs.Events.{Goes-then, entries_of, noted_in}
+use Rattle.script_run.proofs.Stamps.{IsUpTo}
+use Rattle.world_record.proofs.Worlds.{told-start}
+use Rattle.world_record.specs.Told.{IsToldWorld}
+use Rattle.written_journal.specs.Kept.{Happenings}
 use Rattle.script_run.specs.Performing.{Asks, TakesFirst, Does, Performs, IsLast, IsPerformance, waits_note, nothing_note}
-use Rattle.script_run.specs.declared.node.Node.{Node}
-use Rattle.script_run.proofs.Nodes.{state_at, entries_of, Goes-then}
 use Rattle.script_run.proofs.Runs.{Performs-more}
 use Rattle.world_record.proofs.Laws.{merge-record, record-shown}
-use Rattle.script_run.proofs.Sent.{Lists, sent_in, IsEmptyList, no-pictures, nothing_sent}
 
 -- ---- the start
 
-get_or-push : {X : Type 0} (ys : List X) (y d : X) (q : ℕ) → (q ≡ length ys → y ≡ d) → get_or (ys ++ y ∷ []) q d ≡ get_or ys q d
-get_or-push [] y d zero same = same refl
-get_or-push [] y d (suc q) same = refl
-get_or-push (x ∷ xs) y d zero same = refl
-get_or-push (x ∷ xs) y d (suc q) same = get_or-push xs y d q (λ e. same (ap suc e))
+abbrev pub IsEmptyJournal : Happenings → Type 0
+IsEmptyJournal j = j.entries ≡ []
 
--- the nodes so far are those of a start
-pub record IsStarting (s : Setting) (n : ℕ) (ns : List Node) : Type 0 where
-  pub count : length ns ≡ n
-  pub nodes : All (IsNodeOf s) ns
-  pub world : world_of s ns ≡ start s
-  pub entries : (k : ℕ) → noted_at ns k ≡ []
+no-entries : (js : List Happenings) → All IsEmptyJournal js → (k : ℕ) → noted_in js k ≡ []
+no-entries [] all k = refl
+no-entries (j ∷ js) all zero = All-head IsEmptyJournal j js all
+no-entries (j ∷ js) all (suc k) = no-entries js (All-tail IsEmptyJournal j js all) k
 
-pub starting-none : (s : Setting) → IsStarting s 0 []
-starting-none s = record { count = refl; nodes = All-nil (IsNodeOf s); world = refl; entries = λ k. refl }
+-- kernels before any event, with empty journals
+pub record IsStarting (s : Setting) (run : Recorded) : Type 0 where
+  pub nodes : AreNodes s run.nodes.nodes.items
+  pub world : world_at s run ≡ start s
+  pub count : length run.journals.items ≡ s.kernels
+  pub empty : All IsEmptyJournal run.journals.items
 
-pub starting-more : (s : Setting) (n : ℕ) (ns : List Node) (node : Node) → IsStarting s n ns → state_of node.kernel ≡ start_kernel s n → node.journal.entries ≡ [] → ((to : ℕ) → sent_to node to ≡ []) → IsNodeOf s node → IsStarting s (n + 1) (ns ++ node ∷ [])
-starting-more s n ns node is state none sent of =
+pub starting-entries : (s : Setting) (run : Recorded) → IsStarting s run → (k : ℕ) → noted_at run k ≡ []
+starting-entries s run is = no-entries run.journals.items is.empty
+
+pub starting-ready : (s : Setting) (run : Recorded) → IsStarting s run → AreReady s 0 run
+starting-ready s run is =
     record {
-      count = omega (arith, length-append ns (node ∷ []), is.count);
-      nodes = All-push (IsNodeOf s) ns node is.nodes of;
-      world = (λ j. record { kernel = λ q. kernel q j; packets = λ from to. packets from to j }) ∙ is.world;
-      entries = λ k. ap (λ es. get_or es k []) (map-append entries_of ns (node ∷ [])) ∙ get_or-push (map entries_of ns) node.journal.entries [] k (λ _. none) ∙ is.entries k;
+      recorded = record {
+        nodes = is.nodes;
+        journals = is.count;
+        stamped = λ k. subst (All (IsUpTo ((world_at s run).kernel k).stamp)) (sym (starting-entries s run is k)) (All-nil (IsUpTo ((world_at s run).kernel k).stamp));
+        in_range = λ k. subst (All IsEntryInRange) (sym (starting-entries s run is k)) (All-nil IsEntryInRange);
+      };
+      told = subst (λ (w : World). IsToldWorld s 0 w) (sym is.world) (told-start s);
     }
-  where
-    kernel : (q : ℕ) → (world_of s (ns ++ node ∷ [])).kernel q ≡ (world_of s ns).kernel q
-    kernel q = ap (λ ks. get_or ks q (start_kernel s q)) (map-append state_at ns (node ∷ []))
-        ∙ get_or-push (map state_at ns) (state_of node.kernel) (start_kernel s q) q (λ e. state ∙ ap (start_kernel s) (sym (e ∙ length-map ns state_at ∙ is.count)))
-
-    packets : (from to : ℕ) → (world_of s (ns ++ node ∷ [])).packets from to ≡ (world_of s ns).packets from to
-    packets from to = ap (λ (fs : List (ℕ → List Picture)). get_or fs from (λ _. []) to) (map-append sent_to ns (node ∷ []))
-        ∙ ap (λ (f : ℕ → List Picture). f to) (get_or-push (map sent_to ns) (sent_to node) (λ _. []) from (λ _ j t. sent t j))
 
 -- ---- one line more
 
-pub lines-none : (s : Setting) (a : List Node) → Goes s a a [] → AreLinesDone s [] [] a a
+pub lines-none : (s : Setting) (a : Recorded) → Goes s a a [] → AreLinesDone s [] [] a a
 lines-none s a goes = record { events = []; performed = (refl, refl); goes = goes; few = omega arith }
 
-pub lines-more : (s : Setting) (ls : List ScriptLine) (l : ScriptLine) (notes : List ScriptNote) (note : Option ScriptNote) (a b c : List Node) → AreLinesDone s ls notes a b → IsLineDone s l.line l.what note b c → AreLinesDone s (ls ++ l ∷ []) (notes ++ option_to_list note) a c
+pub lines-more : (s : Setting) (ls : List ScriptLine) (l : ScriptLine) (notes : List ScriptNote) (note : Option ScriptNote) (a b c : Recorded) → AreLinesDone s ls notes a b → IsLineDone s l.line l.what note b c → AreLinesDone s (ls ++ l ∷ []) (notes ++ option_to_list note) a c
 lines-more s ls l notes note a b c so_far one =
     record {
       events = so_far.events ++ one.events;
-      performed = Performs-more s (world_of s a) ls l so_far.events one.events notes (option_to_list note) so_far.performed (subst (λ (w : World). Does s w l.line l.what one.events (option_to_list note)) so_far.goes.world one.does);
+      performed = Performs-more s (world_at s a) ls l so_far.events one.events notes (option_to_list note) so_far.performed (subst (λ (w : World). Does s w l.line l.what one.events (option_to_list note)) so_far.goes.world one.does);
       goes = Goes-then s a b c so_far.events one.events so_far.goes one.goes;
       few = omega (arith, length-append so_far.events one.events, length-append ls (l ∷ []), so_far.few, one.few);
     }
 
 -- these lines were done first of all, and the others fit
-pub record AreLinesSoFar (s : Setting) (all others : List ScriptLine) (notes : List ScriptNote) (a b : List Node) : Type 0 where
+pub record AreLinesSoFar (s : Setting) (all others : List ScriptLine) (notes : List ScriptNote) (a b : Recorded) : Type 0 where
   pub done : List ScriptLine
   pub all_are : all ≡ done ++ others
   pub are_done : AreLinesDone s done notes a b
@@ -162,25 +162,9 @@ last-notes w Quiet notes h = tt
 last-notes w Unsettled notes h = tt
 last-notes w (Spent k) notes h = absurd h
 
-abbrev pub IsQuietNode : Node → Type 0
-IsQuietNode node = All IsEmptyList node.sent.items
-
-pub all-taken : (s : Setting) (ns : List Node) → All IsQuietNode ns → AllTaken (world_of s ns)
-all-taken s [] all from to = refl
-all-taken s (n ∷ ns) all zero to = nothing_sent n.sent.items (All-head IsQuietNode n ns all) to
-all-taken s (n ∷ ns) all (suc from) to = all-taken s ns (All-tail IsQuietNode n ns all) from to
-
-empty-lists : (lists : Lists) → ((to : ℕ) → sent_in lists to ≡ []) → All IsEmptyList lists
-empty-lists [] none = All-nil IsEmptyList
-empty-lists (x ∷ xs) none = All-cons IsEmptyList x xs (no-pictures x.items (none 0)) (empty-lists xs (λ to. none (suc to)))
-
-pub all-quiet : (ns : List Node) → ((from to : ℕ) → get_or (map sent_to ns) from (λ _. []) to ≡ []) → All IsQuietNode ns
-all-quiet [] none = All-nil IsQuietNode
-all-quiet (n ∷ ns) none = All-cons IsQuietNode n ns (empty-lists n.sent.items (none 0)) (all-quiet ns (λ from. none (suc from)))
-
 -- ---- the whole
 
-pub performance : (s : Setting) (lines : List ScriptLine) (merged : List Placed) (notes : List ScriptNote) (last : Last) (a b : List Node) → AreReady s 0 a → world_of s a ≡ start s → ((k : ℕ) → noted_at a k ≡ []) → AreLinesDone s lines notes a b → IsMerge (map entries_of b) merged → IsLast (world_of s b) last → length lines ≤ 200000 → IsPerformance s lines merged notes last
+pub performance : (s : Setting) (lines : List ScriptLine) (merged : List Placed) (notes : List ScriptNote) (last : Last) (a b : Recorded) → AreReady s 0 a → world_at s a ≡ start s → ((k : ℕ) → noted_at a k ≡ []) → AreLinesDone s lines notes a b → IsMerge (map entries_of b.journals.items) merged → IsLast (world_at s b) last → length lines ≤ 200000 → IsPerformance s lines merged notes last
 performance s lines merged notes last a b ready begins none done merge ends few =
     record {
       named = es;
@@ -199,7 +183,7 @@ performance s lines merged notes last a b ready begins none done merge ends few 
     allowed = subst (λ (w : World). AreAllowed s w es) begins done.goes.allowed
 
     at_kernel : (k : ℕ) → of_kernel k merged ≡ of_kernel k (noted (start s) es)
-    at_kernel k = merge.entries k ∙ done.goes.entries k ∙ ap (λ xs. xs ++ of_kernel k (noted (world_of s a) es)) (none k) ∙ ap (λ (w : World). of_kernel k (noted w es)) begins
+    at_kernel k = merge.entries k ∙ done.goes.entries k ∙ ap (λ xs. xs ++ of_kernel k (noted (world_at s a) es)) (none k) ∙ ap (λ (w : World). of_kernel k (noted w es)) begins
 
 -- a script does not end with turns used up
 last-in_range : (w : World) (last : Last) → IsLast w last → IsLastInRange last

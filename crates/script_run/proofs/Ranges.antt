@@ -1,4 +1,4 @@
--- The entries of a merge are values of their types, as those of the nodes are.
+-- The entries of a merge are values of their types, as those of the journals are.
 use Rattle.std.proofs.Common.{◌≡◌, ℕ, zero, suc, ◌<◌, ◌≤◌, Bool, true, false, cond, eqb, List, [], ◌∷◌, length, map, get_or, All, arith, sym, subst, refl}
 use Rattle.std.specs.List.{filter}
 use Rattle.std.proofs.lemmas.Bool.{eq-eqb}
@@ -8,9 +8,8 @@ use Rattle.kernel_world.specs.Ranges.{IsEntryInRange, IsPlacedInRange}
 use Rattle.kernel_world.specs.Run.{IsMerge, of_kernel}
 use Rattle.kernel_world.specs.declared.entry.Entry.{Entry}
 use Rattle.kernel_world.specs.declared.entry.Placed.{Placed}
-use Rattle.script_run.specs.Nodes.{IsInRange}
-use Rattle.script_run.specs.declared.node.Node.{Node}
-use Rattle.script_run.proofs.Nodes.{entries_of}
+use Rattle.script_run.proofs.Events.{entries_of, noted_in}
+use Rattle.written_journal.specs.Kept.{Happenings}
 
 -- an entry at a kernel is a value of its type
 abbrev pub IsPlacedAt : ℕ → Entry → Type 0
@@ -35,12 +34,11 @@ all_placed (p ∷ ps) all =
     (kept_one (IsPlacedAt p.kernel) p (filter (λ q. eqb q.kernel p.kernel) ps) (eqb p.kernel p.kernel) (eq-eqb p.kernel p.kernel refl) (all p.kernel))
     (all_placed ps (λ k. left_out (IsPlacedAt k) p (filter (λ q. eqb q.kernel k) ps) (eqb p.kernel k) (all k)))
 
-journal_placed : (ns : List Node) (i k : ℕ) → All IsInRange ns → (i < length ns → IsU8 k) → All (IsPlacedAt k) (get_or (map entries_of ns) i [])
+journal_placed : (js : List Happenings) (i k : ℕ) → All IsEntryInRange (noted_in js i) → (i < length js → IsU8 k) → All (IsPlacedAt k) (noted_in js i)
 journal_placed [] i k all below = All-nil (IsPlacedAt k)
-journal_placed (n ∷ ns) zero k all below =
-    All-weaker IsEntryInRange (IsPlacedAt k) (λ e h. record { kernel = below (omega arith); entry = h }) n.journal.entries (All-head IsInRange n ns all)
-journal_placed (n ∷ ns) (suc i) k all below = journal_placed ns i k (All-tail IsInRange n ns all) (λ lt. below (omega arith))
+journal_placed (j ∷ js) zero k all below = All-weaker IsEntryInRange (IsPlacedAt k) (λ e h. record { kernel = below (omega arith); entry = h }) j.entries all
+journal_placed (j ∷ js) (suc i) k all below = journal_placed js i k all (λ lt. below (omega arith))
 
-pub merged_in_range : (ns : List Node) (merged : List Placed) → All IsInRange ns → length ns ≤ 8 → IsMerge (map entries_of ns) merged → All IsPlacedInRange merged
-merged_in_range ns merged all few merge =
-    all_placed merged (λ k. subst (All (IsPlacedAt k)) (sym (merge.entries k)) (journal_placed ns k k all (λ lt. omega arith)))
+pub merged_in_range : (js : List Happenings) (merged : List Placed) → ((k : ℕ) → All IsEntryInRange (noted_in js k)) → length js ≤ 8 → IsMerge (map entries_of js) merged → All IsPlacedInRange merged
+merged_in_range js merged all few merge =
+    all_placed merged (λ k. subst (All (IsPlacedAt k)) (sym (merge.entries k)) (journal_placed js k k (all k) (λ lt. omega arith)))

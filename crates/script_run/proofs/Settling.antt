@@ -7,11 +7,10 @@ use Rattle.charlotte_calls.specs.declared.picture.Picture.{Picture}
 use Rattle.charlotte_calls.specs.declared.setting.Setting.{Setting}
 use Rattle.kernel_world.proofs.Packets.{happens-packets}
 use Rattle.kernel_world.specs.World.{World, Event, Takes, happens, after, outcome, rest, sends_at, to_kernel}
-use Rattle.script_run.specs.Nodes.{sent_to, sent_from, world_of, first_pair, AreReady, AreQuietBelow, Goes, IsTakenFirst}
+use Rattle.script_run.specs.Recorded.{sent_from, world_at, first_pair, AreReady, AreQuietBelow, Goes, IsTakenFirst}
 use Rattle.script_run.specs.Performing.{pairs, next_take, then_events, settled}
-use Rattle.script_run.specs.declared.node.Node.{Node}
-use Rattle.script_run.proofs.Lists.{map-read}
-use Rattle.script_run.proofs.Nodes.{packets_at, Goes-then, ready-after}
+use Rattle.script_run.specs.declared.recorded.Recorded.{Recorded}
+use Rattle.script_run.proofs.Events.{Goes-then, ready-after}
 use Rattle.world_record.proofs.Runs.{after-append}
 
 -- ---- the first of a list that passes a test
@@ -86,44 +85,36 @@ pairs_from-more kernels from below = let e : kernels - from ≡ suc (kernels - (
 pub pairs_from-none : (kernels from : ℕ) → kernels ≤ from → pairs_from kernels from ≡ []
 pairs_from-none kernels from le = let e : kernels - from ≡ 0 = omega arith in ap (λ n. flat_map (row kernels) (range_with_len from n)) e
 
-row-find : (s : Setting) (ns : List Node) (kernels from : ℕ) (node : Node) → from < length ns → node ≡ get_or ns from node → find (is_under_way (world_of s ns)) (row kernels from) ≡ option_map (λ to. (from, to)) (find (λ to. not (nat_eq (length (sent_to node to)) 0)) (range_with_len 0 kernels))
-row-find s ns kernels from node below at =
-    find-map (is_under_way (world_of s ns)) (λ to. (from, to)) (range_with_len 0 kernels)
-    ∙ ap (λ (t : ℕ → Bool). option_map (λ (to : ℕ). (from, to)) (find t (range_with_len 0 kernels))) (λ j to. not (nat_eq (length (packets_at s ns from node below at to j)) 0))
+row-find : (w : World) (kernels from : ℕ) → find (is_under_way w) (row kernels from) ≡ option_map (λ to. (from, to)) (find (λ to. not (nat_eq (length (w.packets from to)) 0)) (range_with_len 0 kernels))
+row-find w kernels from = find-map (is_under_way w) (λ to. (from, to)) (range_with_len 0 kernels)
 
 -- one of this kernel is the first
-pub some_target : (s : Setting) (ns : List Node) (kernels from to : ℕ) (node : Node) → from < kernels → from < length ns → node ≡ get_or ns from node → Some to ≡ find (λ q. not (nat_eq (length (sent_to node q)) 0)) (range_with_len 0 kernels) → find (is_under_way (world_of s ns)) (pairs_from kernels from) ≡ Some (from, to)
-some_target s ns kernels from to node within below at some =
-    ap (find (is_under_way (world_of s ns))) (pairs_from-more kernels from within)
-    ∙ find-some_first (is_under_way (world_of s ns)) (row kernels from) (pairs_from kernels (from + 1)) (from, to) (row-find s ns kernels from node below at ∙ ap (option_map (λ (q : ℕ). (from, q))) (sym some))
+pub some_target : (s : Setting) (run : Recorded) (kernels from to : ℕ) → from < kernels → Some to ≡ find (λ q. not (nat_eq (length (sent_from run from q)) 0)) (range_with_len 0 kernels) → find (is_under_way (world_at s run)) (pairs_from kernels from) ≡ Some (from, to)
+some_target s run kernels from to within some =
+    ap (find (is_under_way (world_at s run))) (pairs_from-more kernels from within)
+    ∙ find-some_first (is_under_way (world_at s run)) (row kernels from) (pairs_from kernels (from + 1)) (from, to) (row-find (world_at s run) kernels from ∙ ap (option_map (λ (q : ℕ). (from, q))) (sym some))
 
--- ---- nodes of which no packet is under way
+-- ---- kernels of which no packet is under way
 
--- one node more
-pub quiet-more : (kernels n : ℕ) (ns : List Node) (node : Node) → n < length ns → node ≡ get_or ns n node → None ≡ find (λ to. not (nat_eq (length (sent_to node to)) 0)) (range_with_len 0 kernels) → AreQuietBelow kernels n ns → AreQuietBelow kernels (n + 1) ns
-quiet-more kernels n ns node below at none before from within = by (eqb_tells from n)
+-- one kernel more
+pub quiet-more : (kernels n : ℕ) (run : Recorded) → None ≡ find (λ to. not (nat_eq (length (sent_from run n to)) 0)) (range_with_len 0 kernels) → AreQuietBelow kernels n run → AreQuietBelow kernels (n + 1) run
+quiet-more kernels n run none before from within = by (eqb_tells from n)
   where
-    here : (to : ℕ) → sent_from ns n to ≡ sent_to node to
-    here to = ap (λ (f : ℕ → List Picture). f to) (map-read sent_to ns n node (λ _. []) below at)
-
-    last : find (λ to. not (nat_eq (length (sent_from ns n to)) 0)) (range_with_len 0 kernels) ≡ None
-    last = ap (λ (t : ℕ → Bool). find t (range_with_len 0 kernels)) (λ j to. not (nat_eq (length (here to j)) 0)) ∙ sym none
-
-    by : ((nat_eq from n ≡ true) × (from ≡ n)) ⊎ ((nat_eq from n ≡ false) × (from ≢ n)) → find (λ to. not (nat_eq (length (sent_from ns from to)) 0)) (range_with_len 0 kernels) ≡ None
-    by (inl t) = subst (λ k. find (λ to. not (nat_eq (length (sent_from ns k to)) 0)) (range_with_len 0 kernels) ≡ None) (sym t.1) last
+    by : ((nat_eq from n ≡ true) × (from ≡ n)) ⊎ ((nat_eq from n ≡ false) × (from ≢ n)) → find (λ to. not (nat_eq (length (sent_from run from to)) 0)) (range_with_len 0 kernels) ≡ None
+    by (inl t) = subst (λ k. find (λ to. not (nat_eq (length (sent_from run k to)) 0)) (range_with_len 0 kernels) ≡ None) (sym t.1) (sym none)
     by (inr t) = before from (let other : from ≢ n = t.1 in omega (arith, within))
 
 -- so the first pair does not begin with one of them
-pub pairs-quiet : (s : Setting) (ns : List Node) (kernels n : ℕ) → n ≤ kernels → AreQuietBelow kernels n ns → first_pair kernels (world_of s ns) ≡ find (is_under_way (world_of s ns)) (pairs_from kernels n)
-pairs-quiet s ns kernels zero within quiet = ap (find (is_under_way (world_of s ns))) (pairs-all kernels)
-pairs-quiet s ns kernels (suc n) within quiet =
+pub pairs-quiet : (s : Setting) (run : Recorded) (kernels n : ℕ) → n ≤ kernels → AreQuietBelow kernels n run → first_pair kernels (world_at s run) ≡ find (is_under_way (world_at s run)) (pairs_from kernels n)
+pairs-quiet s run kernels zero within quiet = ap (find (is_under_way (world_at s run))) (pairs-all kernels)
+pairs-quiet s run kernels (suc n) within quiet =
     let below : n < kernels = omega (arith, within) in
     let next : n + 1 ≡ suc n = omega arith in
-    pairs-quiet s ns kernels n (omega (arith, within)) (λ from less. quiet from (omega (arith, less)))
-    ∙ ap (find (is_under_way (world_of s ns))) (pairs_from-more kernels n below)
-    ∙ find-none_first (is_under_way (world_of s ns)) (row kernels n) (pairs_from kernels (n + 1))
-    (find-map (is_under_way (world_of s ns)) (λ to. (n, to)) (range_with_len 0 kernels) ∙ ap (option_map (λ (to : ℕ). (n, to))) (quiet n (omega arith)))
-    ∙ ap (λ k. find (is_under_way (world_of s ns)) (pairs_from kernels k)) next
+    pairs-quiet s run kernels n (omega (arith, within)) (λ from less. quiet from (omega (arith, less)))
+    ∙ ap (find (is_under_way (world_at s run))) (pairs_from-more kernels n below)
+    ∙ find-none_first (is_under_way (world_at s run)) (row kernels n) (pairs_from kernels (n + 1))
+    (find-map (is_under_way (world_at s run)) (λ to. (n, to)) (range_with_len 0 kernels) ∙ ap (option_map (λ (to : ℕ). (n, to))) (quiet n (omega arith)))
+    ∙ ap (λ k. find (is_under_way (world_at s run)) (pairs_from kernels k)) next
 
 -- numbers one of which is less are not equal
 less-apart : (a b : ℕ) → a < b → nat_eq a b ≡ false
@@ -166,42 +157,42 @@ length-settled_le k zero w = omega arith
 length-settled_le k (suc n) w = length-then_le n (next_take k w) (λ e. settled k n (happens w e)) (λ e. length-settled_le k n (happens w e))
 
 -- how far settling has come: es were taken of the most that may be, and i times it was looked
-pub record IsSettling (s : Setting) (k most i : ℕ) (a b : List Node) : Type 0 where
+pub record IsSettling (s : Setting) (k most i : ℕ) (a b : Recorded) : Type 0 where
   pub events : List Event
   pub goes : Goes s a b events
-  pub left : settled k most (world_of s a) ≡ events ++ settled k (most - i) (after (world_of s a) events)
+  pub left : settled k most (world_at s a) ≡ events ++ settled k (most - i) (after (world_at s a) events)
   pub few : length events ≤ i
 
-pub settling-start : (s : Setting) (k most : ℕ) (a : List Node) → Goes s a a [] → IsSettling s k most 0 a a
-settling-start s k most a goes = record { events = []; goes = goes; left = let e : most ≡ most - 0 = omega arith in ap (λ n. settled k n (world_of s a)) e; few = omega arith }
+pub settling-start : (s : Setting) (k most : ℕ) (a : Recorded) → Goes s a a [] → IsSettling s k most 0 a a
+settling-start s k most a goes = record { events = []; goes = goes; left = let e : most ≡ most - 0 = omega arith in ap (λ n. settled k n (world_at s a)) e; few = omega arith }
 
 -- nothing is left
-pub settling-none : (s : Setting) (k most i : ℕ) (a b : List Node) → None ≡ first_pair k (world_of s b) → IsSettling s k most i a b → Goes s a b (settled k most (world_of s a))
+pub settling-none : (s : Setting) (k most i : ℕ) (a b : Recorded) → None ≡ first_pair k (world_at s b) → IsSettling s k most i a b → Goes s a b (settled k most (world_at s a))
 settling-none s k most i a b none is =
-    let next : next_take k (world_of s b) ≡ None = ap (option_map (λ (pair : ℕ × ℕ). Takes pair.1 pair.0)) (sym none) in
-    let no_more : settled k (most - i) (after (world_of s a) is.events) ≡ [] = ap (settled k (most - i)) (sym is.goes.world) ∙ settled-none k (most - i) (world_of s b) next in
+    let next : next_take k (world_at s b) ≡ None = ap (option_map (λ (pair : ℕ × ℕ). Takes pair.1 pair.0)) (sym none) in
+    let no_more : settled k (most - i) (after (world_at s a) is.events) ≡ [] = ap (settled k (most - i)) (sym is.goes.world) ∙ settled-none k (most - i) (world_at s b) next in
     subst (Goes s a b) (sym (is.left ∙ ap (λ es. is.events ++ es) no_more ∙ append-nil is.events)) is.goes
 
 -- so many were taken
-pub settling-end : (s : Setting) (k most i : ℕ) (a b : List Node) → most ≤ i → IsSettling s k most i a b → Goes s a b (settled k most (world_of s a))
+pub settling-end : (s : Setting) (k most i : ℕ) (a b : Recorded) → most ≤ i → IsSettling s k most i a b → Goes s a b (settled k most (world_at s a))
 settling-end s k most i a b all is =
     let e : most - i ≡ 0 = omega arith in
-    let no_more : settled k (most - i) (after (world_of s a) is.events) ≡ [] = ap (λ n. settled k n (after (world_of s a) is.events)) e ∙ settled-zero k (after (world_of s a) is.events) in
+    let no_more : settled k (most - i) (after (world_at s a) is.events) ≡ [] = ap (λ n. settled k n (after (world_at s a) is.events)) e ∙ settled-zero k (after (world_at s a) is.events) in
     subst (Goes s a b) (sym (is.left ∙ ap (λ es. is.events ++ es) no_more ∙ append-nil is.events)) is.goes
 
-some-taken : (s : Setting) (k from to : ℕ) (took : Bool) (b c : List Node) → Some (from, to) ≡ first_pair k (world_of s b) → IsTakenFirst s from to took b c → Goes s b c (Takes to from ∷ [])
+some-taken : (s : Setting) (k from to : ℕ) (took : Bool) (b c : Recorded) → Some (from, to) ≡ first_pair k (world_at s b) → IsTakenFirst s from to took b c → Goes s b c (Takes to from ∷ [])
 some-taken s k from to true b c some t = t.1
 some-taken s k from to false b c some t =
-    let passes : is_under_way (world_of s b) (from, to) ≡ true = find-passes (is_under_way (world_of s b)) (pairs k) (from, to) (sym some) in
-    let fails : is_under_way (world_of s b) (from, to) ≡ false = ap (λ (qs : List Picture). not (nat_eq (length qs) 0)) t.0 in
+    let passes : is_under_way (world_at s b) (from, to) ≡ true = find-passes (is_under_way (world_at s b)) (pairs k) (from, to) (sym some) in
+    let fails : is_under_way (world_at s b) (from, to) ≡ false = ap (λ (qs : List Picture). not (nat_eq (length qs) 0)) t.0 in
     let no : true ≡ false = sym passes ∙ fails in
     cc
 
 -- one more was taken
-pub settling-more : (s : Setting) (k most i from to : ℕ) (took : Bool) (a b c : List Node) → i < most → Some (from, to) ≡ first_pair k (world_of s b) → IsTakenFirst s from to took b c → IsSettling s k most i a b → IsSettling s k most (i + 1) a c
+pub settling-more : (s : Setting) (k most i from to : ℕ) (took : Bool) (a b c : Recorded) → i < most → Some (from, to) ≡ first_pair k (world_at s b) → IsTakenFirst s from to took b c → IsSettling s k most i a b → IsSettling s k most (i + 1) a c
 settling-more s k most i from to took a b c below some t is =
     let e : Event = Takes to from in
-    let w : World = after (world_of s a) is.events in
+    let w : World = after (world_at s a) is.events in
     let goes : Goes s b c (e ∷ []) = some-taken s k from to took b c some t in
     let next : next_take k w ≡ Some e = ap (next_take k) (sym is.goes.world) ∙ ap (option_map (λ (pair : ℕ × ℕ). Takes pair.1 pair.0)) (sym some) in
     let one : most - i ≡ suc (most - (i + 1)) = omega arith in
@@ -211,22 +202,22 @@ settling-more s k most i from to took a b c below some t is =
       events = is.events ++ e ∷ [];
       goes = Goes-then s a b c is.events (e ∷ []) is.goes goes;
       left = is.left ∙ ap (λ es. is.events ++ es) more ∙ sym (append_assoc is.events (e ∷ []) (settled k (most - (i + 1)) (happens w e)))
-          ∙ ap (λ v. (is.events ++ e ∷ []) ++ settled k (most - (i + 1)) v) (sym (after-append (world_of s a) is.events (e ∷ [])));
+          ∙ ap (λ v. (is.events ++ e ∷ []) ++ settled k (most - (i + 1)) v) (sym (after-append (world_at s a) is.events (e ∷ [])));
       few = omega (arith, length-append is.events (e ∷ []), is.few);
     }
 
--- the nodes before both that sent the packet and that took it are quiet as they were
-pub quiet-taken : (s : Setting) (k from to n : ℕ) (took : Bool) (b c : List Node) → Some (from, to) ≡ first_pair k (world_of s b) → IsTakenFirst s from to took b c → n ≤ from → n ≤ to → AreQuietBelow k from b → AreQuietBelow k n c
+-- the kernels before both that sent the packet and that took it are quiet as they were
+pub quiet-taken : (s : Setting) (k from to n : ℕ) (took : Bool) (b c : Recorded) → Some (from, to) ≡ first_pair k (world_at s b) → IsTakenFirst s from to took b c → n ≤ from → n ≤ to → AreQuietBelow k from b → AreQuietBelow k n c
 quiet-taken s k from to n took b c some t least_from least_to quiet q below =
     ap (λ (test : ℕ → Bool). find test (range_with_len 0 k)) (λ j r. not (nat_eq (length (same r j)) 0)) ∙ quiet q (omega (arith, below, least_from))
   where
     same : (r : ℕ) → sent_from c q r ≡ sent_from b q r
     same r =
         ap (λ (w : World). w.packets q r) (some-taken s k from to took b c some t).world
-        ∙ taken-aside (world_of s b) from to q r (omega (arith, below, least_from)) (omega (arith, below, least_to))
+        ∙ taken-aside (world_at s b) from to q r (omega (arith, below, least_from)) (omega (arith, below, least_to))
 
--- how many nodes and events there are as settling goes on
-pub settling-ready : (s : Setting) (k most i n : ℕ) (a b : List Node) → length b ≡ length a → i ≤ most → n + most < 2 ^ 32 → IsSettling s k most i a b → AreReady s n a → (m : ℕ) × (m < 2 ^ 32) × AreReady s m b
-settling-ready s k most i n a b count le early is ready =
+-- how many events there are as settling goes on
+pub settling-ready : (s : Setting) (k most i n : ℕ) (a b : Recorded) → i ≤ most → n + most < 2 ^ 32 → IsSettling s k most i a b → AreReady s n a → (m : ℕ) × (m < 2 ^ 32) × AreReady s m b
+settling-ready s k most i n a b le early is ready =
     let few : length is.events ≤ i = is.few in
-    (n + length is.events, omega arith, ready-after s n a b is.events count (omega arith) is.goes ready)
+    (n + length is.events, omega arith, ready-after s n a b is.events (omega arith) is.goes ready)

@@ -1,2 +1,2 @@
-pub mod Nodes
+pub mod Recorded
 pub mod Performing

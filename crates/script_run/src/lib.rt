@@ -2,7 +2,7 @@
 #![tactic(auto)]
 
 mod lines;
-mod node;
 mod performance;
+mod recorded;
 
 pub use performance::{Performance, perform};

@@ -4,14 +4,12 @@ ghost use Rattle.std.specs.Option.{option_to_list};
 ghost use Rattle.charlotte_calls.specs.Setting.{IsValid};
 ghost use Rattle.charlotte_calls.specs.declared.setting.Setting.{Setting as ASetting};
 ghost use Rattle.journal_text.specs.TranscriptText.{AreOfTranscript, IsNoteInRange};
-ghost use Rattle.kernel_world.specs.Run.{IsMerge};
-ghost use Rattle.kernel_world.specs.World.{start};
 ghost use Rattle.lynx_plan.specs.ScriptText.{AreRisingLines, FitsWhat};
-ghost use Rattle.script_run.specs.Nodes.{AreLinesDone, AreReady, noted_at, world_of};
+ghost use Rattle.script_run.specs.Recorded.{AreLinesDone, AreReady, world_at};
 ghost use Rattle.script_run.specs.Performing.{IsLast, IsPerformance};
 
 use crate::lines::do_line;
-use crate::node::Node;
+use crate::recorded::Recorded;
 use charlotte_calls::{Items, NoMemory, Setting};
 use journal_text::{Last, ScriptNote};
 use lynx_plan::ScriptLine;
@@ -44,11 +42,11 @@ pub fn perform(
     ensures performed { IfOk result (λ p. IsPerformance setting.now lines p.merged p.notes p.last) }
     ensures told { IfOk result (λ p. AreOfTranscript setting.now p.merged p.notes p.last) }
 {
-    let mut nodes = start_nodes(alloc, setting)?;
-    let notes = do_lines(alloc, setting, &mut nodes, VecDeque::from(lines.into_vec()))?;
-    let last = last_of(&nodes);
+    let mut run = Recorded::start(alloc, setting)?;
+    let notes = do_lines(alloc, setting, &mut run, VecDeque::from(lines.into_vec()))?;
+    let last = last_of(&run);
     tell_notes(&notes);
-    let merged = merge_journals(alloc, nodes)?;
+    let merged = Merged::of_journals(alloc, run.into_journals())?;
     Ok(Performance {
         merged,
         notes: Items::of(notes),
@@ -56,36 +54,22 @@ pub fn perform(
     })
 }
 
-/// The kernels of a setting before any event.
-fn start_nodes(alloc: Global, setting: &Setting) -> Result<Vec<Node>, NoMemory>
-    requires { IsValid setting.now }
-    ensures ready { IfOk result (λ nodes. AreReady setting.now 0 nodes.items) }
-    ensures start { IfOk result (λ nodes. world_of setting.now nodes.items ≡ start setting.now) }
-    ensures entries { IfOk result (λ nodes. (k : ℕ) → noted_at nodes.items k ≡ []) }
-{
-    let mut nodes = Vec::new(alloc);
-    for id in 0..setting.kernels {
-        nodes.push(Node::start(alloc, id, setting)?)?;
-    }
-    Ok(nodes)
-}
-
 /// Does what lines name, in order, and gives their notes.
 fn do_lines(
     alloc: Global,
     setting: &Setting,
-    nodes: &mut [Node],
+    run: &mut Recorded,
     mut lines: VecDeque<ScriptLine>,
 ) -> Result<Vec<ScriptNote>, NoMemory>
     requires valid { IsValid setting.now }
-    requires ready { AreReady setting.now 0 nodes.old }
+    requires ready { AreReady setting.now 0 run.old }
     requires calls { All (λ l. FitsWhat setting.now l.what) lines.items }
     requires few { length lines.items ≤ 200000 }
-    ensures { IfOk result (λ notes. AreLinesDone setting.now lines.items notes.items nodes.old nodes.new) }
+    ensures { IfOk result (λ notes. AreLinesDone setting.now lines.items notes.items run.old run.new) }
 {
     let mut notes = Vec::new(alloc);
     while let Some(line) = lines.pop_front() {
-        let note = do_line(setting, nodes, line)?;
+        let note = do_line(setting, run, line)?;
         push_note(&mut notes, note)?;
     }
     Ok(notes)
@@ -116,36 +100,12 @@ fn tell_note(note: ScriptNote)
 }
 
 /// Whether a packet is left.
-fn last_of(nodes: &[Node]) -> Last
-    ensures { (s : ASetting) → IsLast (world_of s nodes.now) result }
+fn last_of(run: &Recorded) -> Last
+    ensures { (s : ASetting) → IsLast (world_at s run.now) result }
 {
-    if are_quiet(nodes) {
+    if run.nodes.are_quiet() {
         Last::Quiet
     } else {
         Last::Unsettled
     }
-}
-
-/// Whether no packet waits to be taken.
-fn are_quiet(nodes: &[Node]) -> bool
-    ensures { IsTrue result ↔ All (λ node. All (λ list. list.items ≡ []) node.sent.items) nodes.now }
-{
-    nodes.iter().all(|node| node.is_quiet())
-}
-
-/// What was noted at the nodes, in the order of a merge.
-fn merge_journals(alloc: Global, nodes: Vec<Node>) -> Result<Merged, NoMemory>
-    requires { length nodes.items ≤ 8 }
-    ensures { IfOk result (IsMerge (map (λ n. n.journal.entries) nodes.items)) }
-{
-    let mut journals = Vec::new(alloc);
-    for node in nodes {
-        let Node {
-            kernel: _,
-            journal,
-            sent: _,
-        } = node;
-        journals.push(journal)?;
-    }
-    Merged::of_journals(alloc, journals)
 }

@@ -4,8 +4,8 @@ use Rattle.charlotte_calls.specs.declared.setting.Setting.{Setting}
 use Rattle.journal_text.specs.declared.last.ScriptNote.{ScriptNote}
 use Rattle.lynx_plan.specs.declared.script.ScriptLine.{ScriptLine}
 use Rattle.lynx_plan.specs.ScriptText.{FitsWhat}
-use Rattle.script_run.specs.Nodes.{AreLinesDone}
-use Rattle.script_run.proofs.Nodes.{Goes-start, ready-after}
+use Rattle.script_run.specs.Recorded.{AreLinesDone}
+use Rattle.script_run.proofs.Events.{Goes-start, ready-after}
 use Rattle.script_run.proofs.Performances.{lines-none, lines-more}
 use Rattle.script_run.proofs.performance.do_lines.Goals as goal
 
@@ -14,8 +14,8 @@ loop-line-init c =
     record {
       done = [];
       all_are = refl;
-      are_done = subst (λ (notes : List ScriptNote). AreLinesDone c.args.setting.now [] notes c.args.nodes.now c.args.nodes.now) (sym c.new-notes.ensures.items)
-          (lines-none c.args.setting.now c.args.nodes.now (Goes-start c.args.setting.now c.args.nodes.now c.requires.ready.nodes));
+      are_done = subst (λ (notes : List ScriptNote). AreLinesDone c.args.setting.now [] notes c.args.run.now c.args.run.now) (sym c.new-notes.ensures.items)
+          (lines-none c.args.setting.now c.args.run.now (Goes-start c.args.setting.now c.args.run.now c.requires.ready.recorded));
       fit = c.requires.calls;
     }
 
@@ -28,7 +28,7 @@ do_line-requires-clause-ready c =
     let one : length c.loop-line.lines.items ≡ length c.pop_front.new.self.items + 1 = ap length left ∙ omega arith in
     let few : length is.events ≤ 10000 * length so_far.done = is.few in
     let most : length c.args.lines.items ≤ 200000 = c.requires.few in
-    (0 + length is.events, omega (arith, few, all, one, most), ready-after c.args.setting.now 0 c.args.nodes.now c.loop-line.nodes is.events c.loop-line.auto.nodes (omega (arith, few, all, one, most)) is.goes c.requires.ready)
+    (0 + length is.events, omega (arith, few, all, one, most), ready-after c.args.setting.now 0 c.args.run.now c.loop-line.run is.events (omega (arith, few, all, one, most)) is.goes c.requires.ready)
 
 pub do_line-requires-clause-fits : goal.do_line-requires-clause-fits
 do_line-requires-clause-fits c =
@@ -43,11 +43,11 @@ loop-line-preserved c =
     let rest : List ScriptLine = c.pop_front.new.self.items in
     let left : c.loop-line.lines.items ≡ l ∷ rest = c.in-Some.ensures.items in
     let Fits : ScriptLine → Type 0 = λ x. FitsWhat s x.what in
-    let one = lines-more s so_far.done l c.loop-line.notes.items c.in_ok-note.note c.args.nodes.now c.loop-line.nodes c.do_line.new.nodes so_far.are_done c.in_ok-note.ensures in
+    let one = lines-more s so_far.done l c.loop-line.notes.items c.in_ok-note.note c.args.run.now c.loop-line.run c.do_line.new.run so_far.are_done c.in_ok-note.ensures in
     record {
       done = so_far.done ++ l ∷ [];
       all_are = so_far.all_are ∙ ap (λ ls. so_far.done ++ ls) left ∙ sym (append_assoc so_far.done (l ∷ []) rest);
-      are_done = subst (λ (notes : List ScriptNote). AreLinesDone s (so_far.done ++ l ∷ []) notes c.args.nodes.now c.do_line.new.nodes) (sym c.in_ok-push_note.ensures) one;
+      are_done = subst (λ (notes : List ScriptNote). AreLinesDone s (so_far.done ++ l ∷ []) notes c.args.run.now c.do_line.new.run) (sym c.in_ok-push_note.ensures) one;
       fit = All-tail Fits l rest (All-same Fits _ _ (sym left) so_far.fit);
     }
 
@@ -55,4 +55,4 @@ pub returns : goal.returns
 returns c =
     let so_far = c.loop-line.invariant in
     let none : c.loop-line.lines.items ≡ [] = search rules in
-    subst (λ (ls : List ScriptLine). AreLinesDone c.args.setting.now ls c.loop-line.notes.items c.args.nodes.now c.loop-line.nodes) (sym (so_far.all_are ∙ ap (λ ls. so_far.done ++ ls) none ∙ append-nil so_far.done)) so_far.are_done
+    subst (λ (ls : List ScriptLine). AreLinesDone c.args.setting.now ls c.loop-line.notes.items c.args.run.now c.loop-line.run) (sym (so_far.all_are ∙ ap (λ ls. so_far.done ++ ls) none ∙ append-nil so_far.done)) so_far.are_done
