@@ -90,8 +90,8 @@ to_kernel-none to n (p ∷ ps) other all =
     ∙ to_kernel-none to n ps other (All-tail (λ x. x.0 ≡ n) p ps all)
 
 -- where no packet waits the list of packets to one kernel is as good as its packets
-pub sent_in-together : (lists : Lists) (t n : ℕ) (after : VecDeque (ℕ × Packet) Global) (sent : List (ℕ × Packet)) → t ≡ n → t < length lists → sent_in lists n ≡ [] → AllGoTo n sent → after.items ≡ sent → (to : ℕ) → sent_in (set lists t after) to ≡ sent_in lists to ++ to_kernel to (map sent_picture sent)
-sent_in-together lists t n after sent at below none all items to = by (eqb_tells to n)
+pub sent_in-whole : (lists : Lists) (t n : ℕ) (after : VecDeque (ℕ × Packet) Global) (sent : List (ℕ × Packet)) → t ≡ n → t < length lists → sent_in lists n ≡ [] → AllGoTo n sent → after.items ≡ sent → (to : ℕ) → sent_in (set lists t after) to ≡ sent_in lists to ++ to_kernel to (map sent_picture sent)
+sent_in-whole lists t n after sent at below none all items to = by (eqb_tells to n)
   where
     by : ((nat_eq to n ≡ true) × (to ≡ n)) ⊎ ((nat_eq to n ≡ false) × (to ≢ n)) → sent_in (set lists t after) to ≡ sent_in lists to ++ to_kernel to (map sent_picture sent)
     by (inl e) = ap (sent_in (set lists t after)) (e.1 ∙ sym at) ∙ map-set_same pictures lists t after [] below ∙ ap (map picture_in) items ∙ sym (to_kernel-all n sent all)

@@ -162,13 +162,13 @@ impl Node {
         ensures lists { length self.new.sent.items ≡ length self.old.sent.items }
     {
         match target_of_all(packets.as_slice()) {
-            Some(to) if self.sent[usize::from(to)].is_empty() => Ok(self.send_together(to, packets)),
+            Some(to) if self.sent[usize::from(to)].is_empty() => Ok(self.send_whole(to, packets)),
             _ => self.send_many(packets),
         }
     }
 
-    /// Packets to one kernel are sent where none waits, in their list.
-    fn send_together(&mut self, to: u8, packets: Vec<(u8, Packet)>) -> Vec<(u8, Packet)>
+    /// Packets to one kernel are sent where none waits: their list is sent whole.
+    fn send_whole(&mut self, to: u8, packets: Vec<(u8, Packet)>) -> Vec<(u8, Packet)>
         requires lists { length self.old.sent.items ≡ 256 }
         requires together { All (λ sent. sent.0 ≡ to) packets.items }
         requires none { sent_to self.old to ≡ [] }
