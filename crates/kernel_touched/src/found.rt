@@ -55,7 +55,6 @@ pub fn find(table: &Table, what: &What) -> Found
 }
 
 /// Whether a packet of this kind changes no activity, and gives no report.
-#[inline(always)]
 fn is_silent(what: &What) -> bool
     ensures { result ≡ is_silent (what_picture what.now) }
 {
@@ -92,7 +91,6 @@ pub fn refresh_if_heard(
 }
 
 /// The end that a packet is addressed to.
-#[inline(always)]
 fn addressee(what: &What) -> EndId
     ensures { result ≡ addressee (what_picture what.now) }
 {
