@@ -1,6 +1,5 @@
 -- An event of a call keeps what is true of the kernel's parts.
-use Rattle.std.proofs.Common.{◌≡◌, ◌≢◌, ◌⊎◌, inl, inr, ℕ, ◌<◌, Bool, true, false, nat_eq, List, [], Option, Some, None, length, map, refl, sym, ap, subst, ◌∙◌}
-use Rattle.std.proofs.lemmas.Bool.Decides.{eqb_tells}
+use Rattle.std.proofs.Common.{◌≡◌, ℕ, ◌<◌, Bool, false, List, [], Option, Some, None, length, refl, sym, ap, subst, ◌∙◌}
 use Rattle.charlotte_calls.specs.declared.calls.Call.{Call}
 use Rattle.charlotte_calls.specs.declared.calls.Call.TheVariants as call
 use Rattle.charlotte_calls.specs.declared.calls.ServiceStep.TheVariants as step
@@ -8,7 +7,6 @@ use Rattle.charlotte_calls.specs.declared.names.EndId.{EndId}
 use Rattle.charlotte_calls.specs.declared.names.Pid.{Pid}
 use Rattle.charlotte_calls.specs.declared.names.Way.TheVariants as way
 use Rattle.charlotte_calls.specs.declared.work.Work.{Work}
-use Rattle.end_table.proofs.EndEq.{end_eq-refl}
 use Rattle.end_table.specs.Owned.{owned}
 use Rattle.end_table.specs.Table.{TableView, entries}
 use Rattle.end_table.specs.declared.entry.Entry.{Entry}
@@ -16,27 +14,27 @@ use Rattle.end_table.specs.declared.entry.HereView.{HereView}
 use Rattle.end_table.specs.declared.entry.Inward.{Inward}
 use Rattle.end_table.specs.declared.entry.Inward.TheVariants as inward
 use Rattle.kernel_process.proofs.ActiveSets.{tells_same}
-use Rattle.kernel_core.proofs.ExitSilent.{exit-silent}
-use Rattle.kernel_process.proofs.KeptMoved.{HavePlace-moved, keys-moved}
+use Rattle.kernel_process.proofs.KeptMoved.{keys-moved}
 use Rattle.kernel_core.proofs.Performs.{acts-answers, acts-reports}
 use Rattle.kernel_sound.proofs.Goes.{GoesWell}
-use Rattle.kernel_sound.proofs.Acts.{Covers, acts-well}
-use Rattle.kernel_sound.proofs.Events.{begun-well, owner-below, well-calm, well-sound}
+use Rattle.kernel_sound.proofs.Acts.{acts-well}
+use Rattle.kernel_sound.proofs.Events.{begun-well, well-calm, well-sound}
 use Rattle.kernel_process.proofs.OneProcess.{closes-table}
 use Rattle.kernel_sound.specs.Acts.{acts, made_after}
-use Rattle.kernel_core.specs.Finishing.{AreOwnersBelow, HavePlaceFor, IsCalmAfter, ending_of, finished, finishes, touched_by, touches, turned, turned_by, turned_on}
+use Rattle.kernel_core.specs.Finishing.{ending_of, finished, finishes, turned, turned_by, turned_on}
 use Rattle.kernel_core.specs.Consistent.{AreConsistent, IsConsistent, Keeps}
 use Rattle.kernel_core.specs.declared.state.State.{State}
 use Rattle.kernel_sound.specs.Sound.{AreFor, IsSound}
 use Rattle.kernel_process.specs.Parts.{with_parts}
 use Rattle.kernel_process.specs.Steady.{StaysCalm, TakesAtMost}
 use Rattle.kernel_core.specs.declared.calling.Ending.{Ending}
-use Rattle.kernel_core.specs.declared.calling.Touched.{Touched}
-use Rattle.kernel_core.specs.declared.calling.Touched.TheVariants as touched
 use Rattle.kernel_process.specs.declared.process.ControlBlock.{ControlBlock}
 use Rattle.kernel_step.specs.Calls.{IsCallWith, is_active, refusal}
 use Rattle.kernel_step.specs.Kernel.{Kernel, Outcome, closes}
 use Rattle.kernel_step.specs.Progress.{means, progress}
+use Rattle.kernel_touched.proofs.ExitSilent.{exit-silent}
+use Rattle.kernel_touched.proofs.Touching.{calm-after, covers}
+use Rattle.kernel_touched.specs.Touched.{IsCalmAfter, touched_by, touches}
 
 -- the end of an event, and what comes after it, keep what is kept
 pub kept-calm : (n made : ℕ) (old new : TableView) (xs ys : List ControlBlock) → StaysCalm old new → TakesAtMost n xs ys → AreConsistent old xs made → AreConsistent new ys made
@@ -54,12 +52,6 @@ keeps-calm old new links calm kept is =
       kernel = calm.kernel;
       length = kept.length;
     }
-
--- the same room where an end was touched
-pub HavePlaceFor-moved : (x : Touched) (xs ys : List ControlBlock) → map (λ x. x.active) ys ≡ map (λ x. x.active) xs → HavePlaceFor x xs → HavePlaceFor x ys
-HavePlaceFor-moved touched.Nothing xs ys same places = tt
-HavePlaceFor-moved (touched.End on before) xs ys same places = HavePlace-moved xs ys same places
-HavePlaceFor-moved touched.Caller xs ys same places = tt
 
 -- a call that is no Wait comes to its end
 finished-call : (p : Pid) (k made : ℕ) (c : Call) (o : Outcome) → (c ≡ call.Wait → ⊥) → finished p (ending_of k made c) o ≡ finishes p k made c o
@@ -109,47 +101,6 @@ acted-closes p k made m mine c s t u xs ys work out turns after =
     closes-table u t ys (record s { made = m }) (progress u out)
     ∙ ap (λ z. closes z (progress u out)) (turns (record s { made = m }) ∙ turned-made p c m (with_parts t xs s))
     ∙ ap (closes (record (turned p c (with_parts t xs s)) { made = m })) after
-
--- what a call touches has the end that it is on
-covers : (p : Pid) (t : EndId → Entry) (c : Call) → Covers (touches p (touched_by t c)) p c
-covers p t call.Make = tt
-covers p t (call.Destroy on) = λ q. end_eq-refl on
-covers p t (call.Send on bytes xs) = λ q. end_eq-refl on
-covers p t (call.Receive on) = λ q. end_eq-refl on
-covers p t (call.Cancel on w) = λ q. end_eq-refl on
-covers p t call.Wait = tt
-covers p t (call.Print bytes) = tt
-covers p t call.Exit = λ q e. refl
-
-apart : (a b : ℕ) → b ≢ a → nat_eq a b ≡ false
-apart a b other = by (eqb_tells a b)
-  where
-    by : ((nat_eq a b ≡ true) × (a ≡ b)) ⊎ ((nat_eq a b ≡ false) × (a ≢ b)) → nat_eq a b ≡ false
-    by (inl t) = absurd (other (sym t.1))
-    by (inr t) = t.0
-
--- activities stayed but where the call may change them
-calm-after : (p : Pid) (t v : EndId → Entry) (c : Call) → ((q : Pid) (e : EndId) → touches p (touched_by t c) q e ≡ false → is_active (owned q (v e)) ≡ is_active (owned q (t e)))
-    → (c ≡ call.Exit → (e : EndId) → is_active (owned p (v e)) ≡ false) → IsCalmAfter p (touched_by t c) t v
-calm-after p t v call.Make stays silent = λ q e. stays q e refl
-calm-after p t v (call.Destroy on) stays silent = (refl, stays)
-calm-after p t v (call.Send on bytes xs) stays silent = (refl, stays)
-calm-after p t v (call.Receive on) stays silent = (refl, stays)
-calm-after p t v (call.Cancel on w) stays silent = (refl, stays)
-calm-after p t v call.Wait stays silent = λ q e. stays q e refl
-calm-after p t v (call.Print bytes) stays silent = λ q e. stays q e refl
-calm-after p t v call.Exit stays silent = (λ q e other. stays q e (apart p.0 q.0 other), silent refl)
-
--- the owners of what a call touched are processes
-pub owners-below : (k j made m n : ℕ) (t u : EndId → Entry) → IsSound k made n t → IsSound j m n u → (c : Call) → AreOwnersBelow n u (touched_by t c)
-owners-below k j made m n t u before after call.Make = tt
-owners-below k j made m n t u before after (call.Destroy on) = (owner-below k made n t before on, owner-below j m n u after on)
-owners-below k j made m n t u before after (call.Send on bytes xs) = (owner-below k made n t before on, owner-below j m n u after on)
-owners-below k j made m n t u before after (call.Receive on) = (owner-below k made n t before on, owner-below j m n u after on)
-owners-below k j made m n t u before after (call.Cancel on w) = (owner-below k made n t before on, owner-below j m n u after on)
-owners-below k j made m n t u before after call.Wait = tt
-owners-below k j made m n t u before after (call.Print bytes) = tt
-owners-below k j made m n t u before after call.Exit = tt
 
 -- what a call that is not refused leaves
 module _ (p : Pid) (k made : ℕ) (mine : List EndId) (c : Call) (t u : EndId → Entry) (work out : Work) (after : progress u out ≡ acts p k made mine c (progress t work)) where

@@ -1,15 +1,10 @@
 pub mod Begun
-pub mod Active
 pub mod CalledParts
 pub mod Callings
-pub mod ExitSilent
 pub mod Fresh
 pub mod Happened
 pub mod Kernels
 pub mod Overwritten
 pub mod Performs
 pub mod Reserved
-pub mod Silent
 pub mod Stepped
-pub mod Touched
-pub mod Wired

@@ -26,7 +26,6 @@ use Rattle.kernel_sound.specs.Acts.{acts, made_after}
 use Rattle.kernel_step.specs.Calls.{refusal}
 use Rattle.kernel_step.specs.Kernel.{Kernel, Outcome, Process, answers_wait, begins, call_step, closes, has_report, next_stamp, process_of, reported_entry, stands, waits, with_process, without_answer}
 use Rattle.kernel_step.specs.Progress.{Progress, means}
-use Rattle.kernel_step.specs.declared.phase.Phase.{Phase}
 use Rattle.kernel_step.specs.declared.phase.Phase.TheVariants.{Running, Waiting, Cancelling}
 
 same-number : (n : ℕ) → nat_eq n n ≡ true

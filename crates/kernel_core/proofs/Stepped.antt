@@ -13,10 +13,11 @@ use Rattle.charlotte_calls.specs.declared.work.Work.{Work}
 use Rattle.end_table.specs.Owned.{AreEndsOf}
 use Rattle.end_table.specs.Table.{TableView, entries}
 use Rattle.kernel_core.proofs.Performs.{call-acts, call-refused}
-use Rattle.kernel_core.proofs.Touched.{granted-touched}
+use Rattle.kernel_touched.proofs.Touching.{granted-touched}
 use Rattle.kernel_process.proofs.OneProcess.{process_of-at}
 use Rattle.kernel_sound.specs.Acts.{acts, made_after}
-use Rattle.kernel_core.specs.Finishing.{finishes, touched_by, touched_of, turned}
+use Rattle.kernel_core.specs.Finishing.{finishes, turned}
+use Rattle.kernel_touched.specs.Touched.{touched_by, touched_of}
 use Rattle.kernel_process.specs.Parts.{process_state, process_at, with_parts, ended}
 use Rattle.kernel_core.specs.Stepping.{HasParts, IsStepOf, Begins, AreListedFor, IsRefusedFor}
 use Rattle.kernel_process.specs.declared.process.ControlBlock.{ControlBlock}

@@ -3,4 +3,3 @@ pub mod Finishing
 pub mod Started
 pub mod State
 pub mod Stepping
-pub mod Wired

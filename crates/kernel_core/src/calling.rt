@@ -1,4 +1,4 @@
-ghost use Rattle.std.specs.Prelude.{◌≡◌, ◌+◌, ◌<◌, ℕ, Bool, [], None, Some, length, map};
+ghost use Rattle.std.specs.Prelude.{◌≡◌, ◌+◌, ◌<◌, ℕ, Bool, [], None, Some, length};
 ghost use Rattle.charlotte_calls.specs.declared.names.EndId.{EndId};
 ghost use Rattle.charlotte_calls.specs.declared.names.Pid.{Pid};
 ghost use Rattle.end_table.specs.Owned.{owned};
@@ -6,22 +6,22 @@ ghost use Rattle.end_table.specs.Table.{entries};
 ghost use Rattle.end_table.specs.declared.entry.Entry.{Entry};
 ghost use Rattle.kernel_sound.specs.Acts.{acts, made_after};
 ghost use Rattle.kernel_sound.specs.Sound.{IsSound};
-ghost use Rattle.kernel_process.specs.Active.{Tells};
 ghost use Rattle.kernel_process.specs.Closing.{CanClose};
-ghost use Rattle.kernel_process.specs.Parts.{with_parts, ended, process_state, HasPlaces};
+ghost use Rattle.kernel_process.specs.Parts.{with_parts, ended, HasPlaces};
 ghost use Rattle.kernel_process.specs.Steady.{StaysCalm, TakesAtMost};
 ghost use Rattle.kernel_core.specs.Consistent.{IsConsistent};
-ghost use Rattle.kernel_core.specs.Finishing.{finishes, finished, ending_of, touched_by, touched_of, turned, turned_on, turned_to, AreOwnersBelow, HavePlaceFor, IsCalmAfter};
+ghost use Rattle.kernel_core.specs.Finishing.{finishes, finished, ending_of, turned, turned_on, turned_to};
 ghost use Rattle.kernel_core.specs.Started.{IsRequest, IsReadyToCall};
 ghost use Rattle.kernel_step.specs.Calls.{link_limit, refusal};
 ghost use Rattle.kernel_step.specs.Kernel.{Kernel, closes};
 ghost use Rattle.kernel_step.specs.Progress.{progress, means, HasRoom};
+ghost use Rattle.kernel_touched.specs.Touched.{touched_by, IsCalmAfter};
 
 use crate::state::{Request, State};
 use charlotte_calls::{Answer, Call, Effect, EndId, LinkId, Pid, ServiceStep, Side, Way};
 use end_table::{Inward, Living, Table};
 use kernel_event::act;
-use kernel_process::{Processes, clear, close, exit, refresh_owner, stand, turn};
+use kernel_process::{Processes, close, exit, stand, turn};
 use kernel_step::{Phase, push_step};
 
 /// How a call that is no Wait ends.
@@ -35,16 +35,6 @@ enum Ending {
     Later,
     /// The process exits.
     Exit,
-}
-
-/// Whose activities a call may change.
-#[derive(Drop)]
-pub(crate) enum Touched {
-    Nothing,
-    /// Those on one end, with the process that owned it before.
-    End { on: EndId, before: Option<Pid> },
-    /// All of the caller.
-    Caller,
 }
 
 /// The event that means this step and adds nothing else is over; what it gives is put into `effect`.
@@ -221,38 +211,5 @@ fn posted_in(living: &Living) -> Option<EndId>
     match living.inward() {
         Inward::Posted { .. } => Some(living.value().end),
         Inward::Idle | Inward::Withdrawing { .. } | Inward::Unreported => None,
-    }
-}
-
-/// Whose activities a call may change that is not refused: an end that it is on is the caller's.
-pub(crate) fn touched_of(p: Pid, call: &Call) -> Touched
-    ensures { result ≡ touched_of p call.now }
-{
-    match call {
-        Call::Destroy { on }
-        | Call::Send { on, .. }
-        | Call::Receive { on }
-        | Call::Cancel { on, .. } => Touched::End {
-            on: *on,
-            before: Some(p),
-        },
-        Call::Make | Call::Wait | Call::Print { .. } => Touched::Nothing,
-        Call::Exit => Touched::Caller,
-    }
-}
-
-/// The sets of active ends tell of what was touched again.
-pub(crate) fn refresh_touched(table: &Table, processes: &mut Processes, p: Pid, touched: Touched)
-    requires process { p.0 < length processes.old }
-    requires owners { AreOwnersBelow (length processes.old) (entries table.now) touched }
-    requires place { HavePlaceFor touched processes.old }
-    ensures told { (t : EndId → Entry) → Tells t processes.old → IsCalmAfter p touched t (entries table.now) → Tells (entries table.now) processes.new }
-    ensures kept { map process_state processes.new ≡ map process_state processes.old }
-    ensures length { length processes.new ≡ length processes.old }
-{
-    match touched {
-        Touched::Nothing => {}
-        Touched::End { on, before } => refresh_owner(table, processes, before, on),
-        Touched::Caller => clear(processes, p),
     }
 }

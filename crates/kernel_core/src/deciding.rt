@@ -1,4 +1,4 @@
-ghost use Rattle.std.specs.Prelude.{◌≡◌, ◌<◌, true, false, length, map, None, Some, IfOk, OnOk, OnErr};
+ghost use Rattle.std.specs.Prelude.{◌≡◌, ◌<◌, true, false, length, None, Some, IfOk, OnOk, OnErr};
 ghost use Rattle.charlotte_calls.specs.declared.calls.Call.TheVariants as calls;
 ghost use Rattle.end_table.specs.Table.{entries};
 ghost use Rattle.kernel_event.specs.Places.{IsPlacedFor};
@@ -6,13 +6,14 @@ ghost use Rattle.kernel_core.specs.Consistent.{IsConsistent, Keeps, OnlyReserves
 ghost use Rattle.kernel_core.specs.Started.{IsRequest, IsReadyToCall};
 ghost use Rattle.kernel_core.specs.Stepping.{IsCalled, AreListedFor, IsRefusedFor};
 
-use crate::calling::{act_and_close, close_step, links_after, refresh_touched, touched_of};
-use crate::refusal::refusal;
+use crate::calling::{act_and_close, close_step, links_after};
 use crate::room::{reserve_active, reserve_made, room_of_call};
 use crate::state::{Request, State, no_effect};
 use charlotte_calls::{Answer, Call, Cause, Effect, EndId, NoMemory, Pid, ServiceStep};
 use end_table::Table;
 use kernel_process::{stand, wait};
+use kernel_refusal::refusal;
+use kernel_touched::{refresh_touched, touched_of};
 use std::alloc::Global;
 
 /// The event of a call, which is put into `effect`; `mine` are the ends that the caller owns, in order, where it exits.

@@ -12,12 +12,12 @@ ghost use Rattle.kernel_process.specs.Parts.{ended, process_state};
 
 use crate::deciding::call_event;
 use crate::stamp::{greater, stamp_after, stamp_with};
-use crate::start::wire_links;
 use crate::state::{Request, State};
 use crate::taking::{NotTaken, take_event};
 use charlotte_calls::{Answer, Call, Effect, NoMemory, Packet, Pid, ServiceStep, Setting};
 use end_table::Table;
 use kernel_process::{ControlBlock, Event, Processes};
+use kernel_start::wire_links;
 use kernel_step::Phase;
 use std::alloc::Global;
 use std::marker::Model;

@@ -4,10 +4,8 @@
 mod calling;
 mod deciding;
 mod kernel;
-mod refusal;
 mod room;
 mod stamp;
-mod start;
 mod state;
 mod taking;
 

@@ -6,12 +6,12 @@ ghost use Rattle.charlotte_calls.specs.declared.picture.MovingPicture.{MovingPic
 ghost use Rattle.end_table.specs.Table.{entries, HasPlace, KeepsPlaces};
 ghost use Rattle.kernel_step.specs.Calls.{made_end};
 ghost use Rattle.end_table.specs.declared.entry.Entry.{Entry};
-ghost use Rattle.kernel_core.specs.Finishing.{HavePlaceFor, touched_by};
 ghost use Rattle.kernel_process.specs.Closing.{HaveSpare, HavePlace};
 ghost use Rattle.kernel_event.specs.Room.{room_of_packet, room_of_call};
 ghost use Rattle.kernel_process.specs.Active.{started_ends};
 ghost use Rattle.kernel_event.specs.Places.{brought, ArePlaced};
 ghost use Rattle.kernel_process.specs.Parts.{process_state};
+ghost use Rattle.kernel_touched.specs.Touched.{HavePlaceFor, touched_by};
 
 use charlotte_calls::{Call, EndId, LinkId, MovingPicture, NoMemory, Room, Side, What};
 use end_table::Table;

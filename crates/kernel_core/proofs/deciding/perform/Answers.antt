@@ -1,7 +1,7 @@
 -- The call does its part, its event closes, and the sets of active ends tell again of what the call touched.
 use Rattle.end_table.specs.Table.{entries}
-use Rattle.kernel_core.proofs.Callings.{HavePlaceFor-moved, owners-below}
-use Rattle.kernel_core.specs.Finishing.{AreOwnersBelow, HavePlaceFor, IsCalmAfter, touched_by}
+use Rattle.kernel_touched.proofs.Touching.{HavePlaceFor-moved, owners-below}
+use Rattle.kernel_touched.specs.Touched.{AreOwnersBelow, HavePlaceFor, IsCalmAfter, touched_by}
 use Rattle.kernel_process.proofs.ActiveSets.{tells_same}
 use Rattle.kernel_process.proofs.KeptMoved.{keys-moved}
 use Rattle.kernel_process.proofs.OneProcess.{with_parts-kept}

@@ -6,9 +6,9 @@ use Rattle.charlotte_calls.specs.declared.work.Room.{Room}
 use Rattle.end_table.specs.Table.{entries}
 use Rattle.end_table.specs.declared.entry.Entry.{Entry}
 use Rattle.kernel_core.proofs.Begun.{begun-plain}
-use Rattle.kernel_core.specs.Started.{IsHeard}
 use Rattle.kernel_event.specs.Room.{room_of_packet}
 use Rattle.kernel_process.specs.Closing.{HaveSpare}
+use Rattle.kernel_touched.specs.Found.{IsHeard}
 use Rattle.kernel_core.proofs.taking.reserve_taking.Goals as goal
 
 pub returns-clause-ready : goal.returns-clause-ready

@@ -20,9 +20,9 @@ use Rattle.kernel_step.specs.Progress.{progress}
 use Rattle.kernel_step.specs.Rows.{row}
 use Rattle.std.proofs.Common.{arith, ◌≡◌, ◌<◌, Bool, true, false, true≢false, IfSome, length, refl, sym, ap, subst, ◌∙◌}
 use Rattle.kernel_core.proofs.Begun.{part-closes, part-spare}
-use Rattle.kernel_core.proofs.Silent.{quiet-calm, quiet-reports}
-use Rattle.kernel_core.specs.Started.{IsFound, is_silent}
-use Rattle.kernel_core.specs.declared.taking.Found.{Found}
+use Rattle.kernel_touched.proofs.Silent.{quiet-calm, quiet-reports}
+use Rattle.kernel_touched.specs.Found.{IsFound, is_silent}
+use Rattle.kernel_touched.specs.declared.found.Found.{Found}
 use Rattle.kernel_event.specs.Room.{room_of_packet}
 use Rattle.kernel_core.proofs.taking.take.Goals as goal
 

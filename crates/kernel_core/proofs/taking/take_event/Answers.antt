@@ -2,10 +2,11 @@
 use Rattle.charlotte_calls.specs.Packets.{what_picture}
 use Rattle.end_table.specs.Table.{entries}
 use Rattle.kernel_core.proofs.Reserved.{reserved-keeps, reserved-parts}
-use Rattle.kernel_core.specs.Started.{IsFound, takes_addressed}
+use Rattle.kernel_core.specs.Started.{takes_addressed}
 use Rattle.kernel_process.specs.Parts.{with_parts}
 use Rattle.kernel_step.specs.Kernel.{closes}
 use Rattle.kernel_step.specs.Progress.{progress}
+use Rattle.kernel_touched.specs.Found.{IsFound}
 use Rattle.std.proofs.Common.{sym, ap, subst, ◌∙◌}
 use Rattle.kernel_core.proofs.taking.take_event.Goals as goal
 

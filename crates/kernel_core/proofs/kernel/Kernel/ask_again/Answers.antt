@@ -1,5 +1,4 @@
 -- The answer that stood goes after the call, where the call brought none.
-use Rattle.std.proofs.Common.{◌∙◌}
 use Rattle.kernel_core.proofs.Happened.{both_ok}
 use Rattle.kernel_core.proofs.Overwritten.{asked-over}
 use Rattle.kernel_core.specs.State.{state_of}

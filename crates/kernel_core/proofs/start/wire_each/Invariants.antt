@@ -1,7 +1,0 @@
--- the links before this one are wired
-use Rattle.std.proofs.Common.{◌≡◌}
-use Rattle.kernel_core.specs.Wired.{HasWired}
-use Rattle.kernel_core.proofs.start.wire_each.Given as goal
-
-abbrev pub invariant-loop-index : goal.invariant-loop-index
-invariant-loop-index l = record { wired : HasWired l.setting l.index l.wiring; kernel : l.wiring.table.kernel ≡ l.id }

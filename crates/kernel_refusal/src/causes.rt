@@ -1,0 +1,215 @@
+ghost use Rattle.std.specs.Prelude.{◌≡◌, ◌||◌, not, nat_eq, nat_le, if◌then◌else◌, is_none, None, Some, List, [], ◌∷◌, length};
+ghost use Rattle.std.specs.List.{list_any};
+ghost use Rattle.charlotte_calls.specs.declared.calls.Cause.TheVariants as cause;
+ghost use Rattle.charlotte_calls.specs.declared.names.EndId.{EndId};
+ghost use Rattle.charlotte_calls.specs.declared.names.Way.TheVariants as way;
+ghost use Rattle.end_table.specs.Message.{outward_of};
+ghost use Rattle.end_table.specs.Owned.{owned};
+ghost use Rattle.end_table.specs.Place.{end_eq};
+ghost use Rattle.end_table.specs.Table.{entries};
+ghost use Rattle.kernel_step.specs.Calls.{cancel_causes, first_of as first_cause, inward_activity, is_active, is_busy, is_free, is_late, link_limit, names_twice, no_causes, on_owned, outward_activity, receive_causes, refusal, same_link, send_causes, IsCallWith};
+ghost use Rattle.kernel_step.specs.Kernel.{has_report};
+ghost use Rattle.kernel_process.specs.Parts.{process_state};
+
+use charlotte_calls::{Call, Cause, EndId, Pid, Way};
+use end_table::{Inward, Living, Sending, Table};
+use kernel_process::ControlBlock;
+use kernel_step::first_of;
+
+/// How many links a kernel may make.
+const LINK_LIMIT: u32 = 65536;
+
+/// The first cause for which a call is refused, if one holds. It costs no more than a look-up for each enclosed end.
+pub fn refusal(
+    table: &Table,
+    made: u32,
+    process: &ControlBlock,
+    p: Pid,
+    call: &Call,
+) -> Option<Cause>
+    requires active { (e : EndId) → list_any (end_eq e) process.now.active.keys ≡ is_active (owned p (entries table.now e)) }
+    ensures { (mine : List EndId) → IsCallWith p (entries table.now) mine call.now
+        → result ≡ refusal p (entries table.now) made mine (has_report (process_state process.now)) call.now }
+{
+    match call {
+        Call::Make => make_refusal(made),
+        Call::Destroy { on } => destroy_refusal(table, p, *on),
+        Call::Send { on, enclose, .. } => send_refusal(table, p, *on, enclose.as_slice()),
+        Call::Receive { on } => receive_refusal(table, p, *on),
+        Call::Cancel { on, way } => cancel_refusal(table, p, *on, *way),
+        Call::Wait => wait_refusal(process),
+        Call::Print { .. } | Call::Exit => None,
+    }
+}
+
+fn make_refusal(made: u32) -> Option<Cause>
+    ensures { result ≡ (if nat_le link_limit made then Some cause.LinksFull else None) }
+{
+    if LINK_LIMIT <= made {
+        return Some(Cause::LinksFull);
+    }
+    None
+}
+
+fn destroy_refusal(table: &Table, p: Pid, on: EndId) -> Option<Cause>
+    ensures { result ≡ on_owned (owned p (entries table.now on)) no_causes }
+{
+    match table.owned(p, on) {
+        None => Some(Cause::NoEnd),
+        Some(_) => None,
+    }
+}
+
+fn send_refusal(table: &Table, p: Pid, on: EndId, enclose: &[EndId]) -> Option<Cause>
+    ensures { result ≡ on_owned (owned p (entries table.now on)) (send_causes p (entries table.now) on enclose.now) }
+{
+    match table.owned(p, on) {
+        None => Some(Cause::NoEnd),
+        Some(living) => send_cause(table, p, on, enclose, living),
+    }
+}
+
+fn send_cause(table: &Table, p: Pid, on: EndId, enclose: &[EndId], living: &Living) -> Option<Cause>
+    ensures { result ≡ first_cause (send_causes p (entries table.now) on enclose.now living.now) }
+{
+    if !is_free_outward(living.outward()) {
+        return Some(Cause::Busy);
+    }
+    if living.value().dead {
+        return Some(Cause::Dead);
+    }
+    if encloses_no_end(table, p, enclose) {
+        return Some(Cause::EncloseNoEnd);
+    }
+    if encloses_busy(table, p, enclose) {
+        return Some(Cause::EncloseBusy);
+    }
+    if encloses_same(on, enclose) {
+        return Some(Cause::EncloseSame);
+    }
+    if names_twice(enclose) {
+        return Some(Cause::EncloseTwice);
+    }
+    None
+}
+
+fn receive_refusal(table: &Table, p: Pid, on: EndId) -> Option<Cause>
+    ensures { result ≡ on_owned (owned p (entries table.now on)) receive_causes }
+{
+    match table.owned(p, on) {
+        None => Some(Cause::NoEnd),
+        Some(living) if !is_free_inward(living.inward()) => Some(Cause::Busy),
+        Some(living) if living.value().dead => Some(Cause::Dead),
+        Some(_) => None,
+    }
+}
+
+fn cancel_refusal(table: &Table, p: Pid, on: EndId, way: Way) -> Option<Cause>
+    ensures { result ≡ on_owned (owned p (entries table.now on)) (cancel_causes way) }
+{
+    match table.owned(p, on) {
+        None => Some(Cause::NoEnd),
+        Some(living) if living.value().dead => Some(Cause::Dead),
+        Some(living) => match way {
+            Way::Outward => cancel_send_cause(living.outward()),
+            Way::Inward => cancel_receive_cause(living.inward()),
+        },
+    }
+}
+
+/// The cause of a Cancel of this send, on an end that is not dead.
+fn cancel_send_cause(outward: &Sending) -> Option<Cause>
+    ensures { result ≡ first_cause ((is_late way.Outward (outward_activity (outward_of outward.now)), cause.Late) ∷ (is_free (outward_activity (outward_of outward.now)), cause.NoActivity) ∷ []) }
+{
+    match outward {
+        Sending::Idle => Some(Cause::NoActivity),
+        Sending::Waiting { .. } => None,
+        Sending::Matched { .. } | Sending::Unreported => Some(Cause::Late),
+    }
+}
+
+/// The cause of a Cancel of this receive, on an end that is not dead.
+fn cancel_receive_cause(inward: Inward) -> Option<Cause>
+    ensures { result ≡ first_cause ((is_late way.Inward (inward_activity inward), cause.Late) ∷ (is_free (inward_activity inward), cause.NoActivity) ∷ []) }
+{
+    match inward {
+        Inward::Idle => Some(Cause::NoActivity),
+        Inward::Posted { .. } | Inward::Withdrawing { .. } => None,
+        Inward::Unreported => Some(Cause::Late),
+    }
+}
+
+/// A Wait needs a report that stands, or an activity that is started.
+fn wait_refusal(process: &ControlBlock) -> Option<Cause>
+    ensures { result ≡ (if not (nat_eq (length process.now.reports.items) 0) || not (nat_eq (length process.now.active.keys) 0) then None else Some cause.NoActivity) }
+{
+    if process.reports.is_empty() && process.active.is_empty() {
+        return Some(Cause::NoActivity);
+    }
+    None
+}
+
+fn is_free_outward(outward: &Sending) -> bool
+    ensures { result ≡ is_free (outward_activity (outward_of outward.now)) }
+{
+    matches!(outward, Sending::Idle)
+}
+
+fn is_free_inward(inward: Inward) -> bool
+    ensures { result ≡ is_free (inward_activity inward) }
+{
+    matches!(inward, Inward::Idle)
+}
+
+/// Whether one of these ends is not the process's.
+fn encloses_no_end(table: &Table, p: Pid, ends: &[EndId]) -> bool
+    ensures { result ≡ list_any (λ x. is_none (owned p (entries table.now x))) ends.now }
+{
+    ends.iter().any(|end| table.owned(p, *end).is_none())
+}
+
+/// Whether one of these ends of the process has an activity.
+fn encloses_busy(table: &Table, p: Pid, ends: &[EndId]) -> bool
+    ensures { result ≡ list_any (λ x. is_busy (owned p (entries table.now x))) ends.now }
+{
+    ends.iter().any(|end| is_busy(table, p, *end))
+}
+
+fn is_busy(table: &Table, p: Pid, end: EndId) -> bool
+    ensures { result ≡ is_busy (owned p (entries table.now end)) }
+{
+    match table.owned(p, end) {
+        None => false,
+        Some(living) => !(is_free_outward(living.outward()) && is_free_inward(living.inward())),
+    }
+}
+
+/// Whether one of these ends is of the link of this end.
+fn encloses_same(on: EndId, ends: &[EndId]) -> bool
+    ensures { result ≡ list_any (same_link on) ends.now }
+{
+    ends.iter().any(|end| same_link(on, *end))
+}
+
+fn same_link(a: EndId, b: EndId) -> bool
+    ensures { result ≡ same_link a b }
+{
+    a.link.maker == b.link.maker && a.link.count == b.link.count
+}
+
+/// Whether an end is named twice among these.
+fn names_twice(ends: &[EndId]) -> bool
+    ensures { result ≡ names_twice ends.now }
+{
+    match first_of(ends) {
+        None => false,
+        Some((first, others)) => has_end(others, first) || names_twice(others),
+    }
+}
+
+#[tactic(auto, unfolding(end_table::specs::Place::end_eq))]
+fn has_end(ends: &[EndId], end: EndId) -> bool
+    ensures { result ≡ list_any (end_eq end) ends.now }
+{
+    ends.iter().any(|other| end == *other)
+}

@@ -1,0 +1,3 @@
+pub mod ExitSilent
+pub mod Silent
+pub mod Touching
