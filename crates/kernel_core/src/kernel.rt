@@ -199,22 +199,14 @@ impl Kernel {
         self.state.event.work.packets = packets;
     }
 
-    /// Gives back the other lists of an effect, of which the next event takes the room.
-    pub fn reuse_lists(&mut self, answered: Vec<Pid>, steps: Vec<ServiceStep>)
-        ensures { self.new ≡ self.old }
-    {
-        self.reuse_answered(answered);
-        self.reuse_steps(steps);
-    }
-
-    /// Gives back the list of the processes that were answered.
+    /// Gives back the list of the processes that were answered, of which the next event takes the room.
     pub fn reuse_answered(&mut self, answered: Vec<Pid>)
         ensures { self.new ≡ self.old }
     {
         self.state.event.answered = answered;
     }
 
-    /// Gives back the list of the steps.
+    /// Gives back the list of the steps, of which the next event takes the room.
     pub fn reuse_steps(&mut self, steps: Vec<ServiceStep>)
         ensures { self.new ≡ self.old }
     {

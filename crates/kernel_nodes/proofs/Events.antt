@@ -1,10 +1,8 @@
 -- One event at a node.
 use Rattle.std.proofs.Common.{◌≡◌, ℕ, ◌++◌, length, map, ap, sym, refl, ◌∙◌, Result, Ok, Err, OnOk, IfOk}
-use Rattle.charlotte_calls.specs.declared.names.Pid.{Pid}
 use Rattle.charlotte_calls.specs.declared.work.Effect.{Effect}
-use Rattle.end_table.specs.Table.{entries}
 use Rattle.kernel_core.specs.State.{KernelView, state_of, ended}
-use Rattle.kernel_step.specs.Kernel.{Kernel, Outcome, without_answer}
+use Rattle.kernel_step.specs.Kernel.{Outcome}
 use Rattle.kernel_step.specs.Progress.{sent_picture}
 use Rattle.kernel_world.specs.World.{to_kernel}
 use Rattle.kernel_nodes.specs.Nodes.{sent_to, IsAfter, IsNotedOf}

@@ -1,5 +1,5 @@
 -- Kernels with their journals: one event, and one after the other.
-use Rattle.std.proofs.Common.{◌≡◌, ◌≢◌, inl, inr, ℕ, ◌+◌, ◌-◌, ◌^◌, ◌<◌, ◌≤◌, Bool, true, false, nat_eq, List, [], ◌∷◌, ◌++◌, length, map, set, get_or, slice_get, All, Bor, Option, None, Some, cond, not, is_some, arith, ap, sym, subst, ◌∙◌, refl, append_assoc, append-nil, length-set}
+use Rattle.std.proofs.Common.{◌≡◌, ◌≢◌, inl, inr, ℕ, ◌+◌, ◌-◌, ◌^◌, ◌<◌, Bool, true, false, nat_eq, List, [], ◌∷◌, ◌++◌, length, map, set, get_or, slice_get, All, Bor, Option, None, Some, cond, not, is_some, arith, ap, sym, subst, ◌∙◌, refl, append_assoc, append-nil, length-set}
 use Rattle.std.specs.List.{filter}
 use Rattle.std.specs.Option.{option_copied, option_map}
 use Rattle.std.proofs.lemmas.List.{map-append}
@@ -18,7 +18,7 @@ use Rattle.journal_text.specs.Journal.{IsAfterLast}
 use Rattle.kernel_nodes.specs.Nodes.{AreNodes, Happens, IsNotedOf, world_of}
 use Rattle.kernel_nodes.specs.declared.node.Node.{Node}
 use Rattle.kernel_nodes.specs.declared.nodes.Noted.{Noted}
-use Rattle.kernel_step.specs.Kernel.{Kernel, Outcome}
+use Rattle.kernel_step.specs.Kernel.{Outcome}
 use Rattle.kernel_world.specs.Ranges.{IsEntryInRange}
 use Rattle.kernel_world.specs.Run.{IsAllowed, AreAllowed, of_kernel}
 use Rattle.kernel_world.specs.World.{World, Event, Calls, kernel_of, outcome, happens, asked_or_took, noted_as, nothing_sent, first_or, after, noted}

@@ -1,4 +1,4 @@
-use Rattle.std.proofs.Common.{◌≡◌, nat_eq, not, ◌<◌, ◌≤◌, length, ap, sym, ◌∙◌, arith}
+use Rattle.std.proofs.Common.{nat_eq, not, ◌<◌, ◌≤◌, length, ap, sym, ◌∙◌, arith}
 use Rattle.std.specs.List.{find}
 use Rattle.script_run.specs.Recorded.{AreQuietBelow, sent_from, world_at}
 use Rattle.script_run.specs.declared.recorded.Recorded.{Recorded}
