@@ -40,82 +40,46 @@ fn with_values(text: &'static [u8]) -> Option<Fields> {
 
 /// The fields of a call of this name, if there is one.
 pub(crate) fn call_fields(name: &[u8]) -> Option<Fields> {
-    if name == b"make".as_slice() || name == b"wait".as_slice() || name == b"exit".as_slice() {
-        plain(b"")
-    } else if name == b"destroy".as_slice() || name == b"receive".as_slice() {
-        plain(b" END")
-    } else if name == b"send".as_slice() {
-        with_ends(b" END TEXT")
-    } else if name == b"cancel".as_slice() {
-        plain(b" END WAY")
-    } else if name == b"print".as_slice() {
-        plain(b" TEXT")
-    } else {
-        None
+    match name {
+        b"make" | b"wait" | b"exit" => plain(b""),
+        b"destroy" | b"receive" => plain(b" END"),
+        b"send" => with_ends(b" END TEXT"),
+        b"cancel" => plain(b" END WAY"),
+        b"print" => plain(b" TEXT"),
+        _ => None,
     }
 }
 
 /// The fields of a packet of this name, if there is one.
 pub(crate) fn packet_fields(name: &[u8]) -> Option<Fields> {
-    if name == b"want".as_slice()
-        || name == b"unwant".as_slice()
-        || name == b"unwanted".as_slice()
-    {
-        plain(b" END W AT HOPS")
-    } else if name == b"parcel".as_slice() {
-        with_values(b" END N W AT HOPS TEXT")
-    } else if name == b"taken".as_slice() {
-        plain(b" END N AT HOPS")
-    } else if name == b"back".as_slice() {
-        with_values(b" END N")
-    } else if name == b"gone".as_slice() {
-        plain(b" END AT")
-    } else if name == b"moved".as_slice() {
-        plain(b" END AT HOPS")
-    } else if name == b"known".as_slice() || name == b"forget".as_slice() {
-        plain(b" END HOPS")
-    } else if name == b"goneseen".as_slice() {
-        plain(b" END")
-    } else {
-        None
+    match name {
+        b"want" | b"unwant" | b"unwanted" => plain(b" END W AT HOPS"),
+        b"parcel" => with_values(b" END N W AT HOPS TEXT"),
+        b"taken" => plain(b" END N AT HOPS"),
+        b"back" => with_values(b" END N"),
+        b"gone" => plain(b" END AT"),
+        b"moved" => plain(b" END AT HOPS"),
+        b"known" | b"forget" => plain(b" END HOPS"),
+        b"goneseen" => plain(b" END"),
+        _ => None,
     }
 }
 
 /// The fields of a service step of this name, if there is one.
 pub(crate) fn step_fields(name: &[u8]) -> Option<Fields> {
-    if name == b"send".as_slice() {
-        with_ends(b" END N")
-    } else if name == b"match".as_slice() || name == b"complete".as_slice() {
-        plain(b" END N")
-    } else if name == b"take".as_slice() {
-        plain(b" END N pP[ late]")
-    } else if name == b"back".as_slice() {
-        plain(b" END N[ dead]")
-    } else if name == b"notice".as_slice() {
-        plain(b" END[ dead]")
-    } else if name == b"make".as_slice() {
-        plain(b" END END")
-    } else if name == b"cancel".as_slice() {
-        plain(b" END WAY")
-    } else {
-        short_step_fields(name)
-    }
-}
-
-/// The same of a step that names an end or a process alone, of a refusal and of a report.
-fn short_step_fields(name: &[u8]) -> Option<Fields> {
-    if name == b"destroy".as_slice() || name == b"receive".as_slice() {
-        plain(b" END")
-    } else if name == b"withdraw".as_slice() || name == b"free".as_slice() {
-        plain(b" END")
-    } else if name == b"wait".as_slice() || name == b"exit".as_slice() {
-        plain(b" pP")
-    } else if name == b"refuse".as_slice() {
-        plain(b" pP CAUSE")
-    } else if name == b"report".as_slice() {
-        plain(b" pP END RESULT")
-    } else {
-        None
+    match name {
+        b"make" => plain(b" END END"),
+        b"send" => with_ends(b" END N"),
+        b"match" | b"complete" => plain(b" END N"),
+        b"take" => plain(b" END N pP[ late]"),
+        b"back" => plain(b" END N[ dead]"),
+        b"notice" => plain(b" END[ dead]"),
+        b"cancel" => plain(b" END WAY"),
+        b"destroy" | b"receive" | b"withdraw" | b"free" => plain(b" END"),
+        b"wait" | b"exit" => plain(b" pP"),
+        b"refuse" => plain(b" pP CAUSE"),
+        b"report" => plain(b" pP END RESULT"),
+        _ => None,
     }
 }
 

@@ -52,37 +52,28 @@ impl Form {
     }
 
     fn of_words(line: &[u8], first: &[u8]) -> Option<Form> {
-        if first == b".".as_slice() {
-            Some(Form::Step)
-        } else if first == b"transcript".as_slice() {
-            Some(Form::First)
-        } else if first == b"kernels".as_slice() {
-            Some(Form::Kernels)
-        } else if first == b"process".as_slice() {
-            Some(Form::Process)
-        } else if first == b"wire".as_slice() {
-            Some(Form::Wire)
-        } else if first == b"note".as_slice() {
-            Some(Form::Note)
-        } else {
-            Form::of_others(line, first)
+        match first {
+            b"transcript" => Some(Form::First),
+            b"kernels" => Some(Form::Kernels),
+            b"process" => Some(Form::Process),
+            b"wire" => Some(Form::Wire),
+            b"." => Some(Form::Step),
+            b"note" => Some(Form::Note),
+            b"quiet" => Some(Form::Quiet),
+            b"open" => Some(Form::Open),
+            b"spent" => Some(Form::Spent),
+            _ => Form::of_entry(line, first),
         }
     }
 
-    /// The same of a last line and of an entry.
-    fn of_others(line: &[u8], first: &[u8]) -> Option<Form> {
-        if first == b"quiet".as_slice() {
-            Some(Form::Quiet)
-        } else if first == b"open".as_slice() {
-            Some(Form::Open)
-        } else if first == b"spent".as_slice() {
-            Some(Form::Spent)
-        } else if !first.iter().all(|byte| byte.is_ascii_digit()) {
-            None
-        } else if word(line, 2)? == b"from".as_slice() {
-            Some(Form::Packet)
-        } else {
-            Some(Form::Call)
+    /// The same of an entry, whose first word is its stamp.
+    fn of_entry(line: &[u8], first: &[u8]) -> Option<Form> {
+        if !first.iter().all(|byte| byte.is_ascii_digit()) {
+            return None;
+        }
+        match word(line, 2)? {
+            b"from" => Some(Form::Packet),
+            _ => Some(Form::Call),
         }
     }
 
