@@ -1,5 +1,5 @@
 -- A machine: the code that it runs, and its threads.
-use Rattle.std.specs.Prelude.{◌≡◌, ℕ, ◌+◌, ◌≤◌, List, [], ◌∷◌, ◌++◌, length, map, drop, Option, Some, None, slice_get}
+use Rattle.std.specs.Prelude.{◌≡◌, ℕ, ◌+◌, ◌<◌, ◌≤◌, List, [], ◌∷◌, ◌++◌, length, map, drop, Option, Some, None, slice_get}
 use Rattle.lynx_code.specs.declared.code.Code.{Code}
 use Rattle.lynx_code.specs.declared.instruction.Instruction.{Instruction}
 use Rattle.lynx_meaning.specs.Values.{Value, Link, start_value}
@@ -51,6 +51,10 @@ start_globals kinds links = map (λ l. Link l.0) links ++ map start_value (drop 
 -- the variables of an entry, whose parameters have these values
 abbrev pub start_locals : List TypeName → List Value → List Value
 start_locals kinds values = values ++ map start_value (drop (length values) kinds)
+
+-- each lower number has a thread that stands
+abbrev pub StandBelow : ℕ → Turns → Type 0
+StandBelow n t = (k : ℕ) → k < n → (s : Standing) × (slice_get t.threads k ≡ Some (Some s))
 
 -- there is this entry, and these values are for its parameters
 abbrev pub IsEntryFor : ℕ → List Value → State → Type 0

@@ -7,7 +7,7 @@ ghost use Rattle.thread_values.specs.Told.{values_of};
 ghost use Rattle.sound_turns.specs.Sound.{FitsAction};
 ghost use Rattle.lynx_thread.specs.Told.{outcome_of};
 ghost use Rattle.runnable_code.specs.Runnable.{Part};
-ghost use Rattle.lynx_interp.specs.Machines.{HasEntry, IsEntryFor, IsMachine, IsSpawned, how_many, start_locals};
+ghost use Rattle.lynx_interp.specs.Machines.{HasEntry, IsEntryFor, IsMachine, IsSpawned, StandBelow, how_many, start_locals};
 
 use crate::machine::Machine;
 use crate::starts::entry_variables;
@@ -27,13 +27,14 @@ impl Machine {
         self.gives(thread, outcome)
     }
 
-    /// A new thread of this entry, whose parameters have these values, at the end of those that are ready. Its number; None exactly
-    /// where 32 threads stand.
+    /// A new thread of this entry, whose parameters have these values, at the end of those that are ready. Its number, the first that
+    /// is free; None exactly where 32 threads stand.
     pub fn spawn(&mut self, entry: u16, values: Vec<Value>) -> Result<Option<u8>, NoMemory>
         requires machine { IsMachine self.old }
         requires entry { IsEntryFor entry (values_of values.items) self.old }
         ensures full { IfOk result (λ number. IsNone number ↔ (how_many self.old.turns.threads ≡ 32)) }
         ensures spawned { IfOk result (λ number. IfSome number (λ n. IsSpawned n entry (values_of values.items) self.old self.new)) }
+        ensures first { IfOk result (λ number. IfSome number (λ n. StandBelow n self.old.turns)) }
         ensures none { IfOk result (λ number. IfNone number (self.new ≡ self.old)) }
         ensures unchanged { OnErr result (self.new ≡ self.old) }
         ensures machine { OnOk result (IsMachine self.new) }
@@ -70,9 +71,10 @@ impl Machine {
         Ok(())
     }
 
-    // The number of no thread.
+    // The first number of no thread.
     fn free_number(&self) -> Option<u8>
-        ensures { MatchOption result (how_many self.now.turns.threads ≡ 32) (λ n. IsFree n self.now.turns) }
+        ensures free { MatchOption result (how_many self.now.turns.threads ≡ 32) (λ n. IsFree n self.now.turns) }
+        ensures first { IfSome result (λ n. StandBelow n self.now.turns) }
     {
         for number in 0..32_u8 {
             if self.threads[usize::from(number)].is_none() {

@@ -6,6 +6,7 @@ ghost use Rattle.lynx_meaning.specs.Code.{Program};
 ghost use Rattle.lynx_meaning.specs.Values as meaning;
 ghost use Rattle.thread_turns.specs.Threads.{comes_of, fuel_after};
 ghost use Rattle.lynx_thread.specs.Told.{told};
+ghost use Rattle.lynx_thread.specs.declared.action.Move.TheVariants as moves;
 ghost use Rattle.thread_operands.specs.Operands.{Finds, IsReady, StaysReady, IsCourse, does};
 ghost use Rattle.lynx_thread.specs.Programs.{program_of};
 
@@ -17,7 +18,7 @@ use thread_stack::Variables;
 
 impl Thread {
     /// Goes on with so much fuel, until an instruction asks for an action, an await finds false, the thread ends or the fuel is spent. An
-    /// instruction takes one unit where it begins. Tells what came, and the fuel that is left.
+    /// instruction takes one unit where it begins. Tells what came, and the fuel that is left: none where the thread can go on.
     pub fn run(
         &mut self,
         code: &Code,
@@ -25,7 +26,8 @@ impl Thread {
         fuel: u32,
     ) -> Result<(Move, u32), NoMemory>
         requires { StaysReady (program_of code.now) globals.old self.old }
-        ensures { IfOk result (λ r. IsCourse (program_of code.now) fuel globals.old self.old r.1 (told r.0 globals.new self.new)) }
+        ensures course { IfOk result (λ r. IsCourse (program_of code.now) fuel globals.old self.old r.1 (told r.0 globals.new self.new)) }
+        ensures spent { IfOk result (λ r. r.0 ≡ moves.GoesOn → r.1 ≡ 0) }
     {
         let mut left = fuel;
         'instructions: while left > 0 {

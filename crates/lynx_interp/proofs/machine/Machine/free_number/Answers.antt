@@ -8,6 +8,6 @@ loop-number-preserved c =
     stands_so_far c.self.inside.threads.items c.args.self.now.turns.threads c.loop-number.number c.from.result c.index.result.now c.is_none.result (ap (λ (s : State). s.turns.threads) c.self.view_is) c.from.ensures
     c.index.ensures (omega (arith, c.loop-number-test.true, c.self.invariant)) c.is_none.ensures c.if-is_none.false c.loop-number.invariant
 
-pub returns : goal.returns
-returns c =
+pub returns-clause-free : goal.returns-clause-free
+returns-clause-free c =
     full c.self.inside.threads.items c.args.self.now.turns.threads c.loop-number.number (ap (λ (s : State). s.turns.threads) c.self.view_is) c.self.invariant c.loop-number-test.false c.loop-number.invariant

@@ -10,11 +10,11 @@ begins-requires-clause-entry c = has_entry c.args.self.now c.args.entry (values_
 
 pub returns-clause-full : goal.returns-clause-full
 returns-clause-full c =
-    let less = one_free c.args.self.now.turns.threads c.in-Some.number c.in-Some.ensures in
+    let less = one_free c.args.self.now.turns.threads c.in-Some.number c.in-Some.ensures.free in
     (λ e. absurd (true≢false e), λ all. absurd (omega (arith, less, all, c.requires.machine.sound.many)))
 
 pub returns-clause-machine : goal.returns-clause-machine
 returns-clause-machine c =
     let entry = c.requires.entry in
     subst (λ (s : State). IsMachine s) (sym (c.in_ok-begins.ensures.begun entry.0 entry.1))
-    (spawned_machine c.args.self.now c.in-Some.number c.args.entry (values_of c.args.values.items) entry.0 c.requires.machine c.in-Some.ensures entry.1 entry.2)
+    (spawned_machine c.args.self.now c.in-Some.number c.args.entry (values_of c.args.values.items) entry.0 c.requires.machine c.in-Some.ensures.free entry.1 entry.2)

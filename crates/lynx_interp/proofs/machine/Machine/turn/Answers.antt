@@ -48,4 +48,4 @@ returns c =
       subst (λ (m : State). IsCourse (program m.types m.instructions) c.args.fuel m.turns.globals s r.1 (told r.0 c.run.new.globals c.run.new.self)) c.self.view_is
           (subst (λ (q : Standing). IsCourse (program_of c.self.inside.code) c.args.fuel c.self.inside.globals q r.1 (told r.0 c.run.new.globals c.run.new.self)) same came),
     ))
-    c.run.ensures
+    c.run.ensures.course

@@ -23,8 +23,8 @@ instructions-preserved c =
           went);
     }
 
-pub returns-in_default : goal.returns-in_default
-returns-in_default c =
+pub returns-in_default-clause-course : goal.returns-in_default-clause-course
+returns-in_default-clause-course c =
     one_more (program_of c.args.code.now) c.args.fuel c.instructions.left c.fuel_after-left.result c.args.globals.now c.instructions.globals c.args.self.now c.instructions.self
     (told c.in_ok-other.other c.step.new.globals c.step.new.self)
     c.fuel_after-left.ensures
