@@ -1,0 +1,3 @@
+/// The rings of all kernels.
+#[derive(Clone, Copy, Debug)]
+pub struct Net;

@@ -1,0 +1,2 @@
+//! Tests of the net through its public calls.
+#![tactic(auto)]
