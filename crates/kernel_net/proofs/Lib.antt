@@ -1,3 +1,4 @@
 pub mod Lists
 pub mod Ports
 pub mod Rings
+pub mod Grid
