@@ -1,13 +1,13 @@
 -- The rings of a net while it is made, and the ports that they become.
 use Rattle.std.proofs.Common.{◌≡◌, ◌≢◌, ◌⊎◌, inl, inr, ℕ, zero, suc, ◌+◌, ◌<◌, ◌≤◌, List, [], ◌∷◌, ◌++◌, All, length, map, set, take, drop, get_or, ap, ◌∙◌, sym, subst, refl, arith, append-nil, length-append, length-set}
-use Rattle.std.proofs.lemmas.List.{map-append, map-set, length-map, get_or-set_same, get_or-set_other, append_assoc}
+use Rattle.std.proofs.lemmas.List.{length-map, get_or-set_same, get_or-set_other, append_assoc}
 use Rattle.std.proofs.lemmas.List.Elements.{All-push, All-head, All-tail, All-cons, All-nil, All-append, All-get_or, All-from_get_or}
+use mathlib.Core.List.{map-map}
 use Rattle.kernel_net.specs.Rings.{Ring, Outlet, Inlet, IsFreshRing, capacity_of}
-use Rattle.kernel_net.specs.Ports.{PortView, Place, place_of, put_to, got_from, places_to, known_from, room_to, IsJoined, IsPlace, IsNet, IsFresh, kernels_of}
+use Rattle.kernel_net.specs.Ports.{PortView, Place, place_of, IsJoined, IsPlace, IsNet, IsFresh}
 use Rattle.kernel_net.specs.Grid.{IsFreshOutlet, fresh_inlet, inlets_at, column, IsRow, IsGrid, ArePorts}
-use Rattle.std.proofs.lemmas.Bool.{cases_eq, cases_lt}
+use Rattle.std.proofs.lemmas.Bool.{cases_eq}
 use Rattle.std.proofs.lemmas.List.{get_or_push, get_or_append_left, get_or-map}
-use Rattle.std.proofs.Math.ListN.{get_or-eq_default}
 
 -- ---- a row grows
 
@@ -122,8 +122,12 @@ inlets-length (o ∷ row) (suc k) below = inlets-length row k (omega (arith, bel
 column-length : (n k : ℕ) → k < n → (rows : List (List Outlet)) → All (IsLong n) rows → length (column k rows) ≡ length rows
 column-length n k below [] all = refl
 column-length n k below (row ∷ rows) all =
-    omega (arith, length-append (inlets_at k row) (column k rows), inlets-length row k (omega (arith, below, All-head (IsLong n) row rows all)),
-      column-length n k below rows (All-tail (IsLong n) row rows all))
+    omega (
+      arith,
+      length-append (inlets_at k row) (column k rows),
+      inlets-length row k (omega (arith, below, All-head (IsLong n) row rows all)),
+      column-length n k below rows (All-tail (IsLong n) row rows all),
+    )
 
 all-at : {X Y : Type 0} (P : X → Type 0) (f : X → Y) (e : Y) → ((x : X) → P x → f x ≡ e) → (xs : List X) → All P xs → (q : ℕ) (d : Y) → (length xs ≤ q → d ≡ e) → get_or (map f xs) q d ≡ e
 all-at P f e is [] all q d past = past (omega arith)
@@ -177,7 +181,7 @@ module _ (c n : ℕ) (rows : List (List Outlet)) (lists : List (List Inlet)) (gr
         got = λ from. all-at IsFreshInlet (λ i. i.got) [] (λ i is. is.0) (get_or lists k []) (fresh-list k) from [] (λ past. refl);
         known = λ from. all-at IsFreshInlet (λ i. i.known) [] (λ i is. is.1) (get_or lists k []) (fresh-list k) from [] (λ past. refl);
         places = λ to less. all-at (IsFreshOutlet c) (λ o. o.places) c (λ o is. is.places) (get_or rows k []) (fresh-row k below) to 0 (λ past. absurd (omega (arith, past, less)));
-        room = λ to less. all-at (IsFreshOutlet c) (λ o. capacity_of o.ring) c (λ o is. is.room) (get_or rows k []) (fresh-row k below) to 0 (λ past. absurd (omega (arith, past, less)));
+        room = λ to less. ap (λ l. get_or l to 0) (map-map capacity_of (λ o. o.ring) (get_or rows k [])) ∙ all-at (IsFreshOutlet c) (λ o. capacity_of o.ring) c (λ o is. is.room) (get_or rows k []) (fresh-row k below) to 0 (λ past. absurd (omega (arith, past, less)));
       }
 
   module _ (ports : List PortView) (are : ArePorts n ports rows lists) where

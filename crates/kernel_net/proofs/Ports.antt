@@ -1,10 +1,10 @@
 -- What a port has after one of its rings changed.
-use Rattle.std.proofs.Common.{◌≡◌, ◌≢◌, ℕ, zero, suc, ◌+◌, ◌<◌, ◌≤◌, List, [], ◌∷◌, ◌++◌, length, map, set, get_or, ap, ◌∙◌, sym, subst, refl, arith, append-nil}
+use Rattle.std.proofs.Common.{◌≡◌, ℕ, zero, suc, ◌+◌, ◌<◌, ◌≤◌, List, [], ◌∷◌, ◌++◌, length, map, set, get_or, ap, ◌∙◌, sym, subst, refl, arith, append-nil}
 use Rattle.std.proofs.lemmas.List.{get_or_default, length-map}
 use Rattle.std.proofs.Math.Nat.{ne_of_lt}
-use mathlib.Core.List.{IsPrefix}
+use mathlib.Core.List.{IsPrefix, map-map}
 use Rattle.kernel_net.specs.Rings.{Ring, Outlet, Inlet, Puts, Gets, Looks, capacity_of}
-use Rattle.kernel_net.specs.Ports.{PortView, Place, place_of, put_to, got_from, places_to, known_from, room_to, there_of, HasPut, HasGot, HasLooked, LooksOneWay, AreAllThere, IsJoined, IsPlace, GetsFirst}
+use Rattle.kernel_net.specs.Ports.{PortView, place_of, put_to, got_from, places_to, known_from, room_to, HasPut, HasGot, HasLooked, LooksOneWay, AreAllThere, IsJoined, IsPlace, GetsFirst}
 use Rattle.kernel_net.specs.declared.letter.Letter.{Letter}
 use Rattle.kernel_net.proofs.Lists.{read-at, set-at, set-others, set-kept, prefix-trans}
 
@@ -123,9 +123,17 @@ module _ (p q : PortView) (to from : ℕ) (same-to : to ≡ q.kernel) (same-from
             ∙ ap (λ l. i'.got ++ l) known-there
             ∙ looks.there
             ∙ sym (sym (ap (put_to (with_out p to o')) same-to) ∙ set-at (λ o. o.put) p.out to o o' below-out is-o []);
-        room = omega (arith, looks.room, ap (places_to (with_out p to o')) same-to, set-at (λ o. o.places) p.out to o o' below-out is-o 0,
-            ap (room_to (with_out p to o')) same-to, set-at (λ o. capacity_of o.ring) p.out to o o' below-out is-o 0,
-            ap capacity_of looks.outlet, ap length known-there);
+        room = omega (
+          arith,
+          looks.room,
+          ap (places_to (with_out p to o')) same-to,
+          set-at (λ o. o.places) p.out to o o' below-out is-o 0,
+          ap (room_to (with_out p to o')) same-to,
+          ap (λ l. get_or l to 0) (map-map capacity_of (λ o. o.ring) (set p.out to o')),
+          set-at (λ o. capacity_of o.ring) p.out to o o' below-out is-o 0,
+          ap capacity_of looks.outlet,
+          ap length known-there,
+        );
       }
 
 -- what is said of two ports speaks of the rings from the one to the other alone
@@ -153,7 +161,7 @@ module _ (p : PortView) (from : ℕ) (letter : Letter) (into : List Inlet) (firs
   pub got-first : HasGot from letter p (record { kernel = p.kernel; out = p.out; into = into })
   got-first = subst (λ (is : List Inlet). HasGot from letter p (record { kernel = p.kernel; out = p.out; into = is })) (sym first.got.2)
       (has-got p from was first.got.0 below-first is-was letter first.got.1
-          (omega (arith, is.same, length-map p.out (λ o. o.ring), length-map p.into (λ i. i.ring))) first.before)
+      (omega (arith, is.same, length-map p.out (λ o. o.ring), length-map p.into (λ i. i.ring))) first.before)
 
 pub known-none : (is : List Inlet) → ((q : ℕ) (d : Inlet) → q < length is → (get_or is q d).known ≡ []) → (q : ℕ) → get_or (map (λ i. i.known) is) q [] ≡ []
 known-none [] none q = refl

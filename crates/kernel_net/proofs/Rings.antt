@@ -1,5 +1,5 @@
 -- What is known of a ring whose ends are brought together.
-use Rattle.std.proofs.Common.{◌≡◌, ◌+◌, ◌≤◌, ℕ, List, ◌++◌, length, ap, ◌∙◌, sym, arith, length-append}
+use Rattle.std.proofs.Common.{◌≡◌, ◌+◌, ◌++◌, length, ap, ◌∙◌, arith, length-append}
 use Rattle.std.specs.declared.alloc.Global.{Global}
 use Rattle.rtrb.specs.Ends.{SameRing}
 use Rattle.rtrb.specs.Ring.{sent, known_free, producer_capacity, received, known_items, ProducerLooked, ConsumerLooked}
@@ -7,7 +7,7 @@ use Rattle.rtrb.specs.declared.AnyItems.{AnyItems}
 use Rattle.rtrb.specs.declared.producer.Producer.{Producer}
 use Rattle.rtrb.specs.declared.consumer.Consumer.{Consumer}
 use Rattle.rtrb.specs.declared.end.End.{End}
-use Rattle.kernel_net.specs.Rings.{Ring, ring_of, capacity_of, outlet_of, inlet_of, Looks}
+use Rattle.kernel_net.specs.Rings.{ring_of, outlet_of, inlet_of, Looks}
 use Rattle.kernel_net.specs.declared.letter.Letter.{Letter}
 use Rattle.kernel_net.proofs.Lists.{prefix-trans}
 

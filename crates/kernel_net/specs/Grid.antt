@@ -1,5 +1,5 @@
 -- All rings of a net while it is made: the rows of those who put, one for each kernel that has rings to all, and the lists of those who get.
-use Rattle.std.specs.Prelude.{◌≡◌, ◌<◌, ◌≤◌, ℕ, List, [], ◌∷◌, ◌++◌, All, length, map, take, drop, slice_index_or}
+use Rattle.std.specs.Prelude.{◌≡◌, ◌<◌, ℕ, List, [], ◌∷◌, ◌++◌, All, length, map, take, drop, slice_index_or}
 use Rattle.std.specs.Global.{Vec}
 use Rattle.kernel_net.specs.Rings.{Ring, Outlet, Inlet, capacity_of}
 use Rattle.kernel_net.specs.Ports.{PortView}

@@ -50,7 +50,7 @@ place_of p = record { kernel = p.kernel; to = map (λ o. o.ring) p.out; from = m
 
 -- how many letters the ring to a kernel has room for
 abbrev pub room_to : PortView → ℕ → ℕ
-room_to p to = slice_index_or (map (λ o. capacity_of o.ring) p.out) to 0
+room_to p to = slice_index_or (map capacity_of (place_of p).to) to 0
 
 -- into the ring from the first place to the second the first puts and from it the second gets
 pub record IsJoined (p q : Place) : Type 0 where
@@ -84,7 +84,7 @@ pub record IsFresh (capacity : ℕ) (p : PortView) : Type 0 where
   pub places : (to : ℕ) → to < kernels_of p → places_to p to ≡ capacity
   pub room : (to : ℕ) → to < kernels_of p → room_to p to ≡ capacity
 
--- a letter was put to a kernel, and else nothing changed
+-- A letter was put to a kernel, and else nothing changed. When it was put, one place more was known to be free than is known now
 pub record HasPut (to : ℕ) (letter : Letter) (old new : PortView) : Type 0 where
   pub place : place_of new ≡ place_of old
   pub put : put_to new to ≡ put_to old to ++ letter ∷ []

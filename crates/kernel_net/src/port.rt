@@ -1,4 +1,4 @@
-ghost use Rattle.std.specs.Prelude.{◌≡◌, ◌+◌, ◌<◌, ◌≤◌, ℕ, [], IfOk, IfSome, IfNone, IsOk, OnOk, IfErr, length, slice_index_or};
+ghost use Rattle.std.specs.Prelude.{◌≡◌, ◌+◌, ◌<◌, ◌≤◌, ℕ, [], IfOk, IfSome, IfNone, IsOk, IsSome, OnOk, IfErr, length, slice_index_or};
 ghost use Rattle.kernel_net.specs.Rings.{Inlet};
 ghost use Rattle.kernel_net.specs.Ports.{place_of, kernels_of, HasPut, HasGot, HasLooked, LooksOneWay, IsJoined, AreOfOneNet, AreAllThere, GetsFirst, there_of, places_to, known_from};
 
@@ -42,6 +42,7 @@ impl Port {
         requires { to < kernels_of self.old }
         ensures ok { OnOk result (HasPut to letter self.old self.new) }
         ensures full { IfErr result (λ back. (back ≡ letter) × (self.new ≡ self.old) × (places_to self.new to ≡ 0)) }
+        ensures succeeds { 0 < places_to self.old to → IsOk result }
     {
         self.out[usize::from(to)].put(letter)?;
         Ok(())
@@ -52,6 +53,7 @@ impl Port {
     pub fn get(&mut self) -> Option<(u8, Letter)>
         ensures some { IfSome result (λ r. HasGot r.0 r.1 self.old self.new) }
         ensures none { IfNone result ((self.new ≡ self.old) × ((from : ℕ) → known_from self.new from ≡ [])) }
+        ensures succeeds { (from : ℕ) → 0 < length (known_from self.old from) → IsSome result }
     {
         let Some((from, letter)) = get_first(&mut self.into) else {
             return None;

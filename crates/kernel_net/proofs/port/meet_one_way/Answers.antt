@@ -26,7 +26,7 @@ returns-clause-there c = are-there _ _ _ _ c.from-to.ensures c.from-from.ensures
 
 pub returns-clause-count : goal.returns-clause-count
 returns-clause-count c = (
-    c.meet.ensures.count.0 ∙ ap length (sym (known-there _ _ _ _ c.from-to.ensures c.from-from.ensures (joined-views _ _ _ _ c.putter.view_is c.getter.view_is c.requires)
-    c.index_mut-2.result.now c.meet.new.putter c.index_mut.result.now c.meet.new.self c.index_mut-2.ensures.value c.index_mut.ensures.value)),
-    c.meet.ensures.count.1,
-  )
+  c.meet.ensures.count.0 ∙ ap length (sym (known-there _ _ _ _ c.from-to.ensures c.from-from.ensures (joined-views _ _ _ _ c.putter.view_is c.getter.view_is c.requires)
+      c.index_mut-2.result.now c.meet.new.putter c.index_mut.result.now c.meet.new.self c.index_mut-2.ensures.value c.index_mut.ensures.value)),
+  c.meet.ensures.count.1,
+)

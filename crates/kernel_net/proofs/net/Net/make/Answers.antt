@@ -1,6 +1,5 @@
-use Rattle.std.proofs.Common.{◌≡◌, ◌+◌, List, ◌∷◌, ◌++◌, [], map, ap, ◌∙◌, subst, sym, arith}
+use Rattle.std.proofs.Common.{◌≡◌, ◌+◌, ◌∷◌, ◌++◌, [], ap, ◌∙◌, subst, sym, arith}
 use Rattle.std.proofs.lemmas.List.{map-append, length-map}
-use Rattle.kernel_net.specs.Rings.{Outlet}
 use Rattle.kernel_net.specs.Grid.{IsGrid, IsRow, getters_of, putters_of}
 use Rattle.kernel_net.proofs.Grid.{grid-more, net-made, fresh-made}
 use Rattle.kernel_net.proofs.net.Net.make.Goals as goal
@@ -12,7 +11,7 @@ pub loop-preserved : goal.loop-preserved
 loop-preserved c =
     let row = c.in_ok-rings_to_each.field-0 in
     let items : putters_of c.push.new.self.items ≡ putters_of c.loop.outs.items ++ row.items ∷ [] =
-        ap putters_of c.in_ok-push.ensures.items ∙ map-append (λ v. v.items) c.loop.outs.items (row ∷ []) in
+    ap putters_of c.in_ok-push.ensures.items ∙ map-append (λ v. v.items) c.loop.outs.items (row ∷ []) in
     subst (λ rows. IsGrid c.args.capacity c.args.kernels (c.loop.counter + 1) rows (getters_of c.rings_to_each.new.intos.items)) (sym items)
     (grid-more c.args.capacity c.args.kernels c.loop.counter (putters_of c.loop.outs.items) row.items (getters_of c.loop.intos.items) (getters_of c.rings_to_each.new.intos.items) c.loop.invariant
     (subst (λ n. IsRow c.args.capacity n row.items (getters_of c.loop.intos.items) (getters_of c.rings_to_each.new.intos.items)) (omega (arith, c.loop.invariant.getters, length-map c.loop.intos.items (λ v. v.items))) c.in_ok-rings_to_each.ensures))

@@ -1,4 +1,4 @@
-use Rattle.std.proofs.Common.{◌<◌, length, rules, subst, sym, ap, ◌∙◌}
+use Rattle.std.proofs.Common.{length, subst, sym, ap, ◌∙◌}
 use Rattle.kernel_net.specs.Ports.{IsPlace}
 use Rattle.kernel_net.proofs.Ports.{looked-self, are-there, known-there, one-ring}
 use Rattle.kernel_net.proofs.port.Port.meet_self.Goals as goal
@@ -18,7 +18,7 @@ returns-clause-looked c = rw (← c.self.view_is) (looked-self _ _ c.from-own.en
 pub returns-clause-there : goal.returns-clause-there
 returns-clause-there c =
     let are = are-there _ _ _ _ c.from-own.ensures c.from-own.ensures c.self.invariant.own
-        c.index_mut-2.result.now c.meet.new.putter c.index_mut.result.now c.meet.new.self c.index_mut-2.ensures.value c.index_mut.ensures.value c.meet.ensures.looks in
+    c.index_mut-2.result.now c.meet.new.putter c.index_mut.result.now c.meet.new.self c.index_mut-2.ensures.value c.index_mut.ensures.value c.meet.ensures.looks in
     record { there = are.there; room = are.room }
 
 pub returns-clause-count : goal.returns-clause-count

@@ -1,5 +1,5 @@
 use Rattle.std.proofs.Common.{◌<◌, length, rules, subst, sym}
-use Rattle.kernel_net.specs.Ports.{HasPut, IsPlace}
+use Rattle.kernel_net.specs.Ports.{IsPlace}
 use Rattle.kernel_net.proofs.Ports.{has-put, place-out}
 use Rattle.kernel_net.proofs.port.Port.put.Goals as goal
 
