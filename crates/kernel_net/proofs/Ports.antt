@@ -4,7 +4,7 @@ use Rattle.std.proofs.lemmas.List.{get_or_default, length-map}
 use Rattle.std.proofs.Math.Nat.{ne_of_lt}
 use mathlib.Core.List.{IsPrefix, map-map}
 use Rattle.kernel_net.specs.Rings.{Ring, Outlet, Inlet, Puts, Gets, Looks, capacity_of}
-use Rattle.kernel_net.specs.Ports.{PortView, place_of, put_to, got_from, places_to, known_from, room_to, HasPut, HasGot, HasLooked, LooksOneWay, AreAllThere, IsJoined, IsPlace, GetsFirst}
+use Rattle.kernel_net.specs.Ports.{kernels_of, PortView, place_of, put_to, got_from, places_to, known_from, room_to, HasPut, HasGot, HasLooked, LooksOneWay, AreAllThere, IsJoined, IsPlace, GetsFirst}
 use Rattle.kernel_net.specs.declared.letter.Letter.{Letter}
 use Rattle.kernel_net.proofs.Lists.{read-at, set-at, set-others, set-kept, prefix-trans}
 
@@ -21,7 +21,6 @@ module _ (p : PortView) (to : ℕ) (old new : Outlet) (below : to < length p.out
   pub has-put : (letter : Letter) → Puts letter old new → HasPut to letter p (with_out p to new)
   has-put letter puts =
       record {
-        place = place-out puts.ring;
         put = set-at (λ o. o.put) p.out to old new below is [] ∙ puts.put ∙ ap (λ xs. xs ++ letter ∷ []) (sym (read-at (λ o. o.put) p.out to old new below is []));
         places = subst (λ n. n ≤ places_to (with_out p to new) to + 1) (sym (read-at (λ o. o.places) p.out to old new below is 0))
             (subst (λ n. old.places ≤ n + 1) (sym (set-at (λ o. o.places) p.out to old new below is 0)) puts.places);
@@ -29,10 +28,9 @@ module _ (p : PortView) (to : ℕ) (old new : Outlet) (below : to < length p.out
         into = refl;
       }
 
-  pub looked-out : new.ring ≡ old.ring → new.put ≡ old.put → old.places ≤ new.places → HasLooked to p (with_out p to new)
-  looked-out ring put places =
+  pub looked-out : new.put ≡ old.put → old.places ≤ new.places → HasLooked to p (with_out p to new)
+  looked-out put places =
       record {
-        place = place-out ring;
         put = ap {B = ℕ → List Letter} (λ ls q. get_or ls q []) (set-kept (λ o. o.put) p.out to old new below is put);
         got = refl;
         places = subst (λ n. n ≤ places_to (with_out p to new) to) (sym (read-at (λ o. o.places) p.out to old new below is 0))
@@ -51,10 +49,9 @@ module _ (p : PortView) (from : ℕ) (old new : Inlet) (below : from < length p.
   known-new : known_from (with_into p from new) from ≡ new.known
   known-new = set-at (λ i. i.known) p.into from old new below is []
 
-  pub looked-into : new.ring ≡ old.ring → new.got ≡ old.got → IsPrefix old.known new.known → HasLooked from p (with_into p from new)
-  looked-into ring got known =
+  pub looked-into : new.got ≡ old.got → IsPrefix old.known new.known → HasLooked from p (with_into p from new)
+  looked-into got known =
       record {
-        place = place-into ring;
         put = refl;
         got = ap {B = ℕ → List Letter} (λ ls q. get_or ls q []) (set-kept (λ i. i.got) p.into from old new below is got);
         places = omega arith;
@@ -65,8 +62,7 @@ module _ (p : PortView) (from : ℕ) (old new : Inlet) (below : from < length p.
   pub has-got : (letter : Letter) → Gets letter old new → length p.out ≡ length p.into → ((q : ℕ) (d : Inlet) → q < from → (get_or p.into q d).known ≡ []) → HasGot from letter p (with_into p from new)
   has-got letter gets same before =
       record {
-        place = place-into gets.ring;
-        kernel = omega (arith, same, below);
+        kernel = omega (arith, same, below, length-map p.out (λ o. o.ring));
         got = set-at (λ i. i.got) p.into from old new below is [] ∙ gets.got ∙ ap (λ xs. xs ++ letter ∷ []) (sym (read-at (λ i. i.got) p.into from old new below is []));
         known = subst (λ l. IsPrefix l (letter ∷ known_from (with_into p from new) from)) (sym known-old) (subst (λ l. IsPrefix old.known (letter ∷ l)) (sym known-new) gets.known);
         before = λ q less. set-others (λ i. i.known) p.into from old new below is q [] (ne_of_lt less)
@@ -78,7 +74,6 @@ module _ (p : PortView) (from : ℕ) (old new : Inlet) (below : from < length p.
 pub looked-trans : (at : ℕ) (p q r : PortView) → HasLooked at p q → HasLooked at q r → HasLooked at p r
 looked-trans at p q r a b =
     record {
-      place = b.place ∙ a.place;
       put = b.put ∙ a.put;
       got = b.got ∙ a.got;
       places = omega (arith, a.places, b.places);
@@ -107,8 +102,10 @@ module _ (p q : PortView) (to from : ℕ) (same-to : to ≡ q.kernel) (same-from
   pub looked : Looks o o' i i' → LooksOneWay p (with_out p to o') q (with_into q from i')
   looked looks =
       record {
-        putting = subst (λ k. HasLooked k p (with_out p to o')) same-to (looked-out p to o o' below-out is-o looks.outlet looks.put looks.places);
-        getting = subst (λ k. HasLooked k q (with_into q from i')) same-from (looked-into q from i i' below-into is-i looks.inlet looks.got looks.known);
+        putter_place = place-out p to o o' below-out is-o looks.outlet;
+        getter_place = place-into q from i i' below-into is-i looks.inlet;
+        putting = subst (λ k. HasLooked k p (with_out p to o')) same-to (looked-out p to o o' below-out is-o looks.put looks.places);
+        getting = subst (λ k. HasLooked k q (with_into q from i')) same-from (looked-into q from i i' below-into is-i looks.got looks.known);
         into = refl;
         out = refl;
       }
@@ -128,7 +125,7 @@ module _ (p q : PortView) (to from : ℕ) (same-to : to ≡ q.kernel) (same-from
           looks.room,
           ap (places_to (with_out p to o')) same-to,
           set-at (λ o. o.places) p.out to o o' below-out is-o 0,
-          ap (room_to (with_out p to o')) same-to,
+          ap (room_to (place_of (with_out p to o'))) same-to,
           ap (λ l. get_or l to 0) (map-map capacity_of (λ o. o.ring) (set p.out to o')),
           set-at (λ o. capacity_of o.ring) p.out to o o' below-out is-o 0,
           ap capacity_of looks.outlet,
@@ -180,4 +177,13 @@ looked-self p own same joined o o' i i' is-o is-i looks =
     let one = looked p p own own same same joined o o' i i' is-o is-i looks in
     let below = below-into p p own own same same joined o o' i i' is-o is-i in
     looked-trans p.kernel p (with_out p own o') _ one.putting
-    (subst (λ k. HasLooked k (with_out p own o') (with_into (with_out p own o') own i')) same (looked-into (with_out p own o') own i i' below is-i looks.inlet looks.got looks.known))
+    (subst (λ k. HasLooked k (with_out p own o') (with_into (with_out p own o') own i')) same (looked-into (with_out p own o') own i i' below is-i looks.got looks.known))
+
+pub place-self : (p : PortView) (own : ℕ) → own ≡ p.kernel → IsJoined (place_of p) (place_of p) → (o o' : Outlet) (i i' : Inlet) → o ≡ get_or p.out own o → i ≡ get_or p.into own i
+    → Looks o o' i i' → place_of (with_into (with_out p own o') own i') ≡ place_of p
+place-self p own same joined o o' i i' is-o is-i looks =
+    let below = below-into p p own own same same joined o o' i i' is-o is-i in
+    place-into (with_out p own o') own i i' below is-i looks.inlet ∙ (looked p p own own same same joined o o' i i' is-o is-i looks).putter_place
+
+pub below-to : (p v : PortView) (to at : ℕ) → p ≡ v → at ≡ to → to < kernels_of (place_of v) → at < length p.out
+below-to p v to at is same below = omega (arith, below, same, length-map p.out (λ o. o.ring), ap (λ (w : PortView). length w.out) is, length-map v.out (λ o. o.ring))

@@ -39,7 +39,8 @@ impl Port {
 
     /// Puts a letter to a kernel. The letter comes back exactly where no free place of the ring to it is known.
     pub fn put(&mut self, to: u8, letter: Letter) -> Result<(), Letter>
-        requires { to < kernels_of self.old }
+        requires { to < kernels_of (place_of self.old) }
+        ensures place { place_of self.new ≡ place_of self.old }
         ensures ok { OnOk result (HasPut to letter self.old self.new) }
         ensures full { IfErr result (λ back. (back ≡ letter) × (self.new ≡ self.old) × (places_to self.new to ≡ 0)) }
         ensures succeeds { 0 < places_to self.old to → IsOk result }
@@ -51,6 +52,7 @@ impl Port {
     /// Gets the first letter of the first kernel, by their numbers, of which one is known, with that kernel's number; `None` exactly
     /// where no letter is known in any ring to this port.
     pub fn get(&mut self) -> Option<(u8, Letter)>
+        ensures place { place_of self.new ≡ place_of self.old }
         ensures some { IfSome result (λ r. HasGot r.0 r.1 self.old self.new) }
         ensures none { IfNone result ((self.new ≡ self.old) × ((from : ℕ) → known_from self.new from ≡ [])) }
         ensures succeeds { (from : ℕ) → 0 < length (known_from self.old from) → IsSome result }
@@ -63,6 +65,7 @@ impl Port {
 
     /// Brings both ends of the ring from this port to itself together: how many letters are there. It always succeeds.
     pub fn meet_self(&mut self) -> Result<u32, NoMemory>
+        ensures place { place_of self.new ≡ place_of self.old }
         ensures looked { HasLooked self.old.kernel self.old self.new }
         ensures there { AreAllThere self.new self.new }
         ensures count { IfOk result (λ n. n ≡ length (there_of self.new self.new)) }
@@ -91,6 +94,8 @@ fn get_first(into: &mut Vec<Getter>) -> Option<(u8, Letter)>
 /// always succeeds.
 pub fn meet(a: &mut Port, b: &mut Port) -> Result<u32, NoMemory>
     requires { AreOfOneNet (place_of a.old) (place_of b.old) }
+    ensures place_a { place_of a.new ≡ place_of a.old }
+    ensures place_b { place_of b.new ≡ place_of b.old }
     ensures looked_a { HasLooked b.old.kernel a.old a.new }
     ensures looked_b { HasLooked a.old.kernel b.old b.new }
     ensures there { AreAllThere a.new b.new × AreAllThere b.new a.new }

@@ -9,11 +9,11 @@ meet-requires c = one-ring _ _ _ _ c.from-to.ensures c.from-from.ensures (joined
 
 pub invariant_of-putter : goal.invariant_of-putter
 invariant_of-putter c = subst IsPlace (sym (looked _ _ _ _ c.from-to.ensures c.from-from.ensures (joined-views _ _ _ _ c.putter.view_is c.getter.view_is c.requires)
-    c.index_mut-2.result.now c.meet.new.putter c.index_mut.result.now c.meet.new.self c.index_mut-2.ensures.value c.index_mut.ensures.value c.meet.ensures.looks).putting.place) c.putter.invariant
+    c.index_mut-2.result.now c.meet.new.putter c.index_mut.result.now c.meet.new.self c.index_mut-2.ensures.value c.index_mut.ensures.value c.meet.ensures.looks).putter_place) c.putter.invariant
 
 pub invariant_of-getter : goal.invariant_of-getter
 invariant_of-getter c = subst IsPlace (sym (looked _ _ _ _ c.from-to.ensures c.from-from.ensures (joined-views _ _ _ _ c.putter.view_is c.getter.view_is c.requires)
-    c.index_mut-2.result.now c.meet.new.putter c.index_mut.result.now c.meet.new.self c.index_mut-2.ensures.value c.index_mut.ensures.value c.meet.ensures.looks).getting.place) c.getter.invariant
+    c.index_mut-2.result.now c.meet.new.putter c.index_mut.result.now c.meet.new.self c.index_mut-2.ensures.value c.index_mut.ensures.value c.meet.ensures.looks).getter_place) c.getter.invariant
 
 pub returns-clause-looked : goal.returns-clause-looked
 returns-clause-looked c = rw (← c.putter.view_is, ← c.getter.view_is)
