@@ -1,0 +1,1 @@
+//! Two ports, each in a thread of its own.
