@@ -2,6 +2,7 @@
 
 use crate::ports::Ports;
 use crate::samples::{holds, is_got, packet, parcel};
+use crate::threads::across;
 use kernel_net::Letter;
 use std::test::Fail;
 
@@ -42,4 +43,10 @@ fn a_letter_keeps_the_values_in_it(rt: HostRuntime) -> Result<(), Fail> {
     holds(ports.put(1, 0, parcel(7)?).is_ok(), "a put")?;
     holds(ports.put(1, 0, parcel(8)?).is_ok(), "another put")?;
     is_got(rt.alloc(), ports.get(0), 1, &parcel(7)?)
+}
+
+#[test]
+fn ports_go_to_threads_of_their_own(rt: HostRuntime) -> Result<(), Fail> {
+    let came = across(&rt, rt.alloc(), 10_000)?;
+    holds(came == 10_000, "each in order")
 }

@@ -15,8 +15,8 @@ meet-requires c =
     let less : c.args.first < length front = omega (arith, c.requires.order.0, split.front_len) in
     let some : 0 < length back = omega (arith, c.requires.order.1, split.back_len) in
     net-joined c.args.ports.now c.requires.net c.args.first c.args.second p q (omega (arith, c.requires.order.0, c.requires.order.1)) c.requires.order.1
-        (get_or_default front c.args.first _ p less ∙ sym (get_or_append_left front back p c.args.first less) ∙ ap (λ l. get_or l c.args.first p) (sym split.value))
-        (get_or_default back 0 _ q some ∙ sym (get_or-append-add front back 0 q) ∙ ap (λ k. get_or (front ++ back) k q) (omega (arith, split.front_len)) ∙ ap (λ l. get_or l c.args.second q) (sym split.value))
+    (get_or_default front c.args.first _ p less ∙ sym (get_or_append_left front back p c.args.first less) ∙ ap (λ l. get_or l c.args.first p) (sym split.value))
+    (get_or_default back 0 _ q some ∙ sym (get_or-append-add front back 0 q) ∙ ap (λ k. get_or (front ++ back) k q) (omega (arith, split.front_len)) ∙ ap (λ l. get_or l c.args.second q) (sym split.value))
 
 pub returns : goal.returns
 returns c =
