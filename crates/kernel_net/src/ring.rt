@@ -49,12 +49,12 @@ pub(crate) fn new_ring(alloc: Global, capacity: u16) -> Result<(Putter, Getter),
 }
 
 impl Putter {
-    /// Puts a letter, which comes back exactly where no free place is known.
+    /// Learns what the other end got, and puts a letter, which comes back exactly where no free place is known.
     pub(crate) fn put(&mut self, letter: Letter) -> Result<(), Letter>
         ensures ok { OnOk result (Puts letter self.old self.new) }
         ensures full { IfErr result (λ back. (back ≡ letter) × (self.new ≡ self.old) × (self.new.places ≡ 0)) }
     {
-        if self.ring.is_full() {
+        if self.ring.slots() == 0 {
             return Err(letter);
         }
         self.ring.push_reserved(letter);
@@ -63,12 +63,15 @@ impl Putter {
 }
 
 impl Getter {
-    /// Gets the first letter that is there; `None` exactly where none is known.
+    /// Learns what the other end put, and gets the first letter that is there; `None` exactly where none is known.
     pub(crate) fn get(&mut self) -> Option<Letter>
         ensures some { IfSome result (λ letter. Gets letter self.old self.new) }
         ensures none { IfNone result ((self.new ≡ self.old) × (self.new.known ≡ [])) }
     {
-        self.ring.pop().ok()
+        if self.ring.slots() == 0 {
+            return None;
+        }
+        Some(self.ring.pop_known())
     }
 
     /// Brings both ends of the ring together: how many letters are there.
