@@ -32,7 +32,8 @@ impl Model for Port {
 impl Port {
     /// Its place in the list that `Net::make` gave.
     pub fn kernel(&self) -> u8
-        ensures { result ≡ self.now.kernel }
+        ensures number { result ≡ self.now.kernel }
+        ensures own { result < kernels_of (place_of self.now) }
     {
         self.kernel
     }

@@ -1,6 +1,6 @@
-use Rattle.std.proofs.Common.{◌≡◌, ◌<◌, ◌+◌, List, ◌++◌, length, map, set, get_or, ap, ◌∙◌, sym, arith}
+use Rattle.std.proofs.Common.{◌<◌, ◌++◌, length, map, set, get_or, ap, ◌∙◌, sym, arith}
 use Rattle.std.proofs.lemmas.List.{map-append, get_or_append_left, get_or-append-add, get_or_default}
-use Rattle.kernel_net.specs.Ports.{Place, place_of}
+use Rattle.kernel_net.specs.Ports.{place_of}
 use Rattle.kernel_net.proofs.Lists.{set-kept}
 use Rattle.kernel_net.proofs.Nets.{net-joined}
 use Rattle.net_tests.proofs.ports.meet_two.Goals as goal
