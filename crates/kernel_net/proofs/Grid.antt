@@ -28,9 +28,6 @@ inlets-others (x ∷ row) o (suc k) other = inlets-others row o k (λ e. other (
 fresh-inlet : (c : ℕ) (o : Outlet) (i : Inlet) → IsFreshRing c o i → fresh_inlet o.ring ≡ i
 fresh-inlet c o i fresh j = record { ring = fresh.ring j; got = sym fresh.got j; known = sym fresh.known j }
 
-pub row-start : (c : ℕ) (lists : List (List Inlet)) → IsRow c 0 [] lists lists
-row-start c lists = record { putters = refl; fresh = All-nil (IsFreshOutlet c); getters = refl; gained = λ k. sym (ap (λ l. get_or lists k [] ++ l) (inlets-nil k) ∙ append-nil (get_or lists k [])) }
-
 pub row-more : (c n : ℕ) (row : List Outlet) (old new : List (List Inlet)) (o : Outlet) (i : Inlet) → IsRow c n row old new → n < length new → IsFreshRing c o i
     → IsRow c (n + 1) (row ++ o ∷ []) old (set new n (get_or new n [] ++ i ∷ []))
 row-more c n row old new o i is below fresh =
@@ -60,9 +57,6 @@ row-more c n row old new o i is below fresh =
 
 abbrev IsLong : ℕ → List Outlet → Type 0
 IsLong n row = length row ≡ n
-
-pub grid-start : (c : ℕ) → IsGrid c 0 0 [] []
-grid-start c = record { putters = refl; whole = All-nil (IsLong 0); fresh = All-nil (All (IsFreshOutlet c)); getters = refl; columns = λ k. refl }
 
 nil-push : (lists : List (List Inlet)) (k : ℕ) → get_or (lists ++ [] ∷ []) k [] ≡ get_or lists k []
 nil-push [] zero = refl
@@ -221,16 +215,6 @@ pub record IsTaking (k : ℕ) (made : List PortView) (rows left : List (List Out
   pub getters : (j : ℕ) → k ≤ j → get_or kept j [] ≡ get_or lists j []
   pub row_count : length left ≡ length rows
   pub list_count : length kept ≡ length lists
-
-pub taking-start : (rows : List (List Outlet)) (lists : List (List Inlet)) → IsTaking 0 [] rows rows lists lists
-taking-start rows lists =
-    record {
-      ports = record { number = refl; port = λ k d less. absurd (omega (arith, less)) };
-      putters = λ j more. refl;
-      getters = λ j more. refl;
-      row_count = refl;
-      list_count = refl;
-    }
 
 pub taking-more : (k : ℕ) (made : List PortView) (rows left : List (List Outlet)) (lists kept : List (List Inlet)) → IsTaking k made rows left lists kept
     → IsTaking (k + 1) (made ++ port_at left kept k ∷ []) rows (set left k []) lists (set kept k [])

@@ -1,7 +1,7 @@
 -- The ports of a net in a list, for those who keep it.
 use Rattle.std.proofs.Common.{◌≡◌, ℕ, ◌<◌, List, length, map, set, get_or, ap, ◌∙◌, sym, subst, arith}
 use Rattle.std.proofs.lemmas.List.{length-map}
-use Rattle.kernel_net.specs.Ports.{PortView, Place, place_of, kernels_of, IsNet, IsJoined, AreOfOneNet}
+use Rattle.kernel_net.specs.Ports.{PortView, place_of, kernels_of, IsNet, IsJoined, AreOfOneNet}
 use Rattle.kernel_net.proofs.Lists.{read-at, set-kept}
 
 module _ (ports : List PortView) (net : IsNet (map place_of ports)) where

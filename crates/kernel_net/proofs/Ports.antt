@@ -133,12 +133,6 @@ module _ (p q : PortView) (to from : ℕ) (same-to : to ≡ q.kernel) (same-from
         );
       }
 
--- what is said of two ports speaks of the rings from the one to the other alone
-pub there-kept : (p p' q q' : PortView) → p'.kernel ≡ p.kernel → p'.out ≡ p.out → q'.kernel ≡ q.kernel → q'.into ≡ q.into → AreAllThere p q → AreAllThere p' q'
-there-kept p p' q q' kp out kq into there =
-    subst (λ (v : PortView). AreAllThere v q') (λ j. record { kernel = sym kp j; out = sym out j; into = p'.into })
-    (subst (λ (v : PortView). AreAllThere (record { kernel = p.kernel; out = p.out; into = p'.into }) v) (λ j. record { kernel = sym kq j; out = q'.out; into = sym into j }) (record { there = there.there; room = there.room }))
-
 -- ---- a letter got from the first ring that has one
 
 module _ (p : PortView) (from : ℕ) (letter : Letter) (into : List Inlet) (first : GetsFirst from letter p.into into) (is : IsPlace (place_of p)) where
