@@ -1,0 +1,5 @@
+pub mod Grid
+pub mod Lists
+pub mod Nets
+pub mod Ports
+pub mod Rings

@@ -1,0 +1,183 @@
+-- What a port has after one of its rings changed.
+use Rattle.std.proofs.Common.{◌≡◌, ℕ, zero, suc, ◌+◌, ◌<◌, ◌≤◌, List, [], ◌∷◌, ◌++◌, length, map, set, get_or, ap, ◌∙◌, sym, subst, refl, arith, append-nil}
+use Rattle.std.proofs.lemmas.List.{get_or_default, length-map}
+use Rattle.std.proofs.Math.Nat.{ne_of_lt}
+use mathlib.Core.List.{IsPrefix, map-map}
+use Rattle.kernel_net.specs.Rings.{Ring, Outlet, Inlet, Puts, Gets, Looks, capacity_of}
+use Rattle.kernel_net.specs.Ports.{kernels_of, PortView, place_of, put_to, got_from, places_to, known_from, room_to, HasPut, HasGot, HasLooked, LooksOneWay, AreAllThere, IsJoined, IsPlace, GetsFirst}
+use Rattle.kernel_net.specs.declared.letter.Letter.{Letter}
+use Rattle.kernel_net.proofs.Lists.{read-at, set-at, set-others, set-kept, prefix-trans}
+
+abbrev pub with_out : PortView → ℕ → Outlet → PortView
+with_out p to o = record { kernel = p.kernel; out = set p.out to o; into = p.into }
+
+abbrev pub with_into : PortView → ℕ → Inlet → PortView
+with_into p from i = record { kernel = p.kernel; out = p.out; into = set p.into from i }
+
+module _ (p : PortView) (to : ℕ) (old new : Outlet) (below : to < length p.out) (is : old ≡ get_or p.out to old) where
+  pub place-out : new.ring ≡ old.ring → place_of (with_out p to new) ≡ place_of p
+  place-out same = ap (λ (rs : List Ring). record { kernel = p.kernel; to = rs; from = map (λ i. i.ring) p.into }) (set-kept (λ o. o.ring) p.out to old new below is same)
+
+  pub has-put : (letter : Letter) → Puts letter old new → HasPut to letter p (with_out p to new)
+  has-put letter puts =
+      record {
+        put = set-at (λ o. o.put) p.out to old new below is [] ∙ puts.put ∙ ap (λ xs. xs ++ letter ∷ []) (sym (read-at (λ o. o.put) p.out to old new below is []));
+        places = subst (λ n. n ≤ places_to (with_out p to new) to + 1) (sym (read-at (λ o. o.places) p.out to old new below is 0))
+            (subst (λ n. old.places ≤ n + 1) (sym (set-at (λ o. o.places) p.out to old new below is 0)) puts.places);
+        others = λ q other. (set-others (λ o. o.put) p.out to old new below is q [] other, set-others (λ o. o.places) p.out to old new below is q 0 other);
+        into = refl;
+      }
+
+  pub looked-out : new.put ≡ old.put → old.places ≤ new.places → HasLooked to p (with_out p to new)
+  looked-out put places =
+      record {
+        put = ap {B = ℕ → List Letter} (λ ls q. get_or ls q []) (set-kept (λ o. o.put) p.out to old new below is put);
+        got = refl;
+        places = subst (λ n. n ≤ places_to (with_out p to new) to) (sym (read-at (λ o. o.places) p.out to old new below is 0))
+            (subst (λ n. old.places ≤ n) (sym (set-at (λ o. o.places) p.out to old new below is 0)) places);
+        known = ([], append-nil (known_from p to));
+        others = λ q other. (set-others (λ o. o.places) p.out to old new below is q 0 other, refl);
+      }
+
+module _ (p : PortView) (from : ℕ) (old new : Inlet) (below : from < length p.into) (is : old ≡ get_or p.into from old) where
+  pub place-into : new.ring ≡ old.ring → place_of (with_into p from new) ≡ place_of p
+  place-into same = ap (λ (rs : List Ring). record { kernel = p.kernel; to = map (λ o. o.ring) p.out; from = rs }) (set-kept (λ i. i.ring) p.into from old new below is same)
+
+  known-old : known_from p from ≡ old.known
+  known-old = read-at (λ i. i.known) p.into from old new below is []
+
+  known-new : known_from (with_into p from new) from ≡ new.known
+  known-new = set-at (λ i. i.known) p.into from old new below is []
+
+  pub looked-into : new.got ≡ old.got → IsPrefix old.known new.known → HasLooked from p (with_into p from new)
+  looked-into got known =
+      record {
+        put = refl;
+        got = ap {B = ℕ → List Letter} (λ ls q. get_or ls q []) (set-kept (λ i. i.got) p.into from old new below is got);
+        places = omega arith;
+        known = subst (λ l. IsPrefix l (known_from (with_into p from new) from)) (sym known-old) (subst (λ l. IsPrefix old.known l) (sym known-new) known);
+        others = λ q other. (refl, set-others (λ i. i.known) p.into from old new below is q [] other);
+      }
+
+  pub has-got : (letter : Letter) → Gets letter old new → length p.out ≡ length p.into → ((q : ℕ) (d : Inlet) → q < from → (get_or p.into q d).known ≡ []) → HasGot from letter p (with_into p from new)
+  has-got letter gets same before =
+      record {
+        kernel = omega (arith, same, below, length-map p.out (λ o. o.ring));
+        got = set-at (λ i. i.got) p.into from old new below is [] ∙ gets.got ∙ ap (λ xs. xs ++ letter ∷ []) (sym (read-at (λ i. i.got) p.into from old new below is []));
+        known = subst (λ l. IsPrefix l (letter ∷ known_from (with_into p from new) from)) (sym known-old) (subst (λ l. IsPrefix old.known (letter ∷ l)) (sym known-new) gets.known);
+        before = λ q less. set-others (λ i. i.known) p.into from old new below is q [] (ne_of_lt less)
+            ∙ read-at (λ i. i.known) p.into q (get_or p.into q old) old (omega (arith, less, below)) (get_or_default p.into q old _ (omega (arith, less, below))) [] ∙ before q old less;
+        others = λ q other. (set-others (λ i. i.got) p.into from old new below is q [] other, set-others (λ i. i.known) p.into from old new below is q [] other);
+        out = refl;
+      }
+
+pub looked-trans : (at : ℕ) (p q r : PortView) → HasLooked at p q → HasLooked at q r → HasLooked at p r
+looked-trans at p q r a b =
+    record {
+      put = b.put ∙ a.put;
+      got = b.got ∙ a.got;
+      places = omega (arith, a.places, b.places);
+      known = prefix-trans _ _ _ a.known b.known;
+      others = λ k other. ((b.others k other).0 ∙ (a.others k other).0, (b.others k other).1 ∙ (a.others k other).1);
+    }
+
+-- ---- the two ends of the ring from one port to another
+
+module _ (p q : PortView) (to from : ℕ) (same-to : to ≡ q.kernel) (same-from : from ≡ p.kernel) (joined : IsJoined (place_of p) (place_of q))
+    (o o' : Outlet) (i i' : Inlet) (is-o : o ≡ get_or p.out to o) (is-i : i ≡ get_or q.into from i) where
+  pub below-out : to < length p.out
+  below-out = omega (arith, joined.to, same-to, length-map p.out (λ o. o.ring))
+
+  pub below-into : from < length q.into
+  below-into = omega (arith, joined.from, same-from, length-map q.into (λ i. i.ring))
+
+  pub one-ring : o.ring ≡ i.ring
+  one-ring =
+      sym (read-at (λ o. o.ring) p.out to o o below-out is-o o.ring)
+      ∙ ap (λ k. get_or (map (λ o. o.ring) p.out) k o.ring) same-to
+      ∙ joined.ring o.ring
+      ∙ sym (ap (λ k. get_or (map (λ i. i.ring) q.into) k o.ring) same-from)
+      ∙ read-at (λ i. i.ring) q.into from i i below-into is-i o.ring
+
+  pub looked : Looks o o' i i' → LooksOneWay p (with_out p to o') q (with_into q from i')
+  looked looks =
+      record {
+        putter_place = place-out p to o o' below-out is-o looks.outlet;
+        getter_place = place-into q from i i' below-into is-i looks.inlet;
+        putting = subst (λ k. HasLooked k p (with_out p to o')) same-to (looked-out p to o o' below-out is-o looks.put looks.places);
+        getting = subst (λ k. HasLooked k q (with_into q from i')) same-from (looked-into q from i i' below-into is-i looks.got looks.known);
+        into = refl;
+        out = refl;
+      }
+
+  pub known-there : known_from (with_into q from i') p.kernel ≡ i'.known
+  known-there = sym (ap (known_from (with_into q from i')) same-from) ∙ set-at (λ i. i.known) q.into from i i' below-into is-i []
+
+  pub are-there : Looks o o' i i' → AreAllThere (with_out p to o') (with_into q from i')
+  are-there looks =
+      record {
+        there = ap (λ l. l ++ known_from (with_into q from i') p.kernel) (sym (ap (got_from (with_into q from i')) same-from) ∙ set-at (λ i. i.got) q.into from i i' below-into is-i [])
+            ∙ ap (λ l. i'.got ++ l) known-there
+            ∙ looks.there
+            ∙ sym (sym (ap (put_to (with_out p to o')) same-to) ∙ set-at (λ o. o.put) p.out to o o' below-out is-o []);
+        room = omega (
+          arith,
+          looks.room,
+          ap (places_to (with_out p to o')) same-to,
+          set-at (λ o. o.places) p.out to o o' below-out is-o 0,
+          ap (room_to (place_of (with_out p to o'))) same-to,
+          ap (λ l. get_or l to 0) (map-map capacity_of (λ o. o.ring) (set p.out to o')),
+          set-at (λ o. capacity_of o.ring) p.out to o o' below-out is-o 0,
+          ap capacity_of looks.outlet,
+          ap length known-there,
+        );
+      }
+
+-- ---- a letter got from the first ring that has one
+
+module _ (p : PortView) (from : ℕ) (letter : Letter) (into : List Inlet) (first : GetsFirst from letter p.into into) (is : IsPlace (place_of p)) where
+  below-first : from < length p.into
+  below-first = first.kernel
+
+  abbrev was : Inlet
+  was = get_or p.into from first.got.0
+
+  is-was : was ≡ get_or p.into from was
+  is-was = get_or_default p.into from first.got.0 was below-first
+
+  pub place-first : place_of (record { kernel = p.kernel; out = p.out; into = into }) ≡ place_of p
+  place-first = ap (λ (is : List Inlet). place_of (record { kernel = p.kernel; out = p.out; into = is })) first.got.2
+      ∙ place-into p from was first.got.0 below-first is-was first.got.1.ring
+
+  pub got-first : HasGot from letter p (record { kernel = p.kernel; out = p.out; into = into })
+  got-first = subst (λ (is : List Inlet). HasGot from letter p (record { kernel = p.kernel; out = p.out; into = is })) (sym first.got.2)
+      (has-got p from was first.got.0 below-first is-was letter first.got.1
+      (omega (arith, is.same, length-map p.out (λ o. o.ring), length-map p.into (λ i. i.ring))) first.before)
+
+pub known-none : (is : List Inlet) → ((q : ℕ) (d : Inlet) → q < length is → (get_or is q d).known ≡ []) → (q : ℕ) → get_or (map (λ i. i.known) is) q [] ≡ []
+known-none [] none q = refl
+known-none (i ∷ is) none zero = none 0 i (omega arith)
+known-none (i ∷ is) none (suc q) = known-none is (λ k d less. none (suc k) d (omega (arith, less))) q
+
+-- ---- a view for the port
+
+pub joined-views : (p p' q q' : PortView) → p ≡ p' → q ≡ q' → IsJoined (place_of p') (place_of q') → IsJoined (place_of p) (place_of q)
+joined-views p p' q q' a b is = subst (λ v. IsJoined (place_of v) (place_of q)) (sym a) (subst (λ v. IsJoined (place_of p') (place_of v)) (sym b) is)
+
+-- both ends of the ring from a port to itself
+pub looked-self : (p : PortView) (own : ℕ) → own ≡ p.kernel → IsJoined (place_of p) (place_of p) → (o o' : Outlet) (i i' : Inlet) → o ≡ get_or p.out own o → i ≡ get_or p.into own i
+    → Looks o o' i i' → HasLooked p.kernel p (with_into (with_out p own o') own i')
+looked-self p own same joined o o' i i' is-o is-i looks =
+    let one = looked p p own own same same joined o o' i i' is-o is-i looks in
+    let below = below-into p p own own same same joined o o' i i' is-o is-i in
+    looked-trans p.kernel p (with_out p own o') _ one.putting
+    (subst (λ k. HasLooked k (with_out p own o') (with_into (with_out p own o') own i')) same (looked-into (with_out p own o') own i i' below is-i looks.got looks.known))
+
+pub place-self : (p : PortView) (own : ℕ) → own ≡ p.kernel → IsJoined (place_of p) (place_of p) → (o o' : Outlet) (i i' : Inlet) → o ≡ get_or p.out own o → i ≡ get_or p.into own i
+    → Looks o o' i i' → place_of (with_into (with_out p own o') own i') ≡ place_of p
+place-self p own same joined o o' i i' is-o is-i looks =
+    let below = below-into p p own own same same joined o o' i i' is-o is-i in
+    place-into (with_out p own o') own i i' below is-i looks.inlet ∙ (looked p p own own same same joined o o' i i' is-o is-i looks).putter_place
+
+pub below-to : (p v : PortView) (to at : ℕ) → p ≡ v → at ≡ to → to < kernels_of (place_of v) → at < length p.out
+below-to p v to at is same below = omega (arith, below, same, length-map p.out (λ o. o.ring), ap (λ (w : PortView). length w.out) is, length-map v.out (λ o. o.ring))

@@ -1,0 +1,86 @@
+ghost use Rattle.std.specs.Prelude.{◌≡◌, ◌≤◌, [], IfOk, IfSome, IfNone, OnOk, IfErr, length};
+ghost use Rattle.kernel_net.specs.Rings.{IsFreshRing, Gets, Puts, Looks, capacity_of};
+
+use crate::Letter;
+use charlotte_calls::NoMemory;
+use rtrb::{Consumer, Producer, RingBuffer};
+use std::alloc::Global;
+use std::marker::Model;
+
+/// The end of a ring that puts. Contracts see the ring, what was put, and the free places that are known.
+#[derive(Drop)]
+pub(crate) struct Putter {
+    ring: Producer<Letter>,
+}
+
+impl Model for Putter {
+    ghost use Rattle.kernel_net.specs.Rings.{Outlet, outlet_of};
+
+    ghost Value = { Outlet };
+
+    ghost view = { λ p. outlet_of p.ring };
+}
+
+/// The end of a ring that gets. Contracts see the ring, what was got, and the letters that are known to be there.
+#[derive(Drop)]
+pub(crate) struct Getter {
+    ring: Consumer<Letter>,
+}
+
+impl Model for Getter {
+    ghost use Rattle.std.specs.Prelude.{◌≤◌};
+    ghost use Rattle.rtrb.specs.Ring.{consumer_capacity};
+    ghost use Rattle.kernel_net.specs.Rings.{Inlet, inlet_of};
+
+    ghost Value = { Inlet };
+
+    ghost view = { λ g. inlet_of g.ring };
+
+    ghost invariant = { λ g. consumer_capacity g.ring ≤ 1024 };
+}
+
+/// Both ends of a new ring.
+pub(crate) fn new_ring(alloc: Global, capacity: u16) -> Result<(Putter, Getter), NoMemory>
+    requires { capacity ≤ 1024 }
+    ensures { IfOk result (λ ends. IsFreshRing capacity ends.0 ends.1) }
+{
+    let (putter, getter) = RingBuffer::new(alloc, usize::from(capacity))?;
+    Ok((Putter { ring: putter }, Getter { ring: getter }))
+}
+
+impl Putter {
+    /// Learns what the other end got, and puts a letter, which comes back exactly where no free place is known.
+    pub(crate) fn put(&mut self, letter: Letter) -> Result<(), Letter>
+        ensures ok { OnOk result (Puts letter self.old self.new) }
+        ensures full { IfErr result (λ back. (back ≡ letter) × (self.new ≡ self.old) × (self.new.places ≡ 0)) }
+    {
+        if self.ring.slots() == 0 {
+            return Err(letter);
+        }
+        self.ring.push_reserved(letter);
+        Ok(())
+    }
+}
+
+impl Getter {
+    /// Learns what the other end put, and gets the first letter that is there; `None` exactly where none is known.
+    pub(crate) fn get(&mut self) -> Option<Letter>
+        ensures some { IfSome result (λ letter. Gets letter self.old self.new) }
+        ensures none { IfNone result ((self.new ≡ self.old) × (self.new.known ≡ [])) }
+    {
+        if self.ring.slots() == 0 {
+            return None;
+        }
+        Some(self.ring.pop_known())
+    }
+
+    /// Brings both ends of the ring together: how many letters are there.
+    pub(crate) fn meet(&mut self, putter: &mut Putter) -> u32
+        requires { putter.old.ring ≡ self.old.ring }
+        ensures looks { Looks putter.old putter.new self.old self.new }
+        ensures count { (result ≡ length self.new.known) × (result ≤ 1024) }
+    {
+        putter.ring.slots_beside(&mut self.ring);
+        self.ring.slots_beside(&mut putter.ring) as u32
+    }
+}

@@ -1,0 +1,11 @@
+//! Tests of the net through its public calls.
+#![tactic(auto)]
+
+#[cfg(test)]
+mod direct;
+mod ports;
+#[cfg(test)]
+mod samples;
+#[cfg(test)]
+mod several;
+mod threads;
