@@ -10,6 +10,7 @@ use Rattle.kernel_world.specs.Run.{AreAllowed, IsRun, of_kernel}
 use Rattle.kernel_world.specs.World.{World, Event, Calls, Takes, after, happens, left_at, noted, rest, sends_at, start}
 use Rattle.kernel_world.specs.declared.entry.Placed.{Placed}
 use Rattle.local_runs.specs.Local.{LocalEvent, Asks, Gets, IsLocalEvent, IsLocalRun, AreLocalRuns, entries_of, entry_of, gives, got_from, sent_to}
+use Rattle.local_runs.proofs.Kernels.{few_packet}
 use Rattle.local_runs.proofs.Together.{IsUnderWay, event-noted, event_of, got-first, got-other, happens-kernel, of_kernel-other, of_kernel-own, other-number, owns, same-number, sends-first, takes-not}
 use Rattle.world_record.proofs.Worlds.{is_event, told-happens, told-start}
 use Rattle.world_record.specs.Told.{IsToldPacket, IsToldWorld}
@@ -102,7 +103,7 @@ first-there s n w k from (q ∷ qs) early told is some =
     let first : IsToldPacket s.version n q = All-head (IsToldPacket s.version n) q qs (subst (λ ps. All (IsToldPacket s.version n) ps) is (told.packets from k)) in
     let sent : q.stamp ≤ n = first.stamp in
     let stamp : (w.kernel k).stamp ≤ n = told.stamps k in
-    (q, (qs, is), (first.few, omega arith))
+    (q, (qs, is), (few_packet s.version q.what first.few, omega arith))
 
 apart : (s : Setting) (n : ℕ) (w : World) (es : List Event) → n + length es < 2 ^ 64 - 1 → IsToldWorld s n w → AreAllowed s w es → (made : ℕ → List LocalEvent) × AreApart s w es made
 apart s n w [] early told allowed = ((λ k. []), record { each = λ k. tt; packets = λ from to. sym (append-nil (w.packets from to)); entries = λ k. refl })

@@ -1,13 +1,15 @@
 -- The events of one kernel: what they send has their stamps.
-use Rattle.std.proofs.Common.{◌≡◌, ◌⊎◌, inl, inr, ℕ, ◌-◌, ◌^◌, ◌<◌, ◌≤◌, max, Bool, true, false, nat_eq, IsTrue, List, [], ◌∷◌, ◌++◌, map, All, cond, Decides, arith, sym, subst, refl}
+use Rattle.std.proofs.Common.{◌≡◌, ◌⊎◌, inl, inr, ℕ, ◌-◌, ◌^◌, ◌<◌, ◌≤◌, max, Bool, true, false, nat_eq, IsTrue, List, [], ◌∷◌, ◌++◌, length, map, All, cond, Decides, arith, sym, subst, refl}
 use Rattle.std.specs.List.{filter}
 use Rattle.std.proofs.lemmas.List.Elements.{All-nil, All-cons, All-head, All-tail, All-weaker}
 use Rattle.std.proofs.lemmas.Bool.Decides.{Decides-or, Decides-and, Decides-ltb, Decides-eqb}
 use Rattle.charlotte_calls.specs.declared.calls.Call.{Call}
 use Rattle.charlotte_calls.specs.declared.calls.Call.TheVariants as call
 use Rattle.charlotte_calls.specs.declared.picture.Picture.{Picture}
+use Rattle.charlotte_calls.specs.declared.picture.PictureWhat.{PictureWhat}
+use Rattle.charlotte_calls.specs.declared.picture.PictureWhat.TheVariants as packet
 use Rattle.charlotte_calls.specs.declared.setting.Setting.{Setting}
-use Rattle.journal_text.specs.TranscriptText.{HasFewCall}
+use Rattle.journal_text.specs.TranscriptText.{HasFewCall, HasFewPacket}
 use Rattle.kernel_step.specs.Kernel.{Kernel, Outcome, take_step, next_stamp, without_answer}
 use Rattle.kernel_world.proofs.Packets.{to_kernel-first}
 use Rattle.kernel_world.specs.Run.{AreInOrder, IsCallOf, of_kernel, stands_before}
@@ -23,27 +25,45 @@ use Rattle.world_record.specs.Told.{IsTold}
 
 -- ---- what one event gives
 
-few_call : (v : ℕ) (c : Call) → IsCallOf v c → HasFewCall v c
+-- at most eight, whatever the version
+pub few-two : (v n : ℕ) → n ≤ cond (nat_eq v 1) 1 8 → n ≤ 8
+few-two v n few = elim (nat_eq v 1) as (λ b. n ≤ cond b 1 8 → n ≤ 8) [ true ↦ λ h. omega arith | false ↦ λ h. h ] few
+
+few_call : (v : ℕ) (c : Call) → IsCallOf v c → HasFewCall 2 c
 few_call v call.Make h = tt
 few_call v (call.Destroy on) h = tt
-few_call v (call.Send on bytes xs) h = h.0
+few_call v (call.Send on bytes xs) h = few-two v (length xs) h.0
 few_call v (call.Receive on) h = tt
 few_call v (call.Cancel on w) h = tt
 few_call v call.Wait h = tt
 few_call v (call.Print bytes) h = tt
 few_call v call.Exit h = tt
 
-same-stamp : (v n : ℕ) (w : Happened) (o : Outcome) → Gives v n w o → Gives v o.kernel.stamp w o
-same-stamp v n w o g = subst (λ m. Gives v m w o) (sym g.stamp) g
+pub few_packet : (v : ℕ) (what : PictureWhat) → HasFewPacket v what → HasFewPacket 2 what
+few_packet v (packet.Want to w at hops) h = tt
+few_packet v (packet.Unwant to w at hops) h = tt
+few_packet v (packet.Unwanted to w at hops) h = tt
+few_packet v (packet.Parcel to n w at hops bytes ms) h = few-two v (length ms) h
+few_packet v (packet.Taken to n at hops) h = tt
+few_packet v (packet.Back to n ms) h = few-two v (length ms) h
+few_packet v (packet.Gone to at) h = tt
+few_packet v (packet.Moved to at hops) h = tt
+few_packet v (packet.Known to hops) h = tt
+few_packet v (packet.Forget to hops) h = tt
+few_packet v (packet.GoneSeen to) h = tt
 
-pub local-gives : (s : Setting) (k : ℕ) (x : Kernel) (o : LocalEvent) → IsTold s.version x → IsLocalEvent s k x o → Gives s.version (gives x o).kernel.stamp (happened o) (gives x o)
-local-gives s k x (Asks p c mine) told is = same-stamp s.version _ _ _ (call_step-gives s.version (without_answer p x) p mine c (few_call s.version c is.3) (told-without_answer s.version x p told))
-local-gives s k x (Gets from q) told is = same-stamp s.version _ _ _ (take_step-gives s.version (Took from q) x from q told is.0)
+same-stamp : (n : ℕ) (w : Happened) (o : Outcome) → Gives 2 n w o → Gives 2 o.kernel.stamp w o
+same-stamp n w o g = subst (λ m. Gives 2 m w o) (sym g.stamp) g
+
+-- what it gives can be told in version 2, whatever its own is
+pub local-gives : (s : Setting) (k : ℕ) (x : Kernel) (o : LocalEvent) → IsTold 2 x → IsLocalEvent s k x o → Gives 2 (gives x o).kernel.stamp (happened o) (gives x o)
+local-gives s k x (Asks p c mine) told is = same-stamp _ _ _ (call_step-gives 2 (without_answer p x) p mine c (few_call s.version c is.3) (told-without_answer 2 x p told))
+local-gives s k x (Gets from q) told is = same-stamp _ _ _ (take_step-gives 2 (Took from q) x from q told is.0)
 
 -- the taking of a packet is later than its sending
-pub get-later : (s : Setting) (k : ℕ) (x : Kernel) (from : ℕ) (q : Picture) → IsTold s.version x → IsLocalEvent s k x (Gets from q) → q.stamp < (take_step x from q).kernel.stamp
+pub get-later : (s : Setting) (k : ℕ) (x : Kernel) (from : ℕ) (q : Picture) → IsTold 2 x → IsLocalEvent s k x (Gets from q) → q.stamp < (take_step x from q).kernel.stamp
 get-later s k x from q told is =
-    let at : (take_step x from q).kernel.stamp ≡ next_stamp (max x.stamp q.stamp) = (take_step-gives s.version (Took from q) x from q told is.0).stamp in
+    let at : (take_step x from q).kernel.stamp ≡ next_stamp (max x.stamp q.stamp) = (take_step-gives 2 (Took from q) x from q told is.0).stamp in
     let early : max x.stamp q.stamp < 2 ^ 64 - 1 = is.1 in
     omega arith
 
@@ -68,14 +88,14 @@ first-least m n (y ∷ ys) later q qs least stamps others first =
     subst (λ (z : Picture). m ≤ z.stamp) is (omega (arith, stamp, least))
 
 -- where no event is earlier, no packet that is sent is
-pub sent-least : (s : Setting) (k : ℕ) (x : Kernel) (os : List LocalEvent) (to m : ℕ) (q : Picture) (qs : List Picture) → IsTold s.version x → IsLocalRun s k x os → All (λ e. m ≤ e.stamp) (entries_of x os) → sent_to to x os ≡ q ∷ qs → m ≤ q.stamp
+pub sent-least : (s : Setting) (k : ℕ) (x : Kernel) (os : List LocalEvent) (to m : ℕ) (q : Picture) (qs : List Picture) → IsTold 2 x → IsLocalRun s k x os → All (λ e. m ≤ e.stamp) (entries_of x os) → sent_to to x os ≡ q ∷ qs → m ≤ q.stamp
 sent-least s k x [] to m q qs told are least first = let no : [] ≡ q ∷ qs = first in absurd (cc)
 sent-least s k x (o ∷ os) to m q qs told are least first =
     let n : ℕ = (gives x o).kernel.stamp in
-    let g : Gives s.version n (happened o) (gives x o) = local-gives s k x o told are.0 in
+    let g : Gives 2 n (happened o) (gives x o) = local-gives s k x o told are.0 in
     let IsLeast : Entry → Type 0 = λ e. m ≤ e.stamp in
     let stamps : All (λ y. y.stamp ≡ n) (to_kernel to (gives x o).packets) =
-    to_kernel-all (λ y. y.stamp ≡ n) to (gives x o).packets (All-weaker (IsFewSent s.version n) (λ y. y.1.stamp ≡ n) (λ y h. h.0) (gives x o).packets g.packets) in
+    to_kernel-all (λ y. y.stamp ≡ n) to (gives x o).packets (All-weaker (IsFewSent 2 n) (λ y. y.1.stamp ≡ n) (λ y h. h.0) (gives x o).packets g.packets) in
     first-least m n (to_kernel to (gives x o).packets) (sent_to to (gives x o).kernel os) q qs (All-head IsLeast (entry_of x o) (entries_of (gives x o).kernel os) least) stamps
     (λ e. sent-least s k (gives x o).kernel os to m q qs g.told are.1 (All-tail IsLeast (entry_of x o) (entries_of (gives x o).kernel os) least) e) first
 

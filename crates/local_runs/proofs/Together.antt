@@ -14,9 +14,9 @@ use Rattle.kernel_world.specs.declared.entry.Happened.{Happened}
 use Rattle.kernel_world.specs.declared.entry.Happened.TheVariants.{Took}
 use Rattle.kernel_world.specs.declared.entry.Placed.{Placed}
 use Rattle.local_runs.specs.Local.{LocalEvent, Asks, Gets, IsLocalRun, FitTogether, IsOneRun, IsLocalEvent, entries_of, entry_of, gives, got_from, happened, left_by, sent_to}
-use Rattle.local_runs.proofs.Kernels.{get-later, in-order-least, of_kernel-all, sent-least}
+use Rattle.local_runs.proofs.Kernels.{get-later, in-order-least, local-gives, of_kernel-all, sent-least}
 use Rattle.world_record.proofs.Worlds.{is_event, told-happens, told-start}
-use Rattle.world_record.specs.Told.{IsToldWorld}
+use Rattle.world_record.specs.Told.{IsTold, IsToldWorld}
 
 -- ---- an own event as an event of the world
 
@@ -57,6 +57,7 @@ event-noted w k o there =
 -- what is to come from a world on: each kernel's own events, whose entries stand in the order of a merge
 record IsAhead (s : Setting) (n : ℕ) (w : World) (own : ℕ → List LocalEvent) (left : ℕ → ℕ → List Picture) (ps : List Placed) : Type 0 where
   told : IsToldWorld s n w
+  two : (k : ℕ) → IsTold 2 (w.kernel k)
   are : (k : ℕ) → IsLocalRun s k (w.kernel k) (own k)
   packets : (from to : ℕ) → got_from from (own to) ++ left from to ≡ w.packets from to ++ sent_to to (w.kernel from) (own from)
   entries : (k : ℕ) → of_kernel k ps ≡ entries_of (w.kernel k) (own k)
@@ -115,10 +116,10 @@ under-way s n w own left p ps (Gets j q) os a first entry = not-sent (w.packets 
     never : (zs : List Picture) → sent_to k (w.kernel j) (own j) ≡ q ∷ zs → ⊥
     never zs sent =
         let IsLeast : Entry → Type 0 = λ e. p.entry.stamp ≤ e.stamp in
-        let least : p.entry.stamp ≤ q.stamp = sent-least s j (w.kernel j) (own j) k p.entry.stamp q zs (a.told.kernels j) (a.are j)
+        let least : p.entry.stamp ≤ q.stamp = sent-least s j (w.kernel j) (own j) k p.entry.stamp q zs (a.two j) (a.are j)
         (subst (All IsLeast) (a.entries j) (of_kernel-all IsLeast j (p ∷ ps) (in-order-least p ps a.order))) sent in
         let at : p.entry.stamp ≡ (gives (w.kernel k) (Gets j q)).kernel.stamp = ap (λ (e : Entry). e.stamp) entry in
-        let later : q.stamp < (gives (w.kernel k) (Gets j q)).kernel.stamp = get-later s k (w.kernel k) j q (a.told.kernels k) is in
+        let later : q.stamp < (gives (w.kernel k) (Gets j q)).kernel.stamp = get-later s k (w.kernel k) j q (a.two k) is in
         omega (arith, least, at, later)
 
 -- ---- after it
@@ -236,6 +237,7 @@ module _ (s : Setting) (n : ℕ) (w : World) (own : ℕ → List LocalEvent) (le
   ahead : IsAhead s (n + 1) (happens w e) yet left ps
   ahead = record {
     told = told-happens s n w e (is_event s n w e early allowed a.told) a.told;
+    two = each-kernel (λ q x rs. IsTold 2 x) w own k o os there (local-gives s k (w.kernel k) o (a.two k) are.0).told (λ q ne. a.two q);
     are = each-kernel (λ q x rs. IsLocalRun s q x rs) w own k o os there are.1 (λ q ne. a.are q);
     packets = λ from to. fits-after w own left k o os from to (sent_to to (w.kernel from) (own from)) there next.events (a.packets from to)
         ∙ ap (λ qs. left_at w e from to ++ qs) (sym (sends-first w own k o os from to there next.events))
@@ -275,6 +277,9 @@ noted-length : (w : World) (es : List Event) → length (noted w es) ≡ length 
 noted-length w [] = refl
 noted-length w (e ∷ es) = let others : length (noted (happens w e) es) ≡ length es = noted-length (happens w e) es in omega (arith, others)
 
+started-two : (s : Setting) (k : ℕ) → IsTold 2 (start_kernel s k)
+started-two s k = let other : IsTold 2 (start_kernel (record s { version = 2 }) k) = (told-start (record s { version = 2 })).kernels k in record { table = other.table; reports = other.reports }
+
 pub one_run : (s : Setting) (own : ℕ → List LocalEvent) (left : ℕ → ℕ → List Picture) (merged : List Placed) → FitTogether s own left → AreInOrder merged → ((k : ℕ) → of_kernel k merged ≡ entries_of (start_kernel s k) (own k)) → length merged ≤ 2 ^ 31 → IsOneRun s own left merged
 one_run s own left merged fit order entries few =
     record {
@@ -285,7 +290,7 @@ one_run s own left merged fit order entries few =
     }
   where
     is : IsPlayed s (start s) own left merged
-    is = play s 0 (start s) own left merged (omega (arith, few)) (record { told = told-start s; are = fit.each; packets = fit.packets; entries = entries; order = order })
+    is = play s 0 (start s) own left merged (omega (arith, few)) (record { told = told-start s; two = started-two s; are = fit.each; packets = fit.packets; entries = entries; order = order })
 
     count : length is.events ≡ length merged
     count = sym (noted-length (start s) is.events) ∙ ap length is.noted_are
