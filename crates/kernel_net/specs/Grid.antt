@@ -1,4 +1,5 @@
--- All rings of a net while it is made: the rows of those who put, one for each kernel that has rings to all, and the lists of those who get.
+-- All rings of a net while it is made: the rows of those who put, one for each kernel that has rings to all, and the lists of those who get. Private clauses
+-- alone cite it.
 use Rattle.std.specs.Prelude.{◌≡◌, ◌<◌, ℕ, List, [], ◌∷◌, ◌++◌, All, length, map, take, drop, slice_index_or}
 use Rattle.std.specs.Global.{Vec}
 use Rattle.kernel_net.specs.Rings.{Ring, Outlet, Inlet, capacity_of}

@@ -115,7 +115,7 @@ pub record AreAllThere (putter getter : PortView) : Type 0 where
   pub there : got_from getter putter.kernel ++ there_of putter getter ≡ put_to putter getter.kernel
   pub room : room_to (place_of putter) getter.kernel ≤ places_to putter getter.kernel + length (there_of putter getter)
 
--- ---- the rings from all kernels
+-- ---- steps of a get and of a meeting, which private clauses alone cite
 
 -- a letter was got from the first ring in which one is known
 pub record GetsFirst (from : ℕ) (letter : Letter) (old new : List Inlet) : Type 0 where

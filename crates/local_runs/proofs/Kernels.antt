@@ -18,7 +18,7 @@ use Rattle.kernel_world.specs.declared.entry.Entry.{Entry}
 use Rattle.kernel_world.specs.declared.entry.Happened.{Happened}
 use Rattle.kernel_world.specs.declared.entry.Happened.TheVariants.{Took}
 use Rattle.kernel_world.specs.declared.entry.Placed.{Placed}
-use Rattle.local_runs.specs.Local.{LocalEvent, Asks, Gets, IsLocalRun, IsLocalEvent, entries_of, entry_of, gives, happened, sent_to}
+use Rattle.local_runs.specs.Local.{LocalEvent, MakesCall, TakesPacket, IsLocalRun, IsLocalEvent, entries_of, entry_of, gives, happened, sends_to}
 use Rattle.world_record.proofs.Kept.{IsFewSent}
 use Rattle.world_record.proofs.KeptSteps.{Gives, call_step-gives, take_step-gives, told-without_answer}
 use Rattle.world_record.specs.Told.{IsTold}
@@ -57,11 +57,11 @@ same-stamp n w o g = subst (λ m. Gives 2 m w o) (sym g.stamp) g
 
 -- what it gives can be told in version 2, whatever its own is
 pub local-gives : (s : Setting) (k : ℕ) (x : Kernel) (o : LocalEvent) → IsTold 2 x → IsLocalEvent s k x o → Gives 2 (gives x o).kernel.stamp (happened o) (gives x o)
-local-gives s k x (Asks p c mine) told is = same-stamp _ _ _ (call_step-gives 2 (without_answer p x) p mine c (few_call s.version c is.3) (told-without_answer 2 x p told))
-local-gives s k x (Gets from q) told is = same-stamp _ _ _ (take_step-gives 2 (Took from q) x from q told is.0)
+local-gives s k x (MakesCall p c mine) told is = same-stamp _ _ _ (call_step-gives 2 (without_answer p x) p mine c (few_call s.version c is.3) (told-without_answer 2 x p told))
+local-gives s k x (TakesPacket from q) told is = same-stamp _ _ _ (take_step-gives 2 (Took from q) x from q told is.0)
 
 -- the taking of a packet is later than its sending
-pub get-later : (s : Setting) (k : ℕ) (x : Kernel) (from : ℕ) (q : Picture) → IsTold 2 x → IsLocalEvent s k x (Gets from q) → q.stamp < (take_step x from q).kernel.stamp
+pub get-later : (s : Setting) (k : ℕ) (x : Kernel) (from : ℕ) (q : Picture) → IsTold 2 x → IsLocalEvent s k x (TakesPacket from q) → q.stamp < (take_step x from q).kernel.stamp
 get-later s k x from q told is =
     let at : (take_step x from q).kernel.stamp ≡ next_stamp (max x.stamp q.stamp) = (take_step-gives 2 (Took from q) x from q told is.0).stamp in
     let early : max x.stamp q.stamp < 2 ^ 64 - 1 = is.1 in
@@ -88,7 +88,7 @@ first-least m n (y ∷ ys) later q qs least stamps others first =
     subst (λ (z : Picture). m ≤ z.stamp) is (omega (arith, stamp, least))
 
 -- where no event is earlier, no packet that is sent is
-pub sent-least : (s : Setting) (k : ℕ) (x : Kernel) (os : List LocalEvent) (to m : ℕ) (q : Picture) (qs : List Picture) → IsTold 2 x → IsLocalRun s k x os → All (λ e. m ≤ e.stamp) (entries_of x os) → sent_to to x os ≡ q ∷ qs → m ≤ q.stamp
+pub sent-least : (s : Setting) (k : ℕ) (x : Kernel) (os : List LocalEvent) (to m : ℕ) (q : Picture) (qs : List Picture) → IsTold 2 x → IsLocalRun s k x os → All (λ e. m ≤ e.stamp) (entries_of x os) → sends_to to x os ≡ q ∷ qs → m ≤ q.stamp
 sent-least s k x [] to m q qs told are least first = let no : [] ≡ q ∷ qs = first in absurd (cc)
 sent-least s k x (o ∷ os) to m q qs told are least first =
     let n : ℕ = (gives x o).kernel.stamp in
@@ -96,7 +96,7 @@ sent-least s k x (o ∷ os) to m q qs told are least first =
     let IsLeast : Entry → Type 0 = λ e. m ≤ e.stamp in
     let stamps : All (λ y. y.stamp ≡ n) (to_kernel to (gives x o).packets) =
     to_kernel-all (λ y. y.stamp ≡ n) to (gives x o).packets (All-weaker (IsFewSent 2 n) (λ y. y.1.stamp ≡ n) (λ y h. h.0) (gives x o).packets g.packets) in
-    first-least m n (to_kernel to (gives x o).packets) (sent_to to (gives x o).kernel os) q qs (All-head IsLeast (entry_of x o) (entries_of (gives x o).kernel os) least) stamps
+    first-least m n (to_kernel to (gives x o).packets) (sends_to to (gives x o).kernel os) q qs (All-head IsLeast (entry_of x o) (entries_of (gives x o).kernel os) least) stamps
     (λ e. sent-least s k (gives x o).kernel os to m q qs g.told are.1 (All-tail IsLeast (entry_of x o) (entries_of (gives x o).kernel os) least) e) first
 
 -- ---- the order of a merge

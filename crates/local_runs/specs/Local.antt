@@ -20,18 +20,18 @@ use Rattle.kernel_world.specs.declared.entry.Placed.{Placed}
 -- an event as its kernel knows it
 pub data LocalEvent : Type 0 where
   -- process p makes a call; mine are the ends that it owns, in order
-  Asks : (p : Pid) → (c : Call) → (mine : List EndId) → LocalEvent
+  MakesCall : (p : Pid) → (c : Call) → (mine : List EndId) → LocalEvent
   -- this packet of a kernel is taken
-  Gets : (from : ℕ) → (q : Picture) → LocalEvent
+  TakesPacket : (from : ℕ) → (q : Picture) → LocalEvent
 
 -- what it gives at a kernel
 abbrev pub gives : Kernel → LocalEvent → Outcome
-gives x (Asks p c mine) = call_step (without_answer p x) p mine c
-gives x (Gets from q) = take_step x from q
+gives x (MakesCall p c mine) = call_step (without_answer p x) p mine c
+gives x (TakesPacket from q) = take_step x from q
 
 abbrev pub happened : LocalEvent → Happened
-happened (Asks p c mine) = Asked p c
-happened (Gets from q) = Took from q
+happened (MakesCall p c mine) = Asked p c
+happened (TakesPacket from q) = Took from q
 
 abbrev pub entry_of : Kernel → LocalEvent → Entry
 entry_of x o = record { stamp = (gives x o).kernel.stamp; what = happened o; steps = (gives x o).steps }
@@ -48,22 +48,22 @@ entries_of x [] = []
 entries_of x (o ∷ os) = entry_of x o ∷ entries_of (gives x o).kernel os
 
 -- what they send to a kernel, oldest first
-abbrev pub sent_to : ℕ → Kernel → List LocalEvent → List Picture
-sent_to to x [] = []
-sent_to to x (o ∷ os) = to_kernel to (gives x o).packets ++ sent_to to (gives x o).kernel os
+abbrev pub sends_to : ℕ → Kernel → List LocalEvent → List Picture
+sends_to to x [] = []
+sends_to to x (o ∷ os) = to_kernel to (gives x o).packets ++ sends_to to (gives x o).kernel os
 
 -- what they take of a kernel, oldest first
-abbrev pub got_from : ℕ → List LocalEvent → List Picture
-got_from from [] = []
-got_from from (Asks p c mine ∷ os) = got_from from os
-got_from from (Gets j q ∷ os) = if nat_eq from j then q ∷ got_from from os else got_from from os
+abbrev pub takes_from : ℕ → List LocalEvent → List Picture
+takes_from from [] = []
+takes_from from (MakesCall p c mine ∷ os) = takes_from from os
+takes_from from (TakesPacket j q ∷ os) = if nat_eq from j then q ∷ takes_from from os else takes_from from os
 
 -- A process that runs calls its own kernel. A packet carries at most eight values, as its type says whatever the version, and neither
 -- its stamp nor the kernel's is the greatest number
 abbrev pub IsLocalEvent : Setting → ℕ → Kernel → LocalEvent → Type 0
-IsLocalEvent s k x (Asks p c mine) =
+IsLocalEvent s k x (MakesCall p c mine) =
     (p.0 < length s.homes) × (home s p ≡ k) × ((process_of p x).phase ≡ Running) × IsCallOf s.version c × IsCallWith p x.table mine c
-IsLocalEvent s k x (Gets from q) = HasFewPacket 2 q.what × (max x.stamp q.stamp < 2 ^ 64 - 1)
+IsLocalEvent s k x (TakesPacket from q) = HasFewPacket 2 q.what × (max x.stamp q.stamp < 2 ^ 64 - 1)
 
 abbrev pub IsLocalRun : Setting → ℕ → Kernel → List LocalEvent → Type 0
 IsLocalRun s k x [] = Unit {0}
@@ -74,7 +74,7 @@ IsLocalRun s k x (o ∷ os) = IsLocalEvent s k x o × IsLocalRun s k (gives x o)
 -- Each kernel made a local run from the start. What one took of another, followed by what is left, is what this one sent to it
 pub record FitTogether (s : Setting) (made : ℕ → List LocalEvent) (left : ℕ → ℕ → List Picture) : Type 0 where
   pub each : (k : ℕ) → IsLocalRun s k (start_kernel s k) (made k)
-  pub packets : (from to : ℕ) → got_from from (made to) ++ left from to ≡ sent_to to (start_kernel s from) (made from)
+  pub packets : (from to : ℕ) → takes_from from (made to) ++ left from to ≡ sends_to to (start_kernel s from) (made from)
 
 -- these are the entries of one run, which leaves each kernel as its local run does, and under way what is left
 pub record IsOneRun (s : Setting) (made : ℕ → List LocalEvent) (left : ℕ → ℕ → List Picture) (merged : List Placed) : Type 0 where
