@@ -1,5 +1,6 @@
 //! Modules through `compile_source`, `compile` and `listing`: each instruction, each form of statement, what code keeps of types, and code at its limit.
 
+use crate::limits::holds;
 use lynx_compile::compile_source;
 use lynx_source::{SourceFault, check_source};
 use lynx_threads::{Code, compile, listing};
@@ -40,11 +41,7 @@ fn tried(alloc: Global, body: &str, want: &str) -> Result<(), Fail> {
         wanted.push_str(line)?;
         wanted.push_str("\n")?;
     }
-    if found.as_str() == wanted.as_str() {
-        Ok(())
-    } else {
-        Err(body.into())
-    }
+    holds(found.as_str() == wanted.as_str(), body)
 }
 
 /// Expressions, and where their values go.

@@ -1,6 +1,6 @@
-//! What lines show, and their numbers.
+//! What lines of transcripts show, and their numbers.
 
-use crate::reading::holds;
+use crate::journals::holds;
 use std::alloc::{AllocError, Global};
 use std::test::Fail;
 use transcript_reader::{Line, Reader, read_transcript};

@@ -1,4 +1,4 @@
-//! Whole texts: which line is the first that cannot stand in its place.
+//! Whole transcripts: which line is the first that cannot stand in its place.
 
 use crate::reading::has_bad_line;
 use std::alloc::Global;

@@ -1,4 +1,4 @@
-//! The forms of lines: right ones, and each with a field or a blank changed.
+//! The forms of lines of transcripts: right ones, and each with a field or a blank changed.
 
 use crate::reading::{has_bad_line, with_line};
 use std::alloc::Global;

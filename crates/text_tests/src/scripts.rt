@@ -22,7 +22,8 @@ settle
 p0 wait
 ";
 
-const TRANSCRIPT: &str = "transcript 1
+/// Its transcript: one message from process 1 to process 0, which are on two kernels.
+pub(crate) const TRANSCRIPT: &str = "transcript 1
 kernels 2
 process 0 on 1
 process 1 on 0

@@ -1,33 +1,9 @@
 //! A transcript that is replayed, and what is answered where one of its lines is another.
 
+use crate::scripts::TRANSCRIPT;
 use kernel_journal::{Last, LineFault, ReplayFault, read_transcript, replay};
 use std::alloc::{AllocError, Global};
 use std::test::Fail;
-
-/// One message from process 1 to process 0, which are on two kernels.
-const TRANSCRIPT: &str = "transcript 1
-kernels 2
-process 0 on 1
-process 1 on 0
-wire 1 0
-1 k0 p1 cancel 0.0a out
-. refuse p1 NoActivity
-1 k1 p0 receive 0.0b
-. receive 0.0b
-2 k0 p1 send 0.0a hello
-. send 0.0a 1
-3 k0 from 1 want 0.0a 1 1 0
-. match 0.0a 1
-4 k1 from 0 parcel 0.0b 1 1 0 0 hello
-. take 0.0a 1 p0
-5 k0 from 1 taken 0.0a 1 1 0
-. complete 0.0a 1
-5 k1 p0 wait
-. wait p0
-. report p0 0.0b in done hello
-note 10 nothing
-quiet
-";
 
 /// The most bytes of a transcript that is read.
 const MOST_BYTES: usize = 67_108_864;

@@ -1,7 +1,7 @@
 -- what was done, followed by what is done from here on, is all that is done
 use Rattle.std.proofs.Common.{◌≡◌, ◌++◌, drop}
 use Rattle.charlotte_calls.specs.Program.{steps, state_after, MayBeGiven}
-use Rattle.kernel_tests.proofs.programs.perform.Given as goal
+use Rattle.calls_tests.proofs.programs.perform.Given as goal
 
 abbrev pub invariant-loop-answer : goal.invariant-loop-answer
 invariant-loop-answer g l =

@@ -1,13 +1,9 @@
-//! What each test asks of a text.
+//! What each test of transcripts asks of a text.
 
+use crate::journals::holds;
 use std::alloc::Global;
 use std::test::Fail;
 use transcript_reader::{LineFault, read_transcript};
-
-/// Fails the test, and tells what was looked at, unless this holds.
-pub(crate) fn holds(is_so: bool, what: &str) -> Result<(), Fail> {
-    if is_so { Ok(()) } else { Err(what.into()) }
-}
 
 /// The first bad line of a text, and 0 where there is none.
 pub(crate) fn bad_line(alloc: Global, text: &[u8]) -> Result<u32, Fail> {

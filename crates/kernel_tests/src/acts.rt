@@ -1,8 +1,9 @@
 //! What is done to the end, and what the table tells of it.
 ghost use Rattle.std.specs.Prelude.{◌≡◌, true};
-ghost use Rattle.end_table.specs.Table.{entries, IsDestroyed, IsHere, IsHereAnd, IsIdle};
+ghost use Rattle.end_table.specs.Table.{entries, IsDestroyed, IsHere};
 
 use crate::samples::{END, OWNER, end_a, message};
+use crate::states::is_idle;
 use charlotte_calls::{Moving, Pid};
 use end_table::{Entry, HereView, Holder, Inward, Lent, NotStored, Outward, Table};
 use std::alloc::{AllocError, Global};
@@ -149,19 +150,6 @@ fn is_destroyed(table: &Table) -> bool
     ensures { result ≡ true → IsDestroyed (entries table.now END) }
 {
     matches!(table.lend(END), Lent::Destroyed(_))
-}
-
-fn is_idle(table: &Table) -> bool
-    ensures { result ≡ true → IsHereAnd (entries table.now END) IsIdle }
-{
-    matches!(
-        table.look(END),
-        Entry::Here(HereView {
-            outward: Outward::Idle,
-            inward: Inward::Idle,
-            ..
-        })
-    )
 }
 
 /// What the table tells of the end: of one that is here its owner, its activities, and the hint, hops, trail and last receive.

@@ -1,7 +1,7 @@
 //! A program that asks a list of calls, and the run of any program.
 ghost use Rattle.std.specs.Prelude.{◌≡◌, [], ◌∷◌, IfOk};
 ghost use Rattle.charlotte_calls.specs.declared.calls.Call.TheVariants as call;
-ghost use Rattle.kernel_tests.specs.Listed.{Listed, listed_step, done_of, asked_of};
+ghost use Rattle.calls_tests.specs.Listed.{Listed, listed_step, done_of, asked_of};
 ghost use Rattle.charlotte_calls.specs.Program.{steps, state_after, MayBeGiven, MayFollow, EndsAfterExit, IsOfVersion};
 
 use crate::samples::{end, holds};
