@@ -1,8 +1,7 @@
-//! Calls, their answers and causes, and service steps.
+//! Calls, their answers and causes.
 
-use crate::samples::{end, holds, same_text, some_bytes, two_ends};
-use charlotte_calls::{Answer, Call, Cause, Outcome, Pid, Report, ServiceStep, Side, Way};
-use std::alloc::Global;
+use crate::samples::{end, holds, some_bytes, two_ends};
+use charlotte_calls::{Answer, Call, Cause, Outcome, Report, Side, Way};
 use std::test::Fail;
 
 fn send() -> Result<Call, Fail> {
@@ -91,90 +90,19 @@ fn has_causes(call: &Call, numbers: &[u8]) -> Result<(), Fail> {
 }
 
 /// The call of a row fits its own causes and answers, and no other.
-fn fits(alloc: Global, row: usize, (causes, answers): (&[u8], [bool; 3])) -> Result<(), Fail> {
+fn fits(row: usize, (causes, answers): (&[u8], [bool; 3])) -> Result<(), Fail> {
     let call = call(row)?;
-    holds(same_text(alloc, &call.copy(), &call)?, "the copy of a call")?;
     holds(answers_of(&call)? == answers, "the answers to a call")?;
     has_causes(&call, causes)
 }
 
 #[test]
-fn calls_fit_their_answers(rt: HostRuntime) -> Result<(), Fail> {
+fn calls_fit_their_answers() -> Result<(), Fail> {
     for (cause, number) in CAUSES.iter().zip(1..=10) {
         holds(cause.number() == number, "the number of a cause")?;
     }
     for (row, want) in FITS.iter().enumerate() {
-        fits(rt.alloc(), row, *want)?;
-    }
-    Ok(())
-}
-
-/// A step of each kind.
-fn step(number: u8) -> Result<ServiceStep, Fail> {
-    let (p, n, dead, late, way) = (Pid(1), 2, true, true, Way::Inward);
-    let (on, a, b) = (end(5, Side::B), end(6, Side::A), end(6, Side::B));
-    Ok(match number {
-        0 => ServiceStep::Make { p, a, b },
-        1 => ServiceStep::Refuse {
-            p,
-            call: send()?,
-            cause: Cause::Busy,
-        },
-        2 => ServiceStep::Destroy { on },
-        3 => ServiceStep::Send {
-            on,
-            n,
-            bytes: some_bytes()?,
-            enclose: two_ends()?,
-        },
-        4 => ServiceStep::Receive { on },
-        5 => ServiceStep::Cancel { on, way },
-        6 => ServiceStep::Wait { p },
-        7 => ServiceStep::Report {
-            p,
-            report: report()?,
-        },
-        8 => ServiceStep::Exit { p },
-        9 => ServiceStep::Match { on, n },
-        10 => ServiceStep::Take { on, n, p, late },
-        11 => ServiceStep::Complete { on, n },
-        12 => ServiceStep::Withdraw { on },
-        13 => ServiceStep::Free { on },
-        14 => ServiceStep::Notice { on, dead },
-        _ => ServiceStep::Back { on, n, dead },
-    })
-}
-
-/// An answer of each kind.
-fn answer(number: u8) -> Result<Answer, Fail> {
-    Ok(match number {
-        0 => Answer::Ok,
-        1 => Answer::Made(end(1, Side::A), end(1, Side::B)),
-        2 => Answer::Reported(report()?),
-        _ => Answer::Refused(Cause::EncloseSame),
-    })
-}
-
-fn step_is_copied(alloc: Global, number: u8) -> Result<(), Fail> {
-    let step = step(number)?;
-    holds(same_text(alloc, &step.copy(), &step)?, "the copy of a step")
-}
-
-fn answer_is_copied(alloc: Global, number: u8) -> Result<(), Fail> {
-    let answer = answer(number)?;
-    holds(
-        same_text(alloc, &answer.copy(), &answer)?,
-        "the copy of an answer",
-    )
-}
-
-#[test]
-fn steps_and_answers_are_copied(rt: HostRuntime) -> Result<(), Fail> {
-    for number in 0..16 {
-        step_is_copied(rt.alloc(), number)?;
-    }
-    for number in 0..4 {
-        answer_is_copied(rt.alloc(), number)?;
+        fits(row, *want)?;
     }
     Ok(())
 }

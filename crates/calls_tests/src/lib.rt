@@ -1,4 +1,4 @@
-//! Tests of calls and their answers, service steps, values, packets, settings and programs, through the public calls of `charlotte_calls`.
+//! Tests of calls and their answers, values, packets, settings and programs, through the public calls of `charlotte_calls`.
 #![tactic(auto)]
 
 #[cfg(test)]

@@ -1,10 +1,7 @@
-//! Packets and their pictures.
+//! Packets that name kernels. That their pictures have their fields is shown by each line of .ci/rows/runs on which a packet is taken.
 
-use crate::samples::{holds, same_text, some_bytes};
-use charlotte_calls::{
-    Cargo, EndId, LinkId, Moving, MovingPicture, Packet, PictureWhat, Side, What,
-};
-use std::alloc::Global;
+use crate::samples::{holds, some_bytes};
+use charlotte_calls::{Cargo, EndId, LinkId, Moving, Packet, Side, What};
 use std::test::Fail;
 
 const TO: EndId = EndId {
@@ -105,46 +102,6 @@ fn packets_name_kernels() -> Result<(), Fail> {
     }
     for row in CARRIED {
         carries_addressed(row)?;
-    }
-    Ok(())
-}
-
-/// The values of a picture of a packet that carries some are those of `cargo`.
-fn carries_both(values: &[MovingPicture]) -> bool {
-    match values {
-        [first, second] => first.end == TO.opposite() && second.end == TO,
-        _ => false,
-    }
-}
-
-/// A packet without values and its picture are printed alike, since their fields have the same names.
-fn is_pictured(alloc: Global, packet: Packet) -> Result<bool, Fail> {
-    let picture = packet.picture();
-    if let PictureWhat::Parcel { moving, .. } | PictureWhat::Back { moving, .. } = &picture.what {
-        return Ok(carries_both(moving.as_slice()));
-    }
-    let (stamp, what) = packet.open();
-    let again = Packet { stamp, what };
-    let same = same_text(alloc, &picture.what, &again.what)?;
-    Ok(same && (stamp, picture.stamp) == (9, 9))
-}
-
-fn picture_is_copied(alloc: Global, number: u8) -> Result<bool, Fail> {
-    let picture = kind(number, 4)?.picture();
-    same_text(alloc, &picture.copy(), &picture)
-}
-
-#[test]
-fn a_picture_has_the_fields_of_its_packet(rt: HostRuntime) -> Result<(), Fail> {
-    for number in 0..11 {
-        holds(
-            is_pictured(rt.alloc(), kind(number, 4)?)?,
-            "the picture of a packet",
-        )?;
-        holds(
-            picture_is_copied(rt.alloc(), number)?,
-            "the copy of a picture",
-        )?;
     }
     Ok(())
 }

@@ -1,7 +1,5 @@
 //! What several tests use.
 use charlotte_calls::{Bytes, EndId, Ends, LinkId, Side};
-use std::alloc::Global;
-use std::fmt::Debug;
 use std::test::Fail;
 
 /// An end of a link of kernel 1.
@@ -18,13 +16,6 @@ pub(crate) fn some_bytes() -> Result<Bytes, Fail> {
 
 pub(crate) fn two_ends() -> Result<Ends, Fail> {
     Ok(Ends::from_slice(&[end(8, Side::B), end(7, Side::A)]).ok_or("ends")?)
-}
-
-/// Whether two values are printed alike for debugging, and so have the same fields.
-pub(crate) fn same_text<A: Debug, B: Debug>(alloc: Global, a: &A, b: &B) -> Result<bool, Fail> {
-    let first = format!(in alloc; "{a:?}")?;
-    let second = format!(in alloc; "{b:?}")?;
-    Ok(first.as_str() == second.as_str())
 }
 
 /// Fails the test, and tells what was looked at, unless this holds.
