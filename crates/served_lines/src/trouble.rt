@@ -6,7 +6,7 @@ use std::fmt;
 use transcript_reader::LineFault;
 
 /// What went wrong.
-#[derive(Clone, Copy, Debug, PartialEq, Eq)]
+#[derive(Clone, Copy)]
 pub(crate) enum Trouble {
     /// The input could not be read.
     Read,

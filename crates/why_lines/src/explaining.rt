@@ -15,7 +15,7 @@ use std::alloc::Global;
 use transcript_reader::{LineKind, Place};
 
 /// What is told of the place of a line.
-#[derive(Debug, Drop)]
+#[derive(Drop)]
 struct Reasons {
     expected: Vec<u8>,
     kept: Vec<u8>,

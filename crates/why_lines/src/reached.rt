@@ -6,7 +6,7 @@ use std::alloc::Global;
 use transcript_reader::{Line, LineKind, Place, Reader};
 
 /// How far lines were read.
-#[derive(Debug, Drop)]
+#[derive(Drop)]
 pub(crate) struct Reached {
     pub(crate) place: Place,
     /// What the header told so far.
@@ -16,7 +16,7 @@ pub(crate) struct Reached {
 }
 
 /// What the lines of a header told so far.
-#[derive(Debug, Drop)]
+#[derive(Drop)]
 struct Header {
     version: u8,
     kernels: u8,

@@ -26,7 +26,7 @@ pub(crate) struct Run {
 }
 
 /// What a process is doing.
-#[derive(Clone, Copy, Debug, PartialEq, Eq)]
+#[derive(Clone, Copy)]
 pub(crate) enum Doing {
     Runs,
     /// It is in a Wait or a Cancel.

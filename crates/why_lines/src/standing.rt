@@ -12,7 +12,7 @@ use std::alloc::Global;
 use std::marker::Model;
 
 /// The text of a line, without its line feed.
-#[derive(Debug, Drop)]
+#[derive(Drop)]
 pub(crate) struct Standing<'a> {
     pub(crate) text: &'a [u8],
     /// Whether a line feed ends it, and not the text of the file.
