@@ -4,7 +4,7 @@ ghost use Rattle.charlotte_calls.specs.Moving.{new_end};
 ghost use Rattle.charlotte_calls.specs.declared.names.Side.TheVariants.{A};
 ghost use Rattle.kernel_step.specs.Progress.{HasRoom};
 
-use charlotte_calls::{EndId, LinkId, Moving, NoMemory, Pid, Side, Work};
+use charlotte_calls::{EndId, LinkId, Moving, NoMemory, Pid, Room, Side, Work};
 use end_table::{HereView, Holder, Inward, NotStored, Outward, Table};
 use kernel_step::{no_bytes, no_ends};
 use std::alloc::Global;
@@ -24,16 +24,24 @@ pub(crate) fn holds(is_so: bool, what: &str) -> Result<(), Fail> {
     if is_so { Ok(()) } else { Err(what.into()) }
 }
 
+/// Room for any call of the cores.
+pub(crate) const AMPLE: Room = Room {
+    packets: 10,
+    reports: 4,
+    answers: 2,
+    steps: 4,
+};
+
 /// Lists with ample room, at stamp 5.
 pub(crate) fn ample(alloc: Global) -> Result<Work, NoMemory>
-    ensures { IfOk result (λ w. HasRoom 10 4 2 4 w) }
+    ensures { IfOk result (λ w. HasRoom AMPLE w) }
 {
     Ok(Work {
         stamp: 5,
-        packets: Vec::with_capacity(alloc, 10)?,
-        reports: Vec::with_capacity(alloc, 4)?,
-        answers: Vec::with_capacity(alloc, 2)?,
-        steps: Vec::with_capacity(alloc, 4)?,
+        packets: Vec::with_capacity(alloc, AMPLE.packets as usize)?,
+        reports: Vec::with_capacity(alloc, AMPLE.reports as usize)?,
+        answers: Vec::with_capacity(alloc, AMPLE.answers as usize)?,
+        steps: Vec::with_capacity(alloc, AMPLE.steps as usize)?,
     })
 }
 
