@@ -1,5 +1,5 @@
 -- What the parts of a call leave true of the table for the parts after them.
-use Rattle.std.proofs.Common.{◌≡◌, ℕ, ◌+◌, ◌*◌, Bool, true, false, nat_eq, List, [], ◌∷◌, Contains, zero, suc, Option, Some, None, IsSome, true≢false, refl, sym, ap, subst, ◌∙◌, arith}
+use Rattle.std.proofs.Common.{◌≡◌, ℕ, ◌+◌, Bool, true, false, nat_eq, List, [], ◌∷◌, Contains, zero, suc, Option, Some, None, IsSome, true≢false, refl, sym, ap, subst, ◌∙◌, arith}
 use Rattle.charlotte_calls.specs.Names.{opposite, other_side}
 use Rattle.charlotte_calls.specs.declared.calls.Call.TheVariants as call
 use Rattle.charlotte_calls.specs.declared.names.EndId.{EndId}
@@ -29,6 +29,7 @@ use Rattle.kernel_step.specs.Actions.{enclosed_of, end_each, ends, ends_idle, en
 use Rattle.kernel_step.specs.Calls.{encloses, ends_each, ends_here, first_of, on_owned, send_causes, starts_send}
 use Rattle.kernel_step.specs.Enclosed.{AreEnclosed}
 use Rattle.kernel_step.specs.Progress.{Progress, AddsAtMost, HasRoom, keeps, progress}
+use Rattle.kernel_step.specs.Room.{and_ends, no_room, room_of_end}
 
 -- both ends of a link are two
 pub opposite-apart : (e : EndId) → end_eq e (opposite e) ≡ false
@@ -151,9 +152,9 @@ module _ (k : ℕ) (x : EndId) (xs all : List EndId) (t0 t1 : EndId → Entry) (
       tables : t1 ≡ (ends_here k (here (t0 x)) (progress t0 out0)).table
       tables = ap (λ d. d.table) after
 
--- room for nine packets for each end, as far as it is needed
-pub HasRoom-nine : (all xs : ℕ) (old new : Work) → all ≡ xs + 1 → HasRoom (9 * all) 0 0 0 old → AddsAtMost 9 0 0 0 old new → HasRoom (9 * xs) 0 0 0 new
-HasRoom-nine all xs old new more room adds =
+-- room for the packets of an END for each end, as far as it is needed
+pub HasRoom-ends : (all xs : ℕ) (old new : Work) → all ≡ xs + 1 → HasRoom (and_ends all no_room) old → AddsAtMost room_of_end old new → HasRoom (and_ends xs no_room) new
+HasRoom-ends all xs old new more room adds =
     record { packets = omega arith; reports = omega arith; answers = omega arith; steps = omega arith }
 
 -- once the ends that it encloses are held by it

@@ -16,6 +16,7 @@ ghost use Rattle.kernel_step.specs.declared.phase.Phase.TheVariants.{Running, Ex
 ghost use Rattle.kernel_process.specs.Closing.{HaveSpare, HaveSpareFor, CanClose};
 ghost use Rattle.kernel_sound.specs.Sound.{AreFor};
 ghost use Rattle.kernel_process.specs.Parts.{ended, tells_first, with_parts, process_state, process_at, HasPlaces, GainsAtMost};
+ghost use Rattle.kernel_process.specs.Joined.{HaveJoined};
 ghost use Rattle.kernel_process.specs.Steady.{StaysCalm, TakesAtMost};
 ghost use Rattle.kernel_process.specs.declared.process.ControlBlock.{ControlBlock};
 
@@ -236,12 +237,7 @@ fn join_each(
     requires reports { AreFor (length processes.old) reports.old.items }
     requires places { HasPlaces (length reports.old.items) (length reports.old.items) effect.old }
     requires spare { HaveSpareFor reports.old.items processes.old }
-    ensures part { (s : Kernel) → ended (with_parts (entries table.new) processes.new s) effect.new
-        ≡ join_reports reports.old.items (ended (with_parts (entries table.old) processes.old s) effect.old) }
-    ensures calm { StaysCalm table.old table.new }
-    ensures kept { TakesAtMost (length reports.old.items) processes.old processes.new }
-    ensures places { GainsAtMost (length reports.old.items) (length reports.old.items) effect.old effect.new }
-    ensures stamp { effect.new.stamp ≡ effect.old.stamp }
+    ensures { HaveJoined reports.old.items table.old table.new processes.old processes.new effect.old effect.new }
 {
     if !reports.is_empty() {
         join_some(table, processes, effect, reports);
@@ -259,12 +255,7 @@ fn join_some(
     requires reports { AreFor (length processes.old) reports.old.items }
     requires places { HasPlaces (length reports.old.items) (length reports.old.items) effect.old }
     requires spare { HaveSpareFor reports.old.items processes.old }
-    ensures part { (s : Kernel) → ended (with_parts (entries table.new) processes.new s) effect.new
-        ≡ join_reports reports.old.items (ended (with_parts (entries table.old) processes.old s) effect.old) }
-    ensures calm { StaysCalm table.old table.new }
-    ensures kept { TakesAtMost (length reports.old.items) processes.old processes.new }
-    ensures places { GainsAtMost (length reports.old.items) (length reports.old.items) effect.old effect.new }
-    ensures stamp { effect.new.stamp ≡ effect.old.stamp }
+    ensures { HaveJoined reports.old.items table.old table.new processes.old processes.new effect.old effect.new }
 {
     match only_process(reports.as_slice()) {
         Some(p) => join_only(table, processes, effect, p, reports),
@@ -331,12 +322,7 @@ fn join_all(
     requires reports { AreFor (length processes.old) reports.old.items }
     requires places { HasPlaces (length reports.old.items) (length reports.old.items) effect.old }
     requires spare { HaveSpareFor reports.old.items processes.old }
-    ensures part { (s : Kernel) → ended (with_parts (entries table.new) processes.new s) effect.new
-        ≡ join_reports reports.old.items (ended (with_parts (entries table.old) processes.old s) effect.old) }
-    ensures calm { StaysCalm table.old table.new }
-    ensures kept { TakesAtMost (length reports.old.items) processes.old processes.new }
-    ensures places { GainsAtMost (length reports.old.items) (length reports.old.items) effect.old effect.new }
-    ensures stamp { effect.new.stamp ≡ effect.old.stamp }
+    ensures { HaveJoined reports.old.items table.old table.new processes.old processes.new effect.old effect.new }
 {
     if let Some((p, report)) = take_first(reports) {
         join(table, processes, effect, p, report);

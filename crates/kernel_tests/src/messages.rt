@@ -1,5 +1,6 @@
 //! Each call of `cancel_core` once. What follows from them is shown by the rows of .ci/rows/runs.
 ghost use Rattle.end_table.specs.Table.{entries, IsHere};
+ghost use Rattle.kernel_tests.specs.declared.samples.TheConstants.{AMPLE};
 ghost use Rattle.kernel_step.specs.Enclosed.{IsReady};
 ghost use Rattle.kernel_step.specs.Progress.{HasRoom};
 
@@ -99,7 +100,7 @@ const ROWS: [Row; 10] = [
 
 /// Makes a call that is for any end.
 fn perform(table: &mut Table, act: Act, out: &mut Work) -> Result<(), Fail>
-    requires { HasRoom 10 4 2 4 out.old }
+    requires { HasRoom AMPLE out.old }
 {
     match act {
         Act::Arrived => arrived(table, END, 4, 1, 3, 0, no_bytes(), no_ends(), out),
@@ -117,7 +118,7 @@ fn perform(table: &mut Table, act: Act, out: &mut Work) -> Result<(), Fail>
 fn perform_ready(table: &mut Table, act: Act, out: &mut Work)
     requires here { IsHere (entries table.old END) }
     requires ready { IsReady (entries table.old) END }
-    requires room { HasRoom 10 4 2 4 out.old }
+    requires room { HasRoom AMPLE out.old }
 {
     match act {
         Act::Post => post(table, END, out),

@@ -2,8 +2,10 @@
 ghost use Rattle.std.specs.Prelude.{◌≡◌, true, IfOk, [], ◌∷◌};
 ghost use Rattle.charlotte_calls.specs.Moving.{new_end};
 ghost use Rattle.end_table.specs.Table.{entries, HasPlace, IsHere};
+ghost use Rattle.kernel_tests.specs.declared.samples.TheConstants.{AMPLE};
 ghost use Rattle.kernel_step.specs.Enclosed.{IsReady};
 ghost use Rattle.kernel_step.specs.Progress.{HasRoom};
+ghost use Rattle.kernel_step.specs.Room.{room_of_return};
 
 use crate::samples::{Begin, END, Send, ample, end_a, holds, kept};
 use crate::states::{is_idle, is_ready};
@@ -175,7 +177,7 @@ fn is_expected(table: &mut Table) -> Result<bool, NoMemory>
 }
 
 fn perform(table: &mut Table, act: Act, out: &mut Work) -> Result<(), Fail>
-    requires { HasRoom 10 4 2 4 out.old }
+    requires { HasRoom AMPLE out.old }
 {
     match act {
         Act::Arrive | Act::GiveBack if is_expected(table)? => perform_carried(table, act, out),
@@ -196,7 +198,7 @@ fn perform(table: &mut Table, act: Act, out: &mut Work) -> Result<(), Fail>
 fn perform_carried(table: &mut Table, act: Act, out: &mut Work)
     requires place { HasPlace table.old CARRIED }
     requires away { IsHere (entries table.old CARRIED) → ⊥ }
-    requires room { HasRoom 8 1 0 0 out.old }
+    requires room { HasRoom room_of_return out.old }
 {
     match act {
         Act::Arrive => arrive(table, END, 4, 1, 3, carried(), out),
