@@ -10,7 +10,7 @@ pub enum Letter {
 
 /// The rule of the rings: which letters may be put.
 #[derive(Clone, Copy)]
-pub struct LetterRule;
+pub(crate) struct LetterRule;
 
 impl Protocol<Letter> for LetterRule {
     ghost use Rattle.kernel_net.specs.Letters.{MayBePut};
