@@ -1,15 +1,17 @@
-//! Journals, their merge, and transcripts that no script has.
-ghost use Rattle.std.specs.Prelude.{◌≡◌, IfOk};
+//! Journals, their entries and their merge, and transcripts that no script has.
+ghost use Rattle.std.specs.Prelude.{◌≡◌, ◌∷◌, ◌++◌, [], ◌<◌, IfOk, OnOk, Some, length};
+ghost use Rattle.charlotte_calls.specs.Packets.{packet_picture};
+ghost use Rattle.charlotte_calls.specs.declared.calls.Call.TheVariants.{Make};
+ghost use Rattle.kernel_world.specs.declared.entry.Happened.TheVariants.{Asked, Took};
 
 use charlotte_calls::{
-    Bytes, Call, EndId, Ends, Items, Picture, PictureWhat, Pid, ServiceStep, Setting, Short,
+    Bytes, Call, EndId, Ends, Items, LinkId, NoMemory, Packet, Picture, PictureWhat, Pid,
+    ServiceStep, Setting, Short, Side, What,
 };
-use journal_text::{
-    Entry, Happened, Journal, Last, Placed, ScriptNote, merge, merge_whole, print_header,
-    print_transcript,
-};
+use journal_text::{Entry, Happened, Last, Placed, ScriptNote, print_header, print_transcript};
 use std::alloc::Global;
 use std::test::Fail;
+use written_journal::{EntryLines, Merged, TranscriptLines, WrittenJournal};
 
 /// Fails the test, and tells what was looked at, unless this holds.
 pub(crate) fn holds(is_so: bool, what: &str) -> Result<(), Fail> {
@@ -33,15 +35,15 @@ pub(crate) fn asked(
 ) -> Result<Entry, Fail>
     ensures { IfOk result (λ entry. entry.stamp ≡ stamp) }
 {
-    let entry = Entry::of(alloc, stamp, Happened::asked(alloc, Pid(p), call)?, steps)?;
-    Ok(entry.copy(alloc)?)
+    let happened = Happened::asked(alloc, Pid(p), call)?;
+    Ok(Entry::of(alloc, stamp, happened, steps)?)
 }
 
 fn took(alloc: Global, stamp: u64, what: PictureWhat) -> Result<Entry, Fail>
     ensures { IfOk result (λ entry. entry.stamp ≡ stamp) }
 {
     let picture = Picture { stamp: 0, what };
-    let happened = Happened::took(alloc, 0, &picture)?.copy(alloc)?;
+    let happened = Happened::took(alloc, 0, &picture)?;
     Ok(Entry::of(alloc, stamp, happened, &[])?)
 }
 
@@ -53,68 +55,115 @@ pub(crate) fn same_lines(lines: &[Vec<u8>], wanted: &[&str]) -> Result<(), Fail>
     Ok(())
 }
 
-fn made(alloc: Global, stamp: u64) -> Result<Entry, Fail>
-    ensures { IfOk result (λ entry. entry.stamp ≡ stamp) }
-{
-    let a = EndId::default();
-    let (p, b) = (Pid(0), a.opposite());
-    asked(
-        alloc,
-        stamp,
-        0,
-        &Call::Make,
-        &[ServiceStep::Make { p, a, b }],
-    )
+const A: EndId = EndId {
+    link: LinkId { maker: 0, count: 0 },
+    side: Side::A,
+};
+
+const B: EndId = EndId {
+    link: LinkId { maker: 0, count: 0 },
+    side: Side::B,
+};
+
+const MADE: ServiceStep = ServiceStep::Make {
+    p: Pid(0),
+    a: A,
+    b: B,
+};
+
+fn seen() -> Packet {
+    let what = What::GoneSeen { to: A };
+    Packet { stamp: 0, what }
 }
 
-fn seen(alloc: Global, stamp: u64) -> Result<Entry, Fail>
-    ensures { IfOk result (λ entry. entry.stamp ≡ stamp) }
+/// Begins with a Make of process 0; where memory is wanting, once more.
+fn begin_made(journal: &mut WrittenJournal) -> Result<(), NoMemory>
+    ensures entries { journal.new.entries ≡ journal.old.entries }
+    ensures begun { OnOk result (journal.new.begun ≡ Some (Asked (record { 0 = 0 }) Make)) }
 {
-    let to = EndId::default();
-    took(alloc, stamp, PictureWhat::GoneSeen { to })
+    match journal.asked(Pid(0), &Call::Make) {
+        Ok(()) => Ok(()),
+        Err(NoMemory) => journal.asked(Pid(0), &Call::Make),
+    }
+}
+
+/// Begins with the taking of a packet of kernel 0; where memory is wanting, once more.
+fn begin_seen(journal: &mut WrittenJournal, packet: &Packet) -> Result<(), NoMemory>
+    ensures entries { journal.new.entries ≡ journal.old.entries }
+    ensures begun { OnOk result (journal.new.begun ≡ Some (Took 0 (packet_picture packet.now))) }
+{
+    match journal.took(0, packet) {
+        Ok(()) => Ok(()),
+        Err(NoMemory) => journal.took(0, packet),
+    }
 }
 
 /// The journal of a Make and a packet with these stamps.
-fn of_two(alloc: Global, (first, second): (u64, u64)) -> Result<Journal, Fail> {
+fn of_two(alloc: Global, stamps: (u64, u64)) -> Result<WrittenJournal, Fail>
+    ensures { IfOk result (λ journal. length journal.entries ≡ 2) }
+{
+    let (first, second) = stamps;
     if second <= first {
         return Err("stamps that do not rise".into());
     }
-    let (make, seen) = (made(alloc, first)?, seen(alloc, second)?);
-    let mut journal = Journal::start(alloc);
-    journal.reserve(2)?;
-    journal.push(make)?;
-    journal.push(seen)?;
+    let steps = vec![in alloc; MADE]?;
+    let mut journal = WrittenJournal::start(alloc);
+    begin_made(&mut journal)?;
+    let emptied = journal.note(first, steps);
+    begin_seen(&mut journal, &seen())?;
+    let emptied = journal.note(second, emptied);
+    holds(emptied.is_empty(), "the list that comes back")?;
     Ok(journal)
 }
 
-fn copied(alloc: Global, journal: &Journal) -> Result<Journal, Fail> {
-    holds(
-        journal.entries().len() == 2,
-        "how many entries a journal has",
-    )?;
-    Ok(journal.copy(alloc)?)
-}
-
 /// Three journals.
-fn journals(alloc: Global) -> Result<Vec<Journal>, Fail> {
+fn journals(alloc: Global) -> Result<Vec<WrittenJournal>, Fail> {
     let mut journals = Vec::new(alloc);
     for stamps in [(1, 4), (1, 2), (2, 3)] {
-        journals.push(copied(alloc, &of_two(alloc, stamps)?)?)?;
+        journals.push(of_two(alloc, stamps)?)?;
     }
     Ok(journals)
 }
 
-/// The stamps of all entries in order, and their kernels.
-const MERGED: [(u64, u8); 6] = [(1, 0), (1, 1), (2, 1), (2, 2), (3, 2), (4, 0)];
-
-/// The entries have these stamps and kernels.
-fn are_in_order(merged: &[Placed]) -> Result<(), Fail> {
-    holds(merged.len() == MERGED.len(), "how many entries there are")?;
-    for (placed, want) in merged.iter().zip(&MERGED) {
-        let is = (placed.entry.stamp, placed.kernel);
-        holds(is == *want, "a stamp and its kernel")?;
+/// The lines of an entry at kernel 7.
+fn are_lines(entry: EntryLines, wanted: &[&str], line: &mut Vec<u8>) -> Result<(), Fail> {
+    let mut lines = entry.lines(7);
+    for want in wanted {
+        holds(lines.next_line(line)?, "a line")?;
+        holds(line.as_slice() == want.as_bytes(), want)?;
     }
-    Ok(())
+    holds(!lines.next_line(line)?, "the end of an entry")
+}
+
+/// An entry in which a packet was taken.
+fn is_taking(entry: &EntryLines, text: &mut Vec<u8>) -> Result<(), Fail> {
+    holds(entry.from() == Some(0), "the sender of a packet")?;
+    entry.push_picture(text)?;
+    holds(
+        text.as_slice() == b"goneseen 0.0a".as_slice(),
+        "the text of a packet",
+    )
+}
+
+/// Each entry is found by its place, and after each want of memory too. With `rt try --test --fail-alloc N` one request for memory
+/// fails, that of a `note` among them.
+#[test]
+fn entries_are_given_by_their_places(rt: HostRuntime) -> Result<(), Fail> {
+    let alloc = rt.alloc();
+    let (mut line, mut text) = (
+        Vec::with_capacity(alloc, 64)?,
+        Vec::with_capacity(alloc, 64)?,
+    );
+    let mut journal = of_two(alloc, (5, 18_446_744_073_709_551_615))?;
+    holds(journal.len() == 2, "how many entries there are")?;
+    is_taking(&journal.entry(1)?, &mut text)?;
+    let taken = ["18446744073709551615 k7 from 0 goneseen 0.0a\n"];
+    are_lines(journal.entry(1)?, &taken, &mut line)?;
+    journal.cut(1);
+    holds(journal.len() == 1, "how many entries are kept")?;
+    holds(journal.entry(0)?.from().is_none(), "no sender")?;
+    let made = ["5 k7 p0 make\n", ". make 0.0a 0.0b\n"];
+    are_lines(journal.entry(0)?, &made, &mut line)
 }
 
 fn setting(alloc: Global) -> Result<Setting, Fail> {
@@ -127,7 +176,7 @@ fn setting(alloc: Global) -> Result<Setting, Fail> {
 }
 
 /// Entries, notes and a last line that go together in no run have their lines all the same.
-const LINES: [&str; 13] = [
+const LINES: [&str; 17] = [
     "transcript 2\n",
     "kernels 8\n",
     "process 0 on 0\n",
@@ -138,6 +187,10 @@ const LINES: [&str; 13] = [
     "1 k1 p0 make\n",
     ". make 0.0a 0.0b\n",
     "2 k1 from 0 goneseen 0.0a\n",
+    "2 k2 p0 make\n",
+    ". make 0.0a 0.0b\n",
+    "3 k2 from 0 goneseen 0.0a\n",
+    "4 k0 from 0 goneseen 0.0a\n",
     "note 7 nothing\n",
     "note 4294967295 waits\n",
     "spent 3\n",
@@ -154,9 +207,32 @@ const NOTES: [ScriptNote; 2] = [
     },
 ];
 
-fn are_printed(alloc: Global, merged: &[Placed]) -> Result<(), Fail> {
-    let setting = setting(alloc)?;
-    let lines = print_transcript(alloc, &setting, merged, &NOTES, Last::Spent(3))?;
+/// The entries of `journals` in order, with their kernels.
+fn placed(alloc: Global) -> Result<Vec<Placed>, Fail> {
+    let mut placed = Vec::new(alloc);
+    for (stamp, kernel, is_made) in [
+        (1, 0, true),
+        (1, 1, true),
+        (2, 1, false),
+        (2, 2, true),
+        (3, 2, false),
+        (4, 0, false),
+    ] {
+        let entry = if is_made {
+            asked(alloc, stamp, 0, &Call::Make, &[MADE])?
+        } else {
+            took(alloc, stamp, PictureWhat::GoneSeen { to: A })?
+        };
+        placed.push(Placed { kernel, entry })?;
+    }
+    Ok(placed)
+}
+
+#[test]
+fn entries_are_printed(rt: HostRuntime) -> Result<(), Fail> {
+    let alloc = rt.alloc();
+    let (setting, merged) = (setting(alloc)?, placed(alloc)?);
+    let lines = print_transcript(alloc, &setting, &merged, &NOTES, Last::Spent(3))?;
     same_lines(&lines, &LINES)?;
     same_lines(&print_header(alloc, &setting)?, &LINES[..5])
 }
@@ -168,8 +244,13 @@ fn journals_are_merged_by_stamp_and_then_by_kernel(rt: HostRuntime) -> Result<()
     if journals.len() > 8 {
         return Err("more than eight journals".into());
     }
-    let merged = merge(alloc, &journals)?;
-    are_in_order(&merged)?;
-    are_printed(alloc, merged.get(..3).ok_or("no entry")?)?;
-    are_in_order(&merge_whole(alloc, journals)?)
+    let merged = Merged::of_journals(alloc, journals)?;
+    let notes = Items::of(Vec::from_array(alloc, NOTES)?);
+    let mut lines = TranscriptLines::of(setting(alloc)?, merged, notes, Last::Spent(3));
+    let mut line = Vec::new(alloc);
+    for want in LINES {
+        holds(lines.next_line(&mut line)?, "a line")?;
+        holds(line.as_slice() == want.as_bytes(), want)?;
+    }
+    holds(!lines.next_line(&mut line)?, "the end of a transcript")
 }
