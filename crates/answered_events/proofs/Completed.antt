@@ -263,21 +263,21 @@ module _ (i : ℕ) (w : World) (s : State) (is : Invariant i w s) (k from stamp 
                 stands =
                     record {
                       processes = processes-told happened.becomes s completed.ends completed.process o.home (subst (λ z. IsProcessOf z (completed.process p.0)) (sym (ap (λ b. if b then record { phase = kernel_phase.Running; reports = []; answer = Some (answer.Reported report) } else joined) busy)) process) gained-other is.stands.processes;
-                      links = turned-links i w s is k from q others there to at hops (refl, refl, refl) o kernel_outward.Unreported v.inward f [] rs happened outward.Reported (s.ends to).inward completed.ends completed.process turn_now entries refl;
+                      links = turned-links i w s is k from q others there to at hops (refl, refl, refl) o kernel_outward.Unreported v.inward f [] rs happened outward.Unreported (s.ends to).inward completed.ends completed.process turn_now entries refl;
                     };
                 service = consistent_after s (step.Complete to n) completed is.service complete;
-                setting = setting-after happened.becomes s completed.ends completed.process refl (sound kernel_outward.Unreported outward.Reported (λ x. tt) refl refl (λ m a. a) refl completed.ends own apart completed.process cancels entries) is.setting;
-                links = turned-right i w s is k from q others there to at hops (refl, refl, refl) o kernel_outward.Unreported v.inward f [] rs happened outward.Reported (s.ends to).inward completed.ends completed.process turn_now entries refl;
+                setting = setting-after happened.becomes s completed.ends completed.process refl (sound kernel_outward.Unreported outward.Unreported (λ x. tt) refl refl (λ m a. a) refl completed.ends own apart completed.process cancels entries) is.setting;
+                links = turned-right i w s is k from q others there to at hops (refl, refl, refl) o kernel_outward.Unreported v.inward f [] rs happened outward.Unreported (s.ends to).inward completed.ends completed.process turn_now entries refl;
                 waiting = λ b a. waits b a (nat_eq p.0 b.0) refl;
               };
           homes = refl;
         }
       where
-        own : completed.ends to ≡ record (s.ends to) { outward = outward.Reported }
-        own = outward-at s.ends to made outward.Reported
+        own : completed.ends to ≡ record (s.ends to) { outward = outward.Unreported }
+        own = outward-at s.ends to made outward.Unreported
 
         apart : (e : EndId) → end_eq to e ≡ false → completed.ends e ≡ s.ends e
-        apart = outward-other s.ends to made outward.Reported
+        apart = outward-other s.ends to made outward.Unreported
 
         joined : KernelProcess
         joined = record ((w.kernel k).process p.0) { reports = ((w.kernel k).process p.0).reports ++ rs }
@@ -292,8 +292,8 @@ module _ (i : ℕ) (w : World) (s : State) (is : Invariant i w s) (k from stamp 
         cancels : (b : Pid) (e : EndId) → ((completed.process b.0).phase ≡ phase.Cancelling e) ↔ ((s.process b.0).phase ≡ phase.Cancelling e)
         cancels b e = (λ a. sym (phases b.0) ∙ a, λ a. phases b.0 ∙ a)
 
-        turn_now : IsTurn s (middle i w s is k from q others there to at hops (refl, refl, refl) o kernel_outward.Unreported v.inward f [] rs happened) to v kernel_outward.Unreported v.inward outward.Reported (s.ends to).inward completed.ends completed.process
-        turn_now = turn kernel_outward.Unreported outward.Reported (λ x. tt) refl refl (λ m a. a) refl completed.ends own apart completed.process cancels
+        turn_now : IsTurn s (middle i w s is k from q others there to at hops (refl, refl, refl) o kernel_outward.Unreported v.inward f [] rs happened) to v kernel_outward.Unreported v.inward outward.Unreported (s.ends to).inward completed.ends completed.process
+        turn_now = turn kernel_outward.Unreported outward.Unreported (λ x. tt) refl refl (λ m a. a) refl completed.ends own apart completed.process cancels
 
         process : IsProcessOf joined (completed.process p.0)
         process =
@@ -365,17 +365,17 @@ module _ (i : ℕ) (w : World) (s : State) (is : Invariant i w s) (k from stamp 
         next-other m other = given-other completed.process p m other ∙ gained-other m other
 
         made_then : is_made (completed.ends to).place ≡ true
-        made_then = ap (λ (z : End). is_made z.place) (outward-at s.ends to made outward.Reported) ∙ made
+        made_then = ap (λ (z : End). is_made z.place) (outward-at s.ends to made outward.Unreported) ∙ made
 
         own : next.ends to ≡ record (s.ends to) { outward = outward.Idle }
         own =
             ap (λ (z : EndId → End). z to) (idle-is completed.ends to made_then) ∙ outward-at completed.ends to made_then outward.Idle
-            ∙ ap (λ (z : End). record z { outward = outward.Idle }) (outward-at s.ends to made outward.Reported)
+            ∙ ap (λ (z : End). record z { outward = outward.Idle }) (outward-at s.ends to made outward.Unreported)
 
         apart : (e : EndId) → end_eq to e ≡ false → next.ends e ≡ s.ends e
         apart e other =
             ap (λ (z : EndId → End). z e) (idle-is completed.ends to made_then) ∙ outward-other completed.ends to made_then outward.Idle e other
-            ∙ outward-other s.ends to made outward.Reported e other
+            ∙ outward-other s.ends to made outward.Unreported e other
 
         cancels : (b : Pid) (e : EndId) → ((next.process b.0).phase ≡ phase.Cancelling e) ↔ ((s.process b.0).phase ≡ phase.Cancelling e)
         cancels b e = by (nat_eq p.0 b.0) refl

@@ -54,7 +54,7 @@ withdrawn-of w e r (inward.Matched n) under is = absurd (is.1 under)
 withdrawn-of w e r inward.Withdrawn under is = (refl, is.0)
 withdrawn-of w e r inward.Posted under is = absurd (is.1 under)
 withdrawn-of w e r inward.Idle under is = absurd is
-withdrawn-of w e r inward.Reported under is = absurd is
+withdrawn-of w e r inward.Unreported under is = absurd is
 
 unwanted-counts : (e : EndId) (n : ℕ) (q : PictureWhat) → IsUnwantedOf e n q → is_unwanted_to e q ≡ true
 unwanted-counts e n (packet.Unwanted f m at hops) is = subst (λ z. end_eq e z ≡ true) (sym is.0) (end_eq-refl e)

@@ -328,10 +328,10 @@ module _ (i : ℕ) (w : World) (s : State) (is : Invariant i w s) (k from stamp 
     away-sender : Contains (ends_in ms) f → ⊥
     away-sender has = sender-apart ready p (contains-among ms f has)
 
-    received : IsReceived s1 to kernel_inward.Unreported inward.Reported next.ends next.process
+    received : IsReceived s1 to kernel_inward.Unreported inward.Unreported next.ends next.process
     received =
         record {
-          at = took-to s to n p message right.matched right.number o.owned receives made-sender away-to ∙ ap (λ (z : End). record z { inward = inward.Reported }) (sym (owners-other ready p to apart-sender here-not));
+          at = took-to s to n p message right.matched right.number o.owned receives made-sender away-to ∙ ap (λ (z : End). record z { inward = inward.Unreported }) (sym (owners-other ready p to apart-sender here-not));
           sender = took-sender s to n p message right.matched right.number o.owned receives made-sender away-sender ∙ ap (λ (z : End). record z { outward = outward.Taken }) (sym (owners-sender ready p));
           others = λ e far away. by e far away (list_any (end_eq e) (ends_in ms)) refl;
           over = λ a is. is;
@@ -395,10 +395,10 @@ module _ (i : ℕ) (w : World) (s : State) (is : Invariant i w s) (k from stamp 
                 )
 
     links2 : AreLinksOf z1 next
-    links2 = received-links ready1 kernel_inward.Unreported z1 first1 inward.Reported next.ends next.process received
+    links2 = received-links ready1 kernel_inward.Unreported z1 first1 inward.Unreported next.ends next.process received
 
     right2 : AreRight i z1 next
-    right2 = received-right ready1 kernel_inward.Unreported z1 first1 inward.Reported next.ends next.process received
+    right2 = received-right ready1 kernel_inward.Unreported z1 first1 inward.Unreported next.ends next.process received
 
     service2 : IsConsistent next
     service2 = consistent_after s (step.Take f n p late) next is.service stepped

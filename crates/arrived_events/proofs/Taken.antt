@@ -62,7 +62,7 @@ module _ (s : State) (to : EndId) (n : ℕ) (p : Pid) (m : Message) (matched : (
 
   module _ (made : is_made (s.ends f).place ≡ true) where
     abbrev table : EndId → End
-    table = turns_inward inward.Reported (opposite f) (turns_outward outward.Taken f s.ends)
+    table = turns_inward inward.Unreported (opposite f) (turns_outward outward.Taken f s.ends)
 
     took-is : (e : EndId) → took.ends e ≡ places (place.Owned p) m.carried table e
     unfolding takes
@@ -79,12 +79,12 @@ module _ (s : State) (to : EndId) (n : ℕ) (p : Pid) (m : Message) (matched : (
     apart-sender : end_eq f to ≡ false
     apart-sender = end_eq-sym f to ∙ opposite-apart to
 
-    table-to : table to ≡ record (s.ends to) { inward = inward.Reported }
+    table-to : table to ≡ record (s.ends to) { inward = inward.Unreported }
     unfolding turns_inward
     table-to =
-        ap (λ e. puts e (record (turns_outward outward.Taken f s.ends e) { inward = inward.Reported }) (turns_outward outward.Taken f s.ends) to) twice
-        ∙ puts-at to (record (turns_outward outward.Taken f s.ends to) { inward = inward.Reported }) (turns_outward outward.Taken f s.ends) (ap (λ (z : End). is_made z.place) same ∙ made-to)
-        ∙ ap (λ (z : End). record z { inward = inward.Reported }) same
+        ap (λ e. puts e (record (turns_outward outward.Taken f s.ends e) { inward = inward.Unreported }) (turns_outward outward.Taken f s.ends) to) twice
+        ∙ puts-at to (record (turns_outward outward.Taken f s.ends to) { inward = inward.Unreported }) (turns_outward outward.Taken f s.ends) (ap (λ (z : End). is_made z.place) same ∙ made-to)
+        ∙ ap (λ (z : End). record z { inward = inward.Unreported }) same
       where
         same : turns_outward outward.Taken f s.ends to ≡ s.ends to
         same = first to ∙ ap (λ b. if b then record (s.ends f) { outward = outward.Taken } else s.ends to) apart-sender
@@ -92,8 +92,8 @@ module _ (s : State) (to : EndId) (n : ℕ) (p : Pid) (m : Message) (matched : (
     table-other : (e : EndId) → end_eq to e ≡ false → table e ≡ (if end_eq f e then record (s.ends f) { outward = outward.Taken } else s.ends e)
     unfolding turns_inward
     table-other e apart =
-        ap (λ z. puts z (record (turns_outward outward.Taken f s.ends z) { inward = inward.Reported }) (turns_outward outward.Taken f s.ends) e) twice
-        ∙ puts-other to (record (turns_outward outward.Taken f s.ends to) { inward = inward.Reported }) (turns_outward outward.Taken f s.ends) e (eq-same to e ∙ apart) ∙ first e
+        ap (λ z. puts z (record (turns_outward outward.Taken f s.ends z) { inward = inward.Unreported }) (turns_outward outward.Taken f s.ends) e) twice
+        ∙ puts-other to (record (turns_outward outward.Taken f s.ends to) { inward = inward.Unreported }) (turns_outward outward.Taken f s.ends) e (eq-same to e ∙ apart) ∙ first e
 
     away : (e : EndId) → (Contains m.carried e → ⊥) → among e m.carried ≡ false
     away e none = by (among e m.carried) refl
@@ -103,7 +103,7 @@ module _ (s : State) (to : EndId) (n : ℕ) (p : Pid) (m : Message) (matched : (
         by false is = refl
 
     -- the receiver, the sender, the ends that the message carried, and the others
-    pub took-to : (Contains m.carried to → ⊥) → took.ends to ≡ record (s.ends to) { inward = inward.Reported }
+    pub took-to : (Contains m.carried to → ⊥) → took.ends to ≡ record (s.ends to) { inward = inward.Unreported }
     took-to none = took-is to ∙ places-other (place.Owned p) m.carried table to (away to none) ∙ table-to
 
     pub took-sender : (Contains m.carried f → ⊥) → took.ends f ≡ record (s.ends f) { outward = outward.Taken }

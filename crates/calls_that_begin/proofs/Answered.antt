@@ -1,11 +1,9 @@
 -- What a call that is granted and answered at once leaves of kernels and processes: tables stay sound, and processes are as the service
 -- has them.
-use Rattle.std.proofs.Common.{◌≡◌, ◌≢◌, ◌⊎◌, inl, inr, ℕ, ◌<◌, ◌≤◌, Bool, true, false, nat_eq, if◌then◌else◌, All, List, [], length, None, slice_index, refl, sym, ap, subst, ◌∙◌, Option, Some, eq-eqb}
+use Rattle.std.proofs.Common.{◌≡◌, ◌≢◌, ◌⊎◌, inl, inr, ℕ, ◌<◌, ◌≤◌, Bool, true, false, true≢false, not, nat_eq, if◌then◌else◌, All, List, [], length, None, slice_index, refl, sym, ap, subst, ◌∙◌, Option, Some, eq-eqb}
 use Rattle.std.proofs.lemmas.Bool.Decides.{eqb_tells}
 use Rattle.charlotte_calls.specs.declared.calls.Answer.{Answer}
 use Rattle.charlotte_calls.specs.declared.calls.Call.{Call}
-use Rattle.charlotte_calls.specs.declared.calls.Cause.{Cause}
-use Rattle.charlotte_calls.specs.declared.calls.Cause.TheVariants as cause
 use Rattle.charlotte_calls.specs.declared.names.EndId.{EndId}
 use Rattle.charlotte_calls.specs.declared.names.Pid.{Pid}
 use Rattle.end_table.specs.Owned.{is_owner, owned}
@@ -23,7 +21,7 @@ use Rattle.kernel_sound.proofs.Goes.{GoesWell}
 use Rattle.kernel_sound.proofs.Needs.{owned-here}
 use Rattle.kernel_sound.specs.Acts.{acts, made_after}
 use Rattle.kernel_sound.specs.Sound.{IsSound}
-use Rattle.kernel_step.specs.Calls.{IsCallWith, first_of, on_owned, refusal}
+use Rattle.kernel_step.specs.Calls.{IsCallWith, refusal, seen, seen_of, sees}
 use Rattle.kernel_step.specs.Kernel.{Kernel, has_report, process_of}
 use Rattle.kernel_step.specs.Progress.{Progress}
 use Rattle.kernel_step.specs.declared.phase.Phase.TheVariants as kernel_phase
@@ -65,27 +63,24 @@ call-sound = acts-sound all_ends
 pub owned-of : (p : Pid) (x : Entry) (v : HereView) → x ≡ entry.Here v → v.holder ≡ holder.Owner p → owned p x ≡ Some v
 owned-of p x v here owner = ap (owned p) here ∙ ap (λ h. if is_owner p h then Some v else None) owner ∙ ap (λ b. if b then Some v else None) (eq-eqb p.0 p.0 refl)
 
--- the caller owns the end that is here, and none of these causes holds
-pub record IsGranted (p : Pid) (t : EndId → Entry) (on : EndId) (causes : HereView → List (Bool × Cause)) : Type 0 where
+-- the caller owns the end that is here, and so it sees it
+pub record IsGranted (p : Pid) (t : EndId → Entry) (on : EndId) : Type 0 where
   pub view : HereView
   pub end : view.value.end ≡ on
   pub there : t on ≡ entry.Here view
   pub here : t view.value.end ≡ entry.Here view
   pub owner : view.holder ≡ holder.Owner p
-  pub none : first_of (causes view) ≡ None
+  pub as_seen : sees p t on ≡ seen_of view
 
-pub granted-on : {k made n : ℕ} {t : EndId → Entry} → IsSound k made n t → (p : Pid) (on : EndId) (causes : HereView → List (Bool × Cause)) → on_owned (owned p (t on)) causes ≡ None → IsGranted p t on causes
-granted-on {k} {made} {n} {t} sound p on causes granted = by (owned p (t on)) refl granted
+pub granted-on : {k made n : ℕ} {t : EndId → Entry} → IsSound k made n t → (p : Pid) (on : EndId) → not (sees p t on).owned ≡ false → IsGranted p t on
+granted-on {k} {made} {n} {t} sound p on owns = by (owned p (t on)) refl owns
   where
-    some : Some cause.NoEnd ≡ None → ⊥
-    some is = cc
-
-    by : (o : Option HereView) → owned p (t on) ≡ o → on_owned o causes ≡ None → IsGranted p t on causes
-    by None owns none = absurd (some none)
-    by (Some v) owns none =
-        let there = owned-here p (t on) v owns in
+    by : (o : Option HereView) → owned p (t on) ≡ o → not (seen o).owned ≡ false → IsGranted p t on
+    by None is owns = absurd (true≢false owns)
+    by (Some v) is owns =
+        let there = owned-here p (t on) v is in
         let end : v.value.end ≡ on = subst (IsOfEnd on) there.0 (sound.own on) in
-        record { view = v; end = end; there = there.0; here = ap t end ∙ there.0; owner = there.1; none = none }
+        record { view = v; end = end; there = there.0; here = ap t end ∙ there.0; owner = there.1; as_seen = ap seen is }
 
 -- ---- a world
 

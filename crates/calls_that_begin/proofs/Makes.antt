@@ -1,6 +1,7 @@
 -- The service goes with a Make that is not refused, by one step.
 use Rattle.std.proofs.Common.{◌≡◌, ◌≢◌, ◌⊎◌, inl, inr, ℕ, ◌+◌, ◌<◌, ◌≤◌, true, false, nat_eq, nat_le, nat_lt, not, ◌&&◌, IsTrue, if◌then◌else◌, List, [], ◌∷◌, length, Some, None, slice_index, refl, sym, ap, subst, ◌∙◌, lt-ltb, get_or-set_same, get_or-set_other, length-set}
 use Rattle.std.proofs.lemmas.Bool.Decides.{eqb_tells, leb_tells}
+use Rattle.charlotte_calls.specs.Causes.{link_limit}
 use Rattle.charlotte_calls.specs.Names.{opposite}
 use Rattle.charlotte_calls.specs.declared.calls.Answer.TheVariants as answer
 use Rattle.charlotte_calls.specs.declared.calls.Call.TheVariants as call
@@ -13,7 +14,7 @@ use Rattle.charlotte_calls.specs.declared.names.Pid.{Pid}
 use Rattle.charlotte_calls.specs.declared.setting.Setting.{Setting}
 use Rattle.kernel_effects.specs.Calls.{act_effect, make_effect}
 use Rattle.kernel_sound.specs.Sound.{IsSound}
-use Rattle.kernel_step.specs.Calls.{link_limit, made_end, refusal}
+use Rattle.kernel_step.specs.Calls.{made_end, refusal}
 use Rattle.kernel_step.specs.Kernel.{Kernel, has_report, process_of}
 use Rattle.kernel_step.specs.declared.phase.Phase.TheVariants as kernel_phase
 use Rattle.kernel_world.specs.Run.{IsAllowed}

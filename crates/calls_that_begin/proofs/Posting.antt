@@ -74,7 +74,7 @@ idle-is w e inward.Idle is = refl
 idle-is w e inward.Posted is = absurd is
 idle-is w e inward.Withdrawn is = absurd is
 idle-is w e (inward.Matched n) is = absurd is
-idle-is w e inward.Reported is = absurd is
+idle-is w e inward.Unreported is = absurd is
 
 module _ {i : ℕ} {w : World} {s : State} {k : ℕ} {p : Pid} {u : Links} (x : Posting i w s k p u) where
   abbrev l : Links

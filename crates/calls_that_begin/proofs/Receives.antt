@@ -1,9 +1,10 @@
 -- The service goes with a Receive that is not refused, by one step.
-use Rattle.std.proofs.Common.{◌≡◌, ℕ, ◌+◌, ◌<◌, Bool, true, false, not, is_none, ◌&&◌, IsTrue, if◌then◌else◌, List, [], ◌∷◌, length, Some, None, slice_index, refl, sym, ap, subst, ◌∙◌, eq-eqb}
+use Rattle.std.proofs.Common.{◌≡◌, ℕ, ◌+◌, ◌<◌, true, false, not, is_none, ◌&&◌, IsTrue, if◌then◌else◌, List, [], ◌∷◌, length, Some, None, slice_index, refl, sym, ap, subst, ◌∙◌, true≢false, eq-eqb}
 use Rattle.std.proofs.lemmas.List.Elements.{All-get_or}
+use Rattle.charlotte_calls.proofs.Causes.{AllFail, first_of-none}
+use Rattle.charlotte_calls.specs.Causes.{first_of, is_idle, receive_causes}
 use Rattle.charlotte_calls.specs.declared.calls.Answer.TheVariants as answer
 use Rattle.charlotte_calls.specs.declared.calls.Call.TheVariants as call
-use Rattle.charlotte_calls.specs.declared.calls.Cause.{Cause}
 use Rattle.charlotte_calls.specs.declared.calls.Cause.TheVariants as cause
 use Rattle.charlotte_calls.specs.declared.calls.ServiceStep.TheVariants as step
 use Rattle.charlotte_calls.specs.declared.names.EndId.{EndId}
@@ -16,13 +17,12 @@ use Rattle.end_table.specs.declared.entry.Holder.TheVariants as holder
 use Rattle.end_table.specs.declared.entry.Inward.{Inward}
 use Rattle.end_table.specs.declared.entry.Inward.TheVariants as kernel_inward
 use Rattle.kernel_effects.specs.Calls.{act_effect, effect_on, post_effect}
-use Rattle.kernel_step.specs.Calls.{first_of, inward_activity, is_free, receive_causes, refusal}
+use Rattle.kernel_step.specs.Calls.{inward_activity, refusal, seen_of, sees}
 use Rattle.kernel_step.specs.Kernel.{has_report, process_of}
 use Rattle.kernel_step.specs.declared.phase.Phase.TheVariants as kernel_phase
 use Rattle.kernel_world.specs.Run.{IsAllowed}
 use Rattle.kernel_world.specs.World.{World, Calls, Event, happens}
 use Rattle.service_consistent.proofs.Laws.{consistent_after}
-use Rattle.service_step.specs.Causes.{first_of as first_cause}
 use Rattle.service_step.specs.Ends.{is_idle_inward, is_made, is_owned_by, owner}
 use Rattle.service_step.specs.State.{State, is_running}
 use Rattle.service_step.specs.Steps.{IsServiceStep, may_receive, may_receive_as}
@@ -91,10 +91,10 @@ module _ (i : ℕ) (w : World) (s : State) (k : ℕ) (p : Pid) (mine : List EndI
         own : is_owned_by p (s.ends e).place ≡ true
         own = ap (is_owned_by p) (placed posting) ∙ eq-eqb p.0 p.0 refl
 
-        tests : (is_running (s.process p.0).phase && is_none (first_cause ((not (is_owned_by p (s.ends e).place), cause.NoEnd) ∷ (not (is_idle_inward (s.ends e).inward), cause.Busy) ∷ ((s.ends e).noticed, cause.Dead) ∷ []))) ≡ true
+        tests : (is_running (s.process p.0).phase && is_none (first_of ((not (is_owned_by p (s.ends e).place), cause.NoEnd) ∷ (not (is_idle_inward (s.ends e).inward), cause.Busy) ∷ ((s.ends e).noticed, cause.Dead) ∷ []))) ≡ true
         tests =
             λ j. is_running (runs-there j)
-            && is_none (first_cause ((not (own j), cause.NoEnd) ∷ (not (is_idle_inward (was-idle posting j)), cause.Busy) ∷ (was-open posting j, cause.Dead) ∷ []))
+            && is_none (first_of ((not (own j), cause.NoEnd) ∷ (not (is_idle_inward (was-idle posting j)), cause.Busy) ∷ (was-open posting j, cause.Dead) ∷ []))
 
     stepped : IsServiceStep s (step.Receive e) (posted s e)
     stepped = record { allowed = may; after = refl }
@@ -113,30 +113,19 @@ module _ (i : ℕ) (w : World) (s : State) (k : ℕ) (p : Pid) (mine : List EndI
     posted-goes = record { part = (step.Receive e, posted s e) ∷ []; steps = sym happened.steps; run = (stepped, tt); after = posted-invariant; homes = refl }
 
 -- an activity inward that is free
-free-idle : (x : Inward) → is_free (inward_activity x) ≡ true → x ≡ kernel_inward.Idle
+free-idle : (x : Inward) → not (is_idle (inward_activity x)) ≡ false → x ≡ kernel_inward.Idle
 free-idle kernel_inward.Idle is = refl
-free-idle (kernel_inward.Posted n) is = cc
-free-idle (kernel_inward.Withdrawing n) is = cc
-free-idle kernel_inward.Unreported is = cc
-
--- no cause of a Receive holds
-none-holds : (v : HereView) → first_of (receive_causes v) ≡ None → (v.inward ≡ kernel_inward.Idle) × (v.value.dead ≡ false)
-none-holds v none = by (is_free (inward_activity v.inward)) refl v.value.dead refl none
-  where
-    some : (c : Cause) → Some c ≡ None → ⊥
-    some c is = cc
-
-    by : (a : Bool) → is_free (inward_activity v.inward) ≡ a → (b : Bool) → v.value.dead ≡ b → first_of ((not a, cause.Busy) ∷ (b, cause.Dead) ∷ []) ≡ None → (v.inward ≡ kernel_inward.Idle) × (v.value.dead ≡ false)
-    by true free false alive none = (free-idle v.inward free, alive)
-    by true free true dead none = absurd (some cause.Dead none)
-    by false free b is none = absurd (some cause.Busy none)
+free-idle (kernel_inward.Posted n) is = absurd (true≢false is)
+free-idle (kernel_inward.Withdrawing n) is = absurd (true≢false is)
+free-idle kernel_inward.Unreported is = absurd (true≢false is)
 
 -- the service goes with a Receive that its kernel does not refuse
 pub receive-goes : (g : Setting) (i : ℕ) (w : World) (s : State) (k : ℕ) (p : Pid) (on : EndId) (mine : List EndId) → Invariant i w s → s.homes ≡ g.homes → IsAllowed g w (Calls k p (call.Receive on) mine)
     → refusal p (w.kernel k).table (w.kernel k).made mine (has_report (process_of p (w.kernel k))) (call.Receive on) ≡ None → Goes i w s (Calls k p (call.Receive on) mine)
 receive-goes g i w s k p on mine is homes allowed granted =
-    let o = granted-on (is.setting.sound k) p on receive_causes granted in
-    let free = none-holds o.view o.none in
+    let fail : AllFail (receive_causes (sees p (w.kernel k).table on)) = first_of-none (receive_causes (sees p (w.kernel k).table on)) granted in
+    let o = granted-on (is.setting.sound k) p on fail.0 in
+    let free : AllFail (receive_causes (seen_of o.view)) = subst (λ x. AllFail (receive_causes x)) o.as_seen fail in
     subst (λ z. Goes i w s (Calls k p (call.Receive z) mine)) o.end
-    (posted-goes i w s k p mine is (subst (λ hs. p.0 < length hs) (sym homes) allowed.0) (ap (λ hs. slice_index hs p.0) homes ∙ allowed.1) allowed.2 o.view o.here o.owner free.0 free.1
+    (posted-goes i w s k p mine is (subst (λ hs. p.0 < length hs) (sym homes) allowed.0) (ap (λ hs. slice_index hs p.0) homes ∙ allowed.1) allowed.2 o.view o.here o.owner (free-idle o.view.inward free.1.0) free.1.1.0
     (subst (λ z. refusal p (w.kernel k).table (w.kernel k).made mine (has_report (process_of p (w.kernel k))) (call.Receive z) ≡ None) (sym o.end) granted))

@@ -1,5 +1,7 @@
 -- The service goes with a Cancel of a receive that is not refused, by one step.
 use Rattle.std.proofs.Common.{◌≡◌, ◌≢◌, ◌⊎◌, inl, inr, ℕ, ◌+◌, ◌<◌, false, not, ◌&&◌, ◌||◌, if◌then◌else◌, IsTrue, List, [], ◌∷◌, length, Some, None, slice_index, refl, sym, ap, subst, ◌∙◌, true≢false}
+use Rattle.charlotte_calls.proofs.Causes.{AllFail, first_of-none}
+use Rattle.charlotte_calls.specs.Causes.{cancel_causes, is_idle, is_late}
 use Rattle.charlotte_calls.specs.declared.calls.Call.TheVariants as call
 use Rattle.charlotte_calls.specs.declared.calls.ServiceStep.TheVariants as step
 use Rattle.charlotte_calls.specs.declared.names.EndId.{EndId}
@@ -14,8 +16,7 @@ use Rattle.end_table.specs.declared.entry.Inward.{Inward}
 use Rattle.end_table.specs.declared.entry.Inward.TheVariants as kernel_inward
 use Rattle.kernel_effects.specs.Calls.{act_effect, effect_on, withdraw_posted_effect, withdraw_receive_effect}
 use Rattle.kernel_outcomes.specs.Closing.{cancelling, cancelling_on}
-use Rattle.kernel_sound.proofs.Needs.{AllFail, first_of-none}
-use Rattle.kernel_step.specs.Calls.{cancel_causes, inward_activity, is_free, is_late, refusal}
+use Rattle.kernel_step.specs.Calls.{inward_activity, refusal, seen_of, sees}
 use Rattle.kernel_step.specs.Kernel.{has_report, process_of}
 use Rattle.kernel_step.specs.declared.phase.Phase.TheVariants as kernel_phase
 use Rattle.kernel_world.specs.Run.{IsAllowed}
@@ -132,7 +133,7 @@ module _ (i : ℕ) (w : World) (s : State) (k : ℕ) (p : Pid) (mine : List EndI
   withdrawn-goes = record { part = (step.Cancel e way.Inward, next) ∷ []; steps = sym happened.steps; run = (stepped, tt); after = invariant; homes = refl }
 
 -- a receive that can be taken back is posted, or is taken back already
-begun : (x : Inward) → is_late way.Inward (inward_activity x) ≡ false → is_free (inward_activity x) ≡ false → ((r : ℕ) × (x ≡ kernel_inward.Posted r)) ⊎ ((r : ℕ) × (x ≡ kernel_inward.Withdrawing r))
+begun : (x : Inward) → is_late (inward_activity x) ≡ false → is_idle (inward_activity x) ≡ false → ((r : ℕ) × (x ≡ kernel_inward.Posted r)) ⊎ ((r : ℕ) × (x ≡ kernel_inward.Withdrawing r))
 begun kernel_inward.Idle soon some = absurd (true≢false some)
 begun (kernel_inward.Posted r) soon some = inl (r, refl)
 begun (kernel_inward.Withdrawing r) soon some = inr (r, refl)
@@ -141,7 +142,7 @@ begun kernel_inward.Unreported soon some = absurd (true≢false soon)
 -- the service goes with a Cancel of a receive that its kernel does not refuse
 pub cancel-receive-goes : (g : Setting) (i : ℕ) (w : World) (s : State) (k : ℕ) (p : Pid) (on : EndId) (mine : List EndId) → Invariant i w s → s.homes ≡ g.homes → IsAllowed g w (Calls k p (call.Cancel on way.Inward) mine)
     → refusal p (w.kernel k).table (w.kernel k).made mine (has_report (process_of p (w.kernel k))) (call.Cancel on way.Inward) ≡ None → Goes i w s (Calls k p (call.Cancel on way.Inward) mine)
-cancel-receive-goes g i w s k p on mine is homes allowed granted = which (begun o.view.inward fail.1.0 fail.1.1.0)
+cancel-receive-goes g i w s k p on mine is homes allowed granted = which (begun o.view.inward fail.1.1.0 fail.1.1.1.0)
   where
     below : p.0 < length s.homes
     below = subst (λ hs. p.0 < length hs) (sym homes) allowed.0
@@ -149,16 +150,19 @@ cancel-receive-goes g i w s k p on mine is homes allowed granted = which (begun 
     at : home_of s p ≡ k
     at = ap (λ hs. slice_index hs p.0) homes ∙ allowed.1
 
-    o : IsGranted p (w.kernel k).table on (cancel_causes way.Inward)
-    o = granted-on (is.setting.sound k) p on (cancel_causes way.Inward) granted
+    none : AllFail (cancel_causes way.Inward (sees p (w.kernel k).table on))
+    none = first_of-none (cancel_causes way.Inward (sees p (w.kernel k).table on)) granted
 
-    fail : AllFail (cancel_causes way.Inward o.view)
-    fail = first_of-none (cancel_causes way.Inward o.view) o.none
+    o : IsGranted p (w.kernel k).table on
+    o = granted-on (is.setting.sound k) p on none.0
+
+    fail : AllFail (cancel_causes way.Inward (seen_of o.view))
+    fail = subst (λ x. AllFail (cancel_causes way.Inward x)) o.as_seen none
 
     which : ((r : ℕ) × (o.view.inward ≡ kernel_inward.Posted r)) ⊎ ((r : ℕ) × (o.view.inward ≡ kernel_inward.Withdrawing r)) → Goes i w s (Calls k p (call.Cancel on way.Inward) mine)
     which (inl posted) =
         subst (λ z. Goes i w s (Calls k p (call.Cancel z way.Inward) mine)) o.end
-        (withdrawn-goes i w s k p mine is below at allowed.2 o.view posted.0 o.here o.owner posted.1 fail.0
+        (withdrawn-goes i w s k p mine is below at allowed.2 o.view posted.0 o.here o.owner posted.1 fail.1.0
         (subst (λ z. refusal p (w.kernel k).table (w.kernel k).made mine (has_report (process_of p (w.kernel k))) (call.Cancel z way.Inward) ≡ None) (sym o.end) granted))
     -- its process would be in that Cancel, and not run
     which (inr withdrawn) =

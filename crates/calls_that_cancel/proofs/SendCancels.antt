@@ -1,5 +1,7 @@
 -- The service goes with a Cancel of a send that is not refused, by one step.
 use Rattle.std.proofs.Common.{◌≡◌, ℕ, ◌+◌, ◌<◌, Bool, true, false, not, ◌&&◌, ◌||◌, is_some, if◌then◌else◌, IsTrue, List, [], ◌∷◌, length, Some, None, slice_index, refl, sym, ap, subst, ◌∙◌, true≢false}
+use Rattle.charlotte_calls.proofs.Causes.{AllFail, first_of-none}
+use Rattle.charlotte_calls.specs.Causes.{cancel_causes, is_idle, is_late}
 use Rattle.charlotte_calls.specs.declared.calls.Answer.TheVariants as answer
 use Rattle.charlotte_calls.specs.declared.calls.Call.TheVariants as call
 use Rattle.charlotte_calls.specs.declared.calls.ServiceStep.TheVariants as step
@@ -20,10 +22,9 @@ use Rattle.end_table.specs.declared.entry.Outward.TheVariants as kernel_outward
 use Rattle.kernel_effects.specs.Actions.{held_entry}
 use Rattle.kernel_effects.specs.Calls.{act_effect, effect_on, withdraw_send_effect}
 use Rattle.kernel_effects.specs.Effect.{puts, stays, turns}
-use Rattle.kernel_sound.proofs.Needs.{AllFail, first_of-none}
 use Rattle.kernel_sound.specs.Sound.{AreHeldBy}
 use Rattle.kernel_step.specs.Actions.{enclosed_of}
-use Rattle.kernel_step.specs.Calls.{cancel_causes, is_free, is_late, outward_activity, refusal}
+use Rattle.kernel_step.specs.Calls.{outward_activity, refusal, seen_of, sees}
 use Rattle.kernel_step.specs.Kernel.{has_report, process_of}
 use Rattle.kernel_step.specs.declared.phase.Phase.TheVariants as kernel_phase
 use Rattle.kernel_world.specs.Run.{IsAllowed}
@@ -64,7 +65,7 @@ pub record IsWaiting (o : Outward) : Type 0 where
   pub enclosed : List EndId
   pub is : o ≡ kernel_outward.Waiting number bytes enclosed
 
-waits : (o : Outward) → is_late way.Outward (outward_activity o) ≡ false → is_free (outward_activity o) ≡ false → IsWaiting o
+waits : (o : Outward) → is_late (outward_activity o) ≡ false → is_idle (outward_activity o) ≡ false → IsWaiting o
 waits kernel_outward.Idle soon some = absurd (true≢false some)
 waits (kernel_outward.Waiting n bytes xs) soon some = record { number = n; bytes = bytes; enclosed = xs; is = refl }
 waits (kernel_outward.Matched n) soon some = absurd (true≢false soon)
@@ -139,8 +140,9 @@ module _ (i : ℕ) (w : World) (s : State) (k : ℕ) (p : Pid) (mine : List EndI
 pub cancel-send-goes : (g : Setting) (i : ℕ) (w : World) (s : State) (k : ℕ) (p : Pid) (on : EndId) (mine : List EndId) → Invariant i w s → s.homes ≡ g.homes → IsAllowed g w (Calls k p (call.Cancel on way.Outward) mine)
     → refusal p (w.kernel k).table (w.kernel k).made mine (has_report (process_of p (w.kernel k))) (call.Cancel on way.Outward) ≡ None → Goes i w s (Calls k p (call.Cancel on way.Outward) mine)
 cancel-send-goes g i w s k p on mine is homes allowed granted =
-    let o = granted-on (is.setting.sound k) p on (cancel_causes way.Outward) granted in
-    let fail : AllFail (cancel_causes way.Outward o.view) = first_of-none (cancel_causes way.Outward o.view) o.none in
+    let none : AllFail (cancel_causes way.Outward (sees p (w.kernel k).table on)) = first_of-none (cancel_causes way.Outward (sees p (w.kernel k).table on)) granted in
+    let o = granted-on (is.setting.sound k) p on none.0 in
+    let fail : AllFail (cancel_causes way.Outward (seen_of o.view)) = subst (λ x. AllFail (cancel_causes way.Outward x)) o.as_seen none in
     subst (λ z. Goes i w s (Calls k p (call.Cancel z way.Outward) mine)) o.end
-    (taken_back-goes i w s k p mine is (subst (λ hs. p.0 < length hs) (sym homes) allowed.0) (ap (λ hs. slice_index hs p.0) homes ∙ allowed.1) allowed.2 o.view o.here o.owner (waits o.view.outward fail.1.0 fail.1.1.0) fail.0
+    (taken_back-goes i w s k p mine is (subst (λ hs. p.0 < length hs) (sym homes) allowed.0) (ap (λ hs. slice_index hs p.0) homes ∙ allowed.1) allowed.2 o.view o.here o.owner (waits o.view.outward fail.1.1.0 fail.1.1.1.0) fail.1.0
     (subst (λ z. refusal p (w.kernel k).table (w.kernel k).made mine (has_report (process_of p (w.kernel k))) (call.Cancel z way.Outward) ≡ None) (sym o.end) granted))

@@ -139,7 +139,7 @@ module _ {i : ℕ} {w : World} {s : State} {k : ℕ} {p : Pid} {u : Links} (x : 
       by (inward.Matched n) has = refl
       by inward.Withdrawn has = absurd (none-withdrawn x.number has.1)
       by inward.Idle has = absurd has
-      by inward.Reported has = absurd has
+      by inward.Unreported has = absurd has
 
   -- ---- processes
 

@@ -84,7 +84,7 @@ dropped-twice (outward.Waiting m) = refl
 dropped-twice outward.Idle = refl
 dropped-twice (outward.Matched m) = refl
 dropped-twice outward.Taken = refl
-dropped-twice outward.Reported = refl
+dropped-twice outward.Unreported = refl
 
 place-twice : (a b : Bool) (x : Place) → (if b then place.Destroyed else (if a then place.Destroyed else x)) ≡ (if a || b then place.Destroyed else x)
 place-twice true true x = refl

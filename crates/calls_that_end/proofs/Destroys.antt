@@ -1,6 +1,8 @@
 -- The service goes with a Destroy that is not refused: the end is destroyed, and what its message carries that waits.
 use Rattle.std.proofs.Common.{◌≡◌, ℕ, ◌<◌, Bool, true, false, ◌||◌, if◌then◌else◌, List, [], ◌∷◌, length, None, slice_index, refl, sym, ap, subst, ◌∙◌, append-nil, true≢false, eq-eqb}
 use Rattle.calls_that_begin.proofs.Answered.{granted-on, owned-of}
+use Rattle.charlotte_calls.proofs.Causes.{first_of-none}
+use Rattle.charlotte_calls.specs.Causes.{destroy_causes}
 use Rattle.charlotte_calls.specs.declared.calls.Call.TheVariants as call
 use Rattle.charlotte_calls.specs.declared.calls.ServiceStep.TheVariants as step
 use Rattle.charlotte_calls.specs.declared.names.EndId.{EndId}
@@ -16,7 +18,7 @@ use Rattle.end_table.specs.declared.entry.Holder.TheVariants as holder
 use Rattle.kernel_effects.specs.Actions.{ends_all}
 use Rattle.kernel_effects.specs.Calls.{act_effect, effect_on, ended_list, ended_with}
 use Rattle.kernel_effects.specs.Effect.{Effect}
-use Rattle.kernel_step.specs.Calls.{no_causes, refusal}
+use Rattle.kernel_step.specs.Calls.{refusal, sees}
 use Rattle.kernel_step.specs.Kernel.{has_report, process_of}
 use Rattle.kernel_step.specs.declared.phase.Phase.TheVariants as kernel_phase
 use Rattle.kernel_world.specs.Run.{IsAllowed}
@@ -98,5 +100,5 @@ module _ (i : ℕ) (w : World) (s : State) (k : ℕ) (p : Pid) (mine : List EndI
 pub destroy-goes : (g : Setting) (i : ℕ) (w : World) (s : State) (k : ℕ) (p : Pid) (on : EndId) (mine : List EndId) → Invariant i w s → s.homes ≡ g.homes → IsAllowed g w (Calls k p (call.Destroy on) mine)
     → refusal p (w.kernel k).table (w.kernel k).made mine (has_report (process_of p (w.kernel k))) (call.Destroy on) ≡ None → Goes i w s (Calls k p (call.Destroy on) mine)
 destroy-goes g i w s k p on mine is homes allowed granted =
-    let o = granted-on (is.setting.sound k) p on no_causes granted in
+    let o = granted-on (is.setting.sound k) p on (first_of-none (destroy_causes (sees p (w.kernel k).table on)) granted).0 in
     destroyed-goes i w s k p mine is (subst (λ hs. p.0 < length hs) (sym homes) allowed.0) (ap (λ hs. slice_index hs p.0) homes ∙ allowed.1) allowed.2 on o.view o.there o.owner granted

@@ -90,7 +90,7 @@ carried-same w e n kernel_outward.Idle outward.Idle is = refl
 carried-same w e n (kernel_outward.Waiting m bytes xs) (outward.Waiting message) is = ap (λ (z : Message). z.carried) is.1
 carried-same w e n (kernel_outward.Matched m) (outward.Matched message) is = refl
 carried-same w e n (kernel_outward.Matched m) outward.Taken is = refl
-carried-same w e n kernel_outward.Unreported outward.Reported is = refl
+carried-same w e n kernel_outward.Unreported outward.Unreported is = refl
 carried-same w e n _ _ is = absurd is
 
 -- the message of a send that waits
@@ -109,7 +109,7 @@ waiting-carries s f y (outward.Waiting m) is has =
 waiting-carries s f y outward.Idle is has = absurd (true≢false (sym has))
 waiting-carries s f y (outward.Matched m) is has = absurd (true≢false (sym has))
 waiting-carries s f y outward.Taken is has = absurd (true≢false (sym has))
-waiting-carries s f y outward.Reported is has = absurd (true≢false (sym has))
+waiting-carries s f y outward.Unreported is has = absurd (true≢false (sym has))
 
 -- ---- the event
 
@@ -319,7 +319,7 @@ module _ {i : ℕ} {w : World} {s : State} (is : Invariant i w s) (c : Change) (
       drops has outward.Idle was now = Kept (now ∙ sym was) refl
       drops has (outward.Matched m) was now = Kept (now ∙ sym was) refl
       drops has outward.Taken was now = Kept (now ∙ sym was) refl
-      drops has outward.Reported was now = Kept (now ∙ sym was) refl
+      drops has outward.Unreported was now = Kept (now ∙ sym was) refl
 
       by : (d : Bool) → list_any (end_eq e) mine ≡ d → IsSendAfter (s.ends e) (after e) 0
       by true has = drops has (s.ends e).outward refl (outward-is ∙ ap (λ d. if d then dropped (s.ends e).outward else (s.ends e).outward) has)

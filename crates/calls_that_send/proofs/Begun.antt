@@ -15,7 +15,7 @@ use Rattle.end_table.specs.declared.entry.Outward.TheVariants as kernel_outward
 use Rattle.kernel_effects.specs.Calls.{sending_view}
 use Rattle.kernel_sound.proofs.Needs.{IsHereAnd-map}
 use Rattle.service_change.proofs.EndEq.{among, places-among, places-other, puts-at, puts-other}
-use Rattle.service_step.specs.Ends.{end_eq as service_eq, is_made, is_taken, matched_message, puts as service_puts, starts_send}
+use Rattle.service_step.specs.Ends.{is_made, is_taken, matched_message, puts as service_puts, starts_send}
 use Rattle.service_step.specs.State.{State}
 use Rattle.service_step.specs.declared.state.End.{End}
 use Rattle.service_step.specs.declared.state.Message.{Message}
@@ -37,7 +37,6 @@ use Rattle.calls_that_send.proofs.SamePackets.{end-same}
 
 -- the service and kernels look for ends in the same way
 pub among-same : (f : EndId) (xs : List EndId) → among f xs ≡ is_among xs f
-unfolding service_eq end_eq
 among-same f xs = refl
 
 -- no send is started, at the kernel and in the service
@@ -46,7 +45,7 @@ unsent w e n outward.Idle is = refl
 unsent w e n (outward.Waiting m) is = absurd is
 unsent w e n (outward.Matched m) is = absurd is
 unsent w e n outward.Taken is = absurd is
-unsent w e n outward.Reported is = absurd is
+unsent w e n outward.Unreported is = absurd is
 
 module _ {i : ℕ} {w u : Links} {s : State} {k : ℕ} {p : Pid} {v : HereView} {bytes : List ℕ} {xs : List EndId}
     (few : length s.made ≤ 8) (links : AreLinksOf w s) (right : AreRight i w s) (x : IsBeginning w u s k p v bytes xs) where

@@ -1,5 +1,7 @@
 -- The service goes with a Send that is not refused and meets no receive, by one step.
 use Rattle.std.proofs.Common.{◌≡◌, ℕ, ◌+◌, ◌^◌, ◌<◌, ◌≤◌, false, nat_eq, if◌then◌else◌, IsTrue, List, [], ◌∷◌, length, Some, None, slice_index, refl, sym, ap, subst, ◌∙◌, eq-eqb}
+use Rattle.charlotte_calls.proofs.Causes.{first_of-none}
+use Rattle.charlotte_calls.specs.Causes.{first_of, send_causes}
 use Rattle.charlotte_calls.specs.declared.calls.Answer.TheVariants as answer
 use Rattle.charlotte_calls.specs.declared.calls.Call.TheVariants as call
 use Rattle.charlotte_calls.specs.declared.calls.ServiceStep.TheVariants as step
@@ -15,7 +17,7 @@ use Rattle.end_table.specs.declared.entry.Holder.TheVariants as holder
 use Rattle.kernel_effects.specs.Actions.{held_entry, match_effect}
 use Rattle.kernel_effects.specs.Calls.{act_effect, effect_on, send_effect, sending_view}
 use Rattle.kernel_effects.specs.Effect.{Effect, nothing, puts, stays, turns}
-use Rattle.kernel_step.specs.Calls.{on_owned, refusal, send_causes}
+use Rattle.kernel_step.specs.Calls.{refusal, sees}
 use Rattle.kernel_step.specs.Kernel.{has_report, process_of}
 use Rattle.kernel_step.specs.declared.phase.Phase.TheVariants as kernel_phase
 use Rattle.kernel_world.specs.Run.{IsAllowed}
@@ -48,7 +50,7 @@ waits_effect v bytes xs =
 
 module _ (i : ℕ) (w : World) (s : State) (k : ℕ) (p : Pid) (mine : List EndId) (is : Invariant i w s) (below : p.0 < length s.homes) (at : home_of s p ≡ k) (running : ((w.kernel k).process p.0).phase ≡ kernel_phase.Running)
     (v : HereView) (bytes : List ℕ) (xs : List EndId) (here : (w.kernel k).table v.value.end ≡ entry.Here v) (owner_is : v.holder ≡ holder.Owner p) (few : i < 2 ^ 31) (fits : length xs ≤ (if nat_eq s.version 1 then 1 else 8))
-    (granted : on_owned (owned p ((w.kernel k).table v.value.end)) (send_causes p (w.kernel k).table v.value.end xs) ≡ None) where
+    (granted : first_of (send_causes (sees p (w.kernel k).table) v.value.end xs) ≡ None) where
   abbrev e : EndId
   e = v.value.end
 
@@ -56,7 +58,7 @@ module _ (i : ℕ) (w : World) (s : State) (k : ℕ) (p : Pid) (mine : List EndI
   owned-is = owned-of p ((w.kernel k).table e) v here owner_is
 
   pub free : IsFreeToSend p (w.kernel k).table e xs v
-  free = free-to-send p (w.kernel k).table e xs v (sym (ap (λ o. on_owned o (send_causes p (w.kernel k).table e xs)) owned-is) ∙ granted)
+  free = free-to-send p (w.kernel k).table e xs v owned-is granted
 
   -- whatever links come of it, so far as the send begins
   pub begins : (u : Links) → ((f : EndId) → u.entry k f ≡ puts e (entry.Here (sending_view v bytes xs)) (turns xs (held_entry (holder.EnclosedIn e)) stays) f ((w.kernel k).table f))
@@ -125,9 +127,9 @@ pub send-waits-goes : (g : Setting) (i : ℕ) (w : World) (s : State) (k : ℕ) 
     → IsAllowed g w (Calls k p (call.Send on bytes xs) mine) → refusal p (w.kernel k).table (w.kernel k).made mine (has_report (process_of p (w.kernel k))) (call.Send on bytes xs) ≡ None
     → IfHere ((w.kernel k).table on) (λ v. v.value.want ≡ 0) → Goes i w s (Calls k p (call.Send on bytes xs) mine)
 send-waits-goes g i w s k p on bytes xs mine is homes version few allowed granted unasked =
-    let o = granted-on (is.setting.sound k) p on (send_causes p (w.kernel k).table on xs) granted in
+    let o = granted-on (is.setting.sound k) p on (first_of-none (send_causes (sees p (w.kernel k).table) on xs) granted).0 in
     subst (λ z. Goes i w s (Calls k p (call.Send z bytes xs) mine)) o.end
     (waits-goes i w s k p mine is (subst (λ hs. p.0 < length hs) (sym homes) allowed.0) (ap (λ hs. slice_index hs p.0) homes ∙ allowed.1) allowed.2 o.view bytes xs o.here o.owner few
     (subst (λ n. length xs ≤ (if nat_eq n 1 then 1 else 8)) (sym version) allowed.3.0)
-    (subst (λ z. on_owned (owned p ((w.kernel k).table z)) (send_causes p (w.kernel k).table z xs) ≡ None) (sym o.end) granted)
+    (subst (λ z. first_of (send_causes (sees p (w.kernel k).table) z xs) ≡ None) (sym o.end) granted)
     (subst (λ z. IfHere z (λ v. v.value.want ≡ 0)) o.there unasked))

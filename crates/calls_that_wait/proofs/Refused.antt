@@ -1,20 +1,19 @@
 -- A call is refused by its kernel for the cause for which the service refuses it.
-use Rattle.std.proofs.Common.{◌≡◌, ◌≢◌, ◌⊎◌, inl, inr, ℕ, ◌<◌, Bool, true, false, nat_eq, nat_le, ◌&&◌, ◌||◌, not, is_none, is_some, zero, suc, IsSome, cond, IsTrue, List, [], ◌∷◌, length, Contains, Some, None, slice_get, slice_index, refl, sym, ap, subst, ◌∙◌, arith, true≢false, eqb-true, eq-eqb}
+use Rattle.std.proofs.Common.{◌≡◌, ◌≢◌, ◌⊎◌, inl, inr, ℕ, ◌<◌, Bool, true, false, nat_eq, ◌||◌, not, is_some, zero, suc, IsSome, cond, IsTrue, List, [], ◌∷◌, length, Contains, Some, None, slice_get, slice_index, refl, sym, ap, subst, ◌∙◌, arith, true≢false, eqb-true, eq-eqb}
 use Rattle.std.specs.List.{list_any}
 use Rattle.std.proofs.lemmas.Bool.Decides.{eqb_tells}
 use Rattle.std.proofs.lemmas.List.Elements.{All-get_or}
 use Rattle.charlotte_calls.specs.declared.calls.Report.{Report}
+use Rattle.charlotte_calls.proofs.Causes.{AreAlike, first_cause-alike}
 use Rattle.charlotte_calls.specs.Calls.{cause_number}
+use Rattle.charlotte_calls.specs.Causes.{first_cause, is_started}
 use Rattle.charlotte_calls.specs.declared.calls.Call.{Call}
 use Rattle.charlotte_calls.specs.declared.calls.Call.TheVariants as call
 use Rattle.charlotte_calls.specs.declared.calls.Cause.{Cause}
 use Rattle.charlotte_calls.specs.declared.calls.Cause.TheVariants as cause
 use Rattle.charlotte_calls.specs.declared.names.EndId.{EndId}
 use Rattle.charlotte_calls.specs.declared.names.Pid.{Pid}
-use Rattle.charlotte_calls.specs.declared.names.Way.{Way}
-use Rattle.charlotte_calls.specs.declared.names.Way.TheVariants as way
 use Rattle.end_table.specs.Owned.{owned, is_owner, AreEndsOf}
-use Rattle.end_table.specs.Place.{end_eq}
 use Rattle.end_table.specs.declared.entry.Entry.{Entry}
 use Rattle.end_table.specs.declared.entry.Entry.TheVariants as entry
 use Rattle.end_table.specs.declared.entry.HereView.{HereView}
@@ -30,8 +29,8 @@ use Rattle.kernel_step.specs.Kernel.{has_report, process_of}
 use Rattle.kernel_step.specs.declared.phase.Phase.TheVariants as kernel_phase
 use Rattle.kernel_world.specs.World.{World}
 use Rattle.service_step.specs.Causes as in_service
-use Rattle.service_step.specs.Ends.{end_eq as service_eq, is_owned_by, is_idle, is_idle_outward, is_idle_inward, is_reported_outward, is_reported_inward, is_taken, is_active, is_started_outward, is_started_inward}
-use Rattle.service_step.specs.State.{State, is_running, next_at, counted}
+use Rattle.service_step.specs.Ends.{inward_activity, is_active, is_owned_by, outward_activity}
+use Rattle.service_step.specs.State.{State, is_running, next_at, next_link, counted}
 use Rattle.service_step.specs.Steps.{runs}
 use Rattle.service_step.specs.declared.state.Inward.{Inward}
 use Rattle.service_step.specs.declared.state.Inward.TheVariants as inward
@@ -39,7 +38,6 @@ use Rattle.service_step.specs.declared.state.Outward.{Outward}
 use Rattle.service_step.specs.declared.state.Outward.TheVariants as outward
 use Rattle.service_step.specs.declared.state.Place.{Place}
 use Rattle.service_step.specs.declared.state.Place.TheVariants as place
-use Rattle.world_meaning.proofs.Ends.{eq-same}
 use Rattle.world_meaning.proofs.Plain.{got}
 use Rattle.world_meaning.specs.Invariant.{Invariant}
 use Rattle.world_meaning.specs.Packets.{Links, links_of}
@@ -51,59 +49,24 @@ pid-same p q is = λ i. record { 0 = eqb-true p.0 q.0 is i }
 
 -- ---- how far a send or a receive has come, at the kernel and in the service
 
--- tests of a send agree
-pub record AreSends (ko : KernelOutward) (so : Outward) : Type 0 where
-  pub free : at_kernel.is_free (at_kernel.outward_activity ko) ≡ is_idle_outward so
-  pub late : at_kernel.is_late way.Outward (at_kernel.outward_activity ko) ≡ (in_service.is_matched_outward so || is_taken so || is_reported_outward so)
-  pub started : at_kernel.is_started (at_kernel.outward_activity ko) ≡ is_started_outward so
-
-pub sends-agree : (w : Links) (e : EndId) (n : ℕ) (ko : KernelOutward) (so : Outward) → IsOutwardOf w e n ko so → AreSends ko so
-sends-agree w e n kernel_outward.Idle outward.Idle h = record { free = refl; late = refl; started = refl }
-sends-agree w e n (kernel_outward.Waiting m bytes xs) (outward.Waiting message) h = record { free = refl; late = refl; started = refl }
-sends-agree w e n (kernel_outward.Matched m) (outward.Matched message) h = record { free = refl; late = refl; started = refl }
-sends-agree w e n (kernel_outward.Matched m) outward.Taken h = record { free = refl; late = refl; started = refl }
-sends-agree w e n kernel_outward.Unreported outward.Reported h = record { free = refl; late = refl; started = refl }
+sends-agree : (w : Links) (e : EndId) (n : ℕ) (ko : KernelOutward) (so : Outward) → IsOutwardOf w e n ko so → at_kernel.outward_activity ko ≡ outward_activity so
+sends-agree w e n kernel_outward.Idle outward.Idle h = refl
+sends-agree w e n (kernel_outward.Waiting m bytes xs) (outward.Waiting message) h = refl
+sends-agree w e n (kernel_outward.Matched m) (outward.Matched message) h = refl
+sends-agree w e n (kernel_outward.Matched m) outward.Taken h = refl
+sends-agree w e n kernel_outward.Unreported outward.Unreported h = refl
 sends-agree w e n _ _ h = absurd h
 
--- tests of a receive agree
-pub record AreReceives (ki : KernelInward) (si : Inward) : Type 0 where
-  pub free : at_kernel.is_free (at_kernel.inward_activity ki) ≡ is_idle_inward si
-  pub late : at_kernel.is_late way.Inward (at_kernel.inward_activity ki) ≡ is_reported_inward si
-  pub started : at_kernel.is_started (at_kernel.inward_activity ki) ≡ is_started_inward si
-
-pub receives-agree : (w : Links) (e : EndId) (ki : KernelInward) (si : Inward) → IsInwardOf w e ki si → AreReceives ki si
-receives-agree w e kernel_inward.Idle inward.Idle h = record { free = refl; late = refl; started = refl }
-receives-agree w e (kernel_inward.Posted v) (inward.Matched n) h = record { free = refl; late = refl; started = refl }
-receives-agree w e (kernel_inward.Posted v) inward.Withdrawn h = record { free = refl; late = refl; started = refl }
-receives-agree w e (kernel_inward.Posted v) inward.Posted h = record { free = refl; late = refl; started = refl }
-receives-agree w e (kernel_inward.Withdrawing v) (inward.Matched n) h = record { free = refl; late = refl; started = refl }
-receives-agree w e (kernel_inward.Withdrawing v) inward.Withdrawn h = record { free = refl; late = refl; started = refl }
-receives-agree w e (kernel_inward.Withdrawing v) inward.Posted h = record { free = refl; late = refl; started = refl }
-receives-agree w e kernel_inward.Unreported inward.Reported h = record { free = refl; late = refl; started = refl }
+receives-agree : (w : Links) (e : EndId) (ki : KernelInward) (si : Inward) → IsInwardOf w e ki si → at_kernel.inward_activity ki ≡ inward_activity si
+receives-agree w e kernel_inward.Idle inward.Idle h = refl
+receives-agree w e (kernel_inward.Posted v) (inward.Matched n) h = refl
+receives-agree w e (kernel_inward.Posted v) inward.Withdrawn h = refl
+receives-agree w e (kernel_inward.Posted v) inward.Posted h = refl
+receives-agree w e (kernel_inward.Withdrawing v) (inward.Matched n) h = refl
+receives-agree w e (kernel_inward.Withdrawing v) inward.Withdrawn h = refl
+receives-agree w e (kernel_inward.Withdrawing v) inward.Posted h = refl
+receives-agree w e kernel_inward.Unreported inward.Unreported h = refl
 receives-agree w e _ _ h = absurd h
-
--- ---- lists of causes
-
-first-same : (ts : List (Bool × Cause)) → at_kernel.first_of ts ≡ in_service.first_of ts
-first-same [] = refl
-first-same (t ∷ ts) = ap (λ r. cond t.0 (Some t.1) r) (first-same ts)
-
-any-same : {X : Type 0} (f g : X → Bool) → ((x : X) → f x ≡ g x) → (xs : List X) → list_any f xs ≡ list_any g xs
-any-same f g same [] = refl
-any-same f g same (x ∷ xs) = (λ i. same x i || any-same f g same xs i)
-
-twice-same : (xs : List EndId) → at_kernel.names_twice xs ≡ in_service.names_twice xs
-twice-same [] = refl
-twice-same (x ∷ xs) = (λ i. any-same (end_eq x) (service_eq x) (λ y. sym (eq-same x y)) xs i || twice-same xs i)
-
--- where a test before it holds, a test need not agree
-guarded : (a b m x y z u : Bool) → (m ≡ false → x ≡ y)
-    → at_kernel.first_of ((a, cause.Busy) ∷ (b, cause.Dead) ∷ (m, cause.EncloseNoEnd) ∷ (x, cause.EncloseBusy) ∷ (z, cause.EncloseSame) ∷ (u, cause.EncloseTwice) ∷ [])
-    ≡ in_service.first_of ((a, cause.Busy) ∷ (b, cause.Dead) ∷ (m, cause.EncloseNoEnd) ∷ (y, cause.EncloseBusy) ∷ (z, cause.EncloseSame) ∷ (u, cause.EncloseTwice) ∷ [])
-guarded a b true x y z u same = refl
-guarded a b false x y z u same =
-    ap (λ t. at_kernel.first_of ((a, cause.Busy) ∷ (b, cause.Dead) ∷ (false, cause.EncloseNoEnd) ∷ (t, cause.EncloseBusy) ∷ (z, cause.EncloseSame) ∷ (u, cause.EncloseTwice) ∷ [])) (same refl)
-    ∙ first-same ((a, cause.Busy) ∷ (b, cause.Dead) ∷ (false, cause.EncloseNoEnd) ∷ (y, cause.EncloseBusy) ∷ (z, cause.EncloseSame) ∷ (u, cause.EncloseTwice) ∷ [])
 
 -- ---- a process and its ends
 
@@ -188,82 +151,34 @@ module _ (w : Links) (s : State) (p : Pid) (k : ℕ) (at : home_of s p ≡ k) (l
   own-owned : (e : EndId) (o : IsOwn e) → is_owned_by p (s.ends e).place ≡ true
   own-owned e o = ap (is_owned_by p) o.place ∙ eq-eqb p.0 p.0 refl
 
-  send-tests : (e : EndId) (o : IsOwn e) → AreSends o.view.outward (s.ends e).outward
-  send-tests e o = sends-agree w e (s.ends e).sent o.view.outward (s.ends e).outward o.end.outward
+  sends-same : (e : EndId) (o : IsOwn e) → at_kernel.outward_activity o.view.outward ≡ outward_activity (s.ends e).outward
+  sends-same e o = sends-agree w e (s.ends e).sent o.view.outward (s.ends e).outward o.end.outward
 
-  receive-tests : (e : EndId) (o : IsOwn e) → AreReceives o.view.inward (s.ends e).inward
-  receive-tests e o = receives-agree w e o.view.inward (s.ends e).inward o.end.inward
+  receives-same : (e : EndId) (o : IsOwn e) → at_kernel.inward_activity o.view.inward ≡ inward_activity (s.ends e).inward
+  receives-same e o = receives-agree w e o.view.inward (s.ends e).inward o.end.inward
 
-  idle-same : (e : EndId) (o : IsOwn e) → at_kernel.is_idle o.view ≡ is_idle (s.ends e)
-  idle-same e o = λ i. (send-tests e o).free i && (receive-tests e o).free i
-
-  -- a call on one end, whose other causes agree where p owns it
-  on-end : (e : EndId) (causes : HereView → List (Bool × Cause)) (others : List (Bool × Cause)) → ((o : IsOwn e) → at_kernel.first_of (causes o.view) ≡ in_service.first_of others)
-      → at_kernel.on_owned (owned p (entry_at w k e)) causes ≡ in_service.first_of (in_service.no_end p s.ends e ∷ others)
-  on-end e causes others same = by (own e)
+  -- what p sees of an end that it owns is the same at its kernel and in the service
+  alike : (e : EndId) → AreAlike (at_kernel.sees p (w.entry k) e) (in_service.sees p s.ends e)
+  alike e = by (own e)
     where
-      by : IsOthers e ⊎ IsOwn e → at_kernel.on_owned (owned p (entry_at w k e)) causes ≡ in_service.first_of (in_service.no_end p s.ends e ∷ others)
-      by (inl o) = ap (λ v. at_kernel.on_owned v causes) o.owned ∙ sym (ap (λ b. cond (not b) (Some cause.NoEnd) (in_service.first_of others)) o.place)
-      by (inr o) = ap (λ v. at_kernel.on_owned v causes) o.owned ∙ same o ∙ sym (ap (λ b. cond (not b) (Some cause.NoEnd) (in_service.first_of others)) (own-owned e o))
+      by : IsOthers e ⊎ IsOwn e → AreAlike (at_kernel.sees p (w.entry k) e) (in_service.sees p s.ends e)
+      by (inl o) = inr (ap (λ x. (at_kernel.seen x).owned) o.owned, o.place)
+      by (inr o) = inl (ap at_kernel.seen o.owned ∙ (λ i. record { owned = sym (own-owned e o) i; outward = sends-same e o i; inward = receives-same e o i; dead = sym o.end.noticed i }))
 
-  missing-same : (x : EndId) → is_none (owned p (entry_at w k x)) ≡ not (is_owned_by p (s.ends x).place)
-  missing-same x = by (own x)
-    where
-      by : IsOthers x ⊎ IsOwn x → is_none (owned p (entry_at w k x)) ≡ not (is_owned_by p (s.ends x).place)
-      by (inl o) = ap is_none o.owned ∙ sym (ap not o.place)
-      by (inr o) = ap is_none o.owned ∙ sym (ap not (own-owned x o))
+  -- so the kernel and the service refuse a call other than Wait for the same cause
+  pub calls-same : (made : ℕ) (c : Call) → first_cause (at_kernel.sees p (w.entry k)) made c ≡ first_cause (in_service.sees p s.ends) made c
+  calls-same made c = first_cause-alike (at_kernel.sees p (w.entry k)) (in_service.sees p s.ends) alike made c
 
-  busy-same : (xs : List EndId) → list_any (λ x. is_none (owned p (entry_at w k x))) xs ≡ false → list_any (λ x. at_kernel.is_busy (owned p (entry_at w k x))) xs ≡ list_any (λ x. not (is_idle (s.ends x))) xs
-  busy-same [] none = refl
-  busy-same (x ∷ xs) none = by (own x) (busy-same xs) none
-    where
-      by : IsOthers x ⊎ IsOwn x → (list_any (λ x. is_none (owned p (entry_at w k x))) xs ≡ false → list_any (λ x. at_kernel.is_busy (owned p (entry_at w k x))) xs ≡ list_any (λ x. not (is_idle (s.ends x))) xs)
-          → (is_none (owned p (entry_at w k x)) || list_any (λ x. is_none (owned p (entry_at w k x))) xs) ≡ false
-          → (at_kernel.is_busy (owned p (entry_at w k x)) || list_any (λ x. at_kernel.is_busy (owned p (entry_at w k x))) xs) ≡ (not (is_idle (s.ends x)) || list_any (λ x. not (is_idle (s.ends x))) xs)
-      by (inl o) later none = absurd (true≢false (sym (ap (λ v. is_none v || list_any (λ x. is_none (owned p (entry_at w k x))) xs) o.owned) ∙ none))
-      by (inr o) later none =
-          let rest : list_any (λ x. is_none (owned p (entry_at w k x))) xs ≡ false = sym (ap (λ v. is_none v || list_any (λ x. is_none (owned p (entry_at w k x))) xs) o.owned) ∙ none in
-          (λ i. (ap at_kernel.is_busy o.owned ∙ ap not (idle-same x o)) i || later rest i)
+  -- and an activity is started in the service exactly where one is at the kernel
+  pub started-same : (e : EndId) (o : IsOwn e) → at_kernel.is_active (here (entry_at w k e)) ≡ is_active (s.ends e)
+  started-same e o = ap (λ x. at_kernel.is_active (here x)) o.entry ∙ (λ i. is_started (sends-same e o i) || is_started (receives-same e o i))
 
-  pub send-same : (on : EndId) (bytes : List ℕ) (xs : List EndId) → at_kernel.on_owned (owned p (entry_at w k on)) (at_kernel.send_causes p (w.entry k) on xs) ≡ in_service.refusal s p (call.Send on bytes xs)
-  send-same on bytes xs = on-end on (at_kernel.send_causes p (w.entry k) on xs)
-      ((not (is_idle_outward (s.ends on).outward), cause.Busy) ∷ ((s.ends on).noticed, cause.Dead) ∷ (in_service.is_missing_one p s.ends xs, cause.EncloseNoEnd)
-      ∷ (in_service.has_busy_one s.ends xs, cause.EncloseBusy) ∷ (list_any (in_service.same_link on) xs, cause.EncloseSame) ∷ (in_service.names_twice xs, cause.EncloseTwice) ∷ [])
-      same
-    where
-      same : (o : IsOwn on) → at_kernel.first_of (at_kernel.send_causes p (w.entry k) on xs o.view)
-          ≡ in_service.first_of ((not (is_idle_outward (s.ends on).outward), cause.Busy) ∷ ((s.ends on).noticed, cause.Dead) ∷ (in_service.is_missing_one p s.ends xs, cause.EncloseNoEnd)
-          ∷ (in_service.has_busy_one s.ends xs, cause.EncloseBusy) ∷ (list_any (in_service.same_link on) xs, cause.EncloseSame) ∷ (in_service.names_twice xs, cause.EncloseTwice) ∷ [])
-      same o =
-          guarded (not (at_kernel.is_free (at_kernel.outward_activity o.view.outward))) o.view.value.dead (list_any (λ x. is_none (owned p (entry_at w k x))) xs)
-          (list_any (λ x. at_kernel.is_busy (owned p (entry_at w k x))) xs) (in_service.has_busy_one s.ends xs) (list_any (at_kernel.same_link on) xs) (at_kernel.names_twice xs) (busy-same xs)
-          ∙ (λ i. in_service.first_of ((not ((send-tests on o).free i), cause.Busy) ∷ (sym o.end.noticed i, cause.Dead) ∷ (any-same _ _ missing-same xs i, cause.EncloseNoEnd)
-          ∷ (in_service.has_busy_one s.ends xs, cause.EncloseBusy) ∷ (list_any (in_service.same_link on) xs, cause.EncloseSame) ∷ (twice-same xs i, cause.EncloseTwice) ∷ []))
-
-  receive-same : (on : EndId) → at_kernel.on_owned (owned p (entry_at w k on)) at_kernel.receive_causes ≡ in_service.refusal s p (call.Receive on)
-  receive-same on = on-end on at_kernel.receive_causes ((not (is_idle_inward (s.ends on).inward), cause.Busy) ∷ ((s.ends on).noticed, cause.Dead) ∷ []) (λ o. first-same (at_kernel.receive_causes o.view)
-      ∙ (λ i. in_service.first_of ((not ((receive-tests on o).free i), cause.Busy) ∷ (sym o.end.noticed i, cause.Dead) ∷ [])))
-
-  destroy-same : (on : EndId) → at_kernel.on_owned (owned p (entry_at w k on)) at_kernel.no_causes ≡ in_service.refusal s p (call.Destroy on)
-  destroy-same on = on-end on at_kernel.no_causes [] (λ o. refl)
-
-  pub cancel-same : (on : EndId) (wy : Way) → at_kernel.on_owned (owned p (entry_at w k on)) (at_kernel.cancel_causes wy) ≡ in_service.refusal s p (call.Cancel on wy)
-  cancel-same on way.Outward = on-end on (at_kernel.cancel_causes way.Outward)
-      (((s.ends on).noticed, cause.Dead) ∷ (in_service.is_matched_outward (s.ends on).outward || is_taken (s.ends on).outward || is_reported_outward (s.ends on).outward, cause.Late) ∷ (is_idle_outward (s.ends on).outward, cause.NoActivity) ∷ [])
-      (λ o. first-same (at_kernel.cancel_causes way.Outward o.view)
-      ∙ (λ i. in_service.first_of ((sym o.end.noticed i, cause.Dead) ∷ ((send-tests on o).late i, cause.Late) ∷ ((send-tests on o).free i, cause.NoActivity) ∷ [])))
-  cancel-same on way.Inward = on-end on (at_kernel.cancel_causes way.Inward)
-      (((s.ends on).noticed, cause.Dead) ∷ (is_reported_inward (s.ends on).inward, cause.Late) ∷ (is_idle_inward (s.ends on).inward, cause.NoActivity) ∷ [])
-      (λ o. first-same (at_kernel.cancel_causes way.Inward o.view)
-      ∙ (λ i. in_service.first_of ((sym o.end.noticed i, cause.Dead) ∷ ((receive-tests on o).late i, cause.Late) ∷ ((receive-tests on o).free i, cause.NoActivity) ∷ [])))
-
-  -- an activity that p has started in the service is one at its kernel
   active-same : (e : EndId) → IsTrue (is_owned_by p (s.ends e).place) → IsTrue (is_active (s.ends e)) → at_kernel.is_active (here (entry_at w k e)) ≡ true
   active-same e is_own active = by (own e)
     where
       by : IsOthers e ⊎ IsOwn e → at_kernel.is_active (here (entry_at w k e)) ≡ true
       by (inl o) = absurd (true≢false (sym is_own ∙ o.place))
-      by (inr o) = ap (λ x. at_kernel.is_active (here x)) o.entry ∙ (λ i. (send-tests e o).started i || (receive-tests e o).started i) ∙ active
+      by (inr o) = started-same e o ∙ active
 
 -- ---- the causes of a call
 
@@ -294,10 +209,8 @@ module _ (i : ℕ) (w : World) (s : State) (p : Pid) (k : ℕ) (mine : List EndI
   home-below : home_of s p < length s.made
   home-below = All-get_or (λ h. h < length s.made) s.homes p.0 0 calls.below is.setting.homes
 
-  make-same : cond (nat_le at_kernel.link_limit (w.kernel k).made) (Some cause.LinksFull) None ≡ in_service.refusal s p call.Make
-  make-same = ap (λ n. cond (nat_le at_kernel.link_limit n) (Some cause.LinksFull) None) (sym (is.setting.made k))
-      ∙ ap (λ j. cond (nat_le at_kernel.link_limit (slice_index s.made j)) (Some cause.LinksFull) None) (sym calls.at)
-      ∙ sym (ap (λ o. cond (in_service.is_full o) (Some cause.LinksFull) None) next)
+  made-same : (w.kernel k).made ≡ in_service.made_before (next_link s p)
+  made-same = sym (is.setting.made k) ∙ ap (slice_index s.made) (sym calls.at) ∙ sym (ap in_service.made_before next)
     where
       next : next_at (slice_get s.homes p.0) s.made ≡ Some (record { maker = home_of s p; count = slice_index s.made (home_of s p) })
       next = ap (λ h. next_at h s.made) (got s.homes p.0 calls.below) ∙ ap (counted (home_of s p)) (got s.made (home_of s p) home-below)
@@ -336,27 +249,23 @@ module _ (i : ℕ) (w : World) (s : State) (p : Pid) (k : ℕ) (mine : List EndI
           some_owned e (inl o) is_own = absurd (true≢false (sym is_own ∙ o.place))
           some_owned e (inr o) is_own = subst IsSome (sym o.owned) refl
 
-  for-same : (c : Call) (why : Cause) → at_kernel.refusal p (w.kernel k).table (w.kernel k).made mine (has_report (process_of p (w.kernel k))) c ≡ Some why → in_service.refusal s p c ≡ Some why
-      → IsTrue (in_service.is_cause why (in_service.refusal s p c))
-  for-same c why refused is_same = subst (λ r. in_service.is_cause why r ≡ true) (sym is_same) (eq-eqb (cause_number why) (cause_number why) refl)
+  for-same : (c : Call) (why : Cause) → first_cause (at_kernel.sees p (w.kernel k).table) (w.kernel k).made c ≡ Some why → IsTrue (in_service.is_cause why (in_service.refusal s p c))
+  for-same c why refused = subst (λ r. in_service.is_cause why r ≡ true) (sym (sym same ∙ refused)) (eq-eqb (cause_number why) (cause_number why) refl)
+    where
+      same : first_cause (at_kernel.sees p (w.kernel k).table) (w.kernel k).made c ≡ in_service.refusal s p c
+      same = ap (λ n. first_cause (at_kernel.sees p (w.kernel k).table) n c) made-same ∙ calls-same l s p k calls.at links (in_service.made_before (next_link s p)) c
 
   -- a call that its kernel refuses is refused by the service for the same cause
   pub refused-for : (c : Call) (why : Cause) → at_kernel.IsCallWith p (w.kernel k).table mine c → at_kernel.refusal p (w.kernel k).table (w.kernel k).made mine (has_report (process_of p (w.kernel k))) c ≡ Some why
       → in_service.IsRefusedFor s p c why
-  refused-for call.Make why with_mine refused = for-same call.Make why refused (sym make-same ∙ refused)
-  refused-for (call.Destroy on) why with_mine refused = for-same (call.Destroy on) why refused (sym (destroy-same l s p k calls.at links on) ∙ refused)
-  refused-for (call.Send on bytes xs) why with_mine refused = for-same (call.Send on bytes xs) why refused (sym (send-same l s p k calls.at links on bytes xs) ∙ refused)
-  refused-for (call.Receive on) why with_mine refused = for-same (call.Receive on) why refused (sym (receive-same l s p k calls.at links on) ∙ refused)
-  refused-for (call.Cancel on wy) why with_mine refused = for-same (call.Cancel on wy) why refused (sym (cancel-same l s p k calls.at links on wy) ∙ refused)
+  refused-for call.Make why with_mine refused = for-same call.Make why refused
+  refused-for (call.Destroy on) why with_mine refused = for-same (call.Destroy on) why refused
+  refused-for (call.Send on bytes xs) why with_mine refused = for-same (call.Send on bytes xs) why refused
+  refused-for (call.Receive on) why with_mine refused = for-same (call.Receive on) why refused
+  refused-for (call.Cancel on wy) why with_mine refused = for-same (call.Cancel on wy) why refused
   refused-for call.Wait why with_mine refused = wait-for why with_mine (has_report (process_of p (w.kernel k))) (list_any (λ e. at_kernel.is_active (here (entry_at l k e))) mine) refl refl refused
-  refused-for (call.Print bytes) why with_mine refused = absurd (none_some why refused)
-    where
-      none_some : (why : Cause) → None ≡ Some why → ⊥
-      none_some why h = cc
-  refused-for call.Exit why with_mine refused = absurd (none_some why refused)
-    where
-      none_some : (why : Cause) → None ≡ Some why → ⊥
-      none_some why h = cc
+  refused-for (call.Print bytes) why with_mine refused = for-same (call.Print bytes) why refused
+  refused-for call.Exit why with_mine refused = for-same call.Exit why refused
 
   -- a Wait that its kernel does not refuse finds a report or a started activity in the service
   pub wait-granted : AreEndsOf p (w.kernel k).table mine → at_kernel.refusal p (w.kernel k).table (w.kernel k).made mine (has_report (process_of p (w.kernel k))) call.Wait ≡ None → in_service.HasActivity s p
@@ -370,8 +279,7 @@ module _ (i : ℕ) (w : World) (s : State) (p : Pid) (k : ℕ) (mine : List EndI
       started e some active (inr o) = (
         e,
         ap (is_owned_by p) o.place ∙ eq-eqb p.0 p.0 refl,
-        (λ j. sym (sends-agree l e (s.ends e).sent o.view.outward (s.ends e).outward o.end.outward).started j || sym (receives-agree l e o.view.inward (s.ends e).inward o.end.inward).started j)
-            ∙ sym (ap (λ x. at_kernel.is_active (here x)) o.entry) ∙ active,
+        sym (started-same l s p k calls.at links e o) ∙ active,
       )
 
       by : (b c : Bool) → has_report (process_of p (w.kernel k)) ≡ b → list_any (λ e. at_kernel.is_active (here (entry_at l k e))) mine ≡ c → cond (b || c) None (Some cause.NoActivity) ≡ None → in_service.HasActivity s p

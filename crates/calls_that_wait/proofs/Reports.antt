@@ -33,7 +33,7 @@ use Rattle.service_change.proofs.Facts.{busy-made, put_process-at, put_process-o
 use Rattle.service_consistent.proofs.Laws.{consistent_after}
 use Rattle.service_lawful.proofs.Turned.{turned, turned-other, turned-own, turned-reports}
 use Rattle.service_lawful.specs.Consistent.{IsConsistent, is_over}
-use Rattle.service_step.specs.Ends.{idles, is_idle, is_living, is_made, is_reported_inward, is_reported_outward, puts, turns_inward, turns_outward}
+use Rattle.service_step.specs.Ends.{idles, is_idle, is_living, is_made, is_unreported_inward, is_unreported_outward, puts, turns_inward, turns_outward}
 use Rattle.service_step.specs.State.{State, Process, given, is_waiting, later}
 use Rattle.service_step.specs.Steps.{IsServiceStep, after_report}
 use Rattle.service_step.specs.declared.state.End.{End}
@@ -114,15 +114,15 @@ unfolding idles turns_outward turns_inward
 idles-is way.Outward e t = refl
 idles-is way.Inward e t = refl
 
-over-outward : (o : Outward) → is_reported_outward o ≡ true → o ≡ outward.Reported
-over-outward outward.Reported over = refl
+over-outward : (o : Outward) → is_unreported_outward o ≡ true → o ≡ outward.Unreported
+over-outward outward.Unreported over = refl
 over-outward outward.Idle over = absurd (true≢false (sym over))
 over-outward (outward.Waiting m) over = absurd (true≢false (sym over))
 over-outward (outward.Matched m) over = absurd (true≢false (sym over))
 over-outward outward.Taken over = absurd (true≢false (sym over))
 
-over-inward : (i : Inward) → is_reported_inward i ≡ true → i ≡ inward.Reported
-over-inward inward.Reported over = refl
+over-inward : (i : Inward) → is_unreported_inward i ≡ true → i ≡ inward.Unreported
+over-inward inward.Unreported over = refl
 over-inward inward.Idle over = absurd (true≢false (sym over))
 over-inward inward.Posted over = absurd (true≢false (sym over))
 over-inward inward.Withdrawn over = absurd (true≢false (sym over))
@@ -133,11 +133,11 @@ idle-rested way.Outward x over = record { place = refl; sent = refl; noticed = r
 idle-rested way.Inward x over = record { place = refl; sent = refl; noticed = refl; outward = inl refl; inward = inr (over-inward x.inward over, refl) }
 
 -- what is over in the service is over at the kernel, and idle once it is reported
-outward-idle : (w : Links) (e : EndId) (n : ℕ) (o : KernelOutward) → IsOutwardOf w e n o outward.Reported → outward_reported o ≡ kernel_outward.Idle
+outward-idle : (w : Links) (e : EndId) (n : ℕ) (o : KernelOutward) → IsOutwardOf w e n o outward.Unreported → outward_reported o ≡ kernel_outward.Idle
 outward-idle w e n kernel_outward.Unreported is = refl
 outward-idle w e n _ is = absurd is
 
-inward-idle : (w : Links) (e : EndId) (i : KernelInward) → IsInwardOf w e i inward.Reported → inward_reported i ≡ kernel_inward.Idle
+inward-idle : (w : Links) (e : EndId) (i : KernelInward) → IsInwardOf w e i inward.Unreported → inward_reported i ≡ kernel_inward.Idle
 inward-idle w e kernel_inward.Unreported is = refl
 inward-idle w e _ is = absurd is
 

@@ -48,15 +48,15 @@ pub record IsRested (x z : End) : Type 0 where
   pub place : z.place ≡ x.place
   pub sent : z.sent ≡ x.sent
   pub noticed : z.noticed ≡ x.noticed
-  pub outward : IsIdled outward.Reported outward.Idle x.outward z.outward
-  pub inward : IsIdled inward.Reported inward.Idle x.inward z.inward
+  pub outward : IsIdled outward.Unreported outward.Idle x.outward z.outward
+  pub inward : IsIdled inward.Unreported inward.Idle x.inward z.inward
 
 module _ (x z : End) (r : IsRested x z) where
   -- what is the same of an activity that is over and of one that is idle
-  pub rest-outward : {X : Type 0} (f : Outward → X) → f outward.Idle ≡ f outward.Reported → f z.outward ≡ f x.outward
+  pub rest-outward : {X : Type 0} (f : Outward → X) → f outward.Idle ≡ f outward.Unreported → f z.outward ≡ f x.outward
   rest-outward f idle = idled r.outward (λ o. f o ≡ f x.outward) (λ was. idle ∙ was) refl
 
-  pub rest-inward : {X : Type 0} (f : Inward → X) → f inward.Idle ≡ f inward.Reported → f z.inward ≡ f x.inward
+  pub rest-inward : {X : Type 0} (f : Inward → X) → f inward.Idle ≡ f inward.Unreported → f z.inward ≡ f x.inward
   rest-inward f idle = idled r.inward (λ i. f i ≡ f x.inward) (λ was. idle ∙ was) refl
 
   pub rest-living : is_living z.place ≡ is_living x.place

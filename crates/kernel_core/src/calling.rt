@@ -1,4 +1,5 @@
 ghost use Rattle.std.specs.Prelude.{◌≡◌, ◌+◌, ◌<◌, ℕ, Bool, [], None, Some, length};
+ghost use Rattle.charlotte_calls.specs.Causes.{link_limit};
 ghost use Rattle.charlotte_calls.specs.declared.names.EndId.{EndId};
 ghost use Rattle.charlotte_calls.specs.declared.names.Pid.{Pid};
 ghost use Rattle.end_table.specs.Owned.{owned};
@@ -12,7 +13,7 @@ ghost use Rattle.kernel_process.specs.Steady.{StaysCalm, TakesAtMost};
 ghost use Rattle.kernel_core.specs.Consistent.{IsConsistent};
 ghost use Rattle.kernel_core.specs.Finishing.{finishes, finished, ending_of, turned, turned_on, turned_to};
 ghost use Rattle.kernel_core.specs.Started.{IsRequest, IsReadyToCall};
-ghost use Rattle.kernel_step.specs.Calls.{link_limit, refusal};
+ghost use Rattle.kernel_step.specs.Calls.{refusal};
 ghost use Rattle.kernel_step.specs.Kernel.{Kernel, closes};
 ghost use Rattle.kernel_step.specs.Progress.{progress, means, HasRoom};
 ghost use Rattle.kernel_step.specs.Room.{one_step};

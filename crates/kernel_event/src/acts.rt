@@ -1,4 +1,5 @@
 ghost use Rattle.std.specs.Prelude.{◌≡◌, ℕ, Bool, None, length};
+ghost use Rattle.charlotte_calls.specs.Causes.{first_of as first_cause, send_causes};
 ghost use Rattle.charlotte_calls.specs.Names.{opposite};
 ghost use Rattle.charlotte_calls.specs.declared.calls.ServiceStep.TheVariants as step;
 ghost use Rattle.charlotte_calls.specs.declared.names.EndId.{EndId};
@@ -11,7 +12,7 @@ ghost use Rattle.kernel_event.specs.Places.{IsPlacedFor};
 ghost use Rattle.kernel_event.specs.Room.{room_of_call};
 ghost use Rattle.kernel_sound.specs.Sound.{IsSound};
 ghost use Rattle.kernel_step.specs.Actions.{ends, here};
-ghost use Rattle.kernel_step.specs.Calls.{made_end, makes, posts, withdraws_send, starts_send, encloses, ends_each, ends_here, on_owned, send_causes, refusal, IsCallWith};
+ghost use Rattle.kernel_step.specs.Calls.{made_end, makes, posts, withdraws_send, starts_send, encloses, ends_each, ends_here, refusal, sees, IsCallWith};
 ghost use Rattle.kernel_step.specs.Enclosed.{AreEnclosed, IsReady};
 ghost use Rattle.kernel_step.specs.Progress.{progress, means, HasRoom, StaysWithin};
 ghost use Rattle.kernel_step.specs.Room.{and_ends, no_room, one_step, room_of_destroy, room_of_end, room_of_receive, room_of_send};
@@ -143,7 +144,7 @@ fn cancel_receive(table: &mut Table, p: Pid, on: EndId, out: &mut Work)
 /// Send: the ends that it encloses are held by it, and a send is started.
 fn send(table: &mut Table, p: Pid, on: EndId, bytes: &Bytes, enclose: &Ends, out: &mut Work)
     requires own { (e : EndId) → IsOfEnd e (entries table.old e) }
-    requires granted { on_owned (owned p (entries table.old on)) (send_causes p (entries table.old) on enclose.now) ≡ None }
+    requires granted { first_cause (send_causes (sees p (entries table.old)) on enclose.now) ≡ None }
     requires room { HasRoom room_of_send out.old }
     ensures part { progress (entries table.new) out.new
         ≡ acts_on (owned p (entries table.old on)) (λ v so_far. starts_send table.old.kernel bytes.now enclose.now v (encloses on enclose.now so_far)) (progress (entries table.old) out.old) }

@@ -21,7 +21,7 @@ use Rattle.end_table.specs.declared.entry.Entry.TheVariants as entry
 use Rattle.end_table.specs.declared.entry.HereView.{HereView}
 use Rattle.end_table.specs.declared.entry.Inward.{Inward}
 use Rattle.end_table.specs.declared.entry.Inward.TheVariants as inward
-use Rattle.kernel_sound.proofs.Needs.{granted-at, owned-here, send-apart, send-free}
+use Rattle.kernel_sound.proofs.Needs.{owned-here, send-apart, send-free}
 use Rattle.kernel_sound.proofs.Parcels.{awaits-here}
 use Rattle.kernel_sound.proofs.Values.{AreComing-arriving, apart-AreComing}
 use Rattle.kernel_sound.specs.Acts.{acts, acts_on, withdraws_posted}
@@ -105,10 +105,9 @@ module _ (k made n : ℕ) (d : Progress) (sound : IsSound k made n d.table) wher
         on-does on _ _ (λ v is here. does-then (means-does (step.Destroy on) d) (ends-does k on v (means (step.Destroy on) d) (stands-sound k made n d.table sound on v here)))
     acts-does mine reported (call.Send on bytes xs) granted with_ends =
         on-does on _ _ (λ v is here.
-        let causes = granted-at p d.table on xs v (sym is) granted in
         let end : v.value.end ≡ on = stands-end d.table on v (stands-sound k made n d.table sound on v here) in
         subst (λ z. Does (send_effect k d.table bytes xs v) d (starts_send k bytes xs v (encloses z xs d))) end
-        (sends-call-does k bytes xs v d (AreDifferent-free p d.table xs (send-free p d.table on xs v causes)) (subst (λ z. list_any (end_eq z) xs ≡ false) (sym end) (send-apart p d.table on xs v causes)) sound.own))
+        (sends-call-does k bytes xs v d (AreDifferent-free p d.table xs (send-free p d.table on xs granted)) (subst (λ z. list_any (end_eq z) xs ≡ false) (sym end) (send-apart p d.table on xs granted)) sound.own))
     acts-does mine reported (call.Receive on) granted with_ends = on-does on _ _ (λ v is here. posts-does k v d)
     acts-does mine reported (call.Cancel on way.Outward) granted with_ends = on-does on _ _ (λ v is here. withdraws_send-does on v d (stands-sound k made n d.table sound on v here))
     acts-does mine reported (call.Cancel on way.Inward) granted with_ends = on-does on _ _ (λ v is here. withdraws_posted-does v v.inward)

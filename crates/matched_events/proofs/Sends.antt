@@ -2,6 +2,8 @@
 use Rattle.std.proofs.Common.{◌≡◌, ◌≢◌, ◌⊎◌, inl, inr, ℕ, ◌+◌, ◌^◌, ◌<◌, ◌≤◌, Bool, true, false, nat_eq, if◌then◌else◌, List, [], ◌∷◌, ◌++◌, length, Contains, Some, None, slice_index, refl, sym, ap, subst, ◌∙◌, arith, ne_eqb}
 use Rattle.std.proofs.lemmas.Bool.Decides.{eqb_tells}
 use Rattle.std.specs.List.{list_any}
+use Rattle.charlotte_calls.proofs.Causes.{first_of-none}
+use Rattle.charlotte_calls.specs.Causes.{first_of, send_causes}
 use Rattle.charlotte_calls.specs.Names.{opposite}
 use Rattle.charlotte_calls.specs.declared.calls.Answer.TheVariants as answer
 use Rattle.charlotte_calls.specs.declared.calls.Call.TheVariants as call
@@ -28,7 +30,7 @@ use Rattle.kernel_effects.specs.Effect.{Effect, puts, stays, turns}
 use Rattle.kernel_sound.proofs.Needs.{AreFree, send-free}
 use Rattle.kernel_sound.specs.Sound.{AreHeldBy, IsHeldWell}
 use Rattle.kernel_step.specs.Actions.{here, value_leaving, values_leaving}
-use Rattle.kernel_step.specs.Calls.{on_owned, refusal, send_causes}
+use Rattle.kernel_step.specs.Calls.{refusal, sees}
 use Rattle.kernel_step.specs.Kernel.{has_report, process_of}
 use Rattle.kernel_step.specs.declared.phase.Phase.TheVariants as kernel_phase
 use Rattle.kernel_world.specs.Run.{IsAllowed}
@@ -109,7 +111,7 @@ of-held e h (entry.Destroyed m) is = is
 
 module _ (i : ℕ) (w : World) (s : State) (k : ℕ) (p : Pid) (mine : List EndId) (is : Invariant i w s) (below : p.0 < length s.homes) (at : home_of s p ≡ k) (running : ((w.kernel k).process p.0).phase ≡ kernel_phase.Running)
     (v : HereView) (bytes : List ℕ) (xs : List EndId) (here : (w.kernel k).table v.value.end ≡ entry.Here v) (owner_is : v.holder ≡ holder.Owner p) (few : i < 2 ^ 31) (fits : length xs ≤ (if nat_eq s.version 1 then 1 else 8))
-    (granted : on_owned (owned p ((w.kernel k).table v.value.end)) (send_causes p (w.kernel k).table v.value.end xs) ≡ None) (wanted : 0 < v.value.want) where
+    (granted : first_of (send_causes (sees p (w.kernel k).table) v.value.end xs) ≡ None) (wanted : 0 < v.value.want) where
   abbrev e : EndId
   e = v.value.end
 
@@ -224,7 +226,7 @@ module _ (i : ℕ) (w : World) (s : State) (k : ℕ) (p : Pid) (mine : List EndI
           inr (inr (first-half.entry x ∙ ap (λ a. if a then entry.Here starting else turns xs (held_entry (holder.EnclosedIn e)) stays x (table x)) apart ∙ ap (λ a. if a then held_entry (holder.EnclosedIn e) (table x) else table x) none))
 
   free-ends : AreFree p table xs
-  free-ends = send-free p table e xs v (sym (ap (λ o. on_owned o (send_causes p table e xs)) owns) ∙ granted)
+  free-ends = send-free p table e xs granted
 
   of-half : (x : EndId) → IsOfEnd x (entry_at half k x)
   of-half x = by (half-or x)
@@ -321,8 +323,8 @@ pub send-goes : (g : Setting) (i : ℕ) (w : World) (s : State) (k : ℕ) (p : P
     → IsAllowed g w (Calls k p (call.Send on bytes xs) mine) → refusal p (w.kernel k).table (w.kernel k).made mine (has_report (process_of p (w.kernel k))) (call.Send on bytes xs) ≡ None → Goes i w s (Calls k p (call.Send on bytes xs) mine)
 send-goes g i w s k p on bytes xs mine is homes version few allowed granted = asked (eqb_tells o.view.value.want 0)
   where
-    o : IsGranted p (w.kernel k).table on (send_causes p (w.kernel k).table on xs)
-    o = granted-on (is.setting.sound k) p on (send_causes p (w.kernel k).table on xs) granted
+    o : IsGranted p (w.kernel k).table on
+    o = granted-on (is.setting.sound k) p on (first_of-none (send_causes (sees p (w.kernel k).table) on xs) granted).0
 
     asked : ((nat_eq o.view.value.want 0 ≡ true) × (o.view.value.want ≡ 0)) ⊎ ((nat_eq o.view.value.want 0 ≡ false) × (o.view.value.want ≢ 0)) → Goes i w s (Calls k p (call.Send on bytes xs) mine)
     asked (inl none) = send-waits-goes g i w s k p on bytes xs mine is homes version few allowed granted (subst (λ z. IfHere z (λ v. v.value.want ≡ 0)) (sym o.there) none.1)
@@ -330,7 +332,7 @@ send-goes g i w s k p on bytes xs mine is homes version few allowed granted = as
         subst (λ z. Goes i w s (Calls k p (call.Send z bytes xs) mine)) o.end
         (matches-goes i w s k p mine is (subst (λ hs. p.0 < length hs) (sym homes) allowed.0) (ap (λ hs. slice_index hs p.0) homes ∙ allowed.1) allowed.2 o.view bytes xs o.here o.owner few
         (subst (λ n. length xs ≤ (if nat_eq n 1 then 1 else 8)) (sym version) allowed.3.0)
-        (subst (λ z. on_owned (owned p ((w.kernel k).table z)) (send_causes p (w.kernel k).table z xs) ≡ None) (sym o.end) granted) (above o.view.value.want some.1))
+        (subst (λ z. first_of (send_causes (sees p (w.kernel k).table) z xs) ≡ None) (sym o.end) granted) (above o.view.value.want some.1))
       where
         above : (m : ℕ) → m ≢ 0 → 0 < m
         above m not = by (eqb_tells m 0)

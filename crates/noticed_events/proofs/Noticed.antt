@@ -228,14 +228,14 @@ noticed-message outward.Idle = refl
 noticed-message (outward.Waiting m) = refl
 noticed-message (outward.Matched m) = refl
 noticed-message outward.Taken = refl
-noticed-message outward.Reported = refl
+noticed-message outward.Unreported = refl
 
 noticed-taken : (o : Outward) → is_taken (noticed_outward o) ≡ is_taken o
 noticed-taken outward.Idle = refl
 noticed-taken (outward.Waiting m) = refl
 noticed-taken (outward.Matched m) = refl
 noticed-taken outward.Taken = refl
-noticed-taken outward.Reported = refl
+noticed-taken outward.Unreported = refl
 
 closed : (b : Bool) → b && false ≡ false
 closed true = refl

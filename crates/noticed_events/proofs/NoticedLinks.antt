@@ -55,7 +55,7 @@ outward-noticed w u e taken n kernel_outward.Idle outward.Idle is = is
 outward-noticed w u e taken n (kernel_outward.Waiting m bytes xs) (outward.Waiting message) is = tt
 outward-noticed w u e taken n (kernel_outward.Matched m) (outward.Matched message) is = (is.0, λ now. is.1 ((taken m).0 now))
 outward-noticed w u e taken n (kernel_outward.Matched m) outward.Taken is = (is.0, (taken m).1 is.1)
-outward-noticed w u e taken n kernel_outward.Unreported outward.Reported is = is
+outward-noticed w u e taken n kernel_outward.Unreported outward.Unreported is = is
 outward-noticed w u e taken n _ _ is = absurd is
 
 asked-noticed : (w u : Links) (e : EndId) (v : ℕ) (i : Inward) → IsAskedOf w e v i → IsInwardOf u e kernel_inward.Unreported (noticed_inward i)
@@ -63,13 +63,13 @@ asked-noticed w u e v (inward.Matched n) is = tt
 asked-noticed w u e v inward.Withdrawn is = tt
 asked-noticed w u e v inward.Posted is = tt
 asked-noticed w u e v inward.Idle is = absurd is
-asked-noticed w u e v inward.Reported is = absurd is
+asked-noticed w u e v inward.Unreported is = absurd is
 
 inward-noticed : (w u : Links) (e : EndId) (at : KernelInward) (i : Inward) → IsInwardOf w e at i → IsInwardOf u e (kernel_noticed_inward at) (noticed_inward i)
 inward-noticed w u e kernel_inward.Idle inward.Idle is = is
 inward-noticed w u e (kernel_inward.Posted v) i is = asked-noticed w u e v i is
 inward-noticed w u e (kernel_inward.Withdrawing v) i is = asked-noticed w u e v i is
-inward-noticed w u e kernel_inward.Unreported inward.Reported is = is
+inward-noticed w u e kernel_inward.Unreported inward.Unreported is = is
 inward-noticed w u e _ _ is = absurd is
 
 parcel-not : (e : EndId) (n : ℕ) (w : Links) (t : EndId → End) (from to : ℕ) (what : PictureWhat) (m : Message) → IsPacketRight w t from to what → IsParcelOf e n what → (t e).outward ≡ outward.Waiting m → ⊥

@@ -90,7 +90,7 @@ module _ (w : Links) (e : EndId) where
   carried-same n (kernel_outward.Waiting m bytes xs) (outward.Waiting message) is = ap (λ (z : Message). z.carried) is.1
   carried-same n (kernel_outward.Matched m) (outward.Matched message) is = refl
   carried-same n (kernel_outward.Matched m) outward.Taken is = refl
-  carried-same n kernel_outward.Unreported outward.Reported is = refl
+  carried-same n kernel_outward.Unreported outward.Unreported is = refl
   carried-same n _ _ is = absurd is
 
   -- a send that encloses ends waits
@@ -99,7 +99,7 @@ module _ (w : Links) (e : EndId) where
   waiting-so n (kernel_outward.Waiting m bytes xs) outward.Idle q is among = absurd is
   waiting-so n (kernel_outward.Waiting m bytes xs) (outward.Matched message) q is among = absurd is
   waiting-so n (kernel_outward.Waiting m bytes xs) outward.Taken q is among = absurd is
-  waiting-so n (kernel_outward.Waiting m bytes xs) outward.Reported q is among = absurd is
+  waiting-so n (kernel_outward.Waiting m bytes xs) outward.Unreported q is among = absurd is
   waiting-so n kernel_outward.Idle x q is among = absurd (true≢false (sym among))
   waiting-so n (kernel_outward.Matched m) x q is among = absurd (true≢false (sym among))
   waiting-so n kernel_outward.Unreported x q is among = absurd (true≢false (sym among))
@@ -109,7 +109,7 @@ module _ (w : Links) (e : EndId) where
   waiting-of n k (kernel_outward.Waiting m bytes xs) outward.Idle is waits = absurd is
   waiting-of n k (kernel_outward.Waiting m bytes xs) (outward.Matched message) is waits = absurd is
   waiting-of n k (kernel_outward.Waiting m bytes xs) outward.Taken is waits = absurd is
-  waiting-of n k (kernel_outward.Waiting m bytes xs) outward.Reported is waits = absurd is
+  waiting-of n k (kernel_outward.Waiting m bytes xs) outward.Unreported is waits = absurd is
   waiting-of n k _ x is waits = absurd waits
 
   -- their reports are the same
@@ -118,7 +118,7 @@ module _ (w : Links) (e : EndId) where
   send-told n (kernel_outward.Waiting m bytes xs) (outward.Waiting message) is = ap (λ (z : Message). returned_reports e (Some z)) is.1
   send-told n (kernel_outward.Matched m) (outward.Matched message) is = refl
   send-told n (kernel_outward.Matched m) outward.Taken is = refl
-  send-told n kernel_outward.Unreported outward.Reported is = refl
+  send-told n kernel_outward.Unreported outward.Unreported is = refl
   send-told n _ _ is = absurd is
 
   asked-started : (r : ℕ) (i : Inward) → IsAskedOf w e r i → is_started_inward i ≡ true
@@ -126,7 +126,7 @@ module _ (w : Links) (e : EndId) where
   asked-started r inward.Withdrawn is = refl
   asked-started r inward.Posted is = refl
   asked-started r inward.Idle is = absurd is
-  asked-started r inward.Reported is = absurd is
+  asked-started r inward.Unreported is = absurd is
 
   receive-told : (o : KernelInward) (x : End) → IsInwardOf w e o x.inward → dead_reports e x ≡ receive_notice e o
   receive-told o x is = by o x.inward is
@@ -135,7 +135,7 @@ module _ (w : Links) (e : EndId) where
       by kernel_inward.Idle inward.Idle is = refl
       by (kernel_inward.Posted v) i is = ap (λ b. if b then dead_receive_report e ∷ [] else []) (asked-started v i is)
       by (kernel_inward.Withdrawing v) i is = ap (λ b. if b then dead_receive_report e ∷ [] else []) (asked-started v i is)
-      by kernel_inward.Unreported inward.Reported is = refl
+      by kernel_inward.Unreported inward.Unreported is = refl
       by _ _ is = absurd is
 
 -- ---- what the service makes of a process that it tells

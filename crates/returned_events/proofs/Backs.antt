@@ -81,7 +81,7 @@ pub record IsBase (i : ℕ) (w : World) (s : State) (k : ℕ) (to : EndId) (n : 
   pub links : AreLinksOf (record { entry = y; packets = w.packets }) (record s { ends = t; process = g })
   pub kept : IsConsistent (record s { ends = t; process = g })
   pub same : (e : EndId) → end_eq to e ≡ false → t e ≡ s.ends e
-  pub ends : after.ends to ≡ record (t to) { outward = outward.Reported }
+  pub ends : after.ends to ≡ record (t to) { outward = outward.Unreported }
   pub phases : (b : ℕ) → (after.process b).phase ≡ (g b).phase
   pub waits : x.outward ≡ kernel_outward.Matched n
   pub view : IsViewAfter v (over_view x)
@@ -262,7 +262,7 @@ module _ (i : ℕ) (w : World) (s : State) (is : Invariant i w s) (k from stamp 
       returned : IsReturned s1 to next.ends next.process
       returned =
           record {
-            at = at.ends ∙ ap (λ (z : End). record z { outward = outward.Reported }) (sym (owners-sender ready p));
+            at = at.ends ∙ ap (λ (z : End). record z { outward = outward.Unreported }) (sym (owners-sender ready p));
             others = λ e apart. by e apart (list_any (end_eq e) (ends_in ms)) refl;
             phases = λ b e. (λ is_so. sym (at.phases b.0) ∙ is_so, λ is_so. at.phases b.0 ∙ is_so);
           }

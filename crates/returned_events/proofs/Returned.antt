@@ -183,7 +183,7 @@ module _ {i : ℕ} {w : Links} {c : Change} {from stamp : ℕ} {s : State} {to :
 
   -- ---- the ends of the service
 
-  each-end : (P : EndId → End → Type 0) → P to (record (s.ends to) { outward = outward.Reported }) → ((e : EndId) → end_eq to e ≡ false → P e (s.ends e)) → (e : EndId) → P e (t e)
+  each-end : (P : EndId → End → Type 0) → P to (record (s.ends to) { outward = outward.Unreported }) → ((e : EndId) → end_eq to e ≡ false → P e (s.ends e)) → (e : EndId) → P e (t e)
   each-end P mine rest e = by (end_eq to e) refl
     where
       by : (a : Bool) → end_eq to e ≡ a → P e (t e)
@@ -260,14 +260,14 @@ module _ {i : ℕ} {w : Links} {c : Change} {from stamp : ℕ} {s : State} {to :
         inward = inward-same w z e (λ r m. (was (IsParcelFor e r m), still (IsParcelFor e r m) (λ a. a))) (λ r. (was (IsUnwantedOf e r), still (IsUnwantedOf e r) (λ a. a))) x.inward y.inward agrees.inward;
       }
 
-  agree-mine : (a : Pid) (x : HereView) → (s.ends to).place ≡ place.Owned a → z.entry (home_of s a) to ≡ entry.Here x → IsEndOf z to x (record (s.ends to) { outward = outward.Reported })
+  agree-mine : (a : Pid) (x : HereView) → (s.ends to).place ≡ place.Owned a → z.entry (home_of s a) to ≡ entry.Here x → IsEndOf z to x (record (s.ends to) { outward = outward.Unreported })
   agree-mine a x owned has = by (view-case (home_of s a) to x has)
     where
-      by : ((w.entry (home_of s a) to ≡ entry.Here x) × (to ≡ to → ⊥)) ⊎ ((home_of s a ≡ k) × (to ≡ to) × (x ≡ u)) → IsEndOf z to x (record (s.ends to) { outward = outward.Reported })
+      by : ((w.entry (home_of s a) to ≡ entry.Here x) × (to ≡ to → ⊥)) ⊎ ((home_of s a ≡ k) × (to ≡ to) × (x ≡ u)) → IsEndOf z to x (record (s.ends to) { outward = outward.Unreported })
       by (inl stays) = absurd (stays.1 refl)
       by (inr now) =
           let old = agrees-still to o (s.ends to) (ready.links.agree to a o owned (was-there (home_of s a) to now.0 refl)) in
-          subst (λ y. IsEndOf z to y (record (s.ends to) { outward = outward.Reported })) (sym now.2) (record { sent = old.sent; noticed = old.noticed; outward = tt; inward = old.inward })
+          subst (λ y. IsEndOf z to y (record (s.ends to) { outward = outward.Unreported })) (sym now.2) (record { sent = old.sent; noticed = old.noticed; outward = tt; inward = old.inward })
 
   agree-other : (e : EndId) → end_eq to e ≡ false → (a : Pid) (x : HereView) → (s.ends e).place ≡ place.Owned a → z.entry (home_of s a) e ≡ entry.Here x → IsEndOf z e x (s.ends e)
   agree-other e far a x owned has = by (view-case (home_of s a) e x has)

@@ -166,7 +166,7 @@ module _ (i : ℕ) (w : World) (s : State) (is : Invariant i w s) (k from stamp 
           same = λ e apart. refl;
           ends =
               back-own s to n p message its.matched.matched o.owned not-carried
-              ∙ ap (λ b. if b then record (s.ends to) { outward = outward.Reported } else noticed_end (record (s.ends to) { outward = outward.Reported })) noticed;
+              ∙ ap (λ b. if b then record (s.ends to) { outward = outward.Unreported } else noticed_end (record (s.ends to) { outward = outward.Unreported })) noticed;
           phases = same-phases;
           waits = waits;
           view = record { end = refl; holder = refl; idle = λ idle. absurd (busy idle); message = inr refl };
@@ -278,8 +278,8 @@ module _ (i : ℕ) (w : World) (s : State) (is : Invariant i w s) (k from stamp 
           same = λ e apart. noted-ends e ∙ puts-other to (noticed_end (s.ends to)) s.ends e (eq-same to e ∙ apart);
           ends =
               back-own s to n p message its.matched.matched o.owned not-carried
-              ∙ ap (λ b. if b then record (s.ends to) { outward = outward.Reported } else noticed_end (record (s.ends to) { outward = outward.Reported })) unnoticed
-              ∙ ap (λ (z : End). record z { outward = outward.Reported }) (sym noted-at);
+              ∙ ap (λ b. if b then record (s.ends to) { outward = outward.Unreported } else noticed_end (record (s.ends to) { outward = outward.Unreported })) unnoticed
+              ∙ ap (λ (z : End). record z { outward = outward.Unreported }) (sym noted-at);
           phases = first-phases;
           waits = ap noticed_outward waits;
           view = record { end = refl; holder = refl; idle = λ idle. absurd (busy idle); message = inr refl };

@@ -41,6 +41,6 @@ pub record IsReturning (i : ℕ) (w : Links) (c : Change) (from stamp : ℕ) (s 
 
 -- the ends and the processes of the service then: the send is over
 pub record IsReturned (s : State) (to : EndId) (t : EndId → End) (g : ℕ → Process) : Type 0 where
-  pub at : t to ≡ record (s.ends to) { outward = outward.Reported }
+  pub at : t to ≡ record (s.ends to) { outward = outward.Unreported }
   pub others : (e : EndId) → end_eq to e ≡ false → t e ≡ s.ends e
   pub phases : (b : Pid) (e : EndId) → ((g b.0).phase ≡ phase.Cancelling e) ↔ ((s.process b.0).phase ≡ phase.Cancelling e)

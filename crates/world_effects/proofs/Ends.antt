@@ -83,7 +83,7 @@ module _ (w u : Links) (e : EndId) where
   outward-same taken n (kernel_outward.Waiting m bytes xs) (outward.Waiting message) is = is
   outward-same taken n (kernel_outward.Matched m) (outward.Matched message) is = (is.0, λ now. is.1 ((taken m).0 now))
   outward-same taken n (kernel_outward.Matched m) outward.Taken is = (is.0, (taken m).1 is.1)
-  outward-same taken n kernel_outward.Unreported outward.Reported is = is
+  outward-same taken n kernel_outward.Unreported outward.Unreported is = is
   outward-same taken n _ _ is = absurd is
 
   -- where the same parcels and unwanteds are
@@ -99,7 +99,7 @@ module _ (w u : Links) (e : EndId) where
   inward-same parcel unwanted kernel_inward.Idle inward.Idle is = is
   inward-same parcel unwanted (kernel_inward.Posted v) i is = asked-same parcel unwanted v i is
   inward-same parcel unwanted (kernel_inward.Withdrawing v) i is = asked-same parcel unwanted v i is
-  inward-same parcel unwanted kernel_inward.Unreported inward.Reported is = is
+  inward-same parcel unwanted kernel_inward.Unreported inward.Unreported is = is
   inward-same parcel unwanted _ _ is = absurd is
 
 -- no packet is addressed to the end that is taken or sent

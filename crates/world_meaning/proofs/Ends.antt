@@ -10,7 +10,6 @@ use Rattle.service_step.specs.Ends.{end_eq as service_eq}
 
 -- the service compares ends as kernels do
 pub eq-same : (a b : EndId) → service_eq a b ≡ end_eq a b
-unfolding service_eq end_eq
 eq-same a b = refl
 
 twice : (s : Side) → other_side (other_side s) ≡ s

@@ -84,10 +84,10 @@ unstarted-inward w x e kernel_inward.Idle inward.Idle over is = is
 unstarted-inward w x e (kernel_inward.Posted v) inward.Idle over is = absurd is
 unstarted-inward w x e (kernel_inward.Withdrawing v) inward.Idle over is = absurd is
 unstarted-inward w x e kernel_inward.Unreported inward.Idle over is = absurd is
-unstarted-inward w x e kernel_inward.Idle inward.Reported over is = absurd is
-unstarted-inward w x e (kernel_inward.Posted v) inward.Reported over is = absurd is
-unstarted-inward w x e (kernel_inward.Withdrawing v) inward.Reported over is = absurd is
-unstarted-inward w x e kernel_inward.Unreported inward.Reported over is = is
+unstarted-inward w x e kernel_inward.Idle inward.Unreported over is = absurd is
+unstarted-inward w x e (kernel_inward.Posted v) inward.Unreported over is = absurd is
+unstarted-inward w x e (kernel_inward.Withdrawing v) inward.Unreported over is = absurd is
+unstarted-inward w x e kernel_inward.Unreported inward.Unreported over is = is
 
 -- ---- packets
 

@@ -96,7 +96,7 @@ IsOutwardOf w e n kernel_outward.Idle outward.Idle = Unit {0}
 IsOutwardOf w e n (kernel_outward.Waiting m bytes xs) (outward.Waiting message) = (m ≡ n) × (message ≡ record { bytes = bytes; carried = xs })
 IsOutwardOf w e n (kernel_outward.Matched m) (outward.Matched message) = (m ≡ n) × (IsUnderWay w (IsTakenOf e m) → ⊥)
 IsOutwardOf w e n (kernel_outward.Matched m) outward.Taken = (m ≡ n) × IsUnderWay w (IsTakenOf e m)
-IsOutwardOf w e n kernel_outward.Unreported outward.Reported = Unit {0}
+IsOutwardOf w e n kernel_outward.Unreported outward.Unreported = Unit {0}
 IsOutwardOf w e n _ _ = ⊥
 
 -- ---- 5: receives
@@ -112,7 +112,7 @@ abbrev pub IsInwardOf : Links → EndId → KernelInward → Inward → Type 0
 IsInwardOf w e kernel_inward.Idle inward.Idle = Unit {0}
 IsInwardOf w e (kernel_inward.Posted v) i = IsAskedOf w e v i
 IsInwardOf w e (kernel_inward.Withdrawing v) i = IsAskedOf w e v i
-IsInwardOf w e kernel_inward.Unreported inward.Reported = Unit {0}
+IsInwardOf w e kernel_inward.Unreported inward.Unreported = Unit {0}
 IsInwardOf w e _ _ = ⊥
 
 -- what the service says of an end, and what the kernel that has it keeps of it
