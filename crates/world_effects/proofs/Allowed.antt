@@ -126,7 +126,7 @@ module _ {i : ℕ} {w : World} {s : State} (is : Invariant i w s) where
   -- a process that waits has no reports, so the first that it gets is its oldest
   pub are-oldest : (k : ℕ) (p : Pid) (rs : List Report) → p.0 < length s.homes → home_of s p ≡ k → AreOldest ((w.kernel k).process p.0) rs
   are-oldest k p [] below home = tt
-  are-oldest k p (r ∷ rs) below home waits = sym stood.reports ∙ is.waiting p (stood.phase ∙ told ((w.kernel k).process p.0).phase waits)
+  are-oldest k p (r ∷ rs) below home = λ waits. sym stood.reports ∙ is.waiting p (stood.phase ∙ told ((w.kernel k).process p.0).phase waits)
     where
       stood : IsProcessOf ((w.kernel k).process p.0) (s.process p.0)
       stood = subst (λ j. IsProcessOf ((w.kernel j).process p.0) (s.process p.0)) home (is.stands.processes p below)
