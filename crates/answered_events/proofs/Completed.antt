@@ -38,7 +38,7 @@ use Rattle.service_step.specs.declared.state.End.{End}
 use Rattle.service_step.specs.declared.state.Outward.{Outward}
 use Rattle.service_step.specs.declared.state.Outward.TheVariants as outward
 use Rattle.service_step.specs.declared.state.Phase.TheVariants as phase
-use Rattle.world_effects.proofs.Allowed.{takes-allowed}
+use Rattle.world_effects.proofs.Allowed.{are-oldest, takes-allowed}
 use Rattle.world_effects.proofs.Ends.{inward-same}
 use Rattle.world_effects.specs.Change.{Happens}
 use Rattle.world_effects.specs.Events.{taking}
@@ -126,8 +126,11 @@ module _ (i : ℕ) (w : World) (s : State) (is : Invariant i w s) (k from stamp 
     effect : taken_effect k n at hops (awaits n ((w.kernel k).table to)) ≡ f
     effect = ap (taken_effect k n at hops) (awaits-matched n ((w.kernel k).table to) v o.here (ap (is_matched n) matched ∙ eq-eqb n n refl))
 
+    below : p.0 < length s.homes
+    below = subst (IsHeldWell (length s.homes) v) o.holder (subst (λ z. IfHere z (λ v. IsHeldWell (length s.homes) v v.holder)) o.here ((is.setting.sound k).held to))
+
     happened : Happens w (Takes k from) (taking w k from q f p [] rs)
-    happened = takes-allowed is k from q others there f p [] rs effect tt refl (ap (λ h. for_holder h rs) o.holder)
+    happened = takes-allowed is k from q others there f p [] rs effect tt (are-oldest is k p rs below o.home) refl (ap (λ h. for_holder h rs) o.holder)
 
     abbrev after : World
     after = happens w (Takes k from)
@@ -143,9 +146,6 @@ module _ (i : ℕ) (w : World) (s : State) (is : Invariant i w s) (k from stamp 
 
     made : is_made (s.ends to).place ≡ true
     made = ap (λ z. is_made z) o.owned
-
-    below : p.0 < length s.homes
-    below = subst (IsHeldWell (length s.homes) v) o.holder (subst (λ z. IfHere z (λ v. IsHeldWell (length s.homes) v v.holder)) o.here ((is.setting.sound k).held to))
 
     stood : IsProcessOf ((w.kernel k).process p.0) (s.process p.0)
     stood = subst (λ j. IsProcessOf ((w.kernel j).process p.0) (s.process p.0)) o.home (is.stands.processes p below)

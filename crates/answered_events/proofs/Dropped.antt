@@ -64,7 +64,7 @@ module _ (i : ℕ) (w : World) (s : State) (is : Invariant i w s) (k from : ℕ)
   change = taking w k from q nothing any [] []
 
   happened : Happens w (Takes k from) change
-  happened = takes-allowed is k from q others there nothing any [] [] none tt refl refl
+  happened = takes-allowed is k from q others there nothing any [] [] none tt tt refl refl
 
   abbrev v : World
   v = happens w (Takes k from)

@@ -122,7 +122,7 @@ module _ (i : ℕ) (w : World) (s : State) (is : Invariant i w s) (k from stamp 
         ap (unwanted_effect k r at hops) o.here ∙ ap (unwanted_here_effect k r at hops v) withdrawing ∙ ap (λ b. if b then f else nothing) (eq-eqb r r refl)
 
     happened : Happens w (Takes k from) (taking w k from q f p (answer.Ok ∷ []) [])
-    happened = takes-allowed is k from q others there f p (answer.Ok ∷ []) [] effect tt (ap (λ h. for_holder h (answer.Ok ∷ [])) o.holder) refl
+    happened = takes-allowed is k from q others there f p (answer.Ok ∷ []) [] effect tt tt (ap (λ h. for_holder h (answer.Ok ∷ [])) o.holder) refl
 
     abbrev after : World
     after = happens w (Takes k from)

@@ -6,17 +6,14 @@ use Rattle.charlotte_calls.specs.declared.names.Pid.{Pid}
 use Rattle.charlotte_calls.specs.declared.picture.MovingPicture.{MovingPicture}
 use Rattle.charlotte_calls.specs.declared.picture.Picture.{Picture}
 use Rattle.end_table.specs.Table.{IsHere}
-use Rattle.kernel_effects.specs.Rows.{row_effect}
-use Rattle.kernel_outcomes.proofs.ForOne.{TakeGives}
 use Rattle.kernel_sound.proofs.Values.{AreComing}
 use Rattle.kernel_step.proofs.Folds.{AreDifferent}
 use Rattle.kernel_step.specs.Rows.{ends_in}
-use Rattle.kernel_world.specs.World.{Takes, World}
+use Rattle.kernel_world.specs.World.{World}
 use Rattle.service_step.specs.Ends.{is_made}
 use Rattle.service_step.specs.State.{State}
-use Rattle.world_effects.proofs.Allowed.{brings-different, same-values, takes-any}
-use Rattle.world_effects.specs.Change.{Happens}
-use Rattle.world_effects.specs.Events.{taking}
+use Rattle.world_effects.proofs.Allowed.{brings-different, same-values}
+use Rattle.world_effects.proofs.Happens.{only-changes}
 use Rattle.world_meaning.specs.Invariant.{Invariant, is_message_of}
 use Rattle.world_meaning.specs.Packets.{values_of}
 use Rattle.answered_events.proofs.Meets.{stands-first}
@@ -25,11 +22,8 @@ use Rattle.arrived_ends.specs.Arrived.{IsAmong, IsLaden}
 use Rattle.arrived_ends.proofs.Coming.{inside, never-here}
 
 module _ {i : ℕ} {w : World} {s : State} (is : Invariant i w s) (k from : ℕ) (q : Picture) (others : List Picture) (there : w.packets from k ≡ q ∷ others) (f : EndId) (carries : is_message_of f q.what ≡ true) (p : Pid) where
-  -- whatever the taking does
-  any : (x : TakeGives (w.kernel k) from q) × Happens w (Takes k from) (taking w k from q (row_effect (w.kernel k).number (w.kernel k).made from (w.kernel k).table q.what) x.p x.given x.told)
-  any = takes-any is k from q others there p
-
-  laden : IsLaden i any.1.becomes.links from q s f
+  -- whatever the taking does, the packet is taken
+  laden : IsLaden i (only-changes w k from q others there p) from q s f
   laden = record { taken = refl; right = is.links; links = is.stands.links; kept = is.service; few = is.setting.few; carries = carries }
 
   comes : (m : MovingPicture) → Contains (values_of q.what) m → (IsHere ((w.kernel k).table m.end) → ⊥) × (m.end.link.maker ≡ k → (w.kernel k).made ≤ m.end.link.count → ⊥)

@@ -51,7 +51,7 @@ use Rattle.service_step.specs.declared.state.Outward.TheVariants as outward
 use Rattle.service_step.specs.declared.state.Phase.{Phase}
 use Rattle.service_step.specs.declared.state.Phase.TheVariants as phase
 use Rattle.service_step.specs.declared.state.Place.TheVariants as place
-use Rattle.world_effects.proofs.Allowed.{takes-allowed}
+use Rattle.world_effects.proofs.Allowed.{are-oldest, takes-allowed}
 use Rattle.world_effects.specs.Change.{Change, Changes, Happens}
 use Rattle.world_effects.specs.Events.{taking}
 use Rattle.world_effects.specs.Sums.{AllSent}
@@ -222,7 +222,7 @@ module _ (i : ℕ) (w : World) (s : State) (is : Invariant i w s) (k from stamp 
 
   module _ (given : List Answer) (gives : late_answers ≡ given) (one : AtMostOne given) where
     happened : Happens w (Takes k from) (taking w k from q does p given (report ∷ []))
-    happened = takes-allowed is k from q others there does p given (report ∷ []) effect one (ap (λ l. map (λ a. (p, a)) l) gives) refl
+    happened = takes-allowed is k from q others there does p given (report ∷ []) effect one (are-oldest is k p (report ∷ []) below-home o.home) (ap (λ l. map (λ a. (p, a)) l) gives) refl
 
     abbrev m : Links
     m = untold i w s is k from q does p given (report ∷ []) happened

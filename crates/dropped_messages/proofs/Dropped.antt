@@ -195,7 +195,7 @@ module _ (i : ℕ) (w : World) (s : State) (is : Invariant i w s) (k from stamp 
   change = taking w k from q effect any [] []
 
   happened : Happens w (Takes k from) change
-  happened = takes-allowed is k from q others there effect any [] [] effect-is tt refl refl
+  happened = takes-allowed is k from q others there effect any [] [] effect-is tt tt refl refl
 
   abbrev v : World
   v = happens w (Takes k from)

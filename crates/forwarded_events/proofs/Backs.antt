@@ -101,7 +101,7 @@ module _ (i : ℕ) (w : World) (s : State) (is : Invariant i w s) (room : i < 2 
   does = ap (parcel_effect k made table to n at hops bytes ms) unmet ∙ ap (sends_back_effect k to n at) all-pass
 
   happened : Happens w (Takes k from) c
-  happened = takes-allowed is k from q others there (sends_back_effect k to n at ms) any [] [] does tt refl refl
+  happened = takes-allowed is k from q others there (sends_back_effect k to n at ms) any [] [] does tt tt refl refl
 
   -- the service goes with it by no step
   pub parcel-back-goes : Goes i w s (Takes k from)

@@ -39,7 +39,7 @@ use Rattle.kernel_step.specs.declared.phase.Phase.TheVariants.{Waiting, Cancelli
 -- an event without reports and answers
 pub quiet-gives : (s : Kernel) (p : Pid) (stamp : ℕ) (f : Effect) (d : Progress) → Does f (begins s stamp) d → f.answers ≡ [] → f.reports ≡ []
     → Gives s p (s.process p.0) (λ q. f.entry q (s.table q)) stamp (map (stamped stamp) f.packets) [] (f.steps ++ []) (closes s d)
-quiet-gives s p stamp f d does answers reports = effect-gives s p stamp f d [] [] does tt answers reports
+quiet-gives s p stamp f d does answers reports = effect-gives s p stamp f d [] [] does tt tt answers reports
 
 module _ (s : Kernel) (p : Pid) (x : Process) (entry : EndId → Entry) (now : ℕ) (packets : List (ℕ × Picture)) (answered : List Pid) (steps : List ServiceStep) (o : Outcome)
     (g : Gives s p x entry now packets answered steps o) where

@@ -46,7 +46,7 @@ use Rattle.service_step.specs.Steps.{IsServiceStep, after_notice, after_report, 
 use Rattle.service_step.specs.declared.state.End.{End}
 use Rattle.service_step.specs.declared.state.Phase.TheVariants as phase
 use Rattle.service_step.specs.declared.state.Place.TheVariants as place
-use Rattle.world_effects.proofs.Allowed.{between, takes-allowed}
+use Rattle.world_effects.proofs.Allowed.{are-oldest, between, takes-allowed}
 use Rattle.world_effects.proofs.Lists.{first}
 use Rattle.world_effects.proofs.NamedParts.{forgets-within}
 use Rattle.world_effects.specs.Change.{Change, Changes, Happens}
@@ -317,7 +317,7 @@ module _ (i : ℕ) (w : World) (s : State) (is : Invariant i w s) (k from stamp 
     any = record { 0 = 0 }
 
     enclosed-happened : Happens w (Takes k from) (taking w k from q f any [] [])
-    enclosed-happened = takes-allowed is k from q others there f any [] [] does tt (ap (λ h. for_holder h (cancel_notice v.inward)) holds) (ap (λ h. for_holder h reps) holds)
+    enclosed-happened = takes-allowed is k from q others there f any [] [] does tt tt (ap (λ h. for_holder h (cancel_notice v.inward)) holds) (ap (λ h. for_holder h reps) holds)
 
     same-process : (a : ℕ) → t.process a ≡ s.process a
     same-process = process-same i (links_of w) s is.links is.stands.links is.service is.setting.few k (w.kernel k).made (is.setting.sound k) to v here gone on holds
@@ -361,7 +361,7 @@ module _ (i : ℕ) (w : World) (s : State) (is : Invariant i w s) (k from stamp 
     module _ (given : List Answer) (rs : List Report) (gives : cancel_notice v.inward ≡ given) (tells : reps ≡ rs) (few : AtMostOne given) where
       owned-happened : Happens w (Takes k from) (taking w k from q f p given rs)
       owned-happened =
-          takes-allowed is k from q others there f p given rs does few (ap (λ h. for_holder h (cancel_notice v.inward)) holds ∙ ap (λ l. map (λ a. (p, a)) l) gives)
+          takes-allowed is k from q others there f p given rs does few (are-oldest is k p rs below home) (ap (λ h. for_holder h (cancel_notice v.inward)) holds ∙ ap (λ l. map (λ a. (p, a)) l) gives)
           (ap (λ h. for_holder h reps) holds ∙ ap (λ l. map (λ a. (p, a)) l) tells)
 
       untold-goes : told x.phase given rs ≡ [] → IsProcessOf (process_after x given rs) (t.process p.0) → ((t.process p.0).phase ≡ phase.Waiting → (t.process p.0).reports ≡ []) → Goes i w s (Takes k from)

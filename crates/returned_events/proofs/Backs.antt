@@ -42,7 +42,7 @@ use Rattle.service_step.specs.declared.state.Message.{Message}
 use Rattle.service_step.specs.declared.state.Outward.TheVariants as outward
 use Rattle.service_step.specs.declared.state.Place.{Place}
 use Rattle.service_step.specs.declared.state.Place.TheVariants as place
-use Rattle.world_effects.proofs.Allowed.{between, takes-allowed}
+use Rattle.world_effects.proofs.Allowed.{are-oldest, between, takes-allowed}
 use Rattle.world_effects.proofs.Ends.{all_sent-weaker}
 use Rattle.world_effects.specs.Change.{Change, Changes, Happens}
 use Rattle.world_effects.specs.Events.{taking}
@@ -182,7 +182,7 @@ module _ (i : ℕ) (w : World) (s : State) (is : Invariant i w s) (k from stamp 
 
     module _ (effect : row_effect k made from table q.what ≡ does) (one : AtMostOne given) where
       pub happened : Happens w (Takes k from) (taking w k from q does p given rs)
-      happened = takes-allowed is k from q others there does p given rs effect one refl refl
+      happened = takes-allowed is k from q others there does p given rs effect one (are-oldest is k p rs below-home o.home) refl refl
 
       abbrev m : Links
       m = untold i w s is k from q does p given rs happened

@@ -113,10 +113,10 @@ module _ (i : ℕ) (w : World) (s : State) (is : Invariant i w s) (k from : ℕ)
   -- an effect without answers and reports
   pub happens-so : is_telling q.what ≡ false → effect.answers ≡ [] → effect.reports ≡ [] → Happens w (Takes k from) change
   happens-so quiet answers reports =
-      takes-happens w k from q others effect any [] [] there
+      takes-happens w k from q others there effect any [] []
       (subst (λ z. EffectGives own any (next_stamp (max own.stamp q.stamp)) (row_effect z own.made from own.table q.what) [] [] (take_step own from q)) (is.setting.numbers k)
       (take-gives (length s.homes) own from q any [] [] (subst (λ z. IsSound z own.made (length s.homes) own.table) number (is.setting.sound k)) (different-quiet q.what quiet)
-      (subst (λ z. is_addressed q.what z ≡ true) (sym (is.setting.kernels k)) addressed) tt
+      (subst (λ z. is_addressed q.what z ≡ true) (sym (is.setting.kernels k)) addressed) tt tt
       (subst (λ z. (row_effect z own.made from own.table q.what).answers ≡ []) number answers) (subst (λ z. (row_effect z own.made from own.table q.what).reports ≡ []) number reports)))
     where
       number : k ≡ own.number

@@ -19,22 +19,24 @@ use Rattle.kernel_effects.specs.Calls.{act_effect}
 use Rattle.kernel_effects.specs.Effect.{Effect}
 use Rattle.kernel_effects.specs.Rows.{row_effect, values_in}
 use Rattle.kernel_outcomes.proofs.Events.{take-gives}
-use Rattle.kernel_outcomes.proofs.ForOne.{TakeGives, take-for_one}
-use Rattle.kernel_outcomes.specs.Closing.{AtMostOne, EffectGives}
+use Rattle.kernel_outcomes.specs.Closing.{AreOldest, AtMostOne, EffectGives}
 use Rattle.kernel_sound.specs.Sound.{IsSound}
 use Rattle.kernel_step.proofs.Folds.{AreDifferent}
 use Rattle.kernel_step.specs.Calls.{IsCallWith, refusal}
-use Rattle.kernel_step.specs.Kernel.{has_report, next_stamp, process_of, take_step}
+use Rattle.kernel_step.specs.Kernel.{has_report, is_waiting, next_stamp, process_of, take_step}
 use Rattle.kernel_step.specs.Rows.{ends_in}
+use Rattle.kernel_step.specs.declared.phase.Phase.{Phase as KernelPhase}
+use Rattle.kernel_step.specs.declared.phase.Phase.TheVariants as kernel_phase
 use Rattle.kernel_world.specs.World.{World, Calls, Takes}
 use Rattle.service_step.specs.Ends.{is_living}
 use Rattle.service_step.specs.State.{State}
 use Rattle.service_step.specs.declared.state.End.{End}
+use Rattle.service_step.specs.declared.state.Phase.TheVariants as phase
 use Rattle.world_meaning.proofs.Plain.{at_most_one}
 use Rattle.world_meaning.proofs.Sums.{over-least}
 use Rattle.world_meaning.specs.Invariant.{AreNamed, Invariant}
 use Rattle.world_meaning.specs.Packets.{Links, links_of, one_if, over_kernels, sum_in, sum_over, values_for, values_of}
-use Rattle.world_meaning.specs.StandsFor.{standing}
+use Rattle.world_meaning.specs.StandsFor.{IsProcessOf, home_of, service_phase, standing}
 use Rattle.world_effects.specs.Change.{Happens}
 use Rattle.world_effects.specs.Events.{calling, taking}
 use Rattle.world_effects.proofs.Happens.{performs-happens, takes-happens}
@@ -121,6 +123,20 @@ module _ {i : ℕ} {w : World} {s : State} (is : Invariant i w s) where
   addressed-at from k q has =
       ap (is_addressed q.what) (is.setting.kernels k) ∙ All-contains (λ z. is_addressed z.what (length s.made) ≡ true) (w.packets from k) q (is.links.named.addressed from k) has
 
+  -- a process that waits has no reports, so the first that it gets is its oldest
+  pub are-oldest : (k : ℕ) (p : Pid) (rs : List Report) → p.0 < length s.homes → home_of s p ≡ k → AreOldest ((w.kernel k).process p.0) rs
+  are-oldest k p [] below home = tt
+  are-oldest k p (r ∷ rs) below home = λ waits. sym stood.reports ∙ is.waiting p (stood.phase ∙ told ((w.kernel k).process p.0).phase waits)
+    where
+      stood : IsProcessOf ((w.kernel k).process p.0) (s.process p.0)
+      stood = subst (λ j. IsProcessOf ((w.kernel j).process p.0) (s.process p.0)) home (is.stands.processes p below)
+
+      told : (x : KernelPhase) → is_waiting x ≡ true → service_phase x ≡ phase.Waiting
+      told kernel_phase.Running waits = absurd (true≢false (sym waits))
+      told kernel_phase.Waiting waits = refl
+      told (kernel_phase.Cancelling e) waits = absurd (true≢false (sym waits))
+      told kernel_phase.Exited waits = absurd (true≢false (sym waits))
+
   -- ---- packets
 
   module _ (k from : ℕ) (q : Picture) (others : List Picture) (there : w.packets from k ≡ q ∷ others) where
@@ -128,25 +144,18 @@ module _ {i : ℕ} {w : World} {s : State} (is : Invariant i w s) where
     stands-there = subst (λ l. Contains l q) (sym there) (first q others)
 
     -- the first packet of a list is taken; of its effect p alone gets answers and reports
-    pub takes-allowed : (f : Effect) (p : Pid) (given : List Answer) (rs : List Report) → row_effect k (w.kernel k).made from (w.kernel k).table q.what ≡ f → AtMostOne given → f.answers ≡ map (λ a. (p, a)) given → f.reports ≡ map (λ r. (p, r)) rs
+    pub takes-allowed : (f : Effect) (p : Pid) (given : List Answer) (rs : List Report) → row_effect k (w.kernel k).made from (w.kernel k).table q.what ≡ f → AtMostOne given → AreOldest ((w.kernel k).process p.0) rs → f.answers ≡ map (λ a. (p, a)) given → f.reports ≡ map (λ r. (p, r)) rs
         → Happens w (Takes k from) (taking w k from q f p given rs)
-    takes-allowed f p given rs effect one answers reports =
-        takes-happens w k from q others f p given rs there
+    takes-allowed f p given rs effect one oldest answers reports =
+        takes-happens w k from q others there f p given rs
         (subst (λ g. EffectGives (w.kernel k) p (next_stamp max_stamp) g given rs (take_step (w.kernel k) from q)) same
-        (take-gives (length s.homes) (w.kernel k) from q p given rs (sound-at k) (brings-different from k q stands-there) (addressed-at from k q stands-there) one (ap (λ (g : Effect). g.answers) same ∙ answers) (ap (λ (g : Effect). g.reports) same ∙ reports)))
+        (take-gives (length s.homes) (w.kernel k) from q p given rs (sound-at k) (brings-different from k q stands-there) (addressed-at from k q stands-there) one oldest (ap (λ (g : Effect). g.answers) same ∙ answers) (ap (λ (g : Effect). g.reports) same ∙ reports)))
       where
         max_stamp : ℕ
         max_stamp = max (w.kernel k).stamp q.stamp
 
         same : row_effect (w.kernel k).number (w.kernel k).made from (w.kernel k).table q.what ≡ f
         same = ap (λ n. row_effect n (w.kernel k).made from (w.kernel k).table q.what) (is.setting.numbers k) ∙ effect
-
-    -- whatever the packet, one process gets them; any is the one that is named where there are none
-    pub takes-any : (any : Pid)
-        → (x : TakeGives (w.kernel k) from q) × Happens w (Takes k from) (taking w k from q (row_effect (w.kernel k).number (w.kernel k).made from (w.kernel k).table q.what) x.p x.given x.told)
-    takes-any any =
-        let x : TakeGives (w.kernel k) from q = take-for_one (length s.homes) (w.kernel k) from q any (sound-at k) (brings-different from k q stands-there) (addressed-at from k q stands-there) in
-        (x, takes-happens w k from q others (row_effect (w.kernel k).number (w.kernel k).made from (w.kernel k).table q.what) x.p x.given x.told there x.gives)
 
   -- ---- calls
 

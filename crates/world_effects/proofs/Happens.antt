@@ -1,5 +1,5 @@
 -- What each event does in a world, by what its kernel gives.
-use Rattle.std.proofs.Common.{◌≡◌, ℕ, Bool, true, false, nat_eq, ◌&&◌, max, if◌then◌else◌, List, [], ◌∷◌, ◌++◌, map, Option, Some, None, refl, sym, ap, subst, ◌∙◌, eq-eqb, eqb-true}
+use Rattle.std.proofs.Common.{◌≡◌, ℕ, Bool, true, false, nat_eq, ◌&&◌, max, if◌then◌else◌, List, [], ◌∷◌, ◌++◌, map, append-nil, Option, Some, None, refl, sym, ap, subst, ◌∙◌, eq-eqb, eqb-true}
 use Rattle.charlotte_calls.specs.declared.calls.Answer.{Answer}
 use Rattle.charlotte_calls.specs.declared.calls.Answer.TheVariants as answer
 use Rattle.charlotte_calls.specs.declared.calls.Call.{Call}
@@ -19,7 +19,8 @@ use Rattle.kernel_step.specs.Calls.{IsCallWith, refusal}
 use Rattle.kernel_step.specs.Kernel.{Kernel, call_step, has_report, next_stamp, process_of, take_step, without_answer}
 use Rattle.kernel_world.proofs.Packets.{happens-packets}
 use Rattle.kernel_world.specs.World.{World, Event, Calls, Takes, happens, kernel_of, left_at, outcome, rest, takes_first, to_kernel}
-use Rattle.world_effects.specs.Change.{Change, Happens, sent_at, taken_at}
+use Rattle.world_meaning.specs.Packets.{links_of}
+use Rattle.world_effects.specs.Change.{Change, Changes, Happens, sent_at, taken_at}
 use Rattle.world_effects.specs.Events.{caller, calling, refusing, taking}
 
 -- kernel s differs from kernel t in the state of process p at most, in the number of links made, and in the table and the stamp
@@ -83,23 +84,39 @@ module _ (w : World) (e : Event) where
 
 -- ---- packets
 
--- the first packet of a list is taken
-pub takes-happens : (w : World) (k from : ℕ) (q : Picture) (others : List Picture) (f : Effect) (p : Pid) (given : List Answer) (rs : List Report) → w.packets from k ≡ q ∷ others
-    → EffectGives (w.kernel k) p (next_stamp (max (w.kernel k).stamp q.stamp)) f given rs (take_step (w.kernel k) from q) → Happens w (Takes k from) (taking w k from q f p given rs)
-takes-happens w k from q others f p given rs there g =
-    given-happens w (Takes k from) (taking w k from q f p given rs) refl left (w.kernel k) (record { process = λ n apart. refl; number = refl; kernels = refl; version = refl }) refl
-    (subst (EffectGives (w.kernel k) p (next_stamp (max (w.kernel k).stamp q.stamp)) f given rs) (ap (takes_first (w.kernel k) from) (sym there)) g)
-  where
-    left : (i j : ℕ) → w.packets i j ≡ (if nat_eq j k then (if nat_eq i from then q ∷ [] else []) else []) ++ (if nat_eq i from && nat_eq j k then rest (w.packets i j) else w.packets i j)
-    left i j = by (nat_eq i from) (nat_eq j k) refl refl
-      where
-        by : (a b : Bool) → nat_eq i from ≡ a → nat_eq j k ≡ b → w.packets i j ≡ (if b then (if a then q ∷ [] else []) else []) ++ (if a && b then rest (w.packets i j) else w.packets i j)
-        by true true is same =
-            let stands : w.packets i j ≡ q ∷ others = ap (λ n. w.packets n j) (eqb-true i from is) ∙ ap (w.packets from) (eqb-true j k same) ∙ there in
-            stands ∙ ap (λ ps. q ∷ rest ps) (sym stands)
-        by true false is same = refl
-        by false true is same = refl
-        by false false is same = refl
+module _ (w : World) (k from : ℕ) (q : Picture) (others : List Picture) (there : w.packets from k ≡ q ∷ others) where
+  -- what stays in each list once the first packet of one is taken
+  abbrev pub untaken : ℕ → ℕ → List Picture
+  untaken i j = if nat_eq i from && nat_eq j k then rest (w.packets i j) else w.packets i j
+
+  pub taken-first : (i j : ℕ) → w.packets i j ≡ (if nat_eq j k then (if nat_eq i from then q ∷ [] else []) else []) ++ untaken i j
+  taken-first i j = by (nat_eq i from) (nat_eq j k) refl refl
+    where
+      by : (a b : Bool) → nat_eq i from ≡ a → nat_eq j k ≡ b → w.packets i j ≡ (if b then (if a then q ∷ [] else []) else []) ++ (if a && b then rest (w.packets i j) else w.packets i j)
+      by true true is same =
+          let stands : w.packets i j ≡ q ∷ others = ap (λ n. w.packets n j) (eqb-true i from is) ∙ ap (w.packets from) (eqb-true j k same) ∙ there in
+          stands ∙ ap (λ ps. q ∷ rest ps) (sym stands)
+      by true false is same = refl
+      by false true is same = refl
+      by false false is same = refl
+
+  -- it is taken, with its effect
+  pub takes-happens : (f : Effect) (p : Pid) (given : List Answer) (rs : List Report) → EffectGives (w.kernel k) p (next_stamp (max (w.kernel k).stamp q.stamp)) f given rs (take_step (w.kernel k) from q)
+      → Happens w (Takes k from) (taking w k from q f p given rs)
+  takes-happens f p given rs g =
+      given-happens w (Takes k from) (taking w k from q f p given rs) refl taken-first (w.kernel k) (record { process = λ n apart. refl; number = refl; kernels = refl; version = refl }) refl
+      (subst (EffectGives (w.kernel k) p (next_stamp (max (w.kernel k).stamp q.stamp)) f given rs) (ap (takes_first (w.kernel k) from) (sym there)) g)
+
+  -- it alone is taken, and nothing else happens
+  abbrev pub only-taken : Pid → Change
+  only-taken p = record { kernel = k; taken = Some (from, q); entry = λ e y. y; packets = []; stamp = 0; made = 0; pid = p; process = (w.kernel k).process p.0; answered = []; steps = [] }
+
+  pub only-changes : (p : Pid) → Changes (links_of w) (only-taken p) (record { entry = (links_of w).entry; packets = untaken })
+  only-changes p = record { entry = λ e. refl; others = λ j e apart. refl; left = untaken; before = taken-first; after = λ i j. by i j (nat_eq i k) }
+    where
+      by : (i j : ℕ) (b : Bool) → untaken i j ≡ untaken i j ++ (if b then to_kernel j [] else [])
+      by i j true = sym (append-nil (untaken i j))
+      by i j false = sym (append-nil (untaken i j))
 
 -- ---- calls
 

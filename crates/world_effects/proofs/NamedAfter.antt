@@ -15,12 +15,11 @@ use Rattle.end_table.specs.declared.entry.Entry.TheVariants as entry
 use Rattle.kernel_effects.specs.Calls.{act_effect}
 use Rattle.kernel_effects.specs.Effect.{Effect}
 use Rattle.kernel_effects.specs.Rows.{row_effect}
+use Rattle.kernel_named.proofs.Values.{reported-names}
 use Rattle.kernel_outcomes.specs.Closing.{told_entry}
 use Rattle.kernel_sound.specs.Sound.{addressee}
 use Rattle.kernel_step.specs.Kernel.{reported_entry}
 use Rattle.kernel_world.specs.World.{World}
-use Rattle.charlotte_calls.specs.declared.names.Way.{Way}
-use Rattle.charlotte_calls.specs.declared.names.Way.TheVariants as way
 use Rattle.service_step.specs.Ends.{is_made}
 use Rattle.service_step.specs.State.{State}
 use Rattle.service_step.specs.declared.state.End.{End}
@@ -40,13 +39,6 @@ use Rattle.world_effects.proofs.NamedRows.{row-names}
 use Rattle.world_effects.proofs.Packets.{each-after}
 
 -- ---- a report that is told
-
-reported-names : (n : ℕ) (x : Way) (y : Entry) → NamesBelow n y → NamesBelow n (reported_entry x y)
-reported-names n x entry.Nothing is = tt
-reported-names n way.Outward (entry.Here v) is = is
-reported-names n way.Inward (entry.Here v) is = is
-reported-names n x (entry.Left to hops) is = is
-reported-names n x (entry.Destroyed m) is = is
 
 pub told-names : (n : ℕ) (rs : List Report) (e : EndId) (y : Entry) → NamesBelow n y → NamesBelow n (told_entry rs e y)
 told-names n [] e y is = is

@@ -2,7 +2,7 @@
 -- link, or about one message and what it carries. s is the end that asks or sends, where e is its opposite.
 use Rattle.std.specs.Prelude.{◌≡◌, ℕ, ◌<◌, ◌≤◌, ◌⊎◌, Bool, true, false, List, [], All, length, slice_index, is_some}
 use Rattle.charlotte_calls.specs.Names.{opposite}
-use Rattle.charlotte_calls.specs.Packets.{names_kernels_below, is_addressed}
+use Rattle.charlotte_calls.specs.Packets.{is_addressed}
 use Rattle.charlotte_calls.specs.declared.names.EndId.{EndId}
 use Rattle.charlotte_calls.specs.declared.names.Pid.{Pid}
 use Rattle.charlotte_calls.specs.declared.picture.MovingPicture.{MovingPicture}
@@ -15,6 +15,7 @@ use Rattle.end_table.specs.declared.entry.Entry.TheVariants as entry
 use Rattle.end_table.specs.declared.entry.HereView.{HereView}
 use Rattle.end_table.specs.declared.entry.Holder.TheVariants as holder
 use Rattle.end_table.specs.declared.entry.Inward.TheVariants as kernel_inward
+pub use Rattle.kernel_named.specs.Named.{NamesBelow}
 use Rattle.kernel_sound.specs.Sound.{IsSound, addressee}
 use Rattle.kernel_step.specs.Actions.{is_withdrawing}
 use Rattle.kernel_step.specs.Rows.{ends_in}
@@ -32,13 +33,6 @@ use Rattle.service_lawful.specs.Consistent.{is_open, IsConsistent}
 use Rattle.world_meaning.specs.StandsFor.{StandsFor, home_of, entry_at}
 
 -- ---- the setting
-
--- each kernel that an entry names is below this number
-abbrev pub NamesBelow : ℕ → Entry → Type 0
-NamesBelow n entry.Nothing = Unit {0}
-NamesBelow n (entry.Here v) = names_kernels_below n v.value ≡ true
-NamesBelow n (entry.Left to hops) = to < n
-NamesBelow n (entry.Destroyed m) = names_kernels_below n m ≡ true
 
 -- the kernels and their numbers; there are as many as the service counts links of
 pub record IsOfSetting (w : World) (s : State) : Type 0 where

@@ -98,18 +98,21 @@ answers_wait-gives {v} {n} {w} {o} p r others told all g =
       steps = All-push (IsShownStep v w) o.steps (step.Report p r) g.steps (report-shown v w p r told);
     })
 
+turned-told : (v : ℕ) (s : Kernel) (p : Pid) (phase : Phase) → IsTold v s → IsTold v (turns p phase s)
+turned-told v s p phase told = told-with v s p (record (process_of p s) { phase = phase }) told (told.reports p.0)
+
+waits-gives : {v n : ℕ} {w : Happened} {o : Outcome} (p : Pid) (rs : List Report) → All (IsToldReport v) rs → Gives v n w o → Gives v n w (waits p rs o)
+waits-gives {v} {n} {w} {o} p [] all g = record { stamp = g.stamp; told = turned-told v o.kernel p Waiting g.told; packets = g.packets; steps = g.steps }
+waits-gives {v} p (r ∷ rs) all g = answers_wait-gives p r rs (All-head (IsToldReport v) r rs all) (All-tail (IsToldReport v) r rs all) g
+
 joins-gives : {v n : ℕ} {w : Happened} {o : Outcome} (p : Pid) (r : Report) (phase : Phase) → IsToldReport v r → Gives v n w o → Gives v n w (joins p r phase o)
 joins-gives {v} {n} {w} {o} p r phase told g =
     let x : Process = process_of p o.kernel in
+    let all : All (IsToldReport v) (x.reports ++ r ∷ []) = All-push (IsToldReport v) x.reports r (g.told.reports p.0) told in
     let joined : Outcome = record o { kernel = with_process p (record x { reports = x.reports ++ r ∷ [] }) o.kernel } in
-    elim (is_waiting phase) as (λ b. Gives v n w (cond b (answers_wait p r [] o) joined)) [
-      | true ↦ answers_wait-gives p r [] told (All-nil (IsToldReport v)) g
-      | false ↦ record {
-        stamp = g.stamp;
-        told = told-with v o.kernel p (record x { reports = x.reports ++ r ∷ [] }) g.told (All-push (IsToldReport v) x.reports r (g.told.reports p.0) told);
-        packets = g.packets;
-        steps = g.steps;
-      }
+    elim (is_waiting phase) as (λ b. Gives v n w (cond b (waits p (x.reports ++ r ∷ []) o) joined)) [
+      | true ↦ waits-gives p (x.reports ++ r ∷ []) all g
+      | false ↦ record { stamp = g.stamp; told = told-with v o.kernel p (record x { reports = x.reports ++ r ∷ [] }) g.told all; packets = g.packets; steps = g.steps }
     ]
 
 join_reports-gives : {v n : ℕ} {w : Happened} (rs : List (Pid × Report)) {o : Outcome} → All (IsToldSent v) rs → Gives v n w o → Gives v n w (join_reports rs o)
@@ -212,9 +215,6 @@ granted_on-gives : {v n : ℕ} {w : Happened} {d : Progress} (p : Pid) (s : Kern
 granted_on-gives p s None part told few parts kept = closes-gives s told.reports kept
 granted_on-gives p s (Some view) part told few parts kept = granted-gives p s told (parts view few)
 
-turned-told : (v : ℕ) (s : Kernel) (p : Pid) (phase : Phase) → IsTold v s → IsTold v (turns p phase s)
-turned-told v s p phase told = told-with v s p (record (process_of p s) { phase = phase }) told (told.reports p.0)
-
 cancels_receive-gives : {v n : ℕ} {w : Happened} {d : Progress} (p : Pid) (s : Kernel) (view : HereView) (i : Inward) → IsTold v s → HasFewEnds v view.outward → Kept v n w d → Gives v n w (cancels_receive p s view i d)
 cancels_receive-gives p s view inward.Idle told few kept = closes-gives s told.reports kept
 cancels_receive-gives {v} p s view (inward.Posted x) told few kept =
@@ -226,10 +226,6 @@ cancels-gives : {v n : ℕ} {w : Happened} {d : Progress} (p : Pid) (s : Kernel)
 cancels-gives p s y None told few kept = closes-gives s told.reports kept
 cancels-gives p s way.Outward (Some view) told few kept = granted-gives p s told (withdraws_send-kept view kept)
 cancels-gives p s way.Inward (Some view) told few kept = cancels_receive-gives p s view view.inward told few kept
-
-waits-gives : {v n : ℕ} {w : Happened} {o : Outcome} (p : Pid) (rs : List Report) → All (IsToldReport v) rs → Gives v n w o → Gives v n w (waits p rs o)
-waits-gives {v} {n} {w} {o} p [] all g = record { stamp = g.stamp; told = turned-told v o.kernel p Waiting g.told; packets = g.packets; steps = g.steps }
-waits-gives {v} p (r ∷ rs) all g = answers_wait-gives p r rs (All-head (IsToldReport v) r rs all) (All-tail (IsToldReport v) r rs all) g
 
 exits-gives : {v n : ℕ} {w : Happened} {o : Outcome} (p : Pid) → Gives v n w o → Gives v n w (exits p o)
 exits-gives {v} {n} {w} {o} p g =
