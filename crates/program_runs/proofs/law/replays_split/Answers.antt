@@ -1,0 +1,5 @@
+use Rattle.program_runs.proofs.Replay.{replays-split}
+use Rattle.program_runs.proofs.law.replays_split.Goals as goal
+
+pub returns : goal.returns
+returns c S = replays-split

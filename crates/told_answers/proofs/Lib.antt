@@ -1,0 +1,9 @@
+pub mod Cancellers
+pub mod ForOne
+pub mod Rows
+pub mod Alike
+pub mod Calls
+pub mod Taken
+pub mod Run
+pub mod Called
+pub mod Local
