@@ -1,7 +1,7 @@
 #!/usr/bin/env python3
 """The groups of crates, by the headings of crates.txt: which group stands on which.
 
-.ci/groups.py          tells each group with its crates and what it stands on, and ends with a failure where docs/groups.svg is another picture
+.ci/groups.py          tells each group with its crates and what it stands on, and ends with a failure where docs/groups.svg is another drawing
                        than that of crates.txt, where a crate stands below no heading, where a heading is no group, or where groups have a cycle
 .ci/groups.py --write  draws docs/groups.svg
 """
@@ -11,7 +11,7 @@ import re
 import sys
 
 TOP = pathlib.Path(__file__).resolve().parent.parent
-PICTURE = TOP / "docs/groups.svg"
+DRAWING = TOP / "docs/groups.svg"
 # From left to right, where a group stands; its height follows from what it stands on.
 PLACES = {"words": 1.0, "kernel": 0.5, "service": 1.5, "texts": 0.5, "theorem": 1.0, "audit": 1.0, "language": 2.5, "compiler": 2.5,
           "machine": 3.5, "program": 1.75, "tests": 2.6}
@@ -61,7 +61,7 @@ def without_implied(below):
             for group, others in below.items()}
 
 
-def picture_of(group_of, needs):
+def drawing_of(group_of, needs):
     below = groups_below(group_of, needs)
     direct = without_implied(below)
 
@@ -96,19 +96,19 @@ def main():
     group_of, needs, wrong = read_crates((TOP / "crates.txt").read_text(encoding="utf-8"))
     if not wrong:
         try:
-            picture = picture_of(group_of, needs)
+            drawing = drawing_of(group_of, needs)
         except ValueError as error:
             wrong.append(str(error))
     if wrong:
         sys.exit("\n".join(f"crates.txt: {what}" for what in wrong))
     if "--write" in sys.argv[1:]:
-        PICTURE.write_text(picture, encoding="utf-8")
+        DRAWING.write_text(drawing, encoding="utf-8")
         return
     for group, others in without_implied(groups_below(group_of, needs)).items():
         crates = [crate for crate in group_of if group_of[crate] == group]
         print(f"{group}, on {' and '.join(sorted(others)) or 'none'}: {' '.join(crates)}")
-    if not PICTURE.exists() or PICTURE.read_text(encoding="utf-8") != picture:
-        sys.exit("docs/groups.svg is not the picture of crates.txt: draw it anew by .ci/groups.py --write")
+    if not DRAWING.exists() or DRAWING.read_text(encoding="utf-8") != drawing:
+        sys.exit("docs/groups.svg is not the drawing of crates.txt: draw it anew by .ci/groups.py --write")
 
 
 main()
