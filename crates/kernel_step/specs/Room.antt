@@ -66,27 +66,27 @@ room_of_notice = record { packets = MOST_FORGETS; reports = 2; answers = 1; step
 abbrev pub room_of_first_notice : Room
 room_of_first_notice = record room_of_notice { packets = PACKETS_OF_NOTICE }
 
--- the rows want and unwant: the parcel or the unwanted, and what news sends again
+-- the rules want and unwant: the parcel or the unwanted, and what news sends again
 abbrev pub room_of_want : Room
 room_of_want = record { packets = 1 + MOST_RESENT; reports = 0; answers = 0; steps = 1 }
 
--- the row unwanted
+-- the rule of unwanted
 abbrev pub room_of_unwanted : Room
 room_of_unwanted = record { packets = MOST_RESENT; reports = 0; answers = 1; steps = 1 }
 
--- the row taken
+-- the rule of taken
 abbrev pub room_of_taken : Room
 room_of_taken = record { packets = MOST_RESENT; reports = 1; answers = 0; steps = 1 }
 
--- of the row parcel the message alone
+-- of the rule of parcel the message alone
 abbrev pub room_of_message : Room
 room_of_message = record { packets = 1 + MOST_RESENT; reports = 1; answers = 1; steps = 1 }
 
--- the row parcel
+-- the rule of parcel
 abbrev pub room_of_parcel : Room
 room_of_parcel = record room_of_message { packets = PACKETS_OF_PARCEL }
 
--- of the row back the return of the ends, all of it where no send is matched, and all where one is
+-- of the rule of back the return of the ends, all of it where no send is matched, and all where one is
 abbrev pub room_of_return : Room
 room_of_return = record { packets = MOST_ENDS; reports = 1; answers = 0; steps = 0 }
 
@@ -96,11 +96,11 @@ room_of_stray_back = record room_of_return { steps = 1 }
 abbrev pub room_of_back : Room
 room_of_back = record { packets = PACKETS_OF_BACK; reports = 3; answers = 1; steps = 1 }
 
--- the row gone
+-- the rule of gone
 abbrev pub room_of_gone : Room
 room_of_gone = record room_of_first_notice { steps = 1 }
 
--- the row moved
+-- the rule of moved
 abbrev pub room_of_moved : Room
 room_of_moved = packets (1 + MOST_RESENT)
 

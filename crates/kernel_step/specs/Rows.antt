@@ -146,7 +146,7 @@ asks w (entry.Here v) = if is_asked w v.inward then Some v else None
 asks w (entry.Left to hops) = None
 asks w (entry.Destroyed m) = None
 
--- the part of the row that is about the message; xs are the ends that came with it
+-- the part of the rule that is about the message; xs are the ends that came with it
 abbrev pub arrived_row : ℕ → ℕ → ℕ → ℕ → List ℕ → List EndId → Option HereView → Progress → Progress
 arrived_row k n at hops bytes xs None d = d
 arrived_row k n at hops bytes xs (Some v) d =
@@ -159,7 +159,7 @@ parcel_row k made to n at hops bytes ms (Some v) d =
     resends_on_news k v.value hops (learned at hops v.value) inward.Unreported
     (tell_arrivals k came (receives k n at hops bytes (ends_in came) v (settle_each v.holder came d)))
 
--- the part of the row that is about the ends that came with it; ms are those that are carried
+-- the part of the rule that is about the ends that came with it; ms are those that are carried
 abbrev pub arrive_row : ℕ → EndId → ℕ → ℕ → List MovingPicture → Option HereView → Progress → Progress
 arrive_row k to n at ms None d = sends_back k to n at ms d
 arrive_row k to n at ms (Some v) d = tell_arrivals k ms (settle_each v.holder ms d)
@@ -221,7 +221,7 @@ back_row k made from to n ms (Some v) d =
     let answers_cancel = not v.value.dead && is_withdrawing v.inward in
     tell_arrivals k came (notices_first k from returned (gives_back came v (means (step.Back to n answers_cancel) d)))
 
--- the part of the row without the step and without NOTICE; ms are the values that are carried
+-- the part of the rule without the step and without NOTICE; ms are the values that are carried
 abbrev pub give_back_row : ℕ → List MovingPicture → Option HereView → Progress → Progress
 give_back_row k ms None d = end_arrivals k ms d
 give_back_row k ms (Some v) d = tell_arrivals k ms (gives_back ms v d)

@@ -1,4 +1,4 @@
--- What the rows of packets keep.
+-- What the rules of packets keep.
 use Rattle.std.proofs.Common.{ℕ, ◌≤◌, Bool, true, false, nat_eq, nat_lt, nat_le, ◌&&◌, not, List, [], ◌∷◌, length, map, Option, None, Some, cond, refl, arith}
 use Rattle.std.specs.List.{filter}
 use Rattle.std.proofs.lemmas.List.{length-map}
@@ -300,7 +300,7 @@ goneseen_row-kept k (entry.Here view) kept = kept
 goneseen_row-kept k (entry.Left there h) kept = kept
 goneseen_row-kept k (entry.Destroyed m) kept = erases-kept k m kept
 
--- every row
+-- every rule
 pub row-kept : {v n : ℕ} {w : Happened} {d : Progress} (k made from : ℕ) (q : PictureWhat) → HasFewPacket v q → Kept v n w d → Kept v n w (row k made from q d)
 row-kept {v} {n} {w} {d} k made from (packet.Want to x at hops) few kept = want_row-kept k to x at hops (d.table to) (kept.table to) kept
 row-kept {v} {n} {w} {d} k made from (packet.Unwant to x at hops) few kept = unwant_row-kept k to x at hops (d.table to) (kept.table to) kept

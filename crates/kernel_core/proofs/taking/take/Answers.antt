@@ -1,4 +1,4 @@
--- The row goes well, the event closes, and the set of the end's owner is made anew.
+-- The rule goes well, the event closes, and the set of the end's owner is made anew.
 use Rattle.charlotte_calls.specs.Packets.{what_picture}
 use Rattle.end_table.specs.Place.{end_eq}
 use Rattle.charlotte_calls.specs.declared.names.EndId.{EndId}
@@ -29,7 +29,7 @@ use Rattle.kernel_core.proofs.taking.take.Goals as goal
 pub row-requires-clause-ready : goal.row-requires-clause-ready
 row-requires-clause-ready c = IsReady-sound c.args.state.now.table.kernel c.args.state.now.made (length c.args.state.now.processes) (entries c.args.state.now.table) c.requires.consistent.sound
 
--- the row goes well
+-- the rule goes well
 goes : (c : goal.After-close-arg-3-1) → GoesWell c.args.state.now.table.kernel c.args.state.now.made (length c.args.state.now.processes) (λ p e. end_eq (addressee (what_picture c.args.what.now)) e) (entries c.args.state.now.table)
     (row c.args.state.now.table.kernel c.args.state.now.made c.args.from (what_picture c.args.what.now) (progress (entries c.args.state.now.table) c.args.state.now.event.work))
 goes c = row-goes c.args.state.now.table.kernel c.args.state.now.made (length c.args.state.now.processes) c.args.from (what_picture c.args.what.now) (entries c.args.state.now.table) c.args.state.now.event.work c.requires.ready.begun.reports c.requires.ready.begun.answers c.requires.consistent.sound
