@@ -1,7 +1,8 @@
 -- What a kernel does with a packet, by the entry of the end that it is addressed to: one definition for each kind of packet.
 -- k is this kernel, to the end addressed, at and hops kernel and hop count of the opposite end that sent the packet
 -- (of a known or forget, hops are those of the addressed end itself).
-use Rattle.std.specs.Prelude.{ℕ, Bool, true, false, nat_eq, nat_lt, nat_le, ◌&&◌, not, List, [], ◌∷◌, map, if◌then◌else◌, Option, Some, None}
+use Rattle.std.specs.Prelude.{ℕ, Bool, true, false, nat_eq, nat_lt, nat_le, ◌&&◌, not}
+use Rattle.std.specs.Prelude.{List, [], ◌∷◌, map, if◌then◌else◌, Option, Some, None}
 use Rattle.std.specs.List.{fold, filter}
 use Rattle.charlotte_calls.specs.Names.{opposite}
 use Rattle.charlotte_calls.specs.declared.calls.Answer.TheVariants as answer
@@ -24,7 +25,8 @@ use Rattle.end_table.specs.declared.entry.Outward.{Outward}
 use Rattle.end_table.specs.declared.entry.Outward.TheVariants as outward
 use Rattle.end_table.specs.Place.{put}
 use Rattle.kernel_step.specs.Progress.{Progress, sends, means, keeps}
-use Rattle.kernel_step.specs.Actions.{answers, reports, send_report, receive_report, forgets, leaves, match_waiting, ends_idle, notices, is_withdrawing, learned_view, learns, resends_on_news, settle_each, tell_arrivals}
+use Rattle.kernel_step.specs.Actions.{answers, reports, send_report, receive_report, forgets, leaves, match_waiting, ends_idle}
+use Rattle.kernel_step.specs.Actions.{notices, is_withdrawing, learned_view, learns, resends_on_news, settle_each, tell_arrivals}
 
 -- want: the receive w of the opposite end asks for a message, unless it was matched or withdrawn
 unfoldable pub wants : ℕ → ℕ → ℕ → ℕ → HereView → Progress → Progress
@@ -104,7 +106,8 @@ abbrev pub arriving : ℕ → ℕ → Holder → (EndId → Entry) → List Movi
 arriving k made h t [] = []
 arriving k made h t (m ∷ ms) =
     if is_carried k made t m
-    then m ∷ arriving k made h (put t m.end (entry.Here (record { value = m; holder = h; outward = outward.Idle; inward = inward.Idle }))) ms
+    then m
+    ∷ arriving k made h (put t m.end (entry.Here (record { value = m; holder = h; outward = outward.Idle; inward = inward.Idle }))) ms
     else arriving k made h t ms
 
 abbrev pub ends_in : List MovingPicture → List EndId
