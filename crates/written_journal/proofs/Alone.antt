@@ -27,10 +27,7 @@ abbrev pub head_text : ℕ → List ℕ
 head_text from = codes " from " ++ number_text from ++ codes " "
 
 taken-line : (from : ℕ) (q : Picture) → happened_line (Took from q) ≡ head_text from ++ (packet_text q.what ++ 10 ∷ [])
-taken-line from q =
-    let p : List ℕ = packet_text q.what in
-    ap line (ap (λ t. codes " from " ++ t) (sym (append_assoc (number_text from) (codes " ") p)) ∙ sym (append_assoc (codes " from ") (number_text from ++ codes " ") p))
-    ∙ append_assoc (head_text from) p (10 ∷ [])
+taken-line from q = append_assoc (head_text from) (packet_text q.what) (10 ∷ [])
 
 -- the text of the packet, between that and the line feed
 pub record IsPicture (all : List ℕ) (from : ℕ) (q : Picture) : Type 0 where
@@ -52,8 +49,8 @@ sender-took (Took f q) from is = let same : f ≡ from = cc in (q, ap (λ (k : �
 -- ---- its lines, one after the other
 
 pub some-of : (es : List Entry) (empty : Bool) → empty ≡ eqb (length es) 0 → empty ≡ false → (e : Entry) × (rest : List Entry) × (es ≡ e ∷ rest)
-some-of [] empty is no = absurd (cc)
-some-of (e ∷ es) empty is no = (e, es, refl)
+some-of [] empty is some = absurd (cc)
+some-of (e ∷ es) empty is some = (e, es, refl)
 
 pub lines-begun : (k : ℕ) (old mid new : Rest) (e : Entry) (es : List Entry) (out : List ℕ) → old.lines ≡ [] → mid.entries ≡ old.entries → mid.entries ≡ e ∷ es → out ≡ line (entry_text (placed_at k e)) → new ≡ record { lines = step_lines e.steps; entries = es } → lines_left k old ≡ out ∷ lines_left k new
 lines-begun k old mid new e es out gone kept is given now =

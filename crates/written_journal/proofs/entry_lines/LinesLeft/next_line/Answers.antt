@@ -1,4 +1,5 @@
-use Rattle.std.proofs.Common.{◌∙◌, sym}
+use Rattle.std.proofs.Common.{◌∙◌, Bool, subst, sym}
+use Rattle.written_journal.specs.Left.{GivesFirst}
 use Rattle.written_journal.proofs.Alone.{lines-begun, some-of}
 use Rattle.written_journal.proofs.entry_lines.LinesLeft.next_line.Goals as goal
 
@@ -9,4 +10,5 @@ pub returns-clause-given : goal.returns-clause-given
 returns-clause-given c =
     let some = some-of c.step_line.new.self.entries c.is_at_end.result c.is_at_end.ensures c.if-is_at_end.false in
     let first = c.in_ok-first_line.ensures.given some.0 some.1 some.2 in
-    sym c.self.view_is ∙ lines-begun c.self.inside.kernel c.self.inside.reader c.step_line.new.self c.first_line.new.self some.0 some.1 c.first_line.new.out.items c.in_ok-step_line.ensures.given.0 c.in_ok-step_line.ensures.entries some.2 first.0 first.1
+    let nothing = subst (λ (b : Bool). GivesFirst b c.self.inside.reader.lines c.step_line.new.self.lines c.step_line.new.out.items) c.if-branch.false c.in_ok-step_line.ensures.given in
+    sym c.self.view_is ∙ lines-begun c.self.inside.kernel c.self.inside.reader c.step_line.new.self c.first_line.new.self some.0 some.1 c.first_line.new.out.items nothing.0 c.in_ok-step_line.ensures.entries some.2 first.0 first.1
