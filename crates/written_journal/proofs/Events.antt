@@ -56,7 +56,7 @@ module _ (old new : Written) (begun steps : KeptLines) (from : Option ℕ) (es :
       (omega (arith, ap length first.notes, ap length rest.notes, length-map (step_lines e.steps) line_note, length-map e.steps (λ s. line (step_text s))))
       (ap length kept.notes ∙ length-map (lines_of es) line_note) (ap length kept.text)
 
-  module _ (text : new.text.items ≡ old.text.items ++ (begun.text.items ++ steps.text.items)) (notes : new.notes.items ≡ old.notes.items ++ (begun.notes.items ++ steps.notes.items)) (events : new.events.items ≡ old.events.items ++ added ∷ []) where
+  module _ (text : new.text.items ≡ (old.text.items ++ begun.text.items) ++ steps.text.items) (notes : new.notes.items ≡ (old.notes.items ++ begun.notes.items) ++ steps.notes.items) (events : new.events.items ≡ old.events.items ++ added ∷ []) where
     event-there : (n : ℕ) → n < length (es ++ e ∷ []) → (d : Event) (x : Entry) → get_or new.events.items n d ≡ event_of (take n (es ++ e ∷ [])) (get_or (es ++ e ∷ []) n x)
     event-there n below d x =
         ap (λ (evs : List Event). get_or evs n d) events
@@ -76,10 +76,10 @@ module _ (old new : Written) (begun steps : KeptLines) (from : Option ℕ) (es :
     pub appended : AreKept new (es ++ e ∷ [])
     appended =
         record {
-          text = text ∙ ap (λ t. t ++ (begun.text.items ++ steps.text.items)) kept.text
+          text = text ∙ append_assoc old.text.items begun.text.items steps.text.items ∙ ap (λ t. t ++ (begun.text.items ++ steps.text.items)) kept.text
               ∙ ap (λ t. text_of es ++ (t ++ steps.text.items)) first.text ∙ ap (λ t. text_of es ++ (kept_text (happened_line e.what ∷ []) ++ t)) rest.text
               ∙ ap (λ t. text_of es ++ t) (sym (kept_text-append (happened_line e.what ∷ []) (step_lines e.steps))) ∙ sym (text_of-push es e);
-          notes = notes ∙ ap (λ ns. ns ++ (begun.notes.items ++ steps.notes.items)) kept.notes
+          notes = notes ∙ append_assoc old.notes.items begun.notes.items steps.notes.items ∙ ap (λ ns. ns ++ (begun.notes.items ++ steps.notes.items)) kept.notes
               ∙ ap (λ ns. map line_note (lines_of es) ++ (ns ++ steps.notes.items)) first.notes ∙ ap (λ ns. map line_note (lines_of es) ++ (line_note (happened_line e.what) ∷ ns)) rest.notes
               ∙ sym (map-append line_note (lines_of es) (kept_lines e)) ∙ ap (map line_note) (sym (lines_of-push es e));
           long = omega (arith, ap length events, length-append old.events.items (added ∷ []), length-append es (e ∷ []), kept.long);
@@ -88,7 +88,7 @@ module _ (old new : Written) (begun steps : KeptLines) (from : Option ℕ) (es :
 
 -- ---- the first events
 
-some-entry : (es : List Entry) (n : ℕ) → n < length es → Entry
+pub some-entry : (es : List Entry) (n : ℕ) → n < length es → Entry
 some-entry [] n below = absurd (omega (arith, below))
 some-entry (e ∷ es) n below = e
 
@@ -183,7 +183,7 @@ module _ (w : Written) (es : List Entry) (n : ℕ) (x : Entry) (ev : Event) (upt
   more : take (n + 1) es ≡ take n es ++ here ∷ []
   more = take_more es n x below
 
-  behind : List Entry
+  abbrev behind : List Entry
   behind = drop (n + 1) es
 
   lines : lines_of es ≡ lines_of (take n es) ++ (kept_lines here ++ lines_of behind)
@@ -236,3 +236,12 @@ module _ (w : Written) (es : List Entry) (n : ℕ) (x : Entry) (ev : Event) (upt
         long = ap length evs;
         event = alone-at one.events.items evs;
       })
+
+-- the part of an event, by what stands of it
+pub part-of : (w : Written) (es : List Entry) (n : ℕ) (ev : Event) (upto : ℕ) (kept : AreKept w es) (below : n < length es) → ev ≡ get_or w.events.items n ev → upto ≡ length (text_of (take (n + 1) es)) → IsPart w (get_or es n (some-entry es n below)) ev upto
+part-of w es n ev upto kept below is to = part w es n (some-entry es n below) ev upto kept below (is ∙ kept.event n below ev (some-entry es n below)) to
+
+pub one-of : (w one : Written) (es : List Entry) (n : ℕ) (ev : Event) (upto : ℕ) (kept : AreKept w es) (below : n < length es) → ev ≡ get_or w.events.items n ev → upto ≡ length (text_of (take (n + 1) es)) → one.text.items ≡ slice_range w.text.items ev.bytes_before upto → one.notes.items ≡ slice_range w.notes.items ev.lines_before (ev.lines_before + ev.lines) → one.events.items ≡ record { stamp = ev.stamp; from = ev.from; lines = ev.lines; lines_before = 0; bytes_before = 0 } ∷ [] → AreKept one (numbered n es)
+one-of w one es n ev upto kept below is to text notes events =
+    let at = part-of w es n ev upto kept below is to in
+    one-kept w es n (some-entry es n below) ev upto kept below (is ∙ kept.event n below ev (some-entry es n below)) to one (text ∙ at.text) (notes ∙ at.notes) events

@@ -1,5 +1,6 @@
 //! One entry of a journal as its text.
-ghost use Rattle.std.specs.Prelude.{◌≡◌, ◌∷◌, ◌++◌, [], IfOk, List, OnErr, OnOk};
+ghost use Rattle.std.specs.Prelude.{◌≡◌, ◌+◌, ◌-◌, ◌≤◌, ◌∷◌, ◌++◌, [], IfOk, List, OnErr, OnOk, length};
+ghost use Rattle.std.specs.List.{slice_range};
 ghost use Rattle.journal_text.specs.Journal.{placed_at};
 ghost use Rattle.journal_text.specs.Transcript.{entry_lines};
 ghost use Rattle.kernel_world.specs.declared.entry.Entry.{Entry};
@@ -60,8 +61,7 @@ impl EntryLines {
         let mut line = Vec::new(alloc);
         let kept = self.alone.line(0, 0);
         push_line(&mut line, kept.bytes, kept.packed)?;
-        out.extend_from_slice(&line[head.len()..line.len() - 1])?;
-        Ok(())
+        push_between(out, &line, head.len())
     }
 
     /// The lines of the entry, as those of this kernel. They are what `print_entry` gives.
@@ -74,6 +74,15 @@ impl EntryLines {
             kernel,
         }
     }
+}
+
+/// Appends what stands of a line behind its first bytes, so many of them, and before its line feed.
+fn push_between(out: &mut Vec<u8>, line: &[u8], first: usize) -> Result<(), NoMemory>
+    requires { first + 1 ≤ length line.now }
+    ensures { OnOk result (out.new.items ≡ out.old.items ++ slice_range line.now first (length line.now - 1)) }
+{
+    out.extend_from_slice(&line[first..line.len() - 1])?;
+    Ok(())
 }
 
 /// The lines of an entry that are not given yet, each with its line feed. Contracts see them as a list.

@@ -86,6 +86,7 @@ impl WrittenJournal {
         ensures emptied { result.items ≡ [] }
     {
         let mut steps = steps;
+        self.stored.tell_noted(stamp, steps.as_slice());
         match self.stored.note(stamp, steps.as_slice()) {
             Ok(()) => {
                 steps.clear();
@@ -158,6 +159,7 @@ fn store(stored: &mut Stored, late: &mut Option<Late>) -> Result<(), NoMemory>
     ensures none { OnOk result (late.new ≡ None) }
     ensures same { OnErr result (stored.new ≡ stored.old) }
     ensures late_same { OnErr result (late.new ≡ late.old) }
+    ensures none_begun { OnErr result ((with_late stored.old late.old).begun ≡ None) }
 {
     if let Some(noted) = late {
         stored.note(noted.stamp, noted.steps.as_slice())?;

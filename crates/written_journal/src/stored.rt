@@ -1,10 +1,10 @@
-ghost use Rattle.std.specs.Prelude.{◌≡◌, [], ◌∷◌, ◌++◌, ◌+◌, ◌<◌, ◌≤◌, ◌^◌, Some, None, All, IfOk, OnOk, OnErr, length, take};
+ghost use Rattle.std.specs.Prelude.{◌≡◌, [], ◌∷◌, ◌++◌, ◌+◌, ◌<◌, ◌≤◌, ◌^◌, Some, None, All, IfOk, OnOk, OnErr, length, slice_get, take};
 ghost use Rattle.charlotte_calls.specs.Packets.{packet_picture};
 ghost use Rattle.journal_text.specs.Journal.{IsAfterLast};
 ghost use Rattle.kernel_world.specs.Ranges.{IsEntryInRange};
+ghost use Rattle.kernel_world.specs.declared.entry.Entry.{Entry};
 ghost use Rattle.kernel_world.specs.declared.entry.Happened.{Happened};
 ghost use Rattle.kernel_world.specs.declared.entry.Happened.TheVariants.{Asked, Took};
-ghost use Rattle.written_journal.specs.Noted.{numbered};
 
 use crate::history::{History, Note};
 use crate::kept_lines::KeptLines;
@@ -103,6 +103,15 @@ impl Stored {
         Ok(())
     }
 
+    /// The entry of what is begun with this stamp and these steps is a value of its type. This reads, and does nothing else.
+    pub(crate) fn tell_noted(&self, stamp: u64, steps: &[ServiceStep])
+        ensures { (what : Happened) → self.now.begun ≡ Some what → All IsEntryInRange (self.now.entries ++ record { stamp = stamp; what = what; steps = steps.now } ∷ []) }
+    {
+        tell_u64(stamp);
+        tell_steps(steps);
+        let _read = self.from;
+    }
+
     /// Notes the stamp of what was begun and the steps that it means. After want of memory all is as before.
     pub(crate) fn note(&mut self, stamp: u64, steps: &[ServiceStep]) -> Result<(), NoMemory>
         requires begun { (what : Happened) × (self.old.begun ≡ Some what) }
@@ -110,7 +119,6 @@ impl Stored {
         ensures noted { OnOk result ((what : Happened) → self.old.begun ≡ Some what
             → self.new ≡ record { entries = self.old.entries ++ record { stamp = stamp; what = what; steps = steps.now } ∷ []; begun = None }) }
         ensures same { OnErr result (self.new ≡ self.old) }
-        ensures in_range { All IsEntryInRange self.new.entries }
         ensures few { length self.old.entries + 1 < 2 ^ 32 }
     {
         tell_u64(stamp);
@@ -145,7 +153,7 @@ impl Stored {
     /// The entry of a number alone.
     pub(crate) fn one(&self, number: u32) -> Result<Stored, NoMemory>
         requires { number < length self.now.entries }
-        ensures { IfOk result (λ one. one ≡ record { entries = numbered number self.now.entries; begun = None }) }
+        ensures { IfOk result (λ one. (e : Entry) × (one ≡ record { entries = e ∷ []; begun = None }) × (slice_get self.now.entries number ≡ Some e)) }
     {
         let alloc = self.allocator();
         let number = number as usize;
