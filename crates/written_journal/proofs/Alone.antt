@@ -52,7 +52,8 @@ pub some-of : (es : List Entry) (empty : Bool) → empty ≡ eqb (length es) 0 �
 some-of [] empty is some = absurd (cc)
 some-of (e ∷ es) empty is some = (e, es, refl)
 
-pub lines-begun : (k : ℕ) (old mid new : Rest) (e : Entry) (es : List Entry) (out : List ℕ) → old.lines ≡ [] → mid.entries ≡ old.entries → mid.entries ≡ e ∷ es → out ≡ line (entry_text (placed_at k e)) → new ≡ record { lines = step_lines e.steps; entries = es } → lines_left k old ≡ out ∷ lines_left k new
+pub lines-begun : (k : ℕ) (old mid new : Rest) (e : Entry) (es : List Entry) (out : List ℕ) → old.lines ≡ [] → mid.entries ≡ old.entries → mid.entries ≡ e ∷ es → out ≡ line (entry_text (placed_at k e))
+    → new ≡ record { lines = step_lines e.steps; entries = es } → lines_left k old ≡ out ∷ lines_left k new
 lines-begun k old mid new e es out gone kept is given now =
     let lines_of_one : Entry → List (List ℕ) = λ x. entry_lines (placed_at k x) in
     ap (λ (ls : List (List ℕ)). ls ++ flat_map lines_of_one old.entries) gone ∙ ap (flat_map lines_of_one) (sym kept ∙ is) ∙ flat_map-cons lines_of_one e es

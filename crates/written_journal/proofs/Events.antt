@@ -241,7 +241,9 @@ module _ (w : Written) (es : List Entry) (n : ℕ) (x : Entry) (ev : Event) (upt
 pub part-of : (w : Written) (es : List Entry) (n : ℕ) (ev : Event) (upto : ℕ) (kept : AreKept w es) (below : n < length es) → ev ≡ get_or w.events.items n ev → upto ≡ length (text_of (take (n + 1) es)) → IsPart w (get_or es n (some-entry es n below)) ev upto
 part-of w es n ev upto kept below is to = part w es n (some-entry es n below) ev upto kept below (is ∙ kept.event n below ev (some-entry es n below)) to
 
-pub one-of : (w one : Written) (es : List Entry) (n : ℕ) (ev : Event) (upto : ℕ) (kept : AreKept w es) (below : n < length es) → ev ≡ get_or w.events.items n ev → upto ≡ length (text_of (take (n + 1) es)) → one.text.items ≡ slice_range w.text.items ev.bytes_before upto → one.notes.items ≡ slice_range w.notes.items ev.lines_before (ev.lines_before + ev.lines) → one.events.items ≡ record { stamp = ev.stamp; from = ev.from; lines = ev.lines; lines_before = 0; bytes_before = 0 } ∷ [] → AreKept one (numbered n es)
+pub one-of : (w one : Written) (es : List Entry) (n : ℕ) (ev : Event) (upto : ℕ) (kept : AreKept w es) (below : n < length es) → ev ≡ get_or w.events.items n ev → upto ≡ length (text_of (take (n + 1) es))
+    → one.text.items ≡ slice_range w.text.items ev.bytes_before upto → one.notes.items ≡ slice_range w.notes.items ev.lines_before (ev.lines_before + ev.lines)
+    → one.events.items ≡ record { stamp = ev.stamp; from = ev.from; lines = ev.lines; lines_before = 0; bytes_before = 0 } ∷ [] → AreKept one (numbered n es)
 one-of w one es n ev upto kept below is to text notes events =
     let at = part-of w es n ev upto kept below is to in
     one-kept w es n (some-entry es n below) ev upto kept below (is ∙ kept.event n below ev (some-entry es n below)) to one (text ∙ at.text) (notes ∙ at.notes) events

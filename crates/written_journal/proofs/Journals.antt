@@ -62,7 +62,8 @@ forgotten w b0 b from t is begun =
     }
 
 -- something is begun, where there is room for one entry more
-pub begun-stored : (w : Written) (b0 b : KeptLines) (from0 from : Option ℕ) (t : Told) (what : Happened) → IsStored w b0 from0 t → length w.events.items < 2 ^ 32 - 1 → AreLines b (happened_line what ∷ []) → from ≡ sender_of what → IsHappenedInRange what → IsStored w b from (record t { begun = Some what })
+pub begun-stored : (w : Written) (b0 b : KeptLines) (from0 from : Option ℕ) (t : Told) (what : Happened) → IsStored w b0 from0 t → length w.events.items < 2 ^ 32 - 1 → AreLines b (happened_line what ∷ [])
+    → from ≡ sender_of what → IsHappenedInRange what → IsStored w b from (record t { begun = Some what })
 begun-stored w b0 b from0 from t what is room begun sender in_range =
     record {
       kept = is.kept;
@@ -75,7 +76,9 @@ begun-stored w b0 b from0 from t what is room begun sender in_range =
     }
 
 -- what was begun is noted
-noted-stored : (old new : Written) (b b1 steps : KeptLines) (from : Option ℕ) (t : Told) (what : Happened) (stamp : ℕ) (ss : List ServiceStep) → IsStored old b from t → t.begun ≡ Some what → IsAfterLast t.entries stamp → IsU64 stamp → All IsStepInRange ss → AreKept new (t.entries ++ record { stamp = stamp; what = what; steps = ss } ∷ []) → AreLines b1 [] → IsStored new b1 None (record t { entries = t.entries ++ record { stamp = stamp; what = what; steps = ss } ∷ []; begun = None })
+noted-stored : (old new : Written) (b b1 steps : KeptLines) (from : Option ℕ) (t : Told) (what : Happened) (stamp : ℕ) (ss : List ServiceStep) → IsStored old b from t → t.begun ≡ Some what → IsAfterLast t.entries stamp
+    → IsU64 stamp → All IsStepInRange ss → AreKept new (t.entries ++ record { stamp = stamp; what = what; steps = ss } ∷ []) → AreLines b1 []
+    → IsStored new b1 None (record t { entries = t.entries ++ record { stamp = stamp; what = what; steps = ss } ∷ []; begun = None })
 noted-stored old new b b1 steps from t what stamp ss is begun after early steps_in_range kept none =
     record {
       kept = kept;
@@ -91,7 +94,12 @@ noted-stored old new b b1 steps from t what stamp ss is begun after early steps_
     e = record { stamp = stamp; what = what; steps = ss }
 
 -- the same, by what was told
-pub noted-told : (old new : Written) (b b1 steps : KeptLines) (from : Option ℕ) (t later : Told) (value : Happenings) (stamp : ℕ) (ss : List ServiceStep) → IsStored old b from t → happenings t ≡ value → (what : Happened) × (value.begun ≡ Some what) → IsAfterLast value.entries stamp → IsU64 stamp → All IsStepInRange ss → AreLines steps (step_lines ss) → new.text.items ≡ (old.text.items ++ b.text.items) ++ steps.text.items → new.notes.items ≡ (old.notes.items ++ b.notes.items) ++ steps.notes.items → new.events.items ≡ old.events.items ++ record { stamp = stamp; from = from; lines = length b.notes.items + length steps.notes.items; lines_before = length old.notes.items; bytes_before = length old.text.items } ∷ [] → AreLines b1 [] → later ≡ record t { entries = t.entries ++ done t.begun stamp ss; begun = None } → IsStored new b1 None later
+pub noted-told : (old new : Written) (b b1 steps : KeptLines) (from : Option ℕ) (t later : Told) (value : Happenings) (stamp : ℕ) (ss : List ServiceStep) → IsStored old b from t → happenings t ≡ value
+    → (what : Happened) × (value.begun ≡ Some what) → IsAfterLast value.entries stamp → IsU64 stamp → All IsStepInRange ss → AreLines steps (step_lines ss)
+    → new.text.items ≡ (old.text.items ++ b.text.items) ++ steps.text.items → new.notes.items ≡ (old.notes.items ++ b.notes.items) ++ steps.notes.items
+    → new.events.items
+    ≡ old.events.items ++ record { stamp = stamp; from = from; lines = length b.notes.items + length steps.notes.items; lines_before = length old.notes.items; bytes_before = length old.text.items } ∷ []
+    → AreLines b1 [] → later ≡ record t { entries = t.entries ++ done t.begun stamp ss; begun = None } → IsStored new b1 None later
 noted-told old new b b1 steps from t later value stamp ss is view begun after early steps_in_range lines text notes events none told =
     subst (λ (x : Told). IsStored new b1 None x) (sym same)
     (noted-stored old new b b1 steps from t begun.0 stamp ss is what (subst (λ es. IsAfterLast es stamp) (sym (ap (λ (v : Happenings). v.entries) view)) after) early steps_in_range kept none)
@@ -141,14 +149,16 @@ cut-stored old new b0 b from t n is kept begun =
     }
 
 -- an event that can be noted is a value of its type
-pub noted-range : (w : Written) (b : KeptLines) (from : Option ℕ) (t : Told) (value : Happenings) (stamp : ℕ) (ss : List ServiceStep) → IsStored w b from t → happenings t ≡ value → IsU64 stamp → All IsStepInRange ss → (what : Happened) → value.begun ≡ Some what → All IsEntryInRange (value.entries ++ record { stamp = stamp; what = what; steps = ss } ∷ [])
+pub noted-range : (w : Written) (b : KeptLines) (from : Option ℕ) (t : Told) (value : Happenings) (stamp : ℕ) (ss : List ServiceStep) → IsStored w b from t → happenings t ≡ value → IsU64 stamp → All IsStepInRange ss
+    → (what : Happened) → value.begun ≡ Some what → All IsEntryInRange (value.entries ++ record { stamp = stamp; what = what; steps = ss } ∷ [])
 noted-range w b from t value stamp ss is view early steps_in_range what begun =
     let e : Entry = record { stamp = stamp; what = what; steps = ss } in
     subst (λ (es : List Entry). All IsEntryInRange (es ++ e ∷ [])) (ap (λ (v : Happenings). v.entries) view)
     (All-push IsEntryInRange t.entries e is.in_range (record { stamp = early; what = subst (λ (h : Option Happened). IfSome h IsHappenedInRange) (ap (λ (v : Happenings). v.begun) view ∙ begun) is.begun_in_range; steps = steps_in_range }))
 
 -- one entry alone
-pub one-stored : (w one : Written) (b b1 : KeptLines) (from : Option ℕ) (t t0 later : Told) (value : Happenings) (n : ℕ) → IsStored w b from t → happenings t ≡ value → n < length value.entries → (n < length t.entries → AreKept one (numbered n t.entries)) → AreLines b1 [] → t0 ≡ nothing_told → later ≡ record t0 { entries = numbered n t.entries } → IsStored one b1 None later
+pub one-stored : (w one : Written) (b b1 : KeptLines) (from : Option ℕ) (t t0 later : Told) (value : Happenings) (n : ℕ) → IsStored w b from t → happenings t ≡ value → n < length value.entries
+    → (n < length t.entries → AreKept one (numbered n t.entries)) → AreLines b1 [] → t0 ≡ nothing_told → later ≡ record t0 { entries = numbered n t.entries } → IsStored one b1 None later
 one-stored w one b b1 from t t0 later value n is view below kept none start told =
     subst (λ (x : Told). IsStored one b1 None x) (sym same)
     (record {
@@ -173,7 +183,8 @@ one-stored w one b b1 from t t0 later value n is view below kept none start told
     same : later ≡ record nothing_told { entries = e ∷ [] }
     same = told ∙ ap (λ (x : Told). record x { entries = numbered n t.entries }) start ∙ ap (λ (es : List Entry). record nothing_told { entries = es }) alone
 
-pub one-told : (t t0 later : Told) (value : Happenings) (n : ℕ) → happenings t ≡ value → n < length value.entries → t0 ≡ nothing_told → later ≡ record t0 { entries = numbered n t.entries } → (e : Entry) × (happenings later ≡ record { entries = e ∷ []; begun = None }) × (slice_get value.entries n ≡ Some e)
+pub one-told : (t t0 later : Told) (value : Happenings) (n : ℕ) → happenings t ≡ value → n < length value.entries → t0 ≡ nothing_told → later ≡ record t0 { entries = numbered n t.entries }
+    → (e : Entry) × (happenings later ≡ record { entries = e ∷ []; begun = None }) × (slice_get value.entries n ≡ Some e)
 one-told t t0 later value n view below start told =
     let x : Entry = some-entry value.entries n below in
     let here : numbered n t.entries ≡ get_or value.entries n x ∷ [] = ap (λ (v : Happenings). numbered n v.entries) view ∙ one-is value.entries n x below in (

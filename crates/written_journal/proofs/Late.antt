@@ -48,7 +48,9 @@ stored-place s (Some late) n e is found =
     ]
 
 -- the entry that is not
-pub late-alone : (s : Happenings) (l : Option Late) (late : Late) (alone new : Happenings) (ss : List ServiceStep) → IsLate s l → l ≡ Some late → alone ≡ record { entries = []; begun = s.begun } → ss ≡ late.steps.items → ((what : Happened) → alone.begun ≡ Some what → new ≡ record { entries = alone.entries ++ record { stamp = late.stamp; what = what; steps = ss } ∷ []; begun = None }) → (e : Entry) × (new.entries ≡ e ∷ []) × (slice_get (with_late s l).entries (length s.entries) ≡ Some e)
+pub late-alone : (s : Happenings) (l : Option Late) (late : Late) (alone new : Happenings) (ss : List ServiceStep) → IsLate s l → l ≡ Some late → alone ≡ record { entries = []; begun = s.begun } → ss ≡ late.steps.items
+    → ((what : Happened) → alone.begun ≡ Some what → new ≡ record { entries = alone.entries ++ record { stamp = late.stamp; what = what; steps = ss } ∷ []; begun = None })
+    → (e : Entry) × (new.entries ≡ e ∷ []) × (slice_get (with_late s l).entries (length s.entries) ≡ Some e)
 late-alone s l late alone new ss is at apart steps noted = (e, only, place)
   where
     can : CanBeStored s late.stamp
