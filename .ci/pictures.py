@@ -516,7 +516,7 @@ def try_words(tries: Tries, folder: Path) -> None:
     long.write_text(f"transcript 1\nkernels 1\nprocess 0 on 0\n{prints}quiet\n")
     made = draw(str(long))
     said = made.stderr.decode()
-    tries.expect(made.returncode == 8 and ": too big: 100000 events" in said, "a run of 100,000 events is too long", said)
+    tries.expect(made.returncode == 8 and ": too big: more than 1000 events" in said, "a run of 100,000 events is too long", said)
 
 
 def try_pages(tries: Tries) -> None:

@@ -1,6 +1,6 @@
 #!/usr/bin/env python3
-"""Proves the crates that a program is made of, and links it: build.py TOP, with a line `NAME NEED ..` for each crate on standard input, that of
-the program first.
+"""Proves the crates that a program is made of, and links it: build.py TOP --for PARENT, with a line `NAME NEED ..` for each crate on standard
+input, that of the program first. It ends where the process PARENT, which waits for it, has ended.
 With `--minutes N` behind TOP it prints the minutes that this takes on N processors where nothing is proved, and does nothing.
 
 It is done by the toolchain's gate, in a copy that has those crates alone, without the edits that the prover has to refuse: as many crates
@@ -19,8 +19,6 @@ import time
 
 # Lines of sources to a second, where a crate was never measured.
 LINES_A_SECOND = 40
-# Of a part of the whole work that is smaller than this one, the time that it took tells nothing of the machine.
-ENOUGH = 0.05
 # What stands beside a crate's sources and is no part of the program.
 LEFT_OUT = ("out", "must-fail")
 # The signals that end a build.
@@ -38,6 +36,10 @@ def say(text):
 
 def minutes_of(seconds):
     return max(1, math.ceil(seconds / 60))
+
+
+def counted(number, word):
+    return f"{number} {word}{'s' * (number != 1)}"
 
 
 class Work:
@@ -84,15 +86,14 @@ class Work:
 
 
 class Build:
-    def __init__(self, top, needs):
+    def __init__(self, top, needs, parent):
         self.top = top
         self.needs = needs
+        self.parent = parent
         self.program = next(iter(needs))
         self.work = Work(top, needs, max(1, os.cpu_count() or 1))
         self.left = set(needs)
-        # those that no earlier run proved
-        self.new = set(needs)
-        self.started = self.last = time.time()
+        self.started = time.time()
         self.told = None
         self.waits = set()
         self.running = None
@@ -136,25 +137,16 @@ class Build:
         with open(self.log, encoding="utf-8", errors="replace") as log:
             for line in log.read().splitlines():
                 proved = PROVED.match(line)
-                if proved and proved[1] in self.left:
-                    self.left.remove(proved[1])
-                    self.last = time.time()
-                    if proved[2] != "proved":
-                        self.new.discard(proved[1])
+                if proved:
+                    self.left.discard(proved[1])
                 elif line.startswith("rt: ") and "waiting for" in line and line not in self.waits:
                     self.waits.add(line)
                     say(line)
 
-    def seconds_left(self):
-        """What the rest takes, at the speed of what was proved here so far."""
-        whole, rest = self.work.seconds_of(self.new), self.work.seconds_of(self.left)
-        done = whole - rest
-        scale = (self.last - self.started) / done if done > ENOUGH * whole else 1
-        return max(0, scale * rest - (time.time() - self.last))
-
     def tell(self):
-        left = minutes_of(self.seconds_left())
-        words = f"proved {len(self.needs) - len(self.left)} of {len(self.needs)}, about {left} minute{'s' * (left != 1)} left"
+        """Crates done, and the work that is left by what was measured: it says nothing of a machine that is busy with other things."""
+        minutes = minutes_of(sum(self.work.seconds[crate] for crate in self.left))
+        words = f"proved {len(self.needs) - len(self.left)} of {len(self.needs)}, about {counted(minutes, 'processor minute')} left"
         if words != self.told and self.left:
             say(words)
         self.told = words
@@ -167,13 +159,18 @@ class Build:
 
     def run(self):
         """Whether the program was built."""
+        minutes = minutes_of(sum(self.work.seconds.values()))
         say(
-            f"the program has to be proved and built first: {len(self.needs)} crates. Once, that takes about"
-            f" {minutes_of(self.work.seconds_of(self.needs))} minutes on {self.work.lanes} processors; after a change it takes less."
+            f"the program has to be proved and built first: {len(self.needs)} crates, some {counted(minutes, 'processor minute')}."
+            f" Once, on {counted(self.work.lanes, 'processor')} with nothing else to do that takes about"
+            f" {counted(minutes_of(self.work.seconds_of(self.needs)), 'minute')}; after a change it takes less."
         )
+        say("meanwhile: `lynx --unproved ..` answers in a minute or two, and `lynx draw` draws the transcripts in examples/ at once")
         self.copy()
         self.begin()
         while self.running.poll() is None:
+            if os.getppid() != self.parent:
+                return False
             self.read_log()
             self.tell()
             time.sleep(0.2)
@@ -206,15 +203,22 @@ def main():
     needs = {crate: others for crate, *others in (line.split() for line in sys.stdin)}
     for number in ENDING:
         signal.signal(number, interrupted)
-    top, *words = sys.argv[1:]
-    if words:
-        print(minutes_of(Work(top, needs, int(words[1])).seconds_of(needs)))
+    top, way, number = sys.argv[1:]
+    if not needs:
+        say(f"the program could not be built: {top}/crates.txt does not name it")
+        sys.exit(1)
+    if way == "--minutes":
+        print(minutes_of(Work(top, needs, int(number)).seconds_of(needs)))
         return
-    build = Build(top, needs)
     try:
-        is_built = build.run()
-    finally:
-        build.stop()
+        build = Build(top, needs, int(number))
+        try:
+            is_built = build.run()
+        finally:
+            build.stop()
+    except OSError as error:
+        say(f"the program could not be built: {error.filename or 'the toolchain'}: {error.strerror}")
+        is_built = False
     sys.exit(not is_built)
 
 

@@ -68,7 +68,7 @@ enum Outward {
     Waiting(Message),
     Matched(Message),
     Taken,
-    Reported,
+    Unreported,
 }
 
 #[derive(PartialEq)]
@@ -76,7 +76,7 @@ enum Inward {
     Idle,
     Posted,
     Matched(u32),
-    Reported,
+    Unreported,
 }
 
 struct End {
@@ -260,7 +260,7 @@ impl Service {
                 return Err(Refused);
             }
         };
-        self.end(opposite)?.inward = Inward::Reported;
+        self.end(opposite)?.inward = Inward::Unreported;
         for e in &message.carried {
             self.end(*e)?.place = Place::Owned(p);
             self.process(p)?.owned.insert(*e);
@@ -272,7 +272,7 @@ impl Service {
         let p = self.owner(on)?;
         let end = self.end(on)?;
         allowed(end.sent == n && matches!(end.outward, Outward::Taken))?;
-        end.outward = Outward::Reported;
+        end.outward = Outward::Unreported;
         self.reports(p, Report { on, inward: false, bytes: Vec::new(), enclosed: Vec::new() })
     }
 

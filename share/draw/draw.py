@@ -2,6 +2,7 @@
 """lynx draw TRANSCRIPT: puts a picture of a run, an SVG, on standard output. docs/PICTURES.md tells how to read it."""
 
 import os
+import re
 import sys
 
 sys.dont_write_bytecode = True
@@ -11,10 +12,9 @@ if sys.version_info < (3, 10):
 from picture import Picture  # noqa: E402
 from run import follow  # noqa: E402
 from texts import shown_ends  # noqa: E402
-from transcript import Refused, read  # noqa: E402
+from transcript import MOST_EVENTS, Refused, TooMany, read  # noqa: E402
 
 MOST_BYTES = 67_108_864
-MOST_EVENTS = 1_000
 MOST_ENDS = 200
 
 # The statuses are those of the program lynx.
@@ -30,47 +30,59 @@ class Stopped(Exception):
         self.text = text
 
 
-def read_file(name: str) -> str:
+def read_file(name: str) -> bytes:
     try:
         with open(name, "rb") as file:
             data = file.read(MOST_BYTES + 1)
-    except (FileNotFoundError, NotADirectoryError):
+    except FileNotFoundError:
         raise Stopped(NO_FILE, f"lynx: {name}: absent") from None
     except OSError:
         raise Stopped(READ_FAULT, f"lynx: {name}: read fault") from None
     if len(data) > MOST_BYTES:
         raise Stopped(TOO_BIG, f"lynx: {name}: too big")
-    return data.decode("latin-1")
+    return data
 
 
 def picture_of(name: str) -> str:
-    text = read_file(name)
+    data = read_file(name)
     try:
-        transcript = read(text)
+        transcript = read(data)
         story = follow(transcript)
+    except TooMany:
+        raise Stopped(TOO_BIG, f"lynx: {name}: too big: more than {MOST_EVENTS} events, the most that are drawn") from None
     except Refused as refused:
         raise Stopped(REFUSED, f"{name}:{refused.line}: transcript: {refused.why}") from None
-    events = len(transcript.entries)
-    if events > MOST_EVENTS:
-        raise Stopped(TOO_BIG, f"lynx: {name}: too big: {events} events, and a picture has at most {MOST_EVENTS}")
     ends = shown_ends(transcript, story, MOST_ENDS)
     if len(ends) > MOST_ENDS:
         raise Stopped(TOO_BIG, f"lynx: {name}: too big: {len(ends)} ends, and a picture has at most {MOST_ENDS}")
-    return Picture(transcript, story, ends, os.path.basename(name)).draw()
+    return Picture(transcript, story, ends, title_of(name)).draw()
+
+
+def title_of(name: str) -> str:
+    """The file's own name, where what an SVG can not hold is replaced."""
+    return re.sub(r"[^\t\x20-\uD7FF\uE000-\uFFFD\U00010000-\U0010FFFF]", "\uFFFD", os.path.basename(name))
+
+
+def is_text(word: str) -> bool:
+    """Whether the word is UTF-8; other bytes come as lone surrogates."""
+    return not re.search(r"[\uD800-\uDFFF]", word)
 
 
 def main(words: list[str]) -> int:
     try:
-        if len(words) != 1:
+        if len(words) != 1 or not is_text(words[0]):
             raise Stopped(USAGE, "lynx: usage\n  lynx draw TRANSCRIPT > PICTURE.svg")
         svg = picture_of(words[0])
     except Stopped as stopped:
-        sys.stderr.write(f"{stopped.text}\n")
+        if sys.stderr:
+            sys.stderr.write(f"{stopped.text}\n")
         return stopped.status
     return put(svg)
 
 
 def put(svg: str) -> int:
+    if sys.stdout is None:
+        return WRITE_FAULT
     try:
         sys.stdout.buffer.write(svg.encode("utf-8"))
         sys.stdout.flush()

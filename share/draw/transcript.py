@@ -6,6 +6,8 @@ from dataclasses import dataclass, field
 CAUSES = ("NoEnd", "Busy", "Dead", "EncloseNoEnd", "EncloseBusy", "EncloseSame", "Late", "NoActivity",
           "LinksFull", "EncloseTwice")
 MOST_KERNELS, MOST_PROCESSES, MOST_WIRES, MOST_BYTES = 8, 64, 4096, 256
+MOST_EVENTS = 1_000
+GREATEST_LINE = 4294967295
 
 NUMBER = r"(?:0|[1-9][0-9]{0,19})"
 END = rf"{NUMBER}\.{NUMBER}[ab]"
@@ -42,6 +44,29 @@ class Refused(Exception):
         self.why = why
 
 
+class TooMany(Exception):
+    """The transcript has more events than are drawn."""
+
+
+class Lines:
+    """The lines of a text, found one after the other as they are asked for."""
+
+    def __init__(self, data: bytes):
+        self.data = data
+        self.place = 0
+        self.found: list[str] = []
+
+    def at(self, number: int) -> str | None:
+        """The line with this number, from 0, without its line feed; None behind the last one."""
+        while number >= len(self.found) and self.place < len(self.data):
+            end = self.data.find(b"\n", self.place)
+            if end < 0:
+                raise Refused(len(self.found) + 1, "the line feed is missing at the end")
+            self.found.append(self.data[self.place:end].decode("latin-1"))
+            self.place = end + 1
+        return self.found[number] if number < len(self.found) else None
+
+
 @dataclass(slots=True)
 class Step:
     """A service line, without its dot."""
@@ -76,12 +101,9 @@ class Transcript:
     last_line: int = 0
 
 
-def read(text: str) -> Transcript:
-    """The transcript that this text is. Raises Refused for any other text."""
-    lines = text.split("\n")
-    if lines[-1] != "":
-        raise Refused(len(lines), "the line feed is missing at the end")
-    lines.pop()
+def read(data: bytes) -> Transcript:
+    """The transcript that this text is. Raises Refused for any other text, and TooMany at the first event that is one too many."""
+    lines = Lines(data)
     transcript = Transcript()
     at = read_header(transcript, lines)
     at = read_entries(transcript, lines, at)
@@ -90,7 +112,7 @@ def read(text: str) -> Transcript:
     return transcript
 
 
-def read_header(transcript: Transcript, lines: list[str]) -> int:
+def read_header(transcript: Transcript, lines: Lines) -> int:
     """Reads the lines up to the last wire, and tells which comes next."""
     first = line_at(lines, 0, "`transcript 1` or `transcript 2`")
     if first not in ("transcript 1", "transcript 2"):
@@ -101,7 +123,7 @@ def read_header(transcript: Transcript, lines: list[str]) -> int:
         raise Refused(2, "`kernels N` with 1 to 8 kernels belongs here")
     transcript.kernels = int(second[1])
     at = 2
-    while at < len(lines) and (found := HEADER.fullmatch(lines[at])):
+    while found := matched(HEADER, lines.at(at)):
         add_header_line(transcript, found, at + 1)
         at += 1
     return at
@@ -123,11 +145,10 @@ def add_header_line(transcript: Transcript, found: re.Match, number: int) -> Non
     transcript.wires.append((int(found["a"]), int(found["b"])))
 
 
-def read_entries(transcript: Transcript, lines: list[str], at: int) -> int:
+def read_entries(transcript: Transcript, lines: Lines, at: int) -> int:
     """Reads the entries with their service lines, and tells which line comes next."""
     before = (0, -1)
-    while at < len(lines):
-        line = lines[at]
+    while (line := lines.at(at)) is not None:
         if line.startswith(". "):
             add_step(transcript, line, at + 1)
         elif found := ENTRY.fullmatch(line):
@@ -135,6 +156,8 @@ def read_entries(transcript: Transcript, lines: list[str], at: int) -> int:
             if (entry.stamp, entry.kernel) <= before:
                 raise Refused(at + 1, "events stand in the order of their stamps, and then of their kernels")
             before = (entry.stamp, entry.kernel)
+            if len(transcript.entries) == MOST_EVENTS:
+                raise TooMany
             transcript.entries.append(entry)
         else:
             return at
@@ -206,18 +229,20 @@ def check_text(text: str, number: int) -> None:
         raise Refused(number, f"a message has at most {MOST_BYTES} bytes")
 
 
-def read_notes(transcript: Transcript, lines: list[str], at: int) -> int:
-    before = 0
-    while at < len(lines) and (found := NOTE.fullmatch(lines[at])):
+def read_notes(transcript: Transcript, lines: Lines, at: int) -> int:
+    before = -1
+    while found := matched(NOTE, lines.at(at)):
+        if int(found["line"]) > GREATEST_LINE:
+            raise Refused(at + 1, f"no script has a line past {GREATEST_LINE}")
         if int(found["line"]) <= before:
             raise Refused(at + 1, "notes stand in the order of the script's lines")
         before = int(found["line"])
-        transcript.notes.append(lines[at])
+        transcript.notes.append(found[0])
         at += 1
     return at
 
 
-def read_last(transcript: Transcript, lines: list[str], at: int) -> None:
+def read_last(transcript: Transcript, lines: Lines, at: int) -> None:
     found = LAST.fullmatch(line_at(lines, at, "`quiet`, `open` or `spent K`"))
     if not found:
         raise Refused(at + 1, "no line of a transcript that can stand here")
@@ -225,16 +250,22 @@ def read_last(transcript: Transcript, lines: list[str], at: int) -> None:
         check_kernel(transcript, found["kernel"], at + 1)
         if transcript.notes:
             raise Refused(at + 1, "`spent` stands behind no note")
-    if at + 1 < len(lines):
+    if lines.at(at + 1) is not None:
         raise Refused(at + 2, "the transcript has ended with the line before")
-    transcript.last = lines[at]
+    transcript.last = found[0]
     transcript.last_line = at + 1
 
 
-def line_at(lines: list[str], at: int, wanted: str) -> str:
-    if at >= len(lines):
+def matched(form: re.Pattern, line: str | None) -> re.Match | None:
+    """How a line, where there is one, has this form."""
+    return None if line is None else form.fullmatch(line)
+
+
+def line_at(lines: Lines, at: int, wanted: str) -> str:
+    line = lines.at(at)
+    if line is None:
         raise Refused(at + 1, f"the text ends here, and {wanted} is missing")
-    return lines[at]
+    return line
 
 
 def check_kernel(transcript: Transcript, name: str, number: int) -> None:

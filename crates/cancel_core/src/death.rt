@@ -1,14 +1,13 @@
-ghost use Rattle.std.specs.Prelude.{◌≡◌, false};
+ghost use Rattle.std.specs.Prelude.{◌≡◌};
 ghost use Rattle.kernel_step.specs.Enclosed.{AreEnclosed, IsReady};
 ghost use Rattle.charlotte_calls.specs.declared.names.EndId.{EndId};
-ghost use Rattle.end_table.specs.Place.{end_eq};
-ghost use Rattle.end_table.specs.Table.{entries, IsHere, IfHere};
+ghost use Rattle.end_table.specs.Table.{entries, IsHere, IfHere, KeepsOthers};
 ghost use Rattle.charlotte_calls.specs.declared.work.Work.{Work};
 ghost use Rattle.end_table.specs.declared.entry.Entry.TheVariants.{Here};
 ghost use Rattle.end_table.specs.declared.entry.Entry.{Entry};
 ghost use Rattle.kernel_step.specs.Actions.{enclosed_of, notices, notice_send, notice_receive, noticed_value, noticed_outward, noticed_inward, dead_receive_report};
-ghost use Rattle.kernel_step.specs.Progress.{progress, keeps, HasRoom, AddsAtMost};
-ghost use Rattle.kernel_step.specs.declared.bounds.TheConstants.{MOST_FORGETS};
+ghost use Rattle.kernel_step.specs.Progress.{progress, keeps, HasRoom, AddsAtMost, StaysWithin};
+ghost use Rattle.kernel_step.specs.Room.{one_report, room_of_dead_receive, room_of_notice};
 
 use crate::enclosed::hold_each;
 use charlotte_calls::{Answer, Cause, EndId, MovingPicture, Outcome, Report, Way, Work};
@@ -21,11 +20,10 @@ use kernel_step::{answer, forget, no_bytes, no_ends, report, send_report};
 pub fn notice(table: &mut Table, on: EndId, out: &mut Work)
     requires here { IsHere (entries table.old on) }
     requires ready { IsReady (entries table.old) on }
-    requires room { HasRoom MOST_FORGETS 2 1 0 out.old }
+    requires room { HasRoom room_of_notice out.old }
     ensures part { IfHere (entries table.old on) (λ v. progress (entries table.new) out.new
         ≡ notices table.old.kernel v (progress (entries table.old) out.old)) }
-    ensures room { AddsAtMost MOST_FORGETS 2 1 0 out.old out.new }
-    ensures kernel { table.new.kernel ≡ table.old.kernel }
+    ensures within { StaysWithin room_of_notice table.old table.new out.old out.new }
 {
     let kernel = table.kernel();
     let living = table.here(on);
@@ -45,8 +43,7 @@ fn note_death(table: &mut Table, on: EndId) -> Outward
     ensures was { IfHere (entries table.old on) (λ v. result ≡ v.outward) }
     ensures part { IfHere (entries table.old on) (λ v. (out : Work) → progress (entries table.new) out
         ≡ keeps on (Here (record v { value = noticed_value v.value; outward = noticed_outward v.outward; inward = noticed_inward v.inward })) (progress (entries table.old) out)) }
-    ensures others { (q : EndId) → end_eq on q ≡ false → entries table.new q ≡ entries table.old q }
-    ensures kernel { table.new.kernel ≡ table.old.kernel }
+    ensures kept { KeepsOthers table.old table.new on }
 {
     let was = table.outward(on);
     let living = table.here(on);
@@ -97,10 +94,9 @@ fn noticed_inward(inward: Inward) -> Inward
 #[tactic(auto, unfolding(kernel_step::specs::Actions::notice_send))]
 fn notice_send(table: &mut Table, on: EndId, holder: Holder, outward: Outward, out: &mut Work)
     requires enclosed { AreEnclosed (entries table.old) (enclosed_of outward) }
-    requires room { HasRoom 0 1 0 0 out.old }
+    requires room { HasRoom one_report out.old }
     ensures part { progress (entries table.new) out.new ≡ notice_send on holder outward (progress (entries table.old) out.old) }
-    ensures room { AddsAtMost 0 1 0 0 out.old out.new }
-    ensures kernel { table.new.kernel ≡ table.old.kernel }
+    ensures within { StaysWithin one_report table.old table.new out.old out.new }
 {
     if let Outward::Waiting { enclosed, .. } = outward {
         report(
@@ -115,9 +111,9 @@ fn notice_send(table: &mut Table, on: EndId, holder: Holder, outward: Outward, o
 /// NOTICE of a receive: a started one reports Destroyed, and a Cancel that waits is answered Dead.
 #[tactic(auto, unfolding(kernel_step::specs::Actions::notice_receive))]
 fn notice_receive(out: &mut Work, on: EndId, holder: Holder, inward: Inward)
-    requires { HasRoom 0 1 1 0 out.old }
+    requires { HasRoom room_of_dead_receive out.old }
     ensures part { (t : EndId → Entry) → progress t out.new ≡ notice_receive on holder inward (progress t out.old) }
-    ensures room { AddsAtMost 0 1 1 0 out.old out.new }
+    ensures room { AddsAtMost room_of_dead_receive out.old out.new }
 {
     match inward {
         Inward::Idle | Inward::Unreported => {}

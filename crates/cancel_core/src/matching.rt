@@ -6,7 +6,8 @@ ghost use Rattle.end_table.specs.Table.{entries, IfHere, IsHere, IsHereAnd};
 ghost use Rattle.cancel_core.specs.Sends.{IsWaiting};
 ghost use Rattle.end_table.specs.declared.entry.Outward.{Outward};
 ghost use Rattle.kernel_step.specs.Actions.{matches, match_waiting};
-ghost use Rattle.kernel_step.specs.Progress.{progress, HasRoom, AddsAtMost};
+ghost use Rattle.kernel_step.specs.Progress.{progress, HasRoom, StaysWithin};
+ghost use Rattle.kernel_step.specs.Room.{room_of_match};
 
 use crate::enclosed::leave_each;
 use charlotte_calls::{Bytes, Cargo, EndId, Ends, MovingPicture, ServiceStep, What, Work};
@@ -26,11 +27,10 @@ pub(crate) fn match_waiting(table: &mut Table, on: EndId, value: MovingPicture, 
     requires here { IsHere (entries table.old on) }
     requires same_end { value.end ≡ on }
     requires ready { IsReady (entries table.old) on }
-    requires room { HasRoom 1 0 0 1 out.old }
+    requires room { HasRoom room_of_match out.old }
     ensures part { IfHere (entries table.old on) (λ v. progress (entries table.new) out.new
         ≡ match_waiting table.old.kernel (record v { value = value }) v.outward (progress (entries table.old) out.old)) }
-    ensures room { AddsAtMost 1 0 0 1 out.old out.new }
-    ensures kernel { table.new.kernel ≡ table.old.kernel }
+    ensures within { StaysWithin room_of_match table.old table.new out.old out.new }
 {
     let living = table.here(on);
     let inward = living.inward();
@@ -48,11 +48,10 @@ fn match_waited(table: &mut Table, on: EndId, value: MovingPicture, out: &mut Wo
     requires here { IsHereAnd (entries table.old on) (λ v. IsWaiting v.outward) }
     requires same_end { value.end ≡ on }
     requires ready { IsReady (entries table.old) on }
-    requires room { HasRoom 1 0 0 1 out.old }
+    requires room { HasRoom room_of_match out.old }
     ensures part { IfHere (entries table.old on) (λ v. progress (entries table.new) out.new
         ≡ match_waiting table.old.kernel (record v { value = value }) v.outward (progress (entries table.old) out.old)) }
-    ensures room { AddsAtMost 1 0 0 1 out.old out.new }
-    ensures kernel { table.new.kernel ≡ table.old.kernel }
+    ensures within { StaysWithin room_of_match table.old table.new out.old out.new }
 {
     match table.outward(on) {
         Outward::Waiting { n, bytes, enclosed } => {
@@ -77,11 +76,10 @@ pub(crate) fn send_parcel(
     requires same_end { value.end ≡ on }
     requires enclosed { AreEnclosed (entries table.old) message.enclosed }
     requires apart { list_any (end_eq on) message.enclosed ≡ false }
-    requires room { HasRoom 1 0 0 1 out.old }
+    requires room { HasRoom room_of_match out.old }
     ensures part { IfHere (entries table.old on) (λ v. (o : Outward) → progress (entries table.new) out.new
         ≡ matches table.old.kernel (record v { value = value; outward = o }) message.n message.bytes message.enclosed (progress (entries table.old) out.old)) }
-    ensures room { AddsAtMost 1 0 0 1 out.old out.new }
-    ensures kernel { table.new.kernel ≡ table.old.kernel }
+    ensures within { StaysWithin room_of_match table.old table.new out.old out.new }
 {
     let Message { n, bytes, enclosed } = message;
     let at = table.kernel();

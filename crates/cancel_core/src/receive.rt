@@ -4,7 +4,8 @@ ghost use Rattle.end_table.specs.Table.{entries, IsHere, IsHereAnd, IfHere};
 ghost use Rattle.end_table.specs.declared.entry.Entry.{Entry};
 ghost use Rattle.kernel_step.specs.Calls.{posts, withdraws_receive};
 ghost use Rattle.cancel_core.specs.Receives.{IsPosted, IfPosted};
-ghost use Rattle.kernel_step.specs.Progress.{progress, HasRoom, AddsAtMost};
+ghost use Rattle.kernel_step.specs.Progress.{progress, HasRoom, AddsAtMost, StaysWithin};
+ghost use Rattle.kernel_step.specs.Room.{one_step, room_of_message, room_of_receive, room_of_unwanted};
 ghost use Rattle.kernel_step.specs.Rows.{asks, arrived_row, receives, takes, unwanted_row, frees};
 ghost use Rattle.kernel_step.specs.Actions.{resends_on_news};
 
@@ -13,19 +14,18 @@ use charlotte_calls::{
 };
 use end_table::{Holder, Inward, Lent, Table};
 use kernel_step::{
-    answer, is_withdrawing, keep_inward, learn_value, push_packet, push_step, receiver, report,
-    resend_on_news,
+    Site, answer, is_withdrawing, keep_inward, learn_value, push_packet, push_step, receiver,
+    report, resend_on_news,
 };
 
 /// Receive: a receive is started on an end, and the opposite end is asked for a message.
 #[tactic(auto, unfolding(kernel_step::specs::Calls::posts))]
 pub fn post(table: &mut Table, on: EndId, out: &mut Work)
     requires here { IsHere (entries table.old on) }
-    requires room { HasRoom 1 0 0 1 out.old }
+    requires room { HasRoom room_of_receive out.old }
     ensures part { IfHere (entries table.old on) (λ v. progress (entries table.new) out.new
         ≡ posts table.old.kernel v (progress (entries table.old) out.old)) }
-    ensures room { AddsAtMost 1 0 0 1 out.old out.new }
-    ensures kernel { table.new.kernel ≡ table.old.kernel }
+    ensures within { StaysWithin room_of_receive table.old table.new out.old out.new }
 {
     let mut value = table.here(on).value();
     let w = value.asked.saturating_add(1);
@@ -55,17 +55,15 @@ pub fn arrived(
     enclosed: Ends,
     out: &mut Work,
 )
-    requires room { HasRoom 3 1 1 1 out.old }
+    requires room { HasRoom room_of_message out.old }
     ensures part { progress (entries table.new) out.new
         ≡ arrived_row table.old.kernel n at hops bytes enclosed (asks w (entries table.old to)) (progress (entries table.old) out.old) }
-    ensures room { AddsAtMost 3 1 1 1 out.old out.new }
-    ensures kernel { table.new.kernel ≡ table.old.kernel }
+    ensures within { StaysWithin room_of_message table.old table.new out.old out.new }
 {
     if let Some(_) = receiver(table, to, w) {
         let message = Arrival {
             n,
-            at,
-            hops,
+            site: Site { at, hops },
             bytes,
             enclosed,
         };
@@ -73,12 +71,11 @@ pub fn arrived(
     }
 }
 
-/// A message that came in a parcel, with the kernel and the hops of the end that sent it.
+/// A message that came in a parcel, with the site of the end that sent it.
 #[derive(Drop)]
 struct Arrival {
     n: u32,
-    at: u8,
-    hops: u32,
+    site: Site,
     bytes: Bytes,
     enclosed: Ends,
 }
@@ -88,16 +85,14 @@ struct Arrival {
 #[inline(always)]
 fn receive(table: &mut Table, on: EndId, message: Arrival, out: &mut Work)
     requires here { IsHere (entries table.old on) }
-    requires room { HasRoom 3 1 1 1 out.old }
+    requires room { HasRoom room_of_message out.old }
     ensures part { IfHere (entries table.old on) (λ v. progress (entries table.new) out.new
-        ≡ arrived_row table.old.kernel message.n message.at message.hops message.bytes message.enclosed (Some v) (progress (entries table.old) out.old)) }
-    ensures room { AddsAtMost 3 1 1 1 out.old out.new }
-    ensures kernel { table.new.kernel ≡ table.old.kernel }
+        ≡ arrived_row table.old.kernel message.n message.site.at message.site.hops message.bytes message.enclosed (Some v) (progress (entries table.old) out.old)) }
+    ensures within { StaysWithin room_of_message table.old table.new out.old out.new }
 {
     let Arrival {
         n,
-        at,
-        hops,
+        site,
         bytes,
         enclosed,
     } = message;
@@ -124,8 +119,8 @@ fn receive(table: &mut Table, on: EndId, message: Arrival, out: &mut Work)
         at: kernel,
         hops: value.hops,
     };
-    push_packet(out, at, taken);
-    let news = learn_value(&mut value, at, hops);
+    push_packet(out, site.at, taken);
+    let news = learn_value(&mut value, site);
     resend_on_news(out, kernel, news, value, Inward::Unreported);
     keep_inward(table, on, value, Inward::Unreported);
 }
@@ -134,11 +129,10 @@ fn receive(table: &mut Table, on: EndId, message: Arrival, out: &mut Work)
 #[tactic(auto, unfolding(kernel_step::specs::Calls::withdraws_receive))]
 pub fn withdraw_receive(table: &mut Table, on: EndId, out: &mut Work)
     requires posted { IsHereAnd (entries table.old on) (λ v. IsPosted v.inward) }
-    requires room { HasRoom 1 0 0 1 out.old }
+    requires room { HasRoom room_of_receive out.old }
     ensures part { IfHere (entries table.old on) (λ v. IfPosted v.inward (λ w. progress (entries table.new) out.new
         ≡ withdraws_receive table.old.kernel w v (progress (entries table.old) out.old))) }
-    ensures room { AddsAtMost 1 0 0 1 out.old out.new }
-    ensures kernel { table.new.kernel ≡ table.old.kernel }
+    ensures within { StaysWithin room_of_receive table.old table.new out.old out.new }
 {
     let living = table.here(on);
     let value = living.value();
@@ -165,44 +159,42 @@ pub fn withdraw_receive(table: &mut Table, on: EndId, out: &mut Work)
 
 /// The row unwanted: the Cancel of the receive w is answered, where it waits.
 pub fn unwanted(table: &mut Table, to: EndId, w: u32, at: u8, hops: u32, out: &mut Work)
-    requires room { HasRoom 2 0 1 1 out.old }
+    requires room { HasRoom room_of_unwanted out.old }
     ensures part { progress (entries table.new) out.new
         ≡ unwanted_row table.old.kernel w at hops (entries table.old to) (progress (entries table.old) out.old) }
-    ensures room { AddsAtMost 2 0 1 1 out.old out.new }
-    ensures kernel { table.new.kernel ≡ table.old.kernel }
+    ensures within { StaysWithin room_of_unwanted table.old table.new out.old out.new }
 {
     if let Lent::Here(living) = table.lend(to) {
         if living.inward() == (Inward::Withdrawing { w }) {
-            free(table, to, at, hops, out);
+            free(table, to, Site { at, hops }, out);
         }
     }
 }
 
 /// The Cancel of an end's receive is answered: the receive never happened.
 #[tactic(auto, unfolding(kernel_step::specs::Rows::frees, kernel_step::specs::Actions::resends_on_news))]
-fn free(table: &mut Table, on: EndId, at: u8, hops: u32, out: &mut Work)
+fn free(table: &mut Table, on: EndId, site: Site, out: &mut Work)
     requires here { IsHere (entries table.old on) }
-    requires room { HasRoom 2 0 1 1 out.old }
+    requires room { HasRoom room_of_unwanted out.old }
     ensures part { IfHere (entries table.old on) (λ v. progress (entries table.new) out.new
-        ≡ frees table.old.kernel at hops v (progress (entries table.old) out.old)) }
-    ensures room { AddsAtMost 2 0 1 1 out.old out.new }
-    ensures kernel { table.new.kernel ≡ table.old.kernel }
+        ≡ frees table.old.kernel site.at site.hops v (progress (entries table.old) out.old)) }
+    ensures within { StaysWithin room_of_unwanted table.old table.new out.old out.new }
 {
     let kernel = table.kernel();
     let living = table.here(on);
     let mut value = living.value();
     push_step(out, ServiceStep::Free { on });
     answer(out, living.holder(), Answer::Ok);
-    let news = learn_value(&mut value, at, hops);
+    let news = learn_value(&mut value, site);
     resend_on_news(out, kernel, news, value, Inward::Idle);
     keep_inward(table, on, value, Inward::Idle);
 }
 
 /// Notes who takes a message.
 fn push_take(out: &mut Work, on: EndId, n: u32, late: bool, holder: Holder)
-    requires { HasRoom 0 0 0 1 out.old }
+    requires { HasRoom one_step out.old }
     ensures part { (t : EndId → Entry) → progress t out.new ≡ takes on n late holder (progress t out.old) }
-    ensures room { AddsAtMost 0 0 0 1 out.old out.new }
+    ensures room { AddsAtMost one_step out.old out.new }
 {
     if let Holder::Owner(p) = holder {
         push_step(

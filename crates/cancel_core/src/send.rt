@@ -5,7 +5,8 @@ ghost use Rattle.end_table.specs.Place.{end_eq};
 ghost use Rattle.end_table.specs.Table.{entries, IsHere, IfHere};
 ghost use Rattle.kernel_step.specs.Actions.{send_report};
 ghost use Rattle.kernel_step.specs.Calls.{starts_send, withdraws_send};
-ghost use Rattle.kernel_step.specs.Progress.{progress, HasRoom, AddsAtMost};
+ghost use Rattle.kernel_step.specs.Progress.{progress, HasRoom, StaysWithin};
+ghost use Rattle.kernel_step.specs.Room.{one_step, room_of_send, room_of_taken, room_of_want};
 ghost use Rattle.kernel_step.specs.Rows.{want_row, want_here, wants, awaits, taken_row, completes, unwant_row, unwant_here, voids};
 
 use crate::enclosed::hold_each;
@@ -13,7 +14,7 @@ use crate::matching::{Message, match_waiting, send_parcel};
 use charlotte_calls::{Bytes, EndId, Ends, Outcome, ServiceStep, Way, What, Work};
 use end_table::{Lent, Sending, Table};
 use kernel_step::{
-    enclosed_ends, keep_inward, keep_sending, keep_waiting, learn, learn_value, no_ends,
+    Site, enclosed_ends, keep_inward, keep_sending, keep_waiting, learn, learn_value, no_ends,
     push_packet, push_step, report, resend_on_news, send_report, sender,
 };
 
@@ -25,11 +26,10 @@ pub fn start_send(table: &mut Table, on: EndId, bytes: Bytes, enclose: Ends, out
     requires here { IsHere (entries table.old on) }
     requires enclosed { AreEnclosed (entries table.old) enclose }
     requires apart { list_any (end_eq on) enclose ≡ false }
-    requires room { HasRoom 1 0 0 2 out.old }
+    requires room { HasRoom room_of_send out.old }
     ensures part { IfHere (entries table.old on) (λ v. progress (entries table.new) out.new
         ≡ starts_send table.old.kernel bytes enclose v (progress (entries table.old) out.old)) }
-    ensures room { AddsAtMost 1 0 0 2 out.old out.new }
-    ensures kernel { table.new.kernel ≡ table.old.kernel }
+    ensures within { StaysWithin room_of_send table.old table.new out.old out.new }
 {
     let mut value = table.here(on).value();
     let n = value.sent.saturating_add(1);
@@ -60,11 +60,10 @@ pub fn start_send(table: &mut Table, on: EndId, bytes: Bytes, enclose: Ends, out
 pub fn withdraw_send(table: &mut Table, on: EndId, out: &mut Work)
     requires here { IsHere (entries table.old on) }
     requires ready { IsReady (entries table.old) on }
-    requires room { HasRoom 0 0 0 1 out.old }
+    requires room { HasRoom one_step out.old }
     ensures part { IfHere (entries table.old on) (λ v. progress (entries table.new) out.new
         ≡ withdraws_send v (progress (entries table.old) out.old)) }
-    ensures room { AddsAtMost 0 0 0 1 out.old out.new }
-    ensures kernel { table.new.kernel ≡ table.old.kernel }
+    ensures within { StaysWithin one_step table.old table.new out.old out.new }
 {
     let living = table.here(on);
     let value = living.value();
@@ -84,14 +83,13 @@ pub fn withdraw_send(table: &mut Table, on: EndId, out: &mut Work)
 /// The row want: the receive w of the opposite end asks for a message, unless it was matched or withdrawn.
 pub fn want(table: &mut Table, to: EndId, w: u32, at: u8, hops: u32, out: &mut Work)
     requires ready { IsReady (entries table.old) to }
-    requires room { HasRoom 3 0 0 1 out.old }
+    requires room { HasRoom room_of_want out.old }
     ensures part { progress (entries table.new) out.new
         ≡ want_row table.old.kernel to w at hops (entries table.old to) (progress (entries table.old) out.old) }
-    ensures room { AddsAtMost 3 0 0 1 out.old out.new }
-    ensures kernel { table.new.kernel ≡ table.old.kernel }
+    ensures within { StaysWithin room_of_want table.old table.new out.old out.new }
 {
     match table.lend(to) {
-        Lent::Here(_) => want_here(table, to, w, at, hops, out),
+        Lent::Here(_) => want_here(table, to, w, Site { at, hops }, out),
         Lent::Left { to: there, .. } => push_packet(out, there, What::Want { to, w, at, hops }),
         Lent::Nothing | Lent::Destroyed(_) => {}
     }
@@ -99,42 +97,40 @@ pub fn want(table: &mut Table, to: EndId, w: u32, at: u8, hops: u32, out: &mut W
 
 /// The receive w of the opposite end asks an end that is here.
 #[tactic(auto, unfolding(kernel_step::specs::Rows::want_here))]
-fn want_here(table: &mut Table, on: EndId, w: u32, at: u8, hops: u32, out: &mut Work)
+fn want_here(table: &mut Table, on: EndId, w: u32, site: Site, out: &mut Work)
     requires here { IsHere (entries table.old on) }
     requires ready { IsReady (entries table.old) on }
-    requires room { HasRoom 3 0 0 1 out.old }
+    requires room { HasRoom room_of_want out.old }
     ensures part { IfHere (entries table.old on) (λ v. progress (entries table.new) out.new
-        ≡ want_here table.old.kernel w at hops v (progress (entries table.old) out.old)) }
-    ensures room { AddsAtMost 3 0 0 1 out.old out.new }
-    ensures kernel { table.new.kernel ≡ table.old.kernel }
+        ≡ want_here table.old.kernel w site.at site.hops v (progress (entries table.old) out.old)) }
+    ensures within { StaysWithin room_of_want table.old table.new out.old out.new }
 {
     let value = table.here(on).value();
     if value.dead {
         return;
     }
     if value.served < w {
-        serve(table, on, w, at, hops, out);
+        serve(table, on, w, site, out);
     } else {
-        learn(table, on, at, hops, out);
+        learn(table, on, site, out);
     }
 }
 
 /// The receive w of the opposite end asks for a message: a waiting one is sent.
 #[tactic(auto, unfolding(kernel_step::specs::Rows::wants, kernel_step::specs::Actions::resends_on_news))]
-fn serve(table: &mut Table, on: EndId, w: u32, at: u8, hops: u32, out: &mut Work)
+fn serve(table: &mut Table, on: EndId, w: u32, site: Site, out: &mut Work)
     requires here { IsHere (entries table.old on) }
     requires ready { IsReady (entries table.old) on }
-    requires room { HasRoom 3 0 0 1 out.old }
+    requires room { HasRoom room_of_want out.old }
     ensures part { IfHere (entries table.old on) (λ v. progress (entries table.new) out.new
-        ≡ wants table.old.kernel w at hops v (progress (entries table.old) out.old)) }
-    ensures room { AddsAtMost 3 0 0 1 out.old out.new }
-    ensures kernel { table.new.kernel ≡ table.old.kernel }
+        ≡ wants table.old.kernel w site.at site.hops v (progress (entries table.old) out.old)) }
+    ensures within { StaysWithin room_of_want table.old table.new out.old out.new }
 {
     let kernel = table.kernel();
     let living = table.here(on);
     let mut value = living.value();
     let inward = living.inward();
-    let news = learn_value(&mut value, at, hops);
+    let news = learn_value(&mut value, site);
     let informed = value;
     value.want = w;
     match_waiting(table, on, value, out);
@@ -143,26 +139,24 @@ fn serve(table: &mut Table, on: EndId, w: u32, at: u8, hops: u32, out: &mut Work
 
 /// The row taken: the send n is completed, where it is matched.
 pub fn finished(table: &mut Table, to: EndId, n: u32, at: u8, hops: u32, out: &mut Work)
-    requires room { HasRoom 2 1 0 1 out.old }
+    requires room { HasRoom room_of_taken out.old }
     ensures part { progress (entries table.new) out.new
         ≡ taken_row table.old.kernel n at hops (awaits n (entries table.old to)) (progress (entries table.old) out.old) }
-    ensures room { AddsAtMost 2 1 0 1 out.old out.new }
-    ensures kernel { table.new.kernel ≡ table.old.kernel }
+    ensures within { StaysWithin room_of_taken table.old table.new out.old out.new }
 {
     if let Some(_) = sender(table, to, n) {
-        complete(table, to, n, at, hops, out);
+        complete(table, to, n, Site { at, hops }, out);
     }
 }
 
 /// The matched send of an end that is here is completed and reported.
 #[tactic(auto, unfolding(kernel_step::specs::Rows::completes, kernel_step::specs::Actions::resends_on_news))]
-fn complete(table: &mut Table, on: EndId, n: u32, at: u8, hops: u32, out: &mut Work)
+fn complete(table: &mut Table, on: EndId, n: u32, site: Site, out: &mut Work)
     requires here { IsHere (entries table.old on) }
-    requires room { HasRoom 2 1 0 1 out.old }
+    requires room { HasRoom room_of_taken out.old }
     ensures part { IfHere (entries table.old on) (λ v. progress (entries table.new) out.new
-        ≡ completes table.old.kernel n at hops v (progress (entries table.old) out.old)) }
-    ensures room { AddsAtMost 2 1 0 1 out.old out.new }
-    ensures kernel { table.new.kernel ≡ table.old.kernel }
+        ≡ completes table.old.kernel n site.at site.hops v (progress (entries table.old) out.old)) }
+    ensures within { StaysWithin room_of_taken table.old table.new out.old out.new }
 {
     let kernel = table.kernel();
     let living = table.here(on);
@@ -171,21 +165,20 @@ fn complete(table: &mut Table, on: EndId, n: u32, at: u8, hops: u32, out: &mut W
     let inward = living.inward();
     push_step(out, ServiceStep::Complete { on, n });
     report(out, holder, send_report(on, Outcome::Done, no_ends()));
-    let news = learn_value(&mut value, at, hops);
+    let news = learn_value(&mut value, site);
     resend_on_news(out, kernel, news, value, inward);
     keep_sending(table, on, value, Sending::Unreported);
 }
 
 /// The row unwant: the receive w of the opposite end is withdrawn, unless it was matched.
 pub fn unwant(table: &mut Table, to: EndId, w: u32, at: u8, hops: u32, out: &mut Work)
-    requires room { HasRoom 3 0 0 1 out.old }
+    requires room { HasRoom room_of_want out.old }
     ensures part { progress (entries table.new) out.new
         ≡ unwant_row table.old.kernel to w at hops (entries table.old to) (progress (entries table.old) out.old) }
-    ensures room { AddsAtMost 3 0 0 1 out.old out.new }
-    ensures kernel { table.new.kernel ≡ table.old.kernel }
+    ensures within { StaysWithin room_of_want table.old table.new out.old out.new }
 {
     match table.lend(to) {
-        Lent::Here(_) => withdraw(table, to, w, at, hops, out),
+        Lent::Here(_) => withdraw(table, to, w, Site { at, hops }, out),
         Lent::Left { to: there, .. } => push_packet(out, there, What::Unwant { to, w, at, hops }),
         Lent::Nothing | Lent::Destroyed(_) => {}
     }
@@ -193,34 +186,32 @@ pub fn unwant(table: &mut Table, to: EndId, w: u32, at: u8, hops: u32, out: &mut
 
 /// The receive w of the opposite end is withdrawn at an end that is here.
 #[tactic(auto, unfolding(kernel_step::specs::Rows::unwant_here))]
-fn withdraw(table: &mut Table, on: EndId, w: u32, at: u8, hops: u32, out: &mut Work)
+fn withdraw(table: &mut Table, on: EndId, w: u32, site: Site, out: &mut Work)
     requires here { IsHere (entries table.old on) }
-    requires room { HasRoom 3 0 0 1 out.old }
+    requires room { HasRoom room_of_want out.old }
     ensures part { IfHere (entries table.old on) (λ v. progress (entries table.new) out.new
-        ≡ unwant_here table.old.kernel w at hops v (progress (entries table.old) out.old)) }
-    ensures room { AddsAtMost 3 0 0 1 out.old out.new }
-    ensures kernel { table.new.kernel ≡ table.old.kernel }
+        ≡ unwant_here table.old.kernel w site.at site.hops v (progress (entries table.old) out.old)) }
+    ensures within { StaysWithin room_of_want table.old table.new out.old out.new }
 {
     let value = table.here(on).value();
     if value.dead {
         return;
     }
     if value.served < w {
-        void(table, on, w, at, hops, out);
+        void(table, on, w, site, out);
     } else {
-        learn(table, on, at, hops, out);
+        learn(table, on, site, out);
     }
 }
 
 /// The receive w of the opposite end is withdrawn: the opposite end is told.
 #[tactic(auto, unfolding(kernel_step::specs::Rows::voids, kernel_step::specs::Actions::resends_on_news))]
-fn void(table: &mut Table, on: EndId, w: u32, at: u8, hops: u32, out: &mut Work)
+fn void(table: &mut Table, on: EndId, w: u32, site: Site, out: &mut Work)
     requires here { IsHere (entries table.old on) }
-    requires room { HasRoom 3 0 0 1 out.old }
+    requires room { HasRoom room_of_want out.old }
     ensures part { IfHere (entries table.old on) (λ v. progress (entries table.new) out.new
-        ≡ voids table.old.kernel w at hops v (progress (entries table.old) out.old)) }
-    ensures room { AddsAtMost 3 0 0 1 out.old out.new }
-    ensures kernel { table.new.kernel ≡ table.old.kernel }
+        ≡ voids table.old.kernel w site.at site.hops v (progress (entries table.old) out.old)) }
+    ensures within { StaysWithin room_of_want table.old table.new out.old out.new }
 {
     let kernel = table.kernel();
     let living = table.here(on);
@@ -234,8 +225,8 @@ fn void(table: &mut Table, on: EndId, w: u32, at: u8, hops: u32, out: &mut Work)
         at: kernel,
         hops: value.hops,
     };
-    push_packet(out, at, unwanted);
-    let news = learn_value(&mut value, at, hops);
+    push_packet(out, site.at, unwanted);
+    let news = learn_value(&mut value, site);
     resend_on_news(out, kernel, news, value, inward);
     value.served = w;
     value.want = 0;

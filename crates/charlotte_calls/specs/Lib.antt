@@ -5,3 +5,5 @@ pub mod Moving
 pub mod Packets
 pub mod Program
 pub mod Ranges
+pub mod EndEq
+pub mod Causes

@@ -72,6 +72,11 @@ HasPlace t end = IsSome (lookup (end_eq end) t.places)
 abbrev pub KeepsPlaces : TableView → TableView → Type 0
 KeepsPlaces old new = (q : EndId) → HasPlace old q → HasPlace new q
 
+-- every other end keeps its entry, and the kernel's number stays
+pub record KeepsOthers (old new : TableView) (end : EndId) : Type 0 where
+  pub others : (q : EndId) → end_eq end q ≡ false → entries new q ≡ entries old q
+  pub kernel : new.kernel ≡ old.kernel
+
 -- this entry is put at an end: every other end keeps its entry, every place is kept, and the kernel's number stays
 pub record Puts (old new : TableView) (end : EndId) (x : Entry) : Type 0 where
   pub after : entries new ≡ put (entries old) end x

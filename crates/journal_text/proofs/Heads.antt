@@ -1,17 +1,11 @@
 -- The first of the heads of several queues.
-use Rattle.std.proofs.Common.{◌≡◌, ℕ, zero, suc, ◌+◌, ◌<◌, ◌≤◌, ◌⊎◌, inl, inr, Bool, true, false, cond, nat_le, List, [], ◌∷◌, length, get_or, Option, None, Some, refl, below_more, arith}
+use Rattle.std.proofs.Common.{◌≡◌, ℕ, zero, suc, ◌+◌, ◌<◌, ◌≤◌, ◌⊎◌, inl, inr, Bool, true, false, cond, nat_le, List, [], ◌∷◌, length, Option, None, Some, refl, below_more, arith}
 use Rattle.std.proofs.lemmas.Bool.Decides.{leb_tells}
-use Rattle.std.proofs.lemmas.List.{get_or-map}
-use Rattle.std.specs.declared.alloc.Global.{Global}
-use Rattle.std.specs.declared.collections.VecDeque.{VecDeque}
-use Rattle.journal_text.specs.Heads.{queued, entries_at, first_stamp, IsNoLater, earlier_head, IsFirstBelow}
+use Rattle.journal_text.specs.Heads.{entries_at, first_stamp, IsNoLater, earlier_head, IsFirstBelow}
 use Rattle.journal_text.specs.declared.merging.Head.{Head}
 use Rattle.kernel_world.specs.declared.entry.Entry.{Entry}
 
--- the entries of a kernel are those in its queue, and there are none of a kernel without a list
-pub entries_at-is : (queues : List (VecDeque Entry Global)) (k : ℕ) (d : VecDeque Entry Global) → k < length queues → entries_at (queued queues) k ≡ (get_or queues k d).items
-entries_at-is queues k d h = get_or-map (λ q. q.items) queues k d [] h
-
+-- there are no entries of a kernel without a list
 pub entries_at-none : (ls : List (List Entry)) (k : ℕ) → length ls ≤ k → entries_at ls k ≡ []
 entries_at-none [] k h = refl
 entries_at-none (l ∷ ls) zero h = absurd (omega arith)

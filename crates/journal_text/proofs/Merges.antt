@@ -3,13 +3,11 @@ use Rattle.std.proofs.Common.{◌≡◌, ℕ, zero, suc, map, ◌+◌, ◌<◌, 
 use Rattle.std.proofs.lemmas.Bool.Decides.{Decides-or, Decides-and, Decides-ltb, Decides-eqb, eqb_tells, leb_tells}
 use Rattle.std.proofs.lemmas.List.Sums.{sum_by-set}
 use Rattle.std.specs.List.{sum_by}
-use Rattle.std.specs.declared.alloc.Global.{Global}
-use Rattle.std.specs.declared.collections.VecDeque.{VecDeque}
 use Rattle.kernel_world.specs.declared.entry.Entry.{Entry}
 use Rattle.kernel_world.specs.declared.entry.Placed.{Placed}
 use Rattle.kernel_world.specs.Run.{stands_before, AreInOrder, of_kernel, IsMerge}
 use Rattle.journal_text.specs.Journal.{AreRising, placed_at}
-use Rattle.journal_text.specs.Heads.{queued, entries_at, first_stamp, IsNoLater, IsFirstBelow, StandsBeforeHeads, IsPopped}
+use Rattle.journal_text.specs.Heads.{entries_at, first_stamp, IsNoLater, IsFirstBelow, StandsBeforeHeads, IsPopped}
 use Rattle.journal_text.specs.declared.merging.Head.{Head}
 use Rattle.journal_text.proofs.Heads.{entries_at-none}
 use Rattle.journal_text.proofs.Rising.{AreRising-tail}
@@ -241,26 +239,6 @@ AreRising-popped before after placed popped rising k =
       | inl w ↦ subst (λ (i : ℕ). AreRising (entries_at after i)) (sym w.1) (AreRising-tail placed.entry (entries_at after placed.kernel) (subst (λ (xs : List Entry). AreRising xs) popped.entry (rising placed.kernel)))
       | inr w ↦ subst (λ (xs : List Entry). AreRising xs) (sym (popped.others k w.1)) (rising k)
     ]
-
--- the queues hold what the merge so far has not placed
-pub record IsMerging (journals : List (List Entry)) (queues : List (VecDeque Entry Global)) (merged : List Placed) : Type 0 where
-  pub few : length queues ≤ 8
-  pub rising : (k : ℕ) → AreRising (entries_at (queued queues) k)
-  pub so_far : IsSoFar (entries_at journals) (entries_at (queued queues)) merged
-
-pub IsMerging-more : (journals : List (List Entry)) (before after : List (VecDeque Entry Global)) (merged : List Placed) (placed : Placed) → length after ≡ length before → IsPopped (queued before) (queued after) placed → IsMerging journals before merged → IsMerging journals after (merged ++ placed ∷ [])
-IsMerging-more journals before after merged placed long popped merging =
-    let few : length before ≤ 8 = merging.few in
-    record {
-      few = omega arith;
-      rising = AreRising-popped (queued before) (queued after) placed popped merging.rising;
-      so_far = IsSoFar-popped (entries_at journals) (queued before) (queued after) merged placed popped (merging.rising placed.kernel) merging.so_far;
-    }
-
--- where no entry is left, the merge is whole
-pub IsMerging-end : (journals : List (List Entry)) (queues : List (VecDeque Entry Global)) (merged : List Placed) → ((k : ℕ) → entries_at (queued queues) k ≡ []) → IsMerging journals queues merged → IsMerge journals merged
-IsMerging-end journals queues merged nothing merging =
-    record { order = merging.so_far.order; entries = IsSoFar-end (entries_at journals) (entries_at (queued queues)) merged merging.so_far nothing }
 
 -- ---- the journal of a single kernel is the merge
 

@@ -1,5 +1,5 @@
 -- Journals whose stamps rise.
-use Rattle.std.proofs.Common.{ℕ, ◌<◌, ◌≤◌, arith, List, [], ◌∷◌, ◌++◌}
+use Rattle.std.proofs.Common.{ℕ, zero, suc, ◌<◌, ◌≤◌, arith, List, [], ◌∷◌, ◌++◌, take}
 use Rattle.journal_text.specs.Journal.{AreRising, IsAfterLast}
 use Rattle.kernel_world.specs.declared.entry.Entry.{Entry}
 
@@ -13,6 +13,18 @@ AreRising-push (f ∷ g ∷ es) e r a = (r.0, AreRising-push (g ∷ es) e r.1 a)
 pub AreRising-tail : (e : Entry) (es : List Entry) → AreRising (e ∷ es) → AreRising es
 AreRising-tail e [] r = tt
 AreRising-tail e (f ∷ es) r = r.1
+
+-- so do the first entries
+pub AreRising-take : (es : List Entry) (n : ℕ) → AreRising es → AreRising (take n es)
+AreRising-take es zero r = tt
+AreRising-take [] (suc n) r = tt
+AreRising-take (e ∷ []) (suc n) r = alone e n
+  where
+    alone : (e : Entry) (n : ℕ) → AreRising (e ∷ take n [])
+    alone e zero = tt
+    alone e (suc n) = tt
+AreRising-take (e ∷ f ∷ es) (suc zero) r = tt
+AreRising-take (e ∷ f ∷ es) (suc (suc n)) r = (r.0, AreRising-take (f ∷ es) (suc n) r.1)
 
 -- a later stamp is after the last entry too
 pub IsAfterLast-later : (es : List Entry) (s t : ℕ) → IsAfterLast es s → s ≤ t → IsAfterLast es t

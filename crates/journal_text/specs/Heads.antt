@@ -1,21 +1,10 @@
 -- What a merge has not placed yet: a queue of entries for each kernel.
 use Rattle.std.specs.Prelude.{◌≡◌, ◌≢◌, ℕ, ◌+◌, ◌<◌, ◌≤◌, IsTrue, List, [], ◌∷◌, length, map, slice_get, slice_index_or, Option, None, Some, MatchOption, nat_le, if◌then◌else◌}
 use Rattle.std.specs.List.{sum_by}
-use Rattle.std.specs.declared.alloc.Global.{Global}
-use Rattle.std.specs.declared.collections.VecDeque.{VecDeque}
-use Rattle.journal_text.specs.Journal.{Kept}
 use Rattle.journal_text.specs.declared.merging.Head.{Head}
 use Rattle.kernel_world.specs.Run.{stands_before}
 use Rattle.kernel_world.specs.declared.entry.Entry.{Entry}
 use Rattle.kernel_world.specs.declared.entry.Placed.{Placed}
-
--- the entries of the journals
-abbrev pub lists : List Kept → List (List Entry)
-lists journals = map (λ j. j.entries) journals
-
--- the entries in the queues
-abbrev pub queued : List (VecDeque Entry Global) → List (List Entry)
-queued queues = map (λ q. q.items) queues
 
 -- the entries of one kernel
 abbrev pub entries_at : List (List Entry) → ℕ → List Entry

@@ -3,12 +3,6 @@ use Rattle.std.specs.Prelude.{ℕ, ◌<◌, List, [], ◌∷◌}
 use Rattle.kernel_world.specs.declared.entry.Entry.{Entry}
 use Rattle.kernel_world.specs.declared.entry.Placed.{Placed}
 
--- what contracts see of a journal
-pub record Kept : Type 0 where
-  pub entries : List Entry
-  -- how many pushes will find memory
-  pub room : ℕ
-
 -- this stamp is greater than that of the last entry
 abbrev pub IsAfterLast : List Entry → ℕ → Type 0
 IsAfterLast [] stamp = Unit {0}

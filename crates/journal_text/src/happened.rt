@@ -44,8 +44,8 @@ pub(crate) fn push_asking(out: &mut Vec<u8>, p: Pid) -> Result<(), NoMemory>
     Ok(())
 }
 
-/// Appends a kernel before its packet.
-pub(crate) fn push_taking(out: &mut Vec<u8>, from: u8) -> Result<(), NoMemory>
+/// Appends what stands before a packet that is taken: the kernel that sent it, as ` from 1 `.
+pub fn push_taking(out: &mut Vec<u8>, from: u8) -> Result<(), NoMemory>
     ensures { OnOk result (out.new.items ≡ out.old.items ++ codes " from " ++ number_text from ++ codes " ") }
 {
     out.extend_from_slice(b" from ")?;

@@ -1,4 +1,4 @@
-//! Journals of kernels, their merge, and the transcript of a run.
+//! The text of entries and the transcript of a run; the order of a merge.
 #![tactic(auto)]
 
 mod call;
@@ -6,7 +6,6 @@ mod end_lines;
 mod entry_lines;
 mod happened;
 mod header_lines;
-mod journal;
 mod last;
 mod merging;
 mod packet;
@@ -15,12 +14,11 @@ mod step;
 
 pub use end_lines::{push_last_line, push_note_line};
 pub use entry_lines::push_head;
-pub use happened::{push_asked, push_step_line, push_took};
+pub use happened::{push_asked, push_step_line, push_taking, push_took};
 pub use header_lines::{push_number_line, push_process_line, push_wire_line};
-pub use journal::Journal;
 pub use kernel_world::{Entry, Happened, Placed};
 pub use last::{Last, ScriptNote};
-pub use merging::{Head, earlier, merge, merge_whole};
+pub use merging::{Head, earlier};
 pub use packet::value_fields;
 pub use print::{print_entry, print_header, print_picture, print_transcript};
 pub use step::cause_name;

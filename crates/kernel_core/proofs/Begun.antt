@@ -9,12 +9,13 @@ use Rattle.charlotte_calls.specs.declared.names.Pid.{Pid}
 use Rattle.charlotte_calls.specs.declared.work.Room.{Room}
 use Rattle.charlotte_calls.specs.declared.work.Work.{Work}
 use Rattle.end_table.specs.declared.entry.Entry.{Entry}
-use Rattle.kernel_event.specs.Room.{Adds, and_ends, room_of_call}
+use Rattle.kernel_event.specs.Room.{room_of_call}
 use Rattle.kernel_process.proofs.Closes.{spare-few}
 use Rattle.kernel_process.specs.Closing.{CanClose, HaveSpare, HaveSpareFor, IsBegun}
 use Rattle.kernel_process.specs.declared.event.Event.{Event}
 use Rattle.kernel_process.specs.declared.process.ControlBlock.{ControlBlock}
 use Rattle.kernel_step.specs.Progress.{AddsAtMost, HasRoom, means, progress}
+use Rattle.kernel_step.specs.Room.{and_ends, one_step}
 
 -- each call has a service step
 one-step : (c : Call) → 1 ≤ (room_of_call c).steps
@@ -47,7 +48,7 @@ begun-closes r own event begun =
 
 module _ (n : ℕ) (c : Call) (event : Event) (begun : IsBegun (and_ends n (room_of_call c)) 1 event) where
   -- there is room for a step
-  pub begun-step : HasRoom 0 0 0 1 event.work
+  pub begun-step : HasRoom one_step event.work
   begun-step =
       let some = one-step c in
       record { packets = omega (arith, begun.room.packets); reports = omega (arith, begun.room.reports); answers = omega (arith, begun.room.answers); steps = omega (arith, begun.room.steps) }
@@ -73,7 +74,7 @@ unfolding means progress
 step-answers t x old new part none = ap (λ d. d.answers) part ∙ none
 
 -- the event can close as before, but for the step
-pub step-closes : (a s : ℕ) (old : Event) (new : Work) → new.reports.items ≡ [] → new.answers.items ≡ [] → AddsAtMost 0 0 0 1 old.work new → CanClose a (s + 1) old
+pub step-closes : (a s : ℕ) (old : Event) (new : Work) → new.reports.items ≡ [] → new.answers.items ≡ [] → AddsAtMost one_step old.work new → CanClose a (s + 1) old
     → CanClose a s (record { work = new; answered = old.answered })
 step-closes a s old new reports answers adds closes =
     let no_reports : length new.reports.items ≡ 0 = ap length reports in
@@ -81,7 +82,7 @@ step-closes a s old new reports answers adds closes =
     record { nobody = closes.nobody; answered = omega (arith, closes.answered); steps = omega (arith, closes.steps, adds.steps, adds.steps_in_place) }
 
 -- a part that adds no more than there is room for leaves an event that can close
-pub part-closes : (r : Room) (own : ℕ) (old : Event) (new : Work) → IsBegun r own old → Adds r old.work new → CanClose own 0 (record { work = new; answered = old.answered })
+pub part-closes : (r : Room) (own : ℕ) (old : Event) (new : Work) → IsBegun r own old → AddsAtMost r old.work new → CanClose own 0 (record { work = new; answered = old.answered })
 part-closes r own old new begun adds =
     let no_reports : length old.work.reports.items ≡ 0 = ap length begun.reports in
     let no_answers : length old.work.answers.items ≡ 0 = ap length begun.answers in
@@ -92,7 +93,7 @@ part-closes r own old new begun adds =
     }
 
 -- and there is room for its reports
-pub part-spare : (r : Room) (own : ℕ) (old : Event) (new : Work) (xs : List ControlBlock) → IsBegun r own old → Adds r old.work new → (0 < r.reports → HaveSpare r.reports xs) → HaveSpareFor new.reports.items xs
+pub part-spare : (r : Room) (own : ℕ) (old : Event) (new : Work) (xs : List ControlBlock) → IsBegun r own old → AddsAtMost r old.work new → (0 < r.reports → HaveSpare r.reports xs) → HaveSpareFor new.reports.items xs
 part-spare r own old new xs begun adds room = by new.reports.items few
   where
     few : length new.reports.items ≤ r.reports
@@ -103,7 +104,7 @@ part-spare r own old new xs begun adds room = by new.reports.items few
     by (q ∷ rs) within = spare-few r.reports (q ∷ rs) xs within (room (omega arith))
 
 -- an event without more packets
-pub begun-plain : (r s : Room) (own : ℕ) (event : Event) → s ≡ r → IsBegun (record s { packets = s.packets + 9 * 0 }) own event → IsBegun r own event
+pub begun-plain : (r s : Room) (own : ℕ) (event : Event) → s ≡ r → IsBegun (and_ends 0 s) own event → IsBegun r own event
 begun-plain r s own event is begun = subst (λ z. IsBegun z own event) is (record {
   packets = begun.packets;
   reports = begun.reports;
@@ -115,5 +116,5 @@ begun-plain r s own event is begun = subst (λ z. IsBegun z own event) is (recor
 })
 
 -- one with the packets of so many ends
-pub begun-ends : (n m : ℕ) (r s : Room) (own : ℕ) (event : Event) → s ≡ r → m ≡ n → IsBegun (record s { packets = s.packets + 9 * m }) own event → IsBegun (and_ends n r) own event
+pub begun-ends : (n m : ℕ) (r s : Room) (own : ℕ) (event : Event) → s ≡ r → m ≡ n → IsBegun (and_ends m s) own event → IsBegun (and_ends n r) own event
 begun-ends n m r s own event is count begun = subst (λ z. IsBegun (and_ends n z) own event) is (subst (λ k. IsBegun (record s { packets = s.packets + 9 * k }) own event) count begun)

@@ -2,6 +2,7 @@
 use Rattle.std.proofs.Common.{◌≡◌, ℕ, zero, suc, Bool, true, false, ◌||◌, if◌then◌else◌, List, [], ◌∷◌, length, slice_get, map, All, Some, None, unwrap_or, refl, sym, ap, subst, ◌∙◌, arith}
 use Rattle.std.proofs.lemmas.Option.{slice_get_within, unwrap_or-slice_get}
 use Rattle.std.specs.List.{list_any}
+use Rattle.charlotte_calls.specs.Causes.{is_started}
 use Rattle.charlotte_calls.specs.declared.names.EndId.{EndId}
 use Rattle.charlotte_calls.specs.declared.names.Pid.{Pid}
 use Rattle.charlotte_calls.specs.declared.setting.Setting.{Setting}
@@ -10,7 +11,7 @@ use Rattle.end_table.specs.Place.{end_eq}
 use Rattle.end_table.specs.Table.{TableView, entries, IfHere, IsIdle}
 use Rattle.end_table.specs.declared.entry.Entry.{Entry}
 use Rattle.end_table.specs.declared.entry.Entry.TheVariants as entry
-use Rattle.kernel_step.specs.Calls.{inward_activity, is_active, is_started, outward_activity}
+use Rattle.kernel_step.specs.Calls.{inward_activity, is_active, outward_activity}
 use Rattle.kernel_step.specs.Start.{start_kernel, wired}
 use Rattle.kernel_core.specs.Consistent.{AreConsistent}
 use Rattle.kernel_sound.specs.Sound.{IsSound}

@@ -1,5 +1,7 @@
 -- A call that is not refused is its part, the end of the event, and what comes after.
-use Rattle.std.proofs.Common.{◌≡◌, ℕ, Bool, true, false, nat_eq, max, List, [], Option, Some, None, refl, sym, ap, ◌∙◌}
+use Rattle.std.proofs.Common.{◌≡◌, ℕ, Bool, true, false, true≢false, not, nat_eq, max, List, [], Option, Some, None, refl, sym, ap, ◌∙◌}
+use Rattle.charlotte_calls.proofs.Causes.{first_of-none}
+use Rattle.charlotte_calls.specs.Causes.{cancel_causes, destroy_causes, receive_causes, send_causes}
 use Rattle.charlotte_calls.specs.Names.{opposite}
 use Rattle.charlotte_calls.specs.Packets.{is_addressed}
 use Rattle.charlotte_calls.specs.declared.calls.Answer.TheVariants as answer
@@ -25,7 +27,7 @@ use Rattle.kernel_sound.proofs.Sends.{either-keeps, fold-keeps}
 use Rattle.kernel_sound.specs.Acts.{acts, acts_on, made_after, withdraws_posted}
 use Rattle.kernel_core.specs.Finishing.{finishes, turned, turned_by, turned_on}
 use Rattle.kernel_step.specs.Actions.{end_each, ends, ends_idle, ends_idle_here, enclosed_of, held, here, hold_each, leave_each, leaves_here, matches, tells_gone}
-use Rattle.kernel_step.specs.Calls.{encloses, ends_each, ends_here, makes, on_owned, posts, refusal, starts_send, withdraws_receive, withdraws_send}
+use Rattle.kernel_step.specs.Calls.{encloses, ends_each, ends_here, makes, posts, refusal, starts_send, withdraws_receive, withdraws_send, seen, sees}
 use Rattle.kernel_step.specs.Kernel.{Kernel, Outcome, begins, call_step, cancels, cancels_receive, closes, decides, granted_on, has_report, join_answers, join_reports, next_stamp, performs, process_of, stands, take_step, waits}
 use Rattle.kernel_step.specs.Progress.{Progress, keeps, means, sends}
 use Rattle.kernel_step.specs.Rows.{row}
@@ -192,16 +194,16 @@ module _ (p : Pid) (k made : ℕ) (mine : List EndId) (c : Call) (d : Progress) 
   acts-answers = adds.answers
 
 -- a call on an end that its process owns
-granted-acts : (p : Pid) (s : Kernel) (o : Option HereView) (part : HereView → Progress → Progress) (causes : HereView → List (Bool × Cause)) (d : Progress)
-    → on_owned o causes ≡ None → granted_on p s o part d ≡ stands p answer.Ok (closes s (acts_on o part d))
-granted-acts p s None part causes d granted = cc
-granted-acts p s (Some v) part causes d granted = refl
+granted-acts : (p : Pid) (s : Kernel) (o : Option HereView) (part : HereView → Progress → Progress) (d : Progress)
+    → not (seen o).owned ≡ false → granted_on p s o part d ≡ stands p answer.Ok (closes s (acts_on o part d))
+granted-acts p s None part d owns = absurd (true≢false owns)
+granted-acts p s (Some v) part d owns = refl
 
 -- a Cancel of a send
-cancels_send-acts : (p : Pid) (s : Kernel) (o : Option HereView) (causes : HereView → List (Bool × Cause)) (d : Progress)
-    → on_owned o causes ≡ None → cancels p s way.Outward o d ≡ stands p answer.Ok (closes s (acts_on o withdraws_send d))
-cancels_send-acts p s None causes d granted = cc
-cancels_send-acts p s (Some v) causes d granted = refl
+cancels_send-acts : (p : Pid) (s : Kernel) (o : Option HereView) (d : Progress)
+    → not (seen o).owned ≡ false → cancels p s way.Outward o d ≡ stands p answer.Ok (closes s (acts_on o withdraws_send d))
+cancels_send-acts p s None d owns = absurd (true≢false owns)
+cancels_send-acts p s (Some v) d owns = refl
 
 -- a Cancel of a receive, by what is started
 cancels_receive-acts : (p : Pid) (s : Kernel) (v : HereView) (i : Inward) (d : Progress)
@@ -238,10 +240,10 @@ pub performs-acts : (p : Pid) (s : Kernel) (mine : List EndId) (reported : Bool)
     → performs p s mine c (begins s stamp) ≡ finishes p s.number s.made c (closes (record (turned p c s) { made = made_after c s.made }) (acts p s.number s.made mine c (begins s stamp)))
 unfolding performs finishes acts turned means
 performs-acts p s mine reported call.Make stamp granted = refl
-performs-acts p s mine reported (call.Destroy on) stamp granted = granted-acts p s (owned p (s.table on)) _ _ (begins s stamp) granted
-performs-acts p s mine reported (call.Send on bytes xs) stamp granted = granted-acts p s (owned p (s.table on)) _ _ (begins s stamp) granted
-performs-acts p s mine reported (call.Receive on) stamp granted = granted-acts p s (owned p (s.table on)) _ _ (begins s stamp) granted
-performs-acts p s mine reported (call.Cancel on way.Outward) stamp granted = cancels_send-acts p s (owned p (s.table on)) _ (begins s stamp) granted
+performs-acts p s mine reported (call.Destroy on) stamp granted = granted-acts p s (owned p (s.table on)) _ (begins s stamp) (first_of-none (destroy_causes (sees p s.table on)) granted).0
+performs-acts p s mine reported (call.Send on bytes xs) stamp granted = granted-acts p s (owned p (s.table on)) _ (begins s stamp) (first_of-none (send_causes (sees p s.table) on xs) granted).0
+performs-acts p s mine reported (call.Receive on) stamp granted = granted-acts p s (owned p (s.table on)) _ (begins s stamp) (first_of-none (receive_causes (sees p s.table on)) granted).0
+performs-acts p s mine reported (call.Cancel on way.Outward) stamp granted = cancels_send-acts p s (owned p (s.table on)) (begins s stamp) (first_of-none (cancel_causes way.Outward (sees p s.table on)) granted).0
 performs-acts p s mine reported (call.Cancel on way.Inward) stamp granted =
     cancels_inward-acts p s (owned p (s.table on)) (begins s stamp)
     ∙ ap (λ z. closes z (acts p s.number s.made mine (call.Cancel on way.Inward) (begins s stamp))) (sym (turned_on-made p (owned p (s.table on)) s))

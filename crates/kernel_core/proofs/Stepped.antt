@@ -1,5 +1,6 @@
 -- The event of a call is the step of that call.
 use Rattle.std.proofs.Common.{◌≡◌, ℕ, ◌<◌, Bool, true, false, nat_le, if◌then◌else◌, rules, [], List, Option, Some, None, length, map, get_or, sym, ap, subst, ◌∙◌, refl}
+use Rattle.charlotte_calls.specs.Causes.{link_limit}
 use Rattle.charlotte_calls.specs.declared.calls.Answer.TheVariants as answer
 use Rattle.charlotte_calls.specs.declared.calls.Call.{Call}
 use Rattle.charlotte_calls.specs.declared.calls.Call.TheVariants as call
@@ -21,7 +22,7 @@ use Rattle.kernel_touched.specs.Touched.{touched_by, touched_of}
 use Rattle.kernel_process.specs.Parts.{process_state, process_at, with_parts, ended}
 use Rattle.kernel_core.specs.Stepping.{HasParts, IsStepOf, Begins, AreListedFor, IsRefusedFor}
 use Rattle.kernel_process.specs.declared.process.ControlBlock.{ControlBlock}
-use Rattle.kernel_step.specs.Calls.{IsCallWith, link_limit, refusal}
+use Rattle.kernel_step.specs.Calls.{IsCallWith, refusal}
 use Rattle.kernel_step.specs.Kernel.{Kernel, begins, closes, has_report, next_stamp, process_of, stands}
 use Rattle.kernel_step.specs.Progress.{progress, means}
 

@@ -9,7 +9,8 @@ use Rattle.kernel_core.specs.Stepping.{Begins, AreListedFor}
 use Rattle.kernel_core.specs.declared.state.Request.{Request}
 use Rattle.kernel_core.specs.declared.state.State.{State}
 use Rattle.kernel_event.specs.Places.{ArePlaced, IsPlacedFor, brought}
-use Rattle.kernel_event.specs.Room.{and_ends, room_of_call, room_of_packet}
+use Rattle.kernel_event.specs.Room.{room_of_call, room_of_packet}
+use Rattle.kernel_step.specs.Room.{and_ends}
 use Rattle.kernel_process.specs.Closing.{HaveSpare, HavePlace, IsBegun}
 use Rattle.kernel_process.specs.declared.event.Event.{Event}
 use Rattle.kernel_step.specs.Progress.{Progress}

@@ -1,4 +1,5 @@
 ghost use Rattle.std.specs.Prelude.{◌≡◌, ◌+◌, ◌<◌, ℕ, Bool, [], None, Some, length};
+ghost use Rattle.charlotte_calls.specs.Causes.{link_limit};
 ghost use Rattle.charlotte_calls.specs.declared.names.EndId.{EndId};
 ghost use Rattle.charlotte_calls.specs.declared.names.Pid.{Pid};
 ghost use Rattle.end_table.specs.Owned.{owned};
@@ -12,9 +13,10 @@ ghost use Rattle.kernel_process.specs.Steady.{StaysCalm, TakesAtMost};
 ghost use Rattle.kernel_core.specs.Consistent.{IsConsistent};
 ghost use Rattle.kernel_core.specs.Finishing.{finishes, finished, ending_of, turned, turned_on, turned_to};
 ghost use Rattle.kernel_core.specs.Started.{IsRequest, IsReadyToCall};
-ghost use Rattle.kernel_step.specs.Calls.{link_limit, refusal};
+ghost use Rattle.kernel_step.specs.Calls.{refusal};
 ghost use Rattle.kernel_step.specs.Kernel.{Kernel, closes};
 ghost use Rattle.kernel_step.specs.Progress.{progress, means, HasRoom};
+ghost use Rattle.kernel_step.specs.Room.{one_step};
 ghost use Rattle.kernel_touched.specs.Touched.{touched_by, IsCalmAfter};
 
 use crate::state::{Request, State};
@@ -42,7 +44,7 @@ enum Ending {
 pub(crate) fn close_step(state: &mut State, meant: ServiceStep, effect: &mut Effect)
     requires reports { state.old.event.work.reports.items ≡ [] }
     requires answers { state.old.event.work.answers.items ≡ [] }
-    requires room { HasRoom 0 0 0 1 state.old.event.work }
+    requires room { HasRoom one_step state.old.event.work }
     requires closes { CanClose 0 1 state.old.event }
     ensures part { (s : Kernel) → ended (with_parts (entries state.new.table) state.new.processes (record s { stamp = effect.new.stamp })) effect.new
         ≡ closes (with_parts (entries state.old.table) state.old.processes s) (means meant (progress (entries state.old.table) state.old.event.work)) }

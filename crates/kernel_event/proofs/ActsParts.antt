@@ -1,5 +1,6 @@
 -- What the parts of a call leave true of the table for the parts after them.
-use Rattle.std.proofs.Common.{◌≡◌, ℕ, ◌+◌, ◌*◌, Bool, true, false, nat_eq, List, [], ◌∷◌, Contains, zero, suc, Option, Some, None, IsSome, true≢false, refl, sym, ap, subst, ◌∙◌, arith}
+use Rattle.std.proofs.Common.{◌≡◌, ℕ, ◌+◌, Bool, true, false, nat_eq, List, [], ◌∷◌, Contains, zero, suc, Option, Some, None, IsSome, true≢false, refl, sym, ap, subst, ◌∙◌, arith}
+use Rattle.charlotte_calls.specs.Causes.{first_of, send_causes}
 use Rattle.charlotte_calls.specs.Names.{opposite, other_side}
 use Rattle.charlotte_calls.specs.declared.calls.Call.TheVariants as call
 use Rattle.charlotte_calls.specs.declared.names.EndId.{EndId}
@@ -20,15 +21,16 @@ use Rattle.end_table.specs.declared.entry.Entry.TheVariants as entry
 use Rattle.end_table.specs.declared.entry.HereView.{HereView}
 use Rattle.end_table.specs.declared.entry.Holder.TheVariants as holder
 use Rattle.kernel_sound.proofs.Goes.{GoesWell}
-use Rattle.kernel_sound.proofs.Needs.{IfHere-at, encloses-enclosed, encloses-on, granted-at, owned-here, send-apart, send-enclosed}
+use Rattle.kernel_sound.proofs.Needs.{IfHere-at, encloses-enclosed, encloses-on, owned-here, send-apart, send-enclosed}
 use Rattle.kernel_sound.proofs.Calls.{IfHere-ends, ends_each-well}
 use Rattle.kernel_sound.proofs.Sends.{only-same, tells_gone-only}
 use Rattle.kernel_sound.specs.Acts.{AreOfOne, acts, acts_on, withdraws}
 use Rattle.kernel_sound.specs.Sound.{IsSound}
 use Rattle.kernel_step.specs.Actions.{enclosed_of, end_each, ends, ends_idle, ends_idle_here, held, here, hold_each, tells_gone}
-use Rattle.kernel_step.specs.Calls.{encloses, ends_each, ends_here, first_of, on_owned, send_causes, starts_send}
+use Rattle.kernel_step.specs.Calls.{encloses, ends_each, ends_here, starts_send, sees}
 use Rattle.kernel_step.specs.Enclosed.{AreEnclosed}
 use Rattle.kernel_step.specs.Progress.{Progress, AddsAtMost, HasRoom, keeps, progress}
+use Rattle.kernel_step.specs.Room.{and_ends, no_room, room_of_end}
 
 -- both ends of a link are two
 pub opposite-apart : (e : EndId) → end_eq e (opposite e) ≡ false
@@ -151,18 +153,15 @@ module _ (k : ℕ) (x : EndId) (xs all : List EndId) (t0 t1 : EndId → Entry) (
       tables : t1 ≡ (ends_here k (here (t0 x)) (progress t0 out0)).table
       tables = ap (λ d. d.table) after
 
--- room for nine packets for each end, as far as it is needed
-pub HasRoom-nine : (all xs : ℕ) (old new : Work) → all ≡ xs + 1 → HasRoom (9 * all) 0 0 0 old → AddsAtMost 9 0 0 0 old new → HasRoom (9 * xs) 0 0 0 new
-HasRoom-nine all xs old new more room adds =
+-- room for the packets of an END for each end, as far as it is needed
+pub HasRoom-ends : (all xs : ℕ) (old new : Work) → all ≡ xs + 1 → HasRoom (and_ends all no_room) old → AddsAtMost room_of_end old new → HasRoom (and_ends xs no_room) new
+HasRoom-ends all xs old new more room adds =
     record { packets = omega arith; reports = omega arith; answers = omega arith; steps = omega arith }
 
 -- once the ends that it encloses are held by it
 module _ (p : Pid) (on : EndId) (xs slice : List EndId) (v : HereView) (old new : EndId → Entry) (out0 out1 : Work) (at : old on ≡ entry.Here v) (mine : Some v ≡ owned p (old on))
-    (granted : on_owned (owned p (old on)) (send_causes p old on xs) ≡ None) (own : (e : EndId) → IsOfEnd e (old e)) (is : slice ≡ xs) (same : out1 ≡ out0)
+    (granted : first_of (send_causes (sees p old) on xs) ≡ None) (own : (e : EndId) → IsOfEnd e (old e)) (is : slice ≡ xs) (same : out1 ≡ out0)
     (after : progress new out1 ≡ encloses on slice (progress old out0)) where
-  passes : first_of (send_causes p old on xs v) ≡ None
-  passes = granted-at p old on xs v mine granted
-
   -- they are these
   enclosed-these : progress new out1 ≡ encloses on xs (progress old out0)
   enclosed-these = after ∙ ap (λ ys. encloses on ys (progress old out0)) is
@@ -172,11 +171,11 @@ module _ (p : Pid) (on : EndId) (xs slice : List EndId) (v : HereView) (old new 
 
   -- they are idle
   pub enclosed-after : AreEnclosed new xs
-  enclosed-after = encloses-enclosed on xs old new out0 enclosed-now (send-enclosed p old on xs v passes)
+  enclosed-after = encloses-enclosed on xs old new out0 enclosed-now (send-enclosed p old on xs granted)
 
   -- the end itself is as it was
   pub on-after : new on ≡ entry.Here v
-  on-after = encloses-on on xs old new out0 enclosed-now own (send-apart p old on xs v passes) ∙ at
+  on-after = encloses-on on xs old new out0 enclosed-now own (send-apart p old on xs granted) ∙ at
 
   -- and the send that starts then is that of the call
   pub sent-after : (k k1 : ℕ) (bytes : List ℕ) (d : Progress) → k1 ≡ k → IfHere (new on) (λ u. d ≡ starts_send k1 bytes xs u (progress new out1))

@@ -5,9 +5,9 @@ ghost use Rattle.end_table.specs.declared.entry.Entry.{Entry};
 ghost use Rattle.end_table.specs.declared.entry.Entry.TheVariants.{Here};
 ghost use Rattle.kernel_event.specs.Places.{ArePlaced};
 ghost use Rattle.kernel_step.specs.Actions.{is_withdrawing};
-ghost use Rattle.kernel_step.specs.Progress.{progress, HasRoom, AddsAtMost};
+ghost use Rattle.kernel_step.specs.Progress.{progress, HasRoom, AddsAtMost, StaysWithin};
+ghost use Rattle.kernel_step.specs.Room.{one_step, room_of_back, room_of_stray_back};
 ghost use Rattle.kernel_step.specs.Rows.{awaits, back_row, means_back};
-ghost use Rattle.kernel_step.specs.declared.bounds.TheConstants.{MOST_ENDS, PACKETS_OF_BACK};
 
 use crate::carried::{arriving, is_here, passing};
 use crate::death::notice_first;
@@ -37,11 +37,10 @@ pub(crate) fn back(
 )
     requires placed { ArePlaced table.old moving.old }
     requires first { out.old.packets.items ≡ [] }
-    requires room { HasRoom PACKETS_OF_BACK 3 1 1 out.old }
+    requires room { HasRoom room_of_back out.old }
     ensures part { progress (entries table.new) out.new
         ≡ back_row table.old.kernel made returned.from returned.to returned.n moving.old (awaits returned.n (entries table.old returned.to)) (progress (entries table.old) out.old) }
-    ensures room { AddsAtMost PACKETS_OF_BACK 3 1 1 out.old out.new }
-    ensures kernel { table.new.kernel ≡ table.old.kernel }
+    ensures within { StaysWithin room_of_back table.old table.new out.old out.new }
 {
     match sender(table, returned.to, returned.n) {
         Some(_) => {
@@ -56,11 +55,10 @@ pub(crate) fn back(
 fn end_brought(table: &mut Table, made: u32, returned: Returned, moving: &mut Cargo, out: &mut Work)
     requires unmatched { awaits returned.n (entries table.old returned.to) ≡ None }
     requires placed { ArePlaced table.old moving.old }
-    requires room { HasRoom MOST_ENDS 1 0 1 out.old }
+    requires room { HasRoom room_of_stray_back out.old }
     ensures part { progress (entries table.new) out.new
         ≡ back_row table.old.kernel made returned.from returned.to returned.n moving.old None (progress (entries table.old) out.old) }
-    ensures room { AddsAtMost MOST_ENDS 1 0 1 out.old out.new }
-    ensures kernel { table.new.kernel ≡ table.old.kernel }
+    ensures within { StaysWithin room_of_stray_back table.old table.new out.old out.new }
 {
     let Returned { to, n, .. } = returned;
     let here = is_here(table, to);
@@ -71,9 +69,9 @@ fn end_brought(table: &mut Table, made: u32, returned: Returned, moving: &mut Ca
 
 /// What it means that a message comes back where its send is not matched: nothing where the end is here and no value came.
 fn mean_back(out: &mut Work, to: EndId, n: u32, here: bool, passed: &Cargo)
-    requires { HasRoom 0 0 0 1 out.old }
+    requires { HasRoom one_step out.old }
     ensures part { (t : EndId → Entry) → progress t out.new ≡ means_back to n here passed.now (progress t out.old) }
-    ensures room { AddsAtMost 0 0 0 1 out.old out.new }
+    ensures room { AddsAtMost one_step out.old out.new }
 {
     if here && passed.len() == 0 {
         return;
@@ -108,11 +106,10 @@ fn take_back(
     requires here { entries table.old view.value.end ≡ Here view }
     requires placed { ArePlaced table.old moving.old }
     requires first { out.old.packets.items ≡ [] }
-    requires room { HasRoom PACKETS_OF_BACK 3 1 1 out.old }
+    requires room { HasRoom room_of_back out.old }
     ensures part { progress (entries table.new) out.new
         ≡ back_row table.old.kernel made returned.from returned.to returned.n moving.old (Some view) (progress (entries table.old) out.old) }
-    ensures room { AddsAtMost PACKETS_OF_BACK 3 1 1 out.old out.new }
-    ensures kernel { table.new.kernel ≡ table.old.kernel }
+    ensures within { StaysWithin room_of_back table.old table.new out.old out.new }
 {
     let Returned { from, to, n } = returned;
     let dead = answers_cancel(&view);

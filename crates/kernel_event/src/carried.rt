@@ -5,16 +5,16 @@ ghost use Rattle.end_table.specs.Table.{entries};
 ghost use Rattle.end_table.specs.declared.entry.Holder.{Holder};
 ghost use Rattle.kernel_step.specs.Rows.{is_carried, passing, arriving, ends_in, is_here as here_now};
 ghost use Rattle.kernel_event.specs.Arrived.{with_here};
-ghost use Rattle.kernel_step.specs.declared.bounds.TheConstants.{MOST_ENDS};
 
 use charlotte_calls::{Cargo, EndId, Moving, MovingPicture};
 use end_table::{Lent, Table};
+use kernel_step::MOST_ENDS;
 
 /// The values that leave or end here, taken out of what a packet brings. Those that are not carried are spent.
 pub(crate) fn passing(table: &Table, made: u32, moving: &mut Cargo) -> Cargo
     ensures { result ≡ passing table.now.kernel made (entries table.now) moving.old }
 {
-    let _count = moving.len();
+    prove!(moving.len() <= MOST_ENDS as usize);
     let mut passed = Cargo::empty();
     add_passing(table, made, moving, &mut passed);
     passed
@@ -37,7 +37,7 @@ fn add_passing(table: &Table, made: u32, moving: &mut Cargo, passed: &mut Cargo)
 pub(crate) fn arriving(table: &Table, made: u32, moving: &mut Cargo) -> Cargo
     ensures { (h : Holder) → result ≡ arriving table.now.kernel made h (entries table.now) moving.old }
 {
-    let _count = moving.len();
+    prove!(moving.len() <= MOST_ENDS as usize);
     let mut came = Cargo::empty();
     add_arriving(table, made, moving, &mut came);
     came

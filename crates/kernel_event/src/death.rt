@@ -6,9 +6,9 @@ ghost use Rattle.end_table.specs.Table.{entries};
 ghost use Rattle.end_table.specs.declared.entry.Entry.{Entry};
 ghost use Rattle.end_table.specs.declared.entry.Entry.TheVariants.{Here};
 ghost use Rattle.kernel_step.specs.Enclosed.{IsReady};
-ghost use Rattle.kernel_step.specs.Progress.{progress, sends, HasRoom, AddsAtMost};
+ghost use Rattle.kernel_step.specs.Progress.{progress, sends, HasRoom, AddsAtMost, StaysWithin};
+ghost use Rattle.kernel_step.specs.Room.{one_packet, room_of_first_notice};
 ghost use Rattle.kernel_step.specs.Rows.{notices_first};
-ghost use Rattle.kernel_step.specs.declared.bounds.TheConstants.{PACKETS_OF_NOTICE};
 
 use cancel_core::notice;
 use charlotte_calls::{EndId, What, Work};
@@ -21,11 +21,10 @@ use kernel_step::push_packet;
 pub(crate) fn notice_first(table: &mut Table, from: u8, view: HereView, out: &mut Work)
     requires here { entries table.old view.value.end ≡ Here view }
     requires ready { IsReady (entries table.old) view.value.end }
-    requires room { HasRoom PACKETS_OF_NOTICE 2 1 0 out.old }
+    requires room { HasRoom room_of_first_notice out.old }
     ensures part { progress (entries table.new) out.new
         ≡ notices_first table.old.kernel from view (progress (entries table.old) out.old) }
-    ensures room { AddsAtMost PACKETS_OF_NOTICE 2 1 0 out.old out.new }
-    ensures kernel { table.new.kernel ≡ table.old.kernel }
+    ensures within { StaysWithin room_of_first_notice table.old table.new out.old out.new }
 {
     if view.value.dead {
         return;
@@ -36,9 +35,9 @@ pub(crate) fn notice_first(table: &mut Table, from: u8, view: HereView, out: &mu
 
 /// The destroyed opposite of an end is told, at a kernel, that its destruction is known.
 pub(crate) fn tell_seen(out: &mut Work, at: u8, on: EndId)
-    requires { HasRoom 1 0 0 0 out.old }
+    requires { HasRoom one_packet out.old }
     ensures part { (t : EndId → Entry) → progress t out.new ≡ sends at (packet.GoneSeen (opposite on)) (progress t out.old) }
-    ensures room { AddsAtMost 1 0 0 0 out.old out.new }
+    ensures room { AddsAtMost one_packet out.old out.new }
 {
     let to = on.opposite();
     push_packet(out, at, What::GoneSeen { to });

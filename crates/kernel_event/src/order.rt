@@ -3,6 +3,7 @@ ghost use Rattle.charlotte_calls.specs.declared.names.EndId.{EndId};
 ghost use Rattle.end_table.specs.declared.entry.Entry.{Entry};
 ghost use Rattle.kernel_event.specs.Order.{put_behind};
 ghost use Rattle.kernel_step.specs.Progress.{progress, AddsAtMost};
+ghost use Rattle.kernel_step.specs.Room.{no_room};
 
 use charlotte_calls::{Packet, Work};
 
@@ -11,7 +12,7 @@ pub(crate) fn put_behind(out: &mut Work, first: usize, upto: usize)
     requires first { first ≤ upto }
     requires upto { upto ≤ vec_len out.old.packets }
     ensures part { (t : EndId → Entry) → progress t out.new ≡ put_behind first upto (progress t out.old) }
-    ensures room { AddsAtMost 0 0 0 0 out.old out.new }
+    ensures room { AddsAtMost no_room out.old out.new }
 {
     rotate_front(out.packets.as_mut_slice(), first, upto);
 }

@@ -6,10 +6,10 @@ ghost use Rattle.end_table.specs.declared.entry.Entry.{Entry};
 ghost use Rattle.end_table.specs.declared.entry.Entry.TheVariants.{Here};
 ghost use Rattle.kernel_step.specs.Enclosed.{IsReady};
 ghost use Rattle.kernel_event.specs.Places.{ArePlaced, brought};
-ghost use Rattle.kernel_event.specs.Room.{room_of_packet, Fits, Adds};
-ghost use Rattle.kernel_step.specs.Progress.{progress, HasRoom, AddsAtMost};
+ghost use Rattle.kernel_event.specs.Room.{room_of_packet};
+ghost use Rattle.kernel_step.specs.Progress.{progress, HasRoom, StaysWithin};
+ghost use Rattle.kernel_step.specs.Room.{room_of_gone};
 ghost use Rattle.kernel_step.specs.Rows.{row, gone_row, gone_here};
-ghost use Rattle.kernel_step.specs.declared.bounds.TheConstants.{PACKETS_OF_NOTICE};
 
 use crate::back::{Returned, back};
 use crate::death::{notice_first, tell_seen};
@@ -17,7 +17,7 @@ use crate::parcel::{Head, parcel};
 use cancel_core::{finished, unwant, unwanted, want};
 use charlotte_calls::{EndId, ServiceStep, What, Work};
 use end_table::{Entry, HereView, Table};
-use kernel_step::{is_withdrawing, push_packet, push_step};
+use kernel_step::{Site, is_withdrawing, push_packet, push_step};
 use move_core::{forget, gone_seen, known, moved};
 
 /// What a kernel that has made so many links does with a packet from a kernel. The values that the packet brings are taken out of it.
@@ -26,11 +26,10 @@ pub fn row(table: &mut Table, made: u32, from: u8, what: &mut What, out: &mut Wo
     requires ready { (e : EndId) → IsReady (entries table.old) e }
     requires placed { ArePlaced table.old (brought what.old) }
     requires first { out.old.packets.items ≡ [] }
-    requires room { Fits (room_of_packet what.old) out.old }
+    requires room { HasRoom (room_of_packet what.old) out.old }
     ensures part { progress (entries table.new) out.new
         ≡ row table.old.kernel made from (what_picture what.old) (progress (entries table.old) out.old) }
-    ensures room { Adds (room_of_packet what.old) out.old out.new }
-    ensures kernel { table.new.kernel ≡ table.old.kernel }
+    ensures within { StaysWithin (room_of_packet what.old) table.old table.new out.old out.new }
 {
     match what {
         What::Want { to, w, at, hops } => want(table, *to, *w, *at, *hops, out),
@@ -49,8 +48,10 @@ pub fn row(table: &mut Table, made: u32, from: u8, what: &mut What, out: &mut Wo
                 to: *to,
                 n: *n,
                 w: *w,
-                at: *at,
-                hops: *hops,
+                site: Site {
+                    at: *at,
+                    hops: *hops,
+                },
             };
             parcel(table, made, head, bytes, moving, out)
         }
@@ -74,11 +75,10 @@ pub fn row(table: &mut Table, made: u32, from: u8, what: &mut What, out: &mut Wo
 /// The row gone: the opposite end, at kernel `at`, is destroyed.
 fn gone(table: &mut Table, to: EndId, at: u8, out: &mut Work)
     requires ready { IsReady (entries table.old) to }
-    requires room { HasRoom PACKETS_OF_NOTICE 2 1 1 out.old }
+    requires room { HasRoom room_of_gone out.old }
     ensures part { progress (entries table.new) out.new
         ≡ gone_row table.old.kernel to at (entries table.old to) (progress (entries table.old) out.old) }
-    ensures room { AddsAtMost PACKETS_OF_NOTICE 2 1 1 out.old out.new }
-    ensures kernel { table.new.kernel ≡ table.old.kernel }
+    ensures within { StaysWithin room_of_gone table.old table.new out.old out.new }
 {
     match table.look(to) {
         Entry::Nothing => {}
@@ -96,11 +96,10 @@ fn gone(table: &mut Table, to: EndId, at: u8, out: &mut Work)
 fn gone_here(table: &mut Table, view: HereView, at: u8, out: &mut Work)
     requires here { entries table.old view.value.end ≡ Here view }
     requires ready { IsReady (entries table.old) view.value.end }
-    requires room { HasRoom PACKETS_OF_NOTICE 2 1 1 out.old }
+    requires room { HasRoom room_of_gone out.old }
     ensures part { progress (entries table.new) out.new
         ≡ gone_here table.old.kernel at view (progress (entries table.old) out.old) }
-    ensures room { AddsAtMost PACKETS_OF_NOTICE 2 1 1 out.old out.new }
-    ensures kernel { table.new.kernel ≡ table.old.kernel }
+    ensures within { StaysWithin room_of_gone table.old table.new out.old out.new }
 {
     let on = view.value.end;
     if view.value.dead {

@@ -8,12 +8,12 @@ use Rattle.kernel_nodes.specs.Nodes.{world_of}
 use Rattle.transcript_reading.specs.Order.{Place, Start, Version, Processes, Wires, Entry, Noted, Over, next}
 use Rattle.transcript_reading.specs.declared.line.LineKind.{LineKind}
 use Rattle.transcript_reading.specs.declared.line.LineKind.TheVariants as line
-use Rattle.replay_lines.specs.Course.{Course, IsOver, IsRest, IsRestOfNotes, Refutes, course_start, step_kinds}
-use Rattle.replay_lines.specs.Header.{IsHeader, IsToldAt, is_body, tells}
-use Rattle.replay_lines.specs.Replay.{IsDifference, IsReplay, IsTrueLast}
-use Rattle.replay_lines.proofs.Header.{start-begins, start-left}
-use Rattle.replay_lines.proofs.Places.{IsBehind, IsNoteOrEnd, behind-entry, behind-is, behind-note, behind-over, behind-start, behind-version, told-more}
-use Rattle.replay_lines.proofs.Rest.{leads-end, leads-note, leads-notes, leads-notes-end, refutes-due, refutes-end, refutes-notes-end}
+use Rattle.transcript_replay.specs.Course.{Course, IsOver, IsRest, IsRestOfNotes, Refutes, course_start, step_kinds}
+use Rattle.transcript_replay.specs.Header.{IsHeader, IsToldAt, is_body, tells}
+use Rattle.transcript_replay.specs.Replay.{IsDifference, IsReplay, IsTrueLast}
+use Rattle.transcript_replay.proofs.Header.{start-begins, start-left}
+use Rattle.transcript_replay.proofs.Places.{IsBehind, IsNoteOrEnd, behind-entry, behind-is, behind-note, behind-over, behind-start, behind-version, told-more}
+use Rattle.transcript_replay.proofs.Rest.{leads-end, leads-note, leads-notes, leads-notes-end, refutes-due, refutes-end, refutes-notes-end}
 use Rattle.kernel_journal.specs.At.{AreLeft, HasMet, IsAmongEntries, IsAt, MayFollow, Meets, Passed, setting_of}
 use Rattle.kernel_journal.specs.Body.{Differs, Fails, IsReady, Passes, course_of}
 use Rattle.kernel_journal.specs.Faults.{IsStopAt}

@@ -20,11 +20,11 @@ use Rattle.kernel_world.specs.declared.entry.Happened.TheVariants.{Asked, Took}
 use Rattle.kernel_world.specs.World.{World, Event, Calls, Takes, first_or, happens, kernel_of, nothing_sent, outcome}
 use Rattle.transcript_reading.specs.Kinds.{happened_kind, shown_step, without_stamp}
 use Rattle.transcript_reading.specs.declared.line.LineKind.TheVariants as line
-use Rattle.replay_lines.specs.Course.{Leads, Refutes, comes_after, goes_on}
-use Rattle.replay_lines.proofs.Rest.{event_kind, leads-entry, refutes-call, refutes-due, refutes-entry, refutes-many, refutes-taking, stamp_of}
+use Rattle.transcript_replay.specs.Course.{Leads, Refutes, comes_after, goes_on}
+use Rattle.transcript_replay.proofs.Rest.{event_kind, leads-entry, refutes-call, refutes-due, refutes-entry, refutes-many, refutes-taking, stamp_of}
 use Rattle.journal_text.specs.declared.last.Last.{Last}
 use Rattle.journal_text.specs.declared.last.Last.TheVariants.{Quiet, Unsettled}
-use Rattle.replay_lines.specs.Replay.{IsTrueLast}
+use Rattle.transcript_replay.specs.Replay.{IsTrueLast}
 use Rattle.kernel_journal.specs.Body.{CanCall, Fails, Goes, IsNoted, IsReady, StopsAt, course_of}
 use Rattle.kernel_journal.specs.declared.fault.Stop.{Stop}
 use Rattle.kernel_journal.specs.declared.fault.Stop.TheVariants as stop

@@ -14,7 +14,7 @@ use Rattle.kernel_journal.specs.Faults.{GivesLast, IsFaultAt, IsFirstDifference,
 use Rattle.kernel_journal.specs.declared.fault.ReplayFault.{ReplayFault}
 use Rattle.kernel_journal.specs.declared.fault.ReplayFault.TheVariants as fault
 use Rattle.kernel_journal.specs.declared.lines.Replay.{Replay}
-use Rattle.replay_lines.specs.Replay.{IsReplay}
+use Rattle.transcript_replay.specs.Replay.{IsReplay}
 
 numbered-kinds : (n : ℕ) (ks : List LineKind) → kinds_in (numbered n ks) ≡ ks
 numbered-kinds n [] = refl

@@ -10,8 +10,8 @@ use Rattle.kernel_nodes.specs.Nodes.{AreNodes, Happens, IsFirst, world_of}
 use Rattle.kernel_nodes.specs.declared.nodes.Nodes.{Nodes}
 use Rattle.kernel_nodes.specs.declared.nodes.Noted.{Noted}
 use Rattle.kernel_world.specs.World.{Takes}
-use Rattle.replay_lines.specs.Course.{Course, IsRest, Leads, Refutes, comes_after}
-use Rattle.replay_lines.proofs.Rest.{leads-step}
+use Rattle.transcript_replay.specs.Course.{Course, IsRest, Leads, Refutes, comes_after}
+use Rattle.transcript_replay.proofs.Rest.{leads-step}
 use Rattle.transcript_reader.specs.Lines.{Unread}
 use Rattle.transcript_reader.specs.Next.{Reads}
 use Rattle.transcript_reader.specs.declared.guess.PacketAhead.{PacketAhead}

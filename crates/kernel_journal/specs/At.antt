@@ -5,9 +5,9 @@ use Rattle.journal_text.specs.declared.last.Last.{Last}
 use Rattle.transcript_reading.specs.Order.{Place, Entry, Noted, Over}
 use Rattle.transcript_reading.specs.declared.line.LineKind.{LineKind}
 use Rattle.kernel_journal.specs.Body.{IsReady, Passes, course_of}
-use Rattle.replay_lines.specs.Course.{Course, IsOver, IsRest, IsRestOfNotes}
-use Rattle.replay_lines.specs.Header.{IsToldAt}
-use Rattle.replay_lines.specs.Replay.{IsReplay}
+use Rattle.transcript_replay.specs.Course.{Course, IsOver, IsRest, IsRestOfNotes}
+use Rattle.transcript_replay.specs.Header.{IsToldAt}
+use Rattle.transcript_replay.specs.Replay.{IsReplay}
 use Rattle.kernel_journal.specs.declared.body.Body.{Body}
 use Rattle.kernel_journal.specs.declared.draft.Draft.{Draft}
 use Rattle.kernel_journal.specs.declared.lines.Replay.{Replay}

@@ -14,8 +14,8 @@ use Rattle.kernel_world.specs.Run.{IsCallOf}
 use Rattle.kernel_world.specs.World.{World}
 use Rattle.transcript_reading.specs.declared.line.LineKind.{LineKind}
 use Rattle.transcript_reading.specs.declared.line.LineKind.TheVariants as line
-use Rattle.replay_lines.specs.Course.{Course, comes_after, Leads, Refutes}
-use Rattle.replay_lines.specs.Replay.{IsTrueLast}
+use Rattle.transcript_replay.specs.Course.{Course, comes_after, Leads, Refutes}
+use Rattle.transcript_replay.specs.Replay.{IsTrueLast}
 use Rattle.kernel_journal.specs.declared.body.Body.{Body}
 use Rattle.kernel_journal.specs.declared.fault.Stop.{Stop}
 use Rattle.kernel_journal.specs.declared.fault.Stop.TheVariants as stop

@@ -6,7 +6,7 @@ use Rattle.charlotte_calls.specs.declared.picture.PictureWhat.{PictureWhat}
 use Rattle.charlotte_calls.specs.declared.setting.Setting.{Setting}
 use Rattle.kernel_nodes.specs.Nodes.{IsFirst, world_of}
 use Rattle.kernel_nodes.specs.declared.nodes.Nodes.{Nodes}
-use Rattle.replay_lines.specs.Course.{Refutes}
+use Rattle.transcript_replay.specs.Course.{Refutes}
 use Rattle.transcript_reader.specs.Lines.{Unread, next_line}
 use Rattle.transcript_reader.specs.Next.{Reads}
 use Rattle.transcript_reader.specs.declared.guess.PacketAhead.{PacketAhead}

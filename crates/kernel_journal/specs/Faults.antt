@@ -3,7 +3,7 @@ use Rattle.std.specs.Prelude.{◌≡◌, ℕ, List, ◌∷◌, ◌++◌, map, Re
 use Rattle.journal_text.specs.declared.last.Last.{Last}
 use Rattle.transcript_reading.specs.declared.line.LineKind.{LineKind}
 use Rattle.transcript_reader.specs.declared.line.Line.{Line}
-use Rattle.replay_lines.specs.Replay.{IsReplay, IsDifference}
+use Rattle.transcript_replay.specs.Replay.{IsReplay, IsDifference}
 use Rattle.kernel_journal.specs.declared.fault.ReplayFault.{ReplayFault}
 use Rattle.kernel_journal.specs.declared.fault.ReplayFault.TheVariants as fault
 use Rattle.kernel_journal.specs.declared.fault.Stop.{Stop}

@@ -3,9 +3,9 @@ ghost use Rattle.std.specs.Prelude.{◌≡◌, ◌↔◌, ◌≤◌, ◌<◌, []
 ghost use Rattle.charlotte_calls.specs.Setting.{IsValid};
 ghost use Rattle.kernel_journal.specs.Body.{course_of, AreSameNodes, CanCall, Fails, Goes, IsNoted, IsReady, Passes, StopsAt};
 ghost use Rattle.kernel_journal.specs.declared.fault.Stop.TheVariants as stops;
-ghost use Rattle.replay_lines.specs.Header.{is_body};
-ghost use Rattle.replay_lines.specs.Course.{comes_after, course_start};
-ghost use Rattle.replay_lines.specs.Replay.{IsTrueLast};
+ghost use Rattle.transcript_replay.specs.Header.{is_body};
+ghost use Rattle.transcript_replay.specs.Course.{comes_after, course_start};
+ghost use Rattle.transcript_replay.specs.Replay.{IsTrueLast};
 ghost use Rattle.kernel_world.specs.Run.{AllTaken, IsCallOf};
 ghost use Rattle.transcript_reading.specs.declared.line.LineKind.TheVariants as line;
 

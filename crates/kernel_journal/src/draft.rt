@@ -1,7 +1,7 @@
 //! The header of a transcript, line by line.
 ghost use Rattle.std.specs.Prelude.{◌≡◌, [], OnOk};
 ghost use Rattle.kernel_journal.specs.At.{setting_of};
-ghost use Rattle.replay_lines.specs.Header.{tells};
+ghost use Rattle.transcript_replay.specs.Header.{tells};
 
 use charlotte_calls::{Items, NoMemory, Pid, Setting};
 use std::alloc::Global;

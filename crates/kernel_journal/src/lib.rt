@@ -1,6 +1,6 @@
-//! Journals, their merge, transcripts, and the replay of transcripts.
+//! Entries, transcripts, and the replay of transcripts.
 //!
-//! The first three are those of `journal_text` and `transcript_reader`, handed on. `Replay` takes the lines of a transcript one after the
+//! The first two are those of `journal_text` and `transcript_reader`, handed on. `Replay` takes the lines of a transcript one after the
 //! other and runs the kernels beside them, and reads one itself where it is just what they expect; `replay` hands it all lines.
 #![tactic(auto)]
 
@@ -16,8 +16,8 @@ mod whole;
 
 pub use fault::ReplayFault;
 pub use journal_text::{
-    Entry, Happened, Journal, Last, Placed, ScriptNote, merge, print_entry, print_header,
-    print_picture, print_transcript,
+    Entry, Happened, Last, Placed, ScriptNote, print_entry, print_header, print_picture,
+    print_transcript,
 };
 pub use lines::Replay;
 pub use transcript_reader::{Line, LineFault, LineKind, Reader, ServiceLine, read_transcript};

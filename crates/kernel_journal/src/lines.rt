@@ -1,7 +1,7 @@
 ghost use Rattle.std.specs.Prelude.{◌≡◌, List, [], ◌∷◌, ◌++◌, true, false, Ok, IfErr, IfOk, MatchBool, OnOk};
 ghost use Rattle.transcript_reading.specs.Order.{Place, Start, next};
 ghost use Rattle.transcript_reading.specs.declared.line.LineKind.{LineKind as AKind};
-ghost use Rattle.replay_lines.specs.Header.{is_body};
+ghost use Rattle.transcript_replay.specs.Header.{is_body};
 ghost use Rattle.kernel_journal.specs.At.{HasMet, IsAt, Passed};
 ghost use Rattle.kernel_journal.specs.Expected.{HasStopped, HasTaken};
 ghost use Rattle.kernel_journal.specs.Faults.{IsFaultAt, IsStopAt};

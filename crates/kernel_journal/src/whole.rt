@@ -1,7 +1,7 @@
 ghost use Rattle.std.specs.Prelude.{◌≡◌, ℕ, List, IfErr, IfOk};
 ghost use Rattle.transcript_reader.specs.Text.{AreLines};
 ghost use Rattle.kernel_journal.specs.Faults.{GivesLast, IsReplayFault, IsReplayOf, kinds_in};
-ghost use Rattle.replay_law.specs.Law.{IsLawfulReplay};
+ghost use Rattle.transcript_law.specs.Law.{IsLawfulReplay};
 
 use crate::fault::ReplayFault;
 use crate::lines::Replay;

@@ -175,7 +175,8 @@ module _ (c n : ℕ) (rows : List (List Outlet)) (lists : List (List Inlet)) (gr
         got = λ from. all-at IsFreshInlet (λ i. i.got) [] (λ i is. is.0) (get_or lists k []) (fresh-list k) from [] (λ past. refl);
         known = λ from. all-at IsFreshInlet (λ i. i.known) [] (λ i is. is.1) (get_or lists k []) (fresh-list k) from [] (λ past. refl);
         places = λ to less. all-at (IsFreshOutlet c) (λ o. o.places) c (λ o is. is.places) (get_or rows k []) (fresh-row k below) to 0 (λ past. absurd (omega (arith, past, less, length-map (get_or rows k []) (λ o. o.ring))));
-        room = λ to less. ap (λ l. get_or l to 0) (map-map capacity_of (λ o. o.ring) (get_or rows k [])) ∙ all-at (IsFreshOutlet c) (λ o. capacity_of o.ring) c (λ o is. is.room) (get_or rows k []) (fresh-row k below) to 0 (λ past. absurd (omega (arith, past, less, length-map (get_or rows k []) (λ o. o.ring))));
+        room = λ to less. ap (λ l. get_or l to 0) (map-map capacity_of (λ o. o.ring) (get_or rows k []))
+            ∙ all-at (IsFreshOutlet c) (λ o. capacity_of o.ring) c (λ o is. is.room) (get_or rows k []) (fresh-row k below) to 0 (λ past. absurd (omega (arith, past, less, length-map (get_or rows k []) (λ o. o.ring))));
       }
 
   module _ (ports : List PortView) (are : ArePorts n ports rows lists) where

@@ -3,6 +3,7 @@ use Rattle.std.proofs.Common.{◌≡◌, ℕ, zero, suc, ◌+◌, ◌<◌, ◌�
 use Rattle.std.proofs.lemmas.List.{get_or_default, length-map}
 use Rattle.std.proofs.Math.Nat.{ne_of_lt}
 use mathlib.Core.List.{IsPrefix, map-map}
+use Rattle.kernel_net.specs.Letters.{MayBePut}
 use Rattle.kernel_net.specs.Rings.{Ring, Outlet, Inlet, Puts, Gets, Looks, capacity_of}
 use Rattle.kernel_net.specs.Ports.{kernels_of, PortView, place_of, put_to, got_from, places_to, known_from, room_to, HasPut, HasGot, HasLooked, LooksOneWay, AreAllThere, IsJoined, IsPlace, GetsFirst}
 use Rattle.kernel_net.specs.declared.letter.Letter.{Letter}
@@ -64,6 +65,7 @@ module _ (p : PortView) (from : ℕ) (old new : Inlet) (below : from < length p.
       record {
         kernel = omega (arith, same, below, length-map p.out (λ o. o.ring));
         got = set-at (λ i. i.got) p.into from old new below is [] ∙ gets.got ∙ ap (λ xs. xs ++ letter ∷ []) (sym (read-at (λ i. i.got) p.into from old new below is []));
+        allowed = subst (λ l. MayBePut l letter) (sym (read-at (λ i. i.got) p.into from old new below is [])) gets.allowed;
         known = subst (λ l. IsPrefix l (letter ∷ known_from (with_into p from new) from)) (sym known-old) (subst (λ l. IsPrefix old.known (letter ∷ l)) (sym known-new) gets.known);
         before = λ q less. set-others (λ i. i.known) p.into from old new below is q [] (ne_of_lt less)
             ∙ read-at (λ i. i.known) p.into q (get_or p.into q old) old (omega (arith, less, below)) (get_or_default p.into q old _ (omega (arith, less, below))) [] ∙ before q old less;

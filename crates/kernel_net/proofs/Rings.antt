@@ -3,21 +3,21 @@ use Rattle.std.proofs.Common.{◌≡◌, ◌+◌, ◌++◌, length, ap, ◌∙�
 use Rattle.std.specs.declared.alloc.Global.{Global}
 use Rattle.rtrb.specs.Ends.{SameRing}
 use Rattle.rtrb.specs.Ring.{sent, known_free, producer_capacity, received, known_items, ProducerLooked, ConsumerLooked}
-use Rattle.rtrb.specs.declared.AnyItems.{AnyItems}
 use Rattle.rtrb.specs.declared.producer.Producer.{Producer}
 use Rattle.rtrb.specs.declared.consumer.Consumer.{Consumer}
 use Rattle.rtrb.specs.declared.end.End.{End}
 use Rattle.kernel_net.specs.Rings.{ring_of, outlet_of, inlet_of, Looks}
 use Rattle.kernel_net.specs.declared.letter.Letter.{Letter}
+use Rattle.kernel_net.specs.declared.letter.LetterRule.{LetterRule}
 use Rattle.kernel_net.proofs.Lists.{prefix-trans}
 
 abbrev Putting : Type 0
-Putting = Producer Letter Global AnyItems
+Putting = Producer Letter Global LetterRule
 
 abbrev Getting : Type 0
-Getting = Consumer Letter Global AnyItems
+Getting = Consumer Letter Global LetterRule
 
-same-ring : (a b : End Letter Global AnyItems) → SameRing a b → ring_of b ≡ ring_of a
+same-ring : (a b : End Letter Global LetterRule) → SameRing a b → ring_of b ≡ ring_of a
 same-ring a b same j = record { words = same.0 j; slots = same.1 j; names = same.2 j; heap = same.3 j }
 
 pub looks : (p p1 p2 : Putting) (c c1 c2 : Getting) → ProducerLooked p p1 → ConsumerLooked c c1

@@ -1,3 +1,4 @@
+pub mod Letters
 pub mod Rings
 pub mod Ports
 pub mod Grid

@@ -3,6 +3,7 @@ use Rattle.std.specs.Prelude.{◌≡◌, ◌≢◌, ◌+◌, ◌<◌, ◌≤◌,
 use mathlib.Core.List.{IsPrefix}
 use Rattle.kernel_net.specs.Rings.{Ring, Outlet, Inlet, Gets, capacity_of}
 use Rattle.kernel_net.specs.declared.letter.Letter.{Letter}
+use Rattle.kernel_net.specs.Letters.{MayBePut}
 
 -- a port as contracts see it: its number, and its ends of the rings to the kernels and from the kernels, by their numbers
 pub record PortView : Type 0 where
@@ -92,10 +93,12 @@ pub record HasPut (to : ℕ) (letter : Letter) (old new : PortView) : Type 0 whe
   pub others : (q : ℕ) → q ≢ to → (put_to new q ≡ put_to old q) × (places_to new q ≡ places_to old q)
   pub into : new.into ≡ old.into
 
--- a letter of a kernel was got, the first one that is there, and from the kernels with lower numbers none is known
+-- A letter of a kernel was got, the first one that is there, and from the kernels with lower numbers none is known. It is one that
+-- might be put behind those got before: no packet of the greatest stamp, and no second marker
 pub record HasGot (from : ℕ) (letter : Letter) (old new : PortView) : Type 0 where
   pub kernel : from < kernels_of (place_of old)
   pub got : got_from new from ≡ got_from old from ++ letter ∷ []
+  pub allowed : MayBePut (got_from old from) letter
   pub known : IsPrefix (known_from old from) (letter ∷ known_from new from)
   pub before : (q : ℕ) → q < from → known_from new q ≡ []
   pub others : (q : ℕ) → q ≢ from → (got_from new q ≡ got_from old q) × (known_from new q ≡ known_from old q)

@@ -8,8 +8,9 @@ use Rattle.rtrb.specs.Ring.{sent, known_free, received, known_items}
 use Rattle.rtrb.specs.declared.end.End.{End}
 use Rattle.rtrb.specs.declared.producer.Producer.{Producer}
 use Rattle.rtrb.specs.declared.consumer.Consumer.{Consumer}
-use Rattle.rtrb.specs.declared.AnyItems.{AnyItems}
 use Rattle.kernel_net.specs.declared.letter.Letter.{Letter}
+use Rattle.kernel_net.specs.declared.letter.LetterRule.{LetterRule}
+use Rattle.kernel_net.specs.Letters.{MayBePut}
 
 -- which ring it is: two ends are of one ring exactly where they have this alike
 pub record Ring : Type 0 where
@@ -18,7 +19,7 @@ pub record Ring : Type 0 where
   pub names : Names
   pub heap : Global
 
-abbrev pub ring_of : End Letter Global AnyItems → Ring
+abbrev pub ring_of : End Letter Global LetterRule → Ring
 ring_of e = record { words = e.words; slots = e.slots; names = e.names; heap = e.heap }
 
 -- how many letters a ring has room for
@@ -37,10 +38,10 @@ pub record Inlet : Type 0 where
   pub got : List Letter
   pub known : List Letter
 
-abbrev pub outlet_of : Producer Letter Global AnyItems → Outlet
+abbrev pub outlet_of : Producer Letter Global LetterRule → Outlet
 outlet_of p = record { ring = ring_of p.end; put = sent p; places = known_free p }
 
-abbrev pub inlet_of : Consumer Letter Global AnyItems → Inlet
+abbrev pub inlet_of : Consumer Letter Global LetterRule → Inlet
 inlet_of c = record { ring = ring_of c.end; got = received c; known = known_items c }
 
 -- both ends of a ring into which nothing was put
@@ -58,11 +59,12 @@ pub record Puts (letter : Letter) (old new : Outlet) : Type 0 where
   pub put : new.put ≡ old.put ++ letter ∷ []
   pub places : old.places ≤ new.places + 1
 
--- a letter was got, the first of those that are there
+-- a letter was got, the first of those that are there, and it is one that might be put
 pub record Gets (letter : Letter) (old new : Inlet) : Type 0 where
   pub ring : new.ring ≡ old.ring
   pub got : new.got ≡ old.got ++ letter ∷ []
   pub known : IsPrefix old.known (letter ∷ new.known)
+  pub allowed : MayBePut old.got letter
 
 -- both ends were brought together: what was got, followed by what is there, is what was put, and each place without a letter is known
 -- to be free

@@ -1,10 +1,10 @@
-ghost use Rattle.std.specs.Prelude.{◌≡◌, ◌+◌, ◌<◌, ◌≤◌, ℕ, [], IfOk, IfSome, IfNone, IsOk, IsSome, OnOk, IfErr, length, slice_index_or};
+ghost use Rattle.std.specs.Prelude.{◌≡◌, ◌+◌, ◌<◌, ◌≤◌, ℕ, [], IfSome, IfNone, IsOk, IsSome, OnOk, IfErr, length, slice_index_or};
+ghost use Rattle.kernel_net.specs.Letters.{MayBePut};
 ghost use Rattle.kernel_net.specs.Rings.{Inlet};
-ghost use Rattle.kernel_net.specs.Ports.{place_of, kernels_of, HasPut, HasGot, HasLooked, LooksOneWay, IsJoined, AreOfOneNet, AreAllThere, GetsFirst, there_of, places_to, known_from};
+ghost use Rattle.kernel_net.specs.Ports.{place_of, kernels_of, HasPut, HasGot, HasLooked, LooksOneWay, IsJoined, AreOfOneNet, AreAllThere, GetsFirst, put_to, there_of, places_to, known_from};
 
 use crate::Letter;
 use crate::ring::{Getter, Putter};
-use charlotte_calls::NoMemory;
 use std::marker::Model;
 
 /// A kernel's place in the net. It can move to the thread of its kernel.
@@ -38,9 +38,11 @@ impl Port {
         self.kernel
     }
 
-    /// Puts a letter to a kernel. The letter comes back exactly where no free place of the ring to it is known.
+    /// Puts a letter to a kernel: a packet whose stamp is below the greatest `u64`, or the first marker to that kernel. The letter comes
+    /// back exactly where no free place of the ring to it is known.
     pub fn put(&mut self, to: u8, letter: Letter) -> Result<(), Letter>
-        requires { to < kernels_of (place_of self.old) }
+        requires kernel { to < kernels_of (place_of self.old) }
+        requires letter { MayBePut (put_to self.old to) letter }
         ensures place { place_of self.new ≡ place_of self.old }
         ensures ok { OnOk result (HasPut to letter self.old self.new) }
         ensures full { IfErr result (λ back. (back ≡ letter) × (self.new ≡ self.old) × (places_to self.new to ≡ 0)) }
@@ -64,16 +66,15 @@ impl Port {
         Some((from, letter))
     }
 
-    /// Brings both ends of the ring from this port to itself together: how many letters are there. It always succeeds.
-    pub fn meet_self(&mut self) -> Result<u32, NoMemory>
+    /// Brings both ends of the ring from this port to itself together: how many letters are there.
+    pub fn meet_self(&mut self) -> u32
         ensures place { place_of self.new ≡ place_of self.old }
         ensures looked { HasLooked self.old.kernel self.old self.new }
         ensures there { AreAllThere self.new self.new }
-        ensures count { IfOk result (λ n. n ≡ length (there_of self.new self.new)) }
-        ensures always { IsOk result }
+        ensures count { result ≡ length (there_of self.new self.new) }
     {
         let own = usize::from(self.kernel);
-        Ok(self.into[own].meet(&mut self.out[own]))
+        self.into[own].meet(&mut self.out[own])
     }
 }
 
@@ -91,21 +92,19 @@ fn get_first(into: &mut Vec<Getter>) -> Option<(u8, Letter)>
     None
 }
 
-/// Brings both ends of both rings between two ports together: how many letters are there that either of them put to the other. It
-/// always succeeds.
-pub fn meet(a: &mut Port, b: &mut Port) -> Result<u32, NoMemory>
+/// Brings both ends of both rings between two ports together: how many letters are there that either of them put to the other.
+pub fn meet(a: &mut Port, b: &mut Port) -> u32
     requires { AreOfOneNet (place_of a.old) (place_of b.old) }
     ensures place_a { place_of a.new ≡ place_of a.old }
     ensures place_b { place_of b.new ≡ place_of b.old }
     ensures looked_a { HasLooked b.old.kernel a.old a.new }
     ensures looked_b { HasLooked a.old.kernel b.old b.new }
     ensures there { AreAllThere a.new b.new × AreAllThere b.new a.new }
-    ensures count { IfOk result (λ n. n ≡ length (there_of a.new b.new) + length (there_of b.new a.new)) }
-    ensures always { IsOk result }
+    ensures count { result ≡ length (there_of a.new b.new) + length (there_of b.new a.new) }
 {
     let from_a = meet_one_way(a, b);
     let from_b = meet_one_way(b, a);
-    Ok(from_a + from_b)
+    from_a + from_b
 }
 
 /// Brings both ends of the ring from one port to another together.

@@ -1,16 +1,17 @@
 ghost use Rattle.std.specs.Prelude.{◌≡◌, ◌≤◌, [], IfOk, IfSome, IfNone, OnOk, IfErr, length};
+ghost use Rattle.kernel_net.specs.Letters.{MayBePut};
 ghost use Rattle.kernel_net.specs.Rings.{IsFreshRing, Gets, Puts, Looks, capacity_of};
 
-use crate::Letter;
+use crate::letter::{Letter, LetterRule};
 use charlotte_calls::NoMemory;
-use rtrb::{Consumer, Producer, RingBuffer};
+use rtrb::{Consumer, Producer, PushError, RingBuffer};
 use std::alloc::Global;
 use std::marker::Model;
 
 /// The end of a ring that puts. Contracts see the ring, what was put, and the free places that are known.
 #[derive(Drop)]
 pub(crate) struct Putter {
-    ring: Producer<Letter>,
+    ring: Producer<Letter, Global, LetterRule>,
 }
 
 impl Model for Putter {
@@ -24,7 +25,7 @@ impl Model for Putter {
 /// The end of a ring that gets. Contracts see the ring, what was got, and the letters that are known to be there.
 #[derive(Drop)]
 pub(crate) struct Getter {
-    ring: Consumer<Letter>,
+    ring: Consumer<Letter, Global, LetterRule>,
 }
 
 impl Model for Getter {
@@ -44,34 +45,34 @@ pub(crate) fn new_ring(alloc: Global, capacity: u16) -> Result<(Putter, Getter),
     requires { capacity ≤ 1024 }
     ensures { IfOk result (λ ends. IsFreshRing capacity ends.0 ends.1) }
 {
-    let (putter, getter) = RingBuffer::new(alloc, usize::from(capacity))?;
+    let (putter, getter) = RingBuffer::with_protocol::<Global, LetterRule>(
+        alloc,
+        usize::from(capacity),
+    )?;
     Ok((Putter { ring: putter }, Getter { ring: getter }))
 }
 
 impl Putter {
-    /// Learns what the other end got, and puts a letter, which comes back exactly where no free place is known.
+    /// Puts a letter, which comes back exactly where no free place is known. Where none is, it first learns what the other end got.
     pub(crate) fn put(&mut self, letter: Letter) -> Result<(), Letter>
+        requires { MayBePut self.old.put letter }
         ensures ok { OnOk result (Puts letter self.old self.new) }
         ensures full { IfErr result (λ back. (back ≡ letter) × (self.new ≡ self.old) × (self.new.places ≡ 0)) }
     {
-        if self.ring.slots() == 0 {
-            return Err(letter);
+        match self.ring.push(letter) {
+            Ok(()) => Ok(()),
+            Err(PushError::Full(back)) => Err(back),
         }
-        self.ring.push_reserved(letter);
-        Ok(())
     }
 }
 
 impl Getter {
-    /// Learns what the other end put, and gets the first letter that is there; `None` exactly where none is known.
+    /// Gets the first letter that is there; `None` exactly where none is known. Where none is, it first learns what the other end put.
     pub(crate) fn get(&mut self) -> Option<Letter>
         ensures some { IfSome result (λ letter. Gets letter self.old self.new) }
         ensures none { IfNone result ((self.new ≡ self.old) × (self.new.known ≡ [])) }
     {
-        if self.ring.slots() == 0 {
-            return None;
-        }
-        Some(self.ring.pop_known())
+        self.ring.pop().ok()
     }
 
     /// Brings both ends of the ring together: how many letters are there.

@@ -1,5 +1,7 @@
 -- What a call gives.
-use Rattle.std.proofs.Common.{◌≡◌, ℕ, Bool, true, false, nat_eq, List, [], ◌∷◌, ◌++◌, map, Option, Some, None, refl, sym, ap, subst, ◌∙◌, if◌then◌else◌}
+use Rattle.std.proofs.Common.{◌≡◌, ℕ, Bool, true, false, true≢false, not, nat_eq, List, [], ◌∷◌, ◌++◌, map, Option, Some, None, refl, sym, ap, subst, ◌∙◌, if◌then◌else◌}
+use Rattle.charlotte_calls.proofs.Causes.{first_of-none}
+use Rattle.charlotte_calls.specs.Causes.{cancel_causes, destroy_causes, receive_causes, send_causes}
 use Rattle.charlotte_calls.specs.Names.{opposite}
 use Rattle.charlotte_calls.specs.declared.calls.Answer.{Answer}
 use Rattle.charlotte_calls.specs.declared.calls.Answer.TheVariants as answer
@@ -28,7 +30,7 @@ use Rattle.kernel_outcomes.proofs.Events.{acts-does}
 use Rattle.kernel_outcomes.specs.Closing.{CallGives, Gives, cancelling, cancelling_on, oldest, ran, told_entry, waited}
 use Rattle.kernel_sound.specs.Acts.{acts, acts_on, made_after, withdraws_posted}
 use Rattle.kernel_sound.specs.Sound.{IsSound}
-use Rattle.kernel_step.specs.Calls.{IsCallWith, made_end, on_owned, refusal, withdraws_send}
+use Rattle.kernel_step.specs.Calls.{IsCallWith, made_end, refusal, withdraws_send, seen, sees}
 use Rattle.kernel_step.specs.Kernel.{Kernel, Outcome, Process, begins, call_step, cancels, cancels_receive, closes, decides, exits, granted_on, has_report, next_stamp, performs, process_of, stands, turns, waits}
 use Rattle.kernel_step.specs.Progress.{Progress, means}
 use Rattle.kernel_step.specs.declared.phase.Phase.{Phase}
@@ -37,7 +39,7 @@ use Rattle.kernel_step.specs.declared.phase.Phase.TheVariants.{Waiting, Cancelli
 -- an event without reports and answers
 pub quiet-gives : (s : Kernel) (p : Pid) (stamp : ℕ) (f : Effect) (d : Progress) → Does f (begins s stamp) d → f.answers ≡ [] → f.reports ≡ []
     → Gives s p (s.process p.0) (λ q. f.entry q (s.table q)) stamp (map (stamped stamp) f.packets) [] (f.steps ++ []) (closes s d)
-quiet-gives s p stamp f d does answers reports = effect-gives s p stamp f d [] [] does tt answers reports
+quiet-gives s p stamp f d does answers reports = effect-gives s p stamp f d [] [] does tt tt answers reports
 
 module _ (s : Kernel) (p : Pid) (x : Process) (entry : EndId → Entry) (now : ℕ) (packets : List (ℕ × Picture)) (answered : List Pid) (steps : List ServiceStep) (o : Outcome)
     (g : Gives s p x entry now packets answered steps o) where
@@ -103,16 +105,16 @@ turned-gives s p phase entry now packets answered steps o g =
     by q false = refl
 
 -- a call on an end that its process owns
-granted-acts : (p : Pid) (s : Kernel) (o : Option HereView) (part : HereView → Progress → Progress) (causes : HereView → List (Bool × Cause)) (d : Progress)
-    → on_owned o causes ≡ None → granted_on p s o part d ≡ stands p answer.Ok (closes s (acts_on o part d))
-granted-acts p s None part causes d granted = cc
-granted-acts p s (Some v) part causes d granted = refl
+granted-acts : (p : Pid) (s : Kernel) (o : Option HereView) (part : HereView → Progress → Progress) (d : Progress)
+    → not (seen o).owned ≡ false → granted_on p s o part d ≡ stands p answer.Ok (closes s (acts_on o part d))
+granted-acts p s None part d owns = absurd (true≢false owns)
+granted-acts p s (Some v) part d owns = refl
 
 -- so is a Cancel of a send
-cancels_send-acts : (p : Pid) (s : Kernel) (o : Option HereView) (causes : HereView → List (Bool × Cause)) (d : Progress)
-    → on_owned o causes ≡ None → cancels p s way.Outward o d ≡ stands p answer.Ok (closes s (acts_on o withdraws_send d))
-cancels_send-acts p s None causes d granted = cc
-cancels_send-acts p s (Some v) causes d granted = refl
+cancels_send-acts : (p : Pid) (s : Kernel) (o : Option HereView) (d : Progress)
+    → not (seen o).owned ≡ false → cancels p s way.Outward o d ≡ stands p answer.Ok (closes s (acts_on o withdraws_send d))
+cancels_send-acts p s None d owns = absurd (true≢false owns)
+cancels_send-acts p s (Some v) d owns = refl
 
 -- a Cancel of a receive, by what is started
 cancels_receive-gives : (s : Kernel) (p : Pid) (v : HereView) (i : Inward) (stamp : ℕ) (f : Effect) → Does f (begins s stamp) (withdraws_posted s.number v i (begins s stamp)) → f.answers ≡ [] → f.reports ≡ []
@@ -201,16 +203,16 @@ module _ (n : ℕ) (s : Kernel) (p : Pid) (mine : List EndId) (sound : IsSound s
   unfolding performs acts means
   performs-gives call.Make reported granted with_ends = answered-gives call.Make (answer.Made (made_end s.number s.made) (opposite (made_end s.number s.made))) _ (part-gives call.Make reported granted with_ends)
   performs-gives (call.Destroy on) reported granted with_ends =
-      subst (AnswerGives s p mine (call.Destroy on) answer.Ok) (sym (granted-acts p s (owned p (s.table on)) _ _ (begins s (next_stamp s.stamp)) granted))
+      subst (AnswerGives s p mine (call.Destroy on) answer.Ok) (sym (granted-acts p s (owned p (s.table on)) _ (begins s (next_stamp s.stamp)) (first_of-none (destroy_causes (sees p s.table on)) granted).0))
       (answered-gives (call.Destroy on) answer.Ok _ (part-gives (call.Destroy on) reported granted with_ends))
   performs-gives (call.Send on bytes xs) reported granted with_ends =
-      subst (AnswerGives s p mine (call.Send on bytes xs) answer.Ok) (sym (granted-acts p s (owned p (s.table on)) _ _ (begins s (next_stamp s.stamp)) granted))
+      subst (AnswerGives s p mine (call.Send on bytes xs) answer.Ok) (sym (granted-acts p s (owned p (s.table on)) _ (begins s (next_stamp s.stamp)) (first_of-none (send_causes (sees p s.table) on xs) granted).0))
       (answered-gives (call.Send on bytes xs) answer.Ok _ (part-gives (call.Send on bytes xs) reported granted with_ends))
   performs-gives (call.Receive on) reported granted with_ends =
-      subst (AnswerGives s p mine (call.Receive on) answer.Ok) (sym (granted-acts p s (owned p (s.table on)) _ _ (begins s (next_stamp s.stamp)) granted))
+      subst (AnswerGives s p mine (call.Receive on) answer.Ok) (sym (granted-acts p s (owned p (s.table on)) _ (begins s (next_stamp s.stamp)) (first_of-none (receive_causes (sees p s.table on)) granted).0))
       (answered-gives (call.Receive on) answer.Ok _ (part-gives (call.Receive on) reported granted with_ends))
   performs-gives (call.Cancel on way.Outward) reported granted with_ends =
-      subst (AnswerGives s p mine (call.Cancel on way.Outward) answer.Ok) (sym (cancels_send-acts p s (owned p (s.table on)) _ (begins s (next_stamp s.stamp)) granted))
+      subst (AnswerGives s p mine (call.Cancel on way.Outward) answer.Ok) (sym (cancels_send-acts p s (owned p (s.table on)) (begins s (next_stamp s.stamp)) (first_of-none (cancel_causes way.Outward (sees p s.table on)) granted).0))
       (answered-gives (call.Cancel on way.Outward) answer.Ok _ (part-gives (call.Cancel on way.Outward) reported granted with_ends))
   performs-gives (call.Cancel on way.Inward) reported granted with_ends =
       let c = call.Cancel on way.Inward in

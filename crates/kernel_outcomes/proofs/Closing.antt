@@ -12,10 +12,10 @@ use Rattle.charlotte_calls.specs.declared.picture.Picture.{Picture}
 use Rattle.end_table.proofs.EndEq.{end_eq-same, put-at, put-other}
 use Rattle.end_table.specs.Place.{end_eq, put}
 use Rattle.end_table.specs.declared.entry.Entry.{Entry}
-use Rattle.kernel_step.specs.Kernel.{Kernel, Outcome, Process, answers_wait, begins, closes, is_waiting, join_answers, join_reports, joins, process_of, reported_entry, stands, with_process}
+use Rattle.kernel_step.specs.Kernel.{Kernel, Outcome, Process, answers_wait, begins, closes, is_waiting, join_answers, join_reports, joins, process_of, reported_entry, stands, waits, with_process}
 use Rattle.kernel_step.specs.Progress.{Progress}
 use Rattle.kernel_step.specs.declared.phase.Phase.TheVariants.{Running}
-use Rattle.kernel_outcomes.specs.Closing.{AtMostOne, Closes, EffectGives, Gives, told, told_entry}
+use Rattle.kernel_outcomes.specs.Closing.{AreOldest, AtMostOne, Closes, EffectGives, Gives, told, told_entry}
 use Rattle.kernel_effects.specs.Effect.{Effect, Does}
 
 -- a process is itself
@@ -60,7 +60,7 @@ module _ (s : Kernel) (p : Pid) where
     joins-gives : (x : Process) (r : Report) (o : Outcome) → is_waiting x.phase ≡ false → Gives s p x entry now packets answered steps o
         → Gives s p (record x { reports = x.reports ++ r ∷ [] }) entry now packets answered steps (joins p r (process_of p o.kernel).phase o)
     joins-gives x r o calm g =
-        subst (Gives s p (record x { reports = x.reports ++ r ∷ [] }) entry now packets answered steps) (sym (ap (λ (z : Process). joins p r z.phase o) own ∙ ap (λ b. if b then answers_wait p r [] o else joined) calm))
+        subst (Gives s p (record x { reports = x.reports ++ r ∷ [] }) entry now packets answered steps) (sym (ap (λ (z : Process). joins p r z.phase o) own ∙ ap (λ b. if b then waits p ((process_of p o.kernel).reports ++ r ∷ []) o else joined) calm))
         (record {
           process = changes x (record (process_of p o.kernel) { reports = (process_of p o.kernel).reports ++ r ∷ [] }) (record x { reports = x.reports ++ r ∷ [] }) entry now packets answered steps o g (ap (λ (z : Process). record z { reports = z.reports ++ r ∷ [] }) own);
           table = g.table;
@@ -158,10 +158,10 @@ module _ (s : Kernel) (p : Pid) where
         by q false is = refl
 
     -- by the answers and reports
-    by_lists : (given : List Answer) (rs : List Report) → AtMostOne given → Closes s d p given rs (join_reports (map (λ r. (p, r)) rs) (join_answers (map (λ a. (p, a)) given) begun))
+    by_lists : (given : List Answer) (rs : List Report) → AtMostOne given → AreOldest (s.process p.0) rs → Closes s d p given rs (join_reports (map (λ r. (p, r)) rs) (join_answers (map (λ a. (p, a)) given) begun))
     unfolding join_answers join_reports begun
-    by_lists [] [] one = subst (λ l. Gives s p (s.process p.0) d.table d.stamp d.packets [] l begun) (sym (append-nil d.steps)) begun-gives
-    by_lists [] (r ∷ rs) one = by (is_waiting (s.process p.0).phase) refl
+    by_lists [] [] one oldest = subst (λ l. Gives s p (s.process p.0) d.table d.stamp d.packets [] l begun) (sym (append-nil d.steps)) begun-gives
+    by_lists [] (r ∷ rs) one oldest = by (is_waiting (s.process p.0).phase) refl
       where
         x : Process
         x = s.process p.0
@@ -172,30 +172,32 @@ module _ (s : Kernel) (p : Pid) where
         by : (b : Bool) → is_waiting x.phase ≡ b
             → Gives s p (if b then record { phase = Running; reports = rs; answer = Some (answer.Reported r) } else record x { reports = x.reports ++ r ∷ rs }) (λ q. told_entry (if b then r ∷ [] else []) q (d.table q)) d.stamp d.packets
             (map (λ _. p) (if b then r ∷ [] else [])) (d.steps ++ map (step.Report p) (if b then r ∷ [] else [])) (join_reports (map (λ r. (p, r)) rs) (joins p r (process_of p begun.kernel).phase begun))
-        by true waits =
+        by true told =
             subst (λ z. Gives s p (record { phase = Running; reports = rs; answer = Some (answer.Reported r) }) (λ q. told_entry (r ∷ []) q (d.table q)) d.stamp d.packets (p ∷ []) (d.steps ++ step.Report p r ∷ []) (join_reports (map (λ r. (p, r)) rs) z))
-            (sym (ap (λ phase. joins p r phase begun) first ∙ ap (λ b. if b then answers_wait p r [] begun else record begun { kernel = with_process p (record (process_of p begun.kernel) { reports = (process_of p begun.kernel).reports ++ r ∷ [] }) begun.kernel }) waits))
+            (sym (ap (λ phase. joins p r phase begun) first
+            ∙ ap (λ b. if b then waits p (x.reports ++ r ∷ []) begun else record begun { kernel = with_process p (record (process_of p begun.kernel) { reports = (process_of p begun.kernel).reports ++ r ∷ [] }) begun.kernel }) told
+            ∙ ap (λ l. waits p (l ++ r ∷ []) begun) (oldest told)))
             (join_reports-gives s p (λ q. told_entry (r ∷ []) q (d.table q)) d.stamp d.packets (p ∷ []) (d.steps ++ step.Report p r ∷ []) rs (record { phase = Running; reports = []; answer = Some (answer.Reported r) }) (answers_wait p r [] begun) refl
             (answers_wait-gives s p d.table d.stamp d.packets [] d.steps x r [] begun begun-gives))
         by false calm =
             subst (λ l. Gives s p (record x { reports = x.reports ++ r ∷ rs }) d.table d.stamp d.packets [] l (join_reports (map (λ r. (p, r)) (r ∷ rs)) begun)) (sym (append-nil d.steps))
             (join_reports-gives s p d.table d.stamp d.packets [] d.steps (r ∷ rs) x begun calm begun-gives)
-    by_lists (a ∷ []) rs one =
+    by_lists (a ∷ []) rs one oldest =
         subst (λ l. Gives s p (record { phase = Running; reports = (s.process p.0).reports ++ rs; answer = Some a }) d.table d.stamp d.packets (p ∷ []) l (join_reports (map (λ r. (p, r)) rs) (stands p a begun))) (sym (append-nil d.steps))
         (join_reports-gives s p d.table d.stamp d.packets (p ∷ []) d.steps rs (record (s.process p.0) { phase = Running; answer = Some a }) (stands p a begun) refl (stands-gives s p d.table d.stamp d.packets [] d.steps (s.process p.0) a begun begun-gives))
-    by_lists (a ∷ b ∷ more) rs one = absurd one
+    by_lists (a ∷ b ∷ more) rs one oldest = absurd one
 
     -- an event closes
-    pub closes-gives : (given : List Answer) (rs : List Report) → AtMostOne given → d.answers ≡ map (λ a. (p, a)) given → d.reports ≡ map (λ r. (p, r)) rs → Closes s d p given rs (closes s d)
+    pub closes-gives : (given : List Answer) (rs : List Report) → AtMostOne given → AreOldest (s.process p.0) rs → d.answers ≡ map (λ a. (p, a)) given → d.reports ≡ map (λ r. (p, r)) rs → Closes s d p given rs (closes s d)
     unfolding closes begun
-    closes-gives given rs one answers reports =
-        subst (Closes s d p given rs) (sym (ap (λ l. join_reports l (join_answers d.answers begun)) reports ∙ ap (λ l. join_reports (map (λ r. (p, r)) rs) (join_answers l begun)) answers)) (by_lists given rs one)
+    closes-gives given rs one oldest answers reports =
+        subst (Closes s d p given rs) (sym (ap (λ l. join_reports l (join_answers d.answers begun)) reports ∙ ap (λ l. join_reports (map (λ r. (p, r)) rs) (join_answers l begun)) answers)) (by_lists given rs one oldest)
 
 -- what an event of kernel s gives that began with this stamp and came so far by an effect, where p alone has reports and answers
-pub effect-gives : (s : Kernel) (p : Pid) (stamp : ℕ) (f : Effect) (d : Progress) (given : List Answer) (rs : List Report) → Does f (begins s stamp) d → AtMostOne given
+pub effect-gives : (s : Kernel) (p : Pid) (stamp : ℕ) (f : Effect) (d : Progress) (given : List Answer) (rs : List Report) → Does f (begins s stamp) d → AtMostOne given → AreOldest (s.process p.0) rs
     → f.answers ≡ map (λ a. (p, a)) given → f.reports ≡ map (λ r. (p, r)) rs → EffectGives s p stamp f given rs (closes s d)
-effect-gives s p stamp f d given rs does one answers reports =
-    let g = closes-gives s p d given rs one (does.answers ∙ answers) (does.reports ∙ reports) in
+effect-gives s p stamp f d given rs does one oldest answers reports =
+    let g = closes-gives s p d given rs one oldest (does.answers ∙ answers) (does.reports ∙ reports) in
     let now = told (s.process p.0).phase given rs in
     record {
       process = g.process;

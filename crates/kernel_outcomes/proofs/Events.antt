@@ -21,7 +21,7 @@ use Rattle.end_table.specs.declared.entry.Entry.TheVariants as entry
 use Rattle.end_table.specs.declared.entry.HereView.{HereView}
 use Rattle.end_table.specs.declared.entry.Inward.{Inward}
 use Rattle.end_table.specs.declared.entry.Inward.TheVariants as inward
-use Rattle.kernel_sound.proofs.Needs.{granted-at, owned-here, send-apart, send-free}
+use Rattle.kernel_sound.proofs.Needs.{owned-here, send-apart, send-free}
 use Rattle.kernel_sound.proofs.Parcels.{awaits-here}
 use Rattle.kernel_sound.proofs.Values.{AreComing-arriving, apart-AreComing}
 use Rattle.kernel_sound.specs.Acts.{acts, acts_on, withdraws_posted}
@@ -31,7 +31,7 @@ use Rattle.kernel_step.specs.Kernel.{Kernel, begins, closes, next_stamp, take_st
 use Rattle.kernel_step.specs.Progress.{Progress, means}
 use Rattle.kernel_step.specs.Rows.{arriving, back_row, ends_in, is_here, parcel_row, passing, row}
 use Rattle.kernel_effects.specs.Calls.{act_effect, effect_on, send_effect, withdraw_posted_effect}
-use Rattle.kernel_outcomes.specs.Closing.{AtMostOne, EffectGives}
+use Rattle.kernel_outcomes.specs.Closing.{AreOldest, AtMostOne, EffectGives}
 use Rattle.kernel_effects.specs.Effect.{Effect, Does, nothing}
 use Rattle.kernel_effects.specs.Rows.{back_effect, parcel_effect, row_effect, values_in}
 use Rattle.kernel_effects.proofs.Calls.{makes-does, posts-does, sends-call-does, withdraws_receive-does, withdraws_send-does}
@@ -105,10 +105,9 @@ module _ (k made n : ℕ) (d : Progress) (sound : IsSound k made n d.table) wher
         on-does on _ _ (λ v is here. does-then (means-does (step.Destroy on) d) (ends-does k on v (means (step.Destroy on) d) (stands-sound k made n d.table sound on v here)))
     acts-does mine reported (call.Send on bytes xs) granted with_ends =
         on-does on _ _ (λ v is here.
-        let causes = granted-at p d.table on xs v (sym is) granted in
         let end : v.value.end ≡ on = stands-end d.table on v (stands-sound k made n d.table sound on v here) in
         subst (λ z. Does (send_effect k d.table bytes xs v) d (starts_send k bytes xs v (encloses z xs d))) end
-        (sends-call-does k bytes xs v d (AreDifferent-free p d.table xs (send-free p d.table on xs v causes)) (subst (λ z. list_any (end_eq z) xs ≡ false) (sym end) (send-apart p d.table on xs v causes)) sound.own))
+        (sends-call-does k bytes xs v d (AreDifferent-free p d.table xs (send-free p d.table on xs granted)) (subst (λ z. list_any (end_eq z) xs ≡ false) (sym end) (send-apart p d.table on xs granted)) sound.own))
     acts-does mine reported (call.Receive on) granted with_ends = on-does on _ _ (λ v is here. posts-does k v d)
     acts-does mine reported (call.Cancel on way.Outward) granted with_ends = on-does on _ _ (λ v is here. withdraws_send-does on v d (stands-sound k made n d.table sound on v here))
     acts-does mine reported (call.Cancel on way.Inward) granted with_ends = on-does on _ _ (λ v is here. withdraws_posted-does v v.inward)
@@ -119,15 +118,15 @@ module _ (k made n : ℕ) (d : Progress) (sound : IsSound k made n d.table) wher
 
 -- taking a packet, where process p alone gets reports and answers
 pub take-gives : (n : ℕ) (s : Kernel) (from : ℕ) (q : Picture) (p : Pid) (given : List Answer) (rs : List Report) → IsSound s.number s.made n s.table → AreDifferent (ends_in (values_in q.what)) → is_addressed q.what s.kernels ≡ true
-    → AtMostOne given → (row_effect s.number s.made from s.table q.what).answers ≡ map (λ a. (p, a)) given → (row_effect s.number s.made from s.table q.what).reports ≡ map (λ r. (p, r)) rs
+    → AtMostOne given → AreOldest (s.process p.0) rs → (row_effect s.number s.made from s.table q.what).answers ≡ map (λ a. (p, a)) given → (row_effect s.number s.made from s.table q.what).reports ≡ map (λ r. (p, r)) rs
     → EffectGives s p (next_stamp (max s.stamp q.stamp)) (row_effect s.number s.made from s.table q.what) given rs (take_step s from q)
 unfolding take_step
-take-gives n s from q p given rs sound different addressed one answers reports =
+take-gives n s from q p given rs sound different addressed one oldest answers reports =
     let stamp = next_stamp (max s.stamp q.stamp) in
     let d = begins s stamp in
     let f = row_effect s.number s.made from s.table q.what in
     subst (λ b. EffectGives s p stamp f given rs (closes s (if b then row s.number s.made from q.what d else d))) (sym addressed)
-    (effect-gives s p stamp f (row s.number s.made from q.what d) given rs (row-does s.number s.made n d sound from q.what different) one answers reports)
+    (effect-gives s p stamp f (row s.number s.made from q.what d) given rs (row-does s.number s.made n d sound from q.what different) one oldest answers reports)
 
 -- a packet that names a kernel that is not there is dropped
 pub take-dropped : (s : Kernel) (from : ℕ) (q : Picture) (p : Pid) → is_addressed q.what s.kernels ≡ false → EffectGives s p (next_stamp (max s.stamp q.stamp)) nothing [] [] (take_step s from q)
@@ -136,4 +135,4 @@ take-dropped s from q p dropped =
     let stamp = next_stamp (max s.stamp q.stamp) in
     let d = begins s stamp in
     subst (λ b. EffectGives s p stamp nothing [] [] (closes s (if b then row s.number s.made from q.what d else d))) (sym dropped)
-    (effect-gives s p stamp nothing d [] [] (does-nothing d) tt refl refl)
+    (effect-gives s p stamp nothing d [] [] (does-nothing d) tt tt refl refl)

@@ -3,4 +3,3 @@ pub mod Sound
 pub mod Events
 pub mod Called
 pub mod Touched
-pub mod ForOne

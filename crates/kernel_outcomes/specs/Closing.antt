@@ -1,5 +1,5 @@
 -- What an event gives once it closes. Its reports and answers are all for one process: rs its reports, given its answers, at most one.
-use Rattle.std.specs.Prelude.{◌≡◌, ℕ, nat_eq, if◌then◌else◌, List, [], ◌∷◌, ◌++◌, map, Option, None, Some}
+use Rattle.std.specs.Prelude.{◌≡◌, ℕ, true, nat_eq, if◌then◌else◌, List, [], ◌∷◌, ◌++◌, map, Option, None, Some}
 use Rattle.charlotte_calls.specs.Names.{opposite}
 use Rattle.charlotte_calls.specs.declared.calls.Answer.{Answer}
 use Rattle.charlotte_calls.specs.declared.calls.Answer.TheVariants as answer
@@ -38,6 +38,11 @@ abbrev pub told : Phase → List Answer → List Report → List Report
 told phase [] [] = []
 told phase [] (r ∷ rs) = if is_waiting phase then r ∷ [] else []
 told phase (a ∷ given) rs = []
+
+-- the first of these reports is the oldest of its process where that waits: none stands before
+abbrev pub AreOldest : Process → List Report → Type 0
+AreOldest x [] = Unit {0}
+AreOldest x (r ∷ rs) = is_waiting x.phase ≡ true → x.reports ≡ []
 
 -- its end's way is idle once it is told
 abbrev pub told_entry : List Report → EndId → Entry → Entry

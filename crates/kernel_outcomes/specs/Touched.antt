@@ -1,20 +1,14 @@
--- Which ends an event may change, and that its reports and answers are all for one process.
-use Rattle.std.specs.Prelude.{◌≡◌, ℕ, List, [], ◌∷◌, ◌++◌}
-use Rattle.std.specs.List.{AllByRecursion}
+-- Which ends an event may change.
+use Rattle.std.specs.Prelude.{ℕ, List, [], ◌∷◌, ◌++◌}
 use Rattle.charlotte_calls.specs.Names.{opposite}
-use Rattle.charlotte_calls.specs.declared.calls.Answer.{Answer}
 use Rattle.charlotte_calls.specs.declared.calls.Call.{Call}
 use Rattle.charlotte_calls.specs.declared.calls.Call.TheVariants as call
-use Rattle.charlotte_calls.specs.declared.calls.Report.{Report}
 use Rattle.charlotte_calls.specs.declared.names.EndId.{EndId}
 use Rattle.charlotte_calls.specs.declared.picture.PictureWhat.{PictureWhat}
 use Rattle.end_table.specs.declared.entry.Entry.{Entry}
 use Rattle.end_table.specs.declared.entry.Entry.TheVariants as entry
-use Rattle.end_table.specs.declared.entry.Holder.{Holder}
 use Rattle.kernel_effects.specs.Calls.{ended_list}
-use Rattle.kernel_effects.specs.Effect.{Effect, for_holder}
 use Rattle.kernel_effects.specs.Rows.{values_in}
-use Rattle.kernel_outcomes.specs.Closing.{AtMostOne}
 use Rattle.kernel_sound.specs.Sound.{addressee}
 use Rattle.kernel_step.specs.Actions.{enclosed_of}
 use Rattle.kernel_step.specs.Calls.{made_end}
@@ -41,13 +35,3 @@ act_ends k made mine t (call.Cancel on w) = on ∷ enclosed_at (t on)
 act_ends k made mine t call.Wait = []
 act_ends k made mine t (call.Print bytes) = []
 act_ends k made mine t call.Exit = ended_list t mine
-
--- all reports of an effect are for one holder and about one end, and so is an answer, if there is one
-pub record IsForOne (e : EndId) (f : Effect) : Type 0 where
-  pub holder : Holder
-  pub given : List Answer
-  pub told : List Report
-  pub one : AtMostOne given
-  pub on : AllByRecursion (λ r. r.on ≡ e) told
-  pub answers : f.answers ≡ for_holder holder given
-  pub reports : f.reports ≡ for_holder holder told

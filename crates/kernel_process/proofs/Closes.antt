@@ -256,9 +256,19 @@ pub drop-same : {X : Type 0} (xs : List X) → xs ≡ drop 1 xs → xs ≡ []
 drop-same [] same = refl
 drop-same (x ∷ xs) same = absurd (let e : length (x ∷ xs) ≡ length (drop 1 (x ∷ xs)) = ap length same in omega arith)
 
--- a report answers a Wait
-pub joins-waiting : (p : Pid) (r : Report) (phase : Phase) (o : Outcome) → is_waiting phase ≡ true → joins p r phase o ≡ answers_wait p r [] o
-joins-waiting p r phase o waiting = ap (λ b. cond b (answers_wait p r [] o) (record o { kernel = with_process p (record (process_of p o.kernel) { reports = (process_of p o.kernel).reports ++ r ∷ [] }) o.kernel })) waiting
+-- a report joined the list, and the oldest of it answers a Wait
+pub joins-waiting : (p : Pid) (r oldest : Report) (others : List Report) (s after : Kernel) (e : Effect) → is_waiting (process_of p s).phase ≡ true
+    → (process_of p s).reports ++ r ∷ [] ≡ oldest ∷ others → after ≡ with_process p (record (process_of p s) { reports = others }) s
+    → answers_wait p oldest (process_of p after).reports (ended after e) ≡ joins p r (process_of p s).phase (ended s e)
+unfolding ended
+joins-waiting p r oldest others s after e waiting list left =
+    answers_wait-left p oldest others s after e left
+    ∙ sym (ap (λ b. cond b (waits p ((process_of p s).reports ++ r ∷ []) (ended s e)) (record (ended s e) { kernel = with_process p (record (process_of p s) { reports = (process_of p s).reports ++ r ∷ [] }) s })) waiting
+    ∙ ap (λ l. waits p l (ended s e)) list)
+
+-- the first of a list is known by it
+pub first-told : {X : Type 0} (xs ys : List X) (x : X) → xs ≡ x ∷ ys → xs ≡ x ∷ drop 1 xs
+first-told xs ys x is = is ∙ ap (λ l. x ∷ drop 1 l) (sym is)
 
 -- a report goes behind the others
 pub joins-behind : (p : Pid) (r : Report) (s after : Kernel) (e : Effect) → is_waiting (process_of p s).phase ≡ false
@@ -267,7 +277,7 @@ pub joins-behind : (p : Pid) (r : Report) (s after : Kernel) (e : Effect) → is
 unfolding ended
 joins-behind p r s after e not_waiting is =
     ap (λ k. ended k e) is
-    ∙ sym (ap (λ b. cond b (answers_wait p r [] (ended s e)) (record (ended s e) { kernel = with_process p (record (process_of p s) { reports = (process_of p s).reports ++ r ∷ [] }) s })) not_waiting)
+    ∙ sym (ap (λ b. cond b (waits p ((process_of p s).reports ++ r ∷ []) (ended s e)) (record (ended s e) { kernel = with_process p (record (process_of p s) { reports = (process_of p s).reports ++ r ∷ [] }) s })) not_waiting)
 
 -- the only report joins
 pub join_reports-only : (p : Pid) (r : Report) (xs : List (Pid × Report)) (s : Kernel) (e : Effect) (o : Outcome) → xs ≡ (p, r) ∷ [] → o ≡ joins p r (process_of p s).phase (ended s e) → o ≡ join_reports xs (ended s e)

@@ -29,7 +29,7 @@ pub record IsBegun (r : Room) (own : ℕ) (event : Event) : Type 0 where
   pub reports : event.work.reports.items ≡ []
   pub answers : event.work.answers.items ≡ []
   pub steps : event.work.steps.items ≡ []
-  pub room : HasRoom r.packets r.reports r.answers (r.steps + r.reports) event.work
+  pub room : HasRoom (record r { steps = r.steps + r.reports }) event.work
   pub nobody : event.answered.items ≡ []
   pub places : r.answers + r.reports + own ≤ vec_capacity event.answered
 

@@ -4,3 +4,4 @@ pub mod Fresh
 pub mod Lending
 pub mod Parts
 pub mod Steady
+pub mod Joined

@@ -1,6 +1,7 @@
 //! Which ends of a process have a started activity.
 ghost use Rattle.std.specs.Prelude.{◌≡◌, ◌<◌, ◌≤◌, ◌&&◌, nat_eq, true, false, [], Some, map, length, slice_get, if◌then◌else◌};
 ghost use Rattle.std.specs.List.{list_any};
+ghost use Rattle.charlotte_calls.specs.Causes.{is_started};
 ghost use Rattle.charlotte_calls.specs.declared.names.EndId.{EndId};
 ghost use Rattle.charlotte_calls.specs.declared.names.Pid.{Pid};
 ghost use Rattle.indexmap.specs.IndexSet.{spare};
@@ -8,7 +9,7 @@ ghost use Rattle.end_table.specs.Message.{outward_of};
 ghost use Rattle.end_table.specs.Owned.{owned};
 ghost use Rattle.end_table.specs.Place.{end_eq};
 ghost use Rattle.end_table.specs.Table.{entries};
-ghost use Rattle.kernel_step.specs.Calls.{is_active, is_started, outward_activity, inward_activity};
+ghost use Rattle.kernel_step.specs.Calls.{is_active, outward_activity, inward_activity};
 ghost use Rattle.kernel_process.specs.Closing.{HavePlace};
 ghost use Rattle.kernel_process.specs.Active.{started_ends, Refreshes, Empties};
 ghost use Rattle.kernel_process.specs.Parts.{process_state};

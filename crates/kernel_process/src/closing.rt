@@ -1,4 +1,5 @@
 ghost use Rattle.std.specs.Prelude.{◌≡◌, true, false, ℕ, ◌+◌, ◌<◌, ◌≤◌, ◌++◌, [], ◌∷◌, List, Some, IfSome, IfNone, length, drop, option_to_list, vec_len, vec_capacity};
+ghost use Rattle.std.specs.VecDeque.{deque_len, deque_capacity};
 ghost use Rattle.charlotte_calls.specs.declared.calls.Answer.TheVariants as answer;
 ghost use Rattle.charlotte_calls.specs.declared.calls.Report.{Report};
 ghost use Rattle.charlotte_calls.specs.declared.names.EndId.{EndId};
@@ -16,6 +17,7 @@ ghost use Rattle.kernel_step.specs.declared.phase.Phase.TheVariants.{Running, Ex
 ghost use Rattle.kernel_process.specs.Closing.{HaveSpare, HaveSpareFor, CanClose};
 ghost use Rattle.kernel_sound.specs.Sound.{AreFor};
 ghost use Rattle.kernel_process.specs.Parts.{ended, tells_first, with_parts, process_state, process_at, HasPlaces, GainsAtMost};
+ghost use Rattle.kernel_process.specs.Joined.{HaveJoined};
 ghost use Rattle.kernel_process.specs.Steady.{StaysCalm, TakesAtMost};
 ghost use Rattle.kernel_process.specs.declared.process.ControlBlock.{ControlBlock};
 
@@ -24,6 +26,7 @@ use crate::process::Processes;
 use charlotte_calls::{Answer, Effect, EndId, Pid, Report, ServiceStep, Way, Work};
 use end_table::{Inward, Lent, Living, Sending, Table};
 use kernel_step::Phase;
+use std::collections::VecDeque;
 use std::mem;
 
 /// A process goes on to another phase.
@@ -48,15 +51,35 @@ fn run_again(processes: &mut Processes, p: Pid, answer: Answer)
     process.answer = Some(answer);
 }
 
-/// The reports that a process was not given are let go.
-fn clear_reports(processes: &mut Processes, p: Pid)
-    requires { p.0 < length processes.old }
+/// A report goes behind the others of its process, and the oldest of them leaves the list.
+fn exchange_report(processes: &mut Processes, p: Pid, report: Report) -> Report
+    requires process { p.0 < length processes.old }
+    requires spare { HaveSpare 1 processes.old }
     ensures part { (t : EndId → Entry) (s : Kernel) → with_parts t processes.new s
-        ≡ with_process p (record (process_of p (with_parts t processes.old s)) { reports = [] }) (with_parts t processes.old s) }
+        ≡ with_process p (record (process_of p (with_parts t processes.old s)) { reports = drop 1 ((process_of p (with_parts t processes.old s)).reports ++ report ∷ []) })
+        (with_parts t processes.old s) }
+    ensures oldest { (t : EndId → Entry) (s : Kernel) → (process_of p (with_parts t processes.old s)).reports ++ report ∷ []
+        ≡ result ∷ drop 1 ((process_of p (with_parts t processes.old s)).reports ++ report ∷ []) }
     ensures kept { TakesAtMost 0 processes.old processes.new }
 {
     let process = processes.at_mut(usize::from(p.0));
-    process.reports.clear();
+    exchange_oldest(&mut process.reports, report)
+}
+
+/// A report goes behind the others, and the oldest leaves the list.
+fn exchange_oldest(reports: &mut VecDeque<Report>, report: Report) -> Report
+    requires spare { deque_len reports.old + 1 ≤ deque_capacity reports.old }
+    ensures items { reports.old.items ++ report ∷ [] ≡ result ∷ reports.new.items }
+    ensures len { deque_len reports.new ≡ deque_len reports.old }
+    ensures capacity { deque_capacity reports.new ≡ deque_capacity reports.old }
+{
+    match reports.pop_front() {
+        Some(oldest) => {
+            reports.push_back_reserved(report);
+            oldest
+        }
+        None => report,
+    }
 }
 
 /// A report goes behind the others of its process.
@@ -205,7 +228,7 @@ fn is_in_wait(processes: &Processes, p: Pid) -> bool
     is_waiting(processes.at(usize::from(p.0)).phase)
 }
 
-/// A report joins the list of its process; where the process is in a Wait, the report answers it.
+/// A report joins the list of its process; where the process is in a Wait, the oldest of the list answers it.
 fn join(table: &mut Table, processes: &mut Processes, effect: &mut Effect, p: Pid, report: Report)
     requires process { p.0 < length processes.old }
     requires places { HasPlaces 1 1 effect.old }
@@ -218,8 +241,8 @@ fn join(table: &mut Table, processes: &mut Processes, effect: &mut Effect, p: Pi
     ensures stamp { effect.new.stamp ≡ effect.old.stamp }
 {
     if is_in_wait(processes, p) {
-        clear_reports(processes, p);
-        answer_wait(table, processes, effect, p, report);
+        let oldest = exchange_report(processes, p, report);
+        answer_wait(table, processes, effect, p, oldest);
     } else {
         add_report(processes, p, report);
     }
@@ -236,12 +259,7 @@ fn join_each(
     requires reports { AreFor (length processes.old) reports.old.items }
     requires places { HasPlaces (length reports.old.items) (length reports.old.items) effect.old }
     requires spare { HaveSpareFor reports.old.items processes.old }
-    ensures part { (s : Kernel) → ended (with_parts (entries table.new) processes.new s) effect.new
-        ≡ join_reports reports.old.items (ended (with_parts (entries table.old) processes.old s) effect.old) }
-    ensures calm { StaysCalm table.old table.new }
-    ensures kept { TakesAtMost (length reports.old.items) processes.old processes.new }
-    ensures places { GainsAtMost (length reports.old.items) (length reports.old.items) effect.old effect.new }
-    ensures stamp { effect.new.stamp ≡ effect.old.stamp }
+    ensures { HaveJoined reports.old.items table.old table.new processes.old processes.new effect.old effect.new }
 {
     if !reports.is_empty() {
         join_some(table, processes, effect, reports);
@@ -259,12 +277,7 @@ fn join_some(
     requires reports { AreFor (length processes.old) reports.old.items }
     requires places { HasPlaces (length reports.old.items) (length reports.old.items) effect.old }
     requires spare { HaveSpareFor reports.old.items processes.old }
-    ensures part { (s : Kernel) → ended (with_parts (entries table.new) processes.new s) effect.new
-        ≡ join_reports reports.old.items (ended (with_parts (entries table.old) processes.old s) effect.old) }
-    ensures calm { StaysCalm table.old table.new }
-    ensures kept { TakesAtMost (length reports.old.items) processes.old processes.new }
-    ensures places { GainsAtMost (length reports.old.items) (length reports.old.items) effect.old effect.new }
-    ensures stamp { effect.new.stamp ≡ effect.old.stamp }
+    ensures { HaveJoined reports.old.items table.old table.new processes.old processes.new effect.old effect.new }
 {
     match only_process(reports.as_slice()) {
         Some(p) => join_only(table, processes, effect, p, reports),
@@ -282,7 +295,7 @@ fn only_process(reports: &[(Pid, Report)]) -> Option<Pid>
     }
 }
 
-/// The only report joins the list of its process; where the process is in a Wait, the report answers it.
+/// The only report joins the list of its process; where the process is in a Wait, the oldest of the list answers it.
 fn join_only(
     table: &mut Table,
     processes: &mut Processes,
@@ -302,9 +315,9 @@ fn join_only(
     ensures stamp { effect.new.stamp ≡ effect.old.stamp }
 {
     if is_in_wait(processes, p) {
-        clear_reports(processes, p);
         let report = take_only(reports);
-        answer_wait(table, processes, effect, p, report);
+        let oldest = exchange_report(processes, p, report);
+        answer_wait(table, processes, effect, p, oldest);
     } else {
         let report = take_only(reports);
         add_report(processes, p, report);
@@ -331,12 +344,7 @@ fn join_all(
     requires reports { AreFor (length processes.old) reports.old.items }
     requires places { HasPlaces (length reports.old.items) (length reports.old.items) effect.old }
     requires spare { HaveSpareFor reports.old.items processes.old }
-    ensures part { (s : Kernel) → ended (with_parts (entries table.new) processes.new s) effect.new
-        ≡ join_reports reports.old.items (ended (with_parts (entries table.old) processes.old s) effect.old) }
-    ensures calm { StaysCalm table.old table.new }
-    ensures kept { TakesAtMost (length reports.old.items) processes.old processes.new }
-    ensures places { GainsAtMost (length reports.old.items) (length reports.old.items) effect.old effect.new }
-    ensures stamp { effect.new.stamp ≡ effect.old.stamp }
+    ensures { HaveJoined reports.old.items table.old table.new processes.old processes.new effect.old effect.new }
 {
     if let Some((p, report)) = take_first(reports) {
         join(table, processes, effect, p, report);

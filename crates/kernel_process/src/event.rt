@@ -2,8 +2,10 @@ ghost use Rattle.std.specs.Prelude.{◌≡◌, ◌+◌, ◌*◌, ◌<◌, ◌≤
 ghost use Rattle.kernel_process.specs.Closing.{IsBegun};
 ghost use Rattle.kernel_step.specs.Kernel.{Kernel, begins};
 ghost use Rattle.kernel_step.specs.Progress.{progress};
+ghost use Rattle.kernel_step.specs.Room.{and_ends};
 
 use charlotte_calls::{NoMemory, Pid, Room, Work};
+use kernel_step::PACKETS_OF_END;
 use std::alloc::Global;
 
 /// What an event adds, until it closes.
@@ -13,10 +15,6 @@ pub struct Event {
     /// The processes to which an answer came to stand: none before the event closes.
     pub answered: Vec<Pid>,
 }
-
-/// How many packets the death of an end takes at most: one to its opposite, or those that tell up to seven other kernels to forget it,
-/// and those for up to eight ends that its message encloses.
-const PACKETS_OF_AN_END: usize = 9;
 
 impl Event {
     /// An event that has added nothing and has no room yet, for `begin`.
@@ -49,10 +47,10 @@ impl Event {
         requires few { dying < 2 ^ 60 }
         requires one { own ≤ 1 }
         ensures begins { OnOk result ((s : Kernel) → progress s.table self.new.work ≡ begins s stamp) }
-        ensures begun { OnOk result (IsBegun (record room { packets = room.packets + 9 * dying }) own self.new) }
+        ensures begun { OnOk result (IsBegun (and_ends dying room) own self.new) }
         ensures stamp { OnOk result (self.new.work.stamp ≡ stamp) }
     {
-        let most_packets = room.packets as usize + PACKETS_OF_AN_END * dying;
+        let most_packets = room.packets as usize + PACKETS_OF_END as usize * dying;
         let most_reports = room.reports as usize;
         let most_answers = room.answers as usize;
         renew(&mut self.work.packets, most_packets)?;

@@ -1,13 +1,13 @@
-ghost use Rattle.std.specs.Prelude.{◌≡◌, ◌||◌, not, nat_eq, nat_le, if◌then◌else◌, is_none, None, Some, List, [], ◌∷◌, length};
+ghost use Rattle.std.specs.Prelude.{◌≡◌, ◌||◌, not, nat_eq, if◌then◌else◌, None, Some, List, [], ◌∷◌, length};
 ghost use Rattle.std.specs.List.{list_any};
+ghost use Rattle.charlotte_calls.specs.Causes.{cancel_causes, destroy_causes, first_of as first_cause, is_busy, is_idle, is_late, make_causes, receive_causes, send_causes};
+ghost use Rattle.charlotte_calls.specs.EndEq.{end_eq, names_twice, same_link};
 ghost use Rattle.charlotte_calls.specs.declared.calls.Cause.TheVariants as cause;
 ghost use Rattle.charlotte_calls.specs.declared.names.EndId.{EndId};
-ghost use Rattle.charlotte_calls.specs.declared.names.Way.TheVariants as way;
 ghost use Rattle.end_table.specs.Message.{outward_of};
 ghost use Rattle.end_table.specs.Owned.{owned};
-ghost use Rattle.end_table.specs.Place.{end_eq};
 ghost use Rattle.end_table.specs.Table.{entries};
-ghost use Rattle.kernel_step.specs.Calls.{cancel_causes, first_of as first_cause, inward_activity, is_active, is_busy, is_free, is_late, link_limit, names_twice, no_causes, on_owned, outward_activity, receive_causes, refusal, same_link, send_causes, IsCallWith};
+ghost use Rattle.kernel_step.specs.Calls.{inward_activity, is_active, outward_activity, refusal, sees, IsCallWith};
 ghost use Rattle.kernel_step.specs.Kernel.{has_report};
 ghost use Rattle.kernel_process.specs.Parts.{process_state};
 
@@ -43,7 +43,7 @@ pub fn refusal(
 }
 
 fn make_refusal(made: u32) -> Option<Cause>
-    ensures { result ≡ (if nat_le link_limit made then Some cause.LinksFull else None) }
+    ensures { result ≡ first_cause (make_causes made) }
 {
     if LINK_LIMIT <= made {
         return Some(Cause::LinksFull);
@@ -52,7 +52,7 @@ fn make_refusal(made: u32) -> Option<Cause>
 }
 
 fn destroy_refusal(table: &Table, p: Pid, on: EndId) -> Option<Cause>
-    ensures { result ≡ on_owned (owned p (entries table.now on)) no_causes }
+    ensures { result ≡ first_cause (destroy_causes (sees p (entries table.now) on)) }
 {
     match table.owned(p, on) {
         None => Some(Cause::NoEnd),
@@ -61,7 +61,7 @@ fn destroy_refusal(table: &Table, p: Pid, on: EndId) -> Option<Cause>
 }
 
 fn send_refusal(table: &Table, p: Pid, on: EndId, enclose: &[EndId]) -> Option<Cause>
-    ensures { result ≡ on_owned (owned p (entries table.now on)) (send_causes p (entries table.now) on enclose.now) }
+    ensures { result ≡ first_cause (send_causes (sees p (entries table.now)) on enclose.now) }
 {
     match table.owned(p, on) {
         None => Some(Cause::NoEnd),
@@ -69,10 +69,12 @@ fn send_refusal(table: &Table, p: Pid, on: EndId, enclose: &[EndId]) -> Option<C
     }
 }
 
+/// The cause of a Send on an end that the process owns.
 fn send_cause(table: &Table, p: Pid, on: EndId, enclose: &[EndId], living: &Living) -> Option<Cause>
-    ensures { result ≡ first_cause (send_causes p (entries table.now) on enclose.now living.now) }
+    requires { Some living.now ≡ owned p (entries table.now on) }
+    ensures { result ≡ first_cause (send_causes (sees p (entries table.now)) on enclose.now) }
 {
-    if !is_free_outward(living.outward()) {
+    if !is_idle_outward(living.outward()) {
         return Some(Cause::Busy);
     }
     if living.value().dead {
@@ -94,18 +96,18 @@ fn send_cause(table: &Table, p: Pid, on: EndId, enclose: &[EndId], living: &Livi
 }
 
 fn receive_refusal(table: &Table, p: Pid, on: EndId) -> Option<Cause>
-    ensures { result ≡ on_owned (owned p (entries table.now on)) receive_causes }
+    ensures { result ≡ first_cause (receive_causes (sees p (entries table.now) on)) }
 {
     match table.owned(p, on) {
         None => Some(Cause::NoEnd),
-        Some(living) if !is_free_inward(living.inward()) => Some(Cause::Busy),
+        Some(living) if !is_idle_inward(living.inward()) => Some(Cause::Busy),
         Some(living) if living.value().dead => Some(Cause::Dead),
         Some(_) => None,
     }
 }
 
 fn cancel_refusal(table: &Table, p: Pid, on: EndId, way: Way) -> Option<Cause>
-    ensures { result ≡ on_owned (owned p (entries table.now on)) (cancel_causes way) }
+    ensures { result ≡ first_cause (cancel_causes way (sees p (entries table.now) on)) }
 {
     match table.owned(p, on) {
         None => Some(Cause::NoEnd),
@@ -119,7 +121,7 @@ fn cancel_refusal(table: &Table, p: Pid, on: EndId, way: Way) -> Option<Cause>
 
 /// The cause of a Cancel of this send, on an end that is not dead.
 fn cancel_send_cause(outward: &Sending) -> Option<Cause>
-    ensures { result ≡ first_cause ((is_late way.Outward (outward_activity (outward_of outward.now)), cause.Late) ∷ (is_free (outward_activity (outward_of outward.now)), cause.NoActivity) ∷ []) }
+    ensures { result ≡ first_cause ((is_late (outward_activity (outward_of outward.now)), cause.Late) ∷ (is_idle (outward_activity (outward_of outward.now)), cause.NoActivity) ∷ []) }
 {
     match outward {
         Sending::Idle => Some(Cause::NoActivity),
@@ -130,7 +132,7 @@ fn cancel_send_cause(outward: &Sending) -> Option<Cause>
 
 /// The cause of a Cancel of this receive, on an end that is not dead.
 fn cancel_receive_cause(inward: Inward) -> Option<Cause>
-    ensures { result ≡ first_cause ((is_late way.Inward (inward_activity inward), cause.Late) ∷ (is_free (inward_activity inward), cause.NoActivity) ∷ []) }
+    ensures { result ≡ first_cause ((is_late (inward_activity inward), cause.Late) ∷ (is_idle (inward_activity inward), cause.NoActivity) ∷ []) }
 {
     match inward {
         Inward::Idle => Some(Cause::NoActivity),
@@ -149,38 +151,38 @@ fn wait_refusal(process: &ControlBlock) -> Option<Cause>
     None
 }
 
-fn is_free_outward(outward: &Sending) -> bool
-    ensures { result ≡ is_free (outward_activity (outward_of outward.now)) }
+fn is_idle_outward(outward: &Sending) -> bool
+    ensures { result ≡ is_idle (outward_activity (outward_of outward.now)) }
 {
     matches!(outward, Sending::Idle)
 }
 
-fn is_free_inward(inward: Inward) -> bool
-    ensures { result ≡ is_free (inward_activity inward) }
+fn is_idle_inward(inward: Inward) -> bool
+    ensures { result ≡ is_idle (inward_activity inward) }
 {
     matches!(inward, Inward::Idle)
 }
 
 /// Whether one of these ends is not the process's.
 fn encloses_no_end(table: &Table, p: Pid, ends: &[EndId]) -> bool
-    ensures { result ≡ list_any (λ x. is_none (owned p (entries table.now x))) ends.now }
+    ensures { result ≡ list_any (λ x. not (sees p (entries table.now) x).owned) ends.now }
 {
     ends.iter().any(|end| table.owned(p, *end).is_none())
 }
 
 /// Whether one of these ends of the process has an activity.
 fn encloses_busy(table: &Table, p: Pid, ends: &[EndId]) -> bool
-    ensures { result ≡ list_any (λ x. is_busy (owned p (entries table.now x))) ends.now }
+    ensures { result ≡ list_any (λ x. is_busy (sees p (entries table.now) x)) ends.now }
 {
     ends.iter().any(|end| is_busy(table, p, *end))
 }
 
 fn is_busy(table: &Table, p: Pid, end: EndId) -> bool
-    ensures { result ≡ is_busy (owned p (entries table.now end)) }
+    ensures { result ≡ is_busy (sees p (entries table.now) end) }
 {
     match table.owned(p, end) {
         None => false,
-        Some(living) => !(is_free_outward(living.outward()) && is_free_inward(living.inward())),
+        Some(living) => !(is_idle_outward(living.outward()) && is_idle_inward(living.inward())),
     }
 }
 
@@ -207,7 +209,7 @@ fn names_twice(ends: &[EndId]) -> bool
     }
 }
 
-#[tactic(auto, unfolding(end_table::specs::Place::end_eq))]
+#[tactic(auto, unfolding(charlotte_calls::specs::EndEq::end_eq))]
 fn has_end(ends: &[EndId], end: EndId) -> bool
     ensures { result ≡ list_any (end_eq end) ends.now }
 {

@@ -1,5 +1,5 @@
 -- A call that is not refused goes well.
-use Rattle.std.proofs.Common.{◌≡◌, ℕ, ◌<◌, Bool, true, nat_eq, List, Option, Some, None, refl, sym}
+use Rattle.std.proofs.Common.{◌≡◌, ℕ, ◌<◌, Bool, true, nat_eq, List, Option, Some, None, refl}
 use Rattle.charlotte_calls.specs.declared.calls.Call.{Call}
 use Rattle.charlotte_calls.specs.declared.calls.Call.TheVariants as call
 use Rattle.charlotte_calls.specs.declared.calls.ServiceStep.TheVariants as step
@@ -13,7 +13,7 @@ use Rattle.end_table.specs.declared.entry.HereView.{HereView}
 use Rattle.end_table.specs.declared.entry.Holder.TheVariants as holder
 use Rattle.end_table.specs.declared.entry.Inward.{Inward}
 use Rattle.end_table.specs.declared.entry.Inward.TheVariants as inward
-use Rattle.kernel_sound.proofs.Needs.{granted-at, owned-here}
+use Rattle.kernel_sound.proofs.Needs.{owned-here}
 use Rattle.kernel_sound.proofs.Calls.{AreOwnedBy-all, destroys-well, ends_each-well, makes-well, posts-well, starts_send-well, withdraws_receive-well, withdraws_send-well}
 use Rattle.kernel_sound.proofs.Goes.{GoesWell, means-well}
 use Rattle.kernel_sound.specs.Acts.{acts, acts_on, made_after, withdraws_posted}
@@ -58,7 +58,7 @@ module _ (k made n : ℕ) (touches : Pid → EndId → Bool) (before : EndId →
       on-well (GoesWell k made n touches before) _ p on d (λ v same at owner. destroys-well on v p d at owner covers w (step.Destroy on)) w
   acts-well mine (call.Send on bytes xs) d below reported granted ends covers w =
       on-well (GoesWell k made n touches before) _ p on d
-      (λ v same at owner. starts_send-well on v p d at owner covers w bytes xs (granted-at p d.table on xs v (sym same) granted)) w
+      (λ v same at owner. starts_send-well on v p d at owner covers w bytes xs granted) w
   acts-well mine (call.Receive on) d below reported granted ends covers w =
       on-well (GoesWell k made n touches before) _ p on d (λ v same at owner. posts-well on v p d at owner covers w) w
   acts-well mine (call.Cancel on way.Outward) d below reported granted ends covers w =

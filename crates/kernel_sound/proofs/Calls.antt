@@ -1,6 +1,7 @@
 -- A call of a process goes well.
 use Rattle.std.proofs.Common.{◌≡◌, ℕ, zero, suc, ◌+◌, ◌<◌, Bool, true, false, true≢false, nat_eq, List, [], ◌∷◌, Some, None, IsSome, Contains, refl, sym, ap, subst, ◌∙◌, if◌then◌else◌, arith}
 use Rattle.std.specs.List.{list_any}
+use Rattle.charlotte_calls.specs.Causes.{first_of, send_causes}
 use Rattle.charlotte_calls.specs.Moving.{new_end}
 use Rattle.charlotte_calls.specs.Names.{opposite}
 use Rattle.charlotte_calls.specs.declared.calls.ServiceStep.{ServiceStep}
@@ -26,7 +27,7 @@ use Rattle.kernel_sound.proofs.Put.{AreHeldBy-others, HasNoMessage, IfHere-away,
 use Rattle.kernel_sound.proofs.Sends.{means-only, only-same, tells_gone-only}
 use Rattle.kernel_sound.specs.Sound.{AreHeldBy, IsHeldWell, IsSound}
 use Rattle.kernel_step.specs.Actions.{enclosed_of, end_each, ends, ends_idle, ends_idle_here, here, held, hold_each, matches, tells_gone}
-use Rattle.kernel_step.specs.Calls.{encloses, ends_each, ends_here, first_of, is_active, made_end, makes, posts, send_causes, starts_send, withdraws_receive, withdraws_send}
+use Rattle.kernel_step.specs.Calls.{encloses, ends_each, ends_here, is_active, made_end, makes, posts, sees, starts_send, withdraws_receive, withdraws_send}
 use Rattle.kernel_step.specs.Progress.{Progress, keeps, means}
 use Rattle.kernel_step.proofs.Departed.{ended-IsHere}
 
@@ -337,11 +338,11 @@ module _ {k made n : ℕ} {touches : Pid → EndId → Bool} {before : EndId →
   withdraws_receive-well r = withdraws_receive-owned on v p d r from
 
   -- Send
-  pub starts_send-well : (bytes : List ℕ) (xs : List EndId) → first_of (send_causes p d.table on xs v) ≡ None → GoesWell k made n touches before (starts_send k bytes xs v (encloses on xs d))
+  pub starts_send-well : (bytes : List ℕ) (xs : List EndId) → first_of (send_causes (sees p d.table) on xs) ≡ None → GoesWell k made n touches before (starts_send k bytes xs v (encloses on xs d))
   unfolding encloses
   starts_send-well bytes xs granted =
-      let free : AreFree p d.table xs = send-free p d.table on xs v granted in
-      let apart : list_any (end_eq on) xs ≡ false = send-apart p d.table on xs v granted in
+      let free : AreFree p d.table xs = send-free p d.table on xs granted in
+      let apart : list_any (end_eq on) xs ≡ false = send-apart p d.table on xs granted in
       starts_send-owned on bytes xs v p (hold_each (holder.EnclosedIn on) xs d)
       (record {
         at = hold_each-other (holder.EnclosedIn on) xs d on w.sound.own apart ∙ at;

@@ -1,7 +1,9 @@
 -- What the parts of an event require follows from what is true of the table.
-use Rattle.std.proofs.Common.{◌≡◌, ℕ, Bool, true, false, true≢false, not, ◌&&◌, ◌||◌, List, [], ◌∷◌, Some, None, is_none, refl, sym, ap, subst, ◌∙◌, if◌then◌else◌, rules}
+use Rattle.std.proofs.Common.{◌≡◌, ℕ, Bool, true, false, true≢false, not, ◌&&◌, ◌||◌, List, [], ◌∷◌, Option, Some, None, IsSome, refl, sym, ap, subst, ◌∙◌, if◌then◌else◌, rules}
 use Rattle.std.specs.List.{list_any}
-use Rattle.charlotte_calls.specs.declared.calls.Cause.{Cause}
+use Rattle.charlotte_calls.proofs.Causes.{AllFail, first_of-none}
+use Rattle.charlotte_calls.specs.Causes.{first_of, is_busy, is_idle, send_causes}
+use Rattle.charlotte_calls.specs.EndEq.{names_twice, same_link}
 use Rattle.charlotte_calls.specs.declared.names.EndId.{EndId}
 use Rattle.charlotte_calls.specs.declared.names.Pid.{Pid}
 use Rattle.charlotte_calls.specs.declared.work.Work.{Work}
@@ -23,7 +25,7 @@ use Rattle.kernel_sound.specs.Sound.{AreHeldBy, IsSound}
 use Rattle.kernel_step.proofs.EnclosedEnds.{first_false, second_false}
 use Rattle.kernel_step.proofs.Steps.{IfHere-map}
 use Rattle.kernel_step.specs.Actions.{enclosed_of, here, held, hold_each}
-use Rattle.kernel_step.specs.Calls.{encloses, on_owned, first_of, inward_activity, is_busy, is_free, names_twice, outward_activity, same_link, send_causes}
+use Rattle.kernel_step.specs.Calls.{encloses, inward_activity, outward_activity, seen, seen_of, sees}
 use Rattle.kernel_step.specs.Enclosed.{AreEnclosed, IsReady}
 use Rattle.kernel_step.specs.Progress.{Progress, keeps, progress}
 
@@ -107,30 +109,16 @@ AreFree-others p old new x xs same free = go xs free.1 free.2
     go (y ∷ ys) none are =
         (subst (λ z. IsHereAnd z (λ u. IsIdle u × (u.holder ≡ holder.Owner p))) (sym (same y (first_false _ _ none))) are.0, are.1, go ys (second_false _ _ none) are.2)
 
--- every one of these tests fails
-abbrev pub AllFail : List (Bool × Cause) → Type 0
-AllFail [] = Unit {0}
-AllFail (t ∷ ts) = (t.0 ≡ false) × AllFail ts
-
--- where no test holds, all fail
-pub first_of-none : (ts : List (Bool × Cause)) → first_of ts ≡ None → AllFail ts
-first_of-none [] h = tt
-first_of-none (t ∷ ts) h = by t.0 refl h (first_of-none ts)
-  where
-    by : (b : Bool) → t.0 ≡ b → (if b then Some t.1 else first_of ts) ≡ None → (first_of ts ≡ None → AllFail ts) → (t.0 ≡ false) × AllFail ts
-    by true is h others = cc
-    by false is h others = (is, others h)
-
 -- an owner is who `is_owner` tells
 pub owner-is_owner : (p : Pid) (h : Holder) → is_owner p h ≡ true → h ≡ holder.Owner p
 owner-is_owner p (holder.Owner q) is = search rules
 owner-is_owner p (holder.EnclosedIn on) is = cc
 
 -- an end that is not busy is idle
-pub IsIdle-is_busy : (v : HereView) → is_busy (Some v) ≡ false → IsIdle v
+pub IsIdle-is_busy : (v : HereView) → is_busy (seen_of v) ≡ false → IsIdle v
 IsIdle-is_busy v h = let both = by v.outward v.inward h in record { outward = both.0; inward = both.1 }
   where
-    by : (o : Outward) (i : Inward) → not (is_free (outward_activity o) && is_free (inward_activity i)) ≡ false → (o ≡ outward.Idle) × (i ≡ inward.Idle)
+    by : (o : Outward) (i : Inward) → not (is_idle (outward_activity o) && is_idle (inward_activity i)) ≡ false → (o ≡ outward.Idle) × (i ≡ inward.Idle)
     by outward.Idle inward.Idle h = (refl, refl)
     by outward.Idle (inward.Posted w) h = cc
     by outward.Idle (inward.Withdrawing w) h = cc
@@ -140,18 +128,18 @@ IsIdle-is_busy v h = let both = by v.outward v.inward h in record { outward = bo
     by outward.Unreported i h = cc
 
 -- an end that p owns and that is not busy is free
-free-owned : (p : Pid) (x : Entry) → is_none (owned p x) ≡ false → is_busy (owned p x) ≡ false → IsHereAnd x (λ u. IsIdle u × (u.holder ≡ holder.Owner p))
+free-owned : (p : Pid) (x : Entry) → not (seen (owned p x)).owned ≡ false → is_busy (seen (owned p x)) ≡ false → IsHereAnd x (λ u. IsIdle u × (u.holder ≡ holder.Owner p))
 free-owned p entry.Nothing some calm = absurd (true≢false some)
 free-owned p (entry.Here v) some calm = by (is_owner p v.holder) refl some calm
   where
-    by : (b : Bool) → is_owner p v.holder ≡ b → is_none (if b then Some v else None) ≡ false → is_busy (if b then Some v else None) ≡ false → IsIdle v × (v.holder ≡ holder.Owner p)
+    by : (b : Bool) → is_owner p v.holder ≡ b → not (seen (if b then Some v else None)).owned ≡ false → is_busy (seen (if b then Some v else None)) ≡ false → IsIdle v × (v.holder ≡ holder.Owner p)
     by true is some calm = (IsIdle-is_busy v calm, owner-is_owner p v.holder is)
     by false is some calm = absurd (true≢false some)
 free-owned p (entry.Left to hops) some calm = absurd (true≢false some)
 free-owned p (entry.Destroyed m) some calm = absurd (true≢false some)
 
 -- ends that pass the tests of a Send are free
-free-tests : (p : Pid) (t : EndId → Entry) (xs : List EndId) → list_any (λ x. is_none (owned p (t x))) xs ≡ false → list_any (λ x. is_busy (owned p (t x))) xs ≡ false → names_twice xs ≡ false → AreFree p t xs
+free-tests : (p : Pid) (t : EndId → Entry) (xs : List EndId) → list_any (λ x. not (sees p t x).owned) xs ≡ false → list_any (λ x. is_busy (sees p t x)) xs ≡ false → names_twice xs ≡ false → AreFree p t xs
 free-tests p t [] some calm once = tt
 free-tests p t (x ∷ xs) some calm once =
     (free-owned p (t x) (first_false _ _ some) (first_false _ _ calm), first_false _ _ once, free-tests p t xs (second_false _ _ some) (second_false _ _ calm) (second_false _ _ once))
@@ -170,13 +158,13 @@ apart-same_link e (x ∷ xs) none = by (end_eq e x) refl (apart-same_link e xs (
     by false apart others = others
 
 -- a send that is not refused encloses free ends of other links
-module _ (p : Pid) (t : EndId → Entry) (on : EndId) (xs : List EndId) (v : HereView) (granted : first_of (send_causes p t on xs v) ≡ None) where
-  fail : AllFail (send_causes p t on xs v)
-  fail = first_of-none (send_causes p t on xs v) granted
+module _ (p : Pid) (t : EndId → Entry) (on : EndId) (xs : List EndId) (granted : first_of (send_causes (sees p t) on xs) ≡ None) where
+  fail : AllFail (send_causes (sees p t) on xs)
+  fail = first_of-none (send_causes (sees p t) on xs) granted
 
   -- the ends that it encloses are free
   pub send-free : AreFree p t xs
-  send-free = free-tests p t xs fail.1.1.0 fail.1.1.1.0 fail.1.1.1.1.1.0
+  send-free = free-tests p t xs fail.1.1.1.0 fail.1.1.1.1.0 fail.1.1.1.1.1.1.0
 
   -- and may be enclosed
   pub send-enclosed : AreEnclosed t xs
@@ -184,7 +172,7 @@ module _ (p : Pid) (t : EndId → Entry) (on : EndId) (xs : List EndId) (v : Her
 
   -- the end itself is none of them
   pub send-apart : list_any (end_eq on) xs ≡ false
-  send-apart = apart-same_link on xs fail.1.1.1.1.0
+  send-apart = apart-same_link on xs fail.1.1.1.1.1.0
 
 -- ends stay enclosed where an entry that is here and idle is put
 pub AreEnclosed-put : (t : EndId → Entry) (e : EndId) (x : Entry) (xs : List EndId) → IsHereAnd x IsIdle → AreEnclosed t xs → AreEnclosed (put t e x) xs
@@ -264,6 +252,7 @@ owned-here p (entry.Here u) v is = by (is_owner p u.holder) refl is
 owned-here p (entry.Left to hops) v is = cc
 owned-here p (entry.Destroyed m) v is = cc
 
--- a Send that is not refused on an end that p owns
-pub granted-at : (p : Pid) (t : EndId → Entry) (on : EndId) (xs : List EndId) (v : HereView) → Some v ≡ owned p (t on) → on_owned (owned p (t on)) (send_causes p t on xs) ≡ None → first_of (send_causes p t on xs v) ≡ None
-granted-at p t on xs v is granted = subst (λ o. on_owned o (send_causes p t on xs) ≡ None) (sym is) granted
+-- an end that p sees as its own is one that it owns
+pub seen-owned : (o : Option HereView) → not (seen o).owned ≡ false → IsSome o
+seen-owned None some = absurd (true≢false some)
+seen-owned (Some v) some = refl

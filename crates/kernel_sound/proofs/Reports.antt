@@ -1,5 +1,6 @@
 -- An activity that was over is idle once it is reported: the table stays sound, and nobody's activities change.
 use Rattle.std.proofs.Common.{◌≡◌, ℕ, Bool, true, false, ◌||◌, inl, Some, None, refl, ap, subst, ◌∙◌, if◌then◌else◌}
+use Rattle.charlotte_calls.specs.Causes.{is_started}
 use Rattle.charlotte_calls.specs.declared.names.EndId.{EndId}
 use Rattle.charlotte_calls.specs.declared.names.Pid.{Pid}
 use Rattle.charlotte_calls.specs.declared.names.Way.{Way}
@@ -17,7 +18,7 @@ use Rattle.end_table.specs.declared.entry.Outward.TheVariants as outward
 use Rattle.kernel_sound.proofs.Put.{IsViewAfter, put-each, put-sound-away, put-sound-view}
 use Rattle.kernel_sound.specs.Sound.{IsSound}
 use Rattle.kernel_step.specs.Actions.{enclosed_of}
-use Rattle.kernel_step.specs.Calls.{inward_activity, is_active, is_started, outward_activity}
+use Rattle.kernel_step.specs.Calls.{inward_activity, is_active, outward_activity}
 use Rattle.kernel_step.specs.Kernel.{inward_reported, outward_reported, reported_entry, reported_view}
 
 -- a report changes nothing that is started, and encloses nothing

@@ -1,12 +1,11 @@
-ghost use Rattle.std.specs.Prelude.{◌≡◌, ◌+◌, ◌<◌, false, length, slice_index, slice_index_or, slice_set, IfOk, OnOk};
+ghost use Rattle.std.specs.Prelude.{◌≡◌, ◌+◌, ◌<◌, length, slice_index, slice_index_or, slice_set, IfOk, OnOk};
 ghost use Rattle.charlotte_calls.specs.Names.{opposite};
 ghost use Rattle.charlotte_calls.specs.Setting.{IsValid};
 ghost use Rattle.charlotte_calls.specs.declared.names.EndId.{EndId};
 ghost use Rattle.charlotte_calls.specs.declared.names.Pid.{Pid};
 ghost use Rattle.charlotte_calls.specs.declared.setting.Setting.{Setting};
 ghost use Rattle.end_table.specs.Entries.{settled};
-ghost use Rattle.end_table.specs.Place.{end_eq};
-ghost use Rattle.end_table.specs.Table.{entries, IfHere, IsHere, IsIdle};
+ghost use Rattle.end_table.specs.Table.{entries, IfHere, IsHere, IsIdle, KeepsOthers};
 ghost use Rattle.end_table.specs.declared.entry.Entry.TheVariants.{Here};
 ghost use Rattle.end_table.specs.declared.entry.Holder.TheVariants.{Owner};
 ghost use Rattle.kernel_step.specs.Calls.{made_end};
@@ -135,8 +134,7 @@ fn place(table: &mut Table, at: u8, value: Moving, owner: Pid) -> Result<(), NoM
     requires { IsHere (entries table.old value.end) → ⊥ }
     ensures placed { OnOk result (entries table.new
         ≡ keeps_at at value.end (Here (settled (Owner owner) value)) (λ _. entries table.old) table.old.kernel) }
-    ensures others { (q : EndId) → end_eq value.end q ≡ false → entries table.new q ≡ entries table.old q }
-    ensures kernel { table.new.kernel ≡ table.old.kernel }
+    ensures kept { KeepsOthers table.old table.new value.end }
 {
     if at != table.kernel() {
         value.destroy();

@@ -7,6 +7,7 @@ use Rattle.charlotte_calls.specs.declared.picture.MovingPicture.{MovingPicture}
 use Rattle.kernel_step.specs.Actions.{forget_at, kernel_numbers}
 use Rattle.charlotte_calls.specs.declared.work.Work.{Work}
 use Rattle.kernel_step.specs.Progress.{Progress, AddsAtMost}
+use Rattle.kernel_step.specs.Room.{one_packet, packets}
 
 -- one kernel more is told
 pub forgets-more : (k : ℕ) (m : MovingPicture) (i : ℕ) (first before after : Progress) → i < 8 → before ≡ fold (λ so_far j. forget_at k m j so_far) first (take i kernel_numbers) → after ≡ forget_at k m (get_or kernel_numbers i 0) before → after ≡ fold (λ so_far j. forget_at k m j so_far) first (take (i + 1) kernel_numbers)
@@ -18,7 +19,7 @@ forgets-more k m i first before after small told more =
     ∙ ap (λ js. fold f first js) (sym (take_more kernel_numbers i 0 small))
 
 -- what some calls add, and one more
-pub AddsAtMost-more : (n : ℕ) (old mid new : Work) → AddsAtMost n 0 0 0 old mid → AddsAtMost 1 0 0 0 mid new → AddsAtMost (n + 1) 0 0 0 old new
+pub AddsAtMost-more : (n : ℕ) (old mid new : Work) → AddsAtMost (packets n) old mid → AddsAtMost one_packet mid new → AddsAtMost (packets (n + 1)) old new
 AddsAtMost-more n old mid new a b =
     record {
       packets = omega (arith, a.packets, b.packets);

@@ -1,11 +1,11 @@
 -- How changes of a table and of a `Work` make the words of the kernel step.
-use Rattle.std.proofs.Common.{◌≡◌, ℕ, false, [], ◌∷◌, ap, sym, ◌∙◌, refl}
+use Rattle.std.proofs.Common.{◌≡◌, ℕ, [], ◌∷◌, ap, sym, ◌∙◌, refl}
 use Rattle.charlotte_calls.specs.declared.names.EndId.{EndId}
 use Rattle.charlotte_calls.specs.declared.work.Work.{Work}
 use Rattle.charlotte_calls.specs.declared.picture.MovingPicture.{MovingPicture}
 use Rattle.end_table.specs.Entries.{left_entry, left_value}
-use Rattle.end_table.specs.Place.{end_eq, put}
-use Rattle.end_table.specs.Table.{TableView, entries, IfHere, IsHere, IsHereAnd, IsIdle, IsOfEnd, Puts}
+use Rattle.end_table.specs.Place.{put}
+use Rattle.end_table.specs.Table.{TableView, entries, IfHere, IsHere, IsHereAnd, IsIdle, IsOfEnd, KeepsOthers, Puts}
 use Rattle.end_table.specs.declared.entry.Entry.{Entry}
 use Rattle.end_table.specs.declared.entry.Entry.TheVariants as entry
 use Rattle.end_table.specs.declared.entry.HereView.{HereView}
@@ -43,11 +43,9 @@ IsHere-idle (entry.Left to hops) idle = idle
 IsHere-idle (entry.Destroyed m) idle = idle
 
 -- where an entry is put by its view, every other end keeps its own
-pub others-IfHere : (old new : TableView) (e : EndId) (f : HereView → Entry) → IsHere (entries old e) → IfHere (entries old e) (λ v. Puts old new e (f v)) → (q : EndId) → end_eq e q ≡ false → entries new q ≡ entries old q
-others-IfHere old new e f here is q apart = IfHere-view (λ v. Puts old new e (f v)) (entries new q ≡ entries old q) (entries old e) here (λ v same puts. puts.others q apart) is
-
-pub kernel-IfHere : (old new : TableView) (e : EndId) (f : HereView → Entry) → IsHere (entries old e) → IfHere (entries old e) (λ v. Puts old new e (f v)) → new.kernel ≡ old.kernel
-kernel-IfHere old new e f here is = IfHere-view (λ v. Puts old new e (f v)) (new.kernel ≡ old.kernel) (entries old e) here (λ v same puts. puts.kernel) is
+pub kept-IfHere : (old new : TableView) (e : EndId) (f : HereView → Entry) → IsHere (entries old e) → IfHere (entries old e) (λ v. Puts old new e (f v)) → KeepsOthers old new e
+kept-IfHere old new e f here is =
+    IfHere-view (λ v. Puts old new e (f v)) (KeepsOthers old new e) (entries old e) here (λ v same puts. record { others = puts.others; kernel = puts.kernel }) is
 
 -- so how far the event is has it kept
 pub progress-IfHere : (old new : TableView) (e : EndId) (f : HereView → Entry) → IfHere (entries old e) (λ v. Puts old new e (f v))

@@ -1,7 +1,8 @@
 -- The calls of processes: when each is refused, and what it does with the kernel's table where it is not.
 -- p is the calling process, k its kernel, t what the kernel keeps of each end.
-use Rattle.std.specs.Prelude.{ℕ, Bool, true, false, nat_eq, nat_le, ◌&&◌, ◌||◌, not, is_none, List, [], ◌∷◌, if◌then◌else◌, Option, Some, None}
+use Rattle.std.specs.Prelude.{ℕ, Bool, true, false, nat_eq, ◌||◌, List, if◌then◌else◌, Option, Some, None}
 use Rattle.std.specs.List.{fold, list_any}
+use Rattle.charlotte_calls.specs.Causes.{Activity, Idle, Started, Matched, Unreported, Seen, first_cause, is_started}
 use Rattle.charlotte_calls.specs.Names.{opposite}
 use Rattle.charlotte_calls.specs.Moving.{new_end}
 use Rattle.charlotte_calls.specs.declared.calls.Call.{Call}
@@ -12,7 +13,6 @@ use Rattle.charlotte_calls.specs.declared.calls.ServiceStep.TheVariants as step
 use Rattle.charlotte_calls.specs.declared.names.EndId.{EndId}
 use Rattle.charlotte_calls.specs.declared.names.Side.TheVariants.{A}
 use Rattle.charlotte_calls.specs.declared.names.Pid.{Pid}
-use Rattle.charlotte_calls.specs.declared.names.Way.{Way}
 use Rattle.charlotte_calls.specs.declared.names.Way.TheVariants as way
 use Rattle.charlotte_calls.specs.declared.picture.PictureWhat.TheVariants as packet
 use Rattle.end_table.specs.Owned.{owned, AreEndsOf}
@@ -25,110 +25,41 @@ use Rattle.end_table.specs.declared.entry.Inward.{Inward}
 use Rattle.end_table.specs.declared.entry.Inward.TheVariants as inward
 use Rattle.end_table.specs.declared.entry.Outward.{Outward}
 use Rattle.end_table.specs.declared.entry.Outward.TheVariants as outward
-use Rattle.end_table.specs.Place.{end_eq}
 use Rattle.kernel_step.specs.Progress.{Progress, sends, means, keeps}
 use Rattle.kernel_step.specs.Actions.{here, hint_kernel, enclosed_of, matches, ends, hold_each}
 
--- how far an activity has come
-pub data Activity : Type 0 where
-  Free : Activity
-  -- a send that waits, or a receive that is posted
-  Begun : Activity
-  -- a send whose message was matched, or a receive whose Cancel waits
-  Bound : Activity
-  -- over, and not yet reported
-  Over : Activity
+-- how far an activity has come: a receive can be taken back while its Cancel waits, too
 
 abbrev pub outward_activity : Outward → Activity
-outward_activity outward.Idle = Free
-outward_activity (outward.Waiting n bytes xs) = Begun
-outward_activity (outward.Matched n) = Bound
-outward_activity outward.Unreported = Over
+outward_activity outward.Idle = Idle
+outward_activity (outward.Waiting n bytes xs) = Started
+outward_activity (outward.Matched n) = Matched
+outward_activity outward.Unreported = Unreported
 
 abbrev pub inward_activity : Inward → Activity
-inward_activity inward.Idle = Free
-inward_activity (inward.Posted w) = Begun
-inward_activity (inward.Withdrawing w) = Bound
-inward_activity inward.Unreported = Over
+inward_activity inward.Idle = Idle
+inward_activity (inward.Posted w) = Started
+inward_activity (inward.Withdrawing w) = Started
+inward_activity inward.Unreported = Unreported
 
-abbrev pub activity : Way → HereView → Activity
-activity way.Outward v = outward_activity v.outward
-activity way.Inward v = inward_activity v.inward
+-- what the owner of an end sees of it
+abbrev pub seen_of : HereView → Seen
+seen_of v =
+    record {
+      owned = true;
+      outward = outward_activity v.outward;
+      inward = inward_activity v.inward;
+      dead = v.value.dead;
+    }
 
-abbrev pub is_free : Activity → Bool
-is_free Free = true
-is_free Begun = false
-is_free Bound = false
-is_free Over = false
+-- what a process sees of an end: of one that it does not own, no more than that
+abbrev pub seen : Option HereView → Seen
+seen None = record { owned = false; outward = Idle; inward = Idle; dead = false }
+seen (Some v) = seen_of v
 
-abbrev pub is_started : Activity → Bool
-is_started Free = false
-is_started Begun = true
-is_started Bound = true
-is_started Over = false
-
--- the first of some tests that holds
-abbrev pub first_of : List (Bool × Cause) → Option Cause
-first_of [] = None
-first_of (t ∷ ts) = if t.0 then Some t.1 else first_of ts
-
-abbrev pub is_idle : HereView → Bool
-is_idle v = is_free (outward_activity v.outward) && is_free (inward_activity v.inward)
-
-abbrev pub is_busy : Option HereView → Bool
-is_busy None = false
-is_busy (Some v) = not (is_idle v)
-
-abbrev pub same_link : EndId → EndId → Bool
-same_link a b = nat_eq a.link.maker b.link.maker && nat_eq a.link.count b.link.count
-
-abbrev pub names_twice : List EndId → Bool
-names_twice [] = false
-names_twice (x ∷ xs) = list_any (end_eq x) xs || names_twice xs
-
--- the causes of a Send on an end that p owns, in their order, each with its test
-abbrev pub send_causes : Pid → (EndId → Entry) → EndId → List EndId → HereView → List (Bool × Cause)
-send_causes p t on xs v =
-    (not (is_free (outward_activity v.outward)), cause.Busy)
-    ∷ (v.value.dead, cause.Dead)
-    ∷ (list_any (λ x. is_none (owned p (t x))) xs, cause.EncloseNoEnd)
-    ∷ (list_any (λ x. is_busy (owned p (t x))) xs, cause.EncloseBusy)
-    ∷ (list_any (same_link on) xs, cause.EncloseSame)
-    ∷ (names_twice xs, cause.EncloseTwice)
-    ∷ []
-
-abbrev pub receive_causes : HereView → List (Bool × Cause)
-receive_causes v = (not (is_free (inward_activity v.inward)), cause.Busy) ∷ (v.value.dead, cause.Dead) ∷ []
-
--- a message that was matched, or whose report stands, comes too late to be taken back
-abbrev pub is_late : Way → Activity → Bool
-is_late way.Outward Free = false
-is_late way.Outward Begun = false
-is_late way.Outward Bound = true
-is_late way.Outward Over = true
-is_late way.Inward Free = false
-is_late way.Inward Begun = false
-is_late way.Inward Bound = false
-is_late way.Inward Over = true
-
-abbrev pub cancel_causes : Way → HereView → List (Bool × Cause)
-cancel_causes w v =
-    (v.value.dead, cause.Dead)
-    ∷ (is_late w (activity w v), cause.Late)
-    ∷ (is_free (activity w v), cause.NoActivity)
-    ∷ []
-
--- the first cause of a call on an end; the least is that p does not own it
-abbrev pub on_owned : Option HereView → (HereView → List (Bool × Cause)) → Option Cause
-on_owned None causes = Some cause.NoEnd
-on_owned (Some v) causes = first_of (causes v)
-
-abbrev pub no_causes : HereView → List (Bool × Cause)
-no_causes v = []
-
--- how many links a kernel may make
-abbrev pub link_limit : ℕ
-link_limit = 65536
+-- what p sees of each end
+abbrev pub sees : Pid → (EndId → Entry) → EndId → Seen
+sees p t e = seen (owned p (t e))
 
 -- an end that p owns has a started activity
 abbrev pub is_active : Option HereView → Bool
@@ -137,15 +68,9 @@ is_active (Some v) = is_started (outward_activity v.outward) || is_started (inwa
 
 -- the first cause that holds, if one does; mine are the ends that p owns, reported tells whether a report of p stands
 abbrev pub refusal : Pid → (EndId → Entry) → ℕ → List EndId → Bool → Call → Option Cause
-refusal p t made mine reported call.Make = if nat_le link_limit made then Some cause.LinksFull else None
-refusal p t made mine reported (call.Destroy on) = on_owned (owned p (t on)) no_causes
-refusal p t made mine reported (call.Send on bytes xs) = on_owned (owned p (t on)) (send_causes p t on xs)
-refusal p t made mine reported (call.Receive on) = on_owned (owned p (t on)) receive_causes
-refusal p t made mine reported (call.Cancel on w) = on_owned (owned p (t on)) (cancel_causes w)
 refusal p t made mine reported call.Wait =
     if reported || list_any (λ e. is_active (here (t e))) mine then None else Some cause.NoActivity
-refusal p t made mine reported (call.Print bytes) = None
-refusal p t made mine reported call.Exit = None
+refusal p t made mine reported c = first_cause (sees p t) made c
 
 -- Make: both ends of a new link are owned by the caller
 abbrev pub made_end : ℕ → ℕ → EndId

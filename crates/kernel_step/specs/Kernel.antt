@@ -126,12 +126,22 @@ is_waiting Waiting = true
 is_waiting (Cancelling e) = false
 is_waiting Exited = false
 
--- a report joins its process's list; where the process is in a Wait, the first report answers it
+-- a process goes on to another phase
+abbrev pub turns : Pid → Phase → Kernel → Kernel
+turns p phase s = with_process p (record (process_of p s) { phase = phase }) s
+
+-- a Wait, with these reports: the oldest answers it, and the others stay
+abbrev pub waits : Pid → List Report → Outcome → Outcome
+waits p [] o = record o { kernel = turns p Waiting o.kernel }
+waits p (r ∷ rs) o = answers_wait p r rs o
+
+-- a report joins its process's list; where the process is in a Wait, the oldest of the list answers it
 abbrev pub joins : Pid → Report → Phase → Outcome → Outcome
 joins p r phase o =
     let x = process_of p o.kernel in
-    if is_waiting phase then answers_wait p r [] o
-    else record o { kernel = with_process p (record x { reports = x.reports ++ r ∷ [] }) o.kernel }
+    let reports = x.reports ++ r ∷ [] in
+    if is_waiting phase then waits p reports o
+    else record o { kernel = with_process p (record x { reports = reports }) o.kernel }
 
 unfoldable pub join_reports : List (Pid × Report) → Outcome → Outcome
 join_reports rs o = fold (λ so_far r. joins r.0 r.1 (process_of r.0 so_far.kernel).phase so_far) o rs
@@ -151,15 +161,6 @@ unfoldable pub take_step : Kernel → ℕ → Picture → Outcome
 take_step s from p =
     let d = begins s (next_stamp (max s.stamp p.stamp)) in
     closes s (if is_addressed p.what s.kernels then row s.number s.made from p.what d else d)
-
--- a process goes on to another phase
-abbrev pub turns : Pid → Phase → Kernel → Kernel
-turns p phase s = with_process p (record (process_of p s) { phase = phase }) s
-
--- a Wait: the oldest report answers it
-abbrev pub waits : Pid → List Report → Outcome → Outcome
-waits p [] o = record o { kernel = turns p Waiting o.kernel }
-waits p (r ∷ rs) o = answers_wait p r rs o
 
 -- a call that is answered with Ok at once
 abbrev pub granted : Pid → Kernel → Progress → Outcome

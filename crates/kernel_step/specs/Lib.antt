@@ -1,4 +1,5 @@
 pub mod Progress
+pub mod Room
 pub mod Actions
 pub mod Rows
 pub mod Calls

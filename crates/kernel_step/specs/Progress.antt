@@ -7,11 +7,13 @@ use Rattle.charlotte_calls.specs.declared.calls.ServiceStep.{ServiceStep}
 use Rattle.charlotte_calls.specs.declared.names.EndId.{EndId}
 use Rattle.charlotte_calls.specs.declared.names.Pid.{Pid}
 use Rattle.charlotte_calls.specs.declared.packet.Packet.{Packet}
+use Rattle.charlotte_calls.specs.declared.work.Room.{Room}
 use Rattle.charlotte_calls.specs.declared.work.Work.{Work}
 use Rattle.charlotte_calls.specs.declared.picture.Picture.{Picture}
 use Rattle.charlotte_calls.specs.declared.picture.PictureWhat.{PictureWhat}
 use Rattle.end_table.specs.declared.entry.Entry.{Entry}
 use Rattle.end_table.specs.Place.{put}
+use Rattle.end_table.specs.Table.{TableView}
 
 pub record Progress : Type 0 where
   -- what the kernel keeps of each end
@@ -63,20 +65,25 @@ progress t out =
       steps = out.steps.items;
     }
 
--- the lists have spare room for so many packets, reports, answers and steps
-pub record HasRoom (p r a s : ℕ) (out : Work) : Type 0 where
-  pub packets : vec_len out.packets + p ≤ vec_capacity out.packets
-  pub reports : vec_len out.reports + r ≤ vec_capacity out.reports
-  pub answers : vec_len out.answers + a ≤ vec_capacity out.answers
-  pub steps : vec_len out.steps + s ≤ vec_capacity out.steps
+-- the lists have this spare room
+pub record HasRoom (room : Room) (out : Work) : Type 0 where
+  pub packets : vec_len out.packets + room.packets ≤ vec_capacity out.packets
+  pub reports : vec_len out.reports + room.reports ≤ vec_capacity out.reports
+  pub answers : vec_len out.answers + room.answers ≤ vec_capacity out.answers
+  pub steps : vec_len out.steps + room.steps ≤ vec_capacity out.steps
 
--- no list took memory, and each gained at most so many
-pub record AddsAtMost (p r a s : ℕ) (old new : Work) : Type 0 where
-  pub packets : vec_len new.packets ≤ vec_len old.packets + p
-  pub reports : vec_len new.reports ≤ vec_len old.reports + r
-  pub answers : vec_len new.answers ≤ vec_len old.answers + a
-  pub steps : vec_len new.steps ≤ vec_len old.steps + s
+-- no list took memory, and none gained more than this room
+pub record AddsAtMost (room : Room) (old new : Work) : Type 0 where
+  pub packets : vec_len new.packets ≤ vec_len old.packets + room.packets
+  pub reports : vec_len new.reports ≤ vec_len old.reports + room.reports
+  pub answers : vec_len new.answers ≤ vec_len old.answers + room.answers
+  pub steps : vec_len new.steps ≤ vec_len old.steps + room.steps
   pub packets_in_place : vec_capacity new.packets ≡ vec_capacity old.packets
   pub reports_in_place : vec_capacity new.reports ≡ vec_capacity old.reports
   pub answers_in_place : vec_capacity new.answers ≡ vec_capacity old.answers
   pub steps_in_place : vec_capacity new.steps ≡ vec_capacity old.steps
+
+-- a part of an event stays within a room: the table is that of the same kernel, and the lists gain no more than the room
+pub record StaysWithin (room : Room) (before after : TableView) (old new : Work) : Type 0 where
+  pub kernel : after.kernel ≡ before.kernel
+  pub added : AddsAtMost room old new

@@ -1,15 +1,15 @@
-ghost use Rattle.std.specs.Prelude.{◌≡◌, false, [], ◌∷◌, None, MatchOption};
+ghost use Rattle.std.specs.Prelude.{◌≡◌, [], ◌∷◌, None, MatchOption};
 ghost use Rattle.charlotte_calls.specs.declared.names.EndId.{EndId};
 ghost use Rattle.charlotte_calls.specs.declared.work.Work.{Work};
 ghost use Rattle.end_table.specs.Entries.{is_news, learned};
 ghost use Rattle.end_table.specs.Message.{message_of, outward_of};
-ghost use Rattle.end_table.specs.Place.{end_eq};
-ghost use Rattle.end_table.specs.Table.{entries, Puts, IfHere, IsHere, IsHereAnd, IsIdle};
+ghost use Rattle.end_table.specs.Table.{entries, KeepsOthers, Puts, IfHere, IsHere, IsHereAnd, IsIdle};
 ghost use Rattle.end_table.specs.declared.entry.Entry.TheVariants.{Here};
 ghost use Rattle.end_table.specs.declared.entry.Outward.TheVariants.{Waiting};
 ghost use Rattle.kernel_step.specs.Actions.{here, held, leaves_here, value_leaving};
 ghost use Rattle.kernel_step.specs.Progress.{progress, keeps};
 
+use crate::site::Site;
 use charlotte_calls::{Bytes, EndId, Ends, Moving, MovingPicture};
 use end_table::{Holder, Inward, Sending, Table};
 
@@ -21,7 +21,7 @@ pub fn keep_inward(table: &mut Table, on: EndId, value: MovingPicture, inward: I
     ensures part { IfHere (entries table.old on) (λ v. (out : Work) → progress (entries table.new) out
         ≡ keeps on (Here (record v { value = value; inward = inward })) (progress (entries table.old) out)) }
     ensures puts { IfHere (entries table.old on) (λ v. Puts table.old table.new on (Here (record v { value = value; inward = inward }))) }
-    ensures kernel { table.new.kernel ≡ table.old.kernel }
+    ensures kept { KeepsOthers table.old table.new on }
 {
     table.set_inward(on, value, inward);
 }
@@ -35,8 +35,7 @@ pub fn keep_sending(table: &mut Table, on: EndId, value: MovingPicture, sending:
     ensures part { IfHere (entries table.old on) (λ v. (out : Work) → progress (entries table.new) out
         ≡ keeps on (Here (record v { value = value; outward = outward_of sending })) (progress (entries table.old) out)) }
     ensures puts { IfHere (entries table.old on) (λ v. Puts table.old table.new on (Here (record v { value = value; outward = outward_of sending }))) }
-    ensures others { (q : EndId) → end_eq on q ≡ false → entries table.new q ≡ entries table.old q }
-    ensures kernel { table.new.kernel ≡ table.old.kernel }
+    ensures kept { KeepsOthers table.old table.new on }
 {
     table.set_sending(on, value, sending);
 }
@@ -54,20 +53,20 @@ pub fn keep_waiting(
     requires same_end { value.end ≡ on }
     ensures part { IfHere (entries table.old on) (λ v. (out : Work) → progress (entries table.new) out
         ≡ keeps on (Here (record v { value = value; outward = Waiting n bytes enclosed })) (progress (entries table.old) out)) }
-    ensures kernel { table.new.kernel ≡ table.old.kernel }
+    ensures kept { KeepsOthers table.old table.new on }
 {
     table.wait(on, value, n, bytes, enclosed);
 }
 
-/// LEARN: an end learns that its opposite is at a kernel with these hops. It answers whether that was news.
-pub fn learn_value(value: &mut MovingPicture, at: u8, hops: u32) -> bool
-    ensures learned_value { value.new ≡ learned at hops value.old }
-    ensures news { result ≡ is_news value.old hops }
+/// LEARN: an end learns where its opposite is. It answers whether that was news.
+pub fn learn_value(value: &mut MovingPicture, site: Site) -> bool
+    ensures learned_value { value.new ≡ learned site.at site.hops value.old }
+    ensures news { result ≡ is_news value.old site.hops }
     ensures end { value.new.end ≡ value.old.end }
 {
-    let news = value.hint.1 < hops;
+    let news = value.hint.1 < site.hops;
     if news {
-        value.hint = (at, hops);
+        value.hint = (site.at, site.hops);
     }
     news
 }
@@ -78,8 +77,7 @@ pub fn leave(table: &mut Table, end: EndId, to: u8) -> Moving
     ensures value { value_leaving table.old.kernel (here (entries table.old end)) ≡ result ∷ [] }
     ensures part { (out : Work) → progress (entries table.new) out
         ≡ leaves_here to (here (entries table.old end)) (progress (entries table.old) out) }
-    ensures others { (q : EndId) → end_eq end q ≡ false → entries table.new q ≡ entries table.old q }
-    ensures kernel { table.new.kernel ≡ table.old.kernel }
+    ensures kept { KeepsOthers table.old table.new end }
 {
     let moving = table.take_out(end, to);
     table.release(end);
@@ -91,8 +89,7 @@ pub fn hold(table: &mut Table, end: EndId, holder: Holder)
     requires idle { IsHereAnd (entries table.old end) IsIdle }
     ensures part { (out : Work) → progress (entries table.new) out
         ≡ held holder (here (entries table.old end)) (progress (entries table.old) out) }
-    ensures others { (q : EndId) → end_eq end q ≡ false → entries table.new q ≡ entries table.old q }
-    ensures kernel { table.new.kernel ≡ table.old.kernel }
+    ensures kept { KeepsOthers table.old table.new end }
 {
     table.set_holder(end, holder);
 }

@@ -9,6 +9,7 @@ mod ends;
 mod news;
 mod owners;
 mod phase;
+mod site;
 mod started;
 mod trail;
 mod writers;
@@ -22,6 +23,7 @@ pub use ends::{first_of, hold, keep_inward, keep_sending, keep_waiting, learn_va
 pub use news::{learn, resend_on_news, tell_moved};
 pub use owners::{answer, no_bytes, no_ends, report, send_report};
 pub use phase::Phase;
+pub use site::Site;
 pub use started::{is_withdrawing, receiver, sender};
 pub use trail::forget;
 pub use writers::{push_answer, push_packet, push_report, push_step};

@@ -3,6 +3,7 @@ ghost use Rattle.charlotte_calls.specs.declared.names.EndId.{EndId};
 ghost use Rattle.end_table.specs.declared.entry.Entry.{Entry};
 ghost use Rattle.kernel_step.specs.Actions.{send_report, reports, answers};
 ghost use Rattle.kernel_step.specs.Progress.{progress, HasRoom, AddsAtMost};
+ghost use Rattle.kernel_step.specs.Room.{one_report, one_answer};
 
 use crate::writers::{push_answer, push_report};
 use charlotte_calls::{Answer, Bytes, EndId, Ends, Outcome, Report, Way, Work};
@@ -11,9 +12,9 @@ use end_table::Holder;
 /// Reports to the owner of an end.
 #[inline(always)]
 pub fn report(out: &mut Work, holder: Holder, report: Report)
-    requires { HasRoom 0 1 0 0 out.old }
+    requires { HasRoom one_report out.old }
     ensures part { (t : EndId → Entry) → progress t out.new ≡ reports holder report (progress t out.old) }
-    ensures room { AddsAtMost 0 1 0 0 out.old out.new }
+    ensures room { AddsAtMost one_report out.old out.new }
 {
     match holder {
         Holder::Owner(p) => push_report(out, p, report),
@@ -24,9 +25,9 @@ pub fn report(out: &mut Work, holder: Holder, report: Report)
 /// Answers the Cancel of the owner of an end.
 #[inline(always)]
 pub fn answer(out: &mut Work, holder: Holder, answer: Answer)
-    requires { HasRoom 0 0 1 0 out.old }
+    requires { HasRoom one_answer out.old }
     ensures part { (t : EndId → Entry) → progress t out.new ≡ answers holder answer (progress t out.old) }
-    ensures room { AddsAtMost 0 0 1 0 out.old out.new }
+    ensures room { AddsAtMost one_answer out.old out.new }
 {
     match holder {
         Holder::Owner(p) => push_answer(out, p, answer),

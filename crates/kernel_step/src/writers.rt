@@ -3,6 +3,7 @@ ghost use Rattle.charlotte_calls.specs.Packets.{what_picture};
 ghost use Rattle.charlotte_calls.specs.declared.names.EndId.{EndId};
 ghost use Rattle.end_table.specs.declared.entry.Entry.{Entry};
 ghost use Rattle.kernel_step.specs.Progress.{progress, sends, reports_to, answers_to, means, HasRoom, AddsAtMost};
+ghost use Rattle.kernel_step.specs.Room.{one_packet, one_report, one_answer, one_step};
 
 use charlotte_calls::{Answer, Packet, Pid, Report, ServiceStep, What, Work};
 
@@ -10,9 +11,9 @@ use charlotte_calls::{Answer, Packet, Pid, Report, ServiceStep, What, Work};
 #[tactic(auto, unfolding(crate::specs::Progress::progress, crate::specs::Progress::sends))]
 #[inline(always)]
 pub fn push_packet(out: &mut Work, to: u8, what: What)
-    requires { HasRoom 1 0 0 0 out.old }
+    requires { HasRoom one_packet out.old }
     ensures part { (t : EndId → Entry) → progress t out.new ≡ sends to (what_picture what) (progress t out.old) }
-    ensures room { AddsAtMost 1 0 0 0 out.old out.new }
+    ensures room { AddsAtMost one_packet out.old out.new }
 {
     let stamp = out.stamp;
     out.packets.push_reserved((to, Packet { stamp, what }));
@@ -22,9 +23,9 @@ pub fn push_packet(out: &mut Work, to: u8, what: What)
 #[tactic(auto, unfolding(crate::specs::Progress::progress, crate::specs::Progress::reports_to))]
 #[inline(always)]
 pub fn push_report(out: &mut Work, p: Pid, report: Report)
-    requires { HasRoom 0 1 0 0 out.old }
+    requires { HasRoom one_report out.old }
     ensures part { (t : EndId → Entry) → progress t out.new ≡ reports_to p report (progress t out.old) }
-    ensures room { AddsAtMost 0 1 0 0 out.old out.new }
+    ensures room { AddsAtMost one_report out.old out.new }
 {
     out.reports.push_reserved((p, report));
 }
@@ -33,9 +34,9 @@ pub fn push_report(out: &mut Work, p: Pid, report: Report)
 #[tactic(auto, unfolding(crate::specs::Progress::progress, crate::specs::Progress::answers_to))]
 #[inline(always)]
 pub fn push_answer(out: &mut Work, p: Pid, answer: Answer)
-    requires { HasRoom 0 0 1 0 out.old }
+    requires { HasRoom one_answer out.old }
     ensures part { (t : EndId → Entry) → progress t out.new ≡ answers_to p answer (progress t out.old) }
-    ensures room { AddsAtMost 0 0 1 0 out.old out.new }
+    ensures room { AddsAtMost one_answer out.old out.new }
 {
     out.answers.push_reserved((p, answer));
 }
@@ -44,9 +45,9 @@ pub fn push_answer(out: &mut Work, p: Pid, answer: Answer)
 #[tactic(auto, unfolding(crate::specs::Progress::progress, crate::specs::Progress::means))]
 #[inline(always)]
 pub fn push_step(out: &mut Work, step: ServiceStep)
-    requires { HasRoom 0 0 0 1 out.old }
+    requires { HasRoom one_step out.old }
     ensures part { (t : EndId → Entry) → progress t out.new ≡ means step (progress t out.old) }
-    ensures room { AddsAtMost 0 0 0 1 out.old out.new }
+    ensures room { AddsAtMost one_step out.old out.new }
 {
     out.steps.push_reserved(step);
 }

@@ -1,19 +1,21 @@
-//! Tests of the kernels' libraries through their public calls.
+//! Tests of the ends' table, of what a kernel does with messages and with ends that move, and of a whole kernel, through the public calls.
 #![tactic(auto)]
 
 #[cfg(test)]
-mod calls;
+mod acts;
 #[cfg(test)]
 mod kernel;
 #[cfg(test)]
+mod messages;
+#[cfg(test)]
+mod moves;
+#[cfg(test)]
 mod node;
-#[cfg(test)]
-mod packets;
-#[cfg(test)]
-mod programs;
 #[cfg(test)]
 mod samples;
 #[cfg(test)]
-mod settings;
+mod states;
 #[cfg(test)]
-mod values;
+mod table;
+#[cfg(test)]
+mod telling;

@@ -1,5 +1,6 @@
 -- What a kernel does with a packet of a silent kind: it changes no activity, and gives no report.
 use Rattle.std.proofs.Common.{◌≡◌, ℕ, Bool, true, false, true≢false, nat_eq, nat_lt, not, ◌&&◌, ◌||◌, inl, inr, List, [], if◌then◌else◌, Option, Some, None, refl, sym, ap, subst, ◌∙◌}
+use Rattle.charlotte_calls.specs.Causes.{is_started}
 use Rattle.charlotte_calls.specs.Names.{opposite}
 use Rattle.charlotte_calls.specs.declared.calls.Report.{Report}
 use Rattle.charlotte_calls.specs.declared.calls.ServiceStep.TheVariants as step
@@ -24,7 +25,7 @@ use Rattle.kernel_sound.proofs.Put.{IsViewAfter, put-sound-view}
 use Rattle.kernel_sound.proofs.Sends.{SendsOnly, either-keeps, fold-keeps, forgets-only, means-only, only-same, resends_on_news-only, sends-only}
 use Rattle.kernel_sound.specs.Sound.{IsSound, addressee}
 use Rattle.kernel_step.specs.Actions.{enclosed_of, forgets, here, hint_kernel, leave_each, leaves_here, learned_view, learns, match_waiting, matches, resends_on_news, values_leaving}
-use Rattle.kernel_step.specs.Calls.{inward_activity, is_active, is_started, outward_activity}
+use Rattle.kernel_step.specs.Calls.{inward_activity, is_active, outward_activity}
 use Rattle.kernel_step.specs.Progress.{Progress, keeps, means, progress, sends}
 use Rattle.kernel_touched.specs.Found.{is_silent}
 use Rattle.kernel_step.specs.Rows.{forget_row, goneseen_row, known_here, known_row, moved_here, moved_row, row, unwant_here, unwant_row, voids, want_here, want_row, wants}

@@ -1,9 +1,10 @@
 -- What is true of what a call touches.
-use Rattle.std.proofs.Common.{◌≡◌, ◌≢◌, ◌⊎◌, inl, inr, ℕ, Bool, true, false, nat_eq, List, Option, Some, None, map, refl, sym, ap}
+use Rattle.std.proofs.Common.{◌≡◌, ◌≢◌, ◌⊎◌, inl, inr, ℕ, Bool, true, false, true≢false, not, nat_eq, List, Option, Some, None, map, refl, sym, ap}
 use Rattle.std.proofs.lemmas.Bool.Decides.{eqb_tells}
+use Rattle.charlotte_calls.proofs.Causes.{first_of-none}
+use Rattle.charlotte_calls.specs.Causes.{cancel_causes, destroy_causes, receive_causes, send_causes}
 use Rattle.charlotte_calls.specs.declared.calls.Call.{Call}
 use Rattle.charlotte_calls.specs.declared.calls.Call.TheVariants as call
-use Rattle.charlotte_calls.specs.declared.calls.Cause.{Cause}
 use Rattle.charlotte_calls.specs.declared.names.EndId.{EndId}
 use Rattle.charlotte_calls.specs.declared.names.Pid.{Pid}
 use Rattle.end_table.proofs.EndEq.{end_eq-refl}
@@ -17,25 +18,25 @@ use Rattle.kernel_sound.proofs.Acts.{Covers}
 use Rattle.kernel_sound.proofs.Events.{owner-below}
 use Rattle.kernel_sound.specs.Owners.{owner_of}
 use Rattle.kernel_sound.specs.Sound.{IsSound}
-use Rattle.kernel_step.specs.Calls.{cancel_causes, is_active, no_causes, on_owned, receive_causes, refusal, send_causes}
+use Rattle.kernel_step.specs.Calls.{is_active, refusal, seen, sees}
 use Rattle.kernel_touched.specs.Touched.{AreOwnersBelow, HavePlaceFor, IsCalmAfter, touched_by, touched_of, touches}
 use Rattle.kernel_touched.specs.declared.touched.Touched.{Touched}
 use Rattle.kernel_touched.specs.declared.touched.Touched.TheVariants as touched
 
 -- an end that a call is on is the caller's, where the call is not refused
-granted-owner : (p : Pid) (x : Entry) (causes : HereView → List (Bool × Cause)) → on_owned (owned p x) causes ≡ None → Some p ≡ owner_of x
-granted-owner p x causes granted = by (owned p x) refl granted
+seen-owner : (p : Pid) (x : Entry) → not (seen (owned p x)).owned ≡ false → Some p ≡ owner_of x
+seen-owner p x owns = by (owned p x) refl owns
   where
-    by : (o : Option HereView) → owned p x ≡ o → on_owned o causes ≡ None → Some p ≡ owner_of x
-    by None is none = cc
-    by (Some v) is none = sym (owned-owner p x v (sym is))
+    by : (o : Option HereView) → owned p x ≡ o → not (seen o).owned ≡ false → Some p ≡ owner_of x
+    by None is owns = absurd (true≢false owns)
+    by (Some v) is owns = sym (owned-owner p x v (sym is))
 
 pub granted-touched : (p : Pid) (t : EndId → Entry) (made : ℕ) (mine : List EndId) (reported : Bool) (c : Call) → refusal p t made mine reported c ≡ None → touched_of p c ≡ touched_by t c
 granted-touched p t made mine reported call.Make granted = refl
-granted-touched p t made mine reported (call.Destroy on) granted = ap (λ o. touched.End on o) (granted-owner p (t on) no_causes granted)
-granted-touched p t made mine reported (call.Send on bytes xs) granted = ap (λ o. touched.End on o) (granted-owner p (t on) (send_causes p t on xs) granted)
-granted-touched p t made mine reported (call.Receive on) granted = ap (λ o. touched.End on o) (granted-owner p (t on) receive_causes granted)
-granted-touched p t made mine reported (call.Cancel on w) granted = ap (λ o. touched.End on o) (granted-owner p (t on) (cancel_causes w) granted)
+granted-touched p t made mine reported (call.Destroy on) granted = ap (λ o. touched.End on o) (seen-owner p (t on) (first_of-none (destroy_causes (sees p t on)) granted).0)
+granted-touched p t made mine reported (call.Send on bytes xs) granted = ap (λ o. touched.End on o) (seen-owner p (t on) (first_of-none (send_causes (sees p t) on xs) granted).0)
+granted-touched p t made mine reported (call.Receive on) granted = ap (λ o. touched.End on o) (seen-owner p (t on) (first_of-none (receive_causes (sees p t on)) granted).0)
+granted-touched p t made mine reported (call.Cancel on w) granted = ap (λ o. touched.End on o) (seen-owner p (t on) (first_of-none (cancel_causes w (sees p t on)) granted).0)
 granted-touched p t made mine reported call.Wait granted = refl
 granted-touched p t made mine reported (call.Print bytes) granted = refl
 granted-touched p t made mine reported call.Exit granted = refl

@@ -42,22 +42,6 @@ impl Happened {
             picture: CompactPicture::of(alloc, picture)?,
         })
     }
-
-    /// An equal value.
-    pub fn copy(&self, alloc: Global) -> Result<Happened, NoMemory>
-        ensures { IfOk result (λ h. h ≡ self.now) }
-    {
-        match self {
-            Happened::Asked { p, call } => Ok(Happened::Asked {
-                p: *p,
-                call: call.copy(alloc)?,
-            }),
-            Happened::Took { from, picture } => Ok(Happened::Took {
-                from: *from,
-                picture: picture.copy(alloc)?,
-            }),
-        }
-    }
 }
 
 /// One event of a kernel, with its stamp and what it means to the link service. It takes only the memory of what it says.
@@ -88,18 +72,6 @@ impl Entry {
             steps: Items::of(steps),
         })
     }
-
-    /// An equal entry.
-    pub fn copy(&self, alloc: Global) -> Result<Entry, NoMemory>
-        ensures { IfOk result (λ copy. copy ≡ self.now) }
-    {
-        let steps = copy_steps(alloc, self.steps.as_slice())?;
-        Ok(Entry {
-            stamp: self.stamp,
-            what: self.what.copy(alloc)?,
-            steps: Items::of(steps),
-        })
-    }
 }
 
 fn store_steps(alloc: Global, steps: &[ServiceStep]) -> Result<Vec<CompactStep>, NoMemory>
@@ -110,16 +82,6 @@ fn store_steps(alloc: Global, steps: &[ServiceStep]) -> Result<Vec<CompactStep>,
         stored.push(CompactStep::of(alloc, step)?)?;
     }
     Ok(stored)
-}
-
-fn copy_steps(alloc: Global, steps: &[CompactStep]) -> Result<Vec<CompactStep>, NoMemory>
-    ensures { IfOk result (λ copies. copies.items ≡ steps.now) }
-{
-    let mut copies = Vec::with_capacity(alloc, steps.len())?;
-    for step in steps {
-        copies.push(step.copy(alloc)?)?;
-    }
-    Ok(copies)
 }
 
 /// An entry with the kernel of its journal.

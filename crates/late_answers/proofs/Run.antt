@@ -28,8 +28,8 @@ use Rattle.told_answers.proofs.Local.{event-stepped, start-as_told}
 use Rattle.told_answers.proofs.Run.{AsTold, same-pid}
 use Rattle.late_answers.specs.Late.{IsLateByMatch, IsLateFor}
 use Rattle.told_answers.specs.Told.{Answered, Heard, NoCall, call_of, heard, hears, hears_all}
-use Rattle.world_law.specs.Law.{joined}
-use Rattle.world_law.specs.Record.{IsLawfulRecord, steps_of}
+use Rattle.theorem.specs.Law.{joined}
+use Rattle.theorem.specs.Record.{IsLawfulRecord, steps_of}
 
 -- these steps have one that answers the Cancel of p Late
 record HasLate (p : Pid) (e : EndId) (w : Way) (steps : List ServiceStep) : Type 0 where

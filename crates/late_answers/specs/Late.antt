@@ -15,8 +15,8 @@ use Rattle.kernel_world.specs.declared.entry.Placed.{Placed}
 use Rattle.service_step.specs.Lawful.{IsRightStep}
 use Rattle.service_step.specs.Run.{start_state}
 use Rattle.service_step.specs.State.{State}
-use Rattle.world_law.specs.Law.{joined}
-use Rattle.world_law.specs.Record.{IsLawfulRecord}
+use Rattle.theorem.specs.Law.{joined}
+use Rattle.theorem.specs.Record.{IsLawfulRecord}
 
 -- a step that answers the Cancel of p on e of this way Late: its refusal, or for a receive that a message is taken late
 abbrev pub IsLateFor : Pid → EndId → Way → ServiceStep → Type 0

@@ -154,7 +154,7 @@ posted-started inward.Posted h = refl
 posted-started inward.Idle h = absurd (true≢false (sym h))
 posted-started inward.Withdrawn h = refl
 posted-started (inward.Matched n) h = refl
-posted-started inward.Reported h = absurd (true≢false (sym h))
+posted-started inward.Unreported h = absurd (true≢false (sym h))
 
 or_right : (a b : Bool) → b ≡ true → (a || b) ≡ true
 or_right true b h = refl
@@ -170,21 +170,21 @@ matched-less outward.Idle h = h
 matched-less (outward.Waiting m) h = refl
 matched-less (outward.Matched m) h = h
 matched-less outward.Taken h = h
-matched-less outward.Reported h = h
+matched-less outward.Unreported h = h
 
 noticed_outward-less : (o : Outward) → is_started_outward (noticed_outward o) ≡ true → is_started_outward o ≡ true
 noticed_outward-less outward.Idle h = h
 noticed_outward-less (outward.Waiting m) h = refl
 noticed_outward-less (outward.Matched m) h = h
 noticed_outward-less outward.Taken h = h
-noticed_outward-less outward.Reported h = h
+noticed_outward-less outward.Unreported h = h
 
 noticed_inward-less : (i : Inward) → is_started_inward (noticed_inward i) ≡ true → is_started_inward i ≡ true
 noticed_inward-less inward.Idle h = h
 noticed_inward-less inward.Posted h = refl
 noticed_inward-less inward.Withdrawn h = refl
 noticed_inward-less (inward.Matched n) h = refl
-noticed_inward-less inward.Reported h = h
+noticed_inward-less inward.Unreported h = h
 
 -- the receive of the opposite stays as it is where the send of an end changes, as far as it is posted
 turns_outward-posted : (o : Outward) (e q : EndId) (t : EndId → End) → is_posted (t q).inward ≡ true → is_posted ((turns_outward o e t) q).inward ≡ true
@@ -210,7 +210,7 @@ pub AreKnown-takes : (k : Known) (e : EndId) (p : Pid) (t : EndId → End) → A
 unfolding takes
 AreKnown-takes k e p t known started own =
     AreKnown-places k (place.Owned p) _ _
-    (AreKnown-turns_inward k (turns_outward outward.Taken e t) (AreKnown-turns_outward k t known outward.Taken e (λ f. started)) inward.Reported (opposite e) (λ f. absurd (true≢false (sym f))))
+    (AreKnown-turns_inward k (turns_outward outward.Taken e t) (AreKnown-turns_outward k t known outward.Taken e (λ f. started)) inward.Unreported (opposite e) (λ f. absurd (true≢false (sym f))))
     (All-to_owned k p _ own)
 
 AreKnown-to_owner : (k : Known) (to : Option Pid) (xs : List EndId) (t : EndId → End) → AreKnown k t → ((p : Pid) → to ≡ Some p → All (IsKnown k p) xs) → AreKnown k (to_owner to xs t)
@@ -232,9 +232,9 @@ AreKnown-returns k e t known own = by (is_destroyed (t e).place)
     xs : List EndId
     xs = carried_by (matched_message (t e).outward)
 
-    over : (b : Bool) → MayBe k e (if b then record (t e) { outward = outward.Reported } else noticed_end (record (t e) { outward = outward.Reported }))
-    over true = MayBe-less k t known e (record (t e) { outward = outward.Reported }) refl (or_right (is_started_outward (t e).outward) (is_started_inward (t e).inward))
-    over false = MayBe-less k t known e (noticed_end (record (t e) { outward = outward.Reported })) refl
+    over : (b : Bool) → MayBe k e (if b then record (t e) { outward = outward.Unreported } else noticed_end (record (t e) { outward = outward.Unreported }))
+    over true = MayBe-less k t known e (record (t e) { outward = outward.Unreported }) refl (or_right (is_started_outward (t e).outward) (is_started_inward (t e).inward))
+    over false = MayBe-less k t known e (noticed_end (record (t e) { outward = outward.Unreported })) refl
         (λ h. or_right (is_started_outward (t e).outward) (is_started_inward (t e).inward) (noticed_inward-less (t e).inward h))
 
     by : (b : Bool) → AreKnown k (if b then places place.Destroyed xs (turns_outward outward.Idle e t) else to_owner (owner (t e).place) xs (puts e (returned_end (t e)) t))

@@ -7,6 +7,7 @@ use Rattle.std.proofs.lemmas.List.Elements.{All-set, All-replicate}
 use Rattle.std.proofs.lemmas.List.Sums.{fold_more}
 use Rattle.std.proofs.lemmas.Option.{get_or_from_slice_get}
 use Rattle.std.specs.List.{fold}
+use Rattle.charlotte_calls.specs.Causes.{link_limit}
 use Rattle.charlotte_calls.specs.Names.{opposite}
 use Rattle.charlotte_calls.specs.Setting.{IsValid}
 use Rattle.charlotte_calls.specs.declared.names.EndId.{EndId}
@@ -18,7 +19,7 @@ use Rattle.link_service.specs.Service.{ServiceView, HasRoom, HasWired, adds_link
 use Rattle.service_links.proofs.Changed.{end_eq-same}
 use Rattle.service_step.specs.Ends.{end_eq, fresh, is_made, makes, put}
 use Rattle.service_step.specs.Run.{Wired, nothing_wired, start_state, wires_one}
-use Rattle.service_step.specs.State.{State, counts, counted, is_running, link_limit, next_at, next_link}
+use Rattle.service_step.specs.State.{State, counts, counted, is_running, next_at, next_link}
 use Rattle.service_step.specs.Steps.{after_make, is_new_pair, may_make, runs}
 use Rattle.service_step.specs.declared.state.End.{End}
 use Rattle.service_step.specs.declared.state.Place.TheVariants.{Owned}

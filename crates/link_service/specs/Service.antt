@@ -1,6 +1,7 @@
 -- How a service keeps its state.
 use Rattle.std.specs.Prelude.{◌≡◌, ℕ, ◌+◌, ◌-◌, ◌<◌, ◌&&◌, IsTrue, All, List, Some, length, slice_get, slice_index, slice_set, take}
 use Rattle.std.specs.List.{fold}
+use Rattle.charlotte_calls.specs.Causes.{link_limit}
 use Rattle.charlotte_calls.specs.declared.calls.ServiceStep.{ServiceStep}
 use Rattle.charlotte_calls.specs.Names.{opposite}
 use Rattle.charlotte_calls.specs.declared.names.EndId.{EndId}
@@ -16,7 +17,7 @@ use Rattle.service_processes.specs.Processes.{process_of}
 use Rattle.service_processes.specs.declared.processes.ControlBlock.{ControlBlock}
 use Rattle.service_step.specs.Ends.{is_owned_by, is_active, put, fresh}
 use Rattle.service_step.specs.Run.{Wired, wires_one, nothing_wired, new_processes}
-use Rattle.service_step.specs.State.{State, link_limit}
+use Rattle.service_step.specs.State.{State}
 use Rattle.service_step.specs.Steps.{IsAllowed, step_number}
 use Rattle.service_step.specs.declared.state.End.{End}
 use Rattle.service_step.specs.declared.state.Place.TheVariants.{Owned}

@@ -1,7 +1,7 @@
 //! The conditions of the steps, in the order of their numbers.
-ghost use Rattle.std.specs.Prelude.{◌≡◌, ◌+◌, ◌↔◌, ◌∷◌, [], IsTrue, nat_eq};
-ghost use Rattle.charlotte_calls.specs.declared.calls.Cause.TheVariants as cause;
-ghost use Rattle.service_step.specs.Causes.{first_of, is_cause, is_full, refusal};
+ghost use Rattle.std.specs.Prelude.{◌≡◌, ◌+◌, ◌↔◌, IsTrue, nat_eq};
+ghost use Rattle.charlotte_calls.specs.Causes.{first_of, make_causes};
+ghost use Rattle.service_step.specs.Causes.{is_cause, made_before, refusal};
 ghost use Rattle.service_step.specs.Ends.{owner};
 ghost use Rattle.service_step.specs.State.{next_link, owner_cancels};
 ghost use Rattle.service_step.specs.Steps as steps;
@@ -203,7 +203,7 @@ impl Service {
     }
 
     fn make_cause(&self, p: Pid) -> Option<Cause>
-        ensures { result ≡ first_of ((is_full (next_link (state_of self.now) p), cause.LinksFull) ∷ []) }
+        ensures { result ≡ first_of (make_causes (made_before (next_link (state_of self.now) p))) }
     {
         match self.next_link(p) {
             Some(link) if LINK_LIMIT <= link.count => Some(Cause::LinksFull),

@@ -2,9 +2,9 @@
 ghost use Rattle.std.specs.Prelude.{◌≡◌, ◌+◌, ◌<◌, IsTrue, Some, OnOk, OnErr, length, slice_get, slice_set};
 ghost use Rattle.service_processes.specs.Known.{known_of};
 ghost use Rattle.service_processes.specs.Processes.{HasProcess};
+ghost use Rattle.charlotte_calls.specs.Causes.{link_limit};
 ghost use Rattle.charlotte_calls.specs.declared.names.Side.TheVariants.{A, B};
 ghost use Rattle.service_step.specs.Ends.{put, fresh};
-ghost use Rattle.service_step.specs.State.{link_limit};
 ghost use Rattle.service_step.specs.declared.state.Place.TheVariants.{Owned};
 ghost use Rattle.link_service.specs.Service.{state_of, adds_link};
 

@@ -1,10 +1,10 @@
 //! The service with which the run of a setting starts.
 ghost use Rattle.std.specs.Prelude.{◌≡◌, ◌+◌, ◌<◌, Some, IfOk, OnOk, length, replicate, slice_get, slice_index, slice_index_or};
+ghost use Rattle.charlotte_calls.specs.Causes.{link_limit};
 ghost use Rattle.charlotte_calls.specs.Setting.{IsValid};
 ghost use Rattle.service_step.specs.Run.{start_state, nothing_wired};
 ghost use Rattle.service_processes.specs.Processes.{HasProcess};
 ghost use Rattle.charlotte_calls.specs.declared.names.Pid.{Pid};
-ghost use Rattle.service_step.specs.State.{link_limit};
 ghost use Rattle.link_service.specs.Service.{state_of, HasRoom, HasWired, wired_state, wires};
 
 use crate::service::Service;

@@ -278,7 +278,7 @@ impl Service {
     #[inline(always)]
     #[tactic(auto, unfolding(crate::specs::Service::state_of))]
     pub(crate) fn finish_send(&mut self, e: EndId)
-        ensures { state_of self.new ≡ record (state_of self.old) { ends = turns_outward outward.Reported e (state_of self.old).ends } }
+        ensures { state_of self.new ≡ record (state_of self.old) { ends = turns_outward outward.Unreported e (state_of self.old).ends } }
     {
         self.links.finish_send(e);
     }

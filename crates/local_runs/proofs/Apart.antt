@@ -13,8 +13,8 @@ use Rattle.kernel_world.specs.declared.entry.Placed.{Placed}
 use Rattle.local_runs.specs.Local.{LocalEvent, MakesCall, TakesPacket, IsLocalEvent, IsLocalRun, AreLocalRuns, entries_of, entry_of, gives, takes_from, sends_to}
 use Rattle.local_runs.proofs.Kernels.{few_packet}
 use Rattle.local_runs.proofs.Together.{IsUnderWay, event-noted, event_of, got-first, got-other, happens-kernel, of_kernel-other, of_kernel-own, owns, sends-first, takes-not}
-use Rattle.world_record.proofs.Worlds.{is_event, told-happens, told-start}
-use Rattle.world_record.specs.Told.{IsToldPacket, IsToldWorld}
+use Rattle.transcript_record.proofs.Worlds.{is_event, told-happens, told-start}
+use Rattle.transcript_record.specs.Told.{IsToldPacket, IsToldWorld}
 
 -- what kernels make from a world on, as these events happen
 record AreApart (s : Setting) (w : World) (es : List Event) (made : ℕ → List LocalEvent) : Type 0 where

@@ -19,9 +19,9 @@ use Rattle.kernel_world.specs.declared.entry.Happened.{Happened}
 use Rattle.kernel_world.specs.declared.entry.Happened.TheVariants.{Took}
 use Rattle.kernel_world.specs.declared.entry.Placed.{Placed}
 use Rattle.local_runs.specs.Local.{LocalEvent, MakesCall, TakesPacket, IsLocalRun, IsLocalEvent, entries_of, entry_of, gives, happened, sends_to}
-use Rattle.world_record.proofs.Kept.{IsFewSent}
-use Rattle.world_record.proofs.KeptSteps.{Gives, call_step-gives, take_step-gives, told-without_answer}
-use Rattle.world_record.specs.Told.{IsTold}
+use Rattle.transcript_record.proofs.Kept.{IsFewSent}
+use Rattle.transcript_record.proofs.KeptSteps.{Gives, call_step-gives, take_step-gives, told-without_answer}
+use Rattle.transcript_record.specs.Told.{IsTold}
 
 -- ---- what one event gives
 

@@ -16,8 +16,8 @@ use Rattle.kernel_world.specs.declared.entry.Happened.TheVariants.{Took}
 use Rattle.kernel_world.specs.declared.entry.Placed.{Placed}
 use Rattle.local_runs.specs.Local.{LocalEvent, MakesCall, TakesPacket, IsLocalRun, FitTogether, IsOneRun, IsLocalEvent, entries_of, entry_of, gives, takes_from, happened, left_by, sends_to}
 use Rattle.local_runs.proofs.Kernels.{get-later, in-order-least, local-gives, of_kernel-all, sent-least}
-use Rattle.world_record.proofs.Worlds.{is_event, told-happens, told-start}
-use Rattle.world_record.specs.Told.{IsTold, IsToldWorld}
+use Rattle.transcript_record.proofs.Worlds.{is_event, told-happens, told-start}
+use Rattle.transcript_record.specs.Told.{IsTold, IsToldWorld}
 
 -- ---- an own event as an event of the world
 

@@ -7,7 +7,7 @@ ghost use Rattle.kernel_world.specs.Run.{AreInOrder, IsRun, of_kernel};
 ghost use Rattle.kernel_world.specs.World.{Event};
 ghost use Rattle.kernel_world.specs.declared.entry.Placed.{Placed};
 ghost use Rattle.local_runs.specs.Local.{LocalEvent, AreLocalRuns, FitTogether, IsOneRun, entries_of};
-ghost use Rattle.world_law.specs.Record.{IsLawfulRecord};
+ghost use Rattle.theorem.specs.Record.{IsLawfulRecord};
 
 /// Kernels that run beside each other make one run: where what each took of another is the beginning of what this one sent to it, the
 /// entries of all, in the order of a merge, are those of one run of the world. A packet has a stamp that its taking is later than, so what

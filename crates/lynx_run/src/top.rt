@@ -18,7 +18,7 @@ use std::alloc::Global;
 
 /// Does what the words after the program's name ask for, and gives the status with which the program ends. Words that
 /// are not of the form of a command are told so. A command that is not built yet is refused by its name. What `drive` prints is one lawful
-/// run of the link service (`Drives` in `specs/Drive.antt`, by the law `every_record_is_lawful` of `world_law`), and so is what `audit` accepts
+/// run of the link service (`Drives` in `specs/Drive.antt`, by the law `every_record_is_lawful` of `theorem`), and so is what `audit` accepts
 /// (`Audits` in `specs/Audit.antt`). What `code` prints is the listing of the code of the module (`Codes` in `specs/Code.antt`).
 pub fn lynx<F: Files, O: Sink, E: Sink>(
     alloc: Global,

@@ -6,6 +6,8 @@ mod lexer;
 #[cfg(test)]
 mod limits;
 #[cfg(test)]
+mod listings;
+#[cfg(test)]
 mod source;
 #[cfg(test)]
 mod syntax;

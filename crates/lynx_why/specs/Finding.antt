@@ -9,7 +9,7 @@ use Rattle.lynx_command.specs.declared.failure.Failure.TheVariants.{NoTranscript
 use Rattle.lynx_outside.specs.Logged.{Read}
 use Rattle.lynx_outside.specs.declared.files.FileAnswer.{FileAnswer}
 use Rattle.transcript_audit.specs.Audit.{IsAudited, IsRejected}
-use Rattle.why_lines.specs.Why.{AreWhy}
+use Rattle.transcript_why.specs.Why.{AreWhy}
 
 -- the line for a transcript that is accepted
 abbrev pub accepted_text : List ℕ

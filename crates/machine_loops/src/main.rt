@@ -25,7 +25,8 @@ fn main(rt: HostRuntime) -> ExitCode {
         }
         Err(trouble) => {
             let text = trouble.text();
-            status(println!(rt; "{text}").is_ok() && false)
+            let _ = println!(rt; "{text}");
+            ExitCode::FAILURE
         }
     }
 }

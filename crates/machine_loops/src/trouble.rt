@@ -4,7 +4,7 @@ use lynx_lexer::NoMemory;
 use std::alloc::{AllocError, AllocFailed};
 
 /// What went wrong.
-#[derive(Debug, Drop)]
+#[derive(Drop)]
 pub(crate) enum Trouble {
     Words,
     File,

@@ -14,6 +14,7 @@ use Rattle.end_table.specs.declared.entry.Holder.{Holder}
 use Rattle.kernel_step.proofs.EnclosedEnds.{first_false, second_false}
 use Rattle.kernel_step.specs.Actions.{here, end_each, ends_idle, ends_idle_here, settle_each, tell_arrivals, tells_arrival, leaves}
 use Rattle.kernel_step.specs.Progress.{Progress, progress, keeps, HasRoom, AddsAtMost}
+use Rattle.kernel_step.specs.Room.{one_packet, packets}
 use Rattle.kernel_step.specs.Rows.{ends_in, pass_each, end_arrivals}
 use Rattle.move_core.specs.Arriving.{AreAway, AreApart}
 
@@ -80,7 +81,7 @@ end_each-more k x xs all t0 out after e same =
     ap (λ d. end_each k xs d) same ∙ ap (λ ys. end_each k ys (progress t0 out)) (sym e)
 
 -- the room that is left after the first of some parts
-pub HasRoom-others : (n m : ℕ) (old mid : Work) → m ≡ n + 1 → HasRoom m 0 0 0 old → AddsAtMost 1 0 0 0 old mid → HasRoom n 0 0 0 mid
+pub HasRoom-others : (n m : ℕ) (old mid : Work) → m ≡ n + 1 → HasRoom (packets m) old → AddsAtMost one_packet old mid → HasRoom (packets n) mid
 HasRoom-others n m old mid e room adds =
     record {
       packets = omega (arith, e, room.packets, adds.packets, adds.packets_in_place);

@@ -4,10 +4,10 @@ ghost use Rattle.charlotte_calls.specs.declared.work.Work.{Work};
 ghost use Rattle.end_table.specs.Entries.{ended_entry};
 ghost use Rattle.end_table.specs.Table.{entries, HasPlace, IfHere, IsHere, Puts};
 ghost use Rattle.kernel_step.specs.Actions.{ends_idle, tell_arrivals};
-ghost use Rattle.kernel_step.specs.Progress.{progress, keeps, HasRoom, AddsAtMost};
+ghost use Rattle.kernel_step.specs.Progress.{progress, keeps, HasRoom, AddsAtMost, StaysWithin};
+ghost use Rattle.kernel_step.specs.Room.{one_packet, packets, room_of_return};
 ghost use Rattle.kernel_step.specs.Rows.{awaits, give_back_row, gives_back, end_arrivals};
 ghost use Rattle.move_core.specs.Arriving.{AreAway, AreApart};
-ghost use Rattle.kernel_step.specs.declared.bounds.TheConstants.{MOST_ENDS};
 
 use crate::ending::tell_gone;
 use crate::parcel::settle_and_tell;
@@ -21,11 +21,10 @@ use kernel_step::{ends_in, keep_sending, report, send_report, sender};
 pub fn give_back(table: &mut Table, to: EndId, n: u32, moving: Cargo, out: &mut Work)
     requires away { AreAway table.old moving }
     requires apart { IfSome (awaits n (entries table.old to)) (λ _. AreApart moving) }
-    requires room { HasRoom MOST_ENDS 1 0 0 out.old }
+    requires room { HasRoom room_of_return out.old }
     ensures part { progress (entries table.new) out.new
         ≡ give_back_row table.old.kernel moving (awaits n (entries table.old to)) (progress (entries table.old) out.old) }
-    ensures room { AddsAtMost MOST_ENDS 1 0 0 out.old out.new }
-    ensures kernel { table.new.kernel ≡ table.old.kernel }
+    ensures within { StaysWithin room_of_return table.old table.new out.old out.new }
 {
     match sender(table, to, n) {
         Some(_) => return_ends(table, to, moving, out),
@@ -39,11 +38,10 @@ fn return_ends(table: &mut Table, on: EndId, moving: Cargo, out: &mut Work)
     requires here { IsHere (entries table.old on) }
     requires away { AreAway table.old moving }
     requires apart { AreApart moving }
-    requires room { HasRoom MOST_ENDS 1 0 0 out.old }
+    requires room { HasRoom room_of_return out.old }
     ensures part { IfHere (entries table.old on) (λ v. progress (entries table.new) out.new
         ≡ tell_arrivals table.old.kernel moving (gives_back moving v (progress (entries table.old) out.old))) }
-    ensures room { AddsAtMost MOST_ENDS 1 0 0 out.old out.new }
-    ensures kernel { table.new.kernel ≡ table.old.kernel }
+    ensures within { StaysWithin room_of_return table.old table.new out.old out.new }
 {
     let living = table.here(on);
     let value = living.value();
@@ -77,11 +75,11 @@ fn end_arrived(table: &mut Table, on: EndId, moving: Moving) -> MovingPicture
 fn end_arrival(table: &mut Table, on: EndId, moving: Moving, out: &mut Work)
     requires place { HasPlace table.old moving.end }
     requires away { IsHere (entries table.old moving.end) → ⊥ }
-    requires room { HasRoom 1 0 0 0 out.old }
+    requires room { HasRoom one_packet out.old }
     ensures part { progress (entries table.new) out.new
         ≡ ends_idle table.old.kernel moving (progress (entries table.old) out.old) }
     ensures puts { Puts table.old table.new moving.end (ended_entry moving) }
-    ensures room { AddsAtMost 1 0 0 0 out.old out.new }
+    ensures room { AddsAtMost one_packet out.old out.new }
 {
     let value = end_arrived(table, on, moving);
     tell_gone(out, table.kernel(), value);
@@ -90,11 +88,10 @@ fn end_arrival(table: &mut Table, on: EndId, moving: Moving, out: &mut Work)
 /// END of each of these ends, in order.
 fn end_arrivals(table: &mut Table, on: EndId, mut moving: Cargo, out: &mut Work)
     requires away { AreAway table.old moving }
-    requires room { HasRoom (length moving) 0 0 0 out.old }
+    requires room { HasRoom (packets (length moving)) out.old }
     ensures part { progress (entries table.new) out.new
         ≡ end_arrivals table.old.kernel moving (progress (entries table.old) out.old) }
-    ensures room { AddsAtMost (length moving) 0 0 0 out.old out.new }
-    ensures kernel { table.new.kernel ≡ table.old.kernel }
+    ensures within { StaysWithin (packets (length moving)) table.old table.new out.old out.new }
 {
     match moving.next() {
         None => moving.close(),

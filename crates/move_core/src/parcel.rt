@@ -4,26 +4,25 @@ ghost use Rattle.charlotte_calls.specs.declared.work.Work.{Work};
 ghost use Rattle.end_table.specs.Entries.{left_value, left_entry};
 ghost use Rattle.end_table.specs.Table.{entries, HasPlace, IsHere, Puts};
 ghost use Rattle.kernel_step.specs.Actions.{leaves, settle_each, tell_arrivals};
-ghost use Rattle.kernel_step.specs.Progress.{progress, HasRoom, AddsAtMost};
+ghost use Rattle.kernel_step.specs.Progress.{progress, HasRoom, StaysWithin};
+ghost use Rattle.kernel_step.specs.Room.{one_packet, room_of_ends};
 ghost use Rattle.kernel_step.specs.Rows.{asks, arrive_row, pass_each, sends_back};
 ghost use Rattle.move_core.specs.Arriving.{AreAway, AreApart};
-ghost use Rattle.kernel_step.specs.declared.bounds.TheConstants.{MOST_ENDS};
 
 use crate::settling::{settle, settle_each, tell_arrivals};
 use charlotte_calls::{Cargo, EndId, Moving, What, Work};
 use end_table::{Holder, Table};
-use kernel_step::{push_packet, receiver};
+use kernel_step::{MOST_ENDS, push_packet, receiver};
 
 /// Of a parcel the ends that came with its message: at the receive that it was sent for each becomes Here, and tells its
 /// opposite that it has moved. Anywhere else each leaves again, to kernel `at`, and goes back there.
 pub fn arrive(table: &mut Table, to: EndId, n: u32, w: u32, at: u8, moving: Cargo, out: &mut Work)
     requires away { AreAway table.old moving }
     requires apart { IfSome (asks w (entries table.old to)) (λ _. AreApart moving) }
-    requires room { HasRoom MOST_ENDS 0 0 0 out.old }
+    requires room { HasRoom room_of_ends out.old }
     ensures part { progress (entries table.new) out.new
         ≡ arrive_row table.old.kernel to n at moving (asks w (entries table.old to)) (progress (entries table.old) out.old) }
-    ensures room { AddsAtMost MOST_ENDS 0 0 0 out.old out.new }
-    ensures kernel { table.new.kernel ≡ table.old.kernel }
+    ensures within { StaysWithin room_of_ends table.old table.new out.old out.new }
 {
     match receiver(table, to, w) {
         Some(living) => {
@@ -38,11 +37,10 @@ pub fn arrive(table: &mut Table, to: EndId, n: u32, w: u32, at: u8, moving: Carg
 pub(crate) fn settle_and_tell(table: &mut Table, holder: Holder, mut moving: Cargo, out: &mut Work)
     requires away { AreAway table.old moving }
     requires apart { AreApart moving }
-    requires room { HasRoom MOST_ENDS 0 0 0 out.old }
+    requires room { HasRoom room_of_ends out.old }
     ensures part { progress (entries table.new) out.new
         ≡ tell_arrivals table.old.kernel moving (settle_each holder moving (progress (entries table.old) out.old)) }
-    ensures room { AddsAtMost MOST_ENDS 0 0 0 out.old out.new }
-    ensures kernel { table.new.kernel ≡ table.old.kernel }
+    ensures within { StaysWithin room_of_ends table.old table.new out.old out.new }
 {
     let kernel = table.kernel();
     tell_arrivals(out, kernel, moving.values());
@@ -86,14 +84,13 @@ fn pass_each(table: &mut Table, on: EndId, mut moving: Cargo, at: u8, left: &mut
 #[tactic(auto, unfolding(kernel_step::specs::Rows::sends_back))]
 fn send_back(table: &mut Table, to: EndId, n: u32, at: u8, moving: Cargo, out: &mut Work)
     requires away { AreAway table.old moving }
-    requires room { HasRoom 1 0 0 0 out.old }
+    requires room { HasRoom one_packet out.old }
     ensures part { progress (entries table.new) out.new
         ≡ sends_back table.old.kernel to n at moving (progress (entries table.old) out.old) }
-    ensures room { AddsAtMost 1 0 0 0 out.old out.new }
-    ensures kernel { table.new.kernel ≡ table.old.kernel }
+    ensures within { StaysWithin one_packet table.old table.new out.old out.new }
 {
     let sender = to.opposite();
-    let _count = moving.len();
+    prove!(moving.len() <= MOST_ENDS as usize);
     let mut left = Cargo::empty();
     pass_each(table, sender, moving, at, &mut left);
     push_packet(

@@ -8,6 +8,7 @@ ghost use Rattle.end_table.specs.declared.entry.Entry.{Entry};
 ghost use Rattle.end_table.specs.declared.entry.Entry.TheVariants.{Here};
 ghost use Rattle.kernel_step.specs.Actions.{settle_each, tells_arrival, tell_arrivals};
 ghost use Rattle.kernel_step.specs.Progress.{progress, keeps, HasRoom, AddsAtMost};
+ghost use Rattle.kernel_step.specs.Room.{one_packet, packets};
 ghost use Rattle.move_core.specs.Arriving.{AreAway, AreApart};
 
 use charlotte_calls::{Cargo, Moving, MovingPicture, Work};
@@ -51,9 +52,9 @@ pub(crate) fn settle_each(table: &mut Table, holder: Holder, moving: &mut Cargo)
 
 /// An end that became Here tells its opposite that it has moved, unless it is dead.
 fn tell_arrival(out: &mut Work, kernel: u8, value: MovingPicture)
-    requires { HasRoom 1 0 0 0 out.old }
+    requires { HasRoom one_packet out.old }
     ensures part { (t : EndId → Entry) → progress t out.new ≡ tells_arrival kernel value (progress t out.old) }
-    ensures room { AddsAtMost 1 0 0 0 out.old out.new }
+    ensures room { AddsAtMost one_packet out.old out.new }
 {
     if !value.dead {
         tell_moved(out, kernel, value);
@@ -62,9 +63,9 @@ fn tell_arrival(out: &mut Work, kernel: u8, value: MovingPicture)
 
 /// So does each of these ends, in order.
 pub(crate) fn tell_arrivals(out: &mut Work, kernel: u8, values: &[MovingPicture])
-    requires { HasRoom (length values.now) 0 0 0 out.old }
+    requires { HasRoom (packets (length values.now)) out.old }
     ensures part { (t : EndId → Entry) → progress t out.new ≡ tell_arrivals kernel values.now (progress t out.old) }
-    ensures room { AddsAtMost (length values.now) 0 0 0 out.old out.new }
+    ensures room { AddsAtMost (packets (length values.now)) out.old out.new }
 {
     match first_of(values) {
         None => {}

@@ -1,6 +1,7 @@
 //! Tests of the net through its public calls.
 #![tactic(auto)]
 
+mod checked;
 #[cfg(test)]
 mod direct;
 mod ports;

@@ -6,27 +6,37 @@ use kernel_net::Letter;
 use std::alloc::Global;
 use std::test::Fail;
 
-/// Each kernel puts two packets and a marker behind them to each.
-fn put_to_all(ports: &mut Ports, kernels: u8) -> Result<(), Fail> {
+/// What each kernel puts last to each: in the first round a marker.
+fn last_of(round: u8) -> Letter {
+    if round == 0 {
+        Letter::Marker
+    } else {
+        packet(200)
+    }
+}
+
+/// Each kernel puts two packets and a last letter to each.
+fn put_to_all(ports: &mut Ports, kernels: u8, round: u8) -> Result<(), Fail> {
     for from in 0..kernels {
         for to in 0..kernels {
             let stamp = u64::from(from) * 8 + u64::from(to);
             holds(ports.put(from, to, packet(stamp)).is_ok(), "a packet")?;
             holds(ports.put(from, to, packet(100)).is_ok(), "another")?;
-            holds(ports.put(from, to, Letter::Marker).is_ok(), "a marker")?;
+            holds(ports.put(from, to, last_of(round)).is_ok(), "the last")?;
         }
     }
     Ok(())
 }
 
 /// Each kernel gets them, those of kernel 0 first.
-fn get_all(alloc: Global, ports: &mut Ports, kernels: u8) -> Result<(), Fail> {
+fn get_all(alloc: Global, ports: &mut Ports, kernels: u8, round: u8) -> Result<(), Fail> {
     for at in 0..kernels {
+        holds(ports.kernel(at) == Some(at), "its number is its place")?;
         for from in 0..kernels {
             let stamp = u64::from(from) * 8 + u64::from(at);
             is_got(alloc, ports.get(at), from, &packet(stamp))?;
             is_got(alloc, ports.get(at), from, &packet(100))?;
-            is_got(alloc, ports.get(at), from, &Letter::Marker)?;
+            is_got(alloc, ports.get(at), from, &last_of(round))?;
         }
         holds(ports.get(at).is_none(), "nothing more")?;
     }
@@ -37,15 +47,15 @@ fn get_all(alloc: Global, ports: &mut Ports, kernels: u8) -> Result<(), Fail> {
 fn letters_come_in_order_from_each_kernel(rt: HostRuntime) -> Result<(), Fail> {
     for kernels in 1..9 {
         let mut ports = Ports::make(rt.alloc(), kernels, 3)?;
-        for _ in 0..3 {
-            put_to_all(&mut ports, kernels)?;
-            holds(ports.put(0, 0, Letter::Marker).is_err(), "a ring of three")?;
-            holds(ports.meet(0, 0)? == 3, "what kernel 0 put to itself")?;
+        for round in 0..3 {
+            put_to_all(&mut ports, kernels, round)?;
+            holds(ports.put(0, 0, packet(0)).is_err(), "a ring of three")?;
+            holds(ports.meet(0, 0) == 3, "what kernel 0 put to itself")?;
             holds(
-                kernels == 1 || ports.meet(0, 1)? == 6,
+                kernels == 1 || ports.meet(0, 1) == 6,
                 "what two put to each other",
             )?;
-            get_all(rt.alloc(), &mut ports, kernels)?;
+            get_all(rt.alloc(), &mut ports, kernels, round)?;
         }
     }
     Ok(())

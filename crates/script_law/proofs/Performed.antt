@@ -8,10 +8,10 @@ use Rattle.journal_text.specs.declared.last.ScriptNote.{ScriptNote}
 use Rattle.kernel_world.specs.World.{World, after, start}
 use Rattle.kernel_world.specs.declared.entry.Placed.{Placed}
 use Rattle.lynx_plan.specs.declared.script.ScriptLine.{ScriptLine}
-use Rattle.replay_law.proofs.Within.{run-within}
-use Rattle.replay_lines.specs.Replay.{IsReplay, IsTrueLast}
 use Rattle.script_run.specs.Performing.{IsLast, IsPerformance}
+use Rattle.transcript_law.proofs.Within.{run-within}
 use Rattle.transcript_reading.specs.Kinds.{transcript_kinds}
+use Rattle.transcript_replay.specs.Replay.{IsReplay, IsTrueLast}
 
 true-last : (s : Setting) (w : World) (last : Last) → IsLast w last → IsTrueLast s w last
 true-last s w Quiet is = is

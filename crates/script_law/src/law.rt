@@ -5,9 +5,9 @@ ghost use Rattle.journal_text.specs.declared.last.Last.{Last};
 ghost use Rattle.journal_text.specs.declared.last.ScriptNote.{ScriptNote};
 ghost use Rattle.kernel_world.specs.declared.entry.Placed.{Placed};
 ghost use Rattle.lynx_plan.specs.declared.script.ScriptLine.{ScriptLine};
-ghost use Rattle.replay_lines.specs.Replay.{IsReplay};
 ghost use Rattle.script_run.specs.Performing.{IsPerformance};
 ghost use Rattle.transcript_reading.specs.Kinds.{transcript_kinds};
+ghost use Rattle.transcript_replay.specs.Replay.{IsReplay};
 
 /// What is told of a performed script is replayed.
 pub fn performance_is_replayed()

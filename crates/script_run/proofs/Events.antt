@@ -28,9 +28,9 @@ use Rattle.script_run.specs.Recorded.{AreRecorded, AreReady, Goes, IsCaller, not
 use Rattle.script_run.specs.declared.recorded.Recorded.{Recorded}
 use Rattle.kernel_nodes.proofs.Lists.{map-set_same, map-set_other, map-read}
 use Rattle.script_run.proofs.Stamps.{IsUpTo, after_last, up_to-push}
-use Rattle.world_record.proofs.Runs.{after-append, noted-append}
-use Rattle.world_record.proofs.Worlds.{IsEvent, is_event, told-after}
-use Rattle.world_record.specs.Told.{IsToldWorld}
+use Rattle.transcript_record.proofs.Runs.{after-append, noted-append}
+use Rattle.transcript_record.proofs.Worlds.{IsEvent, is_event, told-after}
+use Rattle.transcript_record.specs.Told.{IsToldWorld}
 use Rattle.written_journal.specs.Kept.{Happenings}
 
 -- ---- journals

@@ -27,12 +27,12 @@ use Rattle.script_run.specs.Recorded.{noted_at, world_at, AreLinesDone, AreReady
 use Rattle.script_run.specs.declared.recorded.Recorded.{Recorded}
 use Rattle.script_run.proofs.Events.{Goes-then, entries_of, noted_in}
 use Rattle.script_run.proofs.Stamps.{IsUpTo}
-use Rattle.world_record.proofs.Worlds.{told-start}
-use Rattle.world_record.specs.Told.{IsToldWorld}
+use Rattle.transcript_record.proofs.Worlds.{told-start}
+use Rattle.transcript_record.specs.Told.{IsToldWorld}
 use Rattle.written_journal.specs.Kept.{Happenings}
 use Rattle.script_run.specs.Performing.{Asks, TakesFirst, Does, Performs, IsLast, IsPerformance, waits_note, nothing_note}
 use Rattle.script_run.proofs.Runs.{Performs-more}
-use Rattle.world_record.proofs.Laws.{merge-record, record-shown}
+use Rattle.transcript_record.proofs.Laws.{merge-record, record-shown}
 
 -- ---- the start
 

@@ -4,7 +4,7 @@ use Rattle.std.proofs.lemmas.List.{append-nil}
 use Rattle.charlotte_calls.specs.declared.setting.Setting.{Setting}
 use Rattle.journal_text.specs.declared.last.ScriptNote.{ScriptNote}
 use Rattle.kernel_world.specs.World.{World, Event, after}
-use Rattle.world_record.proofs.Runs.{after-append}
+use Rattle.transcript_record.proofs.Runs.{after-append}
 use Rattle.lynx_plan.specs.declared.script.ScriptLine.{ScriptLine}
 use Rattle.script_run.specs.Performing.{Does, Performs}
 

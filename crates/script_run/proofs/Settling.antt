@@ -11,7 +11,7 @@ use Rattle.script_run.specs.Recorded.{sent_from, world_at, first_pair, AreReady,
 use Rattle.script_run.specs.Performing.{pairs, next_take, then_events, settled}
 use Rattle.script_run.specs.declared.recorded.Recorded.{Recorded}
 use Rattle.script_run.proofs.Events.{Goes-then, ready-after}
-use Rattle.world_record.proofs.Runs.{after-append}
+use Rattle.transcript_record.proofs.Runs.{after-append}
 
 -- ---- the first of a list that passes a test
 

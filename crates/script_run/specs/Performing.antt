@@ -20,7 +20,7 @@ use Rattle.journal_text.specs.declared.last.ScriptNote.{ScriptNote}
 use Rattle.lynx_plan.specs.declared.script.ScriptLine.{ScriptLine}
 use Rattle.lynx_plan.specs.declared.script.ScriptCall.{ScriptCall}
 use Rattle.lynx_plan.specs.declared.script.ScriptCall.TheVariants.{Ask, Take, Settle}
-use Rattle.world_record.specs.Record.{IsRecordOf}
+use Rattle.transcript_record.specs.Record.{IsRecordOf}
 
 -- ---- settling
 

@@ -19,7 +19,7 @@ use Rattle.lynx_plan.specs.declared.script.ScriptCall.{ScriptCall}
 use Rattle.lynx_plan.specs.declared.script.ScriptLine.{ScriptLine}
 use Rattle.script_run.specs.Performing.{Does, Performs, most_settled, pairs}
 use Rattle.script_run.specs.declared.recorded.Recorded.{Recorded}
-use Rattle.world_record.specs.Told.{IsToldWorld}
+use Rattle.transcript_record.specs.Told.{IsToldWorld}
 
 -- the state of each kernel, and the packets that are under way
 abbrev pub world_at : Setting → Recorded → World

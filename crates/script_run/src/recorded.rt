@@ -42,8 +42,8 @@ impl Recorded {
         let journal = &mut self.journals[usize::from(kernel)];
         journal.asked(request.p, &request.call)?;
         let Noted { stamp, steps } = self.nodes.ask(kernel, request)?;
-        journal.note(stamp, steps.as_slice())?;
-        self.nodes.reuse(kernel, steps);
+        let emptied = journal.note(stamp, steps);
+        self.nodes.reuse(kernel, emptied);
         Ok(())
     }
 
@@ -58,8 +58,8 @@ impl Recorded {
         let journal = &mut self.journals[usize::from(to)];
         journal.took(from, packet)?;
         let Noted { stamp, steps } = self.nodes.take_first(from, to)?;
-        journal.note(stamp, steps.as_slice())?;
-        self.nodes.reuse(to, steps);
+        let emptied = journal.note(stamp, steps);
+        self.nodes.reuse(to, emptied);
         Ok(true)
     }
 

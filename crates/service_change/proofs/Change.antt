@@ -1,6 +1,7 @@
 -- One end changes, and with it the ends that its message carries: why what is true of the state stays true.
 use Rattle.std.proofs.Common.{◌≡◌, ◌≢◌, ℕ, ◌≤◌, Bool, true, false, true≢false, nat_lt, ◌&&◌, not, ◌⊎◌, inl, inr, if◌then◌else◌, length, Option, Some, None, IsSome, List, [], Contains, slice_index, refl, sym, ap, subst, ◌∙◌}
 use Rattle.std.specs.List.{list_any}
+use Rattle.charlotte_calls.specs.EndEq.{names_twice, same_link}
 use Rattle.charlotte_calls.specs.Names.{opposite}
 use Rattle.charlotte_calls.specs.declared.calls.Report.{Report}
 use Rattle.charlotte_calls.specs.declared.names.EndId.{EndId}
@@ -11,7 +12,6 @@ use Rattle.charlotte_calls.specs.declared.names.Way.TheVariants as way
 use Rattle.service_change.proofs.Counts.{IsAfter, IsCountedAt, AreDone, and-true, counted-none, counted-reported, counted-same, counts, counts-none, reported-counted}
 use Rattle.service_change.proofs.EndEq.{among, at_place, end_eq-apart, end_eq-same}
 use Rattle.service_lawful.specs.Consistent.{IsConsistent, AreKept, AreNoticed, AreProcesses, is_over, is_open}
-use Rattle.service_step.specs.Causes.{names_twice, same_link}
 use Rattle.service_step.specs.Ends.{end_eq, unmade, is_made, is_living, owner, is_idle, is_idle_outward, is_idle_inward, is_started_inward, waiting_message}
 use Rattle.service_step.specs.Lawful.{IsCarried, IsHeldAt, message_of}
 use Rattle.service_step.specs.State.{State, no_process}
@@ -47,14 +47,14 @@ idle-Outward outward.Idle is = refl
 idle-Outward (outward.Waiting m) is = absurd (true≢false (sym is))
 idle-Outward (outward.Matched m) is = absurd (true≢false (sym is))
 idle-Outward outward.Taken is = absurd (true≢false (sym is))
-idle-Outward outward.Reported is = absurd (true≢false (sym is))
+idle-Outward outward.Unreported is = absurd (true≢false (sym is))
 
 idle-Inward : (i : Inward) → is_idle_inward i ≡ true → i ≡ inward.Idle
 idle-Inward inward.Idle is = refl
 idle-Inward inward.Posted is = absurd (true≢false (sym is))
 idle-Inward inward.Withdrawn is = absurd (true≢false (sym is))
 idle-Inward (inward.Matched n) is = absurd (true≢false (sym is))
-idle-Inward inward.Reported is = absurd (true≢false (sym is))
+idle-Inward inward.Unreported is = absurd (true≢false (sym is))
 
 pub idle-parts : (x : End) → is_idle x ≡ true → (x.outward ≡ outward.Idle) × (x.inward ≡ inward.Idle)
 idle-parts x is = let both = and-true _ _ is in (idle-Outward x.outward both.0, idle-Inward x.inward both.1)

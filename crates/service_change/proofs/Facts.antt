@@ -11,7 +11,7 @@ use Rattle.service_change.proofs.Counts.{pid_tells}
 use Rattle.service_change.proofs.EndEq.{end_eq-refl}
 use Rattle.service_change.proofs.Shapes.{IsLed, IsNext, IsTold}
 use Rattle.service_lawful.specs.Consistent.{IsConsistent, is_over}
-use Rattle.service_step.specs.Ends.{is_made, is_living, owner, is_owned_by, is_idle, is_posted, is_reported_outward, is_reported_inward, is_started_inward, is_taken, is_withdrawn, is_matched_with, is_matched_inward, matched_message, waiting_message}
+use Rattle.service_step.specs.Ends.{is_made, is_living, owner, is_owned_by, is_idle, is_posted, is_unreported_outward, is_unreported_inward, is_started_inward, is_taken, is_withdrawn, is_matched_with, is_matched_inward, matched_message, waiting_message}
 use Rattle.service_step.specs.Lawful.{message_of}
 use Rattle.service_step.specs.State.{State, Process, is_running, is_waiting, is_cancelling, owner_cancels, put_process, turns, gains, wakes}
 use Rattle.service_step.specs.Steps.{is_running_owner}
@@ -88,49 +88,49 @@ waiting-Waiting (outward.Waiting m) is = (m, refl)
 waiting-Waiting outward.Idle is = absurd (true≢false (sym is))
 waiting-Waiting (outward.Matched m) is = absurd (true≢false (sym is))
 waiting-Waiting outward.Taken is = absurd (true≢false (sym is))
-waiting-Waiting outward.Reported is = absurd (true≢false (sym is))
+waiting-Waiting outward.Unreported is = absurd (true≢false (sym is))
 
 pub matched-Matched : (o : Outward) → is_some (matched_message o) ≡ true → (m : Message) × (o ≡ outward.Matched m)
 matched-Matched (outward.Matched m) is = (m, refl)
 matched-Matched outward.Idle is = absurd (true≢false (sym is))
 matched-Matched (outward.Waiting m) is = absurd (true≢false (sym is))
 matched-Matched outward.Taken is = absurd (true≢false (sym is))
-matched-Matched outward.Reported is = absurd (true≢false (sym is))
+matched-Matched outward.Unreported is = absurd (true≢false (sym is))
 
 pub taken-Taken : (o : Outward) → is_taken o ≡ true → o ≡ outward.Taken
 taken-Taken outward.Taken is = refl
 taken-Taken outward.Idle is = absurd (true≢false (sym is))
 taken-Taken (outward.Waiting m) is = absurd (true≢false (sym is))
 taken-Taken (outward.Matched m) is = absurd (true≢false (sym is))
-taken-Taken outward.Reported is = absurd (true≢false (sym is))
+taken-Taken outward.Unreported is = absurd (true≢false (sym is))
 
 pub posted-Posted : (i : Inward) → is_posted i ≡ true → i ≡ inward.Posted
 posted-Posted inward.Posted is = refl
 posted-Posted inward.Idle is = absurd (true≢false (sym is))
 posted-Posted inward.Withdrawn is = absurd (true≢false (sym is))
 posted-Posted (inward.Matched n) is = absurd (true≢false (sym is))
-posted-Posted inward.Reported is = absurd (true≢false (sym is))
+posted-Posted inward.Unreported is = absurd (true≢false (sym is))
 
 pub withdrawn-Withdrawn : (i : Inward) → is_withdrawn i ≡ true → i ≡ inward.Withdrawn
 withdrawn-Withdrawn inward.Withdrawn is = refl
 withdrawn-Withdrawn inward.Idle is = absurd (true≢false (sym is))
 withdrawn-Withdrawn inward.Posted is = absurd (true≢false (sym is))
 withdrawn-Withdrawn (inward.Matched n) is = absurd (true≢false (sym is))
-withdrawn-Withdrawn inward.Reported is = absurd (true≢false (sym is))
+withdrawn-Withdrawn inward.Unreported is = absurd (true≢false (sym is))
 
 pub matched_with-Matched : (n : ℕ) (i : Inward) → is_matched_with n i ≡ true → (k : ℕ) × (i ≡ inward.Matched k)
 matched_with-Matched n (inward.Matched k) is = (k, refl)
 matched_with-Matched n inward.Idle is = absurd (true≢false (sym is))
 matched_with-Matched n inward.Posted is = absurd (true≢false (sym is))
 matched_with-Matched n inward.Withdrawn is = absurd (true≢false (sym is))
-matched_with-Matched n inward.Reported is = absurd (true≢false (sym is))
+matched_with-Matched n inward.Unreported is = absurd (true≢false (sym is))
 
 pub posted-started : (i : Inward) → is_posted i || is_matched_inward i ≡ true → is_started_inward i ≡ true
 posted-started inward.Posted is = refl
 posted-started (inward.Matched n) is = refl
 posted-started inward.Idle is = absurd (true≢false (sym is))
 posted-started inward.Withdrawn is = absurd (true≢false (sym is))
-posted-started inward.Reported is = absurd (true≢false (sym is))
+posted-started inward.Unreported is = absurd (true≢false (sym is))
 
 -- an end that is owned, or destroyed, is not in a message
 abbrev pub IsAway : Place → Type 0
@@ -193,7 +193,7 @@ IsWell-changed e x y w same made away message waits deaf =
         absurd (none-some (waiting_message x.outward) m (w.silent ((waits m is).1 noticed) (ap is_living (sym same) ∙ living)) (ap waiting_message (waits m is).0))
     silent noticed living (outward.Matched m) is = refl
     silent noticed living outward.Taken is = refl
-    silent noticed living outward.Reported is = refl
+    silent noticed living outward.Unreported is = refl
 
 pub next-same : (s : State) (e : EndId) (y : End) → IsConsistent s → is_made (s.ends e).place ≡ true → y.place ≡ (s.ends e).place → y.noticed ≡ (s.ends e).noticed → IsWell e y → IsNext s e y
 next-same s e y k made same noticed well =
@@ -206,7 +206,7 @@ next-same s e y k made same noticed well =
       sooner = λ is. noticed ∙ is;
     }
 
-pub over-both : (x y : End) → is_reported_outward y.outward ≡ is_reported_outward x.outward → is_reported_inward y.inward ≡ is_reported_inward x.inward → (w : Way) → is_over w y ≡ is_over w x
+pub over-both : (x y : End) → is_unreported_outward y.outward ≡ is_unreported_outward x.outward → is_unreported_inward y.inward ≡ is_unreported_inward x.inward → (w : Way) → is_over w y ≡ is_over w x
 over-both x y out inn way.Outward = out
 over-both x y out inn way.Inward = inn
 

@@ -1,6 +1,7 @@
 -- A step in which a process ends leaves a consistent state.
 use Rattle.std.proofs.Common.{◌≡◌, ◌≢◌, ℕ, ◌≤◌, Bool, true, false, true≢false, nat_eq, ◌||◌, not, ◌⊎◌, inl, inr, if◌then◌else◌, length, Some, None, IsSome, List, [], ◌∷◌, Contains, nat_lt, slice_index, eq-eqb, refl, sym, ap, subst, ◌∙◌, arith}
 use Rattle.std.specs.List.{list_any}
+use Rattle.charlotte_calls.specs.EndEq.{names_twice, same_link}
 use Rattle.charlotte_calls.specs.Names.{opposite}
 use Rattle.charlotte_calls.specs.declared.calls.Report.{Report}
 use Rattle.charlotte_calls.specs.declared.names.EndId.{EndId}
@@ -13,7 +14,6 @@ use Rattle.service_change.proofs.Facts.{owned_by-Owned, put_process-at, put_proc
 use Rattle.service_consistent.proofs.StepsOfCalls.{consistent-destroys}
 use Rattle.service_lawful.specs.Consistent.{IsConsistent, is_over, is_open, reports_on}
 use Rattle.service_step.specs.Ends.{end_eq, is_idle, owner, unmade, carried_by, destroys, destroys_each, destroys_owned, dropped, is_made, is_owned_by, is_living, is_started_inward, places, put, puts, waiting_message}
-use Rattle.service_step.specs.Causes.{names_twice, same_link}
 use Rattle.service_step.specs.Lawful.{IsHeldAt, message_of}
 use Rattle.service_step.specs.State.{State, Process, ends_process, no_process, put_process}
 use Rattle.service_step.specs.Steps.{Exits, runs}

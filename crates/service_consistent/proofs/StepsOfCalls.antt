@@ -1,19 +1,21 @@
 -- The steps of calls leave a consistent state: destroy, send, receive, cancel and wait.
 use Rattle.std.proofs.Common.{◌≡◌, ◌≢◌, ℕ, ◌+◌, Bool, true, false, true≢false, nat_eq, ◌&&◌, ◌||◌, not, is_some, is_none, ◌⊎◌, inl, inr, Option, Some, None, List, [], ◌∷◌, Contains, refl, sym, ap, subst, ◌∙◌, eq-eqb}
 use Rattle.std.specs.List.{list_any}
+use Rattle.charlotte_calls.proofs.Causes.{AllFail, none-fails}
+use Rattle.charlotte_calls.specs.Causes.{first_of, send_causes, receive_causes}
+use Rattle.charlotte_calls.specs.EndEq.{names_twice, same_link}
 use Rattle.charlotte_calls.specs.declared.names.EndId.{EndId}
 use Rattle.charlotte_calls.specs.declared.names.Pid.{Pid}
 use Rattle.charlotte_calls.specs.declared.names.Way.{Way}
 use Rattle.charlotte_calls.specs.declared.names.Way.TheVariants as way
-use Rattle.charlotte_calls.specs.declared.calls.Cause.TheVariants as cause
 use Rattle.service_change.proofs.Change.{IsWell, none-some, well-kept, IsCarried-at}
 use Rattle.service_change.proofs.Counts.{IsAfter, and-true, counted-reported, counted-same, pid_tells, reported-counted}
 use Rattle.service_change.proofs.Shapes.{IsNext, IsShape, consistent-by, going-same, here-woken, shape-dropped, shape-kept, shape-sent, telling-quiet, told-same}
 use Rattle.service_lawful.specs.Consistent.{IsConsistent, is_over, reports_on}
-use Rattle.service_change.proofs.Facts.{IsWell-changed, away-gone, away-owned, made-owned, next-same, none-first, not-false, over-both, owned_by-Owned, owner-Owned, posted-started, put_process-at, put_process-other, running-is, running-owner, waiting-Waiting}
+use Rattle.service_change.proofs.Facts.{IsWell-changed, away-gone, away-owned, made-owned, next-same, not-false, over-both, owned_by-Owned, owner-Owned, posted-started, put_process-at, put_process-other, running-is, running-owner, waiting-Waiting}
 use Rattle.service_change.proofs.EndEq.{among, end_eq-same}
-use Rattle.service_step.specs.Causes.{names_twice, same_link, first_of, send_causes, receive_causes, is_missing_one, has_busy_one}
-use Rattle.service_step.specs.Ends.{end_eq, is_made, owner, is_owned_by, is_idle, is_idle_outward, is_idle_inward, is_reported_outward, is_reported_inward, is_started_inward, waiting_message, carried_by, dropped, places, puts, destroys, starts_send, turns_inward, turns_outward, withdraws_send}
+use Rattle.service_step.specs.Causes.{sees}
+use Rattle.service_step.specs.Ends.{end_eq, is_made, owner, is_owned_by, is_idle, is_idle_outward, is_idle_inward, is_unreported_outward, is_unreported_inward, is_started_inward, waiting_message, carried_by, dropped, places, puts, destroys, starts_send, turns_inward, turns_outward, withdraws_send}
 use Rattle.service_step.specs.Lawful.{IsHeldAt, message_of}
 use Rattle.service_step.specs.State.{State, Process, put_process, turns}
 use Rattle.service_step.specs.Steps.{may_cancel, may_destroy, may_receive_as, may_receive, may_send_as, may_send, is_cancellable, is_running_owner, runs, after_cancel, fits_version}
@@ -55,13 +57,13 @@ module _ (s t : State) (e : EndId) (p : Pid) (x : End) (xs : List EndId) (at : P
 
 -- receive
 module _ (s : State) (e : EndId) (k : IsConsistent s) where
-  receive-owned : (p : Pid) → (s.ends e).place ≡ place.Owned p → runs s p && is_none (first_of (receive_causes p s.ends e)) ≡ true → IsConsistent (record s { ends = turns_inward inward.Posted e s.ends })
+  receive-owned : (p : Pid) → (s.ends e).place ≡ place.Owned p → runs s p && is_none (first_of (receive_causes (sees p s.ends e))) ≡ true → IsConsistent (record s { ends = turns_inward inward.Posted e s.ends })
   unfolding turns_inward
   receive-owned p owned may =
       owned-change s _ e p x [] place.Destroyed k (record { owned = owned; running = running-is (s.process p.0).phase both.0 }) refl refl refl
       (shape-kept s _ e x refl made refl refl)
-      (next-same s e x k made refl refl (IsWell-changed e (s.ends e) x (well-kept s k.kept k.noticed e) refl made (away-owned (s.ends e).place p owned) (λ m is. is) (λ m is. (is, λ noticed. noticed)) (λ noticed living. absurd (true≢false (sym noticed ∙ second.0)))))
-      (over-both (s.ends e) x refl (sym (ap is_reported_inward (idle-in (s.ends e).inward (not-false _ first.0)))))
+      (next-same s e x k made refl refl (IsWell-changed e (s.ends e) x (well-kept s k.kept k.noticed e) refl made (away-owned (s.ends e).place p owned) (λ m is. is) (λ m is. (is, λ noticed. noticed)) (λ noticed living. absurd (true≢false (sym noticed ∙ fails.1.1.0)))))
+      (over-both (s.ends e) x refl (sym (ap is_unreported_inward (idle-in (s.ends e).inward (not-false _ fails.1.0)))))
     where
       x : End
       x = record (s.ends e) { inward = inward.Posted }
@@ -69,24 +71,18 @@ module _ (s : State) (e : EndId) (k : IsConsistent s) where
       made : is_made (s.ends e).place ≡ true
       made = made-owned (s.ends e).place p owned
 
-      both : (runs s p ≡ true) × (is_none (first_of (receive_causes p s.ends e)) ≡ true)
+      both : (runs s p ≡ true) × (is_none (first_of (receive_causes (sees p s.ends e))) ≡ true)
       both = and-true _ _ may
 
-      own : (not (is_owned_by p (s.ends e).place) ≡ false) × (is_none (first_of ((not (is_idle_inward (s.ends e).inward), cause.Busy) ∷ ((s.ends e).noticed, cause.Dead) ∷ [])) ≡ true)
-      own = none-first _ cause.NoEnd _ both.1
-
-      first : (not (is_idle_inward (s.ends e).inward) ≡ false) × (is_none (first_of (((s.ends e).noticed, cause.Dead) ∷ [])) ≡ true)
-      first = none-first _ cause.Busy _ own.1
-
-      second : ((s.ends e).noticed ≡ false) × (is_none (first_of []) ≡ true)
-      second = none-first _ cause.Dead _ first.1
+      fails : AllFail (receive_causes (sees p s.ends e))
+      fails = none-fails (receive_causes (sees p s.ends e)) both.1
 
       idle-in : (i : Inward) → is_idle_inward i ≡ true → i ≡ inward.Idle
       idle-in inward.Idle is = refl
       idle-in inward.Posted is = absurd (true≢false (sym is))
       idle-in inward.Withdrawn is = absurd (true≢false (sym is))
       idle-in (inward.Matched n) is = absurd (true≢false (sym is))
-      idle-in inward.Reported is = absurd (true≢false (sym is))
+      idle-in inward.Unreported is = absurd (true≢false (sym is))
 
   pub consistent-receive : may_receive s e ≡ true → IsConsistent (record s { ends = turns_inward inward.Posted e s.ends })
   consistent-receive may = by (owner (s.ends e).place) refl may
@@ -102,21 +98,21 @@ module _ (s : State) (e : EndId) (p : Pid) (k : IsConsistent s) (o : IsOwnedRunn
   dropped-message outward.Idle m is = is
   dropped-message (outward.Matched n) m is = is
   dropped-message outward.Taken m is = is
-  dropped-message outward.Reported m is = is
+  dropped-message outward.Unreported m is = is
 
   dropped-waits : (out : Outward) (m : Message) → dropped out ≡ outward.Waiting m → ⊥
   dropped-waits (outward.Waiting n) m is = cc
   dropped-waits outward.Idle m is = cc
   dropped-waits (outward.Matched n) m is = cc
   dropped-waits outward.Taken m is = cc
-  dropped-waits outward.Reported m is = cc
+  dropped-waits outward.Unreported m is = cc
 
-  dropped-over : (out : Outward) → is_reported_outward (dropped out) ≡ is_reported_outward out
+  dropped-over : (out : Outward) → is_unreported_outward (dropped out) ≡ is_unreported_outward out
   dropped-over (outward.Waiting n) = refl
   dropped-over outward.Idle = refl
   dropped-over (outward.Matched n) = refl
   dropped-over outward.Taken = refl
-  dropped-over outward.Reported = refl
+  dropped-over outward.Unreported = refl
 
   ended-next : (out : Outward) → (s.ends e).outward ≡ out → IsNext s e (record (s.ends e) { place = place.Destroyed; outward = dropped out })
   ended-next out is =
@@ -148,18 +144,18 @@ module _ (s : State) (e : EndId) (p : Pid) (k : IsConsistent s) (o : IsOwnedRunn
       subst (λ xs. IsConsistent (record s { ends = places place.Destroyed xs (puts e (record (s.ends e) { place = place.Destroyed; outward = dropped out }) s.ends) })) (sym none)
       (owned-change s _ e p (record (s.ends e) { place = place.Destroyed; outward = dropped out }) [] place.Destroyed k o refl refl refl
       (shape-kept s _ e (record (s.ends e) { place = place.Destroyed; outward = dropped out }) refl (made-owned (s.ends e).place p o.owned) (same ∙ sym (ap message_of is)) refl)
-      (ended-next out is) (over-both (s.ends e) (record (s.ends e) { place = place.Destroyed; outward = dropped out }) (dropped-over out ∙ sym (ap is_reported_outward is)) refl))
+      (ended-next out is) (over-both (s.ends e) (record (s.ends e) { place = place.Destroyed; outward = dropped out }) (dropped-over out ∙ sym (ap is_unreported_outward is)) refl))
 
   ended-as : (out : Outward) → (s.ends e).outward ≡ out
       → IsConsistent (record s { ends = places place.Destroyed (carried_by (waiting_message out)) (puts e (record (s.ends e) { place = place.Destroyed; outward = dropped out }) s.ends) })
   ended-as (outward.Waiting m) is =
       owned-change s _ e p (record (s.ends e) { place = place.Destroyed; outward = outward.Idle }) m.carried place.Destroyed k o refl refl refl
       (shape-dropped s _ e (record (s.ends e) { place = place.Destroyed; outward = outward.Idle }) m place.Destroyed k (ap message_of is) refl refl (λ q. tt) refl (made-owned (s.ends e).place p o.owned))
-      (ended-next (outward.Waiting m) is) (over-both (s.ends e) (record (s.ends e) { place = place.Destroyed; outward = outward.Idle }) (sym (ap is_reported_outward is)) refl)
+      (ended-next (outward.Waiting m) is) (over-both (s.ends e) (record (s.ends e) { place = place.Destroyed; outward = outward.Idle }) (sym (ap is_unreported_outward is)) refl)
   ended-as outward.Idle is = ended-kept outward.Idle is refl refl
   ended-as (outward.Matched m) is = ended-kept (outward.Matched m) is refl refl
   ended-as outward.Taken is = ended-kept outward.Taken is refl refl
-  ended-as outward.Reported is = ended-kept outward.Reported is refl refl
+  ended-as outward.Unreported is = ended-kept outward.Unreported is refl refl
 
   pub consistent-destroys : IsConsistent (record s { ends = destroys e s.ends })
   unfolding destroys
@@ -183,14 +179,14 @@ same_link-refl e = ap (λ b. b && nat_eq e.link.count e.link.count) (eq-eqb e.li
 
 -- send
 module _ (s : State) (e : EndId) (n : ℕ) (bytes : List ℕ) (xs : List EndId) (k : IsConsistent s) where
-  send-owned : (p : Pid) → (s.ends e).place ≡ place.Owned p → runs s p && is_none (first_of (send_causes p s.ends e xs)) && nat_eq n ((s.ends e).sent + 1) && fits_version s.version xs ≡ true
+  send-owned : (p : Pid) → (s.ends e).place ≡ place.Owned p → runs s p && is_none (first_of (send_causes (sees p s.ends) e xs)) && nat_eq n ((s.ends e).sent + 1) && fits_version s.version xs ≡ true
       → IsConsistent (record s { ends = starts_send e n (record { bytes = bytes; carried = xs }) s.ends })
   unfolding starts_send
   send-owned p owned may =
       owned-change s _ e p x xs (place.InMessage e n) k (record { owned = owned; running = running-is (s.process p.0).phase may_run }) refl refl refl
       (shape-sent s _ e x m n no_message refl refl refl made aside idle p owns)
       (next-same s e x k made refl refl well)
-      (over-both (s.ends e) x (sym (ap is_reported_outward idle_out)) refl)
+      (over-both (s.ends e) x (sym (ap is_unreported_outward idle_out)) refl)
     where
       m : Message
       m = record { bytes = bytes; carried = xs }
@@ -201,61 +197,45 @@ module _ (s : State) (e : EndId) (n : ℕ) (bytes : List ℕ) (xs : List EndId) 
       made : is_made (s.ends e).place ≡ true
       made = made-owned (s.ends e).place p owned
 
-      may_both : (runs s p ≡ true) × (is_none (first_of (send_causes p s.ends e xs)) ≡ true)
+      may_both : (runs s p ≡ true) × (is_none (first_of (send_causes (sees p s.ends) e xs)) ≡ true)
       may_both = and-true _ _ (and-true _ _ (and-true _ _ may).0).0
 
       may_run : runs s p ≡ true
       may_run = may_both.0
 
-      c1 : (not (is_owned_by p (s.ends e).place) ≡ false)
-          × (is_none (first_of ((not (is_idle_outward (s.ends e).outward), cause.Busy) ∷ ((s.ends e).noticed, cause.Dead) ∷ (is_missing_one p s.ends xs, cause.EncloseNoEnd) ∷ (has_busy_one s.ends xs, cause.EncloseBusy) ∷ (list_any (same_link e) xs, cause.EncloseSame) ∷ (names_twice xs, cause.EncloseTwice) ∷ [])) ≡ true)
-      c1 = none-first _ cause.NoEnd _ may_both.1
+      fails : AllFail (send_causes (sees p s.ends) e xs)
+      fails = none-fails (send_causes (sees p s.ends) e xs) may_both.1
 
-      c2 : (not (is_idle_outward (s.ends e).outward) ≡ false)
-          × (is_none (first_of (((s.ends e).noticed, cause.Dead) ∷ (is_missing_one p s.ends xs, cause.EncloseNoEnd) ∷ (has_busy_one s.ends xs, cause.EncloseBusy) ∷ (list_any (same_link e) xs, cause.EncloseSame) ∷ (names_twice xs, cause.EncloseTwice) ∷ [])) ≡ true)
-      c2 = none-first _ cause.Busy _ c1.1
+      alive : (s.ends e).noticed ≡ false
+      alive = fails.1.1.0
 
-      c3 : ((s.ends e).noticed ≡ false)
-          × (is_none (first_of ((is_missing_one p s.ends xs, cause.EncloseNoEnd) ∷ (has_busy_one s.ends xs, cause.EncloseBusy) ∷ (list_any (same_link e) xs, cause.EncloseSame) ∷ (names_twice xs, cause.EncloseTwice) ∷ [])) ≡ true)
-      c3 = none-first _ cause.Dead _ c2.1
-
-      c4 : (is_missing_one p s.ends xs ≡ false)
-          × (is_none (first_of ((has_busy_one s.ends xs, cause.EncloseBusy) ∷ (list_any (same_link e) xs, cause.EncloseSame) ∷ (names_twice xs, cause.EncloseTwice) ∷ [])) ≡ true)
-      c4 = none-first _ cause.EncloseNoEnd _ c3.1
-
-      c5 : (has_busy_one s.ends xs ≡ false) × (is_none (first_of ((list_any (same_link e) xs, cause.EncloseSame) ∷ (names_twice xs, cause.EncloseTwice) ∷ [])) ≡ true)
-      c5 = none-first _ cause.EncloseBusy _ c4.1
-
-      c6 : (list_any (same_link e) xs ≡ false) × (is_none (first_of ((names_twice xs, cause.EncloseTwice) ∷ [])) ≡ true)
-      c6 = none-first _ cause.EncloseSame _ c5.1
-
-      c7 : (names_twice xs ≡ false) × (is_none (first_of []) ≡ true)
-      c7 = none-first _ cause.EncloseTwice _ c6.1
+      apart : list_any (same_link e) xs ≡ false
+      apart = fails.1.1.1.1.1.0
 
       idle-out : (out : Outward) → is_idle_outward out ≡ true → out ≡ outward.Idle
       idle-out outward.Idle is = refl
       idle-out (outward.Waiting m) is = absurd (true≢false (sym is))
       idle-out (outward.Matched m) is = absurd (true≢false (sym is))
       idle-out outward.Taken is = absurd (true≢false (sym is))
-      idle-out outward.Reported is = absurd (true≢false (sym is))
+      idle-out outward.Unreported is = absurd (true≢false (sym is))
 
       idle_out : (s.ends e).outward ≡ outward.Idle
-      idle_out = idle-out (s.ends e).outward (not-false _ c2.0)
+      idle_out = idle-out (s.ends e).outward (not-false _ fails.1.0)
 
       no_message : message_of (s.ends e).outward ≡ None
       no_message = ap message_of idle_out
 
       idle : (y : EndId) → among y xs ≡ true → is_idle (s.ends y) ≡ true
-      idle y is = not-false _ (all-of (λ z. not (is_idle (s.ends z))) xs c5.0 y is)
+      idle y is = not-false _ (all-of (λ z. not (is_idle (s.ends z))) xs fails.1.1.1.1.0 y is)
 
       owns : (y : EndId) → among y xs ≡ true → (s.ends y).place ≡ place.Owned p
-      owns y is = owned_by-Owned p (s.ends y).place (not-false _ (all-of (λ z. not (is_owned_by p (s.ends z).place)) xs c4.0 y is))
+      owns y is = owned_by-Owned p (s.ends y).place (not-false _ (all-of (λ z. not (is_owned_by p (s.ends z).place)) xs fails.1.1.1.0 y is))
 
       aside : among e xs ≡ false
       aside = by (among e xs) refl
         where
           by : (b : Bool) → among e xs ≡ b → b ≡ false
-          by true is = absurd (true≢false (sym (same_link-refl e) ∙ all-of (same_link e) xs c6.0 e is))
+          by true is = absurd (true≢false (sym (same_link-refl e) ∙ all-of (same_link e) xs apart e is))
           by false none = refl
 
       that : (a : Message) → Some (record { bytes = bytes; carried = xs }) ≡ Some a → record { bytes = bytes; carried = xs } ≡ a
@@ -265,12 +245,12 @@ module _ (s : State) (e : EndId) (n : ℕ) (bytes : List ℕ) (xs : List EndId) 
       well =
           record {
             unmade = λ is. absurd (true≢false (sym made ∙ ap is_made is));
-            apart = λ a is. subst (λ z. names_twice z.carried ≡ false) (that a is) c7.0;
-            others = λ a is. subst (λ z. list_any (same_link e) z.carried ≡ false) (that a is) c6.0;
+            apart = λ a is. subst (λ z. names_twice z.carried ≡ false) (that a is) fails.1.1.1.1.1.1.0;
+            others = λ a is. subst (λ z. list_any (same_link e) z.carried ≡ false) (that a is) apart;
             waiting = λ a is. ap (λ at. is_some (owner at)) owned;
             resting = λ f i inside. absurd (away-owned (s.ends e).place p owned f i inside);
-            silent = λ noticed living. absurd (true≢false (sym noticed ∙ c3.0));
-            deaf = λ noticed living. absurd (true≢false (sym noticed ∙ c3.0));
+            silent = λ noticed living. absurd (true≢false (sym noticed ∙ alive));
+            deaf = λ noticed living. absurd (true≢false (sym noticed ∙ alive));
           }
 
   pub consistent-send : may_send s e n xs ≡ true → IsConsistent (record s { ends = starts_send e n (record { bytes = bytes; carried = xs }) s.ends })
@@ -394,7 +374,7 @@ module _ (s : State) (e : EndId) (p : Pid) (k : IsConsistent s) (o : IsOwnedRunn
       (owned-change s _ e p x m.carried (place.Owned p) k o refl refl refl
       (shape-dropped s _ e x m (place.Owned p) k (ap message_of waits) refl refl (λ q is. running-lives (s.process p.0).phase o.running is) refl made)
       (next-same s e x k made refl refl (IsWell-changed e (s.ends e) x (well-kept s k.kept k.noticed e) refl made (away-owned (s.ends e).place p o.owned) (λ a has. absurd (none-some None a refl has)) (λ a has. absurd (differ a has)) (k.noticed.inward e)))
-      (over-both (s.ends e) x (sym (ap is_reported_outward waits)) refl))
+      (over-both (s.ends e) x (sym (ap is_unreported_outward waits)) refl))
     where
       x : End
       x = record (s.ends e) { outward = outward.Idle }

@@ -19,7 +19,7 @@ use Rattle.service_change.proofs.Facts.{IsWell-changed, away-gone, away-owned, b
 use Rattle.service_consistent.proofs.StepsOfMessages.{owned-lives}
 use Rattle.service_change.proofs.Change.{IsTelling, IsWell-idle}
 use Rattle.service_lawful.specs.Consistent.{is_report_on}
-use Rattle.service_step.specs.Ends.{is_made, is_living, is_destroyed, owner, is_idle, is_reported_outward, is_reported_inward, is_started_inward, matched_message, waiting_message, carried_by, noticed_end, noticed_inward, noticed_outward, places, puts, idles, notices, returned_end, returns, to_owner, turns_inward, turns_outward}
+use Rattle.service_step.specs.Ends.{is_made, is_living, is_destroyed, owner, is_idle, is_unreported_outward, is_unreported_inward, is_started_inward, matched_message, waiting_message, carried_by, noticed_end, noticed_inward, noticed_outward, places, puts, idles, notices, returned_end, returns, to_owner, turns_inward, turns_outward}
 use Rattle.service_step.specs.Lawful.{message_of}
 use Rattle.service_step.specs.State.{State, Process, dead_receive_report, gains, given, later, put_process, send_report, tells, wakes}
 use Rattle.service_step.specs.Steps.{IsOldest, after_notice, after_report, after_return, dead_reports, gains_owner, is_matched, may_notice, may_return, returned_reports}
@@ -109,38 +109,38 @@ noticed-deaf inward.Idle = refl
 noticed-deaf inward.Posted = refl
 noticed-deaf inward.Withdrawn = refl
 noticed-deaf (inward.Matched n) = refl
-noticed-deaf inward.Reported = refl
+noticed-deaf inward.Unreported = refl
 
 newly-in : (i : Inward) (e : EndId) (o : Option Message) (rs : List Report) → rs ≡ returned_reports e o ++ (if is_started_inward i then dead_receive_report e ∷ [] else [])
-    → ((is_reported_inward (noticed_inward i) ≡ is_reported_inward i) × (reports_on e way.Inward rs ≡ 0)) ⊎ ((is_reported_inward i ≡ false) × (is_reported_inward (noticed_inward i) ≡ true) × (reports_on e way.Inward rs ≡ 1))
+    → ((is_unreported_inward (noticed_inward i) ≡ is_unreported_inward i) × (reports_on e way.Inward rs ≡ 0)) ⊎ ((is_unreported_inward i ≡ false) × (is_unreported_inward (noticed_inward i) ≡ true) × (reports_on e way.Inward rs ≡ 1))
 newly-in inward.Idle e o rs is = inl (refl, ap (reports_on e way.Inward) is ∙ both-in e o false)
 newly-in inward.Posted e o rs is = inr (refl, refl, ap (reports_on e way.Inward) is ∙ both-in e o true)
 newly-in inward.Withdrawn e o rs is = inr (refl, refl, ap (reports_on e way.Inward) is ∙ both-in e o true)
 newly-in (inward.Matched n) e o rs is = inr (refl, refl, ap (reports_on e way.Inward) is ∙ both-in e o true)
-newly-in inward.Reported e o rs is = inl (refl, ap (reports_on e way.Inward) is ∙ both-in e o false)
+newly-in inward.Unreported e o rs is = inl (refl, ap (reports_on e way.Inward) is ∙ both-in e o false)
 
 noticed-message : (out : Outward) (m : Message) → message_of (noticed_outward out) ≡ Some m → message_of out ≡ Some m
 noticed-message (outward.Waiting a) m is = absurd (none-some None m refl is)
 noticed-message outward.Idle m is = is
 noticed-message (outward.Matched a) m is = is
 noticed-message outward.Taken m is = is
-noticed-message outward.Reported m is = is
+noticed-message outward.Unreported m is = is
 
 noticed-waits : (out : Outward) (m : Message) → noticed_outward out ≡ outward.Waiting m → ⊥
 noticed-waits (outward.Waiting a) m is = cc
 noticed-waits outward.Idle m is = cc
 noticed-waits (outward.Matched a) m is = cc
 noticed-waits outward.Taken m is = cc
-noticed-waits outward.Reported m is = cc
+noticed-waits outward.Unreported m is = cc
 
 newly-out : (out : Outward) (e : EndId) (b : Bool)
-    → ((is_reported_outward (noticed_outward out) ≡ is_reported_outward out) × (reports_on e way.Outward (returned_reports e (waiting_message out) ++ (if b then dead_receive_report e ∷ [] else [])) ≡ 0))
-    ⊎ ((is_reported_outward out ≡ false) × (is_reported_outward (noticed_outward out) ≡ true) × (reports_on e way.Outward (returned_reports e (waiting_message out) ++ (if b then dead_receive_report e ∷ [] else [])) ≡ 1))
+    → ((is_unreported_outward (noticed_outward out) ≡ is_unreported_outward out) × (reports_on e way.Outward (returned_reports e (waiting_message out) ++ (if b then dead_receive_report e ∷ [] else [])) ≡ 0))
+    ⊎ ((is_unreported_outward out ≡ false) × (is_unreported_outward (noticed_outward out) ≡ true) × (reports_on e way.Outward (returned_reports e (waiting_message out) ++ (if b then dead_receive_report e ∷ [] else [])) ≡ 1))
 newly-out (outward.Waiting m) e b = inr (refl, refl, both-out e (Some m) b)
 newly-out outward.Idle e b = inl (refl, both-out e None b)
 newly-out (outward.Matched m) e b = inl (refl, both-out e None b)
 newly-out outward.Taken e b = inl (refl, both-out e None b)
-newly-out outward.Reported e b = inl (refl, both-out e None b)
+newly-out outward.Unreported e b = inl (refl, both-out e None b)
 
 -- notice at an owned end
 module _ (s : State) (e : EndId) (p : Pid) (k : IsConsistent s) (owned : (s.ends e).place ≡ place.Owned p) (gone : (s.ends (opposite e)).place ≡ place.Destroyed) where
@@ -198,7 +198,7 @@ module _ (s : State) (e : EndId) (p : Pid) (k : IsConsistent s) (owned : (s.ends
   noticed-owned outward.Idle is = noticed-kept (ap waiting_message is) (ap (λ o. message_of (noticed_outward o)) is ∙ sym (ap message_of is))
   noticed-owned (outward.Matched m) is = noticed-kept (ap waiting_message is) (ap (λ o. message_of (noticed_outward o)) is ∙ sym (ap message_of is))
   noticed-owned outward.Taken is = noticed-kept (ap waiting_message is) (ap (λ o. message_of (noticed_outward o)) is ∙ sym (ap message_of is))
-  noticed-owned outward.Reported is = noticed-kept (ap waiting_message is) (ap (λ o. message_of (noticed_outward o)) is ∙ sym (ap message_of is))
+  noticed-owned outward.Unreported is = noticed-kept (ap waiting_message is) (ap (λ o. message_of (noticed_outward o)) is ∙ sym (ap message_of is))
 
 -- notice at an end in a message, which is idle
 module _ (s : State) (e f : EndId) (n : ℕ) (k : IsConsistent s) (inside : (s.ends e).place ≡ place.InMessage f n) (gone : (s.ends (opposite e)).place ≡ place.Destroyed) where
@@ -253,15 +253,15 @@ module _ (s : State) (e : EndId) (dead : Bool) (k : IsConsistent s) (may : may_n
 
 -- back at an owned end
 module _ (s : State) (e : EndId) (p : Pid) (m : Message) (k : IsConsistent s) (owned : (s.ends e).place ≡ place.Owned p) (matched : (s.ends e).outward ≡ outward.Matched m) (gone : (s.ends (opposite e)).place ≡ place.Destroyed) where
-  back-noticed : (s.ends e).noticed ≡ true → IsConsistent (record s { ends = places (place.Owned p) m.carried (puts e (record (s.ends e) { outward = outward.Reported }) s.ends); process = gains p (send_report e outcome.Destroyed m.carried ∷ []) s.process })
+  back-noticed : (s.ends e).noticed ≡ true → IsConsistent (record s { ends = places (place.Owned p) m.carried (puts e (record (s.ends e) { outward = outward.Unreported }) s.ends); process = gains p (send_report e outcome.Destroyed m.carried ∷ []) s.process })
   back-noticed noticed =
-      let t : State = record s { ends = places (place.Owned p) m.carried (puts e (record (s.ends e) { outward = outward.Reported }) s.ends); process = gains p (send_report e outcome.Destroyed m.carried ∷ []) s.process } in
-      let x : End = record (s.ends e) { outward = outward.Reported } in
+      let t : State = record s { ends = places (place.Owned p) m.carried (puts e (record (s.ends e) { outward = outward.Unreported }) s.ends); process = gains p (send_report e outcome.Destroyed m.carried ∷ []) s.process } in
+      let x : End = record (s.ends e) { outward = outward.Unreported } in
       marked s t e p x m.carried (place.Owned p) (send_report e outcome.Destroyed m.carried ∷ []) k owned refl refl
       (shape-dropped s t e x m (place.Owned p) k (ap message_of matched) refl refl (λ q. led-lives s t p told.led (owned-lives s e p k owned)) refl (made-owned (s.ends e).place p owned))
       told (λ q is. absurd (unheard q (cancels q is (pid_tells p q)))) gone refl noticed well ((refl, λ is. absurd (true≢false (sym is))), tt) newly
     where
-      told : IsTold s (record s { ends = places (place.Owned p) m.carried (puts e (record (s.ends e) { outward = outward.Reported }) s.ends); process = gains p (send_report e outcome.Destroyed m.carried ∷ []) s.process }) p (send_report e outcome.Destroyed m.carried ∷ [])
+      told : IsTold s (record s { ends = places (place.Owned p) m.carried (puts e (record (s.ends e) { outward = outward.Unreported }) s.ends); process = gains p (send_report e outcome.Destroyed m.carried ∷ []) s.process }) p (send_report e outcome.Destroyed m.carried ∷ [])
       told = told-gains s _ p (send_report e outcome.Destroyed m.carried ∷ []) refl
 
       unheard : (q : Pid) → (s.process q.0).phase ≡ phase.Cancelling e → ⊥
@@ -276,46 +276,46 @@ module _ (s : State) (e : EndId) (p : Pid) (m : Message) (k : IsConsistent s) (o
           by (inr runs) is = let apart : phase.Running ≡ phase.Cancelling e = sym runs ∙ is in absurd (cc)
       cancels q is (inr apart) = sym (ap (λ z. z.phase) (told.led.others q apart.0)) ∙ is
 
-      waits : (a : Message) → outward.Reported ≡ outward.Waiting a → ⊥
+      waits : (a : Message) → outward.Unreported ≡ outward.Waiting a → ⊥
       waits a same = cc
 
-      well : IsWell e (record (s.ends e) { outward = outward.Reported })
+      well : IsWell e (record (s.ends e) { outward = outward.Unreported })
       well =
-          IsWell-changed e (s.ends e) (record (s.ends e) { outward = outward.Reported }) (well-kept s k.kept k.noticed e) refl (made-owned (s.ends e).place p owned) (away-owned (s.ends e).place p owned)
+          IsWell-changed e (s.ends e) (record (s.ends e) { outward = outward.Unreported }) (well-kept s k.kept k.noticed e) refl (made-owned (s.ends e).place p owned) (away-owned (s.ends e).place p owned)
           (λ a has. absurd (none-some None a refl has)) (λ a has. absurd (waits a has)) (k.noticed.inward e)
 
-      newly : (w : Way) → IsNewlyFor (s.ends e) (record (s.ends e) { outward = outward.Reported }) e (send_report e outcome.Destroyed m.carried ∷ []) w
-      newly way.Outward = inr (ap is_reported_outward matched, refl, returned-out e (Some m))
+      newly : (w : Way) → IsNewlyFor (s.ends e) (record (s.ends e) { outward = outward.Unreported }) e (send_report e outcome.Destroyed m.carried ∷ []) w
+      newly way.Outward = inr (ap is_unreported_outward matched, refl, returned-out e (Some m))
       newly way.Inward = inl (refl, returned-in e (Some m))
 
   back-open : IsConsistent (record s {
-    ends = places (place.Owned p) m.carried (puts e (noticed_end (record (s.ends e) { outward = outward.Reported })) s.ends);
+    ends = places (place.Owned p) m.carried (puts e (noticed_end (record (s.ends e) { outward = outward.Unreported })) s.ends);
     process = wakes p e (gains p (send_report e outcome.Destroyed m.carried ∷ dead_reports e (s.ends e)) s.process);
   })
   back-open =
       let rs : List Report = send_report e outcome.Destroyed m.carried ∷ dead_reports e (s.ends e) in
-      let t : State = record s { ends = places (place.Owned p) m.carried (puts e (noticed_end (record (s.ends e) { outward = outward.Reported })) s.ends); process = wakes p e (gains p (send_report e outcome.Destroyed m.carried ∷ dead_reports e (s.ends e)) s.process) } in
-      let x : End = noticed_end (record (s.ends e) { outward = outward.Reported }) in
+      let t : State = record s { ends = places (place.Owned p) m.carried (puts e (noticed_end (record (s.ends e) { outward = outward.Unreported })) s.ends); process = wakes p e (gains p (send_report e outcome.Destroyed m.carried ∷ dead_reports e (s.ends e)) s.process) } in
+      let x : End = noticed_end (record (s.ends e) { outward = outward.Unreported }) in
       let told : IsTold s t p rs × ((t.process p.0).phase ≡ phase.Cancelling e → ⊥) = told-tells s t p e rs refl in
       marked s t e p x m.carried (place.Owned p) rs k owned refl refl
       (shape-dropped s t e x m (place.Owned p) k (ap message_of matched) refl refl (λ q. led-lives s t p told.0.led (owned-lives s e p k owned)) refl (made-owned (s.ends e).place p owned))
       told.0 (here-woken s t e p k.processes told.0.led owned told.1) gone refl refl well (returned-for e (Some m) (is_started_inward (s.ends e).inward)) newly
     where
-      waits : (a : Message) → outward.Reported ≡ outward.Waiting a → ⊥
+      waits : (a : Message) → outward.Unreported ≡ outward.Waiting a → ⊥
       waits a same = cc
 
-      well : IsWell e (noticed_end (record (s.ends e) { outward = outward.Reported }))
+      well : IsWell e (noticed_end (record (s.ends e) { outward = outward.Unreported }))
       well =
-          IsWell-changed e (s.ends e) (noticed_end (record (s.ends e) { outward = outward.Reported })) (well-kept s k.kept k.noticed e) refl (made-owned (s.ends e).place p owned) (away-owned (s.ends e).place p owned)
+          IsWell-changed e (s.ends e) (noticed_end (record (s.ends e) { outward = outward.Unreported })) (well-kept s k.kept k.noticed e) refl (made-owned (s.ends e).place p owned) (away-owned (s.ends e).place p owned)
           (λ a has. absurd (none-some None a refl has)) (λ a has. absurd (waits a has)) (λ noticed living. noticed-deaf (s.ends e).inward)
 
-      newly : (w : Way) → IsNewlyFor (s.ends e) (noticed_end (record (s.ends e) { outward = outward.Reported })) e (send_report e outcome.Destroyed m.carried ∷ dead_reports e (s.ends e)) w
-      newly way.Outward = inr (ap is_reported_outward matched, refl, both-out e (Some m) (is_started_inward (s.ends e).inward))
+      newly : (w : Way) → IsNewlyFor (s.ends e) (noticed_end (record (s.ends e) { outward = outward.Unreported })) e (send_report e outcome.Destroyed m.carried ∷ dead_reports e (s.ends e)) w
+      newly way.Outward = inr (ap is_unreported_outward matched, refl, both-out e (Some m) (is_started_inward (s.ends e).inward))
       newly way.Inward = newly-in (s.ends e).inward e (Some m) _ refl
 
   back-owned : (b : Bool) → (s.ends e).noticed ≡ b
       → IsConsistent (record s {
-        ends = places (place.Owned p) m.carried (puts e (if b then record (s.ends e) { outward = outward.Reported } else noticed_end (record (s.ends e) { outward = outward.Reported })) s.ends);
+        ends = places (place.Owned p) m.carried (puts e (if b then record (s.ends e) { outward = outward.Unreported } else noticed_end (record (s.ends e) { outward = outward.Unreported })) s.ends);
         process =
             if b then gains p (send_report e outcome.Destroyed m.carried ∷ []) s.process
             else wakes p e (gains p (send_report e outcome.Destroyed m.carried ∷ dead_reports e (s.ends e)) s.process);
@@ -334,7 +334,7 @@ module _ (s : State) (e : EndId) (m : Message) (k : IsConsistent s) (gone : (s.e
       (next-same s e x k made refl refl
       (IsWell-changed e (s.ends e) x (well-kept s k.kept k.noticed e) refl made (away-gone (s.ends e).place gone) (λ a has. absurd (none-some None a refl has)) (λ a has. absurd (waits a has)) (k.noticed.inward e)))
       (going-same s t e refl (here-kept s t e k.processes (λ q is. is) (ap (λ z. z.place) shape.is) (λ is. ap (λ z. is_started_inward z.inward) shape.is ∙ is)))
-      (telling-quiet s t e k (λ q. refl) (λ w. ap (is_over w) shape.is ∙ over-both (s.ends e) x (sym (ap is_reported_outward matched)) refl w) (inl (ap (λ z. z.place) shape.is)))
+      (telling-quiet s t e k (λ q. refl) (λ w. ap (is_over w) shape.is ∙ over-both (s.ends e) x (sym (ap is_unreported_outward matched)) refl w) (inl (ap (λ z. z.place) shape.is)))
     where
       made : is_made (s.ends e).place ≡ true
       made = ap is_made gone
@@ -407,8 +407,8 @@ abbrev idle_way : Way → End → End
 idle_way way.Outward x = record x { outward = outward.Idle }
 idle_way way.Inward x = record x { inward = inward.Idle }
 
-reported-out : (o : Outward) → is_reported_outward o ≡ true → o ≡ outward.Reported
-reported-out outward.Reported is = refl
+reported-out : (o : Outward) → is_unreported_outward o ≡ true → o ≡ outward.Unreported
+reported-out outward.Unreported is = refl
 reported-out outward.Idle is = absurd (true≢false (sym is))
 reported-out (outward.Waiting m) is = absurd (true≢false (sym is))
 reported-out (outward.Matched m) is = absurd (true≢false (sym is))

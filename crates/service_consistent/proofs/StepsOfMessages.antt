@@ -13,7 +13,7 @@ use Rattle.service_change.proofs.Shapes.{IsLed, IsNewly, IsNext, IsShape, IsTold
 use Rattle.service_lawful.specs.Consistent.{IsConsistent, is_over}
 use Rattle.service_change.proofs.EndEq.{end_eq-same, end_eq-sym, puts-at, puts-other}
 use Rattle.service_change.proofs.Facts.{IsWell-changed, away-owned, busy-away, busy-inward, busy-made, busy-outward, led-wakes, made-owned, matched-Matched, matched_with-Matched, next-same, over-both, owned_by-Owned, owner-Owned, owner_cancels-is, posted-Posted, some-is, taken-Taken, told-gains, told-tells, waiting-Waiting, wakes-woken, withdrawn-Withdrawn}
-use Rattle.service_step.specs.Ends.{end_eq, is_made, owner, is_idle, is_posted, is_reported_outward, is_reported_inward, is_started_inward, is_taken, is_withdrawn, matched_message, matched_outward, waiting_message, carried_by, places, puts, matches, takes, turns_inward, turns_outward}
+use Rattle.service_step.specs.Ends.{end_eq, is_made, owner, is_idle, is_posted, is_unreported_outward, is_unreported_inward, is_started_inward, is_taken, is_withdrawn, matched_message, matched_outward, waiting_message, carried_by, places, puts, matches, takes, turns_inward, turns_outward}
 use Rattle.service_step.specs.Lawful.{IsHeldAt, message_of}
 use Rattle.service_step.specs.State.{State, gains, owner_cancels, receive_report, send_report, tells, wakes}
 use Rattle.service_step.specs.Steps.{after_complete, after_free, after_take, done_reports, gains_owner, may_complete, may_free, may_match, may_take, may_withdraw, wakes_owner}
@@ -45,21 +45,21 @@ module _ (s : State) (e : EndId) (n : ℕ) (k : IsConsistent s) where
   matched-message (outward.Waiting m) = refl
   matched-message (outward.Matched m) = refl
   matched-message outward.Taken = refl
-  matched-message outward.Reported = refl
+  matched-message outward.Unreported = refl
 
-  matched-over : (out : Outward) → is_reported_outward (matched_outward out) ≡ is_reported_outward out
+  matched-over : (out : Outward) → is_unreported_outward (matched_outward out) ≡ is_unreported_outward out
   matched-over outward.Idle = refl
   matched-over (outward.Waiting m) = refl
   matched-over (outward.Matched m) = refl
   matched-over outward.Taken = refl
-  matched-over outward.Reported = refl
+  matched-over outward.Unreported = refl
 
   matched-waits : (out : Outward) (m : Message) → matched_outward out ≡ outward.Waiting m → ⊥
   matched-waits outward.Idle m is = cc
   matched-waits (outward.Waiting a) m is = cc
   matched-waits (outward.Matched a) m is = cc
   matched-waits outward.Taken m is = cc
-  matched-waits outward.Reported m is = cc
+  matched-waits outward.Unreported m is = cc
 
   sends-matched : (m : Message) → (s.ends e).outward ≡ outward.Waiting m → IsConsistent (record s { ends = turns_outward (matched_outward (s.ends e).outward) e s.ends })
   unfolding turns_outward
@@ -83,14 +83,14 @@ module _ (s : State) (e : EndId) (n : ℕ) (k : IsConsistent s) where
       made = busy-made s e k busy
 
 -- a posted receive goes on to something started
-pub posted-goes : (s : State) (e : EndId) (to : Inward) → IsConsistent s → (s.ends e).inward ≡ inward.Posted → is_started_inward to ≡ true → is_reported_inward to ≡ false → IsConsistent (record s { ends = turns_inward to e s.ends })
+pub posted-goes : (s : State) (e : EndId) (to : Inward) → IsConsistent s → (s.ends e).inward ≡ inward.Posted → is_started_inward to ≡ true → is_unreported_inward to ≡ false → IsConsistent (record s { ends = turns_inward to e s.ends })
 unfolding turns_inward
 posted-goes s e to k posted started open_yet =
     silent-change s _ e x k refl refl refl (shape-kept s _ e x refl made refl refl) refl
     (next-same s e x k made refl refl
     (IsWell-changed e (s.ends e) x (well-kept s k.kept k.noticed e) refl made (busy-away s e k busy) (λ a has. has) (λ a has. (has, λ noticed. noticed))
     (λ noticed living. absurd (true≢false (sym (sym (k.noticed.inward e noticed living) ∙ ap is_started_inward posted))))))
-    (λ is. started) (over-both (s.ends e) x refl (open_yet ∙ sym (ap is_reported_inward posted)))
+    (λ is. started) (over-both (s.ends e) x refl (open_yet ∙ sym (ap is_unreported_inward posted)))
   where
     x : End
     x = record (s.ends e) { inward = to }
@@ -133,7 +133,7 @@ module _ (s : State) (e : EndId) (p : Pid) (k : IsConsistent s) (owned : (s.ends
       (next-same s e x k made refl refl
       (IsWell-changed e (s.ends e) x (well-kept s k.kept k.noticed e) refl made (away-owned (s.ends e).place p owned) (λ a has. has) (λ a has. (has, λ noticed. noticed)) (λ noticed living. refl)))
       (going-led s _ e p led (owned-lives s e p k owned) (here-woken s _ e p k.processes led owned (wakes-woken p e s.process).woken))
-      (telling-quiet s _ e k (wakes-woken p e s.process).reports (λ w. ap (is_over w) shape.is ∙ over-both (s.ends e) x refl (sym (ap is_reported_inward withdrawn)) w) (inl (ap (λ z. z.place) shape.is)))
+      (telling-quiet s _ e k (wakes-woken p e s.process).reports (λ w. ap (is_over w) shape.is ∙ over-both (s.ends e) x refl (sym (ap is_unreported_inward withdrawn)) w) (inl (ap (λ z. z.place) shape.is)))
     where
       x : End
       x = record (s.ends e) { inward = inward.Idle }
@@ -160,10 +160,10 @@ consistent-free s e k may =
 
 -- complete
 module _ (s : State) (e : EndId) (p : Pid) (k : IsConsistent s) (owned : (s.ends e).place ≡ place.Owned p) (taken : (s.ends e).outward ≡ outward.Taken) where
-  completed : IsConsistent (record s { ends = turns_outward outward.Reported e s.ends; process = gains p (send_report e outcome.Done [] ∷ []) s.process })
+  completed : IsConsistent (record s { ends = turns_outward outward.Unreported e s.ends; process = gains p (send_report e outcome.Done [] ∷ []) s.process })
   unfolding turns_outward
   completed =
-      let t : State = record s { ends = puts e (record (s.ends e) { outward = outward.Reported }) s.ends; process = gains p (send_report e outcome.Done [] ∷ []) s.process } in
+      let t : State = record s { ends = puts e (record (s.ends e) { outward = outward.Unreported }) s.ends; process = gains p (send_report e outcome.Done [] ∷ []) s.process } in
       consistent-by s t e x [] place.Destroyed k refl refl shape
       (next-same s e x k made refl refl
       (IsWell-changed e (s.ends e) x (well-kept s k.kept k.noticed e) refl made (away-owned (s.ends e).place p owned) (λ a has. absurd (none-some None a refl has)) (λ a has. absurd (differ a has)) (k.noticed.inward e)))
@@ -172,18 +172,18 @@ module _ (s : State) (e : EndId) (p : Pid) (k : IsConsistent s) (owned : (s.ends
       (telling-told s t e p (send_report e outcome.Done [] ∷ []) k told ((refl, λ opens. refl), tt) owned (ap (λ z. z.place) shape.is) newly)
     where
       x : End
-      x = record (s.ends e) { outward = outward.Reported }
+      x = record (s.ends e) { outward = outward.Unreported }
 
       made : is_made (s.ends e).place ≡ true
       made = made-owned (s.ends e).place p owned
 
-      differ : (a : Message) → outward.Reported ≡ outward.Waiting a → ⊥
+      differ : (a : Message) → outward.Unreported ≡ outward.Waiting a → ⊥
       differ a same = cc
 
-      shape : IsShape s (record s { ends = puts e (record (s.ends e) { outward = outward.Reported }) s.ends; process = gains p (send_report e outcome.Done [] ∷ []) s.process }) e (record (s.ends e) { outward = outward.Reported }) [] place.Destroyed
-      shape = shape-kept s _ e (record (s.ends e) { outward = outward.Reported }) refl made (sym (ap message_of taken)) refl
+      shape : IsShape s (record s { ends = puts e (record (s.ends e) { outward = outward.Unreported }) s.ends; process = gains p (send_report e outcome.Done [] ∷ []) s.process }) e (record (s.ends e) { outward = outward.Unreported }) [] place.Destroyed
+      shape = shape-kept s _ e (record (s.ends e) { outward = outward.Unreported }) refl made (sym (ap message_of taken)) refl
 
-      told : IsTold s (record s { ends = puts e (record (s.ends e) { outward = outward.Reported }) s.ends; process = gains p (send_report e outcome.Done [] ∷ []) s.process }) p (send_report e outcome.Done [] ∷ [])
+      told : IsTold s (record s { ends = puts e (record (s.ends e) { outward = outward.Unreported }) s.ends; process = gains p (send_report e outcome.Done [] ∷ []) s.process }) p (send_report e outcome.Done [] ∷ [])
       told = told-gains s _ p (send_report e outcome.Done [] ∷ []) refl
 
       cancels : (q : Pid) → (gains p (send_report e outcome.Done [] ∷ []) s.process q.0).phase ≡ phase.Cancelling e → ((nat_eq p.0 q.0 ≡ true) × (p ≡ q)) ⊎ ((nat_eq p.0 q.0 ≡ false) × (p.0 ≢ q.0)) → (s.process q.0).phase ≡ phase.Cancelling e
@@ -195,13 +195,13 @@ module _ (s : State) (e : EndId) (p : Pid) (k : IsConsistent s) (owned : (s.ends
           led (inr runs) is = let apart : phase.Running ≡ phase.Cancelling e = sym runs ∙ is in absurd (cc)
       cancels q is (inr apart) = sym (ap (λ z. z.phase) (told.led.others q apart.0)) ∙ is
 
-      newly : (w : Way) → IsNewly s (record s { ends = puts e (record (s.ends e) { outward = outward.Reported }) s.ends; process = gains p (send_report e outcome.Done [] ∷ []) s.process }) e (send_report e outcome.Done [] ∷ []) w
-      newly way.Outward = inr (ap is_reported_outward taken, ap (λ z. is_reported_outward z.outward) shape.is, ap (λ b. (if b && true then 1 else 0) + 0) (end_eq-refl e))
-      newly way.Inward = inl (ap (λ z. is_reported_inward z.inward) shape.is, ap (λ b. (if b && false then 1 else 0) + 0) (end_eq-refl e))
+      newly : (w : Way) → IsNewly s (record s { ends = puts e (record (s.ends e) { outward = outward.Unreported }) s.ends; process = gains p (send_report e outcome.Done [] ∷ []) s.process }) e (send_report e outcome.Done [] ∷ []) w
+      newly way.Outward = inr (ap is_unreported_outward taken, ap (λ z. is_unreported_outward z.outward) shape.is, ap (λ b. (if b && true then 1 else 0) + 0) (end_eq-refl e))
+      newly way.Inward = inl (ap (λ z. is_unreported_inward z.inward) shape.is, ap (λ b. (if b && false then 1 else 0) + 0) (end_eq-refl e))
 
 pub consistent-complete : (s : State) (e : EndId) (n : ℕ) → IsConsistent s → may_complete s.ends e n ≡ true → IsConsistent (after_complete e s)
 consistent-complete s e n k may =
-    subst (λ o. IsConsistent (record s { ends = turns_outward outward.Reported e s.ends; process = gains_owner o (send_report e outcome.Done [] ∷ []) s.process })) (sym found.1)
+    subst (λ o. IsConsistent (record s { ends = turns_outward outward.Unreported e s.ends; process = gains_owner o (send_report e outcome.Done [] ∷ []) s.process })) (sym found.1)
     (completed s e found.0 k (owner-Owned (s.ends e).place found.0 found.1) (taken-Taken (s.ends e).outward (and-true _ _ both.0).0))
   where
     both : (is_taken (s.ends e).outward && nat_eq (s.ends e).sent n ≡ true) × (is_some (owner (s.ends e).place) ≡ true)
@@ -212,7 +212,7 @@ consistent-complete s e n k may =
 
 -- take: first the receive is over
 module _ (s : State) (e : EndId) (p : Pid) (m : Message) (n : ℕ) (k : IsConsistent s) (owned : (s.ends e).place ≡ place.Owned p) (matched : (s.ends e).inward ≡ inward.Matched n) where
-  received : IsConsistent (record s { ends = turns_inward inward.Reported e s.ends; process = wakes p e (gains p (receive_report e m.bytes m.carried ∷ []) s.process) })
+  received : IsConsistent (record s { ends = turns_inward inward.Unreported e s.ends; process = wakes p e (gains p (receive_report e m.bytes m.carried ∷ []) s.process) })
   unfolding turns_inward
   received =
       consistent-by s _ e x [] place.Destroyed k refl refl shape
@@ -222,21 +222,21 @@ module _ (s : State) (e : EndId) (p : Pid) (m : Message) (n : ℕ) (k : IsConsis
       (telling-told s _ e p (receive_report e m.bytes m.carried ∷ []) k told.0 ((refl, λ opens. refl), tt) owned (ap (λ z. z.place) shape.is) newly)
     where
       x : End
-      x = record (s.ends e) { inward = inward.Reported }
+      x = record (s.ends e) { inward = inward.Unreported }
 
       made : is_made (s.ends e).place ≡ true
       made = made-owned (s.ends e).place p owned
 
-      shape : IsShape s (record s { ends = puts e (record (s.ends e) { inward = inward.Reported }) s.ends; process = wakes p e (gains p (receive_report e m.bytes m.carried ∷ []) s.process) }) e (record (s.ends e) { inward = inward.Reported }) [] place.Destroyed
-      shape = shape-kept s _ e (record (s.ends e) { inward = inward.Reported }) refl made refl refl
+      shape : IsShape s (record s { ends = puts e (record (s.ends e) { inward = inward.Unreported }) s.ends; process = wakes p e (gains p (receive_report e m.bytes m.carried ∷ []) s.process) }) e (record (s.ends e) { inward = inward.Unreported }) [] place.Destroyed
+      shape = shape-kept s _ e (record (s.ends e) { inward = inward.Unreported }) refl made refl refl
 
-      told : IsTold s (record s { ends = puts e (record (s.ends e) { inward = inward.Reported }) s.ends; process = wakes p e (gains p (receive_report e m.bytes m.carried ∷ []) s.process) }) p (receive_report e m.bytes m.carried ∷ [])
+      told : IsTold s (record s { ends = puts e (record (s.ends e) { inward = inward.Unreported }) s.ends; process = wakes p e (gains p (receive_report e m.bytes m.carried ∷ []) s.process) }) p (receive_report e m.bytes m.carried ∷ [])
           × ((wakes p e (gains p (receive_report e m.bytes m.carried ∷ []) s.process) p.0).phase ≡ phase.Cancelling e → ⊥)
       told = told-tells s _ p e (receive_report e m.bytes m.carried ∷ []) refl
 
-      newly : (w : Way) → IsNewly s (record s { ends = puts e (record (s.ends e) { inward = inward.Reported }) s.ends; process = wakes p e (gains p (receive_report e m.bytes m.carried ∷ []) s.process) }) e (receive_report e m.bytes m.carried ∷ []) w
-      newly way.Inward = inr (ap is_reported_inward matched, ap (λ z. is_reported_inward z.inward) shape.is, ap (λ b. (if b && true then 1 else 0) + 0) (end_eq-refl e))
-      newly way.Outward = inl (ap (λ z. is_reported_outward z.outward) shape.is, ap (λ b. (if b && false then 1 else 0) + 0) (end_eq-refl e))
+      newly : (w : Way) → IsNewly s (record s { ends = puts e (record (s.ends e) { inward = inward.Unreported }) s.ends; process = wakes p e (gains p (receive_report e m.bytes m.carried ∷ []) s.process) }) e (receive_report e m.bytes m.carried ∷ []) w
+      newly way.Inward = inr (ap is_unreported_inward matched, ap (λ z. is_unreported_inward z.inward) shape.is, ap (λ b. (if b && true then 1 else 0) + 0) (end_eq-refl e))
+      newly way.Outward = inl (ap (λ z. is_unreported_outward z.outward) shape.is, ap (λ b. (if b && false then 1 else 0) + 0) (end_eq-refl e))
 
 -- an end turns outward, and another inward, in either order
 module _ (t : EndId → End) (a b : EndId) (i : Inward) (o : Outward) (apart : end_eq b a ≡ false) (made_a : is_made (t a).place ≡ true) (made_b : is_made (t b).place ≡ true) where
@@ -283,7 +283,7 @@ module _ (s : State) (e : EndId) (p : Pid) (m : Message) (k : IsConsistent s) (m
       (next-same s e x k made refl refl
       (IsWell-changed e (s.ends e) x (well-kept s k.kept k.noticed e) refl made (busy-away s e k busy) (λ a has. absurd (none-some None a refl has)) (λ a has. absurd (waits a has)) (k.noticed.inward e)))
       (going-same s t e refl (here-kept s t e k.processes (λ q is. is) (ap (λ z. z.place) shape.is) (λ is. ap (λ z. is_started_inward z.inward) shape.is ∙ is)))
-      (telling-quiet s t e k (λ q. refl) (λ w. ap (is_over w) shape.is ∙ over-both (s.ends e) x (sym (ap is_reported_outward matched)) refl w) (inl (ap (λ z. z.place) shape.is)))
+      (telling-quiet s t e k (λ q. refl) (λ w. ap (is_over w) shape.is ∙ over-both (s.ends e) x (sym (ap is_unreported_outward matched)) refl w) (inl (ap (λ z. z.place) shape.is)))
     where
       x : End
       x = record (s.ends e) { outward = outward.Taken }
@@ -315,16 +315,16 @@ module _ (s : State) (e : EndId) (n : ℕ) (p : Pid) (late : Bool) (k : IsConsis
 
   took : (m : Message) → (s.ends e).outward ≡ outward.Matched m
       → IsConsistent (record s {
-        ends = places (place.Owned p) m.carried (turns_inward inward.Reported (opposite e) (turns_outward outward.Taken e s.ends));
+        ends = places (place.Owned p) m.carried (turns_inward inward.Unreported (opposite e) (turns_outward outward.Taken e s.ends));
         process = wakes p (opposite e) (gains p (receive_report (opposite e) m.bytes m.carried ∷ []) s.process);
       })
   unfolding turns_inward
   took m matched =
       subst (λ t. IsConsistent (record s { ends = places (place.Owned p) m.carried t; process = wakes p (opposite e) (gains p (receive_report (opposite e) m.bytes m.carried ∷ []) s.process) }))
-      (sym (turns-commute s.ends (opposite e) e inward.Reported outward.Taken (end_eq-sym e (opposite e) ∙ opposite-apart e) (made-owned (s.ends (opposite e)).place p take-owned) made))
+      (sym (turns-commute s.ends (opposite e) e inward.Unreported outward.Taken (end_eq-sym e (opposite e) ∙ opposite-apart e) (made-owned (s.ends (opposite e)).place p take-owned) made))
       (passed _ e p m first (ap (λ z. z.outward) (puts-other (opposite e) _ s.ends e (opposite-apart e)) ∙ matched) lives)
     where
-      first : IsConsistent (record s { ends = turns_inward inward.Reported (opposite e) s.ends; process = wakes p (opposite e) (gains p (receive_report (opposite e) m.bytes m.carried ∷ []) s.process) })
+      first : IsConsistent (record s { ends = turns_inward inward.Unreported (opposite e) s.ends; process = wakes p (opposite e) (gains p (receive_report (opposite e) m.bytes m.carried ∷ []) s.process) })
       first = received s (opposite e) p m take-inward.0 k take-owned take-inward.1
 
       differ : (s.ends e).outward ≡ outward.Idle → ⊥
@@ -335,7 +335,7 @@ module _ (s : State) (e : EndId) (n : ℕ) (p : Pid) (late : Bool) (k : IsConsis
 
       lives : (wakes p (opposite e) (gains p (receive_report (opposite e) m.bytes m.carried ∷ []) s.process) p.0).phase ≢ phase.Ended
       lives =
-          subst (IsHeldAt (record s { ends = turns_inward inward.Reported (opposite e) s.ends; process = wakes p (opposite e) (gains p (receive_report (opposite e) m.bytes m.carried ∷ []) s.process) }) (opposite e))
+          subst (IsHeldAt (record s { ends = turns_inward inward.Unreported (opposite e) s.ends; process = wakes p (opposite e) (gains p (receive_report (opposite e) m.bytes m.carried ∷ []) s.process) }) (opposite e))
           (ap (λ z. z.place) (puts-at (opposite e) _ s.ends (made-owned (s.ends (opposite e)).place p take-owned)) ∙ take-owned) (first.kept.held.held (opposite e))
 
   pub consistent-take : IsConsistent (after_take e p s)
@@ -343,7 +343,7 @@ module _ (s : State) (e : EndId) (n : ℕ) (p : Pid) (late : Bool) (k : IsConsis
   consistent-take =
       subst
       (λ o. IsConsistent (record s {
-        ends = places (place.Owned p) (carried_by (matched_message o)) (turns_inward inward.Reported (opposite e) (turns_outward outward.Taken e s.ends));
+        ends = places (place.Owned p) (carried_by (matched_message o)) (turns_inward inward.Unreported (opposite e) (turns_outward outward.Taken e s.ends));
         process = tells (Some p) (opposite e) (done_reports (opposite e) (matched_message o)) s.process;
       }))
       (sym take-matched.1) (took take-matched.0 take-matched.1)

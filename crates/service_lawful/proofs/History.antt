@@ -2,6 +2,7 @@
 use Rattle.std.proofs.Common.{◌≡◌, ◌⊎◌, inl, inr, ℕ, ◌<◌, ◌≤◌, Bool, true, false, nat_eq, ◌||◌, not, is_some, List, [], ◌∷◌, ◌++◌, map, length, Contains, All, refl, sym, ap, subst, ◌∙◌, true≢false, append_assoc, append-nil, eqb-true}
 use Rattle.std.proofs.lemmas.List.Elements.{All-nil, Contains-append_left}
 use Rattle.std.specs.List.{filter, flat_map}
+use Rattle.charlotte_calls.specs.Causes.{first_of, is_late}
 use Rattle.charlotte_calls.specs.Names.{opposite}
 use Rattle.charlotte_calls.specs.declared.calls.Call.{Call}
 use Rattle.charlotte_calls.specs.declared.calls.Call.TheVariants as call
@@ -15,8 +16,8 @@ use Rattle.charlotte_calls.specs.declared.names.Way.{Way}
 use Rattle.charlotte_calls.specs.declared.names.Way.TheVariants as way
 use Rattle.service_lawful.proofs.Fresh.{IsFresh, fresh-consistent, fresh_at, fresh-outward}
 use Rattle.service_lawful.specs.History.{unused_from, AreNumbered, HasHistory}
-use Rattle.service_step.specs.Causes.{IsRefusedFor, first_of, is_cause, is_late}
-use Rattle.service_step.specs.Ends.{waiting_message, matched_message, is_owned_by, is_taken}
+use Rattle.service_step.specs.Causes.{IsRefusedFor, is_cause}
+use Rattle.service_step.specs.Ends.{waiting_message, matched_message, is_owned_by, outward_activity, inward_activity, is_taken}
 use Rattle.service_step.specs.Lawful.{AreHeldOnce, AreInOrder, AreRising, HasMatchedReport, IsLawful, IsRightStep, IsRightlyLate, WasMatched, WasTakenOnce, complete_number, match_number, send_number, take_number}
 use Rattle.service_step.specs.Run.{state_after}
 use Rattle.service_step.specs.State.{State, receive_report}
@@ -184,9 +185,9 @@ module _ (s : State) (run : Run) (made : ServiceStep × State) (silent : IsSilen
         lawful = lawful-longer is.lawful held right;
         numbered = λ f. subst (λ (t : EndId → End). AreNumbered f longer (t f)) (sym now) (numbered-still f ((state_after s run).ends f) (is.numbered f));
         taken = λ f. subst (λ (t : EndId → End). is_taken (t f).outward ≡ true → WasTakenOnce s longer longer f (t f).sent) (sym now) (λ h. taken-still f ((state_after s run).ends f).sent (is.taken f h));
-        matched = λ f p. subst (λ (t : EndId → End). (t f).place ≡ place.Owned p → (t f).noticed ≡ false → is_late way.Outward (t f) ≡ true → WasMatched longer f (t f).sent) (sym now)
+        matched = λ f p. subst (λ (t : EndId → End). (t f).place ≡ place.Owned p → (t f).noticed ≡ false → is_late (outward_activity (t f).outward) ≡ true → WasMatched longer f (t f).sent) (sym now)
             (λ at open' h. matched-still run f ((state_after s run).ends f).sent (is.matched f p at open' h));
-        told = λ e p. subst (λ (t : EndId → End). (t e).place ≡ place.Owned p → (t e).noticed ≡ false → is_late way.Inward (t e) ≡ true → HasMatchedReport s longer p e) (sym now)
+        told = λ e p. subst (λ (t : EndId → End). (t e).place ≡ place.Owned p → (t e).noticed ≡ false → is_late (inward_activity (t e).inward) ≡ true → HasMatchedReport s longer p e) (sym now)
             (λ at open' h. told-still p e (ap (λ (t : State). (t.process p.0).reports) last ∙ reports p.0) (is.told e p at open' h));
       }
     where
@@ -209,8 +210,8 @@ history-none s f =
       lawful = record { held = held; steps = λ before after made whole. absurd (none before made after whole); order = λ g. record { sends = tt; matches = tt; takes = tt; completes = tt } };
       numbered = λ g. record { sends = All-nil _; matches = All-nil _; takes = All-nil _; completes = All-nil _ };
       taken = λ g is. absurd (true≢false (sym is ∙ ap is_taken (fresh-outward s f g)));
-      matched = λ g p at open' late. absurd (true≢false (sym late ∙ ap (is_late way.Outward) (fresh_at s f g).1));
-      told = λ e p at open' late. absurd (true≢false (sym late ∙ ap (is_late way.Inward) (fresh_at s f e).1));
+      matched = λ g p at open' late. absurd (true≢false (sym late ∙ ap (λ (x : End). is_late (outward_activity x.outward)) (fresh_at s f g).1));
+      told = λ e p at open' late. absurd (true≢false (sym late ∙ ap (λ (x : End). is_late (inward_activity x.inward)) (fresh_at s f e).1));
     }
   where
     held : (before after : Run) → [] ≡ before ++ after → AreHeldOnce (state_after s before)

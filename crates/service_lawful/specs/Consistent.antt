@@ -2,6 +2,7 @@
 -- death of a link was noticed, and which reports stand.
 use Rattle.std.specs.Prelude.{◌≡◌, ℕ, ◌+◌, ◌≤◌, Bool, true, false, nat_lt, ◌&&◌, if◌then◌else◌, List, [], ◌∷◌, length, Contains, None, Some, IsSome, slice_index}
 use Rattle.std.specs.List.{list_any}
+use Rattle.charlotte_calls.specs.EndEq.{names_twice, same_link}
 use Rattle.charlotte_calls.specs.Names.{opposite}
 use Rattle.charlotte_calls.specs.declared.calls.Report.{Report}
 use Rattle.charlotte_calls.specs.declared.names.EndId.{EndId}
@@ -9,8 +10,7 @@ use Rattle.charlotte_calls.specs.declared.names.Outcome.TheVariants as outcome
 use Rattle.charlotte_calls.specs.declared.names.Pid.{Pid}
 use Rattle.charlotte_calls.specs.declared.names.Way.{Way}
 use Rattle.charlotte_calls.specs.declared.names.Way.TheVariants as way
-use Rattle.service_step.specs.Causes.{names_twice, same_link}
-use Rattle.service_step.specs.Ends.{end_eq, unmade, is_made, is_living, owner, is_idle, is_started_inward, waiting_message, is_reported_outward, is_reported_inward}
+use Rattle.service_step.specs.Ends.{end_eq, unmade, is_made, is_living, owner, is_idle, is_started_inward, waiting_message, is_unreported_outward, is_unreported_inward}
 use Rattle.service_step.specs.Lawful.{AreHeldOnce, message_of}
 use Rattle.service_step.specs.State.{State, no_process}
 use Rattle.service_step.specs.declared.state.End.{End}
@@ -28,8 +28,8 @@ way_eq way.Outward way.Outward = true
 
 -- that way of an end is over, and its report was not given yet
 abbrev pub is_over : Way → End → Bool
-is_over way.Outward x = is_reported_outward x.outward
-is_over way.Inward x = is_reported_inward x.inward
+is_over way.Outward x = is_unreported_outward x.outward
+is_over way.Inward x = is_unreported_inward x.inward
 
 -- whether a report is of that way of an end
 abbrev pub is_report_on : EndId → Way → Report → Bool

@@ -1,12 +1,11 @@
 -- What the steps so far leave true of the ends: with it the run is lawful, and stays so.
 use Rattle.std.specs.Prelude.{◌≡◌, ℕ, ◌+◌, ◌<◌, ◌≤◌, Bool, true, false, ◌||◌, is_some, if◌then◌else◌, List, All}
 use Rattle.std.specs.List.{flat_map}
+use Rattle.charlotte_calls.specs.Causes.{is_late}
 use Rattle.charlotte_calls.specs.declared.calls.ServiceStep.{ServiceStep}
 use Rattle.charlotte_calls.specs.declared.names.EndId.{EndId}
 use Rattle.charlotte_calls.specs.declared.names.Pid.{Pid}
-use Rattle.charlotte_calls.specs.declared.names.Way.TheVariants as way
-use Rattle.service_step.specs.Causes.{is_late}
-use Rattle.service_step.specs.Ends.{waiting_message, matched_message, is_taken}
+use Rattle.service_step.specs.Ends.{waiting_message, matched_message, outward_activity, inward_activity, is_taken}
 use Rattle.service_step.specs.Lawful.{IsLawful, send_number, match_number, take_number, complete_number, WasTakenOnce, WasMatched, HasMatchedReport}
 use Rattle.service_step.specs.Run.{state_after}
 use Rattle.service_step.specs.State.{State}
@@ -33,7 +32,7 @@ pub record HasHistory (s : State) (run : List (ServiceStep × State)) : Type 0 w
   pub taken : (f : EndId) → is_taken ((state_after s run).ends f).outward ≡ true → WasTakenOnce s run run f ((state_after s run).ends f).sent
   -- a send that is too late to be taken back was matched
   pub matched : (f : EndId) (p : Pid) → ((state_after s run).ends f).place ≡ place.Owned p → ((state_after s run).ends f).noticed ≡ false
-      → is_late way.Outward ((state_after s run).ends f) ≡ true → WasMatched run f ((state_after s run).ends f).sent
+      → is_late (outward_activity ((state_after s run).ends f).outward) ≡ true → WasMatched run f ((state_after s run).ends f).sent
   -- a receive that is too late to be withdrawn has the report of a message that was matched
   pub told : (e : EndId) (p : Pid) → ((state_after s run).ends e).place ≡ place.Owned p → ((state_after s run).ends e).noticed ≡ false
-      → is_late way.Inward ((state_after s run).ends e) ≡ true → HasMatchedReport s run p e
+      → is_late (inward_activity ((state_after s run).ends e).inward) ≡ true → HasMatchedReport s run p e

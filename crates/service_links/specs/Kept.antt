@@ -16,7 +16,7 @@ outward_of stage.Idle = outward.Idle
 outward_of (stage.Waiting m) = outward.Waiting m
 outward_of (stage.Matched m) = outward.Matched m
 outward_of stage.Taken = outward.Taken
-outward_of stage.Reported = outward.Reported
+outward_of stage.Unreported = outward.Unreported
 
 -- a change after which an end of a made link is one still
 abbrev pub KeepsMade : Change → Type 0

@@ -1,9 +1,11 @@
 //! Why a call on an end is refused: the first cause of the call that holds.
-ghost use Rattle.std.specs.Prelude.{◌≡◌, ◌∷◌, [], not};
+ghost use Rattle.std.specs.Prelude.{◌≡◌, not};
 ghost use Rattle.std.specs.List.{list_any};
-ghost use Rattle.service_step.specs.Causes.{no_end, first_of, send_causes, receive_causes, cancel_causes, same_link, names_twice, is_missing_one, has_busy_one, is_late, has_no_activity};
-ghost use Rattle.charlotte_calls.specs.declared.calls.Cause.TheVariants as cause;
-ghost use Rattle.service_step.specs.Ends.{end_eq, is_idle_inward, is_owned_by};
+ghost use Rattle.charlotte_calls.specs.Causes.{activity, cancel_causes, destroy_causes, first_of, is_idle, is_late, receive_causes, send_causes};
+ghost use Rattle.charlotte_calls.specs.EndEq.{end_eq, names_twice, same_link};
+ghost use Rattle.charlotte_calls.specs.declared.names.Pid.{Pid};
+ghost use Rattle.service_step.specs.Causes.{seen, sees};
+ghost use Rattle.service_step.specs.Ends.{is_idle as is_idle_end};
 ghost use Rattle.service_links.specs.Links.{ends_of};
 
 use crate::{KeptEnd, Links};
@@ -12,7 +14,7 @@ use service_step::Inward;
 
 /// The first cause of a Destroy that holds.
 pub fn destroy_cause(links: &Links, p: Pid, on: EndId) -> Option<Cause>
-    ensures { result ≡ first_of (no_end p (ends_of links.now) on ∷ []) }
+    ensures { result ≡ first_of (destroy_causes (sees p (ends_of links.now) on)) }
 {
     if links.look(on).is_owned_by(p) {
         return None;
@@ -22,7 +24,7 @@ pub fn destroy_cause(links: &Links, p: Pid, on: EndId) -> Option<Cause>
 
 /// The first cause of a Send that holds.
 pub fn send_cause(links: &Links, p: Pid, on: EndId, enclose: &[EndId]) -> Option<Cause>
-    ensures { result ≡ first_of (send_causes p (ends_of links.now) on enclose.now) }
+    ensures { result ≡ first_of (send_causes (sees p (ends_of links.now)) on enclose.now) }
 {
     send_cause_at(links, links.look(on), p, on, enclose)
 }
@@ -36,7 +38,7 @@ pub fn send_cause_at(
     enclose: &[EndId],
 ) -> Option<Cause>
     requires { end.now ≡ ends_of links.now on }
-    ensures { result ≡ first_of (send_causes p (ends_of links.now) on enclose.now) }
+    ensures { result ≡ first_of (send_causes (sees p (ends_of links.now)) on enclose.now) }
 {
     if !end.is_owned_by(p) {
         return Some(Cause::NoEnd);
@@ -64,14 +66,14 @@ pub fn send_cause_at(
 
 /// The first cause of a Receive that holds.
 pub fn receive_cause(links: &Links, p: Pid, on: EndId) -> Option<Cause>
-    ensures { result ≡ first_of (receive_causes p (ends_of links.now) on) }
+    ensures { result ≡ first_of (receive_causes (sees p (ends_of links.now) on)) }
 {
     receive_cause_at(links.look(on), p)
 }
 
 /// The first cause of a Receive on this end that holds.
 pub fn receive_cause_at(end: &KeptEnd, p: Pid) -> Option<Cause>
-    ensures { result ≡ first_of ((not (is_owned_by p end.now.place), cause.NoEnd) ∷ (not (is_idle_inward end.now.inward), cause.Busy) ∷ (end.now.noticed, cause.Dead) ∷ []) }
+    ensures { result ≡ first_of (receive_causes (seen p end.now)) }
 {
     if !end.is_owned_by(p) {
         return Some(Cause::NoEnd);
@@ -87,7 +89,7 @@ pub fn receive_cause_at(end: &KeptEnd, p: Pid) -> Option<Cause>
 
 /// The first cause of a Cancel that holds.
 pub fn cancel_cause(links: &Links, p: Pid, on: EndId, way: Way) -> Option<Cause>
-    ensures { result ≡ first_of (cancel_causes p (ends_of links.now) on way) }
+    ensures { result ≡ first_of (cancel_causes way (sees p (ends_of links.now) on)) }
 {
     let end = links.look(on);
     if !end.is_owned_by(p) {
@@ -106,16 +108,16 @@ pub fn cancel_cause(links: &Links, p: Pid, on: EndId, way: Way) -> Option<Cause>
 }
 
 fn is_late(way: Way, end: &KeptEnd) -> bool
-    ensures { result ≡ is_late way end.now }
+    ensures { (p : Pid) → result ≡ is_late (activity way (seen p end.now)) }
 {
     match way {
         Way::Outward => end.is_past_waiting(),
-        Way::Inward => matches!(end.inward(), Inward::Reported),
+        Way::Inward => matches!(end.inward(), Inward::Unreported),
     }
 }
 
 fn has_no_activity(way: Way, end: &KeptEnd) -> bool
-    ensures { result ≡ has_no_activity way end.now }
+    ensures { (p : Pid) → result ≡ is_idle (activity way (seen p end.now)) }
 {
     match way {
         Way::Outward => end.is_idle_outward(),
@@ -125,14 +127,14 @@ fn has_no_activity(way: Way, end: &KeptEnd) -> bool
 
 /// Whether one of these ends is not the process's.
 fn is_missing_one(links: &Links, p: Pid, ends: &[EndId]) -> bool
-    ensures { result ≡ is_missing_one p (ends_of links.now) ends.now }
+    ensures { result ≡ list_any (λ x. not (sees p (ends_of links.now) x).owned) ends.now }
 {
     ends.iter().any(|end| !links.look(*end).is_owned_by(p))
 }
 
 /// Whether an activity on one of these ends is started or unreported.
 fn has_busy_one(links: &Links, ends: &[EndId]) -> bool
-    ensures { result ≡ has_busy_one (ends_of links.now) ends.now }
+    ensures { result ≡ list_any (λ x. not (is_idle_end (ends_of links.now x))) ends.now }
 {
     ends.iter().any(|end| !links.look(*end).is_idle())
 }
@@ -160,7 +162,7 @@ fn names_twice(ends: &[EndId]) -> bool
     }
 }
 
-#[tactic(auto, unfolding(service_step::specs::Ends::end_eq))]
+#[tactic(auto, unfolding(charlotte_calls::specs::EndEq::end_eq))]
 fn has_end(ends: &[EndId], end: EndId) -> bool
     ensures { result ≡ list_any (end_eq end) ends.now }
 {

@@ -1,7 +1,7 @@
 //! What the steps do with the ends: each writer makes of them what its word makes of them.
 ghost use Rattle.std.specs.Prelude.{◌≡◌, IsTrue};
 ghost use Rattle.service_step.specs.Ends.{carried_by, is_made, matched_message, puts, places, destroys, destroys_owned, destroys_each, starts_send, turns_inward, turns_outward, idles, withdraws_send, matches, matched_outward, takes, notices, returns, to_owner};
-ghost use Rattle.service_step.specs.declared.state.Outward.TheVariants.{Reported};
+ghost use Rattle.service_step.specs.declared.state.Outward.TheVariants.{Unreported};
 ghost use Rattle.service_step.specs.declared.state.Place.TheVariants.{Owned};
 ghost use Rattle.service_links.specs.Kept.{outward_of};
 ghost use Rattle.service_links.specs.Links.{ends_of};
@@ -95,9 +95,9 @@ impl Links {
     /// The send of an end is over.
     #[inline(always)]
     pub fn finish_send(&mut self, e: EndId)
-        ensures { ends_of self.new ≡ turns_outward Reported e (ends_of self.old) }
+        ensures { ends_of self.new ≡ turns_outward Unreported e (ends_of self.old) }
     {
-        self.turn_outward(Stage::Reported, e);
+        self.turn_outward(Stage::Unreported, e);
     }
 
     /// The send of an end is matched.
@@ -149,7 +149,7 @@ impl Links {
         ensures message { result ≡ matched_message (ends_of self.old e).outward }
     {
         let letter = self.take_letter(e);
-        self.turn_inward(Inward::Reported, e.opposite());
+        self.turn_inward(Inward::Unreported, e.opposite());
         self.place_carried(p, &letter);
         letter
     }

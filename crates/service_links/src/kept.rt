@@ -1,6 +1,6 @@
-ghost use Rattle.std.specs.Prelude.{◌≡◌, ◌||◌, [], IsTrue, is_some, option_copied};
-ghost use Rattle.service_step.specs.Ends.{carried_by, fresh, is_active, is_idle, is_made, is_idle_outward, is_owned_by, is_reported_outward, is_started_outward, is_taken, matched_message, owner, waiting_message};
-ghost use Rattle.service_step.specs.Causes.{is_matched_outward};
+ghost use Rattle.std.specs.Prelude.{◌≡◌, [], IsTrue, is_some, option_copied};
+ghost use Rattle.charlotte_calls.specs.Causes.{is_late};
+ghost use Rattle.service_step.specs.Ends.{carried_by, fresh, is_active, is_idle, is_made, is_idle_outward, is_owned_by, is_started_outward, is_taken, matched_message, outward_activity, owner, waiting_message};
 ghost use Rattle.service_links.specs.Kept.{KeepsMade, after, where_made};
 ghost use Rattle.service_links.specs.declared.kept.Change.TheVariants.{Sends, Starts, Matches, Dies, Notices, Returns};
 ghost use Rattle.service_links.specs.declared.kept.Stage.TheVariants.{Taken};
@@ -18,7 +18,7 @@ pub(crate) enum Stage {
     Waiting(Letter),
     Matched(Letter),
     Taken,
-    Reported,
+    Unreported,
 }
 
 /// What happens to an end.
@@ -163,11 +163,11 @@ impl KeptEnd {
     /// Whether there is a send that can't be taken back any more.
     #[inline(always)]
     pub(crate) fn is_past_waiting(&self) -> bool
-        ensures { result ≡ (is_matched_outward self.now.outward || is_taken self.now.outward || is_reported_outward self.now.outward) }
+        ensures { result ≡ is_late (outward_activity self.now.outward) }
     {
         matches!(
             self.stage,
-            Stage::Matched(_) | Stage::Taken | Stage::Reported
+            Stage::Matched(_) | Stage::Taken | Stage::Unreported
         )
     }
 
@@ -205,7 +205,7 @@ impl KeptEnd {
     {
         match &self.stage {
             Stage::Waiting(letter) => Some(letter),
-            Stage::Idle | Stage::Matched(_) | Stage::Taken | Stage::Reported => None,
+            Stage::Idle | Stage::Matched(_) | Stage::Taken | Stage::Unreported => None,
         }
     }
 
@@ -216,7 +216,7 @@ impl KeptEnd {
     {
         match &self.stage {
             Stage::Matched(letter) => Some(letter),
-            Stage::Idle | Stage::Waiting(_) | Stage::Taken | Stage::Reported => None,
+            Stage::Idle | Stage::Waiting(_) | Stage::Taken | Stage::Unreported => None,
         }
     }
 
@@ -226,7 +226,7 @@ impl KeptEnd {
     {
         match &self.stage {
             Stage::Waiting(letter) => letter.carried(),
-            Stage::Idle | Stage::Matched(_) | Stage::Taken | Stage::Reported => no_ends(),
+            Stage::Idle | Stage::Matched(_) | Stage::Taken | Stage::Unreported => no_ends(),
         }
     }
 
@@ -236,7 +236,7 @@ impl KeptEnd {
     {
         match &self.stage {
             Stage::Matched(letter) => letter.carried(),
-            Stage::Idle | Stage::Waiting(_) | Stage::Taken | Stage::Reported => no_ends(),
+            Stage::Idle | Stage::Waiting(_) | Stage::Taken | Stage::Unreported => no_ends(),
         }
     }
 
@@ -281,7 +281,7 @@ impl KeptEnd {
         }
         match mem::replace(&mut self.stage, Stage::Taken) {
             Stage::Matched(letter) => Some(letter),
-            Stage::Idle | Stage::Waiting(_) | Stage::Taken | Stage::Reported => None,
+            Stage::Idle | Stage::Waiting(_) | Stage::Taken | Stage::Unreported => None,
         }
     }
 
@@ -320,10 +320,10 @@ impl KeptEnd {
         ensures { self.new ≡ after Notices self.old }
     {
         if self.is_waiting() {
-            self.stage = Stage::Reported;
+            self.stage = Stage::Unreported;
         }
         if self.inward.is_started() {
-            self.inward = Inward::Reported;
+            self.inward = Inward::Unreported;
         }
         self.noticed = true;
     }
@@ -332,7 +332,7 @@ impl KeptEnd {
         requires { IsTrue (is_made self.old.place) }
         ensures { self.new ≡ after Returns self.old }
     {
-        self.stage = Stage::Reported;
+        self.stage = Stage::Unreported;
         if !self.noticed {
             self.notice();
         }

@@ -19,7 +19,8 @@ fn main(rt: HostRuntime) -> ExitCode {
         Ok(steps) => told(println!(rt; "{steps} steps").is_ok()),
         Err(trouble) => {
             let text = trouble.text();
-            told(println!(rt; "{text}").is_ok() && false)
+            let _ = println!(rt; "{text}");
+            ExitCode::FAILURE
         }
     }
 }

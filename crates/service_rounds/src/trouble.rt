@@ -4,7 +4,7 @@ use charlotte_calls::NoMemory;
 use link_service::ApplyFault;
 
 /// What went wrong.
-#[derive(Debug, Drop)]
+#[derive(Drop)]
 pub(crate) enum Trouble {
     /// The words ask for nothing that can be measured.
     Words,

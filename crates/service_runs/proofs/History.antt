@@ -103,21 +103,21 @@ match_bound (outward.Waiting m) n = n
 match_bound outward.Idle n = n + 1
 match_bound (outward.Matched m) n = n + 1
 match_bound outward.Taken n = n + 1
-match_bound outward.Reported n = n + 1
+match_bound outward.Unreported n = n + 1
 
 abbrev pub take_bound : Outward → ℕ → ℕ
 take_bound (outward.Waiting m) n = n
 take_bound (outward.Matched m) n = n
 take_bound outward.Idle n = n + 1
 take_bound outward.Taken n = n + 1
-take_bound outward.Reported n = n + 1
+take_bound outward.Unreported n = n + 1
 
 abbrev pub complete_bound : Outward → ℕ → ℕ
 complete_bound (outward.Waiting m) n = n
 complete_bound (outward.Matched m) n = n
 complete_bound outward.Taken n = n
 complete_bound outward.Idle n = n + 1
-complete_bound outward.Reported n = n + 1
+complete_bound outward.Unreported n = n + 1
 
 -- a matched, taken or reported send was matched, unless the death of the link was noticed
 abbrev pub IsMatchedFor : List (ServiceStep × State) → EndId → Outward → ℕ → Bool → Type 0
@@ -125,7 +125,7 @@ IsMatchedFor past f outward.Idle n noticed = Unit {0}
 IsMatchedFor past f (outward.Waiting m) n noticed = Unit {0}
 IsMatchedFor past f (outward.Matched m) n noticed = WasMatched past f n
 IsMatchedFor past f outward.Taken n noticed = WasMatched past f n
-IsMatchedFor past f outward.Reported n noticed = noticed ≡ false → WasMatched past f n
+IsMatchedFor past f outward.Unreported n noticed = noticed ≡ false → WasMatched past f n
 
 -- the message n of f was taken
 pub record WasTaken (s : State) (past : List (ServiceStep × State)) (f : EndId) (n : ℕ) : Type 0 where
@@ -142,7 +142,7 @@ IsTakenFor s past f outward.Taken n = WasTaken s past f n
 IsTakenFor s past f outward.Idle n = Unit {0}
 IsTakenFor s past f (outward.Waiting m) n = Unit {0}
 IsTakenFor s past f (outward.Matched m) n = Unit {0}
-IsTakenFor s past f outward.Reported n = Unit {0}
+IsTakenFor s past f outward.Unreported n = Unit {0}
 
 -- what the steps so far tell of an end whose send is so, with n sends
 pub record IsPast (s : State) (past : List (ServiceStep × State)) (f : EndId) (out : Outward) (n : ℕ) (noticed : Bool) : Type 0 where
@@ -158,13 +158,13 @@ matched-more past y f outward.Idle n a b sooner is = tt
 matched-more past y f (outward.Waiting m) n a b sooner is = tt
 matched-more past y f (outward.Matched m) n a b sooner is = was-more past y f n is
 matched-more past y f outward.Taken n a b sooner is = was-more past y f n is
-matched-more past y f outward.Reported n a b sooner is = λ open_yet. was-more past y f n (is (sooner open_yet))
+matched-more past y f outward.Unreported n a b sooner is = λ open_yet. was-more past y f n (is (sooner open_yet))
 
 taken-more : (s : State) (past : List (ServiceStep × State)) (y : ServiceStep × State) (f : EndId) (out : Outward) (n : ℕ) → IsTakenFor s past f out n → IsTakenFor s (past ++ y ∷ []) f out n
 taken-more s past y f outward.Idle n is = tt
 taken-more s past y f (outward.Waiting m) n is = tt
 taken-more s past y f (outward.Matched m) n is = tt
-taken-more s past y f outward.Reported n is = tt
+taken-more s past y f outward.Unreported n is = tt
 taken-more s past y f outward.Taken n is =
     record { earlier = is.earlier; later = is.later ++ y ∷ []; p = is.p; late = is.late; left = is.left; stands = ap (λ l. l ++ y ∷ []) is.stands ∙ append_assoc is.earlier ((step.Take f n is.p is.late, is.left) ∷ is.later) (y ∷ []); owned = is.owned }
 
@@ -173,21 +173,21 @@ bound-match outward.Idle n = omega arith
 bound-match (outward.Waiting m) n = omega arith
 bound-match (outward.Matched m) n = omega arith
 bound-match outward.Taken n = omega arith
-bound-match outward.Reported n = omega arith
+bound-match outward.Unreported n = omega arith
 
 bound-take : (out : Outward) (n : ℕ) → take_bound out n ≤ n + 1
 bound-take outward.Idle n = omega arith
 bound-take (outward.Waiting m) n = omega arith
 bound-take (outward.Matched m) n = omega arith
 bound-take outward.Taken n = omega arith
-bound-take outward.Reported n = omega arith
+bound-take outward.Unreported n = omega arith
 
 bound-complete : (out : Outward) (n : ℕ) → complete_bound out n ≤ n + 1
 bound-complete outward.Idle n = omega arith
 bound-complete (outward.Waiting m) n = omega arith
 bound-complete (outward.Matched m) n = omega arith
 bound-complete outward.Taken n = omega arith
-bound-complete outward.Reported n = omega arith
+bound-complete outward.Unreported n = omega arith
 
 -- one step more
 module _ (s0 : State) (past : List (ServiceStep × State)) (s : State) (x : ServiceStep) (t : State) (f : EndId) (before : state_after s0 past ≡ s) where
@@ -252,7 +252,7 @@ module _ (s0 : State) (past : List (ServiceStep × State)) (s : State) (x : Serv
       })
   next-past h (completed was out number ns) =
       let i : IsPast s0 past f outward.Taken (s.ends f).sent (s.ends f).noticed = subst (λ o. IsPast s0 past f o (s.ends f).sent (s.ends f).noticed) was h in
-      next-by outward.Taken outward.Reported (s.ends f).sent (s.ends f).sent (s.ends f).noticed (t.ends f).noticed out number refl
+      next-by outward.Taken outward.Unreported (s.ends f).sent (s.ends f).sent (s.ends f).noticed (t.ends f).noticed out number refl
       (record {
         sends = order-same _ _ _ _ (flat_map-more (send_number f) past (x, t) [] ns.sends) (omega arith) i.sends;
         matches = order-same _ _ _ _ (flat_map-more (match_number f) past (x, t) [] ns.matches) (omega arith) i.matches;
@@ -272,7 +272,7 @@ module _ (s0 : State) (past : List (ServiceStep × State)) (s : State) (x : Serv
         taken_one = tt;
       })
   next-past h (over (inr both) number ns) =
-      next-by (s.ends f).outward outward.Reported (s.ends f).sent (s.ends f).sent (s.ends f).noticed true both.0 number both.1
+      next-by (s.ends f).outward outward.Unreported (s.ends f).sent (s.ends f).sent (s.ends f).noticed true both.0 number both.1
       (record {
         sends = order-same _ _ _ _ (flat_map-more (send_number f) past (x, t) [] ns.sends) (omega arith) h.sends;
         matches = order-same _ _ _ _ (flat_map-more (match_number f) past (x, t) [] ns.matches) (bound-match (s.ends f).outward (s.ends f).sent) h.matches;

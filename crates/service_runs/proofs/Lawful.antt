@@ -1,5 +1,6 @@
 -- Every run of the link service is lawful.
-use Rattle.std.proofs.Common.{◌≡◌, ℕ, Bool, true, false, true≢false, nat_eq, ◌&&◌, ◌||◌, not, ◌⊎◌, inl, inr, if◌then◌else◌, length, Some, None, List, [], ◌∷◌, ◌++◌, append-nil, Contains, append_assoc, refl, sym, ap, subst, ◌∙◌, arith}
+use Rattle.std.proofs.Common.{◌≡◌, ℕ, Bool, true, false, true≢false, nat_eq, ◌&&◌, not, ◌⊎◌, inl, inr, if◌then◌else◌, length, Some, None, List, [], ◌∷◌, ◌++◌, append-nil, Contains, append_assoc, refl, sym, ap, subst, ◌∙◌, arith}
+use Rattle.charlotte_calls.specs.Causes.{activity, cancel_causes, first_of, is_late}
 use Rattle.charlotte_calls.specs.Names.{opposite}
 use Rattle.charlotte_calls.specs.declared.calls.Report.{Report}
 use Rattle.charlotte_calls.specs.declared.names.EndId.{EndId}
@@ -18,12 +19,13 @@ use Rattle.service_runs.proofs.Moves.{Move, completed, matched, over, sent, stil
 use Rattle.service_runs.proofs.MovesOfSteps.{complete-number, move, take-number}
 use Rattle.service_runs.proofs.ReportsOfSteps.{IsOfTake, reports-from}
 use Rattle.service_consistent.proofs.StepsOfMessages.{take-inward}
-use Rattle.service_step.specs.Ends.{is_reported_inward}
+use Rattle.service_step.specs.Ends.{is_unreported_inward}
 use Rattle.service_step.specs.Lawful.{AreRising, WasMatched, take_number}
 use Rattle.service_step.specs.Run.{state_after}
 use Rattle.service_step.specs.State.{State, receive_report}
 use Rattle.service_step.specs.Steps.{IsServiceStep}
 use Rattle.service_step.specs.declared.state.End.{End}
+use Rattle.service_step.specs.declared.state.Inward.{Inward}
 use Rattle.service_step.specs.declared.state.Inward.TheVariants as inward
 use Rattle.service_step.specs.declared.state.Message.{Message}
 use Rattle.service_step.specs.declared.state.Outward.{Outward}
@@ -40,8 +42,8 @@ use Rattle.charlotte_calls.specs.Setting.{IsValid}
 use Rattle.charlotte_calls.specs.declared.calls.Call.TheVariants as call
 use Rattle.charlotte_calls.specs.declared.calls.Cause.TheVariants as cause
 use Rattle.charlotte_calls.specs.declared.setting.Setting.{Setting}
-use Rattle.service_step.specs.Causes.{cancel_causes, first_of, is_cause, is_late, is_matched_outward}
-use Rattle.service_step.specs.Ends.{is_living, is_owned_by, is_reported_outward, is_taken}
+use Rattle.service_step.specs.Causes.{is_cause, sees}
+use Rattle.service_step.specs.Ends.{inward_activity, is_living, is_owned_by, is_taken, is_unreported_outward, outward_activity}
 use Rattle.service_step.specs.Lawful.{HasMatchedReport, IsLawful, IsRightStep, IsRightlyLate, WasTakenOnce}
 use Rattle.service_step.specs.Run.{IsRunFrom, IsServiceRun, start_state}
 use Rattle.service_step.specs.Steps.{is_matched}
@@ -80,11 +82,11 @@ module _ (s0 : State) (past : List (ServiceStep × State)) (s : State) (x : Serv
       inn : (i : ℕ) × ((s.ends (opposite f)).inward ≡ inward.Matched i)
       inn = take-inward s f (s.ends f).sent q late k (subst (λ z. IsServiceStep s z t) same is).allowed
 
-      reported : is_reported_inward (s.ends (opposite f)).inward ≡ true
+      reported : is_unreported_inward (s.ends (opposite f)).inward ≡ true
       reported = subst (λ e. is_over way.Inward (s.ends e) ≡ true) on (subst (λ w. is_over w (s.ends r.on) ≡ true) received (k.reported.over p r there))
 
-      differ : (s.ends (opposite f)).inward ≡ inward.Matched inn.0 → is_reported_inward (s.ends (opposite f)).inward ≡ true → ⊥
-      differ is_matched is_over = true≢false (sym is_over ∙ ap is_reported_inward is_matched)
+      differ : (s.ends (opposite f)).inward ≡ inward.Matched inn.0 → is_unreported_inward (s.ends (opposite f)).inward ≡ true → ⊥
+      differ is_matched is_over = true≢false (sym is_over ∙ ap is_unreported_inward is_matched)
 
   next-last : (h : (p : Pid) (r : Report) → Contains (s.process p.0).reports r → r.way ≡ way.Inward → r.outcome ≡ outcome.Done → IsLastTaken s0 past p r)
       → ((f : EndId) (m : Message) → (s.ends f).outward ≡ outward.Matched m → WasMatched past f (s.ends f).sent) → (p : Pid) (r : Report) → Contains (t.process p.0).reports r → r.way ≡ way.Inward → r.outcome ≡ outcome.Done
@@ -183,8 +185,8 @@ start-history s valid =
         }
 
     idle-reports : (p : Pid) (w : Way) (e : EndId) → is_over w ((start_state s).ends e) ≡ false
-    idle-reports p way.Outward e = ap is_reported_outward (idle-parts ((start_state s).ends e) (start-idle s valid e)).0
-    idle-reports p way.Inward e = ap is_reported_inward (idle-parts ((start_state s).ends e) (start-idle s valid e)).1
+    idle-reports p way.Outward e = ap is_unreported_outward (idle-parts ((start_state s).ends e) (start-idle s valid e)).0
+    idle-reports p way.Inward e = ap is_unreported_inward (idle-parts ((start_state s).ends e) (start-idle s valid e)).1
 
     none : (p : Pid) (r : Report) → Contains ((start_state s).process p.0).reports r → ⊥
     none p r there = true≢false (sym ((consistent_start s valid).reported.over p r there) ∙ idle-reports p r.way r.on)
@@ -222,15 +224,23 @@ late-first false false true d is = (refl, refl, refl)
 late-first false false false true is = absurd (true≢false (sym is))
 late-first false false false false is = absurd (true≢false (sym is))
 
-late-outward : (past : List (ServiceStep × State)) (f : EndId) (out : Outward) (n : ℕ) (noticed : Bool) → noticed ≡ false → is_matched_outward out || is_taken out || is_reported_outward out ≡ true → IsMatchedFor past f out n noticed → WasMatched past f n
+late-outward : (past : List (ServiceStep × State)) (f : EndId) (out : Outward) (n : ℕ) (noticed : Bool) → noticed ≡ false → is_late (outward_activity out) ≡ true → IsMatchedFor past f out n noticed → WasMatched past f n
 late-outward past f outward.Idle n noticed open_yet late is = absurd (true≢false (sym late))
 late-outward past f (outward.Waiting m) n noticed open_yet late is = absurd (true≢false (sym late))
 late-outward past f (outward.Matched m) n noticed open_yet late is = is
 late-outward past f outward.Taken n noticed open_yet late is = is
-late-outward past f outward.Reported n noticed open_yet late is = is open_yet
+late-outward past f outward.Unreported n noticed open_yet late is = is open_yet
+
+-- a receive is too late to be taken back once its report stands
+late-unreported : (i : Inward) → is_late (inward_activity i) ≡ true → is_unreported_inward i ≡ true
+late-unreported inward.Idle late = late
+late-unreported inward.Posted late = late
+late-unreported inward.Withdrawn late = late
+late-unreported (inward.Matched n) late = late
+late-unreported inward.Unreported late = refl
 
 module _ (s0 : State) (past : List (ServiceStep × State)) (h : IsHistory s0 past) (p : Pid) (e : EndId) (owned : ((state_after s0 past).ends e).place ≡ place.Owned p) (open_yet : ((state_after s0 past).ends e).noticed ≡ false) where
-  late-inward : is_reported_inward ((state_after s0 past).ends e).inward ≡ true → HasMatchedReport s0 past p e
+  late-inward : is_unreported_inward ((state_after s0 past).ends e).inward ≡ true → HasMatchedReport s0 past p e
   late-inward reported =
       record {
         message = l.m;
@@ -267,12 +277,12 @@ module _ (s0 : State) (past : List (ServiceStep × State)) (h : IsHistory s0 pas
       end_is : l.f ≡ opposite e
       end_is = sym (opposite-opposite l.f) ∙ ap opposite on
 
-late-right : (s0 : State) (past : List (ServiceStep × State)) (p : Pid) (e : EndId) (w : Way) → IsHistory s0 past → is_cause cause.Late (first_of (cancel_causes p (state_after s0 past).ends e w)) ≡ true → IsRightlyLate s0 past p e w
+late-right : (s0 : State) (past : List (ServiceStep × State)) (p : Pid) (e : EndId) (w : Way) → IsHistory s0 past → is_cause cause.Late (first_of (cancel_causes w (sees p (state_after s0 past).ends e))) ≡ true → IsRightlyLate s0 past p e w
 late-right s0 past p e w h is = by w (late-first _ _ _ _ is)
   where
-    by : (w : Way) → (not (is_owned_by p ((state_after s0 past).ends e).place) ≡ false) × (((state_after s0 past).ends e).noticed ≡ false) × (is_late w ((state_after s0 past).ends e) ≡ true) → IsRightlyLate s0 past p e w
+    by : (w : Way) → (not (is_owned_by p ((state_after s0 past).ends e).place) ≡ false) × (((state_after s0 past).ends e).noticed ≡ false) × (is_late (activity w (sees p (state_after s0 past).ends e)) ≡ true) → IsRightlyLate s0 past p e w
     by way.Outward late = late-outward past e ((state_after s0 past).ends e).outward ((state_after s0 past).ends e).sent ((state_after s0 past).ends e).noticed late.1 late.2 (h.ends e).matched_one
-    by way.Inward late = late-inward s0 past h p e (owned_by-Owned p ((state_after s0 past).ends e).place (not-false _ late.0)) late.1 late.2
+    by way.Inward late = late-inward s0 past h p e (owned_by-Owned p ((state_after s0 past).ends e).place (not-false _ late.0)) late.1 (late-unreported ((state_after s0 past).ends e).inward late.2)
 
 -- each step of a run is right
 module _ (s0 : State) (run before : List (ServiceStep × State)) (after : List (ServiceStep × State)) (t : State) (h : IsHistory s0 before) (rising : (f : EndId) → AreRising (flat_map (take_number f) run)) where

@@ -70,8 +70,8 @@ pub data Move (s : State) (x : ServiceStep) (t : State) (f : EndId) : Type 0 whe
   matched : (m : Message) → (s.ends f).outward ≡ outward.Waiting m → (t.ends f).outward ≡ outward.Matched m → (t.ends f).sent ≡ (s.ends f).sent → x ≡ step.Match f (s.ends f).sent → HasNumbers f (x, t) [] ((s.ends f).sent ∷ []) [] [] → Move s x t f
   taken : (m : Message) (p : Pid) (late : Bool) → (s.ends f).outward ≡ outward.Matched m → (t.ends f).outward ≡ outward.Taken → (t.ends f).sent ≡ (s.ends f).sent → x ≡ step.Take f (s.ends f).sent p late
       → (s.ends (opposite f)).place ≡ place.Owned p → HasNumbers f (x, t) [] [] ((s.ends f).sent ∷ []) [] → Move s x t f
-  completed : (s.ends f).outward ≡ outward.Taken → (t.ends f).outward ≡ outward.Reported → (t.ends f).sent ≡ (s.ends f).sent → HasNumbers f (x, t) [] [] [] ((s.ends f).sent ∷ []) → Move s x t f
-  over : ((t.ends f).outward ≡ outward.Idle) ⊎ (((t.ends f).outward ≡ outward.Reported) × ((t.ends f).noticed ≡ true)) → (t.ends f).sent ≡ (s.ends f).sent → HasNumbers f (x, t) [] [] [] [] → Move s x t f
+  completed : (s.ends f).outward ≡ outward.Taken → (t.ends f).outward ≡ outward.Unreported → (t.ends f).sent ≡ (s.ends f).sent → HasNumbers f (x, t) [] [] [] ((s.ends f).sent ∷ []) → Move s x t f
+  over : ((t.ends f).outward ≡ outward.Idle) ⊎ (((t.ends f).outward ≡ outward.Unreported) × ((t.ends f).noticed ≡ true)) → (t.ends f).sent ≡ (s.ends f).sent → HasNumbers f (x, t) [] [] [] [] → Move s x t f
 
 pub still-as : (s : State) (x : ServiceStep) (t : State) (f : EndId) → sends_of (t.ends f) ≡ sends_of (s.ends f) → HasNumbers f (x, t) [] [] [] [] → Move s x t f
 still-as s x t f same numbers = still (ap (λ z. z.outward) same) (ap (λ z. z.sent) same) (λ open_yet. sym (ap (λ z. z.noticed) same) ∙ open_yet) numbers
@@ -111,10 +111,10 @@ module _ (s : State) (x : ServiceStep) (t : State) (f e : EndId) (y : End) (at :
   whole : sends_of (t.ends f) ≡ sends_of (puts e y s.ends f)
   whole = ap (λ g. sends_of (g f)) ends ∙ places-sends at xs (puts e y s.ends) f
 
-  pub move-over : ((y.outward ≡ outward.Idle) ⊎ ((y.outward ≡ outward.Reported) × (y.noticed ≡ true))) ⊎ ((y.outward ≡ (s.ends e).outward) × ((y.noticed ≡ false) → (s.ends e).noticed ≡ false)) → y.sent ≡ (s.ends e).sent → Move s x t f
+  pub move-over : ((y.outward ≡ outward.Idle) ⊎ ((y.outward ≡ outward.Unreported) × (y.noticed ≡ true))) ⊎ ((y.outward ≡ (s.ends e).outward) × ((y.noticed ≡ false) → (s.ends e).noticed ≡ false)) → y.sent ≡ (s.ends e).sent → Move s x t f
   move-over over_or number = move-by s x t f e its (λ apart. still-as s x t f (whole ∙ ap sends_of (puts-apart e f y s.ends apart)) numbers)
     where
-      stays : f ≡ e → puts e y s.ends f ≡ y → ((y.outward ≡ outward.Idle) ⊎ ((y.outward ≡ outward.Reported) × (y.noticed ≡ true))) ⊎ ((y.outward ≡ (s.ends e).outward) × ((y.noticed ≡ false) → (s.ends e).noticed ≡ false)) → Move s x t f
+      stays : f ≡ e → puts e y s.ends f ≡ y → ((y.outward ≡ outward.Idle) ⊎ ((y.outward ≡ outward.Unreported) × (y.noticed ≡ true))) ⊎ ((y.outward ≡ (s.ends e).outward) × ((y.noticed ≡ false) → (s.ends e).noticed ≡ false)) → Move s x t f
       stays same put (inl (inl idle)) = over (inl (ap (λ z. z.outward) (whole ∙ ap sends_of put) ∙ idle)) (ap (λ z. z.sent) (whole ∙ ap sends_of put) ∙ number ∙ sym (ap (λ z. (s.ends z).sent) same)) numbers
       stays same put (inl (inr both)) =
           over (inr (ap (λ z. z.outward) (whole ∙ ap sends_of put) ∙ both.0, ap (λ z. z.noticed) (whole ∙ ap sends_of put) ∙ both.1)) (ap (λ z. z.sent) (whole ∙ ap sends_of put) ∙ number ∙ sym (ap (λ z. (s.ends z).sent) same)) numbers
@@ -138,7 +138,7 @@ dropped-or outward.Idle = inr refl
 dropped-or (outward.Waiting m) = inl refl
 dropped-or (outward.Matched m) = inr refl
 dropped-or outward.Taken = inr refl
-dropped-or outward.Reported = inr refl
+dropped-or outward.Unreported = inr refl
 
 abbrev IsEnded : End → End → Type 0
 IsEnded x y = (sends_of y ≡ sends_of x) ⊎ ((y.outward ≡ outward.Idle) × (y.sent ≡ x.sent))
@@ -200,7 +200,7 @@ idle-out outward.Idle is = refl
 idle-out (outward.Waiting m) is = absurd (true≢false (sym is))
 idle-out (outward.Matched m) is = absurd (true≢false (sym is))
 idle-out outward.Taken is = absurd (true≢false (sym is))
-idle-out outward.Reported is = absurd (true≢false (sym is))
+idle-out outward.Unreported is = absurd (true≢false (sym is))
 
 -- what may be sent
 pub may-sent : (s : State) (e : EndId) (n : ℕ) (xs : List EndId) → may_send s e n xs ≡ true → (is_made (s.ends e).place ≡ true) × ((s.ends e).outward ≡ outward.Idle) × (n ≡ (s.ends e).sent + 1)
@@ -214,9 +214,9 @@ may-sent s e n xs may = by (owner (s.ends e).place) refl may
         (made-owned (s.ends e).place p (owner-Owned (s.ends e).place p is), idle-out (s.ends e).outward (not-false _ (none-first _ cause.Busy _ (none-first _ cause.NoEnd _ both.1).1).0), same-number n ((s.ends e).sent + 1) three.1)
 
 -- a send of an end whose death is noticed is as it was, or over
-pub noticed-or : (out : Outward) → (noticed_outward out ≡ outward.Reported) ⊎ (noticed_outward out ≡ out)
+pub noticed-or : (out : Outward) → (noticed_outward out ≡ outward.Unreported) ⊎ (noticed_outward out ≡ out)
 noticed-or outward.Idle = inr refl
 noticed-or (outward.Waiting m) = inl refl
 noticed-or (outward.Matched m) = inr refl
 noticed-or outward.Taken = inr refl
-noticed-or outward.Reported = inr refl
+noticed-or outward.Unreported = inr refl

@@ -143,8 +143,8 @@ module _ (s : State) (e : EndId) (n : ℕ) (p : Pid) (late : Bool) (f : EndId) (
 
       whole : (q : EndId) → sends_of (takes e p s.ends q) ≡ sends_of (puts e (record (s.ends e) { outward = outward.Taken }) s.ends q)
       whole q =
-          places-sends (place.Owned p) (carried_by (matched_message (s.ends e).outward)) (turns_inward inward.Reported (opposite e) (puts e (record (s.ends e) { outward = outward.Taken }) s.ends)) q
-          ∙ turns_inward-sends inward.Reported (opposite e) (puts e (record (s.ends e) { outward = outward.Taken }) s.ends) q
+          places-sends (place.Owned p) (carried_by (matched_message (s.ends e).outward)) (turns_inward inward.Unreported (opposite e) (puts e (record (s.ends e) { outward = outward.Taken }) s.ends)) q
+          ∙ turns_inward-sends inward.Unreported (opposite e) (puts e (record (s.ends e) { outward = outward.Taken }) s.ends) q
 
       found : (m : Message) × ((s.ends e).outward ≡ outward.Matched m)
       found = take-matched s e n p late k may
@@ -170,7 +170,7 @@ module _ (s : State) (e : EndId) (n : ℕ) (f : EndId) (k : IsConsistent s) (may
   move-complete = move-by s _ t f e its (λ apart. still-as s _ t f (ap sends_of (puts-apart e f y s.ends apart)) (none f _ _ refl refl refl (number-other f e n apart)))
     where
       y : End
-      y = record (s.ends e) { outward = outward.Reported }
+      y = record (s.ends e) { outward = outward.Unreported }
 
       t : State
       t = after_complete e s
@@ -184,8 +184,8 @@ module _ (s : State) (e : EndId) (n : ℕ) (f : EndId) (k : IsConsistent s) (may
       differ : (s.ends e).outward ≡ outward.Taken → (s.ends e).outward ≡ outward.Idle → ⊥
       differ a b = cc
 
-      now : puts e (record (s.ends e) { outward = outward.Reported }) s.ends e ≡ record (s.ends e) { outward = outward.Reported }
-      now = puts-at e (record (s.ends e) { outward = outward.Reported }) s.ends (busy-made s e k (busy-outward (s.ends e) (differ is)))
+      now : puts e (record (s.ends e) { outward = outward.Unreported }) s.ends e ≡ record (s.ends e) { outward = outward.Unreported }
+      now = puts-at e (record (s.ends e) { outward = outward.Unreported }) s.ends (busy-made s e k (busy-outward (s.ends e) (differ is)))
 
       its : f ≡ e → Move s (step.Complete e n) t f
       its same =
@@ -193,7 +193,7 @@ module _ (s : State) (e : EndId) (n : ℕ) (f : EndId) (k : IsConsistent s) (may
           (completed is (ap (λ z. z.outward) now) (ap (λ z. z.sent) now) (record { sends = refl; matches = refl; takes = refl; completes = number-its e e n refl ∙ ap (λ z. z ∷ []) (sym number) }))
 
 module _ (s : State) (e : EndId) (x : ServiceStep) (f : EndId) (y : End) (g : ℕ → Process) (numbers : (t : State) → HasNumbers f (x, t) [] [] [] [])
-    (which : ((y.outward ≡ outward.Idle) ⊎ ((y.outward ≡ outward.Reported) × (y.noticed ≡ true))) ⊎ ((y.outward ≡ (s.ends e).outward) × ((y.noticed ≡ false) → (s.ends e).noticed ≡ false))) (number : y.sent ≡ (s.ends e).sent) where
+    (which : ((y.outward ≡ outward.Idle) ⊎ ((y.outward ≡ outward.Unreported) × (y.noticed ≡ true))) ⊎ ((y.outward ≡ (s.ends e).outward) × ((y.noticed ≡ false) → (s.ends e).noticed ≡ false))) (number : y.sent ≡ (s.ends e).sent) where
   move-owner : (o : Option Pid) (xs : List EndId) → Move s x (record s { ends = to_owner o xs (puts e y s.ends); process = g }) f
   unfolding places
   move-owner None xs = move-over s x _ f e y place.Destroyed [] (numbers _) refl which number
@@ -203,8 +203,8 @@ move-notice : (s : State) (e : EndId) (dead : Bool) (f : EndId) → Move s (step
 unfolding notices
 move-notice s e dead f = move-owner s e (step.Notice e dead) f (noticed_end (s.ends e)) _ (λ t. none f _ _ refl refl refl refl) (which (noticed-or (s.ends e).outward)) refl (owner (s.ends e).place) (carried_by (waiting_message (s.ends e).outward))
   where
-    which : (noticed_outward (s.ends e).outward ≡ outward.Reported) ⊎ (noticed_outward (s.ends e).outward ≡ (s.ends e).outward)
-        → (((noticed_end (s.ends e)).outward ≡ outward.Idle) ⊎ (((noticed_end (s.ends e)).outward ≡ outward.Reported) × ((noticed_end (s.ends e)).noticed ≡ true)))
+    which : (noticed_outward (s.ends e).outward ≡ outward.Unreported) ⊎ (noticed_outward (s.ends e).outward ≡ (s.ends e).outward)
+        → (((noticed_end (s.ends e)).outward ≡ outward.Idle) ⊎ (((noticed_end (s.ends e)).outward ≡ outward.Unreported) × ((noticed_end (s.ends e)).noticed ≡ true)))
         ⊎ (((noticed_end (s.ends e)).outward ≡ (s.ends e).outward) × (((noticed_end (s.ends e)).noticed ≡ false) → (s.ends e).noticed ≡ false))
     which (inl reported) = inl (inr (reported, refl))
     which (inr same) = inr (same, λ open_yet. absurd (true≢false open_yet))
@@ -215,13 +215,13 @@ module _ (s : State) (e : EndId) (n : ℕ) (dead : Bool) (f : EndId) (g : ℕ �
       (record s {
         ends =
             if b then places place.Destroyed xs (turns_outward outward.Idle e s.ends)
-            else to_owner o xs (puts e (if c then record (s.ends e) { outward = outward.Reported } else noticed_end (record (s.ends e) { outward = outward.Reported })) s.ends);
+            else to_owner o xs (puts e (if c then record (s.ends e) { outward = outward.Unreported } else noticed_end (record (s.ends e) { outward = outward.Unreported })) s.ends);
         process = g;
       }) f
   unfolding turns_outward
   move-back true c is = move-over s (step.Back e n dead) _ f e (record (s.ends e) { outward = outward.Idle }) place.Destroyed xs (none f _ _ refl refl refl refl) refl (inl (inl refl)) refl
-  move-back false true is = move-owner s e (step.Back e n dead) f (record (s.ends e) { outward = outward.Reported }) g (λ t. none f _ _ refl refl refl refl) (inl (inr (refl, is))) refl o xs
-  move-back false false is = move-owner s e (step.Back e n dead) f (noticed_end (record (s.ends e) { outward = outward.Reported })) g (λ t. none f _ _ refl refl refl refl) (inl (inr (refl, refl))) refl o xs
+  move-back false true is = move-owner s e (step.Back e n dead) f (record (s.ends e) { outward = outward.Unreported }) g (λ t. none f _ _ refl refl refl refl) (inl (inr (refl, is))) refl o xs
+  move-back false false is = move-owner s e (step.Back e n dead) f (noticed_end (record (s.ends e) { outward = outward.Unreported })) g (λ t. none f _ _ refl refl refl refl) (inl (inr (refl, refl))) refl o xs
 
 move-return : (s : State) (e : EndId) (n : ℕ) (dead : Bool) (f : EndId) → Move s (step.Back e n dead) (after_return e s) f
 unfolding returns

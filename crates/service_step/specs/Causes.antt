@@ -1,7 +1,8 @@
--- When a call is refused, and for which cause. The causes of a call are tested in the order of their numbers.
-use Rattle.std.specs.Prelude.{◌≡◌, Bool, true, false, nat_eq, nat_le, ◌&&◌, ◌||◌, not, ◌⊎◌, IsTrue, if◌then◌else◌, Option, Some, None, List, [], ◌∷◌}
-use Rattle.std.specs.List.{list_any}
+-- When a call is refused in the service, and for which cause: the table of causes, read from the service's state, and the cause of
+-- a Wait.
+use Rattle.std.specs.Prelude.{◌≡◌, ℕ, Bool, false, nat_eq, ◌⊎◌, IsTrue, Option, Some, None, []}
 use Rattle.charlotte_calls.specs.Calls.{cause_number}
+use Rattle.charlotte_calls.specs.Causes.{Seen, first_cause}
 use Rattle.charlotte_calls.specs.declared.calls.Call.{Call}
 use Rattle.charlotte_calls.specs.declared.calls.Call.TheVariants as call
 use Rattle.charlotte_calls.specs.declared.calls.Cause.{Cause}
@@ -9,104 +10,32 @@ use Rattle.charlotte_calls.specs.declared.calls.Cause.TheVariants as cause
 use Rattle.charlotte_calls.specs.declared.names.EndId.{EndId}
 use Rattle.charlotte_calls.specs.declared.names.LinkId.{LinkId}
 use Rattle.charlotte_calls.specs.declared.names.Pid.{Pid}
-use Rattle.charlotte_calls.specs.declared.names.Way.{Way}
-use Rattle.charlotte_calls.specs.declared.names.Way.TheVariants as way
-use Rattle.service_step.specs.Ends.{end_eq, is_owned_by, is_idle, is_active, is_idle_outward, is_reported_outward, is_taken, is_idle_inward, is_reported_inward}
-use Rattle.service_step.specs.State.{State, next_link, link_limit}
+use Rattle.service_step.specs.Ends.{is_owned_by, is_active, outward_activity, inward_activity}
+use Rattle.service_step.specs.State.{State, next_link}
 use Rattle.service_step.specs.declared.state.End.{End}
-use Rattle.service_step.specs.declared.state.Outward.{Outward}
-use Rattle.service_step.specs.declared.state.Outward.TheVariants as outward
 
--- the first of some tests that holds
-abbrev pub first_of : List (Bool × Cause) → Option Cause
-first_of [] = None
-first_of (t ∷ ts) = if t.0 then Some t.1 else first_of ts
+-- what p sees of an end
+abbrev pub seen : Pid → End → Seen
+seen p x =
+    record {
+      owned = is_owned_by p x.place;
+      outward = outward_activity x.outward;
+      inward = inward_activity x.inward;
+      dead = x.noticed;
+    }
 
--- the message of the send is Matched
-abbrev pub is_matched_outward : Outward → Bool
-is_matched_outward (outward.Matched m) = true
-is_matched_outward outward.Idle = false
-is_matched_outward (outward.Waiting m) = false
-is_matched_outward outward.Taken = false
-is_matched_outward outward.Reported = false
+-- what p sees of each end
+abbrev pub sees : Pid → (EndId → End) → EndId → Seen
+sees p t e = seen p (t e)
 
--- the two ends are of one link, whatever their sides
-abbrev pub same_link : EndId → EndId → Bool
-same_link a b = nat_eq a.link.maker b.link.maker && nat_eq a.link.count b.link.count
-
--- p does not own one of these ends
-abbrev pub is_missing_one : Pid → (EndId → End) → List EndId → Bool
-is_missing_one p t xs = list_any (λ x. not (is_owned_by p (t x).place)) xs
-
--- an activity on one of these ends is started or unreported
-abbrev pub has_busy_one : (EndId → End) → List EndId → Bool
-has_busy_one t xs = list_any (λ x. not (is_idle (t x))) xs
-
--- an end stands twice among these
-abbrev pub names_twice : List EndId → Bool
-names_twice [] = false
-names_twice (x ∷ xs) = list_any (end_eq x) xs || names_twice xs
-
--- a call on an end that p does not own
-abbrev pub no_end : Pid → (EndId → End) → EndId → Bool × Cause
-no_end p t on = (not (is_owned_by p (t on).place), cause.NoEnd)
-
--- the causes of a Send, each with its test
-abbrev pub send_causes : Pid → (EndId → End) → EndId → List EndId → List (Bool × Cause)
-send_causes p t on xs =
-    no_end p t on
-    ∷ (not (is_idle_outward (t on).outward), cause.Busy)
-    ∷ ((t on).noticed, cause.Dead)
-    ∷ (is_missing_one p t xs, cause.EncloseNoEnd)
-    ∷ (has_busy_one t xs, cause.EncloseBusy)
-    ∷ (list_any (same_link on) xs, cause.EncloseSame)
-    ∷ (names_twice xs, cause.EncloseTwice)
-    ∷ []
-
--- the causes of a Receive, each with its test
-abbrev pub receive_causes : Pid → (EndId → End) → EndId → List (Bool × Cause)
-receive_causes p t on =
-    no_end p t on ∷ (not (is_idle_inward (t on).inward), cause.Busy) ∷ ((t on).noticed, cause.Dead) ∷ []
-
--- the Cancel comes too late: the message was matched, or the report stands. It is a report Done, since one that tells of the death
--- of the link comes with the mark, and so with the cause Dead, which is tested before
-abbrev pub is_late : Way → End → Bool
-is_late way.Outward x = is_matched_outward x.outward || is_taken x.outward || is_reported_outward x.outward
-is_late way.Inward x = is_reported_inward x.inward
-
--- there is nothing to cancel
-abbrev pub has_no_activity : Way → End → Bool
-has_no_activity way.Outward x = is_idle_outward x.outward
-has_no_activity way.Inward x = is_idle_inward x.inward
-
--- the causes of a Cancel, each with its test; Late is that which is answered at once
-abbrev pub cancel_causes : Pid → (EndId → End) → EndId → Way → List (Bool × Cause)
-cancel_causes p t on w =
-    no_end p t on
-    ∷ ((t on).noticed, cause.Dead)
-    ∷ (is_late w (t on), cause.Late)
-    ∷ (has_no_activity w (t on), cause.NoActivity)
-    ∷ []
-
--- the kernel of the next link has made as many as it may
-abbrev pub is_full : Option LinkId → Bool
-is_full None = false
-is_full (Some link) = nat_le link_limit link.count
-
--- the causes of every call but Wait, each with its test
-abbrev pub causes_of : State → Pid → Call → List (Bool × Cause)
-causes_of s p call.Make = (is_full (next_link s p), cause.LinksFull) ∷ []
-causes_of s p (call.Destroy on) = no_end p s.ends on ∷ []
-causes_of s p (call.Send on bytes xs) = send_causes p s.ends on xs
-causes_of s p (call.Receive on) = receive_causes p s.ends on
-causes_of s p (call.Cancel on w) = cancel_causes p s.ends on w
-causes_of s p call.Wait = []
-causes_of s p (call.Print bytes) = []
-causes_of s p call.Exit = []
+-- how many links a kernel has made, by the name of its next one
+abbrev pub made_before : Option LinkId → ℕ
+made_before None = 0
+made_before (Some link) = link.count
 
 -- the first cause that holds of every call but Wait
 abbrev pub refusal : State → Pid → Call → Option Cause
-refusal s p c = first_of (causes_of s p c)
+refusal s p c = first_cause (sees p s.ends) (made_before (next_link s p)) c
 
 -- an activity is started on an end that p owns
 abbrev pub HasStarted : (EndId → End) → Pid → Type 0

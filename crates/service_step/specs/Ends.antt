@@ -6,7 +6,9 @@ use Rattle.charlotte_calls.specs.declared.names.EndId.{EndId}
 use Rattle.charlotte_calls.specs.declared.names.Pid.{Pid}
 use Rattle.charlotte_calls.specs.declared.names.Way.{Way}
 use Rattle.charlotte_calls.specs.declared.names.Way.TheVariants as way
-use Rattle.charlotte_calls.specs.contracts.names.EndIdPartialEq.TheImpl as derived
+use Rattle.charlotte_calls.specs.Causes.{Activity, Idle, Started, Matched, Unreported, is_started, is_unreported}
+use Rattle.charlotte_calls.specs.Causes as causes
+unfoldable pub use Rattle.charlotte_calls.specs.EndEq.{end_eq}
 use Rattle.charlotte_calls.specs.Names.{opposite}
 use Rattle.service_step.specs.declared.state.End.{End}
 use Rattle.service_step.specs.declared.state.Place.{Place}
@@ -16,10 +18,6 @@ use Rattle.service_step.specs.declared.state.Outward.{Outward}
 use Rattle.service_step.specs.declared.state.Outward.TheVariants as outward
 use Rattle.service_step.specs.declared.state.Inward.{Inward}
 use Rattle.service_step.specs.declared.state.Inward.TheVariants as inward
-
--- two ends are the same, as `==` of ends tells: they have the same maker, count and side
-unfoldable pub end_eq : EndId → EndId → Bool
-end_eq = (derived.ghosts).eq
 
 -- an end at a place, with both activities idle, no sends and no mark
 abbrev pub fresh : Place → End
@@ -64,7 +62,7 @@ waiting_message (outward.Waiting m) = Some m
 waiting_message outward.Idle = None
 waiting_message (outward.Matched m) = None
 waiting_message outward.Taken = None
-waiting_message outward.Reported = None
+waiting_message outward.Unreported = None
 
 -- the message of a Matched send
 abbrev pub matched_message : Outward → Option Message
@@ -72,64 +70,69 @@ matched_message (outward.Matched m) = Some m
 matched_message outward.Idle = None
 matched_message (outward.Waiting m) = None
 matched_message outward.Taken = None
-matched_message outward.Reported = None
+matched_message outward.Unreported = None
 
 -- the ends that a message carries, where there is one
 abbrev pub carried_by : Option Message → List EndId
 carried_by None = []
 carried_by (Some m) = m.carried
 
--- how far an activity has come: a send is started where it is Waiting, Matched or Taken, a receive where it is Posted, Withdrawn
--- or Matched; over and not yet reported where it is Reported
+-- how far an activity has come. A message that was taken can no more be taken back than one that is matched; a receive may be
+-- taken back until its report stands, though that comes too late where the message is on its way
 
+abbrev pub outward_activity : Outward → Activity
+outward_activity outward.Idle = Idle
+outward_activity (outward.Waiting m) = Started
+outward_activity (outward.Matched m) = Matched
+outward_activity outward.Taken = Matched
+outward_activity outward.Unreported = Unreported
+
+abbrev pub inward_activity : Inward → Activity
+inward_activity inward.Idle = Idle
+inward_activity inward.Posted = Started
+inward_activity inward.Withdrawn = Started
+inward_activity (inward.Matched n) = Started
+inward_activity inward.Unreported = Unreported
+
+abbrev pub is_idle_outward : Outward → Bool
+is_idle_outward x = causes.is_idle (outward_activity x)
+
+abbrev pub is_idle_inward : Inward → Bool
+is_idle_inward x = causes.is_idle (inward_activity x)
+
+abbrev pub is_started_outward : Outward → Bool
+is_started_outward x = is_started (outward_activity x)
+
+abbrev pub is_started_inward : Inward → Bool
+is_started_inward x = is_started (inward_activity x)
+
+abbrev pub is_unreported_outward : Outward → Bool
+is_unreported_outward x = is_unreported (outward_activity x)
+
+abbrev pub is_unreported_inward : Inward → Bool
+is_unreported_inward x = is_unreported (inward_activity x)
+
+-- the message was taken, and its sender does not know it yet
 abbrev pub is_taken : Outward → Bool
 is_taken outward.Taken = true
 is_taken outward.Idle = false
 is_taken (outward.Waiting m) = false
 is_taken (outward.Matched m) = false
-is_taken outward.Reported = false
-
-abbrev pub is_idle_outward : Outward → Bool
-is_idle_outward outward.Idle = true
-is_idle_outward (outward.Waiting m) = false
-is_idle_outward (outward.Matched m) = false
-is_idle_outward outward.Taken = false
-is_idle_outward outward.Reported = false
-
-abbrev pub is_reported_outward : Outward → Bool
-is_reported_outward outward.Reported = true
-is_reported_outward outward.Idle = false
-is_reported_outward (outward.Waiting m) = false
-is_reported_outward (outward.Matched m) = false
-is_reported_outward outward.Taken = false
-
-abbrev pub is_idle_inward : Inward → Bool
-is_idle_inward inward.Idle = true
-is_idle_inward inward.Posted = false
-is_idle_inward inward.Withdrawn = false
-is_idle_inward (inward.Matched n) = false
-is_idle_inward inward.Reported = false
-
-abbrev pub is_reported_inward : Inward → Bool
-is_reported_inward inward.Reported = true
-is_reported_inward inward.Idle = false
-is_reported_inward inward.Posted = false
-is_reported_inward inward.Withdrawn = false
-is_reported_inward (inward.Matched n) = false
+is_taken outward.Unreported = false
 
 abbrev pub is_posted : Inward → Bool
 is_posted inward.Posted = true
 is_posted inward.Idle = false
 is_posted inward.Withdrawn = false
 is_posted (inward.Matched n) = false
-is_posted inward.Reported = false
+is_posted inward.Unreported = false
 
 abbrev pub is_withdrawn : Inward → Bool
 is_withdrawn inward.Withdrawn = true
 is_withdrawn inward.Idle = false
 is_withdrawn inward.Posted = false
 is_withdrawn (inward.Matched n) = false
-is_withdrawn inward.Reported = false
+is_withdrawn inward.Unreported = false
 
 -- matched with the message of this number
 abbrev pub is_matched_with : ℕ → Inward → Bool
@@ -137,7 +140,7 @@ is_matched_with n (inward.Matched m) = nat_eq m n
 is_matched_with n inward.Idle = false
 is_matched_with n inward.Posted = false
 is_matched_with n inward.Withdrawn = false
-is_matched_with n inward.Reported = false
+is_matched_with n inward.Unreported = false
 
 -- matched with some message
 abbrev pub is_matched_inward : Inward → Bool
@@ -145,13 +148,7 @@ is_matched_inward (inward.Matched n) = true
 is_matched_inward inward.Idle = false
 is_matched_inward inward.Posted = false
 is_matched_inward inward.Withdrawn = false
-is_matched_inward inward.Reported = false
-
-abbrev pub is_started_outward : Outward → Bool
-is_started_outward x = not (is_idle_outward x) && not (is_reported_outward x)
-
-abbrev pub is_started_inward : Inward → Bool
-is_started_inward x = not (is_idle_inward x) && not (is_reported_inward x)
+is_matched_inward inward.Unreported = false
 
 -- no activity is started or unreported
 abbrev pub is_idle : End → Bool
@@ -183,7 +180,7 @@ dropped (outward.Waiting m) = outward.Idle
 dropped outward.Idle = outward.Idle
 dropped (outward.Matched m) = outward.Matched m
 dropped outward.Taken = outward.Taken
-dropped outward.Reported = outward.Reported
+dropped outward.Unreported = outward.Unreported
 
 -- destroy: a Waiting message is dropped, and each end that it carries is destroyed
 unfoldable pub destroys : EndId → (EndId → End) → (EndId → End)
@@ -229,7 +226,7 @@ matched_outward (outward.Waiting m) = outward.Matched m
 matched_outward outward.Idle = outward.Idle
 matched_outward (outward.Matched m) = outward.Matched m
 matched_outward outward.Taken = outward.Taken
-matched_outward outward.Reported = outward.Reported
+matched_outward outward.Unreported = outward.Unreported
 
 -- match: the send of e and the receive of its opposite come together
 unfoldable pub matches : EndId → ℕ → (EndId → End) → (EndId → End)
@@ -239,19 +236,19 @@ matches e n table = turns_inward (inward.Matched n) (opposite e) (turns_outward 
 unfoldable pub takes : EndId → Pid → (EndId → End) → (EndId → End)
 takes e p table =
     places (place.Owned p) (carried_by (matched_message (table e).outward))
-    (turns_inward inward.Reported (opposite e) (turns_outward outward.Taken e table))
+    (turns_inward inward.Unreported (opposite e) (turns_outward outward.Taken e table))
 
 -- a Waiting send is over
 abbrev pub noticed_outward : Outward → Outward
-noticed_outward (outward.Waiting m) = outward.Reported
+noticed_outward (outward.Waiting m) = outward.Unreported
 noticed_outward outward.Idle = outward.Idle
 noticed_outward (outward.Matched m) = outward.Matched m
 noticed_outward outward.Taken = outward.Taken
-noticed_outward outward.Reported = outward.Reported
+noticed_outward outward.Unreported = outward.Unreported
 
 -- a started receive is over
 abbrev pub noticed_inward : Inward → Inward
-noticed_inward x = if is_started_inward x then inward.Reported else x
+noticed_inward x = if is_started_inward x then inward.Unreported else x
 
 -- notice, as far as the end itself goes: a Waiting send and a started receive are over
 abbrev pub noticed_end : End → End
@@ -271,8 +268,8 @@ notices e table =
 -- back at an owned end, as far as the end itself goes: the send is over, and then as by notice if the mark is not there
 abbrev pub returned_end : End → End
 returned_end x =
-    if x.noticed then record x { outward = outward.Reported }
-    else noticed_end (record x { outward = outward.Reported })
+    if x.noticed then record x { outward = outward.Unreported }
+    else noticed_end (record x { outward = outward.Unreported })
 
 -- back: at an owned end the send is over and each end that the message carries goes to the owner; at a destroyed end the send
 -- is idle and each of them is destroyed

@@ -28,7 +28,7 @@ message_of outward.Idle = None
 message_of (outward.Waiting m) = Some m
 message_of (outward.Matched m) = Some m
 message_of outward.Taken = None
-message_of outward.Reported = None
+message_of outward.Unreported = None
 
 -- the message n of f is Waiting or Matched and carries e
 pub record IsCarried (s : State) (f : EndId) (n : ℕ) (e : EndId) : Type 0 where

@@ -106,10 +106,6 @@ receive_report e bytes xs = record { on = e; way = way.Inward; outcome = outcome
 abbrev pub dead_receive_report : EndId → Report
 dead_receive_report e = record { on = e; way = way.Inward; outcome = outcome.Destroyed; bytes = []; enclosed = [] }
 
--- how many links a kernel may make
-abbrev pub link_limit : ℕ
-link_limit = 65536
-
 -- the name of a link with this maker and count
 abbrev pub counted : ℕ → Option ℕ → Option LinkId
 counted k None = None

@@ -3,6 +3,7 @@
 -- the owner of the end; in 8 it waits. What the steps do with the ends is in `Ends`, what they do with processes in `State`.
 use Rattle.std.specs.Prelude.{◌≡◌, ℕ, ◌+◌, Bool, false, nat_eq, nat_lt, nat_le, ◌&&◌, ◌||◌, not, is_none, is_some, IsTrue, if◌then◌else◌, Option, Some, None, List, [], ◌∷◌, ◌++◌, length, slice_get}
 use Rattle.std.specs.List.{Contains}
+use Rattle.charlotte_calls.specs.Causes.{first_of, link_limit, send_causes, receive_causes}
 use Rattle.charlotte_calls.specs.Names.{opposite}
 use Rattle.charlotte_calls.specs.declared.calls.Report.{Report}
 use Rattle.charlotte_calls.specs.declared.calls.ServiceStep.{ServiceStep}
@@ -14,9 +15,9 @@ use Rattle.charlotte_calls.specs.declared.names.Pid.{Pid}
 use Rattle.charlotte_calls.specs.declared.names.Side.TheVariants.{A}
 use Rattle.charlotte_calls.specs.declared.names.Way.{Way}
 use Rattle.charlotte_calls.specs.declared.names.Way.TheVariants as way
-use Rattle.service_step.specs.Causes.{first_of, send_causes, receive_causes, HasActivity, IsRefusedFor}
+use Rattle.service_step.specs.Causes.{sees, HasActivity, IsRefusedFor}
 use Rattle.service_step.specs.Ends.{end_eq, is_made, is_destroyed, is_living, owner, is_owned_by, waiting_message, matched_message, is_taken, is_posted, is_withdrawn, is_matched_with, is_matched_inward, is_started_inward, makes, destroys, destroys_each, starts_send, turns_inward, turns_outward, idles, withdraws_send, matches, takes, notices, returns}
-use Rattle.service_step.specs.State.{State, Process, is_running, is_waiting, is_cancelling, owner_cancels, turns, gains, given, ends_process, wakes, tells, send_report, receive_report, dead_receive_report, next_link, link_limit, counts}
+use Rattle.service_step.specs.State.{State, Process, is_running, is_waiting, is_cancelling, owner_cancels, turns, gains, given, ends_process, wakes, tells, send_report, receive_report, dead_receive_report, next_link, counts}
 use Rattle.service_step.specs.declared.state.End.{End}
 use Rattle.service_step.specs.declared.state.Inward.TheVariants as inward
 use Rattle.service_step.specs.declared.state.Message.{Message}
@@ -79,7 +80,7 @@ abbrev pub may_send_as : State → Option Pid → EndId → ℕ → List EndId �
 may_send_as s None e n xs = false
 may_send_as s (Some p) e n xs =
     runs s p
-    && is_none (first_of (send_causes p s.ends e xs))
+    && is_none (first_of (send_causes (sees p s.ends) e xs))
     && nat_eq n ((s.ends e).sent + 1)
     && fits_version s.version xs
 
@@ -89,7 +90,7 @@ may_send s e n xs = may_send_as s (owner (s.ends e).place) e n xs
 -- 5: the owner of e runs, and no cause of Receive holds
 abbrev pub may_receive_as : State → Option Pid → EndId → Bool
 may_receive_as s None e = false
-may_receive_as s (Some p) e = runs s p && is_none (first_of (receive_causes p s.ends e))
+may_receive_as s (Some p) e = runs s p && is_none (first_of (receive_causes (sees p s.ends e)))
 
 abbrev pub may_receive : State → EndId → Bool
 may_receive s e = may_receive_as s (owner (s.ends e).place) e
@@ -221,7 +222,7 @@ gains_owner (Some p) rs process = gains p rs process
 abbrev pub after_complete : EndId → State → State
 after_complete e s =
     record s {
-      ends = turns_outward outward.Reported e s.ends;
+      ends = turns_outward outward.Unreported e s.ends;
       process = gains_owner (owner (s.ends e).place) (send_report e outcome.Done [] ∷ []) s.process;
     }
 

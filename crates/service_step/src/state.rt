@@ -92,7 +92,7 @@ pub enum Outward {
     /// The message was taken, and the sender does not know it yet.
     Taken,
     /// The send is over, and its report was not given yet.
-    Reported,
+    Unreported,
 }
 
 impl Outward {
@@ -105,7 +105,7 @@ impl Outward {
             Outward::Waiting(message) => Outward::Waiting(message.copy()),
             Outward::Matched(message) => Outward::Matched(message.copy()),
             Outward::Taken => Outward::Taken,
-            Outward::Reported => Outward::Reported,
+            Outward::Unreported => Outward::Unreported,
         }
     }
 
@@ -160,7 +160,7 @@ pub enum Inward {
     /// The message with this number of the opposite end is on its way.
     Matched(u32),
     /// The receive is over, and its report was not given yet.
-    Reported,
+    Unreported,
 }
 
 impl Inward {
@@ -198,7 +198,7 @@ impl Inward {
     {
         match self {
             Inward::Matched(matched) => matched == n,
-            Inward::Idle | Inward::Posted | Inward::Withdrawn | Inward::Reported => false,
+            Inward::Idle | Inward::Posted | Inward::Withdrawn | Inward::Unreported => false,
         }
     }
 

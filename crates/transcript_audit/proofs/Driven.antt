@@ -7,11 +7,10 @@ use Rattle.journal_text.specs.declared.last.Last.{Last}
 use Rattle.journal_text.specs.declared.last.ScriptNote.{ScriptNote}
 use Rattle.kernel_world.specs.declared.entry.Placed.{Placed}
 use Rattle.lynx_plan.specs.declared.script.ScriptLine.{ScriptLine}
-use Rattle.replay_law.proofs.Lawful.{replay-is-lawful}
-use Rattle.replay_lines.specs.Replay.{IsReplay}
 use Rattle.script_law.proofs.Performed.{performance-is-replayed}
 use Rattle.script_run.specs.Performing.{IsPerformance}
 use Rattle.transcript_audit.specs.Audit.{IsAudited}
+use Rattle.transcript_law.proofs.Lawful.{replay-is-lawful}
 use Rattle.transcript_reader.proofs.Agree.{shown_kinds, whole_lines}
 use Rattle.transcript_reader.proofs.Told.{lines_text}
 use Rattle.transcript_reader.specs.Text.{numbered}
@@ -19,6 +18,7 @@ use Rattle.transcript_reading.proofs.Order.{in_order}
 use Rattle.transcript_reading.proofs.Wholes.{IsReadWhole, shown_again}
 use Rattle.transcript_reading.specs.Kinds.{transcript_kinds}
 use Rattle.transcript_reading.specs.declared.line.LineKind.{LineKind}
+use Rattle.transcript_replay.specs.Replay.{IsReplay}
 
 pub driven-is-audited : (bytes : List ℕ) (s : Setting) (lines : List ScriptLine) (merged : List Placed) (notes : List ScriptNote) (last : Last)
     → IsValid s → IsPerformance s lines merged notes last → IsTranscript bytes s merged notes last → IsAudited bytes last

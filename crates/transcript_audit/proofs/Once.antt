@@ -6,7 +6,6 @@ use Rattle.journal_text.specs.declared.last.Last.{Last}
 use Rattle.journal_text.specs.declared.last.Last.TheVariants.{Quiet}
 use Rattle.kernel_journal.specs.Faults.{IsFirstDifference, IsReplayOf, kinds_in}
 use Rattle.kernel_journal.proofs.Replays.{differing-none}
-use Rattle.replay_lines.specs.Replay.{IsReplay}
 use Rattle.transcript_audit.specs.Audit.{IsAudited, IsDifferent, IsRejected, Bad, Different}
 use Rattle.transcript_reader.specs.Lines.{lines_read}
 use Rattle.transcript_reader.specs.Text.{AreLines, IsBadLine}
@@ -15,6 +14,7 @@ use Rattle.transcript_reader.proofs.Texts.{bad_only, lines_only}
 use Rattle.transcript_reading.specs.Kinds.{entry_kinds, process_kinds, wire_kinds}
 use Rattle.transcript_reading.specs.declared.line.LineKind.{LineKind}
 use Rattle.transcript_reading.specs.declared.line.LineKind.TheVariants as kind
+use Rattle.transcript_replay.specs.Replay.{IsReplay}
 
 both-ok : (r : Result (List Line) ℕ) (x y : List Line) → r ≡ Ok x → r ≡ Ok y → x ≡ y
 both-ok r x y a b = cc

@@ -8,10 +8,10 @@ use Rattle.kernel_journal.specs.declared.fault.ReplayFault.{ReplayFault}
 use Rattle.kernel_journal.specs.declared.fault.ReplayFault.TheVariants as replay
 use Rattle.kernel_journal.specs.declared.lines.Replay.{Replay}
 use Rattle.kernel_journal.proofs.Replays.{ended-replay}
-use Rattle.replay_law.proofs.Lawful.{replay-is-lawful}
 use Rattle.transcript_audit.specs.Audit.{AreRest, DiffersBehind, HasHalted, HasReadAll, IsAudited, IsBadRest, IsDifferent, IsFaultOf, IsHaltBehind, IsRejected, Bad, Different, fault_of_lines, halt_of_lines, halt_of_replay}
 use Rattle.transcript_audit.specs.declared.halt.Halt.{Halt}
 use Rattle.transcript_audit.specs.declared.halt.Halt.TheVariants as halt
+use Rattle.transcript_law.proofs.Lawful.{replay-is-lawful}
 use Rattle.transcript_reader.specs.Lines.{GivesNext, Unread, lines_left, lines_read, next_line, unread, with_all, with_first}
 use Rattle.transcript_reader.specs.Text.{AreLines}
 use Rattle.transcript_reader.specs.declared.fault.LineFault.{LineFault}

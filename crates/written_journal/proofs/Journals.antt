@@ -1,78 +1,139 @@
 -- One journal: what is begun, and what is noted.
-use Rattle.std.proofs.Common.{◌≡◌, ℕ, ◌+◌, List, [], ◌∷◌, ◌++◌, Option, None, Some, All, IfSome, drop, length, map, take, append-nil, ap, sym, subst, ◌∙◌, arith}
-use Rattle.std.proofs.lemmas.List.{map-append}
+use Rattle.std.proofs.Common.{◌≡◌, inl, inr, ℕ, ◌+◌, ◌^◌, ◌<◌, ◌≤◌, List, [], ◌∷◌, ◌++◌, Option, None, Some, All, IfSome, length, map, take, get_or, ap, sym, subst, ◌∙◌, refl, arith, length-append}
+use Rattle.std.proofs.lemmas.Bool.Decides.{leb_tells}
+use Rattle.std.proofs.lemmas.List.{get_or-take, length-take-le, take_all}
 use Rattle.std.proofs.lemmas.List.Elements.{All-push}
 use Rattle.charlotte_calls.specs.Ranges.{IsU64, IsStepInRange}
-use Rattle.kernel_world.specs.Ranges.{IsEntryInRange, IsHappenedInRange}
 use Rattle.charlotte_calls.specs.declared.calls.ServiceStep.{ServiceStep}
-use Rattle.journal_text.specs.Journal.{IsAfterLast}
-use Rattle.journal_text.proofs.Rising.{AreRising-push}
+use Rattle.journal_text.specs.Journal.{AreRising, IsAfterLast}
+use Rattle.journal_text.proofs.Rising.{AreRising-push, AreRising-take}
+use Rattle.kernel_world.specs.Ranges.{IsEntryInRange, IsHappenedInRange}
 use Rattle.kernel_world.specs.declared.entry.Entry.{Entry}
 use Rattle.kernel_world.specs.declared.entry.Happened.{Happened}
-use Rattle.written_journal.specs.Kept.{Happenings, IsWritten, begun_text, event_of, happenings}
-use Rattle.written_journal.specs.Lines.{happened_line, kept_lines, lines_of, step_lines, text_of}
+use Rattle.written_journal.specs.Kept.{AreKept, AreLines, HasSame, Happenings, IsStored, begun_lines, begun_sender, event_of, happenings, sender_of}
+use Rattle.written_journal.specs.Lines.{happened_line, step_lines}
 use Rattle.written_journal.specs.Noted.{done}
-use Rattle.written_journal.specs.Packed.{kept_text, line_note}
 use Rattle.written_journal.specs.Told.{Told, nothing_told}
+use Rattle.written_journal.specs.declared.kept_lines.KeptLines.{KeptLines}
 use Rattle.written_journal.specs.declared.written.Event.{Event}
 use Rattle.written_journal.specs.declared.written.Written.{Written}
-use Rattle.written_journal.proofs.Texts.{IsCut, cut-at, lines_of-nil, lines_of-push, text_of-nil, text_of-push}
+use Rattle.written_journal.proofs.Events.{appended, nothing-kept, same-kept}
 
 -- nothing is written
-pub start-written : (w : Written) (t : Told) → w.text.items ≡ [] → w.notes.items ≡ [] → w.events.items ≡ [] → t ≡ nothing_told → IsWritten w 0 t
-start-written w t text notes events is =
-    subst (λ (x : Told). IsWritten w 0 x) (sym is)
+pub start-stored : (w : Written) (b : KeptLines) (t : Told) → AreKept w [] → AreLines b [] → t ≡ nothing_told → IsStored w b None t
+start-stored w b t kept begun is =
+    subst (λ (x : Told). IsStored w b None x) (sym is)
     (record {
-      kept = record {
-        text = text ∙ sym (ap (λ x. x ++ []) text_of-nil);
-        notes = notes ∙ sym (ap (map line_note) lines_of-nil);
-        events_are = events;
-      };
-      up_to = sym (ap length text_of-nil);
+      kept = kept;
+      line = begun;
+      sender = refl;
       rising = tt;
-      in_range = λ k d lt. absurd (omega arith);
+      in_range = λ k d lt. absurd (omega (arith, lt));
       begun_in_range = tt;
+      few = omega arith;
     })
 
--- what was begun is noted
-pub written-noted : (old new : Written) (whole : ℕ) (t : Told) (what : Happened) (stamp : ℕ) (steps : List ServiceStep) → IsWritten old whole t → t.begun ≡ Some what → IsAfterLast t.entries stamp → IsU64 stamp → All IsStepInRange steps → new.text.items ≡ take whole old.text.items ++ kept_text (drop whole old.text.items ∷ step_lines steps) → new.notes.items ≡ old.notes.items ++ map line_note (drop whole old.text.items ∷ step_lines steps) → new.events.items ≡ old.events.items ++ record { stamp = stamp; lines = length steps + 1 } ∷ [] → IsWritten new (length new.text.items) (record t { entries = t.entries ++ record { stamp = stamp; what = what; steps = steps } ∷ []; begun = None })
-written-noted old new whole t what stamp steps is begun after early steps_in_range text notes events =
+-- the same text
+pub same-stored : (old new : Written) (b : KeptLines) (from : Option ℕ) (t : Told) → HasSame old new → IsStored old b from t → IsStored new b from t
+same-stored old new b from t same is =
     record {
-      kept = record {
-        text = now ∙ sym (append-nil (text_of all));
-        notes = notes ∙ ap (λ d. old.notes.items ++ map line_note (d ∷ step_lines steps)) at.behind ∙ ap (λ ns. ns ++ map line_note (kept_lines e)) is.kept.notes
-            ∙ sym (map-append line_note (lines_of t.entries) (kept_lines e)) ∙ ap (map line_note) (sym (lines_of-push t.entries e));
-        events_are = events ∙ ap (λ (es : List Event). es ++ event_of e ∷ []) is.kept.events_are ∙ sym (map-append event_of t.entries (e ∷ []));
-      };
-      up_to = ap length now;
+      kept = same-kept old new t.entries same is.kept;
+      line = is.line;
+      sender = is.sender;
+      rising = is.rising;
+      in_range = is.in_range;
+      begun_in_range = is.begun_in_range;
+      few = is.few;
+    }
+
+-- nothing is begun
+pub forgotten : (w : Written) (b0 b : KeptLines) (from : Option ℕ) (t : Told) → IsStored w b0 from t → AreLines b [] → IsStored w b None (record t { begun = None })
+forgotten w b0 b from t is begun =
+    record {
+      kept = is.kept;
+      line = begun;
+      sender = refl;
+      rising = is.rising;
+      in_range = is.in_range;
+      begun_in_range = tt;
+      few = omega (arith, is.few);
+    }
+
+-- something is begun, where there is room for one entry more
+pub begun-stored : (w : Written) (b0 b : KeptLines) (from0 from : Option ℕ) (t : Told) (what : Happened) → IsStored w b0 from0 t → length w.events.items < 2 ^ 32 - 1 → AreLines b (happened_line what ∷ []) → from ≡ sender_of what → IsHappenedInRange what → IsStored w b from (record t { begun = Some what })
+begun-stored w b0 b from0 from t what is room begun sender in_range =
+    record {
+      kept = is.kept;
+      line = begun;
+      sender = sender;
+      rising = is.rising;
+      in_range = is.in_range;
+      begun_in_range = in_range;
+      few = omega (arith, room, is.kept.long);
+    }
+
+-- what was begun is noted
+noted-stored : (old new : Written) (b b1 steps : KeptLines) (from : Option ℕ) (t : Told) (what : Happened) (stamp : ℕ) (ss : List ServiceStep) → IsStored old b from t → t.begun ≡ Some what → IsAfterLast t.entries stamp → IsU64 stamp → All IsStepInRange ss → AreKept new (t.entries ++ record { stamp = stamp; what = what; steps = ss } ∷ []) → AreLines b1 [] → IsStored new b1 None (record t { entries = t.entries ++ record { stamp = stamp; what = what; steps = ss } ∷ []; begun = None })
+noted-stored old new b b1 steps from t what stamp ss is begun after early steps_in_range kept none =
+    record {
+      kept = kept;
+      line = none;
+      sender = refl;
       rising = AreRising-push t.entries e is.rising after;
       in_range = All-push IsEntryInRange t.entries e is.in_range (record { stamp = early; what = subst (λ b. IfSome b IsHappenedInRange) begun is.begun_in_range; steps = steps_in_range });
       begun_in_range = tt;
+      few = omega (arith, is.few, ap (λ x. length (begun_lines x)) begun, length-append t.entries (e ∷ []));
     }
   where
     e : Entry
-    e = record { stamp = stamp; what = what; steps = steps }
+    e = record { stamp = stamp; what = what; steps = ss }
 
-    all : List Entry
-    all = t.entries ++ e ∷ []
-
-    before : old.text.items ≡ text_of t.entries ++ happened_line what
-    before = is.kept.text ∙ ap (λ b. text_of t.entries ++ begun_text b) begun
-
-    at : IsCut old.text.items (text_of t.entries) (happened_line what) whole
-    at = cut-at old.text.items (text_of t.entries) (happened_line what) whole before is.up_to
-
-    now : new.text.items ≡ text_of all
-    now = text ∙ ap (λ d. take whole old.text.items ++ kept_text (d ∷ step_lines steps)) at.behind ∙ ap (λ b. b ++ kept_text (kept_lines e)) at.before ∙ sym (text_of-push t.entries e)
-
--- the same, by what a history was told
-pub noted-told : (old new : Written) (whole now : ℕ) (t later : Told) (value : Happenings) (stamp : ℕ) (steps : List ServiceStep) → IsWritten old whole t → happenings t ≡ value → (what : Happened) × (value.begun ≡ Some what) → IsAfterLast value.entries stamp → IsU64 stamp → All IsStepInRange steps → new.text.items ≡ take whole old.text.items ++ kept_text (drop whole old.text.items ∷ step_lines steps) → new.notes.items ≡ old.notes.items ++ map line_note (drop whole old.text.items ∷ step_lines steps) → new.events.items ≡ old.events.items ++ record { stamp = stamp; lines = length steps + 1 } ∷ [] → now ≡ length new.text.items → later ≡ record t { entries = t.entries ++ done t.begun stamp steps; begun = None } → IsWritten new now later
-noted-told old new whole now t later value stamp steps is view begun after early steps_in_range text notes events at told =
-    subst (λ (n : ℕ). IsWritten new n later) (sym at) (subst (λ (x : Told). IsWritten new (length new.text.items) x) (sym same)
-    (written-noted old new whole t begun.0 stamp steps is what (subst (λ es. IsAfterLast es stamp) (sym (ap (λ (v : Happenings). v.entries) view)) after) early steps_in_range text notes events))
+-- the same, by what was told
+pub noted-told : (old new : Written) (b b1 steps : KeptLines) (from : Option ℕ) (t later : Told) (value : Happenings) (stamp : ℕ) (ss : List ServiceStep) → IsStored old b from t → happenings t ≡ value → (what : Happened) × (value.begun ≡ Some what) → IsAfterLast value.entries stamp → IsU64 stamp → All IsStepInRange ss → AreLines steps (step_lines ss) → new.text.items ≡ old.text.items ++ (b.text.items ++ steps.text.items) → new.notes.items ≡ old.notes.items ++ (b.notes.items ++ steps.notes.items) → new.events.items ≡ old.events.items ++ record { stamp = stamp; from = from; lines = length b.notes.items + length steps.notes.items; lines_before = length old.notes.items; bytes_before = length old.text.items } ∷ [] → AreLines b1 [] → later ≡ record t { entries = t.entries ++ done t.begun stamp ss; begun = None } → IsStored new b1 None later
+noted-told old new b b1 steps from t later value stamp ss is view begun after early steps_in_range lines text notes events none told =
+    subst (λ (x : Told). IsStored new b1 None x) (sym same)
+    (noted-stored old new b b1 steps from t begun.0 stamp ss is what (subst (λ es. IsAfterLast es stamp) (sym (ap (λ (v : Happenings). v.entries) view)) after) early steps_in_range kept none)
   where
     what : t.begun ≡ Some begun.0
     what = ap (λ (v : Happenings). v.begun) view ∙ begun.1
 
-    same : later ≡ record t { entries = t.entries ++ record { stamp = stamp; what = begun.0; steps = steps } ∷ []; begun = None }
-    same = told ∙ ap (λ (b : Option Happened). record t { entries = t.entries ++ done b stamp steps; begun = None }) what
+    e : Entry
+    e = record { stamp = stamp; what = begun.0; steps = ss }
+
+    first : AreLines b (happened_line begun.0 ∷ [])
+    first = subst (λ (h : Option Happened). AreLines b (begun_lines h)) what is.line
+
+    kept : AreKept new (t.entries ++ e ∷ [])
+    kept = appended old new b steps from t.entries e is.kept first lines (is.sender ∙ ap begun_sender what) text notes events
+
+    same : later ≡ record t { entries = t.entries ++ e ∷ []; begun = None }
+    same = told ∙ ap (λ (o : Option Happened). record t { entries = t.entries ++ done o stamp ss; begun = None }) what
+
+-- the first entries
+All-take : (P : Entry → Type 0) (es : List Entry) (n : ℕ) → All P es → All P (take n es)
+All-take P es n all =
+    elim (leb_tells (length es) n) [
+      | inl w ↦ subst (All P) (sym (take_all n es w.1)) all
+      | inr w ↦ λ k d below.
+          let first : k < n = omega (arith, below, length-take-le n es (omega (arith, w.1))) in
+          subst P (sym (get_or-take n es k d first)) (all k d (omega (arith, first, w.1)))
+    ]
+
+length-take_at_most : (es : List Entry) (n : ℕ) → length (take n es) ≤ length es
+length-take_at_most es n =
+    elim (leb_tells (length es) n) [
+      | inl w ↦ omega (arith, ap length (take_all n es w.1))
+      | inr w ↦ omega (arith, length-take-le n es (omega (arith, w.1)), w.1)
+    ]
+
+pub cut-stored : (old new : Written) (b0 b : KeptLines) (from : Option ℕ) (t : Told) (n : ℕ) → IsStored old b0 from t → AreKept new (take n t.entries) → AreLines b [] → IsStored new b None (record t { entries = take n t.entries; begun = None })
+cut-stored old new b0 b from t n is kept begun =
+    record {
+      kept = kept;
+      line = begun;
+      sender = refl;
+      rising = AreRising-take t.entries n is.rising;
+      in_range = All-take IsEntryInRange t.entries n is.in_range;
+      begun_in_range = tt;
+      few = omega (arith, is.few, length-take_at_most t.entries n);
+    }

@@ -2,7 +2,10 @@ pub mod Walks
 pub mod Packed
 pub mod Texts
 pub mod Journals
+pub mod Events
+pub mod Late
 pub mod Kept
 pub mod Merges
 pub mod Given
 pub mod InOrder
+pub mod Alone

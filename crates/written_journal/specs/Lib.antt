@@ -3,6 +3,8 @@ pub mod Noted
 pub mod Packed
 pub mod Lines
 pub mod Kept
+pub mod Late
 pub mod Merging
 pub mod Given
+pub mod Alone
 pub mod Left

@@ -8,7 +8,7 @@ use Rattle.kernel_world.specs.declared.entry.Happened.{Happened}
 use Rattle.kernel_world.specs.declared.entry.Happened.TheVariants as happened
 use Rattle.written_journal.specs.Told.{Told}
 use Rattle.written_journal.specs.declared.history.Note.{Note}
-use Rattle.written_journal.specs.declared.history.Note.TheVariants.{Asked, Took, Done, Next, Taken}
+use Rattle.written_journal.specs.declared.history.Note.TheVariants.{Asked, Took, Done, Forgotten, Cut, One, Begun, Next, Taken}
 
 -- the entry of what was begun, if anything was
 abbrev pub done : Option Happened → ℕ → List ServiceStep → List Entry
@@ -23,5 +23,9 @@ abbrev pub noted : Told → Note → Told
 noted t (Asked p call) = record t { begun = Some (happened.Asked p call.now) }
 noted t (Took from packet) = record t { begun = Some (happened.Took from (packet_picture packet.now)) }
 noted t (Done stamp steps) = record t { entries = t.entries ++ done t.begun stamp steps.now; begun = None }
+noted t Forgotten = record t { begun = None }
+noted t (Cut length) = record t { entries = take length t.entries; begun = None }
+noted t (One history number) = record t { entries = numbered number history.now.told.entries }
+noted t (Begun history) = record t { begun = history.now.told.begun }
 noted t (Next kernel history number) = record t { placed = t.placed ++ map (placed_at kernel) (numbered number history.now.told.entries) }
 noted t Taken = record t { placed = drop 1 t.placed }

@@ -24,6 +24,14 @@ pub(crate) enum Note<'a> {
     Took(u8, &'a Packet),
     // What was begun got this stamp, and means these steps.
     Done(u64, &'a [ServiceStep]),
+    // What was begun is forgotten.
+    Forgotten,
+    // What was begun is forgotten, and of the entries the first are kept, so many of them.
+    Cut(usize),
+    // The entries are the one of this number of another history.
+    One(&'a History, usize),
+    // What another history has begun is begun.
+    Begun(&'a History),
     // The event of this number at a kernel comes next in the order of all.
     Next(u8, &'a History, usize),
     // The first event in the order of all is taken out.

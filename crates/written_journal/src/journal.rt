@@ -1,128 +1,167 @@
-ghost use Rattle.std.specs.Prelude.{◌≡◌, [], ◌∷◌, ◌++◌, Some, All, OnOk};
+ghost use Rattle.std.specs.Prelude.{◌≡◌, [], ◌∷◌, ◌++◌, ◌<◌, ◌≤◌, Some, None, All, IfOk, OnOk, OnErr, length, slice_get, take};
 ghost use Rattle.charlotte_calls.specs.Packets.{packet_picture};
 ghost use Rattle.journal_text.specs.Journal.{IsAfterLast};
 ghost use Rattle.kernel_world.specs.Ranges.{IsEntryInRange};
 ghost use Rattle.kernel_world.specs.declared.entry.Happened.{Happened};
 ghost use Rattle.kernel_world.specs.declared.entry.Happened.TheVariants.{Asked, Took};
-ghost use Rattle.written_journal.specs.Lines.{happened_line};
+ghost use Rattle.written_journal.specs.Late.{IsLate, with_late};
 
-use crate::history::{History, Note};
-use crate::written::Written;
+use crate::EntryLines;
+use crate::stored::Stored;
 use charlotte_calls::{Call, NoMemory, Packet, Pid, ServiceStep};
-use journal_text::{push_asked, push_took};
-use kernel_world::{tell_call, tell_packet, tell_pid, tell_steps, tell_u8, tell_u64};
 use std::alloc::Global;
 use std::marker::Model;
+
+/// What was noted of an event, while its steps are kept by value.
+#[derive(Drop)]
+pub(crate) struct Late {
+    stamp: u64,
+    steps: Vec<ServiceStep>,
+}
 
 /// The entries of one kernel, in the order of its events, as their text. Their stamps rise. Contracts see the entries, and what was begun.
 ///
 /// What happens is written before it happens, when its stamp is not known: `asked` or `took` begins, and `note` tells the stamp and the
-/// steps. What was begun and is not noted is forgotten at the next beginning. After want of memory a journal has no entries.
+/// steps. What was begun and is not noted is forgotten at the next beginning. After want of memory a journal has the entries that it had.
+/// A journal has at most 4,294,967,295 entries; of a further one `asked` and `took` answer want of memory.
 #[derive(Drop)]
 pub struct WrittenJournal {
-    pub(crate) written: Written,
-    /// Where the text of the entries ends. Behind it stands that of what is begun.
-    pub(crate) whole: usize,
-    pub(crate) history: History,
+    stored: Stored,
+    /// What was noted of what the text begins. It is there where memory was wanting.
+    late: Option<Late>,
 }
 
 impl Model for WrittenJournal {
-    ghost use Rattle.written_journal.specs.Kept.{Happenings, happenings, IsWritten};
+    ghost use Rattle.written_journal.specs.Kept.{Happenings};
+    ghost use Rattle.written_journal.specs.Late.{IsLate, with_late};
 
     ghost Value = { Happenings };
 
-    ghost view = { λ j. happenings j.history.told };
+    ghost view = { λ j. with_late j.stored j.late };
 
-    ghost invariant = { λ j. IsWritten j.written j.whole j.history.told };
+    ghost invariant = { λ j. IsLate j.stored j.late };
 }
 
 impl WrittenJournal {
     /// A journal without entries.
     pub fn start(alloc: Global) -> WrittenJournal
-        ensures { result.entries ≡ [] }
+        ensures entries { result.entries ≡ [] }
+        ensures begun { result.begun ≡ None }
     {
         WrittenJournal {
-            written: Written::nothing(alloc),
-            whole: 0,
-            history: History::new(),
+            stored: Stored::start(alloc),
+            late: None,
         }
     }
 
     /// Begins with the call of a process.
     pub fn asked(&mut self, p: Pid, call: &Call) -> Result<(), NoMemory>
-        ensures entries { OnOk result (self.new.entries ≡ self.old.entries) }
+        ensures entries { self.new.entries ≡ self.old.entries }
         ensures begun { OnOk result (self.new.begun ≡ Some (Asked p call.now)) }
+        ensures forgotten { OnErr result (self.new.begun ≡ None) }
     {
-        tell_pid(p);
-        tell_call(call);
-        self.written.text.truncate(self.whole);
-        match write_asked(&mut self.written.text, p, call) {
-            Ok(()) => {
-                self.history = self.history.then(&Note::Asked(p, call));
-                Ok(())
-            }
-            Err(NoMemory) => {
-                *self = WrittenJournal::start(*self.written.text.allocator());
-                Err(NoMemory)
-            }
-        }
+        store(&mut self.stored, &mut self.late)?;
+        self.stored.asked(p, call)
     }
 
     /// Begins with the taking of a packet that a kernel sent.
     pub fn took(&mut self, from: u8, packet: &Packet) -> Result<(), NoMemory>
-        ensures entries { OnOk result (self.new.entries ≡ self.old.entries) }
+        ensures entries { self.new.entries ≡ self.old.entries }
         ensures begun { OnOk result (self.new.begun ≡ Some (Took from (packet_picture packet.now))) }
+        ensures forgotten { OnErr result (self.new.begun ≡ None) }
     {
-        tell_u8(from);
-        tell_packet(packet);
-        self.written.text.truncate(self.whole);
-        match write_took(&mut self.written.text, from, packet) {
-            Ok(()) => {
-                self.history = self.history.then(&Note::Took(from, packet));
-                Ok(())
-            }
-            Err(NoMemory) => {
-                *self = WrittenJournal::start(*self.written.text.allocator());
-                Err(NoMemory)
-            }
-        }
+        store(&mut self.stored, &mut self.late)?;
+        self.stored.took(from, packet)
     }
 
-    /// Notes the stamp of what was begun, which has to be greater than the last, and the steps that it means.
-    pub fn note(&mut self, stamp: u64, steps: &[ServiceStep]) -> Result<(), NoMemory>
+    /// Notes the stamp of what was begun, which has to be greater than the last, and the steps that it means. This always succeeds: where memory is
+    /// wanting the steps are kept as they are, and the next beginning or merge stores them first. The list comes back empty, for the next
+    /// event to fill; where it is kept, another one comes.
+    pub fn note(&mut self, stamp: u64, steps: Vec<ServiceStep>) -> Vec<ServiceStep>
         requires begun { (what : Happened) × (self.old.begun ≡ Some what) }
         requires after_last { IsAfterLast self.old.entries stamp }
-        ensures entries { OnOk result ((what : Happened) → self.old.begun ≡ Some what → self.new.entries ≡ self.old.entries ++ record { stamp = stamp; what = what; steps = steps.now } ∷ []) }
+        ensures entries { (what : Happened) → self.old.begun ≡ Some what → self.new.entries ≡ self.old.entries ++ record { stamp = stamp; what = what; steps = steps.items } ∷ [] }
+        ensures begun { self.new.begun ≡ None }
         ensures in_range { All IsEntryInRange self.new.entries }
+        ensures emptied { result.items ≡ [] }
     {
-        tell_u64(stamp);
-        tell_steps(steps);
-        match self.written.close(self.whole, stamp, steps) {
+        let mut steps = steps;
+        match self.stored.note(stamp, steps.as_slice()) {
             Ok(()) => {
-                self.whole = self.written.text.len();
-                self.history = self.history.then(&Note::Done(stamp, steps));
-                Ok(())
+                steps.clear();
+                steps
             }
             Err(NoMemory) => {
-                *self = WrittenJournal::start(*self.written.text.allocator());
-                Err(NoMemory)
+                let empty = Vec::new(*steps.allocator());
+                self.late = Some(Late { stamp, steps });
+                empty
             }
         }
     }
+
+    /// How many entries there are.
+    pub fn len(&self) -> u32
+        ensures { result ≡ length self.now.entries }
+    {
+        match &self.late {
+            Some(_) => self.stored.len() + 1,
+            None => self.stored.len(),
+        }
+    }
+
+    /// Keeps the first entries, so many of them, and forgets what was begun.
+    pub fn cut(&mut self, first: u32)
+        requires { first ≤ length self.old.entries }
+        ensures entries { self.new.entries ≡ take first self.old.entries }
+        ensures begun { self.new.begun ≡ None }
+    {
+        if self.late.is_some() && self.stored.len() < first {
+            return;
+        }
+        self.late = None;
+        self.stored.cut(first);
+    }
+
+    /// A copy of the entry at a place, counted from 0. It is found in constant time.
+    pub fn entry(&self, place: u32) -> Result<EntryLines, NoMemory>
+        requires { place < length self.now.entries }
+        ensures { IfOk result (λ entry. slice_get self.now.entries place ≡ Some entry) }
+    {
+        match &self.late {
+            Some(late) if self.stored.len() == place => {
+                let mut alone = self.stored.begun_alone()?;
+                alone.note(late.stamp, late.steps.as_slice())?;
+                Ok(EntryLines::of(alone))
+            }
+            _ => Ok(EntryLines::of(self.stored.one(place)?)),
+        }
+    }
+
+    /// The same entries, all stored as text.
+    pub(crate) fn into_stored(self) -> Result<Stored, NoMemory>
+        ensures { IfOk result (λ stored. stored ≡ self) }
+    {
+        let WrittenJournal {
+            mut stored,
+            mut late,
+        } = self;
+        store(&mut stored, &mut late)?;
+        Ok(stored)
+    }
 }
 
-fn write_asked(text: &mut Vec<u8>, p: Pid, call: &Call) -> Result<(), NoMemory>
-    ensures { OnOk result (text.new.items ≡ text.old.items ++ happened_line (Asked p call.now)) }
+/// Stores what was noted and is kept by value, if anything is. After want of memory all is as before.
+#[inline(always)]
+fn store(stored: &mut Stored, late: &mut Option<Late>) -> Result<(), NoMemory>
+    requires { IsLate stored.old late.old }
+    ensures stored { OnOk result (stored.new ≡ with_late stored.old late.old) }
+    ensures none { OnOk result (late.new ≡ None) }
+    ensures same { OnErr result (stored.new ≡ stored.old) }
+    ensures late_same { OnErr result (late.new ≡ late.old) }
 {
-    push_asked(text, p, call)?;
-    text.push(b'\n')?;
-    Ok(())
-}
-
-fn write_took(text: &mut Vec<u8>, from: u8, packet: &Packet) -> Result<(), NoMemory>
-    ensures { OnOk result (text.new.items ≡ text.old.items ++ happened_line (Took from (packet_picture packet.now))) }
-{
-    push_took(text, from, packet)?;
-    text.push(b'\n')?;
+    if let Some(noted) = late {
+        stored.note(noted.stamp, noted.steps.as_slice())?;
+        *late = None;
+    }
     Ok(())
 }

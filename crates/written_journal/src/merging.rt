@@ -5,8 +5,8 @@ ghost use Rattle.kernel_world.specs.Run.{IsMerge};
 ghost use Rattle.kernel_world.specs.declared.entry.Entry.{Entry};
 ghost use Rattle.written_journal.specs.Merging.{journals_of};
 
-use crate::WrittenJournal;
 use crate::order::Order;
+use crate::stored::Stored;
 use charlotte_calls::NoMemory;
 use journal_text::{Head, earlier};
 use std::alloc::Global;
@@ -15,7 +15,7 @@ use std::marker::Model;
 /// The events of a kernel that are not placed yet. Contracts see their entries.
 #[derive(Drop)]
 pub(crate) struct Queue<'a> {
-    journal: &'a WrittenJournal,
+    journal: &'a Stored,
     /// How many events are placed.
     placed: usize,
     /// The stamp of the next.
@@ -36,7 +36,7 @@ impl<'a> Model for Queue<'a> {
 
 impl<'a> Queue<'a> {
     /// All events of a journal.
-    fn of(journal: &'a WrittenJournal) -> Queue<'a>
+    fn of(journal: &'a Stored) -> Queue<'a>
         ensures same { result ≡ journal.now.entries }
         ensures rising { AreRising journal.now.entries }
     {
@@ -67,7 +67,7 @@ impl<'a> Queue<'a> {
 }
 
 /// The order of the events of at most eight journals, one for each kernel in order: by stamp and kernel.
-pub(crate) fn order_of(alloc: Global, journals: &[WrittenJournal]) -> Result<Order, NoMemory>
+pub(crate) fn order_of(alloc: Global, journals: &[Stored]) -> Result<Order, NoMemory>
     requires { length journals.now ≤ 8 }
     ensures { IfOk result (IsMerge (journals_of journals.now)) }
 {
@@ -80,7 +80,7 @@ pub(crate) fn order_of(alloc: Global, journals: &[WrittenJournal]) -> Result<Ord
 }
 
 /// How many events the journals have together.
-fn events_in(journals: &[WrittenJournal]) -> usize {
+fn events_in(journals: &[Stored]) -> usize {
     let mut events = 0usize;
     for journal in journals {
         events = events.saturating_add(journal.written.events.len());
@@ -89,7 +89,7 @@ fn events_in(journals: &[WrittenJournal]) -> usize {
 }
 
 /// The events of each kernel.
-fn queues_of<'a>(alloc: Global, journals: &'a [WrittenJournal]) -> Result<Vec<Queue<'a>>, NoMemory>
+fn queues_of<'a>(alloc: Global, journals: &'a [Stored]) -> Result<Vec<Queue<'a>>, NoMemory>
     ensures same { IfOk result (λ queues. queues.items ≡ journals_of journals.now) }
     ensures rising { IfOk result (λ queues. All AreRising queues.items) }
 {

@@ -2,8 +2,8 @@ ghost use Rattle.std.specs.Prelude.{◌≡◌, ◌∷◌, ◌++◌, [], IfOk, Li
 ghost use Rattle.journal_text.specs.Journal.{placed_at};
 ghost use Rattle.kernel_world.specs.declared.entry.Entry.{Entry};
 
-use crate::WrittenJournal;
 use crate::history::{History, Note};
+use crate::stored::Stored;
 use charlotte_calls::NoMemory;
 use std::alloc::Global;
 use std::collections::VecDeque;
@@ -42,7 +42,7 @@ impl Order {
     pub(crate) fn push(
         &mut self,
         kernel: u8,
-        journal: &WrittenJournal,
+        journal: &Stored,
         number: usize,
     ) -> Result<(), NoMemory>
         requires { (e : Entry) × (es : List Entry) × (drop number journal.now.entries ≡ e ∷ es) }

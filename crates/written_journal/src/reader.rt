@@ -1,4 +1,4 @@
-ghost use Rattle.std.specs.Prelude.{◌≡◌, ◌∷◌, [], IfOk, List, OnErr, OnOk};
+ghost use Rattle.std.specs.Prelude.{◌≡◌, ◌==◌, ◌∷◌, [], IfOk, List, OnErr, OnOk, length};
 ghost use Rattle.journal_text.specs.Journal.{placed_at};
 ghost use Rattle.journal_text.specs.Transcript.{entry_text, line};
 ghost use Rattle.kernel_world.specs.declared.entry.Entry.{Entry};
@@ -6,8 +6,8 @@ ghost use Rattle.written_journal.specs.Given.{all_of};
 ghost use Rattle.written_journal.specs.Left.{GivesFirst};
 ghost use Rattle.written_journal.specs.Lines.{step_lines};
 
-use crate::WrittenJournal;
 use crate::reading::push_line;
+use crate::stored::Stored;
 use charlotte_calls::NoMemory;
 use journal_text::push_head;
 use std::marker::Model;
@@ -27,7 +27,7 @@ pub(crate) struct Place {
 /// A journal whose lines are given one after the other. Contracts see what is left.
 #[derive(Drop)]
 pub(crate) struct Reader {
-    journal: WrittenJournal,
+    journal: Stored,
     place: Place,
 }
 
@@ -43,7 +43,7 @@ impl Model for Reader {
 
 impl Reader {
     /// No line is given.
-    pub(crate) fn of(journal: WrittenJournal) -> Reader
+    pub(crate) fn of(journal: Stored) -> Reader
         ensures { result ≡ all_of journal }
     {
         Reader {
@@ -76,6 +76,13 @@ impl Reader {
             bytes: self.place.bytes + line.bytes.len(),
         };
         Ok(true)
+    }
+
+    /// Whether the first line of each event is given.
+    pub(crate) fn is_at_end(&self) -> bool
+        ensures { result ≡ (length self.now.entries == 0) }
+    {
+        self.place.events >= self.journal.written.events.len()
     }
 
     /// Appends the first line of the next event, which is one of this kernel.

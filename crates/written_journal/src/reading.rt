@@ -7,7 +7,7 @@ ghost use Rattle.written_journal.specs.Kept.{event_of};
 ghost use Rattle.written_journal.specs.Lines.{lines_of};
 ghost use Rattle.written_journal.specs.Packed.{given, kept, kept_text};
 
-use crate::WrittenJournal;
+use crate::stored::Stored;
 use crate::unpack::push_unpacked;
 use crate::written::Event;
 use charlotte_calls::NoMemory;
@@ -19,7 +19,7 @@ pub(crate) struct KeptLine<'a> {
     pub(crate) packed: bool,
 }
 
-impl WrittenJournal {
+impl Stored {
     /// The stamp of the event of a number, if there is one.
     pub(crate) fn stamp(&self, number: usize) -> Option<u64>
         ensures same { result ≡ first_stamp (drop number self.now.entries) }
@@ -33,7 +33,7 @@ impl WrittenJournal {
     /// What stands of the event of a number.
     pub(crate) fn event(&self, number: usize) -> Event
         requires { (e : Entry) × (es : List Entry) × (drop number self.now.entries ≡ e ∷ es) }
-        ensures same { (e : Entry) (es : List Entry) → drop number self.now.entries ≡ e ∷ es → result ≡ event_of e }
+        ensures same { (e : Entry) (es : List Entry) → drop number self.now.entries ≡ e ∷ es → result ≡ event_of (take number self.now.entries) e }
         ensures within { number + 1 < 2 ^ 64 }
     {
         self.written.events[number]

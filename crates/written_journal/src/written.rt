@@ -1,42 +1,43 @@
-ghost use Rattle.std.specs.Prelude.{◌≡◌, ◌+◌, ◌*◌, ◌≤◌, ◌++◌, ◌∷◌, [], IfOk, OnOk, drop, if◌then◌else◌, length, map, slice_get, take};
-ghost use Rattle.written_journal.specs.Lines.{step_lines};
-ghost use Rattle.written_journal.specs.Packed.{kept, kept_text, line_note, packed};
+ghost use Rattle.std.specs.Prelude.{◌≡◌, ◌+◌, ◌<◌, ◌++◌, ◌∷◌, [], IfOk, OnErr, OnOk, List, length, slice_get, take};
+ghost use Rattle.kernel_world.specs.declared.entry.Entry.{Entry};
+ghost use Rattle.written_journal.specs.Kept.{AreKept, HasSame};
+ghost use Rattle.written_journal.specs.Lines.{text_of};
+ghost use Rattle.written_journal.specs.Noted.{numbered};
 
-use crate::pack::{is_packed, push_packed};
-use charlotte_calls::{NoMemory, ServiceStep};
-use journal_text::push_step_line;
+use crate::kept_lines::KeptLines;
+use charlotte_calls::NoMemory;
 use std::alloc::Global;
 
-/// What stands of an event beside its text.
+/// What stands of an event beside its lines.
 #[derive(Clone, Copy)]
 pub(crate) struct Event {
     pub(crate) stamp: u64,
+    /// The kernel from which a packet was taken, if one was.
+    pub(crate) from: Option<u8>,
     pub(crate) lines: u32,
+    /// How many lines stand before its own, and how many bytes these take as they are kept.
+    pub(crate) lines_before: usize,
+    pub(crate) bytes_before: usize,
 }
 
-/// Events in one text, some of whose lines are packed. The first line of each event has neither stamp nor kernel.
+/// Events in one text, some of whose lines are packed.
 #[derive(Drop)]
 pub(crate) struct Written {
     pub(crate) text: Vec<u8>,
-    /// Of each line twice how long it is as it is kept, and one more where it is packed. No value of the types has a line of more than 32,767 bytes.
+    /// What is noted of each line, as in `KeptLines`.
     pub(crate) notes: Vec<u16>,
     pub(crate) events: Vec<Event>,
-    /// A line while it is packed.
-    packed: Vec<u8>,
 }
 
 impl Written {
     /// No events.
     pub(crate) fn nothing(alloc: Global) -> Written
-        ensures text { result.text.items ≡ [] }
-        ensures notes { result.notes.items ≡ [] }
-        ensures events { result.events.items ≡ [] }
+        ensures { AreKept result [] }
     {
         Written {
             text: Vec::new(alloc),
             notes: Vec::new(alloc),
             events: Vec::new(alloc),
-            packed: Vec::new(alloc),
         }
     }
 
@@ -47,79 +48,112 @@ impl Written {
         self.events.get(number).copied()
     }
 
-    /// The event of what the text ends with, from this place on, has this stamp and means these steps.
-    pub(crate) fn close(
+    /// Appends an event: the line of what happened, and those of its steps. After want of memory the events are as before.
+    pub(crate) fn append(
         &mut self,
-        from: usize,
         stamp: u64,
-        steps: &[ServiceStep],
+        from: Option<u8>,
+        begun: &KeptLines,
+        steps: &KeptLines,
     ) -> Result<(), NoMemory>
-        requires { from ≤ length self.old.text.items }
-        ensures text { OnOk result (self.new.text.items ≡ take from self.old.text.items ++ kept_text (drop from self.old.text.items ∷ step_lines steps.now)) }
-        ensures notes { OnOk result (self.new.notes.items ≡ self.old.notes.items ++ map line_note (drop from self.old.text.items ∷ step_lines steps.now)) }
-        ensures events { OnOk result (self.new.events.items ≡ self.old.events.items ++ record { stamp = stamp; lines = length steps.now + 1 } ∷ []) }
+        ensures text { OnOk result (self.new.text.items ≡ self.old.text.items ++ begun.now.text.items ++ steps.now.text.items) }
+        ensures notes { OnOk result (self.new.notes.items ≡ self.old.notes.items ++ begun.now.notes.items ++ steps.now.notes.items) }
+        ensures events { OnOk result (self.new.events.items ≡ self.old.events.items ++ record {
+          stamp = stamp;
+          from = from;
+          lines = length begun.now.notes.items + length steps.now.notes.items;
+          lines_before = length self.old.notes.items;
+          bytes_before = length self.old.text.items;
+        } ∷ []) }
+        ensures same { OnErr result (HasSame self.old self.new) }
     {
+        let (bytes_before, lines_before) = (self.text.len(), self.notes.len());
+        let event = Event {
+            stamp,
+            from,
+            lines: in_four_bytes(begun.notes.len() + steps.notes.len())?,
+            lines_before,
+            bytes_before,
+        };
         self.make_room();
-        self.close_line(from)?;
-        self.push_steps(steps)?;
-        let lines = in_four_bytes(steps.len() + 1)?;
-        self.events.push(Event { stamp, lines })?;
+        match self.write(event, begun, steps) {
+            Ok(()) => Ok(()),
+            Err(NoMemory) => {
+                self.text.truncate(bytes_before);
+                self.notes.truncate(lines_before);
+                Err(NoMemory)
+            }
+        }
+    }
+
+    /// Writes an event behind the others. After want of memory some of its lines may stand there.
+    fn write(&mut self, event: Event, begun: &KeptLines, steps: &KeptLines) -> Result<(), NoMemory>
+        ensures text { OnOk result (self.new.text.items ≡ self.old.text.items ++ begun.now.text.items ++ steps.now.text.items) }
+        ensures notes { OnOk result (self.new.notes.items ≡ self.old.notes.items ++ begun.now.notes.items ++ steps.now.notes.items) }
+        ensures events { OnOk result (self.new.events.items ≡ self.old.events.items ++ event ∷ []) }
+        ensures text_before { OnErr result (take (length self.old.text.items) self.new.text.items ≡ self.old.text.items) }
+        ensures notes_before { OnErr result (take (length self.old.notes.items) self.new.notes.items ≡ self.old.notes.items) }
+        ensures events_before { OnErr result (self.new.events.items ≡ self.old.events.items) }
+    {
+        self.text.extend_from_slice(&begun.text)?;
+        self.text.extend_from_slice(&steps.text)?;
+        self.notes.extend_from_slice(&begun.notes)?;
+        self.notes.extend_from_slice(&steps.notes)?;
+        self.events.push(event)?;
         Ok(())
     }
 
     /// A long text gets so much room at once that it then grows in place. Where that is not there, it grows as it does.
     #[inline(always)]
     fn make_room(&mut self)
-        ensures text { self.new.text.items ≡ self.old.text.items }
-        ensures notes { self.new.notes.items ≡ self.old.notes.items }
-        ensures events { self.new.events.items ≡ self.old.events.items }
+        ensures { HasSame self.old self.new }
     {
         if self.text.len() > LONG && self.text.capacity() < ROOM {
             let _ = self.text.reserve(ROOM);
         }
     }
 
-    fn push_steps(&mut self, steps: &[ServiceStep]) -> Result<(), NoMemory>
-        ensures text { OnOk result (self.new.text.items ≡ self.old.text.items ++ kept_text (step_lines steps.now)) }
-        ensures notes { OnOk result (self.new.notes.items ≡ self.old.notes.items ++ map line_note (step_lines steps.now)) }
-        ensures events { OnOk result (self.new.events.items ≡ self.old.events.items) }
+    /// Keeps the first events, so many of them.
+    pub(crate) fn cut(&mut self, first: usize)
+        ensures { (es : List Entry) → AreKept self.old es → AreKept self.new (take first es) }
     {
-        for step in steps {
-            let from = self.text.len();
-            push_step_line(&mut self.text, step)?;
-            self.close_line(from)?;
+        if let Some(event) = self.event(first) {
+            self.text.truncate(event.bytes_before);
+            self.notes.truncate(event.lines_before);
+            self.events.truncate(first);
         }
-        Ok(())
     }
 
-    /// What the text ends with, from this place on, is a line.
-    #[inline(always)]
-    fn close_line(&mut self, from: usize) -> Result<(), NoMemory>
-        requires { from ≤ length self.old.text.items }
-        ensures text { OnOk result (self.new.text.items ≡ take from self.old.text.items ++ kept (drop from self.old.text.items)) }
-        ensures notes { OnOk result (self.new.notes.items ≡ self.old.notes.items ++ line_note (drop from self.old.text.items) ∷ []) }
-        ensures events { OnOk result (self.new.events.items ≡ self.old.events.items) }
+    /// The event of a number alone.
+    pub(crate) fn one(&self, number: usize) -> Result<Written, NoMemory>
+        requires { (es : List Entry) × AreKept self.now es × (number < length es) }
+        ensures { IfOk result (λ one. (es : List Entry) → AreKept self.now es → number < length es → AreKept one (numbered number es)) }
     {
-        let packed = is_packed(&self.text[from..]);
-        if packed {
-            self.pack(from)?;
-        }
-        push_note(&mut self.notes, self.text.len() - from, packed)
+        let alloc = *self.text.allocator();
+        let event = self.events[number];
+        let bytes = &self.text[event.bytes_before..self.bytes_upto(number)];
+        let notes = &self.notes[event.lines_before..event.lines_before + event.lines as usize];
+        let alone = Event {
+            lines_before: 0,
+            bytes_before: 0,
+            ..event
+        };
+        Ok(Written {
+            text: Vec::from_slice(alloc, bytes)?,
+            notes: Vec::from_slice(alloc, notes)?,
+            events: Vec::from_slice(alloc, &[alone])?,
+        })
     }
 
-    /// Packs what the text ends with, from this place on.
-    #[inline(never)]
-    fn pack(&mut self, from: usize) -> Result<(), NoMemory>
-        requires { from ≤ length self.old.text.items }
-        ensures text { OnOk result (self.new.text.items ≡ take from self.old.text.items ++ packed (drop from self.old.text.items)) }
-        ensures notes { self.new.notes.items ≡ self.old.notes.items }
-        ensures events { self.new.events.items ≡ self.old.events.items }
+    /// How many bytes the lines of the events up to this one take, this one's too.
+    fn bytes_upto(&self, number: usize) -> usize
+        requires { (es : List Entry) × AreKept self.now es × (number < length es) }
+        ensures { (es : List Entry) → AreKept self.now es → number < length es → result ≡ length (text_of (take (number + 1) es)) }
     {
-        self.packed.clear();
-        push_packed(&mut self.packed, &self.text[from..])?;
-        self.text.truncate(from);
-        self.text.extend_from_slice(self.packed.as_slice())?;
-        Ok(())
+        match self.event(number + 1) {
+            Some(next) => next.bytes_before,
+            None => self.text.len(),
+        }
     }
 }
 
@@ -128,20 +162,6 @@ const LONG: usize = 65_536;
 
 /// The room that a long text gets.
 const ROOM: usize = 2_097_152;
-
-/// Notes how long a line is as it is kept, and whether it is packed. There is no room for the length of one that is too long.
-#[inline(always)]
-fn push_note(notes: &mut Vec<u16>, length: usize, packed: bool) -> Result<(), NoMemory>
-    ensures { OnOk result (notes.new.items ≡ notes.old.items ++ (2 * length + (if packed then 1 else 0)) ∷ []) }
-{
-    match u16::try_from(length) {
-        Ok(length) if length < 32_768 => {
-            notes.push(2 * length + u16::from(packed))?;
-            Ok(())
-        }
-        _ => Err(NoMemory),
-    }
-}
 
 /// The same number. There is no room for one that is greater.
 fn in_four_bytes(number: usize) -> Result<u32, NoMemory>

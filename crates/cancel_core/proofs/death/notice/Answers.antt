@@ -6,4 +6,4 @@ notice_send-requires-clause-enclosed c =
     let are = rw c.here-living.ensures.view at c.requires.ready.enclosed in
     let apart = rw c.here-living.ensures.view at c.requires.ready.apart in
     let was = rw c.here-living.ensures.view at c.note_death-outward.ensures.was in
-    rw was (AreEnclosed-others _ _ c.args.on _ c.note_death-outward.ensures.others apart are)
+    rw was (AreEnclosed-others _ _ c.args.on _ c.note_death-outward.ensures.kept.others apart are)

@@ -10,7 +10,7 @@ pub hold_each-requires : goal.hold_each-requires
 hold_each-requires t c =
     let are : AreEnclosed (entries c.args.table.now) (c.in-Some.first ∷ c.in-Some.others.now) = AreEnclosed-first _ _ _ _ c.in-Some.ensures c.requires in
     let long : length c.args.ends.now ≡ length (c.in-Some.first ∷ c.in-Some.others.now) = ap length c.in-Some.ensures in
-    (omega (arith, long, c.decreases), AreEnclosed-others _ _ _ _ c.hold.ensures.others are.1 are.2)
+    (omega (arith, long, c.decreases), AreEnclosed-others _ _ _ _ c.hold.ensures.kept.others are.1 are.2)
 
 pub returns-in-Some-clause-part : goal.returns-in-Some-clause-part
 returns-in-Some-clause-part t c = λ out.

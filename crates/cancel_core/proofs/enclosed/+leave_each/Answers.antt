@@ -12,7 +12,7 @@ leave_each-requires t c =
     let are : AreEnclosed (entries c.args.table.now) (c.in-Some.first ∷ c.in-Some.others.now) = AreEnclosed-first _ _ _ _ e c.requires.enclosed in
     let long : length c.args.ends.now ≡ length (c.in-Some.first ∷ c.in-Some.others.now) = ap length e in
     let added : length c.add.new.self ≡ length (c.args.cargo.now ++ c.leave.result ∷ []) = ap length c.add.ensures in
-    (omega (arith, long, c.decreases), (AreEnclosed-others _ _ _ _ c.leave.ensures.others are.1 are.2, omega (arith, length-append c.args.cargo.now (c.leave.result ∷ []))))
+    (omega (arith, long, c.decreases), (AreEnclosed-others _ _ _ _ c.leave.ensures.kept.others are.1 are.2, omega (arith, length-append c.args.cargo.now (c.leave.result ∷ []))))
 
 pub returns-in-Some-clause-part : goal.returns-in-Some-clause-part
 returns-in-Some-clause-part t c = λ out.
@@ -22,8 +22,8 @@ pub returns-in-Some-clause-cargo : goal.returns-in-Some-clause-cargo
 returns-in-Some-clause-cargo t c =
     let are : AreEnclosed (entries c.args.table.now) (c.in-Some.first ∷ c.in-Some.others.now) = AreEnclosed-first _ _ _ _ c.in-Some.ensures c.requires.enclosed in
     c.leave_each.ensures.cargo
-    ∙ ap (λ k. c.add.new.self ++ values_leaving k (entries c.leave.new.table) c.in-Some.others.now) c.leave.ensures.kernel
-    ∙ values_leaving-more _ _ _ _ _ _ _ _ _ c.in-Some.ensures c.leave.ensures.value (values_leaving-others _ _ _ _ _ c.leave.ensures.others are.1) c.add.ensures
+    ∙ ap (λ k. c.add.new.self ++ values_leaving k (entries c.leave.new.table) c.in-Some.others.now) c.leave.ensures.kept.kernel
+    ∙ values_leaving-more _ _ _ _ _ _ _ _ _ c.in-Some.ensures c.leave.ensures.value (values_leaving-others _ _ _ _ _ c.leave.ensures.kept.others are.1) c.add.ensures
 
 pub returns-in-None-clause-part : goal.returns-in-None-clause-part
 unfolding leave_each

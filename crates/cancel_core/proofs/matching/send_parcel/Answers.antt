@@ -14,7 +14,7 @@ use Rattle.cancel_core.proofs.matching.send_parcel.Goals as goal
 
 pub leave_each-requires-clause-enclosed : goal.leave_each-requires-clause-enclosed
 leave_each-requires-clause-enclosed c =
-    rw c.as_slice.ensures.same (AreEnclosed-others _ _ c.args.on _ c.keep_sending.ensures.others c.requires.apart c.requires.enclosed)
+    rw c.as_slice.ensures.same (AreEnclosed-others _ _ c.args.on _ c.keep_sending.ensures.kept.others c.requires.apart c.requires.enclosed)
 
 pub returns-clause-part : goal.returns-clause-part
 returns-clause-part c =
@@ -23,7 +23,7 @@ returns-clause-part c =
     let values : c.leave_each.new.cargo ≡ values_leaving c.args.table.now.kernel (entries c.keep_sending.new.table) c.args.message.enclosed =
     c.leave_each.ensures.cargo
     ∙ ap (λ ms. ms ++ values_leaving c.keep_sending.new.table.kernel (entries c.keep_sending.new.table) c.as_slice.result.now) c.empty-moving.ensures
-    ∙ ap (λ k. values_leaving k (entries c.keep_sending.new.table) c.as_slice.result.now) c.keep_sending.ensures.kernel
+    ∙ ap (λ k. values_leaving k (entries c.keep_sending.new.table) c.as_slice.result.now) c.keep_sending.ensures.kept.kernel
     ∙ ap (λ xs. values_leaving c.args.table.now.kernel (entries c.keep_sending.new.table) xs) c.as_slice.ensures.same in
     let kept_is : HereView → Type 0 = λ v. (out : Work) → progress (entries c.keep_sending.new.table) out
     ≡ keeps c.args.on (Here (record v { value = record c.args.value { served = c.args.value.want; want = 0 }; outward = Matched c.args.message.n })) (progress (entries c.args.table.now) out) in

@@ -10,4 +10,4 @@ hold_each-requires c =
     let was = rw c.here-living.ensures.view at c.outward.ensures in
     let ends : c.as_slice.result.now ≡ enclosed_of c.here-living.result.now.outward =
     c.as_slice.ensures.same ∙ c.enclosed_ends-enclosed.ensures ∙ ap enclosed_of was in
-    rw ends (AreEnclosed-others _ _ c.args.on _ c.keep_sending.ensures.others apart are)
+    rw ends (AreEnclosed-others _ _ c.args.on _ c.keep_sending.ensures.kept.others apart are)

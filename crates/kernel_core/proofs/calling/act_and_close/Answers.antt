@@ -8,7 +8,8 @@ use Rattle.kernel_sound.specs.Acts.{made_after}
 use Rattle.kernel_sound.specs.Sound.{IsSound}
 use Rattle.std.proofs.Common.{length, ap, sym, subst, ◌∙◌, arith}
 use Rattle.kernel_core.proofs.Begun.{part-closes}
-use Rattle.kernel_event.specs.Room.{and_ends, room_of_call}
+use Rattle.kernel_event.specs.Room.{room_of_call}
+use Rattle.kernel_step.specs.Room.{and_ends}
 use Rattle.kernel_process.specs.Closing.{HaveSpareFor}
 use Rattle.kernel_process.specs.Steady.{TakesAtMost}
 use Rattle.kernel_core.proofs.calling.act_and_close.Goals as goal
@@ -31,12 +32,12 @@ close-requires-clause-spare c =
 
 pub close-requires-clause-room : goal.close-requires-clause-room
 close-requires-clause-room c =
-    let closes = part-closes (and_ends (length c.args.mine.now) (room_of_call c.args.request.now.call)) 1 c.args.state.now.event c.act.new.out c.requires.ready.begun c.act.ensures.room in
+    let closes = part-closes (and_ends (length c.args.mine.now) (room_of_call c.args.request.now.call)) 1 c.args.state.now.event c.act.new.out c.requires.ready.begun c.act.ensures.within.added in
     record { nobody = closes.nobody; answered = omega (arith, closes.answered); steps = closes.steps }
 
 pub finish-requires-clause-places : goal.finish-requires-clause-places
 finish-requires-clause-places c =
-    c.close.ensures.places 1 0 (part-closes (and_ends (length c.args.mine.now) (room_of_call c.args.request.now.call)) 1 c.args.state.now.event c.act.new.out c.requires.ready.begun c.act.ensures.room)
+    c.close.ensures.places 1 0 (part-closes (and_ends (length c.args.mine.now) (room_of_call c.args.request.now.call)) 1 c.args.state.now.event c.act.new.out c.requires.ready.begun c.act.ensures.within.added)
 
 pub returns-clause-part : goal.returns-clause-part
 returns-clause-part c = λ s.
@@ -52,7 +53,7 @@ returns-clause-part c = λ s.
 pub returns-clause-sound : goal.returns-clause-sound
 returns-clause-sound c =
     c.close.ensures.calm.sound (made_after c.args.request.now.call c.args.state.now.made) (length c.args.state.now.processes)
-    (subst (λ k. IsSound k (made_after c.args.request.now.call c.args.state.now.made) (length c.args.state.now.processes) (entries c.act.new.table)) (sym c.act.ensures.kernel)
+    (subst (λ k. IsSound k (made_after c.args.request.now.call c.args.state.now.made) (length c.args.state.now.processes) (entries c.act.new.table)) (sym c.act.ensures.within.kernel)
     (acted-sound c.args.request.now.p c.args.state.now.table.kernel c.args.state.now.made c.args.mine.now c.args.request.now.call (entries c.args.state.now.table) (entries c.act.new.table) c.args.state.now.event.work c.act.new.out c.act.ensures.part
     (length c.args.state.now.processes) c.requires.ready.begun.reports c.requires.ready.begun.answers c.requires.consistent.sound c.requires.request.process c.requires.granted.0 c.requires.granted.1 (c.requires.request.listed c.requires.other)))
 

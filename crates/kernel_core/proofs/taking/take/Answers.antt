@@ -52,14 +52,14 @@ pub close-requires-clause-spare : goal.close-requires-clause-spare
 close-requires-clause-spare c = by c.args.to.heard refl
   where
     by : (b : Bool) → c.args.to.heard ≡ b → HaveSpareFor c.row.new.out.reports.items c.args.state.now.processes
-    by true is = part-spare (room_of_packet c.args.what.now) 0 c.args.state.now.event c.row.new.out c.args.state.now.processes c.requires.ready.begun c.row.ensures.room
+    by true is = part-spare (room_of_packet c.args.what.now) 0 c.args.state.now.event c.row.new.out c.args.state.now.processes c.requires.ready.begun c.row.ensures.within.added
         (c.requires.ready.spare (c.requires.found.heard.0 is))
     by false is = subst (λ rs. HaveSpareFor rs c.args.state.now.processes)
         (sym (quiet-reports c.args.state.now.table.kernel c.args.state.now.made (length c.args.state.now.processes) c.args.from (what_picture c.args.what.now) (entries c.args.state.now.table) (entries c.row.new.table) c.args.state.now.event.work c.row.new.out
         c.requires.ready.begun.reports c.requires.ready.begun.answers c.requires.consistent.sound c.row.ensures.part (quiet (entries c.args.state.now.table) c.args.what.now c.args.to c.requires.found is))) tt
 
 pub close-requires-clause-room : goal.close-requires-clause-room
-close-requires-clause-room c = part-closes (room_of_packet c.args.what.now) 0 c.args.state.now.event c.row.new.out c.requires.ready.begun c.row.ensures.room
+close-requires-clause-room c = part-closes (room_of_packet c.args.what.now) 0 c.args.state.now.event c.row.new.out c.requires.ready.begun c.row.ensures.within.added
 
 pub row-requires-clause-room : goal.row-requires-clause-room
 row-requires-clause-room c =
@@ -68,7 +68,7 @@ row-requires-clause-room c =
 pub refresh_if_heard-requires-clause-after : goal.refresh_if_heard-requires-clause-after
 refresh_if_heard-requires-clause-after c =
     let sound = c.close.ensures.calm.sound c.args.state.now.made (length c.args.state.now.processes)
-    (subst (λ k. IsSound k c.args.state.now.made (length c.args.state.now.processes) (entries c.row.new.table)) (sym c.row.ensures.kernel) (row-sound c.args.state.now.table.kernel c.args.state.now.made (length c.args.state.now.processes) c.args.from (what_picture c.args.what.now) (entries c.args.state.now.table) (entries c.row.new.table) c.args.state.now.event.work c.row.new.out c.requires.ready.begun.reports c.requires.ready.begun.answers c.requires.consistent.sound c.row.ensures.part)) in
+    (subst (λ k. IsSound k c.args.state.now.made (length c.args.state.now.processes) (entries c.row.new.table)) (sym c.row.ensures.within.kernel) (row-sound c.args.state.now.table.kernel c.args.state.now.made (length c.args.state.now.processes) c.args.from (what_picture c.args.what.now) (entries c.args.state.now.table) (entries c.row.new.table) c.args.state.now.event.work c.row.new.out c.requires.ready.begun.reports c.requires.ready.begun.answers c.requires.consistent.sound c.row.ensures.part)) in
     subst (λ n. IfSome (owner_of (entries c.close.new.table c.args.to.end)) (λ p. p.0 < n)) (sym c.close.ensures.kept.length)
     (owner-below c.close.new.table.kernel c.args.state.now.made (length c.args.state.now.processes) (entries c.close.new.table) sound c.args.to.end)
 
@@ -94,7 +94,7 @@ returns-clause-part c = λ s.
 pub returns-clause-keeps : goal.returns-clause-keeps
 returns-clause-keeps c =
     let sound = c.close.ensures.calm.sound c.args.state.now.made (length c.args.state.now.processes)
-    (subst (λ k. IsSound k c.args.state.now.made (length c.args.state.now.processes) (entries c.row.new.table)) (sym c.row.ensures.kernel) (row-sound c.args.state.now.table.kernel c.args.state.now.made (length c.args.state.now.processes) c.args.from (what_picture c.args.what.now) (entries c.args.state.now.table) (entries c.row.new.table) c.args.state.now.event.work c.row.new.out c.requires.ready.begun.reports c.requires.ready.begun.answers c.requires.consistent.sound c.row.ensures.part)) in
+    (subst (λ k. IsSound k c.args.state.now.made (length c.args.state.now.processes) (entries c.row.new.table)) (sym c.row.ensures.within.kernel) (row-sound c.args.state.now.table.kernel c.args.state.now.made (length c.args.state.now.processes) c.args.from (what_picture c.args.what.now) (entries c.args.state.now.table) (entries c.row.new.table) c.args.state.now.event.work c.row.new.out c.requires.ready.begun.reports c.requires.ready.begun.answers c.requires.consistent.sound c.row.ensures.part)) in
     record {
       consistent = record {
         sound = subst (λ n. IsSound c.close.new.table.kernel c.args.state.now.made n (entries c.close.new.table)) (sym (c.refresh_if_heard.ensures.length ∙ c.close.ensures.kept.length)) sound;
@@ -104,6 +104,6 @@ returns-clause-keeps c =
             (λ p e apart. c.close.ensures.calm.calm p e ∙ row-calm c.args.state.now.table.kernel c.args.state.now.made (length c.args.state.now.processes) c.args.from (what_picture c.args.what.now) (entries c.args.state.now.table) (entries c.row.new.table) c.args.state.now.event.work c.row.new.out c.requires.ready.begun.reports c.requires.ready.begun.answers c.requires.consistent.sound c.row.ensures.part p e (ap (λ to. end_eq to e) (sym c.requires.found.end) ∙ apart))
             (λ is p e. c.close.ensures.calm.calm p e ∙ quiet-calm c.args.state.now.table.kernel c.args.state.now.made (length c.args.state.now.processes) c.args.from (what_picture c.args.what.now) (entries c.args.state.now.table) (entries c.row.new.table) c.args.state.now.event.work c.row.new.out c.requires.ready.begun.reports c.requires.ready.begun.answers c.requires.consistent.sound c.row.ensures.part (quiet (entries c.args.state.now.table) c.args.what.now c.args.to c.requires.found is) p e);
       };
-      kernel = c.close.ensures.calm.kernel ∙ c.row.ensures.kernel;
+      kernel = c.close.ensures.calm.kernel ∙ c.row.ensures.within.kernel;
       length = c.refresh_if_heard.ensures.length ∙ c.close.ensures.kept.length;
     }

@@ -1,6 +1,6 @@
 use Rattle.std.proofs.Common.{◌≡◌, ◌+◌, ◌∷◌, length, arith, ap, sym, subst, ◌∙◌}
 use Rattle.end_table.specs.Table.{entries}
-use Rattle.kernel_event.proofs.ActsParts.{AreOfOne-others, HasRoom-nine, ends_each-more, ends_each-none}
+use Rattle.kernel_event.proofs.ActsParts.{AreOfOne-others, HasRoom-ends, ends_each-more, ends_each-none}
 use Rattle.kernel_sound.proofs.Needs.{IsReady-sound}
 use Rattle.kernel_sound.specs.Acts.{AreOfOne}
 use Rattle.kernel_step.specs.Calls.{ends_each}
@@ -18,16 +18,16 @@ destroy_each-requires t c =
     let more : length c.args.ends.now ≡ length c.in-Some.others.now + 1 = omega (arith, long) in (
       omega (arith, long, c.decreases),
       (
-        subst (λ k. AreOfOne k (entries c.destroy_here.new.table) c.in-Some.others.now) (sym c.destroy_here.ensures.kernel)
+        subst (λ k. AreOfOne k (entries c.destroy_here.new.table) c.in-Some.others.now) (sym c.destroy_here.ensures.within.kernel)
             (AreOfOne-others _ _ _ _ _ _ _ _ e c.requires.ends c.destroy_here.ensures.part),
-        HasRoom-nine _ _ _ _ more c.requires.room c.destroy_here.ensures.room,
+        HasRoom-ends _ _ _ _ more c.requires.room c.destroy_here.ensures.within.added,
       ),
     )
 
 pub returns-in-Some-clause-part : goal.returns-in-Some-clause-part
 returns-in-Some-clause-part t c =
     c.destroy_each.ensures.part
-    ∙ ap (λ k. ends_each k c.in-Some.others.now (progress (entries c.destroy_here.new.table) c.destroy_here.new.out)) c.destroy_here.ensures.kernel
+    ∙ ap (λ k. ends_each k c.in-Some.others.now (progress (entries c.destroy_here.new.table) c.destroy_here.new.out)) c.destroy_here.ensures.within.kernel
     ∙ ends_each-more _ _ _ _ _ _ _ _ c.in-Some.ensures c.destroy_here.ensures.part
 
 pub returns-in-None-clause-part : goal.returns-in-None-clause-part

@@ -4,7 +4,7 @@ use Rattle.std.specs.List.{list_any}
 use Rattle.end_table.specs.Place.{end_eq}
 use Rattle.end_table.specs.Table.{entries, IfHere, IsHere}
 use Rattle.kernel_event.proofs.ActsParts.{enclosed-after, on-after, sent-after}
-use Rattle.kernel_sound.proofs.Needs.{granted-at, send-apart, send-enclosed}
+use Rattle.kernel_sound.proofs.Needs.{send-apart, send-enclosed}
 use Rattle.kernel_step.specs.Calls.{starts_send}
 use Rattle.kernel_step.specs.Enclosed.{AreEnclosed}
 use Rattle.kernel_step.specs.Progress.{progress}
@@ -13,8 +13,7 @@ use Rattle.kernel_event.proofs.acts.send.Goals as goal
 pub enclose_each-requires : goal.enclose_each-requires
 enclose_each-requires c =
     subst (AreEnclosed (entries c.args.table.now)) (sym c.as_slice.ensures.same)
-    (send-enclosed c.args.p (entries c.args.table.now) c.args.on c.args.enclose.now c.in-Some._living.now
-    (granted-at c.args.p (entries c.args.table.now) c.args.on c.args.enclose.now c.in-Some._living.now c.in-Some.ensures.owned c.requires.granted))
+    (send-enclosed c.args.p (entries c.args.table.now) c.args.on c.args.enclose.now c.requires.granted)
 
 pub start_send-requires-clause-here : goal.start_send-requires-clause-here
 start_send-requires-clause-here c =
@@ -31,8 +30,7 @@ start_send-requires-clause-enclosed c =
 pub start_send-requires-clause-apart : goal.start_send-requires-clause-apart
 start_send-requires-clause-apart c =
     subst (λ xs. list_any (end_eq c.args.on) xs ≡ false) (sym c.copy-ends.ensures)
-    (send-apart c.args.p (entries c.args.table.now) c.args.on c.args.enclose.now c.in-Some._living.now
-    (granted-at c.args.p (entries c.args.table.now) c.args.on c.args.enclose.now c.in-Some._living.now c.in-Some.ensures.owned c.requires.granted))
+    (send-apart c.args.p (entries c.args.table.now) c.args.on c.args.enclose.now c.requires.granted)
 
 pub returns-in-Some-clause-part : goal.returns-in-Some-clause-part
 returns-in-Some-clause-part c =

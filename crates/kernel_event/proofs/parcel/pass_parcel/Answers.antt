@@ -13,5 +13,5 @@ pub returns-clause-part : goal.returns-clause-part
 unfolding progress
 returns-clause-part c = λ hops bytes.
     c.arrive.ensures.part
-    ∙ ap (λ o. arrive_row c.args.table.now.kernel c.args.head.to c.args.head.n c.args.head.at c.passing-passed.result o (progress (entries c.args.table.now) c.args.out.now)) c.requires.unasked
-    ∙ ap (λ ms. sends_back c.args.table.now.kernel c.args.head.to c.args.head.n c.args.head.at ms (progress (entries c.args.table.now) c.args.out.now)) c.passing-passed.ensures
+    ∙ ap (λ o. arrive_row c.args.table.now.kernel c.args.head.to c.args.head.n c.args.head.site.at c.passing-passed.result o (progress (entries c.args.table.now) c.args.out.now)) c.requires.unasked
+    ∙ ap (λ ms. sends_back c.args.table.now.kernel c.args.head.to c.args.head.n c.args.head.site.at ms (progress (entries c.args.table.now) c.args.out.now)) c.passing-passed.ensures

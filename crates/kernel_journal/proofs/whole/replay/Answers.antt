@@ -1,6 +1,6 @@
 use Rattle.std.proofs.Common.{◌≡◌, ◌<◌, ◌≤◌, Err, IfErr, None, Some, length, subst, sym, ◌∙◌, rules}
 use Rattle.kernel_journal.specs.Faults.{GivesLast, IsReplayFault, IsReplayOf, kinds_in}
-use Rattle.replay_law.proofs.Lawful.{replay-is-lawful}
+use Rattle.transcript_law.proofs.Lawful.{replay-is-lawful}
 use Rattle.kernel_journal.proofs.Replays.{all-taken, ended-only, ended-replay, fault-only, replaying-start, step-fault, step-may, step-more}
 use Rattle.kernel_journal.proofs.whole.replay.Goals as goal
 

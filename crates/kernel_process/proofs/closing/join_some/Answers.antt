@@ -18,8 +18,13 @@ join_only-requires-clause-places c = subst (λ n. HasPlaces n n c.args.effect.no
 pub join_only-requires-clause-spare : goal.join_only-requires-clause-spare
 join_only-requires-clause-spare c = spare-first c.in-Some.p c.in-Some.ensures.0 [] c.args.reports.now.items c.args.processes.now (sym c.as_slice.ensures.value ∙ c.in-Some.ensures.1) c.requires.spare
 
-pub returns-in-Some-clause-kept : goal.returns-in-Some-clause-kept
-returns-in-Some-clause-kept c = subst (λ n. TakesAtMost n c.args.processes.now c.join_only.new.processes) (sym (ap length (sym c.as_slice.ensures.value ∙ c.in-Some.ensures.1))) c.join_only.ensures.kept
-
-pub returns-in-Some-clause-places : goal.returns-in-Some-clause-places
-returns-in-Some-clause-places c = subst (λ n. GainsAtMost n n c.args.effect.now c.join_only.new.effect) (sym (ap length (sym c.as_slice.ensures.value ∙ c.in-Some.ensures.1))) c.join_only.ensures.places
+pub returns-in-Some : goal.returns-in-Some
+returns-in-Some c =
+    let one = sym (ap length (sym c.as_slice.ensures.value ∙ c.in-Some.ensures.1)) in
+    record {
+      part = c.join_only.ensures.part;
+      calm = c.join_only.ensures.calm;
+      kept = subst (λ n. TakesAtMost n c.args.processes.now c.join_only.new.processes) one c.join_only.ensures.kept;
+      places = subst (λ n. GainsAtMost n n c.args.effect.now c.join_only.new.effect) one c.join_only.ensures.places;
+      stamp = c.join_only.ensures.stamp;
+    }

@@ -1,7 +1,7 @@
 use Rattle.local_runs.proofs.Together.{one_run}
 use Rattle.late_answers.proofs.Run.{late-by_match}
 use Rattle.late_answers.proofs.law.late_is_by_match.Goals as goal
-use Rattle.world_law.proofs.Record.{record-is-lawful}
+use Rattle.theorem.proofs.Record.{record-is-lawful}
 
 pub returns : goal.returns
 returns c s made left merged k p e w valid fit order entries few =

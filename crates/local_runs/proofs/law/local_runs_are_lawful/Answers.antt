@@ -1,4 +1,4 @@
-use Rattle.world_law.proofs.Record.{record-is-lawful}
+use Rattle.theorem.proofs.Record.{record-is-lawful}
 use Rattle.local_runs.proofs.Together.{one_run}
 use Rattle.local_runs.proofs.law.local_runs_are_lawful.Goals as goal
 

@@ -13,12 +13,12 @@ end_each-requires t c =
     let are : AreEnclosed (entries c.args.table.now) (c.in-Some.first ∷ c.in-Some.others.now) = AreEnclosed-first _ _ _ _ e c.requires.enclosed in
     let long : length c.args.ends.now ≡ length (c.in-Some.first ∷ c.in-Some.others.now) = ap length e in
     let more : length c.args.ends.now ≡ length c.in-Some.others.now + 1 = omega (arith, long) in
-    (omega (arith, long, c.decreases), (AreEnclosed-others _ _ _ _ c.end_idle.ensures.others are.1 are.2, HasRoom-others _ _ _ _ more c.requires.room c.end_idle.ensures.room))
+    (omega (arith, long, c.decreases), (AreEnclosed-others _ _ _ _ c.end_idle.ensures.kept.others are.1 are.2, HasRoom-others _ _ _ _ more c.requires.room c.end_idle.ensures.room))
 
 pub returns-in-Some-clause-part : goal.returns-in-Some-clause-part
 returns-in-Some-clause-part t c =
     c.end_each.ensures.part
-    ∙ ap (λ k. end_each k c.in-Some.others.now (progress (entries c.end_idle.new.table) c.end_idle.new.out)) c.end_idle.ensures.kernel
+    ∙ ap (λ k. end_each k c.in-Some.others.now (progress (entries c.end_idle.new.table) c.end_idle.new.out)) c.end_idle.ensures.kept.kernel
     ∙ end_each-more _ _ _ _ _ _ _ c.in-Some.ensures c.end_idle.ensures.part
 
 pub returns-in-None-clause-part : goal.returns-in-None-clause-part

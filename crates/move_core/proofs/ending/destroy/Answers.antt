@@ -8,4 +8,4 @@ end_each-requires-clause-enclosed c =
     let are = rw c.here.ensures.view at c.requires.ready.enclosed in
     let apart = rw c.here.ensures.view at c.requires.ready.apart in
     let ends : c.as_slice.result.now ≡ enclosed_of c.here.result.now.outward = c.as_slice.ensures.same ∙ c.enclosed_by-enclosed.ensures in
-    rw ends (AreEnclosed-others _ _ c.args.on _ c.end_entry-value.ensures.others apart are)
+    rw ends (AreEnclosed-others _ _ c.args.on _ c.end_entry-value.ensures.kept.others apart are)

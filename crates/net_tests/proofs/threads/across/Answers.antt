@@ -1,9 +1,12 @@
-use Rattle.std.proofs.Common.{◌<◌, length, arith}
-use Rattle.kernel_net.proofs.Nets.{net-kernels}
+use Rattle.std.proofs.Common.{◌≡◌, ◌++◌, arith, rules}
+use Rattle.kernel_net.specs.Ports.{place_of}
+use Rattle.kernel_net.proofs.Nets.{split-joined}
 use Rattle.net_tests.proofs.threads.across.Goals as goal
 
-pub join-came-requires-after_bounds : goal.join-came-requires-after_bounds
-join-came-requires-after_bounds g c κs within =
+pub work_both-requires-clause-net : goal.work_both-requires-clause-net
+work_both-requires-clause-net g c κs within =
     let made = c.in_ok-ports.ensures in
-    let some : 0 < length c.in_ok-ports.ports.items = omega (arith, made.count) in
-    (omega (arith, made.count, net-kernels c.in_ok-ports.ports.items made.net 0 c.remove-first.result some c.remove-first.ensures.value), tt)
+    let split = c.split_at_mut-front.ensures in
+    let whole : c.in_ok-ports.ports.items ≡ c.split_at_mut-front.result.0.now ++ c.split_at_mut-front.result.1.now = search rules in
+    split-joined place_of c.in_ok-ports.ports.items c.split_at_mut-front.result.0.now c.split_at_mut-front.result.1.now whole 0 (omega (arith, made.count, split.front_len)) (omega (arith, made.count, split.back_len))
+    c.index-front-0.result c.index-back-0.result made.net

@@ -21,7 +21,7 @@ performed c =
     let b : Recorded = c.do_lines.new.run in
     let done : AreLinesDone s c.args.lines c.in_ok-notes.notes.items a b =
     subst (λ (ls : List ScriptLine). AreLinesDone s ls c.in_ok-notes.notes.items a b) (c.from.ensures.0 ∙ c.into_vec.ensures) c.in_ok-notes.ensures in
-    let merge : IsMerge (map entries_of b.journals.items) c.in_ok-merged.merged = subst (λ (js : List (List Entry)). IsMerge js c.in_ok-merged.merged) c.into_journals.ensures c.in_ok-merged.ensures in
+    let merge : IsMerge (map entries_of b.journals.items) c.in_ok-merged.merged = subst (λ (js : List (List Entry)). IsMerge js c.in_ok-merged.merged) c.into_journals.ensures c.in_ok-merged.ensures.merge in
     subst (λ (notes : List ScriptNote). IsPerformance s c.args.lines c.in_ok-merged.merged notes c.last_of-last.result) (sym c.of.ensures)
     (performance s c.args.lines c.in_ok-merged.merged c.in_ok-notes.notes.items c.last_of-last.result a b c.in_ok-run.ensures.ready c.in_ok-run.ensures.start c.in_ok-run.ensures.entries done merge (c.last_of-last.ensures s) c.requires.few)
 
@@ -32,7 +32,7 @@ pub returns-clause-told : goal.returns-clause-told
 returns-clause-told c =
     let s : Setting = c.args.setting.now in
     let b : Recorded = c.do_lines.new.run in
-    let merge : IsMerge (map entries_of b.journals.items) c.in_ok-merged.merged = subst (λ (js : List (List Entry)). IsMerge js c.in_ok-merged.merged) c.into_journals.ensures c.in_ok-merged.ensures in
+    let merge : IsMerge (map entries_of b.journals.items) c.in_ok-merged.merged = subst (λ (js : List (List Entry)). IsMerge js c.in_ok-merged.merged) c.into_journals.ensures c.in_ok-merged.ensures.merge in
     let is = c.in_ok-notes.ensures.goes.recorded in
     let count : length b.journals.items ≡ s.kernels = is.journals in
     let few : s.kernels ≤ 8 = c.requires.valid.limits.kernels in

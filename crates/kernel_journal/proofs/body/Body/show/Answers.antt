@@ -1,5 +1,5 @@
 use Rattle.std.proofs.Common.{◌≡◌, [], rules}
-use Rattle.replay_lines.proofs.Rest.{refutes-service}
+use Rattle.transcript_replay.proofs.Rest.{refutes-service}
 use Rattle.kernel_journal.specs.Body.{course_of}
 use Rattle.kernel_journal.proofs.body.Body.show.Goals as goal
 

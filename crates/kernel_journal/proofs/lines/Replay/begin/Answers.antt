@@ -1,6 +1,6 @@
 use Rattle.std.proofs.Common.{◌≡◌, None, ap, sym, subst, refl, ◌∙◌, rules}
 use Rattle.charlotte_calls.specs.Setting.{IsValid}
-use Rattle.replay_lines.specs.Course.{course_start}
+use Rattle.transcript_replay.specs.Course.{course_start}
 use Rattle.kernel_journal.proofs.At.{begins-header, meets-first, met-again}
 use Rattle.kernel_journal.proofs.lines.Replay.begin.Goals as goal
 

@@ -1,5 +1,5 @@
 use Rattle.std.proofs.Common.{Some, ap, sym, subst, refl}
-use Rattle.replay_lines.specs.Header.{is_body}
+use Rattle.transcript_replay.specs.Header.{is_body}
 use Rattle.kernel_journal.specs.declared.lines.Replay.{Replay}
 use Rattle.kernel_journal.proofs.At.{IsLastKept, at-passed}
 use Rattle.kernel_journal.proofs.Bodies.{on_ok}

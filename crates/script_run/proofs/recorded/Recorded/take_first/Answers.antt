@@ -22,7 +22,7 @@ note-requires-clause-after_last c =
     let did = c.in_ok-stamp.ensures s ready.recorded.nodes in
     let e = Takes c.args.to c.args.from in
     let is = noting s c.requires.1 c.args.self.now e c.args.to c.from.result c.index_mut-journal.result.now c.requires.2 ready (some-first (sent_from c.args.self.now c.args.from c.args.to) _ (c.in-Some.ensures s)) refl c.requires.5 c.from.ensures c.index_mut-journal.ensures.value in
-    noting-later s c.requires.1 c.args.self.now e c.from.result c.index_mut-journal.result.now c.in_ok-stamp.field-0 c.took.new.self.entries is did.noted c.in_ok-took.ensures.entries
+    noting-later s c.requires.1 c.args.self.now e c.from.result c.index_mut-journal.result.now c.in_ok-stamp.field-0 c.took.new.self.entries is did.noted c.took.ensures.entries
 
 pub returns : goal.returns
 returns c s n early ready to_there =
@@ -32,7 +32,6 @@ returns c s n early ready to_there =
     let is = noting s n c.args.self.now (Takes c.args.to c.args.from) c.args.to c.from.result c.index_mut-journal.result.now early ready some refl to_there c.from.ensures c.index_mut-journal.ensures.value in
     let q : Picture = packet_picture c.in-Some.packet.now in
     let entry : Picture → List ServiceStep → Entry = λ x steps. record { stamp = c.in_ok-stamp.field-0.stamp; what = Took c.args.from x; steps = steps } in
-    let entries = c.in_ok-note.ensures.entries (Took c.args.from q) c.in_ok-took.ensures.begun ∙ ap (λ (es : List Entry). es ++ entry q c.as_slice.result.now ∷ []) c.in_ok-took.ensures.entries
-    ∙ ap (λ (steps : List ServiceStep). c.index_mut-journal.result.now.entries ++ entry q steps ∷ []) c.as_slice.ensures.value
+    let entries = c.note-emptied.ensures.entries (Took c.args.from q) c.in_ok-took.ensures.begun ∙ ap (λ (es : List Entry). es ++ entry q c.in_ok-stamp.field-0.steps.items ∷ []) c.took.ensures.entries
     ∙ ap (λ (x : Picture). c.index_mut-journal.result.now.entries ++ entry x c.in_ok-stamp.field-0.steps.items ∷ []) (first-is qs q (c.in-Some.ensures s)) in
-    (some, event-goes s n c.args.self.now _ (Takes c.args.to c.args.from) c.from.result c.index_mut-journal.result.now c.note.new.self c.in_ok-stamp.field-0 c.take_first.new.self.nodes.items is did (c.reuse.ensures s did.nodes) refl entries c.in_ok-note.ensures.in_range)
+    (some, event-goes s n c.args.self.now _ (Takes c.args.to c.args.from) c.from.result c.index_mut-journal.result.now c.note-emptied.new.self c.in_ok-stamp.field-0 c.take_first.new.self.nodes.items is did (c.reuse.ensures s did.nodes) refl entries c.note-emptied.ensures.in_range)

@@ -1,0 +1,5 @@
+pub mod Values
+pub mod Actions
+pub mod Rows
+pub mod Steps
+pub mod Start

@@ -1,0 +1,231 @@
+//! Each call of `move_core` once. What follows from them is shown by the rows of .ci/rows/runs.
+ghost use Rattle.std.specs.Prelude.{◌≡◌, true, IfOk, [], ◌∷◌};
+ghost use Rattle.charlotte_calls.specs.Moving.{new_end};
+ghost use Rattle.end_table.specs.Table.{entries, HasPlace, IsHere};
+ghost use Rattle.kernel_tests.specs.declared.samples.TheConstants.{AMPLE};
+ghost use Rattle.kernel_step.specs.Enclosed.{IsReady};
+ghost use Rattle.kernel_step.specs.Progress.{HasRoom};
+ghost use Rattle.kernel_step.specs.Room.{room_of_return};
+
+use crate::samples::{Begin, END, Send, ample, end_a, holds, kept};
+use crate::states::{is_idle, is_ready};
+use crate::telling::told;
+use charlotte_calls::{Cargo, EndId, LinkId, NoMemory, Side, Work};
+use end_table::{Inward, Lent, Table};
+use move_core::{
+    Route, arrive, destroy, enclose, forget, give_back, gone_seen, known, leave, moved, room, route,
+};
+use std::alloc::Global;
+use std::test::Fail;
+
+const CARRIED: EndId = EndId {
+    link: LinkId { maker: 2, count: 1 },
+    side: Side::A,
+};
+
+/// A call on the end. The carried end comes with the message 4 for the receive 1, or comes back with it.
+#[derive(Clone, Copy)]
+enum Act {
+    Arrive,
+    GiveBack,
+    Enclose,
+    Leave,
+    Forget,
+    Moved,
+    Known,
+    Destroy,
+    GoneSeen,
+}
+
+/// The call, the end that is looked at, what is told of it and of what the call adds, and the way to it.
+type Step = (Act, EndId, &'static str, Route);
+
+const IDLE: Begin = (0, Send::Idle, Inward::Idle);
+
+const POSTED: Begin = (0, Send::Idle, Inward::Posted { w: 1 });
+
+const MATCHED: Begin = (0, Send::Matched(4), Inward::Idle);
+
+/// How the end begins, and the calls.
+type Row = (Begin, &'static [Step]);
+
+const ROWS: [Row; 9] = [
+    // The carried end comes with its message, and tells its opposite.
+    (
+        POSTED,
+        &[(
+            Act::Arrive,
+            CARRIED,
+            "Owner(Pid(1)) Idle Idle; to 3: Moved { to: EndId { link: LinkId { maker: 2, count: 1 }, side: B }, at: 0, hops: 0 }; 0 reports, 0 steps",
+            Route::Here,
+        )],
+    ),
+    // A message comes back, and its end is the sender's again.
+    (
+        MATCHED,
+        &[(
+            Act::GiveBack,
+            CARRIED,
+            "Owner(Pid(1)) Idle Idle; to 3: Moved { to: EndId { link: LinkId { maker: 2, count: 1 }, side: B }, at: 0, hops: 0 }; 1 reports, 0 steps",
+            Route::Here,
+        )],
+    ),
+    // The carried end comes with a message that is not asked for, and goes back with it.
+    (
+        IDLE,
+        &[(
+            Act::Arrive,
+            CARRIED,
+            "left to 3, hops 1; to 3: Back { to: EndId { link: LinkId { maker: 0, count: 7 }, side: B }, n: 4, moving: Short { items: [MovingPicture { end: EndId { link: LinkId { maker: 2, count: 1 }, side: A }, hops: 1, hint: (3, 0), sent: 0, asked: 0, served: 0, want: 0, dead: false, trail: 1 }] } }; 0 reports, 0 steps",
+            Route::Forward(3),
+        )],
+    ),
+    // A message comes back that was not sent, and its end is destroyed.
+    (
+        IDLE,
+        &[(
+            Act::GiveBack,
+            CARRIED,
+            "destroyed; to 3: Gone { to: EndId { link: LinkId { maker: 2, count: 1 }, side: B }, at: 0 }; 0 reports, 0 steps",
+            Route::Stale,
+        )],
+    ),
+    // An end is enclosed.
+    (
+        IDLE,
+        &[(
+            Act::Enclose,
+            END,
+            "EnclosedIn(EndId { link: LinkId { maker: 2, count: 1 }, side: A }) Idle Idle; 0 reports, 0 steps",
+            Route::Here,
+        )],
+    ),
+    // An end leaves, and is forgotten.
+    (
+        IDLE,
+        &[
+            (
+                Act::Leave,
+                END,
+                "left to 3, hops 1; 0 reports, 0 steps",
+                Route::Forward(3),
+            ),
+            (
+                Act::Forget,
+                END,
+                "nothing; 0 reports, 0 steps",
+                Route::Stale,
+            ),
+        ],
+    ),
+    // The opposite end has moved to kernel 2.
+    (
+        IDLE,
+        &[(
+            Act::Moved,
+            END,
+            "Owner(Pid(1)) Idle Idle; to 2: Known { to: EndId { link: LinkId { maker: 0, count: 7 }, side: B }, hops: 1 }; 0 reports, 0 steps",
+            Route::Here,
+        )],
+    ),
+    // An end that has not moved hears that its move is known.
+    (
+        IDLE,
+        &[(
+            Act::Known,
+            END,
+            "Owner(Pid(1)) Idle Idle; 0 reports, 0 steps",
+            Route::Here,
+        )],
+    ),
+    // An end is destroyed, and this is known.
+    (
+        IDLE,
+        &[
+            (
+                Act::Destroy,
+                END,
+                "destroyed; to 3: Gone { to: EndId { link: LinkId { maker: 0, count: 7 }, side: B }, at: 0 }; 0 reports, 0 steps",
+                Route::Stale,
+            ),
+            (
+                Act::GoneSeen,
+                END,
+                "nothing; 0 reports, 0 steps",
+                Route::Stale,
+            ),
+        ],
+    ),
+];
+
+/// A cargo with the value of the carried end.
+fn carried() -> Cargo
+    ensures { result ≡ new_end CARRIED 3 ∷ [] }
+{
+    let mut moving = Cargo::empty();
+    moving.add(end_a(CARRIED.link));
+    moving
+}
+
+/// Whether the carried end has no entry, after it got a place.
+fn is_expected(table: &mut Table) -> Result<bool, NoMemory>
+    ensures place { IfOk result (λ b. HasPlace table.new CARRIED) }
+    ensures away { IfOk result (λ b. b ≡ true → IsHere (entries table.new CARRIED) → ⊥) }
+{
+    table.reserve(CARRIED)?;
+    Ok(matches!(table.lend(CARRIED), Lent::Nothing))
+}
+
+fn perform(table: &mut Table, act: Act, out: &mut Work) -> Result<(), Fail>
+    requires { HasRoom AMPLE out.old }
+{
+    match act {
+        Act::Arrive | Act::GiveBack if is_expected(table)? => perform_carried(table, act, out),
+        Act::Enclose if is_idle(table) => enclose(table, END, CARRIED, out),
+        Act::Leave if is_idle(table) => {
+            leave(table, END, 3).destroy();
+        }
+        Act::Forget => forget(table, END, 1, out),
+        Act::Moved => moved(table, END, 2, 1, out),
+        Act::Known => known(table, END, 0, out),
+        Act::Destroy if is_ready(table) => destroy(table, END, out),
+        Act::GoneSeen => gone_seen(table, END, out),
+        _ => return Err("the end is not ready".into()),
+    }
+    Ok(())
+}
+
+fn perform_carried(table: &mut Table, act: Act, out: &mut Work)
+    requires place { HasPlace table.old CARRIED }
+    requires away { IsHere (entries table.old CARRIED) → ⊥ }
+    requires room { HasRoom room_of_return out.old }
+{
+    match act {
+        Act::Arrive => arrive(table, END, 4, 1, 3, carried(), out),
+        _ => give_back(table, END, 4, carried(), out),
+    }
+}
+
+fn gives(alloc: Global, table: &mut Table, (act, end, want, way): Step) -> Result<(), Fail> {
+    let mut out = ample(alloc)?;
+    perform(table, act, &mut out)?;
+    let text = told(alloc, table, end, &out)?;
+    holds(text.as_str() == want && route(table, end) == way, want)
+}
+
+fn each_gives(alloc: Global, (begin, steps): Row) -> Result<(), Fail> {
+    let mut table = kept(alloc, begin)?;
+    for step in steps {
+        gives(alloc, &mut table, *step)?;
+    }
+    Ok(())
+}
+
+#[test]
+fn each_call_of_move_core(rt: HostRuntime) -> Result<(), Fail> {
+    for row in ROWS {
+        each_gives(rt.alloc(), row)?;
+    }
+    let room = room(&kept(rt.alloc(), IDLE)?, END);
+    holds(room.packets == 9, "the room of an action")
+}

@@ -1,5 +1,0 @@
-use Rattle.line_forms.proofs.Order.{of_line, stands}
-use Rattle.line_forms.proofs.law.forms_that_stand.Goals as goal
-
-pub returns : goal.returns
-returns c = λ place f. (stands place f, of_line place f)

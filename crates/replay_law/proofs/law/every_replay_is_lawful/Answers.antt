@@ -1,5 +1,0 @@
-use Rattle.replay_law.proofs.Lawful.{replay-is-lawful}
-use Rattle.replay_law.proofs.law.every_replay_is_lawful.Goals as goal
-
-pub returns : goal.returns
-returns c = replay-is-lawful

@@ -1,5 +1,0 @@
-//! Tests of replaying transcripts, through the public calls.
-#![tactic(auto)]
-
-#[cfg(test)]
-mod replays;

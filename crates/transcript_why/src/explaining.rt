@@ -1,0 +1,69 @@
+//! The three lines that tell why.
+ghost use Rattle.std.specs.Prelude.{◌<◌, IfOk, length, map};
+ghost use Rattle.transcript_why.specs.Run.{IsRun};
+ghost use Rattle.transcript_why.specs.Why.{AreWhy};
+
+use crate::expected::{OR, expected_lines};
+use crate::kept::kept_items;
+use crate::reached::{Reached, reach};
+use crate::run::{Run, run_before};
+use crate::shown::labelled_line;
+use crate::standing::{line_at, standing_line};
+use charlotte_calls::NoMemory;
+use std::alloc::Global;
+use transcript_expected::{Listing, expected_forms};
+use transcript_reader::{LineKind, Place};
+
+/// What is told of the place of a line.
+#[derive(Drop)]
+struct Reasons {
+    expected: Vec<u8>,
+    kept: Vec<u8>,
+}
+
+/// Why the line of a number, which an audit named, is not that of a run of kernels, in three lines: the line as it stands, what was expected
+/// in its place, and what the kernels and the service keep then of what it names. Lines are counted from 1.
+pub fn explain(alloc: Global, bytes: &[u8], number: u32) -> Result<Vec<Vec<u8>>, NoMemory>
+    requires { length bytes.now < 4294967295 }
+    ensures { IfOk result (λ lines. AreWhy bytes.now number (map (λ l. l.items) lines.items)) }
+{
+    let told = tell_reasons(alloc, bytes, number)?;
+    let first = standing_line(alloc, bytes, number)?;
+    let second = labelled_line(alloc, b"expected: ", told.expected.as_slice())?;
+    let third = labelled_line(alloc, b"kept: ", told.kept.as_slice())?;
+    let lines = vec![in alloc; first, second, third]?;
+    Ok(lines)
+}
+
+/// What stands in the second and in the third line. A line that cannot stand is named before any is replayed, so nothing is kept then.
+fn tell_reasons(alloc: Global, bytes: &[u8], number: u32) -> Result<Reasons, NoMemory>
+    requires { length bytes.now < 4294967295 }
+{
+    let Reached {
+        place,
+        setting,
+        next,
+    } = reach(alloc, bytes, number)?;
+    let version = setting.version;
+    if let Some(kind) = next {
+        if let Some(run) = run_before(alloc, bytes, number, setting)? {
+            return differing(alloc, place, &run, &kind);
+        }
+    }
+    let mut forms = Listing::new(alloc, OR);
+    expected_forms(&mut forms, place, version, line_at(bytes, number).text)?;
+    Ok(Reasons {
+        expected: forms.text,
+        kept: b"nothing".to_vec(alloc)?,
+    })
+}
+
+/// The same of a line that differs from what the kernels give there.
+fn differing(alloc: Global, place: Place, run: &Run, kind: &LineKind) -> Result<Reasons, NoMemory>
+    requires { IsRun run.now }
+{
+    Ok(Reasons {
+        expected: expected_lines(alloc, place, run, kind)?,
+        kept: kept_items(alloc, run, kind)?,
+    })
+}

@@ -1,5 +1,0 @@
-use Rattle.world_law.proofs.Record.{record-is-lawful}
-use Rattle.world_law.proofs.law.every_record_is_lawful.Goals as goal
-
-pub returns : goal.returns
-returns c = record-is-lawful

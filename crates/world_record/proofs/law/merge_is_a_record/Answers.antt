@@ -1,5 +1,0 @@
-use Rattle.world_record.proofs.Laws.{merge-record}
-use Rattle.world_record.proofs.law.merge_is_a_record.Goals as goal
-
-pub returns : goal.returns
-returns c = merge-record

@@ -1,5 +1,0 @@
-use Rattle.world_record.proofs.Laws.{record-shown}
-use Rattle.world_record.proofs.law.record_is_shown.Goals as goal
-
-pub returns : goal.returns
-returns c = record-shown

@@ -1,0 +1,115 @@
+#!/usr/bin/env python3
+"""Runs a command of the program by the same sources, compiled without a proof: unproved.py TOP --for PARENT [COMMAND] FILE, with a line `NAME NEED ..`
+for each crate on standard input, that of the program first. It ends where the process PARENT, which waits for it, has ended.
+
+The toolchain's `rt try` compiles the sources with checks, and runs them in a folder of its own, for 60 seconds at most, with at most 1 MiB of output.
+What the program puts on its streams, and its status, are handed on, with one line behind it on standard error: that nothing of this was proved.
+Nothing is kept of it: each call compiles anew, and the program counts as built or not as before.
+"""
+
+import os
+import re
+import signal
+import subprocess
+import sys
+import tempfile
+import time
+
+NOT_BUILT = 70
+# A line of progress each so many seconds.
+STEP = 15
+# What `rt try` adds to the program's standard error where that ended: its two last lines.
+ENDED = re.compile(rb"(?:^|\n)checked: [^\n]*\nrun=ended status=(\d+) [^\n]*\n*\Z")
+# The names under which `rt try` lends a file to the program: in its folder, and none of its own.
+PLAIN = re.compile(r"(?!program|stdin|stdout|stderr)[A-Za-z0-9_][A-Za-z0-9_.-]*\Z")
+
+
+def say(text):
+    print(f"lynx: {text}", file=sys.stderr, flush=True)
+
+
+class Lent:
+    """The file that the command is about, under the name that the program is called with."""
+
+    def __init__(self, name):
+        self.name = name
+        self.there = os.path.abspath(name)
+        if not os.path.isfile(self.there):
+            # a folder is a read fault by its whole name, and what is absent is absent by that too
+            self.called = self.there
+        elif PLAIN.match(name):
+            self.called = name
+        else:
+            self.called = f"the_file_that_was_named_{os.getpid()}"
+
+    def words(self):
+        return ["--data", f"{self.called}={self.there}"] if os.path.isfile(self.there) else []
+
+    def renamed(self, text):
+        """The program's text with the file's own name."""
+        return text.replace(os.fsencode(self.called), os.fsencode(self.name))
+
+
+def told(started):
+    say(f"compiling without a proof, {round(time.time() - started)} seconds so far")
+
+
+def tried(crate, command, lent, parent):
+    """What `rt try` put on its streams. None where nobody waits for it any more."""
+    with tempfile.TemporaryFile() as out, tempfile.TemporaryFile() as err:
+        words = ["rt", "try", *lent.words(), "--", *command, lent.called]
+        run = subprocess.Popen(words, cwd=crate, stdin=subprocess.DEVNULL, stdout=out, stderr=err, start_new_session=True)
+        try:
+            started = last = time.time()
+            while run.poll() is None:
+                if os.getppid() != parent:
+                    return None
+                if time.time() - last >= STEP:
+                    told(started)
+                    last = time.time()
+                time.sleep(0.1)
+        finally:
+            if run.poll() is None:
+                os.killpg(run.pid, signal.SIGTERM)
+                run.wait()
+        return tuple(file.seek(0) or file.read() for file in (out, err))
+
+
+def hand_on(out, err, lent):
+    """Puts what the program put, and gives its status."""
+    ended = ENDED.search(err)
+    if not ended:
+        say("no answer: the sources did not compile, the program did not end in 60 seconds, or it put out more than 1 MiB")
+        for line in err.decode("utf-8", "replace").splitlines()[-3:]:
+            say(f"the toolchain: {line}")
+        return NOT_BUILT
+    sys.stdout.buffer.write(lent.renamed(out))
+    sys.stdout.flush()
+    program = err[: ended.start()]
+    sys.stderr.buffer.write(lent.renamed(program + b"\n" if program and not program.endswith(b"\n") else program))
+    say("nothing of this was proved: the sources were compiled without their proofs, for this call alone")
+    return int(ended[1])
+
+
+def main():
+    top, _, parent, *words = sys.argv[1:]
+    crates = [line.split()[0] for line in sys.stdin]
+    *command, name = words
+    lent = Lent(name)
+    say(f"{len(crates)} crates are compiled without a proof, for this call alone: a minute or two")
+    streams = tried(f"{top}/crates/{crates[0]}", command, lent, int(parent))
+    return NOT_BUILT if streams is None else hand_on(*streams, lent)
+
+
+def interrupted(number, _frame):
+    raise SystemExit(128 + number)
+
+
+if __name__ == "__main__":
+    for number in (signal.SIGINT, signal.SIGTERM, signal.SIGHUP):
+        signal.signal(number, interrupted)
+    try:
+        sys.exit(main())
+    except OSError as error:
+        say(f"the sources could not be compiled: {error.filename or 'the toolchain'}: {error.strerror}")
+        sys.exit(NOT_BUILT)
