@@ -1,5 +1,5 @@
 #!/usr/bin/env python3
-"""lynx draw TRANSCRIPT: puts a picture of a run, an SVG, on standard output. docs/PICTURES.md tells how to read it."""
+"""lynx draw TRANSCRIPT: puts a drawing of a run, an SVG, on standard output. docs/DRAWINGS.md tells how to read it."""
 
 import os
 import re
@@ -9,7 +9,7 @@ sys.dont_write_bytecode = True
 if sys.version_info < (3, 10):
     sys.exit("lynx: draw needs Python 3.10 or later")
 
-from picture import Picture  # noqa: E402
+from drawing import Drawing  # noqa: E402
 from run import follow  # noqa: E402
 from texts import shown_ends  # noqa: E402
 from transcript import MOST_EVENTS, Refused, TooMany, read  # noqa: E402
@@ -43,7 +43,7 @@ def read_file(name: str) -> bytes:
     return data
 
 
-def picture_of(name: str) -> str:
+def drawing_of(name: str) -> str:
     data = read_file(name)
     try:
         transcript = read(data)
@@ -54,8 +54,8 @@ def picture_of(name: str) -> str:
         raise Stopped(REFUSED, f"{name}:{refused.line}: transcript: {refused.why}") from None
     ends = shown_ends(transcript, story, MOST_ENDS)
     if len(ends) > MOST_ENDS:
-        raise Stopped(TOO_BIG, f"lynx: {name}: too big: {len(ends)} ends, and a picture has at most {MOST_ENDS}")
-    return Picture(transcript, story, ends, title_of(name)).draw()
+        raise Stopped(TOO_BIG, f"lynx: {name}: too big: {len(ends)} ends, and a drawing has at most {MOST_ENDS}")
+    return Drawing(transcript, story, ends, title_of(name)).draw()
 
 
 def title_of(name: str) -> str:
@@ -71,8 +71,8 @@ def is_text(word: str) -> bool:
 def main(words: list[str]) -> int:
     try:
         if len(words) != 1 or not is_text(words[0]):
-            raise Stopped(USAGE, "lynx: usage\n  lynx draw TRANSCRIPT > PICTURE.svg")
-        svg = picture_of(words[0])
+            raise Stopped(USAGE, "lynx: usage\n  lynx draw TRANSCRIPT > DRAWING.svg")
+        svg = drawing_of(words[0])
     except Stopped as stopped:
         if sys.stderr:
             sys.stderr.write(f"{stopped.text}\n")

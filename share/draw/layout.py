@@ -1,4 +1,4 @@
-"""Where everything stands in a picture: lanes side by side, a row for each stamp, a column for each end."""
+"""Where everything stands in a drawing: lanes side by side, a row for each stamp, a column for each end."""
 
 from dataclasses import dataclass
 

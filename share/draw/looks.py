@@ -1,4 +1,4 @@
-"""The colours and strokes of a picture."""
+"""The colours and strokes of a drawing."""
 
 COLOURS = ("#0072b2", "#d55e00", "#009e73", "#cc79a7", "#e69f00", "#56b4e9", "#7b5ea7", "#8c6d31",
            "#5f7f3f", "#c2185b", "#00838f", "#6d4c41")

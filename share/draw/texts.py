@@ -1,4 +1,4 @@
-"""The words of a picture: what stands in its boxes, its columns and its legend."""
+"""The words of a drawing: what stands in its boxes, its columns and its legend."""
 
 from dataclasses import dataclass
 

@@ -28,7 +28,10 @@ unfolding progress
 progress-table t out = refl
 
 -- the view is kept, then the ends leave, then the step and the parcel are added
-matches-made_at : (k : ℕ) (v : HereView) (n : ℕ) (bytes : List ℕ) (xs : List EndId) (t0 t1 t2 : EndId → Entry) (old new : Work) (cargo : List MovingPicture) → progress t1 old ≡ keeps v.value.end (entry.Here (matched_view v n)) (progress t0 old) → progress t2 old ≡ leave_each (hint_kernel v) xs (progress t1 old) → cargo ≡ values_leaving k t1 xs → progress t2 new ≡ sends (hint_kernel v) (packet.Parcel (opposite v.value.end) n v.value.want k v.value.hops bytes cargo) (means (step.Match v.value.end n) (progress t2 old)) → progress t2 new ≡ matches k v n bytes xs (progress t0 old)
+matches-made_at : (k : ℕ) (v : HereView) (n : ℕ) (bytes : List ℕ) (xs : List EndId) (t0 t1 t2 : EndId → Entry) (old new : Work) (cargo : List MovingPicture)
+    → progress t1 old ≡ keeps v.value.end (entry.Here (matched_view v n)) (progress t0 old) → progress t2 old ≡ leave_each (hint_kernel v) xs (progress t1 old) → cargo ≡ values_leaving k t1 xs
+    → progress t2 new ≡ sends (hint_kernel v) (packet.Parcel (opposite v.value.end) n v.value.want k v.value.hops bytes cargo) (means (step.Match v.value.end n) (progress t2 old))
+    → progress t2 new ≡ matches k v n bytes xs (progress t0 old)
 unfolding matches
 matches-made_at k v n bytes xs t0 t1 t2 old new cargo kept left values made =
     let with_kept = λ (d : Progress). sends (hint_kernel v) (packet.Parcel (opposite v.value.end) n v.value.want k v.value.hops bytes (values_leaving k d.table xs)) (means (step.Match v.value.end n) (leave_each (hint_kernel v) xs d)) in
@@ -39,7 +42,9 @@ matches-made_at k v n bytes xs t0 t1 t2 old new cargo kept left values made =
     ∙ ap with_kept kept
 
 -- the same, where the end is told apart from its view
-pub matches-made : (k : ℕ) (v : HereView) (n : ℕ) (bytes : List ℕ) (xs : List EndId) (t0 t1 t2 : EndId → Entry) (old new : Work) (cargo : List MovingPicture) (e : EndId) → v.value.end ≡ e → progress t1 old ≡ keeps e (entry.Here (matched_view v n)) (progress t0 old) → progress t2 old ≡ leave_each (hint_kernel v) xs (progress t1 old) → cargo ≡ values_leaving k t1 xs → progress t2 new ≡ sends (hint_kernel v) (packet.Parcel (opposite e) n v.value.want k v.value.hops bytes cargo) (means (step.Match e n) (progress t2 old)) → progress t2 new ≡ matches k v n bytes xs (progress t0 old)
+pub matches-made : (k : ℕ) (v : HereView) (n : ℕ) (bytes : List ℕ) (xs : List EndId) (t0 t1 t2 : EndId → Entry) (old new : Work) (cargo : List MovingPicture) (e : EndId) → v.value.end ≡ e
+    → progress t1 old ≡ keeps e (entry.Here (matched_view v n)) (progress t0 old) → progress t2 old ≡ leave_each (hint_kernel v) xs (progress t1 old) → cargo ≡ values_leaving k t1 xs
+    → progress t2 new ≡ sends (hint_kernel v) (packet.Parcel (opposite e) n v.value.want k v.value.hops bytes cargo) (means (step.Match e n) (progress t2 old)) → progress t2 new ≡ matches k v n bytes xs (progress t0 old)
 matches-made k v n bytes xs t0 t1 t2 old new cargo e same kept left values made =
     matches-made_at k v n bytes xs t0 t1 t2 old new cargo
     (subst (λ q. progress t1 old ≡ keeps q (entry.Here (matched_view v n)) (progress t0 old)) (sym same) kept) left values

@@ -157,7 +157,7 @@ pub fn withdraw_receive(table: &mut Table, on: EndId, out: &mut Work)
     keep_inward(table, on, value, Inward::Withdrawing { w });
 }
 
-/// The row unwanted: the Cancel of the receive w is answered, where it waits.
+/// The rule of unwanted: the Cancel of the receive w is answered, where it waits.
 pub fn unwanted(table: &mut Table, to: EndId, w: u32, at: u8, hops: u32, out: &mut Work)
     requires room { HasRoom room_of_unwanted out.old }
     ensures part { progress (entries table.new) out.new

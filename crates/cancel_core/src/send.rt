@@ -80,7 +80,7 @@ pub fn withdraw_send(table: &mut Table, on: EndId, out: &mut Work)
     );
 }
 
-/// The row want: the receive w of the opposite end asks for a message, unless it was matched or withdrawn.
+/// The rule of want: the receive w of the opposite end asks for a message, unless it was matched or withdrawn.
 pub fn want(table: &mut Table, to: EndId, w: u32, at: u8, hops: u32, out: &mut Work)
     requires ready { IsReady (entries table.old) to }
     requires room { HasRoom room_of_want out.old }
@@ -137,7 +137,7 @@ fn serve(table: &mut Table, on: EndId, w: u32, site: Site, out: &mut Work)
     resend_on_news(out, kernel, news, informed, inward);
 }
 
-/// The row taken: the send n is completed, where it is matched.
+/// The rule of taken: the send n is completed, where it is matched.
 pub fn finished(table: &mut Table, to: EndId, n: u32, at: u8, hops: u32, out: &mut Work)
     requires room { HasRoom room_of_taken out.old }
     ensures part { progress (entries table.new) out.new
@@ -170,7 +170,7 @@ fn complete(table: &mut Table, on: EndId, n: u32, site: Site, out: &mut Work)
     keep_sending(table, on, value, Sending::Unreported);
 }
 
-/// The row unwant: the receive w of the opposite end is withdrawn, unless it was matched.
+/// The rule of unwant: the receive w of the opposite end is withdrawn, unless it was matched.
 pub fn unwant(table: &mut Table, to: EndId, w: u32, at: u8, hops: u32, out: &mut Work)
     requires room { HasRoom room_of_want out.old }
     ensures part { progress (entries table.new) out.new

@@ -1,7 +1,8 @@
 -- Calls and their causes of refusal.
 use Rattle.std.specs.Prelude.{ℕ}
 use Rattle.charlotte_calls.specs.declared.calls.Cause.{Cause}
-use Rattle.charlotte_calls.specs.declared.calls.Cause.TheVariants.{NoEnd, Busy, Dead, EncloseNoEnd, EncloseBusy, EncloseSame, Late, NoActivity, LinksFull, EncloseTwice}
+use Rattle.charlotte_calls.specs.declared.calls.Cause.TheVariants.{NoEnd, Busy, Dead, EncloseNoEnd, EncloseBusy}
+use Rattle.charlotte_calls.specs.declared.calls.Cause.TheVariants.{EncloseSame, Late, NoActivity, LinksFull, EncloseTwice}
 
 -- the causes of a call are tested in the order of these numbers
 abbrev pub cause_number : Cause → ℕ

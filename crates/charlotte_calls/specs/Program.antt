@@ -7,7 +7,8 @@ use Rattle.charlotte_calls.specs.declared.calls.Answer.TheVariants as answer
 use Rattle.charlotte_calls.specs.declared.calls.Call.{Call}
 use Rattle.charlotte_calls.specs.declared.calls.Call.TheVariants as call
 use Rattle.charlotte_calls.specs.declared.calls.Cause.{Cause}
-use Rattle.charlotte_calls.specs.declared.calls.Cause.TheVariants.{NoEnd, Busy, Dead, EncloseNoEnd, EncloseBusy, EncloseSame, Late, NoActivity, LinksFull, EncloseTwice}
+use Rattle.charlotte_calls.specs.declared.calls.Cause.TheVariants.{NoEnd, Busy, Dead, EncloseNoEnd, EncloseBusy}
+use Rattle.charlotte_calls.specs.declared.calls.Cause.TheVariants.{EncloseSame, Late, NoActivity, LinksFull, EncloseTwice}
 use Rattle.charlotte_calls.specs.declared.program.Next.{Next}
 use Rattle.charlotte_calls.specs.declared.program.Next.TheVariants as next
 

@@ -42,7 +42,48 @@ named w k l d h = d.0 h.0 ∙ ap keyword_text (ok_is l k h.1)
 keyword_takes : (w : List ℕ) (k : Keyword) → keyword_of w ≡ Ok k → w ≡ keyword_text k
 unfolding keyword_of
 keyword_takes w k e =
-    elim (chosen (bytes_eq w (codes "make")) (Ok Make) (cond (bytes_eq w (codes "destroy")) (Ok Destroy) (cond (bytes_eq w (codes "send")) (Ok Send) (cond (bytes_eq w (codes "receive")) (Ok Receive) (cond (bytes_eq w (codes "cancel")) (Ok Cancel) (cond (bytes_eq w (codes "wait")) (Ok Wait) (cond (bytes_eq w (codes "print")) (Ok Print) (cond (bytes_eq w (codes "exit")) (Ok Exit) (Err Form)))))))) (Ok k) e) [ inl h ↦ named w k Make (bytes_eq-Decides w (codes "make")) h | inr h0 ↦ elim (chosen (bytes_eq w (codes "destroy")) (Ok Destroy) (cond (bytes_eq w (codes "send")) (Ok Send) (cond (bytes_eq w (codes "receive")) (Ok Receive) (cond (bytes_eq w (codes "cancel")) (Ok Cancel) (cond (bytes_eq w (codes "wait")) (Ok Wait) (cond (bytes_eq w (codes "print")) (Ok Print) (cond (bytes_eq w (codes "exit")) (Ok Exit) (Err Form))))))) (Ok k) h0.1) [ inl h ↦ named w k Destroy (bytes_eq-Decides w (codes "destroy")) h | inr h1 ↦ elim (chosen (bytes_eq w (codes "send")) (Ok Send) (cond (bytes_eq w (codes "receive")) (Ok Receive) (cond (bytes_eq w (codes "cancel")) (Ok Cancel) (cond (bytes_eq w (codes "wait")) (Ok Wait) (cond (bytes_eq w (codes "print")) (Ok Print) (cond (bytes_eq w (codes "exit")) (Ok Exit) (Err Form)))))) (Ok k) h1.1) [ inl h ↦ named w k Send (bytes_eq-Decides w (codes "send")) h | inr h2 ↦ elim (chosen (bytes_eq w (codes "receive")) (Ok Receive) (cond (bytes_eq w (codes "cancel")) (Ok Cancel) (cond (bytes_eq w (codes "wait")) (Ok Wait) (cond (bytes_eq w (codes "print")) (Ok Print) (cond (bytes_eq w (codes "exit")) (Ok Exit) (Err Form))))) (Ok k) h2.1) [ inl h ↦ named w k Receive (bytes_eq-Decides w (codes "receive")) h | inr h3 ↦ elim (chosen (bytes_eq w (codes "cancel")) (Ok Cancel) (cond (bytes_eq w (codes "wait")) (Ok Wait) (cond (bytes_eq w (codes "print")) (Ok Print) (cond (bytes_eq w (codes "exit")) (Ok Exit) (Err Form)))) (Ok k) h3.1) [ inl h ↦ named w k Cancel (bytes_eq-Decides w (codes "cancel")) h | inr h4 ↦ elim (chosen (bytes_eq w (codes "wait")) (Ok Wait) (cond (bytes_eq w (codes "print")) (Ok Print) (cond (bytes_eq w (codes "exit")) (Ok Exit) (Err Form))) (Ok k) h4.1) [ inl h ↦ named w k Wait (bytes_eq-Decides w (codes "wait")) h | inr h5 ↦ elim (chosen (bytes_eq w (codes "print")) (Ok Print) (cond (bytes_eq w (codes "exit")) (Ok Exit) (Err Form)) (Ok k) h5.1) [ inl h ↦ named w k Print (bytes_eq-Decides w (codes "print")) h | inr h6 ↦ elim (chosen (bytes_eq w (codes "exit")) (Ok Exit) (Err Form) (Ok k) h6.1) [ inl h ↦ named w k Exit (bytes_eq-Decides w (codes "exit")) h | inr h7 ↦ absurd (not_ok k Form h7.1) ] ] ] ] ] ] ] ]
+    elim (chosen (bytes_eq w (codes "make")) (Ok Make)
+    (cond (bytes_eq w (codes "destroy")) (Ok Destroy)
+    (cond (bytes_eq w (codes "send")) (Ok Send)
+    (cond (bytes_eq w (codes "receive")) (Ok Receive)
+    (cond (bytes_eq w (codes "cancel")) (Ok Cancel) (cond (bytes_eq w (codes "wait")) (Ok Wait) (cond (bytes_eq w (codes "print")) (Ok Print) (cond (bytes_eq w (codes "exit")) (Ok Exit) (Err Form))))))))
+    (Ok k) e) [
+      | inl h ↦ named w k Make (bytes_eq-Decides w (codes "make")) h
+      | inr h0 ↦
+          elim (chosen (bytes_eq w (codes "destroy")) (Ok Destroy)
+          (cond (bytes_eq w (codes "send")) (Ok Send)
+          (cond (bytes_eq w (codes "receive")) (Ok Receive)
+          (cond (bytes_eq w (codes "cancel")) (Ok Cancel) (cond (bytes_eq w (codes "wait")) (Ok Wait) (cond (bytes_eq w (codes "print")) (Ok Print) (cond (bytes_eq w (codes "exit")) (Ok Exit) (Err Form)))))))
+          (Ok k) h0.1) [
+            | inl h ↦ named w k Destroy (bytes_eq-Decides w (codes "destroy")) h
+            | inr h1 ↦
+                elim (chosen (bytes_eq w (codes "send")) (Ok Send)
+                (cond (bytes_eq w (codes "receive")) (Ok Receive)
+                (cond (bytes_eq w (codes "cancel")) (Ok Cancel) (cond (bytes_eq w (codes "wait")) (Ok Wait) (cond (bytes_eq w (codes "print")) (Ok Print) (cond (bytes_eq w (codes "exit")) (Ok Exit) (Err Form))))))
+                (Ok k) h1.1) [
+                  | inl h ↦ named w k Send (bytes_eq-Decides w (codes "send")) h
+                  | inr h2 ↦
+                      elim (chosen (bytes_eq w (codes "receive")) (Ok Receive)
+                      (cond (bytes_eq w (codes "cancel")) (Ok Cancel) (cond (bytes_eq w (codes "wait")) (Ok Wait) (cond (bytes_eq w (codes "print")) (Ok Print) (cond (bytes_eq w (codes "exit")) (Ok Exit) (Err Form)))))
+                      (Ok k) h2.1) [
+                        | inl h ↦ named w k Receive (bytes_eq-Decides w (codes "receive")) h
+                        | inr h3 ↦
+                            elim (chosen (bytes_eq w (codes "cancel")) (Ok Cancel)
+                            (cond (bytes_eq w (codes "wait")) (Ok Wait) (cond (bytes_eq w (codes "print")) (Ok Print) (cond (bytes_eq w (codes "exit")) (Ok Exit) (Err Form)))) (Ok k) h3.1) [
+                              | inl h ↦ named w k Cancel (bytes_eq-Decides w (codes "cancel")) h
+                              | inr h4 ↦ elim (chosen (bytes_eq w (codes "wait")) (Ok Wait) (cond (bytes_eq w (codes "print")) (Ok Print) (cond (bytes_eq w (codes "exit")) (Ok Exit) (Err Form))) (Ok k) h4.1) [
+                                | inl h ↦ named w k Wait (bytes_eq-Decides w (codes "wait")) h
+                                | inr h5 ↦ elim (chosen (bytes_eq w (codes "print")) (Ok Print) (cond (bytes_eq w (codes "exit")) (Ok Exit) (Err Form)) (Ok k) h5.1) [
+                                  | inl h ↦ named w k Print (bytes_eq-Decides w (codes "print")) h
+                                  | inr h6 ↦ elim (chosen (bytes_eq w (codes "exit")) (Ok Exit) (Err Form) (Ok k) h6.1)
+                                      [ inl h ↦ named w k Exit (bytes_eq-Decides w (codes "exit")) h | inr h7 ↦ absurd (not_ok k Form h7.1) ]
+                                ]
+                              ]
+                            ]
+                      ]
+                ]
+          ]
+    ]
 
 keyword_again : (k : Keyword) → keyword_of (keyword_text k) ≡ Ok k
 unfolding keyword_of

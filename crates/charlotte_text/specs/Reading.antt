@@ -1,5 +1,6 @@
 -- What words and texts say, and why they say nothing: the readers' answers as functions of the bytes.
-use Rattle.std.specs.Prelude.{◌≡◌, ℕ, zero, suc, List, [], ◌∷◌, Bool, false, ◌&&◌, ◌||◌, not, nat_le, nat_lt, ◌==◌, ◌+◌, ◌-◌, ◌*◌, ◌^◌, if◌then◌else◌, codes, length, take, slice_index, Option, Some, None, Result, Ok, Err}
+use Rattle.std.specs.Prelude.{◌≡◌, ℕ, zero, suc, List, [], ◌∷◌, Bool, false, ◌&&◌, ◌||◌, not, nat_le, nat_lt, ◌==◌, ◌+◌, ◌-◌}
+use Rattle.std.specs.Prelude.{◌*◌, ◌^◌, if◌then◌else◌, codes, length, take, slice_index, Option, Some, None, Result, Ok, Err}
 use Rattle.std.specs.List.{slice_split, list_all}
 use Rattle.std.specs.Char.{is_ascii_digit}
 use Rattle.std.specs.Str.{bytes_eq}
@@ -120,7 +121,10 @@ hex_value b = if nat_le 48 b && nat_le b 57 then b - 48 else if nat_le 65 b && n
 
 -- the byte of two hexadecimal digits, which stands for itself nowhere
 abbrev pub escaped : ℕ → ℕ → Result ℕ Fault
-escaped h l = if nat_lt (hex_value h) 16 && nat_lt (hex_value l) 16 && not (is_plain (16 * hex_value h + hex_value l)) then Ok (16 * hex_value h + hex_value l) else Err Form
+escaped h l =
+    if nat_lt (hex_value h) 16 && nat_lt (hex_value l) 16 && not (is_plain (16 * hex_value h + hex_value l))
+    then Ok (16 * hex_value h + hex_value l)
+    else Err Form
 
 -- the first byte that is spelled, and what stands behind its spelling
 abbrev pub byte_at : List ℕ → Result (ℕ × List ℕ) Fault
@@ -138,7 +142,9 @@ unfoldable pub decoded : List ℕ → Result (List ℕ) Fault
 decoded [] = Ok []
 decoded (b ∷ []) = if is_plain b then Ok (b ∷ []) else Err Form
 decoded (b ∷ h ∷ []) = if is_plain b then with_first b (decoded (h ∷ [])) else Err Form
-decoded (b ∷ h ∷ l ∷ rest) = if is_plain b then with_first b (decoded (h ∷ l ∷ rest)) else if b == 37 then (escaped h l >>= λ v. with_first v (decoded rest)) else Err Form
+decoded (b ∷ h ∷ l ∷ rest) =
+    if is_plain b then with_first b (decoded (h ∷ l ∷ rest)) else if b == 37 then (escaped h l >>= λ v. with_first v (decoded rest))
+    else Err Form
 
 -- the form is right, and the bytes may be too many
 abbrev pub limited : List ℕ → Result (List ℕ) Fault

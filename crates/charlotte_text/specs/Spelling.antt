@@ -1,5 +1,6 @@
 -- How scripts and transcripts spell names, bytes and calls. Each value has one spelling.
-use Rattle.std.specs.Prelude.{ℕ, List, [], ◌∷◌, ◌++◌, Bool, ◌&&◌, ◌||◌, nat_le, ◌==◌, ◌+◌, ◌≤◌, length, ◌/◌, ◌%◌, if◌then◌else◌, codes, decimal}
+use Rattle.std.specs.Prelude.{ℕ, List, [], ◌∷◌, ◌++◌, Bool, ◌&&◌, ◌||◌, nat_le, ◌==◌}
+use Rattle.std.specs.Prelude.{◌+◌, ◌≤◌, length, ◌/◌, ◌%◌, if◌then◌else◌, codes, decimal}
 use Rattle.std.specs.List.{flat_map, AllByRecursion}
 pub use Rattle.charlotte_calls.specs.Ranges.{IsEnd, AreBytes}
 use Rattle.charlotte_calls.specs.declared.names.Side.{Side}
@@ -77,7 +78,8 @@ most_ends version = if version == 1 then 1 else 8
 abbrev pub IsCall : ℕ → Call → Type 0
 IsCall version Make = Unit {0}
 IsCall version (Destroy on) = IsEnd on
-IsCall version (Send on bytes enclose) = IsEnd on × AreBytes bytes × (length bytes ≤ 256) × AllByRecursion IsEnd enclose × (length enclose ≤ most_ends version)
+IsCall version (Send on bytes enclose) =
+    IsEnd on × AreBytes bytes × (length bytes ≤ 256) × AllByRecursion IsEnd enclose × (length enclose ≤ most_ends version)
 IsCall version (Receive on) = IsEnd on
 IsCall version (Cancel on way) = IsEnd on
 IsCall version Wait = Unit {0}

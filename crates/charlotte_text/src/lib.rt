@@ -9,6 +9,11 @@
 //! too large is told apart from bytes of another form.
 //! `is_plain` and `hex_digit` tell how one byte of a text is spelled.
 //! A call takes some 400 bytes, so `read_call_into` puts it into a place that the caller has.
+//!
+//! # What is proved
+//! Each value has one spelling. A writer appends exactly that. A reader finds a value exactly where the bytes spell it. No two byte strings
+//! share a text, no two ends a name, no two calls a line.
+//! By clauses `ok` and `err` of `push_*`; `exact`, `found` and `only` of the readers; the functions of `law.rt`.
 #![tactic(auto)]
 
 mod call;

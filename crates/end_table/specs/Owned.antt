@@ -1,5 +1,6 @@
 -- The ends of a process, in order of maker, count and side.
-use Rattle.std.specs.Prelude.{Bool, true, false, nat_eq, nat_lt, ◌&&◌, ◌||◌, if◌then◌else◌, IsTrue, Option, Some, None, IsSome, List, [], ◌∷◌, Contains, ◌↔◌}
+use Rattle.std.specs.Prelude.{Bool, true, false, nat_eq, nat_lt, ◌&&◌, ◌||◌, if◌then◌else◌}
+use Rattle.std.specs.Prelude.{IsTrue, Option, Some, None, IsSome, List, [], ◌∷◌, Contains, ◌↔◌}
 use Rattle.charlotte_calls.specs.declared.names.EndId.{EndId}
 use Rattle.charlotte_calls.specs.declared.names.Pid.{Pid}
 use Rattle.charlotte_calls.specs.declared.names.Side.{Side}

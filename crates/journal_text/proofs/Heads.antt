@@ -34,7 +34,8 @@ is-before : (head : Head) (n s k stamp : ℕ) → s < head.stamp → IsNoLater h
 is-before head n s k stamp lt h = let le : head.stamp ≤ stamp = h.0 in (omega arith, λ e. absurd (omega arith))
 
 -- of two heads
-first-of_two : (ls : List (List Entry)) (n s : ℕ) (head : Head) → IsFirstBelow ls n (Some head) → first_stamp (entries_at ls n) ≡ Some s → (b : Bool) → ((b ≡ true) × (head.stamp ≤ s)) ⊎ ((b ≡ false) × (s < head.stamp)) → IsFirstBelow ls (n + 1) (cond b (Some head) (Some (record { kernel = n; stamp = s })))
+first-of_two : (ls : List (List Entry)) (n s : ℕ) (head : Head) → IsFirstBelow ls n (Some head) → first_stamp (entries_at ls n) ≡ Some s → (b : Bool) → ((b ≡ true) × (head.stamp ≤ s)) ⊎ ((b ≡ false) × (s < head.stamp))
+    → IsFirstBelow ls (n + 1) (cond b (Some head) (Some (record { kernel = n; stamp = s })))
 first-of_two ls n s head (lt, is, below) here true (inl (e, le)) =
     (omega arith, is, below_more (λ k. (stamp : ℕ) → first_stamp (entries_at ls k) ≡ Some stamp → IsNoLater head k stamp) n below (is-later ls n s head lt le here))
 first-of_two ls n s head (lt, is, below) here true (inr (e, lt2)) = absurd (cc)

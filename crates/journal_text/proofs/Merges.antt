@@ -168,7 +168,8 @@ rising-before k e (g ∷ gs) r f fs h =
     before-if (record { kernel = k; entry = e }) (record { kernel = k; entry = f }) (inl lt)
 
 -- the first head is placed
-IsSoFar-more : (all rests more : ℕ → List Entry) (merged : List Placed) (k : ℕ) (e : Entry) (es : List Entry) → IsSoFar all rests merged → rests k ≡ e ∷ es → more k ≡ es → ((j : ℕ) → j ≢ k → more j ≡ rests j) → AreRising (e ∷ es) → StandsBeforeHeads rests k e → IsSoFar all more (merged ++ record { kernel = k; entry = e } ∷ [])
+IsSoFar-more : (all rests more : ℕ → List Entry) (merged : List Placed) (k : ℕ) (e : Entry) (es : List Entry) → IsSoFar all rests merged → rests k ≡ e ∷ es → more k ≡ es → ((j : ℕ) → j ≢ k → more j ≡ rests j)
+    → AreRising (e ∷ es) → StandsBeforeHeads rests k e → IsSoFar all more (merged ++ record { kernel = k; entry = e } ∷ [])
 IsSoFar-more all rests more merged k e es s is here others rising before =
     let x : Placed = record { kernel = k; entry = e } in
     let o : AreInOrder (merged ++ x ∷ []) = subst (λ (fs : List Entry). IsNext merged k fs) is (s.next k) in
@@ -177,7 +178,9 @@ IsSoFar-more all rests more merged k e es s is here others rising before =
       entries = λ j. elim (eqb_tells j k) [
         | inl w ↦
             let at : k ≡ j = sym w.1 in
-            subst (λ (i : ℕ). of_kernel i (merged ++ x ∷ []) ++ more i ≡ all i) at (ap (λ fs. fs ++ more k) (of_kernel-push merged x k refl) ∙ append_assoc (of_kernel k merged) (e ∷ []) (more k) ∙ ap (λ fs. of_kernel k merged ++ e ∷ fs) here ∙ ap (λ fs. of_kernel k merged ++ fs) (sym is) ∙ s.entries k)
+            subst (λ (i : ℕ). of_kernel i (merged ++ x ∷ []) ++ more i ≡ all i) at
+            (ap (λ fs. fs ++ more k) (of_kernel-push merged x k refl) ∙ append_assoc (of_kernel k merged) (e ∷ []) (more k) ∙ ap (λ fs. of_kernel k merged ++ e ∷ fs) here ∙ ap (λ fs. of_kernel k merged ++ fs) (sym is)
+            ∙ s.entries k)
         | inr w ↦
             let other : k ≢ j = λ q. w.1 (sym q) in
             ap (λ fs. fs ++ more j) (of_kernel-push_other merged x j other) ∙ ap (λ fs. of_kernel j merged ++ fs) (others j w.1) ∙ s.entries j

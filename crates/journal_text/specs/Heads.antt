@@ -1,5 +1,6 @@
 -- What a merge has not placed yet: a queue of entries for each kernel.
-use Rattle.std.specs.Prelude.{◌≡◌, ◌≢◌, ℕ, ◌+◌, ◌<◌, ◌≤◌, IsTrue, List, [], ◌∷◌, length, map, slice_get, slice_index_or, Option, None, Some, MatchOption, nat_le, if◌then◌else◌}
+use Rattle.std.specs.Prelude.{◌≡◌, ◌≢◌, ℕ, ◌+◌, ◌<◌, ◌≤◌, IsTrue, List, [], ◌∷◌, length, map, slice_get}
+use Rattle.std.specs.Prelude.{slice_index_or, Option, None, Some, MatchOption, nat_le, if◌then◌else◌}
 use Rattle.std.specs.List.{sum_by}
 use Rattle.journal_text.specs.declared.merging.Head.{Head}
 use Rattle.kernel_world.specs.Run.{stands_before}
@@ -35,7 +36,9 @@ IsFirstBelow lists n first =
 
 -- an entry of a kernel stands before the first entries of the others
 abbrev pub StandsBeforeHeads : (ℕ → List Entry) → ℕ → Entry → Type 0
-StandsBeforeHeads rests k e = (j : ℕ) → j ≢ k → (f : Entry) (fs : List Entry) → rests j ≡ f ∷ fs → IsTrue (stands_before (record { kernel = k; entry = e }) (record { kernel = j; entry = f }))
+StandsBeforeHeads rests k e =
+    (j : ℕ) → j ≢ k → (f : Entry) (fs : List Entry) → rests j ≡ f ∷ fs
+    → IsTrue (stands_before (record { kernel = k; entry = e }) (record { kernel = j; entry = f }))
 
 -- the entry that stands before all others was popped, and nothing else
 pub record IsPopped (before after : List (List Entry)) (placed : Placed) : Type 0 where

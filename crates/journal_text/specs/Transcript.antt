@@ -87,7 +87,8 @@ result_text Inward Destroyed bytes ends = codes " destroyed"
 -- a report, as `. report p1 0.0b in done hello`
 abbrev pub report_text : Pid → Report → List ℕ
 report_text p r =
-    codes ". report " ++ process_text p ++ codes " " ++ end_text r.on ++ codes " " ++ way_text r.way ++ result_text r.way r.outcome r.bytes r.enclosed
+    codes ". report " ++ process_text p ++ codes " " ++ end_text r.on ++ codes " " ++ way_text r.way
+    ++ result_text r.way r.outcome r.bytes r.enclosed
 
 -- a word that stands only where a Cancel was answered so
 abbrev pub suffix_text : Bool → List ℕ → List ℕ

@@ -1,4 +1,9 @@
 //! The text of entries and the transcript of a run; the order of a merge.
+//!
+//! # What is proved
+//! Of the first entries of two journals the one with the smaller stamp comes first in a merge. Each print call gives exactly the lines of
+//! its definition, and so do the writers of calls, packets and steps.
+//! By `earlier_head`; `transcript_lines`, and what cites it; the clauses of `push_*`.
 #![tactic(auto)]
 
 mod call;

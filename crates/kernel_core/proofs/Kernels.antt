@@ -75,7 +75,8 @@ state_of-at v xs d i p is at below = ap (λ ps. process_at ps p.0) (sym is) ∙ 
     within = subst (λ n. n < length xs) (sym at) (subst (λ n. p.0 < n) (ap length (sym is) ∙ length-map xs process_state) below)
 
 -- a kernel in which one process changes
-pub state_of-set : (v w : KernelView) (xs : List ControlBlock) (i : ℕ) (y : ControlBlock) (p : Pid) → map process_state xs ≡ v.processes → w ≡ record v { processes = map process_state (slice_set xs i y) } → i ≡ p.0 → p.0 < length v.processes → state_of w ≡ with_process p (process_state y) (state_of v)
+pub state_of-set : (v w : KernelView) (xs : List ControlBlock) (i : ℕ) (y : ControlBlock) (p : Pid) → map process_state xs ≡ v.processes → w ≡ record v { processes = map process_state (slice_set xs i y) } → i ≡ p.0
+    → p.0 < length v.processes → state_of w ≡ with_process p (process_state y) (state_of v)
 unfolding state_of
 state_of-set v w xs i y p is now at below = ap state_of now ∙ λ j. record (state_of v) {
   process = λ q. (process_at-set xs i y q within ∙ ap (λ n. cond (nat_eq n q) (process_state y) (process_at (map process_state xs) q)) at

@@ -34,7 +34,8 @@ pub record IsReadyToCall (s : State) (r : Request) (mine : List EndId) (event : 
 pub record IsReadyToTake (s : State) (what : What) (event : Event) : Type 0 where
   pub begun : IsBegun (room_of_packet what) 0 event
   pub placed : ArePlaced s.table (brought what)
-  pub spare : IsHeard (entries s.table) (what_picture what) → 0 < (room_of_packet what).reports → HaveSpare (room_of_packet what).reports s.processes
+  pub spare : IsHeard (entries s.table) (what_picture what) → 0 < (room_of_packet what).reports
+      → HaveSpare (room_of_packet what).reports s.processes
   pub place : IsHeard (entries s.table) (what_picture what) → HavePlace s.processes
 
 -- what a kernel does with a packet: one that names a kernel that is not there is dropped

@@ -30,7 +30,8 @@ IsStepOf t xs made stamp u ys made_now effect p mine c =
 -- the event is the step of a call of p
 abbrev pub IsCalled : State → ℕ → State → Effect → Pid → Call → Type 0
 IsCalled old stamp new effect p c =
-    (mine : List EndId) × IsCallWith p (entries old.table) mine c × IsStepOf old.table old.processes old.made stamp new.table new.processes new.made effect p mine c
+    (mine : List EndId) × IsCallWith p (entries old.table) mine c
+    × IsStepOf old.table old.processes old.made stamp new.table new.processes new.made effect p mine c
 
 -- a `Work` with which an event of this stamp begins
 abbrev pub Begins : TableView → ℕ → Work → Type 0
@@ -43,4 +44,5 @@ AreListedFor p t mine c = (c ≡ call.Wait → ⊥) → IsCallWith p (entries t)
 -- the call is refused for this cause, or not at all
 abbrev pub IsRefusedFor : TableView → List ControlBlock → ℕ → Pid → Call → Option Cause → Type 0
 IsRefusedFor t xs made p c cause =
-    (s : Kernel) (mine : List EndId) → HasParts t xs made s → IsCallWith p (entries t) mine c → refusal p s.table s.made mine (has_report (process_of p s)) c ≡ cause
+    (s : Kernel) (mine : List EndId) → HasParts t xs made s → IsCallWith p (entries t) mine c
+    → refusal p s.table s.made mine (has_report (process_of p s)) c ≡ cause

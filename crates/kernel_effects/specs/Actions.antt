@@ -22,7 +22,8 @@ use Rattle.end_table.specs.declared.entry.Inward.{Inward}
 use Rattle.end_table.specs.declared.entry.Inward.TheVariants as inward
 use Rattle.end_table.specs.declared.entry.Outward.{Outward}
 use Rattle.end_table.specs.declared.entry.Outward.TheVariants as outward
-use Rattle.kernel_step.specs.Actions.{hint_kernel, enclosed_of, kernel_numbers, values_leaving, send_report, dead_receive_report, noticed_value, noticed_outward, noticed_inward, learned_view}
+use Rattle.kernel_step.specs.Actions.{hint_kernel, enclosed_of, kernel_numbers, values_leaving, send_report}
+use Rattle.kernel_step.specs.Actions.{dead_receive_report, noticed_value, noticed_outward, noticed_inward, learned_view}
 use Rattle.kernel_effects.specs.Effect.{Effect, changed, sent, puts, stays, turns, brings, for_holder}
 
 -- ---- packets

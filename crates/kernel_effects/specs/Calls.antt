@@ -31,7 +31,8 @@ make_effect k made p =
     let a = made_end k made in
     let b = opposite a in
     record nothing {
-      entry = puts b (entry.Here (settled (holder.Owner p) (new_end b k))) (puts a (entry.Here (settled (holder.Owner p) (new_end a k))) stays);
+      entry =
+          puts b (entry.Here (settled (holder.Owner p) (new_end b k))) (puts a (entry.Here (settled (holder.Owner p) (new_end a k))) stays);
       steps = step.Make p a b ∷ [];
     }
 

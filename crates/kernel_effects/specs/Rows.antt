@@ -1,6 +1,7 @@
 -- What each packet does, by the entry of the end that it is addressed to. k is this kernel, t what it keeps of each end, to the
 -- end addressed, v its view where it is here; at and hops are kernel and hop count of the end that sent the packet.
-use Rattle.std.specs.Prelude.{ℕ, Bool, true, false, nat_eq, nat_lt, nat_le, ◌&&◌, not, List, [], ◌∷◌, ◌++◌, map, if◌then◌else◌, Option, Some, None}
+use Rattle.std.specs.Prelude.{ℕ, Bool, true, false, nat_eq, nat_lt, nat_le, ◌&&◌, not}
+use Rattle.std.specs.Prelude.{List, [], ◌∷◌, ◌++◌, map, if◌then◌else◌, Option, Some, None}
 use Rattle.std.specs.List.{flat_map}
 use Rattle.charlotte_calls.specs.Names.{opposite}
 use Rattle.charlotte_calls.specs.declared.calls.Answer.TheVariants as answer
@@ -24,7 +25,8 @@ use Rattle.end_table.specs.declared.entry.Outward.TheVariants as outward
 use Rattle.kernel_step.specs.Actions.{learned_view, is_withdrawing, send_report, receive_report}
 use Rattle.kernel_step.specs.Rows.{is_here, passing, arriving, ends_in, asks, awaits}
 use Rattle.kernel_effects.specs.Effect.{Effect, changed, sent, nothing, puts, stays, brings, for_holder}
-use Rattle.kernel_effects.specs.Actions.{arrival_packets, cancel_notice, ends_arrivals, forget_packets, learn_effect, match_waiting_effect, news_packets, notice_effect, noticed_view, passes_each, receive_notice}
+use Rattle.kernel_effects.specs.Actions.{arrival_packets, cancel_notice, ends_arrivals, forget_packets, learn_effect}
+use Rattle.kernel_effects.specs.Actions.{match_waiting_effect, news_packets, notice_effect, noticed_view, passes_each, receive_notice}
 
 -- the packets that go again where this news reaches a view
 abbrev pub view_news : ℕ → ℕ → ℕ → HereView → Inward → List (ℕ × PictureWhat)
@@ -112,7 +114,8 @@ receives_effect k n at hops bytes came v =
     let late = is_withdrawing v.inward in
     record {
       entry = puts e (entry.Here (taken_view at hops v)) (brings came (λ m. entry.Here (settled v.holder m)) stays);
-      packets = (at, packet.Taken (opposite e) n k v.value.hops) ∷ (flat_map (arrival_packets k) came ++ view_news k at hops v inward.Unreported);
+      packets =
+          (at, packet.Taken (opposite e) n k v.value.hops) ∷ (flat_map (arrival_packets k) came ++ view_news k at hops v inward.Unreported);
       reports = for_holder v.holder (receive_report e bytes (ends_in came) ∷ []);
       answers = for_holder v.holder (if late then answer.Refused cause.Late ∷ [] else []);
       steps = take_steps e n late v.holder;
@@ -209,7 +212,9 @@ moved_effect k to at hops entry.Nothing = nothing
 moved_effect k to at hops (entry.Here v) =
     if v.value.dead
     then nothing
-    else record (learn_effect k at hops v) { packets = view_news k at hops v v.inward ++ (at, packet.Known (opposite v.value.end) hops) ∷ [] }
+    else record (learn_effect k at hops v) {
+      packets = view_news k at hops v v.inward ++ (at, packet.Known (opposite v.value.end) hops) ∷ [];
+    }
 moved_effect k to at hops (entry.Left there h) = sent ((there, packet.Moved to at hops) ∷ [])
 moved_effect k to at hops (entry.Destroyed m) =
     record (sent ((at, packet.Gone (opposite to) k) ∷ [])) { entry = puts to (entry.Destroyed (learned at hops m)) stays }
@@ -218,7 +223,9 @@ abbrev pub known_effect : ℕ → ℕ → Entry → Effect
 known_effect k hops entry.Nothing = nothing
 known_effect k hops (entry.Here v) =
     if not v.value.dead && nat_eq v.value.hops hops
-    then record (sent (forget_packets k v.value)) { entry = puts v.value.end (entry.Here (record v { value = record v.value { trail = 0 } })) stays }
+    then record (sent (forget_packets k v.value)) {
+      entry = puts v.value.end (entry.Here (record v { value = record v.value { trail = 0 } })) stays;
+    }
     else nothing
 known_effect k hops (entry.Left there h) = nothing
 known_effect k hops (entry.Destroyed m) = nothing

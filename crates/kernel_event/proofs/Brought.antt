@@ -1,4 +1,4 @@
--- Packets that bring values: their parts, in the order of their row.
+-- Packets that bring values: their parts, in the order of their rule.
 use Rattle.std.proofs.Common.{arith, length-append, ◌≤◌, ◌≡◌, ℕ, ◌+◌, Bool, true, false, not, ◌&&◌, ◌||◌, List, [], ◌∷◌, Option, Some, None, IsSome, true≢false, length, map, refl, sym, ap, subst, ◌∙◌}
 use Rattle.std.proofs.lemmas.List.{append-nil, length-map}
 use Rattle.std.specs.List.{list_any}
@@ -126,7 +126,7 @@ module _ (k n at hops : ℕ) (bytes : List ℕ) (came : List MovingPicture) (xs 
   silent : settled_first.packets ≡ []
   silent = settle_each-sends v.holder came (progress t out0) ∙ no_pictures t out0 none
 
-  -- they are the row
+  -- they are the rule
   pub parcel-taken : (made : ℕ) (to : EndId) (ms : List MovingPicture) (out3 : Work) (m : ℕ) → came ≡ arriving k made v.holder t ms → xs ≡ ends_in came → m ≡ length out1.packets.items
       → progress t2 out3 ≡ put_behind m (m + 1) (progress t2 out2) → progress t2 out3 ≡ parcel_row k made to n at hops bytes ms (Some v) (progress t out0)
   unfolding progress
@@ -159,7 +159,7 @@ module _ (k n at hops : ℕ) (bytes : List ℕ) (came : List MovingPicture) (xs 
       after : length (tell_news (take_message (tell_arrivals k came settled_first))).packets ≡ length out2.packets.items
       after = ap (λ d. length d.packets) (ap (λ u. tell_news (take_message u)) (sym arrived) ∙ sym took) ∙ pictures-length t2 out2
 
--- The parts of a message that comes back to its matched send are its row.
+-- The parts of a message that comes back to its matched send are its rule.
 pub back-taken : (k made from : ℕ) (to : EndId) (n : ℕ) (ms came : List MovingPicture) (v : HereView) (dead : Bool) (t t2 t3 : EndId → Entry) (out0 out1 out2 out3 out4 : Work) (m sent : ℕ)
     → out0.packets.items ≡ [] → dead ≡ (not v.value.dead && is_withdrawing v.inward) → ((u : EndId → Entry) → progress u out1 ≡ means (step.Back to n dead) (progress u out0))
     → came ≡ arriving k made v.holder t ms → progress t2 out2 ≡ tell_arrivals k came (gives_back came v (progress t out1))

@@ -71,7 +71,9 @@ with_here-more h [] m t = refl
 with_here-more h (c ∷ came) m t = with_here-more h came m (put t c.end (entry.Here (settled h c)))
 
 -- the first value that becomes here, and then the others
-pub arriving-more : (k made : ℕ) (h : Holder) (t : EndId → Entry) (m : MovingPicture) (ms all before mid : List MovingPicture) → all ≡ m ∷ ms → mid ≡ cond (is_carried k made t m && not (list_any (end_eq m.end) (ends_in before))) (before ++ m ∷ []) before → mid ++ arriving k made h (with_here h mid t) ms ≡ before ++ arriving k made h (with_here h before t) all
+pub arriving-more : (k made : ℕ) (h : Holder) (t : EndId → Entry) (m : MovingPicture) (ms all before mid : List MovingPicture) → all ≡ m ∷ ms
+    → mid ≡ cond (is_carried k made t m && not (list_any (end_eq m.end) (ends_in before))) (before ++ m ∷ []) before
+    → mid ++ arriving k made h (with_here h mid t) ms ≡ before ++ arriving k made h (with_here h before t) all
 arriving-more k made h t m ms all before mid is added =
     ap (λ l. l ++ arriving k made h (with_here h l t) ms) (added ∙ ap (λ b. cond b (before ++ m ∷ []) before) (carried-with_here k made h before t m))
     ∙ by (is_carried k made (with_here h before t) m)

@@ -4,7 +4,8 @@ use Rattle.charlotte_calls.specs.declared.calls.Call.TheVariants as call
 use Rattle.charlotte_calls.specs.declared.packet.What.{What}
 use Rattle.charlotte_calls.specs.declared.packet.What.TheVariants as packet
 use Rattle.charlotte_calls.specs.declared.work.Room.{Room}
-use Rattle.kernel_step.specs.Room.{no_room, one_step, room_of_back, room_of_destroy, room_of_forgets, room_of_gone, room_of_moved, room_of_parcel, room_of_receive, room_of_send, room_of_taken, room_of_unwanted, room_of_want}
+use Rattle.kernel_step.specs.Room.{no_room, one_step, room_of_back, room_of_destroy, room_of_forgets, room_of_gone, room_of_moved}
+use Rattle.kernel_step.specs.Room.{room_of_parcel, room_of_receive, room_of_send, room_of_taken, room_of_unwanted, room_of_want}
 
 -- by a packet: up to eight ends that it brings or that are forgotten, two packets that news sends again, and its own
 abbrev pub room_of_packet : What → Room

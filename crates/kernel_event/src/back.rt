@@ -25,7 +25,7 @@ pub(crate) struct Returned {
     pub(crate) n: u32,
 }
 
-/// The row back: at its matched send the message is reported as destroyed, and its ends are the sender's again. Anywhere
+/// The rule of back: at its matched send the message is reported as destroyed, and its ends are the sender's again. Anywhere
 /// else its ends are destroyed. The values are taken out of the packet.
 #[inline(never)]
 pub(crate) fn back(

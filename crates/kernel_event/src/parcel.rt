@@ -24,7 +24,7 @@ pub(crate) struct Head {
     pub(crate) site: Site,
 }
 
-/// The row parcel: at the receive that it was sent for the message is taken, and its ends become Here. Anywhere else the
+/// The rule of parcel: at the receive that it was sent for the message is taken, and its ends become Here. Anywhere else the
 /// ends leave again, and go back with it. The values are taken out of the packet.
 #[inline(never)]
 pub(crate) fn parcel(

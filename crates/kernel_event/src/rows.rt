@@ -72,7 +72,7 @@ pub fn row(table: &mut Table, made: u32, from: u8, what: &mut What, out: &mut Wo
     }
 }
 
-/// The row gone: the opposite end, at kernel `at`, is destroyed.
+/// The rule of gone: the opposite end, at kernel `at`, is destroyed.
 fn gone(table: &mut Table, to: EndId, at: u8, out: &mut Work)
     requires ready { IsReady (entries table.old) to }
     requires room { HasRoom room_of_gone out.old }

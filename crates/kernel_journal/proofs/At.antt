@@ -22,7 +22,8 @@ use Rattle.kernel_journal.specs.declared.fault.Stop.{Stop}
 use Rattle.kernel_journal.specs.declared.fault.Stop.TheVariants as stop
 use Rattle.kernel_journal.specs.declared.lines.Replay.{Replay}
 
-pub left-more : (taken : List LineKind) (k : LineKind) (Old New : List LineKind → Last → Type 0) → ((more : List LineKind) (last : Last) → IsReplay (taken ++ k ∷ more) last ↔ Old (k ∷ more) last) → ((more : List LineKind) (last : Last) → Old (k ∷ more) last ↔ New more last) → AreLeft (taken ++ k ∷ []) New
+pub left-more : (taken : List LineKind) (k : LineKind) (Old New : List LineKind → Last → Type 0) → ((more : List LineKind) (last : Last) → IsReplay (taken ++ k ∷ more) last ↔ Old (k ∷ more) last)
+    → ((more : List LineKind) (last : Last) → Old (k ∷ more) last ↔ New more last) → AreLeft (taken ++ k ∷ []) New
 left-more taken k Old New left leads more last = (
   λ r. (leads more last).0 ((left more last).0 (subst (λ l. IsReplay l last) (append_assoc taken (k ∷ []) more) r)),
   λ f. subst (λ l. IsReplay l last) (sym (append_assoc taken (k ∷ []) more)) ((left more last).1 ((leads more last).1 f)),

@@ -170,7 +170,8 @@ pub ask-goes : (old new : Body) (n : Nodes) (stamp k : ℕ) (p : Pid) (c : Call)
 ask-goes old new n stamp k p c noted ready go can called is =
     event-goes old (with_nodes old n) new (Calls k p c called.0) stamp noted ready go.0 go.1 (call-allowed old k p c called.0 can called.1) (home-within old.setting k p ready.valid can.0 can.1) (after-call old n k p c noted called) is
 
-pub ask-stops : (old : Body) (n : Nodes) (stamp k : ℕ) (p : Pid) (c : Call) (noted : Noted) (s : Stop) → MayGoOn old → CanCall old.setting (world_in old) k p c → HasCalled old k p noted n c → (s ≡ stop.Differs) × (noted.stamp ≡ stamp → IsTrue (comes_after old.latest stamp k) → ⊥) → StopsAt old (line.CallEntry stamp k p c) s
+pub ask-stops : (old : Body) (n : Nodes) (stamp k : ℕ) (p : Pid) (c : Call) (noted : Noted) (s : Stop) → MayGoOn old → CanCall old.setting (world_in old) k p c → HasCalled old k p noted n c
+    → (s ≡ stop.Differs) × (noted.stamp ≡ stamp → IsTrue (comes_after old.latest stamp k) → ⊥) → StopsAt old (line.CallEntry stamp k p c) s
 ask-stops old n stamp k p c noted s go can called d =
     subst (StopsAt old (line.CallEntry stamp k p c)) (sym d.0) (event-stops old (with_nodes old n) (Calls k p c called.0) stamp noted go.0 (call-allowed old k p c called.0 can called.1) (after-call old n k p c noted called) d.1)
 
@@ -188,7 +189,8 @@ take-goes old new n stamp k from q noted ready go zero took is =
     subst (λ x. Goes old x new) (taking-kind old stamp k from q zero took.1)
     (event-goes old (with_nodes old n) new (Takes k from) stamp noted ready go.0 go.1 (taking-allowed old k from q took.1) took.0 (after-take old n k from q noted took) is)
 
-pub take-stops : (old : Body) (n : Nodes) (stamp k from : ℕ) (q : Picture) (noted : Noted) (s : Stop) → MayGoOn old → q.stamp ≡ 0 → HasTaken old k from q (Some noted) n → (s ≡ stop.Differs) × (noted.stamp ≡ stamp → IsTrue (comes_after old.latest stamp k) → ⊥) → StopsAt old (line.PacketEntry stamp k from q) s
+pub take-stops : (old : Body) (n : Nodes) (stamp k from : ℕ) (q : Picture) (noted : Noted) (s : Stop) → MayGoOn old → q.stamp ≡ 0 → HasTaken old k from q (Some noted) n
+    → (s ≡ stop.Differs) × (noted.stamp ≡ stamp → IsTrue (comes_after old.latest stamp k) → ⊥) → StopsAt old (line.PacketEntry stamp k from q) s
 take-stops old n stamp k from q noted s go zero took d =
     subst (StopsAt old (line.PacketEntry stamp k from q)) (sym d.0)
     (subst (λ x. Refutes (course_of old) x) (taking-kind old stamp k from q zero took.1) (event-stops old (with_nodes old n) (Takes k from) stamp noted go.0 (taking-allowed old k from q took.1) (after-take old n k from q noted took) d.1))

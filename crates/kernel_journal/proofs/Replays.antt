@@ -104,12 +104,14 @@ pub step-may : (lines : List Line) (i : ℕ) (l : Line) (r : Replay) → i < len
 step-may lines i l r below at is =
     let on : LeadsOn is.place l (drop (i + 1) lines) = first-leads is.place l (drop (i + 1) lines) (subst (LeadOn is.place) (left-is lines i l below at) is.on) in (kinds_in (take i lines), is.place, on.behind, is.at, on.step)
 
-pub step-more : (lines : List Line) (i : ℕ) (l : Line) (old new : Replay) → i < length lines → l ≡ get_or lines i l → IsReplayingTo lines i old → ((ks : List LineKind) (place behind : Place) → IsAt ks place old → next place l.what ≡ Ok behind → IsAt (ks ++ l.what ∷ []) behind new) → IsReplayingTo lines (i + 1) new
+pub step-more : (lines : List Line) (i : ℕ) (l : Line) (old new : Replay) → i < length lines → l ≡ get_or lines i l → IsReplayingTo lines i old
+    → ((ks : List LineKind) (place behind : Place) → IsAt ks place old → next place l.what ≡ Ok behind → IsAt (ks ++ l.what ∷ []) behind new) → IsReplayingTo lines (i + 1) new
 step-more lines i l old new below at is takes =
     subst (λ t. IsReplaying t (drop (i + 1) lines) new) (sym (taken-is lines i l below at))
     (replaying-more (take i lines) (drop (i + 1) lines) l old new (subst (λ d. IsReplaying (take i lines) d old) (left-is lines i l below at) is) takes)
 
-pub step-fault : (lines : List Line) (i : ℕ) (l : Line) (old : Replay) (f : ReplayFault) → i < length lines → l ≡ get_or lines i l → IsReplayingTo lines i old → ((ks : List LineKind) (place behind : Place) → IsAt ks place old → next place l.what ≡ Ok behind → IsFaultAt ks l f) → IsReplayFault lines f
+pub step-fault : (lines : List Line) (i : ℕ) (l : Line) (old : Replay) (f : ReplayFault) → i < length lines → l ≡ get_or lines i l → IsReplayingTo lines i old
+    → ((ks : List LineKind) (place behind : Place) → IsAt ks place old → next place l.what ≡ Ok behind → IsFaultAt ks l f) → IsReplayFault lines f
 step-fault lines i l old f below at is fails =
     replaying-fault lines (take i lines) (drop (i + 1) lines) l old f (sym (take-append-drop i lines) ∙ ap (λ d. take i lines ++ d) (left-is lines i l below at))
     (subst (λ d. IsReplaying (take i lines) d old) (left-is lines i l below at) is) fails

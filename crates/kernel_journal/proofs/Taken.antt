@@ -73,10 +73,12 @@ taken-of b n k from what noted w h = (w.0, w.1, h)
 pub first-ready : (old new : Body) (n : Nodes) (stamp k from : ℕ) (what : PictureWhat) (noted : Noted) → IsReady old → MayGoOn old → Waits old from k what → Happens old.setting (Takes k from) noted old.nodes.nodes.items n.nodes.items → IsNoted stamp k noted (with_nodes old n) new → IsReady new
 first-ready old new n stamp k from what noted ready go w h is = take-ready old new n stamp k from (told_packet what) noted ready go (taken-of old n k from what noted w h) is
 
-pub first-goes : (old new : Body) (n : Nodes) (stamp k from : ℕ) (what : PictureWhat) (noted : Noted) → IsReady old → MayGoOn old → Waits old from k what → Happens old.setting (Takes k from) noted old.nodes.nodes.items n.nodes.items → IsNoted stamp k noted (with_nodes old n) new → Goes old (line.PacketEntry stamp k from (told_packet what)) new
+pub first-goes : (old new : Body) (n : Nodes) (stamp k from : ℕ) (what : PictureWhat) (noted : Noted) → IsReady old → MayGoOn old → Waits old from k what
+    → Happens old.setting (Takes k from) noted old.nodes.nodes.items n.nodes.items → IsNoted stamp k noted (with_nodes old n) new → Goes old (line.PacketEntry stamp k from (told_packet what)) new
 first-goes old new n stamp k from what noted ready go w h is = take-goes old new n stamp k from (told_packet what) noted ready go refl (taken-of old n k from what noted w h) is
 
-pub first-stops : (old : Body) (n : Nodes) (stamp k from : ℕ) (what : PictureWhat) (noted : Noted) (s : Stop) → MayGoOn old → Waits old from k what → Happens old.setting (Takes k from) noted old.nodes.nodes.items n.nodes.items → (s ≡ stop.Differs) × (noted.stamp ≡ stamp → IsTrue (comes_after old.latest stamp k) → ⊥)
+pub first-stops : (old : Body) (n : Nodes) (stamp k from : ℕ) (what : PictureWhat) (noted : Noted) (s : Stop) → MayGoOn old → Waits old from k what
+    → Happens old.setting (Takes k from) noted old.nodes.nodes.items n.nodes.items → (s ≡ stop.Differs) × (noted.stamp ≡ stamp → IsTrue (comes_after old.latest stamp k) → ⊥)
     → StopsAt old (line.PacketEntry stamp k from (told_packet what)) s
 first-stops old n stamp k from what noted s go w h d = take-stops old n stamp k from (told_packet what) noted s go refl (taken-of old n k from what noted w h) d
 

@@ -31,7 +31,9 @@ use Rattle.end_table.specs.declared.entry.Inward.{Inward}
 use Rattle.end_table.specs.declared.entry.Inward.TheVariants as inward
 use Rattle.end_table.specs.declared.entry.Outward.{Outward}
 use Rattle.end_table.specs.declared.entry.Outward.TheVariants as outward
-use Rattle.kernel_step.specs.Actions.{here, hint_kernel, enclosed_of, reports, answers, send_report, dead_receive_report, kernel_numbers, forget_at, forgets, leaves, leaves_here, leave_each, values_leaving, matches, match_waiting, tells_gone, ends_idle, ends_idle_here, end_each, ends, held, hold_each, notice_send, notice_receive, notices, learned_view, resends_receive, tells_moved, resends, resends_on_news, learns, settle_each, tells_arrival, tell_arrivals}
+use Rattle.kernel_step.specs.Actions.{here, hint_kernel, enclosed_of, reports, answers, send_report, dead_receive_report, kernel_numbers, forget_at, forgets, leaves, leaves_here}
+use Rattle.kernel_step.specs.Actions.{leave_each, values_leaving, matches, match_waiting, tells_gone, ends_idle, ends_idle_here, end_each, ends, held, hold_each, notice_send}
+use Rattle.kernel_step.specs.Actions.{notice_receive, notices, learned_view, resends_receive, tells_moved, resends, resends_on_news, learns, settle_each, tells_arrival, tell_arrivals}
 use Rattle.kernel_step.specs.Progress.{Progress, sends, reports_to, answers_to, means, keeps}
 use Rattle.kernel_named.specs.Named.{AreSentWithin, IsSentWithin, NamesBelow, TableNamesBelow}
 use Rattle.kernel_named.proofs.Values.{IsNamed, both, cleared-named, ended_entry-names, hint-below, learned-named, leaving-named, left_entry-names, put-names, trail-below}

@@ -23,9 +23,12 @@ use Rattle.end_table.specs.declared.entry.Inward.TheVariants as inward
 use Rattle.end_table.specs.declared.entry.Outward.TheVariants as outward
 use Rattle.kernel_step.specs.Actions.{send_report, receive_report, answers, is_withdrawing, learned_view}
 use Rattle.kernel_step.specs.Progress.{Progress}
-use Rattle.kernel_step.specs.Rows.{wants, want_here, want_row, voids, unwant_here, unwant_row, frees, unwanted_here, unwanted_row, passing, arriving, ends_in, takes, receives, pass_each, sends_back, is_asked, asks, parcel_row, completes, is_matched, awaits, taken_row, gives_back, notices_first, end_arrivals, means_back, is_here, back_row, erases, gone_here, gone_row, moved_here, mark_learns, moved_mark, moved_row, known_here, known_row, forget_row, goneseen_row, row}
+use Rattle.kernel_step.specs.Rows.{wants, want_here, want_row, voids, unwant_here, unwant_row, frees, unwanted_here, unwanted_row, passing, arriving, ends_in, takes, receives}
+use Rattle.kernel_step.specs.Rows.{pass_each, sends_back, is_asked, asks, parcel_row, completes, is_matched, awaits, taken_row, gives_back, notices_first, end_arrivals, means_back}
+use Rattle.kernel_step.specs.Rows.{is_here, back_row, erases, gone_here, gone_row, moved_here, mark_learns, moved_mark, moved_row, known_here, known_row, forget_row, goneseen_row, row}
 use Rattle.kernel_named.specs.Named.{NamesBelow}
-use Rattle.kernel_named.proofs.Actions.{IsNamedView, Within, answers-within, either-within, ends_idle-within, forgets-within, keeps-within, learns-within, leaves-within, match_waiting-within, means-within, notices-within, reports-within, resends_on_news-within, sends-within, settle_each-within, tell_arrivals-within}
+use Rattle.kernel_named.proofs.Actions.{IsNamedView, Within, answers-within, either-within, ends_idle-within, forgets-within, keeps-within, learns-within, leaves-within}
+use Rattle.kernel_named.proofs.Actions.{match_waiting-within, means-within, notices-within, reports-within, resends_on_news-within, sends-within, settle_each-within, tell_arrivals-within}
 use Rattle.kernel_named.proofs.Values.{IsNamed, arriving-named, cleared-named, learned-named, left-values, passing-named, values-named}
 
 asks-named : (n : ℕ) (x : ℕ) (y : Entry) → NamesBelow n y → IsNamedView n (asks x y)

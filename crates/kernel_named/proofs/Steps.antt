@@ -29,7 +29,8 @@ use Rattle.end_table.specs.declared.entry.Inward.TheVariants as inward
 use Rattle.end_table.specs.declared.entry.Outward.TheVariants as outward
 use Rattle.kernel_step.specs.Actions.{here, hint_kernel, enclosed_of}
 use Rattle.kernel_step.specs.Calls.{encloses, ends_each, ends_here, made_end, makes, posts, refusal, starts_send, withdraws_receive, withdraws_send}
-use Rattle.kernel_step.specs.Kernel.{Kernel, Outcome, answers_wait, begins, call_step, cancels, cancels_receive, closes, decides, exits, granted, granted_on, has_report, is_waiting, join_answers, join_reports, joins, next_stamp, performs, process_of, reported_entry, stands, take_step, turns, waits, with_process}
+use Rattle.kernel_step.specs.Kernel.{Kernel, Outcome, answers_wait, begins, call_step, cancels, cancels_receive, closes, decides, exits, granted, granted_on, has_report}
+use Rattle.kernel_step.specs.Kernel.{is_waiting, join_answers, join_reports, joins, next_stamp, performs, process_of, reported_entry, stands, take_step, turns, waits, with_process}
 use Rattle.kernel_step.specs.Progress.{Progress, means}
 use Rattle.kernel_step.specs.Rows.{row}
 use Rattle.kernel_step.specs.declared.phase.Phase.{Phase}

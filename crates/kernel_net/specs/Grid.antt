@@ -1,5 +1,5 @@
--- All rings of a net while it is made: the rows of those who put, one for each kernel that has rings to all, and the lists of those who get. Private clauses
--- alone cite it.
+-- All rings of a net while it is made: the rows of those who put, one for each kernel
+-- that has rings to all, and the lists of those who get. Private clauses alone cite it.
 use Rattle.std.specs.Prelude.{◌≡◌, ◌<◌, ℕ, List, [], ◌∷◌, ◌++◌, All, length, map, take, drop, slice_index_or}
 use Rattle.std.specs.Global.{Vec}
 use Rattle.kernel_net.specs.Rings.{Ring, Outlet, Inlet, capacity_of}
@@ -48,4 +48,5 @@ pub record IsGrid (capacity : ℕ) (kernels : ℕ) (count : ℕ) (rows : List (L
 -- the ports have the rows and the lists, by their numbers
 pub record ArePorts (count : ℕ) (ports : List PortView) (rows : List (List Outlet)) (lists : List (List Inlet)) : Type 0 where
   pub number : length ports ≡ count
-  pub port : (k : ℕ) (d : PortView) → k < count → slice_index_or ports k d ≡ record { kernel = k; out = slice_index_or rows k []; into = slice_index_or lists k [] }
+  pub port : (k : ℕ) (d : PortView) → k < count
+      → slice_index_or ports k d ≡ record { kernel = k; out = slice_index_or rows k []; into = slice_index_or lists k [] }

@@ -46,7 +46,8 @@ no-pictures [] e = refl
 no-pictures (x ∷ xs) e = let no : picture_in x ∷ map picture_in xs ≡ [] = e in cc
 
 -- a packet joins the list of its kernel
-pub sent_in-push : (lists : Lists) (t : ℕ) (before after : VecDeque (ℕ × Packet) Global) (sent : ℕ × Packet) → t < length lists → before ≡ get_or lists t before → after.items ≡ before.items ++ sent ∷ [] → (to : ℕ) → sent_in (set lists t after) to ≡ sent_in lists to ++ to_kernel to ((t, picture_in sent) ∷ [])
+pub sent_in-push : (lists : Lists) (t : ℕ) (before after : VecDeque (ℕ × Packet) Global) (sent : ℕ × Packet) → t < length lists → before ≡ get_or lists t before → after.items ≡ before.items ++ sent ∷ [] → (to : ℕ)
+    → sent_in (set lists t after) to ≡ sent_in lists to ++ to_kernel to ((t, picture_in sent) ∷ [])
 sent_in-push lists t before after sent below is items to = by (eqb_tells to t)
   where
     here : sent_in (set lists t after) t ≡ sent_in lists t ++ picture_in sent ∷ []
@@ -59,7 +60,8 @@ sent_in-push lists t before after sent below is items to = by (eqb_tells to t)
     by (inr e) = map-set_other pictures lists t to after [] e.1 ∙ sym (append-nil (sent_in lists to)) ∙ ap (λ qs. sent_in lists to ++ qs) (sym (one-other to t (picture_in sent) e.0))
 
 -- the first of the packets that are left was sent
-pub sent_in-next : (lists : Lists) (t : ℕ) (before after : VecDeque (ℕ × Packet) Global) (sent : ℕ × Packet) (left rest : List (ℕ × Packet)) → t ≡ sent.0 → t < length lists → before ≡ get_or lists t before → after.items ≡ before.items ++ sent ∷ [] → left ≡ sent ∷ rest → (to : ℕ) → sent_in (set lists t after) to ++ to_kernel to (map sent_picture rest) ≡ sent_in lists to ++ to_kernel to (map sent_picture left)
+pub sent_in-next : (lists : Lists) (t : ℕ) (before after : VecDeque (ℕ × Packet) Global) (sent : ℕ × Packet) (left rest : List (ℕ × Packet)) → t ≡ sent.0 → t < length lists → before ≡ get_or lists t before
+    → after.items ≡ before.items ++ sent ∷ [] → left ≡ sent ∷ rest → (to : ℕ) → sent_in (set lists t after) to ++ to_kernel to (map sent_picture rest) ≡ sent_in lists to ++ to_kernel to (map sent_picture left)
 sent_in-next lists t before after sent left rest at below is items first to =
     ap (λ qs. qs ++ to_kernel to (map sent_picture rest)) (sent_in-push lists t before after sent below is items to)
     ∙ append_assoc (sent_in lists to) (to_kernel to ((t, picture_in sent) ∷ [])) (to_kernel to (map sent_picture rest))
@@ -89,7 +91,8 @@ to_kernel-none to n (p ∷ ps) other all =
     ∙ to_kernel-none to n ps other (All-tail (λ x. x.0 ≡ n) p ps all)
 
 -- where no packet waits the list of packets to one kernel is as good as its packets
-pub sent_in-whole : (lists : Lists) (t n : ℕ) (after : VecDeque (ℕ × Packet) Global) (sent : List (ℕ × Packet)) → t ≡ n → t < length lists → sent_in lists n ≡ [] → AllGoTo n sent → after.items ≡ sent → (to : ℕ) → sent_in (set lists t after) to ≡ sent_in lists to ++ to_kernel to (map sent_picture sent)
+pub sent_in-whole : (lists : Lists) (t n : ℕ) (after : VecDeque (ℕ × Packet) Global) (sent : List (ℕ × Packet)) → t ≡ n → t < length lists → sent_in lists n ≡ [] → AllGoTo n sent → after.items ≡ sent → (to : ℕ)
+    → sent_in (set lists t after) to ≡ sent_in lists to ++ to_kernel to (map sent_picture sent)
 sent_in-whole lists t n after sent at below none all items to = by (eqb_tells to n)
   where
     by : ((nat_eq to n ≡ true) × (to ≡ n)) ⊎ ((nat_eq to n ≡ false) × (to ≢ n)) → sent_in (set lists t after) to ≡ sent_in lists to ++ to_kernel to (map sent_picture sent)

@@ -70,7 +70,8 @@ pub record IsWithSent (s : Setting) (ns ms : List Node) (packets : ℕ → ℕ �
   pub nodes : All (IsNodeOf s) ms
   pub count : length ms ≡ length ns
 
-pub with_sent : (s : Setting) (ns : List Node) (k : ℕ) (node new : Node) → k < length ns → node ≡ get_or ns k node → All (IsNodeOf s) ns → new.kernel ≡ node.kernel → length new.sent.items ≡ length node.sent.items → IsWithSent s ns (set ns k new) (λ from to. cond (nat_eq from k) (sent_to new to) ((world_of s ns).packets from to))
+pub with_sent : (s : Setting) (ns : List Node) (k : ℕ) (node new : Node) → k < length ns → node ≡ get_or ns k node → All (IsNodeOf s) ns → new.kernel ≡ node.kernel → length new.sent.items ≡ length node.sent.items
+    → IsWithSent s ns (set ns k new) (λ from to. cond (nat_eq from k) (sent_to new to) ((world_of s ns).packets from to))
 with_sent s ns k node new below at all kernel lists =
     record {
       kernel = λ q. kernel-set s ns k new q below ∙ elim (eqb_tells q k) as (λ _. cond (nat_eq q k) (state_of new.kernel) ((world_of s ns).kernel q) ≡ (world_of s ns).kernel q) [
@@ -118,7 +119,8 @@ record IsReadied (s : Setting) (ns ms : List Node) (k : ℕ) (packets : ℕ → 
 unsent : (s : Setting) (ns : List Node) (k : ℕ) → All (IsNodeOf s) ns → IsReadied s ns ns k (λ from to. (world_of s ns).packets from to)
 unsent s ns k all = record { kernel = λ q other. refl; packets_are = λ from to. refl; nodes = all; count = refl }
 
-event_happens : (s : Setting) (ns ms : List Node) (mid new : Node) (e : Event) (noted : Noted) → AreNodes s ns → kernel_of e < length ms → mid ≡ get_or ms (kernel_of e) mid → IsReadied s ns ms (kernel_of e) (removes e (world_of s ns).packets) → IsAfter (outcome (world_of s ns) e) mid new → IsNotedOf (outcome (world_of s ns) e) noted → Happens s e noted ns (set ms (kernel_of e) new)
+event_happens : (s : Setting) (ns ms : List Node) (mid new : Node) (e : Event) (noted : Noted) → AreNodes s ns → kernel_of e < length ms → mid ≡ get_or ms (kernel_of e) mid
+    → IsReadied s ns ms (kernel_of e) (removes e (world_of s ns).packets) → IsAfter (outcome (world_of s ns) e) mid new → IsNotedOf (outcome (world_of s ns) e) noted → Happens s e noted ns (set ms (kernel_of e) new)
 event_happens s ns ms mid new e noted are below at is event noted_is =
     record {
       world = λ j. record { kernel = λ q. kernel q j; packets = λ from to. packets from to j };
@@ -233,7 +235,8 @@ pub untold_other : (s : Setting) (ns : List Node) (from to : ℕ) (packet : Pack
 untold_other s ns from to packet what new first other below = first-other what (packet_picture packet) ((world_of s ns).packets from to) first other
 
 -- it tells this, and was taken
-pub told_first : (s : Setting) (ns : List Node) (from to : ℕ) (packet : Packet) (what : PictureWhat) (noted : Noted) (new : List Node) → AreNodes s ns → to < length ns → Some (packet_picture packet) ≡ slice_get ((world_of s ns).packets from to) 0 → what_picture packet.what ≡ what → Happens s (Takes to from) noted ns new → TakesTold s from to what (Some noted) ns new
+pub told_first : (s : Setting) (ns : List Node) (from to : ℕ) (packet : Packet) (what : PictureWhat) (noted : Noted) (new : List Node) → AreNodes s ns → to < length ns
+    → Some (packet_picture packet) ≡ slice_get ((world_of s ns).packets from to) 0 → what_picture packet.what ≡ what → Happens s (Takes to from) noted ns new → TakesTold s from to what (Some noted) ns new
 told_first s ns from to packet what noted new are below first is taken = (
   subst (λ n. to < n) are.count below,
   first-told what (packet_picture packet) ((world_of s ns).packets from to) first is,
@@ -252,7 +255,8 @@ pub is_there : (list : List (ℕ × Packet)) (q : Picture) → slice_get (map pi
 is_there [] q first = let no : None ≡ Some q = first in absurd (cc)
 is_there (sent ∷ others) q first = (sent, others, refl)
 
-pub under_way : (s : Setting) (ns : List Node) (from to i : ℕ) (q : Picture) (node : Node) (list : List (ℕ × Packet)) → from ≡ i → i < length ns → node ≡ get_or ns i node → map picture_in list ≡ sent_to node to → slice_get ((world_of s ns).packets from to) 0 ≡ Some q → (sent : ℕ × Packet) × (others : List (ℕ × Packet)) × (list ≡ sent ∷ others)
+pub under_way : (s : Setting) (ns : List Node) (from to i : ℕ) (q : Picture) (node : Node) (list : List (ℕ × Packet)) → from ≡ i → i < length ns → node ≡ get_or ns i node → map picture_in list ≡ sent_to node to
+    → slice_get ((world_of s ns).packets from to) 0 ≡ Some q → (sent : ℕ × Packet) × (others : List (ℕ × Packet)) × (list ≡ sent ∷ others)
 under_way s ns from to i q node list is_i below at is first =
     is_there list q (ap (λ qs. slice_get qs 0) (is ∙ sym (packets_at s ns i node below at to) ∙ ap (λ m. (world_of s ns).packets m to) (sym is_i)) ∙ first)
 

@@ -71,5 +71,6 @@ IsFirst what (q ∷ qs) = q.what ≡ what
 
 -- the first packet from one kernel to another that is there was taken, where it tells this
 abbrev pub TakesTold : Setting → ℕ → ℕ → PictureWhat → Option Noted → List Node → List Node → Type 0
-TakesTold s from to what (Some noted) old new = (to < s.kernels) × IsFirst what ((world_of s old).packets from to) × Happens s (Takes to from) noted old new
+TakesTold s from to what (Some noted) old new =
+    (to < s.kernels) × IsFirst what ((world_of s old).packets from to) × Happens s (Takes to from) noted old new
 TakesTold s from to what None old new = to < s.kernels → IsFirst what ((world_of s old).packets from to) → ⊥

@@ -28,7 +28,8 @@ use Rattle.end_table.specs.declared.entry.Outward.TheVariants as outward
 use Rattle.kernel_effects.proofs.Folds.{brings-others}
 use Rattle.kernel_effects.specs.Actions.{ended_of, held_entry, learn_effect, left_of, match_waiting_effect}
 use Rattle.kernel_effects.specs.Effect.{Effect, brings, changed, nothing, puts, stays, turns}
-use Rattle.kernel_effects.specs.Rows.{asked_view, back_effect, forget_effect, frees_effect, gone_effect, goneseen_effect, known_effect, moved_effect, parcel_effect, returns_effect, returns_first_effect, row_effect, taken_effect, unwant_effect, unwanted_effect, unwanted_here_effect, voids_effect, want_effect, wants_effect}
+use Rattle.kernel_effects.specs.Rows.{asked_view, back_effect, forget_effect, frees_effect, gone_effect, goneseen_effect, known_effect, moved_effect, parcel_effect, returns_effect}
+use Rattle.kernel_effects.specs.Rows.{returns_first_effect, row_effect, taken_effect, unwant_effect, unwanted_effect, unwanted_here_effect, voids_effect, want_effect, wants_effect}
 use Rattle.kernel_effects.specs.Calls.{act_effect, effect_on, ended_list, withdraw_posted_effect}
 use Rattle.kernel_outcomes.proofs.Sound.{none-passing}
 use Rattle.kernel_outcomes.specs.Touched.{act_ends, enclosed_at, row_ends}

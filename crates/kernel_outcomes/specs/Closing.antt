@@ -58,8 +58,10 @@ process_after x [] (r ∷ rs) =
     else record x { reports = x.reports ++ r ∷ rs }
 process_after x (a ∷ given) rs = record { phase = Running; reports = x.reports ++ rs; answer = Some a }
 
--- what an event gave, by the state of each process, the entry of each end, its stamp and what stands in each list; all else of kernel s stays
-pub record Gives (s : Kernel) (p : Pid) (x : Process) (entry : EndId → Entry) (now : ℕ) (sent : List (ℕ × Picture)) (who : List Pid) (meant : List ServiceStep) (o : Outcome) : Type 0 where
+-- what an event gave, by the state of each process, the entry of each
+-- end, its stamp and what stands in each list; all else of kernel s stays
+pub record Gives (s : Kernel) (p : Pid) (x : Process) (entry : EndId → Entry) (now : ℕ) (sent : List (ℕ × Picture)) (who : List Pid)
+    (meant : List ServiceStep) (o : Outcome) : Type 0 where
   pub process : (q : ℕ) → o.kernel.process q ≡ (if nat_eq p.0 q then x else s.process q)
   pub table : (q : EndId) → o.kernel.table q ≡ entry q
   pub packets : o.packets ≡ sent
@@ -76,14 +78,16 @@ abbrev pub Closes : Kernel → Progress → Pid → List Answer → List Report 
 Closes s d p given rs o =
     let x = s.process p.0 in
     let now = told x.phase given rs in
-    Gives s p (process_after x given rs) (λ q. told_entry now q (d.table q)) d.stamp d.packets (map (λ _. p) given ++ map (λ _. p) now) (d.steps ++ map (step.Report p) now) o
+    Gives s p (process_after x given rs) (λ q. told_entry now q (d.table q)) d.stamp d.packets (map (λ _. p) given ++ map (λ _. p) now)
+    (d.steps ++ map (step.Report p) now) o
 
 -- what an event of kernel s gives that began with this stamp and has this effect
 abbrev pub EffectGives : Kernel → Pid → ℕ → Effect → List Answer → List Report → Outcome → Type 0
 EffectGives s p stamp f given rs o =
     let x = s.process p.0 in
     let now = told x.phase given rs in
-    Gives s p (process_after x given rs) (λ q. told_entry now q (f.entry q (s.table q))) stamp (map (stamped stamp) f.packets) (map (λ _. p) given ++ map (λ _. p) now) (f.steps ++ map (step.Report p) now) o
+    Gives s p (process_after x given rs) (λ q. told_entry now q (f.entry q (s.table q))) stamp (map (stamped stamp) f.packets)
+    (map (λ _. p) given ++ map (λ _. p) now) (f.steps ++ map (step.Report p) now) o
 
 -- ---- calls
 
@@ -138,4 +142,5 @@ CallGives s p mine c o =
     let f = act_effect p s.number s.made mine s.table c in
     let now = call_told c x.reports in
     let stamp = next_stamp s.stamp in
-    Gives (record s { made = made_after c s.made }) p (called s.number s.made s.table p c x) (λ q. told_entry now q (f.entry q (s.table q))) stamp (map (stamped stamp) f.packets) (call_answered p c x.reports) (f.steps ++ map (step.Report p) now) o
+    Gives (record s { made = made_after c s.made }) p (called s.number s.made s.table p c x) (λ q. told_entry now q (f.entry q (s.table q)))
+    stamp (map (stamped stamp) f.packets) (call_answered p c x.reports) (f.steps ++ map (step.Report p) now) o

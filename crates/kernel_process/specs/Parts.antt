@@ -30,7 +30,8 @@ with_parts t xs s = record s { table = t; process = process_at (map process_stat
 
 -- what an event gives, as a kernel and an `Effect` have it
 unfoldable pub ended : Kernel → Effect → Outcome
-ended s effect = record { kernel = s; packets = map sent_picture effect.packets.items; answered = effect.answered.items; steps = effect.steps.items }
+ended s effect =
+    record { kernel = s; packets = map sent_picture effect.packets.items; answered = effect.answered.items; steps = effect.steps.items }
 
 -- the first of these reports of a process is told, if there is one, and its activity is idle
 abbrev pub tells_first : Pid → List Report → Outcome → Outcome

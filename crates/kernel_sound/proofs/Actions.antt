@@ -82,7 +82,8 @@ module _ {k made n : ℕ} {touches : Pid → EndId → Bool} {before : EndId →
   view-well-own e v u d here touched after w = keeps-well-view e v.value.end v u d (end-here e v d w here) here touched after w
 
   -- MATCH; u is the view with what was learned last
-  pub matches-well : (e : EndId) (v u : HereView) (m : ℕ) (bytes : List ℕ) (xs : List EndId) (d : Progress) → d.table e ≡ entry.Here v → v.outward ≡ outward.Waiting m bytes xs → u.value.end ≡ v.value.end → u.holder ≡ v.holder → ((p : Pid) → touches p e ≡ true) → GoesWell k made n touches before d → GoesWell k made n touches before (matches k u m bytes xs d)
+  pub matches-well : (e : EndId) (v u : HereView) (m : ℕ) (bytes : List ℕ) (xs : List EndId) (d : Progress) → d.table e ≡ entry.Here v → v.outward ≡ outward.Waiting m bytes xs → u.value.end ≡ v.value.end
+      → u.holder ≡ v.holder → ((p : Pid) → touches p e ≡ true) → GoesWell k made n touches before d → GoesWell k made n touches before (matches k u m bytes xs d)
   unfolding matches
   matches-well e v u m bytes xs d here waits end holds touched w =
       let served : HereView = record u { value = record u.value { served = u.value.want; want = 0 }; outward = outward.Matched m } in

@@ -50,7 +50,7 @@ module _ (k made n : ℕ) (touches : Pid → EndId → Bool) (before t : EndId �
   unfolding progress
   well-calm p e apart = ap (λ u. is_active (owned p (u.table e))) after ∙ well.calm p e apart
 
--- the row of a packet goes well, and touches the end that it is addressed to alone
+-- the rule of a packet goes well, and touches the end that it is addressed to alone
 pub row-goes : (k made n from : ℕ) (what : PictureWhat) (t : EndId → Entry) (work : Work) → work.reports.items ≡ [] → work.answers.items ≡ [] → IsSound k made n t
     → GoesWell k made n (λ p e. end_eq (addressee what) e) t (row k made from what (progress t work))
 row-goes k made n from what t work reports answers sound =
@@ -70,7 +70,7 @@ owner-below k made n t sound e = by (t e) (sound.held e)
     by (entry.Left to hops) well = tt
     by (entry.Destroyed m) well = tt
 
--- what the row of a packet leaves
+-- what the rule of a packet leaves
 module _ (k made n from : ℕ) (what : PictureWhat) (t u : EndId → Entry) (work out : Work) (reports : work.reports.items ≡ []) (answers : work.answers.items ≡ []) (sound : IsSound k made n t)
     (after : progress u out ≡ row k made from what (progress t work)) where
   pub row-sound : IsSound k made n u

@@ -40,7 +40,8 @@ withdraws k way.Inward v d = withdraws_posted k v v.inward d
 unfoldable pub acts : Pid → ℕ → ℕ → List EndId → Call → Progress → Progress
 acts p k made mine call.Make d = makes k made p d
 acts p k made mine (call.Destroy on) d = acts_on (owned p (d.table on)) (λ v so_far. ends k v (means (step.Destroy on) so_far)) d
-acts p k made mine (call.Send on bytes xs) d = acts_on (owned p (d.table on)) (λ v so_far. starts_send k bytes xs v (encloses on xs so_far)) d
+acts p k made mine (call.Send on bytes xs) d =
+    acts_on (owned p (d.table on)) (λ v so_far. starts_send k bytes xs v (encloses on xs so_far)) d
 acts p k made mine (call.Receive on) d = acts_on (owned p (d.table on)) (posts k) d
 acts p k made mine (call.Cancel on way.Outward) d = acts_on (owned p (d.table on)) withdraws_send d
 acts p k made mine (call.Cancel on way.Inward) d = acts_on (owned p (d.table on)) (λ v so_far. withdraws_posted k v v.inward so_far) d

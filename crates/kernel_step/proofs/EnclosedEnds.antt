@@ -44,7 +44,8 @@ leave_each-more to x xs all t0 t1 out e h =
     ap (λ d. leave_each to xs d) h ∙ ap (λ ys. leave_each to ys (progress t0 out)) (sym e)
 
 -- the values of all are that of the first and those of the others
-pub values_leaving-more : (k : ℕ) (x : EndId) (xs all : List EndId) (t0 t1 : EndId → Entry) (m : MovingPicture) (before after : List MovingPicture) → all ≡ x ∷ xs → value_leaving k (here (t0 x)) ≡ m ∷ [] → values_leaving k t1 xs ≡ values_leaving k t0 xs → after ≡ before ++ m ∷ [] → after ++ values_leaving k t1 xs ≡ before ++ values_leaving k t0 all
+pub values_leaving-more : (k : ℕ) (x : EndId) (xs all : List EndId) (t0 t1 : EndId → Entry) (m : MovingPicture) (before after : List MovingPicture) → all ≡ x ∷ xs → value_leaving k (here (t0 x)) ≡ m ∷ []
+    → values_leaving k t1 xs ≡ values_leaving k t0 xs → after ≡ before ++ m ∷ [] → after ++ values_leaving k t1 xs ≡ before ++ values_leaving k t0 all
 unfolding values_leaving
 values_leaving-more k x xs all t0 t1 m before after e first others h =
     ap (λ ys. ys ++ values_leaving k t1 xs) h

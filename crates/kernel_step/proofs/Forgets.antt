@@ -10,7 +10,8 @@ use Rattle.kernel_step.specs.Progress.{Progress, AddsAtMost}
 use Rattle.kernel_step.specs.Room.{one_packet, packets}
 
 -- one kernel more is told
-pub forgets-more : (k : ℕ) (m : MovingPicture) (i : ℕ) (first before after : Progress) → i < 8 → before ≡ fold (λ so_far j. forget_at k m j so_far) first (take i kernel_numbers) → after ≡ forget_at k m (get_or kernel_numbers i 0) before → after ≡ fold (λ so_far j. forget_at k m j so_far) first (take (i + 1) kernel_numbers)
+pub forgets-more : (k : ℕ) (m : MovingPicture) (i : ℕ) (first before after : Progress) → i < 8 → before ≡ fold (λ so_far j. forget_at k m j so_far) first (take i kernel_numbers)
+    → after ≡ forget_at k m (get_or kernel_numbers i 0) before → after ≡ fold (λ so_far j. forget_at k m j so_far) first (take (i + 1) kernel_numbers)
 forgets-more k m i first before after small told more =
     let f = λ (so_far : Progress) (j : ℕ). forget_at k m j so_far in
     more

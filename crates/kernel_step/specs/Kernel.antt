@@ -1,5 +1,6 @@
 -- The kernel step: kernel state, and what one event makes of it.
-use Rattle.std.specs.Prelude.{ℕ, ◌+◌, ◌-◌, ◌^◌, max, min, Bool, true, false, nat_eq, not, List, [], ◌∷◌, ◌++◌, length, if◌then◌else◌, Option, Some, None}
+use Rattle.std.specs.Prelude.{ℕ, ◌+◌, ◌-◌, ◌^◌, max, min, Bool, true, false, nat_eq, not}
+use Rattle.std.specs.Prelude.{List, [], ◌∷◌, ◌++◌, length, if◌then◌else◌, Option, Some, None}
 use Rattle.std.specs.List.{fold}
 use Rattle.charlotte_calls.specs.Names.{opposite}
 use Rattle.charlotte_calls.specs.Packets.{is_addressed}
@@ -196,7 +197,8 @@ unfoldable pub performs : Pid → Kernel → List EndId → Call → Progress �
 performs p s mine call.Make d =
     let a = made_end s.number s.made in
     stands p (answer.Made a (opposite a)) (closes (record s { made = s.made + 1 }) (makes s.number s.made p d))
-performs p s mine (call.Destroy on) d = granted_on p s (owned p (s.table on)) (λ v so_far. ends s.number v (means (step.Destroy on) so_far)) d
+performs p s mine (call.Destroy on) d =
+    granted_on p s (owned p (s.table on)) (λ v so_far. ends s.number v (means (step.Destroy on) so_far)) d
 performs p s mine (call.Send on bytes xs) d =
     granted_on p s (owned p (s.table on)) (λ v so_far. starts_send s.number bytes xs v (encloses on xs so_far)) d
 performs p s mine (call.Receive on) d = granted_on p s (owned p (s.table on)) (posts s.number) d

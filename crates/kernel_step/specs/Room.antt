@@ -1,7 +1,8 @@
 -- How much room the parts of an event need, at most, in the lists of a `Work`.
 use Rattle.std.specs.Prelude.{ℕ, ◌+◌, ◌*◌}
 use Rattle.charlotte_calls.specs.declared.work.Room.{Room}
-use Rattle.kernel_step.specs.declared.bounds.TheConstants.{MOST_ENDS, MOST_FORGETS, MOST_RESENT, PACKETS_OF_BACK, PACKETS_OF_END, PACKETS_OF_NOTICE, PACKETS_OF_PARCEL}
+use Rattle.kernel_step.specs.declared.bounds.TheConstants.{MOST_ENDS, MOST_FORGETS, MOST_RESENT, PACKETS_OF_BACK}
+use Rattle.kernel_step.specs.declared.bounds.TheConstants.{PACKETS_OF_END, PACKETS_OF_NOTICE, PACKETS_OF_PARCEL}
 
 -- nothing
 abbrev pub no_room : Room
@@ -66,27 +67,27 @@ room_of_notice = record { packets = MOST_FORGETS; reports = 2; answers = 1; step
 abbrev pub room_of_first_notice : Room
 room_of_first_notice = record room_of_notice { packets = PACKETS_OF_NOTICE }
 
--- the rows want and unwant: the parcel or the unwanted, and what news sends again
+-- the rules want and unwant: the parcel or the unwanted, and what news sends again
 abbrev pub room_of_want : Room
 room_of_want = record { packets = 1 + MOST_RESENT; reports = 0; answers = 0; steps = 1 }
 
--- the row unwanted
+-- the rule of unwanted
 abbrev pub room_of_unwanted : Room
 room_of_unwanted = record { packets = MOST_RESENT; reports = 0; answers = 1; steps = 1 }
 
--- the row taken
+-- the rule of taken
 abbrev pub room_of_taken : Room
 room_of_taken = record { packets = MOST_RESENT; reports = 1; answers = 0; steps = 1 }
 
--- of the row parcel the message alone
+-- of the rule of parcel the message alone
 abbrev pub room_of_message : Room
 room_of_message = record { packets = 1 + MOST_RESENT; reports = 1; answers = 1; steps = 1 }
 
--- the row parcel
+-- the rule of parcel
 abbrev pub room_of_parcel : Room
 room_of_parcel = record room_of_message { packets = PACKETS_OF_PARCEL }
 
--- of the row back the return of the ends, all of it where no send is matched, and all where one is
+-- of the rule of back the return of the ends, all of it where no send is matched, and all where one is
 abbrev pub room_of_return : Room
 room_of_return = record { packets = MOST_ENDS; reports = 1; answers = 0; steps = 0 }
 
@@ -96,11 +97,11 @@ room_of_stray_back = record room_of_return { steps = 1 }
 abbrev pub room_of_back : Room
 room_of_back = record { packets = PACKETS_OF_BACK; reports = 3; answers = 1; steps = 1 }
 
--- the row gone
+-- the rule of gone
 abbrev pub room_of_gone : Room
 room_of_gone = record room_of_first_notice { steps = 1 }
 
--- the row moved
+-- the rule of moved
 abbrev pub room_of_moved : Room
 room_of_moved = packets (1 + MOST_RESENT)
 

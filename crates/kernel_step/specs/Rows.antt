@@ -1,7 +1,8 @@
 -- What a kernel does with a packet, by the entry of the end that it is addressed to: one definition for each kind of packet.
 -- k is this kernel, to the end addressed, at and hops kernel and hop count of the opposite end that sent the packet
 -- (of a known or forget, hops are those of the addressed end itself).
-use Rattle.std.specs.Prelude.{ℕ, Bool, true, false, nat_eq, nat_lt, nat_le, ◌&&◌, not, List, [], ◌∷◌, map, if◌then◌else◌, Option, Some, None}
+use Rattle.std.specs.Prelude.{ℕ, Bool, true, false, nat_eq, nat_lt, nat_le, ◌&&◌, not}
+use Rattle.std.specs.Prelude.{List, [], ◌∷◌, map, if◌then◌else◌, Option, Some, None}
 use Rattle.std.specs.List.{fold, filter}
 use Rattle.charlotte_calls.specs.Names.{opposite}
 use Rattle.charlotte_calls.specs.declared.calls.Answer.TheVariants as answer
@@ -24,7 +25,8 @@ use Rattle.end_table.specs.declared.entry.Outward.{Outward}
 use Rattle.end_table.specs.declared.entry.Outward.TheVariants as outward
 use Rattle.end_table.specs.Place.{put}
 use Rattle.kernel_step.specs.Progress.{Progress, sends, means, keeps}
-use Rattle.kernel_step.specs.Actions.{answers, reports, send_report, receive_report, forgets, leaves, match_waiting, ends_idle, notices, is_withdrawing, learned_view, learns, resends_on_news, settle_each, tell_arrivals}
+use Rattle.kernel_step.specs.Actions.{answers, reports, send_report, receive_report, forgets, leaves, match_waiting, ends_idle}
+use Rattle.kernel_step.specs.Actions.{notices, is_withdrawing, learned_view, learns, resends_on_news, settle_each, tell_arrivals}
 
 -- want: the receive w of the opposite end asks for a message, unless it was matched or withdrawn
 unfoldable pub wants : ℕ → ℕ → ℕ → ℕ → HereView → Progress → Progress
@@ -104,7 +106,8 @@ abbrev pub arriving : ℕ → ℕ → Holder → (EndId → Entry) → List Movi
 arriving k made h t [] = []
 arriving k made h t (m ∷ ms) =
     if is_carried k made t m
-    then m ∷ arriving k made h (put t m.end (entry.Here (record { value = m; holder = h; outward = outward.Idle; inward = inward.Idle }))) ms
+    then m
+    ∷ arriving k made h (put t m.end (entry.Here (record { value = m; holder = h; outward = outward.Idle; inward = inward.Idle }))) ms
     else arriving k made h t ms
 
 abbrev pub ends_in : List MovingPicture → List EndId
@@ -146,7 +149,7 @@ asks w (entry.Here v) = if is_asked w v.inward then Some v else None
 asks w (entry.Left to hops) = None
 asks w (entry.Destroyed m) = None
 
--- the part of the row that is about the message; xs are the ends that came with it
+-- the part of the rule that is about the message; xs are the ends that came with it
 abbrev pub arrived_row : ℕ → ℕ → ℕ → ℕ → List ℕ → List EndId → Option HereView → Progress → Progress
 arrived_row k n at hops bytes xs None d = d
 arrived_row k n at hops bytes xs (Some v) d =
@@ -159,7 +162,7 @@ parcel_row k made to n at hops bytes ms (Some v) d =
     resends_on_news k v.value hops (learned at hops v.value) inward.Unreported
     (tell_arrivals k came (receives k n at hops bytes (ends_in came) v (settle_each v.holder came d)))
 
--- the part of the row that is about the ends that came with it; ms are those that are carried
+-- the part of the rule that is about the ends that came with it; ms are those that are carried
 abbrev pub arrive_row : ℕ → EndId → ℕ → ℕ → List MovingPicture → Option HereView → Progress → Progress
 arrive_row k to n at ms None d = sends_back k to n at ms d
 arrive_row k to n at ms (Some v) d = tell_arrivals k ms (settle_each v.holder ms d)
@@ -221,7 +224,7 @@ back_row k made from to n ms (Some v) d =
     let answers_cancel = not v.value.dead && is_withdrawing v.inward in
     tell_arrivals k came (notices_first k from returned (gives_back came v (means (step.Back to n answers_cancel) d)))
 
--- the part of the row without the step and without NOTICE; ms are the values that are carried
+-- the part of the rule without the step and without NOTICE; ms are the values that are carried
 abbrev pub give_back_row : ℕ → List MovingPicture → Option HereView → Progress → Progress
 give_back_row k ms None d = end_arrivals k ms d
 give_back_row k ms (Some v) d = tell_arrivals k ms (gives_back ms v d)

@@ -13,8 +13,8 @@ pub const PACKETS_OF_END: u32 = MOST_ENDS + 1;
 /// NOTICE sends at most so many packets, with its goneseen.
 pub const PACKETS_OF_NOTICE: u32 = MOST_FORGETS + 1;
 
-/// The row parcel sends at most so many packets: moved of each end that came, taken, and those that go again.
+/// The rule of parcel sends at most so many packets: moved of each end that came, taken, and those that go again.
 pub const PACKETS_OF_PARCEL: u32 = MOST_ENDS + 1 + MOST_RESENT;
 
-/// The row back sends at most so many packets: moved of each end that came back, and those of NOTICE.
+/// The rule of back sends at most so many packets: moved of each end that came back, and those of NOTICE.
 pub const PACKETS_OF_BACK: u32 = MOST_ENDS + PACKETS_OF_NOTICE;

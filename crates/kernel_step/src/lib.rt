@@ -1,6 +1,13 @@
 //! The kernel step: what a kernel does at each call and with each packet, as definitions on plain data,
 //! and the small parts of which the actions are made: what reads and keeps an end that is here, and the writers by which
 //! the parts of an event add to a `Work`.
+//!
+//! # What is proved
+//! The definition of the whole kernel step: every call with its causes, every packet at every entry, the order of packets, the stamp. The
+//! definitions are the statement, not a result: nine worked runs are computed from them (`transcript_record`), and a transcription of them
+//! was run beside a second model, written from the rules in another style (docs/DECISIONS.md, "Review"). Proved here are the small parts of
+//! which both cores are made.
+//! By clauses `part` of `push_packet`, `learn`, `leave`, `hold` and the others, `learned_value` and `news` of `learn_value`.
 #![tactic(auto)]
 
 mod bounds;

@@ -1,4 +1,4 @@
-//! One kernel through its public calls, and packets that no kernel sends. The rows of .ci/rows/runs show what the packets and the steps
+//! One kernel through its public calls, and packets that no kernel sends. The worked runs of .ci/rows/runs show what the packets and the steps
 //! say, as one_message_on_one_kernel, which begins as these do.
 
 use crate::node::Node;

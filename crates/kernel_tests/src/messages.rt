@@ -1,4 +1,4 @@
-//! Each call of `cancel_core` once. What follows from them is shown by the rows of .ci/rows/runs.
+//! Each call of `cancel_core` once. What follows from them is shown by the worked runs of .ci/rows/runs.
 ghost use Rattle.end_table.specs.Table.{entries, IsHere};
 ghost use Rattle.kernel_tests.specs.declared.samples.TheConstants.{AMPLE};
 ghost use Rattle.kernel_step.specs.Enclosed.{IsReady};

@@ -1,4 +1,4 @@
-//! Each call of `move_core` once. What follows from them is shown by the rows of .ci/rows/runs.
+//! Each call of `move_core` once. What follows from them is shown by the worked runs of .ci/rows/runs.
 ghost use Rattle.std.specs.Prelude.{◌≡◌, true, IfOk, [], ◌∷◌};
 ghost use Rattle.charlotte_calls.specs.Moving.{new_end};
 ghost use Rattle.end_table.specs.Table.{entries, HasPlace, IsHere};

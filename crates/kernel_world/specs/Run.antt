@@ -1,5 +1,6 @@
 -- World runs: lists of events, each allowed where it happens, and what is noted of them.
-use Rattle.std.specs.Prelude.{◌≡◌, ◌≢◌, ℕ, ◌≤◌, ◌<◌, ◌^◌, Bool, nat_eq, nat_lt, ◌&&◌, ◌||◌, IsTrue, if◌then◌else◌, List, [], ◌∷◌, length, map, slice_index_or}
+use Rattle.std.specs.Prelude.{◌≡◌, ◌≢◌, ℕ, ◌≤◌, ◌<◌, ◌^◌, Bool, nat_eq, nat_lt, ◌&&◌, ◌||◌}
+use Rattle.std.specs.Prelude.{IsTrue, if◌then◌else◌, List, [], ◌∷◌, length, map, slice_index_or}
 use Rattle.std.specs.List.{filter}
 use Rattle.charlotte_calls.specs.declared.calls.Call.{Call}
 use Rattle.charlotte_calls.specs.declared.calls.Call.TheVariants as call

@@ -1,4 +1,9 @@
 //! What several kernels do together: worlds, their events and runs, as definitions, and the entries in which events are noted.
+//!
+//! # What is proved
+//! Worlds, their events and runs, as definitions; what an entry is made of are values of their types, and so is any call, packet, picture
+//! and step; the packets of a world after an event, list by list.
+//! By Clauses `in_range` of `Happened::asked`, `Happened::took` and `Entry::of`; those of `tell_*`; the law `packets_after_an_event`.
 #![tactic(auto)]
 
 mod entry;

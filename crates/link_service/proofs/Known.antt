@@ -12,7 +12,9 @@ use Rattle.service_links.proofs.Changed.{end_eq-same}
 use Rattle.service_processes.specs.Known.{Known, known_of, without, IsKnown, Forgets}
 use Rattle.service_processes.proofs.Blocks.{there}
 use Rattle.service_step.specs.Steps.{may_match}
-use Rattle.service_step.specs.Ends.{end_eq, fresh, owner, put, puts, places, is_made, is_destroyed, is_owned_by, is_active, is_started_outward, is_started_inward, is_posted, waiting_message, matched_message, carried_by, destroys, destroys_owned, destroys_each, starts_send, turns_inward, turns_outward, idles, withdraws_send, matches, matched_outward, takes, notices, noticed_end, noticed_outward, noticed_inward, to_owner, returned_end, returns}
+use Rattle.service_step.specs.Ends.{end_eq, fresh, owner, put, puts, places, is_made, is_destroyed, is_owned_by, is_active, is_started_outward, is_started_inward, is_posted}
+use Rattle.service_step.specs.Ends.{waiting_message, matched_message, carried_by, destroys, destroys_owned, destroys_each, starts_send, turns_inward, turns_outward, idles}
+use Rattle.service_step.specs.Ends.{withdraws_send, matches, matched_outward, takes, notices, noticed_end, noticed_outward, noticed_inward, to_owner, returned_end, returns}
 use Rattle.service_step.specs.declared.state.End.{End}
 use Rattle.service_step.specs.declared.state.Inward.{Inward}
 use Rattle.service_step.specs.declared.state.Inward.TheVariants as inward

@@ -98,7 +98,8 @@ pub record HasWired (s : Setting) (made : ℕ) (v : ServiceView) : Type 0 where
 -- a wire of the start
 abbrev pub wires : Pid × Pid → State → State
 wires wire s =
-    let after : Wired = wires_one s.homes (record { made = s.made; ends = s.ends }) wire in record s { made = after.made; ends = after.ends }
+    let after : Wired = wires_one s.homes (record { made = s.made; ends = s.ends }) wire in
+    record s { made = after.made; ends = after.ends }
 
 -- the home of a process is there, and may make one link more
 pub record HasRoom (v : ServiceView) (p : Pid) : Type 0 where

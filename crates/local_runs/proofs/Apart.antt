@@ -64,7 +64,8 @@ got-own w k (TakesPacket j q) os from left sent there fits = elim (eqb_tells fro
   | inr x ↦ ap (λ qs. qs ++ left) (got-other from j q os x.1) ∙ fits ∙ ap (λ b. cond (b && nat_eq k k) (rest (w.packets from k)) (w.packets from k) ++ sent) x.0
 ]
 
-got-all : (w : World) (k : ℕ) (o : LocalEvent) (made : ℕ → List LocalEvent) (from to : ℕ) (left sent : List Picture) → IsUnderWay w.packets k o → takes_from from (made to) ++ left ≡ left_at w (event_of k o) from to ++ sent → takes_from from (with_first k o made to) ++ left ≡ w.packets from to ++ sent
+got-all : (w : World) (k : ℕ) (o : LocalEvent) (made : ℕ → List LocalEvent) (from to : ℕ) (left sent : List Picture) → IsUnderWay w.packets k o
+    → takes_from from (made to) ++ left ≡ left_at w (event_of k o) from to ++ sent → takes_from from (with_first k o made to) ++ left ≡ w.packets from to ++ sent
 got-all w k o made from to left sent there fits = elim (eqb_tells to k) as (λ _. takes_from from (with_first k o made to) ++ left ≡ w.packets from to ++ sent) [
   | inl x ↦ subst (λ t. takes_from from (with_first k o made t) ++ left ≡ w.packets from t ++ sent) (sym x.1)
       (ap (λ os. takes_from from os ++ left) (with-own k o made) ∙ got-own w k o (made k) from left sent there (subst (λ t. takes_from from (made t) ++ left ≡ left_at w (event_of k o) from t ++ sent) x.1 fits))

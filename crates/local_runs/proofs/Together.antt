@@ -95,7 +95,8 @@ got-first from q os = ap (λ b. cond b (q ∷ takes_from from os) (takes_from fr
 pub got-other : (from j : ℕ) (q : Picture) (os : List LocalEvent) → from ≢ j → takes_from from (TakesPacket j q ∷ os) ≡ takes_from from os
 got-other from j q os ne = ap (λ b. cond b (q ∷ takes_from from os) (takes_from from os)) (ne_eqb from j ne)
 
-under-way : (s : Setting) (n : ℕ) (w : World) (own : ℕ → List LocalEvent) (left : ℕ → ℕ → List Picture) (p : Placed) (ps : List Placed) (o : LocalEvent) (os : List LocalEvent) → IsAhead s n w own left (p ∷ ps) → own p.kernel ≡ o ∷ os → p.entry ≡ entry_of (w.kernel p.kernel) o → IsUnderWay w.packets p.kernel o
+under-way : (s : Setting) (n : ℕ) (w : World) (own : ℕ → List LocalEvent) (left : ℕ → ℕ → List Picture) (p : Placed) (ps : List Placed) (o : LocalEvent) (os : List LocalEvent) → IsAhead s n w own left (p ∷ ps)
+    → own p.kernel ≡ o ∷ os → p.entry ≡ entry_of (w.kernel p.kernel) o → IsUnderWay w.packets p.kernel o
 under-way s n w own left p ps (MakesCall q c mine) os a first entry = tt
 under-way s n w own left p ps (TakesPacket j q) os a first entry = not-sent (w.packets j k) (sends_to k (w.kernel j) (own j)) q (takes_from j os ++ left j k) taken never
   where

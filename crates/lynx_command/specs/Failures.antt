@@ -3,7 +3,8 @@ use Rattle.std.specs.Prelude.{ℕ, List, ◌++◌, codes}
 use Rattle.charlotte_text.specs.Spelling.{number_text}
 use Rattle.lynx_command.specs.Text.{line}
 use Rattle.lynx_command.specs.declared.failure.Failure.{Failure}
-use Rattle.lynx_command.specs.declared.failure.Failure.TheVariants.{Usage, ReadFault, Absent, TooBig, Lex, Syntax, Deep, Rule, CodeTooLong, Plan, Script, NoTranscript, Unbuilt, NoMemory}
+use Rattle.lynx_command.specs.declared.failure.Failure.TheVariants.{Usage, ReadFault, Absent, TooBig, Lex, Syntax, Deep, Rule}
+use Rattle.lynx_command.specs.declared.failure.Failure.TheVariants.{CodeTooLong, Plan, Script, NoTranscript, Unbuilt, NoMemory}
 use Rattle.lynx_outside.specs.declared.files.FileAnswer.{FileAnswer}
 use Rattle.lynx_outside.specs.declared.files.FileAnswer.TheVariants as answer
 use Rattle.lynx_outside.specs.declared.status.Status.{Status}

@@ -1,5 +1,6 @@
 -- What reads of files answer where the files are told, and what they leave.
-use Rattle.std.specs.Prelude.{◌≡◌, ℕ, ◌<◌, ◌≤◌, List, [], ◌∷◌, ◌++◌, length, All, Option, Some, None, Result, Ok, Err, Vec, ⊤, IfSome, IfOk, IsSomeAnd, find, map, option_map, bytes_eq, String, string_bytes}
+use Rattle.std.specs.Prelude.{◌≡◌, ℕ, ◌<◌, ◌≤◌, List, [], ◌∷◌, ◌++◌, length, All, Option, Some, None, Result, Ok, Err}
+use Rattle.std.specs.Prelude.{Vec, ⊤, IfSome, IfOk, IsSomeAnd, find, map, option_map, bytes_eq, String, string_bytes}
 use Rattle.std.specs.declared.alloc.Global.{Global}
 use Rattle.lynx_outside.specs.Faults.{next_count}
 use Rattle.lynx_outside.specs.Logged.{Read}

@@ -42,4 +42,6 @@ reads_code =
     (λ p. record { name = p.0; most = p.1.0; answer = p.1.1 }) (λ r. refl))
 
 abbrev pub puts_code : Coded (List Put)
-puts_code = coded_list (code_by (List ℕ × Bool) (coded× (coded_list coded_ℕ) coded_bool) (λ p. (p.bytes, p.taken)) (λ p. record { bytes = p.0; taken = p.1 }) (λ p. refl))
+puts_code =
+    coded_list (code_by (List ℕ × Bool) (coded× (coded_list coded_ℕ) coded_bool) (λ p. (p.bytes, p.taken))
+    (λ p. record { bytes = p.0; taken = p.1 }) (λ p. refl))

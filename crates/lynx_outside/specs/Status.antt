@@ -1,7 +1,8 @@
 -- The numbers of the statuses.
 use Rattle.std.specs.Prelude.{ℕ}
 use Rattle.lynx_outside.specs.declared.status.Status.{Status}
-use Rattle.lynx_outside.specs.declared.status.Status.TheVariants.{Done, Usage, ReadFault, WriteFault, Refused, Spent, NoFile, NoMemory, TooBig}
+use Rattle.lynx_outside.specs.declared.status.Status.TheVariants.{Done, Usage, ReadFault, WriteFault}
+use Rattle.lynx_outside.specs.declared.status.Status.TheVariants.{Refused, Spent, NoFile, NoMemory, TooBig}
 
 -- the number with which a program ends
 abbrev pub number_of : Status → ℕ

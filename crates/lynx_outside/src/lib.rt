@@ -1,5 +1,11 @@
 //! What a program of the product meets outside itself: files that it reads, sinks that it puts bytes to, and the
 //! status with which it ends.
+//!
+//! # What is proved
+//! What a read or a put did, where files and sinks tell what they hold. Told or not, each read with its answer and each put stands in a
+//! log, in order, which takes no memory. A count of faults rises by one with each that failed, and stays with every other.
+//! By `Reads`, `Holds`, `counted_read`, `counted_put` and the clauses `logged` of the traits `Files` and `Sink`; the laws `whole_puts` and
+//! `part_put`; exact clauses of the in-memory ones.
 #![tactic(auto)]
 
 mod faults;

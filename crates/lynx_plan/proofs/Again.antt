@@ -319,10 +319,13 @@ kernels_read t s (l ∷ ls) a e valid =
     let h : Given = record { version = t.version; kernels = t.kernels; homes = []; wires = []; lines = []; stage = stage.Processes } in
     let one : noted l.0 (begun t.version s) (meaning_at (begun t.version s) l.1) ≡ Ok h =
     ap (λ (x : List ℕ). noted l.0 (begun t.version s) (meaning_at (begun t.version s) x)) (first_text l.1 (kernels_text t.kernels) (texts_of ls) (home_texts 0 t.homes ++ map wire_text t.wires) e)
-    ∙ one_ok l.0 (begun t.version s) (kernels_text t.kernels) (Kernels (Is t.kernels)) (kernels_form t.version t.kernels (omega (arith, valid.limits.kernels))) a (kernels_ok (begun t.version s) t.kernels valid.limits.some_kernel valid.limits.kernels) ∙ ap Ok (kernels_adds l.0 t.version t.kernels s) in
+    ∙ one_ok l.0 (begun t.version s) (kernels_text t.kernels) (Kernels (Is t.kernels)) (kernels_form t.version t.kernels (omega (arith, valid.limits.kernels))) a
+    (kernels_ok (begun t.version s) t.kernels valid.limits.some_kernel valid.limits.kernels)
+    ∙ ap Ok (kernels_adds l.0 t.version t.kernels s) in
     let n : length t.homes ≡ 0 + length t.homes = omega arith in
     ap (then_lines (λ x. stands_read x ls)) one
-    ∙ homes_read t.homes ls h t.wires (other_texts l.1 (kernels_text t.kernels) (texts_of ls) (home_texts 0 t.homes ++ map wire_text t.wires) e) refl valid.limits.kernels (omega (arith, valid.limits.processes)) (recursion_from_All (λ k. k < t.kernels) t.homes valid.homes) (omega (arith, valid.limits.wires))
+    ∙ homes_read t.homes ls h t.wires (other_texts l.1 (kernels_text t.kernels) (texts_of ls) (home_texts 0 t.homes ++ map wire_text t.wires) e) refl valid.limits.kernels (omega (arith, valid.limits.processes))
+    (recursion_from_All (λ k. k < t.kernels) t.homes valid.homes) (omega (arith, valid.limits.wires))
     (subst (λ (m : ℕ). AllByRecursion (Joins m) t.wires) n (recursion_from_All (Joins (length t.homes)) t.wires valid.wires))
 
 version_adds : (line v : ℕ) → with_meaning line nothing (meaning_of (Version (Is v))) ≡ begun v stage.Named

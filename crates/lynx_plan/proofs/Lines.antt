@@ -46,7 +46,8 @@ some_kernels s t e (inl a) = ap has_kernels (sym e ∙ a)
 some_kernels s t e (inr (inl b)) = ap has_kernels (sym e ∙ b)
 some_kernels s t e (inr (inr b)) = ap has_kernels (sym e ∙ b)
 
-pub ended_early : (line : ℕ) (g : Given) (s : Stage) (ps : List (List ℕ)) (bytes : List ℕ) → s ≡ g.stage → (s ≡ stage.Start) ⊎ (s ≡ stage.Named) → ps ≡ [] → line + length ps ≡ length (parts 10 bytes) → lines_read (line + 1) g ps ≡ lines_read 1 nothing (parts 10 bytes) → script_of bytes ≡ Err (BadPlan line 1)
+pub ended_early : (line : ℕ) (g : Given) (s : Stage) (ps : List (List ℕ)) (bytes : List ℕ) → s ≡ g.stage → (s ≡ stage.Start) ⊎ (s ≡ stage.Named) → ps ≡ [] → line + length ps ≡ length (parts 10 bytes)
+    → lines_read (line + 1) g ps ≡ lines_read 1 nothing (parts 10 bytes) → script_of bytes ≡ Err (BadPlan line 1)
 ended_early line g s ps bytes e early none count so_far =
     let n : length (parts 10 bytes) ≡ line = omega (arith, ap length none) in
     lines_done (line + 1) g bytes (rw none at so_far) ∙ rw (no_kernels s g.stage e early, n) refl

@@ -206,7 +206,8 @@ reads_wire line g w text all s none t r =
       calls = no_calls g h none;
     }
 
-reads_call : (line : ℕ) (g : Given) (what : ScriptCall) (text : List ℕ) (all : List Line) → has_kernels g.stage ≡ true → text ≡ what_text what → FitsWhat (setting_of g) what → Reads g all → Reads (record g { lines = g.lines ++ record { line = line; what = what } ∷ []; stage = stage.Calls }) (all ++ (line, text) ∷ [])
+reads_call : (line : ℕ) (g : Given) (what : ScriptCall) (text : List ℕ) (all : List Line) → has_kernels g.stage ≡ true → text ≡ what_text what → FitsWhat (setting_of g) what → Reads g all
+    → Reads (record g { lines = g.lines ++ record { line = line; what = what } ∷ []; stage = stage.Calls }) (all ++ (line, text) ∷ [])
 reads_call line g what text all s t fits r = record {
   header = r.header;
   lines = with_call g all r.header line text what r.lines t;

@@ -44,7 +44,10 @@ lead_step w t k r here there =
 lead_is : (w : List ℕ) → LeadIs w (lead_of w)
 unfolding lead_of
 lead_is w =
-    lead_step w (codes "version") lead.Version (cond (bytes_eq w (codes "kernels")) lead.Kernels (cond (bytes_eq w (codes "process")) lead.Process (cond (bytes_eq w (codes "wire")) lead.Wire (cond (bytes_eq w (codes "take")) lead.Take (cond (bytes_eq w (codes "settle")) lead.Settle lead.Other))))) (λ e. e)
+    lead_step w (codes "version") lead.Version
+    (cond (bytes_eq w (codes "kernels")) lead.Kernels
+    (cond (bytes_eq w (codes "process")) lead.Process (cond (bytes_eq w (codes "wire")) lead.Wire (cond (bytes_eq w (codes "take")) lead.Take (cond (bytes_eq w (codes "settle")) lead.Settle lead.Other)))))
+    (λ e. e)
     (lead_step w (codes "kernels") lead.Kernels (cond (bytes_eq w (codes "process")) lead.Process (cond (bytes_eq w (codes "wire")) lead.Wire (cond (bytes_eq w (codes "take")) lead.Take (cond (bytes_eq w (codes "settle")) lead.Settle lead.Other)))) (λ e. e)
     (lead_step w (codes "process") lead.Process (cond (bytes_eq w (codes "wire")) lead.Wire (cond (bytes_eq w (codes "take")) lead.Take (cond (bytes_eq w (codes "settle")) lead.Settle lead.Other))) (λ e. e)
     (lead_step w (codes "wire") lead.Wire (cond (bytes_eq w (codes "take")) lead.Take (cond (bytes_eq w (codes "settle")) lead.Settle lead.Other)) (λ e. e)

@@ -1,5 +1,6 @@
 -- Which lines may stand where, the rules as tests of one line after what was read before it, and what a line adds.
-use Rattle.std.specs.Prelude.{ℕ, [], ◌∷◌, ◌++◌, Bool, true, false, not, ◌||◌, nat_le, nat_lt, ◌==◌, if◌then◌else◌, length, Option, Some, None, Result, Ok, Err}
+use Rattle.std.specs.Prelude.{ℕ, [], ◌∷◌, ◌++◌, Bool, true, false, not, ◌||◌, nat_le, nat_lt}
+use Rattle.std.specs.Prelude.{◌==◌, if◌then◌else◌, length, Option, Some, None, Result, Ok, Err}
 use Rattle.charlotte_calls.specs.declared.names.Pid.{Pid}
 use Rattle.charlotte_text.specs.declared.number.Number.{Number}
 use Rattle.charlotte_text.specs.declared.number.Number.TheVariants.{Is, Large}
@@ -10,7 +11,9 @@ use Rattle.lynx_plan.specs.declared.form.Form.TheVariants.{Version, Kernels, Pro
 use Rattle.lynx_plan.specs.declared.meaning.Meaning.{Meaning}
 use Rattle.lynx_plan.specs.declared.meaning.Meaning.TheVariants as meaning
 use Rattle.lynx_plan.specs.declared.rule.Rule.{Rule}
-use Rattle.lynx_plan.specs.declared.rule.Rule.TheVariants.{LineDoesNotStandThere, KernelsAreTooManyOrNone, ProcessIsNotTheNext, KernelIsNotThere, ProcessIsNotThere, TextIsTooLong, WiresAreTooMany, VersionIsNotKnown}
+use Rattle.lynx_plan.specs.declared.rule.Rule.TheVariants.{LineDoesNotStandThere, KernelsAreTooManyOrNone}
+use Rattle.lynx_plan.specs.declared.rule.Rule.TheVariants.{ProcessIsNotTheNext, KernelIsNotThere, ProcessIsNotThere}
+use Rattle.lynx_plan.specs.declared.rule.Rule.TheVariants.{TextIsTooLong, WiresAreTooMany, VersionIsNotKnown}
 use Rattle.lynx_plan.specs.declared.script.ScriptCall.TheVariants as script
 use Rattle.lynx_plan.specs.Given.{Given}
 

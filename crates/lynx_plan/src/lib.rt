@@ -1,4 +1,10 @@
 //! Scripts as texts: which kernels, processes and wires there are, and which calls are made in which order.
+//!
+//! # What is proved
+//! What `read_script` answers, the line and rule of a refusal too, is a stated function of the bytes. A script that it gives is spelled by
+//! these bytes, its setting is valid, the numbers of its lines rise, and seven times their number is at most one more than the bytes. What
+//! is spelled as a script is read so, and so each text spells at most one script.
+//! By clauses `exact`, `found`, `valid`, `rising`, `few` and `only` of `read_script`; the law `one_script`; `script_of` in `specs/`.
 #![tactic(auto)]
 
 mod compact;

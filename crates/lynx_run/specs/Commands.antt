@@ -26,8 +26,8 @@ pub record IsRefusedAs (failure : Failure) (name : List ℕ) (course : Course) :
   pub found : course.found ≡ Err failure
   pub named : course.name ≡ name
 
--- What words ask for: words that are not of the form are told so, `drive`, `check`, `code` and `audit` read the file that is named, and a command
--- that is not built yet is refused by its name.
+-- What words ask for: words that are not of the form are told so, `drive`, `check`, `code` and
+-- `audit` read the file that is named, and a command that is not built yet is refused by its name.
 abbrev pub Answers : Option Command → Course → Type 0
 Answers None course = IsRefusedAs Usage [] course
 Answers (Some (Drive file)) course = IsOfFile Drives 1048576 (string_bytes file) course

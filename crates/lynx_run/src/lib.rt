@@ -1,4 +1,17 @@
 //! The commands of the program `lynx`.
+//!
+//! # What is proved
+//! Of `drive`: with status 0, standard output got the lines of the transcript of the script that the file's bytes spell, each with one put;
+//! and what the entries of that transcript show is one lawful run of the link service, for whose state the kernels stand after each entry.
+//! Of `check`: with status 0 it got the line `ok` with the name of the module that the bytes are read as, which breaks no typing rule. Of
+//! `code`: with status 0 it got the lines of the listing of the code of that module, each with one put, and that has at most 65,535
+//! instructions. Of `audit`: with status 0 it got the line `yes`, and the bytes are the transcript of a run; what `drive` puts is such a
+//! text. Else the first failure, in the order file, text, work, gives the status and the one line on standard error, with the first line
+//! and least rule of a script that is refused, the place of a module's first fault, for `code` also that its code is too long, or the line
+//! at which a transcript is not that of a run. The bytes are those that the command's one read answered, of real files too. Every other
+//! command fails by its name, and reads nothing.
+//! By clauses of `lynx`, `drive_file`, `check_file`, `code_file` and `audit_file`; `Answers`, `Drives`, `Checks`, `Codes`, `Audits` in
+//! `specs/`; `lawful` of `IsDriven`; the law `driven_is_audited`.
 #![tactic(auto)]
 
 mod audit;

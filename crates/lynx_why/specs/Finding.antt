@@ -15,8 +15,8 @@ use Rattle.transcript_why.specs.Why.{AreWhy}
 abbrev pub accepted_text : List ℕ
 accepted_text = line (codes "yes")
 
--- `yes` where the bytes are the transcript of a run; else the three lines that tell of the line at which they are not, and that line is told; want of
--- memory comes at any text
+-- `yes` where the bytes are the transcript of a run; else the three lines that tell of
+-- the line at which they are not, and that line is told; want of memory comes at any text
 abbrev pub Finds : List ℕ → List (List ℕ) → Option Failure → Type 0
 Finds bytes lines None = (last : Last) × IsAudited bytes last × (lines ≡ accepted_text ∷ [])
 Finds bytes lines (Some (NoTranscript number)) = IsRejected bytes number × AreWhy bytes number lines

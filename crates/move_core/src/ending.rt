@@ -117,7 +117,7 @@ pub fn destroy(table: &mut Table, on: EndId, out: &mut Work)
     tell_gone(out, kernel, value);
 }
 
-/// The row goneseen: the mark of a destroyed end is erased, and the traces of the end are forgotten.
+/// The rule of goneseen: the mark of a destroyed end is erased, and the traces of the end are forgotten.
 pub fn gone_seen(table: &mut Table, to: EndId, out: &mut Work)
     requires room { HasRoom room_of_forgets out.old }
     ensures part { progress (entries table.new) out.new

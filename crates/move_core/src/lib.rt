@@ -1,5 +1,11 @@
 //! Enclosing, leaving, arriving and routing of ends: each call does one part of the kernel step on the table of a kernel,
 //! and adds to a `Work` what that part sends and reports.
+//!
+//! # What is proved
+//! The same of enclosing, of the ends in a parcel and in a back, of destroying an end, and of the packets moved, known, forget and
+//! goneseen. `route` is exact.
+//! By clauses `part` of `enclose`, `arrive`, `give_back`, `destroy`, `moved`, `known`, `forget`, `gone_seen`; `room` of these, but for
+//! `enclose` and `forget`, which add nothing (`same`); the clause of `route`.
 #![tactic(auto)]
 
 mod back;

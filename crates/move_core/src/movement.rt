@@ -9,7 +9,7 @@ use charlotte_calls::{EndId, Mark, What, Work};
 use end_table::{Lent, Table};
 use kernel_step::{Site, keep_inward, learn, push_packet};
 
-/// The row moved: the opposite of an end is at kernel `at` now.
+/// The rule of moved: the opposite of an end is at kernel `at` now.
 pub fn moved(table: &mut Table, to: EndId, at: u8, hops: u32, out: &mut Work)
     requires room { HasRoom room_of_moved out.old }
     ensures part { progress (entries table.new) out.new
@@ -74,7 +74,7 @@ fn mark_learns(table: &mut Table, to: EndId, mark: Mark, site: Site)
     }
 }
 
-/// The row known: that an end has moved is known, so that its traces are forgotten.
+/// The rule of known: that an end has moved is known, so that its traces are forgotten.
 pub fn known(table: &mut Table, to: EndId, hops: u32, out: &mut Work)
     requires room { HasRoom room_of_forgets out.old }
     ensures part { progress (entries table.new) out.new
@@ -106,7 +106,7 @@ fn known_here(table: &mut Table, on: EndId, hops: u32, out: &mut Work)
     keep_inward(table, on, value, inward);
 }
 
-/// The row forget: an entry that tells where an end went is removed, where it has at most these hops.
+/// The rule of forget: an entry that tells where an end went is removed, where it has at most these hops.
 #[tactic(auto, using(kernel_step::proofs::Steps::progress_puts))]
 pub fn forget(table: &mut Table, to: EndId, hops: u32, out: &mut Work)
     ensures part { progress (entries table.new) out.new

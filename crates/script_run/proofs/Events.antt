@@ -103,7 +103,9 @@ abbrev pub entry_of : World → Event → Noted → Entry
 entry_of w e entry = record { stamp = entry.stamp; what = asked_or_took w e; steps = entry.steps.items }
 
 -- the event happened, and was noted
-pub event-goes : (s : Setting) (n : ℕ) (run new : Recorded) (e : Event) (i : ℕ) (j0 j1 : Happenings) (entry : Noted) (ms : List Node) → IsNoting s n run e i j0 → Happens s e entry run.nodes.nodes.items ms → AreNodes s new.nodes.nodes.items × (world_of s new.nodes.nodes.items ≡ world_of s ms) → new.journals.items ≡ set run.journals.items i j1 → j1.entries ≡ j0.entries ++ entry_of (world_at s run) e entry ∷ [] → All IsEntryInRange j1.entries → Goes s run new (e ∷ [])
+pub event-goes : (s : Setting) (n : ℕ) (run new : Recorded) (e : Event) (i : ℕ) (j0 j1 : Happenings) (entry : Noted) (ms : List Node) → IsNoting s n run e i j0 → Happens s e entry run.nodes.nodes.items ms
+    → AreNodes s new.nodes.nodes.items × (world_of s new.nodes.nodes.items ≡ world_of s ms) → new.journals.items ≡ set run.journals.items i j1 → j1.entries ≡ j0.entries ++ entry_of (world_at s run) e entry ∷ []
+    → All IsEntryInRange j1.entries → Goes s run new (e ∷ [])
 event-goes s n run new e i j0 j1 entry ms is did nodes journals entries in_range =
     record {
       allowed = (is.allowed, tt);

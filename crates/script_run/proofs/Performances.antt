@@ -163,7 +163,8 @@ last-notes w (Spent k) notes h = absurd h
 
 -- ---- the whole
 
-pub performance : (s : Setting) (lines : List ScriptLine) (merged : List Placed) (notes : List ScriptNote) (last : Last) (a b : Recorded) → AreReady s 0 a → world_at s a ≡ start s → ((k : ℕ) → noted_at a k ≡ []) → AreLinesDone s lines notes a b → IsMerge (map entries_of b.journals.items) merged → IsLast (world_at s b) last → length lines ≤ 200000 → IsPerformance s lines merged notes last
+pub performance : (s : Setting) (lines : List ScriptLine) (merged : List Placed) (notes : List ScriptNote) (last : Last) (a b : Recorded) → AreReady s 0 a → world_at s a ≡ start s → ((k : ℕ) → noted_at a k ≡ [])
+    → AreLinesDone s lines notes a b → IsMerge (map entries_of b.journals.items) merged → IsLast (world_at s b) last → length lines ≤ 200000 → IsPerformance s lines merged notes last
 performance s lines merged notes last a b ready begins none done merge ends few =
     record {
       named = es;

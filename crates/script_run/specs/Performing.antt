@@ -1,5 +1,6 @@
 -- Performing a script: which events its lines name, in which order, and what is noted where a line names none.
-use Rattle.std.specs.Prelude.{◌≡◌, ℕ, zero, suc, nat_eq, not, List, [], ◌∷◌, ◌++◌, length, map, find, option_map, Option, None, Some, true, false}
+use Rattle.std.specs.Prelude.{◌≡◌, ℕ, zero, suc, nat_eq, not, List, [], ◌∷◌, ◌++◌, length}
+use Rattle.std.specs.Prelude.{map, find, option_map, Option, None, Some, true, false}
 use Rattle.std.specs.List.{flat_map, range_with_len}
 use Rattle.charlotte_calls.specs.declared.calls.Call.{Call}
 use Rattle.charlotte_calls.specs.declared.names.EndId.{EndId}
@@ -30,7 +31,8 @@ pairs kernels = flat_map (λ from. map (λ to. (from, to)) (range_with_len 0 ker
 
 -- the taking of the first packet of the first list that is not empty
 abbrev pub next_take : ℕ → World → Option Event
-next_take kernels w = option_map (λ pair. Takes pair.1 pair.0) (find (λ pair. not (nat_eq (length (w.packets pair.0 pair.1)) 0)) (pairs kernels))
+next_take kernels w =
+    option_map (λ pair. Takes pair.1 pair.0) (find (λ pair. not (nat_eq (length (w.packets pair.0 pair.1)) 0)) (pairs kernels))
 
 -- an event, if there is one, and those that follow it
 abbrev pub then_events : Option Event → (Event → List Event) → List Event
@@ -100,7 +102,8 @@ IsLast w Unsettled = AllTaken w → ⊥
 IsLast w (Spent kernel) = ⊥
 
 -- A script was performed: its lines name these events, in their order, and give these notes, and this is the record of these events.
-pub record IsPerformance (s : Setting) (lines : List ScriptLine) (merged : List Placed) (notes : List ScriptNote) (last : Last) : Type 0 where
+pub record IsPerformance (s : Setting) (lines : List ScriptLine) (merged : List Placed) (notes : List ScriptNote)
+    (last : Last) : Type 0 where
   -- the events in the order of the lines
   pub named : List Event
   pub performed : Performs s (start s) lines named notes

@@ -1,5 +1,6 @@
 -- Kernels with their journals, as a world.
-use Rattle.std.specs.Prelude.{◌≡◌, ◌≢◌, ◌≤◌, ◌<◌, ℕ, nat_eq, List, [], ◌∷◌, ◌++◌, length, map, All, slice_index_or, ◌*◌, Bool, true, false, Option, None, not, find}
+use Rattle.std.specs.Prelude.{◌≡◌, ◌≢◌, ◌≤◌, ◌<◌, ℕ, nat_eq, List, [], ◌∷◌, ◌++◌, length, map, All}
+use Rattle.std.specs.Prelude.{slice_index_or, ◌*◌, Bool, true, false, Option, None, not, find}
 use Rattle.std.specs.List.{range_with_len}
 use Rattle.std.specs.Option.{option_to_list}
 use Rattle.charlotte_calls.specs.declared.calls.Call.{Call}
@@ -85,4 +86,5 @@ first_pair kernels w = find (λ pair. not (nat_eq (length (w.packets pair.0 pair
 
 -- no packet of the first n kernels is under way
 abbrev pub AreQuietBelow : ℕ → ℕ → Recorded → Type 0
-AreQuietBelow kernels n run = (from : ℕ) → from < n → find (λ to. not (nat_eq (length (sent_from run from to)) 0)) (range_with_len 0 kernels) ≡ None
+AreQuietBelow kernels n run =
+    (from : ℕ) → from < n → find (λ to. not (nat_eq (length (sent_from run from to)) 0)) (range_with_len 0 kernels) ≡ None

@@ -282,7 +282,9 @@ told-tells s t p e rs after = (
           others = λ q apart. ap (λ f. f q.0) after ∙ w.others q apart ∙ put_process-other p _ s.process q apart;
           phase =
               subst (λ g. ((g p.0).phase ≡ (s.process p.0).phase) ⊎ ((g p.0).phase ≡ phase.Running)) (sym after)
-              (subst (λ z. ((wakes p e (put_process p (record (s.process p.0) { reports = (s.process p.0).reports ++ rs }) s.process) p.0).phase ≡ z) ⊎ ((wakes p e (put_process p (record (s.process p.0) { reports = (s.process p.0).reports ++ rs }) s.process) p.0).phase ≡ phase.Running)) (ap (λ z. z.phase) at_p) w.phase);
+              (subst (λ z. ((wakes p e (put_process p (record (s.process p.0) { reports = (s.process p.0).reports ++ rs }) s.process) p.0).phase ≡ z)
+              ⊎ ((wakes p e (put_process p (record (s.process p.0) { reports = (s.process p.0).reports ++ rs }) s.process) p.0).phase ≡ phase.Running))
+              (ap (λ z. z.phase) at_p) w.phase);
         };
     reports = ap (λ f. (f p.0).reports) after ∙ w.reports p ∙ ap (λ z. z.reports) at_p;
   },

@@ -1,5 +1,6 @@
 -- A step that makes a link leaves a consistent state.
-use Rattle.std.proofs.Common.{◌≡◌, ◌≢◌, ℕ, zero, suc, ◌+◌, ◌<◌, ◌≤◌, Bool, true, false, true≢false, nat_eq, not, ◌⊎◌, inl, inr, length, Option, Some, None, List, [], ◌∷◌, Contains, slice_get, slice_index, slice_set, get_or, nat_lt, get_or-set_same, get_or-set_other, refl, sym, ap, ap₂, subst, ◌∙◌, arith}
+use Rattle.std.proofs.Common.{◌≡◌, ◌≢◌, ℕ, zero, suc, ◌+◌, ◌<◌, ◌≤◌, Bool, true, false, true≢false, nat_eq, not, ◌⊎◌, inl, inr, length, Option, Some, None, List, []}
+use Rattle.std.proofs.Common.{◌∷◌, Contains, slice_get, slice_index, slice_set, get_or, nat_lt, get_or-set_same, get_or-set_other, refl, sym, ap, ap₂, subst, ◌∙◌, arith}
 use Rattle.charlotte_calls.specs.Names.{opposite}
 use Rattle.charlotte_calls.specs.declared.names.EndId.{EndId}
 use Rattle.charlotte_calls.specs.declared.names.Outcome.TheVariants as outcome

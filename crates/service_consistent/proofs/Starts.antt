@@ -1,5 +1,6 @@
 -- The start of a setting is consistent: all ends are idle, and owned by processes that run.
-use Rattle.std.proofs.Common.{◌≡◌, ◌≢◌, ℕ, zero, suc, ◌+◌, ◌<◌, ◌≤◌, Bool, true, false, true≢false, nat_eq, not, ◌⊎◌, inl, inr, if◌then◌else◌, length, Some, List, [], ◌∷◌, Contains, All, replicate, slice_index, slice_set, get_or, nat_lt, get_or-set_same, get_or-set_other, refl, sym, ap, ap₂, subst, ◌∙◌, arith}
+use Rattle.std.proofs.Common.{◌≡◌, ◌≢◌, ℕ, zero, suc, ◌+◌, ◌<◌, ◌≤◌, Bool, true, false, true≢false, nat_eq, not, ◌⊎◌, inl, inr, if◌then◌else◌, length, Some, List, [], ◌∷◌}
+use Rattle.std.proofs.Common.{Contains, All, replicate, slice_index, slice_set, get_or, nat_lt, get_or-set_same, get_or-set_other, refl, sym, ap, ap₂, subst, ◌∙◌, arith}
 use Rattle.charlotte_calls.specs.Names.{opposite}
 use Rattle.charlotte_calls.specs.declared.calls.Report.{Report}
 use Rattle.charlotte_calls.specs.declared.names.EndId.{EndId}

@@ -19,7 +19,8 @@ use Rattle.service_change.proofs.Facts.{IsWell-changed, away-gone, away-owned, b
 use Rattle.service_consistent.proofs.StepsOfMessages.{owned-lives}
 use Rattle.service_change.proofs.Change.{IsTelling, IsWell-idle}
 use Rattle.service_lawful.specs.Consistent.{is_report_on}
-use Rattle.service_step.specs.Ends.{is_made, is_living, is_destroyed, owner, is_idle, is_unreported_outward, is_unreported_inward, is_started_inward, matched_message, waiting_message, carried_by, noticed_end, noticed_inward, noticed_outward, places, puts, idles, notices, returned_end, returns, to_owner, turns_inward, turns_outward}
+use Rattle.service_step.specs.Ends.{is_made, is_living, is_destroyed, owner, is_idle, is_unreported_outward, is_unreported_inward, is_started_inward, matched_message, waiting_message}
+use Rattle.service_step.specs.Ends.{carried_by, noticed_end, noticed_inward, noticed_outward, places, puts, idles, notices, returned_end, returns, to_owner, turns_inward, turns_outward}
 use Rattle.service_step.specs.Lawful.{message_of}
 use Rattle.service_step.specs.State.{State, Process, dead_receive_report, gains, given, later, put_process, send_report, tells, wakes}
 use Rattle.service_step.specs.Steps.{IsOldest, after_notice, after_report, after_return, dead_reports, gains_owner, is_matched, may_notice, may_return, returned_reports}

@@ -12,7 +12,8 @@ use Rattle.service_change.proofs.EndEq.{end_eq-refl, opposite-apart}
 use Rattle.service_change.proofs.Shapes.{IsLed, IsNewly, IsNext, IsShape, IsTold, consistent-by, going-led, going-same, here-kept, here-woken, shape-dropped, shape-kept, telling-quiet, telling-told}
 use Rattle.service_lawful.specs.Consistent.{IsConsistent, is_over}
 use Rattle.service_change.proofs.EndEq.{end_eq-same, end_eq-sym, puts-at, puts-other}
-use Rattle.service_change.proofs.Facts.{IsWell-changed, away-owned, busy-away, busy-inward, busy-made, busy-outward, led-wakes, made-owned, matched-Matched, matched_with-Matched, next-same, over-both, owned_by-Owned, owner-Owned, owner_cancels-is, posted-Posted, some-is, taken-Taken, told-gains, told-tells, waiting-Waiting, wakes-woken, withdrawn-Withdrawn}
+use Rattle.service_change.proofs.Facts.{IsWell-changed, away-owned, busy-away, busy-inward, busy-made, busy-outward, led-wakes, made-owned, matched-Matched, matched_with-Matched, next-same, over-both}
+use Rattle.service_change.proofs.Facts.{owned_by-Owned, owner-Owned, owner_cancels-is, posted-Posted, some-is, taken-Taken, told-gains, told-tells, waiting-Waiting, wakes-woken, withdrawn-Withdrawn}
 use Rattle.service_step.specs.Ends.{end_eq, is_made, owner, is_idle, is_posted, is_unreported_outward, is_unreported_inward, is_started_inward, is_taken, is_withdrawn, matched_message, matched_outward, waiting_message, carried_by, places, puts, matches, takes, turns_inward, turns_outward}
 use Rattle.service_step.specs.Lawful.{IsHeldAt, message_of}
 use Rattle.service_step.specs.State.{State, gains, owner_cancels, receive_report, send_report, tells, wakes}

@@ -1,6 +1,7 @@
 -- What is true of every state that a service run reaches, whatever kernels do: who holds ends, what messages carry, when the
 -- death of a link was noticed, and which reports stand.
-use Rattle.std.specs.Prelude.{◌≡◌, ℕ, ◌+◌, ◌≤◌, Bool, true, false, nat_lt, ◌&&◌, if◌then◌else◌, List, [], ◌∷◌, length, Contains, None, Some, IsSome, slice_index}
+use Rattle.std.specs.Prelude.{◌≡◌, ℕ, ◌+◌, ◌≤◌, Bool, true, false, nat_lt, ◌&&◌, if◌then◌else◌}
+use Rattle.std.specs.Prelude.{List, [], ◌∷◌, length, Contains, None, Some, IsSome, slice_index}
 use Rattle.std.specs.List.{list_any}
 use Rattle.charlotte_calls.specs.EndEq.{names_twice, same_link}
 use Rattle.charlotte_calls.specs.Names.{opposite}
@@ -10,7 +11,8 @@ use Rattle.charlotte_calls.specs.declared.names.Outcome.TheVariants as outcome
 use Rattle.charlotte_calls.specs.declared.names.Pid.{Pid}
 use Rattle.charlotte_calls.specs.declared.names.Way.{Way}
 use Rattle.charlotte_calls.specs.declared.names.Way.TheVariants as way
-use Rattle.service_step.specs.Ends.{end_eq, unmade, is_made, is_living, owner, is_idle, is_started_inward, waiting_message, is_unreported_outward, is_unreported_inward}
+use Rattle.service_step.specs.Ends.{end_eq, unmade, is_made, is_living, owner, is_idle, is_started_inward}
+use Rattle.service_step.specs.Ends.{waiting_message, is_unreported_outward, is_unreported_inward}
 use Rattle.service_step.specs.Lawful.{AreHeldOnce, message_of}
 use Rattle.service_step.specs.State.{State, no_process}
 use Rattle.service_step.specs.declared.state.End.{End}
@@ -71,17 +73,21 @@ pub record AreReported (s : State) : Type 0 where
   -- that way of the end is over, and no other report is of it
   pub over : (p : Pid) (r : Report) → Contains (s.process p.0).reports r → is_over r.way (s.ends r.on) ≡ true
   pub once : (p : Pid) (e : EndId) (w : Way) → reports_on e w (s.process p.0).reports ≤ 1
-  pub alone : (p q : Pid) (r t : Report) → Contains (s.process p.0).reports r → Contains (s.process q.0).reports t → t.on ≡ r.on → t.way ≡ r.way → q.0 ≡ p.0
+  pub alone : (p q : Pid) (r t : Report) → Contains (s.process p.0).reports r → Contains (s.process q.0).reports t → t.on ≡ r.on
+      → t.way ≡ r.way → q.0 ≡ p.0
   -- it stands for the owner of a living end, and tells of a death only where that was noticed
-  pub own : (p : Pid) (r : Report) → Contains (s.process p.0).reports r → is_living (s.ends r.on).place ≡ true → (s.ends r.on).place ≡ place.Owned p
+  pub own : (p : Pid) (r : Report) → Contains (s.process p.0).reports r → is_living (s.ends r.on).place ≡ true
+      → (s.ends r.on).place ≡ place.Owned p
   pub done : (p : Pid) (r : Report) → Contains (s.process p.0).reports r → is_open (s.ends r.on) ≡ true → r.outcome ≡ outcome.Done
   -- of each way of a living end that is over a report stands
-  pub stands : (p : Pid) (e : EndId) (w : Way) → (s.ends e).place ≡ place.Owned p → is_over w (s.ends e) ≡ true → reports_on e w (s.process p.0).reports ≡ 1
+  pub stands : (p : Pid) (e : EndId) (w : Way) → (s.ends e).place ≡ place.Owned p → is_over w (s.ends e) ≡ true
+      → reports_on e w (s.process p.0).reports ≡ 1
 
 -- processes
 pub record AreProcesses (s : State) : Type 0 where
   -- in a Cancel of the receive on an end that it owns, which is started
-  pub cancelling : (p : Pid) (e : EndId) → (s.process p.0).phase ≡ phase.Cancelling e → ((s.ends e).place ≡ place.Owned p) × (is_started_inward (s.ends e).inward ≡ true)
+  pub cancelling : (p : Pid) (e : EndId) → (s.process p.0).phase ≡ phase.Cancelling e
+      → ((s.ends e).place ≡ place.Owned p) × (is_started_inward (s.ends e).inward ≡ true)
   pub ended : (p : Pid) → (s.process p.0).phase ≡ phase.Ended → (s.process p.0).reports ≡ []
   -- there are no others
   pub others : (p : Pid) → length s.homes ≤ p.0 → s.process p.0 ≡ no_process

@@ -6,7 +6,8 @@ use Rattle.charlotte_calls.specs.declared.calls.ServiceStep.{ServiceStep}
 use Rattle.charlotte_calls.specs.declared.names.EndId.{EndId}
 use Rattle.charlotte_calls.specs.declared.names.Pid.{Pid}
 use Rattle.service_step.specs.Ends.{waiting_message, matched_message, outward_activity, inward_activity, is_taken}
-use Rattle.service_step.specs.Lawful.{IsLawful, send_number, match_number, take_number, complete_number, WasTakenOnce, WasMatched, HasMatchedReport}
+use Rattle.service_step.specs.Lawful.{IsLawful, send_number, match_number, take_number}
+use Rattle.service_step.specs.Lawful.{complete_number, WasTakenOnce, WasMatched, HasMatchedReport}
 use Rattle.service_step.specs.Run.{state_after}
 use Rattle.service_step.specs.State.{State}
 use Rattle.service_step.specs.declared.state.End.{End}
@@ -21,15 +22,19 @@ unused_from is_to_come n = if is_to_come then n else n + 1
 pub record AreNumbered (f : EndId) (run : List (ServiceStep × State)) (x : End) : Type 0 where
   pub sends : All (λ n. n ≤ x.sent) (flat_map (send_number f) run)
   pub matches : All (λ n. n < unused_from (is_some (waiting_message x.outward)) x.sent) (flat_map (match_number f) run)
-  pub takes : All (λ n. n < unused_from (is_some (waiting_message x.outward) || is_some (matched_message x.outward)) x.sent) (flat_map (take_number f) run)
-  pub completes : All (λ n. n < unused_from (is_some (waiting_message x.outward) || is_some (matched_message x.outward) || is_taken x.outward) x.sent) (flat_map (complete_number f) run)
+  pub takes : All (λ n. n < unused_from (is_some (waiting_message x.outward) || is_some (matched_message x.outward)) x.sent)
+      (flat_map (take_number f) run)
+  pub completes : All (λ n. n
+      < unused_from (is_some (waiting_message x.outward) || is_some (matched_message x.outward) || is_taken x.outward) x.sent)
+      (flat_map (complete_number f) run)
 
 -- steps from a state s
 pub record HasHistory (s : State) (run : List (ServiceStep × State)) : Type 0 where
   pub lawful : IsLawful s run
   pub numbered : (f : EndId) → AreNumbered f run ((state_after s run).ends f)
   -- a message that is Taken was taken once
-  pub taken : (f : EndId) → is_taken ((state_after s run).ends f).outward ≡ true → WasTakenOnce s run run f ((state_after s run).ends f).sent
+  pub taken : (f : EndId) → is_taken ((state_after s run).ends f).outward ≡ true
+      → WasTakenOnce s run run f ((state_after s run).ends f).sent
   -- a send that is too late to be taken back was matched
   pub matched : (f : EndId) (p : Pid) → ((state_after s run).ends f).place ≡ place.Owned p → ((state_after s run).ends f).noticed ≡ false
       → is_late (outward_activity ((state_after s run).ends f).outward) ≡ true → WasMatched run f ((state_after s run).ends f).sent

@@ -1,5 +1,6 @@
 -- One process of a list is set.
-use Rattle.std.proofs.Common.{◌≡◌, ◌≢◌, ◌⊎◌, inl, inr, ℕ, zero, suc, ◌<◌, Bool, true, false, true≢false, nat_eq, nat_lt, ◌&&◌, ◌++◌, All, ◌↔◌, ◌≤◌, nat_le, Option, Some, None, IsSome, is_some, Result, Ok, Err, OnErr, Bor, option_copied, option_to_list, List, [], ◌∷◌, arith, slice_get, length, slice_set, map, ap, sym, subst, ◌∙◌, refl, get_or, cond, if◌then◌else◌}
+use Rattle.std.proofs.Common.{◌≡◌, ◌≢◌, ◌⊎◌, inl, inr, ℕ, zero, suc, ◌<◌, Bool, true, false, true≢false, nat_eq, nat_lt, ◌&&◌, ◌++◌, All, ◌↔◌, ◌≤◌, nat_le, Option, Some, None, IsSome, is_some, Result}
+use Rattle.std.proofs.Common.{Ok, Err, OnErr, Bor, option_copied, option_to_list, List, [], ◌∷◌, arith, slice_get, length, slice_set, map, ap, sym, subst, ◌∙◌, refl, get_or, cond, if◌then◌else◌}
 use Rattle.std.specs.List.{list_any}
 use Rattle.std.specs.Slice.{IsItemAt}
 use Rattle.charlotte_calls.specs.declared.calls.Report.{Report}

@@ -1,5 +1,6 @@
 -- What is known of the ends of processes: those that a process owns are among them, and perhaps others.
-use Rattle.std.specs.Prelude.{◌≡◌, ℕ, Bool, false, nat_eq, ◌<◌, ◌&&◌, ◌++◌, IsTrue, IsSome, Option, List, [], length, map, option_to_list, slice_index_or, if◌then◌else◌}
+use Rattle.std.specs.Prelude.{◌≡◌, ℕ, Bool, false, nat_eq, ◌<◌, ◌&&◌, ◌++◌, IsTrue, IsSome, Option}
+use Rattle.std.specs.Prelude.{List, [], length, map, option_to_list, slice_index_or, if◌then◌else◌}
 use Rattle.std.specs.List.{list_any}
 use Rattle.charlotte_calls.specs.declared.names.EndId.{EndId}
 use Rattle.charlotte_calls.specs.declared.names.Pid.{Pid}

@@ -21,7 +21,8 @@ use Rattle.service_step.specs.declared.state.Message.{Message}
 use Rattle.service_step.specs.declared.state.Outward.TheVariants as outward
 use Rattle.service_step.specs.declared.state.Place.{Place}
 use Rattle.service_step.specs.declared.state.Place.TheVariants as place
-use Rattle.service_runs.proofs.Moves.{HasNumbers, Move, completed, destroys-ended, destroys_each-ended, makes-sends, matched, may-sent, move-by, move-ended, move-over, none, noticed-or, number-its, number-other, places-sends, puts-apart, same-number, sends_of, sent, still-as, taken, turns_inward-sends}
+use Rattle.service_runs.proofs.Moves.{HasNumbers, Move, completed, destroys-ended, destroys_each-ended, makes-sends, matched, may-sent, move-by, move-ended, move-over, none}
+use Rattle.service_runs.proofs.Moves.{noticed-or, number-its, number-other, places-sends, puts-apart, same-number, sends_of, sent, still-as, taken, turns_inward-sends}
 use Rattle.service_consistent.proofs.StepsOfMessages.{take-matched, take-owned}
 use Rattle.service_step.specs.State.{given, next_link}
 use Rattle.service_step.specs.Steps.{is_new_pair, may_make}

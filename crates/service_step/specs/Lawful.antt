@@ -1,6 +1,7 @@
 -- Lawful service runs, in four clauses: every living end is held once; a send completes once its message was taken once;
 -- messages go in the order of their numbers; a Cancel comes too late only after a match.
-use Rattle.std.specs.Prelude.{◌≡◌, ◌≢◌, ℕ, ◌<◌, Bool, true, nat_eq, IsTrue, if◌then◌else◌, Option, Some, None, List, [], ◌∷◌, ◌++◌, length, map}
+use Rattle.std.specs.Prelude.{◌≡◌, ◌≢◌, ℕ, ◌<◌, Bool, true, nat_eq, IsTrue, if◌then◌else◌}
+use Rattle.std.specs.Prelude.{Option, Some, None, List, [], ◌∷◌, ◌++◌, length, map}
 use Rattle.std.specs.List.{Contains, filter, flat_map}
 use Rattle.charlotte_calls.specs.Names.{opposite}
 use Rattle.charlotte_calls.specs.declared.calls.Call.TheVariants as call
@@ -132,5 +133,6 @@ IsRightStep s run before _ = Unit {0}
 -- rise. A service run is a run from the start of its setting
 pub record IsLawful (s : State) (run : List (ServiceStep × State)) : Type 0 where
   pub held : (before after : List (ServiceStep × State)) → run ≡ before ++ after → AreHeldOnce (state_after s before)
-  pub steps : (before after : List (ServiceStep × State)) (made : ServiceStep × State) → run ≡ before ++ made ∷ after → IsRightStep s run before made.0
+  pub steps : (before after : List (ServiceStep × State)) (made : ServiceStep × State) → run ≡ before ++ made ∷ after
+      → IsRightStep s run before made.0
   pub order : (f : EndId) → AreInOrder f run

@@ -1,6 +1,7 @@
 -- The state of the link service: the links made, the ends and the processes. It knows of no kernel but as the maker of a
 -- link and the home of a process.
-use Rattle.std.specs.Prelude.{ℕ, ◌+◌, Bool, true, false, nat_eq, ◌++◌, if◌then◌else◌, Option, Some, None, List, [], ◌∷◌, slice_get, slice_index, slice_set}
+use Rattle.std.specs.Prelude.{ℕ, ◌+◌, Bool, true, false, nat_eq, ◌++◌, if◌then◌else◌, Option}
+use Rattle.std.specs.Prelude.{Some, None, List, [], ◌∷◌, slice_get, slice_index, slice_set}
 use Rattle.charlotte_calls.specs.declared.calls.Report.{Report}
 use Rattle.charlotte_calls.specs.declared.names.EndId.{EndId}
 use Rattle.charlotte_calls.specs.declared.names.LinkId.{LinkId}

@@ -1,7 +1,8 @@
 -- The service step: of each of the sixteen steps its number, its condition and its effect. No other step is allowed, and
 -- what an effect does not name stays as it was. The process that makes one of the steps 1 to 7 or 9 runs, and in 3 to 6 it is
 -- the owner of the end; in 8 it waits. What the steps do with the ends is in `Ends`, what they do with processes in `State`.
-use Rattle.std.specs.Prelude.{◌≡◌, ℕ, ◌+◌, Bool, false, nat_eq, nat_lt, nat_le, ◌&&◌, ◌||◌, not, is_none, is_some, IsTrue, if◌then◌else◌, Option, Some, None, List, [], ◌∷◌, ◌++◌, length, slice_get}
+use Rattle.std.specs.Prelude.{◌≡◌, ℕ, ◌+◌, Bool, false, nat_eq, nat_lt, nat_le, ◌&&◌, ◌||◌, not, is_none, is_some}
+use Rattle.std.specs.Prelude.{IsTrue, if◌then◌else◌, Option, Some, None, List, [], ◌∷◌, ◌++◌, length, slice_get}
 use Rattle.std.specs.List.{Contains}
 use Rattle.charlotte_calls.specs.Causes.{first_of, link_limit, send_causes, receive_causes}
 use Rattle.charlotte_calls.specs.Names.{opposite}
@@ -16,8 +17,12 @@ use Rattle.charlotte_calls.specs.declared.names.Side.TheVariants.{A}
 use Rattle.charlotte_calls.specs.declared.names.Way.{Way}
 use Rattle.charlotte_calls.specs.declared.names.Way.TheVariants as way
 use Rattle.service_step.specs.Causes.{sees, HasActivity, IsRefusedFor}
-use Rattle.service_step.specs.Ends.{end_eq, is_made, is_destroyed, is_living, owner, is_owned_by, waiting_message, matched_message, is_taken, is_posted, is_withdrawn, is_matched_with, is_matched_inward, is_started_inward, makes, destroys, destroys_each, starts_send, turns_inward, turns_outward, idles, withdraws_send, matches, takes, notices, returns}
-use Rattle.service_step.specs.State.{State, Process, is_running, is_waiting, is_cancelling, owner_cancels, turns, gains, given, ends_process, wakes, tells, send_report, receive_report, dead_receive_report, next_link, counts}
+use Rattle.service_step.specs.Ends.{end_eq, is_made, is_destroyed, is_living, owner, is_owned_by, waiting_message}
+use Rattle.service_step.specs.Ends.{matched_message, is_taken, is_posted, is_withdrawn, is_matched_with}
+use Rattle.service_step.specs.Ends.{is_matched_inward, is_started_inward, makes, destroys, destroys_each, starts_send}
+use Rattle.service_step.specs.Ends.{turns_inward, turns_outward, idles, withdraws_send, matches, takes, notices, returns}
+use Rattle.service_step.specs.State.{State, Process, is_running, is_waiting, is_cancelling, owner_cancels, turns, gains, given}
+use Rattle.service_step.specs.State.{ends_process, wakes, tells, send_report, receive_report, dead_receive_report, next_link, counts}
 use Rattle.service_step.specs.declared.state.End.{End}
 use Rattle.service_step.specs.declared.state.Inward.TheVariants as inward
 use Rattle.service_step.specs.declared.state.Message.{Message}

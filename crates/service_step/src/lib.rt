@@ -3,6 +3,11 @@
 //!
 //! `specs/` has the states, when a call is refused, the sixteen steps, runs, and which runs are lawful. The types of a state
 //! stand in `state.rt`, with what a step asks of them.
+//!
+//! # What is proved
+//! The link service, as definitions: states, causes, the sixteen steps, runs, lawful runs. They are the statement, not a result. How they
+//! were tried is in docs/SERVICE.md. Proved is what a step asks of an end, an activity and a phase.
+//! By `IsServiceStep`, `IsServiceRun`, `IsLawful` in `specs/`; clauses of the methods in `state.rt`.
 #![tactic(auto)]
 
 mod state;

@@ -1,5 +1,5 @@
 //! Service lines and packets: those with several ends or values, the greatest numbers, and one of each kind, copied. Other forms of
-//! them are shown by the rows of .ci/rows/runs.
+//! them are shown by the worked runs of .ci/rows/runs.
 
 use crate::journals::{asked, ends, holds, same_lines, text};
 use charlotte_calls::{

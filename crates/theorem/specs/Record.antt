@@ -13,7 +13,8 @@ steps_of [] = []
 steps_of (p ∷ ps) = p.entry.steps ++ steps_of ps
 
 -- They are the entries of a run. The service goes with it, event by event and so entry by entry: its steps are a lawful run of the service
--- from the start of the setting, and after each entry the world stands for the state of the service. The steps are just those that the entries show.
+-- from the start of the setting, and after each entry the world stands for
+-- the state of the service. The steps are just those that the entries show.
 pub record IsLawfulRecord (g : Setting) (merged : List Placed) : Type 0 where
   pub run : List Event
   pub recorded : IsRecord g run merged

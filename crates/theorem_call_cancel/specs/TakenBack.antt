@@ -23,7 +23,10 @@ pub record IsTakingBack (w u : Links) (s : State) (k : ℕ) (p : Pid) (v : HereV
   pub at : home_of s p ≡ k
   pub held : (f : EndId) → is_among xs f ≡ true → IsHereAnd (entry_at w k f) (λ y. IsIdle y × (y.holder ≡ holder.EnclosedIn v.value.end))
   -- entries and packets afterwards
-  pub entries : (f : EndId) → entry_at u k f ≡ puts v.value.end (entry.Here (record v { outward = kernel_outward.Idle })) (turns xs (held_entry v.holder) stays) f (entry_at w k f)
+  pub entries : (f : EndId)
+      → entry_at u k f
+      ≡ puts v.value.end (entry.Here (record v { outward = kernel_outward.Idle })) (turns xs (held_entry v.holder) stays) f
+      (entry_at w k f)
   pub others : (j : ℕ) (f : EndId) → nat_eq j k ≡ false → entry_at u j f ≡ entry_at w j f
   pub packets : (from to : ℕ) → u.packets from to ≡ w.packets from to
 

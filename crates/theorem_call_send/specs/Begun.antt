@@ -27,7 +27,10 @@ pub record IsBeginning (w u : Links) (s : State) (k : ℕ) (p : Pid) (v : HereVi
   pub free : (f : EndId) → is_among xs f ≡ true → IsHereAnd (entry_at w k f) (λ y. IsIdle y × (y.holder ≡ holder.Owner p))
   pub apart : is_among xs v.value.end ≡ false
   -- entries and packets afterwards
-  pub entries : (f : EndId) → entry_at u k f ≡ puts v.value.end (entry.Here (sending_view v bytes xs)) (turns xs (held_entry (holder.EnclosedIn v.value.end)) stays) f (entry_at w k f)
+  pub entries : (f : EndId)
+      → entry_at u k f
+      ≡ puts v.value.end (entry.Here (sending_view v bytes xs)) (turns xs (held_entry (holder.EnclosedIn v.value.end)) stays) f
+      (entry_at w k f)
   pub others : (j : ℕ) (f : EndId) → nat_eq j k ≡ false → entry_at u j f ≡ entry_at w j f
   pub packets : (from to : ℕ) → u.packets from to ≡ w.packets from to
 

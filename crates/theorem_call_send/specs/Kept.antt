@@ -1,4 +1,5 @@
--- What stays where a send begins or is taken back: all but who holds ends, how a send goes that is not matched, and how many sends there were.
+-- What stays where a send begins or is taken back: all but who holds ends,
+-- how a send goes that is not matched, and how many sends there were.
 use Rattle.std.specs.Prelude.{◌≡◌, ℕ, true, length}
 use Rattle.charlotte_calls.specs.declared.names.EndId.{EndId}
 use Rattle.charlotte_calls.specs.declared.names.Pid.{Pid}
@@ -55,7 +56,9 @@ pub record AreLinksKept (w u : Links) (s t : State) : Type 0 where
   pub homes : t.homes ≡ s.homes
   pub kernels : length t.made ≡ length s.made
   -- the owner of an end whose receive is withdrawn owned it before
-  pub owners : (k : ℕ) (e : EndId) (v y : HereView) (n : ℕ) (p : Pid) → entry_at w k e ≡ entry.Here v → entry_at u k e ≡ entry.Here y → y.inward ≡ kernel_inward.Withdrawing n
+  pub owners : (k : ℕ) (e : EndId) (v y : HereView) (n : ℕ) (p : Pid) → entry_at w k e ≡ entry.Here v → entry_at u k e ≡ entry.Here y
+      → y.inward ≡ kernel_inward.Withdrawing n
       → y.holder ≡ holder.Owner p → v.holder ≡ holder.Owner p
   -- counts of sends are the service's
-  pub sent : (e : EndId) (at : Stand) (m : MovingPicture) → is_living (t.ends e).place ≡ true → HasFields u e at m → m.sent ≡ (t.ends e).sent
+  pub sent : (e : EndId) (at : Stand) (m : MovingPicture) → is_living (t.ends e).place ≡ true → HasFields u e at m
+      → m.sent ≡ (t.ends e).sent

@@ -28,7 +28,8 @@ pub record IsUnmatched (o : Outward) : Type 0 where
   pub taken : is_taken o ≡ false
 
 -- at kernel k an end's view v becomes y, and its ends xs, which are here and idle, come to holder h; in the service they come to a place
-pub record IsRegrouping (w u : Links) (s : State) (t : EndId → End) (k : ℕ) (v y : HereView) (h : Holder) (at : Place) (xs : List EndId) : Type 0 where
+pub record IsRegrouping (w u : Links) (s : State) (t : EndId → End) (k : ℕ) (v y : HereView) (h : Holder) (at : Place)
+    (xs : List EndId) : Type 0 where
   pub here : entry_at w k v.value.end ≡ entry.Here v
   pub like : IsViewKept v y
   pub holder : y.holder ≡ v.holder

@@ -28,7 +28,8 @@ use Rattle.service_step.specs.declared.state.Phase.TheVariants as phase
 use Rattle.service_step.specs.declared.state.Place.TheVariants as place
 use Rattle.theorem_effects.proofs.Ends.{inward-same, outward-same}
 use Rattle.theorem_effects.proofs.Lists.{All-there}
-use Rattle.theorem_call_wait.proofs.Rested.{IsRested, IsRestedEntry, IsRestedView, asked-was, here-was, mark-was, rest-inward, rest-living, rest-matched, rest-open, rest-outward, rest-taken, rested-asked, rested-here, rested-is_here, rested-names, rested-nothing, rested-value, rested-waiting, rested-withdrawing, rested-withdraws, view-was, waiting-was, withdraws-was}
+use Rattle.theorem_call_wait.proofs.Rested.{IsRested, IsRestedEntry, IsRestedView, asked-was, here-was, mark-was, rest-inward, rest-living, rest-matched, rest-open, rest-outward, rest-taken, rested-asked}
+use Rattle.theorem_call_wait.proofs.Rested.{rested-here, rested-is_here, rested-names, rested-nothing, rested-value, rested-waiting, rested-withdrawing, rested-withdraws, view-was, waiting-was, withdraws-was}
 use Rattle.theorem_meaning.proofs.Sums.{over-same}
 use Rattle.theorem_meaning.specs.Fields.{Stand, At, Flying, HasFields, IsAskedAs, IsHeard, IsUnserved}
 use Rattle.theorem_meaning.specs.Invariant.{AreAsked, AreCounted, AreMarked, AreNamed, AreRight, AreSentOnce, AreWanted, IsPacketRight, IsServed, IsUnwantedOnce, is_message_of, is_taken_of, is_unwanted_to}

@@ -20,7 +20,8 @@ use Rattle.end_table.specs.declared.entry.Outward.TheVariants as outward
 use Rattle.kernel_effects.proofs.Uses.{all-append, arrival-each, forget-each, gone-each, live-each, news-each}
 use Rattle.kernel_effects.specs.Actions.{arrival_packets, forget_packets, gone_of, gone_packets, learn_effect, match_effect, match_waiting_effect}
 use Rattle.kernel_effects.specs.Effect.{Effect, nothing}
-use Rattle.kernel_effects.specs.Rows.{asked_view, back_effect, forget_effect, frees_effect, gone_effect, goneseen_effect, known_effect, moved_effect, parcel_effect, returns_effect, returns_first_effect, row_effect, taken_effect, unwant_effect, unwanted_effect, unwanted_here_effect, view_news, voids_effect, want_effect, wants_effect}
+use Rattle.kernel_effects.specs.Rows.{asked_view, back_effect, forget_effect, frees_effect, gone_effect, goneseen_effect, known_effect, moved_effect, parcel_effect, returns_effect}
+use Rattle.kernel_effects.specs.Rows.{returns_first_effect, row_effect, taken_effect, unwant_effect, unwanted_effect, unwanted_here_effect, view_news, voids_effect, want_effect, wants_effect}
 use Rattle.kernel_outcomes.specs.Touched.{enclosed_at, row_ends}
 use Rattle.kernel_sound.proofs.Actions.{learned-end}
 use Rattle.kernel_sound.proofs.Parcels.{asks-here, awaits-here}

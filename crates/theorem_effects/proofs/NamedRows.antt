@@ -18,13 +18,15 @@ use Rattle.end_table.specs.declared.entry.Outward.TheVariants as outward
 use Rattle.kernel_effects.proofs.Uses.{all-append}
 use Rattle.kernel_effects.specs.Actions.{arrival_packets, forget_packets, gone_packets, held_entry, learn_effect, left_of, match_effect, match_waiting_effect, matched_view, notice_effect, noticed_view}
 use Rattle.kernel_effects.specs.Effect.{Effect, brings, nothing, stays, turns}
-use Rattle.kernel_effects.specs.Rows.{asked_view, back_effect, erase_effect, forget_effect, frees_effect, gone_effect, goneseen_effect, known_effect, moved_effect, parcel_effect, returned_view, returns_effect, returns_first_effect, row_effect, taken_effect, unwant_effect, unwanted_effect, unwanted_here_effect, view_news, voids_effect, want_effect, wants_effect}
+use Rattle.kernel_effects.specs.Rows.{asked_view, back_effect, erase_effect, forget_effect, frees_effect, gone_effect, goneseen_effect, known_effect, moved_effect, parcel_effect, returned_view}
+use Rattle.kernel_effects.specs.Rows.{returns_effect, returns_first_effect, row_effect, taken_effect, unwant_effect, unwanted_effect, unwanted_here_effect, view_news, voids_effect, want_effect, wants_effect}
 use Rattle.kernel_sound.proofs.Parcels.{asks-here, awaits-here}
 use Rattle.kernel_step.specs.Actions.{enclosed_of, hint_kernel, values_leaving}
 use Rattle.kernel_step.specs.Rows.{arriving, asks, awaits, passing}
 use Rattle.theorem_meaning.specs.Invariant.{NamesBelow}
 use Rattle.theorem_effects.specs.Named.{NamesWithin}
-use Rattle.theorem_effects.proofs.NamedParts.{IsNamed, IsWithin, arrival-within, brings-names, cleared-named, either-names, ended_entry-names, forgets-within, gone-within, held_entry-names, hint-below, learned-named, left-named, left_entry-names, left_of-names, leaving-named, named-values, news-within, puts-names, stays-names, turns-names, values-named}
+use Rattle.theorem_effects.proofs.NamedParts.{IsNamed, IsWithin, arrival-within, brings-names, cleared-named, either-names, ended_entry-names, forgets-within, gone-within, held_entry-names, hint-below}
+use Rattle.theorem_effects.proofs.NamedParts.{learned-named, left-named, left_entry-names, left_of-names, leaving-named, named-values, news-within, puts-names, stays-names, turns-names, values-named}
 use Rattle.theorem_effects.proofs.Values.{arriving-each, each-weaker, left-each, packets-each, passing-each}
 
 module _ (n k made from : ℕ) (t : EndId → Entry) (below : k < n) (sender : from < n) (names : (e : EndId) → NamesBelow n (t e)) where

@@ -147,7 +147,8 @@ module _ {i : ℕ} {w v : Links} {c : Change} {b : Changes w c v} {from : ℕ} {
       let one = bounds.0 in
       let other = bounds.1 in
       let most = ready.few in
-      let least = sum_over-least g (swapped b from (record { stamp = 0; what = packet.GoneSeen f }) entries_then) j h z (omega (arith, one, most)) (omega (arith, other, most)) (Contains-append_right (taken_at (instead c from (record { stamp = 0; what = packet.GoneSeen f })) j h) (b.left j h) z has) in
+      let least = sum_over-least g (swapped b from (record { stamp = 0; what = packet.GoneSeen f }) entries_then) j h z (omega (arith, one, most)) (omega (arith, other, most))
+      (Contains-append_right (taken_at (instead c from (record { stamp = 0; what = packet.GoneSeen f })) j h) (b.left j h) z has) in
       omega (arith, sum, least, none)
 
   -- so no other packet carries the message, or one of its ends

@@ -51,7 +51,9 @@ use Rattle.theorem_take_answer.proofs.Swap.{swapped-each, swapped-sum}
 use Rattle.theorem_meaning.proofs.Plain.{holder-same, none-in, owner-same}
 use Rattle.theorem_ends_arrived.specs.Arrived.{IsAmong, IsLaden, emptied, settles, without_values}
 use Rattle.theorem_ends_arrived.proofs.Among.{among-none, contains-among, each-value, told-among}
-use Rattle.theorem_ends_arrived.proofs.Coming.{arrival, each-owner, end-alone, entry-came, entry-case, fields-before, fields-were, flies, here-before, here-landed, idle, inside, landed, landed-after, landed-number, landed-same, landed-still, landed-was, living, low, low-from, message-alone, near, never-here, no-mark, not-here, one-value, owners, owners-sender, packed, sender-apart, stood}
+use Rattle.theorem_ends_arrived.proofs.Coming.{arrival, each-owner, end-alone, entry-came, entry-case, fields-before, fields-were, flies, here-before, here-landed}
+use Rattle.theorem_ends_arrived.proofs.Coming.{idle, inside, landed, landed-after, landed-number, landed-same, landed-still, landed-was, living, low, low-from}
+use Rattle.theorem_ends_arrived.proofs.Coming.{message-alone, near, never-here, no-mark, not-here, one-value, owners, owners-sender, packed, sender-apart, stood}
 use Rattle.theorem_ends_arrived.proofs.Emptied.{emptied-addressed, emptied-asking, emptied-message, emptied-news, emptied-parcel_for, emptied-taken, emptied-telling, emptied-to, emptied-unwant, emptied-unwanted, emptied-values, emptied-voids}
 
 message-same : (m o : Message) → outward.Matched m ≡ outward.Matched o → m ≡ o

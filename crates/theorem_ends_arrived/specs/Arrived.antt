@@ -44,7 +44,8 @@ unladen x = x
 -- the ends of the service afterwards, where the message of f carried these
 abbrev pub arrived : EndId → List EndId → Pid → (EndId → End) → EndId → End
 arrived f xs p t e =
-    if end_eq f e then record (t e) { outward = unladen (t e).outward } else if list_any (end_eq e) xs then record (t e) { place = place.Owned p } else t e
+    if end_eq f e then record (t e) { outward = unladen (t e).outward }
+    else if list_any (end_eq e) xs then record (t e) { place = place.Owned p } else t e
 
 -- the entries of the kernel afterwards
 abbrev pub settles : Pid → List MovingPicture → (EndId → Entry) → EndId → Entry

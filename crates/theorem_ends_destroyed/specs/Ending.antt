@@ -52,7 +52,8 @@ pub data IsSendAfter (x y : End) (n : ℕ) : Type 0 where
   -- it waited, and its message is dropped with the end
   Dropped : (m : Message) → x.outward ≡ outward.Waiting m → y.outward ≡ outward.Idle → is_living y.place ≡ false → n ≡ 0 → IsSendAfter x y n
   -- its message comes back to the end, which is destroyed
-  Returned : (m : Message) → x.outward ≡ outward.Matched m → y.outward ≡ outward.Idle → is_living y.place ≡ false → n ≡ 1 → IsSendAfter x y n
+  Returned : (m : Message) → x.outward ≡ outward.Matched m → y.outward ≡ outward.Idle → is_living y.place ≡ false → n ≡ 1
+      → IsSendAfter x y n
 
 -- an event in which the ends are destroyed of which `ended` is true; t and g are the ends and processes of the service afterwards
 pub record IsEnding (ended : EndId → Bool) (w : Links) (c : Change) (s : State) (t : EndId → End) (g : ℕ → Process) : Type 0 where

@@ -172,7 +172,9 @@ module _ (i : ℕ) (w : World) (s : State) (k : ℕ) (p : Pid) (mine : List EndI
       left-held (entry.Destroyed m) = refl
 
       by : (a b : Bool) → (if a then entry.Here (served_view starting r n) else (if b then left_of goes (table q) else table q))
-          ≡ (if a then entry.Here (served_view starting r n) else (if b then left_of goes (if a then entry.Here starting else (if b then held_entry (holder.EnclosedIn e) (table q) else table q)) else (if a then entry.Here starting else (if b then held_entry (holder.EnclosedIn e) (table q) else table q))))
+          ≡ (if a then entry.Here (served_view starting r n)
+          else (if b then left_of goes (if a then entry.Here starting else (if b then held_entry (holder.EnclosedIn e) (table q) else table q))
+          else (if a then entry.Here starting else (if b then held_entry (holder.EnclosedIn e) (table q) else table q))))
       by true b = refl
       by false true = left-held (table q)
       by false false = refl

@@ -85,7 +85,8 @@ hint-known i w s right links kept few k v here alive r at hops asked living =
         let same : v.value.hint.1 ≡ hops = omega (arith, most, least) in
         ap (λ j. (j, v.value.hint.1)) (site same) ∙ ap (λ h. (at, h)) same
 
-module _ (i : ℕ) (w : World) (s : State) (is : Invariant i w s) (room : i < 2 ^ 31) (k from stamp : ℕ) (to : EndId) (r at hops : ℕ) (others : List Picture) (there : w.packets from k ≡ record { stamp = stamp; what = packet.Want to r at hops } ∷ others) (v : HereView) (here : (w.kernel k).table to ≡ entry.Here v) (alive : v.value.dead ≡ false)
+module _ (i : ℕ) (w : World) (s : State) (is : Invariant i w s) (room : i < 2 ^ 31) (k from stamp : ℕ) (to : EndId) (r at hops : ℕ) (others : List Picture)
+    (there : w.packets from k ≡ record { stamp = stamp; what = packet.Want to r at hops } ∷ others) (v : HereView) (here : (w.kernel k).table to ≡ entry.Here v) (alive : v.value.dead ≡ false)
     (low : v.value.served < r) (n : ℕ) (bytes : List ℕ) (xs : List EndId) (waits : v.outward ≡ outward.Waiting n bytes xs) where
   abbrev q : Picture
   q = record { stamp = stamp; what = packet.Want to r at hops }

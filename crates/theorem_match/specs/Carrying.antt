@@ -44,5 +44,8 @@ pub record IsCarrying (w u : Links) (t : EndId → End) (k : ℕ) (xs : List End
   pub unowned : (e : EndId) (p : Pid) → Contains xs e → (t e).place ≡ place.Owned p → ⊥
   pub idle : (e : EndId) → Contains xs e → is_idle (t e) ≡ true
   pub resting : (j : ℕ) (e : EndId) → Contains xs e → IfHere (entry_at w j e) IsIdle
-  pub entry : (j : ℕ) (e : EndId) → (entry_at u j e ≡ entry_at w j e) ⊎ (Contains xs e × IsAway (entry_at u j e)) ⊎ ((e ≡ mine) × IsTurned (entry_at w j e) (entry_at u j e))
-  pub fields : (e : EndId) (at : Stand) (m : MovingPicture) → HasFields u e at m → HasFields w e at m ⊎ (Contains xs e × (at ≡ Flying) × HasLeft w k e m)
+  pub entry : (j : ℕ) (e : EndId)
+      → (entry_at u j e ≡ entry_at w j e) ⊎ (Contains xs e × IsAway (entry_at u j e))
+      ⊎ ((e ≡ mine) × IsTurned (entry_at w j e) (entry_at u j e))
+  pub fields : (e : EndId) (at : Stand) (m : MovingPicture) → HasFields u e at m
+      → HasFields w e at m ⊎ (Contains xs e × (at ≡ Flying) × HasLeft w k e m)

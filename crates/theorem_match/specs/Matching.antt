@@ -21,7 +21,8 @@ use Rattle.theorem_meaning.specs.StandsFor.{entry_at}
 
 -- an end with this view, at kernel k, does not know of the death of its link; its send n waits, and the receive r is asked of it by an
 -- opposite that was at kernel j with h hops. The message can go to a kernel: where the opposite lives, that is where it was
-pub record IsMatching (w : Links) (s : State) (k : ℕ) (v : HereView) (r j h n : ℕ) (bytes : List ℕ) (xs : List EndId) (to : ℕ) : Type 0 where
+pub record IsMatching (w : Links) (s : State) (k : ℕ) (v : HereView) (r j h n : ℕ) (bytes : List ℕ) (xs : List EndId)
+    (to : ℕ) : Type 0 where
   pub kernel : k < length s.made
   pub goes : to < length s.made
   pub site : is_living (s.ends (opposite v.value.end)).place ≡ true → to ≡ j

@@ -43,7 +43,8 @@ pub record IsSending (w : Links) (s : State) (k : ℕ) (v : HereView) (r n : ℕ
   pub made : is_made (s.ends (opposite v.value.end)).place ≡ true
   pub posted : (s.ends (opposite v.value.end)).inward ≡ inward.Posted
   pub last : (j q : ℕ) (x : HereView) → entry_at w j (opposite v.value.end) ≡ entry.Here x → IsAskedAs q x.inward → q ≡ r
-  pub meets : is_living (s.ends (opposite v.value.end)).place ≡ true → IsHereAnd (entry_at w to (opposite v.value.end)) (λ x. IsAskedAs r x.inward)
+  pub meets : is_living (s.ends (opposite v.value.end)).place ≡ true
+      → IsHereAnd (entry_at w to (opposite v.value.end)) (λ x. IsAskedAs r x.inward)
 
 -- a view after its send n was matched
 abbrev pub sent_view : HereView → ℕ → HereView

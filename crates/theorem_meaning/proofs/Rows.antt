@@ -48,7 +48,11 @@ moves =
     ∷ []
 
 pub moves-counts : map (counts moves) (0 ∷ 1 ∷ 2 ∷ 3 ∷ 4 ∷ 5 ∷ []) ≡ (1, 1, 0, 0) ∷ (1, 1, 0, 0) ∷ (1, 1, 0, 0) ∷ (1, 1, 1, 0) ∷ (1, 1, 0, 1) ∷ (1, 1, 0, 0) ∷ []
-unfolding end_eq put progress.sends progress.reports_to progress.answers_to progress.means progress.keeps actions.forgets actions.leave_each actions.values_leaving actions.matches actions.tells_gone actions.ends_idle actions.end_each actions.ends actions.hold_each actions.notice_send actions.notice_receive actions.notices actions.tells_moved actions.resends actions.resends_on_news actions.settle_each actions.tell_arrivals actions.learns rows.wants rows.voids rows.want_here rows.unwant_here rows.frees rows.receives rows.pass_each rows.sends_back rows.completes rows.gives_back rows.notices_first rows.end_arrivals rows.erases rows.gone_here rows.moved_here rows.moved_mark rows.known_here calls.makes calls.starts_send calls.encloses calls.posts calls.withdraws_send calls.withdraws_receive calls.ends_each kernel.answers_wait kernel.join_reports kernel.join_answers kernel.closes kernel.take_step kernel.performs kernel.call_step standing over_kernels sum_over
+unfolding end_eq put progress.sends progress.reports_to progress.answers_to progress.means progress.keeps actions.forgets actions.leave_each actions.values_leaving actions.matches actions.tells_gone actions.ends_idle
+    actions.end_each actions.ends actions.hold_each actions.notice_send actions.notice_receive actions.notices actions.tells_moved actions.resends actions.resends_on_news actions.settle_each actions.tell_arrivals
+    actions.learns rows.wants rows.voids rows.want_here rows.unwant_here rows.frees rows.receives rows.pass_each rows.sends_back rows.completes rows.gives_back rows.notices_first rows.end_arrivals rows.erases
+    rows.gone_here rows.moved_here rows.moved_mark rows.known_here calls.makes calls.starts_send calls.encloses calls.posts calls.withdraws_send calls.withdraws_receive calls.ends_each kernel.answers_wait
+    kernel.join_reports kernel.join_answers kernel.closes kernel.take_step kernel.performs kernel.call_step standing over_kernels sum_over
 moves-counts = refl
 
 -- the receiving end is destroyed while the parcel is under way: receive, want, send, destroy, parcel, gone, back
@@ -65,5 +69,9 @@ comes_back =
 
 pub comes_back-counts : map (counts comes_back) (0 ∷ 1 ∷ 2 ∷ 3 ∷ 4 ∷ 5 ∷ 6 ∷ 7 ∷ [])
     ≡ (1, 1, 0, 0) ∷ (1, 1, 0, 0) ∷ (1, 1, 0, 0) ∷ (1, 1, 1, 0) ∷ (1, 0, 1, 0) ∷ (1, 0, 1, 0) ∷ (1, 0, 1, 0) ∷ (1, 0, 0, 0) ∷ []
-unfolding end_eq put progress.sends progress.reports_to progress.answers_to progress.means progress.keeps actions.forgets actions.leave_each actions.values_leaving actions.matches actions.tells_gone actions.ends_idle actions.end_each actions.ends actions.hold_each actions.notice_send actions.notice_receive actions.notices actions.tells_moved actions.resends actions.resends_on_news actions.settle_each actions.tell_arrivals actions.learns rows.wants rows.voids rows.want_here rows.unwant_here rows.frees rows.receives rows.pass_each rows.sends_back rows.completes rows.gives_back rows.notices_first rows.end_arrivals rows.erases rows.gone_here rows.moved_here rows.moved_mark rows.known_here calls.makes calls.starts_send calls.encloses calls.posts calls.withdraws_send calls.withdraws_receive calls.ends_each kernel.answers_wait kernel.join_reports kernel.join_answers kernel.closes kernel.take_step kernel.performs kernel.call_step standing over_kernels sum_over
+unfolding end_eq put progress.sends progress.reports_to progress.answers_to progress.means progress.keeps actions.forgets actions.leave_each actions.values_leaving actions.matches actions.tells_gone actions.ends_idle
+    actions.end_each actions.ends actions.hold_each actions.notice_send actions.notice_receive actions.notices actions.tells_moved actions.resends actions.resends_on_news actions.settle_each actions.tell_arrivals
+    actions.learns rows.wants rows.voids rows.want_here rows.unwant_here rows.frees rows.receives rows.pass_each rows.sends_back rows.completes rows.gives_back rows.notices_first rows.end_arrivals rows.erases
+    rows.gone_here rows.moved_here rows.moved_mark rows.known_here calls.makes calls.starts_send calls.encloses calls.posts calls.withdraws_send calls.withdraws_receive calls.ends_each kernel.answers_wait
+    kernel.join_reports kernel.join_answers kernel.closes kernel.take_step kernel.performs kernel.call_step standing over_kernels sum_over
 comes_back-counts = refl

@@ -86,28 +86,36 @@ IsHonest w e = (at : Stand) (m : MovingPicture) (j h : ℕ) → HasFields w e at
 -- the receive that an entry has started is the last that was asked for; only a Cancel of its owner withdraws it
 pub record AreAsked (w : Links) (s : State) (e : EndId) : Type 0 where
   pub last : (k : ℕ) (v : HereView) (n : ℕ) → entry_at w k e ≡ entry.Here v → IsAskedAs n v.inward → n ≡ v.value.asked
-  pub cancelled : (k : ℕ) (v : HereView) (n : ℕ) (p : Pid) → entry_at w k e ≡ entry.Here v → v.inward ≡ kernel_inward.Withdrawing n → v.holder ≡ holder.Owner p
+  pub cancelled : (k : ℕ) (v : HereView) (n : ℕ) (p : Pid) → entry_at w k e ≡ entry.Here v → v.inward ≡ kernel_inward.Withdrawing n
+      → v.holder ≡ holder.Owner p
       → (s.process p.0).phase ≡ phase.Cancelling e
 
 -- a process is in a Cancel while its receive is being withdrawn
 abbrev pub AreCancelling : Links → State → Type 0
-AreCancelling w s = (p : Pid) (e : EndId) → (s.process p.0).phase ≡ phase.Cancelling e → IsHereAnd (entry_at w (home_of s p) e) (λ v. is_withdrawing v.inward ≡ true)
+AreCancelling w s =
+    (p : Pid) (e : EndId) → (s.process p.0).phase ≡ phase.Cancelling e
+    → IsHereAnd (entry_at w (home_of s p) e) (λ v. is_withdrawing v.inward ≡ true)
 
 -- a receive that was matched or withdrawn is served at the opposite end
 abbrev pub IsServed : Links → (EndId → End) → EndId → Type 0
 IsServed w t e =
-    (k : ℕ) (v : HereView) (n : ℕ) (at : Stand) (m : MovingPicture) → entry_at w k e ≡ entry.Here v → IsAskedAs n v.inward → is_posted (t e).inward ≡ false
+    (k : ℕ) (v : HereView) (n : ℕ) (at : Stand) (m : MovingPicture) → entry_at w k e ≡ entry.Here v → IsAskedAs n v.inward
+    → is_posted (t e).inward ≡ false
     → is_living (t (opposite e)).place ≡ true → HasFields w (opposite e) at m → n ≤ m.served
 
--- what is asked of an open end and not yet served: it is one receive, which is posted, and where its end lives, that is where each asking says
+-- what is asked of an open end and not yet served: it is one receive,
+-- which is posted, and where its end lives, that is where each asking says
 pub record AreWanted (w : Links) (t : EndId → End) (e : EndId) : Type 0 where
   pub kept : (at : Stand) (m : MovingPicture) → is_open (t e) ≡ true → HasFields w e at m → (m.want ≡ 0) ⊎ (m.served < m.want)
-  pub same : (at : Stand) (m : MovingPicture) (n j h o i g : ℕ) → is_open (t e) ≡ true → HasFields w e at m → IsUnserved w e m n j h → IsUnserved w e m o i g → o ≡ n
-  pub posted : (at : Stand) (m : MovingPicture) (n j h : ℕ) → is_open (t e) ≡ true → HasFields w e at m → IsUnserved w e m n j h → is_posted (t (opposite e)).inward ≡ true
+  pub same : (at : Stand) (m : MovingPicture) (n j h o i g : ℕ) → is_open (t e) ≡ true → HasFields w e at m → IsUnserved w e m n j h
+      → IsUnserved w e m o i g → o ≡ n
+  pub posted : (at : Stand) (m : MovingPicture) (n j h : ℕ) → is_open (t e) ≡ true → HasFields w e at m → IsUnserved w e m n j h
+      → is_posted (t (opposite e)).inward ≡ true
   pub site : (at : Stand) (m : MovingPicture) (n j h : ℕ) → is_open (t e) ≡ true → HasFields w e at m → IsUnserved w e m n j h
       → is_living (t (opposite e)).place ≡ true → IsHereAnd (entry_at w j (opposite e)) (λ v. (v.value.hops ≡ h) × (v.value.asked ≡ n))
   -- one that is taken back is being withdrawn there
-  pub unwanted : (at : Stand) (m : MovingPicture) (n : ℕ) → is_open (t e) ≡ true → HasFields w e at m → m.served < n → IsUnderWay w (IsUnwantOf e n)
+  pub unwanted : (at : Stand) (m : MovingPicture) (n : ℕ) → is_open (t e) ≡ true → HasFields w e at m → m.served < n
+      → IsUnderWay w (IsUnwantOf e n)
       → (k : ℕ) × IsHereAnd (entry_at w k (opposite e)) (λ v. is_withdrawing v.inward ≡ true)
 
 -- an unwanted meets the receive that is being withdrawn
@@ -137,7 +145,8 @@ IsHereIfLiving w t k e P = is_living (t e).place ≡ true → IsHereAnd (entry_a
 
 -- a parcel to e: its message is matched and has these bytes and ends; it came from where its sender is; an open end has it meet
 -- the receive that it is for
-pub record IsParcelRight (w : Links) (t : EndId → End) (from to : ℕ) (e : EndId) (n wanted at hops : ℕ) (bytes : List ℕ) (xs : List EndId) : Type 0 where
+pub record IsParcelRight (w : Links) (t : EndId → End) (from to : ℕ) (e : EndId) (n wanted at hops : ℕ) (bytes : List ℕ)
+    (xs : List EndId) : Type 0 where
   pub matched : (t (opposite e)).outward ≡ outward.Matched (record { bytes = bytes; carried = xs })
   pub number : (t (opposite e)).sent ≡ n
   pub sender : at ≡ from

@@ -26,7 +26,8 @@ use Rattle.service_step.specs.declared.state.Outward.TheVariants as outward
 use Rattle.service_step.specs.declared.state.Phase.{Phase}
 use Rattle.service_step.specs.declared.state.Phase.TheVariants as phase
 use Rattle.service_step.specs.declared.state.Place.TheVariants as place
-use Rattle.theorem_meaning.specs.Packets.{Links, links_of, IsUnderWay, IsParcelOf, IsParcelFor, IsBackOf, IsTakenOf, IsUnwantedOf, values_of, over_kernels, sum_over, one_if, values_for}
+use Rattle.theorem_meaning.specs.Packets.{Links, links_of, IsUnderWay, IsParcelOf, IsParcelFor, IsBackOf, IsTakenOf}
+use Rattle.theorem_meaning.specs.Packets.{IsUnwantedOf, values_of, over_kernels, sum_over, one_if, values_for}
 
 -- the kernel of a process
 abbrev pub home_of : State → Pid → ℕ
@@ -93,7 +94,8 @@ IsInMessage w e f n =
 -- the activity outward of e, whose count of sends is n: a kernel's Matched is Taken where a taken for it is under way, else Matched
 abbrev pub IsOutwardOf : Links → EndId → ℕ → KernelOutward → Outward → Type 0
 IsOutwardOf w e n kernel_outward.Idle outward.Idle = Unit {0}
-IsOutwardOf w e n (kernel_outward.Waiting m bytes xs) (outward.Waiting message) = (m ≡ n) × (message ≡ record { bytes = bytes; carried = xs })
+IsOutwardOf w e n (kernel_outward.Waiting m bytes xs) (outward.Waiting message) =
+    (m ≡ n) × (message ≡ record { bytes = bytes; carried = xs })
 IsOutwardOf w e n (kernel_outward.Matched m) (outward.Matched message) = (m ≡ n) × (IsUnderWay w (IsTakenOf e m) → ⊥)
 IsOutwardOf w e n (kernel_outward.Matched m) outward.Taken = (m ≡ n) × IsUnderWay w (IsTakenOf e m)
 IsOutwardOf w e n kernel_outward.Unreported outward.Unreported = Unit {0}
@@ -132,7 +134,8 @@ pub record AreLinksOf (w : Links) (s : State) : Type 0 where
   pub owned : (e : EndId) (p : Pid) → ((s.ends e).place ≡ place.Owned p) ↔ IsOwnedHere p (entry_at w (home_of s p) e)
   pub in_message : (e f : EndId) (n : ℕ) → ((s.ends e).place ≡ place.InMessage f n) ↔ IsInMessage w e f n
   -- 4 and 5: the sends and receives of an owned end
-  pub agree : (e : EndId) (p : Pid) (v : HereView) → (s.ends e).place ≡ place.Owned p → entry_at w (home_of s p) e ≡ entry.Here v → IsEndOf w e v (s.ends e)
+  pub agree : (e : EndId) (p : Pid) (v : HereView) → (s.ends e).place ≡ place.Owned p → entry_at w (home_of s p) e ≡ entry.Here v
+      → IsEndOf w e v (s.ends e)
 
 pub record StandsFor (w : World) (s : State) : Type 0 where
   -- 1: each process is where its kernel has it

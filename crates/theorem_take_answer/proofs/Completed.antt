@@ -262,7 +262,11 @@ module _ (i : ℕ) (w : World) (s : State) (is : Invariant i w s) (k from stamp 
               record {
                 stands =
                     record {
-                      processes = processes-told happened.becomes s completed.ends completed.process o.home (subst (λ z. IsProcessOf z (completed.process p.0)) (sym (ap (λ b. if b then record { phase = kernel_phase.Running; reports = []; answer = Some (answer.Reported report) } else joined) busy)) process) gained-other is.stands.processes;
+                      processes =
+                          processes-told happened.becomes s completed.ends completed.process o.home
+                          (subst (λ z. IsProcessOf z (completed.process p.0)) (sym (ap (λ b. if b then record { phase = kernel_phase.Running; reports = []; answer = Some (answer.Reported report) } else joined) busy))
+                          process)
+                          gained-other is.stands.processes;
                       links = turned-links i w s is k from q others there to at hops (refl, refl, refl) o kernel_outward.Unreported v.inward f [] rs happened outward.Unreported (s.ends to).inward completed.ends completed.process turn_now entries refl;
                     };
                 service = consistent_after s (step.Complete to n) completed is.service complete;
@@ -328,7 +332,10 @@ module _ (i : ℕ) (w : World) (s : State) (is : Invariant i w s) (k from stamp 
               record {
                 stands =
                     record {
-                      processes = processes-told happened.becomes s next.ends next.process o.home (subst (λ z. IsProcessOf z (next.process p.0)) (sym (ap (λ b. if b then ran else record ((w.kernel k).process p.0) { reports = ((w.kernel k).process p.0).reports ++ rs }) idle)) process) next-other is.stands.processes;
+                      processes =
+                          processes-told happened.becomes s next.ends next.process o.home
+                          (subst (λ z. IsProcessOf z (next.process p.0)) (sym (ap (λ b. if b then ran else record ((w.kernel k).process p.0) { reports = ((w.kernel k).process p.0).reports ++ rs }) idle)) process)
+                          next-other is.stands.processes;
                       links = turned-links i w s is k from q others there to at hops (refl, refl, refl) o kernel_outward.Idle v.inward f [] rs happened outward.Idle (s.ends to).inward next.ends next.process turn_now entries refl;
                     };
                 service = consistent_after completed (step.Report p (service.send_report to outcome.Done [])) next (consistent_after s (step.Complete to n) completed is.service complete) reported;
@@ -400,7 +407,9 @@ module _ (i : ℕ) (w : World) (s : State) (is : Invariant i w s) (k from stamp 
             ∙ by (end_eq v.value.end e)
             ∙ ap (λ z. with_entry z (entry.Here (learned_view (turned_view v kernel_outward.Idle v.inward) at hops)) (w.kernel k).table e) view-end
           where
-            by : (a : Bool) → (if a then reported_entry way.Outward (if a then entry.Here (learned_view (turned_view v kernel_outward.Unreported v.inward) at hops) else (w.kernel k).table e) else (if a then entry.Here (learned_view (turned_view v kernel_outward.Unreported v.inward) at hops) else (w.kernel k).table e))
+            by : (a : Bool)
+                → (if a then reported_entry way.Outward (if a then entry.Here (learned_view (turned_view v kernel_outward.Unreported v.inward) at hops) else (w.kernel k).table e)
+                else (if a then entry.Here (learned_view (turned_view v kernel_outward.Unreported v.inward) at hops) else (w.kernel k).table e))
                 ≡ (if a then entry.Here (learned_view (turned_view v kernel_outward.Idle v.inward) at hops) else (w.kernel k).table e)
             by true = refl
             by false = refl

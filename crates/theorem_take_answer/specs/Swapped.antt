@@ -71,14 +71,21 @@ pub record IsAnswered (w x : Links) (s : State) (t : EndId → End) (g : ℕ →
   pub matched : (e : EndId) (m : Message) → (s.ends e).outward ≡ outward.Matched m → (t e).outward ≡ outward.Matched m
   -- other answers and parcels meet what they met
   pub takens : (f : EndId) (n : ℕ) → IsUnderWay x (IsTakenOf f n) → (s.ends f).outward ≡ outward.Taken → (t f).outward ≡ outward.Taken
-  pub voids : (j : ℕ) (e : EndId) (n : ℕ) → IsUnderWay x (IsUnwantedOf e n) → (s.ends e).noticed ≡ false → IsHereAnd (w.entry j e) (λ v. v.inward ≡ kernel_inward.Withdrawing n) → IsHereAnd (x.entry j e) (λ v. v.inward ≡ kernel_inward.Withdrawing n)
-  pub meets : (j : ℕ) (e : EndId) (r n : ℕ) → IsUnderWay x (IsParcelFor e r n) → is_open (s.ends e) ≡ true → IsHereAnd (w.entry j e) (λ v. IsAskedAs r v.inward) → IsHereAnd (x.entry j e) (λ v. IsAskedAs r v.inward)
+  pub voids : (j : ℕ) (e : EndId) (n : ℕ) → IsUnderWay x (IsUnwantedOf e n) → (s.ends e).noticed ≡ false
+      → IsHereAnd (w.entry j e) (λ v. v.inward ≡ kernel_inward.Withdrawing n)
+      → IsHereAnd (x.entry j e) (λ v. v.inward ≡ kernel_inward.Withdrawing n)
+  pub meets : (j : ℕ) (e : EndId) (r n : ℕ) → IsUnderWay x (IsParcelFor e r n) → is_open (s.ends e) ≡ true
+      → IsHereAnd (w.entry j e) (λ v. IsAskedAs r v.inward) → IsHereAnd (x.entry j e) (λ v. IsAskedAs r v.inward)
   -- receives that are withdrawn, and the Cancels of them
-  pub withdrawing : (j : ℕ) (e : EndId) → is_posted (s.ends e).inward ≡ true → IsHereAnd (w.entry j e) (λ v. is_withdrawing v.inward ≡ true) → IsHereAnd (x.entry j e) (λ v. is_withdrawing v.inward ≡ true)
-  pub cancelled : (p : Pid) (j : ℕ) (e : EndId) (v : HereView) (n : ℕ) → x.entry j e ≡ entry.Here v → v.inward ≡ kernel_inward.Withdrawing n → (s.process p.0).phase ≡ phase.Cancelling e → (g p.0).phase ≡ phase.Cancelling e
-  pub cancelling : (p : Pid) (e : EndId) → (g p.0).phase ≡ phase.Cancelling e → IsHereAnd (x.entry (home_of s p) e) (λ v. is_withdrawing v.inward ≡ true)
+  pub withdrawing : (j : ℕ) (e : EndId) → is_posted (s.ends e).inward ≡ true → IsHereAnd (w.entry j e) (λ v. is_withdrawing v.inward ≡ true)
+      → IsHereAnd (x.entry j e) (λ v. is_withdrawing v.inward ≡ true)
+  pub cancelled : (p : Pid) (j : ℕ) (e : EndId) (v : HereView) (n : ℕ) → x.entry j e ≡ entry.Here v → v.inward ≡ kernel_inward.Withdrawing n
+      → (s.process p.0).phase ≡ phase.Cancelling e → (g p.0).phase ≡ phase.Cancelling e
+  pub cancelling : (p : Pid) (e : EndId) → (g p.0).phase ≡ phase.Cancelling e
+      → IsHereAnd (x.entry (home_of s p) e) (λ v. is_withdrawing v.inward ≡ true)
   -- how many takens there are
   pub taken : (e : EndId) → how_many (is_taken_of e) x ≤ one_if (is_taken (t e).outward)
   pub told : (e : EndId) → is_living (t e).place ≡ true → how_many (is_taken_of e) x ≡ one_if (is_taken (t e).outward)
   -- activities agree
-  pub agree : (e : EndId) (p : Pid) (v : HereView) → (t e).place ≡ place.Owned p → x.entry (home_of s p) e ≡ entry.Here v → IsEndOf x e v (t e)
+  pub agree : (e : EndId) (p : Pid) (v : HereView) → (t e).place ≡ place.Owned p → x.entry (home_of s p) e ≡ entry.Here v
+      → IsEndOf x e v (t e)

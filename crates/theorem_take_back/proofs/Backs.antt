@@ -68,7 +68,7 @@ use Rattle.theorem_ends_arrived.proofs.Landed.{landed-links, landed-right, named
 use Rattle.theorem_ends_arrived.proofs.Moves.{moves-links, moves-right}
 use Rattle.theorem_ends_arrived.proofs.Values.{arrivals-true, same-value, settles-sound}
 use Rattle.theorem_meaning.proofs.Plain.{there-here}
-use Rattle.theorem_take_back.specs.Returned.{IsReturned, IsReturning, over_view, returning}
+use Rattle.theorem_take_back.specs.Returned.{IsReturned, IsTakingBack, over_view, taking_back}
 use Rattle.theorem_take_back.proofs.Returned.{returned-links, returned-right}
 use Rattle.theorem_take_back.proofs.Returns.{back, back-came, back-other}
 
@@ -250,13 +250,13 @@ module _ (i : ℕ) (w : World) (s : State) (is : Invariant i w s) (k from stamp 
       abbrev z1 : Links
       z1 = parts.halfway b1 f stays [] (extra ++ arrivals) (λ e. refl) refl
 
-      first1 : Changes x1 (returning (record c0 { taken = Some (from, without_values q); entry = f }) to x) z1
+      first1 : Changes x1 (taking_back (record c0 { taken = Some (from, without_values q); entry = f }) to x) z1
       first1 = parts.taking-part b1 f stays [] (extra ++ arrivals) (λ e. refl) refl
 
       last1 : Changes z1 (parts.untaken_last b1 f stays [] (extra ++ arrivals) (λ e. refl) refl) m
       last1 = parts.untaken-part b1 f stays [] (extra ++ arrivals) (λ e. refl) refl
 
-      ready1 : IsReturning i x1 (record c0 { taken = Some (from, without_values q); entry = f }) from stamp s1 to n x
+      ready1 : IsTakingBack i x1 (record c0 { taken = Some (from, without_values q); entry = f }) from stamp s1 to n x
       ready1 = record { taken = refl; right = landed-right ready p o.home; links = landed-links ready p o.home; few = is.setting.few; here = here1; waits = at.waits }
 
       returned : IsReturned s1 to next.ends next.process

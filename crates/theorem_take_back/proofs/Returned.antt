@@ -44,9 +44,9 @@ use Rattle.theorem_meaning.specs.StandsFor.{AreLinksOf, IsEndOf, IsInMessage, Is
 use Rattle.theorem_take_silent.proofs.Alike.{some-same}
 use Rattle.theorem_take_silent.proofs.Places.{here-kernel}
 use Rattle.theorem_meaning.proofs.Plain.{none-in}
-use Rattle.theorem_take_back.specs.Returned.{IsReturned, IsReturning, bare_back, over_view, returning}
+use Rattle.theorem_take_back.specs.Returned.{IsReturned, IsTakingBack, bare_back, over_view, taking_back}
 
-module _ {i : ℕ} {w : Links} {c : Change} {from stamp : ℕ} {s : State} {to : EndId} {n : ℕ} {o : HereView} (ready : IsReturning i w c from stamp s to n o) (z : Links) (b : Changes w (returning c to o) z) (t : EndId → End) (g : ℕ → Process) (is : IsReturned s to t g) where
+module _ {i : ℕ} {w : Links} {c : Change} {from stamp : ℕ} {s : State} {to : EndId} {n : ℕ} {o : HereView} (ready : IsTakingBack i w c from stamp s to n o) (z : Links) (b : Changes w (taking_back c to o) z) (t : EndId → End) (g : ℕ → Process) (is : IsReturned s to t g) where
   abbrev k : ℕ
   k = c.kernel
 

@@ -119,7 +119,7 @@ module _ (i : ℕ) (w : World) (s : State) (is : Invariant i w s) (k from stamp 
   reports-same : service.send_report to outcome.Destroyed message.carried ∷ [] ≡ report ∷ []
   reports-same = ap (λ l. service.send_report to outcome.Destroyed l ∷ []) its.matched.carries
 
-  -- the row, by whether the end knows of the death of its link
+  -- the rule, by whether the end knows of the death of its link
   row-is : row_effect k made from table q.what ≡ (if v.value.dead then returns_effect k to n ms v else returns_first_effect k from to n ms v)
   row-is =
       ap (back_effect k made table from to n ms) (awaits-matched n (table to) v o.here (ap (is_matched n) waits ∙ eq-eqb n n refl))
@@ -383,7 +383,7 @@ matched-so n kernel_outward.Idle is = absurd (true≢false (sym is))
 matched-so n (kernel_outward.Waiting m bytes xs) is = absurd (true≢false (sym is))
 matched-so n kernel_outward.Unreported is = absurd (true≢false (sym is))
 
--- a back that meets its send at its kernel, as the row of backs tests it
+-- a back that meets its send at its kernel, as the rule of backs tests it
 pub back-awaited-goes : (i : ℕ) (w : World) (s : State) → Invariant i w s → (k from stamp : ℕ) (to : EndId) (n : ℕ) (ms : List MovingPicture) (others : List Picture)
     → w.packets from k ≡ record { stamp = stamp; what = packet.Back to n ms } ∷ others → (v : HereView) → awaits n ((w.kernel k).table to) ≡ Some v → Goes i w s (Takes k from)
 back-awaited-goes i w s is k from stamp to n ms others there v found = back-given-goes i w s is k from stamp to n ms others there (by ((w.kernel k).table to) found)

@@ -27,11 +27,11 @@ abbrev pub over_view : HereView → HereView
 over_view o = record o { outward = kernel_outward.Unreported }
 
 -- the part of an event that takes the back, and sends nothing
-abbrev pub returning : Change → EndId → HereView → Change
-returning c to o = record c { entry = puts to (entry.Here (over_view o)) stays; packets = [] }
+abbrev pub taking_back : Change → EndId → HereView → Change
+taking_back c to o = record c { entry = puts to (entry.Here (over_view o)) stays; packets = [] }
 
 -- an event takes it where its end, whose view is o, is here, with that send matched; all is true of the links that is true after i events
-pub record IsReturning (i : ℕ) (w : Links) (c : Change) (from stamp : ℕ) (s : State) (to : EndId) (n : ℕ) (o : HereView) : Type 0 where
+pub record IsTakingBack (i : ℕ) (w : Links) (c : Change) (from stamp : ℕ) (s : State) (to : EndId) (n : ℕ) (o : HereView) : Type 0 where
   pub taken : c.taken ≡ Some (from, bare_back stamp to n)
   pub right : AreRight i w s
   pub links : AreLinksOf w s

@@ -34,7 +34,8 @@ use Rattle.theorem_meaning.specs.Fields.{Stand, At, Flying, HasFields, IsAskedAs
 use Rattle.theorem_meaning.specs.Invariant.{AreAsked, AreCounted, AreMarked, AreNamed, AreRight, AreSentOnce, AreWanted, IsFew, IsPacketRight, IsServed, IsUnwantedOnce, is_message_of, is_taken_of, is_unwanted_to}
 use Rattle.theorem_meaning.specs.Packets.{Each, IsUnderWay, Links, how_many, one_if, sum_over}
 use Rattle.theorem_meaning.specs.StandsFor.{IsOwnedHere, IsWaitingWith, entry_at, home_of}
-use Rattle.theorem_take_gone.proofs.Noticed.{IsLess, IsNoticedEnd, IsNoticedEntry, IsNoticedView, end-closed, end-destroyed, end-is_taken, end-living, end-made, end-matched, end-message, end-noticed, end-open, end-posted, end-sent, end-taken, entry-mark, entry-names, entry-nothing, entry-seen, entry-still, entry-value, view-asked, view-held, view-inward, view-less, view-value}
+use Rattle.theorem_take_gone.proofs.Noticed.{IsLess, IsNoticedEnd, IsNoticedEntry, IsNoticedView, end-closed, end-destroyed, end-is_taken, end-living, end-made, end-matched, end-message, end-noticed, end-open}
+use Rattle.theorem_take_gone.proofs.Noticed.{end-posted, end-sent, end-taken, entry-mark, entry-names, entry-nothing, entry-seen, entry-still, entry-value, view-asked, view-held, view-inward, view-less, view-value}
 
 -- the death is noticed at e: entries and ends become those of NOTICE, and the owner is in no Cancel of e
 pub record IsNoticing (w : Links) (y : ℕ → EndId → Entry) (s : State) (t : EndId → End) (g : ℕ → Process) (e : EndId) (p : Pid) (xs : List EndId) : Type 0 where

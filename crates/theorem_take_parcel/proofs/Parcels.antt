@@ -527,7 +527,7 @@ asked-so r (kernel_inward.Withdrawing a) is = eqb-true a r is
 asked-so r kernel_inward.Idle is = absurd (true≢false (sym is))
 asked-so r kernel_inward.Unreported is = absurd (true≢false (sym is))
 
--- a parcel that meets a receive at its kernel, as the row of parcels tests it
+-- a parcel that meets a receive at its kernel, as the rule of parcels tests it
 pub parcel-asked-goes : (i : ℕ) (w : World) (s : State) → Invariant i w s → (k from stamp : ℕ) (to : EndId) (n r at hops : ℕ) (bytes : List ℕ) (ms : List MovingPicture) (others : List Picture)
     → w.packets from k ≡ record { stamp = stamp; what = packet.Parcel to n r at hops bytes ms } ∷ others → (v : HereView) → asks r ((w.kernel k).table to) ≡ Some v → Goes i w s (Takes k from)
 parcel-asked-goes i w s is k from stamp to n r at hops bytes ms others there v found = parcel-taken-goes i w s is k from stamp to n r at hops bytes ms others there (by ((w.kernel k).table to) found)

@@ -240,10 +240,13 @@ module _ {i : ℕ} {w v : Links} {c : Change} {b : Changes w c v} {from stamp : 
         away = λ j e far. away j e far (met-case ready inn z sends j e);
         lists = λ j h far. none-in (z.packets j h) (λ a has. nothing j h far a (left_or_sent sends j h a has));
         addressed = each-after sends (λ j h a. is_addressed a (length s.made) ≡ true) (λ j h a. is_addressed a (length s.made) ≡ true)
-            (swapped-each b from q (news to at hops q) ready.taken (with_entry to (entry.Here u) (w.entry k)) (λ j h a. is_addressed a (length s.made) ≡ true) (λ j h a. is_addressed a (length s.made) ≡ true) ready.right.named.addressed (λ j h a has y. y) (lt-ltb at (length s.made) (at-below ready))) (λ j h a has y. y)
+            (swapped-each b from q (news to at hops q) ready.taken (with_entry to (entry.Here u) (w.entry k)) (λ j h a. is_addressed a (length s.made) ≡ true) (λ j h a. is_addressed a (length s.made) ≡ true)
+            ready.right.named.addressed (λ j h a has y. y) (lt-ltb at (length s.made) (at-below ready)))
+            (λ j h a has y. y)
             (λ j what has. subst (λ a. is_addressed a (length s.made) ≡ true) (said ready inn z sends j what has).1 (lt-ltb k (length s.made) (near ready).1));
         addressees = each-after sends (λ j h a. is_made (t (addressee a)).place ≡ true) (λ j h a. is_made (t (addressee a)).place ≡ true)
-            (swapped-each b from q (news to at hops q) ready.taken (with_entry to (entry.Here u) (w.entry k)) (λ j h a. is_made (s.ends (addressee a)).place ≡ true) (λ j h a. is_made (t (addressee a)).place ≡ true) ready.right.named.addressees (λ j h a has y. ap (λ x. is_made x) (place-same (addressee a.what)) ∙ y)
+            (swapped-each b from q (news to at hops q) ready.taken (with_entry to (entry.Here u) (w.entry k)) (λ j h a. is_made (s.ends (addressee a)).place ≡ true) (λ j h a. is_made (t (addressee a)).place ≡ true)
+            ready.right.named.addressees (λ j h a has y. ap (λ x. is_made x) (place-same (addressee a.what)) ∙ y)
             (ap (λ x. is_made x) (place-same to) ∙ ap (λ x. is_made x) ready.owned)) (λ j h a has y. y)
             (λ j what has. subst (λ a. is_made (t (addressee a)).place ≡ true) (said ready inn z sends j what has).1 (ap (λ x. is_made x) (place-same other) ∙ ready.both));
       }

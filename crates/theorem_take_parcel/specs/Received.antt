@@ -29,7 +29,8 @@ bare_parcel stamp to n r at hops bytes = record { stamp = stamp; what = packet.P
 
 -- an event takes it where its end, whose view is o, is here and owned by p, and has started that receive; all is true of the links that is
 -- true after i events
-pub record IsReceiving (i : ℕ) {w v : Links} {c : Change} (b : Changes w c v) (from stamp : ℕ) (s : State) (to : EndId) (n r at hops : ℕ) (bytes : List ℕ) (p : Pid) (o : HereView) : Type 0 where
+pub record IsReceiving (i : ℕ) {w v : Links} {c : Change} (b : Changes w c v) (from stamp : ℕ) (s : State) (to : EndId) (n r at hops : ℕ)
+    (bytes : List ℕ) (p : Pid) (o : HereView) : Type 0 where
   pub taken : c.taken ≡ Some (from, bare_parcel stamp to n r at hops bytes)
   pub right : AreRight i w s
   pub links : AreLinksOf w s

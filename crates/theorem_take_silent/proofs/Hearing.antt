@@ -1,4 +1,4 @@
--- The rows by which an end learns where its opposite is, and no more.
+-- The rules by which an end learns where its opposite is, and no more.
 use Rattle.std.proofs.Common.{◌≡◌, ◌⊎◌, inl, inr, ℕ, ◌<◌, ◌^◌, Bool, true, false, nat_lt, ◌&&◌, if◌then◌else◌, List, [], ◌∷◌, ◌++◌, length, Some, refl, sym, ap, subst, ◌∙◌, ltb-true, lt-ltb, le-ltb}
 use Rattle.std.proofs.lemmas.Bool.{and_parts}
 use Rattle.charlotte_calls.specs.Names.{opposite}
@@ -141,7 +141,7 @@ module _ (n : ℕ) (t : EndId → End) (k : ℕ) (y : EndId → Entry) (is : IsT
         hears-so (view_news k at hops v v.inward ++ (at, packet.Known (opposite v.value.end) hops) ∷ [])
         (all-append IsSaid (view_news k at hops v v.inward) ((at, packet.Known (opposite v.value.end) hops) ∷ []) news-said (known-said, tt))
 
-  -- each of the rows
+  -- each of the rules
   pub row-hears : (made_links from : ℕ) (q : PictureWhat) → IsSentWell n t k q → IsLearnedAt q (y (addressee q)) → IsStill n t y (row_effect k made_links from y q) × IsHearing k y q (row_effect k made_links from y q)
   row-hears made_links from (packet.Moved to at hops) well heard = by (y to) refl heard
     where

@@ -1,4 +1,4 @@
--- The rows of a kernel's table of packets that mean nothing to the service.
+-- The rules of a kernel's table of packets that mean nothing to the service.
 use Rattle.std.proofs.Common.{◌≡◌, ◌⊎◌, inl, inr, ℕ, ◌<◌, ◌^◌, Bool, true, false, nat_eq, nat_lt, nat_le, ◌&&◌, not, if◌then◌else◌, List, [], ◌∷◌, ◌++◌, Some, refl, sym, ap, subst, ◌∙◌, arith, true≢false, ltb-true, ltb-false, lt-ltb, pow_pos}
 use Rattle.std.proofs.lemmas.Bool.{and_parts}
 use Rattle.std.proofs.lemmas.Nat.Bits.{bit_at_above}
@@ -133,7 +133,7 @@ module _ (n : ℕ) (t : EndId → End) (k : ℕ) (y : EndId → Entry) (is : IsT
   mark-forgets : (to : EndId) (m : MovingPicture) → y to ≡ entry.Destroyed m → is_made (t to).place ≡ true → AllSent (IsSentWell n t) (forget_packets k m)
   mark-forgets to m at made = forgets-well m (subst (NamesBelow n) at (is.names to)) (subst (λ z. is_made (t z).place ≡ true) (sym (mark-end to m at)) made)
 
-  -- ---- rows
+  -- ---- rules
 
   -- a mark is erased
   erases : (q : PictureWhat) (to : EndId) (m : MovingPicture) (ps : List (ℕ × PictureWhat)) → y to ≡ entry.Destroyed m → AllSent (IsSentWell n t) ps → AllSent (λ to what. (tells_place what ≡ false) ⊎ (q ≡ what)) ps

@@ -18,7 +18,8 @@ use Rattle.theorem_take_silent.specs.Quiet.{tells_place}
 -- a packet that says of an end that is at kernel k, with this view, what is true of it
 abbrev pub IsLive : ℕ → HereView → PictureWhat → Type 0
 IsLive k v (packet.Want to w at hops) = (to ≡ opposite v.value.end) × (at ≡ k) × (hops ≡ v.value.hops) × IsAskedAs w v.inward
-IsLive k v (packet.Unwant to w at hops) = (to ≡ opposite v.value.end) × (at ≡ k) × (hops ≡ v.value.hops) × IsAskedAs w v.inward × (is_withdrawing v.inward ≡ true)
+IsLive k v (packet.Unwant to w at hops) =
+    (to ≡ opposite v.value.end) × (at ≡ k) × (hops ≡ v.value.hops) × IsAskedAs w v.inward × (is_withdrawing v.inward ≡ true)
 IsLive k v (packet.Moved to at hops) = (to ≡ opposite v.value.end) × (at ≡ k) × (hops ≡ v.value.hops)
 IsLive k v what = tells_place what ≡ false
 
@@ -27,6 +28,7 @@ IsLive k v what = tells_place what ≡ false
 pub record IsLearning (w : Links) (c : Change) : Type 0 where
   pub view : HereView
   pub here : w.entry c.kernel view.value.end ≡ entry.Here view
-  pub hints : (e : EndId) (m l : MovingPicture) → value_of (w.entry c.kernel e) ≡ Some m → value_of (c.entry e (w.entry c.kernel e)) ≡ Some l
+  pub hints : (e : EndId) (m l : MovingPicture) → value_of (w.entry c.kernel e) ≡ Some m
+      → value_of (c.entry e (w.entry c.kernel e)) ≡ Some l
       → (l.hint ≡ m.hint) ⊎ (IsTaken c (IsNews e l.hint.0 l.hint.1) × (m.hint.1 < l.hint.1))
   pub sent : AllSent (λ to what. IsLive c.kernel view what) c.packets

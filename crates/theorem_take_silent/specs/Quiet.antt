@@ -98,5 +98,6 @@ IsPassed c what = (tells_place what ≡ false) ⊎ IsTaken c (λ q. q ≡ what)
 
 -- an event that says nothing new of where ends are and what they ask for
 pub record IsPassing (t : EndId → End) (w : Links) (c : Change) : Type 0 where
-  pub hints : (e : EndId) (m l : MovingPicture) → value_of (w.entry c.kernel e) ≡ Some m → value_of (c.entry e (w.entry c.kernel e)) ≡ Some l → IsHintOf t c e m l
+  pub hints : (e : EndId) (m l : MovingPicture) → value_of (w.entry c.kernel e) ≡ Some m
+      → value_of (c.entry e (w.entry c.kernel e)) ≡ Some l → IsHintOf t c e m l
   pub sent : AllSent (λ to what. IsPassed c what) c.packets

@@ -68,7 +68,9 @@ news-voided k r at hops v i = by (is_news v.value hops) i
     by true (inward.Withdrawing x) = refl
     by true inward.Unreported = refl
 
-module _ (i : ℕ) (w : World) (s : State) (is : Invariant i w s) (k from stamp : ℕ) (to : EndId) (r at hops : ℕ) (others : List Picture) (there : w.packets from k ≡ record { stamp = stamp; what = packet.Unwant to r at hops } ∷ others) (v : HereView) (here : (w.kernel k).table to ≡ entry.Here v) (alive : v.value.dead ≡ false) (low : v.value.served < r) where
+module _ (i : ℕ) (w : World) (s : State) (is : Invariant i w s) (k from stamp : ℕ) (to : EndId) (r at hops : ℕ) (others : List Picture)
+    (there : w.packets from k ≡ record { stamp = stamp; what = packet.Unwant to r at hops } ∷ others) (v : HereView) (here : (w.kernel k).table to ≡ entry.Here v) (alive : v.value.dead ≡ false)
+    (low : v.value.served < r) where
   abbrev q : Picture
   q = record { stamp = stamp; what = packet.Unwant to r at hops }
 

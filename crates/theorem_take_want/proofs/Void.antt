@@ -35,7 +35,8 @@ use Rattle.theorem_meaning.specs.Packets.{Each, IsParcelFor, IsUnderWay, IsUnwan
 use Rattle.theorem_meaning.specs.StandsFor.{AreLinksOf, IsInwardOf, entry_at, home_of}
 use Rattle.theorem_take_silent.proofs.Places.{here-kernel}
 use Rattle.theorem_take_want.specs.Anew.{IsAnew, IsVoidOf}
-use Rattle.theorem_take_want.proofs.Anew.{anew-other, anew-own, asked-anew, counted-anew, few-anew, honest-anew, is-still, links-anew, living-was, marked-anew, named-anew, noticed-same, number-same, once-anew, open-same, right-anew, seen, under-same, under-was, view_or, void-parcel_for, withdrawing-still}
+use Rattle.theorem_take_want.proofs.Anew.{anew-other, anew-own, asked-anew, counted-anew, few-anew, honest-anew, is-still, links-anew, living-was, marked-anew, named-anew}
+use Rattle.theorem_take_want.proofs.Anew.{noticed-same, number-same, once-anew, open-same, right-anew, seen, under-same, under-was, view_or, void-parcel_for, withdrawing-still}
 use Rattle.theorem_take_want.proofs.Asked.{cancels, had, last-of, none-void, only, opened, other-lives, own-fields, owned, pid, posted, there, view, withdrawing}
 
 pub void-asks : (k : ℕ) (v : HereView) (e : EndId) (q j h : ℕ) (what : PictureWhat) → IsVoidOf k v what → IsAsking e q j h what → ⊥

@@ -69,7 +69,8 @@ not-matched k t v (outward.Waiting n bytes xs) idle = absurd idle
 not-matched k t v (outward.Matched n) idle = refl
 not-matched k t v outward.Unreported idle = refl
 
-module _ (i : ℕ) (w : World) (s : State) (is : Invariant i w s) (k from stamp : ℕ) (to : EndId) (r at hops : ℕ) (others : List Picture) (there : w.packets from k ≡ record { stamp = stamp; what = packet.Want to r at hops } ∷ others) (v : HereView) (here : (w.kernel k).table to ≡ entry.Here v) (alive : v.value.dead ≡ false) (low : v.value.served < r)
+module _ (i : ℕ) (w : World) (s : State) (is : Invariant i w s) (k from stamp : ℕ) (to : EndId) (r at hops : ℕ) (others : List Picture)
+    (there : w.packets from k ≡ record { stamp = stamp; what = packet.Want to r at hops } ∷ others) (v : HereView) (here : (w.kernel k).table to ≡ entry.Here v) (alive : v.value.dead ≡ false) (low : v.value.served < r)
     (idle : IsNotWaiting v.outward) where
   abbrev q : Picture
   q = record { stamp = stamp; what = packet.Want to r at hops }

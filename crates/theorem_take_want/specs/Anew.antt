@@ -30,7 +30,8 @@ pub record IsAnew (n : ℕ) (w : Links) (s : State) (c : Change) (t : EndId → 
   pub kernel : c.kernel < n
   pub taken : c.taken ≡ None
   pub sent : AllSent (λ to what. (to < n) × IsVoidOf c.kernel v what) c.packets
-  pub put : (e : EndId) → c.entry e (w.entry c.kernel e) ≡ puts v.value.end (entry.Here (record v { value = l })) stays e (w.entry c.kernel e)
+  pub put : (e : EndId)
+      → c.entry e (w.entry c.kernel e) ≡ puts v.value.end (entry.Here (record v { value = l })) stays e (w.entry c.kernel e)
   pub here : w.entry c.kernel v.value.end ≡ entry.Here v
   pub like : IsLike v.value l
   pub opened : is_open (s.ends v.value.end) ≡ true

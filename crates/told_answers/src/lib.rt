@@ -1,5 +1,13 @@
 //! What a process is answered is told by the entries of its kernel. Laws: in each local run the answer that stands is the one told, it
 //! comes in just the event whose entry tells it, and it fits its call.
+//!
+//! # What is proved
+//! What a process is answered is told by the service steps of its kernel's entries, by a definition on entries alone. In each local run the
+//! answer that stands for a process is the one told, none stands where none was told, and it fits its call; it comes in just the event
+//! whose entry tells it, at most one in an event; and a call that is not answered is a Wait or the Cancel of a receive, in which the
+//! process is.
+//! By laws `told_answers`, `answers_come_as_told`; `heard`, `tells` in `specs/Told.antt`, `StandsAsTold`, `ComesAsTold` in
+//! `specs/Standing.antt`.
 #![tactic(auto)]
 
 mod law;

@@ -47,12 +47,31 @@ spelled_value w v shape = sym (join_with_byte-slice_split 58 w) ∙ ap (join_wit
 value_takes : (w : List ℕ) (v : MovingPicture) → value_of w ≡ Ok v → IsValue w v
 unfolding value_of
 value_takes w v e =
-    first_then end_of end_text IsEnd end_takes (parts 58 w) (λ end. first_of u32_of end.1 >>= λ hops. first_of u8_of hops.1 >>= λ hint_kernel. first_of u32_of hint_kernel.1 >>= λ hint_hops. first_of u32_of hint_hops.1 >>= λ sent. first_of u32_of sent.1 >>= λ asked. first_of u32_of asked.1 >>= λ served. first_of u32_of served.1 >>= λ want. first_of bit_of want.1 >>= λ dead. only_of u8_of dead.1 >>= λ trail. Ok (value end.0 hops.0 hint_kernel.0 hint_hops.0 sent.0 asked.0 served.0 want.0 dead.0 trail)) v (IsValue w v) e (λ end l0 s0 r0 e0.
-    first_then u32_of number_text IsU32 u32_takes l0 (λ hops. first_of u8_of hops.1 >>= λ hint_kernel. first_of u32_of hint_kernel.1 >>= λ hint_hops. first_of u32_of hint_hops.1 >>= λ sent. first_of u32_of sent.1 >>= λ asked. first_of u32_of asked.1 >>= λ served. first_of u32_of served.1 >>= λ want. first_of bit_of want.1 >>= λ dead. only_of u8_of dead.1 >>= λ trail. Ok (value end hops.0 hint_kernel.0 hint_hops.0 sent.0 asked.0 served.0 want.0 dead.0 trail)) v (IsValue w v) e0 (λ hops l1 s1 r1 e1.
-    first_then u8_of number_text IsU8 u8_takes l1 (λ hint_kernel. first_of u32_of hint_kernel.1 >>= λ hint_hops. first_of u32_of hint_hops.1 >>= λ sent. first_of u32_of sent.1 >>= λ asked. first_of u32_of asked.1 >>= λ served. first_of u32_of served.1 >>= λ want. first_of bit_of want.1 >>= λ dead. only_of u8_of dead.1 >>= λ trail. Ok (value end hops hint_kernel.0 hint_hops.0 sent.0 asked.0 served.0 want.0 dead.0 trail)) v (IsValue w v) e1 (λ hint_kernel l2 s2 r2 e2.
-    first_then u32_of number_text IsU32 u32_takes l2 (λ hint_hops. first_of u32_of hint_hops.1 >>= λ sent. first_of u32_of sent.1 >>= λ asked. first_of u32_of asked.1 >>= λ served. first_of u32_of served.1 >>= λ want. first_of bit_of want.1 >>= λ dead. only_of u8_of dead.1 >>= λ trail. Ok (value end hops hint_kernel hint_hops.0 sent.0 asked.0 served.0 want.0 dead.0 trail)) v (IsValue w v) e2 (λ hint_hops l3 s3 r3 e3.
-    first_then u32_of number_text IsU32 u32_takes l3 (λ sent. first_of u32_of sent.1 >>= λ asked. first_of u32_of asked.1 >>= λ served. first_of u32_of served.1 >>= λ want. first_of bit_of want.1 >>= λ dead. only_of u8_of dead.1 >>= λ trail. Ok (value end hops hint_kernel hint_hops sent.0 asked.0 served.0 want.0 dead.0 trail)) v (IsValue w v) e3 (λ sent l4 s4 r4 e4.
-    first_then u32_of number_text IsU32 u32_takes l4 (λ asked. first_of u32_of asked.1 >>= λ served. first_of u32_of served.1 >>= λ want. first_of bit_of want.1 >>= λ dead. only_of u8_of dead.1 >>= λ trail. Ok (value end hops hint_kernel hint_hops sent asked.0 served.0 want.0 dead.0 trail)) v (IsValue w v) e4 (λ asked l5 s5 r5 e5.
+    first_then end_of end_text IsEnd end_takes (parts 58 w)
+    (λ end. first_of u32_of end.1 >>= λ hops. first_of u8_of hops.1 >>= λ hint_kernel. first_of u32_of hint_kernel.1 >>= λ hint_hops. first_of u32_of hint_hops.1 >>= λ sent. first_of u32_of sent.1
+    >>= λ asked. first_of u32_of asked.1 >>= λ served. first_of u32_of served.1 >>= λ want. first_of bit_of want.1 >>= λ dead. only_of u8_of dead.1
+    >>= λ trail. Ok (value end.0 hops.0 hint_kernel.0 hint_hops.0 sent.0 asked.0 served.0 want.0 dead.0 trail))
+    v (IsValue w v) e (λ end l0 s0 r0 e0.
+    first_then u32_of number_text IsU32 u32_takes l0
+    (λ hops. first_of u8_of hops.1 >>= λ hint_kernel. first_of u32_of hint_kernel.1 >>= λ hint_hops. first_of u32_of hint_hops.1 >>= λ sent. first_of u32_of sent.1 >>= λ asked. first_of u32_of asked.1
+    >>= λ served. first_of u32_of served.1 >>= λ want. first_of bit_of want.1 >>= λ dead. only_of u8_of dead.1 >>= λ trail. Ok (value end hops.0 hint_kernel.0 hint_hops.0 sent.0 asked.0 served.0 want.0 dead.0 trail))
+    v (IsValue w v) e0 (λ hops l1 s1 r1 e1.
+    first_then u8_of number_text IsU8 u8_takes l1
+    (λ hint_kernel. first_of u32_of hint_kernel.1 >>= λ hint_hops. first_of u32_of hint_hops.1 >>= λ sent. first_of u32_of sent.1 >>= λ asked. first_of u32_of asked.1 >>= λ served. first_of u32_of served.1
+    >>= λ want. first_of bit_of want.1 >>= λ dead. only_of u8_of dead.1 >>= λ trail. Ok (value end hops hint_kernel.0 hint_hops.0 sent.0 asked.0 served.0 want.0 dead.0 trail))
+    v (IsValue w v) e1 (λ hint_kernel l2 s2 r2 e2.
+    first_then u32_of number_text IsU32 u32_takes l2
+    (λ hint_hops. first_of u32_of hint_hops.1 >>= λ sent. first_of u32_of sent.1 >>= λ asked. first_of u32_of asked.1 >>= λ served. first_of u32_of served.1 >>= λ want. first_of bit_of want.1
+    >>= λ dead. only_of u8_of dead.1 >>= λ trail. Ok (value end hops hint_kernel hint_hops.0 sent.0 asked.0 served.0 want.0 dead.0 trail))
+    v (IsValue w v) e2 (λ hint_hops l3 s3 r3 e3.
+    first_then u32_of number_text IsU32 u32_takes l3
+    (λ sent. first_of u32_of sent.1 >>= λ asked. first_of u32_of asked.1 >>= λ served. first_of u32_of served.1 >>= λ want. first_of bit_of want.1 >>= λ dead. only_of u8_of dead.1
+    >>= λ trail. Ok (value end hops hint_kernel hint_hops sent.0 asked.0 served.0 want.0 dead.0 trail))
+    v (IsValue w v) e3 (λ sent l4 s4 r4 e4.
+    first_then u32_of number_text IsU32 u32_takes l4
+    (λ asked. first_of u32_of asked.1 >>= λ served. first_of u32_of served.1 >>= λ want. first_of bit_of want.1 >>= λ dead. only_of u8_of dead.1
+    >>= λ trail. Ok (value end hops hint_kernel hint_hops sent asked.0 served.0 want.0 dead.0 trail))
+    v (IsValue w v) e4 (λ asked l5 s5 r5 e5.
     first_then u32_of number_text IsU32 u32_takes l5 (λ served. first_of u32_of served.1 >>= λ want. first_of bit_of want.1 >>= λ dead. only_of u8_of dead.1 >>= λ trail. Ok (value end hops hint_kernel hint_hops sent asked served.0 want.0 dead.0 trail)) v (IsValue w v) e5 (λ served l6 s6 r6 e6.
     first_then u32_of number_text IsU32 u32_takes l6 (λ want. first_of bit_of want.1 >>= λ dead. only_of u8_of dead.1 >>= λ trail. Ok (value end hops hint_kernel hint_hops sent asked served want.0 dead.0 trail)) v (IsValue w v) e6 (λ want l7 s7 r7 e7.
     first_then bit_of bit_text IsBit bit_read l7 (λ dead. only_of u8_of dead.1 >>= λ trail. Ok (value end hops hint_kernel hint_hops sent asked served want dead.0 trail)) v (IsValue w v) e7 (λ dead l8 s8 r8 e8.
@@ -130,7 +149,10 @@ end_number_takes ws x e =
 parcel_takes : (v : ℕ) (ws : List (List ℕ)) (x : PictureWhat) → parcel_of v ws ≡ Ok x → IsRead v (codes "parcel") ws x
 unfolding parcel_of
 parcel_takes v ws x e =
-    let to = first_ok end_of ws (λ to. first_of u32_of to.1 >>= λ n. first_of u32_of n.1 >>= λ w. first_of u8_of w.1 >>= λ at. first_of u32_of at.1 >>= λ hops. first_of bytes_of hops.1 >>= λ bytes. values_of (most_ends v) bytes.1 >>= λ moving. Ok (packet.Parcel to.0 n.0 w.0 at.0 hops.0 bytes.0 moving)) x e in
+    let to = first_ok end_of ws
+    (λ to. first_of u32_of to.1 >>= λ n. first_of u32_of n.1 >>= λ w. first_of u8_of w.1 >>= λ at. first_of u32_of at.1 >>= λ hops. first_of bytes_of hops.1 >>= λ bytes. values_of (most_ends v) bytes.1
+    >>= λ moving. Ok (packet.Parcel to.0 n.0 w.0 at.0 hops.0 bytes.0 moving))
+    x e in
     let n = first_ok u32_of to.left (λ n. first_of u32_of n.1 >>= λ w. first_of u8_of w.1 >>= λ at. first_of u32_of at.1 >>= λ hops. first_of bytes_of hops.1 >>= λ bytes. values_of (most_ends v) bytes.1 >>= λ moving. Ok (packet.Parcel to.value n.0 w.0 at.0 hops.0 bytes.0 moving)) x to.goes in
     let w = first_ok u32_of n.left (λ w. first_of u8_of w.1 >>= λ at. first_of u32_of at.1 >>= λ hops. first_of bytes_of hops.1 >>= λ bytes. values_of (most_ends v) bytes.1 >>= λ moving. Ok (packet.Parcel to.value n.value w.0 at.0 hops.0 bytes.0 moving)) x n.goes in
     let at = first_ok u8_of w.left (λ at. first_of u32_of at.1 >>= λ hops. first_of bytes_of hops.1 >>= λ bytes. values_of (most_ends v) bytes.1 >>= λ moving. Ok (packet.Parcel to.value n.value w.value at.0 hops.0 bytes.0 moving)) x w.goes in

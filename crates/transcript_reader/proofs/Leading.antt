@@ -51,7 +51,8 @@ plain_spelled word bytes r some plain long same is = bytes_takes word bytes (sub
 tail_shape : (e b rest : List ℕ) → e ++ (32 ∷ (b ++ rest)) ≡ (((e ++ 32 ∷ []) ++ b) ++ []) ++ rest
 tail_shape e b rest = simp (append_assoc, append-nil)
 
-pub send_then : (on : EndId) (text behind_word behind_end behind_blank word rest bytes : List ℕ) (enclose : List EndId) → text ≡ codes "send " ++ behind_word → behind_word ≡ end_text on ++ behind_end → behind_end ≡ 32 ∷ behind_blank → behind_blank ≡ word ++ rest → word ≡ bytes_text bytes → enclose ≡ []
+pub send_then : (on : EndId) (text behind_word behind_end behind_blank word rest bytes : List ℕ) (enclose : List EndId) → text ≡ codes "send " ++ behind_word → behind_word ≡ end_text on ++ behind_end
+    → behind_end ≡ 32 ∷ behind_blank → behind_blank ≡ word ++ rest → word ≡ bytes_text bytes → enclose ≡ []
     → text ≡ call_text (call.Send on bytes enclose) ++ rest
 send_then on text behind_word behind_end behind_blank word rest bytes enclose e f g h spelled none =
     e

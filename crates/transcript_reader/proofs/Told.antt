@@ -504,7 +504,9 @@ homes_told v kernels processes (kind.Service s ∷ ks) t le f each w = absurd cc
 homes_told v kernels processes (kind.CallEntry stamp kernel p c ∷ ks) t le f each w =
     wired_housed v kernels processes (kind.CallEntry stamp kernel p c ∷ ks) t le (begun_wired v processes 0 (kind.CallEntry stamp kernel p c ∷ ks) t (omega arith) (body_told v (kind.CallEntry stamp kernel p c) ks t f each.0 each.1 w (λ u g x. entry_told v ks u g each.1 x)))
 homes_told v kernels processes (kind.PacketEntry stamp kernel from picture ∷ ks) t le f each w =
-    wired_housed v kernels processes (kind.PacketEntry stamp kernel from picture ∷ ks) t le (begun_wired v processes 0 (kind.PacketEntry stamp kernel from picture ∷ ks) t (omega arith) (body_told v (kind.PacketEntry stamp kernel from picture) ks t f each.0 each.1 w (λ u g x. entry_told v ks u g each.1 x)))
+    wired_housed v kernels processes (kind.PacketEntry stamp kernel from picture ∷ ks) t le
+    (begun_wired v processes 0 (kind.PacketEntry stamp kernel from picture ∷ ks) t (omega arith)
+    (body_told v (kind.PacketEntry stamp kernel from picture) ks t f each.0 each.1 w (λ u g x. entry_told v ks u g each.1 x)))
 homes_told v kernels processes (kind.Note n ∷ ks) t le f each w =
     wired_housed v kernels processes (kind.Note n ∷ ks) t le (begun_wired v processes 0 (kind.Note n ∷ ks) t (omega arith) (body_told v (kind.Note n) ks t f each.0 each.1 w (λ u g x. entry_told v ks u g each.1 x)))
 homes_told v kernels processes (kind.End last ∷ ks) t le f each w =

@@ -57,7 +57,10 @@ is_ended place text = false
 -- a line of this number that was read, and what is left behind it, or the number
 abbrev pub stood : ℕ → List (List ℕ) → ℕ → Result (LineKind × Place) Fault → Result (Option (Line × Unread)) ℕ
 stood number left version (Ok x) =
-    Ok (Some (record { number = number; what = x.0 }, record { lines = number; version = version_after version x.0; place = x.1; texts = left }))
+    Ok (Some (
+      record { number = number; what = x.0 },
+      record { lines = number; version = version_after version x.0; place = x.1; texts = left },
+    ))
 stood number left version (Err e) = Err number
 
 -- the first of the texts that are left

@@ -58,7 +58,8 @@ pub record IsBadLine (text : List ℕ) (number : ℕ) : Type 0 where
   -- the text goes on there, or lacks its last line
   pub unended : place ≡ Over → rest ≡ [] → ⊥
   -- and begins with no line that may stand there
-  pub none : (k : LineKind) (behind : Place) (more : List ℕ) → IsKind (version_behind 0 before) k → next place k ≡ Ok behind → rest ≡ kind_line k ++ more → ⊥
+  pub none : (k : LineKind) (behind : Place) (more : List ℕ) → IsKind (version_behind 0 before) k → next place k ≡ Ok behind
+      → rest ≡ kind_line k ++ more → ⊥
 
 -- the fault names the first line of a text that cannot stand in its place
 abbrev pub IsFaultOf : List ℕ → LineFault → Type 0

@@ -80,7 +80,17 @@ value_of word = do
   want ← first_of u32_of served.1
   dead ← first_of bit_of want.1
   trail ← only_of u8_of dead.1
-  Ok (record { end = end.0; hops = hops.0; hint = (hint_kernel.0, hint_hops.0); sent = sent.0; asked = asked.0; served = served.0; want = want.0; dead = dead.0; trail = trail })
+  Ok (record {
+    end = end.0;
+    hops = hops.0;
+    hint = (hint_kernel.0, hint_hops.0);
+    sent = sent.0;
+    asked = asked.0;
+    served = served.0;
+    want = want.0;
+    dead = dead.0;
+    trail = trail;
+  })
 
 -- a value behind a plus
 unfoldable pub plus_value_of : List ℕ → Result MovingPicture Fault

@@ -63,7 +63,10 @@ full_steps what (s ∷ ss) = full_step what s >>= λ x. full_steps what ss >>= �
 unfoldable pub with_entry : ℕ → ℕ → Happened → Told → Result Told Fault
 with_entry stamp kernel what t =
     full_steps what t.steps >>= λ steps.
-    Ok (record t { steps = []; entries = record { kernel = kernel; entry = record { stamp = stamp; what = what; steps = steps } } ∷ t.entries })
+    Ok (record t {
+      steps = [];
+      entries = record { kernel = kernel; entry = record { stamp = stamp; what = what; steps = steps } } ∷ t.entries;
+    })
 
 -- a line before others
 unfoldable pub with_line : LineKind → Told → Result Told Fault
@@ -84,7 +87,8 @@ with_lines (k ∷ ks) t = with_lines ks t >>= with_line k
 
 -- before there is a line
 abbrev pub nothing_told : Told
-nothing_told = record { setting = record { version = 0; kernels = 0; homes = []; wires = [] }; steps = []; entries = []; notes = []; last = Quiet }
+nothing_told =
+    record { setting = record { version = 0; kernels = 0; homes = []; wires = [] }; steps = []; entries = []; notes = []; last = Quiet }
 
 -- what a text tells: each line may stand where it stands, and what the line of a step leaves out, the entry above it says
 unfoldable pub told_by : List ℕ → Result Told Fault

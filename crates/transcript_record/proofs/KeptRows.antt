@@ -1,4 +1,4 @@
--- What the rows of packets keep.
+-- What the rules of packets keep.
 use Rattle.std.proofs.Common.{ℕ, ◌≤◌, Bool, true, false, nat_eq, nat_lt, nat_le, ◌&&◌, not, List, [], ◌∷◌, length, map, Option, None, Some, cond, refl, arith}
 use Rattle.std.specs.List.{filter}
 use Rattle.std.proofs.lemmas.List.{length-map}
@@ -24,7 +24,9 @@ use Rattle.end_table.specs.declared.entry.Outward.TheVariants as outward
 use Rattle.journal_text.specs.TranscriptText.{IsFew, HasFewPacket}
 use Rattle.kernel_step.specs.Actions.{send_report, receive_report, reports, answers, notices, is_withdrawing, learned_view, learns, forgets}
 use Rattle.kernel_step.specs.Progress.{Progress, sends, means, keeps}
-use Rattle.kernel_step.specs.Rows.{wants, want_here, want_row, voids, unwant_here, unwant_row, frees, unwanted_here, unwanted_row, is_carried, passing, arriving, ends_in, takes, receives, pass_each, sends_back, is_asked, asks, parcel_row, completes, is_matched, awaits, taken_row, gives_back, notices_first, end_arrivals, means_back, is_here, back_row, erases, gone_here, gone_row, moved_here, mark_learns, moved_mark, moved_row, known_here, known_row, forget_row, goneseen_row, row}
+use Rattle.kernel_step.specs.Rows.{wants, want_here, want_row, voids, unwant_here, unwant_row, frees, unwanted_here, unwanted_row, is_carried, passing, arriving, ends_in, takes, receives}
+use Rattle.kernel_step.specs.Rows.{pass_each, sends_back, is_asked, asks, parcel_row, completes, is_matched, awaits, taken_row, gives_back, notices_first, end_arrivals, means_back}
+use Rattle.kernel_step.specs.Rows.{is_here, back_row, erases, gone_here, gone_row, moved_here, mark_learns, moved_mark, moved_row, known_here, known_row, forget_row, goneseen_row, row}
 use Rattle.kernel_world.specs.declared.entry.Happened.{Happened}
 use Rattle.transcript_record.specs.Told.{HasFewEnds, IsFewEntry}
 use Rattle.transcript_record.proofs.Kept.{Kept, IsFewView, few_none, few_fewer, sends-kept, says-kept, keeps-kept, reports-kept, answers-kept, forgets-kept, leaves-kept, match_waiting-kept, ends_idle-kept, notices-kept, resends_on_news-kept, learns-kept, settle_each-kept, tell_arrivals-kept}
@@ -300,7 +302,7 @@ goneseen_row-kept k (entry.Here view) kept = kept
 goneseen_row-kept k (entry.Left there h) kept = kept
 goneseen_row-kept k (entry.Destroyed m) kept = erases-kept k m kept
 
--- every row
+-- every rule
 pub row-kept : {v n : ℕ} {w : Happened} {d : Progress} (k made from : ℕ) (q : PictureWhat) → HasFewPacket v q → Kept v n w d → Kept v n w (row k made from q d)
 row-kept {v} {n} {w} {d} k made from (packet.Want to x at hops) few kept = want_row-kept k to x at hops (d.table to) (kept.table to) kept
 row-kept {v} {n} {w} {d} k made from (packet.Unwant to x at hops) few kept = unwant_row-kept k to x at hops (d.table to) (kept.table to) kept

@@ -31,7 +31,8 @@ use Rattle.end_table.specs.Place.{put}
 use Rattle.journal_text.specs.TranscriptText.{IsFew, HasFewCall, HasFewPacket, IsShownStep}
 use Rattle.kernel_step.specs.Actions.{here, hint_kernel, enclosed_of, matches}
 use Rattle.kernel_step.specs.Calls.{refusal, made_end, makes, starts_send, encloses, posts, withdraws_send, withdraws_receive, ends_here, ends_each}
-use Rattle.kernel_step.specs.Kernel.{Kernel, Process, Outcome, next_stamp, begins, with_process, process_of, without_answer, stands, outward_reported, reported_view, reported_entry, answers_wait, is_waiting, joins, join_reports, join_answers, closes, take_step, turns, waits, granted, granted_on, cancels_receive, cancels, exits, performs, decides, has_report, call_step}
+use Rattle.kernel_step.specs.Kernel.{Kernel, Process, Outcome, next_stamp, begins, with_process, process_of, without_answer, stands, outward_reported, reported_view, reported_entry, answers_wait, is_waiting}
+use Rattle.kernel_step.specs.Kernel.{joins, join_reports, join_answers, closes, take_step, turns, waits, granted, granted_on, cancels_receive, cancels, exits, performs, decides, has_report, call_step}
 use Rattle.kernel_step.specs.Progress.{Progress, means, keeps}
 use Rattle.kernel_step.specs.Rows.{row}
 use Rattle.kernel_step.specs.declared.phase.Phase.{Phase}
@@ -211,7 +212,8 @@ encloses-kept on xs kept = hold_each-kept (holder.EnclosedIn on) xs kept
 granted-gives : {v n : ℕ} {w : Happened} {d : Progress} (p : Pid) (s : Kernel) → IsTold v s → Kept v n w d → Gives v n w (granted p s d)
 granted-gives p s told kept = stands-gives p answer.Ok (closes-gives s told.reports kept)
 
-granted_on-gives : {v n : ℕ} {w : Happened} {d : Progress} (p : Pid) (s : Kernel) (o : Option HereView) (part : HereView → Progress → Progress) → IsTold v s → IsFewView v o → ((view : HereView) → HasFewEnds v view.outward → Kept v n w (part view d)) → Kept v n w d → Gives v n w (granted_on p s o part d)
+granted_on-gives : {v n : ℕ} {w : Happened} {d : Progress} (p : Pid) (s : Kernel) (o : Option HereView) (part : HereView → Progress → Progress) → IsTold v s → IsFewView v o
+    → ((view : HereView) → HasFewEnds v view.outward → Kept v n w (part view d)) → Kept v n w d → Gives v n w (granted_on p s o part d)
 granted_on-gives p s None part told few parts kept = closes-gives s told.reports kept
 granted_on-gives p s (Some view) part told few parts kept = granted-gives p s told (parts view few)
 

@@ -15,7 +15,9 @@ use Rattle.kernel_world.specs.declared.entry.Placed.{Placed}
 use Rattle.transcript_record.proofs.Rows as rows
 
 -- no line shows the stamp of a packet
-entry-unstamped : (stamp kernel : ℕ) (what : Happened) (steps : List ServiceStep) → entry_lines (record { kernel = kernel; entry = record { stamp = stamp; what = rows.unstamped_what what; steps = steps } }) ≡ entry_lines (record { kernel = kernel; entry = record { stamp = stamp; what = what; steps = steps } })
+entry-unstamped : (stamp kernel : ℕ) (what : Happened) (steps : List ServiceStep)
+    → entry_lines (record { kernel = kernel; entry = record { stamp = stamp; what = rows.unstamped_what what; steps = steps } })
+    ≡ entry_lines (record { kernel = kernel; entry = record { stamp = stamp; what = what; steps = steps } })
 entry-unstamped stamp kernel (Asked p c) steps = refl
 entry-unstamped stamp kernel (Took from picture) steps = refl
 
@@ -167,7 +169,8 @@ an_end_moves_and_its_trace_is_forgotten_lines =
 pub an_end_moves_and_its_trace_is_forgotten : transcript_lines rows.an_end_moves_and_its_trace_is_forgotten_setting (noted (start rows.an_end_moves_and_its_trace_is_forgotten_setting) rows.an_end_moves_and_its_trace_is_forgotten_events) [] Quiet ≡ an_end_moves_and_its_trace_is_forgotten_lines
 unfolding digits
 an_end_moves_and_its_trace_is_forgotten =
-    lines-of rows.an_end_moves_and_its_trace_is_forgotten_setting [] (noted (start rows.an_end_moves_and_its_trace_is_forgotten_setting) rows.an_end_moves_and_its_trace_is_forgotten_events) rows.an_end_moves_and_its_trace_is_forgotten_entries an_end_moves_and_its_trace_is_forgotten_lines rows.an_end_moves_and_its_trace_is_forgotten refl
+    lines-of rows.an_end_moves_and_its_trace_is_forgotten_setting [] (noted (start rows.an_end_moves_and_its_trace_is_forgotten_setting) rows.an_end_moves_and_its_trace_is_forgotten_events)
+    rows.an_end_moves_and_its_trace_is_forgotten_entries an_end_moves_and_its_trace_is_forgotten_lines rows.an_end_moves_and_its_trace_is_forgotten refl
 
 abbrev a_dead_link_leaves_no_trace_lines : List (List ℕ)
 a_dead_link_leaves_no_trace_lines =

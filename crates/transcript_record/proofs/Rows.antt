@@ -160,7 +160,11 @@ a_back_that_notices_entries =
     ∷ []
 
 pub a_back_that_notices : unstamped (noted (start a_back_that_notices_setting) a_back_that_notices_events) ≡ a_back_that_notices_entries
-unfolding end_eq put progress.sends progress.reports_to progress.answers_to progress.means progress.keeps actions.forgets actions.leave_each actions.values_leaving actions.matches actions.tells_gone actions.ends_idle actions.end_each actions.ends actions.hold_each actions.notice_send actions.notice_receive actions.notices actions.tells_moved actions.resends actions.resends_on_news actions.settle_each actions.tell_arrivals actions.learns rows.wants rows.voids rows.want_here rows.unwant_here rows.frees rows.receives rows.pass_each rows.sends_back rows.completes rows.gives_back rows.notices_first rows.end_arrivals rows.erases rows.gone_here rows.moved_here rows.moved_mark rows.known_here calls.makes calls.starts_send calls.encloses calls.posts calls.withdraws_send calls.withdraws_receive calls.ends_each kernel.answers_wait kernel.join_reports kernel.join_answers kernel.closes kernel.take_step kernel.performs kernel.call_step
+unfolding end_eq put progress.sends progress.reports_to progress.answers_to progress.means progress.keeps actions.forgets actions.leave_each actions.values_leaving actions.matches actions.tells_gone actions.ends_idle
+    actions.end_each actions.ends actions.hold_each actions.notice_send actions.notice_receive actions.notices actions.tells_moved actions.resends actions.resends_on_news actions.settle_each actions.tell_arrivals
+    actions.learns rows.wants rows.voids rows.want_here rows.unwant_here rows.frees rows.receives rows.pass_each rows.sends_back rows.completes rows.gives_back rows.notices_first rows.end_arrivals rows.erases
+    rows.gone_here rows.moved_here rows.moved_mark rows.known_here calls.makes calls.starts_send calls.encloses calls.posts calls.withdraws_send calls.withdraws_receive calls.ends_each kernel.answers_wait
+    kernel.join_reports kernel.join_answers kernel.closes kernel.take_step kernel.performs kernel.call_step
 a_back_that_notices = refl
 
 abbrev pub a_dead_link_leaves_no_trace_setting : Setting
@@ -183,7 +187,11 @@ a_dead_link_leaves_no_trace_entries =
     ∷ []
 
 pub a_dead_link_leaves_no_trace : unstamped (noted (start a_dead_link_leaves_no_trace_setting) a_dead_link_leaves_no_trace_events) ≡ a_dead_link_leaves_no_trace_entries
-unfolding end_eq put progress.sends progress.reports_to progress.answers_to progress.means progress.keeps actions.forgets actions.leave_each actions.values_leaving actions.matches actions.tells_gone actions.ends_idle actions.end_each actions.ends actions.hold_each actions.notice_send actions.notice_receive actions.notices actions.tells_moved actions.resends actions.resends_on_news actions.settle_each actions.tell_arrivals actions.learns rows.wants rows.voids rows.want_here rows.unwant_here rows.frees rows.receives rows.pass_each rows.sends_back rows.completes rows.gives_back rows.notices_first rows.end_arrivals rows.erases rows.gone_here rows.moved_here rows.moved_mark rows.known_here calls.makes calls.starts_send calls.encloses calls.posts calls.withdraws_send calls.withdraws_receive calls.ends_each kernel.answers_wait kernel.join_reports kernel.join_answers kernel.closes kernel.take_step kernel.performs kernel.call_step
+unfolding end_eq put progress.sends progress.reports_to progress.answers_to progress.means progress.keeps actions.forgets actions.leave_each actions.values_leaving actions.matches actions.tells_gone actions.ends_idle
+    actions.end_each actions.ends actions.hold_each actions.notice_send actions.notice_receive actions.notices actions.tells_moved actions.resends actions.resends_on_news actions.settle_each actions.tell_arrivals
+    actions.learns rows.wants rows.voids rows.want_here rows.unwant_here rows.frees rows.receives rows.pass_each rows.sends_back rows.completes rows.gives_back rows.notices_first rows.end_arrivals rows.erases
+    rows.gone_here rows.moved_here rows.moved_mark rows.known_here calls.makes calls.starts_send calls.encloses calls.posts calls.withdraws_send calls.withdraws_receive calls.ends_each kernel.answers_wait
+    kernel.join_reports kernel.join_answers kernel.closes kernel.take_step kernel.performs kernel.call_step
 a_dead_link_leaves_no_trace = refl
 
 abbrev pub an_end_moves_and_its_trace_is_forgotten_setting : Setting
@@ -228,7 +236,11 @@ an_end_moves_and_its_trace_is_forgotten_entries =
     ∷ []
 
 pub an_end_moves_and_its_trace_is_forgotten : unstamped (noted (start an_end_moves_and_its_trace_is_forgotten_setting) an_end_moves_and_its_trace_is_forgotten_events) ≡ an_end_moves_and_its_trace_is_forgotten_entries
-unfolding end_eq put progress.sends progress.reports_to progress.answers_to progress.means progress.keeps actions.forgets actions.leave_each actions.values_leaving actions.matches actions.tells_gone actions.ends_idle actions.end_each actions.ends actions.hold_each actions.notice_send actions.notice_receive actions.notices actions.tells_moved actions.resends actions.resends_on_news actions.settle_each actions.tell_arrivals actions.learns rows.wants rows.voids rows.want_here rows.unwant_here rows.frees rows.receives rows.pass_each rows.sends_back rows.completes rows.gives_back rows.notices_first rows.end_arrivals rows.erases rows.gone_here rows.moved_here rows.moved_mark rows.known_here calls.makes calls.starts_send calls.encloses calls.posts calls.withdraws_send calls.withdraws_receive calls.ends_each kernel.answers_wait kernel.join_reports kernel.join_answers kernel.closes kernel.take_step kernel.performs kernel.call_step
+unfolding end_eq put progress.sends progress.reports_to progress.answers_to progress.means progress.keeps actions.forgets actions.leave_each actions.values_leaving actions.matches actions.tells_gone actions.ends_idle
+    actions.end_each actions.ends actions.hold_each actions.notice_send actions.notice_receive actions.notices actions.tells_moved actions.resends actions.resends_on_news actions.settle_each actions.tell_arrivals
+    actions.learns rows.wants rows.voids rows.want_here rows.unwant_here rows.frees rows.receives rows.pass_each rows.sends_back rows.completes rows.gives_back rows.notices_first rows.end_arrivals rows.erases
+    rows.gone_here rows.moved_here rows.moved_mark rows.known_here calls.makes calls.starts_send calls.encloses calls.posts calls.withdraws_send calls.withdraws_receive calls.ends_each kernel.answers_wait
+    kernel.join_reports kernel.join_answers kernel.closes kernel.take_step kernel.performs kernel.call_step
 an_end_moves_and_its_trace_is_forgotten = refl
 
 abbrev pub busy_until_reported_setting : Setting
@@ -261,7 +273,11 @@ busy_until_reported_entries =
     ∷ []
 
 pub busy_until_reported : unstamped (noted (start busy_until_reported_setting) busy_until_reported_events) ≡ busy_until_reported_entries
-unfolding end_eq put progress.sends progress.reports_to progress.answers_to progress.means progress.keeps actions.forgets actions.leave_each actions.values_leaving actions.matches actions.tells_gone actions.ends_idle actions.end_each actions.ends actions.hold_each actions.notice_send actions.notice_receive actions.notices actions.tells_moved actions.resends actions.resends_on_news actions.settle_each actions.tell_arrivals actions.learns rows.wants rows.voids rows.want_here rows.unwant_here rows.frees rows.receives rows.pass_each rows.sends_back rows.completes rows.gives_back rows.notices_first rows.end_arrivals rows.erases rows.gone_here rows.moved_here rows.moved_mark rows.known_here calls.makes calls.starts_send calls.encloses calls.posts calls.withdraws_send calls.withdraws_receive calls.ends_each kernel.answers_wait kernel.join_reports kernel.join_answers kernel.closes kernel.take_step kernel.performs kernel.call_step
+unfolding end_eq put progress.sends progress.reports_to progress.answers_to progress.means progress.keeps actions.forgets actions.leave_each actions.values_leaving actions.matches actions.tells_gone actions.ends_idle
+    actions.end_each actions.ends actions.hold_each actions.notice_send actions.notice_receive actions.notices actions.tells_moved actions.resends actions.resends_on_news actions.settle_each actions.tell_arrivals
+    actions.learns rows.wants rows.voids rows.want_here rows.unwant_here rows.frees rows.receives rows.pass_each rows.sends_back rows.completes rows.gives_back rows.notices_first rows.end_arrivals rows.erases
+    rows.gone_here rows.moved_here rows.moved_mark rows.known_here calls.makes calls.starts_send calls.encloses calls.posts calls.withdraws_send calls.withdraws_receive calls.ends_each kernel.answers_wait
+    kernel.join_reports kernel.join_answers kernel.closes kernel.take_step kernel.performs kernel.call_step
 busy_until_reported = refl
 
 abbrev pub cancel_meets_its_parcel_setting : Setting
@@ -292,7 +308,11 @@ cancel_meets_its_parcel_entries =
     ∷ []
 
 pub cancel_meets_its_parcel : unstamped (noted (start cancel_meets_its_parcel_setting) cancel_meets_its_parcel_events) ≡ cancel_meets_its_parcel_entries
-unfolding end_eq put progress.sends progress.reports_to progress.answers_to progress.means progress.keeps actions.forgets actions.leave_each actions.values_leaving actions.matches actions.tells_gone actions.ends_idle actions.end_each actions.ends actions.hold_each actions.notice_send actions.notice_receive actions.notices actions.tells_moved actions.resends actions.resends_on_news actions.settle_each actions.tell_arrivals actions.learns rows.wants rows.voids rows.want_here rows.unwant_here rows.frees rows.receives rows.pass_each rows.sends_back rows.completes rows.gives_back rows.notices_first rows.end_arrivals rows.erases rows.gone_here rows.moved_here rows.moved_mark rows.known_here calls.makes calls.starts_send calls.encloses calls.posts calls.withdraws_send calls.withdraws_receive calls.ends_each kernel.answers_wait kernel.join_reports kernel.join_answers kernel.closes kernel.take_step kernel.performs kernel.call_step
+unfolding end_eq put progress.sends progress.reports_to progress.answers_to progress.means progress.keeps actions.forgets actions.leave_each actions.values_leaving actions.matches actions.tells_gone actions.ends_idle
+    actions.end_each actions.ends actions.hold_each actions.notice_send actions.notice_receive actions.notices actions.tells_moved actions.resends actions.resends_on_news actions.settle_each actions.tell_arrivals
+    actions.learns rows.wants rows.voids rows.want_here rows.unwant_here rows.frees rows.receives rows.pass_each rows.sends_back rows.completes rows.gives_back rows.notices_first rows.end_arrivals rows.erases
+    rows.gone_here rows.moved_here rows.moved_mark rows.known_here calls.makes calls.starts_send calls.encloses calls.posts calls.withdraws_send calls.withdraws_receive calls.ends_each kernel.answers_wait
+    kernel.join_reports kernel.join_answers kernel.closes kernel.take_step kernel.performs kernel.call_step
 cancel_meets_its_parcel = refl
 
 abbrev pub no_process_setting : Setting
@@ -307,7 +327,11 @@ no_process_entries =
     []
 
 pub no_process : unstamped (noted (start no_process_setting) no_process_events) ≡ no_process_entries
-unfolding end_eq put progress.sends progress.reports_to progress.answers_to progress.means progress.keeps actions.forgets actions.leave_each actions.values_leaving actions.matches actions.tells_gone actions.ends_idle actions.end_each actions.ends actions.hold_each actions.notice_send actions.notice_receive actions.notices actions.tells_moved actions.resends actions.resends_on_news actions.settle_each actions.tell_arrivals actions.learns rows.wants rows.voids rows.want_here rows.unwant_here rows.frees rows.receives rows.pass_each rows.sends_back rows.completes rows.gives_back rows.notices_first rows.end_arrivals rows.erases rows.gone_here rows.moved_here rows.moved_mark rows.known_here calls.makes calls.starts_send calls.encloses calls.posts calls.withdraws_send calls.withdraws_receive calls.ends_each kernel.answers_wait kernel.join_reports kernel.join_answers kernel.closes kernel.take_step kernel.performs kernel.call_step
+unfolding end_eq put progress.sends progress.reports_to progress.answers_to progress.means progress.keeps actions.forgets actions.leave_each actions.values_leaving actions.matches actions.tells_gone actions.ends_idle
+    actions.end_each actions.ends actions.hold_each actions.notice_send actions.notice_receive actions.notices actions.tells_moved actions.resends actions.resends_on_news actions.settle_each actions.tell_arrivals
+    actions.learns rows.wants rows.voids rows.want_here rows.unwant_here rows.frees rows.receives rows.pass_each rows.sends_back rows.completes rows.gives_back rows.notices_first rows.end_arrivals rows.erases
+    rows.gone_here rows.moved_here rows.moved_mark rows.known_here calls.makes calls.starts_send calls.encloses calls.posts calls.withdraws_send calls.withdraws_receive calls.ends_each kernel.answers_wait
+    kernel.join_reports kernel.join_answers kernel.closes kernel.take_step kernel.performs kernel.call_step
 no_process = refl
 
 abbrev pub one_message_between_two_kernels_setting : Setting
@@ -334,7 +358,11 @@ one_message_between_two_kernels_entries =
     ∷ []
 
 pub one_message_between_two_kernels : unstamped (noted (start one_message_between_two_kernels_setting) one_message_between_two_kernels_events) ≡ one_message_between_two_kernels_entries
-unfolding end_eq put progress.sends progress.reports_to progress.answers_to progress.means progress.keeps actions.forgets actions.leave_each actions.values_leaving actions.matches actions.tells_gone actions.ends_idle actions.end_each actions.ends actions.hold_each actions.notice_send actions.notice_receive actions.notices actions.tells_moved actions.resends actions.resends_on_news actions.settle_each actions.tell_arrivals actions.learns rows.wants rows.voids rows.want_here rows.unwant_here rows.frees rows.receives rows.pass_each rows.sends_back rows.completes rows.gives_back rows.notices_first rows.end_arrivals rows.erases rows.gone_here rows.moved_here rows.moved_mark rows.known_here calls.makes calls.starts_send calls.encloses calls.posts calls.withdraws_send calls.withdraws_receive calls.ends_each kernel.answers_wait kernel.join_reports kernel.join_answers kernel.closes kernel.take_step kernel.performs kernel.call_step
+unfolding end_eq put progress.sends progress.reports_to progress.answers_to progress.means progress.keeps actions.forgets actions.leave_each actions.values_leaving actions.matches actions.tells_gone actions.ends_idle
+    actions.end_each actions.ends actions.hold_each actions.notice_send actions.notice_receive actions.notices actions.tells_moved actions.resends actions.resends_on_news actions.settle_each actions.tell_arrivals
+    actions.learns rows.wants rows.voids rows.want_here rows.unwant_here rows.frees rows.receives rows.pass_each rows.sends_back rows.completes rows.gives_back rows.notices_first rows.end_arrivals rows.erases
+    rows.gone_here rows.moved_here rows.moved_mark rows.known_here calls.makes calls.starts_send calls.encloses calls.posts calls.withdraws_send calls.withdraws_receive calls.ends_each kernel.answers_wait
+    kernel.join_reports kernel.join_answers kernel.closes kernel.take_step kernel.performs kernel.call_step
 one_message_between_two_kernels = refl
 
 abbrev pub one_message_on_one_kernel_setting : Setting
@@ -363,7 +391,11 @@ one_message_on_one_kernel_entries =
     ∷ []
 
 pub one_message_on_one_kernel : unstamped (noted (start one_message_on_one_kernel_setting) one_message_on_one_kernel_events) ≡ one_message_on_one_kernel_entries
-unfolding end_eq put progress.sends progress.reports_to progress.answers_to progress.means progress.keeps actions.forgets actions.leave_each actions.values_leaving actions.matches actions.tells_gone actions.ends_idle actions.end_each actions.ends actions.hold_each actions.notice_send actions.notice_receive actions.notices actions.tells_moved actions.resends actions.resends_on_news actions.settle_each actions.tell_arrivals actions.learns rows.wants rows.voids rows.want_here rows.unwant_here rows.frees rows.receives rows.pass_each rows.sends_back rows.completes rows.gives_back rows.notices_first rows.end_arrivals rows.erases rows.gone_here rows.moved_here rows.moved_mark rows.known_here calls.makes calls.starts_send calls.encloses calls.posts calls.withdraws_send calls.withdraws_receive calls.ends_each kernel.answers_wait kernel.join_reports kernel.join_answers kernel.closes kernel.take_step kernel.performs kernel.call_step
+unfolding end_eq put progress.sends progress.reports_to progress.answers_to progress.means progress.keeps actions.forgets actions.leave_each actions.values_leaving actions.matches actions.tells_gone actions.ends_idle
+    actions.end_each actions.ends actions.hold_each actions.notice_send actions.notice_receive actions.notices actions.tells_moved actions.resends actions.resends_on_news actions.settle_each actions.tell_arrivals
+    actions.learns rows.wants rows.voids rows.want_here rows.unwant_here rows.frees rows.receives rows.pass_each rows.sends_back rows.completes rows.gives_back rows.notices_first rows.end_arrivals rows.erases
+    rows.gone_here rows.moved_here rows.moved_mark rows.known_here calls.makes calls.starts_send calls.encloses calls.posts calls.withdraws_send calls.withdraws_receive calls.ends_each kernel.answers_wait
+    kernel.join_reports kernel.join_answers kernel.closes kernel.take_step kernel.performs kernel.call_step
 one_message_on_one_kernel = refl
 
 abbrev pub two_ends_in_one_message_setting : Setting
@@ -390,7 +422,14 @@ two_ends_in_one_message_entries =
     record { kernel = 1; entry = record { stamp = 1; what = (Asked (pid 1) (call.Receive (end_b 0 0))); steps = ((step.Receive (end_b 0 0)) ∷ []) } }
     ∷ record { kernel = 0; entry = record { stamp = 2; what = (Took 1 (record { stamp = 0; what = (packet.Want (end_a 0 0) 1 1 0) })); steps = [] } }
     ∷ record { kernel = 0; entry = record { stamp = 3; what = (Asked (pid 0) (call.Send (end_a 0 0) (120 ∷ []) ((end_a 0 1) ∷ (end_a 0 2) ∷ []))); steps = ((step.Send (end_a 0 0) 1 (120 ∷ []) ((end_a 0 1) ∷ (end_a 0 2) ∷ [])) ∷ (step.Match (end_a 0 0) 1) ∷ []) } }
-    ∷ record { kernel = 1; entry = record { stamp = 4; what = (Took 0 (record { stamp = 0; what = (packet.Parcel (end_b 0 0) 1 1 0 0 (120 ∷ []) ((value (end_a 0 1) 1 1 0 0 0 0 0 false 1) ∷ (value (end_a 0 2) 1 1 0 0 0 0 0 false 1) ∷ [])) })); steps = ((step.Take (end_a 0 0) 1 (pid 1) false) ∷ []) } }
+    ∷ record {
+      kernel = 1;
+      entry = record {
+        stamp = 4;
+        what = (Took 0 (record { stamp = 0; what = (packet.Parcel (end_b 0 0) 1 1 0 0 (120 ∷ []) ((value (end_a 0 1) 1 1 0 0 0 0 0 false 1) ∷ (value (end_a 0 2) 1 1 0 0 0 0 0 false 1) ∷ [])) }));
+        steps = ((step.Take (end_a 0 0) 1 (pid 1) false) ∷ []);
+      };
+    }
     ∷ record { kernel = 0; entry = record { stamp = 5; what = (Took 1 (record { stamp = 0; what = (packet.Taken (end_a 0 0) 1 1 0) })); steps = ((step.Complete (end_a 0 0) 1) ∷ []) } }
     ∷ record { kernel = 1; entry = record { stamp = 5; what = (Took 1 (record { stamp = 0; what = (packet.Moved (end_b 0 1) 1 1) })); steps = [] } }
     ∷ record { kernel = 1; entry = record { stamp = 6; what = (Took 1 (record { stamp = 0; what = (packet.Moved (end_b 0 2) 1 1) })); steps = [] } }
@@ -402,5 +441,9 @@ two_ends_in_one_message_entries =
     ∷ []
 
 pub two_ends_in_one_message : unstamped (noted (start two_ends_in_one_message_setting) two_ends_in_one_message_events) ≡ two_ends_in_one_message_entries
-unfolding end_eq put progress.sends progress.reports_to progress.answers_to progress.means progress.keeps actions.forgets actions.leave_each actions.values_leaving actions.matches actions.tells_gone actions.ends_idle actions.end_each actions.ends actions.hold_each actions.notice_send actions.notice_receive actions.notices actions.tells_moved actions.resends actions.resends_on_news actions.settle_each actions.tell_arrivals actions.learns rows.wants rows.voids rows.want_here rows.unwant_here rows.frees rows.receives rows.pass_each rows.sends_back rows.completes rows.gives_back rows.notices_first rows.end_arrivals rows.erases rows.gone_here rows.moved_here rows.moved_mark rows.known_here calls.makes calls.starts_send calls.encloses calls.posts calls.withdraws_send calls.withdraws_receive calls.ends_each kernel.answers_wait kernel.join_reports kernel.join_answers kernel.closes kernel.take_step kernel.performs kernel.call_step
+unfolding end_eq put progress.sends progress.reports_to progress.answers_to progress.means progress.keeps actions.forgets actions.leave_each actions.values_leaving actions.matches actions.tells_gone actions.ends_idle
+    actions.end_each actions.ends actions.hold_each actions.notice_send actions.notice_receive actions.notices actions.tells_moved actions.resends actions.resends_on_news actions.settle_each actions.tell_arrivals
+    actions.learns rows.wants rows.voids rows.want_here rows.unwant_here rows.frees rows.receives rows.pass_each rows.sends_back rows.completes rows.gives_back rows.notices_first rows.end_arrivals rows.erases
+    rows.gone_here rows.moved_here rows.moved_mark rows.known_here calls.makes calls.starts_send calls.encloses calls.posts calls.withdraws_send calls.withdraws_receive calls.ends_each kernel.answers_wait
+    kernel.join_reports kernel.join_answers kernel.closes kernel.take_step kernel.performs kernel.call_step
 two_ends_in_one_message = refl

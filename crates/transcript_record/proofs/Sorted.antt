@@ -79,7 +79,8 @@ record IsFree (s : Setting) (w : World) (e f : Event) : Type 0 where
   before : IsTrue (stands_before (noted_as w f) (noted_as w e))
 
 -- an event at another kernel takes what was there before, if its stamp is not greater
-there-before : (s : Setting) (n : ℕ) (w : World) (e : Event) (k from : ℕ) → n + 1 < 2 ^ 64 - 1 → k ≢ kernel_of e → IsEvent s n w e → IsToldWorld s (n + 1) (happens w e) → (happens w e).packets from k ≢ [] → (takes_first ((happens w e).kernel k) from ((happens w e).packets from k)).kernel.stamp ≤ (outcome w e).kernel.stamp → w.packets from k ≢ []
+there-before : (s : Setting) (n : ℕ) (w : World) (e : Event) (k from : ℕ) → n + 1 < 2 ^ 64 - 1 → k ≢ kernel_of e → IsEvent s n w e → IsToldWorld s (n + 1) (happens w e) → (happens w e).packets from k ≢ []
+    → (takes_first ((happens w e).kernel k) from ((happens w e).packets from k)).kernel.stamp ≤ (outcome w e).kernel.stamp → w.packets from k ≢ []
 there-before s n w e k from early ne is told allowed le none = by (eqb_tells from (kernel_of e))
   where
     v : World
@@ -244,7 +245,8 @@ insert-behind s w e f fs gs allowed is order put =
         ∙ ap (λ (x : Placed). of_kernel k (noted_as w e ∷ x ∷ noted (happens (happens w e) f) fs)) (sym entry_f)
 
 -- one step: either it stands here, or it goes on
-insert-step : (s : Setting) (n : ℕ) (w : World) (e f : Event) (fs : List Event) → n + 1 < 2 ^ 64 - 1 → IsToldWorld s n w → AreAllowed s w (e ∷ f ∷ fs) → AreInOrder (noted (happens w e) (f ∷ fs)) → (IsFree s w e f → (gs : List Event) × IsInserted s (happens w f) e fs gs) → (gs : List Event) × IsInserted s w e (f ∷ fs) gs
+insert-step : (s : Setting) (n : ℕ) (w : World) (e f : Event) (fs : List Event) → n + 1 < 2 ^ 64 - 1 → IsToldWorld s n w → AreAllowed s w (e ∷ f ∷ fs) → AreInOrder (noted (happens w e) (f ∷ fs))
+    → (IsFree s w e f → (gs : List Event) × IsInserted s (happens w f) e fs gs) → (gs : List Event) × IsInserted s w e (f ∷ fs) gs
 insert-step s n w e f fs early told allowed order others = by (stands_before (noted_as w e) (noted_as (happens w e) f)) refl
   where
     by : (b : Bool) → stands_before (noted_as w e) (noted_as (happens w e) f) ≡ b → (gs : List Event) × IsInserted s w e (f ∷ fs) gs

@@ -47,7 +47,9 @@ pub record IsEvent (s : Setting) (n : ℕ) (w : World) (e : Event) : Type 0 wher
 same-stamp : (v n : ℕ) (w : Happened) (o : Outcome) → Gives v n w o → Gives v o.kernel.stamp w o
 same-stamp v n w o g = subst (λ m. Gives v m w o) (sym g.stamp) g
 
-taken-event : (s : Setting) (n : ℕ) (k : Kernel) (from : ℕ) (ps : List Picture) → n < 2 ^ 64 - 1 → IsTold s.version k → k.stamp ≤ n → All (IsToldPacket s.version n) ps → ps ≢ [] → Gives s.version (takes_first k from ps).kernel.stamp (Took from (first_or nothing_sent ps)) (takes_first k from ps) × (k.stamp < (takes_first k from ps).kernel.stamp) × ((takes_first k from ps).kernel.stamp ≤ n + 1) × HasFewPacket s.version (first_or nothing_sent ps).what
+taken-event : (s : Setting) (n : ℕ) (k : Kernel) (from : ℕ) (ps : List Picture) → n < 2 ^ 64 - 1 → IsTold s.version k → k.stamp ≤ n → All (IsToldPacket s.version n) ps → ps ≢ []
+    → Gives s.version (takes_first k from ps).kernel.stamp (Took from (first_or nothing_sent ps)) (takes_first k from ps) × (k.stamp < (takes_first k from ps).kernel.stamp)
+    × ((takes_first k from ps).kernel.stamp ≤ n + 1) × HasFewPacket s.version (first_or nothing_sent ps).what
 taken-event s n k from [] early told stamp all some = absurd (some refl)
 taken-event s n k from (q ∷ qs) early told stamp all some =
     let first : IsToldPacket s.version n q = All-head (IsToldPacket s.version n) q qs all in

@@ -22,8 +22,9 @@ abbrev pub AreWithin : Setting → List Event → Type 0
 AreWithin s [] = Unit {0}
 AreWithin s (e ∷ es) = (kernel_of e < s.kernels) × AreWithin s es
 
--- These lines are the transcript of a run of kernels. Its events are allowed, and their entries stand in the order of a merge. So each entry
--- line has the stamp that its kernel gives, a packet is the one that was sent, and below an entry stand the service steps of its event.
+-- These lines are the transcript of a run of kernels. Its events are allowed, and their entries
+-- stand in the order of a merge. So each entry line has the stamp that its kernel gives, a
+-- packet is the one that was sent, and below an entry stand the service steps of its event.
 pub record IsReplay (kinds : List LineKind) (last : Last) : Type 0 where
   pub setting : Setting
   pub valid : IsValid setting

@@ -21,4 +21,5 @@ labelled label text = label ++ shown text
 pub record AreWhy (bytes : List ℕ) (number : ℕ) (lines : List (List ℕ)) : Type 0 where
   pub expected : List ℕ
   pub kept : List ℕ
-  pub three : lines ≡ line (first_text bytes number) ∷ line (labelled (codes "expected: ") expected) ∷ line (labelled (codes "kept: ") kept) ∷ []
+  pub three : lines
+      ≡ line (first_text bytes number) ∷ line (labelled (codes "expected: ") expected) ∷ line (labelled (codes "kept: ") kept) ∷ []

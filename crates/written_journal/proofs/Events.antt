@@ -98,7 +98,8 @@ parts es n = ap lines_of (sym (take-append-drop n es)) ∙ lines_of-append (take
 text-parts : (es : List Entry) (n : ℕ) → text_of es ≡ text_of (take n es) ++ text_of (drop n es)
 text-parts es n = ap text_of (sym (take-append-drop n es)) ∙ text_of-append (take n es) (drop n es)
 
-pub cut-kept : (old new : Written) (es : List Entry) (n : ℕ) (ev : Event) → AreKept old es → slice_get old.events.items n ≡ Some ev → new.text.items ≡ take ev.bytes_before old.text.items → new.notes.items ≡ take ev.lines_before old.notes.items → new.events.items ≡ take n old.events.items → AreKept new (take n es)
+pub cut-kept : (old new : Written) (es : List Entry) (n : ℕ) (ev : Event) → AreKept old es → slice_get old.events.items n ≡ Some ev → new.text.items ≡ take ev.bytes_before old.text.items
+    → new.notes.items ≡ take ev.lines_before old.notes.items → new.events.items ≡ take n old.events.items → AreKept new (take n es)
 cut-kept old new es n ev kept found text notes events =
     record {
       text = text ∙ ap (λ t. take ev.bytes_before t) (kept.text ∙ text-parts es n) ∙ take_at (text_of (take n es)) (text_of (drop n es)) ev.bytes_before (sym bytes);

@@ -47,7 +47,8 @@ pub record IsStepped (es : List Entry) (p q : Place) (text : List ℕ) : Type 0 
   pub given : (rest_behind es p).lines ≡ text ∷ (rest_behind es q).lines
   pub place : IsPlace es q
 
-pub stepped : (es : List Entry) (p : Place) (text : List ℕ) (long : ℕ) → IsPlace es p → 0 < p.left → text ≡ get_or (lines_of es) p.lines [] → long ≡ length (kept (get_or (lines_of es) p.lines [])) → IsStepped es p (record { events = p.events; left = p.left - 1; lines = p.lines + 1; bytes = p.bytes + long }) text
+pub stepped : (es : List Entry) (p : Place) (text : List ℕ) (long : ℕ) → IsPlace es p → 0 < p.left → text ≡ get_or (lines_of es) p.lines [] → long ≡ length (kept (get_or (lines_of es) p.lines []))
+    → IsStepped es p (record { events = p.events; left = p.left - 1; lines = p.lines + 1; bytes = p.bytes + long }) text
 stepped es p text long is some here many =
     record {
       given = one-less (lines_of es) p.lines p.left some (line-below es p is some) ∙ ap (λ (t : List ℕ). t ∷ take (p.left - 1) (drop (p.lines + 1) (lines_of es))) (sym here);

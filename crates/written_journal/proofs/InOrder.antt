@@ -68,7 +68,8 @@ pub record IsBetween (items rests : List Rest) (before : ℕ) (placed : List Pla
   pub gone : (rest_at items before).lines ≡ []
   pub none : (rest_at rests before).lines ≡ []
 
-pub between : (items old rests : List Rest) (before : ℕ) (placed : List Placed) (some : Bool) (text : List ℕ) → old ≡ items → AreLeft items before placed → ((ps : List Placed) → AreLeft old before ps → AreLeft rests before ps) → GivesFirst some (rest_at old before).lines (rest_at rests before).lines text → some ≡ false → IsBetween items rests before placed
+pub between : (items old rests : List Rest) (before : ℕ) (placed : List Placed) (some : Bool) (text : List ℕ) → old ≡ items → AreLeft items before placed
+    → ((ps : List Placed) → AreLeft old before ps → AreLeft rests before ps) → GivesFirst some (rest_at old before).lines (rest_at rests before).lines text → some ≡ false → IsBetween items rests before placed
 between items old rests before placed some text same left kept gives none =
     let nothing_given = subst (λ (b : Bool). GivesFirst b (rest_at old before).lines (rest_at rests before).lines text) none gives in
     record {
@@ -129,7 +130,9 @@ pub record IsGiven (placed : List Placed) (kernel : ℕ) (now : List Rest) (late
   pub given : flat_map entry_lines placed ≡ text ∷ ((rest_at now kernel).lines ++ flat_map entry_lines later)
   pub left : AreLeft now kernel later
 
-pub first-given : (items rests : List Rest) (before : ℕ) (placed : List Placed) (kernel : ℕ) (r : Rest) (later : List Placed) (text : List ℕ) → IsBetween items rests before placed → (next : IsNext rests placed kernel) → (text ≡ line (entry_text (placed_at kernel next.entry))) × (r ≡ record { lines = step_lines next.entry.steps; entries = of_kernel kernel next.rest }) → later ≡ drop 1 placed → IsGiven placed kernel (set rests kernel r) later text
+pub first-given : (items rests : List Rest) (before : ℕ) (placed : List Placed) (kernel : ℕ) (r : Rest) (later : List Placed) (text : List ℕ) → IsBetween items rests before placed → (next : IsNext rests placed kernel)
+    → (text ≡ line (entry_text (placed_at kernel next.entry))) × (r ≡ record { lines = step_lines next.entry.steps; entries = of_kernel kernel next.rest }) → later ≡ drop 1 placed
+    → IsGiven placed kernel (set rests kernel r) later text
 first-given items rests before placed kernel r later text is next new taken =
     record {
       given = ap (flat_map entry_lines) next.is

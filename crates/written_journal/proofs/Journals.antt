@@ -60,7 +60,8 @@ forgotten w b0 b from t is begun =
     }
 
 -- something is begun, where there is room for one entry more
-pub begun-stored : (w : Written) (b0 b : KeptLines) (from0 from : Option ℕ) (t : Told) (what : Happened) → IsStored w b0 from0 t → length w.events.items < 2 ^ 32 - 1 → AreLines b (happened_line what ∷ []) → from ≡ sender_of what → IsHappenedInRange what → IsStored w b from (record t { begun = Some what })
+pub begun-stored : (w : Written) (b0 b : KeptLines) (from0 from : Option ℕ) (t : Told) (what : Happened) → IsStored w b0 from0 t → length w.events.items < 2 ^ 32 - 1 → AreLines b (happened_line what ∷ [])
+    → from ≡ sender_of what → IsHappenedInRange what → IsStored w b from (record t { begun = Some what })
 begun-stored w b0 b from0 from t what is room begun sender in_range =
     record {
       kept = is.kept;
@@ -73,7 +74,9 @@ begun-stored w b0 b from0 from t what is room begun sender in_range =
     }
 
 -- what was begun is noted
-noted-stored : (old new : Written) (b b1 steps : KeptLines) (from : Option ℕ) (t : Told) (what : Happened) (stamp : ℕ) (ss : List ServiceStep) → IsStored old b from t → t.begun ≡ Some what → IsAfterLast t.entries stamp → IsU64 stamp → All IsStepInRange ss → AreKept new (t.entries ++ record { stamp = stamp; what = what; steps = ss } ∷ []) → AreLines b1 [] → IsStored new b1 None (record t { entries = t.entries ++ record { stamp = stamp; what = what; steps = ss } ∷ []; begun = None })
+noted-stored : (old new : Written) (b b1 steps : KeptLines) (from : Option ℕ) (t : Told) (what : Happened) (stamp : ℕ) (ss : List ServiceStep) → IsStored old b from t → t.begun ≡ Some what → IsAfterLast t.entries stamp
+    → IsU64 stamp → All IsStepInRange ss → AreKept new (t.entries ++ record { stamp = stamp; what = what; steps = ss } ∷ []) → AreLines b1 []
+    → IsStored new b1 None (record t { entries = t.entries ++ record { stamp = stamp; what = what; steps = ss } ∷ []; begun = None })
 noted-stored old new b b1 steps from t what stamp ss is begun after early steps_in_range kept none =
     record {
       kept = kept;
@@ -89,7 +92,12 @@ noted-stored old new b b1 steps from t what stamp ss is begun after early steps_
     e = record { stamp = stamp; what = what; steps = ss }
 
 -- the same, by what was told
-pub noted-told : (old new : Written) (b b1 steps : KeptLines) (from : Option ℕ) (t later : Told) (value : Happenings) (stamp : ℕ) (ss : List ServiceStep) → IsStored old b from t → happenings t ≡ value → (what : Happened) × (value.begun ≡ Some what) → IsAfterLast value.entries stamp → IsU64 stamp → All IsStepInRange ss → AreLines steps (step_lines ss) → new.text.items ≡ old.text.items ++ (b.text.items ++ steps.text.items) → new.notes.items ≡ old.notes.items ++ (b.notes.items ++ steps.notes.items) → new.events.items ≡ old.events.items ++ record { stamp = stamp; from = from; lines = length b.notes.items + length steps.notes.items; lines_before = length old.notes.items; bytes_before = length old.text.items } ∷ [] → AreLines b1 [] → later ≡ record t { entries = t.entries ++ done t.begun stamp ss; begun = None } → IsStored new b1 None later
+pub noted-told : (old new : Written) (b b1 steps : KeptLines) (from : Option ℕ) (t later : Told) (value : Happenings) (stamp : ℕ) (ss : List ServiceStep) → IsStored old b from t → happenings t ≡ value
+    → (what : Happened) × (value.begun ≡ Some what) → IsAfterLast value.entries stamp → IsU64 stamp → All IsStepInRange ss → AreLines steps (step_lines ss)
+    → new.text.items ≡ old.text.items ++ (b.text.items ++ steps.text.items) → new.notes.items ≡ old.notes.items ++ (b.notes.items ++ steps.notes.items)
+    → new.events.items
+    ≡ old.events.items ++ record { stamp = stamp; from = from; lines = length b.notes.items + length steps.notes.items; lines_before = length old.notes.items; bytes_before = length old.text.items } ∷ []
+    → AreLines b1 [] → later ≡ record t { entries = t.entries ++ done t.begun stamp ss; begun = None } → IsStored new b1 None later
 noted-told old new b b1 steps from t later value stamp ss is view begun after early steps_in_range lines text notes events none told =
     subst (λ (x : Told). IsStored new b1 None x) (sym same)
     (noted-stored old new b b1 steps from t begun.0 stamp ss is what (subst (λ es. IsAfterLast es stamp) (sym (ap (λ (v : Happenings). v.entries) view)) after) early steps_in_range kept none)

@@ -88,5 +88,6 @@ line-at w es number from is below at =
     text = is.text ∙ text_of-is es ∙ joined
 
 -- the same, of what contracts see of a journal
-pub line-of : (w : Written) (b : KeptLines) (sender : Option ℕ) (t : Told) (value : Happenings) (number from : ℕ) → IsStored w b sender t → happenings t ≡ value → number < length (lines_of value.entries) → from ≡ length (kept_text (take number (lines_of value.entries))) → IsLineAt w (get_or (lines_of value.entries) number []) number from
+pub line-of : (w : Written) (b : KeptLines) (sender : Option ℕ) (t : Told) (value : Happenings) (number from : ℕ) → IsStored w b sender t → happenings t ≡ value → number < length (lines_of value.entries)
+    → from ≡ length (kept_text (take number (lines_of value.entries))) → IsLineAt w (get_or (lines_of value.entries) number []) number from
 line-of w b sender t value number from is view below at = line-at w value.entries number from (are-kept w b sender t value is view) below at

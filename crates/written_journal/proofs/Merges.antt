@@ -45,7 +45,8 @@ pub record IsStep (journals ls : List (List Entry)) (kernel : ℕ) (now : List E
   pub count : sum_by length (set ls kernel now) + 1 ≡ sum_by length ls
   pub merging : IsMerging journals (set ls kernel now) placed
 
-pub moved-on : (journals ls : List (List Entry)) (head : Head) (q now : List Entry) (before after : List Placed) → IsFirstBelow ls (length ls) (Some head) → q ≡ get_or ls head.kernel q → ((e : Entry) (es : List Entry) → q ≡ e ∷ es → (now ≡ es) × (after ≡ before ++ placed_at head.kernel e ∷ [])) → IsMerging journals ls before → IsStep journals ls head.kernel now after
+pub moved-on : (journals ls : List (List Entry)) (head : Head) (q now : List Entry) (before after : List Placed) → IsFirstBelow ls (length ls) (Some head) → q ≡ get_or ls head.kernel q
+    → ((e : Entry) (es : List Entry) → q ≡ e ∷ es → (now ≡ es) × (after ≡ before ++ placed_at head.kernel e ∷ [])) → IsMerging journals ls before → IsStep journals ls head.kernel now after
 moved-on journals ls head q now before after first at moved merging = by q here (sym (ap first_stamp here) ∙ first.1) moved
   where
     here : entries_at ls head.kernel ≡ q

@@ -108,14 +108,19 @@ packed-first [] lt = absurd (omega arith)
 packed-first (b ∷ []) lt = refl
 packed-first (b ∷ h ∷ []) lt = refl
 packed-first (b ∷ h ∷ l ∷ rest) lt =
-    elim (eqb b 37 && is_code h l) as (λ s. cond s (piece_packed (coded (code_value h l)) ++ packed rest) (piece_packed (literal b) ++ packed (h ∷ l ∷ rest)) ≡ piece_packed (cond {A = Piece × List ℕ} s (coded (code_value h l), rest) (literal b, h ∷ l ∷ rest)).0 ++ packed (cond {A = Piece × List ℕ} s (coded (code_value h l), rest) (literal b, h ∷ l ∷ rest)).1) [ true ↦ refl | false ↦ refl ]
+    elim (eqb b 37
+    && is_code h l) as (λ s. cond s (piece_packed (coded (code_value h l)) ++ packed rest) (piece_packed (literal b) ++ packed (h ∷ l ∷ rest))
+    ≡ piece_packed (cond {A = Piece × List ℕ} s (coded (code_value h l), rest) (literal b, h ∷ l ∷ rest)).0 ++ packed (cond {A = Piece × List ℕ} s (coded (code_value h l), rest) (literal b, h ∷ l ∷ rest)).1)
+    [ true ↦ refl | false ↦ refl ]
 
 pub unpacked-first : (t : List ℕ) → 0 < length t → unpacked t ≡ piece_text (packed_piece_at t).0 ++ unpacked (packed_piece_at t).1
 unfolding unpacked
 unpacked-first [] lt = absurd (omega arith)
 unpacked-first (b ∷ []) lt = refl
 unpacked-first (b ∷ c ∷ rest) lt =
-    elim (eqb b 90) as (λ s. cond s (piece_text (behind_escape c) ++ unpacked rest) (piece_text (alone b) ++ unpacked (c ∷ rest)) ≡ piece_text (cond {A = Piece × List ℕ} s (behind_escape c, rest) (alone b, c ∷ rest)).0 ++ unpacked (cond {A = Piece × List ℕ} s (behind_escape c, rest) (alone b, c ∷ rest)).1) [ true ↦ refl | false ↦ refl ]
+    elim (eqb b 90) as (λ s. cond s (piece_text (behind_escape c) ++ unpacked rest) (piece_text (alone b) ++ unpacked (c ∷ rest))
+    ≡ piece_text (cond {A = Piece × List ℕ} s (behind_escape c, rest) (alone b, c ∷ rest)).0 ++ unpacked (cond {A = Piece × List ℕ} s (behind_escape c, rest) (alone b, c ∷ rest)).1)
+    [ true ↦ refl | false ↦ refl ]
 
 -- one piece more is appended
 pub moved-on : (whole : List ℕ → List ℕ) (out new form rest behind total : List ℕ) → new ≡ out ++ form → whole rest ≡ form ++ whole behind → out ++ whole rest ≡ total → new ++ whole behind ≡ total

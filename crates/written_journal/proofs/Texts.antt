@@ -93,7 +93,8 @@ text-more old now new steps i step below is so_far more =
     ap kept_text (steps-more steps i step below is) ∙ kept_text-append before (line (step_text step) ∷ []) ∙ ap (λ t. kept_text before ++ t) (append-nil (kept (line (step_text step)))) in
     more ∙ ap (λ t. t ++ kept (line (step_text step))) so_far ∙ append_assoc old (kept_text before) (kept (line (step_text step))) ∙ ap (λ t. old ++ t) (sym joined)
 
-pub notes-more : (old now new : List ℕ) (steps : List ServiceStep) (i : ℕ) (step : ServiceStep) → i < length steps → step ≡ get_or steps i step → now ≡ old ++ map line_note (step_lines (take i steps)) → new ≡ now ++ line_note (line (step_text step)) ∷ [] → new ≡ old ++ map line_note (step_lines (take (i + 1) steps))
+pub notes-more : (old now new : List ℕ) (steps : List ServiceStep) (i : ℕ) (step : ServiceStep) → i < length steps → step ≡ get_or steps i step → now ≡ old ++ map line_note (step_lines (take i steps))
+    → new ≡ now ++ line_note (line (step_text step)) ∷ [] → new ≡ old ++ map line_note (step_lines (take (i + 1) steps))
 notes-more old now new steps i step below is so_far more =
     let before : List (List ℕ) = step_lines (take i steps) in
     let joined : map line_note (step_lines (take (i + 1) steps)) ≡ map line_note before ++ line_note (line (step_text step)) ∷ [] =

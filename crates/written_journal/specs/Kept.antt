@@ -32,7 +32,8 @@ pub record AreKept (w : Written) (es : List Entry) : Type 0 where
   pub text : w.text.items ≡ text_of es
   pub notes : w.notes.items ≡ map line_note (lines_of es)
   pub long : length w.events.items ≡ length es
-  pub event : (n : ℕ) → n < length es → (d : Event) (x : Entry) → slice_index_or w.events.items n d ≡ event_of (take n es) (slice_index_or es n x)
+  pub event : (n : ℕ) → n < length es → (d : Event) (x : Entry)
+      → slice_index_or w.events.items n d ≡ event_of (take n es) (slice_index_or es n x)
 
 -- the same events stand here
 pub record HasSame (old new : Written) : Type 0 where

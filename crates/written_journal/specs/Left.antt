@@ -17,7 +17,9 @@ wire_lines wires = map (λ wire. line (wire_text wire)) wires
 
 -- the lines of a setting
 abbrev pub lines_in : Header → List (List ℕ)
-lines_in h = number_line (codes "transcript ") h.version ++ number_line (codes "kernels ") h.kernels ++ process_lines h.number (drop h.number h.homes.items) ++ wire_lines h.wires.items
+lines_in h =
+    number_line (codes "transcript ") h.version ++ number_line (codes "kernels ") h.kernels
+    ++ process_lines h.number (drop h.number h.homes.items) ++ wire_lines h.wires.items
 
 abbrev pub header_left : Option Header → List (List ℕ)
 header_left None = []

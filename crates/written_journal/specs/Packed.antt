@@ -1,5 +1,6 @@
 -- Lines as they are kept: a long one that spells coded bytes is packed.
-use Rattle.std.specs.Prelude.{ℕ, Bool, true, false, ◌&&◌, not, nat_le, nat_lt, ◌==◌, ◌+◌, ◌*◌, ◌/◌, ◌%◌, if◌then◌else◌, List, [], ◌∷◌, ◌++◌, length, map}
+use Rattle.std.specs.Prelude.{ℕ, Bool, true, false, ◌&&◌, not, nat_le, nat_lt, ◌==◌, ◌+◌}
+use Rattle.std.specs.Prelude.{◌*◌, ◌/◌, ◌%◌, if◌then◌else◌, List, [], ◌∷◌, ◌++◌, length, map}
 use Rattle.std.specs.List.{concat, list_all}
 use Rattle.charlotte_text.specs.Spelling.{hex_digit}
 use Rattle.charlotte_text.specs.Reading.{hex_value}
@@ -64,7 +65,9 @@ unfoldable pub packed : List ℕ → List ℕ
 packed [] = []
 packed (b ∷ []) = piece_packed (literal b) ++ []
 packed (b ∷ h ∷ []) = piece_packed (literal b) ++ packed (h ∷ [])
-packed (b ∷ h ∷ l ∷ rest) = if b == 37 && is_code h l then piece_packed (coded (code_value h l)) ++ packed rest else piece_packed (literal b) ++ packed (h ∷ l ∷ rest)
+packed (b ∷ h ∷ l ∷ rest) =
+    if b == 37 && is_code h l then piece_packed (coded (code_value h l)) ++ packed rest
+    else piece_packed (literal b) ++ packed (h ∷ l ∷ rest)
 
 unfoldable pub unpacked : List ℕ → List ℕ
 unpacked [] = []

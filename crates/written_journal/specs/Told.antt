@@ -24,5 +24,6 @@ ToldParts = List Entry × (Option Happened × List Placed)
 
 abbrev pub told_code : Coded Told
 told_code =
-    code_by ToldParts (coded× (coded_list EntryType.the_row.coded) (coded× (coded_option HappenedType.the_row.coded) (coded_list PlacedType.the_row.coded)))
+    code_by ToldParts
+    (coded× (coded_list EntryType.the_row.coded) (coded× (coded_option HappenedType.the_row.coded) (coded_list PlacedType.the_row.coded)))
     (λ t. (t.entries, (t.begun, t.placed))) (λ p. record { entries = p.0; begun = p.1.0; placed = p.1.1 }) (λ t. refl)

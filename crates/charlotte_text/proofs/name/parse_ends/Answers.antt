@@ -13,11 +13,16 @@ returns-then-most-len c =
 pub returns-in_err-parse_plus_end : goal.returns-in_err-parse_plus_end
 returns-in_err-parse_plus_end c =
     let p = err_from_is_err_and c.from_residual.result c.from_residual.ensures.1 in
-    rw (p.1, p.2) (end_fails c.loop-rest.ends.items c.args.most (rest_parts 32 (option_copied c.loop-rest.rest)) c.cut.result.0.now (rest_parts 32 (option_copied c.cut.result.1)) c.in_err-parse_plus_end.field-0.0 (ends_of c.args.most (rest_parts 32 (option_copied c.args.words))) (omega arith) (rw c.in-Some.is c.cut.ensures) (sym c.in_err-parse_plus_end.ensures) c.loop-rest.invariant.so_far)
+    rw (p.1, p.2)
+    (end_fails c.loop-rest.ends.items c.args.most (rest_parts 32 (option_copied c.loop-rest.rest)) c.cut.result.0.now (rest_parts 32 (option_copied c.cut.result.1)) c.in_err-parse_plus_end.field-0.0
+    (ends_of c.args.most (rest_parts 32 (option_copied c.args.words))) (omega arith) (rw c.in-Some.is c.cut.ensures) (sym c.in_err-parse_plus_end.ensures) c.loop-rest.invariant.so_far)
 
 pub loop-rest-preserved : goal.loop-rest-preserved
 loop-rest-preserved c = record {
-  so_far = rw c.push.ensures.items (end_goes_on c.loop-rest.ends.items c.args.most (rest_parts 32 (option_copied c.loop-rest.rest)) c.cut.result.0.now (rest_parts 32 (option_copied c.cut.result.1)) c.in_ok-parse_plus_end.field-0 (ends_of c.args.most (rest_parts 32 (option_copied c.args.words))) (omega arith) (rw c.in-Some.is c.cut.ensures) (sym c.in_ok-parse_plus_end.ensures) c.loop-rest.invariant.so_far);
+  so_far =
+      rw c.push.ensures.items
+      (end_goes_on c.loop-rest.ends.items c.args.most (rest_parts 32 (option_copied c.loop-rest.rest)) c.cut.result.0.now (rest_parts 32 (option_copied c.cut.result.1)) c.in_ok-parse_plus_end.field-0
+      (ends_of c.args.most (rest_parts 32 (option_copied c.args.words))) (omega arith) (rw c.in-Some.is c.cut.ensures) (sym c.in_ok-parse_plus_end.ensures) c.loop-rest.invariant.so_far);
   room = omega arith;
 }
 

@@ -46,7 +46,8 @@ returns-clause-part c = λ s.
     ∙ c.finish.ensures.part (record s { made = made_after c.args.request.now.call c.args.state.now.made; stamp = c.act.new.out.stamp }) (entries c.close.new.table)
     ∙ ap (finished c.args.request.now.p c.ending_of-ending.result)
     (c.close.ensures.part (record s { made = made_after c.args.request.now.call c.args.state.now.made })
-    ∙ acted-closes c.args.request.now.p c.args.state.now.table.kernel c.args.state.now.made (made_after c.args.request.now.call c.args.state.now.made) c.args.mine.now c.args.request.now.call s (entries c.args.state.now.table) (entries c.act.new.table) c.args.state.now.processes c.turn_caller.new.processes c.args.state.now.event.work c.act.new.out c.turn_caller.ensures.part c.act.ensures.part)
+    ∙ acted-closes c.args.request.now.p c.args.state.now.table.kernel c.args.state.now.made (made_after c.args.request.now.call c.args.state.now.made) c.args.mine.now c.args.request.now.call s
+    (entries c.args.state.now.table) (entries c.act.new.table) c.args.state.now.processes c.turn_caller.new.processes c.args.state.now.event.work c.act.new.out c.turn_caller.ensures.part c.act.ensures.part)
     ∙ finished-by c.args.request.now.p c.args.state.now.table.kernel c.args.state.now.made c.args.request.now.call c.ending_of-ending.result _ c.requires.other
     (c.ending_of-ending.ensures ∙ ap (λ k. ending_of k c.args.state.now.made c.args.request.now.call) c.kernel.ensures.kernel)
 
@@ -67,4 +68,7 @@ pub returns-clause-kept : goal.returns-clause-kept
 returns-clause-kept c =
     takes-both 0 0 0 _ _ _ (omega arith) c.turn_caller.ensures.kept
     (takes-both 0 0 0 _ _ _ (omega arith) (subst (λ rs. TakesAtMost (length rs) c.turn_caller.new.processes c.close.new.processes)
-    (acted-none c.args.request.now.p c.args.state.now.table.kernel c.args.state.now.made c.args.mine.now c.args.request.now.call (entries c.args.state.now.table) (entries c.act.new.table) c.args.state.now.event.work c.act.new.out c.act.ensures.part c.requires.ready.begun.reports) c.close.ensures.kept) c.finish.ensures.kept)
+    (acted-none c.args.request.now.p c.args.state.now.table.kernel c.args.state.now.made c.args.mine.now c.args.request.now.call (entries c.args.state.now.table) (entries c.act.new.table) c.args.state.now.event.work
+    c.act.new.out c.act.ensures.part c.requires.ready.begun.reports)
+    c.close.ensures.kept)
+    c.finish.ensures.kept)

@@ -32,7 +32,8 @@ returns-clause-step c =
       all.1,
       subst (λ n. IsStepOf c.args.state.now.table c.args.state.now.processes c.args.state.now.made c.args.state.now.event.work.stamp c.close_step.new.state.table c.stand.new.processes n c.stand.new.effect c.args.request.now.p all.0 c.args.request.now.call)
           (sym c.close_step.ensures.made)
-          (refused-steps c.args.state.now.table c.close_step.new.state.table c.args.state.now.processes c.stand.new.processes c.args.state.now.made c.args.state.now.event.work.stamp c.args.state.now.event.work c.stand.new.effect c.args.request.now.p all.0 c.requires.ready.begins c.args.request.now.call c.args.cause all.1 c.requires.refused
+          (refused-steps c.args.state.now.table c.close_step.new.state.table c.args.state.now.processes c.stand.new.processes c.args.state.now.made c.args.state.now.event.work.stamp c.args.state.now.event.work
+          c.stand.new.effect c.args.request.now.p all.0 c.requires.ready.begins c.args.request.now.call c.args.cause all.1 c.requires.refused
           (λ s. ap (λ n. ended (with_parts (entries c.close_step.new.state.table) c.stand.new.processes (record s { stamp = n })) c.stand.new.effect) c.stand.ensures.stamp
           ∙ c.stand.ensures.part (record s { stamp = c.close_step.new.effect.stamp }) (entries c.close_step.new.state.table)
           ∙ ap (stands c.args.request.now.p (answer.Refused c.args.cause))

@@ -1,4 +1,4 @@
--- The row goes well, the event closes, and the set of the end's owner is made anew.
+-- The rule goes well, the event closes, and the set of the end's owner is made anew.
 use Rattle.charlotte_calls.specs.Packets.{what_picture}
 use Rattle.end_table.specs.Place.{end_eq}
 use Rattle.charlotte_calls.specs.declared.names.EndId.{EndId}
@@ -29,7 +29,7 @@ use Rattle.kernel_core.proofs.taking.take.Goals as goal
 pub row-requires-clause-ready : goal.row-requires-clause-ready
 row-requires-clause-ready c = IsReady-sound c.args.state.now.table.kernel c.args.state.now.made (length c.args.state.now.processes) (entries c.args.state.now.table) c.requires.consistent.sound
 
--- the row goes well
+-- the rule goes well
 goes : (c : goal.After-close-arg-3-1) → GoesWell c.args.state.now.table.kernel c.args.state.now.made (length c.args.state.now.processes) (λ p e. end_eq (addressee (what_picture c.args.what.now)) e) (entries c.args.state.now.table)
     (row c.args.state.now.table.kernel c.args.state.now.made c.args.from (what_picture c.args.what.now) (progress (entries c.args.state.now.table) c.args.state.now.event.work))
 goes c = row-goes c.args.state.now.table.kernel c.args.state.now.made (length c.args.state.now.processes) c.args.from (what_picture c.args.what.now) (entries c.args.state.now.table) c.args.state.now.event.work c.requires.ready.begun.reports c.requires.ready.begun.answers c.requires.consistent.sound
@@ -68,7 +68,9 @@ row-requires-clause-room c =
 pub refresh_if_heard-requires-clause-after : goal.refresh_if_heard-requires-clause-after
 refresh_if_heard-requires-clause-after c =
     let sound = c.close.ensures.calm.sound c.args.state.now.made (length c.args.state.now.processes)
-    (subst (λ k. IsSound k c.args.state.now.made (length c.args.state.now.processes) (entries c.row.new.table)) (sym c.row.ensures.within.kernel) (row-sound c.args.state.now.table.kernel c.args.state.now.made (length c.args.state.now.processes) c.args.from (what_picture c.args.what.now) (entries c.args.state.now.table) (entries c.row.new.table) c.args.state.now.event.work c.row.new.out c.requires.ready.begun.reports c.requires.ready.begun.answers c.requires.consistent.sound c.row.ensures.part)) in
+    (subst (λ k. IsSound k c.args.state.now.made (length c.args.state.now.processes) (entries c.row.new.table)) (sym c.row.ensures.within.kernel)
+    (row-sound c.args.state.now.table.kernel c.args.state.now.made (length c.args.state.now.processes) c.args.from (what_picture c.args.what.now) (entries c.args.state.now.table) (entries c.row.new.table)
+    c.args.state.now.event.work c.row.new.out c.requires.ready.begun.reports c.requires.ready.begun.answers c.requires.consistent.sound c.row.ensures.part)) in
     subst (λ n. IfSome (owner_of (entries c.close.new.table c.args.to.end)) (λ p. p.0 < n)) (sym c.close.ensures.kept.length)
     (owner-below c.close.new.table.kernel c.args.state.now.made (length c.args.state.now.processes) (entries c.close.new.table) sound c.args.to.end)
 
@@ -94,15 +96,23 @@ returns-clause-part c = λ s.
 pub returns-clause-keeps : goal.returns-clause-keeps
 returns-clause-keeps c =
     let sound = c.close.ensures.calm.sound c.args.state.now.made (length c.args.state.now.processes)
-    (subst (λ k. IsSound k c.args.state.now.made (length c.args.state.now.processes) (entries c.row.new.table)) (sym c.row.ensures.within.kernel) (row-sound c.args.state.now.table.kernel c.args.state.now.made (length c.args.state.now.processes) c.args.from (what_picture c.args.what.now) (entries c.args.state.now.table) (entries c.row.new.table) c.args.state.now.event.work c.row.new.out c.requires.ready.begun.reports c.requires.ready.begun.answers c.requires.consistent.sound c.row.ensures.part)) in
+    (subst (λ k. IsSound k c.args.state.now.made (length c.args.state.now.processes) (entries c.row.new.table)) (sym c.row.ensures.within.kernel)
+    (row-sound c.args.state.now.table.kernel c.args.state.now.made (length c.args.state.now.processes) c.args.from (what_picture c.args.what.now) (entries c.args.state.now.table) (entries c.row.new.table)
+    c.args.state.now.event.work c.row.new.out c.requires.ready.begun.reports c.requires.ready.begun.answers c.requires.consistent.sound c.row.ensures.part)) in
     record {
       consistent = record {
         sound = subst (λ n. IsSound c.close.new.table.kernel c.args.state.now.made n (entries c.close.new.table)) (sym (c.refresh_if_heard.ensures.length ∙ c.close.ensures.kept.length)) sound;
         active =
             c.refresh_if_heard.ensures.told (entries c.args.state.now.table) c.requires.found.owner
             (tells_same (entries c.args.state.now.table) (entries c.args.state.now.table) c.args.state.now.processes c.close.new.processes c.requires.consistent.active (keys-moved c.args.state.now.processes c.close.new.processes c.close.ensures.kept.active) (λ p e. refl))
-            (λ p e apart. c.close.ensures.calm.calm p e ∙ row-calm c.args.state.now.table.kernel c.args.state.now.made (length c.args.state.now.processes) c.args.from (what_picture c.args.what.now) (entries c.args.state.now.table) (entries c.row.new.table) c.args.state.now.event.work c.row.new.out c.requires.ready.begun.reports c.requires.ready.begun.answers c.requires.consistent.sound c.row.ensures.part p e (ap (λ to. end_eq to e) (sym c.requires.found.end) ∙ apart))
-            (λ is p e. c.close.ensures.calm.calm p e ∙ quiet-calm c.args.state.now.table.kernel c.args.state.now.made (length c.args.state.now.processes) c.args.from (what_picture c.args.what.now) (entries c.args.state.now.table) (entries c.row.new.table) c.args.state.now.event.work c.row.new.out c.requires.ready.begun.reports c.requires.ready.begun.answers c.requires.consistent.sound c.row.ensures.part (quiet (entries c.args.state.now.table) c.args.what.now c.args.to c.requires.found is) p e);
+            (λ p e apart. c.close.ensures.calm.calm p e
+            ∙ row-calm c.args.state.now.table.kernel c.args.state.now.made (length c.args.state.now.processes) c.args.from (what_picture c.args.what.now) (entries c.args.state.now.table) (entries c.row.new.table)
+            c.args.state.now.event.work c.row.new.out c.requires.ready.begun.reports c.requires.ready.begun.answers c.requires.consistent.sound c.row.ensures.part p e
+            (ap (λ to. end_eq to e) (sym c.requires.found.end) ∙ apart))
+            (λ is p e. c.close.ensures.calm.calm p e
+            ∙ quiet-calm c.args.state.now.table.kernel c.args.state.now.made (length c.args.state.now.processes) c.args.from (what_picture c.args.what.now) (entries c.args.state.now.table) (entries c.row.new.table)
+            c.args.state.now.event.work c.row.new.out c.requires.ready.begun.reports c.requires.ready.begun.answers c.requires.consistent.sound c.row.ensures.part
+            (quiet (entries c.args.state.now.table) c.args.what.now c.args.to c.requires.found is) p e);
       };
       kernel = c.close.ensures.calm.kernel ∙ c.row.ensures.within.kernel;
       length = c.refresh_if_heard.ensures.length ∙ c.close.ensures.kept.length;

@@ -35,7 +35,12 @@ returns-in-Ok-clause-part c = λ s same.
     c.take_packet.ensures.part s
     ∙ ap (λ u. closes u (takes_addressed c.args.kernels c.reserve_taking.new.state.table.kernel c.reserve_taking.new.state.made c.args.from (what_picture c.args.packet.now.what) (progress (entries c.reserve_taking.new.state.table) c.reserve_taking.new.state.event.work)))
     (reserved-parts c.args.state.now.table c.reserve_taking.new.state.table c.args.state.now.processes c.reserve_taking.new.state.processes s c.reserve_taking.ensures.same.entries c.reserve_taking.ensures.same.states)
-    ∙ ap (λ n. closes (with_parts (entries c.args.state.now.table) c.args.state.now.processes s) (takes_addressed c.args.kernels c.reserve_taking.new.state.table.kernel n c.args.from (what_picture c.args.packet.now.what) (progress (entries c.reserve_taking.new.state.table) c.reserve_taking.new.state.event.work))) c.reserve_taking.ensures.same.made
-    ∙ ap (λ k. closes (with_parts (entries c.args.state.now.table) c.args.state.now.processes s) (takes_addressed c.args.kernels k c.args.state.now.made c.args.from (what_picture c.args.packet.now.what) (progress (entries c.reserve_taking.new.state.table) c.reserve_taking.new.state.event.work))) c.reserve_taking.ensures.same.kernel
+    ∙ ap (λ n. closes (with_parts (entries c.args.state.now.table) c.args.state.now.processes s)
+    (takes_addressed c.args.kernels c.reserve_taking.new.state.table.kernel n c.args.from (what_picture c.args.packet.now.what)
+    (progress (entries c.reserve_taking.new.state.table) c.reserve_taking.new.state.event.work)))
+    c.reserve_taking.ensures.same.made
+    ∙ ap (λ k. closes (with_parts (entries c.args.state.now.table) c.args.state.now.processes s)
+    (takes_addressed c.args.kernels k c.args.state.now.made c.args.from (what_picture c.args.packet.now.what) (progress (entries c.reserve_taking.new.state.table) c.reserve_taking.new.state.event.work)))
+    c.reserve_taking.ensures.same.kernel
     ∙ ap (λ d. closes (with_parts (entries c.args.state.now.table) c.args.state.now.processes s) (takes_addressed c.args.kernels c.args.state.now.table.kernel c.args.state.now.made c.args.from (what_picture c.args.packet.now.what) d))
     (ap (λ t. progress t c.reserve_taking.new.state.event.work) (c.reserve_taking.ensures.same.entries ∙ sym same) ∙ c.in-Ok.ensures.begins s)

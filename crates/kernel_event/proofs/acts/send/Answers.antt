@@ -38,4 +38,6 @@ returns-in-Some-clause-part c =
     c.in-Some.ensures.here c.in-Some.ensures.owned c.requires.granted c.requires.own c.as_slice.ensures.same c.enclose_each.ensures.same c.enclose_each.ensures.part
     c.args.table.now.kernel c.enclose_each.new.table.kernel c.args.bytes.now (progress (entries c.start_send.new.table) c.start_send.new.out) c.enclose_each.ensures.kernel
     (subst (λ xs. IfHere (entries c.enclose_each.new.table c.args.on) (λ v. progress (entries c.start_send.new.table) c.start_send.new.out ≡ starts_send c.enclose_each.new.table.kernel c.args.bytes.now xs v (progress (entries c.enclose_each.new.table) c.enclose_each.new.out))) c.copy-ends.ensures
-    (subst (λ bytes. IfHere (entries c.enclose_each.new.table c.args.on) (λ v. progress (entries c.start_send.new.table) c.start_send.new.out ≡ starts_send c.enclose_each.new.table.kernel bytes c.copy-ends.result v (progress (entries c.enclose_each.new.table) c.enclose_each.new.out))) c.copy-message.ensures c.start_send.ensures.part))
+    (subst (λ bytes. IfHere (entries c.enclose_each.new.table c.args.on)
+    (λ v. progress (entries c.start_send.new.table) c.start_send.new.out ≡ starts_send c.enclose_each.new.table.kernel bytes c.copy-ends.result v (progress (entries c.enclose_each.new.table) c.enclose_each.new.out)))
+    c.copy-message.ensures c.start_send.ensures.part))

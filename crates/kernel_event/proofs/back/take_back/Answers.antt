@@ -18,10 +18,14 @@ give_back-requires-clause-apart c =
     (came-apart c.args.table.now.kernel c.args.made (entries c.args.table.now) c.args.moving.now c.args.view.holder c.arriving-came.result (c.arriving-came.ensures c.args.view.holder))
 
 pub notice_first-requires-clause-here : goal.notice_first-requires-clause-here
-notice_first-requires-clause-here c = back-at c.args.table.now c.give_back.new.table c.args.made c.args.returned.to c.args.returned.n c.args.moving.now c.arriving-came.result c.push_step.new.out c.give_back.new.out c.args.view c.requires.here c.requires.matched c.requires.placed c.arriving-came.ensures c.give_back.ensures.part
+notice_first-requires-clause-here c =
+    back-at c.args.table.now c.give_back.new.table c.args.made c.args.returned.to c.args.returned.n c.args.moving.now c.arriving-came.result c.push_step.new.out c.give_back.new.out c.args.view c.requires.here
+    c.requires.matched c.requires.placed c.arriving-came.ensures c.give_back.ensures.part
 
 pub notice_first-requires-clause-ready : goal.notice_first-requires-clause-ready
-notice_first-requires-clause-ready c = back-ready c.args.table.now c.give_back.new.table c.args.made c.args.returned.to c.args.returned.n c.args.moving.now c.arriving-came.result c.push_step.new.out c.give_back.new.out c.args.view c.requires.here c.requires.matched c.requires.placed c.arriving-came.ensures c.give_back.ensures.part
+notice_first-requires-clause-ready c =
+    back-ready c.args.table.now c.give_back.new.table c.args.made c.args.returned.to c.args.returned.n c.args.moving.now c.arriving-came.result c.push_step.new.out c.give_back.new.out c.args.view c.requires.here
+    c.requires.matched c.requires.placed c.arriving-came.ensures c.give_back.ensures.part
 
 pub put_behind-requires-clause-first : goal.put_behind-requires-clause-first
 put_behind-requires-clause-first c =
@@ -30,7 +34,8 @@ put_behind-requires-clause-first c =
 
 pub returns-clause-part : goal.returns-clause-part
 returns-clause-part c =
-    back-taken c.args.table.now.kernel c.args.made c.args.returned.from c.args.returned.to c.args.returned.n c.args.moving.now c.arriving-came.result c.args.view c.answers_cancel-dead.result (entries c.args.table.now) (entries c.give_back.new.table) (entries c.notice_first.new.table) c.args.out.now c.push_step.new.out c.give_back.new.out c.notice_first.new.out c.put_behind.new.out c.len-moves.result c.len-sent.result
+    back-taken c.args.table.now.kernel c.args.made c.args.returned.from c.args.returned.to c.args.returned.n c.args.moving.now c.arriving-came.result c.args.view c.answers_cancel-dead.result (entries c.args.table.now)
+    (entries c.give_back.new.table) (entries c.notice_first.new.table) c.args.out.now c.push_step.new.out c.give_back.new.out c.notice_first.new.out c.put_behind.new.out c.len-moves.result c.len-sent.result
     c.requires.first c.answers_cancel-dead.ensures c.push_step.ensures.part (c.arriving-came.ensures c.args.view.holder)
     (back-gives c.args.table.now c.give_back.new.table c.args.made c.args.returned.to c.args.returned.n c.args.moving.now c.arriving-came.result c.push_step.new.out c.give_back.new.out c.args.view c.requires.here c.requires.matched c.requires.placed c.arriving-came.ensures c.give_back.ensures.part)
     (c.notice_first.ensures.part ∙ ap (λ k. notices_first k c.args.returned.from (record c.args.view { outward = outward.Unreported }) (progress (entries c.give_back.new.table) c.give_back.new.out)) c.give_back.ensures.within.kernel)

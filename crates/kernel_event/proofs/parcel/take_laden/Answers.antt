@@ -26,9 +26,14 @@ put_behind-requires-clause-upto c = by (asks c.args.head.w (entries c.args.table
     by : (o : Option HereView) → asks c.args.head.w (entries c.args.table.now c.args.head.to) ≡ o → IsSome o → c.len-moves.result + 1 ≤ vec_len c.arrived.new.out.packets
     by None is some = cc
     by (Some v) is some =
-        let enough = parcel-behind c.args.table.now.kernel c.args.head.n c.args.head.site.at c.args.head.site.hops c.copy.result c.arriving-came.result c.ends_in-ends.result v (entries c.args.table.now) (entries c.arrive.new.table) (entries c.arrived.new.table) c.args.out.now c.arrive.new.out c.arrived.new.out c.requires.first
-        (parcel-arrives c.args.table.now c.arrive.new.table c.arrived.new.table c.args.made c.args.head.to c.args.head.n c.args.head.w c.args.head.site.at c.args.head.site.hops c.copy.result c.args.moving.now c.arriving-came.result c.ends_in-ends.result c.args.out.now c.arrive.new.out c.arrived.new.out v is c.requires.placed c.arriving-came.ensures c.arrive.ensures.part c.arrive.ensures.within.kernel c.arrived.ensures.part)
-        (parcel-takes c.args.table.now c.arrive.new.table c.arrived.new.table c.args.made c.args.head.to c.args.head.n c.args.head.w c.args.head.site.at c.args.head.site.hops c.copy.result c.args.moving.now c.arriving-came.result c.ends_in-ends.result c.args.out.now c.arrive.new.out c.arrived.new.out v is c.requires.placed c.arriving-came.ensures c.arrive.ensures.part c.arrive.ensures.within.kernel c.arrived.ensures.part) in
+        let enough = parcel-behind c.args.table.now.kernel c.args.head.n c.args.head.site.at c.args.head.site.hops c.copy.result c.arriving-came.result c.ends_in-ends.result v (entries c.args.table.now)
+        (entries c.arrive.new.table) (entries c.arrived.new.table) c.args.out.now c.arrive.new.out c.arrived.new.out c.requires.first
+        (parcel-arrives c.args.table.now c.arrive.new.table c.arrived.new.table c.args.made c.args.head.to c.args.head.n c.args.head.w c.args.head.site.at c.args.head.site.hops c.copy.result c.args.moving.now
+        c.arriving-came.result c.ends_in-ends.result c.args.out.now c.arrive.new.out c.arrived.new.out v is c.requires.placed c.arriving-came.ensures c.arrive.ensures.part c.arrive.ensures.within.kernel
+        c.arrived.ensures.part)
+        (parcel-takes c.args.table.now c.arrive.new.table c.arrived.new.table c.args.made c.args.head.to c.args.head.n c.args.head.w c.args.head.site.at c.args.head.site.hops c.copy.result c.args.moving.now
+        c.arriving-came.result c.ends_in-ends.result c.args.out.now c.arrive.new.out c.arrived.new.out v is c.requires.placed c.arriving-came.ensures c.arrive.ensures.part c.arrive.ensures.within.kernel
+        c.arrived.ensures.part) in
         omega (arith, c.len-moves.ensures, c.arrive.new.out.packets.ok.0, c.arrived.new.out.packets.ok.0, enough)
 
 pub returns-clause-part : goal.returns-clause-part
@@ -40,9 +45,14 @@ returns-clause-part c =
         → progress (entries c.arrived.new.table) c.put_behind.new.out ≡ parcel_row c.args.table.now.kernel c.args.made c.args.head.to c.args.head.n c.args.head.site.at c.args.head.site.hops c.copy.result c.args.moving.now o (progress (entries c.args.table.now) c.args.out.now)
     by None is some = cc
     by (Some v) is some =
-        parcel-taken c.args.table.now.kernel c.args.head.n c.args.head.site.at c.args.head.site.hops c.copy.result c.arriving-came.result c.ends_in-ends.result v (entries c.args.table.now) (entries c.arrive.new.table) (entries c.arrived.new.table) c.args.out.now c.arrive.new.out c.arrived.new.out c.requires.first
-        (parcel-arrives c.args.table.now c.arrive.new.table c.arrived.new.table c.args.made c.args.head.to c.args.head.n c.args.head.w c.args.head.site.at c.args.head.site.hops c.copy.result c.args.moving.now c.arriving-came.result c.ends_in-ends.result c.args.out.now c.arrive.new.out c.arrived.new.out v is c.requires.placed c.arriving-came.ensures c.arrive.ensures.part c.arrive.ensures.within.kernel c.arrived.ensures.part)
-        (parcel-takes c.args.table.now c.arrive.new.table c.arrived.new.table c.args.made c.args.head.to c.args.head.n c.args.head.w c.args.head.site.at c.args.head.site.hops c.copy.result c.args.moving.now c.arriving-came.result c.ends_in-ends.result c.args.out.now c.arrive.new.out c.arrived.new.out v is c.requires.placed c.arriving-came.ensures c.arrive.ensures.part c.arrive.ensures.within.kernel c.arrived.ensures.part)
+        parcel-taken c.args.table.now.kernel c.args.head.n c.args.head.site.at c.args.head.site.hops c.copy.result c.arriving-came.result c.ends_in-ends.result v (entries c.args.table.now) (entries c.arrive.new.table)
+        (entries c.arrived.new.table) c.args.out.now c.arrive.new.out c.arrived.new.out c.requires.first
+        (parcel-arrives c.args.table.now c.arrive.new.table c.arrived.new.table c.args.made c.args.head.to c.args.head.n c.args.head.w c.args.head.site.at c.args.head.site.hops c.copy.result c.args.moving.now
+        c.arriving-came.result c.ends_in-ends.result c.args.out.now c.arrive.new.out c.arrived.new.out v is c.requires.placed c.arriving-came.ensures c.arrive.ensures.part c.arrive.ensures.within.kernel
+        c.arrived.ensures.part)
+        (parcel-takes c.args.table.now c.arrive.new.table c.arrived.new.table c.args.made c.args.head.to c.args.head.n c.args.head.w c.args.head.site.at c.args.head.site.hops c.copy.result c.args.moving.now
+        c.arriving-came.result c.ends_in-ends.result c.args.out.now c.arrive.new.out c.arrived.new.out v is c.requires.placed c.arriving-came.ensures c.arrive.ensures.part c.arrive.ensures.within.kernel
+        c.arrived.ensures.part)
         c.args.made c.args.head.to c.args.moving.now c.put_behind.new.out c.len-moves.result (c.arriving-came.ensures v.holder) c.ends_in-ends.ensures
         (c.len-moves.ensures ∙ c.arrive.new.out.packets.ok.0)
         (c.put_behind.ensures.part (entries c.arrived.new.table))

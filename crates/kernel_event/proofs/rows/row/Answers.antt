@@ -1,4 +1,4 @@
--- Each packet is taken by the row of its kind.
+-- Each packet is taken by the rule of its kind.
 use Rattle.std.proofs.Common.{◌≡◌, ℕ, sym, ap, ◌∙◌}
 use Rattle.charlotte_calls.specs.Packets.{what_picture}
 use Rattle.charlotte_calls.specs.declared.names.EndId.{EndId}

@@ -16,13 +16,17 @@ pub returns-in_err-read_line : goal.returns-in_err-read_line
 returns-in_err-read_line c =
     let split : rest_parts 10 (option_copied c.loop-rest.rest) ≡ c.first_line.result.0.now ∷ rest_parts 10 (option_copied c.first_line.result.1) = rw c.in-Some.is c.first_line.ensures in
     let p = err_from_is_err_and c.from_residual.result c.from_residual.ensures.1 in
-    rw (p.1, p.2) (line_fails c.in_err-read_line.field-0.0 (c.loop-rest.line + 1) c.loop-rest.draft (rest_parts 10 (option_copied c.loop-rest.rest)) c.first_line.result.0.now (rest_parts 10 (option_copied c.first_line.result.1)) c.args.bytes.now split c.in_err-read_line.ensures c.loop-rest.invariant.so_far)
+    rw (p.1, p.2)
+    (line_fails c.in_err-read_line.field-0.0 (c.loop-rest.line + 1) c.loop-rest.draft (rest_parts 10 (option_copied c.loop-rest.rest)) c.first_line.result.0.now (rest_parts 10 (option_copied c.first_line.result.1))
+    c.args.bytes.now split c.in_err-read_line.ensures c.loop-rest.invariant.so_far)
 
 pub loop-rest-preserved : goal.loop-rest-preserved
 loop-rest-preserved c =
     let split : rest_parts 10 (option_copied c.loop-rest.rest) ≡ c.first_line.result.0.now ∷ rest_parts 10 (option_copied c.first_line.result.1) = rw c.in-Some.is c.first_line.ensures in
     record {
-      so_far = line_goes_on c.loop-rest.line c.loop-rest.draft c.read_line.new.draft (rest_parts 10 (option_copied c.loop-rest.rest)) c.first_line.result.0.now (rest_parts 10 (option_copied c.first_line.result.1)) (lines_read 1 nothing (parts 10 c.args.bytes.now)) split c.in_ok-read_line.ensures c.loop-rest.invariant.so_far;
+      so_far =
+          line_goes_on c.loop-rest.line c.loop-rest.draft c.read_line.new.draft (rest_parts 10 (option_copied c.loop-rest.rest)) c.first_line.result.0.now (rest_parts 10 (option_copied c.first_line.result.1))
+          (lines_read 1 nothing (parts 10 c.args.bytes.now)) split c.in_ok-read_line.ensures c.loop-rest.invariant.so_far;
       count = omega (arith, ap length split, c.loop-rest.invariant.count);
       sound = sound_kept (c.loop-rest.line + 1) c.loop-rest.draft c.read_line.new.draft c.first_line.result.0.now c.in_ok-read_line.ensures c.loop-rest.invariant.sound;
     }

@@ -10,7 +10,8 @@ use Rattle.lynx_words.specs.declared.words.Command.TheVariants.{Drive, Check, Co
 use Rattle.lynx_run.proofs.top.perform_command.Goals as goal
 
 -- each command but four is not built
-not_built : (command : Command) (errs : List Put) → ((file : String Global) → command ≡ Drive file → ⊥) → ((file : String Global) → command ≡ Check file → ⊥) → ((file : String Global) → command ≡ Code file → ⊥) → ((file : String Global) → command ≡ Audit file → ⊥) → Answers (Some command) (refused_course Unbuilt (command_name command) errs)
+not_built : (command : Command) (errs : List Put) → ((file : String Global) → command ≡ Drive file → ⊥) → ((file : String Global) → command ≡ Check file → ⊥) → ((file : String Global) → command ≡ Code file → ⊥)
+    → ((file : String Global) → command ≡ Audit file → ⊥) → Answers (Some command) (refused_course Unbuilt (command_name command) errs)
 not_built (Drive file) errs drive check code audit = absurd (drive file refl)
 not_built (Check file) errs drive check code audit = absurd (check file refl)
 not_built (Code file) errs drive check code audit = absurd (code file refl)

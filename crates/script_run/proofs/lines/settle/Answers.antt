@@ -31,8 +31,12 @@ loop-preserved c =
     let s : Setting = c.args.setting.now in
     let ready = settling-ready s s.kernels 10000 c.loop.counter c.requires.ready.0 c.args.run.now c.loop.run (omega arith) c.requires.ready.1 c.loop.invariant.settling c.requires.ready.2 in
     record {
-      settling = settling-more s s.kernels 10000 c.loop.counter c.in-Some.from c.in-Some.to c.in_ok-take_first.field-0 c.args.run.now c.loop.run c.take_first.new.self c.loop-test.true (c.in-Some.ensures.first s) (c.in_ok-take_first.ensures s ready.0 ready.1 ready.2 c.in-Some.ensures.within.1) c.loop.invariant.settling;
-      quiet = quiet-taken s s.kernels c.in-Some.from c.in-Some.to c.lesser-quiet.result c.in_ok-take_first.field-0 c.loop.run c.take_first.new.self (c.in-Some.ensures.first s) (c.in_ok-take_first.ensures s ready.0 ready.1 ready.2 c.in-Some.ensures.within.1) c.lesser-quiet.ensures.0 c.lesser-quiet.ensures.1 c.in-Some.ensures.before;
+      settling =
+          settling-more s s.kernels 10000 c.loop.counter c.in-Some.from c.in-Some.to c.in_ok-take_first.field-0 c.args.run.now c.loop.run c.take_first.new.self c.loop-test.true (c.in-Some.ensures.first s)
+          (c.in_ok-take_first.ensures s ready.0 ready.1 ready.2 c.in-Some.ensures.within.1) c.loop.invariant.settling;
+      quiet =
+          quiet-taken s s.kernels c.in-Some.from c.in-Some.to c.lesser-quiet.result c.in_ok-take_first.field-0 c.loop.run c.take_first.new.self (c.in-Some.ensures.first s)
+          (c.in_ok-take_first.ensures s ready.0 ready.1 ready.2 c.in-Some.ensures.within.1) c.lesser-quiet.ensures.0 c.lesser-quiet.ensures.1 c.in-Some.ensures.before;
     }
 
 pub returns : goal.returns

@@ -15,7 +15,10 @@ returns-in_err-read_plus_value c =
 
 pub loop-word-preserved : goal.loop-word-preserved
 loop-word-preserved c = record {
-  so_far = rw c.push.ensures.items (value_goes_on c.loop-word.values.items c.args.most c.loop-word.rest c.in-Some.word.now c.pop.new.self c.in_ok-read_plus_value.field-0 (values_of c.args.most c.args.words) (omega arith) c.in-Some.ensures (sym c.in_ok-read_plus_value.ensures) c.loop-word.invariant.so_far);
+  so_far =
+      rw c.push.ensures.items
+      (value_goes_on c.loop-word.values.items c.args.most c.loop-word.rest c.in-Some.word.now c.pop.new.self c.in_ok-read_plus_value.field-0 (values_of c.args.most c.args.words) (omega arith) c.in-Some.ensures
+      (sym c.in_ok-read_plus_value.ensures) c.loop-word.invariant.so_far);
   room = omega arith;
 }
 

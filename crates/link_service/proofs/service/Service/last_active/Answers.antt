@@ -8,4 +8,7 @@ returns-clause-last c = rw (← c.self.view_is) (if_some _ _ c.last_active.ensur
 
 pub returns-clause-none : goal.returns-clause-none
 unfolding state_of
-returns-clause-none c = rw (← c.self.view_is) (λ none. none-started c.args.p (record { version = c.self.inside.version; homes = c.self.inside.homes.items; made = c.self.inside.made.items; links = c.self.inside.links; processes = c.self.inside.processes }) c.self.invariant (none_of c.last_active.result none ∙ c.last_active.ensures))
+returns-clause-none c =
+    rw (← c.self.view_is)
+    (λ none. none-started c.args.p (record { version = c.self.inside.version; homes = c.self.inside.homes.items; made = c.self.inside.made.items; links = c.self.inside.links; processes = c.self.inside.processes })
+    c.self.invariant (none_of c.last_active.result none ∙ c.last_active.ensures))

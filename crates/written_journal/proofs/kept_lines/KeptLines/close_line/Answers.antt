@@ -11,7 +11,9 @@ use Rattle.written_journal.proofs.kept_lines.KeptLines.close_line.Goals as goal
 pub returns-clause-text : goal.returns-clause-text
 returns-clause-text c =
     let line : List ℕ = drop c.args.from c.args.self.now.text.items in
-    let is : c.is_packed-packed.result ≡ packs line = c.is_packed-packed.ensures ∙ ap packs (take_all (length c.deref.result.now - c.args.from) (drop c.args.from c.deref.result.now) (omega (arith, length-drop c.args.from c.deref.result.now))) ∙ ap (λ (t : List ℕ). packs (drop c.args.from t)) c.deref.ensures.value in
+    let is : c.is_packed-packed.result ≡ packs line = c.is_packed-packed.ensures
+    ∙ ap packs (take_all (length c.deref.result.now - c.args.from) (drop c.args.from c.deref.result.now) (omega (arith, length-drop c.args.from c.deref.result.now)))
+    ∙ ap (λ (t : List ℕ). packs (drop c.args.from t)) c.deref.ensures.value in
     let whole : c.if-packed.self.text.items ≡ take c.args.from c.args.self.now.text.items ++ kept line =
     elim c.if-packed.branch [
       | then-packed+in_ok-pack w ↦ ap (λ (s : KeptLines). s.text.items) w.self-is ∙ w.in_ok-pack.ensures.text ∙ ap (λ (x : List ℕ). take c.args.from c.args.self.now.text.items ++ x) (sym (kept-packed line (sym is ∙ w.if-packed.true)))
@@ -22,7 +24,9 @@ returns-clause-text c =
 pub returns-clause-notes : goal.returns-clause-notes
 returns-clause-notes c =
     let line : List ℕ = drop c.args.from c.args.self.now.text.items in
-    let is : c.is_packed-packed.result ≡ packs line = c.is_packed-packed.ensures ∙ ap packs (take_all (length c.deref.result.now - c.args.from) (drop c.args.from c.deref.result.now) (omega (arith, length-drop c.args.from c.deref.result.now))) ∙ ap (λ (t : List ℕ). packs (drop c.args.from t)) c.deref.ensures.value in
+    let is : c.is_packed-packed.result ≡ packs line = c.is_packed-packed.ensures
+    ∙ ap packs (take_all (length c.deref.result.now - c.args.from) (drop c.args.from c.deref.result.now) (omega (arith, length-drop c.args.from c.deref.result.now)))
+    ∙ ap (λ (t : List ℕ). packs (drop c.args.from t)) c.deref.ensures.value in
     let whole : c.if-packed.self.text.items ≡ take c.args.from c.args.self.now.text.items ++ kept line =
     elim c.if-packed.branch [
       | then-packed+in_ok-pack w ↦ ap (λ (s : KeptLines). s.text.items) w.self-is ∙ w.in_ok-pack.ensures.text ∙ ap (λ (x : List ℕ). take c.args.from c.args.self.now.text.items ++ x) (sym (kept-packed line (sym is ∙ w.if-packed.true)))

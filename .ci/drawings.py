@@ -1,7 +1,7 @@
 #!/usr/bin/env python3
 """Tries share/draw on each transcript of examples/.
 
-The pictures are read as drawings, by the places and colours of what is drawn, and compared with the transcript in a second way
+The drawings are read by the places and colours of what is drawn, and compared with the transcript in a second way
 that shares no code with share/draw: who holds an end comes from the service lines alone, and the event at the tail of an arrow
 has to be one that may send such a packet.
 """
@@ -146,7 +146,7 @@ class Service:
         self.give(self.waiting.pop(end, []), self.holder[end])
 
 
-# The picture
+# The drawing
 
 
 @dataclass
@@ -171,7 +171,7 @@ class Arrow:
     words: list[str]
 
 
-class Picture:
+class Drawing:
     """The boxes and lines of a drawing."""
 
     def __init__(self, svg: bytes):
@@ -228,58 +228,58 @@ def touches(place: tuple[float, float], box: Box) -> bool:
 
 
 def faults_of(svg: bytes, text: str) -> list[str]:
-    """What is wrong with a picture of this transcript. Empty where nothing is."""
+    """What is wrong with a drawing of this transcript. Empty where nothing is."""
     try:
-        picture = Picture(svg)
+        drawing = Drawing(svg)
     except ElementTree.ParseError as fault:
         return [f"no well-formed XML: {fault}"]
     told = told_by(text)
-    return (faults_of_cards(picture, told) + faults_of_arrows(picture, told) + faults_of_holders(picture, told)
-            + faults_of_texts(picture))
+    return (faults_of_cards(drawing, told) + faults_of_arrows(drawing, told) + faults_of_holders(drawing, told)
+            + faults_of_texts(drawing))
 
 
-def faults_of_cards(picture: Picture, told: Told) -> list[str]:
+def faults_of_cards(drawing: Drawing, told: Told) -> list[str]:
     """One box for each event, in the lane of its kernel, lower for a greater stamp."""
     faults = []
-    if sorted(picture.cards) != sorted(event.line for event in told.events):
+    if sorted(drawing.cards) != sorted(event.line for event in told.events):
         return ["there is not one card for each entry line"]
     for first, second in zip(told.events, told.events[1:]):
-        one, two = picture.cards[first.line], picture.cards[second.line]
+        one, two = drawing.cards[first.line], drawing.cards[second.line]
         if (one.y < two.y) != (first.stamp < second.stamp):
             faults.append(f"the cards of lines {first.line} and {second.line} do not stand in the order of their stamps")
-    kernels = {event.kernel: picture.cards[event.line] for event in told.events}
+    kernels = {event.kernel: drawing.cards[event.line] for event in told.events}
     for event in told.events:
-        if picture.lanes[event.line] != event.kernel or picture.cards[event.line].x != kernels[event.kernel].x:
+        if drawing.lanes[event.line] != event.kernel or drawing.cards[event.line].x != kernels[event.kernel].x:
             faults.append(f"the card of line {event.line} does not stand in the lane of its kernel")
     lanes = [kernels[kernel] for kernel in sorted(kernels)]
     faults += ["two lanes overlap" for one, two in zip(lanes, lanes[1:]) if one.x + one.width >= two.x]
     return faults
 
 
-def faults_of_arrows(picture: Picture, told: Told) -> list[str]:
+def faults_of_arrows(drawing: Drawing, told: Told) -> list[str]:
     wanted = sorted(event.line for event in told.events if event.sender is not None)
-    drawn = sorted(arrow.line for arrow in picture.arrows if arrow.line)
+    drawn = sorted(arrow.line for arrow in drawing.arrows if arrow.line)
     if wanted != drawn:
         return [f"arrows to lines {drawn}, and packets at lines {wanted}"]
     numbers = {event.line: number for number, event in enumerate(told.events)}
-    if any(arrow.tail not in numbers for arrow in picture.arrows):
+    if any(arrow.tail not in numbers for arrow in drawing.arrows):
         return ["an arrow begins at no event"]
     faults = []
-    for arrow in picture.arrows:
+    for arrow in drawing.arrows:
         tail = told.events[numbers[arrow.tail]]
         place = f"arrow from line {arrow.tail} to line {arrow.line}"
-        if not touches(arrow.start, picture.cards[tail.line]):
+        if not touches(arrow.start, drawing.cards[tail.line]):
             faults.append(f"{place}: it does not begin at the card of its tail")
         if not may_send(told, numbers[arrow.tail], arrow.words, arrow.manner):
             faults.append(f"{place}: that event does not send `{' '.join(arrow.words)}` ({arrow.manner})")
         if arrow.line:
-            faults += [f"{place}: {fault}" for fault in faults_of_head(picture, arrow, tail, told.events[numbers[arrow.line]])]
-    return faults + faults_of_order(picture, told, numbers) + faults_of_counts(picture, told)
+            faults += [f"{place}: {fault}" for fault in faults_of_head(drawing, arrow, tail, told.events[numbers[arrow.line]])]
+    return faults + faults_of_order(drawing, told, numbers) + faults_of_counts(drawing, told)
 
 
-def faults_of_head(picture: Picture, arrow: Arrow, tail: Event, head: Event) -> list[str]:
+def faults_of_head(drawing: Drawing, arrow: Arrow, tail: Event, head: Event) -> list[str]:
     faults = []
-    if not touches(arrow.stop, picture.cards[head.line]):
+    if not touches(arrow.stop, drawing.cards[head.line]):
         faults.append("it does not end at the card of its head")
     if arrow.words != head.words:
         faults.append("it names another packet than its head")
@@ -290,11 +290,11 @@ def faults_of_head(picture: Picture, arrow: Arrow, tail: Event, head: Event) -> 
     return faults
 
 
-def faults_of_order(picture: Picture, told: Told, numbers: dict[int, int]) -> list[str]:
+def faults_of_order(drawing: Drawing, told: Told, numbers: dict[int, int]) -> list[str]:
     """From one kernel to another, packets are taken in the order in which they were sent."""
     latest: dict[tuple[int, int], int] = {}
     faults = []
-    for arrow in sorted((arrow for arrow in picture.arrows if arrow.line), key=lambda arrow: arrow.line):
+    for arrow in sorted((arrow for arrow in drawing.arrows if arrow.line), key=lambda arrow: arrow.line):
         head = told.events[numbers[arrow.line]]
         pair = (head.sender, head.kernel)
         if arrow.tail < latest.get(pair, 0):
@@ -303,22 +303,22 @@ def faults_of_order(picture: Picture, told: Told, numbers: dict[int, int]) -> li
     return faults
 
 
-def faults_of_counts(picture: Picture, told: Told) -> list[str]:
+def faults_of_counts(drawing: Drawing, told: Told) -> list[str]:
     """Each receive, match and take sends its packet once; nothing is under way at the end of a quiet run."""
     faults = []
     for step, packet in (("receive", "want"), ("match", "parcel"), ("take", "taken"), ("withdraw", "unwanted")):
         steps = sum(words[0] == step for event in told.events for words in event.steps)
-        arrows = sum(arrow.words[0] == packet and arrow.manner == "sent" for arrow in picture.arrows)
+        arrows = sum(arrow.words[0] == packet and arrow.manner == "sent" for arrow in drawing.arrows)
         if steps != arrows:
             faults.append(f"{steps} steps {step}, and {arrows} arrows {packet} that begin at one")
-    rest = [arrow for arrow in picture.arrows if not arrow.line]
+    rest = [arrow for arrow in drawing.arrows if not arrow.line]
     if (told.last == "open") != bool(rest) and told.last in ("open", "quiet"):
         faults.append(f"the run ends {told.last}, and {len(rest)} packets are drawn as never taken")
     return faults
 
 
 def may_send(told: Told, number: int, words: list[str], manner: str) -> bool:
-    """Whether this event can send such a packet so, by the rules of tails in docs/PICTURES.md."""
+    """Whether this event can send such a packet so, by the rules of tails in docs/DRAWINGS.md."""
     tail = told.events[number]
     name, to = words[0], words[1]
     if manner == "forwarded":
@@ -360,43 +360,43 @@ def may_send_first(told: Told, number: int, tail: Event, words: list[str]) -> bo
     return False
 
 
-def faults_of_holders(picture: Picture, told: Told) -> list[str]:
+def faults_of_holders(drawing: Drawing, told: Told) -> list[str]:
     """In each row the column of each end has the colour of its holder, and a red edge where it is dead."""
     faults = []
-    columns = {end: box.x for end, _, box in picture.holds}
-    if len(set(columns.values())) != len(columns) or any(box.x != columns[end] for end, _, box in picture.holds):
+    columns = {end: box.x for end, _, box in drawing.holds}
+    if len(set(columns.values())) != len(columns) or any(box.x != columns[end] for end, _, box in drawing.holds):
         faults.append("an end has not one column of its own")
     # A row is a stamp, so it shows what holds after the last event of that stamp.
     rows = {event.stamp: number for number, event in enumerate(told.events)}
     for number in rows.values():
         event, holders, dead = told.events[number], told.holders[number], told.dead[number]
-        y = picture.cards[event.line].y + 3
+        y = drawing.cards[event.line].y + 3
         seen = {}
-        for end, holder, box in picture.holds:
+        for end, holder, box in drawing.holds:
             if box.covers(y):
                 faults += [f"line {event.line}: {end} has two holders"] if end in seen else []
                 seen[end] = holder
-                if box.fill != picture.colours.get(holder, "url(#enclosed)"):
+                if box.fill != drawing.colours.get(holder, "url(#enclosed)"):
                     faults.append(f"line {event.line}: {end} has not the colour of {holder}")
         wanted = {end: holder for end, holder in holders.items() if holder != "destroyed"}
         faults += [f"line {event.line}: {end} is drawn with {seen.get(end)}, and held by {wanted.get(end)}"
                    for end in sorted(seen.keys() | wanted.keys()) if seen.get(end) != wanted.get(end)]
-        edges = {end for end, box in picture.dead if box.covers(y)}
+        edges = {end for end, box in drawing.dead if box.covers(y)}
         if edges != {end for end in dead if end in wanted}:
             faults.append(f"line {event.line}: the dead ends are drawn as {sorted(edges)}")
     return faults
 
 
-def faults_of_texts(picture: Picture) -> list[str]:
-    """No text lies on another, or goes over the edge of the picture or of its card."""
+def faults_of_texts(drawing: Drawing) -> list[str]:
+    """No text lies on another, or goes over the edge of the drawing or of its card."""
     faults = []
-    for number, (text, box) in enumerate(picture.texts):
-        if box.x < 0 or box.x + box.width > picture.width or box.y + box.height > picture.height:
-            faults.append(f"`{text}` goes over the edge of the picture")
-        for other_text, other_box in picture.texts[number + 1:]:
+    for number, (text, box) in enumerate(drawing.texts):
+        if box.x < 0 or box.x + box.width > drawing.width or box.y + box.height > drawing.height:
+            faults.append(f"`{text}` goes over the edge of the drawing")
+        for other_text, other_box in drawing.texts[number + 1:]:
             if meet(box, other_box):
                 faults.append(f"`{text}` lies on `{other_text}`")
-        for card in picture.cards.values():
+        for card in drawing.cards.values():
             if meet(box, card) and box.x + box.width > card.x + card.width:
                 faults.append(f"`{text}` goes over the edge of its card")
     return faults
@@ -429,19 +429,19 @@ def try_examples(tries: Tries) -> None:
         kept = transcript.with_suffix(".svg")
         made = draw(str(transcript))
         tries.expect(made.returncode == 0 and not made.stderr, f"{transcript.name}: drawn", made.stderr.decode())
-        tries.expect(kept.exists() and kept.read_bytes() == made.stdout, f"{kept.name} is the picture of {transcript.name}")
+        tries.expect(kept.exists() and kept.read_bytes() == made.stdout, f"{kept.name} is the drawing of {transcript.name}")
         faults = faults_of(made.stdout, transcript.read_text())
-        tries.expect(not faults, f"{transcript.name}: its picture", *faults)
+        tries.expect(not faults, f"{transcript.name}: its drawing", *faults)
 
 
-def try_wrong_pictures(tries: Tries) -> None:
-    """A picture with one thing wrong is found out."""
+def try_wrong_drawings(tries: Tries) -> None:
+    """A drawing with one thing wrong is found out."""
     text = (EXAMPLES / "moving_end.transcript").read_text()
     svg = draw(str(EXAMPLES / "moving_end.transcript")).stdout.decode()
     arrows = [line for line in svg.splitlines() if 'class="packet ' in line]
     holds = [line for line in svg.splitlines() if 'data-holder="p1"' in line]
     if not arrows or not holds:
-        return tries.expect(False, "wrong pictures: there is a picture to change")
+        return tries.expect(False, "wrong drawings: there is a drawing to change")
     mark = arrows[0].split('data-tail="')[1].split('"')[0]
     wrong = {
         "an arrow is missing": svg.replace(arrows[0] + "\n", "", 1),
@@ -457,7 +457,7 @@ def try_wrong_pictures(tries: Tries) -> None:
         "a tag is not closed": svg.replace("</svg>", "", 1),
     }
     for name, changed in wrong.items():
-        tries.expect(changed != svg and bool(faults_of(changed.encode(), text)), f"a wrong picture is found out: {name}")
+        tries.expect(changed != svg and bool(faults_of(changed.encode(), text)), f"a wrong drawing is found out: {name}")
 
 
 def try_refusals(tries: Tries, folder: Path) -> None:
@@ -502,7 +502,7 @@ def try_refusals(tries: Tries, folder: Path) -> None:
 
 
 def try_words(tries: Tries, folder: Path) -> None:
-    """Wrong words, files that can't be read, and a run that is too long for a picture."""
+    """Wrong words, files that can't be read, and a run that is too long for a drawing."""
     absent = folder / "absent"
     for words in ((), ("a", "b")):
         made = draw(*words)
@@ -520,13 +520,13 @@ def try_words(tries: Tries, folder: Path) -> None:
 
 
 def try_pages(tries: Tries) -> None:
-    """The pictures that the pages show are there, and well-formed."""
+    """The drawings that the pages show are there, and well-formed."""
     for page in [TOP / "README.md", EXAMPLES / "README.md", *sorted((TOP / "docs").glob("*.md"))]:
         for name in re.findall(r"!\[[^]]*\]\(([^)]*\.svg)\)", page.read_text()):
-            picture = page.parent / name
-            tries.expect(picture.exists(), f"{page.name} shows {name}, which is there")
-            if picture.exists():
-                tries.expect(ElementTree.parse(picture).getroot().tag == SVG + "svg", f"{name} is an SVG")
+            drawing = page.parent / name
+            tries.expect(drawing.exists(), f"{page.name} shows {name}, which is there")
+            if drawing.exists():
+                tries.expect(ElementTree.parse(drawing).getroot().tag == SVG + "svg", f"{name} is an SVG")
 
 
 def main() -> int:
@@ -534,7 +534,7 @@ def main() -> int:
     with tempfile.TemporaryDirectory() as folder:
         try_examples(tries)
         try_pages(tries)
-        try_wrong_pictures(tries)
+        try_wrong_drawings(tries)
         try_refusals(tries, Path(folder))
         try_words(tries, Path(folder))
     print(f"draw: {tries.passed} passed, {tries.failed} failed")

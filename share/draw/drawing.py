@@ -1,4 +1,4 @@
-"""Makes the picture of a run: an SVG of lanes, events, packets and ends. How to read it is told in docs/PICTURES.md."""
+"""Makes the drawing of a run: an SVG of lanes, events, packets and ends. How to read it is told in docs/DRAWINGS.md."""
 
 from xml.sax.saxutils import escape, quoteattr
 
@@ -11,7 +11,7 @@ from transcript import Entry, Transcript
 LABEL_EVERY = 230
 
 
-class Picture(Layout):
+class Drawing(Layout):
     def __init__(self, transcript: Transcript, story: Story, ends: list[str], title: str):
         super().__init__(transcript, story, ends)
         self.title = title
