@@ -34,11 +34,13 @@ use Rattle.kernel_outcomes.proofs.Events.{acts-does}
 use Rattle.kernel_sound.proofs.Acts.{Covers, acts-well}
 use Rattle.kernel_sound.proofs.Calls.{AreOwnedBy, AreOwnedBy-all}
 use Rattle.kernel_sound.proofs.Goes.{GoesWell}
-use Rattle.kernel_sound.proofs.Needs.{AllFail, enclosed_at-sound, first_of-none, granted-at, owned-here, send-enclosed}
+use Rattle.kernel_sound.proofs.Needs.{enclosed_at-sound, owned-here, send-enclosed}
 use Rattle.kernel_sound.specs.Acts.{acts, made_after}
 use Rattle.kernel_sound.specs.Sound.{IsSound}
 use Rattle.kernel_step.specs.Actions.{enclosed_of, is_withdrawing}
-use Rattle.kernel_step.specs.Calls.{IsCallWith, cancel_causes, first_of, inward_activity, is_free, is_late, made_end, on_owned, receive_causes, refusal, send_causes}
+use Rattle.charlotte_calls.proofs.Causes.{AllFail, first_of-none}
+use Rattle.charlotte_calls.specs.Causes.{Seen, cancel_causes, causes_of, first_of, is_idle, is_late}
+use Rattle.kernel_step.specs.Calls.{IsCallWith, inward_activity, made_end, refusal, seen, seen_of, sees}
 use Rattle.kernel_step.specs.Enclosed.{AreEnclosed}
 use Rattle.kernel_step.specs.Progress.{Progress}
 use Rattle.told_answers.proofs.Cancellers.{canceller, canceller_in, canceller-away, canceller-calm, canceller-here_idle, enclosed-idle, ended_of-none, held_entry-none, left_of-none, puts-at, puts-other, puts-same, turns-idle, turns-same}
@@ -92,28 +94,33 @@ first_of-fits c (x ∷ xs) a fit is = by x.0 is (first_of-fits c xs a fit.1)
     by true first others = let same : x.1 ≡ a = cc in subst (λ z. IsTrue (is_cause_of c z)) same fit.0
     by false later others = others later
 
-on_owned-fits : (c : Call) (o : Option HereView) (causes : HereView → List (Bool × Cause)) (a : Cause) → IsTrue (is_cause_of c cause.NoEnd) → ((v : HereView) → AllFit c (causes v)) → on_owned o causes ≡ Some a → FitsCall c (answer.Refused a)
-on_owned-fits c None causes a none fit is = let same : cause.NoEnd ≡ a = cc in subst (λ z. IsTrue (is_cause_of c z)) same none
-on_owned-fits c (Some v) causes a none fit is = first_of-fits c (causes v) a (fit v) is
+-- each cause in the table is one of its call
+causes-fit : (sees : EndId → Seen) (made : ℕ) (c : Call) → AllFit c (causes_of sees made c)
+causes-fit sees made call.Make = (refl, tt)
+causes-fit sees made (call.Destroy on) = (refl, tt)
+causes-fit sees made (call.Send on bytes xs) = (refl, (refl, (refl, (refl, (refl, (refl, (refl, tt)))))))
+causes-fit sees made (call.Receive on) = (refl, (refl, (refl, tt)))
+causes-fit sees made (call.Cancel on w) = (refl, (refl, (refl, (refl, tt))))
+causes-fit sees made call.Wait = tt
+causes-fit sees made (call.Print bytes) = tt
+causes-fit sees made call.Exit = tt
+
+table-fits : (sees : EndId → Seen) (made : ℕ) (c : Call) (a : Cause) → first_of (causes_of sees made c) ≡ Some a → FitsCall c (answer.Refused a)
+table-fits sees made c a is = first_of-fits c (causes_of sees made c) a (causes-fit sees made c) is
 
 pub refusal-fits : (p : Pid) (t : EndId → Entry) (made : ℕ) (mine : List EndId) (reported : Bool) (c : Call) (a : Cause) → refusal p t made mine reported c ≡ Some a → FitsCall c (answer.Refused a)
-refusal-fits p t made mine reported call.Make a is = by _ is
-  where
-    by : (b : Bool) → (if b then Some cause.LinksFull else None) ≡ Some a → FitsCall call.Make (answer.Refused a)
-    by true same = let e : cause.LinksFull ≡ a = cc in subst (λ z. IsTrue (is_cause_of call.Make z)) e refl
-    by false same = cc
-refusal-fits p t made mine reported (call.Destroy on) a is = on_owned-fits (call.Destroy on) (owned p (t on)) _ a refl (λ v. tt) is
-refusal-fits p t made mine reported (call.Send on bytes xs) a is =
-    on_owned-fits (call.Send on bytes xs) (owned p (t on)) (send_causes p t on xs) a refl (λ v. (refl, (refl, (refl, (refl, (refl, (refl, tt))))))) is
-refusal-fits p t made mine reported (call.Receive on) a is = on_owned-fits (call.Receive on) (owned p (t on)) receive_causes a refl (λ v. (refl, (refl, tt))) is
-refusal-fits p t made mine reported (call.Cancel on w) a is = on_owned-fits (call.Cancel on w) (owned p (t on)) (cancel_causes w) a refl (λ v. (refl, (refl, (refl, tt)))) is
 refusal-fits p t made mine reported call.Wait a is = by _ is
   where
     by : (b : Bool) → (if b then None else Some cause.NoActivity) ≡ Some a → FitsCall call.Wait (answer.Refused a)
     by true same = cc
     by false same = let e : cause.NoActivity ≡ a = cc in subst (λ z. IsTrue (is_cause_of call.Wait z)) e refl
-refusal-fits p t made mine reported (call.Print bytes) a is = cc
-refusal-fits p t made mine reported call.Exit a is = cc
+refusal-fits p t made mine reported call.Make a is = table-fits (sees p t) made call.Make a is
+refusal-fits p t made mine reported (call.Destroy on) a is = table-fits (sees p t) made (call.Destroy on) a is
+refusal-fits p t made mine reported (call.Send on bytes xs) a is = table-fits (sees p t) made (call.Send on bytes xs) a is
+refusal-fits p t made mine reported (call.Receive on) a is = table-fits (sees p t) made (call.Receive on) a is
+refusal-fits p t made mine reported (call.Cancel on w) a is = table-fits (sees p t) made (call.Cancel on w) a is
+refusal-fits p t made mine reported (call.Print bytes) a is = table-fits (sees p t) made (call.Print bytes) a is
+refusal-fits p t made mine reported call.Exit a is = table-fits (sees p t) made call.Exit a is
 
 -- ---- tables
 
@@ -182,7 +189,7 @@ module _ (k made n : ℕ) (t : EndId → Entry) (sound : IsSound k made n t) (p 
       on-calm on _ (λ v there here is owner q. turns-same t (ended_with on (entry.Here v)) ended_of q (λ among. ended_of-none (t q) ∙ sym (ended-calm on q (entry.Here v) here owner among)))
   act-calm mine reported (call.Send on bytes xs) prompt granted ends =
       on-calm on _ (λ v there here is owner.
-      let are : AreEnclosed t xs = send-enclosed p t on xs v (granted-at p t on xs v (sym is) granted) in
+      let are : AreEnclosed t xs = send-enclosed p t on xs granted in
       let e : EndId = v.value.end in
       either-calm t (nat_eq v.value.want 0) _ _
       (λ q. puts-same t e _ (turns xs (held_entry (holder.EnclosedIn e)) stays) q (sym (ap canceller there)) (turns-idle t xs (held_entry (holder.EnclosedIn e)) q are (held_entry-none (holder.EnclosedIn e))))
@@ -213,7 +220,7 @@ module _ (k made n : ℕ) (t : EndId → Entry) (sound : IsSound k made n t) (p 
     pub after : canceller (f.entry on (t on)) ≡ Some p
     pub others : (q : EndId) → end_eq on q ≡ false → canceller (f.entry q (t q)) ≡ canceller (t q)
 
-  posted-of : (v : HereView) (i : Inward) → v.inward ≡ i → is_withdrawing i ≡ false → is_late way.Inward (inward_activity i) ≡ false → is_free (inward_activity i) ≡ false → (w : ℕ) × (i ≡ inward.Posted w)
+  posted-of : (v : HereView) (i : Inward) → v.inward ≡ i → is_withdrawing i ≡ false → is_late (inward_activity i) ≡ false → is_idle (inward_activity i) ≡ false → (w : ℕ) × (i ≡ inward.Posted w)
   posted-of v inward.Idle is not late free = cc
   posted-of v (inward.Posted w) is not late free = (w, refl)
   posted-of v (inward.Withdrawing w) is not late free = cc
@@ -226,13 +233,13 @@ module _ (k made n : ℕ) (t : EndId → Entry) (sound : IsSound k made n t) (p 
       not_withdrawing v here owner true is = absurd (calm on (ap canceller here ∙ ap (λ h. canceller_in h v.inward) owner ∙ ap (λ b. if b then Some p else None) is))
       not_withdrawing v here owner false is = refl
 
-      by : (o : Option HereView) → owned p (t on) ≡ o → on_owned o (cancel_causes way.Inward) ≡ None → Withdraws on (act_effect p k made mine t (call.Cancel on way.Inward))
+      by : (o : Option HereView) → owned p (t on) ≡ o → first_of (cancel_causes way.Inward (seen o)) ≡ None → Withdraws on (act_effect p k made mine t (call.Cancel on way.Inward))
       by None is none = cc
       by (Some v) is none =
           let here = owned-here p (t on) v is in
           let end : v.value.end ≡ on = subst (IsOfEnd on) here.0 (sound.own on) in
-          let fail : AllFail (cancel_causes way.Inward v) = first_of-none (cancel_causes way.Inward v) none in
-          let posted = posted-of v v.inward refl (not_withdrawing v here.0 here.1 (is_withdrawing v.inward) refl) fail.1.0 fail.1.1.0 in
+          let fail : AllFail (cancel_causes way.Inward (seen_of v)) = first_of-none (cancel_causes way.Inward (seen_of v)) none in
+          let posted = posted-of v v.inward refl (not_withdrawing v here.0 here.1 (is_withdrawing v.inward) refl) fail.1.1.0 fail.1.1.1.0 in
           let now : HereView = record v { inward = inward.Withdrawing posted.0 } in
           let entry_is : (q : EndId) (y : Entry) → (act_effect p k made mine t (call.Cancel on way.Inward)).entry q y ≡ puts on (entry.Here now) stays q y =
           (λ q y. ap (λ o. (effect_on o (λ u. withdraw_posted_effect k u u.inward)).entry q y) is ∙ ap (λ i. (withdraw_posted_effect k v i).entry q y) posted.1 ∙ ap (λ e. puts e (entry.Here now) stays q y) end) in

@@ -354,4 +354,4 @@ module _ (n : ℕ) (h : Pid → Heard) (x : Kernel) (inv : AsTold n h x) where
         by (inr is) = cancel-told is (t.answer is).0 (t.answer is).1
 
   pub take-stepped : (from : ℕ) (q : Picture) → Stepped n h (λ p. None) (take_step x from q)
-  take-stepped from q = taking-stepped (take_step x from q) (take-taking n x inv.sound from q)
+  take-stepped from q = taking-stepped (take_step x from q) (take-taking n x inv.sound inv.rests from q)

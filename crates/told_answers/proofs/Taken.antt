@@ -19,7 +19,7 @@ use Rattle.end_table.proofs.EndEq.{end_eq-same, put-at, put-other}
 use Rattle.kernel_effects.specs.Effect.{Effect, for_holder, nothing}
 use Rattle.kernel_effects.specs.Rows.{row_effect}
 use Rattle.kernel_outcomes.proofs.Closing.{closes-gives}
-use Rattle.kernel_outcomes.specs.Closing.{AtMostOne, Closes, told, told_entry}
+use Rattle.kernel_outcomes.specs.Closing.{AreOldest, AtMostOne, Closes, told, told_entry}
 use Rattle.kernel_sound.proofs.Goes.{GoesWell}
 use Rattle.kernel_sound.proofs.Reports.{IsSound-reported}
 use Rattle.kernel_sound.proofs.Rows.{row-well}
@@ -178,8 +178,8 @@ module _ (n : ℕ) (x : Kernel) (p : Pid) (f : Effect) (d : Progress) (tells : T
         tells = tells;
       }
 
--- each packet
-module _ (n : ℕ) (x : Kernel) (sound : IsSound x.number x.made n x.table) (from : ℕ) (q : Picture) where
+-- each packet, where no report of a process stands that waits
+module _ (n : ℕ) (x : Kernel) (sound : IsSound x.number x.made n x.table) (rests : (p : Pid) → (process_of p x).phase ≡ Waiting → (process_of p x).reports ≡ []) (from : ℕ) (q : Picture) where
   abbrev begun : Progress
   begun = begins x (next_stamp (max x.stamp q.stamp))
 
@@ -191,6 +191,10 @@ module _ (n : ℕ) (x : Kernel) (sound : IsSound x.number x.made n x.table) (fro
 
   abbrev nobody_named : Pid
   nobody_named = record { 0 = 0 }
+
+  oldest : (p : Pid) (rs : List Report) → AreOldest (x.process p.0) rs
+  oldest p [] = tt
+  oldest p (r ∷ rs) = λ waits. rests p (waiting-phase (x.process p.0).phase waits)
 
   addressed : Taking n x (closes x d)
   addressed = by all.holder all.answers all.reports
@@ -209,15 +213,15 @@ module _ (n : ℕ) (x : Kernel) (sound : IsSound x.number x.made n x.table) (fro
 
       by : (h : Holder) → f.answers ≡ for_holder h all.given → f.reports ≡ for_holder h all.told → Taking n x (closes x d)
       by (holder.Owner p) answers reports =
-          by-lists n x p f d tells after begun.stamp alike all.given all.told (closes x d) answers (closes-gives x p d all.given all.told all.one (alike.answers ∙ answers) (alike.reports ∙ reports))
+          by-lists n x p f d tells after begun.stamp alike all.given all.told (closes x d) answers (closes-gives x p d all.given all.told all.one (oldest p all.told) (alike.answers ∙ answers) (alike.reports ∙ reports))
       by (holder.EnclosedIn e) answers reports =
-          by-lists n x nobody_named f d tells after begun.stamp alike [] [] (closes x d) answers (closes-gives x nobody_named d [] [] tt (alike.answers ∙ answers) (alike.reports ∙ reports))
+          by-lists n x nobody_named f d tells after begun.stamp alike [] [] (closes x d) answers (closes-gives x nobody_named d [] [] tt tt (alike.answers ∙ answers) (alike.reports ∙ reports))
 
   dropped : Taking n x (closes x begun)
   dropped =
       let alike : DoesAlike nothing begun begun = record { reports = refl; answers = refl; steps = refl; cancellers = λ e. refl } in
       let tells : Tells x.table nothing = inl (record { cancellers = λ e. refl; cancels = λ e. refl; reports = λ p. refl; answers = refl }) in
-      by-lists n x nobody_named nothing begun tells sound begun.stamp alike [] [] (closes x begun) refl (closes-gives x nobody_named begun [] [] tt refl refl)
+      by-lists n x nobody_named nothing begun tells sound begun.stamp alike [] [] (closes x begun) refl (closes-gives x nobody_named begun [] [] tt tt refl refl)
 
   pub take-taking : Taking n x (take_step x from q)
   unfolding take_step
