@@ -8,5 +8,5 @@ pub loop-preserved : goal.loop-preserved
 loop-preserved c =
     let items : c.push.new.self.items ≡ c.loop.journals.items ++ c.start.result ∷ [] = c.in_ok-push.ensures.items in (
       ap length items ∙ length_push c.loop.journals.items c.start.result ∙ ap (λ n. n + 1) c.loop.invariant.0,
-      All-same IsEmptyJournal _ _ items (All-push IsEmptyJournal c.loop.journals.items c.start.result c.loop.invariant.1 c.start.ensures),
+      All-same IsEmptyJournal _ _ items (All-push IsEmptyJournal c.loop.journals.items c.start.result c.loop.invariant.1 c.start.ensures.entries),
     )

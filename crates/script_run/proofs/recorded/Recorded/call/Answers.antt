@@ -7,8 +7,8 @@ use Rattle.kernel_world.specs.declared.entry.Happened.TheVariants.{Asked}
 use Rattle.script_run.proofs.Events.{caller-allowed, event-goes, noting, noting-later}
 use Rattle.script_run.proofs.recorded.Recorded.call.Goals as goal
 
-pub note-requires-clause-after_last : goal.note-requires-clause-after_last
-note-requires-clause-after_last c =
+pub note-emptied-requires-clause-after_last : goal.note-emptied-requires-clause-after_last
+note-emptied-requires-clause-after_last c =
     let s = c.requires.0 in
     let ready = c.requires.3 in
     let caller = c.requires.4 in

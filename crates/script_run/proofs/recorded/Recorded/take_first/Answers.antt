@@ -15,8 +15,8 @@ returns-in_default c s n early ready to_there = (none-first (sent_from c.args.se
 pub take_first-requires : goal.take_first-requires
 take_first-requires c = (c.requires.0, packet_picture c.in-Some.packet.now, c.requires.3.recorded.nodes, c.requires.4, c.requires.5, sym (c.in-Some.ensures c.requires.0))
 
-pub note-requires-clause-after_last : goal.note-requires-clause-after_last
-note-requires-clause-after_last c =
+pub note-emptied-requires-clause-after_last : goal.note-emptied-requires-clause-after_last
+note-emptied-requires-clause-after_last c =
     let s = c.requires.0 in
     let ready = c.requires.3 in
     let did = c.in_ok-stamp.ensures s ready.recorded.nodes in
