@@ -28,7 +28,7 @@ pub use items::Items;
 pub use mark::Mark;
 pub use memory::NoMemory;
 pub use moving::Moving;
-pub use names::{EndId, LinkId, Outcome, Pid, Side, Way};
+pub use names::{EndId, LINK_LIMIT, LinkId, Outcome, Pid, Side, Way};
 pub use packet::{Packet, What};
 pub use picture::{CargoPicture, MovingPicture, Picture, PictureWhat};
 pub use program::{Next, Program};

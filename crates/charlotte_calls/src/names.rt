@@ -12,6 +12,9 @@ pub struct LinkId {
     pub count: u32,
 }
 
+/// How many links a kernel may make.
+pub const LINK_LIMIT: u32 = 65536;
+
 /// Which of the two ends of a link.
 #[derive(Clone, Copy, Debug, PartialEq, Eq, PartialOrd, Ord, Hash)]
 pub enum Side {

@@ -251,7 +251,6 @@ impl Places {
     pub(crate) fn has_distinct_places(&self)
         ensures { IsDistinct end_eq (keys_of self.now.places) }
     {
-        let _count = self.slots.len();
     }
 
     /// The ends that a process owns, in the order of their places.

@@ -11,13 +11,10 @@ ghost use Rattle.kernel_step.specs.Calls.{inward_activity, is_active, outward_ac
 ghost use Rattle.kernel_step.specs.Kernel.{has_report};
 ghost use Rattle.kernel_process.specs.Parts.{process_state};
 
-use charlotte_calls::{Call, Cause, EndId, Pid, Way};
+use charlotte_calls::{Call, Cause, EndId, LINK_LIMIT, Pid, Way};
 use end_table::{Inward, Living, Sending, Table};
 use kernel_process::ControlBlock;
 use kernel_step::first_of;
-
-/// How many links a kernel may make.
-const LINK_LIMIT: u32 = 65536;
 
 /// The first cause for which a call is refused, if one holds. It costs no more than a look-up for each enclosed end.
 pub fn refusal(

@@ -9,9 +9,9 @@ ghost use Rattle.service_processes.specs.Processes.{HasProcess};
 ghost use Rattle.link_service.specs.Service.{state_of};
 
 use crate::service::Service;
-use charlotte_calls::{Call, Cause, EndId, Pid, Way};
+use charlotte_calls::{Call, Cause, EndId, LINK_LIMIT, Pid, Way};
 use service_links::{
-    KeptEnd, LINK_LIMIT, cancel_cause, destroy_cause, is_cancellable, is_new_pair, receive_cause,
+    KeptEnd, cancel_cause, destroy_cause, is_cancellable, is_new_pair, receive_cause,
     receive_cause_at, send_cause, send_cause_at,
 };
 

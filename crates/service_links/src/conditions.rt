@@ -4,10 +4,7 @@ ghost use Rattle.service_step.specs.Steps as steps;
 ghost use Rattle.service_links.specs.Links.{ends_of};
 
 use crate::{KeptEnd, Links};
-use charlotte_calls::{EndId, LinkId, Side, Way};
-
-/// How many links a kernel may make.
-pub const LINK_LIMIT: u32 = 65536;
+use charlotte_calls::{EndId, LINK_LIMIT, LinkId, Side, Way};
 
 /// Whether these are the two ends of this link, which has no ends yet.
 #[tactic(auto, unfolding(service_step::specs::Ends::end_eq))]

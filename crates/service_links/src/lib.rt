@@ -18,7 +18,7 @@ mod row;
 pub use causes::{
     cancel_cause, destroy_cause, receive_cause, receive_cause_at, send_cause, send_cause_at,
 };
-pub use conditions::{LINK_LIMIT, is_cancellable, is_new_pair};
+pub use conditions::{is_cancellable, is_new_pair};
 pub use kept::{KeptEnd, no_ends};
 pub use letter::Letter;
 pub use links::Links;
