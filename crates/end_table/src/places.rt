@@ -247,10 +247,12 @@ impl Places {
         }
     }
 
+    /// No end has two places. This only says so.
     #[tactic(auto, unfolding(crate::specs::Place::end_eq))]
     pub(crate) fn has_distinct_places(&self)
         ensures { IsDistinct end_eq (keys_of self.now.places) }
     {
+        let _ = self.slots.len();
     }
 
     /// The ends that a process owns, in the order of their places.
