@@ -12,10 +12,10 @@ ghost use Rattle.transcript_reading.specs.declared.line.LineKind.TheVariants as 
 use crate::due::Due;
 use crate::fault::Stop;
 use charlotte_calls::{Call, NoMemory, Picture, Pid, Setting};
-use journal_text::Last;
 use kernel_nodes::{Nodes, Noted, Request};
 use std::alloc::Global;
 use std::mem;
+use transcript_lines::Last;
 use transcript_matching::is_shown;
 use transcript_reading::{LineKind, ServiceLine};
 

@@ -1,5 +1,5 @@
 use charlotte_calls::{Call, Cause, EndId, Ends, Picture, Pid, Report, Way};
-use journal_text::{Last, ScriptNote};
+use transcript_lines::{Last, ScriptNote};
 
 /// One line of a transcript, by its form.
 #[derive(Debug, Drop)]
