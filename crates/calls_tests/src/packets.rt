@@ -1,7 +1,8 @@
 //! Packets that name kernels. That their pictures have their fields is shown by each line of .ci/rows/runs on which a packet is taken.
 
 use crate::samples::{holds, some_bytes};
-use charlotte_calls::{Cargo, EndId, LinkId, Moving, Packet, Side, What};
+use charlotte_calls::{EndId, LinkId, Side};
+use charlotte_packets::{Cargo, Moving, Packet, What};
 use std::test::Fail;
 
 const TO: EndId = EndId {

@@ -1,9 +1,8 @@
 //! The values of calls, packets and ends.
 
 use crate::samples::holds;
-use charlotte_calls::{
-    Bytes, Cargo, CargoPicture, EndId, Ends, Items, LinkId, Moving, MovingPicture, NoMemory, Side,
-};
+use charlotte_calls::{Bytes, EndId, Ends, Items, LinkId, NoMemory, Side};
+use charlotte_packets::{Cargo, CargoPicture, Moving, MovingPicture};
 use std::alloc::Global;
 use std::test::Fail;
 

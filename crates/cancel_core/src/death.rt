@@ -2,7 +2,7 @@ ghost use Rattle.std.specs.Prelude.{◌≡◌};
 ghost use Rattle.kernel_step.specs.Enclosed.{AreEnclosed, IsReady};
 ghost use Rattle.charlotte_calls.specs.declared.names.EndId.{EndId};
 ghost use Rattle.end_table.specs.Table.{entries, IsHere, IfHere, KeepsOthers};
-ghost use Rattle.charlotte_calls.specs.declared.work.Work.{Work};
+ghost use Rattle.charlotte_packets.specs.declared.work.Work.{Work};
 ghost use Rattle.end_table.specs.declared.entry.Entry.TheVariants.{Here};
 ghost use Rattle.end_table.specs.declared.entry.Entry.{Entry};
 ghost use Rattle.kernel_step.specs.Actions.{enclosed_of, notices, notice_send, notice_receive, noticed_value, noticed_outward, noticed_inward, dead_receive_report};
@@ -10,7 +10,8 @@ ghost use Rattle.kernel_step.specs.Progress.{progress, keeps, HasRoom, AddsAtMos
 ghost use Rattle.kernel_step.specs.Room.{one_report, room_of_dead_receive, room_of_notice};
 
 use crate::enclosed::hold_each;
-use charlotte_calls::{Answer, Cause, EndId, MovingPicture, Outcome, Report, Way, Work};
+use charlotte_calls::{Answer, Cause, EndId, Outcome, Report, Way};
+use charlotte_packets::{MovingPicture, Work};
 use end_table::{HereView, Holder, Inward, Outward, Table};
 use kernel_step::{answer, forget, no_bytes, no_ends, report, send_report};
 

@@ -1,13 +1,14 @@
 ghost use Rattle.std.specs.Prelude.{◌≡◌, ◌+◌, ◌≤◌, ◌++◌, length};
 ghost use Rattle.kernel_step.specs.Enclosed.{AreEnclosed};
 ghost use Rattle.charlotte_calls.specs.declared.names.EndId.{EndId};
-ghost use Rattle.charlotte_calls.specs.declared.work.Work.{Work};
+ghost use Rattle.charlotte_packets.specs.declared.work.Work.{Work};
 ghost use Rattle.end_table.specs.Table.{entries};
 ghost use Rattle.kernel_step.specs.Actions.{hold_each, leave_each, values_leaving};
 ghost use Rattle.kernel_step.specs.Progress.{progress};
 ghost use Rattle.kernel_step.specs.declared.bounds.TheConstants.{MOST_ENDS};
 
-use charlotte_calls::{Cargo, EndId};
+use charlotte_calls::EndId;
+use charlotte_packets::Cargo;
 use end_table::{Holder, Table};
 use kernel_step::{first_of, hold, leave};
 

@@ -10,7 +10,8 @@ ghost use Rattle.kernel_step.specs.Progress.{progress, HasRoom, StaysWithin};
 ghost use Rattle.kernel_step.specs.Room.{room_of_match};
 
 use crate::enclosed::leave_each;
-use charlotte_calls::{Bytes, Cargo, EndId, Ends, MovingPicture, ServiceStep, What, Work};
+use charlotte_calls::{Bytes, EndId, Ends, ServiceStep};
+use charlotte_packets::{Cargo, MovingPicture, What, Work};
 use end_table::{Outward, Sending, Table};
 use kernel_step::{keep_inward, keep_sending, push_packet, push_step};
 

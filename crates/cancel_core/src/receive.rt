@@ -9,9 +9,8 @@ ghost use Rattle.kernel_step.specs.Room.{one_step, room_of_message, room_of_rece
 ghost use Rattle.kernel_step.specs.Rows.{asks, arrived_row, receives, takes, unwanted_row, frees};
 ghost use Rattle.kernel_step.specs.Actions.{resends_on_news};
 
-use charlotte_calls::{
-    Answer, Bytes, Cause, EndId, Ends, Outcome, Report, ServiceStep, Way, What, Work,
-};
+use charlotte_calls::{Answer, Bytes, Cause, EndId, Ends, Outcome, Report, ServiceStep, Way};
+use charlotte_packets::{What, Work};
 use end_table::{Holder, Inward, Lent, Table};
 use kernel_step::{
     Site, answer, is_withdrawing, keep_inward, learn_value, push_packet, push_step, receiver,

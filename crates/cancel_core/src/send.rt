@@ -11,7 +11,8 @@ ghost use Rattle.kernel_step.specs.Rows.{want_row, want_here, wants, awaits, tak
 
 use crate::enclosed::hold_each;
 use crate::matching::{Message, match_waiting, send_parcel};
-use charlotte_calls::{Bytes, EndId, Ends, Outcome, ServiceStep, Way, What, Work};
+use charlotte_calls::{Bytes, EndId, Ends, Outcome, ServiceStep, Way};
+use charlotte_packets::{What, Work};
 use end_table::{Lent, Sending, Table};
 use kernel_step::{
     Site, enclosed_ends, keep_inward, keep_sending, keep_waiting, learn, learn_value, no_ends,

@@ -30,22 +30,14 @@ impl<T: Copy + Default, const CAP: usize> Short<T, CAP> {
         }
     }
 
-    /// The items of an `ArrayVec`.
-    pub(crate) fn of(items: &ArrayVec<T, CAP>) -> Self
-        ensures { result ≡ items.now.items }
-    {
-        let mut kept = ArrayVec::new();
-        match kept.try_extend_from_slice(items.as_slice()) {
-            Ok(()) => Short { items: kept },
-            Err(_) => unreachable!(),
-        }
-    }
-
     /// An equal list.
     pub fn copy(&self) -> Self
         ensures { result ≡ self.now }
     {
-        Short::of(&self.items)
+        match Short::from_slice(self.as_slice()) {
+            Some(items) => items,
+            None => unreachable!(),
+        }
     }
 }
 

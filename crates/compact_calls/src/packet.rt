@@ -2,7 +2,8 @@ ghost use Rattle.std.specs.Prelude.{◌≡◌, IfOk};
 ghost use Rattle.compact_calls.specs.Stored.{what_of};
 
 use crate::trimmed::Trimmed;
-use charlotte_calls::{Bytes, CargoPicture, EndId, MovingPicture, NoMemory, Picture, PictureWhat};
+use charlotte_calls::{Bytes, EndId, NoMemory};
+use charlotte_packets::{CargoPicture, MovingPicture, Picture, PictureWhat};
 use std::alloc::Global;
 use std::marker::Model;
 
@@ -110,7 +111,7 @@ pub struct CompactPicture {
 }
 
 impl Model for CompactPicture {
-    ghost use Rattle.charlotte_calls.specs.declared.picture.Picture.{Picture};
+    ghost use Rattle.charlotte_packets.specs.declared.picture.Picture.{Picture};
 
     ghost Value = { Picture };
 

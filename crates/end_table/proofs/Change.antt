@@ -10,7 +10,7 @@ use Rattle.end_table.specs.declared.entry.Entry.{Entry}
 use Rattle.end_table.specs.declared.entry.Entry.TheVariants.{Nothing}
 use Rattle.end_table.specs.declared.entry.Entry.TheVariants as entry
 use Rattle.end_table.specs.declared.entry.HereView.{HereView}
-use Rattle.charlotte_calls.specs.declared.picture.MovingPicture.{MovingPicture}
+use Rattle.charlotte_packets.specs.declared.picture.MovingPicture.{MovingPicture}
 use Rattle.end_table.specs.Entries.{learned, is_news, left_entry, ended_entry, gains_one}
 use Rattle.end_table.specs.Message.{HasNoMorePlaces}
 use Rattle.end_table.specs.Place.{end_eq, put}

@@ -11,7 +11,7 @@ use Rattle.std.proofs.lemmas.Map.Made.{is_some-lookup}
 use Rattle.std.proofs.lemmas.Map.Entries.{length-keys_of}
 use Rattle.std.proofs.lemmas.Map.Keys.{IsDistinct-cons}
 use Rattle.charlotte_calls.specs.declared.names.EndId.{EndId}
-use Rattle.charlotte_calls.specs.declared.picture.MovingPicture.{MovingPicture}
+use Rattle.charlotte_packets.specs.declared.picture.MovingPicture.{MovingPicture}
 use Rattle.end_table.specs.Entries.{left_entry, ended_entry, gains_one}
 use Rattle.end_table.specs.Message.{HoldsMessages, HasNoMorePlaces, waiting_message, message_of}
 use Rattle.end_table.specs.Messages.{MessagesView, HasAt}

@@ -1,7 +1,8 @@
 ghost use Rattle.std.specs.Prelude.{◌≡◌};
 
 use crate::{Living, MessageSeen};
-use charlotte_calls::{Bytes, EndId, Ends, Mark, MovingPicture, Pid};
+use charlotte_calls::{Bytes, EndId, Ends, Pid};
+use charlotte_packets::{Mark, MovingPicture};
 
 /// Who holds an end that is here.
 #[derive(Clone, Copy, Debug, PartialEq, Eq)]

@@ -4,7 +4,8 @@ ghost use Rattle.end_table.specs.Message.{outward_of};
 ghost use Rattle.end_table.specs.Owned.{is_owner};
 
 use crate::{Holder, Inward, Sending};
-use charlotte_calls::{Moving, MovingPicture, Pid};
+use charlotte_calls::Pid;
+use charlotte_packets::{Moving, MovingPicture};
 use std::marker::Model;
 use std::mem;
 

@@ -13,7 +13,8 @@ ghost use Rattle.end_table.specs.declared.entry.Entry.TheVariants.{Nothing, Here
 
 use crate::slot::Slot;
 use crate::{Holder, Inward, Lent, Living, Sending};
-use charlotte_calls::{EndId, Mark, Moving, MovingPicture, NoMemory, Pid};
+use charlotte_calls::{EndId, NoMemory, Pid};
+use charlotte_packets::{Mark, Moving, MovingPicture};
 use indexmap::IndexMap;
 use std::alloc::{AllocError, Global};
 use std::marker::Model;

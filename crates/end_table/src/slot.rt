@@ -8,7 +8,8 @@ ghost use Rattle.end_table.specs.declared.entry.Entry.TheVariants.{Nothing, Here
 
 use crate::living::Living;
 use crate::{Holder, Inward, Lent, Sending};
-use charlotte_calls::{Mark, Moving, MovingPicture, Pid};
+use charlotte_calls::Pid;
+use charlotte_packets::{Mark, Moving, MovingPicture};
 use std::marker::Model;
 use std::mem;
 

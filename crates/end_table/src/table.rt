@@ -14,7 +14,8 @@ use crate::message::{Message, MessageSeen};
 use crate::messages::Messages;
 use crate::places::Places;
 use crate::{Entry, HereView, Holder, Inward, Lent, Living, Outward, Sending};
-use charlotte_calls::{Bytes, EndId, Ends, Mark, Moving, MovingPicture, NoMemory, Pid};
+use charlotte_calls::{Bytes, EndId, Ends, NoMemory, Pid};
+use charlotte_packets::{Mark, Moving, MovingPicture};
 use std::alloc::Global;
 use std::marker::Model;
 

@@ -1,13 +1,14 @@
 //! What happens in an event, written as it happens: without its stamp and kernel, which stand before it in its line.
 ghost use Rattle.std.specs.Prelude.{◌≡◌, ◌++◌, OnOk, codes};
-ghost use Rattle.charlotte_calls.specs.Packets.{packet_picture};
+ghost use Rattle.charlotte_packets.specs.Packets.{packet_picture};
 ghost use Rattle.charlotte_text.specs.Spelling.{number_text, process_text};
 ghost use Rattle.transcript_lines.specs.Transcript.{line, happened_text, step_text};
 ghost use Rattle.kernel_world.specs.declared.entry.Happened.TheVariants.{Asked, Took};
 
 use crate::packet::push_packet;
 use crate::step::{push_of, push_step};
-use charlotte_calls::{Call, NoMemory, Packet, Pid, ServiceStep};
+use charlotte_calls::{Call, NoMemory, Pid, ServiceStep};
+use charlotte_packets::Packet;
 use charlotte_text::{push_call, push_number};
 
 /// Appends that a process makes a call, as ` p1 send 0.0a hello`.

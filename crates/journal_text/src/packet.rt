@@ -1,10 +1,11 @@
 ghost use Rattle.std.specs.Prelude.{◌≡◌, ◌++◌, ◌∷◌, [], OnOk, codes};
-ghost use Rattle.charlotte_calls.specs.Packets.{what_picture};
+ghost use Rattle.charlotte_packets.specs.Packets.{what_picture};
 ghost use Rattle.charlotte_text.specs.Spelling.{end_text, bytes_text};
 ghost use Rattle.compact_calls.specs.Stored.{what_of};
 ghost use Rattle.transcript_lines.specs.Transcript.{fields_text, numbers_behind, numbers_text, value_text, values_text, packet_text};
 
-use charlotte_calls::{EndId, MovingPicture, NoMemory, What};
+use charlotte_calls::{EndId, NoMemory};
+use charlotte_packets::{MovingPicture, What};
 use charlotte_text::{push_bytes, push_end, push_number};
 use compact_calls::StoredWhat;
 use transcript_lines::value_fields;

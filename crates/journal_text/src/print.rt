@@ -8,7 +8,8 @@ use crate::entry_lines::{push_entry_lines, push_merged_lines};
 use crate::header_lines::{number_line, push_process_lines, push_wire_lines};
 use crate::packet::push_kept_packet;
 use crate::{Last, Placed, ScriptNote};
-use charlotte_calls::{NoMemory, Picture, Setting};
+use charlotte_calls::{NoMemory, Setting};
+use charlotte_packets::Picture;
 use compact_calls::CompactPicture;
 use std::alloc::Global;
 

@@ -6,8 +6,8 @@ use Rattle.charlotte_calls.specs.declared.calls.Report.{Report}
 use Rattle.charlotte_calls.specs.declared.calls.ServiceStep.{ServiceStep}
 use Rattle.charlotte_calls.specs.declared.names.EndId.{EndId}
 use Rattle.charlotte_calls.specs.declared.names.Pid.{Pid}
-use Rattle.charlotte_calls.specs.declared.work.Room.{Room}
-use Rattle.charlotte_calls.specs.declared.work.Work.{Work}
+use Rattle.charlotte_packets.specs.declared.work.Room.{Room}
+use Rattle.charlotte_packets.specs.declared.work.Work.{Work}
 use Rattle.end_table.specs.declared.entry.Entry.{Entry}
 use Rattle.kernel_event.specs.Room.{room_of_call}
 use Rattle.kernel_process.proofs.Closes.{spare-few}

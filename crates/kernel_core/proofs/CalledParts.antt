@@ -3,7 +3,7 @@ use Rattle.std.proofs.Common.{◌≡◌, ℕ, List, map, sym, ap, subst, ◌∙�
 use Rattle.charlotte_calls.specs.declared.calls.Call.{Call}
 use Rattle.charlotte_calls.specs.declared.names.EndId.{EndId}
 use Rattle.charlotte_calls.specs.declared.names.Pid.{Pid}
-use Rattle.charlotte_calls.specs.declared.work.Effect.{Effect}
+use Rattle.charlotte_packets.specs.declared.work.Effect.{Effect}
 use Rattle.end_table.specs.Table.{entries}
 use Rattle.kernel_core.proofs.Reserved.{reserved-parts}
 use Rattle.kernel_core.proofs.Kernels.{state-parts, state-changed}

@@ -1,7 +1,7 @@
 -- A kernel as its parts, before and after an event.
 use Rattle.charlotte_calls.specs.declared.names.Pid.{Pid}
-use Rattle.charlotte_calls.specs.declared.picture.Picture.{Picture}
-use Rattle.charlotte_calls.specs.declared.work.Effect.{Effect}
+use Rattle.charlotte_packets.specs.declared.picture.Picture.{Picture}
+use Rattle.charlotte_packets.specs.declared.work.Effect.{Effect}
 use Rattle.end_table.specs.Table.{entries}
 use Rattle.end_table.specs.Table.{entries}
 use Rattle.kernel_core.specs.Started.{takes_addressed}

@@ -12,8 +12,8 @@ use Rattle.charlotte_calls.specs.declared.calls.ServiceStep.TheVariants as step
 use Rattle.charlotte_calls.specs.declared.names.EndId.{EndId}
 use Rattle.charlotte_calls.specs.declared.names.Pid.{Pid}
 use Rattle.charlotte_calls.specs.declared.names.Way.TheVariants as way
-use Rattle.charlotte_calls.specs.declared.picture.Picture.{Picture}
-use Rattle.charlotte_calls.specs.declared.work.Effect.{Effect}
+use Rattle.charlotte_packets.specs.declared.picture.Picture.{Picture}
+use Rattle.charlotte_packets.specs.declared.work.Effect.{Effect}
 use Rattle.end_table.specs.Owned.{owned}
 use Rattle.end_table.specs.Place.{put}
 use Rattle.end_table.specs.declared.entry.HereView.{HereView}

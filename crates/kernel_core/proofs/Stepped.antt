@@ -9,8 +9,8 @@ use Rattle.charlotte_calls.specs.declared.calls.Cause.TheVariants.{LinksFull}
 use Rattle.charlotte_calls.specs.declared.calls.ServiceStep.TheVariants as step
 use Rattle.charlotte_calls.specs.declared.names.EndId.{EndId}
 use Rattle.charlotte_calls.specs.declared.names.Pid.{Pid}
-use Rattle.charlotte_calls.specs.declared.work.Effect.{Effect}
-use Rattle.charlotte_calls.specs.declared.work.Work.{Work}
+use Rattle.charlotte_packets.specs.declared.work.Effect.{Effect}
+use Rattle.charlotte_packets.specs.declared.work.Work.{Work}
 use Rattle.end_table.specs.Owned.{AreEndsOf}
 use Rattle.end_table.specs.Table.{TableView, entries}
 use Rattle.kernel_core.proofs.Performs.{call-acts, call-refused}

@@ -1,9 +1,9 @@
 -- What an event may take for granted as it begins: what it is about, and its room.
 use Rattle.std.specs.Prelude.{ℕ, ◌<◌, List, length, if◌then◌else◌}
-use Rattle.charlotte_calls.specs.Packets.{is_addressed, what_picture}
+use Rattle.charlotte_packets.specs.Packets.{is_addressed, what_picture}
 use Rattle.charlotte_calls.specs.declared.names.EndId.{EndId}
-use Rattle.charlotte_calls.specs.declared.packet.What.{What}
-use Rattle.charlotte_calls.specs.declared.picture.PictureWhat.{PictureWhat}
+use Rattle.charlotte_packets.specs.declared.packet.What.{What}
+use Rattle.charlotte_packets.specs.declared.picture.PictureWhat.{PictureWhat}
 use Rattle.end_table.specs.Table.{entries}
 use Rattle.kernel_core.specs.Stepping.{Begins, AreListedFor}
 use Rattle.kernel_core.specs.declared.state.Request.{Request}

@@ -20,7 +20,8 @@ ghost use Rattle.kernel_step.specs.Room.{one_step};
 ghost use Rattle.kernel_touched.specs.Touched.{touched_by, IsCalmAfter};
 
 use crate::state::{Request, State};
-use charlotte_calls::{Answer, Call, Effect, EndId, LinkId, Pid, ServiceStep, Side, Way};
+use charlotte_calls::{Answer, Call, EndId, LinkId, Pid, ServiceStep, Side, Way};
+use charlotte_packets::Effect;
 use end_table::{Inward, Living, Table};
 use kernel_event::act;
 use kernel_process::{Processes, close, exit, stand, turn};

@@ -9,7 +9,8 @@ ghost use Rattle.kernel_core.specs.Stepping.{IsCalled, AreListedFor, IsRefusedFo
 use crate::calling::{act_and_close, close_step, links_after};
 use crate::room::{reserve_active, reserve_made, room_of_call};
 use crate::state::{Request, State, no_effect};
-use charlotte_calls::{Answer, Call, Cause, Effect, EndId, NoMemory, Pid, ServiceStep};
+use charlotte_calls::{Answer, Call, Cause, EndId, NoMemory, Pid, ServiceStep};
+use charlotte_packets::Effect;
 use end_table::Table;
 use kernel_process::{stand, wait};
 use kernel_refusal::refusal;

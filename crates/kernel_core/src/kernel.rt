@@ -1,5 +1,5 @@
 ghost use Rattle.std.specs.Prelude.{◌≡◌, ◌<◌, ◌↔◌, List, length, None, IfOk, IfErr, OnErr, IsTrue};
-ghost use Rattle.charlotte_calls.specs.Packets.{packet_picture};
+ghost use Rattle.charlotte_packets.specs.Packets.{packet_picture};
 ghost use Rattle.charlotte_calls.specs.Setting.{IsValid};
 ghost use Rattle.charlotte_calls.specs.declared.names.EndId.{EndId};
 ghost use Rattle.end_table.specs.Table.{entries};
@@ -14,7 +14,8 @@ use crate::deciding::call_event;
 use crate::stamp::{greater, stamp_after, stamp_with};
 use crate::state::{Request, State};
 use crate::taking::{NotTaken, take_event};
-use charlotte_calls::{Answer, Call, Effect, NoMemory, Packet, Pid, ServiceStep, Setting};
+use charlotte_calls::{Answer, Call, NoMemory, Pid, ServiceStep, Setting};
+use charlotte_packets::{Effect, Packet};
 use end_table::Table;
 use kernel_process::{ControlBlock, Event, Processes};
 use kernel_start::wire_links;

@@ -2,7 +2,7 @@
 ghost use Rattle.std.specs.Prelude.{◌≡◌, ◌<◌, true, [], ◌∷◌, map, length, MatchOption, OnOk};
 ghost use Rattle.charlotte_calls.specs.Names.{opposite};
 ghost use Rattle.charlotte_calls.specs.declared.names.EndId.{EndId};
-ghost use Rattle.charlotte_calls.specs.declared.picture.MovingPicture.{MovingPicture};
+ghost use Rattle.charlotte_packets.specs.declared.picture.MovingPicture.{MovingPicture};
 ghost use Rattle.end_table.specs.Table.{entries, HasPlace, KeepsPlaces};
 ghost use Rattle.kernel_step.specs.Calls.{made_end};
 ghost use Rattle.end_table.specs.declared.entry.Entry.{Entry};
@@ -13,7 +13,8 @@ ghost use Rattle.kernel_event.specs.Places.{brought, ArePlaced};
 ghost use Rattle.kernel_process.specs.Parts.{process_state};
 ghost use Rattle.kernel_touched.specs.Touched.{HavePlaceFor, touched_by};
 
-use charlotte_calls::{Call, EndId, LinkId, MovingPicture, NoMemory, Room, Side, What};
+use charlotte_calls::{Call, EndId, LinkId, NoMemory, Side};
+use charlotte_packets::{MovingPicture, Room, What};
 use end_table::Table;
 use kernel_process::Processes;
 

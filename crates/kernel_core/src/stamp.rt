@@ -1,7 +1,8 @@
 ghost use Rattle.std.specs.Prelude.{◌≡◌, max, IfOk, OnErr};
 ghost use Rattle.kernel_step.specs.Kernel.{next_stamp};
 
-use charlotte_calls::{Effect, NoMemory};
+use charlotte_calls::NoMemory;
+use charlotte_packets::Effect;
 
 /// The stamp of the event after one with this stamp. The greatest stamp is followed by itself.
 pub(crate) fn stamp_after(stamp: u64) -> u64

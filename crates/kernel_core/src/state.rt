@@ -1,4 +1,5 @@
-use charlotte_calls::{Call, Effect, Pid};
+use charlotte_calls::{Call, Pid};
+use charlotte_packets::Effect;
 use end_table::Table;
 use kernel_process::{Event, Processes};
 use std::alloc::Global;

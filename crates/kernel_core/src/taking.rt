@@ -1,5 +1,5 @@
 ghost use Rattle.std.specs.Prelude.{◌≡◌, true, IfOk, OnErr, OnOk};
-ghost use Rattle.charlotte_calls.specs.Packets.{what_picture};
+ghost use Rattle.charlotte_packets.specs.Packets.{what_picture};
 ghost use Rattle.end_table.specs.Table.{entries};
 ghost use Rattle.kernel_process.specs.Parts.{with_parts, ended};
 ghost use Rattle.kernel_core.specs.Consistent.{IsConsistent, Keeps, OnlyReserves};
@@ -11,7 +11,8 @@ ghost use Rattle.kernel_touched.specs.Found.{IsFound, IsHeard};
 
 use crate::room::{reserve_brought, reserve_processes, room_of_packet};
 use crate::state::{State, no_effect};
-use charlotte_calls::{Effect, NoMemory, Packet, What};
+use charlotte_calls::NoMemory;
+use charlotte_packets::{Effect, Packet, What};
 use kernel_event::row;
 use kernel_process::close;
 use kernel_touched::{Found, find, refresh_if_heard};

@@ -8,7 +8,7 @@ use Rattle.charlotte_calls.specs.declared.calls.Cause.TheVariants as cause
 use Rattle.charlotte_calls.specs.declared.calls.ServiceStep.TheVariants as step
 use Rattle.charlotte_calls.specs.declared.names.EndId.{EndId}
 use Rattle.charlotte_calls.specs.declared.names.Outcome.TheVariants as outcome
-use Rattle.charlotte_calls.specs.declared.picture.PictureWhat.TheVariants as packet
+use Rattle.charlotte_packets.specs.declared.picture.PictureWhat.TheVariants as packet
 use Rattle.end_table.proofs.EndEq.{end_eq-same, put-other}
 use Rattle.end_table.specs.Place.{end_eq}
 use Rattle.end_table.specs.declared.entry.Entry.{Entry}

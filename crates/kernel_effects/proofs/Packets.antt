@@ -3,9 +3,9 @@ use Rattle.std.proofs.Common.{ℕ, nat_eq, not, ◌&&◌, List, [], ◌∷◌}
 use Rattle.std.specs.Int.{bit_at}
 use Rattle.std.specs.List.{fold, flat_map}
 use Rattle.charlotte_calls.specs.Names.{opposite}
-use Rattle.charlotte_calls.specs.declared.picture.MovingPicture.{MovingPicture}
-use Rattle.charlotte_calls.specs.declared.picture.PictureWhat.{PictureWhat}
-use Rattle.charlotte_calls.specs.declared.picture.PictureWhat.TheVariants as packet
+use Rattle.charlotte_packets.specs.declared.picture.MovingPicture.{MovingPicture}
+use Rattle.charlotte_packets.specs.declared.picture.PictureWhat.{PictureWhat}
+use Rattle.charlotte_packets.specs.declared.picture.PictureWhat.TheVariants as packet
 use Rattle.end_table.specs.Entries.{is_news}
 use Rattle.end_table.specs.declared.entry.Entry.TheVariants as entry
 use Rattle.end_table.specs.declared.entry.HereView.{HereView}

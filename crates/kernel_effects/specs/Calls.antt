@@ -2,7 +2,7 @@
 -- keeps of each end, v the view of the end that the call is on.
 use Rattle.std.specs.Prelude.{ℕ, nat_eq, List, [], ◌∷◌, ◌++◌, if◌then◌else◌, Option, Some, None}
 use Rattle.std.specs.List.{flat_map}
-use Rattle.charlotte_calls.specs.Moving.{new_end}
+use Rattle.charlotte_packets.specs.Moving.{new_end}
 use Rattle.charlotte_calls.specs.Names.{opposite}
 use Rattle.charlotte_calls.specs.declared.calls.Call.{Call}
 use Rattle.charlotte_calls.specs.declared.calls.Call.TheVariants as call
@@ -10,7 +10,7 @@ use Rattle.charlotte_calls.specs.declared.calls.ServiceStep.TheVariants as step
 use Rattle.charlotte_calls.specs.declared.names.EndId.{EndId}
 use Rattle.charlotte_calls.specs.declared.names.Pid.{Pid}
 use Rattle.charlotte_calls.specs.declared.names.Way.TheVariants as way
-use Rattle.charlotte_calls.specs.declared.picture.PictureWhat.TheVariants as packet
+use Rattle.charlotte_packets.specs.declared.picture.PictureWhat.TheVariants as packet
 use Rattle.end_table.specs.Entries.{gains_one, settled}
 use Rattle.end_table.specs.Owned.{owned}
 use Rattle.end_table.specs.declared.entry.Entry.{Entry}

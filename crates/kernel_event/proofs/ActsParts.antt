@@ -9,8 +9,8 @@ use Rattle.charlotte_calls.specs.declared.names.Side.{Side}
 use Rattle.charlotte_calls.specs.declared.names.Side.TheVariants.{A, B}
 use Rattle.charlotte_calls.specs.declared.names.Way.{Way}
 use Rattle.charlotte_calls.specs.declared.names.Way.TheVariants as way
-use Rattle.charlotte_calls.specs.declared.picture.MovingPicture.{MovingPicture}
-use Rattle.charlotte_calls.specs.declared.work.Work.{Work}
+use Rattle.charlotte_packets.specs.declared.picture.MovingPicture.{MovingPicture}
+use Rattle.charlotte_packets.specs.declared.work.Work.{Work}
 use Rattle.end_table.proofs.EndEq.{end_eq-same}
 use Rattle.end_table.specs.Entries.{ended_entry}
 use Rattle.end_table.specs.Owned.{AreEndsOf, owned}

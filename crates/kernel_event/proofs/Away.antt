@@ -2,7 +2,7 @@
 use Rattle.std.proofs.Common.{◌≡◌, ℕ, Bool, true, false, true≢false, cond, not, ◌&&◌, ◌||◌, List, [], ◌∷◌, refl, sym, subst, if◌then◌else◌}
 use Rattle.std.specs.List.{list_any}
 use Rattle.charlotte_calls.specs.declared.names.EndId.{EndId}
-use Rattle.charlotte_calls.specs.declared.picture.MovingPicture.{MovingPicture}
+use Rattle.charlotte_packets.specs.declared.picture.MovingPicture.{MovingPicture}
 use Rattle.end_table.proofs.EndEq.{end_eq-same, put-at}
 use Rattle.end_table.specs.Place.{end_eq, put}
 use Rattle.end_table.specs.Table.{TableView, entries, HasPlace, IsHere}

@@ -3,7 +3,7 @@ use Rattle.std.proofs.Common.{◌≡◌, ℕ, ◌+◌, ◌-◌, ◌≤◌, List,
 use Rattle.std.proofs.lemmas.List.{drop-take, take-take, take-map, drop-map, map-append}
 use Rattle.std.proofs.Math.Seq.{drop-append_seam, take-append_seam, drop-append-add}
 use Rattle.charlotte_calls.specs.declared.names.EndId.{EndId}
-use Rattle.charlotte_calls.specs.declared.work.Work.{Work}
+use Rattle.charlotte_packets.specs.declared.work.Work.{Work}
 use Rattle.end_table.specs.declared.entry.Entry.{Entry}
 use Rattle.kernel_event.specs.Order.{moved_behind, put_behind}
 use Rattle.kernel_step.specs.Progress.{progress, sent_picture}

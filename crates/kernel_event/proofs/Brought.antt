@@ -4,8 +4,8 @@ use Rattle.std.proofs.lemmas.List.{append-nil, length-map}
 use Rattle.std.specs.List.{list_any}
 use Rattle.charlotte_calls.specs.declared.calls.ServiceStep.TheVariants as step
 use Rattle.charlotte_calls.specs.declared.names.EndId.{EndId}
-use Rattle.charlotte_calls.specs.declared.picture.MovingPicture.{MovingPicture}
-use Rattle.charlotte_calls.specs.declared.work.Work.{Work}
+use Rattle.charlotte_packets.specs.declared.picture.MovingPicture.{MovingPicture}
+use Rattle.charlotte_packets.specs.declared.work.Work.{Work}
 use Rattle.end_table.proofs.EndEq.{end_eq-same}
 use Rattle.end_table.specs.Entries.{learned}
 use Rattle.end_table.specs.Place.{end_eq}

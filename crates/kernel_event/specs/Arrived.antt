@@ -2,7 +2,7 @@
 use Rattle.std.specs.List.{fold}
 use Rattle.std.specs.Prelude.{List}
 use Rattle.charlotte_calls.specs.declared.names.EndId.{EndId}
-use Rattle.charlotte_calls.specs.declared.picture.MovingPicture.{MovingPicture}
+use Rattle.charlotte_packets.specs.declared.picture.MovingPicture.{MovingPicture}
 use Rattle.end_table.specs.Entries.{settled}
 use Rattle.end_table.specs.Place.{put}
 use Rattle.end_table.specs.declared.entry.Entry.{Entry}

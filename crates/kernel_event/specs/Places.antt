@@ -2,9 +2,9 @@
 use Rattle.charlotte_calls.specs.Names.{opposite}
 use Rattle.charlotte_calls.specs.declared.calls.Call.TheVariants as call
 use Rattle.charlotte_calls.specs.declared.calls.Call.{Call}
-use Rattle.charlotte_calls.specs.declared.packet.What.TheVariants as packet
-use Rattle.charlotte_calls.specs.declared.packet.What.{What}
-use Rattle.charlotte_calls.specs.declared.picture.MovingPicture.{MovingPicture}
+use Rattle.charlotte_packets.specs.declared.packet.What.TheVariants as packet
+use Rattle.charlotte_packets.specs.declared.packet.What.{What}
+use Rattle.charlotte_packets.specs.declared.picture.MovingPicture.{MovingPicture}
 use Rattle.end_table.specs.Table.{TableView, HasPlace}
 use Rattle.kernel_step.specs.Calls.{made_end}
 use Rattle.std.specs.Prelude.{ℕ, List, [], ◌∷◌}

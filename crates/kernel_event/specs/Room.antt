@@ -1,9 +1,9 @@
 -- How much an event adds at most, by the packet or the call that it is about.
 use Rattle.charlotte_calls.specs.declared.calls.Call.{Call}
 use Rattle.charlotte_calls.specs.declared.calls.Call.TheVariants as call
-use Rattle.charlotte_calls.specs.declared.packet.What.{What}
-use Rattle.charlotte_calls.specs.declared.packet.What.TheVariants as packet
-use Rattle.charlotte_calls.specs.declared.work.Room.{Room}
+use Rattle.charlotte_packets.specs.declared.packet.What.{What}
+use Rattle.charlotte_packets.specs.declared.packet.What.TheVariants as packet
+use Rattle.charlotte_packets.specs.declared.work.Room.{Room}
 use Rattle.kernel_step.specs.Room.{no_room, one_step, room_of_back, room_of_destroy, room_of_forgets, room_of_gone, room_of_moved}
 use Rattle.kernel_step.specs.Room.{room_of_parcel, room_of_receive, room_of_send, room_of_taken, room_of_unwanted, room_of_want}
 

@@ -3,7 +3,7 @@ ghost use Rattle.charlotte_calls.specs.Causes.{first_of as first_cause, send_cau
 ghost use Rattle.charlotte_calls.specs.Names.{opposite};
 ghost use Rattle.charlotte_calls.specs.declared.calls.ServiceStep.TheVariants as step;
 ghost use Rattle.charlotte_calls.specs.declared.names.EndId.{EndId};
-ghost use Rattle.charlotte_calls.specs.declared.work.Work.{Work};
+ghost use Rattle.charlotte_packets.specs.declared.work.Work.{Work};
 ghost use Rattle.end_table.specs.Owned.{owned};
 ghost use Rattle.end_table.specs.Table.{entries, HasPlace, IsHere, IsOfEnd};
 ghost use Rattle.end_table.specs.declared.entry.Entry.TheVariants.{Here};
@@ -18,7 +18,8 @@ ghost use Rattle.kernel_step.specs.Progress.{progress, means, HasRoom, StaysWith
 ghost use Rattle.kernel_step.specs.Room.{and_ends, no_room, one_step, room_of_destroy, room_of_end, room_of_receive, room_of_send};
 
 use cancel_core::{post, start_send, withdraw_receive, withdraw_send};
-use charlotte_calls::{Bytes, Call, EndId, Ends, LinkId, Moving, Pid, ServiceStep, Way, Work};
+use charlotte_calls::{Bytes, Call, EndId, Ends, LinkId, Pid, ServiceStep, Way};
+use charlotte_packets::{Moving, Work};
 use end_table::{Holder, Inward, Lent, Table};
 use kernel_step::{first_of, push_step};
 use move_core::{enclose, settle};

@@ -6,7 +6,8 @@ ghost use Rattle.end_table.specs.declared.entry.Holder.{Holder};
 ghost use Rattle.kernel_step.specs.Rows.{is_carried, passing, arriving, ends_in, is_here as here_now};
 ghost use Rattle.kernel_event.specs.Arrived.{with_here};
 
-use charlotte_calls::{Cargo, EndId, Moving, MovingPicture};
+use charlotte_calls::EndId;
+use charlotte_packets::{Cargo, Moving, MovingPicture};
 use end_table::{Lent, Table};
 use kernel_step::MOST_ENDS;
 

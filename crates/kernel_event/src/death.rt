@@ -1,7 +1,7 @@
 ghost use Rattle.std.specs.Prelude.{◌≡◌};
 ghost use Rattle.charlotte_calls.specs.Names.{opposite};
 ghost use Rattle.charlotte_calls.specs.declared.names.EndId.{EndId};
-ghost use Rattle.charlotte_calls.specs.declared.picture.PictureWhat.TheVariants as packet;
+ghost use Rattle.charlotte_packets.specs.declared.picture.PictureWhat.TheVariants as packet;
 ghost use Rattle.end_table.specs.Table.{entries};
 ghost use Rattle.end_table.specs.declared.entry.Entry.{Entry};
 ghost use Rattle.end_table.specs.declared.entry.Entry.TheVariants.{Here};
@@ -11,7 +11,8 @@ ghost use Rattle.kernel_step.specs.Room.{one_packet, room_of_first_notice};
 ghost use Rattle.kernel_step.specs.Rows.{notices_first};
 
 use cancel_core::notice;
-use charlotte_calls::{EndId, What, Work};
+use charlotte_calls::EndId;
+use charlotte_packets::{What, Work};
 use end_table::{HereView, Table};
 use kernel_step::push_packet;
 

@@ -5,7 +5,7 @@ ghost use Rattle.kernel_event.specs.Order.{put_behind};
 ghost use Rattle.kernel_step.specs.Progress.{progress, AddsAtMost};
 ghost use Rattle.kernel_step.specs.Room.{no_room};
 
-use charlotte_calls::{Packet, Work};
+use charlotte_packets::{Packet, Work};
 
 /// Of the packets before `upto`, the first ones go behind the others.
 pub(crate) fn put_behind(out: &mut Work, first: usize, upto: usize)

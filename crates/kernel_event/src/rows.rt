@@ -1,5 +1,5 @@
 ghost use Rattle.std.specs.Prelude.{◌≡◌, []};
-ghost use Rattle.charlotte_calls.specs.Packets.{what_picture};
+ghost use Rattle.charlotte_packets.specs.Packets.{what_picture};
 ghost use Rattle.charlotte_calls.specs.declared.names.EndId.{EndId};
 ghost use Rattle.end_table.specs.Table.{entries};
 ghost use Rattle.end_table.specs.declared.entry.Entry.{Entry};
@@ -15,7 +15,8 @@ use crate::back::{Returned, back};
 use crate::death::{notice_first, tell_seen};
 use crate::parcel::{Head, parcel};
 use cancel_core::{finished, unwant, unwanted, want};
-use charlotte_calls::{EndId, ServiceStep, What, Work};
+use charlotte_calls::{EndId, ServiceStep};
+use charlotte_packets::{What, Work};
 use end_table::{Entry, HereView, Table};
 use kernel_step::{Site, is_withdrawing, push_packet, push_step};
 use move_core::{forget, gone_seen, known, moved};

@@ -1,10 +1,10 @@
 -- The next line of a text is taken, where it is just what the kernels expect there.
 use Rattle.std.proofs.Common.{◌≡◌, ℕ, ◌+◌, ◌≤◌, ◌^◌, Bool, true, false, IsTrue, MatchBool, List, [], ◌∷◌, ◌++◌, Some, slice_get, refl, sym, ap, subst, ◌∙◌}
-use Rattle.charlotte_calls.specs.Packets.{packet_picture, what_picture}
+use Rattle.charlotte_packets.specs.Packets.{packet_picture, what_picture}
 use Rattle.charlotte_calls.specs.Setting.{IsValid}
-use Rattle.charlotte_calls.specs.declared.packet.Packet.{Packet}
-use Rattle.charlotte_calls.specs.declared.picture.Picture.{Picture}
-use Rattle.charlotte_calls.specs.declared.picture.PictureWhat.{PictureWhat}
+use Rattle.charlotte_packets.specs.declared.packet.Packet.{Packet}
+use Rattle.charlotte_packets.specs.declared.picture.Picture.{Picture}
+use Rattle.charlotte_packets.specs.declared.picture.PictureWhat.{PictureWhat}
 use Rattle.charlotte_calls.specs.declared.setting.Setting.{Setting}
 use Rattle.kernel_nodes.specs.Nodes.{AreNodes, Happens, IsFirst, world_of}
 use Rattle.kernel_nodes.specs.declared.nodes.Nodes.{Nodes}

@@ -1,11 +1,12 @@
 -- The texts of steps and of entries are lines that may come next.
 use Rattle.std.proofs.Common.{◌≡◌, ℕ, Bool, true, false, MatchBool, List, ◌++◌, append_assoc, codes, refl, ap, ◌∙◌, arith}
-use Rattle.charlotte_calls.specs.Packets.{packet_picture, what_picture}
-use Rattle.charlotte_calls.specs.Ranges.{IsPictureInRange, IsPid, IsStepInRange, IsU8, IsU64}
+use Rattle.charlotte_packets.specs.Packets.{packet_picture, what_picture}
+use Rattle.charlotte_calls.specs.Ranges.{IsPid, IsStepInRange, IsU8, IsU64}
+use Rattle.charlotte_packets.specs.Ranges.{IsPictureInRange}
 use Rattle.charlotte_calls.specs.declared.calls.Call.{Call}
 use Rattle.charlotte_calls.specs.declared.calls.ServiceStep.{ServiceStep}
 use Rattle.charlotte_calls.specs.declared.calls.ServiceStep.TheVariants as step
-use Rattle.charlotte_calls.specs.declared.packet.Packet.{Packet}
+use Rattle.charlotte_packets.specs.declared.packet.Packet.{Packet}
 use Rattle.charlotte_text.specs.Reading.{parts}
 use Rattle.charlotte_text.specs.Spelling.{IsCall, call_text, number_text, process_text}
 use Rattle.transcript_lines.specs.Transcript.{packet_text, step_text}

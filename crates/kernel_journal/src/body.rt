@@ -11,7 +11,8 @@ ghost use Rattle.transcript_reading.specs.declared.line.LineKind.TheVariants as 
 
 use crate::due::Due;
 use crate::fault::Stop;
-use charlotte_calls::{Call, NoMemory, Picture, Pid, Setting};
+use charlotte_calls::{Call, NoMemory, Pid, Setting};
+use charlotte_packets::Picture;
 use kernel_nodes::{Nodes, Noted, Request};
 use std::alloc::Global;
 use std::mem;

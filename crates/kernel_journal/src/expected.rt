@@ -1,6 +1,6 @@
 //! The next line of a text, where it is just what the kernels expect there.
 ghost use Rattle.std.specs.Prelude.{◌≡◌, ◌<◌, ◌++◌, [], IfErr, IfOk, MatchBool, OnOk};
-ghost use Rattle.charlotte_calls.specs.declared.picture.PictureWhat.{PictureWhat as AWhat};
+ghost use Rattle.charlotte_packets.specs.declared.picture.PictureWhat.{PictureWhat as AWhat};
 ghost use Rattle.charlotte_calls.specs.declared.setting.Setting.{Setting as ASetting};
 ghost use Rattle.kernel_journal.specs.Body.{Goes, IsReady, StopsAt};
 ghost use Rattle.kernel_journal.specs.Expected.{ReadsDue, ReadsFirst, Stands, TookNext, Waits, told_packet};

@@ -1,6 +1,6 @@
 //! Lines that the kernels expect, compared with what a reader has next.
 ghost use Rattle.std.specs.Prelude.{◌≡◌, ◌++◌, MatchBool};
-ghost use Rattle.charlotte_calls.specs.Packets.{what_picture};
+ghost use Rattle.charlotte_packets.specs.Packets.{what_picture};
 ghost use Rattle.charlotte_text.specs.Reading.{parts};
 ghost use Rattle.charlotte_text.specs.Spelling.{line_feed};
 ghost use Rattle.kernel_journal.specs.Expected.{told_packet};
@@ -11,7 +11,8 @@ ghost use Rattle.transcript_reading.specs.Kinds.{shown_step};
 ghost use Rattle.transcript_reading.specs.declared.line.LineKind.TheVariants as line;
 
 use crate::shown::{has_few, has_shown};
-use charlotte_calls::{Call, Packet, ServiceStep};
+use charlotte_calls::{Call, ServiceStep};
+use charlotte_packets::Packet;
 use kernel_world::{tell_packet, tell_pid, tell_step, tell_u8, tell_u64};
 use transcript_reader::{
     CallAhead, PacketAhead, Reader, behind_packet, behind_step, read_leading_call,

@@ -1,11 +1,12 @@
 //! Whether the lines of a version can show all of a step or of a packet.
 ghost use Rattle.std.specs.Prelude.{◌↔◌, IsTrue};
-ghost use Rattle.charlotte_calls.specs.Packets.{what_picture};
+ghost use Rattle.charlotte_packets.specs.Packets.{what_picture};
 ghost use Rattle.transcript_lines.specs.TranscriptText.{HasFewPacket, IsFew, IsShownReport};
 ghost use Rattle.transcript_forms.specs.Spelling.{HasShown};
 ghost use Rattle.transcript_reading.specs.Kinds.{shown_step};
 
-use charlotte_calls::{Outcome, Report, ServiceStep, Way, What};
+use charlotte_calls::{Outcome, Report, ServiceStep, Way};
+use charlotte_packets::What;
 
 /// Whether a line shows all that a step has of ends and of bytes.
 pub(crate) fn has_shown(version: u8, step: &ServiceStep) -> bool

@@ -2,7 +2,7 @@
 use Rattle.std.proofs.Common.{ℕ, ◌<◌, Bool, true, false, nat_eq, if◌then◌else◌, List, [], ◌∷◌, length, All, pow_pos}
 use Rattle.std.proofs.lemmas.List.Elements.{All-get_or, All-head, All-tail}
 use Rattle.std.specs.List.{fold}
-use Rattle.charlotte_calls.specs.Moving.{new_end}
+use Rattle.charlotte_packets.specs.Moving.{new_end}
 use Rattle.charlotte_calls.specs.Names.{opposite}
 use Rattle.charlotte_calls.specs.Setting.{IsValid}
 use Rattle.charlotte_calls.specs.declared.names.EndId.{EndId}

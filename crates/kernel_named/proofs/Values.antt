@@ -4,11 +4,11 @@ use Rattle.std.proofs.Math.Pow.{pow-lt}
 use Rattle.std.proofs.lemmas.Bool.{and_parts}
 use Rattle.std.proofs.lemmas.Nat.{or_lt}
 use Rattle.std.specs.List.{AllByRecursion, list_all}
-use Rattle.charlotte_calls.specs.Packets.{names_kernels_below}
+use Rattle.charlotte_packets.specs.Packets.{names_kernels_below}
 use Rattle.charlotte_calls.specs.declared.names.EndId.{EndId}
 use Rattle.charlotte_calls.specs.declared.names.Way.{Way}
 use Rattle.charlotte_calls.specs.declared.names.Way.TheVariants as way
-use Rattle.charlotte_calls.specs.declared.picture.MovingPicture.{MovingPicture}
+use Rattle.charlotte_packets.specs.declared.picture.MovingPicture.{MovingPicture}
 use Rattle.end_table.specs.Entries.{ended_entry, gains_one, is_news, learned, left_entry, left_value, settled}
 use Rattle.end_table.specs.Place.{end_eq, put}
 use Rattle.end_table.specs.declared.entry.Entry.{Entry}

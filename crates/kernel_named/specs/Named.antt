@@ -1,10 +1,10 @@
 -- Which kernels are named. There are n kernels, and their numbers are below n.
 use Rattle.std.specs.Prelude.{◌≡◌, ℕ, ◌<◌, true, List, All}
-use Rattle.charlotte_calls.specs.Packets.{is_addressed, names_kernels_below, what_picture}
+use Rattle.charlotte_packets.specs.Packets.{is_addressed, names_kernels_below, what_picture}
 use Rattle.charlotte_calls.specs.declared.names.EndId.{EndId}
-use Rattle.charlotte_calls.specs.declared.packet.Packet.{Packet}
-use Rattle.charlotte_calls.specs.declared.picture.Picture.{Picture}
-use Rattle.charlotte_calls.specs.declared.picture.PictureWhat.{PictureWhat}
+use Rattle.charlotte_packets.specs.declared.packet.Packet.{Packet}
+use Rattle.charlotte_packets.specs.declared.picture.Picture.{Picture}
+use Rattle.charlotte_packets.specs.declared.picture.PictureWhat.{PictureWhat}
 use Rattle.end_table.specs.declared.entry.Entry.{Entry}
 use Rattle.end_table.specs.declared.entry.Entry.TheVariants as entry
 

@@ -1,4 +1,4 @@
-use charlotte_calls::Packet;
+use charlotte_packets::Packet;
 use rtrb::Protocol;
 
 /// What a ring carries: a packet, or the mark of a snapshot, which never reaches a kernel. One that is let go spends the values in it.

@@ -1,6 +1,6 @@
 -- One event at a node.
 use Rattle.std.proofs.Common.{◌≡◌, ℕ, ◌++◌, length, map, ap, sym, refl, ◌∙◌, Result, Ok, Err, OnOk, IfOk}
-use Rattle.charlotte_calls.specs.declared.work.Effect.{Effect}
+use Rattle.charlotte_packets.specs.declared.work.Effect.{Effect}
 use Rattle.kernel_core.specs.State.{KernelView, state_of, ended}
 use Rattle.kernel_step.specs.Kernel.{Outcome}
 use Rattle.kernel_step.specs.Progress.{sent_picture}

@@ -2,15 +2,15 @@
 use Rattle.std.proofs.Common.{◌≡◌, ◌≢◌, inl, inr, ℕ, zero, suc, true, ◌<◌, ◌≤◌, ◌&&◌, arith, nat_eq, List, [], ◌∷◌, ◌++◌, length, map, set, get_or, slice_get, drop, All, None, Some, cond, ap, sym, subst, ◌∙◌, refl, length-set}
 use Rattle.std.proofs.lemmas.List.Elements.{All-set, All-get_or}
 use Rattle.std.proofs.lemmas.Bool.Decides.{eqb_tells}
-use Rattle.charlotte_calls.specs.Packets.{packet_picture, what_picture}
+use Rattle.charlotte_packets.specs.Packets.{packet_picture, what_picture}
 use Rattle.charlotte_calls.specs.declared.calls.Call.{Call}
 use Rattle.charlotte_calls.specs.declared.names.EndId.{EndId}
 use Rattle.charlotte_calls.specs.declared.names.Pid.{Pid}
-use Rattle.charlotte_calls.specs.declared.packet.Packet.{Packet}
-use Rattle.charlotte_calls.specs.declared.picture.Picture.{Picture}
-use Rattle.charlotte_calls.specs.declared.picture.PictureWhat.{PictureWhat}
+use Rattle.charlotte_packets.specs.declared.packet.Packet.{Packet}
+use Rattle.charlotte_packets.specs.declared.picture.Picture.{Picture}
+use Rattle.charlotte_packets.specs.declared.picture.PictureWhat.{PictureWhat}
 use Rattle.charlotte_calls.specs.declared.setting.Setting.{Setting}
-use Rattle.charlotte_calls.specs.declared.work.Effect.{Effect}
+use Rattle.charlotte_packets.specs.declared.work.Effect.{Effect}
 use Rattle.end_table.specs.Table.{entries}
 use Rattle.kernel_core.specs.State.{KernelView, ended, state_of}
 use Rattle.kernel_step.specs.Calls.{IsCallWith}

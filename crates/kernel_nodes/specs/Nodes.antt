@@ -1,9 +1,9 @@
 -- Kernels with what they sent, as a world.
 use Rattle.std.specs.Prelude.{◌≡◌, ◌<◌, ℕ, List, [], ◌∷◌, ◌++◌, length, map, All, slice_index_or, Option, Some, None}
-use Rattle.charlotte_calls.specs.Packets.{packet_picture}
-use Rattle.charlotte_calls.specs.declared.packet.Packet.{Packet}
-use Rattle.charlotte_calls.specs.declared.picture.Picture.{Picture}
-use Rattle.charlotte_calls.specs.declared.picture.PictureWhat.{PictureWhat}
+use Rattle.charlotte_packets.specs.Packets.{packet_picture}
+use Rattle.charlotte_packets.specs.declared.packet.Packet.{Packet}
+use Rattle.charlotte_packets.specs.declared.picture.Picture.{Picture}
+use Rattle.charlotte_packets.specs.declared.picture.PictureWhat.{PictureWhat}
 use Rattle.charlotte_calls.specs.declared.setting.Setting.{Setting}
 use Rattle.kernel_core.specs.State.{KernelView, state_of}
 use Rattle.kernel_step.specs.Kernel.{Outcome}

@@ -1,8 +1,8 @@
 ghost use Rattle.std.specs.Prelude.{◌≡◌, ◌≢◌, ◌↔◌, ◌<◌, ℕ, ◌++◌, [], ◌∷◌, All, IfOk, IfSome, IsTrue, OnOk, List, drop, length, map, option_copied, option_map, slice_get};
-ghost use Rattle.charlotte_calls.specs.Packets.{packet_picture};
+ghost use Rattle.charlotte_packets.specs.Packets.{packet_picture};
 ghost use Rattle.charlotte_calls.specs.Setting.{IsValid};
 ghost use Rattle.charlotte_calls.specs.declared.names.EndId.{EndId};
-ghost use Rattle.charlotte_calls.specs.declared.packet.Packet.{Packet as APacket};
+ghost use Rattle.charlotte_packets.specs.declared.packet.Packet.{Packet as APacket};
 ghost use Rattle.end_table.specs.Table.{entries};
 ghost use Rattle.kernel_core.specs.State.{ended, state_of};
 ghost use Rattle.kernel_step.specs.Calls.{IsCallWith};
@@ -14,7 +14,8 @@ ghost use Rattle.kernel_world.specs.World.{to_kernel};
 ghost use Rattle.kernel_nodes.specs.Nodes.{picture_in, sent_to, IsNodeOf, IsAfter, IsNotedOf};
 
 use crate::nodes::Noted;
-use charlotte_calls::{Effect, NoMemory, Packet, ServiceStep, Setting};
+use charlotte_calls::{NoMemory, ServiceStep, Setting};
+use charlotte_packets::{Effect, Packet};
 use kernel_core::{Kernel, Request};
 use std::alloc::Global;
 use std::collections::VecDeque;

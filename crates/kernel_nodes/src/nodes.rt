@@ -1,8 +1,8 @@
 ghost use Rattle.std.specs.Prelude.{◌≡◌, ◌↔◌, ◌≤◌, ◌<◌, [], All, IfOk, IsTrue, List, MatchOption, Some, length, option_copied, option_map, slice_get};
-ghost use Rattle.charlotte_calls.specs.Packets.{packet_picture};
+ghost use Rattle.charlotte_packets.specs.Packets.{packet_picture};
 ghost use Rattle.charlotte_calls.specs.Setting.{IsValid};
 ghost use Rattle.charlotte_calls.specs.declared.names.EndId.{EndId};
-ghost use Rattle.charlotte_calls.specs.declared.picture.Picture.{Picture as APicture};
+ghost use Rattle.charlotte_packets.specs.declared.picture.Picture.{Picture as APicture};
 ghost use Rattle.charlotte_calls.specs.declared.setting.Setting.{Setting as ASetting};
 ghost use Rattle.kernel_step.specs.Calls.{IsCallWith};
 ghost use Rattle.kernel_step.specs.Kernel.{process_of};
@@ -12,7 +12,8 @@ ghost use Rattle.kernel_world.specs.World.{Calls, Takes, start};
 ghost use Rattle.kernel_nodes.specs.Nodes.{AreNodes, Happens, IsKernelAt, TakesTold, world_of};
 
 use crate::node::Node;
-use charlotte_calls::{NoMemory, Packet, PictureWhat, Pid, ServiceStep, Setting};
+use charlotte_calls::{NoMemory, Pid, ServiceStep, Setting};
+use charlotte_packets::{Packet, PictureWhat};
 use kernel_core::{Kernel, Request};
 use std::alloc::Global;
 use transcript_matching::is_told;

@@ -5,7 +5,7 @@ use Rattle.std.proofs.lemmas.List.Folds.{list_any-append}
 use Rattle.std.specs.List.{list_any}
 use Rattle.charlotte_calls.specs.declared.names.EndId.{EndId}
 use Rattle.charlotte_calls.specs.declared.names.Pid.{Pid}
-use Rattle.charlotte_calls.specs.declared.picture.MovingPicture.{MovingPicture}
+use Rattle.charlotte_packets.specs.declared.picture.MovingPicture.{MovingPicture}
 use Rattle.end_table.proofs.EndEq.{end_eq-same, end_eq-refl, end_eq-sym, put-other}
 use Rattle.end_table.specs.Entries.{settled}
 use Rattle.end_table.proofs.Owned.{end_before-irrefl, end_before-trans, in_order-tail}

@@ -11,8 +11,8 @@ use Rattle.charlotte_calls.specs.declared.calls.ServiceStep.TheVariants as step
 use Rattle.charlotte_calls.specs.declared.names.EndId.{EndId}
 use Rattle.charlotte_calls.specs.declared.names.Pid.{Pid}
 use Rattle.charlotte_calls.specs.declared.names.Way.{Way}
-use Rattle.charlotte_calls.specs.declared.work.Effect.{Effect}
-use Rattle.charlotte_calls.specs.declared.work.Work.{Work}
+use Rattle.charlotte_packets.specs.declared.work.Effect.{Effect}
+use Rattle.charlotte_packets.specs.declared.work.Work.{Work}
 use Rattle.end_table.proofs.EndEq.{end_eq-same}
 use Rattle.end_table.specs.Owned.{owned}
 use Rattle.end_table.specs.Place.{end_eq, put}

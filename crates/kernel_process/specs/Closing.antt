@@ -3,7 +3,7 @@ use Rattle.std.specs.Prelude.{◌≡◌, ℕ, ◌+◌, ◌≤◌, List, [], ◌�
 use Rattle.std.specs.VecDeque.{deque_len, deque_capacity}
 use Rattle.charlotte_calls.specs.declared.calls.Report.{Report}
 use Rattle.charlotte_calls.specs.declared.names.Pid.{Pid}
-use Rattle.charlotte_calls.specs.declared.work.Room.{Room}
+use Rattle.charlotte_packets.specs.declared.work.Room.{Room}
 use Rattle.indexmap.specs.IndexSet.{spare}
 use Rattle.kernel_process.specs.declared.event.Event.{Event}
 use Rattle.kernel_process.specs.declared.process.ControlBlock.{ControlBlock}

@@ -23,7 +23,8 @@ ghost use Rattle.kernel_process.specs.declared.process.ControlBlock.{ControlBloc
 
 use crate::event::Event;
 use crate::process::Processes;
-use charlotte_calls::{Answer, Effect, EndId, Pid, Report, ServiceStep, Way, Work};
+use charlotte_calls::{Answer, EndId, Pid, Report, ServiceStep, Way};
+use charlotte_packets::{Effect, Work};
 use end_table::{Inward, Lent, Living, Sending, Table};
 use kernel_step::Phase;
 use std::collections::VecDeque;

@@ -4,7 +4,8 @@ ghost use Rattle.kernel_step.specs.Kernel.{Kernel, begins};
 ghost use Rattle.kernel_step.specs.Progress.{progress};
 ghost use Rattle.kernel_step.specs.Room.{and_ends};
 
-use charlotte_calls::{NoMemory, Pid, Room, Work};
+use charlotte_calls::{NoMemory, Pid};
+use charlotte_packets::{Room, Work};
 use kernel_step::PACKETS_OF_END;
 use std::alloc::Global;
 

@@ -2,8 +2,8 @@
 use Rattle.std.proofs.Common.{◌<◌, IfSome, ◌≡◌, ℕ, Bool, false, [], refl, sym, ap, subst, ◌∙◌}
 use Rattle.charlotte_calls.specs.declared.names.EndId.{EndId}
 use Rattle.charlotte_calls.specs.declared.names.Pid.{Pid}
-use Rattle.charlotte_calls.specs.declared.picture.PictureWhat.{PictureWhat}
-use Rattle.charlotte_calls.specs.declared.work.Work.{Work}
+use Rattle.charlotte_packets.specs.declared.picture.PictureWhat.{PictureWhat}
+use Rattle.charlotte_packets.specs.declared.work.Work.{Work}
 use Rattle.end_table.proofs.EndEq.{end_eq-refl}
 use Rattle.end_table.specs.Owned.{owned}
 use Rattle.end_table.specs.Place.{end_eq}

@@ -6,7 +6,7 @@ use Rattle.charlotte_calls.specs.Causes.{first_of, is_busy, is_idle, send_causes
 use Rattle.charlotte_calls.specs.EndEq.{names_twice, same_link}
 use Rattle.charlotte_calls.specs.declared.names.EndId.{EndId}
 use Rattle.charlotte_calls.specs.declared.names.Pid.{Pid}
-use Rattle.charlotte_calls.specs.declared.work.Work.{Work}
+use Rattle.charlotte_packets.specs.declared.work.Work.{Work}
 use Rattle.end_table.proofs.EndEq.{end_eq-same, end_eq-sym, put-other}
 use Rattle.end_table.specs.Owned.{is_owner, owned}
 use Rattle.end_table.specs.Place.{end_eq, put}

@@ -4,7 +4,7 @@ use Rattle.std.proofs.lemmas.Bool.{not-true, and_parts, and_from}
 use Rattle.std.specs.List.{list_any}
 use Rattle.charlotte_calls.specs.declared.names.EndId.{EndId}
 use Rattle.charlotte_calls.specs.declared.names.Pid.{Pid}
-use Rattle.charlotte_calls.specs.declared.picture.MovingPicture.{MovingPicture}
+use Rattle.charlotte_packets.specs.declared.picture.MovingPicture.{MovingPicture}
 use Rattle.end_table.proofs.EndEq.{end_eq-same, end_eq-sym, put-at, put-other}
 use Rattle.end_table.specs.Entries.{settled, left_entry, ended_entry}
 use Rattle.end_table.specs.Place.{end_eq, put}

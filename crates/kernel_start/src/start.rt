@@ -13,7 +13,8 @@ ghost use Rattle.kernel_step.specs.Start.{home, keeps_at, wired};
 ghost use Rattle.kernel_sound.specs.Sound.{IsSound};
 ghost use Rattle.kernel_start.specs.Wired.{HasWired, with_link};
 
-use charlotte_calls::{LinkId, Moving, NoMemory, Pid, Setting};
+use charlotte_calls::{LinkId, NoMemory, Pid, Setting};
+use charlotte_packets::Moving;
 use end_table::{Holder, NotStored, Table};
 use std::alloc::Global;
 

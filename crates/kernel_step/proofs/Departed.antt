@@ -1,6 +1,6 @@
 -- What an end that left or was destroyed leaves behind is not here.
 use Rattle.std.specs.Prelude.{ℕ, Bool, true, false, if◌then◌else◌}
-use Rattle.charlotte_calls.specs.declared.picture.MovingPicture.{MovingPicture}
+use Rattle.charlotte_packets.specs.declared.picture.MovingPicture.{MovingPicture}
 use Rattle.end_table.specs.Entries.{left_value, left_entry, ended_entry}
 use Rattle.end_table.specs.Table.{IsHere}
 use Rattle.end_table.specs.declared.entry.Entry.TheVariants as entry

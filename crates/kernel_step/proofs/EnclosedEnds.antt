@@ -2,13 +2,13 @@
 use Rattle.std.proofs.Common.{◌≡◌, ℕ, Bool, true, false, ◌||◌, List, [], ◌∷◌, ◌++◌, ap, sym, subst, ◌∙◌, refl, append_assoc}
 use Rattle.std.specs.List.{list_any}
 use Rattle.charlotte_calls.specs.declared.names.EndId.{EndId}
-use Rattle.charlotte_calls.specs.declared.picture.MovingPicture.{MovingPicture}
+use Rattle.charlotte_packets.specs.declared.picture.MovingPicture.{MovingPicture}
 use Rattle.end_table.specs.Place.{end_eq}
 use Rattle.end_table.specs.Table.{IsHereAnd, IsIdle}
 use Rattle.end_table.specs.declared.entry.Entry.{Entry}
 use Rattle.end_table.specs.declared.entry.Holder.{Holder}
 use Rattle.kernel_step.specs.Enclosed.{AreEnclosed}
-use Rattle.charlotte_calls.specs.declared.work.Work.{Work}
+use Rattle.charlotte_packets.specs.declared.work.Work.{Work}
 use Rattle.kernel_step.specs.Actions.{here, held, hold_each, leave_each, leaves_here, value_leaving, values_leaving}
 use Rattle.kernel_step.specs.Progress.{progress}
 

@@ -1,8 +1,8 @@
 -- How changes of a table and of a `Work` make the words of the kernel step.
 use Rattle.std.proofs.Common.{◌≡◌, ℕ, [], ◌∷◌, ap, sym, ◌∙◌, refl}
 use Rattle.charlotte_calls.specs.declared.names.EndId.{EndId}
-use Rattle.charlotte_calls.specs.declared.work.Work.{Work}
-use Rattle.charlotte_calls.specs.declared.picture.MovingPicture.{MovingPicture}
+use Rattle.charlotte_packets.specs.declared.work.Work.{Work}
+use Rattle.charlotte_packets.specs.declared.picture.MovingPicture.{MovingPicture}
 use Rattle.end_table.specs.Entries.{left_entry, left_value}
 use Rattle.end_table.specs.Place.{put}
 use Rattle.end_table.specs.Table.{TableView, entries, IfHere, IsHere, IsHereAnd, IsIdle, IsOfEnd, KeepsOthers, Puts}

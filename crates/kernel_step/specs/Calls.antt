@@ -4,7 +4,7 @@ use Rattle.std.specs.Prelude.{ℕ, Bool, true, false, nat_eq, ◌||◌, List, if
 use Rattle.std.specs.List.{fold, list_any}
 use Rattle.charlotte_calls.specs.Causes.{Activity, Idle, Started, Matched, Unreported, Seen, first_cause, is_started}
 use Rattle.charlotte_calls.specs.Names.{opposite}
-use Rattle.charlotte_calls.specs.Moving.{new_end}
+use Rattle.charlotte_packets.specs.Moving.{new_end}
 use Rattle.charlotte_calls.specs.declared.calls.Call.{Call}
 use Rattle.charlotte_calls.specs.declared.calls.Call.TheVariants as call
 use Rattle.charlotte_calls.specs.declared.calls.Cause.{Cause}
@@ -14,7 +14,7 @@ use Rattle.charlotte_calls.specs.declared.names.EndId.{EndId}
 use Rattle.charlotte_calls.specs.declared.names.Side.TheVariants.{A}
 use Rattle.charlotte_calls.specs.declared.names.Pid.{Pid}
 use Rattle.charlotte_calls.specs.declared.names.Way.TheVariants as way
-use Rattle.charlotte_calls.specs.declared.picture.PictureWhat.TheVariants as packet
+use Rattle.charlotte_packets.specs.declared.picture.PictureWhat.TheVariants as packet
 use Rattle.end_table.specs.Owned.{owned, AreEndsOf}
 use Rattle.end_table.specs.Entries.{gains_one, settled}
 use Rattle.end_table.specs.declared.entry.Entry.{Entry}

@@ -1,6 +1,6 @@
 -- How much room the parts of an event need, at most, in the lists of a `Work`.
 use Rattle.std.specs.Prelude.{ℕ, ◌+◌, ◌*◌}
-use Rattle.charlotte_calls.specs.declared.work.Room.{Room}
+use Rattle.charlotte_packets.specs.declared.work.Room.{Room}
 use Rattle.kernel_step.specs.declared.bounds.TheConstants.{MOST_ENDS, MOST_FORGETS, MOST_RESENT, PACKETS_OF_BACK}
 use Rattle.kernel_step.specs.declared.bounds.TheConstants.{PACKETS_OF_END, PACKETS_OF_NOTICE, PACKETS_OF_PARCEL}
 

@@ -4,7 +4,8 @@ ghost use Rattle.kernel_step.specs.Rows.{ends_in};
 
 use crate::owners::no_ends;
 use arrayvec::ArrayVec;
-use charlotte_calls::{Cargo, EndId, Ends};
+use charlotte_calls::{EndId, Ends};
+use charlotte_packets::Cargo;
 use end_table::Outward;
 
 /// The ends whose values a packet carries, in order.

@@ -1,6 +1,6 @@
 ghost use Rattle.std.specs.Prelude.{◌≡◌, [], ◌∷◌, None, MatchOption};
 ghost use Rattle.charlotte_calls.specs.declared.names.EndId.{EndId};
-ghost use Rattle.charlotte_calls.specs.declared.work.Work.{Work};
+ghost use Rattle.charlotte_packets.specs.declared.work.Work.{Work};
 ghost use Rattle.end_table.specs.Entries.{is_news, learned};
 ghost use Rattle.end_table.specs.Message.{message_of, outward_of};
 ghost use Rattle.end_table.specs.Table.{entries, KeepsOthers, Puts, IfHere, IsHere, IsHereAnd, IsIdle};
@@ -10,7 +10,8 @@ ghost use Rattle.kernel_step.specs.Actions.{here, held, leaves_here, value_leavi
 ghost use Rattle.kernel_step.specs.Progress.{progress, keeps};
 
 use crate::site::Site;
-use charlotte_calls::{Bytes, EndId, Ends, Moving, MovingPicture};
+use charlotte_calls::{Bytes, EndId, Ends};
+use charlotte_packets::{Moving, MovingPicture};
 use end_table::{Holder, Inward, Sending, Table};
 
 /// Keeps other fields and another receive of an end that is here.

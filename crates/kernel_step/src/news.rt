@@ -9,7 +9,8 @@ ghost use Rattle.kernel_step.specs.Room.{one_packet, room_of_news};
 use crate::ends::{keep_inward, learn_value};
 use crate::site::Site;
 use crate::writers::push_packet;
-use charlotte_calls::{EndId, MovingPicture, What, Work};
+use charlotte_calls::EndId;
+use charlotte_packets::{MovingPicture, What, Work};
 use end_table::{Inward, Table};
 
 /// Sends the live packet of a receive again.

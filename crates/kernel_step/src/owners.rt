@@ -6,7 +6,8 @@ ghost use Rattle.kernel_step.specs.Progress.{progress, HasRoom, AddsAtMost};
 ghost use Rattle.kernel_step.specs.Room.{one_report, one_answer};
 
 use crate::writers::{push_answer, push_report};
-use charlotte_calls::{Answer, Bytes, EndId, Ends, Outcome, Report, Way, Work};
+use charlotte_calls::{Answer, Bytes, EndId, Ends, Outcome, Report, Way};
+use charlotte_packets::Work;
 use end_table::Holder;
 
 /// Reports to the owner of an end.

@@ -6,7 +6,7 @@ ghost use Rattle.kernel_step.specs.Progress.{progress, HasRoom, AddsAtMost};
 ghost use Rattle.kernel_step.specs.Room.{one_packet, room_of_forgets};
 
 use crate::writers::push_packet;
-use charlotte_calls::{MovingPicture, What, Work};
+use charlotte_packets::{MovingPicture, What, Work};
 
 /// The numbers of the kernels that there may be.
 const KERNELS: [u8; 8] = [0, 1, 2, 3, 4, 5, 6, 7];

@@ -1,11 +1,12 @@
 ghost use Rattle.std.specs.Prelude.{◌≡◌};
-ghost use Rattle.charlotte_calls.specs.Packets.{what_picture};
+ghost use Rattle.charlotte_packets.specs.Packets.{what_picture};
 ghost use Rattle.charlotte_calls.specs.declared.names.EndId.{EndId};
 ghost use Rattle.end_table.specs.declared.entry.Entry.{Entry};
 ghost use Rattle.kernel_step.specs.Progress.{progress, sends, reports_to, answers_to, means, HasRoom, AddsAtMost};
 ghost use Rattle.kernel_step.specs.Room.{one_packet, one_report, one_answer, one_step};
 
-use charlotte_calls::{Answer, Packet, Pid, Report, ServiceStep, What, Work};
+use charlotte_calls::{Answer, Pid, Report, ServiceStep};
+use charlotte_packets::{Packet, What, Work};
 
 /// Adds a packet to a kernel, with the stamp of the event.
 #[tactic(auto, unfolding(crate::specs::Progress::progress, crate::specs::Progress::sends))]

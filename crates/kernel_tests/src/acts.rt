@@ -4,7 +4,8 @@ ghost use Rattle.end_table.specs.Table.{entries, IsDestroyed, IsHere};
 
 use crate::samples::{END, OWNER, end_a, message};
 use crate::states::is_idle;
-use charlotte_calls::{Moving, Pid};
+use charlotte_calls::Pid;
+use charlotte_packets::Moving;
 use end_table::{Entry, HereView, Holder, Inward, Lent, NotStored, Outward, Table};
 use std::alloc::{AllocError, Global};
 use std::test::Fail;

@@ -3,7 +3,8 @@
 
 use crate::node::Node;
 use crate::samples::holds;
-use charlotte_calls::{Bytes, Call, EndId, Ends, LinkId, Packet, Pid, Side, Way, What};
+use charlotte_calls::{Bytes, Call, EndId, Ends, LinkId, Pid, Side, Way};
+use charlotte_packets::{Packet, What};
 use std::test::Fail;
 
 const P0: Pid = Pid(0);

@@ -11,7 +11,7 @@ use cancel_core::{
     arrived, finished, notice, post, room, start_send, unwant, unwanted, want, withdraw_receive,
     withdraw_send,
 };
-use charlotte_calls::Work;
+use charlotte_packets::Work;
 use end_table::{Inward, Table};
 use kernel_step::{no_bytes, no_ends};
 use std::alloc::Global;

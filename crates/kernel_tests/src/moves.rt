@@ -1,6 +1,6 @@
 //! Each call of `move_core` once. What follows from them is shown by the worked runs of .ci/rows/runs.
 ghost use Rattle.std.specs.Prelude.{◌≡◌, true, IfOk, [], ◌∷◌};
-ghost use Rattle.charlotte_calls.specs.Moving.{new_end};
+ghost use Rattle.charlotte_packets.specs.Moving.{new_end};
 ghost use Rattle.end_table.specs.Table.{entries, HasPlace, IsHere};
 ghost use Rattle.kernel_tests.specs.declared.samples.TheConstants.{AMPLE};
 ghost use Rattle.kernel_step.specs.Enclosed.{IsReady};
@@ -10,7 +10,8 @@ ghost use Rattle.kernel_step.specs.Room.{room_of_return};
 use crate::samples::{Begin, END, Send, ample, end_a, holds, kept};
 use crate::states::{is_idle, is_ready};
 use crate::telling::told;
-use charlotte_calls::{Cargo, EndId, LinkId, NoMemory, Side, Work};
+use charlotte_calls::{EndId, LinkId, NoMemory, Side};
+use charlotte_packets::{Cargo, Work};
 use end_table::{Inward, Lent, Table};
 use move_core::{
     Route, arrive, destroy, enclose, forget, give_back, gone_seen, known, leave, moved, room, route,

@@ -2,7 +2,8 @@
 ghost use Rattle.std.specs.Prelude.{◌≡◌, ◌<◌, length, IfOk};
 ghost use Rattle.charlotte_calls.specs.Setting.{IsValid};
 
-use charlotte_calls::{Answer, Call, Effect, EndId, Items, Packet, Pid, ServiceStep, Setting};
+use charlotte_calls::{Answer, Call, EndId, Items, Pid, ServiceStep, Setting};
+use charlotte_packets::{Effect, Packet};
 use end_table::{Lent, Table};
 use kernel_core::{Kernel, NotTaken};
 use std::alloc::{AllocError, Global};

@@ -1,10 +1,11 @@
 //! The end on which the table and the cores are tried, how it begins, and what several tests use.
 ghost use Rattle.std.specs.Prelude.{◌≡◌, IfOk};
-ghost use Rattle.charlotte_calls.specs.Moving.{new_end};
+ghost use Rattle.charlotte_packets.specs.Moving.{new_end};
 ghost use Rattle.charlotte_calls.specs.declared.names.Side.TheVariants.{A};
 ghost use Rattle.kernel_step.specs.Progress.{HasRoom};
 
-use charlotte_calls::{Bytes, EndId, Ends, LinkId, Moving, NoMemory, Pid, Room, Side, Work};
+use charlotte_calls::{Bytes, EndId, Ends, LinkId, NoMemory, Pid, Side};
+use charlotte_packets::{Moving, Room, Work};
 use end_table::{HereView, Holder, Inward, NotStored, Outward, Table};
 use kernel_step::{no_bytes, no_ends};
 use std::alloc::Global;

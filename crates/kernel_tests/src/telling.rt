@@ -1,6 +1,7 @@
 //! What is told of an end and of what a call adds.
 
-use charlotte_calls::{Answer, EndId, Packet, Pid, Work};
+use charlotte_calls::{Answer, EndId, Pid};
+use charlotte_packets::{Packet, Work};
 use end_table::{Lent, Table};
 use std::alloc::{AllocError, Global};
 use std::fmt::Write;

@@ -6,9 +6,9 @@ use Rattle.charlotte_calls.specs.declared.calls.Report.{Report}
 use Rattle.charlotte_calls.specs.declared.calls.ServiceStep.TheVariants as step
 use Rattle.charlotte_calls.specs.declared.names.EndId.{EndId}
 use Rattle.charlotte_calls.specs.declared.names.Pid.{Pid}
-use Rattle.charlotte_calls.specs.declared.picture.PictureWhat.{PictureWhat}
-use Rattle.charlotte_calls.specs.declared.picture.PictureWhat.TheVariants as packet
-use Rattle.charlotte_calls.specs.declared.work.Work.{Work}
+use Rattle.charlotte_packets.specs.declared.picture.PictureWhat.{PictureWhat}
+use Rattle.charlotte_packets.specs.declared.picture.PictureWhat.TheVariants as packet
+use Rattle.charlotte_packets.specs.declared.work.Work.{Work}
 use Rattle.end_table.specs.Owned.{is_owner, owned}
 use Rattle.end_table.specs.Table.{IsHere}
 use Rattle.end_table.specs.declared.entry.Entry.{Entry}

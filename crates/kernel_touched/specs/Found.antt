@@ -1,10 +1,10 @@
 -- The end that a packet is addressed to, and whether it is heard there.
 use Rattle.std.specs.Prelude.{◌≡◌, ◌↔◌, Bool, true, false, IsTrue}
-use Rattle.charlotte_calls.specs.Packets.{what_picture}
+use Rattle.charlotte_packets.specs.Packets.{what_picture}
 use Rattle.charlotte_calls.specs.declared.names.EndId.{EndId}
-use Rattle.charlotte_calls.specs.declared.packet.What.{What}
-use Rattle.charlotte_calls.specs.declared.picture.PictureWhat.{PictureWhat}
-use Rattle.charlotte_calls.specs.declared.picture.PictureWhat.TheVariants as packet
+use Rattle.charlotte_packets.specs.declared.packet.What.{What}
+use Rattle.charlotte_packets.specs.declared.picture.PictureWhat.{PictureWhat}
+use Rattle.charlotte_packets.specs.declared.picture.PictureWhat.TheVariants as packet
 use Rattle.end_table.specs.Table.{IsHere}
 use Rattle.end_table.specs.declared.entry.Entry.{Entry}
 use Rattle.kernel_sound.specs.Owners.{owner_of}

@@ -1,5 +1,5 @@
 ghost use Rattle.std.specs.Prelude.{◌≡◌, ◌<◌, true, false, length, map, IfSome};
-ghost use Rattle.charlotte_calls.specs.Packets.{what_picture};
+ghost use Rattle.charlotte_packets.specs.Packets.{what_picture};
 ghost use Rattle.charlotte_calls.specs.declared.names.EndId.{EndId};
 ghost use Rattle.charlotte_calls.specs.declared.names.Pid.{Pid};
 ghost use Rattle.end_table.specs.Owned.{owned};
@@ -13,7 +13,8 @@ ghost use Rattle.kernel_sound.specs.Sound.{addressee};
 ghost use Rattle.kernel_step.specs.Calls.{is_active};
 ghost use Rattle.kernel_touched.specs.Found.{IsFound, is_silent};
 
-use charlotte_calls::{EndId, Pid, What};
+use charlotte_calls::{EndId, Pid};
+use charlotte_packets::What;
 use end_table::{Lent, Table};
 use kernel_process::{Processes, owner_in, refresh_owner};
 

@@ -2,7 +2,7 @@
 use Rattle.std.proofs.Common.{◌≡◌, inl, inr, ℕ, Bool, true, false, nat_eq, ◌&&◌, List, [], ◌∷◌, ◌++◌, map, cond, ap, sym, ◌∙◌, refl, append_assoc, append-nil}
 use Rattle.std.specs.List.{filter}
 use Rattle.std.proofs.lemmas.Bool.Decides.{eqb_tells}
-use Rattle.charlotte_calls.specs.declared.picture.Picture.{Picture}
+use Rattle.charlotte_packets.specs.declared.picture.Picture.{Picture}
 use Rattle.kernel_world.specs.World.{World, Event, Calls, Takes, kernel_of, outcome, rest, removes, adds, adds_all, happens, to_kernel, takes_at, left_at, packets_after}
 
 -- packets from another kernel change no list of this one

@@ -1,6 +1,7 @@
 -- What entries are as values of their types.
 use Rattle.std.specs.Prelude.{All}
-use Rattle.charlotte_calls.specs.Ranges.{IsU8, IsU64, IsPid, IsCallInRange, IsPictureInRange, IsStepInRange}
+use Rattle.charlotte_calls.specs.Ranges.{IsU8, IsU64, IsPid, IsCallInRange, IsStepInRange}
+use Rattle.charlotte_packets.specs.Ranges.{IsPictureInRange}
 use Rattle.kernel_world.specs.declared.entry.Entry.{Entry}
 use Rattle.kernel_world.specs.declared.entry.Happened.{Happened}
 use Rattle.kernel_world.specs.declared.entry.Happened.TheVariants.{Asked, Took}

@@ -3,7 +3,8 @@ ghost use Rattle.kernel_world.specs.Ranges.{IsHappenedInRange, IsEntryInRange};
 ghost use Rattle.kernel_world.specs.declared.entry.Happened.TheVariants.{Asked, Took};
 
 use crate::ranges::{tell_call, tell_picture, tell_pid, tell_steps, tell_u8, tell_u64};
-use charlotte_calls::{Call, Items, NoMemory, Picture, Pid, ServiceStep};
+use charlotte_calls::{Call, Items, NoMemory, Pid, ServiceStep};
+use charlotte_packets::Picture;
 use compact_calls::{CompactCall, CompactPicture, CompactStep};
 use std::alloc::Global;
 

@@ -1,11 +1,11 @@
 //! That a packet's numbers are in the range of their types, told to contracts.
-ghost use Rattle.charlotte_calls.specs.Packets.{packet_picture, what_picture};
-ghost use Rattle.charlotte_calls.specs.Ranges.{AreValuesInRange, IsPacketInRange, IsPictureInRange};
+ghost use Rattle.charlotte_packets.specs.Packets.{packet_picture, what_picture};
+ghost use Rattle.charlotte_packets.specs.Ranges.{AreValuesInRange, IsPacketInRange, IsPictureInRange};
 
 use crate::ranges::{
     tell_bytes, tell_each_value, tell_end, tell_u8, tell_u32, tell_u64, tell_wanted,
 };
-use charlotte_calls::{Cargo, Packet, What};
+use charlotte_packets::{Cargo, Packet, What};
 
 /// That the numbers of a packet are in the range of their types.
 pub fn tell_packet(packet: &Packet)

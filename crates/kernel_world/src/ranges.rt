@@ -1,12 +1,11 @@
 //! That values are in the range of their types, told to contracts. These calls read and do nothing else.
 ghost use Rattle.std.specs.Prelude.{All};
 ghost use Rattle.std.specs.List.{AllByRecursion};
-ghost use Rattle.charlotte_calls.specs.Ranges.{IsU8, IsU16, IsU32, IsU64, IsEnd, AreBytes, AreBytesInRange, AreEndsInRange, AreValuesInRange, IsPid, IsValueInRange, IsCallInRange, IsPacketInRange, IsPictureInRange, IsReportInRange, IsStepInRange};
+ghost use Rattle.charlotte_calls.specs.Ranges.{IsU8, IsU16, IsU32, IsU64, IsEnd, AreBytes, AreBytesInRange, AreEndsInRange, IsPid, IsCallInRange, IsReportInRange, IsStepInRange};
+ghost use Rattle.charlotte_packets.specs.Ranges.{AreValuesInRange, IsValueInRange, IsPacketInRange, IsPictureInRange};
 
-use charlotte_calls::{
-    Bytes, Call, CargoPicture, EndId, Ends, MovingPicture, Picture, PictureWhat, Pid, Report,
-    ServiceStep,
-};
+use charlotte_calls::{Bytes, Call, EndId, Ends, Pid, Report, ServiceStep};
+use charlotte_packets::{CargoPicture, MovingPicture, Picture, PictureWhat};
 
 /// That a number is in the range of its type.
 pub fn tell_u8(number: u8)

@@ -6,7 +6,7 @@ ghost use Rattle.charlotte_calls.specs.declared.calls.Cause.TheVariants.{Late};
 ghost use Rattle.charlotte_calls.specs.declared.names.EndId.{EndId};
 ghost use Rattle.charlotte_calls.specs.declared.names.Pid.{Pid};
 ghost use Rattle.charlotte_calls.specs.declared.names.Way.{Way};
-ghost use Rattle.charlotte_calls.specs.declared.picture.Picture.{Picture};
+ghost use Rattle.charlotte_packets.specs.declared.picture.Picture.{Picture};
 ghost use Rattle.charlotte_calls.specs.declared.setting.Setting.{Setting};
 ghost use Rattle.kernel_step.specs.Start.{start_kernel};
 ghost use Rattle.kernel_world.specs.Run.{AreInOrder, of_kernel};

@@ -1,6 +1,6 @@
 ghost use Rattle.std.specs.Prelude.{◌≡◌, ℕ, ◌≤◌, ◌^◌, List, length};
 ghost use Rattle.charlotte_calls.specs.Setting.{IsValid};
-ghost use Rattle.charlotte_calls.specs.declared.picture.Picture.{Picture};
+ghost use Rattle.charlotte_packets.specs.declared.picture.Picture.{Picture};
 ghost use Rattle.charlotte_calls.specs.declared.setting.Setting.{Setting};
 ghost use Rattle.kernel_step.specs.Start.{start_kernel};
 ghost use Rattle.kernel_world.specs.Run.{AreInOrder, IsRun, of_kernel};

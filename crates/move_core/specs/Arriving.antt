@@ -1,7 +1,7 @@
 -- Values of ends that a packet brings.
 use Rattle.std.specs.Prelude.{◌≡◌, false, List, [], ◌∷◌}
 use Rattle.std.specs.List.{list_any}
-use Rattle.charlotte_calls.specs.declared.picture.MovingPicture.{MovingPicture}
+use Rattle.charlotte_packets.specs.declared.picture.MovingPicture.{MovingPicture}
 use Rattle.end_table.specs.Place.{end_eq}
 use Rattle.end_table.specs.Table.{TableView, entries, HasPlace, IsHere}
 use Rattle.kernel_step.specs.Rows.{ends_in}

@@ -1,6 +1,6 @@
 ghost use Rattle.std.specs.Prelude.{◌≡◌, length, IfSome};
 ghost use Rattle.charlotte_calls.specs.declared.names.EndId.{EndId};
-ghost use Rattle.charlotte_calls.specs.declared.work.Work.{Work};
+ghost use Rattle.charlotte_packets.specs.declared.work.Work.{Work};
 ghost use Rattle.end_table.specs.Entries.{ended_entry};
 ghost use Rattle.end_table.specs.Table.{entries, HasPlace, IfHere, IsHere, Puts};
 ghost use Rattle.kernel_step.specs.Actions.{ends_idle, tell_arrivals};
@@ -12,7 +12,8 @@ ghost use Rattle.move_core.specs.Arriving.{AreAway, AreApart};
 use crate::ending::tell_gone;
 use crate::parcel::settle_and_tell;
 use crate::settling::settle;
-use charlotte_calls::{Cargo, EndId, Moving, MovingPicture, Outcome, Work};
+use charlotte_calls::{EndId, Outcome};
+use charlotte_packets::{Cargo, Moving, MovingPicture, Work};
 use end_table::{Holder, Sending, Table};
 use kernel_step::{ends_in, keep_sending, report, send_report, sender};
 

@@ -1,8 +1,8 @@
 ghost use Rattle.std.specs.Prelude.{◌≡◌, length};
 ghost use Rattle.charlotte_calls.specs.Names.{opposite};
 ghost use Rattle.charlotte_calls.specs.declared.names.EndId.{EndId};
-ghost use Rattle.charlotte_calls.specs.declared.picture.PictureWhat.TheVariants as packet;
-ghost use Rattle.charlotte_calls.specs.declared.work.Work.{Work};
+ghost use Rattle.charlotte_packets.specs.declared.picture.PictureWhat.TheVariants as packet;
+ghost use Rattle.charlotte_packets.specs.declared.work.Work.{Work};
 ghost use Rattle.end_table.specs.Entries.{ended_entry};
 ghost use Rattle.end_table.specs.Table.{entries, IfHere, IsHere, KeepsOthers};
 ghost use Rattle.end_table.specs.declared.entry.Entry.{Entry};
@@ -13,7 +13,8 @@ ghost use Rattle.kernel_step.specs.Progress.{progress, sends, keeps, HasRoom, Ad
 ghost use Rattle.kernel_step.specs.Room.{one_packet, packets, room_of_end, room_of_forgets};
 ghost use Rattle.kernel_step.specs.Rows.{goneseen_row, erases};
 
-use charlotte_calls::{EndId, Ends, Mark, MovingPicture, What, Work};
+use charlotte_calls::{EndId, Ends};
+use charlotte_packets::{Mark, MovingPicture, What, Work};
 use end_table::{Lent, Living, Sending, Table};
 use kernel_step::{enclosed_ends, first_of, forget, no_ends, push_packet};
 

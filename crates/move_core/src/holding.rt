@@ -4,7 +4,8 @@ ghost use Rattle.end_table.specs.declared.entry.Holder.TheVariants.{EnclosedIn};
 ghost use Rattle.kernel_step.specs.Actions.{here, held};
 ghost use Rattle.kernel_step.specs.Progress.{progress};
 
-use charlotte_calls::{EndId, Work};
+use charlotte_calls::EndId;
+use charlotte_packets::Work;
 use end_table::{Holder, Table};
 use kernel_step::hold;
 

@@ -5,7 +5,8 @@ ghost use Rattle.kernel_step.specs.Progress.{progress, HasRoom, StaysWithin};
 ghost use Rattle.kernel_step.specs.Room.{one_packet, room_of_forgets, room_of_moved};
 ghost use Rattle.kernel_step.specs.Rows.{moved_row, moved_here, mark_learns, moved_mark, known_row, known_here, forget_row};
 
-use charlotte_calls::{EndId, Mark, What, Work};
+use charlotte_calls::EndId;
+use charlotte_packets::{Mark, What, Work};
 use end_table::{Lent, Table};
 use kernel_step::{Site, keep_inward, learn, push_packet};
 

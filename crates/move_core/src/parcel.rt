@@ -1,6 +1,6 @@
 ghost use Rattle.std.specs.Prelude.{◌≡◌, ◌+◌, ◌≤◌, length, map, ◌++◌, IfSome};
 ghost use Rattle.charlotte_calls.specs.declared.names.EndId.{EndId};
-ghost use Rattle.charlotte_calls.specs.declared.work.Work.{Work};
+ghost use Rattle.charlotte_packets.specs.declared.work.Work.{Work};
 ghost use Rattle.end_table.specs.Entries.{left_value, left_entry};
 ghost use Rattle.end_table.specs.Table.{entries, HasPlace, IsHere, Puts};
 ghost use Rattle.kernel_step.specs.Actions.{leaves, settle_each, tell_arrivals};
@@ -10,7 +10,8 @@ ghost use Rattle.kernel_step.specs.Rows.{asks, arrive_row, pass_each, sends_back
 ghost use Rattle.move_core.specs.Arriving.{AreAway, AreApart};
 
 use crate::settling::{settle, settle_each, tell_arrivals};
-use charlotte_calls::{Cargo, EndId, Moving, What, Work};
+use charlotte_calls::EndId;
+use charlotte_packets::{Cargo, Moving, What, Work};
 use end_table::{Holder, Table};
 use kernel_step::{MOST_ENDS, push_packet, receiver};
 

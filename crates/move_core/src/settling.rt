@@ -1,7 +1,7 @@
 ghost use Rattle.std.specs.Prelude.{◌≡◌, [], length, Some, None};
 ghost use Rattle.charlotte_calls.specs.declared.names.EndId.{EndId};
-ghost use Rattle.charlotte_calls.specs.declared.picture.MovingPicture.{MovingPicture};
-ghost use Rattle.charlotte_calls.specs.declared.work.Work.{Work};
+ghost use Rattle.charlotte_packets.specs.declared.picture.MovingPicture.{MovingPicture};
+ghost use Rattle.charlotte_packets.specs.declared.work.Work.{Work};
 ghost use Rattle.end_table.specs.Entries.{settled};
 ghost use Rattle.end_table.specs.Table.{entries, HasPlace, IsHere, Puts};
 ghost use Rattle.end_table.specs.declared.entry.Entry.{Entry};
@@ -11,7 +11,7 @@ ghost use Rattle.kernel_step.specs.Progress.{progress, keeps, HasRoom, AddsAtMos
 ghost use Rattle.kernel_step.specs.Room.{one_packet, packets};
 ghost use Rattle.move_core.specs.Arriving.{AreAway, AreApart};
 
-use charlotte_calls::{Cargo, Moving, MovingPicture, Work};
+use charlotte_packets::{Cargo, Moving, MovingPicture, Work};
 use end_table::{Holder, NotStored, Table};
 use kernel_step::{first_of, tell_moved};
 

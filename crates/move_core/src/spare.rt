@@ -1,6 +1,7 @@
 ghost use Rattle.std.specs.Prelude.{◌≡◌};
 
-use charlotte_calls::{EndId, Room};
+use charlotte_calls::EndId;
+use charlotte_packets::Room;
 use end_table::Table;
 use kernel_step::PACKETS_OF_END;
 

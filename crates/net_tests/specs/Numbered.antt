@@ -1,7 +1,7 @@
 -- What the threads put: packets that differ in their stamps alone.
 use Rattle.std.specs.Prelude.{ℕ, zero, suc, List, [], ◌∷◌, ◌++◌}
 use Rattle.charlotte_calls.specs.declared.names.Side.TheVariants.{A}
-use Rattle.charlotte_calls.specs.declared.packet.What.TheVariants.{Known}
+use Rattle.charlotte_packets.specs.declared.packet.What.TheVariants.{Known}
 use Rattle.kernel_net.specs.declared.letter.Letter.{Letter}
 use Rattle.kernel_net.specs.declared.letter.Letter.TheVariants.{Packet}
 

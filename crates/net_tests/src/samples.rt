@@ -1,5 +1,6 @@
 //! What several tests use.
-use charlotte_calls::{Bytes, Cargo, EndId, LinkId, Moving, Packet, Side, What};
+use charlotte_calls::{Bytes, EndId, LinkId, Side};
+use charlotte_packets::{Cargo, Moving, Packet, What};
 use kernel_net::Letter;
 use std::alloc::Global;
 use std::test::Fail;

@@ -3,7 +3,8 @@ ghost use Rattle.std.specs.Prelude.{◌≡◌, ◌+◌, ◌<◌, ◌≤◌, ◌^
 ghost use Rattle.kernel_net.specs.Ports.{AreOfOneNet, got_from, kernels_of, place_of, put_to, there_of};
 ghost use Rattle.net_tests.specs.Numbered.{numbered, numbered_below};
 
-use charlotte_calls::{EndId, LinkId, NoMemory, Packet, Side, What};
+use charlotte_calls::{EndId, LinkId, NoMemory, Side};
+use charlotte_packets::{Packet, What};
 use kernel_net::{Letter, Net, Port, meet};
 use std::alloc::Global;
 use std::thread;

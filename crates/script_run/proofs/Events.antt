@@ -5,14 +5,14 @@ use Rattle.std.specs.Option.{option_copied, option_map}
 use Rattle.std.proofs.lemmas.List.{map-append}
 use Rattle.std.proofs.lemmas.List.Elements.{filter-append}
 use Rattle.std.proofs.lemmas.Bool.Decides.{eqb_tells}
-use Rattle.charlotte_calls.specs.Packets.{packet_picture}
+use Rattle.charlotte_packets.specs.Packets.{packet_picture}
 use Rattle.charlotte_calls.specs.declared.calls.Call.{Call}
 use Rattle.charlotte_calls.specs.declared.names.EndId.{EndId}
 use Rattle.charlotte_calls.specs.declared.names.Pid.{Pid}
-use Rattle.charlotte_calls.specs.declared.packet.Packet.{Packet}
+use Rattle.charlotte_packets.specs.declared.packet.Packet.{Packet}
 use Rattle.kernel_step.specs.Calls.{IsCallWith}
 use Rattle.charlotte_calls.specs.declared.calls.ServiceStep.{ServiceStep}
-use Rattle.charlotte_calls.specs.declared.picture.Picture.{Picture}
+use Rattle.charlotte_packets.specs.declared.picture.Picture.{Picture}
 use Rattle.charlotte_calls.specs.declared.setting.Setting.{Setting}
 use Rattle.journal_text.specs.Journal.{IsAfterLast}
 use Rattle.kernel_nodes.specs.Nodes.{AreNodes, Happens, IsNotedOf, world_of}

@@ -3,7 +3,7 @@ use Rattle.std.proofs.Common.{◌≡◌, ◌≢◌, ◌⊎◌, ◌&&◌, inl, in
 use Rattle.std.specs.List.{find, flat_map, range_with_len}
 use Rattle.std.specs.Option.{option_map}
 use Rattle.std.proofs.lemmas.Bool.Decides.{eqb_tells}
-use Rattle.charlotte_calls.specs.declared.picture.Picture.{Picture}
+use Rattle.charlotte_packets.specs.declared.picture.Picture.{Picture}
 use Rattle.charlotte_calls.specs.declared.setting.Setting.{Setting}
 use Rattle.kernel_world.proofs.Packets.{happens-packets}
 use Rattle.kernel_world.specs.World.{World, Event, Takes, happens, after, outcome, rest, sends_at, to_kernel}

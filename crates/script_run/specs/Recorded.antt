@@ -5,7 +5,7 @@ use Rattle.std.specs.List.{range_with_len}
 use Rattle.std.specs.Option.{option_to_list}
 use Rattle.charlotte_calls.specs.declared.calls.Call.{Call}
 use Rattle.charlotte_calls.specs.declared.names.Pid.{Pid}
-use Rattle.charlotte_calls.specs.declared.picture.Picture.{Picture}
+use Rattle.charlotte_packets.specs.declared.picture.Picture.{Picture}
 use Rattle.charlotte_calls.specs.declared.setting.Setting.{Setting}
 use Rattle.kernel_nodes.specs.Nodes.{AreNodes, sent_to, world_of}
 use Rattle.kernel_step.specs.Kernel.{process_of}

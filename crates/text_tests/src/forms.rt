@@ -2,10 +2,8 @@
 //! them are shown by the worked runs of .ci/rows/runs.
 
 use crate::journals::{asked, ends, holds, same_lines, text};
-use charlotte_calls::{
-    Call, CargoPicture, Cause, EndId, LinkId, MovingPicture, Outcome, Picture, PictureWhat, Pid,
-    Report, ServiceStep, Side, Way,
-};
+use charlotte_calls::{Call, Cause, EndId, LinkId, Outcome, Pid, Report, ServiceStep, Side, Way};
+use charlotte_packets::{CargoPicture, MovingPicture, Picture, PictureWhat};
 use compact_calls::{CompactPicture, CompactStep};
 use journal_text::{Placed, print_entry, print_picture};
 use std::alloc::Global;

@@ -2,9 +2,9 @@
 ghost use Rattle.std.specs.Prelude.{◌≡◌, IfOk};
 
 use charlotte_calls::{
-    Bytes, Call, EndId, Ends, Items, LinkId, Picture, PictureWhat, Pid, ServiceStep, Setting,
-    Short, Side,
+    Bytes, Call, EndId, Ends, Items, LinkId, Pid, ServiceStep, Setting, Short, Side,
 };
+use charlotte_packets::{Picture, PictureWhat};
 use journal_text::{Entry, Happened, Last, Placed, ScriptNote, print_header, print_transcript};
 use std::alloc::Global;
 use std::test::Fail;

@@ -12,7 +12,7 @@ use Rattle.charlotte_calls.specs.declared.calls.ServiceStep.TheVariants as step
 use Rattle.charlotte_calls.specs.declared.names.EndId.{EndId}
 use Rattle.charlotte_calls.specs.declared.names.Pid.{Pid}
 use Rattle.charlotte_calls.specs.declared.names.Way.TheVariants as way
-use Rattle.charlotte_calls.specs.declared.picture.Picture.{Picture}
+use Rattle.charlotte_packets.specs.declared.picture.Picture.{Picture}
 use Rattle.charlotte_calls.specs.declared.setting.Setting.{Setting}
 use Rattle.kernel_step.specs.Calls.{refusal, IsCallWith}
 use Rattle.kernel_step.specs.Kernel.{Kernel, Outcome, Process as KernelProcess, begins, call_step, closes, decides, granted, has_report, join_answers, join_reports, next_stamp, performs, process_of, refuses, without_answer}

@@ -3,7 +3,7 @@ use Rattle.std.proofs.Common.{◌≡◌, ◌≢◌, ◌⊎◌, inl, inr, ℕ, �
 use Rattle.std.proofs.lemmas.Bool.Decides.{eqb_tells}
 use Rattle.charlotte_calls.specs.declared.names.EndId.{EndId}
 use Rattle.charlotte_calls.specs.declared.names.Pid.{Pid}
-use Rattle.charlotte_calls.specs.declared.picture.MovingPicture.{MovingPicture}
+use Rattle.charlotte_packets.specs.declared.picture.MovingPicture.{MovingPicture}
 use Rattle.end_table.proofs.EndEq.{end_eq-refl, end_eq-same}
 use Rattle.end_table.specs.Place.{end_eq}
 use Rattle.end_table.specs.Table.{IsIdle}

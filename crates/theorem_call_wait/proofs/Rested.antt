@@ -1,9 +1,9 @@
 -- Once a report is given, its way of its end is idle, at the kernel and in the service: what is the same of the end.
 use Rattle.std.proofs.Common.{◌≡◌, ◌⊎◌, inl, inr, ℕ, true, false, ◌&&◌, if◌then◌else◌, Some, refl, sym, ap, subst, ◌∙◌}
-use Rattle.charlotte_calls.specs.Packets.{names_kernels_below}
+use Rattle.charlotte_packets.specs.Packets.{names_kernels_below}
 use Rattle.charlotte_calls.specs.declared.names.Way.{Way}
 use Rattle.charlotte_calls.specs.declared.names.Way.TheVariants as way
-use Rattle.charlotte_calls.specs.declared.picture.MovingPicture.{MovingPicture}
+use Rattle.charlotte_packets.specs.declared.picture.MovingPicture.{MovingPicture}
 use Rattle.end_table.specs.Table.{IsHereAnd}
 use Rattle.end_table.specs.declared.entry.Entry.{Entry}
 use Rattle.end_table.specs.declared.entry.Entry.TheVariants as entry

@@ -8,7 +8,7 @@ use Rattle.charlotte_calls.specs.declared.calls.Report.{Report}
 use Rattle.charlotte_calls.specs.declared.calls.ServiceStep.TheVariants as step
 use Rattle.charlotte_calls.specs.declared.names.EndId.{EndId}
 use Rattle.charlotte_calls.specs.declared.names.Pid.{Pid}
-use Rattle.charlotte_calls.specs.declared.picture.Picture.{Picture}
+use Rattle.charlotte_packets.specs.declared.picture.Picture.{Picture}
 use Rattle.kernel_effects.specs.Calls.{act_effect}
 use Rattle.kernel_effects.specs.Effect.{Effect, stamped}
 use Rattle.kernel_outcomes.proofs.Called.{call-gives, call-refused}

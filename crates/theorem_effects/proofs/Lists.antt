@@ -1,8 +1,8 @@
 -- Elements of lists, and the packets of an event that go to one kernel.
 use Rattle.std.proofs.Common.{◌≡◌, ℕ, zero, suc, Bool, true, false, nat_eq, cond, if◌then◌else◌, ◌⊎◌, inl, inr, List, [], ◌∷◌, map, All, Contains, refl, sym, ap, subst, ◌∙◌, arith, eqb-true, eq-eqb, true≢false}
 use Rattle.std.specs.List.{filter}
-use Rattle.charlotte_calls.specs.declared.picture.Picture.{Picture}
-use Rattle.charlotte_calls.specs.declared.picture.PictureWhat.{PictureWhat}
+use Rattle.charlotte_packets.specs.declared.picture.Picture.{Picture}
+use Rattle.charlotte_packets.specs.declared.picture.PictureWhat.{PictureWhat}
 use Rattle.kernel_effects.specs.Effect.{stamped}
 use Rattle.kernel_world.specs.World.{to_kernel}
 

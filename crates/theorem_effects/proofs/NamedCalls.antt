@@ -1,6 +1,6 @@
 -- A call makes a kernel name no other kernels than those that it named, and itself.
 use Rattle.std.proofs.Common.{◌≡◌, ℕ, ◌<◌, nat_eq, List, Option, Some, None, refl, subst, lt-ltb, pow_pos}
-use Rattle.charlotte_calls.specs.Moving.{new_end}
+use Rattle.charlotte_packets.specs.Moving.{new_end}
 use Rattle.charlotte_calls.specs.Names.{opposite}
 use Rattle.charlotte_calls.specs.declared.calls.Call.{Call}
 use Rattle.charlotte_calls.specs.declared.calls.Call.TheVariants as call

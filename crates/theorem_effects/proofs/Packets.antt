@@ -1,8 +1,8 @@
 -- The packets that stand in the lists after an event, by those before, the one that was taken and those that were sent.
 use Rattle.std.proofs.Common.{◌≡◌, ℕ, Bool, true, false, nat_eq, if◌then◌else◌, ◌⊎◌, inl, inr, [], ◌∷◌, Contains, Option, None, Some, refl, sym, ap, subst, ◌∙◌, eqb-true, eq-eqb}
 use Rattle.std.proofs.lemmas.List.Elements.{All-contains, Contains-append_left, Contains-append_right, Contains-append_cases}
-use Rattle.charlotte_calls.specs.declared.picture.Picture.{Picture}
-use Rattle.charlotte_calls.specs.declared.picture.PictureWhat.{PictureWhat}
+use Rattle.charlotte_packets.specs.declared.picture.Picture.{Picture}
+use Rattle.charlotte_packets.specs.declared.picture.PictureWhat.{PictureWhat}
 use Rattle.theorem_meaning.specs.Packets.{Links, IsUnderWay, Each}
 use Rattle.theorem_effects.specs.Change.{Change, Changes, taken_from, taken_at, sent_at}
 use Rattle.theorem_effects.specs.Under.{IsTaken, IsLeft, IsSent}

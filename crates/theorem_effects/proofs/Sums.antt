@@ -1,8 +1,8 @@
 -- Sums over all packets that are under way, after an event: what it took counts no more, and what it sent counts.
 use Rattle.std.proofs.Common.{◌≡◌, ℕ, ◌+◌, ◌<◌, Bool, true, false, nat_eq, if◌then◌else◌, List, [], ◌∷◌, ◌++◌, IfSome, Option, Some, None, refl, ap, ◌∙◌, arith, eq-eqb, ne_eqb}
 use Rattle.charlotte_calls.specs.declared.names.EndId.{EndId}
-use Rattle.charlotte_calls.specs.declared.picture.Picture.{Picture}
-use Rattle.charlotte_calls.specs.declared.picture.PictureWhat.{PictureWhat}
+use Rattle.charlotte_packets.specs.declared.picture.Picture.{Picture}
+use Rattle.charlotte_packets.specs.declared.picture.PictureWhat.{PictureWhat}
 use Rattle.kernel_step.specs.Rows.{is_here}
 use Rattle.theorem_meaning.proofs.Sums.{over-change, over-none, over-one, over-same}
 use Rattle.theorem_meaning.specs.Packets.{Links, one_if, over_kernels, sum_in, sum_over, values_for, values_of}

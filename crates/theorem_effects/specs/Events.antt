@@ -7,7 +7,7 @@ use Rattle.charlotte_calls.specs.declared.calls.Cause.{Cause}
 use Rattle.charlotte_calls.specs.declared.calls.Report.{Report}
 use Rattle.charlotte_calls.specs.declared.calls.ServiceStep.TheVariants as step
 use Rattle.charlotte_calls.specs.declared.names.Pid.{Pid}
-use Rattle.charlotte_calls.specs.declared.picture.Picture.{Picture}
+use Rattle.charlotte_packets.specs.declared.picture.Picture.{Picture}
 use Rattle.kernel_effects.specs.Effect.{Effect}
 use Rattle.kernel_outcomes.specs.Closing.{call_answered, call_told, called, process_after, ran, told, told_entry}
 use Rattle.kernel_sound.specs.Acts.{made_after}

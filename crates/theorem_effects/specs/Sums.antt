@@ -1,8 +1,8 @@
 -- What an event takes of sums over packets and adds to them.
 use Rattle.std.specs.Prelude.{ℕ, ◌+◌, ◌<◌, List, [], ◌∷◌, IfSome, Option, None, Some}
 use Rattle.std.specs.List.{AllByRecursion}
-use Rattle.charlotte_calls.specs.declared.picture.Picture.{Picture}
-use Rattle.charlotte_calls.specs.declared.picture.PictureWhat.{PictureWhat}
+use Rattle.charlotte_packets.specs.declared.picture.Picture.{Picture}
+use Rattle.charlotte_packets.specs.declared.picture.PictureWhat.{PictureWhat}
 use Rattle.theorem_effects.specs.Change.{Change}
 
 -- this is true of each packet that is sent, with the kernel that it goes to

@@ -1,7 +1,7 @@
 -- Which packets an event took, left and sent.
 use Rattle.std.specs.Prelude.{◌≡◌, ℕ, Contains, Some}
-use Rattle.charlotte_calls.specs.declared.picture.Picture.{Picture}
-use Rattle.charlotte_calls.specs.declared.picture.PictureWhat.{PictureWhat}
+use Rattle.charlotte_packets.specs.declared.picture.Picture.{Picture}
+use Rattle.charlotte_packets.specs.declared.picture.PictureWhat.{PictureWhat}
 use Rattle.theorem_meaning.specs.Packets.{Links}
 use Rattle.theorem_effects.specs.Change.{Change, Changes}
 

@@ -9,7 +9,7 @@ use Rattle.charlotte_calls.specs.declared.calls.ServiceStep.{ServiceStep}
 use Rattle.charlotte_calls.specs.declared.calls.ServiceStep.TheVariants as step
 use Rattle.charlotte_calls.specs.declared.names.EndId.{EndId}
 use Rattle.charlotte_calls.specs.declared.names.Pid.{Pid}
-use Rattle.charlotte_calls.specs.declared.picture.Picture.{Picture}
+use Rattle.charlotte_packets.specs.declared.picture.Picture.{Picture}
 use Rattle.end_table.proofs.EndEq.{end_eq-refl, end_eq-same, put-at, put-other}
 use Rattle.end_table.specs.Place.{end_eq, put}
 use Rattle.kernel_effects.specs.Effect.{Effect}

@@ -3,8 +3,8 @@
 use Rattle.std.proofs.Common.{◌≡◌, ℕ, ◌<◌, ◌≤◌, true, nat_lt, List, ◌∷◌, slice_index, Contains, refl, sym, ap, subst, ◌∙◌, arith, ltb-true}
 use Rattle.charlotte_calls.specs.declared.names.EndId.{EndId}
 use Rattle.charlotte_calls.specs.declared.names.Pid.{Pid}
-use Rattle.charlotte_calls.specs.declared.picture.MovingPicture.{MovingPicture}
-use Rattle.charlotte_calls.specs.declared.picture.Picture.{Picture}
+use Rattle.charlotte_packets.specs.declared.picture.MovingPicture.{MovingPicture}
+use Rattle.charlotte_packets.specs.declared.picture.Picture.{Picture}
 use Rattle.end_table.specs.Table.{IsHere}
 use Rattle.kernel_sound.proofs.Values.{AreComing}
 use Rattle.kernel_step.proofs.Folds.{AreDifferent}

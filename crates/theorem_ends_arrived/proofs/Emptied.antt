@@ -1,10 +1,10 @@
 -- A packet without the values that it carried says all else that it said.
 use Rattle.std.proofs.Common.{◌≡◌, ◌↔◌, ℕ, true, ◌&&◌, [], refl, ap}
 use Rattle.std.proofs.lemmas.Bool.{and_parts}
-use Rattle.charlotte_calls.specs.Packets.{is_addressed}
+use Rattle.charlotte_packets.specs.Packets.{is_addressed}
 use Rattle.charlotte_calls.specs.declared.names.EndId.{EndId}
-use Rattle.charlotte_calls.specs.declared.picture.PictureWhat.{PictureWhat}
-use Rattle.charlotte_calls.specs.declared.picture.PictureWhat.TheVariants as packet
+use Rattle.charlotte_packets.specs.declared.picture.PictureWhat.{PictureWhat}
+use Rattle.charlotte_packets.specs.declared.picture.PictureWhat.TheVariants as packet
 use Rattle.kernel_sound.specs.Sound.{addressee}
 use Rattle.theorem_meaning.specs.Fields.{IsAsking, IsNews, IsUnwantOf}
 use Rattle.theorem_meaning.specs.Invariant.{is_message_of, is_taken_of, is_unwanted_to}

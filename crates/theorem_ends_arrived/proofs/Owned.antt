@@ -1,7 +1,7 @@
 -- An end that is here and not idle is owned by a process of that kernel.
 use Rattle.std.proofs.Common.{◌≡◌, inl, inr, ℕ, true, length, Contains, refl, sym, ap, subst, ◌∙◌, true≢false}
 use Rattle.charlotte_calls.specs.declared.names.EndId.{EndId}
-use Rattle.charlotte_calls.specs.declared.picture.PictureWhat.{PictureWhat}
+use Rattle.charlotte_packets.specs.declared.picture.PictureWhat.{PictureWhat}
 use Rattle.end_table.specs.Table.{IfHere, IsIdle}
 use Rattle.end_table.specs.declared.entry.Entry.TheVariants as entry
 use Rattle.end_table.specs.declared.entry.HereView.{HereView}

@@ -2,10 +2,10 @@
 use Rattle.std.proofs.Common.{◌≡◌, ◌⊎◌, inl, inr, ℕ, ◌+◌, ◌-◌, ◌^◌, ◌<◌, ◌≤◌, Bool, true, false, ◌&&◌, if◌then◌else◌, List, length, Contains, is_some, refl, sym, ap, subst, ◌∙◌, arith, true≢false, lt-ltb}
 use Rattle.std.specs.List.{list_all}
 use Rattle.charlotte_calls.specs.Names.{opposite}
-use Rattle.charlotte_calls.specs.Packets.{names_kernels_below}
+use Rattle.charlotte_packets.specs.Packets.{names_kernels_below}
 use Rattle.charlotte_calls.specs.declared.names.EndId.{EndId}
-use Rattle.charlotte_calls.specs.declared.picture.MovingPicture.{MovingPicture}
-use Rattle.charlotte_calls.specs.declared.picture.PictureWhat.{PictureWhat}
+use Rattle.charlotte_packets.specs.declared.picture.MovingPicture.{MovingPicture}
+use Rattle.charlotte_packets.specs.declared.picture.PictureWhat.{PictureWhat}
 use Rattle.end_table.proofs.EndEq.{end_eq-refl, end_eq-same, end_eq-sym}
 use Rattle.end_table.specs.Place.{end_eq}
 use Rattle.end_table.specs.Table.{IsHereAnd}

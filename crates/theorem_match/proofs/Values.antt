@@ -4,9 +4,9 @@ use Rattle.std.proofs.lemmas.Bool.Decides.{leb_tells}
 use Rattle.std.proofs.lemmas.List.Elements.{Contains-append_cases}
 use Rattle.std.specs.List.{flat_map, list_any}
 use Rattle.charlotte_calls.specs.declared.names.EndId.{EndId}
-use Rattle.charlotte_calls.specs.declared.picture.MovingPicture.{MovingPicture}
-use Rattle.charlotte_calls.specs.declared.picture.Picture.{Picture}
-use Rattle.charlotte_calls.specs.declared.picture.PictureWhat.{PictureWhat}
+use Rattle.charlotte_packets.specs.declared.picture.MovingPicture.{MovingPicture}
+use Rattle.charlotte_packets.specs.declared.picture.Picture.{Picture}
+use Rattle.charlotte_packets.specs.declared.picture.PictureWhat.{PictureWhat}
 use Rattle.end_table.proofs.EndEq.{end_eq-same}
 use Rattle.end_table.specs.Entries.{left_value}
 use Rattle.end_table.specs.Place.{end_eq}

@@ -1,6 +1,6 @@
 -- The sum over the kernels.
 use Rattle.std.proofs.Common.{◌≡◌, ◌≢◌, ℕ, zero, suc, ◌+◌, ◌<◌, ◌≤◌, [], refl, ap, arith}
-use Rattle.charlotte_calls.specs.declared.picture.PictureWhat.{PictureWhat}
+use Rattle.charlotte_packets.specs.declared.picture.PictureWhat.{PictureWhat}
 use Rattle.theorem_meaning.specs.Packets.{Links, over_kernels, sum_in, sum_over}
 
 pub over-none : (f : ℕ → ℕ) → ((k : ℕ) → f k ≡ 0) → over_kernels f ≡ 0

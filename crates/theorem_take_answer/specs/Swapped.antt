@@ -2,9 +2,9 @@
 use Rattle.std.specs.Prelude.{◌≡◌, ℕ, ◌≤◌, nat_eq, if◌then◌else◌, ◌⊎◌, ◌↔◌, ◌++◌, true, false, Some}
 use Rattle.charlotte_calls.specs.declared.names.EndId.{EndId}
 use Rattle.charlotte_calls.specs.declared.names.Pid.{Pid}
-use Rattle.charlotte_calls.specs.declared.picture.Picture.{Picture}
-use Rattle.charlotte_calls.specs.declared.picture.PictureWhat.{PictureWhat}
-use Rattle.charlotte_calls.specs.declared.picture.PictureWhat.TheVariants as packet
+use Rattle.charlotte_packets.specs.declared.picture.Picture.{Picture}
+use Rattle.charlotte_packets.specs.declared.picture.PictureWhat.{PictureWhat}
+use Rattle.charlotte_packets.specs.declared.picture.PictureWhat.TheVariants as packet
 use Rattle.end_table.specs.Table.{IsHereAnd}
 use Rattle.end_table.specs.declared.entry.Entry.{Entry}
 use Rattle.end_table.specs.declared.entry.Entry.TheVariants as entry

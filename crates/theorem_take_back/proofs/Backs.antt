@@ -4,16 +4,16 @@ use Rattle.std.proofs.Common.{◌≡◌, inl, ℕ, ◌+◌, ◌<◌, Bool, true,
 use Rattle.std.proofs.lemmas.List.Elements.{All-contains}
 use Rattle.std.specs.List.{flat_map, list_any}
 use Rattle.charlotte_calls.specs.Names.{opposite}
-use Rattle.charlotte_calls.specs.Packets.{is_addressed}
+use Rattle.charlotte_packets.specs.Packets.{is_addressed}
 use Rattle.charlotte_calls.specs.declared.calls.Answer.{Answer}
 use Rattle.charlotte_calls.specs.declared.calls.Report.{Report}
 use Rattle.charlotte_calls.specs.declared.calls.ServiceStep.TheVariants as step
 use Rattle.charlotte_calls.specs.declared.names.EndId.{EndId}
 use Rattle.charlotte_calls.specs.declared.names.Pid.{Pid}
-use Rattle.charlotte_calls.specs.declared.picture.MovingPicture.{MovingPicture}
-use Rattle.charlotte_calls.specs.declared.picture.Picture.{Picture}
-use Rattle.charlotte_calls.specs.declared.picture.PictureWhat.{PictureWhat}
-use Rattle.charlotte_calls.specs.declared.picture.PictureWhat.TheVariants as packet
+use Rattle.charlotte_packets.specs.declared.picture.MovingPicture.{MovingPicture}
+use Rattle.charlotte_packets.specs.declared.picture.Picture.{Picture}
+use Rattle.charlotte_packets.specs.declared.picture.PictureWhat.{PictureWhat}
+use Rattle.charlotte_packets.specs.declared.picture.PictureWhat.TheVariants as packet
 use Rattle.end_table.proofs.EndEq.{end_eq-refl, end_eq-same}
 use Rattle.end_table.specs.Entries.{settled}
 use Rattle.end_table.specs.Place.{end_eq}

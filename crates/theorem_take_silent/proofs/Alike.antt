@@ -1,9 +1,9 @@
 -- What a quiet event leaves of one entry.
 use Rattle.std.proofs.Common.{◌≡◌, ℕ, true, false, Contains, Some, unwrap_or, refl, ap, subst, true≢false}
 use Rattle.charlotte_calls.specs.declared.names.EndId.{EndId}
-use Rattle.charlotte_calls.specs.declared.picture.MovingPicture.{MovingPicture}
-use Rattle.charlotte_calls.specs.declared.picture.PictureWhat.{PictureWhat}
-use Rattle.charlotte_calls.specs.declared.picture.PictureWhat.TheVariants as packet
+use Rattle.charlotte_packets.specs.declared.picture.MovingPicture.{MovingPicture}
+use Rattle.charlotte_packets.specs.declared.picture.PictureWhat.{PictureWhat}
+use Rattle.charlotte_packets.specs.declared.picture.PictureWhat.TheVariants as packet
 use Rattle.end_table.specs.Table.{IsHereAnd}
 use Rattle.end_table.specs.declared.entry.Entry.{Entry}
 use Rattle.end_table.specs.declared.entry.Entry.TheVariants as entry

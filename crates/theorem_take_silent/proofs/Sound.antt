@@ -1,7 +1,7 @@
 -- What a packet and a call do leaves the table of a kernel sound, whatever they are.
 use Rattle.std.proofs.Common.{◌≡◌, ℕ, true, [], refl, sym, subst, ◌∙◌}
 use Rattle.charlotte_calls.specs.declared.names.EndId.{EndId}
-use Rattle.charlotte_calls.specs.declared.picture.PictureWhat.{PictureWhat}
+use Rattle.charlotte_packets.specs.declared.picture.PictureWhat.{PictureWhat}
 use Rattle.end_table.specs.declared.entry.Entry.{Entry}
 use Rattle.kernel_effects.specs.Rows.{row_effect, values_in}
 use Rattle.kernel_outcomes.proofs.Events.{row-does}

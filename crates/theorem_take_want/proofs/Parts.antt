@@ -1,7 +1,7 @@
 -- An event in two parts: one after the other they come to what it does.
 use Rattle.std.proofs.Common.{◌≡◌, ℕ, Bool, true, false, nat_eq, if◌then◌else◌, List, [], ◌∷◌, ◌++◌, None, refl, sym, ap, ◌∙◌, append_assoc, eq-eqb}
 use Rattle.charlotte_calls.specs.declared.names.EndId.{EndId}
-use Rattle.charlotte_calls.specs.declared.picture.PictureWhat.{PictureWhat}
+use Rattle.charlotte_packets.specs.declared.picture.PictureWhat.{PictureWhat}
 use Rattle.end_table.specs.declared.entry.Entry.{Entry}
 use Rattle.theorem_effects.proofs.Lists.{going, going-first}
 use Rattle.theorem_effects.specs.Change.{Change, Changes, sent_at, taken_at, taken_from}

@@ -8,7 +8,7 @@ use Rattle.charlotte_calls.specs.declared.names.Side.{Side}
 use Rattle.charlotte_calls.specs.declared.names.Side.TheVariants.{A, B}
 use Rattle.charlotte_calls.specs.declared.names.Way.{Way}
 use Rattle.charlotte_calls.specs.declared.names.Way.TheVariants as way
-use Rattle.charlotte_calls.specs.declared.picture.MovingPicture.{MovingPicture}
+use Rattle.charlotte_packets.specs.declared.picture.MovingPicture.{MovingPicture}
 use Rattle.charlotte_calls.specs.declared.calls.Report.{Report}
 use Rattle.end_table.proofs.EndEq.{end_eq-refl, end_eq-same, end_eq-sym}
 use Rattle.end_table.specs.Entries.{ended_entry, left_entry}

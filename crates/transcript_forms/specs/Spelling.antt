@@ -1,6 +1,7 @@
 -- How each line of a transcript is spelled, by what it shows.
 use Rattle.std.specs.Prelude.{◌≡◌, ℕ, List, [], ◌++◌, length, codes}
-use Rattle.charlotte_calls.specs.Ranges.{IsPid, IsU8, IsU64, IsPacketInRange, IsStepInRange}
+use Rattle.charlotte_calls.specs.Ranges.{IsPid, IsU8, IsU64, IsStepInRange}
+use Rattle.charlotte_packets.specs.Ranges.{IsPacketInRange}
 use Rattle.charlotte_calls.specs.declared.calls.Call.TheVariants as call
 use Rattle.charlotte_calls.specs.declared.calls.ServiceStep.{ServiceStep}
 use Rattle.charlotte_calls.specs.declared.calls.ServiceStep.TheVariants as step

@@ -5,7 +5,7 @@ ghost use Rattle.transcript_reading.specs.Forms.{took_of, asked_of, happened_of,
 use crate::packet::read_packet;
 use crate::word::{read_pid, read_u64};
 use crate::words::Words;
-use charlotte_calls::Picture;
+use charlotte_packets::Picture;
 use charlotte_text::{Fault, is_word};
 use transcript_reading::LineKind;
 

@@ -1,6 +1,6 @@
 //! Packets and the values of ends that they carry.
 ghost use Rattle.std.specs.Prelude.{◌≡◌, ◌≤◌};
-ghost use Rattle.charlotte_calls.specs.declared.picture.PictureWhat.TheVariants as packet;
+ghost use Rattle.charlotte_packets.specs.declared.picture.PictureWhat.TheVariants as packet;
 ghost use Rattle.charlotte_text.specs.Reading.{end_of};
 ghost use Rattle.charlotte_text.specs.Spelling.{most_ends};
 ghost use Rattle.transcript_forms.specs.Cursor.{only_as, end_number_as, wanted_as};
@@ -9,7 +9,8 @@ ghost use Rattle.transcript_reading.specs.Forms.{value_of, plus_value_of, values
 use crate::fields::Fields;
 use crate::words::Words;
 use arrayvec::ArrayVec;
-use charlotte_calls::{CargoPicture, EndId, MovingPicture, PictureWhat};
+use charlotte_calls::EndId;
+use charlotte_packets::{CargoPicture, MovingPicture, PictureWhat};
 use charlotte_text::{Fault, is_word, most_ends};
 
 /// The words of a packet, from its name on.

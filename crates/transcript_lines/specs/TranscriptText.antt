@@ -12,8 +12,8 @@ use Rattle.charlotte_calls.specs.declared.names.Outcome.{Outcome}
 use Rattle.charlotte_calls.specs.declared.names.Outcome.TheVariants.{Done, Destroyed}
 use Rattle.charlotte_calls.specs.declared.names.Way.{Way}
 use Rattle.charlotte_calls.specs.declared.names.Way.TheVariants.{Inward, Outward}
-use Rattle.charlotte_calls.specs.declared.picture.PictureWhat.{PictureWhat}
-use Rattle.charlotte_calls.specs.declared.picture.PictureWhat.TheVariants as packet
+use Rattle.charlotte_packets.specs.declared.picture.PictureWhat.{PictureWhat}
+use Rattle.charlotte_packets.specs.declared.picture.PictureWhat.TheVariants as packet
 use Rattle.charlotte_calls.specs.declared.setting.Setting.{Setting}
 use Rattle.transcript_lines.specs.Transcript.{transcript_lines}
 use Rattle.transcript_lines.specs.declared.last.Last.{Last}

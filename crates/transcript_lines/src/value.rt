@@ -2,7 +2,7 @@ ghost use Rattle.std.specs.Prelude.{◌≡◌, ◌++◌};
 ghost use Rattle.charlotte_text.specs.Spelling.{end_text};
 ghost use Rattle.transcript_lines.specs.Transcript.{fields_text, value_text};
 
-use charlotte_calls::MovingPicture;
+use charlotte_packets::MovingPicture;
 
 /// The numbers of the value of an end, as its text has them behind the end.
 #[inline(always)]

@@ -1,9 +1,9 @@
 //! Whether a picture shows what a packet tells.
 ghost use Rattle.std.specs.Prelude.{◌≡◌, ◌↔◌, IsTrue};
-ghost use Rattle.charlotte_calls.specs.Packets.{what_picture};
+ghost use Rattle.charlotte_packets.specs.Packets.{what_picture};
 
 use crate::same::{are_same_bytes, are_same_values, is_same_end};
-use charlotte_calls::{PictureWhat, What};
+use charlotte_packets::{PictureWhat, What};
 
 /// Whether a picture shows what a packet tells.
 pub fn is_told(what: &What, shown: &PictureWhat) -> bool

@@ -1,7 +1,8 @@
 //! Equality of names, bytes and lists.
 ghost use Rattle.std.specs.Prelude.{◌≡◌, ◌↔◌, IsTrue};
 
-use charlotte_calls::{Bytes, CargoPicture, EndId, Ends, MovingPicture};
+use charlotte_calls::{Bytes, EndId, Ends};
+use charlotte_packets::{CargoPicture, MovingPicture};
 
 pub(crate) fn is_same_end(a: EndId, b: EndId) -> bool
     ensures { IsTrue result ↔ (a ≡ b) }

@@ -4,13 +4,14 @@ use Rattle.std.specs.List.{concat, flat_map, join_with_byte}
 use Rattle.std.proofs.lemmas.List.Splits.{join_with_byte-slice_split}
 use Rattle.std.proofs.lemmas.Bool.{and_parts, eqb-true, ltb-true, leb-true}
 use Rattle.std.proofs.lemmas.List.Elements.{All-cons, All-nil}
-use Rattle.charlotte_calls.specs.Ranges.{IsU8, IsU64, IsPacketInRange, IsPictureInRange, IsStepInRange}
+use Rattle.charlotte_calls.specs.Ranges.{IsU8, IsU64, IsStepInRange}
+use Rattle.charlotte_packets.specs.Ranges.{IsPacketInRange, IsPictureInRange}
 use Rattle.charlotte_calls.specs.declared.calls.Call.{Call}
 use Rattle.charlotte_calls.specs.declared.calls.Call.TheVariants as call
 use Rattle.charlotte_calls.specs.declared.calls.ServiceStep.{ServiceStep}
 use Rattle.charlotte_calls.specs.declared.calls.ServiceStep.TheVariants as step
 use Rattle.charlotte_calls.specs.declared.names.Pid.{Pid}
-use Rattle.charlotte_calls.specs.declared.picture.Picture.{Picture}
+use Rattle.charlotte_packets.specs.declared.picture.Picture.{Picture}
 use Rattle.charlotte_text.specs.Spelling.{number_text, IsCall}
 use Rattle.charlotte_calls.specs.declared.setting.Setting.{Setting}
 use Rattle.charlotte_text.specs.declared.fault.Fault.{Fault}

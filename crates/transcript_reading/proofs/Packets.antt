@@ -2,13 +2,14 @@
 use Rattle.std.proofs.Common.{◌≡◌, ℕ, zero, suc, ◌<◌, ◌≤◌, Bool, true, false, codes, eqb, List, [], ◌∷◌, ◌++◌, length, map, Ok, refl, sym, ap, ◌∙◌, append_assoc, arith, inr}
 use Rattle.std.specs.List.{AllByRecursion}
 use Rattle.std.proofs.lemmas.List.Elements.{All-append, All-cons, All-nil}
-use Rattle.charlotte_calls.specs.Ranges.{IsEnd, IsU8, IsU32, IsU64, IsValueInRange, IsPacketInRange}
+use Rattle.charlotte_calls.specs.Ranges.{IsEnd, IsU8, IsU32, IsU64}
+use Rattle.charlotte_packets.specs.Ranges.{IsValueInRange, IsPacketInRange}
 use Rattle.charlotte_calls.specs.declared.names.EndId.{EndId}
 use Rattle.charlotte_calls.specs.declared.names.Side.{Side}
 use Rattle.charlotte_calls.specs.declared.names.Side.TheVariants.{A, B}
-use Rattle.charlotte_calls.specs.declared.picture.MovingPicture.{MovingPicture}
-use Rattle.charlotte_calls.specs.declared.picture.PictureWhat.{PictureWhat}
-use Rattle.charlotte_calls.specs.declared.picture.PictureWhat.TheVariants as packet
+use Rattle.charlotte_packets.specs.declared.picture.MovingPicture.{MovingPicture}
+use Rattle.charlotte_packets.specs.declared.picture.PictureWhat.{PictureWhat}
+use Rattle.charlotte_packets.specs.declared.picture.PictureWhat.TheVariants as packet
 use Rattle.charlotte_text.specs.Spelling.{number_text, side_text, end_text, bytes_text, most_ends}
 use Rattle.charlotte_text.specs.Reading.{parts}
 use Rattle.charlotte_text.proofs.Names.{end_again}

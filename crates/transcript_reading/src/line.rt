@@ -1,4 +1,5 @@
-use charlotte_calls::{Call, Cause, EndId, Ends, Picture, Pid, Report, Way};
+use charlotte_calls::{Call, Cause, EndId, Ends, Pid, Report, Way};
+use charlotte_packets::Picture;
 use transcript_lines::{Last, ScriptNote};
 
 /// One line of a transcript, by its form.

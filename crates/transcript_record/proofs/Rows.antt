@@ -9,8 +9,8 @@ use Rattle.charlotte_calls.specs.declared.names.Pid.{Pid}
 use Rattle.charlotte_calls.specs.declared.names.Side.TheVariants.{A, B}
 use Rattle.charlotte_calls.specs.declared.names.Outcome.TheVariants.{Done, Destroyed}
 use Rattle.charlotte_calls.specs.declared.names.Way.TheVariants.{Inward, Outward}
-use Rattle.charlotte_calls.specs.declared.picture.MovingPicture.{MovingPicture}
-use Rattle.charlotte_calls.specs.declared.picture.PictureWhat.TheVariants as packet
+use Rattle.charlotte_packets.specs.declared.picture.MovingPicture.{MovingPicture}
+use Rattle.charlotte_packets.specs.declared.picture.PictureWhat.TheVariants as packet
 use Rattle.charlotte_calls.specs.declared.setting.Setting.{Setting}
 use Rattle.kernel_world.specs.declared.entry.Happened.{Happened}
 use Rattle.kernel_world.specs.declared.entry.Happened.TheVariants.{Asked, Took}

@@ -2,7 +2,8 @@
 
 use crate::kept::push_kernel;
 use crate::run::Run;
-use charlotte_calls::{EndId, MovingPicture, NoMemory};
+use charlotte_calls::{EndId, NoMemory};
+use charlotte_packets::MovingPicture;
 use charlotte_text::{Listing, push_end, push_number, push_process};
 use end_table::{Entry, HereView, Holder, Inward, Outward};
 use link_service::Place;

@@ -1,6 +1,7 @@
 //! What a line names: ends, and a process.
 
-use charlotte_calls::{Call, EndId, MovingPicture, NoMemory, PictureWhat, Pid, Report};
+use charlotte_calls::{Call, EndId, NoMemory, Pid, Report};
+use charlotte_packets::{MovingPicture, PictureWhat};
 use std::alloc::Global;
 use transcript_reader::{LineKind, ServiceLine};
 

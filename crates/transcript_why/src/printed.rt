@@ -1,6 +1,7 @@
 //! Lines as a transcript has them, without their line feeds.
 
-use charlotte_calls::{Call, NoMemory, Picture, Pid, ServiceStep};
+use charlotte_calls::{Call, NoMemory, Pid, ServiceStep};
+use charlotte_packets::Picture;
 use journal_text::{Entry, Happened, Placed, print_entry};
 use std::alloc::Global;
 

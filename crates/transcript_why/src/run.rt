@@ -5,7 +5,8 @@ ghost use Rattle.charlotte_calls.specs.Setting.{IsValid};
 ghost use Rattle.transcript_why.specs.Run.{IsRun, MayCall};
 
 use crate::reached::next_line;
-use charlotte_calls::{Call, NoMemory, PictureWhat, Pid, ServiceStep, Setting};
+use charlotte_calls::{Call, NoMemory, Pid, ServiceStep, Setting};
+use charlotte_packets::PictureWhat;
 use kernel_core::Kernel;
 use kernel_nodes::{Nodes, Noted, Request};
 use link_service::{ApplyFault, Service};

@@ -2,7 +2,7 @@
 use Rattle.std.proofs.Common.{◌≡◌, ℕ, Bool, false, eqb, ◌+◌, ◌-◌, ◌<◌, ◌≤◌, List, [], ◌∷◌, ◌++◌, codes, length, get_or, Some, append_assoc, ap, sym, ◌∙◌, refl, arith, length-append}
 use Rattle.std.specs.List.{flat_map, slice_range}
 use Rattle.std.proofs.lemmas.List.Concat.{flat_map-cons}
-use Rattle.charlotte_calls.specs.declared.picture.Picture.{Picture}
+use Rattle.charlotte_packets.specs.declared.picture.Picture.{Picture}
 use Rattle.charlotte_text.specs.Spelling.{number_text}
 use Rattle.journal_text.specs.Journal.{placed_at}
 use Rattle.transcript_lines.specs.Transcript.{entry_lines, entry_text, line, packet_text}

@@ -1,6 +1,6 @@
 -- What a history is after one note more.
 use Rattle.std.specs.Prelude.{ℕ, List, [], ◌∷◌, ◌++◌, Option, None, Some, map, take, drop}
-use Rattle.charlotte_calls.specs.Packets.{packet_picture}
+use Rattle.charlotte_packets.specs.Packets.{packet_picture}
 use Rattle.charlotte_calls.specs.declared.calls.ServiceStep.{ServiceStep}
 use Rattle.journal_text.specs.Journal.{placed_at}
 use Rattle.kernel_world.specs.declared.entry.Entry.{Entry}

@@ -3,7 +3,8 @@ ghost use Rattle.std.specs.Prelude.{◌≡◌};
 ghost use base.Fml.{ftrue};
 ghost use Rattle.written_journal.specs.Told.{Told, nothing_told, told_code};
 
-use charlotte_calls::{Call, Packet, Pid, ServiceStep};
+use charlotte_calls::{Call, Pid, ServiceStep};
+use charlotte_packets::Packet;
 use std::marker::Model;
 
 #[derive(Drop)]

@@ -1,5 +1,5 @@
 ghost use Rattle.std.specs.Prelude.{◌≡◌, [], ◌∷◌, ◌++◌, ◌<◌, ◌≤◌, Some, None, All, IfOk, OnOk, OnErr, length, slice_get, take};
-ghost use Rattle.charlotte_calls.specs.Packets.{packet_picture};
+ghost use Rattle.charlotte_packets.specs.Packets.{packet_picture};
 ghost use Rattle.journal_text.specs.Journal.{IsAfterLast};
 ghost use Rattle.kernel_world.specs.Ranges.{IsEntryInRange};
 ghost use Rattle.kernel_world.specs.declared.entry.Happened.{Happened};
@@ -8,7 +8,8 @@ ghost use Rattle.written_journal.specs.Late.{IsLate, with_late};
 
 use crate::EntryLines;
 use crate::stored::Stored;
-use charlotte_calls::{Call, NoMemory, Packet, Pid, ServiceStep};
+use charlotte_calls::{Call, NoMemory, Pid, ServiceStep};
+use charlotte_packets::Packet;
 use std::alloc::Global;
 use std::marker::Model;
 

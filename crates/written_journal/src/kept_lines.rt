@@ -1,12 +1,13 @@
 ghost use Rattle.std.specs.Prelude.{◌≡◌, ◌+◌, ◌*◌, ◌≤◌, ◌++◌, ◌∷◌, [], IfOk, OnErr, OnOk, drop, if◌then◌else◌, length, map, take};
-ghost use Rattle.charlotte_calls.specs.Packets.{packet_picture};
+ghost use Rattle.charlotte_packets.specs.Packets.{packet_picture};
 ghost use Rattle.kernel_world.specs.declared.entry.Happened.TheVariants.{Asked, Took};
 ghost use Rattle.written_journal.specs.Kept.{AreLines};
 ghost use Rattle.written_journal.specs.Lines.{happened_line, step_lines};
 ghost use Rattle.written_journal.specs.Packed.{kept, kept_text, line_note, packed};
 
 use crate::pack::{is_packed, push_packed};
-use charlotte_calls::{Call, NoMemory, Packet, Pid, ServiceStep};
+use charlotte_calls::{Call, NoMemory, Pid, ServiceStep};
+use charlotte_packets::Packet;
 use journal_text::{push_asked, push_step_line, push_took};
 use std::alloc::Global;
 

@@ -1,5 +1,5 @@
 ghost use Rattle.std.specs.Prelude.{◌≡◌, [], ◌∷◌, ◌++◌, ◌+◌, ◌<◌, ◌≤◌, ◌^◌, Some, None, All, IfOk, OnOk, OnErr, length, slice_get, take};
-ghost use Rattle.charlotte_calls.specs.Packets.{packet_picture};
+ghost use Rattle.charlotte_packets.specs.Packets.{packet_picture};
 ghost use Rattle.journal_text.specs.Journal.{IsAfterLast};
 ghost use Rattle.kernel_world.specs.Ranges.{IsEntryInRange};
 ghost use Rattle.kernel_world.specs.declared.entry.Entry.{Entry};
@@ -9,7 +9,8 @@ ghost use Rattle.kernel_world.specs.declared.entry.Happened.TheVariants.{Asked, 
 use crate::history::{History, Note};
 use crate::kept_lines::KeptLines;
 use crate::written::Written;
-use charlotte_calls::{Call, NoMemory, Packet, Pid, ServiceStep};
+use charlotte_calls::{Call, NoMemory, Pid, ServiceStep};
+use charlotte_packets::Packet;
 use kernel_world::{tell_call, tell_packet, tell_pid, tell_steps, tell_u8, tell_u64};
 use std::alloc::Global;
 use std::marker::Model;

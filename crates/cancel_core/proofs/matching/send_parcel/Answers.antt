@@ -3,7 +3,7 @@ use Rattle.kernel_step.proofs.EnclosedEnds.{AreEnclosed-others}
 use Rattle.kernel_step.proofs.Steps.{IfHere-map}
 use Rattle.cancel_core.proofs.Matches.{matches-made}
 use Rattle.end_table.specs.Table.{entries}
-use Rattle.charlotte_calls.specs.declared.work.Work.{Work}
+use Rattle.charlotte_packets.specs.declared.work.Work.{Work}
 use Rattle.end_table.specs.declared.entry.Entry.TheVariants.{Here}
 use Rattle.end_table.specs.declared.entry.HereView.{HereView}
 use Rattle.end_table.specs.declared.entry.Outward.{Outward}

@@ -1,8 +1,8 @@
 -- What was reserved is enough for the packet.
 use Rattle.std.proofs.Common.{◌≡◌, ◌<◌, true, subst}
-use Rattle.charlotte_calls.specs.Packets.{what_picture}
+use Rattle.charlotte_packets.specs.Packets.{what_picture}
 use Rattle.charlotte_calls.specs.declared.names.EndId.{EndId}
-use Rattle.charlotte_calls.specs.declared.work.Room.{Room}
+use Rattle.charlotte_packets.specs.declared.work.Room.{Room}
 use Rattle.end_table.specs.Table.{entries}
 use Rattle.end_table.specs.declared.entry.Entry.{Entry}
 use Rattle.kernel_core.proofs.Begun.{begun-plain}

@@ -1,8 +1,8 @@
 -- The rule goes well, the event closes, and the set of the end's owner is made anew.
-use Rattle.charlotte_calls.specs.Packets.{what_picture}
+use Rattle.charlotte_packets.specs.Packets.{what_picture}
 use Rattle.end_table.specs.Place.{end_eq}
 use Rattle.charlotte_calls.specs.declared.names.EndId.{EndId}
-use Rattle.charlotte_calls.specs.declared.packet.What.{What}
+use Rattle.charlotte_packets.specs.declared.packet.What.{What}
 use Rattle.end_table.specs.declared.entry.Entry.{Entry}
 use Rattle.end_table.specs.Table.{entries, IsHere}
 use Rattle.kernel_process.proofs.ActiveSets.{tells_same}

@@ -1,5 +1,5 @@
 -- The reserved room leaves everything as it was.
-use Rattle.charlotte_calls.specs.Packets.{what_picture}
+use Rattle.charlotte_packets.specs.Packets.{what_picture}
 use Rattle.end_table.specs.Table.{entries}
 use Rattle.kernel_core.proofs.Reserved.{reserved-keeps, reserved-parts}
 use Rattle.kernel_core.specs.Started.{takes_addressed}

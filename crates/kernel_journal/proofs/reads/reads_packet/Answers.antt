@@ -1,5 +1,5 @@
 use Rattle.std.proofs.Common.{ℕ, refl, subst}
-use Rattle.charlotte_calls.specs.Packets.{what_picture}
+use Rattle.charlotte_packets.specs.Packets.{what_picture}
 use Rattle.transcript_lines.specs.TranscriptText.{HasFewPacket}
 use Rattle.transcript_reader.specs.Next.{IsAhead}
 use Rattle.transcript_reading.specs.declared.line.LineKind.TheVariants as line

@@ -1,6 +1,6 @@
 -- The answers stand, and then the reports join.
 use Rattle.std.proofs.Common.{◌∙◌, length, ap, arith}
-use Rattle.charlotte_calls.specs.declared.work.Effect.{Effect}
+use Rattle.charlotte_packets.specs.declared.work.Effect.{Effect}
 use Rattle.end_table.specs.Table.{entries}
 use Rattle.kernel_process.proofs.Closes.{closes-by, spare-kept, takes-both}
 use Rattle.kernel_step.specs.Kernel.{Kernel}

@@ -1,5 +1,5 @@
 use Rattle.std.proofs.Common.{All, take}
-use Rattle.charlotte_calls.specs.Ranges.{IsValueInRange}
+use Rattle.charlotte_packets.specs.Ranges.{IsValueInRange}
 use Rattle.kernel_world.proofs.ranges.tell_each_value.Given as goal
 
 abbrev pub invariant-loop-value : goal.invariant-loop-value

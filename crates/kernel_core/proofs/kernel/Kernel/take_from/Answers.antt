@@ -1,6 +1,6 @@
 -- The event is that of the kernel's parts.
 use Rattle.std.proofs.Common.{◌≡◌, map, ap, subst, ◌∙◌, refl}
-use Rattle.charlotte_calls.specs.Packets.{packet_picture}
+use Rattle.charlotte_packets.specs.Packets.{packet_picture}
 use Rattle.kernel_core.proofs.Happened.{both_err, both_ok}
 use Rattle.kernel_core.proofs.Kernels.{state-same, take-by_parts}
 use Rattle.kernel_core.specs.State.{KernelView, state_of}

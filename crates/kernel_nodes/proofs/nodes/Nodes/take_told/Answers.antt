@@ -1,5 +1,5 @@
 use Rattle.std.proofs.Common.{◌≡◌, ◌<◌, List, length, refl, subst, sym, rules}
-use Rattle.charlotte_calls.specs.Packets.{packet_picture, what_picture}
+use Rattle.charlotte_packets.specs.Packets.{packet_picture, what_picture}
 use Rattle.charlotte_calls.specs.declared.setting.Setting.{Setting as ASetting}
 use Rattle.kernel_nodes.specs.declared.node.Node.{Node}
 use Rattle.kernel_nodes.proofs.Worlds.{from_there, told_first, untold_none, untold_other}

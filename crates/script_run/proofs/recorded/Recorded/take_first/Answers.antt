@@ -1,7 +1,7 @@
 use Rattle.std.proofs.Common.{◌++◌, ◌∷◌, [], ap, refl, sym, ◌∙◌, List}
-use Rattle.charlotte_calls.specs.Packets.{packet_picture}
+use Rattle.charlotte_packets.specs.Packets.{packet_picture}
 use Rattle.charlotte_calls.specs.declared.calls.ServiceStep.{ServiceStep}
-use Rattle.charlotte_calls.specs.declared.picture.Picture.{Picture}
+use Rattle.charlotte_packets.specs.declared.picture.Picture.{Picture}
 use Rattle.kernel_world.specs.World.{Takes}
 use Rattle.kernel_world.specs.declared.entry.Entry.{Entry}
 use Rattle.kernel_world.specs.declared.entry.Happened.TheVariants.{Took}

@@ -2,8 +2,9 @@ ghost use Rattle.std.specs.Prelude.{◌≡◌, ◌<◌, ◌≤◌, [], ◌∷◌
 ghost use Rattle.std.specs.List.{list_all};
 ghost use Rattle.std.specs.Option.{option_to_list};
 
-use crate::{CargoPicture, Moving, MovingPicture, Short};
+use crate::{CargoPicture, Moving, MovingPicture};
 use arrayvec::ArrayVec;
+use charlotte_calls::Short;
 use std::marker::Model;
 
 /// The values of ends that a packet carries, in order, at most eight. It has to be emptied before it is closed.
@@ -16,7 +17,7 @@ pub struct Cargo {
 
 impl Model for Cargo {
     ghost use Rattle.std.specs.Prelude.{List};
-    ghost use Rattle.charlotte_calls.specs.declared.picture.MovingPicture.{MovingPicture};
+    ghost use Rattle.charlotte_packets.specs.declared.picture.MovingPicture.{MovingPicture};
 
     ghost Value = { List MovingPicture };
 
@@ -24,7 +25,7 @@ impl Model for Cargo {
 }
 
 impl Cargo {
-    ghost use Rattle.charlotte_calls.specs.Packets.{names_kernels_below};
+    ghost use Rattle.charlotte_packets.specs.Packets.{names_kernels_below};
 
     /// A cargo without values.
     pub fn empty() -> Cargo
@@ -74,7 +75,10 @@ impl Cargo {
     pub fn picture(&self) -> CargoPicture
         ensures { result ≡ self.now }
     {
-        Short::of(&self.values)
+        match Short::from_slice(self.values()) {
+            Some(values) => values,
+            None => unreachable!(),
+        }
     }
 
     /// Whether each kernel that a value names is below `kernels`.

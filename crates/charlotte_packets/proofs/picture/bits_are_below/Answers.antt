@@ -2,7 +2,7 @@
 use Rattle.std.proofs.Common.{◌<◌, ◌≤◌, ◌^◌, arith, sym}
 use Rattle.std.proofs.Math.Pow.{pow_mono}
 use Rattle.std.proofs.lemmas.Bool.{lt-ltb}
-use Rattle.charlotte_calls.proofs.picture.bits_are_below.Goals as goal
+use Rattle.charlotte_packets.proofs.picture.bits_are_below.Goals as goal
 
 pub returns-then-kernels-ge8 : goal.returns-then-kernels-ge8
 returns-then-kernels-ge8 c =

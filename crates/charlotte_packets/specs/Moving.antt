@@ -1,7 +1,7 @@
 -- The values of ends.
 use Rattle.std.specs.Prelude.{ℕ, false}
 use Rattle.charlotte_calls.specs.declared.names.EndId.{EndId}
-use Rattle.charlotte_calls.specs.declared.picture.MovingPicture.{MovingPicture}
+use Rattle.charlotte_packets.specs.declared.picture.MovingPicture.{MovingPicture}
 
 -- an end that never moved, whose opposite is at a kernel
 abbrev pub new_end : EndId → ℕ → MovingPicture

@@ -1,6 +1,7 @@
 ghost use Rattle.std.specs.Prelude.{◌≡◌};
 
-use crate::{EndId, MovingPicture};
+use crate::MovingPicture;
+use charlotte_calls::EndId;
 use std::marker::Model;
 
 /// What is left of a destroyed end: the fields that its value had. It is plain data.
@@ -10,7 +11,7 @@ pub struct Mark {
 }
 
 impl Model for Mark {
-    ghost use Rattle.charlotte_calls.specs.declared.picture.MovingPicture.{MovingPicture};
+    ghost use Rattle.charlotte_packets.specs.declared.picture.MovingPicture.{MovingPicture};
 
     ghost Value = { MovingPicture };
 

@@ -1,6 +1,7 @@
 ghost use Rattle.std.specs.Prelude.{◌≡◌};
 
-use crate::{EndId, LinkId, Mark, MovingPicture, Side};
+use crate::{Mark, MovingPicture};
+use charlotte_calls::{EndId, LinkId, Side};
 use std::marker::Model;
 
 /// The one value of a living end. It is no copy, cannot be let go, and so has to be spent.
@@ -12,7 +13,7 @@ pub struct Moving {
 }
 
 impl Model for Moving {
-    ghost use Rattle.charlotte_calls.specs.declared.picture.MovingPicture.{MovingPicture};
+    ghost use Rattle.charlotte_packets.specs.declared.picture.MovingPicture.{MovingPicture};
 
     ghost Value = { MovingPicture };
 
@@ -20,7 +21,7 @@ impl Model for Moving {
 }
 
 impl Moving {
-    ghost use Rattle.charlotte_calls.specs.Moving.{new_end};
+    ghost use Rattle.charlotte_packets.specs.Moving.{new_end};
     ghost use Rattle.charlotte_calls.specs.declared.names.Side.TheVariants.{A, B};
 
     /// Both ends of a link, end a at kernel `at_a` and end b at `at_b`. There is no other way to make a value.

@@ -1,4 +1,5 @@
-use crate::{Answer, Packet, Pid, Report, ServiceStep};
+use crate::Packet;
+use charlotte_calls::{Answer, Pid, Report, ServiceStep};
 
 /// What one event of a kernel gives to the outside.
 #[derive(Debug, Drop)]

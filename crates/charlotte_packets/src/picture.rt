@@ -1,6 +1,6 @@
 ghost use Rattle.std.specs.Prelude.{◌≡◌, ◌^◌, nat_lt};
 
-use crate::{Bytes, EndId, Short};
+use charlotte_calls::{Bytes, EndId, Short};
 
 /// The fields of an end's value, as plain data.
 #[derive(Clone, Copy, Debug, Default, PartialEq, Eq, Hash)]
@@ -28,7 +28,7 @@ pub struct MovingPicture {
 pub type CargoPicture = Short<MovingPicture, 8>;
 
 impl MovingPicture {
-    ghost use Rattle.charlotte_calls.specs.Packets.{names_kernels_below};
+    ghost use Rattle.charlotte_packets.specs.Packets.{names_kernels_below};
 
     /// Whether the hint's kernel and each kernel of the trail is below `kernels`.
     pub fn names_kernels_below(&self, kernels: u8) -> bool

@@ -1,13 +1,13 @@
 -- Packets and their plain copies.
 use Rattle.std.specs.Prelude.{ℕ, ◌^◌, Bool, true, nat_lt, ◌&&◌}
 use Rattle.std.specs.List.{list_all}
-use Rattle.charlotte_calls.specs.declared.picture.MovingPicture.{MovingPicture}
-use Rattle.charlotte_calls.specs.declared.picture.Picture.{Picture}
-use Rattle.charlotte_calls.specs.declared.picture.PictureWhat.{PictureWhat}
-use Rattle.charlotte_calls.specs.declared.picture.PictureWhat.TheVariants as picture
-use Rattle.charlotte_calls.specs.declared.packet.Packet.{Packet}
-use Rattle.charlotte_calls.specs.declared.packet.What.{What}
-use Rattle.charlotte_calls.specs.declared.packet.What.TheVariants as packet
+use Rattle.charlotte_packets.specs.declared.picture.MovingPicture.{MovingPicture}
+use Rattle.charlotte_packets.specs.declared.picture.Picture.{Picture}
+use Rattle.charlotte_packets.specs.declared.picture.PictureWhat.{PictureWhat}
+use Rattle.charlotte_packets.specs.declared.picture.PictureWhat.TheVariants as picture
+use Rattle.charlotte_packets.specs.declared.packet.Packet.{Packet}
+use Rattle.charlotte_packets.specs.declared.packet.What.{What}
+use Rattle.charlotte_packets.specs.declared.packet.What.TheVariants as packet
 
 -- what a packet tells, as plain data
 abbrev pub what_picture : What → PictureWhat

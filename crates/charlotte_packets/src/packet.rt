@@ -1,6 +1,7 @@
 ghost use Rattle.std.specs.Prelude.{◌≡◌};
 
-use crate::{Bytes, Cargo, EndId, MovingPicture, Picture, PictureWhat};
+use crate::{Cargo, MovingPicture, Picture, PictureWhat};
+use charlotte_calls::{Bytes, EndId};
 
 /// What one kernel tells another.
 ///
@@ -80,7 +81,7 @@ pub enum What {
 }
 
 impl What {
-    ghost use Rattle.charlotte_calls.specs.Packets.{what_picture};
+    ghost use Rattle.charlotte_packets.specs.Packets.{what_picture};
 
     /// A plain copy, with the fields of each value in its place.
     pub fn picture(&self) -> PictureWhat
@@ -189,7 +190,7 @@ impl Drop for Packet {
 }
 
 impl Packet {
-    ghost use Rattle.charlotte_calls.specs.Packets.{packet_picture, what_picture, is_addressed};
+    ghost use Rattle.charlotte_packets.specs.Packets.{packet_picture, what_picture, is_addressed};
 
     /// The stamp and what the packet tells.
     #[inline(always)]
