@@ -18,7 +18,7 @@ use Rattle.charlotte_text.specs.declared.number.Number.{Number}
 use Rattle.charlotte_text.specs.declared.number.Number.TheVariants.{Is, Large}
 use Rattle.charlotte_text.specs.declared.call.Keyword.{Keyword}
 use Rattle.charlotte_text.specs.declared.call.Keyword.TheVariants.{Make, Destroy, Send, Receive, Cancel, Wait, Print, Exit}
-use Rattle.charlotte_text.specs.Spelling.{is_plain, most_ends}
+use Rattle.charlotte_text.specs.Spelling.{is_plain, most_ends, blank}
 
 infixl 10 ◌>>=◌
 -- what is read next, unless there is a fault
@@ -42,7 +42,7 @@ parts separator text = slice_split (λ b. b == separator) text
 
 -- the words of a line, which single blanks separate
 abbrev pub words : List ℕ → List (List ℕ)
-words line = parts 32 line
+words line = parts blank line
 
 -- the parts of what is left, if anything is
 abbrev pub rest_parts : ℕ → Option (List ℕ) → List (List ℕ)

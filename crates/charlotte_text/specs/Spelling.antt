@@ -12,6 +12,16 @@ use Rattle.charlotte_calls.specs.declared.names.Pid.{Pid}
 use Rattle.charlotte_calls.specs.declared.calls.Call.{Call}
 use Rattle.charlotte_calls.specs.declared.calls.Call.TheVariants.{Make, Destroy, Send, Receive, Cancel, Wait, Print, Exit}
 
+-- what stands between the words of a line, between the numbers of a value, and at the end of a line
+abbrev pub blank : ℕ
+blank = 32
+
+abbrev pub colon : ℕ
+colon = 58
+
+abbrev pub line_feed : ℕ
+line_feed = 10
+
 -- a decimal number without leading zeros
 abbrev pub number_text : ℕ → List ℕ
 number_text n = decimal n

@@ -1,6 +1,6 @@
 ghost use Rattle.std.specs.Prelude.{◌≡◌, ◌++◌, OnOk, OnErr, length, take};
 ghost use Rattle.std.specs.Prelude.{option_copied, Some, IfOk};
-ghost use Rattle.charlotte_text.specs.Spelling.{end_text, way_text, call_text, IsCall};
+ghost use Rattle.charlotte_text.specs.Spelling.{end_text, way_text, call_text, IsCall, blank};
 ghost use Rattle.charlotte_text.specs.Reading.{Puts, way_of, keyword_of, only_end_of, send_of, cancel_of, print_of, operands_of, call_of, rest_parts};
 
 use crate::fault::Fault;
@@ -89,7 +89,7 @@ fn push_on(out: &mut Vec<u8>, keyword: &[u8], end: EndId) -> Result<(), NoMemory
 /// The call that the words spell of which this is left. A message encloses at most one end in version 1, and eight in
 /// version 2. `Long` where the form of each word is right, and a text spells more than 256 bytes.
 pub fn read_call(words: Option<&[u8]>, version: u8) -> Result<Call, Fault>
-    ensures exact { result ≡ call_of version (rest_parts 32 (option_copied words.entry)) }
+    ensures exact { result ≡ call_of version (rest_parts blank (option_copied words.entry)) }
     ensures found { IfOk result (λ call. option_copied words.entry ≡ Some (call_text call)) }
     ensures fits { IfOk result (IsCall version) }
     ensures only { (call : Call) → IsCall version call → option_copied words.entry ≡ Some (call_text call) → result ≡ Ok call }
@@ -98,7 +98,7 @@ pub fn read_call(words: Option<&[u8]>, version: u8) -> Result<Call, Fault>
 }
 
 fn parse_call(words: Option<&[u8]>, version: u8) -> Result<Call, Fault>
-    ensures { result ≡ call_of version (rest_parts 32 (option_copied words.entry)) }
+    ensures { result ≡ call_of version (rest_parts blank (option_copied words.entry)) }
 {
     let mut call = Call::Make;
     read_call_into(words, version, &mut call)?;
@@ -108,7 +108,7 @@ fn parse_call(words: Option<&[u8]>, version: u8) -> Result<Call, Fault>
 /// As `read_call`, with the call in the place of one that is there. Where there is a fault nothing is said of that place.
 #[tactic(auto, unfolding(crate::specs::Reading::call_of))]
 pub fn read_call_into(words: Option<&[u8]>, version: u8, call: &mut Call) -> Result<(), Fault>
-    ensures { Puts result call.new (call_of version (rest_parts 32 (option_copied words.entry))) }
+    ensures { Puts result call.new (call_of version (rest_parts blank (option_copied words.entry))) }
 {
     let (word, rest) = next_word(words)?;
     let keyword = read_keyword(word)?;
@@ -147,7 +147,7 @@ fn read_operands(
     version: u8,
     call: &mut Call,
 ) -> Result<(), Fault>
-    ensures { Puts result call.new (operands_of version keyword (rest_parts 32 (option_copied rest.entry))) }
+    ensures { Puts result call.new (operands_of version keyword (rest_parts blank (option_copied rest.entry))) }
 {
     match keyword {
         Keyword::Make => {
@@ -179,7 +179,7 @@ fn read_operands(
 
 #[tactic(auto, unfolding(crate::specs::Reading::only_end_of))]
 fn read_only_end(rest: Option<&[u8]>) -> Result<EndId, Fault>
-    ensures { result ≡ only_end_of (rest_parts 32 (option_copied rest.entry)) }
+    ensures { result ≡ only_end_of (rest_parts blank (option_copied rest.entry)) }
 {
     let (end, rest) = next_word(rest)?;
     let on = read_end(end)?;
@@ -189,7 +189,7 @@ fn read_only_end(rest: Option<&[u8]>) -> Result<EndId, Fault>
 
 #[tactic(auto, unfolding(crate::specs::Reading::send_of))]
 fn read_send(rest: Option<&[u8]>, version: u8, call: &mut Call) -> Result<(), Fault>
-    ensures { Puts result call.new (send_of version (rest_parts 32 (option_copied rest.entry))) }
+    ensures { Puts result call.new (send_of version (rest_parts blank (option_copied rest.entry))) }
 {
     let (end, rest) = next_word(rest)?;
     let on = read_end(end)?;
@@ -206,7 +206,7 @@ fn read_send(rest: Option<&[u8]>, version: u8, call: &mut Call) -> Result<(), Fa
 
 #[tactic(auto, unfolding(crate::specs::Reading::cancel_of))]
 fn read_cancel(rest: Option<&[u8]>, call: &mut Call) -> Result<(), Fault>
-    ensures { Puts result call.new (cancel_of (rest_parts 32 (option_copied rest.entry))) }
+    ensures { Puts result call.new (cancel_of (rest_parts blank (option_copied rest.entry))) }
 {
     let (end, rest) = next_word(rest)?;
     let on = read_end(end)?;
@@ -219,7 +219,7 @@ fn read_cancel(rest: Option<&[u8]>, call: &mut Call) -> Result<(), Fault>
 
 #[tactic(auto, unfolding(crate::specs::Reading::print_of))]
 fn read_print(rest: Option<&[u8]>, call: &mut Call) -> Result<(), Fault>
-    ensures { Puts result call.new (print_of (rest_parts 32 (option_copied rest.entry))) }
+    ensures { Puts result call.new (print_of (rest_parts blank (option_copied rest.entry))) }
 {
     let (text, rest) = next_word(rest)?;
     end_of_line(rest)?;

@@ -1,5 +1,5 @@
 ghost use Rattle.std.specs.Prelude.{◌≡◌, ◌≤◌, ◌<◌, ◌^◌, [], ◌∷◌, ◌++◌, ℕ, List, OnOk, OnErr, IfOk, length, take, map, codes, option_copied};
-ghost use Rattle.charlotte_text.specs.Spelling.{number_text, end_text, ends_text, most_ends, plus_text, process_text, side_text, IsEnd};
+ghost use Rattle.charlotte_text.specs.Spelling.{number_text, end_text, ends_text, most_ends, plus_text, process_text, side_text, IsEnd, blank};
 ghost use Rattle.std.specs.List.{AllByRecursion};
 ghost use Rattle.charlotte_text.specs.Reading.{Gives, process_of, side_of, end_of, plus_end_of, ends_of, rest_parts};
 
@@ -184,16 +184,16 @@ pub fn most_ends(version: u8) -> usize
 /// The ends that the words name of which this is left, each behind a plus. `Form` where they are more than `most`.
 pub fn read_ends(words: Option<&[u8]>, most: usize) -> Result<Ends, Fault>
     requires { most ≤ 8 }
-    ensures exact { result ≡ ends_of most (rest_parts 32 (option_copied words.entry)) }
-    ensures found { IfOk result (λ es. rest_parts 32 (option_copied words.entry) ≡ map plus_text es) }
-    ensures only { (es : List EndId) → AllByRecursion IsEnd es → length es ≤ most → rest_parts 32 (option_copied words.entry) ≡ map plus_text es → result ≡ Ok es }
+    ensures exact { result ≡ ends_of most (rest_parts blank (option_copied words.entry)) }
+    ensures found { IfOk result (λ es. rest_parts blank (option_copied words.entry) ≡ map plus_text es) }
+    ensures only { (es : List EndId) → AllByRecursion IsEnd es → length es ≤ most → rest_parts blank (option_copied words.entry) ≡ map plus_text es → result ≡ Ok es }
 {
     parse_ends(words, most)
 }
 
 fn parse_ends(words: Option<&[u8]>, most: usize) -> Result<Ends, Fault>
     requires { most ≤ 8 }
-    ensures { result ≡ ends_of most (rest_parts 32 (option_copied words.entry)) }
+    ensures { result ≡ ends_of most (rest_parts blank (option_copied words.entry)) }
 {
     let mut ends = ArrayVec::<EndId, 8>::new();
     let mut rest = words;

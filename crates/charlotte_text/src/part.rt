@@ -2,6 +2,7 @@ ghost use Rattle.std.specs.Prelude.{◌≡◌, ◌==◌, ◌<◌, ◌∷◌, IfS
 ghost use Rattle.std.specs.List.{position};
 ghost use Rattle.std.specs.Str.{bytes_eq};
 ghost use Rattle.charlotte_text.specs.Reading.{Gives, parts, rest_parts, part_at, ended};
+ghost use Rattle.charlotte_text.specs.Spelling.{blank};
 
 use crate::fault::Fault;
 
@@ -32,7 +33,7 @@ pub fn next_part(separator: u8, rest: Option<&[u8]>) -> Result<(&[u8], Option<&[
 
 /// The next word of a line of which this is left, and what is then left. `Form` where no word is left.
 pub fn next_word(rest: Option<&[u8]>) -> Result<(&[u8], Option<&[u8]>), Fault>
-    ensures { Gives (λ x. (x.0.now, rest_parts 32 (option_copied x.1))) result (part_at (rest_parts 32 (option_copied rest.entry))) }
+    ensures { Gives (λ x. (x.0.now, rest_parts blank (option_copied x.1))) result (part_at (rest_parts blank (option_copied rest.entry))) }
 {
     next_part(b' ', rest)
 }
@@ -47,7 +48,7 @@ pub fn is_word<const N: usize>(word: &[u8], this: &[u8; N]) -> bool
 
 /// Nothing is left of a line. `Form` where a word is left.
 pub fn end_of_line(rest: Option<&[u8]>) -> Result<(), Fault>
-    ensures { Gives (λ _. tt) result (ended (rest_parts 32 (option_copied rest.entry))) }
+    ensures { Gives (λ _. tt) result (ended (rest_parts blank (option_copied rest.entry))) }
 {
     end_of_parts(b' ', rest)
 }

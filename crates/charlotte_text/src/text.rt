@@ -176,7 +176,8 @@ fn unescape(high: u8, low: u8) -> Result<u8, Fault>
     }
 }
 
-fn digit_value(digit: u8) -> u8
+/// The value of an upper-case hexadecimal digit, and 16 where a byte is none.
+pub fn digit_value(digit: u8) -> u8
     ensures { result ≡ hex_value digit }
 {
     match digit {

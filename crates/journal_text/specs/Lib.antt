@@ -1,4 +1,2 @@
 pub mod Journal
 pub mod Heads
-pub mod Transcript
-pub mod TranscriptText

@@ -1,5 +1,5 @@
 ghost use Rattle.std.specs.Prelude.{◌≡◌, ◌++◌, IfOk, OnOk, map};
-ghost use Rattle.journal_text.specs.Transcript.{line, note_text, last_text};
+ghost use Rattle.transcript_lines.specs.Transcript.{line, note_text, last_text};
 
 use crate::header_lines::{empty_line, push_number_line};
 use crate::{Last, ScriptNote};

@@ -2,7 +2,7 @@ ghost use Rattle.std.specs.Prelude.{◌≡◌, ◌++◌, IfOk, OnOk, codes, map}
 ghost use Rattle.std.specs.List.{flat_map};
 ghost use Rattle.charlotte_text.specs.Spelling.{number_text};
 ghost use Rattle.journal_text.specs.Journal.{placed_at};
-ghost use Rattle.journal_text.specs.Transcript.{line, happened_text, entry_text, step_text, entry_lines};
+ghost use Rattle.transcript_lines.specs.Transcript.{line, happened_text, entry_text, step_text, entry_lines};
 
 use crate::call::push_kept_call;
 use crate::happened::{push_asking, push_taking};

@@ -1,6 +1,6 @@
 ghost use Rattle.std.specs.Prelude.{◌≡◌, [], ◌++◌, IfOk, OnOk, map};
 ghost use Rattle.charlotte_text.specs.Spelling.{number_text};
-ghost use Rattle.journal_text.specs.Transcript.{line, process_home_text, process_lines, wire_text};
+ghost use Rattle.transcript_lines.specs.Transcript.{line, process_home_text, process_lines, wire_text};
 
 use crate::packet::push_numbers;
 use charlotte_calls::{NoMemory, Pid};

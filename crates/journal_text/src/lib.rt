@@ -3,7 +3,7 @@
 //! # What is proved
 //! Of the first entries of two journals the one with the smaller stamp comes first in a merge. Each print call gives exactly the lines of
 //! its definition, and so do the writers of calls, packets and steps.
-//! By `earlier_head`; `transcript_lines`, and what cites it; the clauses of `push_*`.
+//! By `earlier_head`; `transcript_lines` of the crate of that name, and what cites it; the clauses of `push_*`.
 #![tactic(auto)]
 
 mod call;
@@ -11,7 +11,6 @@ mod end_lines;
 mod entry_lines;
 mod happened;
 mod header_lines;
-mod last;
 mod merging;
 mod packet;
 mod print;
@@ -22,8 +21,6 @@ pub use entry_lines::push_head;
 pub use happened::{push_asked, push_step_line, push_taking, push_took};
 pub use header_lines::{push_number_line, push_process_line, push_wire_line};
 pub use kernel_world::{Entry, Happened, Placed};
-pub use last::{Last, ScriptNote};
 pub use merging::{Head, earlier};
-pub use packet::value_fields;
 pub use print::{print_entry, print_header, print_picture, print_transcript};
-pub use step::cause_name;
+pub use transcript_lines::{Last, ScriptNote};

@@ -2,12 +2,13 @@ ghost use Rattle.std.specs.Prelude.{◌≡◌, ◌++◌, ◌∷◌, [], OnOk, co
 ghost use Rattle.charlotte_packets.specs.Packets.{what_picture};
 ghost use Rattle.charlotte_text.specs.Spelling.{end_text, bytes_text};
 ghost use Rattle.compact_calls.specs.Stored.{what_of};
-ghost use Rattle.journal_text.specs.Transcript.{fields_text, numbers_behind, numbers_text, value_text, values_text, packet_text};
+ghost use Rattle.transcript_lines.specs.Transcript.{fields_text, numbers_behind, numbers_text, value_text, values_text, packet_text};
 
 use charlotte_calls::{EndId, NoMemory};
 use charlotte_packets::{MovingPicture, What};
 use charlotte_text::{push_bytes, push_end, push_number};
 use compact_calls::StoredWhat;
+use transcript_lines::value_fields;
 
 /// Appends numbers, each behind this byte.
 pub(crate) fn push_numbers(out: &mut Vec<u8>, mark: u8, numbers: &[u32]) -> Result<(), NoMemory>
@@ -41,24 +42,6 @@ pub(crate) fn push_form(
     push_on(out, word, end)?;
     push_numbers(out, b' ', numbers)?;
     Ok(())
-}
-
-/// The numbers of the value of an end, as its text has them behind the end.
-#[inline(always)]
-pub fn value_fields(value: &MovingPicture) -> [u32; 9]
-    ensures { value_text value.now ≡ end_text value.now.end ++ fields_text result }
-{
-    [
-        value.hops,
-        u32::from(value.hint.0),
-        value.hint.1,
-        value.sent,
-        value.asked,
-        value.served,
-        value.want,
-        u32::from(value.dead),
-        u32::from(value.trail),
-    ]
 }
 
 fn push_value(out: &mut Vec<u8>, value: &MovingPicture) -> Result<(), NoMemory>

@@ -1,7 +1,7 @@
 ghost use Rattle.std.specs.Prelude.{◌≡◌, IfOk, map};
 ghost use Rattle.std.specs.List.{concat};
-ghost use Rattle.journal_text.specs.Transcript.{packet_text, entry_lines, header_lines, transcript_lines};
-ghost use Rattle.journal_text.specs.TranscriptText.{AreOfTranscript, IsTranscript};
+ghost use Rattle.transcript_lines.specs.Transcript.{packet_text, entry_lines, header_lines, transcript_lines};
+ghost use Rattle.transcript_lines.specs.TranscriptText.{AreOfTranscript, IsTranscript};
 
 use crate::end_lines::{last_line, push_note_lines};
 use crate::entry_lines::{push_entry_lines, push_merged_lines};

@@ -1,12 +1,13 @@
 ghost use Rattle.std.specs.Prelude.{◌≡◌, ◌++◌, ◌∷◌, [], OnOk, codes};
 ghost use Rattle.charlotte_text.specs.Spelling.{end_text, ends_text, process_text, way_text};
 ghost use Rattle.compact_calls.specs.Stored.{report_of, step_of};
-ghost use Rattle.journal_text.specs.Transcript.{cause_text, numbers_text, result_text, report_text, suffix_text, step_text};
+ghost use Rattle.transcript_lines.specs.Transcript.{cause_text, numbers_text, result_text, report_text, suffix_text, step_text};
 
 use crate::packet::{push_numbered, push_on};
 use charlotte_calls::{Cause, EndId, NoMemory, Outcome, Pid, Report, ServiceStep, Way};
 use charlotte_text::{push_bytes, push_ends, push_process, push_way};
 use compact_calls::{StoredReport, StoredStep};
+use transcript_lines::cause_name;
 
 /// Appends a word with its blank, and a process.
 pub(crate) fn push_of(out: &mut Vec<u8>, word: &[u8], p: Pid) -> Result<(), NoMemory>
@@ -15,24 +16,6 @@ pub(crate) fn push_of(out: &mut Vec<u8>, word: &[u8], p: Pid) -> Result<(), NoMe
     out.extend_from_slice(word)?;
     push_process(out, p)?;
     Ok(())
-}
-
-/// The name of a cause of refusal.
-pub fn cause_name(cause: Cause) -> &'static [u8]
-    ensures { result.now ≡ cause_text cause }
-{
-    match cause {
-        Cause::NoEnd => b"NoEnd",
-        Cause::Busy => b"Busy",
-        Cause::Dead => b"Dead",
-        Cause::EncloseNoEnd => b"EncloseNoEnd",
-        Cause::EncloseBusy => b"EncloseBusy",
-        Cause::EncloseSame => b"EncloseSame",
-        Cause::Late => b"Late",
-        Cause::NoActivity => b"NoActivity",
-        Cause::LinksFull => b"LinksFull",
-        Cause::EncloseTwice => b"EncloseTwice",
-    }
 }
 
 fn push_result(

@@ -22,8 +22,8 @@ use Rattle.transcript_reading.specs.Kinds.{happened_kind, shown_step, without_st
 use Rattle.transcript_reading.specs.declared.line.LineKind.TheVariants as line
 use Rattle.transcript_replay.specs.Course.{Leads, Refutes, comes_after, goes_on}
 use Rattle.transcript_replay.proofs.Rest.{event_kind, leads-entry, refutes-call, refutes-due, refutes-entry, refutes-many, refutes-taking, stamp_of}
-use Rattle.journal_text.specs.declared.last.Last.{Last}
-use Rattle.journal_text.specs.declared.last.Last.TheVariants.{Quiet, Unsettled}
+use Rattle.transcript_lines.specs.declared.last.Last.{Last}
+use Rattle.transcript_lines.specs.declared.last.Last.TheVariants.{Quiet, Unsettled}
 use Rattle.transcript_replay.specs.Replay.{IsTrueLast}
 use Rattle.kernel_journal.specs.Body.{CanCall, Fails, Goes, IsNoted, IsReady, StopsAt, course_of}
 use Rattle.kernel_journal.specs.declared.fault.Stop.{Stop}

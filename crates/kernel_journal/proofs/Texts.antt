@@ -9,8 +9,8 @@ use Rattle.charlotte_calls.specs.declared.calls.ServiceStep.TheVariants as step
 use Rattle.charlotte_packets.specs.declared.packet.Packet.{Packet}
 use Rattle.charlotte_text.specs.Reading.{parts}
 use Rattle.charlotte_text.specs.Spelling.{IsCall, call_text, number_text, process_text}
-use Rattle.journal_text.specs.Transcript.{packet_text, step_text}
-use Rattle.journal_text.specs.TranscriptText.{HasFewPacket}
+use Rattle.transcript_lines.specs.Transcript.{packet_text, step_text}
+use Rattle.transcript_lines.specs.TranscriptText.{HasFewPacket}
 use Rattle.transcript_forms.specs.Spelling.{bare_step, HasShown}
 use Rattle.transcript_reader.specs.Ahead.{head_text}
 use Rattle.transcript_reader.specs.Lines.{Unread}

@@ -1,7 +1,7 @@
 -- How far a replay has come in a transcript: which lines it took, and what may follow.
 use Rattle.std.specs.Prelude.{◌≡◌, ◌↔◌, List, [], ◌∷◌, ◌++◌, Some, None}
 use Rattle.charlotte_calls.specs.declared.setting.Setting.{Setting}
-use Rattle.journal_text.specs.declared.last.Last.{Last}
+use Rattle.transcript_lines.specs.declared.last.Last.{Last}
 use Rattle.transcript_reading.specs.Order.{Place, Entry, Noted, Over}
 use Rattle.transcript_reading.specs.declared.line.LineKind.{LineKind}
 use Rattle.kernel_journal.specs.Body.{IsReady, Passes, course_of}

@@ -1,6 +1,6 @@
 -- What a replay answers.
 use Rattle.std.specs.Prelude.{◌≡◌, ℕ, List, ◌∷◌, ◌++◌, map, Result, Ok, Err}
-use Rattle.journal_text.specs.declared.last.Last.{Last}
+use Rattle.transcript_lines.specs.declared.last.Last.{Last}
 use Rattle.transcript_reading.specs.declared.line.LineKind.{LineKind}
 use Rattle.transcript_reader.specs.declared.line.Line.{Line}
 use Rattle.transcript_replay.specs.Replay.{IsReplay, IsDifference}

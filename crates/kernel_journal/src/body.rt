@@ -13,10 +13,10 @@ use crate::due::Due;
 use crate::fault::Stop;
 use charlotte_calls::{Call, NoMemory, Pid, Setting};
 use charlotte_packets::Picture;
-use journal_text::Last;
 use kernel_nodes::{Nodes, Noted, Request};
 use std::alloc::Global;
 use std::mem;
+use transcript_lines::Last;
 use transcript_matching::is_shown;
 use transcript_reading::{LineKind, ServiceLine};
 

@@ -5,6 +5,7 @@ ghost use Rattle.charlotte_calls.specs.declared.setting.Setting.{Setting as ASet
 ghost use Rattle.kernel_journal.specs.Body.{Goes, IsReady, StopsAt};
 ghost use Rattle.kernel_journal.specs.Expected.{ReadsDue, ReadsFirst, Stands, TookNext, Waits, told_packet};
 ghost use Rattle.charlotte_text.specs.Reading.{parts};
+ghost use Rattle.charlotte_text.specs.Spelling.{line_feed};
 ghost use Rattle.kernel_nodes.specs.Nodes.{AreNodes};
 ghost use Rattle.transcript_reader.specs.Ahead.{head_text};
 ghost use Rattle.transcript_reader.specs.declared.guess.Ahead.TheVariants as heads;
@@ -68,7 +69,7 @@ impl Body {
         rest: &'a [u8],
     ) -> Result<bool, Stop>
         requires ready { IsReady self.old }
-        requires begins { reader.old.texts ≡ parts 10 (head_text (heads.Packet ahead) ++ rest.now) }
+        requires begins { reader.old.texts ≡ parts line_feed (head_text (heads.Packet ahead) ++ rest.now) }
         ensures took { IfOk result (λ took. MatchBool took (TookNext self.old reader.old self.new reader.new) ((self.new ≡ self.old) × (reader.new ≡ reader.old))) }
         ensures stands { IfErr result (Stands self.old reader.old reader.new) }
     {
@@ -104,7 +105,7 @@ impl Body {
         request: &mut Request,
     ) -> Result<bool, Stop>
         requires ready { IsReady self.old }
-        requires begins { reader.old.texts ≡ parts 10 (head_text (heads.Call ahead) ++ rest.now) }
+        requires begins { reader.old.texts ≡ parts line_feed (head_text (heads.Call ahead) ++ rest.now) }
         ensures took { IfOk result (λ took. MatchBool took (TookNext self.old reader.old self.new reader.new) ((self.new ≡ self.old) × (reader.new ≡ reader.old))) }
         ensures stands { IfErr result (Stands self.old reader.old reader.new) }
     {
@@ -125,7 +126,7 @@ fn reads_first<'a>(
     rest: &'a [u8],
 ) -> bool
     requires are { (s : ASetting) × AreNodes s nodes.now.nodes.items }
-    requires begins { reader.old.texts ≡ parts 10 (head_text (heads.Packet ahead) ++ rest.now) }
+    requires begins { reader.old.texts ≡ parts line_feed (head_text (heads.Packet ahead) ++ rest.now) }
     ensures { MatchBool result ((s : ASetting) → AreNodes s nodes.now.nodes.items → ReadsFirst s nodes.now ahead reader.old reader.new) (reader.new ≡ reader.old) }
 {
     match nodes.first(ahead.from, ahead.kernel) {

@@ -11,9 +11,9 @@ use crate::body::Body;
 use crate::draft::Draft;
 use crate::fault::{ReplayFault, Stop};
 use charlotte_calls::{Call, Pid};
-use journal_text::Last;
 use kernel_nodes::Request;
 use std::alloc::Global;
+use transcript_lines::Last;
 use transcript_reader::{Line, Reader};
 use transcript_reading::LineKind;
 

@@ -2,6 +2,7 @@
 ghost use Rattle.std.specs.Prelude.{◌≡◌, ◌++◌, MatchBool};
 ghost use Rattle.charlotte_packets.specs.Packets.{what_picture};
 ghost use Rattle.charlotte_text.specs.Reading.{parts};
+ghost use Rattle.charlotte_text.specs.Spelling.{line_feed};
 ghost use Rattle.kernel_journal.specs.Expected.{told_packet};
 ghost use Rattle.transcript_reader.specs.Ahead.{head_text};
 ghost use Rattle.transcript_reader.specs.Next.{Reads};
@@ -38,7 +39,7 @@ pub(crate) fn reads_packet<'a>(
     rest: &'a [u8],
     packet: &Packet,
 ) -> bool
-    requires { reader.old.texts ≡ parts 10 (head_text (heads.Packet ahead) ++ rest.now) }
+    requires { reader.old.texts ≡ parts line_feed (head_text (heads.Packet ahead) ++ rest.now) }
     ensures { MatchBool result (Reads reader.old (line.PacketEntry ahead.stamp ahead.kernel ahead.from (told_packet (what_picture packet.now.what))) reader.new) (reader.new ≡ reader.old) }
 {
     if !has_few(reader.version(), &packet.what) {
@@ -61,7 +62,7 @@ pub(crate) fn reads_call<'a>(
     rest: &'a [u8],
     call: &mut Call,
 ) -> bool
-    requires { reader.old.texts ≡ parts 10 (head_text (heads.Call ahead) ++ rest.now) }
+    requires { reader.old.texts ≡ parts line_feed (head_text (heads.Call ahead) ++ rest.now) }
     ensures { MatchBool result (Reads reader.old (line.CallEntry ahead.stamp ahead.kernel ahead.p call.new) reader.new) (reader.new ≡ reader.old) }
 {
     tell_u64(ahead.stamp);

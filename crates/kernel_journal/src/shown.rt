@@ -1,7 +1,7 @@
 //! Whether the lines of a version can show all of a step or of a packet.
 ghost use Rattle.std.specs.Prelude.{◌↔◌, IsTrue};
 ghost use Rattle.charlotte_packets.specs.Packets.{what_picture};
-ghost use Rattle.journal_text.specs.TranscriptText.{HasFewPacket, IsFew, IsShownReport};
+ghost use Rattle.transcript_lines.specs.TranscriptText.{HasFewPacket, IsFew, IsShownReport};
 ghost use Rattle.transcript_forms.specs.Spelling.{HasShown};
 ghost use Rattle.transcript_reading.specs.Kinds.{shown_step};
 

@@ -5,8 +5,8 @@ ghost use Rattle.transcript_law.specs.Law.{IsLawfulReplay};
 
 use crate::fault::ReplayFault;
 use crate::lines::Replay;
-use journal_text::Last;
 use std::alloc::Global;
+use transcript_lines::Last;
 use transcript_reader::Line;
 
 /// Replays the lines of a transcript: its last line, where they are the transcript of a run; else the first line that differs from what

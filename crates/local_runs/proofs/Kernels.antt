@@ -9,7 +9,7 @@ use Rattle.charlotte_packets.specs.declared.picture.Picture.{Picture}
 use Rattle.charlotte_packets.specs.declared.picture.PictureWhat.{PictureWhat}
 use Rattle.charlotte_packets.specs.declared.picture.PictureWhat.TheVariants as packet
 use Rattle.charlotte_calls.specs.declared.setting.Setting.{Setting}
-use Rattle.journal_text.specs.TranscriptText.{HasFewCall, HasFewPacket}
+use Rattle.transcript_lines.specs.TranscriptText.{HasFewCall, HasFewPacket}
 use Rattle.kernel_step.specs.Kernel.{Kernel, Outcome, take_step, next_stamp, without_answer}
 use Rattle.kernel_world.proofs.Packets.{to_kernel-first}
 use Rattle.kernel_world.specs.Run.{AreInOrder, IsCallOf, of_kernel, stands_before}

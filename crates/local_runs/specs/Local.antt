@@ -5,7 +5,7 @@ use Rattle.charlotte_calls.specs.declared.names.EndId.{EndId}
 use Rattle.charlotte_calls.specs.declared.names.Pid.{Pid}
 use Rattle.charlotte_packets.specs.declared.picture.Picture.{Picture}
 use Rattle.charlotte_calls.specs.declared.setting.Setting.{Setting}
-use Rattle.journal_text.specs.TranscriptText.{HasFewPacket}
+use Rattle.transcript_lines.specs.TranscriptText.{HasFewPacket}
 use Rattle.kernel_step.specs.Calls.{IsCallWith}
 use Rattle.kernel_step.specs.Kernel.{Kernel, Outcome, call_step, process_of, take_step, without_answer}
 use Rattle.kernel_step.specs.Start.{home, start_kernel}

@@ -2,6 +2,7 @@
 use Rattle.std.specs.Prelude.{◌≡◌, ℕ, List, [], ◌∷◌, Bool, true, false, ◌+◌, ◌==◌, if◌then◌else◌, length, Result, Ok, Err}
 use Rattle.charlotte_text.specs.declared.fault.Fault.{Fault}
 use Rattle.charlotte_text.specs.Reading.{parts, words}
+use Rattle.charlotte_text.specs.Spelling.{line_feed}
 use Rattle.lynx_plan.specs.declared.stage.Stage.{Stage}
 use Rattle.lynx_plan.specs.declared.stage.Stage.TheVariants as stage
 use Rattle.lynx_plan.specs.declared.form.Form.{Form}
@@ -71,4 +72,4 @@ finished line (Err e) = Err e
 
 -- the script that bytes spell, or the first line that fails and the least rule there
 unfoldable pub script_of : List ℕ → Result Script PlanFault
-script_of bytes = finished (length (parts 10 bytes)) (lines_read 1 nothing (parts 10 bytes))
+script_of bytes = finished (length (parts line_feed bytes)) (lines_read 1 nothing (parts line_feed bytes))

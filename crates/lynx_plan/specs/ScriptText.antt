@@ -3,7 +3,7 @@ use Rattle.std.specs.Prelude.{◌≡◌, ◌⊎◌, ◌<◌, ℕ, ◌+◌, List,
 use Rattle.charlotte_calls.specs.declared.names.Pid.{Pid}
 use Rattle.charlotte_calls.specs.declared.setting.Setting.{Setting}
 use Rattle.charlotte_calls.specs.Setting.{IsValid}
-use Rattle.charlotte_text.specs.Spelling.{number_text, process_text, call_text, IsCall}
+use Rattle.charlotte_text.specs.Spelling.{number_text, process_text, call_text, IsCall, line_feed}
 use Rattle.charlotte_text.specs.Reading.{parts}
 use Rattle.lynx_plan.specs.declared.script.Script.{Script}
 use Rattle.lynx_plan.specs.declared.script.ScriptLine.{ScriptLine}
@@ -68,7 +68,7 @@ AreRisingLines (l ∷ m ∷ ls) = (l.line < m.line) × AreRisingLines (m ∷ ls)
 pub record IsScriptText (bytes : List ℕ) (s : Script) : Type 0 where
   -- the lines of the header, with their numbers
   pub header : List (ℕ × List ℕ)
-  pub lines : standing 1 (parts 10 bytes) ≡ header ++ map numbered s.lines
+  pub lines : standing 1 (parts line_feed bytes) ≡ header ++ map numbered s.lines
   pub spelled : IsHeader (map (λ l. l.1) header) s.setting
   pub valid : IsValid s.setting
   pub calls : All (λ l. FitsWhat s.setting l.what) s.lines

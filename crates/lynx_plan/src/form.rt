@@ -1,5 +1,6 @@
 ghost use Rattle.std.specs.Prelude.{◌≡◌, ◌≢◌, ℕ, List, IfOk, option_copied};
 ghost use Rattle.charlotte_text.specs.Reading.{rest_parts, words};
+ghost use Rattle.charlotte_text.specs.Spelling.{blank};
 ghost use Rattle.lynx_plan.specs.declared.form.Lead.TheVariants as Lead;
 ghost use Rattle.lynx_plan.specs.Forms.{lead_of, one_number, two_numbers, placed, asked, led, form_of};
 
@@ -58,7 +59,7 @@ pub(crate) fn script_form(
 #[tactic(auto, unfolding(crate::specs::Forms::led))]
 fn led_form(lead: Lead, rest: Option<&[u8]>) -> Result<Form, Fault>
     requires { lead ≢ Lead.Other }
-    ensures { (version : ℕ) (word : List ℕ) → result ≡ led version lead word (rest_parts 32 (option_copied rest.entry)) }
+    ensures { (version : ℕ) (word : List ℕ) → result ≡ led version lead word (rest_parts blank (option_copied rest.entry)) }
 {
     match lead {
         Lead::Version => Ok(Form::Version(number(rest)?)),
@@ -92,7 +93,7 @@ fn call_of_process(
     rest: Option<&[u8]>,
     place: &mut Call,
 ) -> Result<Result<Form, Fault>, NoMemory>
-    ensures { IfOk result (λ form. form ≡ asked version word.now (rest_parts 32 (option_copied rest.entry))) }
+    ensures { IfOk result (λ form. form ≡ asked version word.now (rest_parts blank (option_copied rest.entry))) }
 {
     let process = match read_process(word) {
         Ok(process) => process,
@@ -129,7 +130,7 @@ fn read_lead(word: &[u8]) -> Lead
 /// `N`.
 #[tactic(auto, unfolding(crate::specs::Forms::one_number))]
 fn number(rest: Option<&[u8]>) -> Result<Number, Fault>
-    ensures { result ≡ one_number (rest_parts 32 (option_copied rest.entry)) }
+    ensures { result ≡ one_number (rest_parts blank (option_copied rest.entry)) }
 {
     let (word, rest) = next_word(rest)?;
     let number = read_number(word)?;
@@ -140,7 +141,7 @@ fn number(rest: Option<&[u8]>) -> Result<Number, Fault>
 /// `I J`.
 #[tactic(auto, unfolding(crate::specs::Forms::two_numbers))]
 fn numbers(rest: Option<&[u8]>) -> Result<(Number, Number), Fault>
-    ensures { result ≡ two_numbers (rest_parts 32 (option_copied rest.entry)) }
+    ensures { result ≡ two_numbers (rest_parts blank (option_copied rest.entry)) }
 {
     let (word, rest) = next_word(rest)?;
     let first = read_number(word)?;
@@ -151,7 +152,7 @@ fn numbers(rest: Option<&[u8]>) -> Result<(Number, Number), Fault>
 /// `I on K`.
 #[tactic(auto, unfolding(crate::specs::Forms::placed))]
 fn process_on_kernel(rest: Option<&[u8]>) -> Result<(Number, Number), Fault>
-    ensures { result ≡ placed (rest_parts 32 (option_copied rest.entry)) }
+    ensures { result ≡ placed (rest_parts blank (option_copied rest.entry)) }
 {
     let (word, rest) = next_word(rest)?;
     let process = read_number(word)?;

@@ -1,5 +1,6 @@
 ghost use Rattle.std.specs.List.{position};
 ghost use Rattle.charlotte_text.specs.Reading.{parts, rest_parts};
+ghost use Rattle.charlotte_text.specs.Spelling.{line_feed};
 ghost use Rattle.std.specs.Prelude.{◌≡◌, ◌==◌, ◌∷◌, option_copied, IfSome, ◌<◌, ◌≤◌, ◌+◌, ◌*◌, length, MatchResult, IfOk, Ok};
 ghost use Rattle.charlotte_calls.specs.Setting.{IsValid};
 ghost use Rattle.lynx_plan.specs.declared.script.Script.{Script};
@@ -60,7 +61,7 @@ fn read_lines(alloc: Global, bytes: &[u8]) -> Result<Script, PlanFault>
 
 /// The first line of a text, and what stands behind its line feed, if it has one.
 fn first_line(text: &[u8]) -> (&[u8], Option<&[u8]>)
-    ensures { parts 10 text.now ≡ result.0.now ∷ rest_parts 10 (option_copied result.1) }
+    ensures { parts line_feed text.now ≡ result.0.now ∷ rest_parts line_feed (option_copied result.1) }
 {
     match line_feed_at(text) {
         None => (text, None),
@@ -69,7 +70,7 @@ fn first_line(text: &[u8]) -> (&[u8], Option<&[u8]>)
 }
 
 fn line_feed_at(text: &[u8]) -> Option<usize>
-    ensures exact { position (λ b. b == 10) text.now ≡ result }
+    ensures exact { position (λ b. b == line_feed) text.now ≡ result }
     ensures within { IfSome result (λ at. at < length text.now) }
 {
     memchr(b'\n', text)

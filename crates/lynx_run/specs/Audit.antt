@@ -1,6 +1,6 @@
 -- What `audit` finds in the bytes of a transcript.
 use Rattle.std.specs.Prelude.{◌≡◌, ℕ, List, [], ◌∷◌, Ok, Err, codes}
-use Rattle.journal_text.specs.declared.last.Last.{Last}
+use Rattle.transcript_lines.specs.declared.last.Last.{Last}
 use Rattle.lynx_command.specs.Found.{Found}
 use Rattle.lynx_command.specs.Text.{line}
 use Rattle.lynx_command.specs.declared.ending.End.TheVariants.{Done}

@@ -1,10 +1,10 @@
 -- What `drive` finds in the bytes of a script.
 use Rattle.std.specs.Prelude.{◌≡◌, ℕ, List, Ok, Err}
 use Rattle.std.specs.List.{concat}
-use Rattle.journal_text.specs.Transcript.{transcript_lines}
-use Rattle.journal_text.specs.TranscriptText.{IsTranscript}
-use Rattle.journal_text.specs.declared.last.Last.{Last}
-use Rattle.journal_text.specs.declared.last.ScriptNote.{ScriptNote}
+use Rattle.transcript_lines.specs.Transcript.{transcript_lines}
+use Rattle.transcript_lines.specs.TranscriptText.{IsTranscript}
+use Rattle.transcript_lines.specs.declared.last.Last.{Last}
+use Rattle.transcript_lines.specs.declared.last.ScriptNote.{ScriptNote}
 use Rattle.kernel_world.specs.declared.entry.Placed.{Placed}
 use Rattle.lynx_plan.specs.Reading.{script_of}
 use Rattle.lynx_plan.specs.ScriptText.{IsScriptText}

@@ -1,7 +1,7 @@
 //! What holds of the texts of commands.
 ghost use Rattle.std.specs.Prelude.{ℕ, List};
 ghost use Rattle.std.specs.List.{concat};
-ghost use Rattle.journal_text.specs.declared.last.Last.{Last};
+ghost use Rattle.transcript_lines.specs.declared.last.Last.{Last};
 ghost use Rattle.lynx_run.specs.Drive.{IsDriven};
 ghost use Rattle.transcript_audit.specs.Audit.{IsAudited};
 

@@ -1,6 +1,6 @@
 -- What the program finds in the bytes of a transcript: lines that it puts, and the failure that it tells behind them, if there is one.
 use Rattle.std.specs.Prelude.{◌≡◌, ℕ, List, [], ◌∷◌, Option, Some, None, Result, Ok, Err, codes}
-use Rattle.journal_text.specs.declared.last.Last.{Last}
+use Rattle.transcript_lines.specs.declared.last.Last.{Last}
 use Rattle.lynx_command.specs.Failures.{failure_of_file}
 use Rattle.lynx_command.specs.Found.{read}
 use Rattle.lynx_command.specs.Text.{line}

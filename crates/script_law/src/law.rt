@@ -1,8 +1,8 @@
 ghost use Rattle.std.specs.Prelude.{List};
 ghost use Rattle.charlotte_calls.specs.Setting.{IsValid};
 ghost use Rattle.charlotte_calls.specs.declared.setting.Setting.{Setting};
-ghost use Rattle.journal_text.specs.declared.last.Last.{Last};
-ghost use Rattle.journal_text.specs.declared.last.ScriptNote.{ScriptNote};
+ghost use Rattle.transcript_lines.specs.declared.last.Last.{Last};
+ghost use Rattle.transcript_lines.specs.declared.last.ScriptNote.{ScriptNote};
 ghost use Rattle.kernel_world.specs.declared.entry.Placed.{Placed};
 ghost use Rattle.lynx_plan.specs.declared.script.ScriptLine.{ScriptLine};
 ghost use Rattle.script_run.specs.Performing.{IsPerformance};

@@ -7,10 +7,10 @@ use Rattle.charlotte_calls.specs.declared.names.Pid.{Pid}
 use Rattle.charlotte_packets.specs.declared.picture.Picture.{Picture}
 use Rattle.charlotte_calls.specs.declared.setting.Setting.{Setting}
 use Rattle.charlotte_calls.specs.Setting.{IsValid}
-use Rattle.journal_text.specs.TranscriptText.{AreOfTranscript, AreRisingNotes, HasNotesOf, IsLastInRange, IsNoteInRange}
-use Rattle.journal_text.specs.declared.last.Last.{Last}
-use Rattle.journal_text.specs.declared.last.Last.TheVariants.{Quiet, Unsettled, Spent}
-use Rattle.journal_text.specs.declared.last.ScriptNote.{ScriptNote}
+use Rattle.transcript_lines.specs.TranscriptText.{AreOfTranscript, AreRisingNotes, HasNotesOf, IsLastInRange, IsNoteInRange}
+use Rattle.transcript_lines.specs.declared.last.Last.{Last}
+use Rattle.transcript_lines.specs.declared.last.Last.TheVariants.{Quiet, Unsettled, Spent}
+use Rattle.transcript_lines.specs.declared.last.ScriptNote.{ScriptNote}
 use Rattle.kernel_step.specs.declared.phase.Phase.{Phase}
 use Rattle.kernel_step.specs.declared.phase.Phase.TheVariants.{Running, Waiting, Cancelling, Exited}
 use Rattle.kernel_world.specs.Ranges.{IsPlacedInRange}

@@ -15,9 +15,9 @@ use Rattle.kernel_step.specs.declared.phase.Phase.TheVariants.{Running, Waiting,
 use Rattle.kernel_world.specs.World.{World, Event, Calls, Takes, happens, after, start}
 use Rattle.kernel_world.specs.Run.{AllTaken}
 use Rattle.kernel_world.specs.declared.entry.Placed.{Placed}
-use Rattle.journal_text.specs.declared.last.Last.{Last}
-use Rattle.journal_text.specs.declared.last.Last.TheVariants.{Quiet, Unsettled, Spent}
-use Rattle.journal_text.specs.declared.last.ScriptNote.{ScriptNote}
+use Rattle.transcript_lines.specs.declared.last.Last.{Last}
+use Rattle.transcript_lines.specs.declared.last.Last.TheVariants.{Quiet, Unsettled, Spent}
+use Rattle.transcript_lines.specs.declared.last.ScriptNote.{ScriptNote}
 use Rattle.lynx_plan.specs.declared.script.ScriptLine.{ScriptLine}
 use Rattle.lynx_plan.specs.declared.script.ScriptCall.{ScriptCall}
 use Rattle.lynx_plan.specs.declared.script.ScriptCall.TheVariants.{Ask, Take, Settle}

@@ -15,7 +15,7 @@ use Rattle.kernel_world.specs.Ranges.{IsEntryInRange}
 use Rattle.kernel_world.specs.World.{World, Event, Takes, after, noted}
 use Rattle.kernel_world.specs.Run.{AreAllowed, IsCallOf, of_kernel}
 use Rattle.kernel_world.specs.declared.entry.Entry.{Entry}
-use Rattle.journal_text.specs.declared.last.ScriptNote.{ScriptNote}
+use Rattle.transcript_lines.specs.declared.last.ScriptNote.{ScriptNote}
 use Rattle.lynx_plan.specs.declared.script.ScriptCall.{ScriptCall}
 use Rattle.lynx_plan.specs.declared.script.ScriptLine.{ScriptLine}
 use Rattle.script_run.specs.Performing.{Does, Performs, most_settled, pairs}

@@ -12,9 +12,9 @@ ghost use Rattle.script_run.specs.Performing.{most_settled, settled};
 use crate::recorded::Recorded;
 use charlotte_calls::{NoMemory, Pid, Setting};
 use compact_calls::CompactCall;
-use journal_text::ScriptNote;
 use kernel_nodes::Request;
 use lynx_plan::{ScriptLine, StoredScriptCall};
+use transcript_lines::ScriptNote;
 
 /// The packets that one settling takes at most.
 const MOST_SETTLED: u32 = 10_000;

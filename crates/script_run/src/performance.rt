@@ -3,7 +3,7 @@ ghost use Rattle.std.specs.Prelude.{◌≡◌, ◌↔◌, ◌≤◌, ◌++◌, �
 ghost use Rattle.std.specs.Option.{option_to_list};
 ghost use Rattle.charlotte_calls.specs.Setting.{IsValid};
 ghost use Rattle.charlotte_calls.specs.declared.setting.Setting.{Setting as ASetting};
-ghost use Rattle.journal_text.specs.TranscriptText.{AreOfTranscript, IsNoteInRange};
+ghost use Rattle.transcript_lines.specs.TranscriptText.{AreOfTranscript, IsNoteInRange};
 ghost use Rattle.lynx_plan.specs.ScriptText.{AreRisingLines, FitsWhat};
 ghost use Rattle.script_run.specs.Recorded.{AreLinesDone, AreReady, world_at};
 ghost use Rattle.script_run.specs.Performing.{IsLast, IsPerformance};
@@ -11,10 +11,10 @@ ghost use Rattle.script_run.specs.Performing.{IsLast, IsPerformance};
 use crate::lines::do_line;
 use crate::recorded::Recorded;
 use charlotte_calls::{Items, NoMemory, Setting};
-use journal_text::{Last, ScriptNote};
 use lynx_plan::ScriptLine;
 use std::alloc::Global;
 use std::collections::VecDeque;
+use transcript_lines::{Last, ScriptNote};
 use written_journal::Merged;
 
 /// What was done as a script was performed.

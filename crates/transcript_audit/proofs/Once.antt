@@ -2,8 +2,8 @@
 use Rattle.std.proofs.Common.{◌≡◌, ℕ, List, [], ◌∷◌, ◌++◌, map, Result, Ok, Err, refl, sym, ap, subst, ◌∙◌, append_assoc}
 use Rattle.std.proofs.lemmas.List.{map-append}
 use Rattle.std.specs.List.{flat_map}
-use Rattle.journal_text.specs.declared.last.Last.{Last}
-use Rattle.journal_text.specs.declared.last.Last.TheVariants.{Quiet}
+use Rattle.transcript_lines.specs.declared.last.Last.{Last}
+use Rattle.transcript_lines.specs.declared.last.Last.TheVariants.{Quiet}
 use Rattle.kernel_journal.specs.Faults.{IsFirstDifference, IsReplayOf, kinds_in}
 use Rattle.kernel_journal.proofs.Replays.{differing-none}
 use Rattle.transcript_audit.specs.Audit.{IsAudited, IsDifferent, IsRejected, Bad, Different}

@@ -1,6 +1,6 @@
 -- What an audit of a text answers.
 use Rattle.std.specs.Prelude.{◌≡◌, ℕ, List, [], ◌∷◌, ◌++◌, None, Ok, Err}
-use Rattle.journal_text.specs.declared.last.Last.{Last}
+use Rattle.transcript_lines.specs.declared.last.Last.{Last}
 use Rattle.kernel_journal.specs.At.{IsAt}
 use Rattle.kernel_journal.specs.Expected.{HasDiffered}
 use Rattle.kernel_journal.specs.Faults.{IsFaultAt, IsFirstDifference, IsReplayOf, kinds_in}

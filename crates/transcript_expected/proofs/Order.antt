@@ -8,7 +8,7 @@ use Rattle.charlotte_packets.specs.declared.picture.Picture.{Picture}
 use Rattle.charlotte_packets.specs.declared.picture.PictureWhat.TheVariants.{GoneSeen}
 use Rattle.charlotte_text.specs.declared.fault.Fault.{Fault}
 use Rattle.charlotte_text.specs.declared.fault.Fault.TheVariants as fault
-use Rattle.journal_text.specs.declared.last.Last.TheVariants.{Quiet, Unsettled, Spent}
+use Rattle.transcript_lines.specs.declared.last.Last.TheVariants.{Quiet, Unsettled, Spent}
 use Rattle.transcript_expected.specs.Forms.{MayStand, form_of, may_stand}
 use Rattle.transcript_expected.specs.declared.form.Form.{Form}
 use Rattle.transcript_expected.specs.declared.form.Form.TheVariants as form

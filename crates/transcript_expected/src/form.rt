@@ -4,9 +4,8 @@ ghost use Rattle.transcript_expected.specs.Forms.{is_of_body, may_stand};
 ghost use Rattle.transcript_reader.specs.Lines.{seen};
 
 use crate::fields::{Fields, call_fields, packet_fields, push_fields, step_fields};
-use crate::listing::Listing;
 use charlotte_calls::NoMemory;
-use charlotte_text::{cut, push_number};
+use charlotte_text::{Listing, cut, push_number};
 use transcript_reader::Place;
 
 /// The form of a line.

@@ -9,10 +9,8 @@
 mod fields;
 mod form;
 mod law;
-mod listing;
 mod standing;
 
 pub use form::Form;
 pub use law::forms_that_stand;
-pub use listing::Listing;
 pub use standing::expected_forms;

@@ -1,8 +1,8 @@
 //! Which forms may stand in a place.
 
 use crate::form::{FORMS, Form};
-use crate::listing::Listing;
 use charlotte_calls::NoMemory;
+use charlotte_text::Listing;
 use transcript_forms::read_kind;
 use transcript_reader::Place;
 

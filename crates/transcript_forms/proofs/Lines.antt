@@ -9,7 +9,7 @@ use Rattle.charlotte_text.specs.Spelling.{number_text, process_text}
 use Rattle.charlotte_text.specs.Reading.{◌>>=◌, ended, is_number, call_of}
 use Rattle.charlotte_text.proofs.Calls.{call_words, call_takes}
 use Rattle.charlotte_text.proofs.Steps.{bind_ok, ok_is, not_ok, chosen, held}
-use Rattle.journal_text.specs.declared.last.Last.TheVariants.{Quiet, Unsettled, Spent}
+use Rattle.transcript_lines.specs.declared.last.Last.TheVariants.{Quiet, Unsettled, Spent}
 use Rattle.transcript_reading.specs.Forms.{first_of, only_of, this_word, u8_of, u32_of, u64_of, numbered_of, kernel_of, pid_of, waits_of, packet_of, step_of, took_of, asked_of, happened_of, entry_of, home_of, wire_of, note_of, named_line_of, kind_of}
 use Rattle.transcript_reading.specs.declared.line.LineKind.{LineKind}
 use Rattle.transcript_reading.specs.declared.line.LineKind.TheVariants as kind

@@ -15,8 +15,8 @@ use Rattle.charlotte_text.specs.Spelling.{number_text, end_text, most_ends}
 use Rattle.charlotte_text.specs.Reading.{◌>>=◌, parts, end_of, bytes_of}
 use Rattle.charlotte_text.proofs.Names.{end_takes}
 use Rattle.charlotte_text.proofs.Steps.{bind_ok, ok_is, not_ok, held}
-use Rattle.journal_text.specs.Transcript.{bit, value_text}
-use Rattle.journal_text.specs.TranscriptText.{HasFewPacket}
+use Rattle.transcript_lines.specs.Transcript.{bit, value_text}
+use Rattle.transcript_lines.specs.TranscriptText.{HasFewPacket}
 use Rattle.transcript_reading.specs.Forms.{first_of, only_of, u8_of, u32_of, bit_of, value_of, plus_value_of, values_of, wanted_of, parcel_of, back_of, gone_of, moved_of, end_number_of, named_packet_of, packet_of}
 use Rattle.transcript_reading.proofs.Packets.{plus_value_text, packet_name, packet_rest, end_numbers, fields}
 use Rattle.transcript_reading.proofs.Words.{joined_map}

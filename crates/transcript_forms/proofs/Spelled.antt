@@ -10,9 +10,9 @@ use Rattle.charlotte_text.specs.declared.fault.Fault.{Fault}
 use Rattle.charlotte_text.specs.Spelling.{number_text, process_text, call_text, IsCall}
 use Rattle.charlotte_text.specs.Reading.{words}
 use Rattle.charlotte_text.proofs.Calls.{call_words, call_again}
-use Rattle.journal_text.specs.Transcript.{packet_text}
-use Rattle.journal_text.specs.declared.last.Last.TheVariants.{Quiet, Unsettled, Spent}
-use Rattle.journal_text.specs.TranscriptText.{IsShownStep}
+use Rattle.transcript_lines.specs.Transcript.{packet_text}
+use Rattle.transcript_lines.specs.declared.last.Last.TheVariants.{Quiet, Unsettled, Spent}
+use Rattle.transcript_lines.specs.TranscriptText.{IsShownStep}
 use Rattle.kernel_world.specs.declared.entry.Happened.{Happened}
 use Rattle.kernel_world.specs.declared.entry.Happened.TheVariants.{Asked}
 use Rattle.transcript_reading.specs.Forms.{packet_of, took_of, happened_of, home_of, wire_of, waits_of, note_of, named_line_of, kind_of}

@@ -18,7 +18,7 @@ use Rattle.charlotte_text.specs.Reading.{◌>>=◌, ended, end_of, ends_of, byte
 use Rattle.charlotte_text.proofs.Calls.{way_takes}
 use Rattle.charlotte_text.proofs.Names.{end_takes, ends_take}
 use Rattle.charlotte_text.proofs.Steps.{bind_ok, ok_is, not_ok, held}
-use Rattle.journal_text.specs.TranscriptText.{IsShownReport}
+use Rattle.transcript_lines.specs.TranscriptText.{IsShownReport}
 use Rattle.transcript_reading.specs.Forms.{first_of, only_of, u32_of, pid_of, cause_of, outcome_of, suffix_of, bare_report, result_of, report_of, make_of, refuse_of, send_of, cancel_of, take_of, notice_of, back_step_of, end_number_of, named_step_of, step_of}
 use Rattle.transcript_reading.specs.declared.line.ServiceLine.{ServiceLine}
 use Rattle.transcript_reading.specs.declared.line.ServiceLine.TheVariants as service

@@ -16,7 +16,7 @@ use Rattle.charlotte_text.specs.Reading.{◌>>=◌, ended, number_below, bytes_o
 use Rattle.charlotte_text.proofs.Steps.{bind_ok, done, ok_is, not_ok, chosen, held}
 use Rattle.charlotte_text.proofs.Numbers.{below_takes}
 use Rattle.charlotte_text.proofs.Texts.{bytes_takes}
-use Rattle.journal_text.specs.Transcript.{bit, cause_text}
+use Rattle.transcript_lines.specs.Transcript.{bit, cause_text}
 use Rattle.transcript_reading.specs.Forms.{first_of, only_of, numbered_of, pid_of, kernel_of, bit_of, cause_of, outcome_of, waits_of}
 
 -- ---- steps of reading

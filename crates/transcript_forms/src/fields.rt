@@ -1,6 +1,7 @@
 //! The fields of an end's value, one after the other.
 ghost use Rattle.std.specs.Prelude.{◌≡◌, Ok, Err, MatchResult};
 ghost use Rattle.charlotte_text.specs.Reading.{Gives, parts, part_at, ended, end_of};
+ghost use Rattle.charlotte_text.specs.Spelling.{colon};
 ghost use Rattle.transcript_forms.specs.Cursor.{Takes};
 ghost use Rattle.transcript_reading.specs.Forms.{first_of, u8_of, u32_of, bit_of};
 
@@ -18,16 +19,17 @@ pub(crate) struct Fields<'a> {
 impl<'a> Model for Fields<'a> {
     ghost use Rattle.std.specs.Prelude.{ℕ, List, option_copied};
     ghost use Rattle.charlotte_text.specs.Reading.{rest_parts};
+    ghost use Rattle.charlotte_text.specs.Spelling.{colon};
 
     ghost Value = { List (List ℕ) };
 
-    ghost view = { λ f. rest_parts 58 (option_copied f.rest) };
+    ghost view = { λ f. rest_parts colon (option_copied f.rest) };
 }
 
 impl<'a> Fields<'a> {
     /// All fields of a word.
     pub(crate) fn of(word: &'a [u8]) -> Fields<'a>
-        ensures { result ≡ parts 58 word.now }
+        ensures { result ≡ parts colon word.now }
     {
         Fields { rest: Some(word) }
     }

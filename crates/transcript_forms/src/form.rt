@@ -10,7 +10,7 @@ use crate::step::read_step;
 use crate::word::is_numeral;
 use crate::words::Words;
 use charlotte_text::{Fault, is_word};
-use journal_text::{Last, ScriptNote};
+use transcript_lines::{Last, ScriptNote};
 use transcript_reading::LineKind;
 
 /// What a line of a transcript of a version shows, without its line feed. `Form` or `Long` where it is no line.

@@ -24,10 +24,11 @@ pub(crate) struct Words<'a> {
 impl<'a> Model for Words<'a> {
     ghost use Rattle.std.specs.Prelude.{ℕ, List, option_copied};
     ghost use Rattle.charlotte_text.specs.Reading.{rest_parts};
+    ghost use Rattle.charlotte_text.specs.Spelling.{blank};
 
     ghost Value = { List (List ℕ) };
 
-    ghost view = { λ w. rest_parts 32 (option_copied w.rest) };
+    ghost view = { λ w. rest_parts blank (option_copied w.rest) };
 }
 
 impl<'a> Words<'a> {

@@ -1,6 +1,6 @@
 -- Replays are lawful.
 use Rattle.std.proofs.Common.{List}
-use Rattle.journal_text.specs.declared.last.Last.{Last}
+use Rattle.transcript_lines.specs.declared.last.Last.{Last}
 use Rattle.theorem.proofs.Record.{record-is-lawful}
 use Rattle.transcript_law.specs.Law.{IsLawfulReplay}
 use Rattle.transcript_reading.specs.declared.line.LineKind.{LineKind}

@@ -1,8 +1,8 @@
 -- What is claimed of a transcript that is replayed.
 use Rattle.std.specs.Prelude.{◌≡◌, List}
 use Rattle.charlotte_calls.specs.declared.setting.Setting.{Setting}
-use Rattle.journal_text.specs.declared.last.Last.{Last}
-use Rattle.journal_text.specs.declared.last.ScriptNote.{ScriptNote}
+use Rattle.transcript_lines.specs.declared.last.Last.{Last}
+use Rattle.transcript_lines.specs.declared.last.ScriptNote.{ScriptNote}
 use Rattle.kernel_world.specs.declared.entry.Placed.{Placed}
 use Rattle.theorem.specs.Record.{IsLawfulRecord}
 use Rattle.transcript_reading.specs.Kinds.{transcript_kinds}

@@ -1,7 +1,7 @@
 ghost use Rattle.std.specs.Prelude.{List};
 ghost use Rattle.charlotte_calls.specs.Setting.{IsValid};
 ghost use Rattle.charlotte_calls.specs.declared.setting.Setting.{Setting};
-ghost use Rattle.journal_text.specs.declared.last.Last.{Last};
+ghost use Rattle.transcript_lines.specs.declared.last.Last.{Last};
 ghost use Rattle.kernel_world.specs.Run.{IsRun};
 ghost use Rattle.kernel_world.specs.World.{Event};
 ghost use Rattle.transcript_law.specs.Law.{IsLawfulReplay};

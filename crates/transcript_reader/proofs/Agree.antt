@@ -5,7 +5,7 @@ use Rattle.charlotte_text.specs.declared.fault.Fault.{Fault}
 use Rattle.charlotte_text.specs.declared.fault.Fault.TheVariants.{Form}
 use Rattle.charlotte_text.specs.Reading.{◌>>=◌, words}
 use Rattle.charlotte_text.proofs.Steps.{bind_ok, not_ok}
-use Rattle.journal_text.specs.Transcript.{line}
+use Rattle.transcript_lines.specs.Transcript.{line}
 use Rattle.transcript_reading.specs.Forms.{kind_of}
 use Rattle.transcript_reading.specs.Order.{Place, Start, Version, Over, next, follows, is_whole}
 use Rattle.transcript_reading.specs.Reading.{Told, ended_lines, lines_of, kinds_of, version_of, whole_of, with_lines, nothing_told, told_by}

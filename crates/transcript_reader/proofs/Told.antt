@@ -18,11 +18,11 @@ use Rattle.charlotte_text.specs.declared.fault.Fault.{Fault}
 use Rattle.charlotte_text.specs.declared.fault.Fault.TheVariants.{Form}
 use Rattle.charlotte_text.specs.Reading.{◌>>=◌, parts, words}
 use Rattle.charlotte_text.proofs.Steps.{bind_ok, done, ok_is, not_ok, held}
-use Rattle.journal_text.specs.Transcript.{line, step_text, entry_text, entry_lines, process_lines, process_home_text, wire_text, note_text, last_text}
-use Rattle.journal_text.specs.TranscriptText.{HasFew, IsShown, IsShownStep, AreRisingNotes, HasNotesOf, IsNoteInRange, IsLastInRange, AreInRange, IsTranscript, HasFewCall}
-use Rattle.journal_text.specs.declared.last.Last.{Last}
-use Rattle.journal_text.specs.declared.last.Last.TheVariants.{Quiet, Unsettled, Spent}
-use Rattle.journal_text.specs.declared.last.ScriptNote.{ScriptNote}
+use Rattle.transcript_lines.specs.Transcript.{line, step_text, entry_text, entry_lines, process_lines, process_home_text, wire_text, note_text, last_text}
+use Rattle.transcript_lines.specs.TranscriptText.{HasFew, IsShown, IsShownStep, AreRisingNotes, HasNotesOf, IsNoteInRange, IsLastInRange, AreInRange, IsTranscript, HasFewCall}
+use Rattle.transcript_lines.specs.declared.last.Last.{Last}
+use Rattle.transcript_lines.specs.declared.last.Last.TheVariants.{Quiet, Unsettled, Spent}
+use Rattle.transcript_lines.specs.declared.last.ScriptNote.{ScriptNote}
 use Rattle.kernel_world.specs.Ranges.{IsHappenedInRange, IsPlacedInRange}
 use Rattle.kernel_world.specs.declared.entry.Happened.{Happened}
 use Rattle.kernel_world.specs.declared.entry.Happened.TheVariants.{Asked, Took}

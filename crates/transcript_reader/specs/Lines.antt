@@ -3,6 +3,7 @@ use Rattle.std.specs.Prelude.{◌≡◌, ℕ, ◌+◌, ◌==◌, List, length, [
 use Rattle.std.specs.Global.{Vec}
 use Rattle.charlotte_text.specs.declared.fault.Fault.{Fault}
 use Rattle.charlotte_text.specs.Reading.{◌>>=◌, parts, words}
+use Rattle.charlotte_text.specs.Spelling.{line_feed}
 use Rattle.transcript_reading.specs.Forms.{kind_of}
 use Rattle.transcript_reading.specs.Order.{Place, Start, Version, Processes, Wires, Entry, Noted, Over, next}
 use Rattle.transcript_reading.specs.declared.line.LineKind.{LineKind}
@@ -36,7 +37,7 @@ pub record Unread : Type 0 where
 
 -- before the first line
 abbrev pub unread : List ℕ → Unread
-unread bytes = record { lines = 0; version = 0; place = Start; texts = parts 10 bytes }
+unread bytes = record { lines = 0; version = 0; place = Start; texts = parts line_feed bytes }
 
 -- the first line tells the version
 abbrev pub version_after : ℕ → LineKind → ℕ

@@ -1,6 +1,7 @@
 -- The next line of a transcript, where it is expected to be a certain one.
 use Rattle.std.specs.Prelude.{◌≡◌, ◌+◌, ◌++◌, ℕ, List, Some, Ok}
 use Rattle.charlotte_text.specs.Reading.{parts}
+use Rattle.charlotte_text.specs.Spelling.{line_feed}
 use Rattle.transcript_forms.specs.Spelling.{IsKind, kind_text}
 use Rattle.transcript_reading.specs.Order.{Entry, next}
 use Rattle.transcript_reading.specs.declared.line.LineKind.{LineKind}
@@ -8,7 +9,7 @@ use Rattle.transcript_reader.specs.Lines.{Unread, next_line}
 
 -- what is unread begins with the text of this line, of an entry or of a step below one, behind which this is left
 pub record IsAhead (u : Unread) (k : LineKind) (left : List ℕ) : Type 0 where
-  pub texts : u.texts ≡ parts 10 (kind_text k ++ left)
+  pub texts : u.texts ≡ parts line_feed (kind_text k ++ left)
   pub kind : IsKind u.version k
   pub stands : next Entry k ≡ Ok Entry
 

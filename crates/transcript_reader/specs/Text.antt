@@ -2,7 +2,7 @@
 use Rattle.std.specs.Prelude.{◌≡◌, ℕ, ◌+◌, List, [], ◌∷◌, ◌++◌, length, map, Result, Ok}
 use Rattle.std.specs.List.{concat}
 use Rattle.charlotte_text.specs.declared.fault.Fault.{Fault}
-use Rattle.journal_text.specs.Transcript.{line}
+use Rattle.transcript_lines.specs.Transcript.{line}
 use Rattle.transcript_reading.specs.Order.{Place, Start, Over, next, follows}
 use Rattle.transcript_reading.specs.Reading.{Told, with_lines, nothing_told}
 use Rattle.transcript_reading.specs.declared.line.LineKind.{LineKind}

@@ -1,5 +1,5 @@
 ghost use Rattle.std.specs.Prelude.{◌≡◌, ℕ, List, Ok};
-ghost use Rattle.journal_text.specs.TranscriptText.{IsTranscript};
+ghost use Rattle.transcript_lines.specs.TranscriptText.{IsTranscript};
 ghost use Rattle.transcript_reader.specs.Text.{AreLines, told_by_lines};
 ghost use Rattle.transcript_reader.specs.declared.line.Line.{Line};
 ghost use Rattle.transcript_reading.specs.Reading.{Told, told_by};

@@ -1,14 +1,14 @@
 //! Whether a text begins with a packet.
 ghost use Rattle.std.specs.Prelude.{◌≡◌, ◌∷◌, ◌++◌, [], IfSome, codes};
 ghost use Rattle.charlotte_packets.specs.Packets.{what_picture};
-ghost use Rattle.charlotte_text.specs.Spelling.{bytes_text, end_text};
-ghost use Rattle.journal_text.specs.Transcript.{numbers_behind, numbers_text, packet_text, value_text, values_text};
+ghost use Rattle.charlotte_text.specs.Spelling.{bytes_text, end_text, colon};
+ghost use Rattle.transcript_lines.specs.Transcript.{numbers_behind, numbers_text, packet_text, value_text, values_text};
 
 use crate::behind::{behind_byte, behind_bytes, behind_end, behind_number, behind_word};
 use crate::step::{behind_count, behind_numbered, behind_on};
 use charlotte_calls::EndId;
 use charlotte_packets::{MovingPicture, What};
-use journal_text::value_fields;
+use transcript_lines::value_fields;
 
 /// What a packet tells of an activity: its number, and the kernel and the hops of the opposite end.
 #[derive(Clone, Copy)]
@@ -122,7 +122,7 @@ fn behind_value<'a>(text: &'a [u8], value: &MovingPicture) -> Option<&'a [u8]>
 
 /// Behind numbers, each behind a colon.
 fn behind_fields<'a>(text: &'a [u8], numbers: &[u32]) -> Option<&'a [u8]>
-    ensures { IfSome result (λ rest. text.now ≡ numbers_behind 58 numbers.now ++ rest.now) }
+    ensures { IfSome result (λ rest. text.now ≡ numbers_behind colon numbers.now ++ rest.now) }
 {
     let mut rest = text;
     for number in numbers {

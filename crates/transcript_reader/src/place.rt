@@ -9,7 +9,7 @@ ghost use Rattle.transcript_reading.specs.declared.line.LineKind.TheVariants as 
 
 use charlotte_calls::Pid;
 use charlotte_text::Fault;
-use journal_text::Last;
+use transcript_lines::Last;
 use transcript_reading::LineKind;
 
 /// What was read last, as far as the next line depends on it.

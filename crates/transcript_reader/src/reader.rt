@@ -1,6 +1,7 @@
 //! A reader of one line after the other.
 ghost use Rattle.std.specs.Prelude.{◌≡◌, ◌↔◌, ◌+◌, ◌<◌, ◌++◌, IfSome, IsTrue, MatchBool, length};
 ghost use Rattle.charlotte_text.specs.Reading.{Gives, parts};
+ghost use Rattle.charlotte_text.specs.Spelling.{line_feed};
 ghost use Rattle.transcript_reader.specs.Lines.{GivesNext, is_ended, seen, stand, unread, version_after};
 ghost use Rattle.transcript_reader.specs.Ahead.{head_text};
 ghost use Rattle.transcript_reader.specs.Next.{IsAhead, Reads};
@@ -31,6 +32,7 @@ pub struct Reader<'a> {
 impl<'a> Model for Reader<'a> {
     ghost use Rattle.std.specs.Prelude.{◌+◌, ◌<◌, length};
     ghost use Rattle.charlotte_text.specs.Reading.{parts};
+    ghost use Rattle.charlotte_text.specs.Spelling.{line_feed};
     ghost use Rattle.transcript_reader.specs.Lines.{Unread, seen};
 
     ghost Value = { Unread };
@@ -39,10 +41,10 @@ impl<'a> Model for Reader<'a> {
       lines = r.lines;
       version = r.version;
       place = seen r.place;
-      texts = parts 10 r.rest.now;
+      texts = parts line_feed r.rest.now;
     } };
 
-    ghost invariant = { λ r. r.lines + length (parts 10 r.rest.now) < 4294967296 };
+    ghost invariant = { λ r. r.lines + length (parts line_feed r.rest.now) < 4294967296 };
 }
 
 impl<'a> Reader<'a> {
@@ -116,7 +118,7 @@ impl<'a> Reader<'a> {
 
     /// What was not read yet.
     pub fn rest(&self) -> &'a [u8]
-        ensures { self.now.texts ≡ parts 10 result.now }
+        ensures { self.now.texts ≡ parts line_feed result.now }
     {
         self.rest
     }
@@ -124,7 +126,7 @@ impl<'a> Reader<'a> {
     /// With what the entry begins that comes next, and what stands behind that. `None` promises nothing.
     #[inline(always)]
     pub fn peek(&self) -> Option<(Ahead, &'a [u8])>
-        ensures { IfSome result (λ x. self.now.texts ≡ parts 10 (head_text x.0 ++ x.1.now)) }
+        ensures { IfSome result (λ x. self.now.texts ≡ parts line_feed (head_text x.0 ++ x.1.now)) }
     {
         look_ahead(self.rest)
     }
@@ -150,8 +152,8 @@ impl<'a> Reader<'a> {
 
     /// Passes a line behind which this is left.
     fn pass(&mut self, rest: &'a [u8])
-        requires { self.old.lines + 1 + length (parts 10 rest.now) < 4294967296 }
-        ensures { self.new ≡ record { lines = self.old.lines + 1; version = self.old.version; place = self.old.place; texts = parts 10 rest.now } }
+        requires { self.old.lines + 1 + length (parts line_feed rest.now) < 4294967296 }
+        ensures { self.new ≡ record { lines = self.old.lines + 1; version = self.old.version; place = self.old.place; texts = parts line_feed rest.now } }
     {
         self.rest = rest;
         self.lines += 1;

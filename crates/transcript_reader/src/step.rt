@@ -1,14 +1,14 @@
 //! Whether a text begins with a service step.
 ghost use Rattle.std.specs.Prelude.{◌≡◌, ◌∷◌, ◌++◌, [], IfSome, codes};
 ghost use Rattle.charlotte_text.specs.Spelling.{end_text, ends_text, process_text, way_text};
-ghost use Rattle.journal_text.specs.Transcript.{cause_text, numbers_text, report_text, result_text, step_text, suffix_text};
+ghost use Rattle.transcript_lines.specs.Transcript.{cause_text, numbers_text, report_text, result_text, step_text, suffix_text};
 
 use crate::behind::{
     behind_byte, behind_bytes, behind_end, behind_ends, behind_number, behind_process,
     behind_short, behind_way, behind_word,
 };
 use charlotte_calls::{Cause, EndId, Outcome, Pid, Report, ServiceStep, Way};
-use journal_text::cause_name;
+use transcript_lines::cause_name;
 
 /// What stands behind a service step, as `. take 0.0a 1 p1 late`, in a text that begins with it. `None` promises nothing.
 pub fn behind_step<'a>(text: &'a [u8], step: &ServiceStep) -> Option<&'a [u8]>

@@ -11,11 +11,11 @@ use Rattle.charlotte_text.specs.Spelling.{number_text, process_text, call_text}
 use Rattle.charlotte_text.specs.Reading.{words, call_of}
 use Rattle.charlotte_text.proofs.Calls.{call_words, call_again}
 use Rattle.charlotte_text.proofs.Numbers.{is_number_text}
-use Rattle.journal_text.specs.Transcript.{line, happened_text, entry_lines, process_home_text, process_lines, wire_text, note_text, last_text, packet_text, step_text}
-use Rattle.journal_text.specs.TranscriptText.{HasFew, IsShown, IsShownStep, IsNoteInRange, IsLastInRange}
-use Rattle.journal_text.specs.declared.last.Last.{Last}
-use Rattle.journal_text.specs.declared.last.Last.TheVariants.{Quiet, Unsettled, Spent}
-use Rattle.journal_text.specs.declared.last.ScriptNote.{ScriptNote}
+use Rattle.transcript_lines.specs.Transcript.{line, happened_text, entry_lines, process_home_text, process_lines, wire_text, note_text, last_text, packet_text, step_text}
+use Rattle.transcript_lines.specs.TranscriptText.{HasFew, IsShown, IsShownStep, IsNoteInRange, IsLastInRange}
+use Rattle.transcript_lines.specs.declared.last.Last.{Last}
+use Rattle.transcript_lines.specs.declared.last.Last.TheVariants.{Quiet, Unsettled, Spent}
+use Rattle.transcript_lines.specs.declared.last.ScriptNote.{ScriptNote}
 use Rattle.kernel_world.specs.Ranges.{IsHappenedInRange, IsPlacedInRange}
 use Rattle.kernel_world.specs.declared.entry.Happened.{Happened}
 use Rattle.kernel_world.specs.declared.entry.Happened.TheVariants.{Asked, Took}

@@ -20,7 +20,7 @@ use Rattle.charlotte_text.specs.Reading.{number_below, bytes_of}
 use Rattle.charlotte_text.proofs.Numbers.{own, below_again}
 use Rattle.charlotte_text.proofs.Texts.{bytes_again, short_text}
 use Rattle.charlotte_text.proofs.Calls.{call_words, joined}
-use Rattle.journal_text.specs.TranscriptText.{HasFewCall}
+use Rattle.transcript_lines.specs.TranscriptText.{HasFewCall}
 use Rattle.transcript_reading.specs.Forms.{numbered_of, pid_of, kernel_of}
 use Rattle.transcript_reading.proofs.Words.{IsMark, IsWord, AreWords, IsSpelled, word_codes}
 

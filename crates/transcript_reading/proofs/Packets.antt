@@ -14,8 +14,8 @@ use Rattle.charlotte_text.specs.Spelling.{number_text, side_text, end_text, byte
 use Rattle.charlotte_text.specs.Reading.{parts}
 use Rattle.charlotte_text.proofs.Names.{end_again}
 use Rattle.charlotte_text.proofs.Numbers.{no_digit, below_again}
-use Rattle.journal_text.specs.Transcript.{bit, fields_text, numbers_text, value_text, values_text, packet_text}
-use Rattle.journal_text.specs.TranscriptText.{HasFewPacket}
+use Rattle.transcript_lines.specs.Transcript.{bit, fields_text, numbers_text, value_text, values_text, packet_text}
+use Rattle.transcript_lines.specs.TranscriptText.{HasFewPacket}
 use Rattle.transcript_reading.specs.Forms.{bit_of, value_of, plus_value_of, values_of, wanted_of, parcel_of, back_of, gone_of, moved_of, end_number_of, named_packet_of, packet_of}
 use Rattle.transcript_reading.proofs.Names.{number_word, numbers_words, wide8, wide32, u8_again, u32_again, end_word, bytes_word, text_again}
 use Rattle.transcript_reading.proofs.Words.{IsMark, IsWord, AreWords, IsFree, IsSpelled, word_codes, split_joined, joined_map, same_text, one_word, word_before, words_behind}

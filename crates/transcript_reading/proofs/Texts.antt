@@ -5,7 +5,7 @@ use Rattle.std.proofs.lemmas.List.Splits.{slice_split_at}
 use Rattle.charlotte_text.specs.declared.fault.Fault.{Fault}
 use Rattle.charlotte_text.specs.Reading.{◌>>=◌, parts}
 use Rattle.charlotte_text.proofs.Parts.{first_part}
-use Rattle.journal_text.specs.Transcript.{line}
+use Rattle.transcript_lines.specs.Transcript.{line}
 use Rattle.transcript_reading.specs.Reading.{ended_lines, lines_of, kinds_of}
 use Rattle.transcript_reading.specs.declared.line.LineKind.{LineKind}
 use Rattle.transcript_reading.proofs.Lines.{IsLineOf, AreLinesOf}

@@ -11,10 +11,10 @@ use Rattle.charlotte_text.specs.declared.fault.Fault.{Fault}
 use Rattle.charlotte_text.specs.Reading.{◌>>=◌}
 use Rattle.charlotte_text.specs.Spelling.{number_text}
 use Rattle.charlotte_text.proofs.Steps.{ok_is}
-use Rattle.journal_text.specs.Transcript.{entry_lines, process_lines, wire_text, line, note_text, last_text}
-use Rattle.journal_text.specs.TranscriptText.{IsShown, IsShownStep, AreOfTranscript, IsTranscript}
-use Rattle.journal_text.specs.declared.last.Last.{Last}
-use Rattle.journal_text.specs.declared.last.ScriptNote.{ScriptNote}
+use Rattle.transcript_lines.specs.Transcript.{entry_lines, process_lines, wire_text, line, note_text, last_text}
+use Rattle.transcript_lines.specs.TranscriptText.{IsShown, IsShownStep, AreOfTranscript, IsTranscript}
+use Rattle.transcript_lines.specs.declared.last.Last.{Last}
+use Rattle.transcript_lines.specs.declared.last.ScriptNote.{ScriptNote}
 use Rattle.kernel_world.specs.declared.entry.Happened.{Happened}
 use Rattle.kernel_world.specs.declared.entry.Happened.TheVariants.{Asked, Took}
 use Rattle.kernel_world.specs.declared.entry.Placed.{Placed}

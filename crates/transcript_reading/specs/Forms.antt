@@ -15,9 +15,9 @@ use Rattle.charlotte_packets.specs.declared.picture.PictureWhat.{PictureWhat}
 use Rattle.charlotte_packets.specs.declared.picture.PictureWhat.TheVariants as packet
 use Rattle.charlotte_text.specs.declared.fault.Fault.{Fault}
 use Rattle.charlotte_text.specs.declared.fault.Fault.TheVariants.{Form}
-use Rattle.charlotte_text.specs.Spelling.{most_ends}
+use Rattle.charlotte_text.specs.Spelling.{most_ends, colon}
 use Rattle.charlotte_text.specs.Reading.{◌>>=◌, parts, part_at, ended, is_number, number_below, end_of, ends_of, bytes_of, way_of, call_of}
-use Rattle.journal_text.specs.declared.last.Last.TheVariants.{Quiet, Unsettled, Spent}
+use Rattle.transcript_lines.specs.declared.last.Last.TheVariants.{Quiet, Unsettled, Spent}
 use Rattle.transcript_reading.specs.declared.line.LineKind.{LineKind}
 use Rattle.transcript_reading.specs.declared.line.LineKind.TheVariants as line
 use Rattle.transcript_reading.specs.declared.line.ServiceLine.{ServiceLine}
@@ -70,7 +70,7 @@ bit_of word = number_below 2 word >>= λ n. Ok (n == 1)
 -- an end and nine numbers, between colons
 unfoldable pub value_of : List ℕ → Result MovingPicture Fault
 value_of word = do
-  end ← first_of end_of (parts 58 word)
+  end ← first_of end_of (parts colon word)
   hops ← first_of u32_of end.1
   hint_kernel ← first_of u8_of hops.1
   hint_hops ← first_of u32_of hint_kernel.1

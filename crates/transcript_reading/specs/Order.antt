@@ -4,7 +4,7 @@ use Rattle.charlotte_calls.specs.declared.names.Pid.{Pid}
 use Rattle.charlotte_text.specs.declared.fault.Fault.{Fault}
 use Rattle.charlotte_text.specs.declared.fault.Fault.TheVariants.{Form}
 use Rattle.charlotte_text.specs.Reading.{◌>>=◌}
-use Rattle.journal_text.specs.declared.last.Last.TheVariants.{Quiet, Unsettled}
+use Rattle.transcript_lines.specs.declared.last.Last.TheVariants.{Quiet, Unsettled}
 use Rattle.transcript_reading.specs.declared.line.LineKind.{LineKind}
 use Rattle.transcript_reading.specs.declared.line.LineKind.TheVariants as line
 

@@ -5,9 +5,10 @@ use Rattle.charlotte_calls.specs.declared.setting.Setting.{Setting}
 use Rattle.charlotte_text.specs.declared.fault.Fault.{Fault}
 use Rattle.charlotte_text.specs.declared.fault.Fault.TheVariants.{Form}
 use Rattle.charlotte_text.specs.Reading.{◌>>=◌, parts, words}
-use Rattle.journal_text.specs.declared.last.Last.{Last}
-use Rattle.journal_text.specs.declared.last.Last.TheVariants.{Quiet}
-use Rattle.journal_text.specs.declared.last.ScriptNote.{ScriptNote}
+use Rattle.charlotte_text.specs.Spelling.{line_feed}
+use Rattle.transcript_lines.specs.declared.last.Last.{Last}
+use Rattle.transcript_lines.specs.declared.last.Last.TheVariants.{Quiet}
+use Rattle.transcript_lines.specs.declared.last.ScriptNote.{ScriptNote}
 use Rattle.kernel_world.specs.declared.entry.Happened.{Happened}
 use Rattle.kernel_world.specs.declared.entry.Happened.TheVariants.{Asked, Took}
 use Rattle.kernel_world.specs.declared.entry.Placed.{Placed}
@@ -28,7 +29,7 @@ ended_lines (l ∷ m ∷ ls) = ended_lines (m ∷ ls) >>= λ ms. Ok (l ∷ ms)
 
 -- the lines of a text, each ended by a line feed
 unfoldable pub lines_of : List ℕ → Result (List (List ℕ)) Fault
-lines_of text = ended_lines (parts 10 text)
+lines_of text = ended_lines (parts line_feed text)
 
 -- lines of a transcript of a version
 unfoldable pub kinds_of : ℕ → List (List ℕ) → Result (List LineKind) Fault

@@ -1,6 +1,6 @@
 use charlotte_calls::{Call, Cause, EndId, Ends, Pid, Report, Way};
 use charlotte_packets::Picture;
-use journal_text::{Last, ScriptNote};
+use transcript_lines::{Last, ScriptNote};
 
 /// One line of a transcript, by its form.
 #[derive(Debug, Drop)]

@@ -29,7 +29,7 @@ use Rattle.end_table.specs.declared.entry.Inward.{Inward}
 use Rattle.end_table.specs.declared.entry.Inward.TheVariants as inward
 use Rattle.end_table.specs.declared.entry.Outward.{Outward}
 use Rattle.end_table.specs.declared.entry.Outward.TheVariants as outward
-use Rattle.journal_text.specs.TranscriptText.{IsFew, HasFewPacket, IsShownStep}
+use Rattle.transcript_lines.specs.TranscriptText.{IsFew, HasFewPacket, IsShownStep}
 use Rattle.kernel_step.specs.Actions.{here, hint_kernel, enclosed_of, reports, answers, send_report, dead_receive_report, kernel_numbers, forget_at, forgets, leaves, leaves_here, leave_each}
 use Rattle.kernel_step.specs.Actions.{value_leaving, values_leaving, matches, match_waiting, tells_gone, ends_idle, ends_idle_here, end_each, ends, held, hold_each, noticed_outward, notice_send}
 use Rattle.kernel_step.specs.Actions.{notice_receive, notices, learned_view, resends_receive, tells_moved, resends, resends_on_news, learns, settle_each, tells_arrival, tell_arrivals}

@@ -21,7 +21,7 @@ use Rattle.end_table.specs.declared.entry.Holder.TheVariants as holder
 use Rattle.end_table.specs.declared.entry.Inward.{Inward}
 use Rattle.end_table.specs.declared.entry.Inward.TheVariants as inward
 use Rattle.end_table.specs.declared.entry.Outward.TheVariants as outward
-use Rattle.journal_text.specs.TranscriptText.{IsFew, HasFewPacket}
+use Rattle.transcript_lines.specs.TranscriptText.{IsFew, HasFewPacket}
 use Rattle.kernel_step.specs.Actions.{send_report, receive_report, reports, answers, notices, is_withdrawing, learned_view, learns, forgets}
 use Rattle.kernel_step.specs.Progress.{Progress, sends, means, keeps}
 use Rattle.kernel_step.specs.Rows.{wants, want_here, want_row, voids, unwant_here, unwant_row, frees, unwanted_here, unwanted_row, is_carried, passing, arriving, ends_in, takes, receives}

@@ -28,7 +28,7 @@ use Rattle.end_table.specs.declared.entry.Inward.TheVariants as inward
 use Rattle.end_table.specs.declared.entry.Outward.{Outward}
 use Rattle.end_table.specs.declared.entry.Outward.TheVariants as outward
 use Rattle.end_table.specs.Place.{put}
-use Rattle.journal_text.specs.TranscriptText.{IsFew, HasFewCall, HasFewPacket, IsShownStep}
+use Rattle.transcript_lines.specs.TranscriptText.{IsFew, HasFewCall, HasFewPacket, IsShownStep}
 use Rattle.kernel_step.specs.Actions.{here, hint_kernel, enclosed_of, matches}
 use Rattle.kernel_step.specs.Calls.{refusal, made_end, makes, starts_send, encloses, posts, withdraws_send, withdraws_receive, ends_here, ends_each}
 use Rattle.kernel_step.specs.Kernel.{Kernel, Process, Outcome, next_stamp, begins, with_process, process_of, without_answer, stands, outward_reported, reported_view, reported_entry, answers_wait, is_waiting}

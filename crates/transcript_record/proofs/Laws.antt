@@ -2,7 +2,7 @@
 use Rattle.std.proofs.Common.{◌≡◌, ℕ, List, All, arith, subst, sym, ◌∙◌, refl}
 use Rattle.charlotte_calls.specs.declared.setting.Setting.{Setting}
 use Rattle.journal_text.proofs.Merges.{in-order-unique}
-use Rattle.journal_text.specs.TranscriptText.{IsShown}
+use Rattle.transcript_lines.specs.TranscriptText.{IsShown}
 use Rattle.kernel_world.specs.Run.{AreInOrder, IsRecord, IsRun, of_kernel}
 use Rattle.kernel_world.specs.World.{Event, noted, start}
 use Rattle.kernel_world.specs.declared.entry.Placed.{Placed}

@@ -12,7 +12,7 @@ use Rattle.charlotte_packets.specs.declared.picture.Picture.{Picture}
 use Rattle.charlotte_calls.specs.declared.setting.Setting.{Setting}
 use Rattle.end_table.specs.Place.{put}
 use Rattle.end_table.specs.declared.entry.Entry.{Entry as TableEntry}
-use Rattle.journal_text.specs.TranscriptText.{HasFew, HasFewCall, HasFewPacket, IsShown}
+use Rattle.transcript_lines.specs.TranscriptText.{HasFew, HasFewCall, HasFewPacket, IsShown}
 use Rattle.kernel_step.specs.Calls.{made_end}
 use Rattle.kernel_step.specs.Kernel.{Kernel, Outcome, call_step, take_step, next_stamp, without_answer}
 use Rattle.kernel_step.specs.Start.{home, Wired, nothing_wired, owned_from_start, keeps_at, wires_one}

@@ -7,7 +7,7 @@ use Rattle.charlotte_calls.specs.declared.setting.Setting.{Setting}
 use Rattle.end_table.specs.Table.{IfHere}
 use Rattle.end_table.specs.declared.entry.Entry.{Entry}
 use Rattle.end_table.specs.declared.entry.Outward.{Outward}
-use Rattle.journal_text.specs.TranscriptText.{IsFew, HasFewPacket, IsShownReport}
+use Rattle.transcript_lines.specs.TranscriptText.{IsFew, HasFewPacket, IsShownReport}
 use Rattle.kernel_step.specs.Actions.{enclosed_of}
 use Rattle.kernel_step.specs.Kernel.{Kernel}
 use Rattle.kernel_world.specs.World.{World}

@@ -1,6 +1,6 @@
 ghost use Rattle.std.specs.Prelude.{◌≡◌, ℕ, List, All};
 ghost use Rattle.charlotte_calls.specs.declared.setting.Setting.{Setting};
-ghost use Rattle.journal_text.specs.TranscriptText.{IsShown};
+ghost use Rattle.transcript_lines.specs.TranscriptText.{IsShown};
 ghost use Rattle.kernel_world.specs.Run.{AreInOrder, IsRecord, IsRun, of_kernel};
 ghost use Rattle.kernel_world.specs.World.{Event, noted, start};
 ghost use Rattle.kernel_world.specs.declared.entry.Placed.{Placed};

@@ -4,9 +4,9 @@ use Rattle.std.specs.List.{flat_map}
 use Rattle.charlotte_calls.specs.Setting.{IsValid, IsWithinLimits}
 use Rattle.charlotte_calls.specs.declared.names.Pid.{Pid}
 use Rattle.charlotte_calls.specs.declared.setting.Setting.{Setting}
-use Rattle.journal_text.specs.declared.last.Last.{Last}
-use Rattle.journal_text.specs.declared.last.Last.TheVariants.{Quiet}
-use Rattle.journal_text.specs.declared.last.ScriptNote.{ScriptNote}
+use Rattle.transcript_lines.specs.declared.last.Last.{Last}
+use Rattle.transcript_lines.specs.declared.last.Last.TheVariants.{Quiet}
+use Rattle.transcript_lines.specs.declared.last.ScriptNote.{ScriptNote}
 use Rattle.kernel_world.specs.Run.{AreInOrder, IsRecord}
 use Rattle.kernel_world.specs.World.{noted, start}
 use Rattle.kernel_world.specs.declared.entry.Happened.{Happened}

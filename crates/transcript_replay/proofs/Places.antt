@@ -9,9 +9,9 @@ use Rattle.charlotte_calls.specs.declared.names.Pid.{Pid}
 use Rattle.charlotte_calls.specs.declared.setting.Setting.{Setting}
 use Rattle.charlotte_text.specs.declared.fault.Fault.{Fault}
 use Rattle.charlotte_text.specs.declared.fault.Fault.TheVariants.{Form}
-use Rattle.journal_text.specs.declared.last.Last.{Last}
-use Rattle.journal_text.specs.declared.last.Last.TheVariants.{Quiet, Unsettled, Spent}
-use Rattle.journal_text.specs.declared.last.ScriptNote.{ScriptNote}
+use Rattle.transcript_lines.specs.declared.last.Last.{Last}
+use Rattle.transcript_lines.specs.declared.last.Last.TheVariants.{Quiet, Unsettled, Spent}
+use Rattle.transcript_lines.specs.declared.last.ScriptNote.{ScriptNote}
 use Rattle.transcript_reading.specs.Kinds.{process_kinds, wire_kinds}
 use Rattle.transcript_reading.specs.Order.{Place, Start, Version, Processes, Wires, Entry, Noted, Over, housed, next, wired}
 use Rattle.transcript_reading.specs.declared.line.LineKind.{LineKind}

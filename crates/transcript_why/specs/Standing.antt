@@ -1,6 +1,7 @@
 -- The lines of a text, as they stand.
 use Rattle.std.specs.Prelude.{ℕ, ◌-◌, Bool, true, false, List, [], ◌∷◌, drop}
 use Rattle.charlotte_text.specs.Reading.{parts}
+use Rattle.charlotte_text.specs.Spelling.{line_feed}
 
 -- the text of a line, and whether a line feed ends it
 pub record Line : Type 0 where
@@ -15,4 +16,4 @@ first_line (text ∷ next ∷ others) = record { text = text; ended = true }
 
 -- the line of a number, from 1; nothing stands there where the text has fewer
 abbrev pub line_at : List ℕ → ℕ → Line
-line_at bytes number = first_line (drop (number - 1) (parts 10 bytes))
+line_at bytes number = first_line (drop (number - 1) (parts line_feed bytes))

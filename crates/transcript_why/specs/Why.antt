@@ -1,7 +1,7 @@
 -- The three lines that tell why a line of a text is not that of a run.
 use Rattle.std.specs.Prelude.{◌≡◌, ℕ, if◌then◌else◌, List, [], ◌∷◌, ◌++◌, codes}
 use Rattle.charlotte_text.specs.Spelling.{number_text}
-use Rattle.journal_text.specs.Transcript.{line}
+use Rattle.transcript_lines.specs.Transcript.{line}
 use Rattle.transcript_why.specs.Shown.{shown}
 use Rattle.transcript_why.specs.Standing.{Line, line_at}
 

@@ -4,9 +4,9 @@ ghost use Rattle.transcript_why.specs.Run.{IsRun};
 use crate::printed::packet_line;
 use crate::run::{Doing, Run};
 use charlotte_calls::{NoMemory, Pid};
-use charlotte_text::{push_number, push_process};
+use charlotte_text::{Listing, push_number, push_process};
 use std::alloc::Global;
-use transcript_expected::{Form, Listing};
+use transcript_expected::Form;
 use transcript_reader::Place;
 
 /// Adds each line that may stand next: notes, last lines, calls, and packets.

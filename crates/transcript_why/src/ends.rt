@@ -4,10 +4,9 @@ use crate::kept::push_kernel;
 use crate::run::Run;
 use charlotte_calls::{EndId, NoMemory};
 use charlotte_packets::MovingPicture;
-use charlotte_text::{push_end, push_number, push_process};
+use charlotte_text::{Listing, push_end, push_number, push_process};
 use end_table::{Entry, HereView, Holder, Inward, Outward};
 use link_service::Place;
-use transcript_expected::Listing;
 
 /// Adds the entries of an end, one for each kernel that has one, and where it is in the link service.
 pub(crate) fn add_end(items: &mut Listing, run: &Run, end: EndId) -> Result<(), NoMemory> {

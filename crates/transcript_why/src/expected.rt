@@ -5,8 +5,8 @@ use crate::alternatives::{add_alternatives, first_packet};
 use crate::printed::{call_line, step_line};
 use crate::run::{Doing, Run};
 use charlotte_calls::{Call, NoMemory, Pid};
+use charlotte_text::Listing;
 use std::alloc::Global;
-use transcript_expected::Listing;
 use transcript_reader::{LineKind, Place};
 
 /// What stands between alternatives.

@@ -10,8 +10,9 @@ use crate::run::{Run, run_before};
 use crate::shown::labelled_line;
 use crate::standing::{line_at, standing_line};
 use charlotte_calls::NoMemory;
+use charlotte_text::Listing;
 use std::alloc::Global;
-use transcript_expected::{Listing, expected_forms};
+use transcript_expected::expected_forms;
 use transcript_reader::{LineKind, Place};
 
 /// What is told of the place of a line.

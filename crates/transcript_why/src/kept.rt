@@ -5,10 +5,9 @@ use crate::ends::add_end;
 use crate::named::{named_ends, named_process};
 use crate::run::{Doing, Run};
 use charlotte_calls::{NoMemory, Pid};
-use charlotte_text::{push_number, push_process};
+use charlotte_text::{Listing, push_number, push_process};
 use journal_text::print_picture;
 use std::alloc::Global;
-use transcript_expected::Listing;
 use transcript_reader::LineKind;
 
 /// What is kept of what a line names; `nothing` where it names nothing.

@@ -2,7 +2,7 @@
 ghost use Rattle.std.specs.Prelude.{◌≡◌, ◌<◌, ◌++◌, IfOk, OnOk, length, take};
 ghost use Rattle.std.specs.List.{flat_map};
 ghost use Rattle.charlotte_text.specs.Spelling.{hex_digit};
-ghost use Rattle.journal_text.specs.Transcript.{line};
+ghost use Rattle.transcript_lines.specs.Transcript.{line};
 ghost use Rattle.transcript_why.specs.Shown.{shown, shown_byte};
 ghost use Rattle.transcript_why.specs.Why.{labelled};
 

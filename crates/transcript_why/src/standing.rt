@@ -1,7 +1,8 @@
 //! A line of a text, as it stands.
 ghost use Rattle.std.specs.Prelude.{◌≡◌, ◌++◌, IfOk, OnOk, drop, option_copied};
 ghost use Rattle.charlotte_text.specs.Reading.{rest_parts};
-ghost use Rattle.journal_text.specs.Transcript.{line};
+ghost use Rattle.charlotte_text.specs.Spelling.{line_feed};
+ghost use Rattle.transcript_lines.specs.Transcript.{line};
 ghost use Rattle.transcript_why.specs.Standing.{first_line, line_at};
 ghost use Rattle.transcript_why.specs.Why.{first_text, standing_text};
 
@@ -40,7 +41,7 @@ pub(crate) fn line_at(bytes: &[u8], number: u32) -> Standing<'_>
 
 /// What stands behind the first line.
 fn behind(rest: Option<&[u8]>) -> Option<&[u8]>
-    ensures { rest_parts 10 (option_copied result) ≡ drop 1 (rest_parts 10 (option_copied rest.entry)) }
+    ensures { rest_parts line_feed (option_copied result) ≡ drop 1 (rest_parts line_feed (option_copied rest.entry)) }
 {
     let (_, others) = cut(b'\n', rest?);
     others
@@ -48,7 +49,7 @@ fn behind(rest: Option<&[u8]>) -> Option<&[u8]>
 
 /// The first line.
 fn first(rest: Option<&[u8]>) -> Standing<'_>
-    ensures { result ≡ first_line (rest_parts 10 (option_copied rest.entry)) }
+    ensures { result ≡ first_line (rest_parts line_feed (option_copied rest.entry)) }
 {
     let Some(rest) = rest else {
         return Standing {

@@ -5,7 +5,7 @@ use Rattle.std.proofs.lemmas.List.Concat.{flat_map-cons}
 use Rattle.charlotte_packets.specs.declared.picture.Picture.{Picture}
 use Rattle.charlotte_text.specs.Spelling.{number_text}
 use Rattle.journal_text.specs.Journal.{placed_at}
-use Rattle.journal_text.specs.Transcript.{entry_lines, entry_text, line, packet_text}
+use Rattle.transcript_lines.specs.Transcript.{entry_lines, entry_text, line, packet_text}
 use Rattle.kernel_world.specs.declared.entry.Entry.{Entry}
 use Rattle.kernel_world.specs.declared.entry.Happened.{Happened}
 use Rattle.kernel_world.specs.declared.entry.Happened.TheVariants.{Asked, Took}

@@ -5,7 +5,7 @@ use Rattle.std.proofs.lemmas.Bool.Decides.{leb_tells}
 use Rattle.std.proofs.lemmas.List.{drop_more, get_or-take, get_or_append_left, get_or_push, length-map, length-take-le, map-append, take-append-drop, take-append-le, take-take, take_all, take_at, take_more}
 use Rattle.std.proofs.lemmas.Option.{slice_get-get_or, slice_get_cases, slice_get_past}
 use Rattle.charlotte_calls.specs.declared.calls.ServiceStep.{ServiceStep}
-use Rattle.journal_text.specs.Transcript.{line, step_text}
+use Rattle.transcript_lines.specs.Transcript.{line, step_text}
 use Rattle.kernel_world.specs.declared.entry.Entry.{Entry}
 use Rattle.written_journal.specs.Kept.{AreKept, AreLines, HasSame, event_of, sender_of}
 use Rattle.written_journal.specs.Lines.{happened_line, kept_lines, lines_of, step_lines, text_of}

@@ -5,7 +5,7 @@ use Rattle.std.proofs.lemmas.Bool.Decides.{Decides-eqb, eqb_tells, leb_tells}
 use Rattle.std.proofs.lemmas.List.{get_or_default, get_or_past}
 use Rattle.journal_text.specs.Heads.{entries_at}
 use Rattle.journal_text.specs.Journal.{placed_at}
-use Rattle.journal_text.specs.Transcript.{entry_lines, entry_text, line}
+use Rattle.transcript_lines.specs.Transcript.{entry_lines, entry_text, line}
 use Rattle.kernel_world.specs.Run.{IsMerge, of_kernel}
 use Rattle.kernel_world.specs.declared.entry.Entry.{Entry}
 use Rattle.kernel_world.specs.declared.entry.Placed.{Placed}

@@ -7,7 +7,7 @@ use Rattle.std.proofs.lemmas.List.Concat.{flat_map-append, flat_map-cons}
 use Rattle.std.proofs.lemmas.List.Folds.{concat-append}
 use Rattle.std.proofs.Math.Seq.{drop-append_seam, take-append_seam}
 use Rattle.charlotte_calls.specs.declared.calls.ServiceStep.{ServiceStep}
-use Rattle.journal_text.specs.Transcript.{line, step_text}
+use Rattle.transcript_lines.specs.Transcript.{line, step_text}
 use Rattle.kernel_world.specs.declared.entry.Entry.{Entry}
 use Rattle.written_journal.specs.Lines.{kept_lines, lines_of, step_lines, text_of}
 use Rattle.written_journal.specs.Packed.{kept, kept_text, line_note, packs}

@@ -3,7 +3,7 @@ use Rattle.std.specs.Prelude.{◌≡◌, ℕ, List, [], ◌∷◌, ◌++◌, map
 use Rattle.std.specs.List.{flat_map}
 use Rattle.charlotte_calls.specs.declared.calls.Call.TheVariants.{Wait}
 use Rattle.journal_text.specs.Journal.{placed_at}
-use Rattle.journal_text.specs.Transcript.{entry_lines, packet_text}
+use Rattle.transcript_lines.specs.Transcript.{entry_lines, packet_text}
 use Rattle.kernel_world.specs.declared.entry.Entry.{Entry}
 use Rattle.kernel_world.specs.declared.entry.Happened.{Happened}
 use Rattle.kernel_world.specs.declared.entry.Happened.TheVariants.{Asked, Took}

@@ -2,7 +2,7 @@
 use Rattle.std.specs.Prelude.{ℕ, List, ◌∷◌, map}
 use Rattle.std.specs.List.{flat_map}
 use Rattle.charlotte_calls.specs.declared.calls.ServiceStep.{ServiceStep}
-use Rattle.journal_text.specs.Transcript.{line, happened_text, step_text}
+use Rattle.transcript_lines.specs.Transcript.{line, happened_text, step_text}
 use Rattle.kernel_world.specs.declared.entry.Entry.{Entry}
 use Rattle.kernel_world.specs.declared.entry.Happened.{Happened}
 use Rattle.written_journal.specs.Packed.{kept_text}

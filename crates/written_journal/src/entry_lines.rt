@@ -2,7 +2,7 @@
 ghost use Rattle.std.specs.Prelude.{◌≡◌, ◌+◌, ◌-◌, ◌≤◌, ◌∷◌, ◌++◌, [], IfOk, List, OnErr, OnOk, length};
 ghost use Rattle.std.specs.List.{slice_range};
 ghost use Rattle.journal_text.specs.Journal.{placed_at};
-ghost use Rattle.journal_text.specs.Transcript.{entry_lines};
+ghost use Rattle.transcript_lines.specs.Transcript.{entry_lines};
 ghost use Rattle.kernel_world.specs.declared.entry.Entry.{Entry};
 ghost use Rattle.written_journal.specs.Alone.{picture_text};
 ghost use Rattle.written_journal.specs.Kept.{sender_of};

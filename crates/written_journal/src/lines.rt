@@ -1,6 +1,6 @@
 ghost use Rattle.std.specs.Prelude.{◌≡◌, [], IfOk, List, OnErr};
 ghost use Rattle.std.specs.List.{flat_map};
-ghost use Rattle.journal_text.specs.Transcript.{entry_lines};
+ghost use Rattle.transcript_lines.specs.Transcript.{entry_lines};
 ghost use Rattle.kernel_world.specs.declared.entry.Placed.{Placed};
 ghost use Rattle.written_journal.specs.Given.{AreLeft, rest_at};
 ghost use Rattle.written_journal.specs.Left.{GivesFirst};
@@ -24,7 +24,7 @@ pub(crate) struct MergedLines {
 impl Model for MergedLines {
     ghost use Rattle.std.specs.Prelude.{ℕ, List, ◌++◌};
     ghost use Rattle.std.specs.List.{flat_map};
-    ghost use Rattle.journal_text.specs.Transcript.{entry_lines};
+    ghost use Rattle.transcript_lines.specs.Transcript.{entry_lines};
     ghost use Rattle.written_journal.specs.Given.{AreLeft, rest_at};
 
     ghost Value = { List (List ℕ) };

@@ -1,17 +1,17 @@
 //! The lines of a transcript, one after the other.
 ghost use Rattle.std.specs.Prelude.{◌≡◌, ◌++◌, [], drop, IfOk, OnErr};
-ghost use Rattle.journal_text.specs.Transcript.{process_lines, transcript_lines};
+ghost use Rattle.transcript_lines.specs.Transcript.{process_lines, transcript_lines};
 ghost use Rattle.written_journal.specs.Left.{GivesFirst, header_left, last_line, lines_in, note_lines, number_line, wire_lines};
 
 use crate::Merged;
 use crate::lines::MergedLines;
 use charlotte_calls::{Items, NoMemory, Pid, Setting};
 use journal_text::{
-    Last, ScriptNote, push_last_line, push_note_line, push_number_line, push_process_line,
-    push_wire_line,
+    push_last_line, push_note_line, push_number_line, push_process_line, push_wire_line,
 };
 use std::collections::VecDeque;
 use std::marker::Model;
+use transcript_lines::{Last, ScriptNote};
 
 /// What is left of the lines of a setting.
 #[derive(Drop)]

@@ -1,5 +1,5 @@
 use Rattle.std.proofs.Common.{◌≡◌, ◌++◌, take, map}
-use Rattle.journal_text.specs.Transcript.{line, note_text}
+use Rattle.transcript_lines.specs.Transcript.{line, note_text}
 use Rattle.journal_text.proofs.end_lines.push_note_lines.Given as goal
 
 abbrev pub invariant-loop-note : goal.invariant-loop-note

@@ -1,6 +1,6 @@
 use Rattle.std.proofs.Common.{◌≡◌, ◌++◌, take, map}
 use Rattle.std.specs.List.{flat_map}
-use Rattle.journal_text.specs.Transcript.{entry_lines}
+use Rattle.transcript_lines.specs.Transcript.{entry_lines}
 use Rattle.journal_text.proofs.entry_lines.push_merged_lines.Given as goal
 
 abbrev pub invariant-loop-placed : goal.invariant-loop-placed

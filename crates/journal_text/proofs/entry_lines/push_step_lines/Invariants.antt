@@ -1,5 +1,5 @@
 use Rattle.std.proofs.Common.{◌≡◌, ◌++◌, take, map}
-use Rattle.journal_text.specs.Transcript.{line, step_text}
+use Rattle.transcript_lines.specs.Transcript.{line, step_text}
 use Rattle.journal_text.proofs.entry_lines.push_step_lines.Given as goal
 
 abbrev pub invariant-loop-step : goal.invariant-loop-step

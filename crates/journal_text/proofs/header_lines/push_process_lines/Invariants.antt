@@ -1,5 +1,5 @@
 use Rattle.std.proofs.Common.{◌≡◌, ◌++◌, drop, map}
-use Rattle.journal_text.specs.Transcript.{process_lines}
+use Rattle.transcript_lines.specs.Transcript.{process_lines}
 use Rattle.journal_text.proofs.header_lines.push_process_lines.Given as goal
 
 abbrev pub invariant-loop-number : goal.invariant-loop-number

@@ -1,5 +1,5 @@
 use Rattle.std.proofs.Common.{◌≡◌, ◌++◌, take, map}
-use Rattle.journal_text.specs.Transcript.{line, wire_text}
+use Rattle.transcript_lines.specs.Transcript.{line, wire_text}
 use Rattle.journal_text.proofs.header_lines.push_wire_lines.Given as goal
 
 abbrev pub invariant-loop-wire : goal.invariant-loop-wire

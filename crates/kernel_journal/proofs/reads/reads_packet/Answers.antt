@@ -1,6 +1,6 @@
 use Rattle.std.proofs.Common.{ℕ, refl, subst}
 use Rattle.charlotte_packets.specs.Packets.{what_picture}
-use Rattle.journal_text.specs.TranscriptText.{HasFewPacket}
+use Rattle.transcript_lines.specs.TranscriptText.{HasFewPacket}
 use Rattle.transcript_reader.specs.Next.{IsAhead}
 use Rattle.transcript_reading.specs.declared.line.LineKind.TheVariants as line
 use Rattle.kernel_journal.specs.Expected.{told_packet}

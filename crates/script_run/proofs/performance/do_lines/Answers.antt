@@ -1,7 +1,7 @@
 use Rattle.std.proofs.Common.{◌≡◌, ◌+◌, ◌*◌, ◌≤◌, List, [], ◌∷◌, ◌++◌, length, append_assoc, append-nil, length-append, ap, sym, subst, refl, ◌∙◌, arith, rules}
 use Rattle.std.proofs.lemmas.List.Elements.{All-same, All-head, All-tail}
 use Rattle.charlotte_calls.specs.declared.setting.Setting.{Setting}
-use Rattle.journal_text.specs.declared.last.ScriptNote.{ScriptNote}
+use Rattle.transcript_lines.specs.declared.last.ScriptNote.{ScriptNote}
 use Rattle.lynx_plan.specs.declared.script.ScriptLine.{ScriptLine}
 use Rattle.lynx_plan.specs.ScriptText.{FitsWhat}
 use Rattle.script_run.specs.Recorded.{AreLinesDone}

@@ -1,7 +1,7 @@
 use Rattle.std.proofs.Common.{◌≡◌, ◌≤◌, All, List, arith, length, map, sym, subst, ◌∙◌}
 use Rattle.charlotte_calls.specs.declared.setting.Setting.{Setting}
-use Rattle.journal_text.specs.declared.last.ScriptNote.{ScriptNote}
-use Rattle.journal_text.specs.TranscriptText.{IsNoteInRange}
+use Rattle.transcript_lines.specs.declared.last.ScriptNote.{ScriptNote}
+use Rattle.transcript_lines.specs.TranscriptText.{IsNoteInRange}
 use Rattle.kernel_world.specs.Ranges.{IsPlacedInRange}
 use Rattle.kernel_world.specs.Run.{IsMerge}
 use Rattle.kernel_world.specs.declared.entry.Entry.{Entry}

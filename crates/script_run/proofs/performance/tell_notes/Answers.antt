@@ -1,7 +1,7 @@
 use Rattle.std.proofs.Common.{All, subst}
 use Rattle.std.proofs.lemmas.List.{take_all}
 use Rattle.std.proofs.lemmas.List.Elements.{All-more}
-use Rattle.journal_text.specs.TranscriptText.{IsNoteInRange}
+use Rattle.transcript_lines.specs.TranscriptText.{IsNoteInRange}
 use Rattle.script_run.proofs.performance.tell_notes.Goals as goal
 
 pub loop-note-preserved : goal.loop-note-preserved

@@ -1,5 +1,5 @@
 use Rattle.std.proofs.Common.{All, take}
-use Rattle.journal_text.specs.TranscriptText.{IsNoteInRange}
+use Rattle.transcript_lines.specs.TranscriptText.{IsNoteInRange}
 use Rattle.script_run.proofs.performance.tell_notes.Given as goal
 
 abbrev pub invariant-loop-note : goal.invariant-loop-note

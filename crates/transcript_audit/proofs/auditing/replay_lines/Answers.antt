@@ -1,6 +1,6 @@
 use Rattle.std.proofs.Common.{◌≡◌, Some, None, subst, sym, ◌∙◌}
 use Rattle.std.proofs.lemmas.Result.{err_from_is_err_and}
-use Rattle.journal_text.specs.declared.last.Last.{Last}
+use Rattle.transcript_lines.specs.declared.last.Last.{Last}
 use Rattle.kernel_journal.specs.Faults.{kinds_in}
 use Rattle.transcript_audit.specs.Audit.{IsAudited}
 use Rattle.transcript_audit.proofs.Taken.{audited-of, going-ends, going-halt, going-more, going-on, going-start}

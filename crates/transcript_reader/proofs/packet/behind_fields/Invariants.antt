@@ -1,5 +1,5 @@
 use Rattle.std.proofs.Common.{◌≡◌, ◌++◌, take}
-use Rattle.journal_text.specs.Transcript.{numbers_behind}
+use Rattle.transcript_lines.specs.Transcript.{numbers_behind}
 use Rattle.transcript_reader.proofs.packet.behind_fields.Given as goal
 
 abbrev pub invariant-loop-number : goal.invariant-loop-number

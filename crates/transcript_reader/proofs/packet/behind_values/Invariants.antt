@@ -1,5 +1,5 @@
 use Rattle.std.proofs.Common.{◌≡◌, ◌++◌, take}
-use Rattle.journal_text.specs.Transcript.{values_text}
+use Rattle.transcript_lines.specs.Transcript.{values_text}
 use Rattle.transcript_reader.proofs.packet.behind_values.Given as goal
 
 abbrev pub invariant-loop-value : goal.invariant-loop-value

@@ -1,7 +1,7 @@
 -- The three lines, each as it was made.
 use Rattle.std.proofs.Common.{◌≡◌, ℕ, List, [], ◌∷◌, Vec, Global, map, ap, ◌∙◌, rules}
 use Rattle.std.specs.Prelude.{codes}
-use Rattle.journal_text.specs.Transcript.{line}
+use Rattle.transcript_lines.specs.Transcript.{line}
 use Rattle.transcript_why.specs.Why.{labelled}
 use Rattle.transcript_why.proofs.explaining.explain.Goals as goal
 

@@ -1,5 +1,5 @@
 use Rattle.std.proofs.Common.{◌≡◌, ◌∙◌, ℕ, List, [], ◌∷◌, ◌++◌, ap, drop, length, rules}
-use Rattle.journal_text.specs.Transcript.{line, step_text}
+use Rattle.transcript_lines.specs.Transcript.{line, step_text}
 use Rattle.written_journal.specs.Packed.{kept, line_note}
 use Rattle.written_journal.proofs.Texts.{IsCut, cut-at, notes-more, text-more}
 use Rattle.written_journal.proofs.kept_lines.KeptLines.push_steps.Goals as goal

@@ -1,7 +1,7 @@
 use Rattle.std.proofs.Common.{◌≡◌, ◌∙◌, ℕ, List, ◌∷◌, ◌++◌, length, get_or, set, ap, sym, subst, arith, rules}
 use Rattle.std.specs.List.{flat_map}
 use Rattle.std.proofs.lemmas.List.{set-get_or, with_items_is}
-use Rattle.journal_text.specs.Transcript.{entry_lines}
+use Rattle.transcript_lines.specs.Transcript.{entry_lines}
 use Rattle.kernel_world.specs.Run.{of_kernel}
 use Rattle.written_journal.specs.Given.{AreLeft, Rest, rest_at}
 use Rattle.written_journal.proofs.InOrder.{between, first-given, next-of, no-entry}

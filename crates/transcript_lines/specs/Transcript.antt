@@ -16,10 +16,10 @@ use Rattle.charlotte_packets.specs.declared.picture.MovingPicture.{MovingPicture
 use Rattle.charlotte_packets.specs.declared.picture.PictureWhat.{PictureWhat}
 use Rattle.charlotte_packets.specs.declared.picture.PictureWhat.TheVariants as packet
 use Rattle.charlotte_calls.specs.declared.setting.Setting.{Setting}
-use Rattle.charlotte_text.specs.Spelling.{number_text, end_text, ends_text, process_text, bytes_text, way_text, call_text}
-use Rattle.journal_text.specs.declared.last.Last.{Last}
-use Rattle.journal_text.specs.declared.last.Last.TheVariants.{Quiet, Unsettled, Spent}
-use Rattle.journal_text.specs.declared.last.ScriptNote.{ScriptNote}
+use Rattle.charlotte_text.specs.Spelling.{number_text, end_text, ends_text, process_text, bytes_text, way_text, call_text, blank, line_feed, colon}
+use Rattle.transcript_lines.specs.declared.last.Last.{Last}
+use Rattle.transcript_lines.specs.declared.last.Last.TheVariants.{Quiet, Unsettled, Spent}
+use Rattle.transcript_lines.specs.declared.last.ScriptNote.{ScriptNote}
 use Rattle.kernel_world.specs.declared.entry.Happened.{Happened}
 use Rattle.kernel_world.specs.declared.entry.Happened.TheVariants.{Asked, Took}
 use Rattle.kernel_world.specs.declared.entry.Placed.{Placed}
@@ -30,11 +30,11 @@ numbers_behind mark ns = flat_map (λ n. mark ∷ number_text n) ns
 
 -- numbers, each behind a blank
 abbrev pub numbers_text : List ℕ → List ℕ
-numbers_text ns = numbers_behind 32 ns
+numbers_text ns = numbers_behind blank ns
 
 -- numbers, each behind a colon
 abbrev pub fields_text : List ℕ → List ℕ
-fields_text ns = numbers_behind 58 ns
+fields_text ns = numbers_behind colon ns
 
 -- 1 for yes and 0 for no
 abbrev pub bit : Bool → ℕ
@@ -125,7 +125,7 @@ entry_text p = number_text p.entry.stamp ++ codes " k" ++ number_text p.kernel +
 
 -- a line is ended by a line feed
 abbrev pub line : List ℕ → List ℕ
-line text = text ++ 10 ∷ []
+line text = text ++ line_feed ∷ []
 
 -- the line of an entry and, below it, those of its service steps
 abbrev pub entry_lines : Placed → List (List ℕ)
