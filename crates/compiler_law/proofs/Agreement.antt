@@ -3,9 +3,9 @@ use Rattle.std.proofs.Common.{◌≡◌, ℕ, ◌+◌, List, [], ◌∷◌, ◌+
 use Rattle.lynx_tree.specs.Trees.{ModuleTree, OpTree}
 use Rattle.lynx_tree.specs.Grammar.{AreStmts}
 use Rattle.lynx_tree.specs.declared.declaration.TypeName.{TypeName}
-use Rattle.lynx_typing.specs.Names.{Scope, arguments_of, results_of, type_of_variable}
-use Rattle.lynx_typing.specs.Rules.{Request}
-use Rattle.lynx_typing.specs.Statements.{stmts_faults}
+use Rattle.typing_rules.specs.Names.{Scope, arguments_of, results_of, type_of_variable}
+use Rattle.typing_rules.specs.Rules.{Request}
+use Rattle.typing_rules.specs.Statements.{stmts_faults}
 use Rattle.lynx_code.specs.Generation.{stmts_code}
 use Rattle.lynx_code.specs.Modules.{body_code, module_code, variables}
 use Rattle.lynx_code.specs.declared.instruction.Instruction.TheVariants as code
@@ -14,14 +14,14 @@ use Rattle.lynx_meaning.specs.Code.{Thread, begins, program_of}
 use Rattle.lynx_meaning.specs.Courses.{Moment}
 use Rattle.lynx_meaning.specs.Source.{PartTree, runs_all, start_store}
 use Rattle.lynx_meaning.specs.Values.{Value, start_value}
-use Rattle.code_steps.specs.Steps.{StandAt}
-use Rattle.code_steps.proofs.Standing.{front-stands, next-stands}
-use Rattle.code_of_expressions.specs.Kinds.{HaveKinds}
-use Rattle.code_of_expressions.specs.Setting.{Setting, type_at}
-use Rattle.code_of_statements.specs.Running.{Body, IsSound, trace}
-use Rattle.code_of_statements.proofs.Answers.{start-kind, types-kinds}
-use Rattle.code_of_statements.proofs.Fronts.{fit-front}
-use Rattle.code_of_statements.proofs.Statements.{stmts-run}
+use Rattle.compiler_steps.specs.Steps.{StandAt}
+use Rattle.compiler_steps.proofs.Standing.{front-stands, next-stands}
+use Rattle.compiler_expressions.specs.Kinds.{HaveKinds}
+use Rattle.compiler_expressions.specs.Setting.{Setting, type_at}
+use Rattle.compiler_statements.specs.Running.{Body, IsSound, trace}
+use Rattle.compiler_statements.proofs.Answers.{start-kind, types-kinds}
+use Rattle.compiler_statements.proofs.Fronts.{fit-front}
+use Rattle.compiler_statements.proofs.Statements.{stmts-run}
 use Rattle.compiler_law.proofs.Ends.{Follows, code-out, code-over, follows-over, not-stuck, part-follows, part-front}
 
 -- what the typing rules and the grammar say of a part, and where its code stands

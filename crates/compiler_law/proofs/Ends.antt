@@ -1,19 +1,19 @@
 -- The end of a part, and what a thread of it comes to.
 use Rattle.std.proofs.Common.{◌≡◌, ℕ, ◌≤◌, List, [], ◌∷◌, ◌++◌, Bool, true, false, Some, Result, Ok, Err, slice_get, refl, sym, ap, ◌∙◌, subst}
 use Rattle.lynx_code.specs.declared.instruction.Instruction.TheVariants as code
-use Rattle.lynx_typing.specs.declared.exception.Exception.{Exception}
+use Rattle.typing_rules.specs.declared.exception.Exception.{Exception}
 use Rattle.lynx_meaning.specs.Agree.{IsCodeOut, IsOut, IsOver, actions_of}
 use Rattle.lynx_meaning.specs.Code.{CodeOutcome, Comes, Over, Program, Stuck, Thread, acts_with, ends, exec}
 use Rattle.lynx_meaning.specs.Courses.{Action, Answer, Close, Course, Moment, Outcome, Store, Ended, Out, Waits, after, and_then, with_value}
 use Rattle.lynx_meaning.specs.Courses as course
 use Rattle.lynx_meaning.specs.Source.{closes, outcome_of, whole_course}
 use Rattle.lynx_meaning.specs.Values.{Value}
-use Rattle.code_steps.specs.Steps.{IsFinal, Reaches, thread}
-use Rattle.code_steps.proofs.Lasting.{lasts, one-end}
-use Rattle.code_steps.proofs.Reaching.{reaches-on, reaches-step}
-use Rattle.code_of_statements.specs.Running.{Body, IsFront, Runs, trace}
-use Rattle.code_of_statements.proofs.Extending.{closes-front}
-use Rattle.code_of_statements.proofs.Fronts.{front-same}
+use Rattle.compiler_steps.specs.Steps.{IsFinal, Reaches, thread}
+use Rattle.compiler_steps.proofs.Lasting.{lasts, one-end}
+use Rattle.compiler_steps.proofs.Reaching.{reaches-on, reaches-step}
+use Rattle.compiler_statements.specs.Running.{Body, IsFront, Runs, trace}
+use Rattle.compiler_statements.proofs.Extending.{closes-front}
+use Rattle.compiler_statements.proofs.Fronts.{front-same}
 
 -- what the code comes to, where the source with loops of at most n turns comes to this
 abbrev pub Follows : Program → Bool → Thread → ℕ → Outcome → Type 0
@@ -38,7 +38,8 @@ module _ (p : Program) (e : Bool) (t : Thread) where
   raised-given n now exception (Ok vs) reached = over (Comes (Ended now.actions now.store)) reached
   raised-given n now exception (Err other) reached = over (Comes (Ended now.actions now.store)) reached
 
-  raised : (n : ℕ) (m : Moment) (exception : Exception) (left : List Answer) → Reaches p e t (acts_with m Close left (λ given now. Over (Comes (Ended now.actions now.store)))) → Follows p e t n (outcome_of (and_then (course.answered m Close left (λ vs now. course.Goes now)) (λ later. course.Raises exception later)))
+  raised : (n : ℕ) (m : Moment) (exception : Exception) (left : List Answer) → Reaches p e t (acts_with m Close left (λ given now. Over (Comes (Ended now.actions now.store))))
+      → Follows p e t n (outcome_of (and_then (course.answered m Close left (λ vs now. course.Goes now)) (λ later. course.Raises exception later)))
   raised n m exception [] reached = over (Comes (Waits (m.actions ++ Close ∷ []) m.store)) reached
   raised n m exception (a ∷ rest) reached = raised-given n (after m Close a rest) exception a.given reached
 

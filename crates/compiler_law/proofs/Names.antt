@@ -3,10 +3,11 @@ use Rattle.std.proofs.Common.{◌≡◌, ℕ, suc, ◌+◌, List, [], ◌∷◌,
 use Rattle.std.proofs.lemmas.Option.{none-some, same_Some}
 use Rattle.lynx_tree.specs.Trees.{EntryTree, ModuleTree, OpTree, VarTree}
 use Rattle.lynx_tree.specs.declared.declaration.TypeName.{TypeName}
-use Rattle.lynx_typing.specs.Names.{Declared, Meaning, Variable, Operation, Entry, arguments_of, each_at, entries_at, entry_named, entry_size, inside, known, local_names, locals_at, meaning_in, module_scope, op_named, op_size, ops_at, or_outside, parameters_at, parameters_named, params_at, results_of, type_of_variable, var_named, var_size, vars_at}
+use Rattle.typing_rules.specs.Names.{Declared, Meaning, Variable, Operation, Entry, arguments_of, each_at, entries_at, entry_named, entry_size, inside, known, local_names, locals_at, meaning_in}
+use Rattle.typing_rules.specs.Names.{module_scope, op_named, op_size, ops_at, or_outside, parameters_at, parameters_named, params_at, results_of, type_of_variable, var_named, var_size, vars_at}
 use Rattle.lynx_code.specs.Modules.{global_names, names_of, op_names, place_in, place_of, slot_at, variables}
 use Rattle.lynx_code.specs.Modules as modules
-use Rattle.code_of_expressions.specs.Setting.{type_at}
+use Rattle.compiler_expressions.specs.Setting.{type_at}
 
 meaning-append : (xs ys : List Declared) (name : List ℕ) → meaning_in (xs ++ ys) name ≡ or_outside (meaning_in xs name) (meaning_in ys name)
 meaning-append [] ys name = refl
@@ -39,9 +40,11 @@ look-vars (v ∷ vs) at name = one-more (bytes_eq v.name name) v.kind (meaning_i
 
 look-two : (ps vs : List VarTree) (at behind : ℕ) (name : List ℕ) → HasPlace (meaning_in (each_at var_size var_named at ps ++ each_at var_size var_named behind vs) name) (place_in (map (λ v. v.name) (ps ++ vs)) name) (map (λ v. v.kind) (ps ++ vs))
 look-two [] vs at behind name = look-vars vs behind name
-look-two (p ∷ ps) vs at behind name = one-more (bytes_eq p.name name) p.kind (meaning_in (each_at var_size var_named (at + var_size p) ps ++ each_at var_size var_named behind vs) name) (place_in (map (λ u. u.name) (ps ++ vs)) name) (map (λ u. u.kind) (ps ++ vs)) (look-two ps vs (at + var_size p) behind name)
+look-two (p ∷ ps) vs at behind name =
+    one-more (bytes_eq p.name name) p.kind (meaning_in (each_at var_size var_named (at + var_size p) ps ++ each_at var_size var_named behind vs) name) (place_in (map (λ u. u.name) (ps ++ vs)) name) (map (λ u. u.kind) (ps ++ vs)) (look-two ps vs (at + var_size p) behind name)
 
-look-locals : (ns : List (List ℕ)) (ts : List TypeName) (vs : List VarTree) (at behind : ℕ) (name : List ℕ) → length ns ≡ length ts → HasPlace (meaning_in (parameters_named at ns ts ++ each_at var_size var_named behind vs) name) (place_in (ns ++ map (λ v. v.name) vs) name) (ts ++ map (λ v. v.kind) vs)
+look-locals : (ns : List (List ℕ)) (ts : List TypeName) (vs : List VarTree) (at behind : ℕ) (name : List ℕ) → length ns ≡ length ts
+    → HasPlace (meaning_in (parameters_named at ns ts ++ each_at var_size var_named behind vs) name) (place_in (ns ++ map (λ v. v.name) vs) name) (ts ++ map (λ v. v.kind) vs)
 look-locals [] [] vs at behind name long = look-vars vs behind name
 look-locals [] (t ∷ ts) vs at behind name long = absurd (suc-ne-zero (length ts) (sym long))
 look-locals (n ∷ ns) [] vs at behind name long = absurd (suc-ne-zero (length ns) long)
@@ -160,7 +163,8 @@ entry-variable m at e name t long is =
     inside-variable (meaning_in (local_names (module_scope m) at e) name) (module_scope m name) (place_in (modules.local_names e) name) (place_of (global_names m) name) (map (λ v. v.kind) (variables m)) (known (arguments_of (module_scope m e.op)) ++ map (λ v. v.kind) e.vars) t
     (look-locals e.parameters (known (arguments_of (module_scope m e.op))) e.vars (parameters_at at) (locals_at at e) name long) (module-variable m name t) is
 
-inside-operation : (l o : Option Meaning) (place : Option ℕ) (ls : List TypeName) (arguments : List TypeName) (Q : Option (List TypeName) → Type 0) → HasPlace l place ls → (arguments_of o ≡ Some arguments → Q (results_of o)) → arguments_of (or_outside l o) ≡ Some arguments → Q (results_of (or_outside l o))
+inside-operation : (l o : Option Meaning) (place : Option ℕ) (ls : List TypeName) (arguments : List TypeName) (Q : Option (List TypeName) → Type 0) → HasPlace l place ls → (arguments_of o ≡ Some arguments → Q (results_of o)) → arguments_of (or_outside l o) ≡ Some arguments
+    → Q (results_of (or_outside l o))
 inside-operation None o place ls arguments Q h on is = on is
 inside-operation (Some (Variable u)) o place ls arguments Q h on is = absurd (none-some arguments is)
 inside-operation (Some (Operation left rs)) o place ls arguments Q h on is = absurd h

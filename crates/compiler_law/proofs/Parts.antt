@@ -3,13 +3,13 @@ use Rattle.std.proofs.Common.{◌≡◌, ℕ, zero, suc, ◌+◌, List, [], ◌�
 use Rattle.std.specs.List.{AllByRecursion}
 use Rattle.std.proofs.lemmas.Option.{none-some, same_Some}
 use Rattle.lynx_tree.specs.Trees.{EntryTree, ModuleTree}
-use Rattle.lynx_typing.specs.Names.{each_at}
-use Rattle.lynx_typing.specs.Rules.{Fault}
+use Rattle.typing_rules.specs.Names.{each_at}
+use Rattle.typing_rules.specs.Rules.{Fault}
 use Rattle.lynx_code.specs.Modules.{PartCode, entry_part, entry_parts, instructions_of}
 use Rattle.lynx_code.specs.declared.instruction.Instruction.{Instruction}
-use Rattle.code_steps.specs.Steps.{StandAt}
-use Rattle.code_steps.proofs.Standing.{all-stand}
-use Rattle.code_of_expressions.proofs.Clean.{both-clean}
+use Rattle.compiler_steps.specs.Steps.{StandAt}
+use Rattle.compiler_steps.proofs.Standing.{all-stand}
+use Rattle.compiler_expressions.proofs.Clean.{both-clean}
 
 -- a part of a list of entries, whose code begins behind some
 pub entry-stands : (m : ModuleTree) (pre : List Instruction) (es : List EntryTree) (at : ℕ) (i : ℕ) (e : EntryTree) (p : PartCode) → at ≡ length pre → slice_get es i ≡ Some e → slice_get (entry_parts m at es) i ≡ Some p

@@ -2,20 +2,20 @@
 use Rattle.std.proofs.Common.{◌≡◌, ℕ, ◌+◌, List, [], ◌∷◌, ◌++◌, length, Contains, refl, sym, ap, ◌∙◌, subst, zero-lt-suc}
 use Rattle.lynx_tree.specs.Grammar.{AreStmts, HasTokens}
 use Rattle.lynx_tree.specs.Trees.{EntryTree, ModuleTree}
-use Rattle.lynx_typing.specs.Modules.{entry_faults, module_faults, names_are_new, op_faults, param_faults, var_faults}
-use Rattle.lynx_typing.specs.Names.{arguments_of, body_at, each_at, entries_at, entry_body_at, entry_size, inside, known, local_names, locals_at, module_names, module_scope, op_size, ops_at, params_at, results_of, var_size, vars_at}
-use Rattle.lynx_typing.specs.Rules.{Asks, Fault, Outside, entry_has_parameters, entry_is_of_op, local_name_is_new, module_name_is_new}
-use Rattle.lynx_typing.specs.Statements.{stmts_faults}
+use Rattle.typing_rules.specs.Modules.{entry_faults, module_faults, names_are_new, op_faults, param_faults, var_faults}
+use Rattle.typing_rules.specs.Names.{arguments_of, body_at, each_at, entries_at, entry_body_at, entry_size, inside, known, local_names, locals_at, module_names, module_scope, op_size, ops_at, params_at, results_of, var_size, vars_at}
+use Rattle.typing_rules.specs.Rules.{Asks, Fault, Outside, entry_has_parameters, entry_is_of_op, local_name_is_new, module_name_is_new}
+use Rattle.typing_rules.specs.Statements.{stmts_faults}
 use Rattle.lynx_code.specs.Modules.{PartCode, body_code, entry_part, entry_parts, instructions_of, main_part, module_code, names_of, parts_of}
 use Rattle.lynx_code.specs.Modules as modules
 use Rattle.lynx_meaning.specs.Agree.{SourceAndCodeAgree}
 use Rattle.lynx_meaning.specs.Source.{entry_part_tree, main_tree}
 use Rattle.lynx_code.specs.declared.instruction.Instruction.{Instruction}
-use Rattle.code_steps.specs.Steps.{StandAt}
-use Rattle.code_steps.proofs.Standing.{all-stand}
-use Rattle.code_of_expressions.proofs.Clean.{both-clean, demand-met}
-use Rattle.code_of_expressions.proofs.Variables.{some-of}
-use Rattle.code_of_statements.proofs.Requests.{number-met}
+use Rattle.compiler_steps.specs.Steps.{StandAt}
+use Rattle.compiler_steps.proofs.Standing.{all-stand}
+use Rattle.compiler_expressions.proofs.Clean.{both-clean, demand-met}
+use Rattle.compiler_expressions.proofs.Variables.{some-of}
+use Rattle.compiler_statements.proofs.Requests.{number-met}
 use Rattle.compiler_law.proofs.Agreement.{IsPart, agrees}
 use Rattle.compiler_law.proofs.Names.{entry-operation, entry-variable, main-variable, module-operation}
 use Rattle.compiler_law.proofs.Parts.{all-at, each-clean, entry-stands}

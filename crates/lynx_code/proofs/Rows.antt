@@ -7,8 +7,8 @@ use Rattle.lynx_tree.specs.declared.declaration.TypeName.{TypeName}
 use Rattle.lynx_tree.specs.declared.declaration.TypeName.TheVariants.{Int, Bool, Link, Row}
 use Rattle.lynx_tree.specs.Trees as trees
 use Rattle.lynx_tree.specs.Trees.{ExprTree, ExprTrees, StmtTree, StmtTrees, HandlerTrees, OpTree, VarTree, EntryTree, ModuleTree}
-use Rattle.lynx_typing.specs.Exceptions.{exception_of}
-use Rattle.lynx_typing.specs.declared.exception.Exception.TheVariants as exceptions
+use Rattle.typing_rules.specs.Exceptions.{exception_of}
+use Rattle.typing_rules.specs.declared.exception.Exception.TheVariants as exceptions
 use Rattle.lynx_code.specs.Modules.{module_code}
 use Rattle.lynx_code.specs.Listing.{line_end, module_listing}
 use Rattle.lynx_code.specs.declared.instruction.Instruction.TheVariants as code
@@ -76,7 +76,8 @@ code_of_a_loop = refl
 
 -- begin try n := 1 / n; when DIVIDE do n := 3; end; write n; end.
 pub code_of_a_try : module_listing (with_n (trees.Try (stmts (trees.Assign (codes "n") (over (number 1) n) ∷ [])) (trees.more_handlers (codes "DIVIDE") (stmts (trees.Assign (codes "n") (number 3) ∷ [])) trees.no_handlers) ∷ trees.Write n ∷ [])) ≡ lines (
-    codes "code m" ∷ codes "part main" ∷ codes "0 try 7" ∷ codes "1 push 1" ∷ codes "2 loadg 0" ∷ codes "3 div" ∷ codes "4 storeg 0" ∷ codes "5 untry" ∷ codes "6 jump 12" ∷ codes "7 case DIVIDE 11" ∷ codes "8 push 3" ∷ codes "9 storeg 0" ∷ codes "10 jump 12" ∷ codes "11 again" ∷ codes "12 loadg 0" ∷ codes "13 write" ∷ codes "14 end" ∷ [])
+    codes "code m" ∷ codes "part main" ∷ codes "0 try 7" ∷ codes "1 push 1" ∷ codes "2 loadg 0" ∷ codes "3 div" ∷ codes "4 storeg 0" ∷ codes "5 untry" ∷ codes "6 jump 12" ∷ codes "7 case DIVIDE 11" ∷ codes "8 push 3" ∷ codes "9 storeg 0" ∷ codes "10 jump 12" ∷ codes "11 again" ∷ codes "12 loadg 0"
+    ∷ codes "13 write" ∷ codes "14 end" ∷ [])
 unfolding digits exception_of
 code_of_a_try = refl
 

@@ -6,9 +6,9 @@ use Rattle.lynx_tree.specs.Trees.{ExprTree, ExprTrees, SumTail, TermTail, StmtTr
 use Rattle.lynx_tree.specs.Trees as trees
 use Rattle.lynx_tree.specs.declared.expression.TermSign.{TermSign}
 use Rattle.lynx_tree.specs.declared.expression.TermSign.TheVariants as terms
-use Rattle.lynx_typing.specs.Exceptions.{exception_of}
-use Rattle.lynx_typing.specs.declared.exception.Exception.{Exception}
-use Rattle.lynx_typing.specs.declared.exception.Exception.TheVariants as exceptions
+use Rattle.typing_rules.specs.Exceptions.{exception_of}
+use Rattle.typing_rules.specs.declared.exception.Exception.{Exception}
+use Rattle.typing_rules.specs.declared.exception.Exception.TheVariants as exceptions
 use Rattle.lynx_code.specs.declared.instruction.Instruction.{Instruction}
 use Rattle.lynx_code.specs.declared.instruction.Instruction.TheVariants as code
 use Rattle.lynx_code.specs.declared.instruction.Literal.TheVariants as literal

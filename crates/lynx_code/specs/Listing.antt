@@ -2,7 +2,7 @@
 use Rattle.std.specs.Prelude.{ℕ, ◌+◌, ◌-◌, List, [], ◌∷◌, ◌++◌, length, take, drop, true, false, codes, decimal}
 use Rattle.std.specs.Fmt.{signed_decimal}
 use Rattle.lynx_tree.specs.Trees.{ModuleTree}
-use Rattle.lynx_typing.specs.Exceptions.{exception_text}
+use Rattle.typing_rules.specs.Exceptions.{exception_text}
 use Rattle.lynx_code.specs.Modules.{PartCode, parts_of}
 use Rattle.lynx_code.specs.declared.code.Code.{Code}
 use Rattle.lynx_code.specs.declared.code.Part.{Part}
@@ -91,7 +91,13 @@ part_end (next ∷ others) all = next.start
 
 abbrev pub part_in : List Instruction → Part → List Part → PartCode
 part_in all p others =
-    record { name = p.name; op = p.op; start = p.start; locals = p.locals.items; instructions = take (part_end others (length all) - p.start) (drop p.start all) }
+    record {
+      name = p.name;
+      op = p.op;
+      start = p.start;
+      locals = p.locals.items;
+      instructions = take (part_end others (length all) - p.start) (drop p.start all);
+    }
 
 abbrev pub parts_in : List Instruction → List Part → List PartCode
 parts_in all [] = []

@@ -1,10 +1,11 @@
 -- The code of a module.
-use Rattle.std.specs.Prelude.{◌≡◌, ℕ, ◌+◌, List, [], ◌∷◌, ◌++◌, length, map, Option, Some, None, if◌then◌else◌, option_map, unwrap_or, codes}
+use Rattle.std.specs.Prelude.{◌≡◌, ℕ, ◌+◌, List, [], ◌∷◌, ◌++◌, length, map, Option}
+use Rattle.std.specs.Prelude.{Some, None, if◌then◌else◌, option_map, unwrap_or, codes}
 use Rattle.std.specs.Str.{bytes_eq}
 use Rattle.lynx_tree.specs.Trees.{ModuleTree, EntryTree, OpTree, VarTree, StmtTrees}
 use Rattle.lynx_tree.specs.declared.declaration.TypeName.{TypeName}
-use Rattle.lynx_typing.specs.Names.{arguments_of, known, module_scope}
-use Rattle.lynx_typing.specs.Signatures.{signature_text}
+use Rattle.typing_rules.specs.Names.{arguments_of, known, module_scope}
+use Rattle.typing_rules.specs.Signatures.{signature_text}
 use Rattle.lynx_code.specs.Generation.{Names, Slot, Global, Local, stmts_code}
 use Rattle.lynx_code.specs.declared.code.Code.{Code}
 use Rattle.lynx_code.specs.declared.code.CodeOp.{CodeOp}

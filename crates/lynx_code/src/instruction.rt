@@ -1,7 +1,7 @@
 //! Instructions.
 
 use lynx_lexer::TextLit;
-use lynx_typing::Exception;
+use typing_rules::Exception;
 
 /// A value that stands in code.
 #[derive(Debug, Drop)]

@@ -10,8 +10,8 @@ use crate::code::{Code, Part};
 use crate::instruction::{Instruction, Literal};
 use itoa::Buffer;
 use lynx_lexer::{Ident, NoMemory, TextLit};
-use lynx_typing::Exception;
 use std::alloc::Global;
+use typing_rules::Exception;
 
 fn push(out: &mut Vec<u8>, text: &[u8]) -> Result<(), NoMemory>
     ensures { OnOk result (out.new.items ≡ out.old.items ++ text.now) }

@@ -101,7 +101,8 @@ told_prim n d inner fits h = record { told = λ ts. read ts; goes = any }
     read (kinds.Sign signs.Open ∷ ts) =
         bind_told n (E d 0) [] (Ranked 6) (λ e. mark (suc d) signs.Open ∷ expr_marks (suc d) e) (λ e. sign signs.Close >>= (λ _. pure (trees.Bracket e))) (kinds.Sign signs.Open ∷ ts) (inner (kinds.Sign signs.Open ∷ ts)) (h (mark (suc d) signs.Open) refl ts)
         (λ e v. record { value = trees.Bracket e; marks = mark (suc d) signs.Close ∷ []; is = ((omega arith, v.1), refl) })
-        (λ e v within. (then_sign n (E d 0) (mark (suc d) signs.Open ∷ expr_marks (suc d) e) (suc d) signs.Close (λ _. pure (trees.Bracket e)) within.0 (done n (E d 0) ((mark (suc d) signs.Open ∷ expr_marks (suc d) e) ++ mark (suc d) signs.Close ∷ []) (trees.Bracket e) ((omega arith, v.1), refl))).told)
+        (λ e v within.
+        (then_sign n (E d 0) (mark (suc d) signs.Open ∷ expr_marks (suc d) e) (suc d) signs.Close (λ _. pure (trees.Bracket e)) within.0 (done n (E d 0) ((mark (suc d) signs.Open ∷ expr_marks (suc d) e) ++ mark (suc d) signs.Close ∷ []) (trees.Bracket e) ((omega arith, v.1), refl))).told)
     read (kinds.Sign s ∷ ts) = refused n (E d 0) [] (kinds.Sign s ∷ ts) any
     read (kinds.Name m ∷ ts) = (told_named n d inner fits h).told (kinds.Name m ∷ ts)
     read (kinds.Number m ∷ ts) = token n (E d 0) [] (record { kind = kinds.Number m; depth = d }) ts (Ok (trees.Number m, ts)) fits ((done n (E d 0) (record { kind = kinds.Number m; depth = d } ∷ []) (trees.Number m) ((omega arith, tt), refl)).told ts)

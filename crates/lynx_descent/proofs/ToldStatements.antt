@@ -185,7 +185,10 @@ told_attempt n d body fits h =
     next n (S d) (word d keywords.Try ∷ []) AreStmts (stmts_marks d) body _ h (λ b vb.
     then_many n (S d) IsHandler (handler_marks d) (sees_keyword keywords.When) (handler body) (λ others. keyword keywords.End >>= (λ _. pure (trees.Try b (handlers_of others))))
     (λ found ms. AreHandlers (handlers_of found) × (ms ≡ (word d keywords.Try ∷ stmts_marks d b) ++ handlers_marks d (handlers_of found))) (told_handler n d body fits h)
-    (λ found ms x known v. (are_handlers_more found x known.0 v, ap (λ (ys : List Mark). ys ++ handler_marks d x) known.1 ∙ append_assoc (word d keywords.Try ∷ stmts_marks d b) (handlers_marks d (handlers_of found)) (handler_marks d x) ∙ ap (λ (ys : List Mark). (word d keywords.Try ∷ stmts_marks d b) ++ ys) (sym (handlers_more d found x))))
+    (λ found ms x known v. (
+      are_handlers_more found x known.0 v,
+      ap (λ (ys : List Mark). ys ++ handler_marks d x) known.1 ∙ append_assoc (word d keywords.Try ∷ stmts_marks d b) (handlers_marks d (handlers_of found)) (handler_marks d x) ∙ ap (λ (ys : List Mark). (word d keywords.Try ∷ stmts_marks d b) ++ ys) (sym (handlers_more d found x)),
+    ))
     (λ found ms known. then_keyword n (S d) ms d keywords.End _ fits (done n (S d) (ms ++ word d keywords.End ∷ []) (trees.Try b (handlers_of found))
     ((vb, known.0), ap (λ (ys : List Mark). ys ++ word d keywords.End ∷ []) known.1 ∙ joined_attempt (word d keywords.Try) (stmts_marks d b) (handlers_marks d (handlers_of found)) (word d keywords.End ∷ []))))
     [] (word d keywords.Try ∷ stmts_marks d b) (tt, sym (append-nil (word d keywords.Try ∷ stmts_marks d b))))
@@ -260,8 +263,22 @@ begun d (kinds.Keyword keywords.New ∷ ts) h = record { one = word d keywords.N
 begun d (kinds.Keyword keywords.Destroy ∷ ts) h = record { one = word d keywords.Destroy; rest = ts; is = refl; at = refl; goes = record { value = trees.Destroy []; marks = grammar.name d [] ∷ []; is = (tt, refl) } }
 begun d (kinds.Keyword keywords.Bind ∷ ts) h = record { one = word d keywords.Bind; rest = ts; is = refl; at = refl; goes = record { value = trees.Bind [] []; marks = grammar.name d [] ∷ word d keywords.To ∷ grammar.name d [] ∷ []; is = (tt, refl) } }
 begun d (kinds.Keyword keywords.Unbind ∷ ts) h = record { one = word d keywords.Unbind; rest = ts; is = refl; at = refl; goes = record { value = trees.Unbind [] []; marks = grammar.name d [] ∷ word d keywords.From ∷ grammar.name d [] ∷ []; is = (tt, refl) } }
-begun d (kinds.Keyword keywords.Connect ∷ ts) h = record { one = word d keywords.Connect; rest = ts; is = refl; at = refl; goes = record { value = trees.Connect [] [] trees.no_exprs []; marks = grammar.name d [] ∷ word d keywords.On ∷ grammar.name d [] ∷ mark (suc d) signs.Open ∷ mark (suc d) signs.Close ∷ mark d signs.Colon ∷ mark (suc d) signs.Open ∷ mark (suc d) signs.Close ∷ []; is = (tt, refl) } }
-begun d (kinds.Keyword keywords.Accept ∷ ts) h = record { one = word d keywords.Accept; rest = ts; is = refl; at = refl; goes = record { value = trees.Accept [] [] [] trees.no_stmts; marks = grammar.name d [] ∷ word d keywords.On ∷ grammar.name d [] ∷ mark (suc d) signs.Open ∷ mark (suc d) signs.Close ∷ word d keywords.Do ∷ word d keywords.End ∷ []; is = (tt, refl) } }
+begun d (kinds.Keyword keywords.Connect ∷ ts) h =
+    record {
+      one = word d keywords.Connect;
+      rest = ts;
+      is = refl;
+      at = refl;
+      goes = record { value = trees.Connect [] [] trees.no_exprs []; marks = grammar.name d [] ∷ word d keywords.On ∷ grammar.name d [] ∷ mark (suc d) signs.Open ∷ mark (suc d) signs.Close ∷ mark d signs.Colon ∷ mark (suc d) signs.Open ∷ mark (suc d) signs.Close ∷ []; is = (tt, refl) };
+    }
+begun d (kinds.Keyword keywords.Accept ∷ ts) h =
+    record {
+      one = word d keywords.Accept;
+      rest = ts;
+      is = refl;
+      at = refl;
+      goes = record { value = trees.Accept [] [] [] trees.no_stmts; marks = grammar.name d [] ∷ word d keywords.On ∷ grammar.name d [] ∷ mark (suc d) signs.Open ∷ mark (suc d) signs.Close ∷ word d keywords.Do ∷ word d keywords.End ∷ []; is = (tt, refl) };
+    }
 begun d (kinds.Keyword keywords.Reply ∷ ts) h = record { one = word d keywords.Reply; rest = ts; is = refl; at = refl; goes = record { value = trees.Reply trees.no_exprs; marks = mark (suc d) signs.Open ∷ mark (suc d) signs.Close ∷ []; is = (tt, refl) } }
 begun d (kinds.Keyword keywords.Try ∷ ts) h = record { one = word d keywords.Try; rest = ts; is = refl; at = refl; goes = record { value = trees.Try trees.no_stmts trees.no_handlers; marks = word d keywords.End ∷ []; is = ((tt, tt), refl) } }
 begun d [] h = absurd (false≢true h)

@@ -10,7 +10,8 @@ use Rattle.lynx_descent.specs.declared.ahead.Ahead.{Ahead}
 use Rattle.lynx_descent.specs.declared.ahead.Ahead.TheVariants as next
 use Rattle.lynx_tree.specs.Trees as trees
 use Rattle.lynx_tree.specs.Trees.{ExprTree, ExprTrees, SumTail, TermTail}
-use Rattle.lynx_descent.specs.Reading.{Parser, ◌>>=◌, ◌>>◌, ◌<$>◌, pure, refuse, advance, asks, peek, ahead, sees_keyword, sees_sign, sign, name, number, text, too_deep, many}
+use Rattle.lynx_descent.specs.Reading.{Parser, ◌>>=◌, ◌>>◌, ◌<$>◌, pure, refuse, advance, asks, peek, ahead}
+use Rattle.lynx_descent.specs.Reading.{sees_keyword, sees_sign, sign, name, number, text, too_deep, many}
 
 -- ---- trees of lists
 
@@ -146,7 +147,8 @@ unfoldable pub conj : Parser ExprTree → Parser ExprTree
 conj inner = do
   first ← rel inner
   is_chain ← asks (sees_keyword keywords.And)
-  if is_chain then (do advance; second ← rel inner; all ← conjuncts inner (first ∷ second ∷ []); pure (trees.And (exprs_of all))) else pure first
+  if is_chain then (do advance; second ← rel inner; all ← conjuncts inner (first ∷ second ∷ []); pure (trees.And (exprs_of all)))
+      else pure first
 
 -- what follows each further `or`
 abbrev pub disjuncts : Parser ExprTree → List ExprTree → Parser (List ExprTree)
@@ -156,7 +158,8 @@ unfoldable pub expr : Parser ExprTree → Parser ExprTree
 expr inner = do
   first ← conj inner
   is_chain ← asks (sees_keyword keywords.Or)
-  if is_chain then (do advance; second ← conj inner; all ← disjuncts inner (first ∷ second ∷ []); pure (trees.Or (exprs_of all))) else pure first
+  if is_chain then (do advance; second ← conj inner; all ← disjuncts inner (first ∷ second ∷ []); pure (trees.Or (exprs_of all)))
+      else pure first
 
 -- a token that opens a bracket, and an expression, where so many more may be open
 unfoldable pub inside : ℕ → Parser ExprTree

@@ -7,7 +7,8 @@ use Rattle.lynx_tree.specs.declared.declaration.TypeName.TheVariants as types
 use Rattle.lynx_descent.specs.declared.ahead.Ahead.{Ahead}
 use Rattle.lynx_descent.specs.declared.ahead.Ahead.TheVariants as next
 use Rattle.lynx_tree.specs.Trees.{ExprTree}
-use Rattle.lynx_descent.specs.Reading.{Parser, ◌>>=◌, ◌>>◌, ◌<$>◌, pure, refuse, advance, asks, peek, sees_sign, sign, name, number, bracket, many}
+use Rattle.lynx_descent.specs.Reading.{Parser, ◌>>=◌, ◌>>◌, ◌<$>◌, pure, refuse, advance, asks}
+use Rattle.lynx_descent.specs.Reading.{peek, sees_sign, sign, name, number, bracket, many}
 use Rattle.lynx_descent.specs.ReadingExpressions.{inside, expr}
 
 -- what follows each comma

@@ -10,7 +10,8 @@ use Rattle.lynx_tree.specs.declared.statement.Stmt as statement
 use Rattle.lynx_tree.specs.declared.statement.Handler.{Handler}
 use Rattle.lynx_tree.specs.Trees as trees
 use Rattle.lynx_tree.specs.Trees.{ExprTree, StmtTree, StmtTrees, HandlerTrees, stmt_tree}
-use Rattle.lynx_descent.specs.Reading.{Parser, ◌>>=◌, ◌>>◌, ◌<$>◌, pure, refuse, too_deep, advance, asks, peek, ahead, sees_keyword, keyword, sign, name, many}
+use Rattle.lynx_descent.specs.Reading.{Parser, ◌>>=◌, ◌>>◌, ◌<$>◌, pure, refuse, too_deep, advance}
+use Rattle.lynx_descent.specs.Reading.{asks, peek, ahead, sees_keyword, keyword, sign, name, many}
 use Rattle.lynx_descent.specs.ReadingExpressions.{inside, expr, index, exprs_of}
 use Rattle.lynx_descent.specs.ReadingLists.{names, values}
 

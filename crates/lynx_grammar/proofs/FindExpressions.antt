@@ -194,7 +194,8 @@ factor_begins d (term_signs.Mod, e) v ts = (refl, refl, omega arith)
 
 find_factor : (n d : ℕ) (inner : Parser ExprTree) → d ≤ n → InnerFinds n d inner → Finds n IsFactor (factor_marks d) NoRow (λ ts. behind_sign (term_sign ts) (unary inner) ts)
 unfolding term_sign
-find_factor n d inner fits h (term_signs.Times, e) v rest quiet = find_token n (mark d signs.Times) (expr_marks d e) rest (Ok ((term_signs.Times, e), rest)) _ fits (find_last n (Ranked 1) (expr_marks d) NoRow (unary inner) (λ x. pure (term_signs.Times, x)) (find_unary n d inner fits h) e v rest quiet)
+find_factor n d inner fits h (term_signs.Times, e) v rest quiet =
+    find_token n (mark d signs.Times) (expr_marks d e) rest (Ok ((term_signs.Times, e), rest)) _ fits (find_last n (Ranked 1) (expr_marks d) NoRow (unary inner) (λ x. pure (term_signs.Times, x)) (find_unary n d inner fits h) e v rest quiet)
 find_factor n d inner fits h (term_signs.Over, e) v rest quiet = find_token n (mark d signs.Over) (expr_marks d e) rest (Ok ((term_signs.Over, e), rest)) _ fits (find_last n (Ranked 1) (expr_marks d) NoRow (unary inner) (λ x. pure (term_signs.Over, x)) (find_unary n d inner fits h) e v rest quiet)
 find_factor n d inner fits h (term_signs.Mod, e) v rest quiet = find_token n (word d keywords.Mod) (expr_marks d e) rest (Ok ((term_signs.Mod, e), rest)) _ fits (find_last n (Ranked 1) (expr_marks d) NoRow (unary inner) (λ x. pure (term_signs.Mod, x)) (find_unary n d inner fits h) e v rest quiet)
 
@@ -206,7 +207,8 @@ term_whole n d inner fits h first v xs all rest quiet =
     let starts : List Kind → Bool = λ ts. is_some (term_sign ts) in
     let item : Parser (TermSign × ExprTree) = λ ts. behind_sign (term_sign ts) (unary inner) ts in
     let marks : List Mark = flat_map (factor_marks d) xs in
-    find_next n (Ranked 1) (expr_marks d) NoRow (unary inner) (λ one. many starts item [] >>= (λ others. pure (term_of one others))) (find_unary n d inner fits h) first v marks rest (Ok (term_of first xs, rest)) (item_quiet IsFactor (factor_marks d) NoRow starts xs rest (factor_begins d) all quiet.0)
+    find_next n (Ranked 1) (expr_marks d) NoRow (unary inner) (λ one. many starts item [] >>= (λ others. pure (term_of one others))) (find_unary n d inner fits h) first v marks rest (Ok (term_of first xs, rest))
+    (item_quiet IsFactor (factor_marks d) NoRow starts xs rest (factor_begins d) all quiet.0)
     (λ within. ap (λ (o : Outcome (List (TermSign × ExprTree))). and_then o (λ others. pure (term_of first others))) (find_many n IsFactor (factor_marks d) NoRow starts item (find_factor n d inner fits h) (factor_begins d) xs [] rest all quiet.0 (none_is _ quiet.1))
     ∙ guard_then n marks rest (Ok (xs, rest)) (λ others. pure (term_of first others)))
 
@@ -281,7 +283,8 @@ sum_whole n d inner fits h first v xs all rest quiet =
     let starts : List Kind → Bool = λ ts. is_some (sum_sign ts) in
     let item : Parser (Sign × ExprTree) = λ ts. behind_sign (sum_sign ts) (term inner) ts in
     let marks : List Mark = flat_map (summand_marks d) xs in
-    find_next n (Ranked 2) (expr_marks d) NoTerm (term inner) (λ one. many starts item [] >>= (λ others. pure (sum_of one others))) (find_term n d inner fits h) first v marks rest (Ok (sum_of first xs, rest)) (item_quiet IsSummand (summand_marks d) NoTerm starts xs rest (summand_begins d) all (quiet.0, quiet.1))
+    find_next n (Ranked 2) (expr_marks d) NoTerm (term inner) (λ one. many starts item [] >>= (λ others. pure (sum_of one others))) (find_term n d inner fits h) first v marks rest (Ok (sum_of first xs, rest))
+    (item_quiet IsSummand (summand_marks d) NoTerm starts xs rest (summand_begins d) all (quiet.0, quiet.1))
     (λ within. ap (λ (o : Outcome (List (Sign × ExprTree))). and_then o (λ others. pure (sum_of first others))) (find_many n IsSummand (summand_marks d) NoTerm starts item (find_summand n d inner fits h) (summand_begins d) xs [] rest all (quiet.0, quiet.1) (none_is _ quiet.2))
     ∙ guard_then n marks rest (Ok (xs, rest)) (λ others. pure (sum_of first others)))
 

@@ -46,8 +46,10 @@ close_no_comma us = refl
 find_comma : {A : Type 0} (n d : ℕ) (V : A → Type 0) (w : A → List Mark) (halts : List Kind → Type 0) (item : Parser A) → d ≤ n → Finds n V w halts item → Finds n V (λ x. mark d signs.Comma ∷ w x) halts (advance >>= (λ _. item))
 find_comma n d V w halts item fits h x v rest quiet = find_token n (mark d signs.Comma) (w x) rest (Ok (x, rest)) _ fits (h x v rest quiet)
 
-find_listed : {A : Type 0} (n d : ℕ) (V : A → Type 0) (w : A → List Mark) (halts : List Kind → Type 0) (item : Parser A) → d ≤ n → Finds n V w halts item → ((ts : List Kind) → halts (kinds.Sign signs.Comma ∷ ts)) → ((x : A) → V x → (ts : List Kind) → sees_sign signs.Close (kinds_in (w x) ++ ts) ≡ false)
-    → (xs : List A) → AllByRecursion V xs → (rest : List Kind) → halts (kinds.Sign signs.Close ∷ rest) → listed item (kinds_in (listed_marks w (mark d signs.Comma) xs) ++ kinds.Sign signs.Close ∷ rest) ≡ guard n (listed_marks w (mark d signs.Comma) xs) (kinds.Sign signs.Close ∷ rest) (Ok (xs, kinds.Sign signs.Close ∷ rest))
+find_listed : {A : Type 0} (n d : ℕ) (V : A → Type 0) (w : A → List Mark) (halts : List Kind → Type 0) (item : Parser A) → d ≤ n → Finds n V w halts item → ((ts : List Kind) → halts (kinds.Sign signs.Comma ∷ ts))
+    → ((x : A) → V x → (ts : List Kind) → sees_sign signs.Close (kinds_in (w x) ++ ts) ≡ false)
+    → (xs : List A) → AllByRecursion V xs → (rest : List Kind) → halts (kinds.Sign signs.Close ∷ rest)
+    → listed item (kinds_in (listed_marks w (mark d signs.Comma) xs) ++ kinds.Sign signs.Close ∷ rest) ≡ guard n (listed_marks w (mark d signs.Comma) xs) (kinds.Sign signs.Close ∷ rest) (Ok (xs, kinds.Sign signs.Close ∷ rest))
 find_listed {A = A} n d V w halts item fits h comma open_ [] all rest quiet =
     let ts : List Kind = kinds.Sign signs.Close ∷ rest in
     ap (λ (b : Bool). (if b then pure [] else (item >>= (λ x. many (sees_sign signs.Comma) (advance >>= (λ _. item)) (x ∷ [])))) ts) (same_sign_refl signs.Close)
@@ -73,7 +75,8 @@ all_of_them [] = tt
 all_of_them (x ∷ xs) = (tt, all_of_them xs)
 
 -- a list in brackets
-find_enclosed : {A : Type 0} (n room d : ℕ) (V : A → Type 0) (w : A → List Mark) (halts : List Kind → Type 0) (item : ℕ → Parser A) → room + d ≡ n → ((r : ℕ) → r + suc d ≡ n → Finds n V w halts (item r)) → ((ts : List Kind) → halts (kinds.Sign signs.Comma ∷ ts)) → ((ts : List Kind) → halts (kinds.Sign signs.Close ∷ ts))
+find_enclosed : {A : Type 0} (n room d : ℕ) (V : A → Type 0) (w : A → List Mark) (halts : List Kind → Type 0) (item : ℕ → Parser A) → room + d ≡ n → ((r : ℕ) → r + suc d ≡ n → Finds n V w halts (item r)) → ((ts : List Kind) → halts (kinds.Sign signs.Comma ∷ ts))
+    → ((ts : List Kind) → halts (kinds.Sign signs.Close ∷ ts))
     → ((x : A) → V x → (ts : List Kind) → sees_sign signs.Close (kinds_in (w x) ++ ts) ≡ false) → (xs : List A) → AllByRecursion V xs → (rest : List Kind)
     → (bracket room >>= (λ r. listed (item r) >>= (λ all. sign signs.Close >>= (λ _. pure all)))) (kinds_in (mark (suc d) signs.Open ∷ (listed_marks w (mark (suc d) signs.Comma) xs ++ mark (suc d) signs.Close ∷ [])) ++ rest)
     ≡ guard n (mark (suc d) signs.Open ∷ (listed_marks w (mark (suc d) signs.Comma) xs ++ mark (suc d) signs.Close ∷ [])) rest (Ok (xs, rest))

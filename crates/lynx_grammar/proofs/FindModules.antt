@@ -25,8 +25,10 @@ unfolding op
 find_op n o v rest quiet =
     let goal : Outcome OpTree = Ok (o, rest) in
     find_token n (word 0 keywords.Op) (grammar.name 0 o.name ∷ (types_marks o.arguments ++ mark 0 signs.Colon ∷ (types_marks o.results ++ mark 0 signs.Semicolon ∷ []))) rest goal _ (omega arith)
-    (find_name n 0 o.name (λ m. type_names n >>= (λ a. sign signs.Colon >>= (λ _. type_names n >>= (λ r. sign signs.Semicolon >>= (λ _. pure (record { name = m; arguments = a; results = r })))))) (types_marks o.arguments ++ mark 0 signs.Colon ∷ (types_marks o.results ++ mark 0 signs.Semicolon ∷ [])) rest goal (omega arith)
-    (find_next n Anything types_marks Free (type_names n) (λ a. sign signs.Colon >>= (λ _. type_names n >>= (λ r. sign signs.Semicolon >>= (λ _. pure (record { name = o.name; arguments = a; results = r }))))) (find_types n) o.arguments tt (mark 0 signs.Colon ∷ (types_marks o.results ++ mark 0 signs.Semicolon ∷ [])) rest goal tt
+    (find_name n 0 o.name (λ m. type_names n >>= (λ a. sign signs.Colon >>= (λ _. type_names n >>= (λ r. sign signs.Semicolon >>= (λ _. pure (record { name = m; arguments = a; results = r }))))))
+    (types_marks o.arguments ++ mark 0 signs.Colon ∷ (types_marks o.results ++ mark 0 signs.Semicolon ∷ [])) rest goal (omega arith)
+    (find_next n Anything types_marks Free (type_names n) (λ a. sign signs.Colon >>= (λ _. type_names n >>= (λ r. sign signs.Semicolon >>= (λ _. pure (record { name = o.name; arguments = a; results = r }))))) (find_types n) o.arguments tt
+    (mark 0 signs.Colon ∷ (types_marks o.results ++ mark 0 signs.Semicolon ∷ [])) rest goal tt
     (λ w1. find_sign n 0 signs.Colon (λ _. type_names n >>= (λ r. sign signs.Semicolon >>= (λ _. pure (record { name = o.name; arguments = o.arguments; results = r })))) (types_marks o.results ++ mark 0 signs.Semicolon ∷ []) rest goal (omega arith)
     (find_next n Anything types_marks Free (type_names n) (λ r. sign signs.Semicolon >>= (λ _. pure (record { name = o.name; arguments = o.arguments; results = r }))) (find_types n) o.results tt (mark 0 signs.Semicolon ∷ []) rest goal tt
     (λ w2. find_sign n 0 signs.Semicolon (λ _. pure o) [] rest goal (omega arith) refl)))))
@@ -61,7 +63,8 @@ find_body {A = A} n b v f ms rest o h =
     (find_next n AreStmts (stmts_marks 0) Calm (stmts n) (λ x. keyword keywords.End >>= (λ _. f x)) (find_stmts n n 0 (omega arith)) b v (word 0 keywords.End ∷ ms) rest o (end_calm (kinds_in ms ++ rest)) (λ w1. find_keyword n 0 keywords.End (λ _. f b) ms rest o (omega arith) h))
 
 -- items behind a keyword, and what goes on behind them
-find_items : {A C : Type 0} (n : ℕ) (V : A → Type 0) (w : A → List Mark) (k : Keyword) (item : Parser A) (f : List A → Parser C) → Finds n V w Free item → Begins V w Free (sees_keyword k) → (xs : List A) → AllByRecursion V xs → (ms : List Mark) (rest : List Kind) (o : Outcome C) → sees_keyword k (kinds_in ms ++ rest) ≡ false
+find_items : {A C : Type 0} (n : ℕ) (V : A → Type 0) (w : A → List Mark) (k : Keyword) (item : Parser A) (f : List A → Parser C) → Finds n V w Free item → Begins V w Free (sees_keyword k) → (xs : List A) → AllByRecursion V xs → (ms : List Mark) (rest : List Kind) (o : Outcome C)
+    → sees_keyword k (kinds_in ms ++ rest) ≡ false
     → f xs (kinds_in ms ++ rest) ≡ guard n ms rest o → (many (sees_keyword k) item [] >>= f) (kinds_in (flat_map w xs ++ ms) ++ rest) ≡ guard n (flat_map w xs ++ ms) rest o
 find_items {A = A} n V w k item f h begins xs all ms rest o off on =
     let mid : List Kind = kinds_in ms ++ rest in
@@ -132,15 +135,20 @@ find_entry n e v rest quiet =
     let last : List Mark = mark 0 signs.Semicolon ∷ [] in
     let inner : List Mark = word 0 keywords.Begin ∷ (stmts_marks 0 e.body ++ word 0 keywords.End ∷ last) in
     find_token n (word 0 keywords.Entry) (grammar.name 0 e.name ∷ word 0 keywords.Of ∷ grammar.name 0 e.op ∷ (names_marks 0 e.parameters ++ (vars_marks e.vars ++ inner))) rest goal _ (omega arith)
-    (find_name n 0 e.name (λ m. keyword keywords.Of >>= (λ _. name >>= (λ o. names n >>= (λ ns. vars keywords.Var >>= (λ vs. body n >>= (λ b. sign signs.Semicolon >>= (λ _. pure (record { name = m; op = o; parameters = ns; vars = vs; body = b })))))))) (word 0 keywords.Of ∷ grammar.name 0 e.op ∷ (names_marks 0 e.parameters ++ (vars_marks e.vars ++ inner))) rest goal (omega arith)
-    (find_keyword n 0 keywords.Of (λ _. name >>= (λ o. names n >>= (λ ns. vars keywords.Var >>= (λ vs. body n >>= (λ b. sign signs.Semicolon >>= (λ _. pure (record { name = e.name; op = o; parameters = ns; vars = vs; body = b }))))))) (grammar.name 0 e.op ∷ (names_marks 0 e.parameters ++ (vars_marks e.vars ++ inner))) rest goal (omega arith)
+    (find_name n 0 e.name (λ m. keyword keywords.Of >>= (λ _. name >>= (λ o. names n >>= (λ ns. vars keywords.Var >>= (λ vs. body n >>= (λ b. sign signs.Semicolon >>= (λ _. pure (record { name = m; op = o; parameters = ns; vars = vs; body = b }))))))))
+    (word 0 keywords.Of ∷ grammar.name 0 e.op ∷ (names_marks 0 e.parameters ++ (vars_marks e.vars ++ inner))) rest goal (omega arith)
+    (find_keyword n 0 keywords.Of (λ _. name >>= (λ o. names n >>= (λ ns. vars keywords.Var >>= (λ vs. body n >>= (λ b. sign signs.Semicolon >>= (λ _. pure (record { name = e.name; op = o; parameters = ns; vars = vs; body = b })))))))
+    (grammar.name 0 e.op ∷ (names_marks 0 e.parameters ++ (vars_marks e.vars ++ inner))) rest goal (omega arith)
     (find_name n 0 e.op (λ o. names n >>= (λ ns. vars keywords.Var >>= (λ vs. body n >>= (λ b. sign signs.Semicolon >>= (λ _. pure (record { name = e.name; op = o; parameters = ns; vars = vs; body = b })))))) (names_marks 0 e.parameters ++ (vars_marks e.vars ++ inner)) rest goal (omega arith)
-    (find_next n Anything (names_marks 0) Free (names n) (λ ns. vars keywords.Var >>= (λ vs. body n >>= (λ b. sign signs.Semicolon >>= (λ _. pure (record { name = e.name; op = e.op; parameters = ns; vars = vs; body = b }))))) (find_names n n 0 (omega arith)) e.parameters tt (vars_marks e.vars ++ inner) rest goal tt
-    (λ w1. find_items n Anything (var_marks keywords.Var) keywords.Var var (λ vs. body n >>= (λ b. sign signs.Semicolon >>= (λ _. pure (record { name = e.name; op = e.op; parameters = e.parameters; vars = vs; body = b })))) (find_var n keywords.Var) (var_begins keywords.Var) e.vars (all_of e.vars) inner rest goal begin_var
+    (find_next n Anything (names_marks 0) Free (names n) (λ ns. vars keywords.Var >>= (λ vs. body n >>= (λ b. sign signs.Semicolon >>= (λ _. pure (record { name = e.name; op = e.op; parameters = ns; vars = vs; body = b }))))) (find_names n n 0 (omega arith)) e.parameters tt
+    (vars_marks e.vars ++ inner) rest goal tt
+    (λ w1. find_items n Anything (var_marks keywords.Var) keywords.Var var (λ vs. body n >>= (λ b. sign signs.Semicolon >>= (λ _. pure (record { name = e.name; op = e.op; parameters = e.parameters; vars = vs; body = b })))) (find_var n keywords.Var) (var_begins keywords.Var) e.vars
+    (all_of e.vars) inner rest goal begin_var
     (find_body n e.body v (λ b. sign signs.Semicolon >>= (λ _. pure (record { name = e.name; op = e.op; parameters = e.parameters; vars = e.vars; body = b }))) last rest goal (find_sign n 0 signs.Semicolon (λ _. pure e) [] rest goal (omega arith) refl)))))))
 
 -- what stands behind items does not begin with their keyword
-behind_items : {A : Type 0} (w : A → List Mark) (first k : Keyword) (xs : List A) (ms : List Mark) (rest : List Kind) → ((x : A) (ts : List Kind) → sees_keyword k (kinds_in (w x) ++ ts) ≡ false) → sees_keyword k (kinds_in ms ++ rest) ≡ false → sees_keyword k (kinds_in (flat_map w xs ++ ms) ++ rest) ≡ false
+behind_items : {A : Type 0} (w : A → List Mark) (first k : Keyword) (xs : List A) (ms : List Mark) (rest : List Kind) → ((x : A) (ts : List Kind) → sees_keyword k (kinds_in (w x) ++ ts) ≡ false) → sees_keyword k (kinds_in ms ++ rest) ≡ false
+    → sees_keyword k (kinds_in (flat_map w xs ++ ms) ++ rest) ≡ false
 behind_items w first k [] ms rest h off = off
 behind_items w first k (x ∷ xs) ms rest h off =
     ap (λ (ks : List Kind). sees_keyword k ks) (ap (λ (ys : List Mark). kinds_in ys ++ rest) (append_assoc (w x) (flat_map w xs) ms) ∙ sym (kinds_append (w x) (flat_map w xs ++ ms) rest)) ∙ h x (kinds_in (flat_map w xs ++ ms) ++ rest)
@@ -155,15 +163,21 @@ find_module n m v rest quiet =
     let three : List Mark = vars_marks m.vars ++ four in
     let two : List Mark = flat_map (var_marks keywords.Param) m.params ++ three in
     let one : List Mark = flat_map op_marks m.ops ++ two in
-    find_keyword n 0 keywords.Module (λ _. name >>= (λ a. sign signs.Semicolon >>= (λ _. ops n >>= (λ o. vars keywords.Param >>= (λ p. vars keywords.Var >>= (λ g. entries n >>= (λ e. body n >>= (λ b. sign signs.Dot >>= (λ _. pure (record { name = a; ops = o; params = p; vars = g; entries = e; body = b }))))))))))
+    find_keyword n 0 keywords.Module
+    (λ _. name >>= (λ a. sign signs.Semicolon >>= (λ _. ops n >>= (λ o. vars keywords.Param >>= (λ p. vars keywords.Var >>= (λ g. entries n >>= (λ e. body n >>= (λ b. sign signs.Dot >>= (λ _. pure (record { name = a; ops = o; params = p; vars = g; entries = e; body = b }))))))))))
     (grammar.name 0 m.name ∷ mark 0 signs.Semicolon ∷ one) rest goal (omega arith)
-    (find_name n 0 m.name (λ a. sign signs.Semicolon >>= (λ _. ops n >>= (λ o. vars keywords.Param >>= (λ p. vars keywords.Var >>= (λ g. entries n >>= (λ e. body n >>= (λ b. sign signs.Dot >>= (λ _. pure (record { name = a; ops = o; params = p; vars = g; entries = e; body = b }))))))))) (mark 0 signs.Semicolon ∷ one) rest goal (omega arith)
+    (find_name n 0 m.name (λ a. sign signs.Semicolon >>= (λ _. ops n >>= (λ o. vars keywords.Param >>= (λ p. vars keywords.Var >>= (λ g. entries n >>= (λ e. body n >>= (λ b. sign signs.Dot >>= (λ _. pure (record { name = a; ops = o; params = p; vars = g; entries = e; body = b })))))))))
+    (mark 0 signs.Semicolon ∷ one) rest goal (omega arith)
     (find_sign n 0 signs.Semicolon (λ _. ops n >>= (λ o. vars keywords.Param >>= (λ p. vars keywords.Var >>= (λ g. entries n >>= (λ e. body n >>= (λ b. sign signs.Dot >>= (λ _. pure (record { name = m.name; ops = o; params = p; vars = g; entries = e; body = b })))))))) one rest goal (omega arith)
-    (find_items n Anything op_marks keywords.Op (op n) (λ o. vars keywords.Param >>= (λ p. vars keywords.Var >>= (λ g. entries n >>= (λ e. body n >>= (λ b. sign signs.Dot >>= (λ _. pure (record { name = m.name; ops = o; params = p; vars = g; entries = e; body = b }))))))) (find_op n) op_begins m.ops (all_of m.ops) two rest goal
-    (behind_items (var_marks keywords.Param) keywords.Param keywords.Op m.params three rest (λ x ts. param_op) (behind_items (var_marks keywords.Var) keywords.Var keywords.Op m.vars four rest (λ x ts. var_op) (behind_items entry_marks keywords.Entry keywords.Op m.entries inner rest (λ x ts. entry_op) begin_op)))
-    (find_items n Anything (var_marks keywords.Param) keywords.Param var (λ p. vars keywords.Var >>= (λ g. entries n >>= (λ e. body n >>= (λ b. sign signs.Dot >>= (λ _. pure (record { name = m.name; ops = m.ops; params = p; vars = g; entries = e; body = b })))))) (find_var n keywords.Param) (var_begins keywords.Param) m.params (all_of m.params) three rest goal
+    (find_items n Anything op_marks keywords.Op (op n) (λ o. vars keywords.Param >>= (λ p. vars keywords.Var >>= (λ g. entries n >>= (λ e. body n >>= (λ b. sign signs.Dot >>= (λ _. pure (record { name = m.name; ops = o; params = p; vars = g; entries = e; body = b }))))))) (find_op n) op_begins m.ops
+    (all_of m.ops) two rest goal
+    (behind_items (var_marks keywords.Param) keywords.Param keywords.Op m.params three rest (λ x ts. param_op)
+    (behind_items (var_marks keywords.Var) keywords.Var keywords.Op m.vars four rest (λ x ts. var_op) (behind_items entry_marks keywords.Entry keywords.Op m.entries inner rest (λ x ts. entry_op) begin_op)))
+    (find_items n Anything (var_marks keywords.Param) keywords.Param var (λ p. vars keywords.Var >>= (λ g. entries n >>= (λ e. body n >>= (λ b. sign signs.Dot >>= (λ _. pure (record { name = m.name; ops = m.ops; params = p; vars = g; entries = e; body = b })))))) (find_var n keywords.Param)
+    (var_begins keywords.Param) m.params (all_of m.params) three rest goal
     (behind_items (var_marks keywords.Var) keywords.Var keywords.Param m.vars four rest (λ x ts. var_param) (behind_items entry_marks keywords.Entry keywords.Param m.entries inner rest (λ x ts. entry_param) begin_param))
-    (find_items n Anything (var_marks keywords.Var) keywords.Var var (λ g. entries n >>= (λ e. body n >>= (λ b. sign signs.Dot >>= (λ _. pure (record { name = m.name; ops = m.ops; params = m.params; vars = g; entries = e; body = b }))))) (find_var n keywords.Var) (var_begins keywords.Var) m.vars (all_of m.vars) four rest goal
+    (find_items n Anything (var_marks keywords.Var) keywords.Var var (λ g. entries n >>= (λ e. body n >>= (λ b. sign signs.Dot >>= (λ _. pure (record { name = m.name; ops = m.ops; params = m.params; vars = g; entries = e; body = b }))))) (find_var n keywords.Var) (var_begins keywords.Var) m.vars
+    (all_of m.vars) four rest goal
     (behind_items entry_marks keywords.Entry keywords.Var m.entries inner rest (λ x ts. entry_var) begin_var)
     (find_items n IsEntry entry_marks keywords.Entry (entry n) (λ e. body n >>= (λ b. sign signs.Dot >>= (λ _. pure (record { name = m.name; ops = m.ops; params = m.params; vars = m.vars; entries = e; body = b })))) (find_entry n) entry_begins m.entries v.0 inner rest goal begin_entry
     (find_body n m.body v.1 (λ b. sign signs.Dot >>= (λ _. pure (record { name = m.name; ops = m.ops; params = m.params; vars = m.vars; entries = m.entries; body = b }))) last rest goal (find_sign n 0 signs.Dot (λ _. pure m) [] rest goal (omega arith) refl))))))))

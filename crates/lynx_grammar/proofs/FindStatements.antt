@@ -59,7 +59,8 @@ unfolding assign
 find_assign n room d sum m e v rest quiet =
     let goal : Outcome StmtTree = Ok (trees.Assign m e, rest) in
     find_name n d m (λ m'. index (inside room) >>= (λ i. sign signs.Becomes >>= (λ _. expr (inside room) >>= (λ x. pure (assign_of m' i x))))) (mark d signs.Becomes ∷ expr_marks d e) rest goal (omega arith)
-    (find_next n IsIndex (index_in d) NoRow (index (inside room)) (λ i. sign signs.Becomes >>= (λ _. expr (inside room) >>= (λ x. pure (assign_of m i x)))) (find_index n d (inside room) (find_inside n room d sum)) None tt (mark d signs.Becomes ∷ expr_marks d e) rest goal (becomes_no_row (kinds_in (expr_marks d e) ++ rest))
+    (find_next n IsIndex (index_in d) NoRow (index (inside room)) (λ i. sign signs.Becomes >>= (λ _. expr (inside room) >>= (λ x. pure (assign_of m i x)))) (find_index n d (inside room) (find_inside n room d sum)) None tt (mark d signs.Becomes ∷ expr_marks d e) rest goal
+    (becomes_no_row (kinds_in (expr_marks d e) ++ rest))
     (λ within'. find_sign n d signs.Becomes (λ _. expr (inside room) >>= (λ x. pure (assign_of m None x))) (expr_marks d e) rest goal (omega arith) (find_last n IsExpr (expr_marks d) NoOr (expr (inside room)) (λ x. pure (assign_of m None x)) (find_value n room d sum) e v rest quiet)))
 
 member_marks : (d : ℕ) (m : List ℕ) (i e : ExprTree) → grammar.name d m ∷ (index_marks d i ++ mark d signs.Becomes ∷ expr_marks d e) ≡ stmt_marks d (trees.AssignMember m i e)
@@ -71,7 +72,8 @@ find_member n room d sum m i e vi v rest quiet =
     let goal : Outcome StmtTree = Ok (trees.AssignMember m i e, rest) in
     subst (λ (ms : List Mark). assign room (kinds_in ms ++ rest) ≡ guard n ms rest goal) (member_marks d m i e)
     (find_name n d m (λ m'. index (inside room) >>= (λ j. sign signs.Becomes >>= (λ _. expr (inside room) >>= (λ x. pure (assign_of m' j x))))) (index_marks d i ++ mark d signs.Becomes ∷ expr_marks d e) rest goal (omega arith)
-    (find_next n IsIndex (index_in d) NoRow (index (inside room)) (λ j. sign signs.Becomes >>= (λ _. expr (inside room) >>= (λ x. pure (assign_of m j x)))) (find_index n d (inside room) (find_inside n room d sum)) (Some i) vi (mark d signs.Becomes ∷ expr_marks d e) rest goal (becomes_no_row (kinds_in (expr_marks d e) ++ rest))
+    (find_next n IsIndex (index_in d) NoRow (index (inside room)) (λ j. sign signs.Becomes >>= (λ _. expr (inside room) >>= (λ x. pure (assign_of m j x)))) (find_index n d (inside room) (find_inside n room d sum)) (Some i) vi (mark d signs.Becomes ∷ expr_marks d e) rest goal
+    (becomes_no_row (kinds_in (expr_marks d e) ++ rest))
     (λ within'. find_sign n d signs.Becomes (λ _. expr (inside room) >>= (λ x. pure (assign_of m (Some i) x))) (expr_marks d e) rest goal (omega arith) (find_last n IsExpr (expr_marks d) NoOr (expr (inside room)) (λ x. pure (assign_of m (Some i) x)) (find_value n room d sum) e v rest quiet))))
 
 find_pair : (n d : ℕ) (w : Keyword) → d ≤ n → Finds n Anything (pair_marks d w) Free (pair w)
@@ -91,7 +93,8 @@ find_connect : (n room d : ℕ) → room + d ≡ n → (a b : List ℕ) (xs : Li
 unfolding connect
 find_connect n room d sum a b xs rs v rest =
     let goal : Outcome StmtTree = Ok (trees.Connect a b (exprs_of xs) rs, rest) in
-    find_next n Anything (pair_marks d keywords.On) Free (pair keywords.On) (λ p. values room >>= (λ ys. sign signs.Colon >>= (λ _. names room >>= (λ qs. pure (trees.Connect p.0 p.1 (exprs_of ys) qs))))) (find_pair n d keywords.On (omega arith)) (a, b) tt (values_marks d xs ++ mark d signs.Colon ∷ names_marks d rs) rest goal tt
+    find_next n Anything (pair_marks d keywords.On) Free (pair keywords.On) (λ p. values room >>= (λ ys. sign signs.Colon >>= (λ _. names room >>= (λ qs. pure (trees.Connect p.0 p.1 (exprs_of ys) qs))))) (find_pair n d keywords.On (omega arith)) (a, b) tt
+    (values_marks d xs ++ mark d signs.Colon ∷ names_marks d rs) rest goal tt
     (λ w1. find_next n AreValues (values_marks d) Free (values room) (λ ys. sign signs.Colon >>= (λ _. names room >>= (λ qs. pure (trees.Connect a b (exprs_of ys) qs)))) (find_values n room d sum) xs v (mark d signs.Colon ∷ names_marks d rs) rest goal tt
     (λ w2. find_sign n d signs.Colon (λ _. names room >>= (λ qs. pure (trees.Connect a b (exprs_of xs) qs))) (names_marks d rs) rest goal (omega arith)
     (find_last n Anything (names_marks d) Free (names room) (λ qs. pure (trees.Connect a b (exprs_of xs) qs)) (find_names n room d sum) rs tt rest tt)))
@@ -126,7 +129,8 @@ find_choice n room d body sum h c b o vc vb vo rest calm =
     let goal : Outcome StmtTree = Ok (choice_of c b o, rest) in
     let fits : d ≤ n = omega arith in
     let last : List Mark = word d keywords.End ∷ [] in
-    find_next n IsExpr (expr_marks d) NoOr (expr (inside room)) (λ e. keyword keywords.Then >>= (λ _. body >>= (λ x. otherwise body >>= (λ y. keyword keywords.End >>= (λ _. pure (choice_of e x y)))))) (find_value n room d sum) c vc (word d keywords.Then ∷ (stmts_marks d b ++ (other_in d o ++ last))) rest goal (then_ends (kinds_in (stmts_marks d b ++ (other_in d o ++ last)) ++ rest))
+    find_next n IsExpr (expr_marks d) NoOr (expr (inside room)) (λ e. keyword keywords.Then >>= (λ _. body >>= (λ x. otherwise body >>= (λ y. keyword keywords.End >>= (λ _. pure (choice_of e x y)))))) (find_value n room d sum) c vc
+    (word d keywords.Then ∷ (stmts_marks d b ++ (other_in d o ++ last))) rest goal (then_ends (kinds_in (stmts_marks d b ++ (other_in d o ++ last)) ++ rest))
     (λ w1. find_keyword n d keywords.Then (λ _. body >>= (λ x. otherwise body >>= (λ y. keyword keywords.End >>= (λ _. pure (choice_of c x y))))) (stmts_marks d b ++ (other_in d o ++ last)) rest goal fits
     (find_next n AreStmts (stmts_marks d) Calm body (λ x. otherwise body >>= (λ y. keyword keywords.End >>= (λ _. pure (choice_of c x y)))) h b vb (other_in d o ++ last) rest goal (calm rest)
     (λ w2. find_next n IsOther (other_in d) NoElseCalm (otherwise body) (λ y. keyword keywords.End >>= (λ _. pure (choice_of c b y))) (find_otherwise n d body fits h) o vo last rest goal (end_no_else rest, end_calm rest)
@@ -139,18 +143,21 @@ find_repetition n room d body sum h c b vc vb rest =
     let goal : Outcome StmtTree = Ok (trees.While c b, rest) in
     let fits : d ≤ n = omega arith in
     let last : List Mark = word d keywords.End ∷ [] in
-    find_next n IsExpr (expr_marks d) NoOr (expr (inside room)) (λ e. keyword keywords.Do >>= (λ _. body >>= (λ x. keyword keywords.End >>= (λ _. pure (trees.While e x))))) (find_value n room d sum) c vc (word d keywords.Do ∷ (stmts_marks d b ++ last)) rest goal (do_ends (kinds_in (stmts_marks d b ++ last) ++ rest))
+    find_next n IsExpr (expr_marks d) NoOr (expr (inside room)) (λ e. keyword keywords.Do >>= (λ _. body >>= (λ x. keyword keywords.End >>= (λ _. pure (trees.While e x))))) (find_value n room d sum) c vc (word d keywords.Do ∷ (stmts_marks d b ++ last)) rest goal
+    (do_ends (kinds_in (stmts_marks d b ++ last) ++ rest))
     (λ w1. find_keyword n d keywords.Do (λ _. body >>= (λ x. keyword keywords.End >>= (λ _. pure (trees.While c x)))) (stmts_marks d b ++ last) rest goal fits
     (find_next n AreStmts (stmts_marks d) Calm body (λ x. keyword keywords.End >>= (λ _. pure (trees.While c x))) h b vb last rest goal (end_calm rest) (λ w2. find_keyword n d keywords.End (λ _. pure (trees.While c b)) [] rest goal fits refl)))
 
 find_accept : (n room d : ℕ) (body : Parser StmtTrees) → room + d ≡ n → BodyFinds n d body → (a l : List ℕ) (ns : List (List ℕ)) (b : StmtTrees) → AreStmts b → (rest : List Kind)
-    → accept room body (kinds_in (pair_marks d keywords.On (a, l) ++ (names_marks d ns ++ word d keywords.Do ∷ (stmts_marks d b ++ word d keywords.End ∷ []))) ++ rest) ≡ guard n (pair_marks d keywords.On (a, l) ++ (names_marks d ns ++ word d keywords.Do ∷ (stmts_marks d b ++ word d keywords.End ∷ []))) rest (Ok (trees.Accept a l ns b, rest))
+    → accept room body (kinds_in (pair_marks d keywords.On (a, l) ++ (names_marks d ns ++ word d keywords.Do ∷ (stmts_marks d b ++ word d keywords.End ∷ []))) ++ rest)
+    ≡ guard n (pair_marks d keywords.On (a, l) ++ (names_marks d ns ++ word d keywords.Do ∷ (stmts_marks d b ++ word d keywords.End ∷ []))) rest (Ok (trees.Accept a l ns b, rest))
 unfolding accept
 find_accept n room d body sum h a l ns b vb rest =
     let goal : Outcome StmtTree = Ok (trees.Accept a l ns b, rest) in
     let fits : d ≤ n = omega arith in
     let last : List Mark = word d keywords.End ∷ [] in
-    find_next n Anything (pair_marks d keywords.On) Free (pair keywords.On) (λ p. names room >>= (λ ms. keyword keywords.Do >>= (λ _. body >>= (λ x. keyword keywords.End >>= (λ _. pure (trees.Accept p.0 p.1 ms x)))))) (find_pair n d keywords.On fits) (a, l) tt (names_marks d ns ++ word d keywords.Do ∷ (stmts_marks d b ++ last)) rest goal tt
+    find_next n Anything (pair_marks d keywords.On) Free (pair keywords.On) (λ p. names room >>= (λ ms. keyword keywords.Do >>= (λ _. body >>= (λ x. keyword keywords.End >>= (λ _. pure (trees.Accept p.0 p.1 ms x)))))) (find_pair n d keywords.On fits) (a, l) tt
+    (names_marks d ns ++ word d keywords.Do ∷ (stmts_marks d b ++ last)) rest goal tt
     (λ w1. find_next n Anything (names_marks d) Free (names room) (λ ms. keyword keywords.Do >>= (λ _. body >>= (λ x. keyword keywords.End >>= (λ _. pure (trees.Accept a l ms x))))) (find_names n room d sum) ns tt (word d keywords.Do ∷ (stmts_marks d b ++ last)) rest goal tt
     (λ w2. find_keyword n d keywords.Do (λ _. body >>= (λ x. keyword keywords.End >>= (λ _. pure (trees.Accept a l ns x)))) (stmts_marks d b ++ last) rest goal fits
     (find_next n AreStmts (stmts_marks d) Calm body (λ x. keyword keywords.End >>= (λ _. pure (trees.Accept a l ns x))) h b vb last rest goal (end_calm rest) (λ w3. find_keyword n d keywords.End (λ _. pure (trees.Accept a l ns b)) [] rest goal fits refl))))
@@ -234,12 +241,15 @@ find_within n room d body sum h (trees.Destroy m) v rest quiet = find_token n (w
 find_within n room d body sum h (trees.Bind a b) v rest quiet =
     find_token n (word d keywords.Bind) (pair_marks d keywords.To (a, b)) rest (Ok (trees.Bind a b, rest)) _ (omega arith) (find_last n Anything (pair_marks d keywords.To) Free (pair keywords.To) (λ p. pure (trees.Bind p.0 p.1)) (find_pair n d keywords.To (omega arith)) (a, b) tt rest tt)
 find_within n room d body sum h (trees.Unbind a b) v rest quiet =
-    find_token n (word d keywords.Unbind) (pair_marks d keywords.From (a, b)) rest (Ok (trees.Unbind a b, rest)) _ (omega arith) (find_last n Anything (pair_marks d keywords.From) Free (pair keywords.From) (λ p. pure (trees.Unbind p.0 p.1)) (find_pair n d keywords.From (omega arith)) (a, b) tt rest tt)
+    find_token n (word d keywords.Unbind) (pair_marks d keywords.From (a, b)) rest (Ok (trees.Unbind a b, rest)) _ (omega arith)
+    (find_last n Anything (pair_marks d keywords.From) Free (pair keywords.From) (λ p. pure (trees.Unbind p.0 p.1)) (find_pair n d keywords.From (omega arith)) (a, b) tt rest tt)
 find_within n room d body sum h (trees.Connect a b vs rs) v rest quiet =
     find_token n (word d keywords.Connect) (pair_marks d keywords.On (a, b) ++ (exprs_marks d vs ++ mark d signs.Colon ∷ names_marks d rs)) rest (Ok (trees.Connect a b vs rs, rest)) _ (omega arith)
-    (subst (λ (es : ExprTrees). connect room (kinds_in (pair_marks d keywords.On (a, b) ++ (exprs_marks d es ++ mark d signs.Colon ∷ names_marks d rs)) ++ rest) ≡ guard n (pair_marks d keywords.On (a, b) ++ (exprs_marks d es ++ mark d signs.Colon ∷ names_marks d rs)) rest (Ok (trees.Connect a b es rs, rest))) (exprs_again vs)
+    (subst (λ (es : ExprTrees). connect room (kinds_in (pair_marks d keywords.On (a, b) ++ (exprs_marks d es ++ mark d signs.Colon ∷ names_marks d rs)) ++ rest)
+    ≡ guard n (pair_marks d keywords.On (a, b) ++ (exprs_marks d es ++ mark d signs.Colon ∷ names_marks d rs)) rest (Ok (trees.Connect a b es rs, rest))) (exprs_again vs)
     (find_connect n room d sum a b (exprs_in vs) rs (are_values vs v) rest))
-find_within n room d body sum h (trees.Accept a b ns body') v rest quiet = find_token n (word d keywords.Accept) (pair_marks d keywords.On (a, b) ++ (names_marks d ns ++ word d keywords.Do ∷ (stmts_marks d body' ++ word d keywords.End ∷ []))) rest (Ok (trees.Accept a b ns body', rest)) _ (omega arith) (find_accept n room d body sum h a b ns body' v rest)
+find_within n room d body sum h (trees.Accept a b ns body') v rest quiet =
+    find_token n (word d keywords.Accept) (pair_marks d keywords.On (a, b) ++ (names_marks d ns ++ word d keywords.Do ∷ (stmts_marks d body' ++ word d keywords.End ∷ []))) rest (Ok (trees.Accept a b ns body', rest)) _ (omega arith) (find_accept n room d body sum h a b ns body' v rest)
 find_within n room d body sum h (trees.Reply vs) v rest quiet =
     find_token n (word d keywords.Reply) (exprs_marks d vs) rest (Ok (trees.Reply vs, rest)) _ (omega arith)
     (subst (λ (es : ExprTrees). reply room (kinds_in (exprs_marks d es) ++ rest) ≡ guard n (exprs_marks d es) rest (Ok (trees.Reply es, rest))) (exprs_again vs) (find_reply n room d sum (exprs_in vs) (are_values vs v) rest))

@@ -1,10 +1,10 @@
 -- Threads that are counted and found.
 use Rattle.std.proofs.Common.{arith, ◌≡◌, ℕ, zero, suc, ◌+◌, ◌<◌, ◌≤◌, List, [], ◌∷◌, ◌++◌, length, replicate, take, ℤ, pos, negsuc, IsTrue, nat_abs, Bool, true, false, not, Option, Some, None, is_some, slice_get, refl, sym, ap, subst, ◌∙◌, ⊎_elim, true≢false, length-take-le}
 use Rattle.std.specs.Prelude.{slice_index_or}
-use Rattle.thread_turns.specs.Threads.{Standing}
+use Rattle.machine_turns.specs.Threads.{Standing}
 use Rattle.std.proofs.lemmas.Bool.Decides.{nat_tests}
-use Rattle.lynx_typing.specs.Types.{is_length}
-use Rattle.sound_turns.proofs.Placing.{decided}
+use Rattle.typing_rules.specs.Types.{is_length}
+use Rattle.machine_sound.proofs.Placing.{decided}
 use Rattle.lynx_interp.specs.Machines.{how_many}
 
 pub at_most : (ts : List (Option Standing)) → how_many ts ≤ length ts

@@ -6,19 +6,19 @@ use Rattle.std.specs.Prelude.{slice_index_or}
 use Rattle.std.proofs.lemmas.Option.{slice_get-map}
 use Rattle.lynx_tree.specs.declared.declaration.TypeName.{TypeName}
 use Rattle.lynx_tree.specs.declared.declaration.TypeName.TheVariants as types
-use Rattle.lynx_typing.specs.Types.{has_length, is_length}
+use Rattle.typing_rules.specs.Types.{has_length, is_length}
 use Rattle.lynx_code.specs.declared.code.Code.{Code}
 use Rattle.lynx_code.specs.declared.code.Part as kept
 use Rattle.lynx_meaning.specs.Values.{Value, HasType, Link, is_int, start_value}
-use Rattle.thread_turns.specs.Shapes.{AreShapes, code_types, kept_part}
-use Rattle.thread_turns.specs.Threads.{Outcome}
-use Rattle.thread_turns.specs.Turns.{IsFree, at_start, given_to, spawned}
-use Rattle.thread_values.specs.declared.value.LinkRef.{LinkRef}
-use Rattle.shaped_code.specs.Sound.{Typed}
-use Rattle.shaped_code.proofs.Pairs.{same_length}
-use Rattle.runnable_code.specs.Runnable.{HaveStarts, IsRunnable, Part, parameters, part_of}
-use Rattle.sound_turns.specs.Sound.{FitsAction}
-use Rattle.sound_turns.proofs.Outside.{given_sound, spawned_sound, start_sound}
+use Rattle.code_shapes.specs.Shapes.{AreShapes, code_types, kept_part}
+use Rattle.machine_turns.specs.Threads.{Outcome}
+use Rattle.machine_turns.specs.Turns.{IsFree, at_start, given_to, spawned}
+use Rattle.machine_values.specs.declared.value.LinkRef.{LinkRef}
+use Rattle.machine_never_stuck.specs.Sound.{Typed}
+use Rattle.machine_never_stuck.proofs.Pairs.{same_length}
+use Rattle.compiler_runnable.specs.Runnable.{HaveStarts, IsRunnable, Part, parameters, part_of}
+use Rattle.machine_sound.specs.Sound.{FitsAction}
+use Rattle.machine_sound.proofs.Outside.{given_sound, spawned_sound, start_sound}
 use Rattle.lynx_interp.specs.Machines.{HasEntry, IsEntryFor, IsMachine, State, place_of, start_globals, start_locals, state_of}
 
 -- ---- variables at the start

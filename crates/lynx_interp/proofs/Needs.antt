@@ -8,11 +8,11 @@ use Rattle.lynx_code.specs.declared.code.CodeOp.{CodeOp}
 use Rattle.lynx_code.specs.declared.code.Part as kept
 use Rattle.lynx_meaning.specs.Values.{HasType}
 use Rattle.lynx_meaning.specs.Values as meaning
-use Rattle.thread_turns.specs.Shapes.{OpTypes, code_types, kept_op}
-use Rattle.thread_values.specs.Told.{value_of, values_of}
-use Rattle.thread_values.specs.declared.value.Value.{Value}
-use Rattle.shaped_code.specs.Sound.{Typed, types_of}
-use Rattle.runnable_code.specs.Runnable.{arguments_of, part_of}
+use Rattle.code_shapes.specs.Shapes.{OpTypes, code_types, kept_op, types_of}
+use Rattle.machine_values.specs.Told.{value_of, values_of}
+use Rattle.machine_values.specs.declared.value.Value.{Value}
+use Rattle.machine_never_stuck.specs.Sound.{Typed}
+use Rattle.compiler_runnable.specs.Runnable.{arguments_of, part_of}
 use Rattle.lynx_interp.specs.Machines.{IsEntryFor, State, state_of}
 
 -- what is found at a place

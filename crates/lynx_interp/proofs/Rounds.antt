@@ -2,17 +2,17 @@
 use Rattle.std.proofs.Common.{◌≡◌, ℕ, suc, ◌+◌, Option, Some, None, option_map, map, slice_get, refl, sym, ap, subst, ◌∙◌}
 use Rattle.std.proofs.lemmas.Option.{slice_get_within}
 use Rattle.lynx_meaning.specs.Code.{Program}
-use Rattle.thread_turns.specs.Shapes.{program}
-use Rattle.thread_turns.specs.Threads.{Standing, Made, course}
-use Rattle.thread_turns.specs.Turns.{Act, Beat, Turns, Goes, Runs, Stops, beats, comes, stands, with_thread}
-use Rattle.lynx_thread.specs.Told.{action_of, told}
-use Rattle.lynx_thread.specs.declared.action.Action.{Action}
-use Rattle.lynx_thread.specs.declared.action.Move.{Move}
-use Rattle.sound_turns.specs.Sound.{AreSound, StayBlocked}
-use Rattle.sound_turns.specs.Taken.{takes_turn}
-use Rattle.sound_turns.proofs.Outside.{taken_sound}
-use Rattle.sound_turns.proofs.Placing.{get_set}
-use Rattle.sound_turns.proofs.Rounds as rounds
+use Rattle.code_shapes.specs.Shapes.{program}
+use Rattle.machine_turns.specs.Threads.{Standing, Made, course}
+use Rattle.machine_turns.specs.Turns.{Act, Beat, Turns, Goes, Runs, Stops, beats, comes, stands, with_thread}
+use Rattle.machine_thread.specs.Told.{action_of, told}
+use Rattle.machine_thread.specs.declared.action.Action.{Action}
+use Rattle.machine_thread.specs.declared.action.Move.{Move}
+use Rattle.machine_sound.specs.Sound.{AreSound, StayBlocked}
+use Rattle.machine_sound.specs.Taken.{takes_turn}
+use Rattle.machine_sound.proofs.Outside.{taken_sound}
+use Rattle.machine_sound.proofs.Placing.{get_set}
+use Rattle.machine_sound.proofs.Rounds as rounds
 use Rattle.lynx_interp.specs.Machines.{IsMachine, State, place_of}
 use Rattle.lynx_interp.specs.Runs.{CanGoOn, Comes, IsAsked, IsRound, IsTurn, MayGoOn, Settles, StopsAt, after_turn, stop_of}
 use Rattle.lynx_interp.specs.declared.stop.Stop.{Stop}

@@ -1,14 +1,14 @@
 -- What comes of a turn changes those that wait.
 use Rattle.std.proofs.Common.{◌≡◌, ℕ, List, Bool, true, false, Option, Some, None, slice_get, refl, sym, ap, ◌∙◌}
 use Rattle.lynx_meaning.specs.Values.{Value}
-use Rattle.thread_turns.specs.Threads.{Acts, Made, Standing}
-use Rattle.thread_turns.specs.Turns.{Act, Turns, Goes, Stops, acts, awaits, comes, with_thread}
-use Rattle.lynx_thread.specs.Told.{action_of, told}
-use Rattle.lynx_thread.specs.declared.action.Action.{Action}
-use Rattle.lynx_thread.specs.declared.action.Move.{Move}
-use Rattle.lynx_thread.specs.declared.action.Move.TheVariants as move
-use Rattle.sound_turns.proofs.Placing.{set_same}
-use Rattle.sound_turns.proofs.Rounds.{acts_threads}
+use Rattle.machine_turns.specs.Threads.{Acts, Made, Standing}
+use Rattle.machine_turns.specs.Turns.{Act, Turns, Goes, Stops, acts, awaits, comes, with_thread}
+use Rattle.machine_thread.specs.Told.{action_of, told}
+use Rattle.machine_thread.specs.declared.action.Action.{Action}
+use Rattle.machine_thread.specs.declared.action.Move.{Move}
+use Rattle.machine_thread.specs.declared.action.Move.TheVariants as move
+use Rattle.machine_sound.proofs.Placing.{set_same}
+use Rattle.machine_sound.proofs.Rounds.{acts_threads}
 use Rattle.lynx_interp.specs.Machines.{State}
 use Rattle.lynx_interp.specs.Runs.{Settles}
 

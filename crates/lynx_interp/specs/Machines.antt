@@ -4,13 +4,13 @@ use Rattle.lynx_code.specs.declared.code.Code.{Code}
 use Rattle.lynx_code.specs.declared.instruction.Instruction.{Instruction}
 use Rattle.lynx_meaning.specs.Values.{Value, Link, start_value}
 use Rattle.lynx_tree.specs.declared.declaration.TypeName.{TypeName}
-use Rattle.shaped_code.specs.Sound.{Typed}
-use Rattle.thread_turns.specs.Shapes.{ModuleTypes, code_types}
-use Rattle.thread_turns.specs.Threads.{Standing}
-use Rattle.thread_turns.specs.Turns.{Turns, IsFree, spawned}
-use Rattle.thread_values.specs.declared.value.LinkRef.{LinkRef}
-use Rattle.runnable_code.specs.Runnable.{AreParts, HaveStarts, Part, parameters, part_of}
-use Rattle.sound_turns.specs.Sound.{AreSound}
+use Rattle.machine_never_stuck.specs.Sound.{Typed}
+use Rattle.code_shapes.specs.Shapes.{ModuleTypes, code_types}
+use Rattle.machine_turns.specs.Threads.{Standing}
+use Rattle.machine_turns.specs.Turns.{Turns, IsFree, spawned}
+use Rattle.machine_values.specs.declared.value.LinkRef.{LinkRef}
+use Rattle.compiler_runnable.specs.Runnable.{AreParts, HaveStarts, Part, parameters, part_of}
+use Rattle.machine_sound.specs.Sound.{AreSound}
 
 -- ---- what a machine is
 
@@ -28,7 +28,14 @@ place_of p = (p.start, p.locals)
 
 -- the machine of this code, with these turns
 abbrev pub state_of : Code → Turns → State
-state_of code turns = record { code = code; instructions = code.instructions.items; types = code_types code; parts = map part_of code.parts.items; turns = turns }
+state_of code turns =
+    record {
+      code = code;
+      instructions = code.instructions.items;
+      types = code_types code;
+      parts = map part_of code.parts.items;
+      turns = turns;
+    }
 
 -- how many threads stand
 abbrev pub how_many : List (Option Standing) → ℕ
@@ -68,4 +75,5 @@ HasEntry entry values s = (p : Part) × (slice_get s.parts (entry + 1) ≡ Some 
 abbrev pub IsSpawned : ℕ → ℕ → List Value → State → State → Type 0
 IsSpawned n entry values before after =
     IsFree n before.turns
-    × ((p : Part) → slice_get before.parts (entry + 1) ≡ Some p → after ≡ record before { turns = spawned n p.start (start_locals p.locals values) before.turns })
+    × ((p : Part) → slice_get before.parts (entry + 1) ≡ Some p
+    → after ≡ record before { turns = spawned n p.start (start_locals p.locals values) before.turns })

@@ -1,17 +1,17 @@
 -- The steps of a run.
 use Rattle.std.specs.Prelude.{◌≡◌, ◌<◌, ℕ, true, Option, None, Some, IfSome, IfNone, is_some, slice_get, ⊤}
 use Rattle.lynx_meaning.specs.Code.{Program}
-use Rattle.thread_turns.specs.Shapes.{program}
-use Rattle.thread_turns.specs.Threads.{Standing, wanted_by}
-use Rattle.thread_turns.specs.Turns.{Beat, Goes, Stops, Act, Turns, beat, beats, comes, with_thread}
-use Rattle.thread_turns.specs.Turns as turns
-use Rattle.thread_operands.specs.Operands.{IsCourse, StaysReady}
-use Rattle.lynx_thread.specs.Told.{action_of, told}
-use Rattle.lynx_thread.specs.declared.action.Action.{Action}
-use Rattle.lynx_thread.specs.declared.action.Move.{Move}
-use Rattle.sound_turns.specs.Sound.{IsAsking, StayBlocked}
-use Rattle.sound_turns.specs.Taken.{next_number}
-use Rattle.sound_turns.specs.Weights.{weight}
+use Rattle.code_shapes.specs.Shapes.{program}
+use Rattle.machine_turns.specs.Threads.{Standing, wanted_by}
+use Rattle.machine_turns.specs.Turns.{Beat, Goes, Stops, Act, Turns, beat, beats, comes, with_thread}
+use Rattle.machine_turns.specs.Turns as turns
+use Rattle.machine_steps.specs.Operands.{IsCourse, StaysReady}
+use Rattle.machine_thread.specs.Told.{action_of, told}
+use Rattle.machine_thread.specs.declared.action.Action.{Action}
+use Rattle.machine_thread.specs.declared.action.Move.{Move}
+use Rattle.machine_sound.specs.Sound.{IsAsking, StayBlocked}
+use Rattle.machine_sound.specs.Taken.{next_number}
+use Rattle.machine_sound.specs.Weights.{weight}
 use Rattle.lynx_interp.specs.Machines.{IsMachine, State}
 use Rattle.lynx_interp.specs.declared.stop.Stop.{Stop}
 use Rattle.lynx_interp.specs.declared.stop.Stop.TheVariants as stop
@@ -41,7 +41,8 @@ IsAsked _ t = ⊤
 -- this thread can go on
 abbrev pub CanGoOn : ℕ → State → Type 0
 CanGoOn n state =
-    (s : Standing) × (slice_get state.turns.threads n ≡ Some (Some s)) × StaysReady (program state.types state.instructions) state.turns.globals s
+    (s : Standing) × (slice_get state.turns.threads n ≡ Some (Some s))
+    × StaysReady (program state.types state.instructions) state.turns.globals s
 
 -- it went on with so much fuel, and so much is left
 abbrev pub IsTurn : ℕ → ℕ → State → State → Move → ℕ → Type 0
@@ -61,7 +62,8 @@ after_turn fuel n (Some a) t = Stops (Act n (action_of a)) fuel t
 abbrev pub Settles : ℕ → Move → Option Action → State → State → Type 0
 Settles n made action before after =
     (after ≡ record before { turns = after.turns })
-    × ((fuel : ℕ) (s : Standing) → slice_get before.turns.threads n ≡ Some (Some s) → after_turn fuel n action after.turns ≡ comes fuel n before.turns (told made before.turns.globals s))
+    × ((fuel : ℕ) (s : Standing) → slice_get before.turns.threads n ≡ Some (Some s)
+    → after_turn fuel n action after.turns ≡ comes fuel n before.turns (told made before.turns.globals s))
 
 -- ---- rounds
 

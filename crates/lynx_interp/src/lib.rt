@@ -7,7 +7,7 @@ mod starts;
 mod stop;
 mod turns;
 
-pub use lynx_thread::{Action, Given};
 pub use machine::Machine;
+pub use machine_thread::{Action, Given};
+pub use machine_values::{LinkRef, Value};
 pub use stop::Stop;
-pub use thread_values::{LinkRef, Value};

@@ -1,19 +1,19 @@
 //! A machine.
 
 ghost use Rattle.std.specs.Prelude.{◌≡◌, ◌≤◌, [], ◌∷◌, length, replicate, false, None, Some, IfOk};
-ghost use Rattle.thread_turns.specs.Threads.{begun};
-ghost use Rattle.thread_turns.specs.Turns.{at_start};
+ghost use Rattle.machine_turns.specs.Threads.{begun};
+ghost use Rattle.machine_turns.specs.Turns.{at_start};
 ghost use Rattle.lynx_interp.specs.Machines.{IsMachine, how_many, start_globals, state_of};
-ghost use Rattle.runnable_code.specs.Runnable.{HaveStarts, IsRunnable};
+ghost use Rattle.compiler_runnable.specs.Runnable.{HaveStarts, IsRunnable};
 
 use crate::starts::{push_links, push_starts};
 use lynx_code::Code;
 use lynx_lexer::NoMemory;
-use lynx_thread::Thread;
+use machine_stack::Variables;
+use machine_thread::Thread;
+use machine_values::LinkRef;
 use std::alloc::Global;
 use std::marker::Model;
-use thread_stack::Variables;
-use thread_values::LinkRef;
 
 /// The most threads that stand at a time.
 pub(crate) const MOST_THREADS: usize = 32;

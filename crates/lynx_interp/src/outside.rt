@@ -1,19 +1,19 @@
 //! What the process does to the threads of its machine.
 
 ghost use Rattle.std.specs.Prelude.{◌≡◌, ◌+◌, ◌↔◌, [], ◌∷◌, ◌++◌, true, IfOk, OnOk, OnErr, IsNone, IfSome, IfNone, MatchOption, Some, None, slice_get};
-ghost use Rattle.thread_turns.specs.Threads.{Standing, begun};
-ghost use Rattle.thread_turns.specs.Turns.{IsFree, given_to, is_ready_after, spawned, with_thread};
-ghost use Rattle.thread_values.specs.Told.{values_of};
-ghost use Rattle.sound_turns.specs.Sound.{FitsAction};
-ghost use Rattle.lynx_thread.specs.Told.{outcome_of};
-ghost use Rattle.runnable_code.specs.Runnable.{Part};
+ghost use Rattle.machine_turns.specs.Threads.{Standing, begun};
+ghost use Rattle.machine_turns.specs.Turns.{IsFree, given_to, is_ready_after, spawned, with_thread};
+ghost use Rattle.machine_values.specs.Told.{values_of};
+ghost use Rattle.machine_sound.specs.Sound.{FitsAction};
+ghost use Rattle.machine_thread.specs.Told.{outcome_of};
+ghost use Rattle.compiler_runnable.specs.Runnable.{Part};
 ghost use Rattle.lynx_interp.specs.Machines.{HasEntry, IsEntryFor, IsMachine, IsSpawned, StandBelow, how_many, start_locals};
 
 use crate::machine::Machine;
 use crate::starts::entry_variables;
 use lynx_lexer::NoMemory;
-use lynx_thread::{Given, Thread};
-use thread_values::Value;
+use machine_thread::{Given, Thread};
+use machine_values::Value;
 
 impl Machine {
     /// Gives a thread the outcome of its action. One that connected or accepted goes to the end of those that are ready, and any other

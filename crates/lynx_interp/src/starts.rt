@@ -4,17 +4,17 @@ ghost use Rattle.std.specs.Prelude.{◌≡◌, ◌≤◌, [], ◌++◌, length, 
 ghost use Rattle.lynx_meaning.specs.Values.{Link};
 ghost use Rattle.lynx_meaning.specs.Values as meaning;
 ghost use Rattle.lynx_tree.specs.declared.declaration.TypeName.TheVariants as types;
-ghost use Rattle.thread_values.specs.Told.{value_of, values_of};
-ghost use Rattle.lynx_typing.specs.Types.{has_length};
-ghost use Rattle.runnable_code.specs.Runnable.{HaveStarts};
+ghost use Rattle.machine_values.specs.Told.{value_of, values_of};
+ghost use Rattle.typing_rules.specs.Types.{has_length};
+ghost use Rattle.compiler_runnable.specs.Runnable.{HaveStarts};
 ghost use Rattle.lynx_interp.specs.Machines.{start_locals};
 
 use lynx_lexer::NoMemory;
 use lynx_tree::TypeName;
-use lynx_typing::{Row16, ShortText};
+use machine_stack::Variables;
+use machine_values::{LinkRef, Value};
 use std::alloc::Global;
-use thread_stack::Variables;
-use thread_values::{LinkRef, Value};
+use typing_rules::{Row16, ShortText};
 
 /// Variables that hold these links.
 pub(crate) fn push_links(

@@ -1,6 +1,6 @@
 //! How a run stops.
 
-use lynx_thread::Action;
+use machine_thread::Action;
 
 /// How a run stops.
 #[derive(Debug, Drop)]

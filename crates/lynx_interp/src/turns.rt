@@ -1,12 +1,12 @@
 //! A run: threads go on by turns.
 
 ghost use Rattle.std.specs.Prelude.{◌≡◌, ◌<◌, ℕ, true, None, Some, IfOk, OnOk, MatchOption, is_some, length, option_map, slice_get};
-ghost use Rattle.thread_turns.specs.Shapes.{program};
-ghost use Rattle.thread_turns.specs.Threads.{Standing};
-ghost use Rattle.thread_turns.specs.Turns.{Runs, acts, awaits, stands, wakes, with_thread};
-ghost use Rattle.lynx_thread.specs.Told.{action_of};
-ghost use Rattle.sound_turns.specs.Sound.{StayBlocked};
-ghost use Rattle.sound_turns.specs.Taken.{next_number, takes_turn};
+ghost use Rattle.code_shapes.specs.Shapes.{program};
+ghost use Rattle.machine_turns.specs.Threads.{Standing};
+ghost use Rattle.machine_turns.specs.Turns.{Runs, acts, awaits, stands, wakes, with_thread};
+ghost use Rattle.machine_thread.specs.Told.{action_of};
+ghost use Rattle.machine_sound.specs.Sound.{StayBlocked};
+ghost use Rattle.machine_sound.specs.Taken.{next_number, takes_turn};
 ghost use Rattle.lynx_interp.specs.Machines.{IsMachine};
 ghost use Rattle.lynx_interp.specs.Runs.{CanGoOn, IsAsked, IsRound, IsTurn, MayGoOn, Settles, StopsAt, stop_of};
 ghost use Rattle.lynx_interp.specs.declared.stop.Stop.TheVariants as stop;
@@ -14,7 +14,7 @@ ghost use Rattle.lynx_interp.specs.declared.stop.Stop.TheVariants as stop;
 use crate::machine::Machine;
 use crate::stop::Stop;
 use lynx_lexer::NoMemory;
-use lynx_thread::{Action, Move, Wanted};
+use machine_thread::{Action, Move, Wanted};
 
 impl Machine {
     /// Lets threads go on with so much fuel, until one asks for an action or none can go on. An instruction takes one unit. Tells how it

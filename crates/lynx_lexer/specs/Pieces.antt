@@ -1,5 +1,6 @@
 -- The pieces that a source is cut into: separators and tokens.
-use Rattle.std.specs.Prelude.{◌≡◌, ◌≢◌, ℕ, ◌+◌, ◌*◌, ◌-◌, ◌≤◌, ◌⊎◌, Bool, true, false, not, ◌&&◌, ◌==◌, nat_le, nat_lt, if◌then◌else◌, IsTrue, List, [], ◌∷◌, ◌++◌, length, Option, Some, None, pos, int_lt}
+use Rattle.std.specs.Prelude.{◌≡◌, ◌≢◌, ℕ, ◌+◌, ◌*◌, ◌-◌, ◌≤◌, ◌⊎◌, Bool, true, false, not, ◌&&◌, ◌==◌, nat_le, nat_lt}
+use Rattle.std.specs.Prelude.{if◌then◌else◌, IsTrue, List, [], ◌∷◌, ◌++◌, length, Option, Some, None, pos, int_lt}
 use Rattle.std.specs.List.{list_all, fold}
 use Rattle.lynx_lexer.specs.Bytes.{class_of}
 use Rattle.lynx_lexer.specs.Words.{word_of, sign_of}
@@ -69,7 +70,8 @@ IsPiece (Some kind) text = IsToken kind text
 
 -- no piece at the front of the text and what follows it is longer than the text
 abbrev pub IsLongest : List ℕ → List ℕ → Type 0
-IsLongest text rest = (piece : Option Kind) (other more : List ℕ) → text ++ rest ≡ other ++ more → IsPiece piece other → length other ≤ length text
+IsLongest text rest =
+    (piece : Option Kind) (other more : List ℕ) → text ++ rest ≡ other ++ more → IsPiece piece other → length other ≤ length text
 
 -- the fault where a token passes a limit
 abbrev pub limit_passed : Kind → Option FaultKind

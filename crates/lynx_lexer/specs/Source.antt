@@ -58,7 +58,9 @@ IsOpenText bytes = (inside rest : List ℕ) × IsTrue (list_all is_text_byte ins
 
 -- the longest token at the front passes this limit
 abbrev pub PassesLimit : FaultKind → List ℕ → Type 0
-PassesLimit fault bytes = (kind : Kind) × (text rest : List ℕ) × (bytes ≡ text ++ rest) × IsToken kind text × IsLongest text rest × (limit_passed kind ≡ Some fault)
+PassesLimit fault bytes =
+    (kind : Kind) × (text rest : List ℕ) × (bytes ≡ text ++ rest) × IsToken kind text × IsLongest text rest
+    × (limit_passed kind ≡ Some fault)
 
 -- the fault stands at the front
 abbrev pub HasFault : FaultKind → List ℕ → Type 0
@@ -78,4 +80,6 @@ number_of NameTooLong = 5
 
 -- the first fault of the source: what stands before its place are longest pieces within the limits
 abbrev pub IsFirstFault : ℕ → FaultKind → List ℕ → Type 0
-IsFirstFault place fault source = (pieces : List Piece) × (rest : List ℕ) × IsCut source pieces rest × AreWithinLimits (tokens_of 0 pieces) × (place ≡ length (text_of pieces)) × HasFault fault rest
+IsFirstFault place fault source =
+    (pieces : List Piece) × (rest : List ℕ) × IsCut source pieces rest × AreWithinLimits (tokens_of 0 pieces)
+    × (place ≡ length (text_of pieces)) × HasFault fault rest

@@ -6,9 +6,9 @@ use Rattle.lynx_tree.specs.declared.expression.TermSign.TheVariants as terms
 use Rattle.lynx_tree.specs.declared.declaration.TypeName.TheVariants as types
 use Rattle.lynx_tree.specs.Trees as trees
 use Rattle.lynx_tree.specs.Trees.{ExprTree, StmtTree, HandlerTrees, EntryTree, ModuleTree}
-use Rattle.lynx_typing.specs.Exceptions.{exception_of}
-use Rattle.lynx_typing.specs.declared.exception.Exception.{Exception}
-use Rattle.lynx_typing.specs.declared.exception.Exception.TheVariants as exceptions
+use Rattle.typing_rules.specs.Exceptions.{exception_of}
+use Rattle.typing_rules.specs.declared.exception.Exception.{Exception}
+use Rattle.typing_rules.specs.declared.exception.Exception.TheVariants as exceptions
 use Rattle.lynx_code.proofs.Rows.{exprs, stmts, op, var, entry, module_of, number, plus, minus, over}
 use Rattle.lynx_meaning.specs.Agree.{Start, source, target}
 use Rattle.lynx_meaning.specs.Code.{Comes}

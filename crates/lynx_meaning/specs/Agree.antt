@@ -4,7 +4,7 @@ use Rattle.lynx_tree.specs.Grammar.{HasTokens}
 use Rattle.lynx_tree.specs.Trees.{ModuleTree, OpTree, EntryTree}
 use Rattle.lynx_tree.specs.declared.declaration.TypeName.{TypeName}
 use Rattle.lynx_tree.specs.declared.declaration.TypeName.TheVariants as types
-use Rattle.lynx_typing.specs.Modules.{IsWellTyped}
+use Rattle.typing_rules.specs.Modules.{IsWellTyped}
 use Rattle.lynx_code.specs.Modules.{ArePairs, PartCode, parts_of, variables}
 use Rattle.lynx_meaning.specs.Code.{CodeOutcome, Comes, Stuck, code_meaning, program_of}
 use Rattle.lynx_meaning.specs.Courses.{Action, Answer, Outcome, New, Connect, Accept, Stop, Ended, Waits, Out}
@@ -61,7 +61,8 @@ source part given n = source_meaning part n (start_store part given.globals give
 
 -- the code from this address on, with at most n instructions
 abbrev pub target : ModuleTree → PartTree → ℕ → Start → ℕ → CodeOutcome
-target m part start given n = code_meaning (program_of m) part.is_entry start n (start_store part given.globals given.arguments) given.answers
+target m part start given n =
+    code_meaning (program_of m) part.is_entry start n (start_store part given.globals given.arguments) given.answers
 
 -- the variables of the module and the parameters have their types, and the answers fit
 pub record IsFitting (m : ModuleTree) (part : PartTree) (given : Start) : Type 0 where
@@ -88,20 +89,25 @@ IsCodeOut Stuck = ⊥
 -- a part of a module, and its code that starts at this address
 pub record Agrees (m : ModuleTree) (part : PartTree) (start : ℕ) : Type 0 where
   -- where the source ends or waits, so does the code, after the same actions and with the same variables
-  pub code_follows : (given : Start) → IsFitting m part given → (n : ℕ) (outcome : Outcome) → IsOver outcome → source part given n ≡ outcome → (k : ℕ) × (target m part start given k ≡ Comes outcome)
+  pub code_follows : (given : Start) → IsFitting m part given → (n : ℕ) (outcome : Outcome) → IsOver outcome → source part given n ≡ outcome
+      → (k : ℕ) × (target m part start given k ≡ Comes outcome)
   -- where the code ends or waits within so many instructions, so does the source with loops of at most so many turns
-  pub source_follows : (given : Start) → IsFitting m part given → (n : ℕ) (outcome : Outcome) → IsOver outcome → target m part start given n ≡ Comes outcome → source part given n ≡ outcome
+  pub source_follows : (given : Start) → IsFitting m part given → (n : ℕ) (outcome : Outcome) → IsOver outcome
+      → target m part start given n ≡ Comes outcome → source part given n ≡ outcome
   -- where the source goes on for ever, so does the code
-  pub goes_on : (given : Start) → IsFitting m part given → ((n : ℕ) → IsOut (source part given n)) → (k : ℕ) → IsCodeOut (target m part start given k)
+  pub goes_on : (given : Start) → IsFitting m part given → ((n : ℕ) → IsOut (source part given n)) → (k : ℕ)
+      → IsCodeOut (target m part start given k)
   -- and it does all that the source does
-  pub does_all : (given : Start) → IsFitting m part given → (n : ℕ) (actions : List Action) → source part given n ≡ Out actions → (k : ℕ) × (n ≤ k) × (target m part start given k ≡ Comes (Out actions))
+  pub does_all : (given : Start) → IsFitting m part given → (n : ℕ) (actions : List Action) → source part given n ≡ Out actions
+      → (k : ℕ) × (n ≤ k) × (target m part start given k ≡ Comes (Out actions))
   -- no instruction finds a missing operand, or one of a wrong kind
   pub never_stuck : (given : Start) → IsFitting m part given → (k : ℕ) → target m part start given k ≢ Stuck
 
 -- the body of a module and each of its entries
 pub record PartsAgree (m : ModuleTree) : Type 0 where
   pub body : Agrees m (main_tree m) 0
-  pub entries : (i : ℕ) (e : EntryTree) (p : PartCode) → slice_get m.entries i ≡ Some e → slice_get (parts_of m) (suc i) ≡ Some p → Agrees m (entry_part_tree m e) p.start
+  pub entries : (i : ℕ) (e : EntryTree) (p : PartCode) → slice_get m.entries i ≡ Some e → slice_get (parts_of m) (suc i) ≡ Some p
+      → Agrees m (entry_part_tree m e) p.start
 
 -- the theorem of the compiler: source and code agree in every module of the grammar that obeys the typing rules
 abbrev pub SourceAndCodeAgree : Type 0

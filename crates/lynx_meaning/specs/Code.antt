@@ -1,5 +1,6 @@
 -- What a thread does, by its code: at most m instructions.
-use Rattle.std.specs.Prelude.{ℕ, ℤ, zero, suc, ◌+◌, ◌-◌, List, [], ◌∷◌, ◌++◌, length, map, reverse, take, drop, Bool, true, false, not, nat_lt, nat_le, int_le, int_lt, if◌then◌else◌, Option, None, Some, Result, Ok, Err, slice_get, slice_set}
+use Rattle.std.specs.Prelude.{ℕ, ℤ, zero, suc, ◌+◌, ◌-◌, List, [], ◌∷◌, ◌++◌, length, map, reverse, take, drop, Bool, true, false, not}
+use Rattle.std.specs.Prelude.{nat_lt, nat_le, int_le, int_lt, if◌then◌else◌, Option, None, Some, Result, Ok, Err, slice_get, slice_set}
 use Rattle.std.specs.Str.{bytes_eq}
 use Rattle.lynx_tree.specs.Trees.{ModuleTree}
 use Rattle.lynx_code.specs.Modules.{module_code}
@@ -7,10 +8,12 @@ use Rattle.lynx_code.specs.declared.instruction.Instruction.{Instruction}
 use Rattle.lynx_code.specs.declared.instruction.Instruction.TheVariants as code
 use Rattle.lynx_code.specs.declared.instruction.Literal.{Literal}
 use Rattle.lynx_code.specs.declared.instruction.Literal.TheVariants as literal
-use Rattle.lynx_typing.specs.Exceptions.{exception_text}
-use Rattle.lynx_typing.specs.declared.exception.Exception.{Exception}
-use Rattle.lynx_meaning.specs.Courses.{Action, Answer, Moment, Outcome, Store, New, Destroy, Bind, Unbind, Connect, Accept, Close, Reply, Write, Await, Stop, Ended, Waits, Out, after}
-use Rattle.lynx_meaning.specs.Values.{Value, Int, Truth, Text, Row, Link, Given, add, subtract, multiply, divide, reduce, negate, truth_eq, value_eq, member, with_member, written}
+use Rattle.typing_rules.specs.Exceptions.{exception_text}
+use Rattle.typing_rules.specs.declared.exception.Exception.{Exception}
+use Rattle.lynx_meaning.specs.Courses.{Action, Answer, Moment, Outcome, Store, New, Destroy, Bind, Unbind, Connect}
+use Rattle.lynx_meaning.specs.Courses.{Accept, Close, Reply, Write, Await, Stop, Ended, Waits, Out, after}
+use Rattle.lynx_meaning.specs.Values.{Value, Int, Truth, Text, Row, Link, Given, add, subtract, multiply}
+use Rattle.lynx_meaning.specs.Values.{divide, reduce, negate, truth_eq, value_eq, member, with_member, written}
 
 -- ---- threads
 
@@ -91,7 +94,14 @@ abbrev pub raises_in : Bool → Exception → Thread → List Opened → Next
 raises_in is_entry exception t [] = closes t.accepts exception t.moment (λ other now. ends is_entry now)
 raises_in is_entry exception t (o ∷ os) =
     closes (t.accepts - o.accepts) exception t.moment
-    (λ other now. Goes (record { address = o.handlers; stack = cut o.height t.stack; tries = os; accepts = o.accepts; pending = Some other; moment = now }))
+    (λ other now. Goes (record {
+      address = o.handlers;
+      stack = cut o.height t.stack;
+      tries = os;
+      accepts = o.accepts;
+      pending = Some other;
+      moment = now;
+    }))
 
 abbrev pub raises : Bool → Exception → Thread → Next
 raises is_entry exception t = raises_in is_entry exception t t.tries
@@ -117,7 +127,8 @@ answered is_entry (Err exception) change t = raises is_entry exception t
 
 -- an action, for which operands were taken from the stack
 abbrev pub asks : Bool → Action → List Value → Thread → (Thread → Thread) → Next
-asks is_entry action stack t change = acts t.moment action (λ given now. answered is_entry given change (record t { moment = now; stack = stack }))
+asks is_entry action stack t change =
+    acts t.moment action (λ given now. answered is_entry given change (record t { moment = now; stack = stack }))
 
 -- ---- variables
 
@@ -140,7 +151,8 @@ loads (Some v) t = goes (v ∷ t.stack) t
 
 abbrev pub stores : Kind → ℕ → List Value → Thread → Next
 stores kind slot [] t = stuck
-stores kind slot (v ∷ stack) t = if nat_lt slot (length (variables kind t)) then goes stack (with_variables kind (slice_set (variables kind t) slot v) t) else stuck
+stores kind slot (v ∷ stack) t =
+    if nat_lt slot (length (variables kind t)) then goes stack (with_variables kind (slice_set (variables kind t) slot v) t) else stuck
 
 -- a member of a row
 abbrev pub loads_member : Bool → Option Value → List Value → Thread → Next
@@ -214,7 +226,8 @@ untries (o ∷ os) t = goes t.stack (record t { tries = os })
 -- a handler of this exception; where another one is pending, the next handler begins at this address
 abbrev pub handles : Exception → ℕ → Option Exception → Thread → Next
 handles exception address None t = stuck
-handles exception address (Some pending) t = if bytes_eq (exception_text pending) (exception_text exception) then goes t.stack t else jumps address t.stack t
+handles exception address (Some pending) t =
+    if bytes_eq (exception_text pending) (exception_text exception) then goes t.stack t else jumps address t.stack t
 
 abbrev pub again : Bool → Option Exception → Thread → Next
 again is_entry None t = stuck
@@ -262,8 +275,11 @@ step p e t (code.AndJ address) = decides false address t
 step p e t (code.OrJ address) = decides true address t
 step p e t (code.JumpF address) = by_truth (λ b stack. if b then goes stack t else jumps address stack t) t.stack
 step p e t (code.Jump address) = jumps address t.stack t
-step p e t (code.Await address) = by_truth (λ b stack. if b then goes stack t else acts t.moment Await (λ given now. tries_again e address given (record t { moment = now; stack = stack }))) t.stack
-step p e t (code.Try address) = goes t.stack (record t { tries = record { handlers = address; height = length t.stack; accepts = t.accepts } ∷ t.tries })
+step p e t (code.Await address) =
+    by_truth (λ b stack. if b then goes stack t
+    else acts t.moment Await (λ given now. tries_again e address given (record t { moment = now; stack = stack }))) t.stack
+step p e t (code.Try address) =
+    goes t.stack (record t { tries = record { handlers = address; height = length t.stack; accepts = t.accepts } ∷ t.tries })
 step p e t code.Untry = untries t.tries t
 step p e t (code.Case exception address) = handles exception address t.pending t
 step p e t code.Again = again e t.pending t
@@ -274,7 +290,8 @@ step p e t code.Destroy = by_link (λ link stack. asks e (Destroy link) stack t 
 step p e t (code.Bind entry) = by_link (λ link stack. asks e (Bind link entry) stack t (λ now. now)) t.stack
 step p e t (code.Unbind entry) = by_link (λ link stack. asks e (Unbind link entry) stack t (λ now. now)) t.stack
 step p e t (code.Connect op) = connects e op (slice_get p.arguments op) t
-step p e t (code.Accept op) = by_link (λ link stack. asks e (Accept link op) stack t (λ now. record now { accepts = now.accepts + 1 })) t.stack
+step p e t (code.Accept op) =
+    by_link (λ link stack. asks e (Accept link op) stack t (λ now. record now { accepts = now.accepts + 1 })) t.stack
 step p e t code.Close = closes_accept e t.accepts t
 step p e t (code.Reply k) = by_values k (λ vs stack. asks e (Reply vs) stack t (λ now. now)) t.stack
 step p e t code.Stop = Over (Comes (Waits (t.moment.actions ++ Stop ∷ []) t.moment.store))
@@ -302,7 +319,14 @@ exec p is_entry (suc m) t = go_on (next_of p is_entry t) (λ now. exec p is_entr
 -- a thread before the first instruction of its part
 abbrev pub begins : ℕ → Store → List Answer → Thread
 begins start store answers =
-    record { address = start; stack = []; tries = []; accepts = 0; pending = None; moment = record { store = store; answers = answers; actions = [] } }
+    record {
+      address = start;
+      stack = [];
+      tries = [];
+      accepts = 0;
+      pending = None;
+      moment = record { store = store; answers = answers; actions = [] };
+    }
 
 -- The meaning of a part that starts at this address, an entry or the module's body, with at most m instructions.
 abbrev pub code_meaning : Program → Bool → ℕ → ℕ → Store → List Answer → CodeOutcome

@@ -1,6 +1,6 @@
 -- How far a thread comes with the answers that it is given.
 use Rattle.std.specs.Prelude.{ℕ, List, [], ◌∷◌, ◌++◌, Result, Ok, Err}
-use Rattle.lynx_typing.specs.declared.exception.Exception.{Exception}
+use Rattle.typing_rules.specs.declared.exception.Exception.{Exception}
 use Rattle.lynx_meaning.specs.Values.{Value}
 
 -- what a thread asks of its process; links are named by their values, operations and entries by their numbers

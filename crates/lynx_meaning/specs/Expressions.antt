@@ -1,5 +1,6 @@
 -- What expressions give.
-use Rattle.std.specs.Prelude.{ℕ, ℤ, List, [], ◌∷◌, Bool, true, false, not, int_le, int_lt, if◌then◌else◌, Result, Ok, Err, slice_index_or, slice_set}
+use Rattle.std.specs.Prelude.{ℕ, ℤ, List, [], ◌∷◌, Bool, true, false, not, int_le, int_lt}
+use Rattle.std.specs.Prelude.{if◌then◌else◌, Result, Ok, Err, slice_index_or, slice_set}
 use Rattle.lynx_code.specs.Generation.{Names, Slot, Global, Local}
 use Rattle.lynx_lexer.specs.declared.sign.Sign.{Sign}
 use Rattle.lynx_lexer.specs.declared.sign.Sign.TheVariants as signs
@@ -7,9 +8,10 @@ use Rattle.lynx_tree.specs.Trees.{ExprTree, ExprTrees, SumTail, TermTail}
 use Rattle.lynx_tree.specs.Trees as trees
 use Rattle.lynx_tree.specs.declared.expression.TermSign.{TermSign}
 use Rattle.lynx_tree.specs.declared.expression.TermSign.TheVariants as terms
-use Rattle.lynx_typing.specs.declared.exception.Exception.{Exception}
+use Rattle.typing_rules.specs.declared.exception.Exception.{Exception}
 use Rattle.lynx_meaning.specs.Courses.{Store}
-use Rattle.lynx_meaning.specs.Values.{Value, Int, Truth, Text, Link, Given, int_of, truth_of, row_of, add, subtract, multiply, divide, reduce, negate, truth_eq, value_eq, member}
+use Rattle.lynx_meaning.specs.Values.{Value, Int, Truth, Text, Link, Given, int_of, truth_of, row_of, add}
+use Rattle.lynx_meaning.specs.Values.{subtract, multiply, divide, reduce, negate, truth_eq, value_eq, member}
 
 -- ---- variables
 
@@ -81,16 +83,19 @@ abbrev mutual
   -- the first member of a chain that decides it, and no member behind it is evaluated; else the last one
   pub until : Names → Store → Bool → ExprTrees → Given
   until names s decides trees.no_exprs = Ok (Truth (not decides))
-  until names s decides (trees.more_exprs e es) = with_one (value_of names s e) (λ x. if truth_eq decides (truth_of x) then Ok (Truth decides) else until names s decides es)
+  until names s decides (trees.more_exprs e es) =
+      with_one (value_of names s e) (λ x. if truth_eq decides (truth_of x) then Ok (Truth decides) else until names s decides es)
 
   -- a chain of `+` and `-` applies from left to right
   pub sum_of : Names → Store → Given → SumTail → Given
   sum_of names s so_far trees.no_sums = so_far
-  sum_of names s so_far (trees.more_sums sign e rest) = sum_of names s (with_both so_far (value_of names s e) (λ x y. summed sign (int_of x) (int_of y))) rest
+  sum_of names s so_far (trees.more_sums sign e rest) =
+      sum_of names s (with_both so_far (value_of names s e) (λ x y. summed sign (int_of x) (int_of y))) rest
 
   pub term_of : Names → Store → Given → TermTail → Given
   term_of names s so_far trees.no_terms = so_far
-  term_of names s so_far (trees.more_terms sign e rest) = term_of names s (with_both so_far (value_of names s e) (λ x y. multiplied sign (int_of x) (int_of y))) rest
+  term_of names s so_far (trees.more_terms sign e rest) =
+      term_of names s (with_both so_far (value_of names s e) (λ x y. multiplied sign (int_of x) (int_of y))) rest
 
 -- a value, and those behind it
 abbrev pub before : Given → Result (List Value) Exception → Result (List Value) Exception

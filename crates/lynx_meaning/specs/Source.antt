@@ -6,10 +6,11 @@ use Rattle.lynx_code.specs.Modules.{names_of, local_names}
 use Rattle.lynx_tree.specs.Trees.{ExprTree, StmtTree, StmtTrees, HandlerTrees, EntryTree, ModuleTree}
 use Rattle.lynx_tree.specs.Trees as trees
 use Rattle.lynx_tree.specs.declared.declaration.TypeName.{TypeName}
-use Rattle.lynx_typing.specs.Exceptions.{exception_of, exception_text}
-use Rattle.lynx_typing.specs.Names.{arguments_of, known, module_scope}
-use Rattle.lynx_typing.specs.declared.exception.Exception.{Exception}
-use Rattle.lynx_meaning.specs.Courses.{Answer, Course, Moment, Outcome, Store, New, Destroy, Bind, Unbind, Connect, Accept, Close, Reply, Write, Await, Stop, Goes, Raises, Over, Ended, Waits, Out, acts, and_then, does, with_value}
+use Rattle.typing_rules.specs.Exceptions.{exception_of, exception_text}
+use Rattle.typing_rules.specs.Names.{arguments_of, known, module_scope}
+use Rattle.typing_rules.specs.declared.exception.Exception.{Exception}
+use Rattle.lynx_meaning.specs.Courses.{Answer, Course, Moment, Outcome, Store, New, Destroy, Bind, Unbind, Connect, Accept, Close, Reply}
+use Rattle.lynx_meaning.specs.Courses.{Write, Await, Stop, Goes, Raises, Over, Ended, Waits, Out, acts, and_then, does, with_value}
 use Rattle.lynx_meaning.specs.Expressions.{assigned, looked_up, value_of, values_of}
 use Rattle.lynx_meaning.specs.Values.{Value, Row, Given, int_of, row_of, truth_of, with_member, start_value, written}
 
@@ -29,7 +30,8 @@ assigns_all names xs vs m = assigns_from_last names (reverse xs) (reverse vs) m
 -- a member of a row gets a value
 abbrev pub assigns_member : Names → List ℕ → Value → Value → Moment → Course
 assigns_member names name index v m =
-    with_value (with_member (row_of (looked_up names m.store name)) (int_of index) (int_of v)) m (λ row. Goes (assigns names name (Row row) m))
+    with_value (with_member (row_of (looked_up names m.store name)) (int_of index) (int_of v)) m
+    (λ row. Goes (assigns names name (Row row) m))
 
 -- ---- loops
 
@@ -41,7 +43,8 @@ loops (suc n) condition body m = with_value (condition m) m (λ v. if truth_of v
 -- An await goes on where its condition is true. Else that is an action, and with its answer it tries again.
 abbrev pub awaits : (Moment → Given) → List Answer → Moment → Course
 awaits condition [] m = with_value (condition m) m (λ v. if truth_of v then Goes m else does m Await)
-awaits condition (a ∷ rest) m = with_value (condition m) m (λ v. if truth_of v then Goes m else and_then (does m Await) (awaits condition rest))
+awaits condition (a ∷ rest) m =
+    with_value (condition m) m (λ v. if truth_of v then Goes m else and_then (does m Await) (awaits condition rest))
 
 -- ---- requests
 
@@ -67,7 +70,8 @@ abbrev mutual
   runs names n (trees.If condition then_part) m =
       with_value (value_of names m.store condition) m (λ v. if truth_of v then runs_all names n then_part m else Goes m)
   runs names n (trees.IfElse condition then_part else_part) m =
-      with_value (value_of names m.store condition) m (λ v. if truth_of v then runs_all names n then_part m else runs_all names n else_part m)
+      with_value (value_of names m.store condition) m
+      (λ v. if truth_of v then runs_all names n then_part m else runs_all names n else_part m)
   runs names n (trees.While condition body) m = loops n (λ now. value_of names now.store condition) (runs_all names n body) m
   runs names n (trees.Write value) m = with_value (value_of names m.store value) m (λ v. does m (Write (written v)))
   runs names n (trees.Await condition) m = awaits (λ now. value_of names now.store condition) m.answers m
@@ -81,7 +85,8 @@ abbrev mutual
       with_value (values_of names m.store values) m
       (λ vs. acts m (Connect (looked_up names m.store link) (names.op op) vs) (λ given now. Goes (assigns_all names results given now)))
   runs names n (trees.Accept op link arguments body) m =
-      acts m (Accept (looked_up names m.store link) (names.op op)) (λ given now. closes (runs_all names n body (assigns_all names arguments given now)))
+      acts m (Accept (looked_up names m.store link) (names.op op))
+      (λ given now. closes (runs_all names n body (assigns_all names arguments given now)))
   runs names n (trees.Reply values) m = with_value (values_of names m.store values) m (λ vs. does m (Reply vs))
   runs names n (trees.Try body handlers) m = catches (runs_all names n body m) (λ exception now. handles names n exception handlers now)
 
@@ -111,7 +116,13 @@ main_tree m = record { is_entry = false; names = names_of m []; parameters = [];
 
 abbrev pub entry_part_tree : ModuleTree → EntryTree → PartTree
 entry_part_tree m e =
-    record { is_entry = true; names = names_of m (local_names e); parameters = known (arguments_of (module_scope m e.op)); vars = map (λ v. v.kind) e.vars; body = e.body }
+    record {
+      is_entry = true;
+      names = names_of m (local_names e);
+      parameters = known (arguments_of (module_scope m e.op));
+      vars = map (λ v. v.kind) e.vars;
+      body = e.body;
+    }
 
 -- the variables of a thread at its start: an entry's parameters have the values of its request
 abbrev pub start_store : PartTree → List Value → List Value → Store
@@ -130,4 +141,5 @@ outcome_of (Over outcome) = outcome
 
 -- The meaning of a part with loops of at most n turns: what its thread does from these variables, with these answers.
 abbrev pub source_meaning : PartTree → ℕ → Store → List Answer → Outcome
-source_meaning part n store answers = outcome_of (whole_course part.is_entry (runs_all part.names n part.body (record { store = store; answers = answers; actions = [] })))
+source_meaning part n store answers =
+    outcome_of (whole_course part.is_entry (runs_all part.names n part.body (record { store = store; answers = answers; actions = [] })))

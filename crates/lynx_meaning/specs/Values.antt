@@ -1,13 +1,15 @@
 -- Values, and what operators make of them.
-use Rattle.std.specs.Prelude.{◌≡◌, ℕ, ◌^◌, ◌≤◌, ℤ, pos, negsuc, ◌+ℤ◌, ◌-ℤ◌, ◌*ℤ◌, neg_ℤ, nat_abs, int_le, int_lt, int_div, int_rem, List, [], length, replicate, Bool, true, false, ◌&&◌, not, nat_lt, IsTrue, if◌then◌else◌, Result, Ok, Err, slice_index_or, slice_set, codes, ⊤}
+use Rattle.std.specs.Prelude.{◌≡◌, ℕ, ◌^◌, ◌≤◌, ℤ, pos, negsuc, ◌+ℤ◌, ◌-ℤ◌, ◌*ℤ◌, neg_ℤ, nat_abs, int_le, int_lt}
+use Rattle.std.specs.Prelude.{int_div, int_rem, List, [], length, replicate, Bool, true, false, ◌&&◌, not, nat_lt}
+use Rattle.std.specs.Prelude.{IsTrue, if◌then◌else◌, Result, Ok, Err, slice_index_or, slice_set, codes, ⊤}
 use Rattle.std.specs.Fmt.{signed_decimal}
 use Rattle.std.specs.List.{AllByRecursion}
 use Rattle.std.specs.Ordering.{int_eq}
 use Rattle.std.specs.Str.{bytes_eq}
 use Rattle.lynx_tree.specs.declared.declaration.TypeName.{TypeName}
 use Rattle.lynx_tree.specs.declared.declaration.TypeName.TheVariants as types
-use Rattle.lynx_typing.specs.declared.exception.Exception.{Exception}
-use Rattle.lynx_typing.specs.declared.exception.Exception.TheVariants as exceptions
+use Rattle.typing_rules.specs.declared.exception.Exception.{Exception}
+use Rattle.typing_rules.specs.declared.exception.Exception.TheVariants as exceptions
 
 -- a value of a variable; a link is a number, and 0 is none
 pub data Value : Type 0 where

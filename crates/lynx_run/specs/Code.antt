@@ -4,7 +4,7 @@ use Rattle.lynx_code.specs.Listing.{module_listing}
 use Rattle.lynx_command.specs.Found.{Found}
 use Rattle.lynx_command.specs.Text.{lines_of}
 use Rattle.lynx_command.specs.declared.ending.End.TheVariants.{Done}
-use Rattle.lynx_compile.specs.Compiled.{IsCompiledAs}
+use Rattle.compiler_source.specs.Compiled.{IsCompiledAs}
 use Rattle.lynx_syntax.specs.Trees.{ModuleTree}
 use Rattle.lynx_run.specs.Failing.{FailsAs}
 

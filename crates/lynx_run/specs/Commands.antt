@@ -7,8 +7,8 @@ use Rattle.lynx_run.specs.Audit.{Audits}
 use Rattle.lynx_run.specs.Check.{Checks}
 use Rattle.lynx_run.specs.Code.{Codes}
 use Rattle.lynx_run.specs.Drive.{Drives}
-use Rattle.lynx_words.specs.declared.words.Command.{Command}
-use Rattle.lynx_words.specs.declared.words.Command.TheVariants.{Drive, Check, Code, Run, Bench, Audit, Snapshot}
+use Rattle.command_words.specs.declared.words.Command.{Command}
+use Rattle.command_words.specs.declared.words.Command.TheVariants.{Drive, Check, Code, Run, Bench, Audit, Snapshot}
 
 -- the first word of a command
 abbrev pub command_name : Command → List ℕ

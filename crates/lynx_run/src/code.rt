@@ -7,9 +7,9 @@ ghost use Rattle.lynx_run.specs.Code.{Codes};
 ghost use Rattle.lynx_syntax.specs.Trees.{ModuleTree};
 
 use charlotte_calls::NoMemory;
+use compiler_source::compile_source;
 use lynx_code::{Code, listing};
 use lynx_command::{End, Failure, FileCommand, HeldText, MOST_BYTES, Output, perform_file};
-use lynx_compile::compile_source;
 use lynx_outside::{Files, Sink, Status};
 use std::alloc::Global;
 

@@ -5,15 +5,15 @@ ghost use Rattle.lynx_command.specs.Ending.{Tells};
 ghost use Rattle.lynx_outside.specs.Logged.{Put};
 ghost use Rattle.lynx_outside.specs.Sink.{WerePut};
 ghost use Rattle.lynx_run.specs.Commands.{command_name, Answers};
-ghost use Rattle.lynx_words.specs.Words.{command_of};
+ghost use Rattle.command_words.specs.Words.{command_of};
 
 use crate::audit::audit_file;
 use crate::check::check_file;
 use crate::code::code_file;
 use crate::drive::drive_file;
+use command_words::{Command, command_of};
 use lynx_command::{Failure, tell};
 use lynx_outside::{Files, Sink, Status};
-use lynx_words::{Command, command_of};
 use std::alloc::Global;
 
 /// Does what the words after the program's name ask for, and gives the status with which the program ends. Words that

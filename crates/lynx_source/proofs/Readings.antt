@@ -18,9 +18,9 @@ use Rattle.lynx_grammar.proofs.Laws.{one_tree_only}
 use Rattle.lynx_grammar.proofs.Exact.{same_place, same_depth, no_tree, no_tree_deep}
 use Rattle.lynx_parser.proofs.Lengths.{tokens_fit}
 use Rattle.lynx_printer.proofs.Spelled.{spelled}
-use Rattle.lynx_typing.specs.Modules.{IsWellTyped, IsFirstFault as IsFirstTypeFault, first_fault, module_faults}
-use Rattle.lynx_typing.specs.Rules.{Fault}
-use Rattle.lynx_typing.proofs.Firsts.{least_is_first}
+use Rattle.typing_rules.specs.Modules.{IsWellTyped, IsFirstFault as IsFirstTypeFault, first_fault, module_faults}
+use Rattle.typing_rules.specs.Rules.{Fault}
+use Rattle.typing_rules.proofs.Firsts.{least_is_first}
 use Rattle.lynx_source.specs.Places.{place_of}
 use Rattle.lynx_source.specs.Sources.{AreTokensOf, token_place, IsLexedAs, IsParsedAs, IsTypedAs, IsReadAs, Checks, IsCheckedAs}
 use Rattle.lynx_source.specs.Stages.{Then, HasOne}

@@ -8,8 +8,8 @@ use Rattle.lynx_tree.specs.Faults.{LeavesGrammar, IsTooDeep, IsNowhereTooDeep}
 use Rattle.lynx_tree.specs.Trees.{ModuleTree, module_tree}
 use Rattle.lynx_tree.specs.declared.module.Module.{Module}
 use Rattle.lynx_types.specs.declared.checked.Checked.{Checked}
-use Rattle.lynx_typing.specs.Modules.{IsWellTyped, IsFirstFault as IsFirstTypeFault}
-use Rattle.lynx_typing.specs.Rules.{Fault}
+use Rattle.typing_rules.specs.Modules.{IsWellTyped, IsFirstFault as IsFirstTypeFault}
+use Rattle.typing_rules.specs.Rules.{Fault}
 use Rattle.lynx_source.specs.Places.{place_of}
 use Rattle.lynx_source.specs.declared.place.Place.{Place}
 use Rattle.lynx_source.specs.Stages.{Then}
@@ -39,7 +39,8 @@ IsLexedAs source outcome =
 abbrev pub IsParsedAs : List ℕ → List Token → Result ModuleTree SourceFault → Type 0
 IsParsedAs source tokens outcome =
     ((m : ModuleTree) × IsTreeOf (kinds tokens) m × (outcome ≡ Ok m))
-    ⊎ ((token : ℕ) × LeavesGrammar token (kinds tokens) × IsNowhereTooDeep (kinds tokens) × (outcome ≡ Err (Syntax (token_place source tokens token))))
+    ⊎ ((token : ℕ) × LeavesGrammar token (kinds tokens) × IsNowhereTooDeep (kinds tokens)
+    × (outcome ≡ Err (Syntax (token_place source tokens token))))
     ⊎ ((token : ℕ) × IsTooDeep token (kinds tokens) × (outcome ≡ Err (Deep (token_place source tokens token))))
 
 -- the third stage: the same tree where it breaks no typing rule, or the first token at which a rule fails, with the least rule there

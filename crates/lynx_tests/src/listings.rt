@@ -1,7 +1,7 @@
 //! Modules through `compile_source`, `compile` and `listing`: each instruction, each form of statement, what code keeps of types, and code at its limit.
 
 use crate::limits::holds;
-use lynx_compile::compile_source;
+use compiler_source::compile_source;
 use lynx_source::{SourceFault, check_source};
 use lynx_threads::{Code, compile, listing};
 use lynx_tree::TypeName;

@@ -4,7 +4,7 @@ use Rattle.std.proofs.lemmas.Option.{none-some, same_Some}
 use Rattle.compiler_law.proofs.Whole.{law}
 use Rattle.lynx_tree.specs.Grammar.{HasTokens}
 use Rattle.lynx_tree.specs.Trees.{ModuleTree, OpTree}
-use Rattle.lynx_typing.specs.Modules.{IsWellTyped}
+use Rattle.typing_rules.specs.Modules.{IsWellTyped}
 use Rattle.lynx_code.specs.Modules.{ArePairs, IsCodeOf, IsOpOf, IsPartOf, PartCode, main_part, parts_of}
 use Rattle.lynx_code.specs.declared.code.Code.{Code}
 use Rattle.lynx_code.specs.declared.code.CodeOp.{CodeOp}

@@ -5,8 +5,8 @@ use Rattle.std.specs.List.{slice_get}
 use Rattle.std.proofs.Math.Seq.{set-append_seam, get_or-append_seam}
 use Rattle.std.proofs.lemmas.Option.{slice_get-get_or}
 use Rattle.lynx_tree.specs.Trees.{HandlerTrees, no_handlers, more_handlers}
-use Rattle.lynx_typing.specs.Exceptions.{exception_of}
-use Rattle.lynx_typing.specs.declared.exception.Exception.{Exception}
+use Rattle.typing_rules.specs.Exceptions.{exception_of}
+use Rattle.typing_rules.specs.declared.exception.Exception.{Exception}
 use Rattle.lynx_code.specs.Generation.{Names, stmts_code, handlers_code, exception_named}
 use Rattle.lynx_code.specs.declared.instruction.Instruction.{Instruction}
 use Rattle.lynx_code.specs.declared.instruction.Instruction.TheVariants as code

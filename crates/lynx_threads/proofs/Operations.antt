@@ -7,7 +7,7 @@ use Rattle.std.proofs.lemmas.Option.{slice_get-map}
 use Rattle.lynx_tree.specs.Trees.{OpTree, VarTree, EntryTree, ModuleTree, op_tree}
 use Rattle.lynx_tree.specs.declared.declaration.OpDecl.{OpDecl}
 use Rattle.lynx_tree.specs.declared.declaration.TypeName.{TypeName}
-use Rattle.lynx_typing.specs.Names.{Meaning, Variable, Operation, Entry, Declared, meaning_in, arguments_of, known, each_at, op_size, op_named, var_size, var_named, entry_size, entry_named, ops_at, params_at, vars_at, entries_at, module_scope}
+use Rattle.typing_rules.specs.Names.{Meaning, Variable, Operation, Entry, Declared, meaning_in, arguments_of, known, each_at, op_size, op_named, var_size, var_named, entry_size, entry_named, ops_at, params_at, vars_at, entries_at, module_scope}
 use Rattle.lynx_code.specs.Modules.{place_in, op_names}
 
 -- the types that a name has as an operation

@@ -4,7 +4,7 @@ use Rattle.std.proofs.lemmas.List.{drop_more, reverse-append, map-append, length
 use Rattle.lynx_tree.specs.declared.statement.Stmt as stmt
 use Rattle.lynx_tree.specs.declared.statement.Handler.{Handler}
 use Rattle.lynx_tree.specs.Trees.{StmtTrees, stmt_tree, stmt_list, handler_list}
-use Rattle.lynx_typing.specs.Exceptions.{exception_of}
+use Rattle.typing_rules.specs.Exceptions.{exception_of}
 use Rattle.lynx_code.specs.Generation.{Names, stmt_code, stmts_code, handlers_code, exception_named, store, stores}
 use Rattle.lynx_code.specs.declared.instruction.Instruction.{Instruction}
 use Rattle.lynx_code.specs.declared.instruction.Instruction.TheVariants as code

@@ -7,8 +7,8 @@ use Rattle.lynx_tree.specs.declared.statement.Handler.{Handler}
 use Rattle.lynx_tree.specs.declared.statement.Stmt as stmt
 use Rattle.lynx_tree.specs.Trees.{ExprTree, ExprTrees, StmtTrees, HandlerTrees, expr_tree, stmt_tree, stmt_list, handler_list, else_list}
 use Rattle.lynx_tree.proofs.Views.{while_tree, accept_tree, try_tree, if_tree, if_else_tree}
-use Rattle.lynx_typing.specs.Exceptions.{exception_of}
-use Rattle.lynx_typing.specs.declared.exception.Exception.{Exception}
+use Rattle.typing_rules.specs.Exceptions.{exception_of}
+use Rattle.typing_rules.specs.declared.exception.Exception.{Exception}
 use Rattle.lynx_tree.specs.Trees as trees
 use Rattle.lynx_code.specs.Generation.{Names, load, expr_code, exprs_code, stmt_code, stmts_code, handlers_code, exception_named, stores}
 use Rattle.lynx_code.specs.declared.instruction.Instruction.{Instruction}

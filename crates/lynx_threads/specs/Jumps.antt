@@ -1,8 +1,9 @@
 -- Jumps over statements.
 use Rattle.std.specs.Prelude.{ℕ, ◌+◌, List, [], ◌∷◌, ◌++◌, length, Bool, true, false, Option, None, Some}
-use Rattle.lynx_tree.specs.Trees.{ExprTree, StmtTree, StmtTrees, HandlerTrees, If, IfElse, While, New, Destroy, Bind, Unbind, Connect, Accept, Reply, Try, no_handlers, more_handlers}
+use Rattle.lynx_tree.specs.Trees.{ExprTree, StmtTree, StmtTrees, HandlerTrees, If, IfElse, While, New, Destroy}
+use Rattle.lynx_tree.specs.Trees.{Bind, Unbind, Connect, Accept, Reply, Try, no_handlers, more_handlers}
 use Rattle.lynx_code.specs.Generation.{Names, stmts_code, handlers_code, exception_named}
-use Rattle.lynx_typing.specs.Exceptions.{exception_of}
+use Rattle.typing_rules.specs.Exceptions.{exception_of}
 use Rattle.lynx_code.specs.declared.instruction.Instruction.{Instruction}
 use Rattle.lynx_code.specs.declared.instruction.Instruction.TheVariants as code
 use Rattle.lynx_threads.specs.declared.emit_statement.Jump.{Jump}
@@ -22,7 +23,8 @@ over_code names jump more at ss =
 
 -- a handler, and its jump behind the `try`
 abbrev pub handler_code : Names → ℕ → ℕ → List ℕ → StmtTrees → List Instruction
-handler_code names behind at name body = over_code names (code.Case (exception_named (exception_of name))) 1 at body ++ code.Jump behind ∷ []
+handler_code names behind at name body =
+    over_code names (code.Case (exception_named (exception_of name))) 1 at body ++ code.Jump behind ∷ []
 
 abbrev pub handlers_count : HandlerTrees → ℕ
 handlers_count no_handlers = 0

@@ -8,10 +8,10 @@ ghost use Rattle.lynx_threads.specs.declared.fault.CompileFault.TheVariants as f
 ghost use Rattle.lynx_code.specs.declared.instruction.Instruction.{Instruction};
 ghost use Rattle.lynx_code.specs.Generation.{Names};
 ghost use Rattle.lynx_tree.specs.Trees.{HandlerTrees};
-ghost use Rattle.lynx_typing.specs.declared.exception.Exception.{Exception};
+ghost use Rattle.typing_rules.specs.declared.exception.Exception.{Exception};
 ghost use Rattle.lynx_threads.specs.Jumps.{jump_to, over_code, handler_code, handlers_count, guarded_code, caught_code, choice_tree, has_statements, acts_on_links};
 ghost use Rattle.lynx_threads.specs.Tables.{names_in};
-ghost use Rattle.lynx_typing.specs.Exceptions.{exception_of};
+ghost use Rattle.typing_rules.specs.Exceptions.{exception_of};
 
 use crate::emit::{behind, push, set};
 use crate::emit_expression::{emit_expr, emit_exprs, emit_then};
@@ -20,7 +20,7 @@ use crate::scope::Scope;
 use lynx_code::Instruction;
 use lynx_lexer::IdentRef;
 use lynx_tree::{Expr, Handler, Stmt};
-use lynx_typing::Exception;
+use typing_rules::Exception;
 
 /// A jump over statements.
 #[derive(Clone, Copy)]

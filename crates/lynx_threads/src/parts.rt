@@ -2,7 +2,7 @@
 
 ghost use Rattle.std.specs.Prelude.{◌≡◌, ◌<◌, ◌≤◌, ◌+◌, ◌++◌, [], List, length, map, codes, unwrap_or, Err, IfOk, OnOk};
 ghost use Rattle.lynx_tree.specs.Trees.{ModuleTree, stmt_list, entry_tree, module_tree, var_tree};
-ghost use Rattle.lynx_typing.specs.Names.{arguments_of, known, module_scope};
+ghost use Rattle.typing_rules.specs.Names.{arguments_of, known, module_scope};
 ghost use Rattle.lynx_code.specs.Modules.{PartCode, body_code, main_part, entry_part, entry_parts, parts_of, module_code, instructions_of, local_names, ArePairs, IsPartOf};
 ghost use Rattle.lynx_threads.specs.declared.fault.CompileFault.TheVariants as faults;
 ghost use Rattle.lynx_threads.specs.Tables.{IsTableOf, AreTablesOf, found, names_in};

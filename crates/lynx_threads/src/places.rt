@@ -8,8 +8,8 @@ ghost use Rattle.lynx_threads.specs.Tables.{found, first_of, IsTableOf};
 use indexmap::IndexMap;
 use lynx_lexer::{IdentRef, NoMemory};
 use lynx_tree::{EntryDecl, OpDecl, VarDecl};
-use lynx_typing::Key;
 use std::alloc::Global;
+use typing_rules::Key;
 
 /// The places of names in a list, from 0. A name that stands there twice has its first place.
 #[derive(Drop)]

@@ -30,7 +30,8 @@ GivesFault fault (Err (faults.At at)) = faults.At at ≡ fault
 GivesFault fault (Err (faults.TooDeep at)) = faults.TooDeep at ≡ fault
 GivesFault fault (Err faults.NoMemory) = ⊤
 
--- a fault at a token: the list leaves the grammar there, and no token before opens too much; one of nesting: the token is the first that does
+-- a fault at a token: the list leaves the grammar there, and no token before opens too much; one of nesting:
+-- the token is the first that does
 abbrev pub IsFaultOf : List Kind → SyntaxFault → Type 0
 IsFaultOf tokens (faults.At at) = LeavesGrammar at tokens × IsNowhereTooDeep tokens
 IsFaultOf tokens (faults.TooDeep at) = IsTooDeep at tokens

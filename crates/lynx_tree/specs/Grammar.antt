@@ -11,7 +11,8 @@ use Rattle.lynx_tree.specs.declared.expression.TermSign.{TermSign}
 use Rattle.lynx_tree.specs.declared.expression.TermSign.TheVariants as term_signs
 use Rattle.lynx_tree.specs.declared.declaration.TypeName.{TypeName}
 use Rattle.lynx_tree.specs.declared.declaration.TypeName.TheVariants as types
-use Rattle.lynx_tree.specs.Trees.{ExprTree, ExprTrees, SumTail, TermTail, StmtTree, StmtTrees, HandlerTrees, OpTree, VarTree, EntryTree, ModuleTree}
+use Rattle.lynx_tree.specs.Trees.{ExprTree, ExprTrees, SumTail, TermTail, StmtTree, StmtTrees}
+use Rattle.lynx_tree.specs.Trees.{HandlerTrees, OpTree, VarTree, EntryTree, ModuleTree}
 use Rattle.lynx_tree.specs.Trees as trees
 
 -- a token's kind, and how many brackets and statements are open at it
@@ -61,7 +62,8 @@ abbrev mutual
   expr_marks d trees.True = word d keywords.True ∷ []
   expr_marks d trees.False = word d keywords.False ∷ []
   expr_marks d (trees.Name n) = name d n ∷ []
-  expr_marks d (trees.Member n index) = name d n ∷ mark (suc d) signs.OpenRow ∷ (expr_marks (suc d) index ++ mark (suc d) signs.CloseRow ∷ [])
+  expr_marks d (trees.Member n index) =
+      name d n ∷ mark (suc d) signs.OpenRow ∷ (expr_marks (suc d) index ++ mark (suc d) signs.CloseRow ∷ [])
   expr_marks d (trees.Bracket inner) = mark (suc d) signs.Open ∷ (expr_marks (suc d) inner ++ mark (suc d) signs.Close ∷ [])
 
   -- expressions with a token between
@@ -170,10 +172,16 @@ abbrev mutual
 abbrev mutual
   pub stmt_marks : ℕ → StmtTree → List Mark
   stmt_marks d (trees.Assign n value) = name d n ∷ mark d signs.Becomes ∷ expr_marks d value
-  stmt_marks d (trees.AssignMember n index value) = name d n ∷ mark (suc d) signs.OpenRow ∷ (expr_marks (suc d) index ++ mark (suc d) signs.CloseRow ∷ mark d signs.Becomes ∷ expr_marks d value)
-  stmt_marks d (trees.If condition then) = word d keywords.If ∷ (expr_marks d condition ++ word d keywords.Then ∷ (stmts_marks d then ++ word d keywords.End ∷ []))
-  stmt_marks d (trees.IfElse condition then otherwise) = word d keywords.If ∷ (expr_marks d condition ++ word d keywords.Then ∷ (stmts_marks d then ++ word d keywords.Else ∷ (stmts_marks d otherwise ++ word d keywords.End ∷ [])))
-  stmt_marks d (trees.While condition body) = word d keywords.While ∷ (expr_marks d condition ++ word d keywords.Do ∷ (stmts_marks d body ++ word d keywords.End ∷ []))
+  stmt_marks d (trees.AssignMember n index value) =
+      name d n ∷ mark (suc d) signs.OpenRow
+      ∷ (expr_marks (suc d) index ++ mark (suc d) signs.CloseRow ∷ mark d signs.Becomes ∷ expr_marks d value)
+  stmt_marks d (trees.If condition then) =
+      word d keywords.If ∷ (expr_marks d condition ++ word d keywords.Then ∷ (stmts_marks d then ++ word d keywords.End ∷ []))
+  stmt_marks d (trees.IfElse condition then otherwise) =
+      word d keywords.If ∷ (expr_marks d condition
+      ++ word d keywords.Then ∷ (stmts_marks d then ++ word d keywords.Else ∷ (stmts_marks d otherwise ++ word d keywords.End ∷ [])))
+  stmt_marks d (trees.While condition body) =
+      word d keywords.While ∷ (expr_marks d condition ++ word d keywords.Do ∷ (stmts_marks d body ++ word d keywords.End ∷ []))
   stmt_marks d (trees.Write value) = word d keywords.Write ∷ expr_marks d value
   stmt_marks d (trees.Await condition) = word d keywords.Await ∷ expr_marks d condition
   stmt_marks d trees.Stop = word d keywords.Stop ∷ []
@@ -182,10 +190,15 @@ abbrev mutual
   stmt_marks d (trees.Destroy n) = word d keywords.Destroy ∷ name d n ∷ []
   stmt_marks d (trees.Bind link entry) = word d keywords.Bind ∷ name d link ∷ word d keywords.To ∷ name d entry ∷ []
   stmt_marks d (trees.Unbind link entry) = word d keywords.Unbind ∷ name d link ∷ word d keywords.From ∷ name d entry ∷ []
-  stmt_marks d (trees.Connect op link values results) = word d keywords.Connect ∷ name d op ∷ word d keywords.On ∷ name d link ∷ (exprs_marks d values ++ mark d signs.Colon ∷ names_marks d results)
-  stmt_marks d (trees.Accept op link names body) = word d keywords.Accept ∷ name d op ∷ word d keywords.On ∷ name d link ∷ (names_marks d names ++ word d keywords.Do ∷ (stmts_marks d body ++ word d keywords.End ∷ []))
+  stmt_marks d (trees.Connect op link values results) =
+      word d keywords.Connect ∷ name d op ∷ word d keywords.On ∷ name d link
+      ∷ (exprs_marks d values ++ mark d signs.Colon ∷ names_marks d results)
+  stmt_marks d (trees.Accept op link names body) =
+      word d keywords.Accept ∷ name d op ∷ word d keywords.On ∷ name d link
+      ∷ (names_marks d names ++ word d keywords.Do ∷ (stmts_marks d body ++ word d keywords.End ∷ []))
   stmt_marks d (trees.Reply values) = word d keywords.Reply ∷ exprs_marks d values
-  stmt_marks d (trees.Try body handlers) = word d keywords.Try ∷ (stmts_marks d body ++ (handlers_marks d handlers ++ word d keywords.End ∷ []))
+  stmt_marks d (trees.Try body handlers) =
+      word d keywords.Try ∷ (stmts_marks d body ++ (handlers_marks d handlers ++ word d keywords.End ∷ []))
 
   -- statements inside d brackets and statements, each with its semicolon
   pub stmts_marks : ℕ → StmtTrees → List Mark
@@ -194,7 +207,8 @@ abbrev mutual
 
   pub handlers_marks : ℕ → HandlerTrees → List Mark
   handlers_marks d trees.no_handlers = []
-  handlers_marks d (trees.more_handlers n body rest) = word d keywords.When ∷ name d n ∷ word d keywords.Do ∷ (stmts_marks d body ++ handlers_marks d rest)
+  handlers_marks d (trees.more_handlers n body rest) =
+      word d keywords.When ∷ name d n ∷ word d keywords.Do ∷ (stmts_marks d body ++ handlers_marks d rest)
 
 abbrev mutual
   pub IsStmt : StmtTree → Type 0
@@ -236,7 +250,8 @@ else_marks d (Some otherwise) = word d keywords.Else ∷ (stmts_marks d otherwis
 
 -- an accept up to its body
 abbrev pub accept_marks : ℕ → List ℕ → List ℕ → List (List ℕ) → List Mark
-accept_marks d op link names = word d keywords.Accept ∷ name d op ∷ word d keywords.On ∷ name d link ∷ (names_marks d names ++ word d keywords.Do ∷ [])
+accept_marks d op link names =
+    word d keywords.Accept ∷ name d op ∷ word d keywords.On ∷ name d link ∷ (names_marks d names ++ word d keywords.Do ∷ [])
 
 -- ---- declarations, which stand in no bracket and no statement
 
@@ -251,7 +266,9 @@ abbrev pub types_marks : List TypeName → List Mark
 types_marks ts = bracketed 0 (commas 1 (map (type_marks 1) ts))
 
 abbrev pub op_marks : OpTree → List Mark
-op_marks op = word 0 keywords.Op ∷ name 0 op.name ∷ (types_marks op.arguments ++ mark 0 signs.Colon ∷ (types_marks op.results ++ mark 0 signs.Semicolon ∷ []))
+op_marks op =
+    word 0 keywords.Op ∷ name 0 op.name
+    ∷ (types_marks op.arguments ++ mark 0 signs.Colon ∷ (types_marks op.results ++ mark 0 signs.Semicolon ∷ []))
 
 -- a param or a var, by its keyword
 abbrev pub var_marks : Keyword → VarTree → List Mark
@@ -262,7 +279,8 @@ vars_marks vars = flat_map (var_marks keywords.Var) vars
 
 abbrev pub entry_marks : EntryTree → List Mark
 entry_marks entry = word 0 keywords.Entry ∷ name 0 entry.name ∷ word 0 keywords.Of ∷ name 0 entry.op
-    ∷ (names_marks 0 entry.parameters ++ (vars_marks entry.vars ++ word 0 keywords.Begin ∷ (stmts_marks 0 entry.body ++ word 0 keywords.End ∷ mark 0 signs.Semicolon ∷ [])))
+    ∷ (names_marks 0 entry.parameters ++ (vars_marks entry.vars
+    ++ word 0 keywords.Begin ∷ (stmts_marks 0 entry.body ++ word 0 keywords.End ∷ mark 0 signs.Semicolon ∷ [])))
 
 abbrev pub module_marks : ModuleTree → List Mark
 module_marks m = word 0 keywords.Module ∷ name 0 m.name ∷ mark 0 signs.Semicolon

@@ -211,7 +211,14 @@ abbrev pub var_tree : VarDecl → VarTree
 var_tree var = record { name = var.name; kind = var.kind }
 
 abbrev pub entry_tree : EntryDecl → EntryTree
-entry_tree entry = record { name = entry.name; op = entry.op; parameters = entry.parameters.items; vars = map var_tree entry.vars.items; body = stmt_list entry.body.items }
+entry_tree entry =
+    record {
+      name = entry.name;
+      op = entry.op;
+      parameters = entry.parameters.items;
+      vars = map var_tree entry.vars.items;
+      body = stmt_list entry.body.items;
+    }
 
 abbrev pub module_tree : Module → ModuleTree
 module_tree m = record {

@@ -8,13 +8,13 @@ use Rattle.lynx_tree.specs.declared.declaration.TypeName.{TypeName}
 use Rattle.lynx_tree.specs.declared.declaration.TypeName.TheVariants as types
 use Rattle.lynx_tree.specs.Grammar.{Mark, word, mark, name, type_marks, types_marks}
 use Rattle.lynx_tree.specs.Trees.{OpTree}
-use Rattle.lynx_typing.specs.Modules.{type_faults, types_faults}
-use Rattle.lynx_typing.specs.Names.{Declared, Scope, each_at, op_size}
-use Rattle.lynx_typing.specs.Rules.{Fault}
-use Rattle.lynx_typing.specs.Progress.{first_with}
-use Rattle.lynx_typing.proofs.Members.{at_place}
-use Rattle.lynx_typing.proofs.Order.{swap}
-use Rattle.lynx_typing.proofs.Progress.{first_with-append, joined}
+use Rattle.typing_rules.specs.Modules.{type_faults, types_faults}
+use Rattle.typing_rules.specs.Names.{Declared, Scope, each_at, op_size}
+use Rattle.typing_rules.specs.Rules.{Fault}
+use Rattle.typing_rules.specs.Progress.{first_with}
+use Rattle.typing_rules.proofs.Members.{at_place}
+use Rattle.typing_rules.proofs.Order.{swap}
+use Rattle.typing_rules.proofs.Progress.{first_with-append, joined}
 use Rattle.lynx_types.specs.News.{then_declared, news_faults}
 use Rattle.lynx_types.proofs.News.{news-append, declared-append, same_scope, in_order}
 

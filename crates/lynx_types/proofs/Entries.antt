@@ -7,16 +7,16 @@ use Rattle.lynx_tree.specs.Grammar.{Mark, word, name, mark, names_marks, vars_ma
 use Rattle.lynx_tree.specs.Trees.{EntryTree, entry_tree}
 use Rattle.std.specs.Str.{bytes_eq}
 use Rattle.lynx_tree.specs.declared.declaration.EntryDecl.{EntryDecl}
-use Rattle.lynx_typing.specs.Modules.{names_are_new, var_faults, entry_faults}
-use Rattle.lynx_typing.specs.Names.{Variable, Entry, Declared, Scope, or_outside, meaning_in, inside, known, arguments_of, results_of, each_at, var_size, var_named, entry_size, entry_named, entry_body_at, locals_at, local_names, parameters_named}
-use Rattle.lynx_typing.specs.Rules.{Fault, Asks, demand, is_number_of, local_name_is_new, entry_has_parameters, entry_is_of_op}
-use Rattle.lynx_typing.specs.Statements.{stmts_faults, stmts_size}
-use Rattle.lynx_typing.specs.Progress.{first_with}
-use Rattle.lynx_typing.proofs.Members.{at_place}
-use Rattle.lynx_typing.proofs.Progress.{first_with-append, joined}
+use Rattle.typing_rules.specs.Modules.{names_are_new, var_faults, entry_faults}
+use Rattle.typing_rules.specs.Names.{Variable, Entry, Declared, Scope, or_outside, meaning_in, inside, known, arguments_of, results_of, each_at, var_size, var_named, entry_size, entry_named, entry_body_at, locals_at, local_names, parameters_named}
+use Rattle.typing_rules.specs.Rules.{Fault, Asks, demand, is_number_of, local_name_is_new, entry_has_parameters, entry_is_of_op}
+use Rattle.typing_rules.specs.Statements.{stmts_faults, stmts_size}
+use Rattle.typing_rules.specs.Progress.{first_with}
+use Rattle.typing_rules.proofs.Members.{at_place}
+use Rattle.typing_rules.proofs.Progress.{first_with-append, joined}
 use Rattle.lynx_types.specs.News.{nowhere, then_declared, news_faults, are_new, told_faults, first_or_int, locals_named}
 use Rattle.lynx_types.specs.Parts.{heading_faults}
-use Rattle.lynx_statements.proofs.Actions.{found_then}
+use Rattle.typing_statements.proofs.Actions.{found_then}
 use Rattle.lynx_types.proofs.Declarations.{next_names}
 use Rattle.lynx_types.proofs.News.{or_none, news-append, declared-append, same_scope, news_are_new, in_order}
 

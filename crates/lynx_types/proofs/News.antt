@@ -3,12 +3,12 @@ use Rattle.std.proofs.Common.{◌≡◌, ℕ, ◌+◌, List, [], ◌∷◌, ◌+
 use Rattle.std.proofs.lemmas.Slice.Eq.{bytes_eq-Decides}
 use Rattle.std.specs.List.{list_any}
 use Rattle.std.specs.Str.{bytes_eq}
-use Rattle.lynx_typing.specs.Modules.{names_are_new}
-use Rattle.lynx_typing.specs.Names.{Meaning, Declared, Scope, or_outside, meaning_in}
-use Rattle.lynx_typing.specs.Rules.{Fault, demand}
-use Rattle.lynx_typing.specs.Progress.{first_with}
-use Rattle.lynx_typing.proofs.Order.{swap}
-use Rattle.lynx_typing.proofs.Progress.{first_with-append}
+use Rattle.typing_rules.specs.Modules.{names_are_new}
+use Rattle.typing_rules.specs.Names.{Meaning, Declared, Scope, or_outside, meaning_in}
+use Rattle.typing_rules.specs.Rules.{Fault, demand}
+use Rattle.typing_rules.specs.Progress.{first_with}
+use Rattle.typing_rules.proofs.Order.{swap}
+use Rattle.typing_rules.proofs.Progress.{first_with-append}
 use Rattle.lynx_types.specs.News.{then_declared, news_faults, are_new, told_faults}
 
 -- ---- scopes

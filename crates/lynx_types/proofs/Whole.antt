@@ -5,13 +5,13 @@ use Rattle.lynx_lexer.specs.declared.keyword.Keyword.TheVariants as keywords
 use Rattle.lynx_lexer.specs.declared.sign.Sign.TheVariants as signs
 use Rattle.lynx_tree.specs.Grammar.{Mark, word, name, mark, op_marks, var_marks, vars_marks, entry_marks, stmts_marks, module_marks}
 use Rattle.lynx_tree.specs.Trees.{ModuleTree}
-use Rattle.lynx_typing.specs.Modules.{names_are_new, op_faults, param_faults, var_faults, entry_faults, first_fault, module_faults}
-use Rattle.lynx_typing.specs.Names.{Declared, Scope, each_at, op_size, op_named, var_size, var_named, entry_size, entry_named, ops_at, params_at, vars_at, entries_at, body_at, module_names, module_scope}
-use Rattle.lynx_typing.specs.Progress.{first_with}
-use Rattle.lynx_typing.specs.Rules.{Fault, Outside, module_name_is_new}
-use Rattle.lynx_typing.specs.Statements.{stmts_faults, stmts_size}
-use Rattle.lynx_typing.proofs.Order.{first_with-none}
-use Rattle.lynx_typing.proofs.Progress.{joined}
+use Rattle.typing_rules.specs.Modules.{names_are_new, op_faults, param_faults, var_faults, entry_faults, first_fault, module_faults}
+use Rattle.typing_rules.specs.Names.{Declared, Scope, each_at, op_size, op_named, var_size, var_named, entry_size, entry_named, ops_at, params_at, vars_at, entries_at, body_at, module_names, module_scope}
+use Rattle.typing_rules.specs.Progress.{first_with}
+use Rattle.typing_rules.specs.Rules.{Fault, Outside, module_name_is_new}
+use Rattle.typing_rules.specs.Statements.{stmts_faults, stmts_size}
+use Rattle.typing_rules.proofs.Order.{first_with-none}
+use Rattle.typing_rules.proofs.Progress.{joined}
 use Rattle.lynx_types.specs.News.{nowhere, then_declared, news_faults, are_new, told_faults}
 use Rattle.lynx_types.proofs.News.{declared-append, same_scope, news_are_new, told-new}
 use Rattle.lynx_types.proofs.Declarations.{news-step}

@@ -1,8 +1,8 @@
 -- What `check` answers.
 use Rattle.std.specs.Prelude.{◌≡◌, Result, Ok, Err, ⊤}
 use Rattle.lynx_tree.specs.Trees.{ModuleTree, module_tree}
-use Rattle.lynx_typing.specs.Rules.{Fault}
-use Rattle.lynx_typing.specs.Modules.{IsFirstFault}
+use Rattle.typing_rules.specs.Rules.{Fault}
+use Rattle.typing_rules.specs.Modules.{IsFirstFault}
 use Rattle.lynx_types.specs.declared.checked.Checked.{Checked}
 use Rattle.lynx_types.specs.declared.fault.TypeFault.{TypeFault}
 use Rattle.lynx_types.specs.declared.fault.TypeFault.TheVariants as faults

@@ -4,8 +4,8 @@ use Rattle.lynx_tree.specs.declared.declaration.TypeName.{TypeName}
 use Rattle.lynx_tree.specs.declared.declaration.TypeName.TheVariants as types
 use Rattle.lynx_tree.specs.Grammar.{names_marks}
 use Rattle.lynx_tree.specs.Trees.{EntryTree}
-use Rattle.lynx_typing.specs.Names.{Declared, Scope, or_outside, meaning_in, parameters_named, each_at, var_size, var_named}
-use Rattle.lynx_typing.specs.Rules.{Fault, demand}
+use Rattle.typing_rules.specs.Names.{Declared, Scope, or_outside, meaning_in, parameters_named, each_at, var_size, var_named}
+use Rattle.typing_rules.specs.Rules.{Fault, demand}
 
 -- no name stands
 abbrev pub nowhere : Scope
@@ -38,4 +38,5 @@ first_or_int (t ∷ ts) = t
 
 -- the names of an entry whose parameters have these types, and whose `(` is this token
 abbrev pub locals_named : ℕ → EntryTree → List TypeName → List Declared
-locals_named at entry ts = parameters_named (at + 1) entry.parameters ts ++ each_at var_size var_named (at + length (names_marks 0 entry.parameters)) entry.vars
+locals_named at entry ts =
+    parameters_named (at + 1) entry.parameters ts ++ each_at var_size var_named (at + length (names_marks 0 entry.parameters)) entry.vars

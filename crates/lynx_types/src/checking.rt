@@ -5,9 +5,9 @@ ghost use Rattle.std.specs.List.{AllByRecursion};
 ghost use Rattle.lynx_tree.specs.Grammar.{HasTokens, kinds_of, module_marks};
 ghost use Rattle.lynx_tree.specs.Printing.{IsPrintable};
 ghost use Rattle.lynx_tree.specs.Trees.{module_tree};
-ghost use Rattle.lynx_typing.specs.Found.{first_found};
-ghost use Rattle.lynx_typing.specs.Modules.{IsWellTyped, IsFirstFault, first_fault, module_faults};
-ghost use Rattle.lynx_typing.specs.Rules.{Fault};
+ghost use Rattle.typing_rules.specs.Found.{first_found};
+ghost use Rattle.typing_rules.specs.Modules.{IsWellTyped, IsFirstFault, first_fault, module_faults};
+ghost use Rattle.typing_rules.specs.Rules.{Fault};
 ghost use Rattle.lynx_types.specs.Answers.{GivesModule, GivesFault, IsFaultOf};
 
 use crate::checked::Checked;
@@ -15,11 +15,11 @@ use crate::declaration::{ops, params, vars};
 use crate::entry::{declare_entries, entries};
 use crate::fault::TypeFault;
 use lynx_lexer::NoMemory;
-use lynx_statements::{Request, statements};
 use lynx_tree::Module;
-use lynx_typing::rule::MODULE_NAME_IS_NEW;
-use lynx_typing::{Found, Names, Scope, Walk};
 use std::alloc::Global;
+use typing_rules::rule::MODULE_NAME_IS_NEW;
+use typing_rules::{Found, Names, Scope, Walk};
+use typing_statements::{Request, statements};
 
 /// How many names a module has.
 fn count_names(tree: &Module) -> usize {

@@ -5,19 +5,19 @@ ghost use Rattle.std.specs.List.{flat_map};
 ghost use Rattle.lynx_lexer.specs.declared.keyword.Keyword.TheVariants as keywords;
 ghost use Rattle.lynx_tree.specs.Grammar.{type_marks, types_marks, op_marks, var_marks, vars_marks};
 ghost use Rattle.lynx_tree.specs.Trees.{op_tree, var_tree};
-ghost use Rattle.lynx_typing.specs.Meanings.{look, meaning_of};
-ghost use Rattle.lynx_typing.specs.Modules.{type_faults, types_faults, op_faults, var_faults, param_faults};
-ghost use Rattle.lynx_typing.specs.Names.{each_at, op_size, op_named, var_size, var_named};
-ghost use Rattle.lynx_typing.specs.Progress.{first_with};
+ghost use Rattle.typing_rules.specs.Meanings.{look, meaning_of};
+ghost use Rattle.typing_rules.specs.Modules.{type_faults, types_faults, op_faults, var_faults, param_faults};
+ghost use Rattle.typing_rules.specs.Names.{each_at, op_size, op_named, var_size, var_named};
+ghost use Rattle.typing_rules.specs.Progress.{first_with};
 ghost use Rattle.lynx_types.specs.News.{then_declared, news_faults};
 
 use crate::width::{fits_packets, has_few_links};
 use lynx_lexer::{IdentRef, NoMemory};
 use lynx_tree::{OpDecl, TypeName, VarDecl};
-use lynx_typing::rule::{
+use typing_rules::rule::{
     MODULE_NAME_IS_NEW, OP_FITS_PACKETS, OP_HAS_FEW_LINKS, PARAM_IS_LINK, ROW_HAS_LENGTH,
 };
-use lynx_typing::{Named, Names, Walk, has_length, is_link};
+use typing_rules::{Named, Names, Walk, has_length, is_link};
 
 /// How many tokens a type has.
 fn type_size(kind: TypeName) -> u32

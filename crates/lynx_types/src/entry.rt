@@ -4,23 +4,23 @@ ghost use Rattle.std.specs.Prelude.{◌≡◌, ℕ, List, ◌+◌, ◌<◌, ◌+
 ghost use Rattle.std.specs.List.{flat_map};
 ghost use Rattle.lynx_tree.specs.Grammar.{names_marks, vars_marks, entry_marks};
 ghost use Rattle.lynx_tree.specs.Trees.{entry_tree};
-ghost use Rattle.lynx_typing.specs.Meanings.{look, types_known};
-ghost use Rattle.lynx_typing.specs.Modules.{var_faults, entry_faults};
-ghost use Rattle.lynx_typing.specs.Names.{meaning_in, each_at, var_size, entry_size, entry_named, parameters_named};
-ghost use Rattle.lynx_typing.specs.Progress.{first_with};
-ghost use Rattle.lynx_typing.specs.Rules.{demand};
+ghost use Rattle.typing_rules.specs.Meanings.{look, types_known};
+ghost use Rattle.typing_rules.specs.Modules.{var_faults, entry_faults};
+ghost use Rattle.typing_rules.specs.Names.{meaning_in, each_at, var_size, entry_size, entry_named, parameters_named};
+ghost use Rattle.typing_rules.specs.Progress.{first_with};
+ghost use Rattle.typing_rules.specs.Rules.{demand};
 ghost use Rattle.lynx_types.specs.News.{nowhere, then_declared, news_faults, are_new, told_faults, first_or_int, locals_named};
 ghost use Rattle.lynx_types.specs.Parts.{heading_faults};
 
 use crate::declaration::vars;
 use lynx_lexer::{IdentRef, NoMemory};
-use lynx_statements::{Request, behind_first, is_number_of, known, statements};
 use lynx_tree::{EntryDecl, TypeName};
-use lynx_typing::rule::{
+use std::alloc::Global;
+use typing_rules::rule::{
     ENTRY_HAS_PARAMETERS, ENTRY_IS_OF_OP, LOCAL_NAME_IS_NEW, MODULE_NAME_IS_NEW,
 };
-use lynx_typing::{Named, Names, Scope, Walk, arguments_of, results_of};
-use std::alloc::Global;
+use typing_rules::{Named, Names, Scope, Walk, arguments_of, results_of};
+use typing_statements::{Request, behind_first, is_number_of, known, statements};
 
 /// Declares entries, and tells of each name whether it is new.
 pub(crate) fn declare_entries<'m>(

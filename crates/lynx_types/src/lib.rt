@@ -12,4 +12,4 @@ mod width;
 pub use checked::Checked;
 pub use checking::check;
 pub use fault::TypeFault;
-pub use lynx_typing::{Exception, Row16, ShortText, signature};
+pub use typing_rules::{Exception, Row16, ShortText, signature};

@@ -3,11 +3,11 @@
 ghost use Rattle.std.specs.Prelude.{◌≡◌, ◌+◌, ◌≤◌, ◌&&◌, nat_le, length, min};
 ghost use Rattle.std.specs.List.{sum_by};
 ghost use Rattle.lynx_tree.specs.Trees.{op_tree};
-ghost use Rattle.lynx_typing.specs.Signatures.{type_text, types_text, widest, widest_request, widest_reply, links_among};
+ghost use Rattle.typing_rules.specs.Signatures.{type_text, types_text, widest, widest_request, widest_reply, links_among};
 
 use itoa::Buffer;
 use lynx_tree::{OpDecl, TypeName};
-use lynx_typing::is_link;
+use typing_rules::is_link;
 
 /// The most links among an operation's arguments, and among its results.
 const MOST_LINKS: usize = 8;

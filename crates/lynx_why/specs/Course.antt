@@ -10,7 +10,7 @@ use Rattle.lynx_outside.specs.Logged.{Read, Put}
 use Rattle.lynx_outside.specs.Sink.{taken, WerePut}
 use Rattle.lynx_outside.specs.declared.status.Status.{Status}
 use Rattle.lynx_outside.specs.declared.status.Status.TheVariants as status
-use Rattle.lynx_words.specs.Words.{Word}
+use Rattle.command_words.specs.Words.{Word}
 use Rattle.lynx_why.specs.Finding.{FindsAt}
 
 -- its reads, the name in the line of a failure, what it found, and its puts on out and on err

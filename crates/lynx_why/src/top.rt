@@ -4,7 +4,7 @@ ghost use Rattle.lynx_command.specs.Course.{outside};
 ghost use Rattle.lynx_command.specs.Ending.{Tells};
 ghost use Rattle.lynx_outside.specs.Logged.{Put};
 ghost use Rattle.lynx_outside.specs.Sink.{WerePut};
-ghost use Rattle.lynx_words.specs.Words.{is_name, one_name};
+ghost use Rattle.command_words.specs.Words.{is_name, one_name};
 ghost use Rattle.lynx_why.specs.Course.{Answers, Course, Ends, EndsSo, IsOfFile, Took};
 
 use crate::finding::{Finding, find_at};
@@ -41,7 +41,7 @@ pub(crate) fn fail<E: Sink>(alloc: Global, failure: Failure, err: &mut E) -> Sta
 }
 
 /// The file that the words name: there is one word, which is not empty and does not begin with `-`.
-#[tactic(auto, unfolding(lynx_words::specs::Words::one_name))]
+#[tactic(auto, unfolding(command_words::specs::Words::one_name))]
 fn file_of(words: Vec<String>) -> Option<String>
     ensures { result ≡ one_name words.items }
 {

@@ -2,10 +2,10 @@
 
 ghost use Rattle.std.specs.Prelude.{◌≡◌, IfOk, IfSome, OnOk};
 ghost use Rattle.lynx_meaning.specs.Values.{HasType};
-ghost use Rattle.shaped_code.specs.Sound.{Typed};
-ghost use Rattle.thread_turns.specs.Threads.{NoValue, wanted_by};
-ghost use Rattle.thread_values.specs.Told.{value_of, values_of};
-ghost use Rattle.lynx_thread.specs.Told.{action_of};
+ghost use Rattle.machine_never_stuck.specs.Sound.{Typed};
+ghost use Rattle.machine_turns.specs.Threads.{NoValue, wanted_by};
+ghost use Rattle.machine_values.specs.Told.{value_of, values_of};
+ghost use Rattle.machine_thread.specs.Told.{action_of};
 ghost use Rattle.lynx_interp.specs.Machines.{IsEntryFor, IsMachine};
 
 use crate::trouble::Trouble;

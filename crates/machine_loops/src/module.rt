@@ -1,7 +1,7 @@
 //! The machine of a module.
 
 ghost use Rattle.std.specs.Prelude.{IfOk};
-ghost use Rattle.runnable_code.specs.Runnable.{IsRunnable};
+ghost use Rattle.compiler_runnable.specs.Runnable.{IsRunnable};
 ghost use Rattle.lynx_interp.specs.Machines.{IsMachine};
 
 use crate::trouble::Trouble;

@@ -1,5 +1,5 @@
 use Rattle.std.proofs.Common.{◌≡◌, [], ◌∷◌, replicate, false, Some, None}
-use Rattle.thread_turns.specs.Threads.{begun}
+use Rattle.machine_turns.specs.Threads.{begun}
 use Rattle.lynx_interp.proofs.machine.body_alone.Given as goal
 
 abbrev pub invariant-loop : goal.invariant-loop

@@ -1,5 +1,5 @@
 use Rattle.std.proofs.Common.{◌≡◌, ◌++◌, length, reverse}
-use Rattle.thread_values.specs.Told.{values_of}
+use Rattle.machine_values.specs.Told.{values_of}
 use Rattle.lynx_interp.proofs.starts.push_values.Given as goal
 
 -- the values that are left come behind

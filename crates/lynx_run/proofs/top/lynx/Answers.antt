@@ -2,7 +2,7 @@
 use Rattle.std.proofs.Common.{◌≡◌, [], None, refl, rules}
 use Rattle.lynx_command.proofs.Courses.{refused_course, refused}
 use Rattle.lynx_command.specs.declared.failure.Failure.TheVariants.{Usage}
-use Rattle.lynx_words.specs.Words.{command_of}
+use Rattle.command_words.specs.Words.{command_of}
 use Rattle.lynx_run.proofs.top.lynx.Goals as goal
 
 pub returns-in-None : goal.returns-in-None

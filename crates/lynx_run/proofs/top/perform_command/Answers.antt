@@ -5,8 +5,8 @@ use Rattle.lynx_command.proofs.Courses.{refused_course, refused}
 use Rattle.lynx_command.specs.declared.failure.Failure.TheVariants.{Unbuilt}
 use Rattle.lynx_outside.specs.Logged.{Put}
 use Rattle.lynx_run.specs.Commands.{command_name, Answers}
-use Rattle.lynx_words.specs.declared.words.Command.{Command}
-use Rattle.lynx_words.specs.declared.words.Command.TheVariants.{Drive, Check, Code, Run, Bench, Audit, Snapshot}
+use Rattle.command_words.specs.declared.words.Command.{Command}
+use Rattle.command_words.specs.declared.words.Command.TheVariants.{Drive, Check, Code, Run, Bench, Audit, Snapshot}
 use Rattle.lynx_run.proofs.top.perform_command.Goals as goal
 
 -- each command but four is not built

@@ -1,7 +1,7 @@
 -- The first fault of the tree that these tokens have stands at its token.
 use Rattle.std.proofs.Common.{ap, subst, refl, Err, inl, inr}
 use Rattle.lynx_types.specs.Answers.{IsFaultOf}
-use Rattle.lynx_typing.specs.Rules.{Fault}
+use Rattle.typing_rules.specs.Rules.{Fault}
 use Rattle.lynx_source.specs.declared.fault.SourceFault.TheVariants.{Rule}
 use Rattle.lynx_source.specs.declared.place.Place.{Place}
 use Rattle.lynx_source.proofs.checking.typed.Goals as goal

@@ -47,15 +47,18 @@ emit_handler-emit_over-requires t c = omega (arith, c.decreases, ap (λ (xs : Li
 
 pub emit_stmt-returns-in-If-clause-ok : goal.emit_stmt-returns-in-If-clause-ok
 emit_stmt-returns-in-If-clause-ok t c =
-    same_ok c.emit_choice.result c.args.code.now.items c.emit_choice.new.code.items _ _ (ap (stmt_code (names_in c.args.names.now) (length c.args.code.now.items)) (choice_view c.args.stmt.now c.in-If.condition c.in-If.then c.in-If.otherwise c.deref.result.now c.deref-in-If.result.now c.in-If.is c.deref.ensures c.deref-in-If.ensures.value)) c.emit_choice.ensures.ok
+    same_ok c.emit_choice.result c.args.code.now.items c.emit_choice.new.code.items _ _
+    (ap (stmt_code (names_in c.args.names.now) (length c.args.code.now.items)) (choice_view c.args.stmt.now c.in-If.condition c.in-If.then c.in-If.otherwise c.deref.result.now c.deref-in-If.result.now c.in-If.is c.deref.ensures c.deref-in-If.ensures.value)) c.emit_choice.ensures.ok
 
 pub emit_stmt-returns-in-If-clause-long : goal.emit_stmt-returns-in-If-clause-long
 emit_stmt-returns-in-If-clause-long t c h =
-    same_long c.args.code.now.items _ _ (ap (stmt_code (names_in c.args.names.now) (length c.args.code.now.items)) (choice_view c.args.stmt.now c.in-If.condition c.in-If.then c.in-If.otherwise c.deref.result.now c.deref-in-If.result.now c.in-If.is c.deref.ensures c.deref-in-If.ensures.value)) (c.emit_choice.ensures.long h)
+    same_long c.args.code.now.items _ _ (ap (stmt_code (names_in c.args.names.now) (length c.args.code.now.items)) (choice_view c.args.stmt.now c.in-If.condition c.in-If.then c.in-If.otherwise c.deref.result.now c.deref-in-If.result.now c.in-If.is c.deref.ensures c.deref-in-If.ensures.value))
+    (c.emit_choice.ensures.long h)
 
 pub emit_stmt-returns-in-While-clause-ok : goal.emit_stmt-returns-in-While-clause-ok
 emit_stmt-returns-in-While-clause-ok t c =
-    same_ok c.emit_while.result c.args.code.now.items c.emit_while.new.code.items _ _ (ap (stmt_code (names_in c.args.names.now) (length c.args.code.now.items)) (while_view c.args.stmt.now c.in-While.condition c.in-While.body c.deref-in-While.result.now c.in-While.is c.deref-in-While.ensures.value)) c.emit_while.ensures.ok
+    same_ok c.emit_while.result c.args.code.now.items c.emit_while.new.code.items _ _
+    (ap (stmt_code (names_in c.args.names.now) (length c.args.code.now.items)) (while_view c.args.stmt.now c.in-While.condition c.in-While.body c.deref-in-While.result.now c.in-While.is c.deref-in-While.ensures.value)) c.emit_while.ensures.ok
 
 pub emit_stmt-returns-in-While-clause-long : goal.emit_stmt-returns-in-While-clause-long
 emit_stmt-returns-in-While-clause-long t c h =
@@ -64,12 +67,14 @@ emit_stmt-returns-in-While-clause-long t c h =
 pub emit_stmt-returns-in-Accept-clause-ok : goal.emit_stmt-returns-in-Accept-clause-ok
 emit_stmt-returns-in-Accept-clause-ok t c =
     same_ok c.emit_accept.result c.args.code.now.items c.emit_accept.new.code.items _ _
-    (ap (stmt_code (names_in c.args.names.now) (length c.args.code.now.items)) (accept_view c.args.stmt.now c.in-Accept.op c.in-Accept.link c.in-Accept.arguments c.in-Accept.body c.deref-in-Accept.result.now c.deref-in-Accept-2.result.now c.in-Accept.is c.deref-in-Accept.ensures.value c.deref-in-Accept-2.ensures.value)) c.emit_accept.ensures.ok
+    (ap (stmt_code (names_in c.args.names.now) (length c.args.code.now.items))
+    (accept_view c.args.stmt.now c.in-Accept.op c.in-Accept.link c.in-Accept.arguments c.in-Accept.body c.deref-in-Accept.result.now c.deref-in-Accept-2.result.now c.in-Accept.is c.deref-in-Accept.ensures.value c.deref-in-Accept-2.ensures.value)) c.emit_accept.ensures.ok
 
 pub emit_stmt-returns-in-Accept-clause-long : goal.emit_stmt-returns-in-Accept-clause-long
 emit_stmt-returns-in-Accept-clause-long t c h =
     same_long c.args.code.now.items _ _
-    (ap (stmt_code (names_in c.args.names.now) (length c.args.code.now.items)) (accept_view c.args.stmt.now c.in-Accept.op c.in-Accept.link c.in-Accept.arguments c.in-Accept.body c.deref-in-Accept.result.now c.deref-in-Accept-2.result.now c.in-Accept.is c.deref-in-Accept.ensures.value c.deref-in-Accept-2.ensures.value)) (c.emit_accept.ensures.long h)
+    (ap (stmt_code (names_in c.args.names.now) (length c.args.code.now.items))
+    (accept_view c.args.stmt.now c.in-Accept.op c.in-Accept.link c.in-Accept.arguments c.in-Accept.body c.deref-in-Accept.result.now c.deref-in-Accept-2.result.now c.in-Accept.is c.deref-in-Accept.ensures.value c.deref-in-Accept-2.ensures.value)) (c.emit_accept.ensures.long h)
 
 pub emit_stmt-returns-in-Try-clause-ok : goal.emit_stmt-returns-in-Try-clause-ok
 emit_stmt-returns-in-Try-clause-ok t c =

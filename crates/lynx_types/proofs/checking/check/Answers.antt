@@ -1,8 +1,8 @@
 use Rattle.std.proofs.Common.{◌≡◌, None, Some, sym, ap, ◌∙◌}
 use Rattle.lynx_tree.specs.Trees.{module_tree}
-use Rattle.lynx_typing.specs.Found.{found_fault, first_found}
-use Rattle.lynx_typing.specs.Rules.{Fault}
-use Rattle.lynx_typing.proofs.Firsts.{none_is_well_typed, well_typed_is_none, first_is_least, least_is_first}
+use Rattle.typing_rules.specs.Found.{found_fault, first_found}
+use Rattle.typing_rules.specs.Rules.{Fault}
+use Rattle.typing_rules.proofs.Firsts.{none_is_well_typed, well_typed_is_none, first_is_least, least_is_first}
 use Rattle.lynx_types.proofs.checking.check.Goals as goal
 
 none_is_not_some : (f : Fault) → None ≡ Some f → ⊥

@@ -4,12 +4,12 @@ use Rattle.lynx_lexer.specs.declared.keyword.Keyword.TheVariants as keywords
 use Rattle.lynx_tree.specs.declared.declaration.EntryDecl.{EntryDecl}
 use Rattle.lynx_tree.specs.Grammar.{op_marks, var_marks, vars_marks, entry_marks}
 use Rattle.lynx_tree.specs.Trees.{op_tree, var_tree, entry_tree, stmt_list, module_tree}
-use Rattle.lynx_typing.specs.Meanings.{look, scope_of}
-use Rattle.lynx_typing.specs.Modules.{op_faults, param_faults, var_faults, entry_faults}
-use Rattle.lynx_typing.specs.Names.{Scope, each_at, op_size, op_named, var_size, var_named, entry_size, entry_named, ops_at, params_at, vars_at, entries_at, body_at}
-use Rattle.lynx_typing.specs.Progress.{first_with}
-use Rattle.lynx_typing.specs.Rules.{Outside}
-use Rattle.lynx_typing.specs.Statements.{stmts_faults, stmts_size}
+use Rattle.typing_rules.specs.Meanings.{look, scope_of}
+use Rattle.typing_rules.specs.Modules.{op_faults, param_faults, var_faults, entry_faults}
+use Rattle.typing_rules.specs.Names.{Scope, each_at, op_size, op_named, var_size, var_named, entry_size, entry_named, ops_at, params_at, vars_at, entries_at, body_at}
+use Rattle.typing_rules.specs.Progress.{first_with}
+use Rattle.typing_rules.specs.Rules.{Outside}
+use Rattle.typing_rules.specs.Statements.{stmts_faults, stmts_size}
 use Rattle.lynx_types.specs.News.{then_declared, news_faults, told_faults, are_new}
 use Rattle.lynx_types.proofs.News.{same_scope}
 use Rattle.lynx_types.proofs.Whole.{module-size, module_first}

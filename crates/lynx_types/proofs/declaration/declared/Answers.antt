@@ -1,7 +1,7 @@
 use Rattle.std.proofs.Common.{sym, ap, ◌∙◌}
 use Rattle.std.proofs.lemmas.List.{append-nil}
-use Rattle.lynx_typing.specs.Progress.{first_with}
-use Rattle.lynx_typing.specs.Rules.{demand}
+use Rattle.typing_rules.specs.Progress.{first_with}
+use Rattle.typing_rules.specs.Rules.{demand}
 use Rattle.lynx_types.proofs.declaration.declared.Goals as goal
 
 pub returns-clause-first : goal.returns-clause-first

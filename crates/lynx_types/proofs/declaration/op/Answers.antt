@@ -1,11 +1,11 @@
 use Rattle.std.proofs.Common.{◌+◌, ap, ◌∙◌, length, arith}
 use Rattle.lynx_tree.specs.Grammar.{types_marks}
 use Rattle.lynx_tree.specs.Trees.{op_tree}
-use Rattle.lynx_typing.specs.Meanings.{look}
-use Rattle.lynx_typing.specs.Modules.{types_faults}
-use Rattle.lynx_typing.specs.Names.{op_named}
-use Rattle.lynx_typing.specs.Progress.{first_with}
-use Rattle.lynx_typing.specs.Rules.{demand, op_has_few_links, op_fits_packets}
+use Rattle.typing_rules.specs.Meanings.{look}
+use Rattle.typing_rules.specs.Modules.{types_faults}
+use Rattle.typing_rules.specs.Names.{op_named}
+use Rattle.typing_rules.specs.Progress.{first_with}
+use Rattle.typing_rules.specs.Rules.{demand, op_has_few_links, op_fits_packets}
 use Rattle.lynx_types.specs.News.{news_faults}
 use Rattle.lynx_types.proofs.Declarations.{op_first}
 use Rattle.lynx_types.proofs.declaration.op.Goals as goal

@@ -1,9 +1,9 @@
 use Rattle.std.proofs.Common.{◌∙◌, arith}
 use Rattle.lynx_tree.specs.Grammar.{op_marks}
 use Rattle.lynx_tree.specs.Trees.{op_tree}
-use Rattle.lynx_typing.specs.Meanings.{look}
-use Rattle.lynx_typing.specs.Modules.{op_faults}
-use Rattle.lynx_typing.specs.Names.{op_size, op_named}
+use Rattle.typing_rules.specs.Meanings.{look}
+use Rattle.typing_rules.specs.Modules.{op_faults}
+use Rattle.typing_rules.specs.Names.{op_size, op_named}
 use Rattle.lynx_types.proofs.Declarations.{next_tokens, next_first, next_names}
 use Rattle.lynx_types.proofs.declaration.ops.Goals as goal
 

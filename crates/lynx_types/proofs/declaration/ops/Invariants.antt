@@ -2,10 +2,10 @@ use Rattle.std.proofs.Common.{◌≡◌, ℕ, ◌+◌, ◌++◌, List, length, m
 use Rattle.std.specs.List.{flat_map}
 use Rattle.lynx_tree.specs.Grammar.{op_marks}
 use Rattle.lynx_tree.specs.Trees.{op_tree}
-use Rattle.lynx_typing.specs.Meanings.{look}
-use Rattle.lynx_typing.specs.Modules.{op_faults}
-use Rattle.lynx_typing.specs.Names.{each_at, op_size, op_named}
-use Rattle.lynx_typing.specs.Progress.{first_with}
+use Rattle.typing_rules.specs.Meanings.{look}
+use Rattle.typing_rules.specs.Modules.{op_faults}
+use Rattle.typing_rules.specs.Names.{each_at, op_size, op_named}
+use Rattle.typing_rules.specs.Progress.{first_with}
 use Rattle.lynx_types.specs.News.{then_declared, news_faults}
 use Rattle.lynx_types.proofs.declaration.ops.Given as goal
 

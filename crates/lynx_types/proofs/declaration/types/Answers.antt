@@ -1,10 +1,10 @@
 use Rattle.std.proofs.Common.{◌+◌, ◌++◌, slice_index_or, refl, sym, ap, ◌∙◌, arith, drop}
 use Rattle.std.proofs.lemmas.Grind.{common_steps}
 use Rattle.lynx_tree.specs.declared.declaration.TypeName.TheVariants as types
-use Rattle.lynx_typing.specs.Modules.{type_faults, types_faults}
-use Rattle.lynx_typing.specs.Progress.{first_with}
-use Rattle.lynx_typing.proofs.Members.{none_left}
-use Rattle.lynx_typing.proofs.Progress.{left_first, end_first}
+use Rattle.typing_rules.specs.Modules.{type_faults, types_faults}
+use Rattle.typing_rules.specs.Progress.{first_with}
+use Rattle.typing_rules.proofs.Members.{none_left}
+use Rattle.typing_rules.proofs.Progress.{left_first, end_first}
 use Rattle.lynx_types.proofs.Declarations.{types_left, some_types, next_type, type-split}
 use Rattle.lynx_types.proofs.declaration.types.Goals as goal
 

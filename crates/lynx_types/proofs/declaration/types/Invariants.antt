@@ -1,6 +1,6 @@
 use Rattle.std.proofs.Common.{◌≡◌, ◌+◌, drop}
-use Rattle.lynx_typing.specs.Modules.{types_faults}
-use Rattle.lynx_typing.specs.Progress.{first_with}
+use Rattle.typing_rules.specs.Modules.{types_faults}
+use Rattle.typing_rules.specs.Progress.{first_with}
 use Rattle.lynx_types.proofs.Declarations.{types_left}
 use Rattle.lynx_types.proofs.declaration.types.Given as goal
 

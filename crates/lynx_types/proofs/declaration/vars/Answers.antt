@@ -2,9 +2,9 @@ use Rattle.std.proofs.Common.{◌∙◌, arith}
 use Rattle.lynx_lexer.specs.declared.keyword.Keyword.TheVariants as keywords
 use Rattle.lynx_tree.specs.Grammar.{var_marks}
 use Rattle.lynx_tree.specs.Trees.{var_tree}
-use Rattle.lynx_typing.specs.Meanings.{look}
-use Rattle.lynx_typing.specs.Modules.{var_faults}
-use Rattle.lynx_typing.specs.Names.{var_size, var_named}
+use Rattle.typing_rules.specs.Meanings.{look}
+use Rattle.typing_rules.specs.Modules.{var_faults}
+use Rattle.typing_rules.specs.Names.{var_size, var_named}
 use Rattle.lynx_types.proofs.Declarations.{next_tokens, next_first, next_names}
 use Rattle.lynx_types.proofs.declaration.vars.Goals as goal
 

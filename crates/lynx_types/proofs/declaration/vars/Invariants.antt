@@ -3,10 +3,10 @@ use Rattle.std.specs.List.{flat_map}
 use Rattle.lynx_lexer.specs.declared.keyword.Keyword.TheVariants as keywords
 use Rattle.lynx_tree.specs.Grammar.{var_marks}
 use Rattle.lynx_tree.specs.Trees.{var_tree}
-use Rattle.lynx_typing.specs.Meanings.{look}
-use Rattle.lynx_typing.specs.Modules.{var_faults}
-use Rattle.lynx_typing.specs.Names.{each_at, var_size, var_named}
-use Rattle.lynx_typing.specs.Progress.{first_with}
+use Rattle.typing_rules.specs.Meanings.{look}
+use Rattle.typing_rules.specs.Modules.{var_faults}
+use Rattle.typing_rules.specs.Names.{each_at, var_size, var_named}
+use Rattle.typing_rules.specs.Progress.{first_with}
 use Rattle.lynx_types.specs.News.{then_declared, news_faults}
 use Rattle.lynx_types.proofs.declaration.vars.Given as goal
 

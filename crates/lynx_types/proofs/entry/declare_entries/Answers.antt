@@ -1,5 +1,5 @@
 use Rattle.std.proofs.Common.{◌∙◌}
-use Rattle.lynx_typing.specs.Meanings.{look}
+use Rattle.typing_rules.specs.Meanings.{look}
 use Rattle.lynx_types.proofs.Entries.{news-told, names-told}
 use Rattle.lynx_types.proofs.entry.declare_entries.Goals as goal
 

@@ -1,7 +1,7 @@
 use Rattle.std.proofs.Common.{◌≡◌, ℕ, ◌++◌, List, map, drop}
 use Rattle.lynx_tree.specs.Trees.{entry_tree}
-use Rattle.lynx_typing.specs.Meanings.{look}
-use Rattle.lynx_typing.specs.Names.{each_at, entry_size, entry_named}
+use Rattle.typing_rules.specs.Meanings.{look}
+use Rattle.typing_rules.specs.Names.{each_at, entry_size, entry_named}
 use Rattle.lynx_types.specs.News.{then_declared, are_new}
 use Rattle.lynx_types.proofs.entry.declare_entries.Given as goal
 

@@ -4,12 +4,12 @@ use Rattle.std.proofs.lemmas.List.{drop_all}
 use Rattle.std.proofs.lemmas.Slice.Zip.{zip_turn, zip_end}
 use Rattle.lynx_tree.specs.Grammar.{entry_marks}
 use Rattle.lynx_tree.specs.Trees.{entry_tree}
-use Rattle.lynx_typing.specs.Meanings.{look}
-use Rattle.lynx_typing.specs.Modules.{entry_faults}
-use Rattle.lynx_typing.specs.Names.{each_at, entry_size, entry_named}
-use Rattle.lynx_typing.specs.Progress.{first_with}
-use Rattle.lynx_typing.proofs.Members.{at_place, none_left}
-use Rattle.lynx_typing.proofs.Progress.{end_first}
+use Rattle.typing_rules.specs.Meanings.{look}
+use Rattle.typing_rules.specs.Modules.{entry_faults}
+use Rattle.typing_rules.specs.Names.{each_at, entry_size, entry_named}
+use Rattle.typing_rules.specs.Progress.{first_with}
+use Rattle.typing_rules.proofs.Members.{at_place, none_left}
+use Rattle.typing_rules.proofs.Progress.{end_first}
 use Rattle.lynx_types.specs.News.{told_faults}
 use Rattle.lynx_types.proofs.Declarations.{next_tokens}
 use Rattle.lynx_types.proofs.Entries.{entries-step}

@@ -2,10 +2,10 @@ use Rattle.std.proofs.Common.{◌≡◌, ◌+◌, ◌++◌, length, map, drop}
 use Rattle.std.specs.List.{flat_map}
 use Rattle.lynx_tree.specs.Grammar.{entry_marks}
 use Rattle.lynx_tree.specs.Trees.{entry_tree}
-use Rattle.lynx_typing.specs.Meanings.{look}
-use Rattle.lynx_typing.specs.Modules.{entry_faults}
-use Rattle.lynx_typing.specs.Names.{each_at, entry_size, entry_named}
-use Rattle.lynx_typing.specs.Progress.{first_with}
+use Rattle.typing_rules.specs.Meanings.{look}
+use Rattle.typing_rules.specs.Modules.{entry_faults}
+use Rattle.typing_rules.specs.Names.{each_at, entry_size, entry_named}
+use Rattle.typing_rules.specs.Progress.{first_with}
 use Rattle.lynx_types.specs.News.{told_faults}
 use Rattle.lynx_types.proofs.entry.entries.Given as goal
 

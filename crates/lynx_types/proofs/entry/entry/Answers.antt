@@ -1,12 +1,12 @@
 use Rattle.std.proofs.Common.{◌≡◌, ◌+◌, ◌++◌, length, ap, ◌∙◌, arith, rules}
 use Rattle.lynx_tree.specs.Grammar.{names_marks}
 use Rattle.lynx_tree.specs.Trees.{stmt_list, entry_tree}
-use Rattle.lynx_typing.specs.Meanings.{look, scope_of, types_known}
-use Rattle.lynx_typing.specs.Modules.{var_faults}
-use Rattle.lynx_typing.specs.Names.{meaning_in, inside, or_outside, known, arguments_of, results_of, each_at, var_size, local_names, entry_body_at}
-use Rattle.lynx_typing.specs.Progress.{first_with}
-use Rattle.lynx_typing.specs.Rules.{Asks}
-use Rattle.lynx_typing.specs.Statements.{stmts_faults}
+use Rattle.typing_rules.specs.Meanings.{look, scope_of, types_known}
+use Rattle.typing_rules.specs.Modules.{var_faults}
+use Rattle.typing_rules.specs.Names.{meaning_in, inside, or_outside, known, arguments_of, results_of, each_at, var_size, local_names, entry_body_at}
+use Rattle.typing_rules.specs.Progress.{first_with}
+use Rattle.typing_rules.specs.Rules.{Asks}
+use Rattle.typing_rules.specs.Statements.{stmts_faults}
 use Rattle.lynx_types.specs.News.{nowhere, news_faults, locals_named}
 use Rattle.lynx_types.specs.Parts.{heading_faults}
 use Rattle.lynx_types.proofs.News.{same_scope}

@@ -1,8 +1,8 @@
 use Rattle.std.proofs.Common.{ap, ◌∙◌, arith}
-use Rattle.lynx_typing.specs.Meanings.{types_known}
-use Rattle.lynx_typing.specs.Progress.{first_with}
-use Rattle.lynx_typing.specs.Rules.{demand}
-use Rattle.lynx_statements.proofs.Actions.{known_some}
+use Rattle.typing_rules.specs.Meanings.{types_known}
+use Rattle.typing_rules.specs.Progress.{first_with}
+use Rattle.typing_rules.specs.Rules.{demand}
+use Rattle.typing_statements.proofs.Actions.{known_some}
 use Rattle.lynx_types.proofs.Entries.{heading_first}
 use Rattle.lynx_types.proofs.entry.heading.Goals as goal
 

@@ -1,10 +1,10 @@
 use Rattle.std.proofs.Common.{◌+◌, ◌++◌, length, map, ap, ◌∙◌}
 use Rattle.lynx_tree.specs.Grammar.{names_marks}
 use Rattle.lynx_tree.specs.Trees.{var_tree, entry_tree}
-use Rattle.lynx_typing.specs.Meanings.{look}
-use Rattle.lynx_typing.specs.Modules.{var_faults}
-use Rattle.lynx_typing.specs.Names.{each_at, var_size, var_named, parameters_named}
-use Rattle.lynx_typing.specs.Progress.{first_with}
+use Rattle.typing_rules.specs.Meanings.{look}
+use Rattle.typing_rules.specs.Modules.{var_faults}
+use Rattle.typing_rules.specs.Names.{each_at, var_size, var_named, parameters_named}
+use Rattle.typing_rules.specs.Progress.{first_with}
 use Rattle.lynx_types.specs.News.{then_declared, news_faults}
 use Rattle.lynx_types.proofs.Entries.{locals_first, locals_names}
 use Rattle.lynx_types.proofs.entry.locals.Goals as goal

@@ -1,10 +1,10 @@
 use Rattle.std.proofs.Common.{◌≡◌, ◌+◌, length, ap, ◌∙◌, arith, length-drop}
 use Rattle.std.proofs.lemmas.Grind.{common_steps}
-use Rattle.lynx_typing.specs.Meanings.{look}
-use Rattle.lynx_typing.specs.Progress.{first_with}
-use Rattle.lynx_typing.specs.Rules.{demand}
-use Rattle.lynx_typing.proofs.Members.{none_left}
-use Rattle.lynx_statements.proofs.Sizes.{some_names}
+use Rattle.typing_rules.specs.Meanings.{look}
+use Rattle.typing_rules.specs.Progress.{first_with}
+use Rattle.typing_rules.specs.Rules.{demand}
+use Rattle.typing_rules.proofs.Members.{none_left}
+use Rattle.typing_statements.proofs.Sizes.{some_names}
 use Rattle.lynx_types.proofs.Entries.{parameter_first, parameter_names}
 use Rattle.lynx_types.proofs.entry.parameters.Goals as goal
 

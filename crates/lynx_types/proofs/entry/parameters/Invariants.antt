@@ -1,7 +1,7 @@
 use Rattle.std.proofs.Common.{◌≡◌, ℕ, ◌+◌, ◌*◌, List, length, drop}
-use Rattle.lynx_typing.specs.Meanings.{look}
-use Rattle.lynx_typing.specs.Names.{parameters_named}
-use Rattle.lynx_typing.specs.Progress.{first_with}
+use Rattle.typing_rules.specs.Meanings.{look}
+use Rattle.typing_rules.specs.Names.{parameters_named}
+use Rattle.typing_rules.specs.Progress.{first_with}
 use Rattle.lynx_types.specs.News.{then_declared, news_faults}
 use Rattle.lynx_types.proofs.entry.parameters.Given as goal
 

@@ -1,5 +1,5 @@
 use Rattle.std.proofs.Common.{◌≡◌, take}
-use Rattle.lynx_typing.specs.Signatures.{links_among}
+use Rattle.typing_rules.specs.Signatures.{links_among}
 use Rattle.lynx_types.proofs.width.links_among.Given as goal
 
 -- the links of the types that were seen

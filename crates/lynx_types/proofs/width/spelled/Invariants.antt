@@ -1,5 +1,5 @@
 use Rattle.std.proofs.Common.{◌≡◌, ◌+◌, length, min, take}
-use Rattle.lynx_typing.specs.Signatures.{more_types_text}
+use Rattle.typing_rules.specs.Signatures.{more_types_text}
 use Rattle.lynx_types.proofs.width.spelled.Given as goal
 
 -- the bytes before, and those of the first type and of the types that were seen

@@ -1,6 +1,6 @@
 use Rattle.std.proofs.Common.{◌≡◌, ◌+◌, min, take}
 use Rattle.std.specs.List.{sum_by}
-use Rattle.lynx_typing.specs.Signatures.{widest}
+use Rattle.typing_rules.specs.Signatures.{widest}
 use Rattle.lynx_types.proofs.width.width.Given as goal
 
 -- the bytes before, and those of the types that were seen

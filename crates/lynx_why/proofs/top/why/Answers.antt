@@ -3,7 +3,7 @@ use Rattle.std.proofs.Common.{◌≡◌, [], None, Some, refl, inl, rules}
 use Rattle.lynx_command.proofs.Courses.{no_reads}
 use Rattle.lynx_command.proofs.Puts.{no_puts}
 use Rattle.lynx_command.specs.declared.failure.Failure.TheVariants.{Usage}
-use Rattle.lynx_words.specs.Words.{one_name}
+use Rattle.command_words.specs.Words.{one_name}
 use Rattle.lynx_why.proofs.top.why.Goals as goal
 
 pub returns-in-None : goal.returns-in-None

@@ -3,8 +3,8 @@ use Rattle.std.proofs.lemmas.Result.{IfOk-weaker}
 use Rattle.lynx_code.specs.declared.code.CodeOp.{CodeOp}
 use Rattle.lynx_code.specs.declared.code.Part as kept
 use Rattle.lynx_tree.specs.declared.declaration.TypeName.{TypeName}
-use Rattle.shaped_code.specs.Sound.{Typed}
-use Rattle.thread_values.specs.Told.{values_of}
+use Rattle.machine_never_stuck.specs.Sound.{Typed}
+use Rattle.machine_values.specs.Told.{values_of}
 use Rattle.lynx_interp.proofs.Needs.{entry_for, found}
 use Rattle.machine_loops.proofs.loops.parameters.Goals as goal
 

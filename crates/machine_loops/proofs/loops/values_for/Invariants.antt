@@ -1,6 +1,6 @@
 use Rattle.std.proofs.Common.{take}
-use Rattle.shaped_code.specs.Sound.{Typed}
-use Rattle.thread_values.specs.Told.{values_of}
+use Rattle.machine_never_stuck.specs.Sound.{Typed}
+use Rattle.machine_values.specs.Told.{values_of}
 use Rattle.machine_loops.proofs.loops.values_for.Given as goal
 
 -- the values so far have their types

@@ -1,5 +1,5 @@
 use Rattle.lynx_tree.specs.Trees.{module_tree}
-use Rattle.runnable_code.proofs.Whole.{law}
+use Rattle.compiler_runnable.proofs.Whole.{law}
 use Rattle.machine_loops.proofs.module.code_of.Goals as goal
 
 pub returns-in-Ok-compile : goal.returns-in-Ok-compile

@@ -1,7 +1,7 @@
 use Rattle.std.proofs.Common.{◌≡◌, sym, subst}
 use Rattle.std.proofs.lemmas.Result.{on_ok_weaker}
-use Rattle.thread_turns.specs.Turns.{given_to}
-use Rattle.lynx_thread.specs.Told.{outcome_of}
+use Rattle.machine_turns.specs.Turns.{given_to}
+use Rattle.machine_thread.specs.Told.{outcome_of}
 use Rattle.lynx_interp.specs.Machines.{IsMachine, State}
 use Rattle.lynx_interp.proofs.Machines.{given_machine}
 use Rattle.lynx_interp.proofs.machine.Machine.give.Goals as goal

@@ -2,9 +2,9 @@ use Rattle.std.proofs.Common.{◌∙◌, ◌+◌, ◌≤◌, List, ap, arith, le
 use Rattle.std.proofs.lemmas.List.{length-map}
 use Rattle.lynx_meaning.specs.Values.{Value}
 use Rattle.lynx_tree.specs.declared.declaration.TypeName.{TypeName}
-use Rattle.thread_turns.specs.Threads.{begun}
-use Rattle.thread_values.specs.Told.{value_of, values_of}
-use Rattle.runnable_code.specs.Runnable.{HaveStarts, Part}
+use Rattle.machine_turns.specs.Threads.{begun}
+use Rattle.machine_values.specs.Told.{value_of, values_of}
+use Rattle.compiler_runnable.specs.Runnable.{HaveStarts, Part}
 use Rattle.lynx_interp.specs.Machines.{State, start_locals}
 use Rattle.lynx_interp.proofs.Machines.{part_there}
 use Rattle.lynx_interp.proofs.machine.Machine.new_thread.Goals as goal

@@ -1,4 +1,4 @@
-use Rattle.sound_turns.specs.Weights.{weight}
+use Rattle.machine_sound.specs.Weights.{weight}
 use Rattle.lynx_interp.proofs.Rounds.{IsSoFar}
 use Rattle.lynx_interp.proofs.machine.Machine.run.Given as goal
 

@@ -1,8 +1,8 @@
 use Rattle.std.proofs.Common.{◌∙◌, None, ap, subst, sym}
-use Rattle.thread_turns.specs.Threads.{Acts}
-use Rattle.lynx_thread.specs.Told.{action_of, told}
-use Rattle.lynx_thread.specs.declared.action.Action.{Action}
-use Rattle.lynx_thread.specs.declared.action.Move.{Move}
+use Rattle.machine_turns.specs.Threads.{Acts}
+use Rattle.machine_thread.specs.Told.{action_of, told}
+use Rattle.machine_thread.specs.declared.action.Action.{Action}
+use Rattle.machine_thread.specs.declared.action.Move.{Move}
 use Rattle.lynx_interp.specs.Runs.{Settles}
 use Rattle.lynx_interp.proofs.Settling.{asked_for, awaited, went_on}
 use Rattle.lynx_interp.proofs.machine.Machine.settles.Goals as goal

@@ -1,5 +1,5 @@
 use Rattle.std.proofs.Common.{arith, sym, subst, true≢false}
-use Rattle.thread_values.specs.Told.{values_of}
+use Rattle.machine_values.specs.Told.{values_of}
 use Rattle.lynx_interp.specs.Machines.{IsMachine, State}
 use Rattle.lynx_interp.proofs.Counting.{one_free}
 use Rattle.lynx_interp.proofs.Machines.{has_entry, spawned_machine}

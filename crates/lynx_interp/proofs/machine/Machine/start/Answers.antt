@@ -1,6 +1,6 @@
 use Rattle.std.proofs.Common.{◌≡◌, sym, subst}
 use Rattle.std.proofs.lemmas.Result.{IfOk-weaker}
-use Rattle.thread_turns.specs.Turns.{at_start}
+use Rattle.machine_turns.specs.Turns.{at_start}
 use Rattle.lynx_interp.specs.Machines.{IsMachine, State, start_globals, state_of}
 use Rattle.lynx_interp.proofs.Machines.{params_fit, start_machine}
 use Rattle.lynx_interp.proofs.machine.Machine.start.Goals as goal

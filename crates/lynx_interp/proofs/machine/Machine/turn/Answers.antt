@@ -1,11 +1,11 @@
 use Rattle.std.proofs.Common.{◌≡◌, ◌∙◌, ℕ, Some, ap, slice_get, slice_set, subst, sym}
 use Rattle.std.proofs.lemmas.Result.{IfOk-weaker}
-use Rattle.thread_turns.specs.Shapes.{program}
-use Rattle.thread_turns.specs.Threads.{Standing}
-use Rattle.thread_operands.specs.Operands.{IsCourse, StaysReady}
-use Rattle.lynx_thread.specs.Programs.{program_of}
-use Rattle.lynx_thread.specs.Told.{told}
-use Rattle.thread_turns.specs.Turns.{with_thread}
+use Rattle.code_shapes.specs.Shapes.{program}
+use Rattle.machine_turns.specs.Threads.{Standing}
+use Rattle.machine_steps.specs.Operands.{IsCourse, StaysReady}
+use Rattle.machine_thread.specs.Programs.{program_of}
+use Rattle.machine_thread.specs.Told.{told}
+use Rattle.machine_turns.specs.Turns.{with_thread}
 use Rattle.lynx_interp.specs.Machines.{State, state_of}
 use Rattle.lynx_interp.proofs.Counting.{none_there, thread_there}
 use Rattle.lynx_interp.proofs.machine.Machine.turn.Goals as goal
@@ -33,7 +33,8 @@ returns c =
       s,
       c.run.new.self,
       c.requires.1,
-      subst (λ (m : State). (state_of c.self.inside.code (record { globals = c.run.new.globals; threads = slice_set c.self.inside.threads.items c.from.result (Some c.run.new.self); running = c.self.inside.running; ready = c.self.inside.ready.items; awaiting = c.self.inside.awaiting.items })) ≡ record m { turns = with_thread c.args.number (Some c.run.new.self) (record m.turns { globals = c.run.new.globals }) }) c.self.view_is
+      subst (λ (m : State). (state_of c.self.inside.code (record { globals = c.run.new.globals; threads = slice_set c.self.inside.threads.items c.from.result (Some c.run.new.self); running = c.self.inside.running; ready = c.self.inside.ready.items; awaiting = c.self.inside.awaiting.items }))
+          ≡ record m { turns = with_thread c.args.number (Some c.run.new.self) (record m.turns { globals = c.run.new.globals }) }) c.self.view_is
           (ap
           (λ (k : ℕ).
           state_of c.self.inside.code

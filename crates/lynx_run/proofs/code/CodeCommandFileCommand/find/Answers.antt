@@ -2,7 +2,7 @@
 use Rattle.std.proofs.Common.{ℕ, List, ap, subst, refl, ◌∙◌, Ok, Err}
 use Rattle.std.proofs.lemmas.Result.{err_from_is_err_and}
 use Rattle.lynx_command.specs.Text.{lines_of}
-use Rattle.lynx_compile.specs.Compiled.{IsCompiledAs}
+use Rattle.compiler_source.specs.Compiled.{IsCompiledAs}
 use Rattle.lynx_run.proofs.Faults.{fault_told}
 use Rattle.lynx_run.proofs.code.CodeCommandFileCommand.find.Goals as goal
 

@@ -2,7 +2,7 @@ use Rattle.std.proofs.Common.{◌≡◌, ℕ, Bool, true, false, Option, None, S
 use Rattle.std.specs.HashMap.{get_by}
 use Rattle.std.specs.Str.{bytes_eq}
 use Rattle.std.proofs.lemmas.Slice.Eq.{bytes_eq-Decides}
-use Rattle.lynx_typing.specs.declared.key.Key.{Key}
+use Rattle.typing_rules.specs.declared.key.Key.{Key}
 use Rattle.lynx_threads.specs.Tables.{found, first_of}
 use Rattle.lynx_threads.proofs.places.Places.keep.Goals as goal
 

@@ -1,0 +1,273 @@
+-- The shapes that code gives a thread: what stands on its stack at each address, and which tries and accepts are open.
+use Rattle.std.specs.Prelude.{◌≡◌, ◌≤◌, ◌<◌, ℕ, suc, ◌+◌, ◌-◌, List, [], ◌∷◌, ◌++◌, length, map, reverse}
+use Rattle.std.specs.Prelude.{drop, Bool, true, false, IsTrue, Option, None, Some, slice_get, ⊤}
+use Rattle.std.specs.Option.{is_some}
+use Rattle.lynx_tree.specs.declared.declaration.TypeName.{TypeName}
+use Rattle.lynx_tree.specs.declared.declaration.TypeName.TheVariants as types
+use Rattle.lynx_code.specs.Modules.{ArePairs}
+use Rattle.lynx_code.specs.declared.code.Code.{Code}
+use Rattle.lynx_code.specs.declared.code.CodeOp.{CodeOp}
+use Rattle.lynx_code.specs.declared.code.Part.{Part}
+use Rattle.lynx_code.specs.declared.instruction.Instruction.{Instruction}
+use Rattle.lynx_code.specs.declared.instruction.Instruction.TheVariants as code
+use Rattle.lynx_code.specs.declared.instruction.Literal.{Literal}
+use Rattle.lynx_code.specs.declared.instruction.Literal.TheVariants as literal
+use Rattle.lynx_meaning.specs.Code.{Opened, Program, Thread, value_of_literal}
+use Rattle.lynx_meaning.specs.Values.{HasType}
+
+-- the types of an operation's arguments and results
+pub record OpTypes : Type 0 where
+  pub arguments : List TypeName
+  pub results : List TypeName
+
+-- the types of the module's variables, and of its operations
+pub record ModuleTypes : Type 0 where
+  pub globals : List TypeName
+  pub ops : List OpTypes
+
+-- those of an operation, if there is one
+abbrev pub types_of : (OpTypes → List TypeName) → Option OpTypes → List TypeName
+types_of field None = []
+types_of field (Some op) = field op
+
+-- a thread before an instruction
+pub record Shape : Type 0 where
+  -- the types of its part's variables
+  pub locals : List TypeName
+  -- the types of the operands, the last one first
+  pub stack : List TypeName
+  -- the open tries, the innermost one first
+  pub tries : List Opened
+  -- how many accepts are open
+  pub accepts : ℕ
+  -- an exception is there for handlers to look at
+  pub pending : Bool
+
+-- the shape at each address; there is none behind the code
+abbrev pub Shapes : Type 0
+Shapes = ℕ → Option Shape
+
+-- ---- what a shape asks of what follows
+
+-- a thread of the first shape is one of the second
+pub record IsWithin (s wider : Shape) : Type 0 where
+  pub locals : wider.locals ≡ s.locals
+  pub stack : wider.stack ≡ s.stack
+  pub tries : wider.tries ≡ s.tries
+  pub accepts : wider.accepts ≡ s.accepts
+  pub pending : IsTrue wider.pending → IsTrue s.pending
+
+-- a thread of this shape may go on at this address
+abbrev pub Leads : Shapes → ℕ → Shape → Type 0
+Leads shapes address s = (there : Shape) × (shapes address ≡ Some there) × IsWithin s there
+
+-- the thread may raise an exception where its stack is this: the handlers of the innermost open try are there for it
+abbrev pub RaisesIn : Shapes → List TypeName → Shape → List Opened → Type 0
+RaisesIn shapes stack s [] = ⊤
+RaisesIn shapes stack s (o ∷ os) =
+    (o.height ≤ length stack) × Leads shapes o.handlers
+    (record s { stack = drop (length stack - o.height) stack; tries = os; accepts = o.accepts; pending = true })
+
+abbrev pub MayRaise : Shapes → List TypeName → Shape → Type 0
+MayRaise shapes stack s = RaisesIn shapes stack s s.tries
+
+-- the types of values that come on a stack in their order
+abbrev pub pushed : List TypeName → List TypeName → List TypeName
+pushed ts stack = reverse ts ++ stack
+
+abbrev pub literal_type : Literal → TypeName
+literal_type (literal.Int n) = types.Int
+literal_type (literal.Bool b) = types.Bool
+literal_type (literal.Text bytes) = types.Text
+
+-- what `write` takes; numbers, truths and texts are also what is compared
+abbrev pub IsPlain : TypeName → Type 0
+IsPlain types.Int = ⊤
+IsPlain types.Bool = ⊤
+IsPlain types.Text = ⊤
+IsPlain _ = ⊥
+
+abbrev pub IsRow : Option TypeName → Type 0
+IsRow (Some (types.Row n)) = ⊤
+IsRow _ = ⊥
+
+-- ---- the stack of each form of instruction
+
+abbrev pub Takes : List TypeName → Shape → (List TypeName → Type 0) → Type 0
+Takes ts s Rest = (below : List TypeName) × (s.stack ≡ ts ++ below) × Rest below
+
+-- an instruction that goes on with another stack
+abbrev pub Goes : Shapes → ℕ → Shape → List TypeName → Type 0
+Goes shapes at s stack = Leads shapes (at + 1) (record s { stack = stack })
+
+-- or raises an exception, on the stack that it found
+abbrev pub Gives : Shapes → ℕ → Shape → List TypeName → Type 0
+Gives shapes at s stack = Goes shapes at s stack × MayRaise shapes s.stack s
+
+-- an action, after which these values come on the stack; an exception leaves the stack below
+abbrev pub Asks : Shapes → ℕ → Shape → List TypeName → List TypeName → Type 0
+Asks shapes at s below ts = Goes shapes at s (pushed ts below) × MayRaise shapes below s
+
+abbrev pub Loads : Shapes → ℕ → Shape → Option TypeName → Type 0
+Loads shapes at s None = ⊥
+Loads shapes at s (Some t) = Goes shapes at s (t ∷ s.stack)
+
+abbrev pub Stores : Shapes → ℕ → Shape → Option TypeName → Type 0
+Stores shapes at s None = ⊥
+Stores shapes at s (Some t) = Takes (t ∷ []) s (λ below. Goes shapes at s below)
+
+abbrev pub LoadsMember : Shapes → ℕ → Shape → Option TypeName → Type 0
+LoadsMember shapes at s variable = IsRow variable × Takes (types.Int ∷ []) s (λ below. Gives shapes at s (types.Int ∷ below))
+
+abbrev pub StoresMember : Shapes → ℕ → Shape → Option TypeName → Type 0
+StoresMember shapes at s variable = IsRow variable × Takes (types.Int ∷ types.Int ∷ []) s (λ below. Gives shapes at s below)
+
+abbrev pub Computes : Shapes → ℕ → Shape → Type 0
+Computes shapes at s = Takes (types.Int ∷ types.Int ∷ []) s (λ below. Gives shapes at s (types.Int ∷ below))
+
+abbrev pub Compares : Shapes → ℕ → Shape → Type 0
+Compares shapes at s = Takes (types.Int ∷ types.Int ∷ []) s (λ below. Goes shapes at s (types.Bool ∷ below))
+
+abbrev pub ComparesAlike : Shapes → ℕ → Shape → Type 0
+ComparesAlike shapes at s = (t : TypeName) × IsPlain t × Takes (t ∷ t ∷ []) s (λ below. Goes shapes at s (types.Bool ∷ below))
+
+-- what decides stays, and else goes
+abbrev pub Decides : Shapes → ℕ → ℕ → Shape → Type 0
+Decides shapes at address s = Takes (types.Bool ∷ []) s (λ below. Leads shapes address s × Goes shapes at s below)
+
+-- an action on a link
+abbrev pub AsksOnLink : Shapes → ℕ → Shape → Type 0
+AsksOnLink shapes at s = Takes (types.Link ∷ []) s (λ below. Asks shapes at s below [])
+
+abbrev pub Connects : Shapes → ℕ → Shape → Option OpTypes → Type 0
+Connects shapes at s None = ⊥
+Connects shapes at s (Some op) = Takes (types.Link ∷ reverse op.arguments) s (λ below. Asks shapes at s below op.results)
+
+abbrev pub Accepts : Shapes → ℕ → Shape → Option OpTypes → Type 0
+Accepts shapes at s None = ⊥
+Accepts shapes at s (Some op) =
+    Takes (types.Link ∷ []) s
+    (λ below. Goes shapes at (record s { accepts = s.accepts + 1 }) (pushed op.arguments below) × MayRaise shapes below s)
+
+-- the innermost open accept is closed, and then no longer open
+abbrev pub Closes : Shapes → ℕ → Shape → Type 0
+Closes shapes at s = (k : ℕ) × (s.accepts ≡ suc k) × Asks shapes at (record s { accepts = k }) s.stack []
+
+abbrev pub Untries : Shapes → ℕ → Shape → List Opened → Type 0
+Untries shapes at s [] = ⊥
+Untries shapes at s (o ∷ os) = Goes shapes at (record s { tries = os }) s.stack
+
+-- an instruction at this address, before which a thread has this shape
+abbrev pub Obeys : ModuleTypes → Shapes → ℕ → Shape → Instruction → Type 0
+Obeys m shapes at s (code.Push l) = HasType (literal_type l) (value_of_literal l) × Goes shapes at s (literal_type l ∷ s.stack)
+Obeys m shapes at s (code.LoadG slot) = Loads shapes at s (slice_get m.globals slot)
+Obeys m shapes at s (code.LoadL slot) = Loads shapes at s (slice_get s.locals slot)
+Obeys m shapes at s (code.AtG slot) = LoadsMember shapes at s (slice_get m.globals slot)
+Obeys m shapes at s (code.AtL slot) = LoadsMember shapes at s (slice_get s.locals slot)
+Obeys m shapes at s (code.StoreG slot) = Stores shapes at s (slice_get m.globals slot)
+Obeys m shapes at s (code.StoreL slot) = Stores shapes at s (slice_get s.locals slot)
+Obeys m shapes at s (code.PutG slot) = StoresMember shapes at s (slice_get m.globals slot)
+Obeys m shapes at s (code.PutL slot) = StoresMember shapes at s (slice_get s.locals slot)
+Obeys m shapes at s code.Add = Computes shapes at s
+Obeys m shapes at s code.Sub = Computes shapes at s
+Obeys m shapes at s code.Mul = Computes shapes at s
+Obeys m shapes at s code.Div = Computes shapes at s
+Obeys m shapes at s code.Mod = Computes shapes at s
+Obeys m shapes at s code.Neg = Takes (types.Int ∷ []) s (λ below. Gives shapes at s (types.Int ∷ below))
+Obeys m shapes at s code.Eq = ComparesAlike shapes at s
+Obeys m shapes at s code.Ne = ComparesAlike shapes at s
+Obeys m shapes at s code.Lt = Compares shapes at s
+Obeys m shapes at s code.Le = Compares shapes at s
+Obeys m shapes at s code.Gt = Compares shapes at s
+Obeys m shapes at s code.Ge = Compares shapes at s
+Obeys m shapes at s code.Not = Takes (types.Bool ∷ []) s (λ below. Goes shapes at s (types.Bool ∷ below))
+Obeys m shapes at s (code.AndJ address) = Decides shapes at address s
+Obeys m shapes at s (code.OrJ address) = Decides shapes at address s
+Obeys m shapes at s (code.JumpF address) =
+    Takes (types.Bool ∷ []) s (λ below. Goes shapes at s below × Leads shapes address (record s { stack = below }))
+Obeys m shapes at s (code.Jump address) = Leads shapes address s
+Obeys m shapes at s (code.Await address) =
+    Takes (types.Bool ∷ []) s
+    (λ below. Goes shapes at s below × Leads shapes address (record s { stack = below }) × MayRaise shapes below s)
+Obeys m shapes at s (code.Try address) =
+    Goes shapes at (record s { tries = record { handlers = address; height = length s.stack; accepts = s.accepts } ∷ s.tries }) s.stack
+Obeys m shapes at s code.Untry = Untries shapes at s s.tries
+Obeys m shapes at s (code.Case exception address) = IsTrue s.pending × Goes shapes at s s.stack × Leads shapes address s
+Obeys m shapes at s code.Again = IsTrue s.pending × MayRaise shapes s.stack s
+Obeys m shapes at s (code.Raise exception) = MayRaise shapes s.stack s
+Obeys m shapes at s code.Write = (t : TypeName) × IsPlain t × Takes (t ∷ []) s (λ below. Asks shapes at s below [])
+Obeys m shapes at s code.New = Asks shapes at s s.stack (types.Link ∷ types.Link ∷ [])
+Obeys m shapes at s code.Destroy = AsksOnLink shapes at s
+Obeys m shapes at s (code.Bind entry) = AsksOnLink shapes at s
+Obeys m shapes at s (code.Unbind entry) = AsksOnLink shapes at s
+Obeys m shapes at s (code.Connect op) = Connects shapes at s (slice_get m.ops op)
+Obeys m shapes at s (code.Accept op) = Accepts shapes at s (slice_get m.ops op)
+Obeys m shapes at s code.Close = Closes shapes at s
+Obeys m shapes at s (code.Reply k) = (ts : List TypeName) × (length ts ≡ k) × Takes ts s (λ below. Asks shapes at s below [])
+Obeys m shapes at s code.Stop = ⊤
+Obeys m shapes at s code.End = ⊤
+
+-- ---- code
+
+-- instructions that begin at this address
+abbrev pub AllObey : ModuleTypes → Shapes → ℕ → List Instruction → Type 0
+AllObey m shapes at [] = ⊤
+AllObey m shapes at (i ∷ is) = ((s : Shape) × (shapes at ≡ Some s) × Obeys m shapes at s i) × AllObey m shapes (at + 1) is
+
+-- the thread of a part before its first instruction
+abbrev pub part_shape : List TypeName → Shape
+part_shape locals = record { locals = locals; stack = []; tries = []; accepts = 0; pending = false }
+
+-- these shapes are those of the code, whose parts begin at these addresses with variables of these types
+pub record AreShapes (m : ModuleTypes) (parts : List (ℕ × List TypeName)) (instructions : List Instruction) (shapes : Shapes) : Type 0 where
+  pub code : AllObey m shapes 0 instructions
+  pub ends : (at : ℕ) (s : Shape) → shapes at ≡ Some s → at < length instructions
+  pub starts : (i at : ℕ) (locals : List TypeName) → slice_get parts i ≡ Some (at, locals) → Leads shapes at (part_shape locals)
+
+-- each instruction finds its operands
+abbrev pub IsShaped : ModuleTypes → List (ℕ × List TypeName) → List Instruction → Type 0
+IsShaped m parts instructions = (shapes : Shapes) × AreShapes m parts instructions shapes
+
+-- the program of these instructions
+abbrev pub program : ModuleTypes → List Instruction → Program
+program m instructions = record { instructions = instructions; arguments = map (λ op. length op.arguments) m.ops }
+
+-- ---- code as it is kept
+
+abbrev pub kept_op : CodeOp → OpTypes
+kept_op op = record { arguments = op.arguments.items; results = op.results.items }
+
+abbrev pub code_types : Code → ModuleTypes
+code_types made = record { globals = made.globals.items; ops = map kept_op made.ops.items }
+
+abbrev pub kept_part : Part → ℕ × List TypeName
+kept_part part = (part.start, part.locals.items)
+
+abbrev pub code_parts : Code → List (ℕ × List TypeName)
+code_parts made = map kept_part made.parts.items
+
+abbrev pub IsShapedCode : Code → Type 0
+IsShapedCode made = IsShaped (code_types made) (code_parts made) made.instructions.items
+
+-- ---- threads
+
+-- a thread before an instruction has this shape
+pub record HasShape (s : Shape) (t : Thread) : Type 0 where
+  pub locals : ArePairs HasType s.locals t.moment.store.locals
+  pub stack : ArePairs HasType s.stack t.stack
+  pub tries : t.tries ≡ s.tries
+  pub accepts : t.accepts ≡ s.accepts
+  pub pending : IsTrue s.pending → IsTrue (is_some t.pending)
+
+-- a thread at an address that has a shape
+pub record IsPlaced (shapes : Shapes) (t : Thread) : Type 0 where
+  pub shape : Shape
+  pub there : shapes t.address ≡ Some shape
+  pub has : HasShape shape t
+
+-- a thread of a module, whose code has these shapes, in its turn
+pub record IsThread (m : ModuleTypes) (shapes : Shapes) (t : Thread) : Type 0 where
+  pub shape : Shape
+  pub there : shapes t.address ≡ Some shape
+  pub has : HasShape shape t
+  pub globals : ArePairs HasType m.globals t.moment.store.globals

@@ -1,0 +1,10 @@
+-- What is left is read as the rest of all words.
+use Rattle.std.proofs.Common.{◌≡◌, length}
+use Rattle.command_words.specs.Words.{run_read}
+use Rattle.command_words.proofs.words.run_of.Given as goal
+
+abbrev pub invariant-loop-word : goal.invariant-loop-word
+invariant-loop-word l = run_read l.given l.words.items ≡ run_read l.initial.given l.initial.words.items
+
+abbrev pub decreases-loop-word : goal.decreases-loop-word
+decreases-loop-word l = length l.words.items

@@ -1,0 +1,65 @@
+-- What is known of a part of a module, and what an exception finds there.
+use Rattle.std.proofs.Common.{◌≡◌, ◌≤◌, ℕ, ◌-◌, List, [], ◌∷◌, length, Bool, true, Some, slice_get, refl, sym, subst, arith}
+use Rattle.std.proofs.lemmas.List.{drop_all}
+use Rattle.lynx_tree.specs.declared.declaration.TypeName.{TypeName}
+use Rattle.typing_rules.specs.Names.{Scope, arguments_of, results_of, type_of_variable}
+use Rattle.lynx_code.specs.Generation.{Names}
+use Rattle.lynx_code.specs.declared.instruction.Instruction.{Instruction}
+use Rattle.lynx_meaning.specs.Code.{Opened}
+use Rattle.compiler_expressions.specs.Setting.{type_at}
+use Rattle.code_shapes.specs.Shapes.{ModuleTypes, OpTypes, Shape, Shapes, Leads, MayRaise, RaisesIn}
+use Rattle.compiler_shapes.proofs.Walks.{Walks}
+
+-- a part of a module: what its names mean by the typing rules, and where they stand
+pub record Part : Type 0 where
+  pub whole : ModuleTypes
+  -- the types of its variables
+  pub locals : List TypeName
+  pub scope : Scope
+  pub names : Names
+  pub variable : (name : List ℕ) (t : TypeName) → type_of_variable (scope name) ≡ Some t → type_at whole.globals locals (names.slot name) ≡ Some t
+  pub operation : (name : List ℕ) (arguments : List TypeName) → arguments_of (scope name) ≡ Some arguments →
+      (op : OpTypes) × (slice_get whole.ops (names.op name) ≡ Some op) × (op.arguments ≡ arguments) × (results_of (scope name) ≡ Some op.results)
+
+-- what is open around a statement, and whether an exception is pending
+pub record Open : Type 0 where
+  pub tries : List Opened
+  pub accepts : ℕ
+  pub pending : Bool
+
+-- a thread there, with these operands
+abbrev pub on : Part → Open → List TypeName → Shape
+on c o ts = record { locals = c.locals; stack = ts; tries = o.tries; accepts = o.accepts; pending = o.pending }
+
+-- the handlers of the innermost open try are there; a try is opened where no operand stands
+abbrev pub Catches : List TypeName → List Opened → Shapes → Type 0
+Catches locals [] shapes = Unit {0}
+Catches locals (o ∷ os) shapes = (o.height ≡ 0) × Leads shapes o.handlers (record { locals = locals; stack = []; tries = os; accepts = o.accepts; pending = true })
+
+abbrev pub Caught : Part → Open → Shapes → Type 0
+Caught c o shapes = Catches c.locals o.tries shapes
+
+-- code on operands of these types, behind which are operands of those
+abbrev pub Passes : Part → Open → ℕ → List Instruction → List TypeName → List TypeName → Type 0
+Passes c o at is ts us = Walks c.whole (Caught c o) at is (on c o ts) (on c o us)
+
+raises_in : (shapes : Shapes) (s : Shape) (stack : List TypeName) (os : List Opened) → Catches s.locals os shapes → RaisesIn shapes stack s os
+raises_in shapes s stack [] h = tt
+raises_in shapes s stack (o ∷ os) h =
+    let low : o.height ≤ length stack = omega (arith, h.0) in
+    let all : length stack ≤ length stack - o.height = omega (arith, h.0) in
+    (low, subst (λ (ts : List TypeName). Leads shapes o.handlers (record { locals = s.locals; stack = ts; tries = os; accepts = o.accepts; pending = true })) (sym (drop_all (length stack - o.height) stack all)) h.1)
+
+-- an exception may be raised on any stack
+pub may_raise : (shapes : Shapes) (s : Shape) (stack : List TypeName) → Catches s.locals s.tries shapes → MayRaise shapes stack s
+may_raise shapes s stack h = raises_in shapes s stack s.tries h
+
+-- among handlers
+abbrev pub raised : Open → Open
+raised o = record o { pending = true }
+
+-- a pending exception need not be looked at
+pub leads_raised : (shapes : Shapes) (c : Part) (o : Open) (at : ℕ) (ts : List TypeName) → Leads shapes at (on c o ts) → Leads shapes at (on c (raised o) ts)
+leads_raised shapes c o at ts leads =
+    let within = leads.2 in
+    (leads.0, leads.1, record { locals = within.locals; stack = within.stack; tries = within.tries; accepts = within.accepts; pending = λ h. refl })

@@ -1,0 +1,138 @@
+-- Choices, loops and awaits.
+use Rattle.std.proofs.Common.{◌≡◌, ℕ, zero, suc, ◌+◌, ◌≤◌, List, [], ◌∷◌, length, Bool, true, false, if◌then◌else◌, Option, Result, Some, Ok, Err, slice_get, suc-ne-zero, refl, sym, ap, ◌∙◌, subst, le_refl, arith}
+use Rattle.lynx_tree.specs.declared.declaration.TypeName.TheVariants as types
+use Rattle.typing_rules.specs.Types.{Held, fits}
+use Rattle.typing_rules.specs.declared.exception.Exception.{Exception}
+use Rattle.lynx_code.specs.declared.instruction.Instruction.TheVariants as code
+use Rattle.lynx_meaning.specs.Agree.{Fit}
+use Rattle.lynx_meaning.specs.Code.{Goes, Opened, Thread, acts_with, goes, jumps, step, tries_again}
+use Rattle.lynx_meaning.specs.Code as machine
+use Rattle.lynx_meaning.specs.Courses.{Action, Answer, Await, Course, Moment, Out, after, and_then, does, with_value}
+use Rattle.lynx_meaning.specs.Courses as course
+use Rattle.lynx_meaning.specs.Source.{awaits, loops}
+use Rattle.lynx_meaning.specs.Values.{Value, Given, truth_of}
+use Rattle.compiler_steps.specs.Steps.{AreNested, thread}
+use Rattle.compiler_steps.proofs.Raising.{raises-thrown}
+use Rattle.compiler_steps.proofs.Reaching.{reaches-none, reaches-step}
+use Rattle.compiler_expressions.specs.Giving.{Gives}
+use Rattle.compiler_expressions.specs.Setting.{Around}
+use Rattle.compiler_expressions.proofs.Clean.{held-fits}
+use Rattle.compiler_expressions.proofs.Operators.{truth-on-top}
+use Rattle.compiler_statements.specs.Running.{Body, IsFront, IsSound, Runs, trace}
+use Rattle.compiler_statements.proofs.Acting.{runs-answered}
+use Rattle.compiler_statements.proofs.Extending.{awaits-extends, loops-extends, then-front}
+use Rattle.compiler_statements.proofs.Following.{runs-fewer, runs-from, runs-step, runs-then, runs-value}
+use Rattle.compiler_statements.proofs.Fronts.{fit-front, front-same}
+
+abbrev pub around : List Opened → ℕ → Option Exception → Moment → Around
+around tries accepts pending m = record { tries = tries; accepts = accepts; pending = pending; moment = m }
+
+nil-cons : (a : Answer) (rest : List Answer) → [] ≡ a ∷ rest → ⊥
+nil-cons a rest is = suc-ne-zero (length rest) (sym (ap length is))
+
+abbrev tail-of : List Answer → List Answer
+tail-of [] = []
+tail-of (a ∷ rest) = rest
+
+-- what comes behind an action comes with its answer
+then-given : (now : Moment) (g : Result (List Value) Exception) (next : Moment → Course) → and_then (with_value g now (λ vs. course.Goes now)) next ≡ with_value g now (λ vs. next now)
+then-given now (Ok vs) next = refl
+then-given now (Err exception) next = refl
+
+then-answered : (m : Moment) (action : Action) (left : List Answer) (next : Moment → Course) → and_then (course.answered m action left (λ vs now. course.Goes now)) next ≡ course.answered m action left (λ vs now. next now)
+then-answered m action [] next = refl
+then-answered m action (a ∷ rest) next = then-given (after m action a rest) a.given next
+
+pub then-acts : (m : Moment) (action : Action) (next : Moment → Course) → and_then (does m action) next ≡ course.acts m action (λ vs now. next now)
+then-acts m action next = then-answered m action m.answers next
+
+module _ (b : Body) (tries : List Opened) (accepts : ℕ) where
+  -- by the truth that stands on the stack, at a jump
+  by-jump : (n at address end : ℕ) (pending : Option Exception) (m : Moment) (v : Value) (truth : Bool) (yes_course no_course : Course) → slice_get b.setting.program.instructions at ≡ Some (code.JumpF address)
+      → step b.setting.program b.setting.is_entry (thread at (v ∷ []) tries accepts pending m) (code.JumpF address) ≡ (if truth then goes [] (thread at (v ∷ []) tries accepts pending m) else jumps address [] (thread at (v ∷ []) tries accepts pending m))
+      → (Fit b.tree (trace yes_course) b.answers → Runs b tries accepts n (thread (at + 1) [] tries accepts pending m) end yes_course)
+      → (Fit b.tree (trace no_course) b.answers → Runs b tries accepts n (thread address [] tries accepts pending m) end no_course)
+      → Fit b.tree (trace (if truth then yes_course else no_course)) b.answers → Runs b tries accepts (suc n) (thread at (v ∷ []) tries accepts pending m) end (if truth then yes_course else no_course)
+  by-jump n at address end pending m v true yes_course no_course here steps first second fit = runs-step b tries accepts n (thread at (v ∷ []) tries accepts pending m) (thread (at + 1) [] tries accepts pending m) (code.JumpF address) end yes_course here steps (first fit)
+  by-jump n at address end pending m v false yes_course no_course here steps first second fit = runs-step b tries accepts n (thread at (v ∷ []) tries accepts pending m) (thread address [] tries accepts pending m) (code.JumpF address) end no_course here steps (second fit)
+
+  -- a condition, and the jump that it decides, which counts
+  pub runs-condition : (n : ℕ) (t : Thread) (at address end : ℕ) (pending : Option Exception) (m : Moment) (held : Held) (o : Given) (yes_course no_course : Course) → IsSound b m
+      → Gives b.setting (around tries accepts pending m) t at [] held o → fits types.Bool held ≡ true → slice_get b.setting.program.instructions at ≡ Some (code.JumpF address)
+      → (Fit b.tree (trace yes_course) b.answers → Runs b tries accepts n (thread (at + 1) [] tries accepts pending m) end yes_course)
+      → (Fit b.tree (trace no_course) b.answers → Runs b tries accepts n (thread address [] tries accepts pending m) end no_course)
+      → Fit b.tree (trace (with_value o m (λ v. if truth_of v then yes_course else no_course))) b.answers → Runs b tries accepts (suc n) t end (with_value o m (λ v. if truth_of v then yes_course else no_course))
+  runs-condition n t at address end pending m held o yes_course no_course sound given fit_bool here first second fit =
+      runs-value b tries accepts (suc n) pending m t at end [] held o (λ v. if truth_of v then yes_course else no_course) sound given
+      (λ v of fit_v. by-jump n at address end pending m v (truth_of v) yes_course no_course here
+      (truth-on-top (λ truth stack. if truth then goes stack (thread at (v ∷ []) tries accepts pending m) else jumps address stack (thread at (v ∷ []) tries accepts pending m)) v [] (held-fits types.Bool held v fit_bool of)) first second fit_v)
+      fit
+
+  -- ---- loops
+
+  pub runs-loop : (n at middle behind : ℕ) (held : Held) (condition : Moment → Given) (body : Moment → Course) → fits types.Bool held ≡ true
+      → slice_get b.setting.program.instructions middle ≡ Some (code.JumpF (behind + 1)) → slice_get b.setting.program.instructions behind ≡ Some (code.Jump at)
+      → ((pending : Option Exception) (m : Moment) → IsSound b m → Gives b.setting (around tries accepts pending m) (thread at [] tries accepts pending m) middle [] held (condition m))
+      → ((m : Moment) → IsFront m.actions (trace (body m)))
+      → ((pending : Option Exception) (m : Moment) → IsSound b m → Fit b.tree (trace (body m)) b.answers → Runs b tries accepts n (thread (middle + 1) [] tries accepts pending m) behind (body m))
+      → (k : ℕ) → k ≤ n → (pending : Option Exception) (m : Moment) → IsSound b m → Fit b.tree (trace (loops k condition body m)) b.answers → Runs b tries accepts k (thread at [] tries accepts pending m) (behind + 1) (loops k condition body m)
+  runs-loop n at middle behind held condition body fit_bool here back tests extends turns zero le pending m sound fit =
+      let t = thread at [] tries accepts pending m in
+      runs-fewer b tries accepts 0 1 t (behind + 1) (loops 0 condition body m) (omega arith)
+      (runs-condition 0 t middle (behind + 1) (behind + 1) pending m held (condition m) (course.Over (Out m.actions)) (course.Goes m) sound (tests pending m sound) fit_bool here
+      (λ fit_yes. (0, le_refl 0, refl)) (λ fit_no. (sound, pending, reaches-none b.setting.program b.setting.is_entry _)) fit)
+  runs-loop n at middle behind held condition body fit_bool here back tests extends turns (suc k) le pending m sound fit =
+      let t = thread at [] tries accepts pending m in
+      runs-condition k t middle (behind + 1) (behind + 1) pending m held (condition m) (and_then (body m) (loops k condition body)) (course.Goes m) sound (tests pending m sound) fit_bool here
+      (λ fit_yes.
+      let fit_body = fit-front b.tree (trace (body m)) (trace (and_then (body m) (loops k condition body))) b.answers (then-front (body m) (loops k condition body) (loops-extends k condition body extends)) fit_yes in
+      runs-then b tries accepts k (thread (middle + 1) [] tries accepts pending m) behind (behind + 1) (body m) (loops k condition body)
+      (runs-fewer b tries accepts k n _ behind (body m) (omega arith) (turns pending m sound fit_body))
+      (λ later now sound_now fit_now.
+      runs-from b tries accepts k (thread behind [] tries accepts later now) (thread at [] tries accepts later now) (behind + 1) (loops k condition body now)
+      (reaches-step b.setting.program b.setting.is_entry (thread behind [] tries accepts later now) (code.Jump at) _ back refl)
+      (runs-loop n at middle behind held condition body fit_bool here back tests extends turns k (omega arith) later now sound_now fit_now))
+      fit_yes)
+      (λ fit_no. (sound, pending, reaches-none b.setting.program b.setting.is_entry _)) fit
+
+  -- ---- awaits
+
+  -- by the truth that stands on the stack, at an await
+  by-await : AreNested accepts tries → (n at middle : ℕ) (pending : Option Exception) (m : Moment) (v : Value) (truth : Bool) (left : List Answer) (next : Moment → Course) → m.answers ≡ left → IsSound b m → slice_get b.setting.program.instructions middle ≡ Some (code.Await at)
+      → step b.setting.program b.setting.is_entry (thread middle (v ∷ []) tries accepts pending m) (code.Await at)
+      ≡ (if truth then goes [] (thread middle (v ∷ []) tries accepts pending m) else machine.acts m Await (λ given now. tries_again b.setting.is_entry at given (thread middle [] tries accepts pending now)))
+      → ((m : Moment) → IsFront m.actions (trace (next m)))
+      → ((a : Answer) (rest : List Answer) → left ≡ a ∷ rest → IsSound b (after m Await a rest) → Fit b.tree (trace (next (after m Await a rest))) b.answers → Runs b tries accepts n (thread at [] tries accepts pending (after m Await a rest)) (middle + 1) (next (after m Await a rest)))
+      → Fit b.tree (trace (if truth then course.Goes m else course.acts m Await (λ vs now. next now))) b.answers
+      → Runs b tries accepts n (thread middle (v ∷ []) tries accepts pending m) (middle + 1) (if truth then course.Goes m else course.acts m Await (λ vs now. next now))
+  by-await nested n at middle pending m v true left next same sound here steps extends on fit =
+      (sound, pending, reaches-step b.setting.program b.setting.is_entry (thread middle (v ∷ []) tries accepts pending m) (code.Await at) _ here steps)
+  by-await nested n at middle pending m v false left next same sound here steps extends on fit =
+      let t = thread middle (v ∷ []) tries accepts pending m in
+      runs-answered b tries accepts n t (middle + 1) Await m m.answers (λ given now. tries_again b.setting.is_entry at given (thread middle [] tries accepts pending now)) (λ vs now. next now) tt sound (λ vs now. extends now)
+      (λ a rest vs is sound_now kinds fit_now reached.
+      runs-from b tries accepts n t (thread at [] tries accepts pending (after m Await a rest)) (middle + 1) (next (after m Await a rest)) reached (on a rest (sym same ∙ is) sound_now fit_now))
+      (λ exception now. raises-thrown b.setting.is_entry exception middle [] tries accepts pending now nested)
+      fit (reaches-step b.setting.program b.setting.is_entry t (code.Await at) _ here steps)
+
+  pub runs-await : AreNested accepts tries → (n at middle : ℕ) (held : Held) (condition : Moment → Given) → fits types.Bool held ≡ true → slice_get b.setting.program.instructions middle ≡ Some (code.Await at)
+      → ((pending : Option Exception) (m : Moment) → IsSound b m → Gives b.setting (around tries accepts pending m) (thread at [] tries accepts pending m) middle [] held (condition m))
+      → (left : List Answer) (pending : Option Exception) (m : Moment) → m.answers ≡ left → IsSound b m → Fit b.tree (trace (awaits condition left m)) b.answers → Runs b tries accepts n (thread at [] tries accepts pending m) (middle + 1) (awaits condition left m)
+  runs-await nested n at middle held condition fit_bool here tests [] pending m same sound fit =
+      runs-value b tries accepts n pending m (thread at [] tries accepts pending m) middle (middle + 1) [] held (condition m) (λ v. if truth_of v then course.Goes m else does m Await) sound (tests pending m sound)
+      (λ v of fit_v. by-await nested n at middle pending m v (truth_of v) [] (λ now. course.Goes now) same sound here
+      (truth-on-top (λ truth stack. if truth then goes stack (thread middle (v ∷ []) tries accepts pending m) else machine.acts m Await (λ given now. tries_again b.setting.is_entry at given (thread middle stack tries accepts pending now))) v [] (held-fits types.Bool held v fit_bool of))
+      (λ now. front-same now.actions) (λ a rest is sound_now fit_now. absurd (nil-cons a rest is)) fit_v)
+      fit
+  runs-await nested n at middle held condition fit_bool here tests (a ∷ rest) pending m same sound fit =
+      runs-value b tries accepts n pending m (thread at [] tries accepts pending m) middle (middle + 1) [] held (condition m) (λ v. if truth_of v then course.Goes m else and_then (does m Await) (awaits condition rest)) sound (tests pending m sound)
+      (λ v of fit_v.
+      let equal = ap (λ (c : Course). if truth_of v then course.Goes m else c) (then-acts m Await (awaits condition rest)) in
+      subst (λ (c : Course). Runs b tries accepts n (thread middle (v ∷ []) tries accepts pending m) (middle + 1) c) (sym equal)
+      (by-await nested n at middle pending m v (truth_of v) (a ∷ rest) (awaits condition rest) same sound here
+      (truth-on-top (λ truth stack. if truth then goes stack (thread middle (v ∷ []) tries accepts pending m) else machine.acts m Await (λ given now. tries_again b.setting.is_entry at given (thread middle stack tries accepts pending now))) v [] (held-fits types.Bool held v fit_bool of))
+      (awaits-extends condition rest)
+      (λ a' rest' is sound_now fit_now.
+      runs-await nested n at middle held condition fit_bool here tests rest pending (after m Await a' rest') (ap tail-of (sym is)) sound_now fit_now)
+      (subst (λ (c : Course). Fit b.tree (trace c) b.answers) equal fit_v)))
+      fit

@@ -1,6 +1,0 @@
-use Rattle.std.proofs.Common.{◌≡◌, length}
-use Rattle.interp_tests.proofs.playing.links.Given as goal
-
--- a link for each number so far
-abbrev pub invariant-loop-number : goal.invariant-loop-number
-invariant-loop-number l = length l.links.items ≡ l.number

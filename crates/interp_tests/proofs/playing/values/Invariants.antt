@@ -1,8 +1,0 @@
-use Rattle.std.proofs.Common.{take}
-use Rattle.shaped_code.specs.Sound.{Typed}
-use Rattle.thread_values.specs.Told.{values_of}
-use Rattle.interp_tests.proofs.playing.values.Given as goal
-
--- the values so far have their types
-abbrev pub invariant-loop-kind : goal.invariant-loop-kind
-invariant-loop-kind l = Typed (take l.kind-index l.kinds) (values_of l.values.items)

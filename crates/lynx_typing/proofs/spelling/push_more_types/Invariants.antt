@@ -1,7 +1,0 @@
-use Rattle.std.proofs.Common.{◌≡◌, ◌++◌, take}
-use Rattle.lynx_typing.specs.Signatures.{more_types_text}
-use Rattle.lynx_typing.proofs.spelling.push_more_types.Given as goal
-
--- the types that were seen are written
-abbrev pub invariant-loop-kind : goal.invariant-loop-kind
-invariant-loop-kind l = l.out.items ≡ l.fn.out.items ++ more_types_text (take l.kind-index l.types)

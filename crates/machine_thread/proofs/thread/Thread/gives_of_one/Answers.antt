@@ -1,0 +1,24 @@
+use Rattle.std.proofs.Common.{◌∷◌, ◌≡◌, false, ap, sym, ◌∙◌, rules, ℤ, Result}
+use Rattle.std.proofs.lemmas.Int.{to_z-of_z}
+use mir.Syntax.{w64}
+use mir.Val.{SFits}
+use Rattle.typing_rules.specs.declared.exception.Exception.{Exception}
+use Rattle.lynx_meaning.specs.Code.{gives, raises}
+use Rattle.lynx_meaning.specs.Values.{Int}
+use Rattle.machine_values.specs.Told as values
+use Rattle.machine_turns.specs.Threads.{Standing, in_turn, made}
+use Rattle.machine_thread.proofs.Answering.{where_ok}
+use Rattle.machine_thread.proofs.thread.Thread.gives_of_one.Goals as goal
+
+pub returns-in_ok-push_int-in-Err : goal.returns-in_ok-push_int-in-Err
+returns-in_ok-push_int-in-Err c =
+    let s : Standing = record c.args.self.now { stack = Int c.args.number ∷ c.args.self.now.stack } in
+    let fits : SFits w64 c.args.number = search rules in
+    let pushed : c.push_int-in-Err.new.self ≡ s = simp to_z-of_z at c.in_ok-push_int-in-Err.ensures in
+    where_ok
+    c.raises.result
+    (λ move is globals.
+    is false globals
+    ∙ ap (λ (u : Standing). made false u (raises u.is_entry c.in-Err.exception (in_turn globals u))) pushed
+    ∙ ap (λ (found : Result ℤ Exception). made false s (gives s.is_entry (values.told found) c.args.self.now.stack (in_turn globals s))) (sym c.in-Err.is))
+    c.raises.ensures

@@ -1,0 +1,127 @@
+-- Small runs of threads that take turns.
+use Rattle.std.specs.Prelude.{◌≡◌, ℕ, List, [], ◌∷◌, Bool, true, false, Option, None, Some, Ok, Err, refl, slice_get}
+use Rattle.typing_rules.specs.declared.exception.Exception.TheVariants as exceptions
+use Rattle.lynx_code.specs.declared.instruction.Instruction.{Instruction}
+use Rattle.lynx_code.specs.declared.instruction.Instruction.TheVariants as code
+use Rattle.lynx_code.specs.declared.instruction.Literal.TheVariants as literal
+use Rattle.lynx_meaning.specs.Code.{Program}
+use Rattle.lynx_meaning.specs.Courses.{Action, Connect, Accept, Close}
+use Rattle.lynx_meaning.specs.Values.{Value, Link, Truth}
+use Rattle.machine_turns.specs.Turns.{Turns, Beat, Stop, Goes, Stops, Broken, Spent, Act, AllBlocked, Finished, at_start, spawned, given_to, beats}
+
+-- code with one operation, which has no arguments
+abbrev program : List Instruction → Program
+program is = record { instructions = is; arguments = 0 ∷ [] }
+
+-- a link, and a truth
+abbrev start : Turns
+start = at_start (Link 1 ∷ Truth false ∷ [])
+
+-- the turns after so many beats, with this fuel
+abbrev run : List Instruction → ℕ → ℕ → Turns → Beat
+run is k fuel t = beats (program is) k (Goes fuel t)
+
+abbrev stopped : Beat → Option (Stop × ℕ)
+stopped (Stops stop left t) = Some (stop, left)
+stopped _ = None
+
+abbrev turns : Beat → Turns
+turns (Goes left t) = t
+turns (Stops stop left t) = t
+turns Broken = start
+
+-- ---- fuel
+
+pub a_loop_spends_its_fuel : stopped (run (code.Jump 0 ∷ []) 6 5 start) ≡ Some (Spent, 0)
+a_loop_spends_its_fuel = refl
+
+pub a_body_ends : stopped (run (code.End ∷ []) 2 1 start) ≡ Some (Finished, 0)
+a_body_ends = refl
+
+pub a_body_does_not_begin : stopped (run (code.End ∷ []) 1 0 start) ≡ Some (Spent, 0)
+a_body_does_not_begin = refl
+
+-- ---- a thread that connects
+
+abbrev connecting : List Instruction
+connecting = code.LoadG 0 ∷ code.Connect 0 ∷ code.End ∷ []
+
+abbrev connected : Beat
+connected = run connecting 2 9 start
+
+pub it_asks : stopped connected ≡ Some (Act 0 (Connect (Link 1) 0 []), 7)
+it_asks = refl
+
+pub it_is_blocked : stopped (run connecting 1 7 (turns connected)) ≡ Some (AllBlocked, 7)
+it_is_blocked = refl
+
+-- with an outcome it is ready, and what it does with it takes no fuel
+pub it_goes_on : stopped (run connecting 3 7 (given_to 0 (Ok []) (turns connected))) ≡ Some (Finished, 6)
+it_goes_on = refl
+
+pub it_does_not_go_on_without_fuel : stopped (run connecting 1 0 (given_to 0 (Ok []) (turns connected))) ≡ Some (Spent, 0)
+it_does_not_go_on_without_fuel = refl
+
+-- an exception that nothing handles ends it, after the instruction's fuel
+pub it_is_refused : stopped (run connecting 2 7 (given_to 0 (Err exceptions.DeadLink) (turns connected))) ≡ Some (Finished, 7)
+it_is_refused = refl
+
+-- ---- an entry that makes the body's condition true
+
+-- await b; end. The entry: b := true; end.
+abbrev waiting : List Instruction
+waiting = code.LoadG 1 ∷ code.Await 0 ∷ code.End ∷ code.Push (literal.Bool true) ∷ code.StoreG 1 ∷ code.End ∷ []
+
+abbrev closing : Beat
+closing = run waiting 5 20 (spawned 1 3 [] start)
+
+-- the body waits, and the entry closes its request at its end
+pub the_entry_closes : stopped closing ≡ Some (Act 1 Close, 15)
+the_entry_closes = refl
+
+-- where it has ended the body tries again
+pub the_body_goes_on : stopped (run waiting 6 15 (given_to 1 (Ok []) (turns closing))) ≡ Some (Finished, 12)
+the_body_goes_on = refl
+
+-- ---- awaits that stay false
+
+-- accept o on l; end. The entry: await b; end.
+abbrev blocking : List Instruction
+blocking = code.LoadG 0 ∷ code.Accept 0 ∷ code.End ∷ code.LoadG 1 ∷ code.Await 3 ∷ code.End ∷ []
+
+abbrev accepting : Beat
+accepting = run blocking 2 30 (spawned 2 3 [] (spawned 1 3 [] start))
+
+abbrev vain : Beat
+vain = run blocking 8 28 (turns accepting)
+
+-- the first tries again after the second has blocked, and wakes nobody
+pub all_are_blocked : stopped vain ≡ Some (AllBlocked, 22)
+all_are_blocked = refl
+
+-- they stand in the order of their last turns
+pub in_the_order_of_turns : (turns vain).awaiting ≡ 2 ∷ 1 ∷ []
+in_the_order_of_turns = refl
+
+-- a thread that accepts goes behind what is ready
+pub behind_the_ready : (given_to 0 (Ok []) (turns accepting)).ready ≡ 1 ∷ 2 ∷ 0 ∷ []
+behind_the_ready = refl
+
+-- ---- an accept that an exception leaves
+
+-- try accept o on l do raise FAILED; end; when FAILED do end; end
+abbrev leaving : List Instruction
+leaving = code.Try 4 ∷ code.LoadG 0 ∷ code.Accept 0 ∷ code.Raise exceptions.Failed ∷ code.Case exceptions.Failed 6 ∷ code.End ∷ code.Again ∷ []
+
+abbrev accepted : Beat
+accepted = run leaving 3 9 start
+
+abbrev left : Beat
+left = run leaving 2 6 (given_to 0 (Ok []) (turns accepted))
+
+pub it_is_closed : stopped left ≡ Some (Act 0 Close, 5)
+it_is_closed = refl
+
+-- the thread keeps its turn, and goes on at the handlers
+pub it_is_handled : stopped (run leaving 4 5 (given_to 0 (Ok []) (turns left))) ≡ Some (Finished, 3)
+it_is_handled = refl

@@ -1,0 +1,2 @@
+//! The turns of the threads of a LYNX process: definitions.
+#![tactic(auto)]
