@@ -7,8 +7,8 @@ use Rattle.lynx_source.specs.Sources.{Checks, IsCheckedAs}
 use Rattle.lynx_source.specs.Stages.{HasOne}
 use Rattle.lynx_source.specs.declared.fault.SourceFault.{SourceFault}
 use Rattle.lynx_source.specs.declared.fault.SourceFault.TheVariants.{NoMemory}
-use Rattle.lynx_threads.specs.declared.fault.CompileFault.{CompileFault}
-use Rattle.lynx_threads.specs.declared.fault.CompileFault.TheVariants as compile
+use Rattle.compiler_emission.specs.declared.fault.CompileFault.{CompileFault}
+use Rattle.compiler_emission.specs.declared.fault.CompileFault.TheVariants as compile
 use Rattle.lynx_tree.specs.Trees.{ModuleTree}
 use Rattle.compiler_source.specs.Compiled.{IsMeasuredAs, Compiles, IsCompiledAs, source_fault}
 

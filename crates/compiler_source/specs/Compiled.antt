@@ -7,8 +7,8 @@ use Rattle.lynx_source.specs.Stages.{Then}
 use Rattle.lynx_source.specs.declared.fault.SourceFault.{SourceFault}
 use Rattle.lynx_source.specs.declared.fault.SourceFault.TheVariants.{CodeTooLong, NoMemory}
 use Rattle.lynx_threads.specs.Agreement.{AgreesWithSource}
-use Rattle.lynx_threads.specs.declared.fault.CompileFault.{CompileFault}
-use Rattle.lynx_threads.specs.declared.fault.CompileFault.TheVariants as compile
+use Rattle.compiler_emission.specs.declared.fault.CompileFault.{CompileFault}
+use Rattle.compiler_emission.specs.declared.fault.CompileFault.TheVariants as compile
 use Rattle.lynx_tree.specs.Trees.{ModuleTree}
 
 -- the fourth stage: the same tree where its code has no more instructions than code may have, or that it has more

@@ -1,14 +1,1 @@
 pub mod Agreement
-pub mod Arms
-pub mod Closing
-pub mod Counts
-pub mod Emitting
-pub mod Entries
-pub mod Loops
-pub mod Operations
-pub mod Pairing
-pub mod Placing
-pub mod Scoping
-pub mod Statements
-pub mod Weights
-pub mod Wholes

@@ -1,4 +1,1 @@
-pub mod Tables
-pub mod Chains
-pub mod Jumps
 pub mod Agreement

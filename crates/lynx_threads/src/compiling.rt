@@ -4,10 +4,9 @@ ghost use Rattle.std.specs.Prelude.{◌≡◌, ◌<◌, ◌≤◌, length, map, 
 ghost use Rattle.lynx_tree.specs.Trees.{module_tree, op_tree};
 ghost use Rattle.lynx_code.specs.Modules.{module_code, variables, ArePairs, IsOpOf, IsCodeOf};
 ghost use Rattle.lynx_threads.specs.Agreement.{AgreesWithSource};
-ghost use Rattle.lynx_threads.specs.declared.fault.CompileFault.TheVariants as faults;
+ghost use Rattle.compiler_emission.specs.declared.fault.CompileFault.TheVariants as faults;
 
-use crate::fault::CompileFault;
-use crate::parts::{compile_parts, push_kinds};
+use compiler_emission::{CompileFault, compile_parts, push_kinds};
 use lynx_code::{Code, CodeOp};
 use lynx_lexer::NoMemory;
 use lynx_tree::{Module, OpDecl, TypeName};

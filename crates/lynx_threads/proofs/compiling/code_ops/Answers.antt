@@ -2,8 +2,8 @@ use Rattle.std.proofs.Common.{List, ◌+◌, ◌++◌, drop, map, sym, subst, �
 use Rattle.lynx_tree.specs.Trees.{op_tree}
 use Rattle.lynx_code.specs.Modules.{ArePairs, IsOpOf}
 use Rattle.lynx_code.specs.declared.code.CodeOp.{CodeOp}
-use Rattle.lynx_threads.proofs.Entries.{next_op, last_op}
-use Rattle.lynx_threads.proofs.Pairing.{IsLeft}
+use Rattle.compiler_emission.proofs.Entries.{next_op, last_op}
+use Rattle.compiler_emission.proofs.Pairing.{IsLeft}
 use Rattle.lynx_threads.proofs.compiling.code_ops.Goals as goal
 
 pub loop-op-init : goal.loop-op-init

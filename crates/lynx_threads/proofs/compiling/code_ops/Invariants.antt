@@ -1,7 +1,7 @@
 use Rattle.std.proofs.Common.{drop, map}
 use Rattle.lynx_tree.specs.Trees.{op_tree}
 use Rattle.lynx_code.specs.Modules.{IsOpOf}
-use Rattle.lynx_threads.proofs.Pairing.{IsLeft}
+use Rattle.compiler_emission.proofs.Pairing.{IsLeft}
 use Rattle.lynx_threads.proofs.compiling.code_ops.Given as goal
 
 -- what is made and what is left to make are the whole

@@ -1,0 +1,13 @@
+pub mod Arms
+pub mod Closing
+pub mod Counts
+pub mod Emitting
+pub mod Entries
+pub mod Loops
+pub mod Operations
+pub mod Pairing
+pub mod Placing
+pub mod Scoping
+pub mod Statements
+pub mod Weights
+pub mod Wholes

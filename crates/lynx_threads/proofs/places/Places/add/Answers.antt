@@ -1,6 +1,0 @@
-use Rattle.std.proofs.Common.{◌+◌, ap}
-use Rattle.lynx_threads.proofs.Placing.{grown}
-use Rattle.lynx_threads.proofs.places.Places.add.Goals as goal
-
-pub returns : goal.returns
-returns c names h = grown names c.args.name.now c.args.self.now (record { places = c.keep.new.self.places; count = c.keep.new.self.count + 1 }) h (ap (λ k. k + 1) c.keep.ensures.count) c.in_ok-keep.ensures.found

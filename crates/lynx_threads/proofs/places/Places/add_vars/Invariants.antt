@@ -1,8 +1,0 @@
-use Rattle.std.proofs.Common.{ℕ, List, ◌++◌, take, map}
-use Rattle.lynx_tree.specs.Trees.{var_tree}
-use Rattle.lynx_threads.specs.Tables.{IsTableOf}
-use Rattle.lynx_threads.proofs.places.Places.add_vars.Given as goal
-
--- the names that were seen are added
-abbrev pub invariant-loop-var : goal.invariant-loop-var
-invariant-loop-var l = (names : List (List ℕ)) → IsTableOf names l.fn.self → IsTableOf (names ++ map (λ v. v.name) (map var_tree (take l.var-index l.list))) l.self
