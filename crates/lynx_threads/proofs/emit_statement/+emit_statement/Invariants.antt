@@ -1,6 +1,5 @@
 use Rattle.std.proofs.Common.{◌≡◌, ◌+◌, ◌*◌, ◌++◌, length, drop}
-use Rattle.lynx_tree.specs.Trees.{expr_tree, stmt_tree, stmt_list, handler_list, else_list}
-use Rattle.lynx_threads.specs.Jumps.{choice_tree}
+use Rattle.lynx_tree.specs.Trees.{expr_tree, stmt_tree, stmt_list, handler_list, else_list, choice_tree}
 use Rattle.lynx_threads.specs.Tables.{names_in}
 use Rattle.lynx_threads.proofs.Emitting.{each}
 use Rattle.lynx_threads.proofs.Statements.{stmt_here, handler_here}
