@@ -4,7 +4,6 @@ use Rattle.std.specs.Prelude.{drop, Bool, true, false, IsTrue, Option, None, Som
 use Rattle.std.specs.Option.{is_some}
 use Rattle.lynx_tree.specs.declared.declaration.TypeName.{TypeName}
 use Rattle.lynx_tree.specs.declared.declaration.TypeName.TheVariants as types
-use Rattle.lynx_code.specs.Modules.{ArePairs}
 use Rattle.lynx_code.specs.declared.code.Code.{Code}
 use Rattle.lynx_code.specs.declared.code.CodeOp.{CodeOp}
 use Rattle.lynx_code.specs.declared.code.Part.{Part}
@@ -13,22 +12,13 @@ use Rattle.lynx_code.specs.declared.instruction.Instruction.TheVariants as code
 use Rattle.lynx_code.specs.declared.instruction.Literal.{Literal}
 use Rattle.lynx_code.specs.declared.instruction.Literal.TheVariants as literal
 use Rattle.lynx_meaning.specs.Code.{Opened, Program, Thread, value_of_literal}
-use Rattle.lynx_meaning.specs.Values.{HasType}
-
--- the types of an operation's arguments and results
-pub record OpTypes : Type 0 where
-  pub arguments : List TypeName
-  pub results : List TypeName
+use Rattle.lynx_meaning.specs.Needs.{OpTypes}
+use Rattle.lynx_meaning.specs.Values.{HasType, HaveTypes}
 
 -- the types of the module's variables, and of its operations
 pub record ModuleTypes : Type 0 where
   pub globals : List TypeName
   pub ops : List OpTypes
-
--- those of an operation, if there is one
-abbrev pub types_of : (OpTypes → List TypeName) → Option OpTypes → List TypeName
-types_of field None = []
-types_of field (Some op) = field op
 
 -- a thread before an instruction
 pub record Shape : Type 0 where
@@ -97,24 +87,24 @@ abbrev pub Takes : List TypeName → Shape → (List TypeName → Type 0) → Ty
 Takes ts s Rest = (below : List TypeName) × (s.stack ≡ ts ++ below) × Rest below
 
 -- an instruction that goes on with another stack
-abbrev pub Goes : Shapes → ℕ → Shape → List TypeName → Type 0
-Goes shapes at s stack = Leads shapes (at + 1) (record s { stack = stack })
+abbrev pub LeadsOn : Shapes → ℕ → Shape → List TypeName → Type 0
+LeadsOn shapes at s stack = Leads shapes (at + 1) (record s { stack = stack })
 
 -- or raises an exception, on the stack that it found
 abbrev pub Gives : Shapes → ℕ → Shape → List TypeName → Type 0
-Gives shapes at s stack = Goes shapes at s stack × MayRaise shapes s.stack s
+Gives shapes at s stack = LeadsOn shapes at s stack × MayRaise shapes s.stack s
 
 -- an action, after which these values come on the stack; an exception leaves the stack below
 abbrev pub Asks : Shapes → ℕ → Shape → List TypeName → List TypeName → Type 0
-Asks shapes at s below ts = Goes shapes at s (pushed ts below) × MayRaise shapes below s
+Asks shapes at s below ts = LeadsOn shapes at s (pushed ts below) × MayRaise shapes below s
 
 abbrev pub Loads : Shapes → ℕ → Shape → Option TypeName → Type 0
 Loads shapes at s None = ⊥
-Loads shapes at s (Some t) = Goes shapes at s (t ∷ s.stack)
+Loads shapes at s (Some t) = LeadsOn shapes at s (t ∷ s.stack)
 
 abbrev pub Stores : Shapes → ℕ → Shape → Option TypeName → Type 0
 Stores shapes at s None = ⊥
-Stores shapes at s (Some t) = Takes (t ∷ []) s (λ below. Goes shapes at s below)
+Stores shapes at s (Some t) = Takes (t ∷ []) s (λ below. LeadsOn shapes at s below)
 
 abbrev pub LoadsMember : Shapes → ℕ → Shape → Option TypeName → Type 0
 LoadsMember shapes at s variable = IsRow variable × Takes (types.Int ∷ []) s (λ below. Gives shapes at s (types.Int ∷ below))
@@ -126,14 +116,14 @@ abbrev pub Computes : Shapes → ℕ → Shape → Type 0
 Computes shapes at s = Takes (types.Int ∷ types.Int ∷ []) s (λ below. Gives shapes at s (types.Int ∷ below))
 
 abbrev pub Compares : Shapes → ℕ → Shape → Type 0
-Compares shapes at s = Takes (types.Int ∷ types.Int ∷ []) s (λ below. Goes shapes at s (types.Bool ∷ below))
+Compares shapes at s = Takes (types.Int ∷ types.Int ∷ []) s (λ below. LeadsOn shapes at s (types.Bool ∷ below))
 
 abbrev pub ComparesAlike : Shapes → ℕ → Shape → Type 0
-ComparesAlike shapes at s = (t : TypeName) × IsPlain t × Takes (t ∷ t ∷ []) s (λ below. Goes shapes at s (types.Bool ∷ below))
+ComparesAlike shapes at s = (t : TypeName) × IsPlain t × Takes (t ∷ t ∷ []) s (λ below. LeadsOn shapes at s (types.Bool ∷ below))
 
 -- what decides stays, and else goes
 abbrev pub Decides : Shapes → ℕ → ℕ → Shape → Type 0
-Decides shapes at address s = Takes (types.Bool ∷ []) s (λ below. Leads shapes address s × Goes shapes at s below)
+Decides shapes at address s = Takes (types.Bool ∷ []) s (λ below. Leads shapes address s × LeadsOn shapes at s below)
 
 -- an action on a link
 abbrev pub AsksOnLink : Shapes → ℕ → Shape → Type 0
@@ -147,7 +137,7 @@ abbrev pub Accepts : Shapes → ℕ → Shape → Option OpTypes → Type 0
 Accepts shapes at s None = ⊥
 Accepts shapes at s (Some op) =
     Takes (types.Link ∷ []) s
-    (λ below. Goes shapes at (record s { accepts = s.accepts + 1 }) (pushed op.arguments below) × MayRaise shapes below s)
+    (λ below. LeadsOn shapes at (record s { accepts = s.accepts + 1 }) (pushed op.arguments below) × MayRaise shapes below s)
 
 -- the innermost open accept is closed, and then no longer open
 abbrev pub Closes : Shapes → ℕ → Shape → Type 0
@@ -155,11 +145,11 @@ Closes shapes at s = (k : ℕ) × (s.accepts ≡ suc k) × Asks shapes at (recor
 
 abbrev pub Untries : Shapes → ℕ → Shape → List Opened → Type 0
 Untries shapes at s [] = ⊥
-Untries shapes at s (o ∷ os) = Goes shapes at (record s { tries = os }) s.stack
+Untries shapes at s (o ∷ os) = LeadsOn shapes at (record s { tries = os }) s.stack
 
 -- an instruction at this address, before which a thread has this shape
 abbrev pub Obeys : ModuleTypes → Shapes → ℕ → Shape → Instruction → Type 0
-Obeys m shapes at s (code.Push l) = HasType (literal_type l) (value_of_literal l) × Goes shapes at s (literal_type l ∷ s.stack)
+Obeys m shapes at s (code.Push l) = HasType (literal_type l) (value_of_literal l) × LeadsOn shapes at s (literal_type l ∷ s.stack)
 Obeys m shapes at s (code.LoadG slot) = Loads shapes at s (slice_get m.globals slot)
 Obeys m shapes at s (code.LoadL slot) = Loads shapes at s (slice_get s.locals slot)
 Obeys m shapes at s (code.AtG slot) = LoadsMember shapes at s (slice_get m.globals slot)
@@ -180,19 +170,19 @@ Obeys m shapes at s code.Lt = Compares shapes at s
 Obeys m shapes at s code.Le = Compares shapes at s
 Obeys m shapes at s code.Gt = Compares shapes at s
 Obeys m shapes at s code.Ge = Compares shapes at s
-Obeys m shapes at s code.Not = Takes (types.Bool ∷ []) s (λ below. Goes shapes at s (types.Bool ∷ below))
+Obeys m shapes at s code.Not = Takes (types.Bool ∷ []) s (λ below. LeadsOn shapes at s (types.Bool ∷ below))
 Obeys m shapes at s (code.AndJ address) = Decides shapes at address s
 Obeys m shapes at s (code.OrJ address) = Decides shapes at address s
 Obeys m shapes at s (code.JumpF address) =
-    Takes (types.Bool ∷ []) s (λ below. Goes shapes at s below × Leads shapes address (record s { stack = below }))
+    Takes (types.Bool ∷ []) s (λ below. LeadsOn shapes at s below × Leads shapes address (record s { stack = below }))
 Obeys m shapes at s (code.Jump address) = Leads shapes address s
 Obeys m shapes at s (code.Await address) =
     Takes (types.Bool ∷ []) s
-    (λ below. Goes shapes at s below × Leads shapes address (record s { stack = below }) × MayRaise shapes below s)
+    (λ below. LeadsOn shapes at s below × Leads shapes address (record s { stack = below }) × MayRaise shapes below s)
 Obeys m shapes at s (code.Try address) =
-    Goes shapes at (record s { tries = record { handlers = address; height = length s.stack; accepts = s.accepts } ∷ s.tries }) s.stack
+    LeadsOn shapes at (record s { tries = record { handlers = address; height = length s.stack; accepts = s.accepts } ∷ s.tries }) s.stack
 Obeys m shapes at s code.Untry = Untries shapes at s s.tries
-Obeys m shapes at s (code.Case exception address) = IsTrue s.pending × Goes shapes at s s.stack × Leads shapes address s
+Obeys m shapes at s (code.Case exception address) = IsTrue s.pending × LeadsOn shapes at s s.stack × Leads shapes address s
 Obeys m shapes at s code.Again = IsTrue s.pending × MayRaise shapes s.stack s
 Obeys m shapes at s (code.Raise exception) = MayRaise shapes s.stack s
 Obeys m shapes at s code.Write = (t : TypeName) × IsPlain t × Takes (t ∷ []) s (λ below. Asks shapes at s below [])
@@ -253,8 +243,8 @@ IsShapedCode made = IsShaped (code_types made) (code_parts made) made.instructio
 
 -- a thread before an instruction has this shape
 pub record HasShape (s : Shape) (t : Thread) : Type 0 where
-  pub locals : ArePairs HasType s.locals t.moment.store.locals
-  pub stack : ArePairs HasType s.stack t.stack
+  pub locals : HaveTypes s.locals t.moment.store.locals
+  pub stack : HaveTypes s.stack t.stack
   pub tries : t.tries ≡ s.tries
   pub accepts : t.accepts ≡ s.accepts
   pub pending : IsTrue s.pending → IsTrue (is_some t.pending)
@@ -270,4 +260,4 @@ pub record IsThread (m : ModuleTypes) (shapes : Shapes) (t : Thread) : Type 0 wh
   pub shape : Shape
   pub there : shapes t.address ≡ Some shape
   pub has : HasShape shape t
-  pub globals : ArePairs HasType m.globals t.moment.store.globals
+  pub globals : HaveTypes m.globals t.moment.store.globals

@@ -5,7 +5,7 @@ use Rattle.std.specs.Global.{Vec, Box}
 use Rattle.lynx_tree.specs.declared.expression.Expr as expr
 use Rattle.lynx_tree.specs.declared.statement.Handler.{Handler}
 use Rattle.lynx_tree.specs.declared.statement.Stmt as stmt
-use Rattle.lynx_tree.specs.Trees.{ExprTree, ExprTrees, StmtTrees, HandlerTrees, expr_tree, stmt_tree, stmt_list, handler_list, else_list}
+use Rattle.lynx_tree.specs.Trees.{ExprTree, ExprTrees, StmtTrees, HandlerTrees, expr_tree, stmt_tree, stmt_list, handler_list, else_list, choice_tree}
 use Rattle.lynx_tree.proofs.Views.{while_tree, accept_tree, try_tree, if_tree, if_else_tree}
 use Rattle.typing_rules.specs.Exceptions.{exception_of}
 use Rattle.typing_rules.specs.declared.exception.Exception.{Exception}
@@ -14,7 +14,7 @@ use Rattle.lynx_code.specs.Generation.{Names, load, expr_code, exprs_code, stmt_
 use Rattle.lynx_code.specs.declared.instruction.Instruction.{Instruction}
 use Rattle.lynx_code.specs.declared.instruction.Instruction.TheVariants as code
 use Rattle.compiler_emission.specs.declared.fault.CompileFault.{CompileFault}
-use Rattle.compiler_emission.specs.Jumps.{over_code, guarded_code, caught_code, choice_tree, handlers_count}
+use Rattle.compiler_emission.specs.Jumps.{over_code, guarded_code, caught_code, handlers_count}
 use Rattle.compiler_emission.proofs.Emitting.{both, both_long}
 use Rattle.compiler_emission.proofs.Statements.{just_over}
 

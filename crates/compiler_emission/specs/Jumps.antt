@@ -1,6 +1,6 @@
 -- Jumps over statements.
-use Rattle.std.specs.Prelude.{ℕ, ◌+◌, List, [], ◌∷◌, ◌++◌, length, Bool, true, false, Option, None, Some}
-use Rattle.lynx_tree.specs.Trees.{ExprTree, StmtTree, StmtTrees, HandlerTrees, If, IfElse, While, New, Destroy}
+use Rattle.std.specs.Prelude.{ℕ, ◌+◌, List, [], ◌∷◌, ◌++◌, length, Bool, true, false}
+use Rattle.lynx_tree.specs.Trees.{StmtTree, StmtTrees, HandlerTrees, If, IfElse, While, New, Destroy}
 use Rattle.lynx_tree.specs.Trees.{Bind, Unbind, Connect, Accept, Reply, Try, no_handlers, more_handlers}
 use Rattle.lynx_code.specs.Generation.{Names, stmts_code, handlers_code, exception_named}
 use Rattle.typing_rules.specs.Exceptions.{exception_of}
@@ -37,10 +37,6 @@ guarded_code names at body = over_code names code.Try 2 at body ++ code.Untry �
 -- its handlers, and what raises an exception that none of them is for
 abbrev pub caught_code : Names → ℕ → ℕ → HandlerTrees → List Instruction
 caught_code names behind at handlers = handlers_code names behind at handlers ++ code.Again ∷ []
-
-abbrev pub choice_tree : ExprTree → StmtTrees → Option StmtTrees → StmtTree
-choice_tree condition then_part None = If condition then_part
-choice_tree condition then_part (Some else_part) = IfElse condition then_part else_part
 
 -- a statement with others inside
 abbrev pub has_statements : StmtTree → Bool

@@ -1,7 +1,7 @@
 //! The code of statements.
 
 ghost use Rattle.std.specs.Prelude.{◌≡◌, ◌≢◌, ◌<◌, ◌≤◌, ◌+◌, ◌∷◌, [], ◌++◌, List, ℕ, length, map, reverse, slice_get, true, false, Err, Some, OnOk, IfOk};
-ghost use Rattle.lynx_tree.specs.Trees.{expr_tree, expr_list, stmt_tree, stmt_list, handler_list, else_list, assign_tree, If, IfElse, While, Await, New, Bind, Unbind, Connect, Accept, Reply, Try};
+ghost use Rattle.lynx_tree.specs.Trees.{expr_tree, expr_list, stmt_tree, stmt_list, handler_list, else_list, assign_tree, If, IfElse, While, Await, New, Bind, Unbind, Connect, Accept, Reply, Try, choice_tree};
 ghost use Rattle.lynx_code.specs.Generation.{expr_code, exprs_code, stmt_code, stmts_code, handlers_code, store, stores, exception_named};
 ghost use Rattle.lynx_code.specs.declared.instruction.Instruction.TheVariants as code_of;
 ghost use Rattle.compiler_emission.specs.declared.fault.CompileFault.TheVariants as faults;
@@ -9,7 +9,7 @@ ghost use Rattle.lynx_code.specs.declared.instruction.Instruction.{Instruction};
 ghost use Rattle.lynx_code.specs.Generation.{Names};
 ghost use Rattle.lynx_tree.specs.Trees.{HandlerTrees};
 ghost use Rattle.typing_rules.specs.declared.exception.Exception.{Exception};
-ghost use Rattle.compiler_emission.specs.Jumps.{jump_to, over_code, handler_code, handlers_count, guarded_code, caught_code, choice_tree, has_statements, acts_on_links};
+ghost use Rattle.compiler_emission.specs.Jumps.{jump_to, over_code, handler_code, handlers_count, guarded_code, caught_code, has_statements, acts_on_links};
 ghost use Rattle.compiler_emission.specs.Tables.{names_in};
 ghost use Rattle.typing_rules.specs.Exceptions.{exception_of};
 

@@ -9,11 +9,11 @@ use Rattle.typing_rules.specs.Statements.{stmts_faults}
 use Rattle.lynx_code.specs.Generation.{stmts_code}
 use Rattle.lynx_code.specs.Modules.{body_code, module_code, variables}
 use Rattle.lynx_code.specs.declared.instruction.Instruction.TheVariants as code
-use Rattle.lynx_meaning.specs.Agree.{Agrees, HaveTypes, IsFitting, Start, actions_of, source}
+use Rattle.lynx_meaning.specs.Agree.{Agrees, IsFitting, Start, actions_of, source}
 use Rattle.lynx_meaning.specs.Code.{Thread, begins, program_of}
 use Rattle.lynx_meaning.specs.Courses.{Moment}
 use Rattle.lynx_meaning.specs.Source.{PartTree, runs_all, start_store}
-use Rattle.lynx_meaning.specs.Values.{Value, start_value}
+use Rattle.lynx_meaning.specs.Values.{Value, start_value, HaveTypes}
 use Rattle.compiler_steps.specs.Steps.{StandAt}
 use Rattle.compiler_steps.proofs.Standing.{front-stands, next-stands}
 use Rattle.compiler_expressions.specs.Kinds.{HaveKinds}

@@ -5,7 +5,7 @@ use Rattle.lynx_tree.specs.Trees.{EntryTree, ModuleTree, OpTree, VarTree}
 use Rattle.lynx_tree.specs.declared.declaration.TypeName.{TypeName}
 use Rattle.typing_rules.specs.Names.{Declared, Meaning, Variable, Operation, Entry, arguments_of, each_at, entries_at, entry_named, entry_size, inside, known, local_names, locals_at, meaning_in}
 use Rattle.typing_rules.specs.Names.{module_scope, op_named, op_size, ops_at, or_outside, parameters_at, parameters_named, params_at, results_of, type_of_variable, var_named, var_size, vars_at}
-use Rattle.lynx_code.specs.Modules.{global_names, names_of, op_names, place_in, place_of, slot_at, variables}
+use Rattle.lynx_code.specs.Modules.{global_names, names_of, op_names, place_in, index_of, slot_at, variables}
 use Rattle.lynx_code.specs.Modules as modules
 use Rattle.compiler_expressions.specs.Setting.{type_at}
 
@@ -114,7 +114,7 @@ outside-variable (Some (Operation left rs)) pv e number place ops ts t ho hp he 
 outside-variable (Some (Variable u)) pv e number place ops ts t ho hp he is = absurd ho
 outside-variable (Some Entry) pv e number place ops ts t ho hp he is = absurd ho
 
-pub module-variable : (m : ModuleTree) (name : List ℕ) (t : TypeName) → type_of_variable (module_scope m name) ≡ Some t → slice_get (map (λ v. v.kind) (variables m)) (place_of (global_names m) name) ≡ Some t
+pub module-variable : (m : ModuleTree) (name : List ℕ) (t : TypeName) → type_of_variable (module_scope m name) ≡ Some t → slice_get (map (λ v. v.kind) (variables m)) (index_of (global_names m) name) ≡ Some t
 module-variable m name t is =
     outside-variable (meaning_in (each_at op_size op_named ops_at m.ops) name) (meaning_in (each_at var_size var_named (params_at m) m.params ++ each_at var_size var_named (vars_at m) m.vars) name) (meaning_in (each_at entry_size entry_named (entries_at m) m.entries) name)
     (place_in (op_names m) name) (place_in (global_names m) name) m.ops (map (λ v. v.kind) (variables m)) t
@@ -136,7 +136,7 @@ outside-operation (Some (Operation left rs)) pv e None place ops arguments vs ho
 outside-operation (Some (Variable u)) pv e number place ops arguments vs ho hp he is = absurd ho
 outside-operation (Some Entry) pv e number place ops arguments vs ho hp he is = absurd ho
 
-pub module-operation : (m : ModuleTree) (name : List ℕ) (arguments : List TypeName) → arguments_of (module_scope m name) ≡ Some arguments → (op : OpTree) × (slice_get m.ops (place_of (op_names m) name) ≡ Some op) × (op.arguments ≡ arguments) × (results_of (module_scope m name) ≡ Some op.results)
+pub module-operation : (m : ModuleTree) (name : List ℕ) (arguments : List TypeName) → arguments_of (module_scope m name) ≡ Some arguments → (op : OpTree) × (slice_get m.ops (index_of (op_names m) name) ≡ Some op) × (op.arguments ≡ arguments) × (results_of (module_scope m name) ≡ Some op.results)
 module-operation m name arguments is =
     let found = outside-operation (meaning_in (each_at op_size op_named ops_at m.ops) name) (meaning_in (each_at var_size var_named (params_at m) m.params ++ each_at var_size var_named (vars_at m) m.vars) name) (meaning_in (each_at entry_size entry_named (entries_at m) m.entries) name)
     (place_in (op_names m) name) (place_in (global_names m) name) m.ops arguments (map (λ v. v.kind) (variables m))
@@ -154,13 +154,13 @@ inside-variable (Some (Variable u)) o None outside gs ls t h on is = absurd h
 inside-variable (Some (Operation left rs)) o place outside gs ls t h on is = absurd h
 inside-variable (Some Entry) o place outside gs ls t h on is = absurd h
 
-pub main-variable : (m : ModuleTree) (name : List ℕ) (t : TypeName) → type_of_variable (module_scope m name) ≡ Some t → type_at (map (λ v. v.kind) (variables m)) [] (slot_at (place_in [] name) (place_of (global_names m) name)) ≡ Some t
+pub main-variable : (m : ModuleTree) (name : List ℕ) (t : TypeName) → type_of_variable (module_scope m name) ≡ Some t → type_at (map (λ v. v.kind) (variables m)) [] (slot_at (place_in [] name) (index_of (global_names m) name)) ≡ Some t
 main-variable m name t is = module-variable m name t is
 
 pub entry-variable : (m : ModuleTree) (at : ℕ) (e : EntryTree) (name : List ℕ) (t : TypeName) → length e.parameters ≡ length (known (arguments_of (module_scope m e.op))) → type_of_variable (inside (local_names (module_scope m) at e) (module_scope m) name) ≡ Some t
-    → type_at (map (λ v. v.kind) (variables m)) (known (arguments_of (module_scope m e.op)) ++ map (λ v. v.kind) e.vars) (slot_at (place_in (modules.local_names e) name) (place_of (global_names m) name)) ≡ Some t
+    → type_at (map (λ v. v.kind) (variables m)) (known (arguments_of (module_scope m e.op)) ++ map (λ v. v.kind) e.vars) (slot_at (place_in (modules.local_names e) name) (index_of (global_names m) name)) ≡ Some t
 entry-variable m at e name t long is =
-    inside-variable (meaning_in (local_names (module_scope m) at e) name) (module_scope m name) (place_in (modules.local_names e) name) (place_of (global_names m) name) (map (λ v. v.kind) (variables m)) (known (arguments_of (module_scope m e.op)) ++ map (λ v. v.kind) e.vars) t
+    inside-variable (meaning_in (local_names (module_scope m) at e) name) (module_scope m name) (place_in (modules.local_names e) name) (index_of (global_names m) name) (map (λ v. v.kind) (variables m)) (known (arguments_of (module_scope m e.op)) ++ map (λ v. v.kind) e.vars) t
     (look-locals e.parameters (known (arguments_of (module_scope m e.op))) e.vars (parameters_at at) (locals_at at e) name long) (module-variable m name t) is
 
 inside-operation : (l o : Option Meaning) (place : Option ℕ) (ls : List TypeName) (arguments : List TypeName) (Q : Option (List TypeName) → Type 0) → HasPlace l place ls → (arguments_of o ≡ Some arguments → Q (results_of o)) → arguments_of (or_outside l o) ≡ Some arguments
@@ -171,8 +171,8 @@ inside-operation (Some (Operation left rs)) o place ls arguments Q h on is = abs
 inside-operation (Some Entry) o place ls arguments Q h on is = absurd h
 
 pub entry-operation : (m : ModuleTree) (at : ℕ) (e : EntryTree) (name : List ℕ) (arguments : List TypeName) → length e.parameters ≡ length (known (arguments_of (module_scope m e.op))) → arguments_of (inside (local_names (module_scope m) at e) (module_scope m) name) ≡ Some arguments
-    → (op : OpTree) × (slice_get m.ops (place_of (op_names m) name) ≡ Some op) × (op.arguments ≡ arguments) × (results_of (inside (local_names (module_scope m) at e) (module_scope m) name) ≡ Some op.results)
+    → (op : OpTree) × (slice_get m.ops (index_of (op_names m) name) ≡ Some op) × (op.arguments ≡ arguments) × (results_of (inside (local_names (module_scope m) at e) (module_scope m) name) ≡ Some op.results)
 entry-operation m at e name arguments long is =
     inside-operation (meaning_in (local_names (module_scope m) at e) name) (module_scope m name) (place_in (modules.local_names e) name) (known (arguments_of (module_scope m e.op)) ++ map (λ v. v.kind) e.vars) arguments
-    (λ r. (op : OpTree) × (slice_get m.ops (place_of (op_names m) name) ≡ Some op) × (op.arguments ≡ arguments) × (r ≡ Some op.results))
+    (λ r. (op : OpTree) × (slice_get m.ops (index_of (op_names m) name) ≡ Some op) × (op.arguments ≡ arguments) × (r ≡ Some op.results))
     (look-locals e.parameters (known (arguments_of (module_scope m e.op))) e.vars (parameters_at at) (locals_at at e) name long) (module-operation m name arguments) is

@@ -10,7 +10,7 @@ use Rattle.typing_rules.specs.Modules.{entry_faults, module_faults, names_are_ne
 use Rattle.typing_rules.specs.Names.{arguments_of, each_at, entry_body_at, inside, known, local_names, locals_at, module_scope, op_size, ops_at, entries_at, entry_size, results_of, var_size}
 use Rattle.typing_rules.specs.Rules.{Asks, entry_has_parameters, entry_is_of_op, local_name_is_new}
 use Rattle.typing_rules.specs.Statements.{stmts_faults}
-use Rattle.lynx_code.specs.Modules.{ArePairs, IsCodeOf, IsOpOf, IsPartOf, PartCode, entry_part, entry_parts, main_part, op_names, parts_of, place_of, variables}
+use Rattle.lynx_code.specs.Modules.{ArePairs, IsCodeOf, IsOpOf, IsPartOf, PartCode, entry_part, entry_parts, main_part, op_names, parts_of, index_of, variables}
 use Rattle.lynx_code.specs.declared.code.Code.{Code}
 use Rattle.lynx_code.specs.declared.code.CodeOp.{CodeOp}
 use Rattle.lynx_code.specs.declared.code.Part as kept
@@ -19,7 +19,8 @@ use Rattle.compiler_expressions.proofs.Variables.{some-of}
 use Rattle.compiler_law.proofs.Names.{module-operation}
 use Rattle.compiler_law.proofs.Parts.{each-clean}
 use Rattle.compiler_law.proofs.Whole.{no-faults}
-use Rattle.code_shapes.specs.Shapes.{OpTypes, code_types, kept_op, types_of}
+use Rattle.code_shapes.specs.Shapes.{code_types, kept_op}
+use Rattle.lynx_meaning.specs.Needs.{OpTypes, types_of, op_types}
 use Rattle.compiler_shapes.proofs.Whole as shapes
 use Rattle.compiler_runnable.specs.Law.{ModuleCodeIsRunnable}
 use Rattle.compiler_runnable.specs.Runnable as runnable
@@ -44,10 +45,10 @@ pair_at P (x ∷ xs) (z ∷ ys) (suc i) y pairs here = pair_at P xs ys i y pairs
 
 -- what the part of an entry has
 abbrev IsEntryPart : ModuleTree → Part → EntryTree → Type 0
-IsEntryPart m p e = (p.op ≡ Some (place_of (op_names m) e.op)) × (p.locals ≡ known (arguments_of (module_scope m e.op)) ++ map (λ v. v.kind) e.vars)
+IsEntryPart m p e = (p.op ≡ Some (index_of (op_names m) e.op)) × (p.locals ≡ known (arguments_of (module_scope m e.op)) ++ map (λ v. v.kind) e.vars)
 
 entry_at : (m : ModuleTree) (at : ℕ) (es : List EntryTree) (i : ℕ) (c : PartCode) → slice_get (entry_parts m at es) i ≡ Some c →
-    (e : EntryTree) × (slice_get es i ≡ Some e) × (c.op ≡ Some (place_of (op_names m) e.op)) × (c.locals ≡ known (arguments_of (module_scope m e.op)) ++ map (λ v. v.kind) e.vars)
+    (e : EntryTree) × (slice_get es i ≡ Some e) × (c.op ≡ Some (index_of (op_names m) e.op)) × (c.locals ≡ known (arguments_of (module_scope m e.op)) ++ map (λ v. v.kind) e.vars)
 entry_at m at [] i c here = absurd (none-some c here)
 entry_at m at (e ∷ es) zero c here =
     let same = same_Some (entry_part m at e) c here in
@@ -72,7 +73,7 @@ entry_part_at m made is i p here =
 
 -- its operation, with the arguments that its parameters have
 entry_operation : (m : ModuleTree) (at : ℕ) (e : EntryTree) → entry_faults (module_scope m) at e ≡ [] →
-    (op : OpTree) × (slice_get m.ops (place_of (op_names m) e.op) ≡ Some op) × (known (arguments_of (module_scope m e.op)) ≡ op.arguments)
+    (op : OpTree) × (slice_get m.ops (index_of (op_names m) e.op) ≡ Some op) × (known (arguments_of (module_scope m e.op)) ≡ op.arguments)
 entry_operation m at e clean =
     let outside = module_scope m in
     let f1 = entry_has_parameters (at + 1) (outside e.op) (length e.parameters) in
@@ -103,15 +104,15 @@ module _ (m : ModuleTree) (made : Code) (clean : AreClean m) (is : IsCodeOf m ma
   kept_arguments : (number : ℕ) (op : OpTree) → slice_get m.ops number ≡ Some op → types_of (λ o. o.arguments) (slice_get (code_types made).ops number) ≡ op.arguments
   kept_arguments number op here =
       ap (λ (qs : List OpTypes). types_of (λ o. o.arguments) (slice_get qs number)) (shapes.ops_kept m.ops made.ops.items is.ops)
-      ∙ ap (λ (q : Option OpTypes). types_of (λ o. o.arguments) q) (slice_get-map shapes.op_types m.ops number)
-      ∙ ap (λ (q : Option OpTree). types_of (λ o. o.arguments) (option_map shapes.op_types q)) here
+      ∙ ap (λ (q : Option OpTypes). types_of (λ o. o.arguments) q) (slice_get-map op_types m.ops number)
+      ∙ ap (λ (q : Option OpTree). types_of (λ o. o.arguments) (option_map op_types q)) here
 
   entry_starts : (i : ℕ) (p : Part) → slice_get (map part_of made.parts.items) (suc i) ≡ Some p → HaveStarts p.locals
   entry_starts i p here =
       let e = entry_part_at m made is i p here in
       let sound = each-clean entry_size (entry_faults (module_scope m)) (entries_at m) m.entries i e.0 clean.entries e.1 in
       let op = entry_operation m sound.0 e.0 sound.1 in
-      let of_op = each-clean op_size op_faults ops_at m.ops (place_of (op_names m) e.0.op) op.0 clean.ops op.1 in
+      let of_op = each-clean op_size op_faults ops_at m.ops (index_of (op_names m) e.0.op) op.0 clean.ops op.1 in
       subst (λ (ts : List TypeName). HaveStarts ts) (sym e.2.1)
       (both_start (known (arguments_of (module_scope m e.0.op))) (map (λ v. v.kind) e.0.vars) (subst (λ (ts : List TypeName). HaveStarts ts) (sym op.2) (arguments_start of_op.0 op.0 of_op.1)) (entry_vars m sound.0 e.0 sound.1))
 
@@ -133,7 +134,7 @@ module _ (m : ModuleTree) (made : Code) (clean : AreClean m) (is : IsCodeOf m ma
       let e = entry_part_at m made is i p here in
       let sound = each-clean entry_size (entry_faults (module_scope m)) (entries_at m) m.entries i e.0 clean.entries e.1 in
       let op = entry_operation m sound.0 e.0 sound.1 in
-      let same : parameters (code_types made) p ≡ op.0.arguments = ap (runnable.arguments_of (code_types made)) e.2.0 ∙ kept_arguments (place_of (op_names m) e.0.op) op.0 op.1 in
+      let same : parameters (code_types made) p ≡ op.0.arguments = ap (runnable.arguments_of (code_types made)) e.2.0 ∙ kept_arguments (index_of (op_names m) e.0.op) op.0 op.1 in
       (map (λ v. v.kind) e.0.vars, e.2.1 ∙ ap (λ (ts : List TypeName). ts ++ map (λ v. v.kind) e.0.vars) (op.2 ∙ sym same))
 
   kinds_kept : made.globals.items ≡ map (λ v. v.kind) m.params ++ map (λ v. v.kind) m.vars

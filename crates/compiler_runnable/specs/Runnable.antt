@@ -6,7 +6,8 @@ use Rattle.lynx_tree.specs.declared.declaration.TypeName.TheVariants as types
 use Rattle.typing_rules.specs.Types.{has_length}
 use Rattle.lynx_code.specs.declared.code.Code.{Code}
 use Rattle.lynx_code.specs.declared.code.Part as kept
-use Rattle.code_shapes.specs.Shapes.{ModuleTypes, IsShapedCode, code_types, types_of}
+use Rattle.code_shapes.specs.Shapes.{ModuleTypes, IsShapedCode, code_types}
+use Rattle.lynx_meaning.specs.Needs.{types_of}
 
 -- the body of a module, or an entry: where it begins, the operation that it serves, and the types of its parameters and variables
 pub record Part : Type 0 where

@@ -7,7 +7,8 @@ use Rattle.lynx_code.specs.Generation.{Names}
 use Rattle.lynx_code.specs.declared.instruction.Instruction.{Instruction}
 use Rattle.lynx_meaning.specs.Code.{Opened}
 use Rattle.compiler_expressions.specs.Setting.{type_at}
-use Rattle.code_shapes.specs.Shapes.{ModuleTypes, OpTypes, Shape, Shapes, Leads, MayRaise, RaisesIn}
+use Rattle.code_shapes.specs.Shapes.{ModuleTypes, Shape, Shapes, Leads, MayRaise, RaisesIn}
+use Rattle.lynx_meaning.specs.Needs.{OpTypes}
 use Rattle.compiler_shapes.proofs.Walks.{Walks}
 
 -- a part of a module: what its names mean by the typing rules, and where they stand

@@ -20,7 +20,8 @@ use Rattle.compiler_expressions.proofs.Clean.{both-clean, demand-met, judged-cle
 use Rattle.compiler_expressions.proofs.Variables.{row-type, some-of}
 use Rattle.compiler_statements.proofs.Requests.{number-met}
 use Rattle.compiler_statements.proofs.Simple.{counted}
-use Rattle.code_shapes.specs.Shapes.{OpTypes, Shape, Shapes, AsksOnLink, Connects, Leads, Obeys, pushed}
+use Rattle.code_shapes.specs.Shapes.{Shape, Shapes, AsksOnLink, Connects, Leads, Obeys, pushed}
+use Rattle.lynx_meaning.specs.Needs.{OpTypes}
 use Rattle.compiler_shapes.proofs.Expressions.{as_wanted, expr_shows, pass_on}
 use Rattle.compiler_shapes.proofs.Operands.{load_passes, plain_type, put_passes, store_passes}
 use Rattle.compiler_shapes.proofs.Parts.{Caught, Open, Part, Passes, may_raise, on}

@@ -18,7 +18,8 @@ use Rattle.compiler_expressions.proofs.Clean.{both-clean, demand-met}
 use Rattle.compiler_expressions.proofs.Variables.{some-of}
 use Rattle.compiler_statements.proofs.Handlers.{handlers-length}
 use Rattle.compiler_statements.proofs.Requests.{number-met}
-use Rattle.code_shapes.specs.Shapes.{OpTypes, Shapes, Accepts, Leads, Obeys, pushed}
+use Rattle.code_shapes.specs.Shapes.{Shapes, Accepts, Leads, Obeys, pushed}
+use Rattle.lynx_meaning.specs.Needs.{OpTypes}
 use Rattle.compiler_shapes.proofs.Expressions.{pass_on}
 use Rattle.compiler_shapes.proofs.Operands.{load_passes}
 use Rattle.compiler_shapes.proofs.Parts.{Caught, Open, Part, Passes, leads_raised, may_raise, on, raised}

@@ -13,7 +13,7 @@ use Rattle.typing_rules.specs.Names.{arguments_of, body_at, each_at, entries_at,
 use Rattle.typing_rules.specs.Rules.{Asks, Outside, Request, entry_has_parameters, entry_is_of_op, local_name_is_new}
 use Rattle.typing_rules.specs.Statements.{stmts_faults}
 use Rattle.lynx_code.specs.Generation.{stmts_code}
-use Rattle.lynx_code.specs.Modules.{ArePairs, IsCodeOf, IsOpOf, IsPartOf, PartCode, body_code, entry_part, entry_parts, instructions_of, main_part, module_code, names_of, op_names, parts_of, place_of, variables}
+use Rattle.lynx_code.specs.Modules.{ArePairs, IsCodeOf, IsOpOf, IsPartOf, PartCode, body_code, entry_part, entry_parts, instructions_of, main_part, module_code, names_of, op_names, parts_of, index_of, variables}
 use Rattle.lynx_code.specs.Modules as modules
 use Rattle.lynx_code.specs.declared.code.Code.{Code}
 use Rattle.lynx_code.specs.declared.code.CodeOp.{CodeOp}
@@ -23,7 +23,8 @@ use Rattle.lynx_code.specs.declared.instruction.Instruction.TheVariants as code
 use Rattle.compiler_expressions.proofs.Clean.{both-clean}
 use Rattle.compiler_law.proofs.Names.{entry-operation, entry-variable, main-variable, module-operation}
 use Rattle.compiler_law.proofs.Whole.{as-many, entries-and-body, no-faults}
-use Rattle.code_shapes.specs.Shapes.{ModuleTypes, OpTypes, Shape, Shapes, AllObey, IsShaped, Leads, code_parts, code_types, kept_op, kept_part, part_shape}
+use Rattle.code_shapes.specs.Shapes.{ModuleTypes, Shape, Shapes, AllObey, IsShaped, Leads, code_parts, code_types, kept_op, kept_part, part_shape}
+use Rattle.lynx_meaning.specs.Needs.{OpTypes, op_types}
 use Rattle.compiler_shapes.specs.Law.{ModuleCodeIsShaped}
 use Rattle.compiler_shapes.proofs.Literals.{AreTokens, stmts_literals}
 use Rattle.compiler_shapes.proofs.Parts.{Open, Part, on}
@@ -31,9 +32,6 @@ use Rattle.compiler_shapes.proofs.Statements.{stmts_pass}
 use Rattle.compiler_shapes.proofs.Walks.{Stand, all_back, all_front, back_stands, both_obey, front_stands, same_shape}
 
 -- ---- what a module has
-
-abbrev pub op_types : OpTree → OpTypes
-op_types op = record { arguments = op.arguments; results = op.results }
 
 abbrev tree_types : ModuleTree → ModuleTypes
 tree_types m = record { globals = map (λ v. v.kind) (variables m); ops = map op_types m.ops }
@@ -55,7 +53,7 @@ main_of m = record {
   scope = module_scope m;
   names = names_of m [];
   variable = λ name t is. main-variable m name t is;
-  operation = λ name arguments is. operation_types m (place_of (op_names m) name) arguments (results_of (module_scope m name)) (module-operation m name arguments is);
+  operation = λ name arguments is. operation_types m (index_of (op_names m) name) arguments (results_of (module_scope m name)) (module-operation m name arguments is);
 }
 
 abbrev entry_of : (m : ModuleTree) (at : ℕ) (e : EntryTree) → length e.parameters ≡ length (known (arguments_of (module_scope m e.op))) → Part
@@ -66,7 +64,7 @@ entry_of m at e long = record {
   names = names_of m (modules.local_names e);
   variable = λ name t is. entry-variable m at e name t long is;
   operation = λ name arguments is.
-      operation_types m (place_of (op_names m) name) arguments (results_of (inside (local_names (module_scope m) at e) (module_scope m) name)) (entry-operation m at e name arguments long is);
+      operation_types m (index_of (op_names m) name) arguments (results_of (inside (local_names (module_scope m) at e) (module_scope m) name)) (entry-operation m at e name arguments long is);
 }
 
 -- ---- parts, one after the other

@@ -3,12 +3,12 @@ use Rattle.std.proofs.Common.{◌≡◌, ℕ, ◌+◌, List, [], ◌∷◌, ◌+
 use Rattle.lynx_tree.specs.declared.declaration.TypeName.{TypeName}
 use Rattle.lynx_code.specs.declared.instruction.Instruction.{Instruction}
 use Rattle.typing_rules.specs.declared.exception.Exception.{Exception}
-use Rattle.lynx_meaning.specs.Agree.{Fit, Fits, HaveTypes, needed}
-use Rattle.lynx_meaning.specs.Code.{Comes, Goes, Next, Opened, Over, Thread, acts_with, answered, asks, raises, step}
+use Rattle.lynx_meaning.specs.Agree.{Fit, Fits, needed}
+use Rattle.lynx_meaning.specs.Code.{Comes, Goes, Next, Opened, Over, Thread, takes_outcome, answered, asks, raises, step}
 use Rattle.lynx_meaning.specs.Code as machine
 use Rattle.lynx_meaning.specs.Courses.{Action, Answer, Course, Moment, Waits, after, does, with_value}
 use Rattle.lynx_meaning.specs.Courses as course
-use Rattle.lynx_meaning.specs.Values.{Value}
+use Rattle.lynx_meaning.specs.Values.{Value, HaveTypes}
 use Rattle.compiler_steps.specs.Steps.{AreNested, Reaches, thread, thrown}
 use Rattle.compiler_steps.proofs.Raising.{raises-thrown}
 use Rattle.compiler_steps.proofs.Reaching.{reaches-as, reaches-step}
@@ -38,7 +38,7 @@ module _ (b : Body) (tries : List Opened) (accepts : ℕ) where
       → ((a : Answer) (rest : List Answer) (vs : List Value) → left ≡ a ∷ rest → IsSound b (after m action a rest) → HaveKinds (needed b.tree action) vs → Fit b.tree (trace (follow vs (after m action a rest))) b.answers
       → Reaches b.setting.program b.setting.is_entry t (next (Ok vs) (after m action a rest)) → Runs b tries accepts n t end (follow vs (after m action a rest)))
       → ((exception : Exception) (now : Moment) → next (Err exception) now ≡ thrown b.setting.is_entry tries accepts exception now)
-      → Fit b.tree (trace (course.answered m action left follow)) b.answers → Reaches b.setting.program b.setting.is_entry t (acts_with m action left next) → Runs b tries accepts n t end (course.answered m action left follow)
+      → Fit b.tree (trace (course.answered m action left follow)) b.answers → Reaches b.setting.program b.setting.is_entry t (takes_outcome m action left next) → Runs b tries accepts n t end (course.answered m action left follow)
   runs-answered n t end action m [] next follow is sound extends on raised fit reached = reached
   runs-answered n t end action m (a ∷ rest) next follow is sound extends on raised fit reached =
       let now = after m action a rest in
@@ -51,7 +51,7 @@ module _ (b : Body) (tries : List Opened) (accepts : ℕ) where
       → ((vs : List Value) (now : Moment) → IsFront now.actions (trace (follow vs now)))
       → ((vs : List Value) (now : Moment) → IsSound b now → HaveKinds (needed b.tree action) vs → Fit b.tree (trace (follow vs now)) b.answers → Reaches b.setting.program b.setting.is_entry t (next (Ok vs) now) → Runs b tries accepts n t end (follow vs now))
       → ((exception : Exception) (now : Moment) → next (Err exception) now ≡ thrown b.setting.is_entry tries accepts exception now)
-      → Fit b.tree (trace (course.acts m action follow)) b.answers → Reaches b.setting.program b.setting.is_entry t (machine.acts m action next) → Runs b tries accepts n t end (course.acts m action follow)
+      → Fit b.tree (trace (course.acts m action follow)) b.answers → Reaches b.setting.program b.setting.is_entry t (machine.with_outcome m action next) → Runs b tries accepts n t end (course.acts m action follow)
   runs-acts n t end action m next follow is sound extends on raised fit reached =
       runs-answered n t end action m m.answers next follow is sound extends (λ a rest vs same. on vs (after m action a rest)) raised fit reached
 
@@ -61,7 +61,7 @@ module _ (b : Body) (tries : List Opened) (accepts : ℕ) where
       → Fit b.tree (trace (does m action)) b.answers → Runs b tries accepts n (thread at stack tries accepts pending m) (at + 1) (does m action)
   runs-does nested n at stack pending m i action is none sound here steps fit =
       let t = thread at stack tries accepts pending m in
-      runs-acts n t (at + 1) action m (λ given now. answered b.setting.is_entry given (λ u. u) (thread at [] tries accepts pending now)) (λ vs now. course.Goes now) is sound (λ vs now. front-same now.actions)
+      runs-acts n t (at + 1) action m (λ given now. answered b.setting.is_entry given (λ u. u) (thread at [] tries accepts pending now)) (λ vs now. course.Proceeds now) is sound (λ vs now. front-same now.actions)
       (λ vs now sound_now kinds fit_now reached.
       let empty = none-given vs (subst (λ (ts : List TypeName). HaveKinds ts vs) none kinds) in
       (sound_now, pending, reaches-as b.setting.program b.setting.is_entry t _ _ (ap (λ (us : List Value). Goes (thread (at + 1) (reverse us ++ []) tries accepts pending now)) empty) reached))

@@ -4,9 +4,9 @@ use mathlib.Core.List.{reverse_aux}
 use Rattle.lynx_tree.specs.declared.declaration.TypeName.{TypeName}
 use Rattle.lynx_tree.specs.declared.declaration.TypeName.TheVariants as types
 use Rattle.lynx_code.specs.Modules.{ArePairs, variables}
-use Rattle.lynx_meaning.specs.Agree.{Fits, HaveTypes}
+use Rattle.lynx_meaning.specs.Agree.{Fits}
 use Rattle.lynx_meaning.specs.Courses.{Action, Answer, Moment, after}
-use Rattle.lynx_meaning.specs.Values.{Value, Int, Truth, Text, Row, Link, HasType, start_value}
+use Rattle.lynx_meaning.specs.Values.{Value, Int, Truth, Text, Row, Link, HasType, start_value, HaveTypes}
 use Rattle.compiler_expressions.specs.Kinds.{HaveKinds, IsOf}
 use Rattle.compiler_statements.specs.Running.{Body, IsAnswered, IsSound}
 use Rattle.compiler_statements.proofs.Fronts.{used-more}

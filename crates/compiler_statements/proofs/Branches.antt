@@ -5,7 +5,7 @@ use Rattle.typing_rules.specs.Types.{Held, fits}
 use Rattle.typing_rules.specs.declared.exception.Exception.{Exception}
 use Rattle.lynx_code.specs.declared.instruction.Instruction.TheVariants as code
 use Rattle.lynx_meaning.specs.Agree.{Fit}
-use Rattle.lynx_meaning.specs.Code.{Goes, Opened, Thread, acts_with, goes, jumps, step, tries_again}
+use Rattle.lynx_meaning.specs.Code.{Opened, Thread, goes, jumps, step, tries_again}
 use Rattle.lynx_meaning.specs.Code as machine
 use Rattle.lynx_meaning.specs.Courses.{Action, Answer, Await, Course, Moment, Out, after, and_then, does, with_value}
 use Rattle.lynx_meaning.specs.Courses as course
@@ -35,11 +35,11 @@ tail-of [] = []
 tail-of (a ∷ rest) = rest
 
 -- what comes behind an action comes with its answer
-then-given : (now : Moment) (g : Result (List Value) Exception) (next : Moment → Course) → and_then (with_value g now (λ vs. course.Goes now)) next ≡ with_value g now (λ vs. next now)
+then-given : (now : Moment) (g : Result (List Value) Exception) (next : Moment → Course) → and_then (with_value g now (λ vs. course.Proceeds now)) next ≡ with_value g now (λ vs. next now)
 then-given now (Ok vs) next = refl
 then-given now (Err exception) next = refl
 
-then-answered : (m : Moment) (action : Action) (left : List Answer) (next : Moment → Course) → and_then (course.answered m action left (λ vs now. course.Goes now)) next ≡ course.answered m action left (λ vs now. next now)
+then-answered : (m : Moment) (action : Action) (left : List Answer) (next : Moment → Course) → and_then (course.answered m action left (λ vs now. course.Proceeds now)) next ≡ course.answered m action left (λ vs now. next now)
 then-answered m action [] next = refl
 then-answered m action (a ∷ rest) next = then-given (after m action a rest) a.given next
 
@@ -79,11 +79,11 @@ module _ (b : Body) (tries : List Opened) (accepts : ℕ) where
   runs-loop n at middle behind held condition body fit_bool here back tests extends turns zero le pending m sound fit =
       let t = thread at [] tries accepts pending m in
       runs-fewer b tries accepts 0 1 t (behind + 1) (loops 0 condition body m) (omega arith)
-      (runs-condition 0 t middle (behind + 1) (behind + 1) pending m held (condition m) (course.Over (Out m.actions)) (course.Goes m) sound (tests pending m sound) fit_bool here
+      (runs-condition 0 t middle (behind + 1) (behind + 1) pending m held (condition m) (course.Over (Out m.actions)) (course.Proceeds m) sound (tests pending m sound) fit_bool here
       (λ fit_yes. (0, le_refl 0, refl)) (λ fit_no. (sound, pending, reaches-none b.setting.program b.setting.is_entry _)) fit)
   runs-loop n at middle behind held condition body fit_bool here back tests extends turns (suc k) le pending m sound fit =
       let t = thread at [] tries accepts pending m in
-      runs-condition k t middle (behind + 1) (behind + 1) pending m held (condition m) (and_then (body m) (loops k condition body)) (course.Goes m) sound (tests pending m sound) fit_bool here
+      runs-condition k t middle (behind + 1) (behind + 1) pending m held (condition m) (and_then (body m) (loops k condition body)) (course.Proceeds m) sound (tests pending m sound) fit_bool here
       (λ fit_yes.
       let fit_body = fit-front b.tree (trace (body m)) (trace (and_then (body m) (loops k condition body))) b.answers (then-front (body m) (loops k condition body) (loops-extends k condition body extends)) fit_yes in
       runs-then b tries accepts k (thread (middle + 1) [] tries accepts pending m) behind (behind + 1) (body m) (loops k condition body)
@@ -100,11 +100,11 @@ module _ (b : Body) (tries : List Opened) (accepts : ℕ) where
   -- by the truth that stands on the stack, at an await
   by-await : AreNested accepts tries → (n at middle : ℕ) (pending : Option Exception) (m : Moment) (v : Value) (truth : Bool) (left : List Answer) (next : Moment → Course) → m.answers ≡ left → IsSound b m → slice_get b.setting.program.instructions middle ≡ Some (code.Await at)
       → step b.setting.program b.setting.is_entry (thread middle (v ∷ []) tries accepts pending m) (code.Await at)
-      ≡ (if truth then goes [] (thread middle (v ∷ []) tries accepts pending m) else machine.acts m Await (λ given now. tries_again b.setting.is_entry at given (thread middle [] tries accepts pending now)))
+      ≡ (if truth then goes [] (thread middle (v ∷ []) tries accepts pending m) else machine.with_outcome m Await (λ given now. tries_again b.setting.is_entry at given (thread middle [] tries accepts pending now)))
       → ((m : Moment) → IsFront m.actions (trace (next m)))
       → ((a : Answer) (rest : List Answer) → left ≡ a ∷ rest → IsSound b (after m Await a rest) → Fit b.tree (trace (next (after m Await a rest))) b.answers → Runs b tries accepts n (thread at [] tries accepts pending (after m Await a rest)) (middle + 1) (next (after m Await a rest)))
-      → Fit b.tree (trace (if truth then course.Goes m else course.acts m Await (λ vs now. next now))) b.answers
-      → Runs b tries accepts n (thread middle (v ∷ []) tries accepts pending m) (middle + 1) (if truth then course.Goes m else course.acts m Await (λ vs now. next now))
+      → Fit b.tree (trace (if truth then course.Proceeds m else course.acts m Await (λ vs now. next now))) b.answers
+      → Runs b tries accepts n (thread middle (v ∷ []) tries accepts pending m) (middle + 1) (if truth then course.Proceeds m else course.acts m Await (λ vs now. next now))
   by-await nested n at middle pending m v true left next same sound here steps extends on fit =
       (sound, pending, reaches-step b.setting.program b.setting.is_entry (thread middle (v ∷ []) tries accepts pending m) (code.Await at) _ here steps)
   by-await nested n at middle pending m v false left next same sound here steps extends on fit =
@@ -119,18 +119,18 @@ module _ (b : Body) (tries : List Opened) (accepts : ℕ) where
       → ((pending : Option Exception) (m : Moment) → IsSound b m → Gives b.setting (around tries accepts pending m) (thread at [] tries accepts pending m) middle [] held (condition m))
       → (left : List Answer) (pending : Option Exception) (m : Moment) → m.answers ≡ left → IsSound b m → Fit b.tree (trace (awaits condition left m)) b.answers → Runs b tries accepts n (thread at [] tries accepts pending m) (middle + 1) (awaits condition left m)
   runs-await nested n at middle held condition fit_bool here tests [] pending m same sound fit =
-      runs-value b tries accepts n pending m (thread at [] tries accepts pending m) middle (middle + 1) [] held (condition m) (λ v. if truth_of v then course.Goes m else does m Await) sound (tests pending m sound)
-      (λ v of fit_v. by-await nested n at middle pending m v (truth_of v) [] (λ now. course.Goes now) same sound here
-      (truth-on-top (λ truth stack. if truth then goes stack (thread middle (v ∷ []) tries accepts pending m) else machine.acts m Await (λ given now. tries_again b.setting.is_entry at given (thread middle stack tries accepts pending now))) v [] (held-fits types.Bool held v fit_bool of))
+      runs-value b tries accepts n pending m (thread at [] tries accepts pending m) middle (middle + 1) [] held (condition m) (λ v. if truth_of v then course.Proceeds m else does m Await) sound (tests pending m sound)
+      (λ v of fit_v. by-await nested n at middle pending m v (truth_of v) [] (λ now. course.Proceeds now) same sound here
+      (truth-on-top (λ truth stack. if truth then goes stack (thread middle (v ∷ []) tries accepts pending m) else machine.with_outcome m Await (λ given now. tries_again b.setting.is_entry at given (thread middle stack tries accepts pending now))) v [] (held-fits types.Bool held v fit_bool of))
       (λ now. front-same now.actions) (λ a rest is sound_now fit_now. absurd (nil-cons a rest is)) fit_v)
       fit
   runs-await nested n at middle held condition fit_bool here tests (a ∷ rest) pending m same sound fit =
-      runs-value b tries accepts n pending m (thread at [] tries accepts pending m) middle (middle + 1) [] held (condition m) (λ v. if truth_of v then course.Goes m else and_then (does m Await) (awaits condition rest)) sound (tests pending m sound)
+      runs-value b tries accepts n pending m (thread at [] tries accepts pending m) middle (middle + 1) [] held (condition m) (λ v. if truth_of v then course.Proceeds m else and_then (does m Await) (awaits condition rest)) sound (tests pending m sound)
       (λ v of fit_v.
-      let equal = ap (λ (c : Course). if truth_of v then course.Goes m else c) (then-acts m Await (awaits condition rest)) in
+      let equal = ap (λ (c : Course). if truth_of v then course.Proceeds m else c) (then-acts m Await (awaits condition rest)) in
       subst (λ (c : Course). Runs b tries accepts n (thread middle (v ∷ []) tries accepts pending m) (middle + 1) c) (sym equal)
       (by-await nested n at middle pending m v (truth_of v) (a ∷ rest) (awaits condition rest) same sound here
-      (truth-on-top (λ truth stack. if truth then goes stack (thread middle (v ∷ []) tries accepts pending m) else machine.acts m Await (λ given now. tries_again b.setting.is_entry at given (thread middle stack tries accepts pending now))) v [] (held-fits types.Bool held v fit_bool of))
+      (truth-on-top (λ truth stack. if truth then goes stack (thread middle (v ∷ []) tries accepts pending m) else machine.with_outcome m Await (λ given now. tries_again b.setting.is_entry at given (thread middle stack tries accepts pending now))) v [] (held-fits types.Bool held v fit_bool of))
       (awaits-extends condition rest)
       (λ a' rest' is sound_now fit_now.
       runs-await nested n at middle held condition fit_bool here tests rest pending (after m Await a' rest') (ap tail-of (sym is)) sound_now fit_now)

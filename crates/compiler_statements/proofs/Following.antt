@@ -17,7 +17,7 @@ use Rattle.compiler_statements.specs.Running.{Body, IsSound, Runs, trace}
 module _ (b : Body) (tries : List Opened) (accepts : ℕ) where
   -- what follows a stretch
   pub runs-from : (n : ℕ) (t u : Thread) (end : ℕ) (c : Course) → Reaches b.setting.program b.setting.is_entry t (Goes u) → Runs b tries accepts n u end c → Runs b tries accepts n t end c
-  runs-from n t u end (course.Goes m) first r = (r.0, r.1, reaches-on b.setting.program b.setting.is_entry t u _ first r.2)
+  runs-from n t u end (course.Proceeds m) first r = (r.0, r.1, reaches-on b.setting.program b.setting.is_entry t u _ first r.2)
   runs-from n t u end (course.Raises exception m) first r = (r.0, reaches-on b.setting.program b.setting.is_entry t u _ first r.1)
   runs-from n t u end (course.Over (Ended actions store)) first r = r
   runs-from n t u end (course.Over (Waits actions store)) first r = reaches-on b.setting.program b.setting.is_entry t u _ first r
@@ -25,7 +25,7 @@ module _ (b : Body) (tries : List Opened) (accepts : ℕ) where
 
   -- an instruction counts
   pub runs-step : (n : ℕ) (t u : Thread) (i : Instruction) (end : ℕ) (c : Course) → slice_get b.setting.program.instructions t.address ≡ Some i → step b.setting.program b.setting.is_entry t i ≡ Goes u → Runs b tries accepts n u end c → Runs b tries accepts (suc n) t end c
-  runs-step n t u i end (course.Goes m) here steps r = (r.0, r.1, reaches-on b.setting.program b.setting.is_entry t u _ (reaches-step b.setting.program b.setting.is_entry t i (Goes u) here steps) r.2)
+  runs-step n t u i end (course.Proceeds m) here steps r = (r.0, r.1, reaches-on b.setting.program b.setting.is_entry t u _ (reaches-step b.setting.program b.setting.is_entry t i (Goes u) here steps) r.2)
   runs-step n t u i end (course.Raises exception m) here steps r = (r.0, reaches-on b.setting.program b.setting.is_entry t u _ (reaches-step b.setting.program b.setting.is_entry t i (Goes u) here steps) r.1)
   runs-step n t u i end (course.Over (Ended actions store)) here steps r = r
   runs-step n t u i end (course.Over (Waits actions store)) here steps r = reaches-on b.setting.program b.setting.is_entry t u _ (reaches-step b.setting.program b.setting.is_entry t i (Goes u) here steps) r
@@ -33,7 +33,7 @@ module _ (b : Body) (tries : List Opened) (accepts : ℕ) where
 
   -- a lower bound
   pub runs-fewer : (m n : ℕ) (t : Thread) (end : ℕ) (c : Course) → m ≤ n → Runs b tries accepts n t end c → Runs b tries accepts m t end c
-  runs-fewer m n t end (course.Goes now) le r = r
+  runs-fewer m n t end (course.Proceeds now) le r = r
   runs-fewer m n t end (course.Raises exception now) le r = r
   runs-fewer m n t end (course.Over (Ended actions store)) le r = r
   runs-fewer m n t end (course.Over (Waits actions store)) le r = r
@@ -47,7 +47,7 @@ module _ (b : Body) (tries : List Opened) (accepts : ℕ) where
   pub runs-then : (n : ℕ) (t : Thread) (middle end : ℕ) (c : Course) (next : Moment → Course) → Runs b tries accepts n t middle c
       → ((pending : Option Exception) (m : Moment) → IsSound b m → Fit b.tree (trace (next m)) b.answers → Runs b tries accepts n (thread middle [] tries accepts pending m) end (next m))
       → Fit b.tree (trace (and_then c next)) b.answers → Runs b tries accepts n t end (and_then c next)
-  runs-then n t middle end (course.Goes m) next r on fit = runs-from n t (thread middle [] tries accepts r.1 m) end (next m) r.2 (on r.1 m r.0 fit)
+  runs-then n t middle end (course.Proceeds m) next r on fit = runs-from n t (thread middle [] tries accepts r.1 m) end (next m) r.2 (on r.1 m r.0 fit)
   runs-then n t middle end (course.Raises exception m) next r on fit = r
   runs-then n t middle end (course.Over (Ended actions store)) next r on fit = r
   runs-then n t middle end (course.Over (Waits actions store)) next r on fit = r

@@ -66,7 +66,7 @@ same-test name x pending is =
 module _ (b : Body) (tries : List Opened) (accepts n : ℕ) where
   -- behind a stretch comes a jump
   pub runs-jump : (t : Thread) (at behind : ℕ) (c : Course) → slice_get b.setting.program.instructions at ≡ Some (code.Jump behind) → Runs b tries accepts n t at c → Runs b tries accepts n t behind c
-  runs-jump t at behind (course.Goes m) here r =
+  runs-jump t at behind (course.Proceeds m) here r =
       (r.0, r.1, reaches-on b.setting.program b.setting.is_entry t (thread at [] tries accepts r.1 m) _ r.2 (reaches-step b.setting.program b.setting.is_entry (thread at [] tries accepts r.1 m) (code.Jump behind) _ here refl))
   runs-jump t at behind (course.Raises exception m) here r = r
   runs-jump t at behind (course.Over (Ended actions store)) here r = r
@@ -106,8 +106,8 @@ module _ (b : Body) (tries : List Opened) (accepts n : ℕ) where
       → Runs b (opened first ∷ tries) accepts n t at c
       → ((pending : Exception) (m : Moment) → IsSound b m → Fit b.tree (trace (handlers pending m)) b.answers → Runs b tries accepts n (thread first [] tries accepts (Some pending) m) behind (handlers pending m))
       → Fit b.tree (trace (catches c handlers)) b.answers → Runs b tries accepts n t behind (catches c handlers)
-  runs-caught t at first behind (course.Goes m) handlers here next r on fit =
-      runs-jump t (at + 1) behind (course.Goes m) next
+  runs-caught t at first behind (course.Proceeds m) handlers here next r on fit =
+      runs-jump t (at + 1) behind (course.Proceeds m) next
       (r.0, r.1, reaches-on b.setting.program b.setting.is_entry t (thread at [] (opened first ∷ tries) accepts r.1 m) _ r.2 (reaches-step b.setting.program b.setting.is_entry (thread at [] (opened first ∷ tries) accepts r.1 m) code.Untry _ here refl))
   runs-caught t at first behind (course.Raises exception m) handlers here next r on fit =
       runs-from b tries accepts n t (thread first [] tries accepts (Some exception) m) behind (handlers exception m)

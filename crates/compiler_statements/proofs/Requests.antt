@@ -13,7 +13,8 @@ use Rattle.typing_rules.specs.Statements.{link_faults, names_faults, stmt_faults
 use Rattle.typing_rules.specs.declared.exception.Exception.{Exception}
 use Rattle.lynx_code.specs.Generation.{exprs_code, how_many, load, stmt_code, stores}
 use Rattle.lynx_code.specs.declared.instruction.Instruction.TheVariants as code
-use Rattle.lynx_meaning.specs.Agree.{Fit, needed, types_of}
+use Rattle.lynx_meaning.specs.Agree.{Fit, needed}
+use Rattle.lynx_meaning.specs.Needs.{OpTypes, op_types, types_of}
 use Rattle.lynx_meaning.specs.Code.{Goes, Opened, Thread, answered, asks, by_values, connects, instead, step}
 use Rattle.lynx_meaning.specs.Courses.{Accept, Action, Close, Connect, Course, Moment, Ended, Out, Reply, Waits, does, with_value}
 use Rattle.lynx_meaning.specs.Courses as course
@@ -124,15 +125,15 @@ module _ (b : Body) (tries : List Opened) (accepts n : ℕ) (nested : AreNested 
       let rest = back-stands c.program.instructions at x (load c.names link ∷ code.Connect k ∷ s) has in
       let long : end ≡ at + length (x ++ load c.names link ∷ code.Connect k ∷ s) = omega (arith, length-append x (load c.names link ∷ code.Connect k ∷ s)) in
       let here : middle + 1 + 1 + length s ≡ end = omega arith in
-      let needs : needed b.tree (Connect named k []) ≡ o.results = ap (λ (q : Option OpTree). types_of (λ r. r.results) q) found.1 in
+      let needs : needed b.tree (Connect named k []) ≡ o.results = ap (λ (q : Option OpTypes). types_of (λ r. r.results) q) (slice_get-map op_types b.tree.ops k ∙ ap (option_map op_types) found.1) in
       runs-to b tries accepts n t end (at + length (x ++ load c.names link ∷ code.Connect k ∷ s)) (runs c.names n (trees.Connect op link values results) m) long
-      (runs-values pending m t middle end (how_many values) (values_of c.names m.store values) (λ vs. course.acts m (Connect named k vs) (λ given now. course.Goes (assigns_all c.names results given now))) sound
+      (runs-values pending m t middle end (how_many values) (values_of c.names m.store values) (λ vs. course.acts m (Connect named k vs) (λ given now. course.Proceeds (assigns_all c.names results given now))) sound
       (exprs-give c (around tries accepts pending m) (ready b tries accepts n nested pending m sound) values connect_value_fits (known (arguments_of (c.scope op))) 6 at (place + 5) [] is (front-stands c.program.instructions at x (load c.names link ∷ code.Connect k ∷ s) has) p4.1)
       (λ vs size fit_vs.
       let loaded = link-loads b tries accepts n nested link middle (place + 3) (reverse vs) pending m rest.0 p3.1 sound in
       let u = thread (middle + 1) (named ∷ reverse vs) tries accepts pending m in
       let all : length vs ≡ length o.arguments = omega (arith, size, count, number, declared) in
-      runs-acts b tries accepts n (thread middle (reverse vs) tries accepts pending m) end (Connect named k vs) m (λ given now. answered c.is_entry given (λ w. w) (thread (middle + 1) [] tries accepts pending now)) (λ given now. course.Goes (assigns_all c.names results given now)) tt sound
+      runs-acts b tries accepts n (thread middle (reverse vs) tries accepts pending m) end (Connect named k vs) m (λ given now. answered c.is_entry given (λ w. w) (thread (middle + 1) [] tries accepts pending now)) (λ given now. course.Proceeds (assigns_all c.names results given now)) tt sound
       (λ given now. all-assigned-extends c.names results given now)
       (λ given now sound_now kinds fit_now reached.
       let may = may-store c results o.results given of_names (subst (λ (ts : List TypeName). HaveKinds ts given) needs kinds) in
@@ -148,10 +149,10 @@ module _ (b : Body) (tries : List Opened) (accepts n : ℕ) (nested : AreNested 
 
   -- a request is closed, however its body ended
   pub close-runs : (t : Thread) (at : ℕ) (c : Course) → slice_get b.setting.program.instructions at ≡ Some code.Close → Runs b tries (suc accepts) n t at c → Fit b.tree (trace (closes c)) b.answers → Runs b tries accepts n t (at + 1) (closes c)
-  close-runs t at (course.Goes m) here r fit =
+  close-runs t at (course.Proceeds m) here r fit =
       let e = b.setting.is_entry in
       let u = thread at [] tries (suc accepts) r.1 m in
-      runs-acts b tries accepts n t (at + 1) Close m (λ given now. answered e given (λ w. w) (thread at [] tries accepts r.1 now)) (λ vs now. course.Goes now) tt r.0 (λ vs now. front-same now.actions)
+      runs-acts b tries accepts n t (at + 1) Close m (λ given now. answered e given (λ w. w) (thread at [] tries accepts r.1 now)) (λ vs now. course.Proceeds now) tt r.0 (λ vs now. front-same now.actions)
       (λ vs now sound_now kinds fit_now reached. (sound_now, r.1, reaches-as b.setting.program e t _ _ (ap (λ (us : List Value). Goes (thread (at + 1) (reverse us ++ []) tries accepts r.1 now)) (none-given vs kinds)) reached))
       (λ exception now. raises-thrown e exception at [] tries accepts r.1 now nested)
       fit (reaches-on b.setting.program e t u _ r.2 (reaches-step b.setting.program e u code.Close _ here refl))
@@ -189,7 +190,7 @@ module _ (b : Body) (tries : List Opened) (accepts n : ℕ) (nested : AreNested 
       let number : length arguments ≡ length o.arguments = number-met (length arguments) (arguments_of (c.scope op)) o.arguments declared (demand-met _ _ _ clean_number) in
       let of_names = variables-of c accept_name_fits (λ ty there held met. demand-met _ _ _ met) (place + 5) arguments o.arguments number
       (subst (λ (q : Option (List TypeName)). names_faults accept_name_fits c.scope (place + 5) arguments (known q) ≡ []) declared clean_names) in
-      let needs : needed b.tree (Accept named k) ≡ o.arguments = ap (λ (q : Option OpTree). types_of (λ r. r.arguments) q) found.1 in
+      let needs : needed b.tree (Accept named k) ≡ o.arguments = ap (λ (q : Option OpTypes). types_of (λ r. r.arguments) q) (slice_get-map op_types b.tree.ops k ∙ ap (option_map op_types) found.1) in
       let loaded = link-loads b tries accepts n nested link at (place + 3) [] pending m has.0 clean_link sound in
       let u = thread (at + 1) (named ∷ []) tries accepts pending m in
       let one : accepts + 1 ≡ suc accepts = omega arith in

@@ -89,7 +89,7 @@ module _ (b : Body) (tries : List Opened) (accepts n : ℕ) (nested : AreNested 
       let found = some-of (type_of_variable (c.scope name)) (demand-met _ _ _ parts.0) in
       let long : at + length x + 1 ≡ at + length (x ++ store c.names name ∷ []) = omega (arith, length-append x (store c.names name ∷ [])) in
       runs-to b tries accepts n (starts at pending m) (at + length x + 1) (at + length (x ++ store c.names name ∷ [])) (runs c.names n (trees.Assign name value) m) long
-      (runs-value b tries accepts n pending m (starts at pending m) (at + length x) (at + length x + 1) [] held (value_of c.names m.store value) (λ v. course.Goes (assigns c.names name v m)) sound
+      (runs-value b tries accepts n pending m (starts at pending m) (at + length x) (at + length x + 1) [] held (value_of c.names m.store value) (λ v. course.Proceeds (assigns c.names name v m)) sound
       (expr-gives c (around tries accepts pending m) (ready pending m sound) value at (place + 2) [] is (front-stands c.program.instructions at x (store c.names name ∷ []) has) met.0)
       (λ v of fit_v.
       let kind = target-kind (type_of_variable (c.scope name)) held found.0 v found.1 (demand-met _ _ _ met.1) of in (
@@ -103,7 +103,7 @@ module _ (b : Body) (tries : List Opened) (accepts n : ℕ) (nested : AreNested 
   -- what is put into a member of a row
   put-runs : (name : List ℕ) (t : TypeName) (at : ℕ) (on : List Value) (pending : Option Exception) (m : Moment) (o : Result (List ℤ) Exception) → type_of_variable (b.setting.scope name) ≡ Some t → ((row : List ℤ) → IsOf t (Row row)) → IsSound b m → (u : Thread)
       → Reaches b.setting.program b.setting.is_entry u (put b.setting.is_entry (b.setting.names.slot name) o [] (thread at on tries accepts pending m))
-      → Runs b tries accepts n u (at + 1) (with_value o m (λ row. course.Goes (assigns b.setting.names name (Row row) m)))
+      → Runs b tries accepts n u (at + 1) (with_value o m (λ row. course.Proceeds (assigns b.setting.names name (Row row) m)))
   put-runs name t at on pending m (Ok row) is kind sound u reached =
       (assigned-sound b name t (Row row) m is (kind row) sound, pending, reaches-as b.setting.program b.setting.is_entry u _ _ (put-goes b.setting (around tries accepts pending m) (b.setting.names.slot name) at on [] row) reached)
   put-runs name t at on pending m (Err exception) is kind sound u reached =
@@ -224,7 +224,7 @@ module _ (b : Body) (tries : List Opened) (accepts n : ℕ) (nested : AreNested 
       let of_two : ArePairs (IsVariableOf c) (first ∷ second ∷ []) (types.Link ∷ types.Link ∷ []) = (link-variable c (place + 1) first p1.0, (link-variable c (place + 3) second p1.1, tt)) in
       let long : at + 1 + 2 ≡ at + 3 = omega arith in
       runs-to b tries accepts n (starts at pending m) (at + 1 + 2) (at + 3) (runs c.names n (trees.New first second) m) long
-      (runs-acts b tries accepts n (starts at pending m) (at + 1 + 2) New m (λ given now. answered c.is_entry given (λ t. t) (thread at [] tries accepts pending now)) (λ vs now. course.Goes (assigns_all c.names (first ∷ second ∷ []) vs now)) tt sound
+      (runs-acts b tries accepts n (starts at pending m) (at + 1 + 2) New m (λ given now. answered c.is_entry given (λ t. t) (thread at [] tries accepts pending now)) (λ vs now. course.Proceeds (assigns_all c.names (first ∷ second ∷ []) vs now)) tt sound
       (λ vs now. all-assigned-extends c.names (first ∷ second ∷ []) vs now)
       (λ vs now sound_now kinds fit_now reached.
       let done = given-stored (first ∷ second ∷ []) vs (at + 1) pending now (starts at pending m) (may-store c (first ∷ second ∷ []) (types.Link ∷ types.Link ∷ []) vs of_two kinds) has.1 sound_now reached in

@@ -66,7 +66,7 @@ module _ (b : Body) (n : ℕ) where
       let jump = code.JumpF end in
       runs-to b tries accepts n t end (at + length (x ++ jump ∷ y)) (runs c.names n (trees.If condition then_part) m) (two-parts at x jump y)
       (runs-fewer b tries accepts n (suc n) t end (runs c.names n (trees.If condition then_part) m) (omega arith)
-      (runs-condition b tries accepts n t (at + length x) end end pending m (shown_type c.scope condition) (value_of c.names m.store condition) (runs_all c.names n then_part m) (course.Goes m) sound
+      (runs-condition b tries accepts n t (at + length x) end end pending m (shown_type c.scope condition) (value_of c.names m.store condition) (runs_all c.names n then_part m) (course.Proceeds m) sound
       (expr-gives c (around tries accepts pending m) (ready b tries accepts n nested pending m sound) condition at (place + 1) [] is.0 (front-stands c.program.instructions at x (jump ∷ y) has) met.0)
       (demand-met _ _ _ met.1) (next-stands c.program.instructions at x jump y has)
       (λ fit_yes. run tries accepts nested request (at + length x + 1) (place + expr_size condition + 2) pending m is.1 (rest-stands c.program.instructions at x jump y has) parts.1 sound fit_yes)

@@ -7,7 +7,7 @@ use Rattle.typing_rules.specs.declared.exception.Exception.{Exception}
 use Rattle.lynx_code.specs.Modules.{variables}
 use Rattle.lynx_meaning.specs.Agree.{actions_of}
 use Rattle.lynx_meaning.specs.Code.{Comes, Goes, Opened, Over, Thread, exec}
-use Rattle.lynx_meaning.specs.Courses.{Action, Answer, Course, Moment, Outcome, Stop, Ended, Waits, Out}
+use Rattle.lynx_meaning.specs.Courses.{Action, Answer, Course, Moment, Stop, Ended, Waits, Out}
 use Rattle.lynx_meaning.specs.Courses as course
 use Rattle.compiler_steps.specs.Steps.{Reaches, thread, thrown}
 use Rattle.compiler_expressions.specs.Setting.{HasKinds, Setting}
@@ -27,7 +27,7 @@ AreUsed (action ∷ actions) (a ∷ all) left = IsAnswered action × AreUsed act
 
 -- the actions of a course
 abbrev pub trace : Course → List Action
-trace (course.Goes m) = m.actions
+trace (course.Proceeds m) = m.actions
 trace (course.Raises exception m) = m.actions
 trace (course.Over outcome) = actions_of outcome
 
@@ -57,7 +57,7 @@ pub record IsSound (b : Body) (m : Moment) : Type 0 where
 -- From this thread the code comes to what the course says: to this address; to what an exception does there; to an outcome; or beyond so
 -- many instructions, where a loop of the source would make a turn more than it may.
 abbrev pub Runs : Body → List Opened → ℕ → ℕ → Thread → ℕ → Course → Type 0
-Runs b tries accepts n t end (course.Goes m) =
+Runs b tries accepts n t end (course.Proceeds m) =
     IsSound b m × (pending : Option Exception)
     × Reaches b.setting.program b.setting.is_entry t (Goes (thread end [] tries accepts pending m))
 Runs b tries accepts n t end (course.Raises exception m) =

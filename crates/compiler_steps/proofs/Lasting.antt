@@ -1,20 +1,20 @@
 -- A thread that is over stays so with more instructions.
 use Rattle.std.proofs.Common.{◌≡◌, ℕ, zero, suc, ◌≤◌, Bool, sym, subst, ◌∙◌, ⊎_elim, arith, le_of_suc-le-suc, not-suc-le-zero}
 use Rattle.std.proofs.lemmas.Bool.{cases_lt}
-use Rattle.lynx_meaning.specs.Code.{CodeOutcome, Next, Goes, Over, Program, Thread, exec, go_on, next_of}
+use Rattle.lynx_meaning.specs.Code.{CodeBehaviour, Next, Goes, Over, Program, Thread, exec, go_on, next_of}
 use Rattle.compiler_steps.specs.Steps.{IsFinal}
 
-on : (f g : Thread → CodeOutcome) → ((t : Thread) (o : CodeOutcome) → IsFinal o → f t ≡ o → g t ≡ o) → (next : Next) (o : CodeOutcome) → IsFinal o → go_on next f ≡ o → go_on next g ≡ o
+on : (f g : Thread → CodeBehaviour) → ((t : Thread) (o : CodeBehaviour) → IsFinal o → f t ≡ o → g t ≡ o) → (next : Next) (o : CodeBehaviour) → IsFinal o → go_on next f ≡ o → go_on next g ≡ o
 on f g more (Goes t) o final is = more t o final is
 on f g more (Over outcome) o final is = is
 
-pub lasts : (p : Program) (e : Bool) (m n : ℕ) → m ≤ n → (t : Thread) (o : CodeOutcome) → IsFinal o → exec p e m t ≡ o → exec p e n t ≡ o
+pub lasts : (p : Program) (e : Bool) (m n : ℕ) → m ≤ n → (t : Thread) (o : CodeBehaviour) → IsFinal o → exec p e m t ≡ o → exec p e n t ≡ o
 lasts p e zero n le t o final is = absurd (subst IsFinal (sym is) final)
 lasts p e (suc m) zero le t o final is = absurd (not-suc-le-zero le)
 lasts p e (suc m) (suc n) le t o final is = on (exec p e m) (exec p e n) (lasts p e m n (le_of_suc-le-suc le)) (next_of p e t) o final is
 
 -- so two ends of one thread are the same
-pub one-end : (p : Program) (e : Bool) (t : Thread) (m n : ℕ) (o q : CodeOutcome) → IsFinal o → IsFinal q → exec p e m t ≡ o → exec p e n t ≡ q → o ≡ q
+pub one-end : (p : Program) (e : Bool) (t : Thread) (m n : ℕ) (o q : CodeBehaviour) → IsFinal o → IsFinal q → exec p e m t ≡ o → exec p e n t ≡ q → o ≡ q
 one-end p e t m n o q final last is was =
     ⊎_elim
     (λ lt. sym (lasts p e m n (omega arith) t o final is) ∙ was)

@@ -1,7 +1,7 @@
 -- What comes where an exception is raised.
 use Rattle.std.proofs.Common.{◌≡◌, ℕ, suc, ◌-◌, ◌≤◌, List, [], ◌∷◌, length, drop, Bool, Option, Some, refl, sym, ap, ◌∙◌, arith}
 use Rattle.typing_rules.specs.declared.exception.Exception.{Exception}
-use Rattle.lynx_meaning.specs.Code.{Goes, Opened, acts, closes, cut, instead, raises}
+use Rattle.lynx_meaning.specs.Code.{Goes, Opened, with_outcome, closes, cut, instead, raises}
 use Rattle.lynx_meaning.specs.Courses.{Close, Moment}
 use Rattle.lynx_meaning.specs.Values.{Value}
 use Rattle.compiler_steps.specs.Steps.{AreNested, thread, thrown}
@@ -26,7 +26,7 @@ raises-thrown e exception at stack (o ∷ os) accepts pending m nested =
 
 -- the innermost accept is closed first
 pub thrown-closes : (e : Bool) (exception : Exception) (tries : List Opened) (accepts : ℕ) (m : Moment) → AreNested accepts tries
-    → thrown e tries (suc accepts) exception m ≡ acts m Close (λ given now. thrown e tries accepts (instead given exception) now)
+    → thrown e tries (suc accepts) exception m ≡ with_outcome m Close (λ given now. thrown e tries accepts (instead given exception) now)
 thrown-closes e exception [] accepts m nested = refl
 thrown-closes e exception (o ∷ os) accepts m nested =
     let inner : o.accepts ≤ accepts = nested.1 in

@@ -2,7 +2,7 @@
 use Rattle.std.specs.Prelude.{◌≡◌, ℕ, ◌+◌, ◌≤◌, List, [], ◌∷◌, Bool, Option, None, Some, slice_get, ⊤}
 use Rattle.lynx_code.specs.declared.instruction.Instruction.{Instruction}
 use Rattle.typing_rules.specs.declared.exception.Exception.{Exception}
-use Rattle.lynx_meaning.specs.Code.{CodeOutcome, Comes, Next, Opened, Program, Stuck, Thread, exec, go_on, raises}
+use Rattle.lynx_meaning.specs.Code.{CodeBehaviour, Comes, Next, Opened, Program, Stuck, Thread, exec, go_on, raises}
 use Rattle.lynx_meaning.specs.Courses.{Moment, Ended, Waits, Out}
 use Rattle.lynx_meaning.specs.Values.{Value}
 
@@ -30,7 +30,7 @@ abbrev pub thrown : Bool → List Opened → ℕ → Exception → Moment → Ne
 thrown e tries accepts exception m = raises e exception (thread 0 [] tries accepts None m)
 
 -- an outcome that more instructions do not change
-abbrev pub IsFinal : CodeOutcome → Type 0
+abbrev pub IsFinal : CodeBehaviour → Type 0
 IsFinal (Comes (Ended actions store)) = ⊤
 IsFinal (Comes (Waits actions store)) = ⊤
 IsFinal (Comes (Out actions)) = ⊥

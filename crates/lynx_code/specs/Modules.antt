@@ -45,8 +45,8 @@ place_in [] name = None
 place_in (n ∷ ns) name = if bytes_eq n name then Some 0 else option_map (λ place. place + 1) (place_in ns name)
 
 -- of a name that stands there
-abbrev pub place_of : List (List ℕ) → List ℕ → ℕ
-place_of names name = unwrap_or (place_in names name) 0
+abbrev pub index_of : List (List ℕ) → List ℕ → ℕ
+index_of names name = unwrap_or (place_in names name) 0
 
 -- a local hides a variable of the module
 abbrev pub slot_at : Option ℕ → ℕ → Slot
@@ -57,9 +57,9 @@ slot_at None outside = Global outside
 abbrev pub names_of : ModuleTree → List (List ℕ) → Names
 names_of m locals =
     record {
-      slot = λ name. slot_at (place_in locals name) (place_of (global_names m) name);
-      op = place_of (op_names m);
-      entry = place_of (entry_names m);
+      slot = λ name. slot_at (place_in locals name) (index_of (global_names m) name);
+      op = index_of (op_names m);
+      entry = index_of (entry_names m);
     }
 
 -- ---- parts
@@ -76,7 +76,7 @@ abbrev pub entry_part : ModuleTree → ℕ → EntryTree → PartCode
 entry_part m at e =
     record {
       name = e.name;
-      op = Some (place_of (op_names m) e.op);
+      op = Some (index_of (op_names m) e.op);
       start = at;
       locals = known (arguments_of (module_scope m e.op)) ++ map (λ v. v.kind) e.vars;
       instructions = body_code (names_of m (local_names e)) at e.body;

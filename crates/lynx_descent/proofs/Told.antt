@@ -5,7 +5,7 @@ use Rattle.std.proofs.lemmas.List.{append-nil, map-append}
 use Rattle.lynx_lexer.specs.declared.token.Kind.{Kind}
 use Rattle.lynx_descent.specs.declared.refusal.Refusal.TheVariants as refusals
 use Rattle.lynx_tree.specs.Grammar.{Mark}
-use Rattle.lynx_descent.specs.Reading.{Parser, Outcome, and_then, ◌>>=◌, pure}
+use Rattle.lynx_descent.specs.Reading.{Parser, Parsed, then_parse, ◌>>=◌, pure}
 
 abbrev pub kinds_in : List Mark → List Kind
 kinds_in ms = map (λ (t : Mark). t.kind) ms
@@ -45,7 +45,7 @@ pub record Deep {A : Type 0} (n : ℕ) (L : A → List Mark → Type 0) (acc : L
   pub within : Within n before
   pub deep : n < one.depth
 
-abbrev pub Told : {A : Type 0} → ℕ → (A → List Mark → Type 0) → List Mark → List Kind → Outcome A → Type 0
+abbrev pub Told : {A : Type 0} → ℕ → (A → List Mark → Type 0) → List Mark → List Kind → Parsed A → Type 0
 Told n L acc ts (Ok p) = Got n L acc ts p.1 p.0
 Told n L acc ts (Err (refusals.At k)) = Left n L acc ts k
 Told n L acc ts (Err (refusals.TooDeep k)) = Deep n L acc ts k
@@ -79,7 +79,7 @@ kinds_count [] = refl
 kinds_count (m ∷ ms) = ap suc (kinds_count ms)
 
 -- tokens were read before
-pub extended : {A : Type 0} (n : ℕ) (L : A → List Mark → Type 0) (acc first : List Mark) (ts mid : List Kind) (o : Outcome A) → Within n first → ts ≡ kinds_in first ++ mid → Told n L (acc ++ first) mid o → Told n L acc ts o
+pub extended : {A : Type 0} (n : ℕ) (L : A → List Mark → Type 0) (acc first : List Mark) (ts mid : List Kind) (o : Parsed A) → Within n first → ts ≡ kinds_in first ++ mid → Told n L (acc ++ first) mid o → Told n L acc ts o
 extended n L acc first ts mid (Ok p) within split h = record {
   marks = first ++ h.marks;
   is = subst (L p.0) (append_assoc acc first h.marks) h.is;
@@ -115,8 +115,8 @@ completed : (acc before after w ms : List Mark) → before ++ after ≡ w → (a
 completed acc before after w ms e =
     append_assoc acc w ms ∙ ap (λ (x : List Mark). acc ++ (x ++ ms)) (sym e) ∙ ap (λ (x : List Mark). acc ++ x) (append_assoc before after ms)
 
-pub bind_told : {A B : Type 0} (n : ℕ) (L : B → List Mark → Type 0) (acc : List Mark) (V : A → Type 0) (w : A → List Mark) (f : A → Parser B) (ts : List Kind) (o : Outcome A)
-    → Told n (Spells V w) [] ts o → ((a : A) → V a → Goes L (acc ++ w a)) → ((a : A) → V a → Within n (w a) → (mid : List Kind) → Told n L (acc ++ w a) mid (f a mid)) → Told n L acc ts (and_then o f)
+pub bind_told : {A B : Type 0} (n : ℕ) (L : B → List Mark → Type 0) (acc : List Mark) (V : A → Type 0) (w : A → List Mark) (f : A → Parser B) (ts : List Kind) (o : Parsed A)
+    → Told n (Spells V w) [] ts o → ((a : A) → V a → Goes L (acc ++ w a)) → ((a : A) → V a → Within n (w a) → (mid : List Kind) → Told n L (acc ++ w a) mid (f a mid)) → Told n L acc ts (then_parse o f)
 bind_told n L acc V w f ts (Ok p) h goes on =
     let along : acc ++ w p.0 ≡ acc ++ h.marks = ap (λ (ms : List Mark). acc ++ ms) (sym h.is.1) in
     let within : Within n (w p.0) = subst (Within n) h.is.1 h.within in
@@ -187,14 +187,14 @@ opens n L acc t ts h deep = record {
 }
 
 -- one token more
-pub token : {A : Type 0} (n : ℕ) (L : A → List Mark → Type 0) (acc : List Mark) (t : Mark) (ts : List Kind) (o : Outcome A) → t.depth ≤ n → Told n L (acc ++ t ∷ []) ts o → Told n L acc (t.kind ∷ ts) o
+pub token : {A : Type 0} (n : ℕ) (L : A → List Mark → Type 0) (acc : List Mark) (t : Mark) (ts : List Kind) (o : Parsed A) → t.depth ≤ n → Told n L (acc ++ t ∷ []) ts o → Told n L acc (t.kind ∷ ts) o
 token n L acc t ts o fits h = extended n L acc (t ∷ []) (t.kind ∷ ts) ts o (fits, tt) refl h
 
 pub behind : {A : Type 0} (L : A → List Mark → Type 0) (acc first : List Mark) → Goes L (acc ++ first) → Goes L acc
 behind L acc first h = record { value = h.value; marks = first ++ h.marks; is = subst (L h.value) (append_assoc acc first h.marks) h.is }
 
 -- what has these tokens in one language has them in another
-pub respelled : {A : Type 0} (n : ℕ) (L M : A → List Mark → Type 0) (acc bcc : List Mark) (ts : List Kind) (o : Outcome A) → ((a : A) (ms : List Mark) → L a (acc ++ ms) → M a (bcc ++ ms)) → Told n L acc ts o → Told n M bcc ts o
+pub respelled : {A : Type 0} (n : ℕ) (L M : A → List Mark → Type 0) (acc bcc : List Mark) (ts : List Kind) (o : Parsed A) → ((a : A) (ms : List Mark) → L a (acc ++ ms) → M a (bcc ++ ms)) → Told n L acc ts o → Told n M bcc ts o
 respelled n L M acc bcc ts (Ok p) f h = record { marks = h.marks; is = f p.0 h.marks h.is; split = h.split; within = h.within }
 respelled n L M acc bcc ts (Err (refusals.At k)) f h = record {
   before = h.before;

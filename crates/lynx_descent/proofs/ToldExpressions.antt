@@ -15,7 +15,7 @@ use Rattle.lynx_tree.specs.Trees as trees
 use Rattle.lynx_tree.specs.Trees.{ExprTree, ExprTrees}
 use Rattle.lynx_tree.specs.Grammar as grammar
 use Rattle.lynx_tree.specs.Grammar.{Mark, word, mark, expr_marks, index_marks, chain_marks, behind_marks, sum_marks, term_marks, rank, IsExpr, AreExprs, AreSums, AreTerms, HasTwo, HasSums, HasTerms, IsSumSign, IsRelationSign}
-use Rattle.lynx_descent.specs.Reading.{Parser, and_then, ◌>>=◌, pure, sign, advance, sees_keyword, sees_sign, number, text, many}
+use Rattle.lynx_descent.specs.Reading.{Parser, then_parse, ◌>>=◌, pure, sign, advance, sees_keyword, sees_sign, number, text, many}
 use Rattle.lynx_descent.specs.ReadingExpressions.{exprs_of, sums_of, terms_of, sum_of, term_of, named_of, relation_sign, sum_sign, term_sign, behind_sign, index, named, prim, unary, term, sum, rel_by, rel, conj, expr, inside}
 use Rattle.lynx_descent.proofs.Told.{Told, Tells, Goes, Spells, bind_told, next, done, refused, opens, token, respelled}
 use Rattle.lynx_descent.proofs.ToldTokens.{keyword_seen, sign_seen, either, at_token, then_sign, then_name, then_many}
@@ -67,7 +67,7 @@ told_index n d inner h =
     let L : Option ExprTree → List Mark → Type 0 = Spells IsIndex (index_in d) in
     record {
       told = λ ts. either n L [] ts (sees_sign signs.OpenRow ts) _ _
-          (λ seen. subst (λ (us : List Kind). Told n L [] us (and_then (inner us) (λ e. sign signs.CloseRow >>= (λ _. pure (Some e))))) (sym (sign_seen signs.OpenRow ts seen))
+          (λ seen. subst (λ (us : List Kind). Told n L [] us (then_parse (inner us) (λ e. sign signs.CloseRow >>= (λ _. pure (Some e))))) (sym (sign_seen signs.OpenRow ts seen))
           (bind_told n L [] (Ranked 6) (λ e. open_row ∷ expr_marks (suc d) e) _ _ _ (h open_row refl (drop 1 ts))
           (λ e v. record { value = Some e; marks = mark (suc d) signs.CloseRow ∷ []; is = (v.1, refl) })
           (λ e v within. (then_sign n L _ (suc d) signs.CloseRow _ within.0 (done n L _ (Some e) (v.1, refl))).told)))
@@ -120,9 +120,9 @@ told_unary n d inner fits h = record { told = λ ts. read ts; goes = any_ranked 
     looser : Tells n (E d 1) [] (prim inner)
     looser = widened n d 0 1 (prim inner) (omega arith) (told_prim n d inner fits h)
 
-    behind_it : (t : Mark) (made : ExprTree → ExprTree) → t.depth ≡ d → ((e : ExprTree) → Ranked 0 e → E d 1 (made e) (t ∷ expr_marks d e)) → (ts : List Kind) → Told n (E d 1) [] (t.kind ∷ ts) (and_then (prim inner ts) (λ e. pure (made e)))
+    behind_it : (t : Mark) (made : ExprTree → ExprTree) → t.depth ≡ d → ((e : ExprTree) → Ranked 0 e → E d 1 (made e) (t ∷ expr_marks d e)) → (ts : List Kind) → Told n (E d 1) [] (t.kind ∷ ts) (then_parse (prim inner ts) (λ e. pure (made e)))
     behind_it t made at is ts =
-        token n (E d 1) [] t ts (and_then (prim inner ts) (λ e. pure (made e))) (omega arith)
+        token n (E d 1) [] t ts (then_parse (prim inner ts) (λ e. pure (made e))) (omega arith)
         ((next n (E d 1) (t ∷ []) (Ranked 0) (expr_marks d) (prim inner) (λ e. pure (made e)) (told_prim n d inner fits h) (λ e v. done n (E d 1) (t ∷ expr_marks d e) (made e) (is e v))).told ts)
 
     read : (ts : List Kind) → Told n (E d 1) [] ts (unary inner ts)
@@ -137,9 +137,9 @@ told_unary n d inner fits h = record { told = λ ts. read ts; goes = any_ranked 
 
 -- an operator and what it joins
 member_told : {S : Type 0} (n d r : ℕ) (V : S × ExprTree → Type 0) (w : S × ExprTree → List Mark) (p : Parser ExprTree) (t : Mark) (s : S) → t.depth ≤ n → ((e : ExprTree) → Ranked r e → V (s, e)) → ((e : ExprTree) → w (s, e) ≡ t ∷ expr_marks d e)
-    → Tells n (E d r) [] p → (ts : List Kind) → Told n (Spells V w) [] (t.kind ∷ ts) (and_then (p ts) (λ e. pure (s, e)))
+    → Tells n (E d r) [] p → (ts : List Kind) → Told n (Spells V w) [] (t.kind ∷ ts) (then_parse (p ts) (λ e. pure (s, e)))
 member_told n d r V w p t s fits holds is h ts =
-    token n (Spells V w) [] t ts (and_then (p ts) (λ e. pure (s, e))) fits
+    token n (Spells V w) [] t ts (then_parse (p ts) (λ e. pure (s, e))) fits
     ((next n (Spells V w) (t ∷ []) (Ranked r) (expr_marks d) p (λ e. pure (s, e)) h (λ e v. done n (Spells V w) (t ∷ expr_marks d e) (s, e) (holds e v, sym (is e)))).told ts)
 
 abbrev pub IsFactor : TermSign × ExprTree → Type 0
@@ -231,9 +231,9 @@ told_rel n d inner fits h =
     alone : (first : ExprTree) → Ranked 3 first → Tells n (E d 4) (expr_marks d first) (pure first)
     alone first v = done n (E d 4) (expr_marks d first) first ((omega (arith, v.0), v.1), refl)
 
-    compared : (first : ExprTree) → Ranked 3 first → (s : Sign) → IsRelationSign s → (ts : List Kind) → Told n (E d 4) (expr_marks d first) (kinds.Sign s ∷ ts) (and_then (sum inner ts) (λ e. pure (trees.Relation first s e)))
+    compared : (first : ExprTree) → Ranked 3 first → (s : Sign) → IsRelationSign s → (ts : List Kind) → Told n (E d 4) (expr_marks d first) (kinds.Sign s ∷ ts) (then_parse (sum inner ts) (λ e. pure (trees.Relation first s e)))
     compared first v s is ts =
-        token n (E d 4) (expr_marks d first) (mark d s) ts (and_then (sum inner ts) (λ e. pure (trees.Relation first s e))) fits
+        token n (E d 4) (expr_marks d first) (mark d s) ts (then_parse (sum inner ts) (λ e. pure (trees.Relation first s e))) fits
         ((next n (E d 4) (expr_marks d first ++ mark d s ∷ []) (Ranked 3) (expr_marks d) (sum inner) (λ e. pure (trees.Relation first s e)) (told_sum n d inner fits h)
         (λ e u. done n (E d 4) ((expr_marks d first ++ mark d s ∷ []) ++ expr_marks d e) (trees.Relation first s e) ((omega arith, (v.0, v.1, is, u.0, u.1)), append_assoc (expr_marks d first) (mark d s ∷ []) (expr_marks d e)))).told ts)
 

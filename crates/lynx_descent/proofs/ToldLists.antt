@@ -15,7 +15,7 @@ use Rattle.lynx_descent.specs.declared.refusal.Refusal.TheVariants as refusals
 use Rattle.lynx_tree.specs.Trees.{ExprTree}
 use Rattle.lynx_tree.specs.Grammar as grammar
 use Rattle.lynx_tree.specs.Grammar.{Mark, word, mark, commas, bracketed, names_marks, exprs_marks, type_marks, types_marks, expr_marks, AreExprs}
-use Rattle.lynx_descent.specs.Reading.{Parser, Outcome, and_then, ◌>>=◌, pure, advance, sees_sign, sign, name, number, opened, bracket, many}
+use Rattle.lynx_descent.specs.Reading.{Parser, Parsed, then_parse, ◌>>=◌, pure, advance, sees_sign, sign, name, number, opened, bracket, many}
 use Rattle.lynx_descent.specs.ReadingExpressions.{exprs_of, inside, expr}
 use Rattle.lynx_descent.specs.ReadingLists.{listed, names, values, type_name, type_names}
 use Rattle.lynx_descent.proofs.Told.{Told, Tells, Goes, Spells, next, done, refused, opens, token, behind, respelled}
@@ -31,7 +31,7 @@ then_bracket {A = A} n room d L acc f sum goes on = record {
   goes = behind L acc (mark (suc d) signs.Open ∷ []) goes;
 }
   where
-    read : (room : ℕ) → room + d ≡ n → (ts : List Kind) (b : Bool) → sees_sign signs.Open ts ≡ b → Told n L acc ts (and_then (cond b (opened room ts) (Err (refusals.At (length ts)))) f)
+    read : (room : ℕ) → room + d ≡ n → (ts : List Kind) (b : Bool) → sees_sign signs.Open ts ≡ b → Told n L acc ts (then_parse (cond b (opened room ts) (Err (refusals.At (length ts)))) f)
     read zero sum ts true seen =
         subst (λ (us : List Kind). Told n L acc us (Err (refusals.TooDeep (length us)))) (sym (sign_seen signs.Open ts seen)) (opens n L acc (mark (suc d) signs.Open) (drop 1 ts) goes (omega arith))
     read (suc r) sum ts true seen = at_token n L acc (mark (suc d) signs.Open) ts (drop 1 ts) (λ us. f r (drop 1 us)) (sign_seen signs.Open ts seen) (omega arith) ((on r (omega arith)).told (drop 1 ts))
@@ -65,7 +65,7 @@ then_listed {A = A} n d L acc V w item f R fits h none one more last = record {
     some : Tells n L acc (item >>= (λ x. many (sees_sign signs.Comma) (advance >>= (λ _. item)) (x ∷ []) >>= f))
     some = next n L acc V w item (λ x. many (sees_sign signs.Comma) (advance >>= (λ _. item)) (x ∷ []) >>= f) h rest
 
-    read : (ts : List Kind) (b : Bool) → Told n L acc ts (and_then ((if b then pure [] else (item >>= (λ x. many (sees_sign signs.Comma) (advance >>= (λ _. item)) (x ∷ [])))) ts) f)
+    read : (ts : List Kind) (b : Bool) → Told n L acc ts (then_parse ((if b then pure [] else (item >>= (λ x. many (sees_sign signs.Comma) (advance >>= (λ _. item)) (x ∷ [])))) ts) f)
     read ts true = (last [] acc none).told ts
     read ts false = subst (Told n L acc ts) (joined (item ts) (λ x. many (sees_sign signs.Comma) (advance >>= (λ _. item)) (x ∷ [])) f) (some.told ts)
 
@@ -93,7 +93,7 @@ told_commas {A = A} n room d w item sum h =
     (λ found ms x some is v. ap (λ (ys : List Mark). ys ++ mark (suc d) signs.Comma ∷ w x) is ∙ ap (λ (ys : List Mark). mark (suc d) signs.Open ∷ ys) (sym (commas_more (suc d) w found x some)))
     (λ found ms is. then_sign n L ms (suc d) signs.Close (λ _. pure found) (omega arith) (done n L (ms ++ mark (suc d) signs.Close ∷ []) found (tt, ap (λ (ys : List Mark). ys ++ mark (suc d) signs.Close ∷ []) is))))
 
-same_outcome : {A : Type 0} (o : Outcome A) → and_then o pure ≡ o
+same_outcome : {A : Type 0} (o : Parsed A) → then_parse o pure ≡ o
 same_outcome (Ok p) = refl
 same_outcome (Err e) = refl
 
@@ -119,7 +119,7 @@ told_type n d fits = record { told = λ ts. read ts; goes = any }
     row : (m : ℤ) → Tells n (Spells Anything (type_marks d)) (word d keywords.Row ∷ record { kind = kinds.Number m; depth = d } ∷ []) (pure (types.Row m))
     row m = done n (Spells Anything (type_marks d)) (word d keywords.Row ∷ record { kind = kinds.Number m; depth = d } ∷ []) (types.Row m) (tt, refl)
 
-    length_of : (ts : List Kind) → Told n (Spells Anything (type_marks d)) (word d keywords.Row ∷ []) ts (and_then (number ts) (λ m. pure (types.Row m)))
+    length_of : (ts : List Kind) → Told n (Spells Anything (type_marks d)) (word d keywords.Row ∷ []) ts (then_parse (number ts) (λ m. pure (types.Row m)))
     length_of [] = refused n (Spells Anything (type_marks d)) (word d keywords.Row ∷ []) [] (behind (Spells Anything (type_marks d)) (word d keywords.Row ∷ []) (record { kind = kinds.Number (pos 1); depth = d } ∷ []) (row (pos 1)).goes)
     length_of (kinds.Number m ∷ ts) = token n (Spells Anything (type_marks d)) (word d keywords.Row ∷ []) (record { kind = kinds.Number m; depth = d }) ts (Ok (types.Row m, ts)) fits ((row m).told ts)
     length_of (kinds.Keyword k ∷ ts) = refused n (Spells Anything (type_marks d)) (word d keywords.Row ∷ []) (kinds.Keyword k ∷ ts) (behind (Spells Anything (type_marks d)) (word d keywords.Row ∷ []) (record { kind = kinds.Number (pos 1); depth = d } ∷ []) (row (pos 1)).goes)
@@ -135,7 +135,7 @@ told_type n d fits = record { told = λ ts. read ts; goes = any }
     read (kinds.Keyword keywords.Bool ∷ ts) = simple keywords.Bool types.Bool refl ts
     read (kinds.Keyword keywords.Text ∷ ts) = simple keywords.Text types.Text refl ts
     read (kinds.Keyword keywords.Link ∷ ts) = simple keywords.Link types.Link refl ts
-    read (kinds.Keyword keywords.Row ∷ ts) = token n (Spells Anything (type_marks d)) [] (word d keywords.Row) ts (and_then (number ts) (λ m. pure (types.Row m))) fits (length_of ts)
+    read (kinds.Keyword keywords.Row ∷ ts) = token n (Spells Anything (type_marks d)) [] (word d keywords.Row) ts (then_parse (number ts) (λ m. pure (types.Row m))) fits (length_of ts)
     read [] = refused n (Spells Anything (type_marks d)) [] [] any
     read (kinds.Keyword k ∷ ts) = refused n (Spells Anything (type_marks d)) [] (kinds.Keyword k ∷ ts) any
     read (kinds.Sign k ∷ ts) = refused n (Spells Anything (type_marks d)) [] (kinds.Sign k ∷ ts) any

@@ -13,7 +13,7 @@ use Rattle.lynx_tree.specs.Trees as trees
 use Rattle.lynx_tree.specs.Trees.{ExprTree, StmtTree, StmtTrees, HandlerTrees}
 use Rattle.lynx_tree.specs.Grammar as grammar
 use Rattle.lynx_tree.specs.Grammar.{Mark, word, mark, names_marks, exprs_marks, expr_marks, stmt_marks, stmts_marks, handlers_marks, IsExpr, IsStmt, AreStmts, AreHandlers, index_marks}
-use Rattle.lynx_descent.specs.Reading.{Parser, and_then, ◌>>=◌, pure, advance, sees_keyword, sign, keyword, name}
+use Rattle.lynx_descent.specs.Reading.{Parser, then_parse, ◌>>=◌, pure, advance, sees_keyword, sign, keyword, name}
 use Rattle.lynx_descent.specs.ReadingExpressions.{exprs_of, inside, expr, index}
 use Rattle.lynx_descent.specs.ReadingLists.{names, values}
 use Rattle.lynx_descent.specs.ReadingStatements.{stmts_of, handlers_of, assign_of, choice_of, assign, pair, new, connect, reply, otherwise, choice, repetition, accept, handler, attempt, within, begins_stmt, ended, stmts_by, stmt, stmts}
@@ -205,16 +205,16 @@ told_within n room d body sum h = record { told = λ ts. read ts; goes = any_stm
     fits : d ≤ n
     fits = omega (arith, sum)
 
-    value : (w : Keyword) (made : ExprTree → StmtTree) → ((e : ExprTree) → IsExpr e → S d (made e) (word d w ∷ expr_marks d e)) → (ts : List Kind) → Told n (S d) [] (kinds.Keyword w ∷ ts) (and_then (expr (inside room) ts) (λ e. pure (made e)))
-    value w made is ts = token n (S d) [] (word d w) ts (and_then (expr (inside room) ts) (λ e. pure (made e))) fits
+    value : (w : Keyword) (made : ExprTree → StmtTree) → ((e : ExprTree) → IsExpr e → S d (made e) (word d w ∷ expr_marks d e)) → (ts : List Kind) → Told n (S d) [] (kinds.Keyword w ∷ ts) (then_parse (expr (inside room) ts) (λ e. pure (made e)))
+    value w made is ts = token n (S d) [] (word d w) ts (then_parse (expr (inside room) ts) (λ e. pure (made e))) fits
         ((next n (S d) (word d w ∷ []) (Ranked 6) (expr_marks d) (expr (inside room)) (λ e. pure (made e)) (told_value n room d sum) (λ e v. done n (S d) (word d w ∷ expr_marks d e) (made e) (is e v.1))).told ts)
 
-    named : (w : Keyword) (made : List ℕ → StmtTree) → ((m : List ℕ) → S d (made m) (word d w ∷ grammar.name d m ∷ [])) → (ts : List Kind) → Told n (S d) [] (kinds.Keyword w ∷ ts) (and_then (name ts) (λ m. pure (made m)))
-    named w made is ts = token n (S d) [] (word d w) ts (and_then (name ts) (λ m. pure (made m))) fits
+    named : (w : Keyword) (made : List ℕ → StmtTree) → ((m : List ℕ) → S d (made m) (word d w ∷ grammar.name d m ∷ [])) → (ts : List Kind) → Told n (S d) [] (kinds.Keyword w ∷ ts) (then_parse (name ts) (λ m. pure (made m)))
+    named w made is ts = token n (S d) [] (word d w) ts (then_parse (name ts) (λ m. pure (made m))) fits
         ((then_name n (S d) (word d w ∷ []) d (λ m. pure (made m)) fits (λ m. done n (S d) (word d w ∷ grammar.name d m ∷ []) (made m) (is m))).told ts)
 
-    paired : (w b : Keyword) (made : List ℕ × List ℕ → StmtTree) → ((p : List ℕ × List ℕ) → S d (made p) (word d w ∷ pair_marks d b p)) → (ts : List Kind) → Told n (S d) [] (kinds.Keyword w ∷ ts) (and_then (pair b ts) (λ p. pure (made p)))
-    paired w b made is ts = token n (S d) [] (word d w) ts (and_then (pair b ts) (λ p. pure (made p))) fits
+    paired : (w b : Keyword) (made : List ℕ × List ℕ → StmtTree) → ((p : List ℕ × List ℕ) → S d (made p) (word d w ∷ pair_marks d b p)) → (ts : List Kind) → Told n (S d) [] (kinds.Keyword w ∷ ts) (then_parse (pair b ts) (λ p. pure (made p)))
+    paired w b made is ts = token n (S d) [] (word d w) ts (then_parse (pair b ts) (λ p. pure (made p))) fits
         ((next n (S d) (word d w ∷ []) Anything (pair_marks d b) (pair b) (λ p. pure (made p)) (told_pair n d b fits) (λ p any. done n (S d) (word d w ∷ pair_marks d b p) (made p) (is p))).told ts)
 
     headed : (w : Keyword) (p : Parser StmtTree) → Tells n (S d) (word d w ∷ []) p → (ts : List Kind) → Told n (S d) [] (kinds.Keyword w ∷ ts) (p ts)

@@ -10,7 +10,7 @@ use Rattle.lynx_lexer.specs.declared.token.Kind.TheVariants as kinds
 use Rattle.lynx_descent.specs.declared.refusal.Refusal.TheVariants as refusals
 use Rattle.lynx_tree.specs.Grammar.{Mark, word, mark}
 use Rattle.lynx_tree.specs.Grammar as grammar
-use Rattle.lynx_descent.specs.Reading.{Parser, Outcome, and_then, ◌>>=◌, same_keyword, same_sign, sees_keyword, sees_sign, keyword, sign, name, many, many_from}
+use Rattle.lynx_descent.specs.Reading.{Parser, Parsed, then_parse, ◌>>=◌, same_keyword, same_sign, sees_keyword, sees_sign, keyword, sign, name, many, many_from}
 use Rattle.lynx_descent.proofs.Told.{Told, Tells, Goes, Spells, bind_told, refused, token, behind}
 
 pub keyword_same : (a b : Keyword) → same_keyword a b ≡ true → a ≡ b
@@ -42,7 +42,7 @@ pub either : {A : Type 0} (n : ℕ) (L : A → List Mark → Type 0) (acc : List
 either n L acc ts true p q h g = h refl
 either n L acc ts false p q h g = g refl
 
-pub either_outcome : {A : Type 0} (n : ℕ) (L : A → List Mark → Type 0) (acc : List Mark) (ts : List Kind) (b : Bool) (p q : Outcome A) → (b ≡ true → Told n L acc ts p) → (b ≡ false → Told n L acc ts q) → Told n L acc ts (cond b p q)
+pub either_outcome : {A : Type 0} (n : ℕ) (L : A → List Mark → Type 0) (acc : List Mark) (ts : List Kind) (b : Bool) (p q : Parsed A) → (b ≡ true → Told n L acc ts p) → (b ≡ false → Told n L acc ts q) → Told n L acc ts (cond b p q)
 either_outcome n L acc ts true p q h g = h refl
 either_outcome n L acc ts false p q h g = g refl
 
@@ -59,7 +59,7 @@ then_keyword n L acc d w f fits h =
       goes = goes;
     }
   where
-    read : (ts : List Kind) (b : Bool) → sees_keyword w ts ≡ b → Goes L acc → Told n L acc ts (and_then (cond b (Ok (tt, drop 1 ts)) (Err (refusals.At (length ts)))) f)
+    read : (ts : List Kind) (b : Bool) → sees_keyword w ts ≡ b → Goes L acc → Told n L acc ts (then_parse (cond b (Ok (tt, drop 1 ts)) (Err (refusals.At (length ts)))) f)
     read ts true is goes = at_token n L acc (word d w) ts (drop 1 ts) (λ us. f tt (drop 1 us)) (keyword_seen w ts is) fits (h.told (drop 1 ts))
     read ts false is goes = refused n L acc ts goes
 
@@ -72,7 +72,7 @@ then_sign n L acc d s f fits h =
       goes = goes;
     }
   where
-    read : (ts : List Kind) (b : Bool) → sees_sign s ts ≡ b → Goes L acc → Told n L acc ts (and_then (cond b (Ok (tt, drop 1 ts)) (Err (refusals.At (length ts)))) f)
+    read : (ts : List Kind) (b : Bool) → sees_sign s ts ≡ b → Goes L acc → Told n L acc ts (then_parse (cond b (Ok (tt, drop 1 ts)) (Err (refusals.At (length ts)))) f)
     read ts true is goes = at_token n L acc (mark d s) ts (drop 1 ts) (λ us. f tt (drop 1 us)) (sign_seen s ts is) fits (h.told (drop 1 ts))
     read ts false is goes = refused n L acc ts goes
 
@@ -85,7 +85,7 @@ then_name n L acc d f fits h =
       goes = goes;
     }
   where
-    read : (ts : List Kind) → Goes L acc → Told n L acc ts (and_then (name ts) f)
+    read : (ts : List Kind) → Goes L acc → Told n L acc ts (then_parse (name ts) f)
     read [] goes = refused n L acc [] goes
     read (kinds.Keyword k ∷ ts) goes = refused n L acc (kinds.Keyword k ∷ ts) goes
     read (kinds.Sign s ∷ ts) goes = refused n L acc (kinds.Sign s ∷ ts) goes
@@ -93,7 +93,7 @@ then_name n L acc d f fits h =
     read (kinds.Number m ∷ ts) goes = refused n L acc (kinds.Number m ∷ ts) goes
     read (kinds.Text m ∷ ts) goes = refused n L acc (kinds.Text m ∷ ts) goes
 
-pub joined : {A B C : Type 0} (o : Outcome A) (g : A → Parser B) (f : B → Parser C) → and_then o (λ x ts. and_then (g x ts) f) ≡ and_then (and_then o g) f
+pub joined : {A B C : Type 0} (o : Parsed A) (g : A → Parser B) (f : B → Parser C) → then_parse o (λ x ts. then_parse (g x ts) f) ≡ then_parse (then_parse o g) f
 joined (Ok p) g f = refl
 joined (Err e) g f = refl
 
@@ -102,16 +102,16 @@ pub then_many_from : {A B : Type 0} (n : ℕ) (L : B → List Mark → Type 0) (
     → ((ts : List Kind) → starts ts ≡ true → Told n (Spells V w) [] ts (item ts))
     → ((found : List A) (acc : List Mark) (x : A) → R found acc → V x → R (found ++ x ∷ []) (acc ++ w x))
     → ((found : List A) (acc : List Mark) → R found acc → Tells n L acc (f found))
-    → (turns : ℕ) (found : List A) (acc : List Mark) → R found acc → (ts : List Kind) → Told n L acc ts (and_then (many_from starts item turns found ts) f)
+    → (turns : ℕ) (found : List A) (acc : List Mark) → R found acc → (ts : List Kind) → Told n L acc ts (then_parse (many_from starts item turns found ts) f)
 unfolding many_from
 then_many_from n L V w starts item f R one step last zero found acc r ts = (last found acc r).told ts
 then_many_from {A = A} {B = B} n L V w starts item f R one step last (suc turns) found acc r ts =
     turn (starts ts) refl (λ x v mid. then_many_from n L V w starts item f R one step last turns (found ++ x ∷ []) (acc ++ w x) (step found acc x r v) mid)
   where
-    turn : (b : Bool) → starts ts ≡ b → ((x : A) → V x → (mid : List Kind) → Told n L (acc ++ w x) mid (and_then (many_from starts item turns (found ++ x ∷ []) mid) f))
-        → Told n L acc ts (and_then (cond b (and_then (item ts) (λ x. many_from starts item turns (found ++ x ∷ []))) (Ok (found, ts))) f)
+    turn : (b : Bool) → starts ts ≡ b → ((x : A) → V x → (mid : List Kind) → Told n L (acc ++ w x) mid (then_parse (many_from starts item turns (found ++ x ∷ []) mid) f))
+        → Told n L acc ts (then_parse (cond b (then_parse (item ts) (λ x. many_from starts item turns (found ++ x ∷ []))) (Ok (found, ts))) f)
     turn true is on = subst (Told n L acc ts) (joined (item ts) (λ x. many_from starts item turns (found ++ x ∷ [])) f)
-        (bind_told n L acc V w (λ x mid. and_then (many_from starts item turns (found ++ x ∷ []) mid) f) ts (item ts) (one ts is) (λ x v. (last (found ++ x ∷ []) (acc ++ w x) (step found acc x r v)).goes)
+        (bind_told n L acc V w (λ x mid. then_parse (many_from starts item turns (found ++ x ∷ []) mid) f) ts (item ts) (one ts is) (λ x v. (last (found ++ x ∷ []) (acc ++ w x) (step found acc x r v)).goes)
         (λ x v within mid. on x v mid))
     turn false is on = (last found acc r).told ts
 

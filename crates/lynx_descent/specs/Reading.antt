@@ -14,19 +14,19 @@ use Rattle.lynx_descent.specs.declared.ahead.Ahead.{Ahead}
 use Rattle.lynx_descent.specs.declared.ahead.Ahead.TheVariants as next
 
 -- what is read and the tokens behind it, or why reading stops
-abbrev pub Outcome : Type 0 → Type 0
-Outcome A = Result (A × List Kind) Refusal
+abbrev pub Parsed : Type 0 → Type 0
+Parsed A = Result (A × List Kind) Refusal
 
 abbrev pub Parser : Type 0 → Type 0
-Parser A = List Kind → Outcome A
+Parser A = List Kind → Parsed A
 
-abbrev pub and_then : {A B : Type 0} → Outcome A → (A → Parser B) → Outcome B
-and_then (Ok p) f = f p.0 p.1
-and_then (Err e) f = Err e
+abbrev pub then_parse : {A B : Type 0} → Parsed A → (A → Parser B) → Parsed B
+then_parse (Ok p) f = f p.0 p.1
+then_parse (Err e) f = Err e
 
 infixl 10 ◌>>=◌
 abbrev pub ◌>>=◌ : {A B : Type 0} → Parser A → (A → Parser B) → Parser B
-p >>= f = λ ts. and_then (p ts) f
+p >>= f = λ ts. then_parse (p ts) f
 
 infixl 10 ◌>>◌
 abbrev pub ◌>>◌ : {A B : Type 0} → Parser A → Parser B → Parser B
@@ -40,7 +40,7 @@ abbrev pub ◌<$>◌ : {A B : Type 0} → (A → B) → Parser A → Parser B
 f <$> p = p >>= (λ x. pure (f x))
 
 -- what a function that reads ensures: the parser's outcome, unless memory runs out
-abbrev pub Reads : {A X : Type 0} → (X → A) → Outcome A → Result X Refusal → List Kind → Type 0
+abbrev pub Reads : {A X : Type 0} → (X → A) → Parsed A → Result X Refusal → List Kind → Type 0
 Reads f outcome (Ok x) new = outcome ≡ Ok (f x, new)
 Reads f outcome (Err e) new = e ≢ refusals.NoMemory → outcome ≡ Err e
 
@@ -105,7 +105,7 @@ keyword w = λ ts. if sees_keyword w ts then Ok (tt, drop 1 ts) else Err (refusa
 unfoldable pub sign : Sign → Parser (Unit {0})
 sign s = λ ts. if sees_sign s ts then Ok (tt, drop 1 ts) else Err (refusals.At (length ts))
 
-abbrev pub name_in : Kind → List Kind → Outcome (List ℕ)
+abbrev pub name_in : Kind → List Kind → Parsed (List ℕ)
 name_in (kinds.Name n) ts = Ok (n, ts)
 name_in k ts = Err (refusals.At (length (k ∷ ts)))
 
@@ -113,7 +113,7 @@ unfoldable pub name : Parser (List ℕ)
 name [] = Err (refusals.At 0)
 name (k ∷ ts) = name_in k ts
 
-abbrev pub number_in : Kind → List Kind → Outcome ℤ
+abbrev pub number_in : Kind → List Kind → Parsed ℤ
 number_in (kinds.Number n) ts = Ok (n, ts)
 number_in k ts = Err (refusals.At (length (k ∷ ts)))
 
@@ -121,7 +121,7 @@ unfoldable pub number : Parser ℤ
 number [] = Err (refusals.At 0)
 number (k ∷ ts) = number_in k ts
 
-abbrev pub text_in : Kind → List Kind → Outcome (List ℕ)
+abbrev pub text_in : Kind → List Kind → Parsed (List ℕ)
 text_in (kinds.Text inside) ts = Ok (inside, ts)
 text_in k ts = Err (refusals.At (length (k ∷ ts)))
 

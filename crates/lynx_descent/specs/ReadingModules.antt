@@ -6,7 +6,7 @@ use Rattle.lynx_lexer.specs.declared.sign.Sign.TheVariants as signs
 use Rattle.lynx_lexer.specs.declared.token.Kind.{Kind}
 use Rattle.lynx_descent.specs.declared.refusal.Refusal.TheVariants as refusals
 use Rattle.lynx_tree.specs.Trees.{OpTree, VarTree, EntryTree, ModuleTree, StmtTrees}
-use Rattle.lynx_descent.specs.Reading.{Parser, Outcome, ◌>>=◌, ◌>>◌, pure, advance, sees_keyword, keyword, sign, name, many}
+use Rattle.lynx_descent.specs.Reading.{Parser, Parsed, ◌>>=◌, ◌>>◌, pure, advance, sees_keyword, keyword, sign, name, many}
 use Rattle.lynx_descent.specs.ReadingLists.{names, type_name, type_names}
 use Rattle.lynx_descent.specs.ReadingStatements.{stmts}
 
@@ -72,7 +72,7 @@ one_module room = do
   sign signs.Dot
   pure (record { name = n; ops = declared; params = given; vars = globals; entries = served; body = inner })
 
-abbrev pub at_end : ModuleTree → List Kind → Outcome ModuleTree
+abbrev pub at_end : ModuleTree → List Kind → Parsed ModuleTree
 at_end m [] = Ok (m, [])
 at_end m (k ∷ ts) = Err (refusals.At (length (k ∷ ts)))
 

@@ -10,7 +10,7 @@ use Rattle.lynx_tree.specs.Faults.{BeginsModule, IsNested, IsTooDeep, most_open}
 use Rattle.lynx_lexer.specs.declared.token.Token.{Token}
 use Rattle.lynx_tree.specs.declared.fault.SyntaxFault.TheVariants as faults
 use Rattle.lynx_tree.specs.Answers.{IsTreeOf, IsFaultOf, kinds}
-use Rattle.lynx_descent.specs.Reading.{Outcome, and_then}
+use Rattle.lynx_descent.specs.Reading.{Parsed, then_parse}
 use Rattle.lynx_descent.specs.ReadingModules.{one_module, at_end, whole}
 use Rattle.lynx_descent.proofs.Told.{Told, Tells, Got, Left, Deep, Goes, Spells, Within, kinds_in, next, done, refused}
 use Rattle.lynx_descent.proofs.ToldModules.{told_module}
@@ -28,12 +28,12 @@ pub told_whole : (n : ℕ) → Tells n (Spells HasTokens module_marks) [] (whole
 unfolding whole
 told_whole n = next n (Spells HasTokens module_marks) [] HasTokens module_marks (one_module n) at_end (told_module n) (told_end n)
 
-rest_in : Outcome ModuleTree → List Kind
+rest_in : Parsed ModuleTree → List Kind
 rest_in (Ok p) = p.1
 rest_in (Err e) = []
 
 -- nothing is left behind a module
-ends : (o : Outcome ModuleTree) (m : ModuleTree) (rest : List Kind) → and_then o at_end ≡ Ok (m, rest) → rest ≡ []
+ends : (o : Parsed ModuleTree) (m : ModuleTree) (rest : List Kind) → then_parse o at_end ≡ Ok (m, rest) → rest ≡ []
 unfolding rest_in
 ends (Ok p) m rest h = at p.0 p.1 h
   where

@@ -13,7 +13,7 @@ use Rattle.lynx_tree.specs.Trees.{ModuleTree, module_tree}
 use Rattle.lynx_tree.specs.Grammar.{Mark, module_marks, kinds_of, IsModule, HasTokens}
 use Rattle.lynx_tree.specs.Faults.{most_open, BeginsModule, LeavesGrammar, IsTooDeep, IsNowhereTooDeep}
 use Rattle.lynx_tree.specs.Answers.{IsTreeOf, GivesFault, IsFaultOf, kinds}
-use Rattle.lynx_descent.specs.Reading.{Parser, Outcome, and_then}
+use Rattle.lynx_descent.specs.Reading.{Parser, Parsed, then_parse}
 use Rattle.lynx_descent.specs.ReadingModules.{one_module, at_end, whole}
 use Rattle.lynx_descent.proofs.Told.{Told, Left, Within, Spells, kinds_in}
 use Rattle.lynx_grammar.proofs.Guard.{guard, guard_append, find_deep}
@@ -25,27 +25,27 @@ use Rattle.lynx_grammar.proofs.LocalityModules.{local_whole}
 
 -- ---- a refusal at a token stays there, whatever stands behind the token
 
-count_in : {A : Type 0} → Outcome A → ℕ
+count_in : {A : Type 0} → Parsed A → ℕ
 count_in (Ok p) = 0
 count_in (Err (refusals.At k)) = k
 count_in (Err (refusals.TooDeep k)) = k
 count_in (Err refusals.NoMemory) = 0
 
-same_at : {A : Type 0} (a b : ℕ) → Path (Outcome A) (Err (refusals.At a)) (Err (refusals.At b)) → a ≡ b
+same_at : {A : Type 0} (a b : ℕ) → Path (Parsed A) (Err (refusals.At a)) (Err (refusals.At b)) → a ≡ b
 unfolding count_in
 same_at a b e = ap count_in e
 
-same_deep : {A : Type 0} (a b : ℕ) → Path (Outcome A) (Err (refusals.TooDeep a)) (Err (refusals.TooDeep b)) → a ≡ b
+same_deep : {A : Type 0} (a b : ℕ) → Path (Parsed A) (Err (refusals.TooDeep a)) (Err (refusals.TooDeep b)) → a ≡ b
 unfolding count_in
 same_deep a b e = ap count_in e
 
-near_at : {A : Type 0} (ts us : List Kind) (s q : Outcome A) → in_front_of ts s ≡ Err (refusals.At (length ts)) → q ≡ in_front_of us s → q ≡ Err (refusals.At (length us))
+near_at : {A : Type 0} (ts us : List Kind) (s q : Parsed A) → in_front_of ts s ≡ Err (refusals.At (length ts)) → q ≡ in_front_of us s → q ≡ Err (refusals.At (length us))
 near_at ts us (Ok p) q e d = absurd cc
 near_at ts us (Err (refusals.At k)) q e d = d ∙ ap (λ n. Err (refusals.At n)) (omega (arith, same_at (k + length ts) (length ts) e))
 near_at ts us (Err (refusals.TooDeep k)) q e d = absurd cc
 near_at ts us (Err refusals.NoMemory) q e d = absurd cc
 
-near_deep : {A : Type 0} (ts us : List Kind) (s q : Outcome A) → in_front_of ts s ≡ Err (refusals.TooDeep (length ts)) → q ≡ in_front_of us s → q ≡ Err (refusals.TooDeep (length us))
+near_deep : {A : Type 0} (ts us : List Kind) (s q : Parsed A) → in_front_of ts s ≡ Err (refusals.TooDeep (length ts)) → q ≡ in_front_of us s → q ≡ Err (refusals.TooDeep (length us))
 near_deep ts us (Ok p) q e d = absurd cc
 near_deep ts us (Err (refusals.At k)) q e d = absurd cc
 near_deep ts us (Err (refusals.TooDeep k)) q e d = d ∙ ap (λ n. Err (refusals.TooDeep n)) (omega (arith, same_deep (k + length ts) (length ts) e))
@@ -137,7 +137,7 @@ cut (suc at) (t ∷ ts) h =
       many = ap suc c.many;
     }
 
-guard_deep : {A : Type 0} (n : ℕ) (before : List Mark) (t : Mark) (after : List Mark) (o : Outcome A) → Within n before → n < t.depth → guard n (before ++ t ∷ after) [] o ≡ Err (refusals.TooDeep (suc (length after)))
+guard_deep : {A : Type 0} (n : ℕ) (before : List Mark) (t : Mark) (after : List Mark) (o : Parsed A) → Within n before → n < t.depth → guard n (before ++ t ∷ after) [] o ≡ Err (refusals.TooDeep (suc (length after)))
 guard_deep n before t after o within deep =
     guard_append n before (t ∷ after) [] o ∙ guard_within n before (kinds_in (t ∷ after) ++ []) (guard n (t ∷ after) [] o) within ∙ sym (find_deep n t after [] o deep)
     ∙ ap (λ k. Err (refusals.TooDeep (suc k))) (ap length (append-nil (kinds_in after)) ∙ kinds_count after)
@@ -187,22 +187,22 @@ same_place ts a b f g = at (cases_order a b)
 read_on : (ts : List Kind) (m : ModuleTree) (k : Kind) (more : List Kind) → IsTreeOf ts m → whole most_open (ts ++ k ∷ more) ≡ Err (refusals.At (length (k ∷ more)))
 unfolding whole
 read_on ts m k more is =
-    ap (λ (us : List Kind). and_then (one_module most_open (us ++ k ∷ more)) at_end) is.0.1
-    ∙ ap (λ (o : Outcome ModuleTree). and_then o at_end) (find_module most_open m is.0.0 (k ∷ more) tt ∙ guard_within most_open (module_marks m) (k ∷ more) (Ok (m, k ∷ more)) is.1)
+    ap (λ (us : List Kind). then_parse (one_module most_open (us ++ k ∷ more)) at_end) is.0.1
+    ∙ ap (λ (o : Parsed ModuleTree). then_parse o at_end) (find_module most_open m is.0.0 (k ∷ more) tt ∙ guard_within most_open (module_marks m) (k ∷ more) (Ok (m, k ∷ more)) is.1)
 
 pub no_tree : (ts : List Kind) (at : ℕ) (m : ModuleTree) → IsTreeOf ts m → LeavesGrammar at ts → ⊥
 no_tree ts at m is (inl f) = f.2 (begins_up_to ts (suc at) (m, [], (is.0.0, append-nil ts ∙ is.0.1)))
 no_tree ts at m is (inr f) = never_at most_open (length (f.2 ∷ f.3)) (ts ++ f.2 ∷ f.3) f.1 f.4 (read_on ts m f.2 f.3 is)
 
 pub no_tree_deep : (ts : List Kind) (at : ℕ) (m : ModuleTree) → IsTreeOf ts m → IsTooDeep at ts → ⊥
-no_tree_deep ts at m is deep = absurd (let both : Path (Outcome ModuleTree) (Ok (m, [])) (Err (refusals.TooDeep (length ts - at))) = sym (tree_read ts m is) ∙ deep_read ts at deep in cc)
+no_tree_deep ts at m is deep = absurd (let both : Path (Parsed ModuleTree) (Ok (m, [])) (Err (refusals.TooDeep (length ts - at))) = sym (tree_read ts m is) ∙ deep_read ts at deep in cc)
 
 -- the first token that opens too much
 pub same_depth : (ts : List Kind) (a b : ℕ) → IsTooDeep a ts → IsTooDeep b ts → a ≡ b
 same_depth ts a b f g = omega (arith, f.0, g.0, same_deep (length ts - a) (length ts - b) (sym (deep_read ts a f) ∙ deep_read ts b g))
 
 pub not_deep : (ts : List Kind) (k at : ℕ) → whole most_open ts ≡ Err (refusals.At k) → IsTooDeep at ts → ⊥
-not_deep ts k at h deep = absurd (let both : Path (Outcome ModuleTree) (Err (refusals.At k)) (Err (refusals.TooDeep (length ts - at))) = sym h ∙ deep_read ts at deep in cc)
+not_deep ts k at h deep = absurd (let both : Path (Parsed ModuleTree) (Err (refusals.At k)) (Err (refusals.TooDeep (length ts - at))) = sym h ∙ deep_read ts at deep in cc)
 
 -- ---- what the parser answers
 

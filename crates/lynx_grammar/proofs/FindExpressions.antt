@@ -15,7 +15,7 @@ use Rattle.lynx_tree.specs.Trees as trees
 use Rattle.lynx_tree.specs.Trees.{ExprTree, ExprTrees, SumTail, TermTail}
 use Rattle.lynx_tree.specs.Grammar as grammar
 use Rattle.lynx_tree.specs.Grammar.{Mark, word, mark, expr_marks, index_marks, chain_marks, behind_marks, sum_marks, term_marks, rank, IsExpr, AreExprs, AreSums, AreTerms, IsSumSign, IsRelationSign}
-use Rattle.lynx_descent.specs.Reading.{Parser, Outcome, and_then, ◌>>=◌, pure, sign, advance, sees_keyword, sees_sign, same_keyword, same_sign, number, text, many, many_from}
+use Rattle.lynx_descent.specs.Reading.{Parser, Parsed, then_parse, ◌>>=◌, pure, sign, advance, sees_keyword, sees_sign, same_keyword, same_sign, number, text, many, many_from}
 use Rattle.lynx_descent.specs.ReadingExpressions.{exprs_of, sums_of, terms_of, sum_of, term_of, named_of, relation_sign, sum_sign, term_sign, behind_sign, index, named, prim, unary, term, sum, rel_by, rel, conj, expr, inside}
 use Rattle.lynx_descent.proofs.Told.{kinds_in, kinds_append, kinds_count}
 use Rattle.lynx_descent.proofs.ToldExpressions.{chained, chained_rest, chained_second, Ranked, IsIndex, index_in, IsFactor, factor_marks, IsSummand, summand_marks}
@@ -79,7 +79,7 @@ InnerFinds n d inner = (t : Mark) → t.depth ≡ suc d → Finds n IsExpr (λ e
 -- a word, and what is made of it
 pub find_last : {A B : Type 0} (n : ℕ) (V : A → Type 0) (w : A → List Mark) (halts : List Kind → Type 0) (p : Parser A) (f : A → Parser B) → Finds n V w halts p → (a : A) → V a → (rest : List Kind) → halts rest
     → (p >>= f) (kinds_in (w a) ++ rest) ≡ guard n (w a) rest (f a rest)
-find_last {A = A} n V w halts p f h a v rest quiet = ap (λ (x : Outcome A). and_then x f) (h a v rest quiet) ∙ guard_then n (w a) rest (Ok (a, rest)) f
+find_last {A = A} n V w halts p f h a v rest quiet = ap (λ (x : Parsed A). then_parse x f) (h a v rest quiet) ∙ guard_then n (w a) rest (Ok (a, rest)) f
 
 pub find_index : (n d : ℕ) (inner : Parser ExprTree) → InnerFinds n d inner → Finds n IsIndex (index_in d) NoRow (index inner)
 unfolding index
@@ -209,7 +209,7 @@ term_whole n d inner fits h first v xs all rest quiet =
     let marks : List Mark = flat_map (factor_marks d) xs in
     find_next n (Ranked 1) (expr_marks d) NoRow (unary inner) (λ one. many starts item [] >>= (λ others. pure (term_of one others))) (find_unary n d inner fits h) first v marks rest (Ok (term_of first xs, rest))
     (item_quiet IsFactor (factor_marks d) NoRow starts xs rest (factor_begins d) all quiet.0)
-    (λ within. ap (λ (o : Outcome (List (TermSign × ExprTree))). and_then o (λ others. pure (term_of first others))) (find_many n IsFactor (factor_marks d) NoRow starts item (find_factor n d inner fits h) (factor_begins d) xs [] rest all quiet.0 (none_is _ quiet.1))
+    (λ within. ap (λ (o : Parsed (List (TermSign × ExprTree))). then_parse o (λ others. pure (term_of first others))) (find_many n IsFactor (factor_marks d) NoRow starts item (find_factor n d inner fits h) (factor_begins d) xs [] rest all quiet.0 (none_is _ quiet.1))
     ∙ guard_then n marks rest (Ok (xs, rest)) (λ others. pure (term_of first others)))
 
 term_alone : (n d : ℕ) (inner : Parser ExprTree) → d ≤ n → InnerFinds n d inner → (e : ExprTree) → Ranked 1 e → (rest : List Kind) → NoTerm rest → term inner (kinds_in (expr_marks d e) ++ rest) ≡ guard n (expr_marks d e) rest (Ok (e, rest))
@@ -285,7 +285,7 @@ sum_whole n d inner fits h first v xs all rest quiet =
     let marks : List Mark = flat_map (summand_marks d) xs in
     find_next n (Ranked 2) (expr_marks d) NoTerm (term inner) (λ one. many starts item [] >>= (λ others. pure (sum_of one others))) (find_term n d inner fits h) first v marks rest (Ok (sum_of first xs, rest))
     (item_quiet IsSummand (summand_marks d) NoTerm starts xs rest (summand_begins d) all (quiet.0, quiet.1))
-    (λ within. ap (λ (o : Outcome (List (Sign × ExprTree))). and_then o (λ others. pure (sum_of first others))) (find_many n IsSummand (summand_marks d) NoTerm starts item (find_summand n d inner fits h) (summand_begins d) xs [] rest all (quiet.0, quiet.1) (none_is _ quiet.2))
+    (λ within. ap (λ (o : Parsed (List (Sign × ExprTree))). then_parse o (λ others. pure (sum_of first others))) (find_many n IsSummand (summand_marks d) NoTerm starts item (find_summand n d inner fits h) (summand_begins d) xs [] rest all (quiet.0, quiet.1) (none_is _ quiet.2))
     ∙ guard_then n marks rest (Ok (xs, rest)) (λ others. pure (sum_of first others)))
 
 sum_alone : (n d : ℕ) (inner : Parser ExprTree) → d ≤ n → InnerFinds n d inner → (e : ExprTree) → Ranked 2 e → (rest : List Kind) → NoSum rest → sum inner (kinds_in (expr_marks d e) ++ rest) ≡ guard n (expr_marks d e) rest (Ok (e, rest))
@@ -404,13 +404,13 @@ chain_all : (n d r : ℕ) (w : Keyword) (halts : List Kind → Type 0) (member :
 chain_all n d r w halts member made fits ends h trees.no_exprs two are rest quiet off = absurd two
 chain_all n d r w halts member made fits ends h (trees.more_exprs a trees.no_exprs) two are rest quiet off = absurd two
 chain_all n d r w halts member made fits ends h (trees.more_exprs a (trees.more_exprs b es)) two are rest quiet off =
-    let goal : Outcome ExprTree = Ok (made (trees.more_exprs a (trees.more_exprs b es)), rest) in
+    let goal : Parsed ExprTree = Ok (made (trees.more_exprs a (trees.more_exprs b es)), rest) in
     let others : List Mark = behind_marks d (word d w) es in
     let xs : List ExprTree = exprs_in es in
     let same : others ≡ flat_map (link_marks d w) xs = links_marks d w es in
     let begins : Begins (Ranked r) (link_marks d w) halts (sees_keyword w) = λ e v ts. (same_keyword_refl w, ends (kinds_in (expr_marks d e) ++ ts), omega arith) in
     let last : chained_rest w member made (a ∷ b ∷ []) (kinds_in (flat_map (link_marks d w) xs) ++ rest) ≡ guard n (flat_map (link_marks d w) xs) rest goal =
-    ap (λ (o : Outcome (List ExprTree)). and_then o (λ all. pure (made (exprs_of all)))) (find_many n (Ranked r) (link_marks d w) halts (sees_keyword w) (advance >>= (λ _. member)) (find_link n d r w halts member fits h) begins xs (a ∷ b ∷ []) rest (are_links r es are.2.2) quiet off)
+    ap (λ (o : Parsed (List ExprTree)). then_parse o (λ all. pure (made (exprs_of all)))) (find_many n (Ranked r) (link_marks d w) halts (sees_keyword w) (advance >>= (λ _. member)) (find_link n d r w halts member fits h) begins xs (a ∷ b ∷ []) rest (are_links r es are.2.2) quiet off)
     ∙ guard_then n (flat_map (link_marks d w) xs) rest (Ok (a ∷ b ∷ xs, rest)) (λ all. pure (made (exprs_of all)))
     ∙ ap (λ (ys : ExprTrees). guard n (flat_map (link_marks d w) xs) rest (Ok (made (trees.more_exprs a (trees.more_exprs b ys)), rest))) (exprs_again es) in
     let last' : chained_rest w member made (a ∷ b ∷ []) (kinds_in others ++ rest) ≡ guard n others rest goal = subst (λ (ms : List Mark). chained_rest w member made (a ∷ b ∷ []) (kinds_in ms ++ rest) ≡ guard n ms rest goal) (sym same) last in

@@ -13,7 +13,7 @@ use Rattle.lynx_tree.specs.Trees as trees
 use Rattle.lynx_tree.specs.Trees.{ExprTree, ExprTrees}
 use Rattle.lynx_tree.specs.Grammar as grammar
 use Rattle.lynx_tree.specs.Grammar.{Mark, word, mark, commas, names_marks, exprs_marks, type_marks, types_marks, expr_marks, chain_marks, behind_marks, AreExprs, IsExpr}
-use Rattle.lynx_descent.specs.Reading.{Parser, Outcome, and_then, ◌>>=◌, pure, advance, same_sign, sees_sign, sign, name, number, opened, bracket, many}
+use Rattle.lynx_descent.specs.Reading.{Parser, Parsed, then_parse, ◌>>=◌, pure, advance, same_sign, sees_sign, sign, name, number, opened, bracket, many}
 use Rattle.lynx_descent.specs.ReadingExpressions.{exprs_of, inside, expr}
 use Rattle.lynx_descent.specs.ReadingLists.{listed, names, values, type_name, type_names}
 use Rattle.lynx_tree.proofs.Views.{flat_map-map}
@@ -23,15 +23,15 @@ use Rattle.lynx_grammar.proofs.Guard.{guard, guard_then, guard_append, Finds, fi
 use Rattle.lynx_grammar.proofs.FindExpressions.{NoOr, comma_ends, close_ends, Begins, item_quiet, find_many, find_value}
 
 -- `(`, where so many more brackets may be open
-pub find_bracket : {A : Type 0} (n room d : ℕ) (f : ℕ → Parser A) (ms : List Mark) (rest : List Kind) (o : Outcome A) → room + d ≡ n → ((r : ℕ) → r + suc d ≡ n → f r (kinds_in ms ++ rest) ≡ guard n ms rest o)
+pub find_bracket : {A : Type 0} (n room d : ℕ) (f : ℕ → Parser A) (ms : List Mark) (rest : List Kind) (o : Parsed A) → room + d ≡ n → ((r : ℕ) → r + suc d ≡ n → f r (kinds_in ms ++ rest) ≡ guard n ms rest o)
     → (bracket room >>= f) (kinds_in (mark (suc d) signs.Open ∷ ms) ++ rest) ≡ guard n (mark (suc d) signs.Open ∷ ms) rest o
 unfolding bracket opened
 find_bracket n zero d f ms rest o sum on =
     let ts : List Kind = kinds.Sign signs.Open ∷ (kinds_in ms ++ rest) in
-    ap (λ (b : Bool). and_then (cond b (opened zero ts) (Err (refusals.At (length ts)))) f) (same_sign_refl signs.Open) ∙ find_deep n (mark (suc d) signs.Open) ms rest o (omega arith)
+    ap (λ (b : Bool). then_parse (cond b (opened zero ts) (Err (refusals.At (length ts)))) f) (same_sign_refl signs.Open) ∙ find_deep n (mark (suc d) signs.Open) ms rest o (omega arith)
 find_bracket n (suc r) d f ms rest o sum on =
     let ts : List Kind = kinds.Sign signs.Open ∷ (kinds_in ms ++ rest) in
-    ap (λ (b : Bool). and_then (cond b (opened (suc r) ts) (Err (refusals.At (length ts)))) f) (same_sign_refl signs.Open)
+    ap (λ (b : Bool). then_parse (cond b (opened (suc r) ts) (Err (refusals.At (length ts)))) f) (same_sign_refl signs.Open)
     ∙ find_token n (mark (suc d) signs.Open) ms rest o (f r (kinds_in ms ++ rest)) (omega arith) (on r (omega arith))
 
 -- items with a token between
@@ -84,8 +84,8 @@ find_enclosed {A = A} n room d V w halts item sum h comma close open_ xs all res
     let marks : List Mark = listed_marks w (mark (suc d) signs.Comma) xs in
     let last : List Mark = mark (suc d) signs.Close ∷ [] in
     find_bracket n room d (λ r. listed (item r) >>= (λ ys. sign signs.Close >>= (λ _. pure ys))) (marks ++ last) rest (Ok (xs, rest)) sum
-    (λ r less. ap (λ (ks : List Kind). and_then (listed (item r) ks) (λ ys. sign signs.Close >>= (λ _. pure ys))) (sym (kinds_append marks last rest))
-    ∙ ap (λ (o : Outcome (List A)). and_then o (λ ys. sign signs.Close >>= (λ _. pure ys))) (find_listed n (suc d) V w halts (item r) (omega arith) (h r less) comma open_ xs all rest (close rest))
+    (λ r less. ap (λ (ks : List Kind). then_parse (listed (item r) ks) (λ ys. sign signs.Close >>= (λ _. pure ys))) (sym (kinds_append marks last rest))
+    ∙ ap (λ (o : Parsed (List A)). then_parse o (λ ys. sign signs.Close >>= (λ _. pure ys))) (find_listed n (suc d) V w halts (item r) (omega arith) (h r less) comma open_ xs all rest (close rest))
     ∙ guard_then n marks (kinds_in last ++ rest) (Ok (xs, kinds_in last ++ rest)) (λ ys. sign signs.Close >>= (λ _. pure ys))
     ∙ ap (guard n marks (kinds_in last ++ rest)) (find_sign n (suc d) signs.Close (λ _. pure xs) [] rest (Ok (xs, rest)) (omega arith) refl)
     ∙ sym (guard_append n marks last rest (Ok (xs, rest))))

@@ -9,7 +9,7 @@ use Rattle.lynx_lexer.specs.declared.token.Kind.{Kind}
 use Rattle.lynx_tree.specs.Trees.{OpTree, VarTree, EntryTree, ModuleTree, StmtTrees}
 use Rattle.lynx_tree.specs.Grammar as grammar
 use Rattle.lynx_tree.specs.Grammar.{Mark, word, mark, names_marks, type_marks, types_marks, op_marks, var_marks, vars_marks, entry_marks, module_marks, stmts_marks, AreStmts, HasTokens}
-use Rattle.lynx_descent.specs.Reading.{Parser, Outcome, and_then, ◌>>=◌, pure, same_keyword, sees_keyword, sign, keyword, name, many}
+use Rattle.lynx_descent.specs.Reading.{Parser, Parsed, then_parse, ◌>>=◌, pure, same_keyword, sees_keyword, sign, keyword, name, many}
 use Rattle.lynx_descent.specs.ReadingLists.{names, type_name, type_names}
 use Rattle.lynx_descent.specs.ReadingStatements.{stmts}
 use Rattle.lynx_descent.specs.ReadingModules.{op, ops, var, vars, body, entry, entries, one_module, at_end, whole}
@@ -23,7 +23,7 @@ use Rattle.lynx_grammar.proofs.FindStatements.{Calm, find_stmts, end_calm}
 find_op : (n : ℕ) → Finds n Anything op_marks Free (op n)
 unfolding op
 find_op n o v rest quiet =
-    let goal : Outcome OpTree = Ok (o, rest) in
+    let goal : Parsed OpTree = Ok (o, rest) in
     find_token n (word 0 keywords.Op) (grammar.name 0 o.name ∷ (types_marks o.arguments ++ mark 0 signs.Colon ∷ (types_marks o.results ++ mark 0 signs.Semicolon ∷ []))) rest goal _ (omega arith)
     (find_name n 0 o.name (λ m. type_names n >>= (λ a. sign signs.Colon >>= (λ _. type_names n >>= (λ r. sign signs.Semicolon >>= (λ _. pure (record { name = m; arguments = a; results = r }))))))
     (types_marks o.arguments ++ mark 0 signs.Colon ∷ (types_marks o.results ++ mark 0 signs.Semicolon ∷ [])) rest goal (omega arith)
@@ -36,14 +36,14 @@ find_op n o v rest quiet =
 pub find_var : (n : ℕ) (k : Keyword) → Finds n Anything (var_marks k) Free var
 unfolding var
 find_var n k x v rest quiet =
-    let goal : Outcome VarTree = Ok (x, rest) in
+    let goal : Parsed VarTree = Ok (x, rest) in
     find_token n (word 0 k) (grammar.name 0 x.name ∷ mark 0 signs.Colon ∷ (type_marks 0 x.kind ++ mark 0 signs.Semicolon ∷ [])) rest goal _ (omega arith)
     (find_name n 0 x.name (λ m. sign signs.Colon >>= (λ _. type_name >>= (λ t. sign signs.Semicolon >>= (λ _. pure (record { name = m; kind = t }))))) (mark 0 signs.Colon ∷ (type_marks 0 x.kind ++ mark 0 signs.Semicolon ∷ [])) rest goal (omega arith)
     (find_sign n 0 signs.Colon (λ _. type_name >>= (λ t. sign signs.Semicolon >>= (λ _. pure (record { name = x.name; kind = t })))) (type_marks 0 x.kind ++ mark 0 signs.Semicolon ∷ []) rest goal (omega arith)
     (find_next n Anything (type_marks 0) Free type_name (λ t. sign signs.Semicolon >>= (λ _. pure (record { name = x.name; kind = t }))) (find_type n 0 (omega arith)) x.kind tt (mark 0 signs.Semicolon ∷ []) rest goal tt
     (λ w1. find_sign n 0 signs.Semicolon (λ _. pure x) [] rest goal (omega arith) refl))))
 
-regrouped : {A B C : Type 0} (o : Outcome A) (g : A → Parser B) (f : B → Parser C) → and_then (and_then o g) f ≡ and_then o (λ x ts. and_then (g x ts) f)
+regrouped : {A B C : Type 0} (o : Parsed A) (g : A → Parser B) (f : B → Parser C) → then_parse (then_parse o g) f ≡ then_parse o (λ x ts. then_parse (g x ts) f)
 regrouped (Ok p) g f = refl
 regrouped (Err e) g f = refl
 
@@ -51,10 +51,10 @@ joined_body : {A C : Type 0} (p : Parser (Unit {0})) (q : Parser A) (r : Parser 
     → ((p >>= (λ _. q >>= (λ x. r >>= (λ _. pure x)))) >>= f) ts ≡ (p >>= (λ _. q >>= (λ x. r >>= (λ _. f x)))) ts
 joined_body {A = A} {C = C} p q r f ts =
     regrouped (p ts) (λ _. q >>= (λ x. r >>= (λ _. pure x))) f
-    ∙ ap (λ (g : Unit {0} → Parser C). and_then (p ts) g) (λ i. λ u us. (regrouped (q us) (λ x. r >>= (λ _. pure x)) f ∙ ap (λ (g : A → Parser C). and_then (q us) g) (λ j. λ x vs. regrouped (r vs) (λ _. pure x) f j)) i)
+    ∙ ap (λ (g : Unit {0} → Parser C). then_parse (p ts) g) (λ i. λ u us. (regrouped (q us) (λ x. r >>= (λ _. pure x)) f ∙ ap (λ (g : A → Parser C). then_parse (q us) g) (λ j. λ x vs. regrouped (r vs) (λ _. pure x) f j)) i)
 
 -- a body, and what goes on behind it
-find_body : {A : Type 0} (n : ℕ) (b : StmtTrees) → AreStmts b → (f : StmtTrees → Parser A) (ms : List Mark) (rest : List Kind) (o : Outcome A) → f b (kinds_in ms ++ rest) ≡ guard n ms rest o
+find_body : {A : Type 0} (n : ℕ) (b : StmtTrees) → AreStmts b → (f : StmtTrees → Parser A) (ms : List Mark) (rest : List Kind) (o : Parsed A) → f b (kinds_in ms ++ rest) ≡ guard n ms rest o
     → (body n >>= f) (kinds_in (word 0 keywords.Begin ∷ (stmts_marks 0 b ++ word 0 keywords.End ∷ ms)) ++ rest) ≡ guard n (word 0 keywords.Begin ∷ (stmts_marks 0 b ++ word 0 keywords.End ∷ ms)) rest o
 unfolding body
 find_body {A = A} n b v f ms rest o h =
@@ -63,13 +63,13 @@ find_body {A = A} n b v f ms rest o h =
     (find_next n AreStmts (stmts_marks 0) Calm (stmts n) (λ x. keyword keywords.End >>= (λ _. f x)) (find_stmts n n 0 (omega arith)) b v (word 0 keywords.End ∷ ms) rest o (end_calm (kinds_in ms ++ rest)) (λ w1. find_keyword n 0 keywords.End (λ _. f b) ms rest o (omega arith) h))
 
 -- items behind a keyword, and what goes on behind them
-find_items : {A C : Type 0} (n : ℕ) (V : A → Type 0) (w : A → List Mark) (k : Keyword) (item : Parser A) (f : List A → Parser C) → Finds n V w Free item → Begins V w Free (sees_keyword k) → (xs : List A) → AllByRecursion V xs → (ms : List Mark) (rest : List Kind) (o : Outcome C)
+find_items : {A C : Type 0} (n : ℕ) (V : A → Type 0) (w : A → List Mark) (k : Keyword) (item : Parser A) (f : List A → Parser C) → Finds n V w Free item → Begins V w Free (sees_keyword k) → (xs : List A) → AllByRecursion V xs → (ms : List Mark) (rest : List Kind) (o : Parsed C)
     → sees_keyword k (kinds_in ms ++ rest) ≡ false
     → f xs (kinds_in ms ++ rest) ≡ guard n ms rest o → (many (sees_keyword k) item [] >>= f) (kinds_in (flat_map w xs ++ ms) ++ rest) ≡ guard n (flat_map w xs ++ ms) rest o
 find_items {A = A} n V w k item f h begins xs all ms rest o off on =
     let mid : List Kind = kinds_in ms ++ rest in
-    ap (λ (ks : List Kind). and_then (many (sees_keyword k) item [] ks) f) (sym (kinds_append (flat_map w xs) ms rest))
-    ∙ ap (λ (x : Outcome (List A)). and_then x f) (find_many n V w Free (sees_keyword k) item h begins xs [] mid all tt off)
+    ap (λ (ks : List Kind). then_parse (many (sees_keyword k) item [] ks) f) (sym (kinds_append (flat_map w xs) ms rest))
+    ∙ ap (λ (x : Parsed (List A)). then_parse x f) (find_many n V w Free (sees_keyword k) item h begins xs [] mid all tt off)
     ∙ guard_then n (flat_map w xs) mid (Ok (xs, mid)) f ∙ ap (guard n (flat_map w xs) mid) on ∙ sym (guard_append n (flat_map w xs) ms rest o)
 
 all_of : {A : Type 0} (xs : List A) → AllByRecursion Anything xs
@@ -131,7 +131,7 @@ param_op = refl
 find_entry : (n : ℕ) → Finds n IsEntry entry_marks Free (entry n)
 unfolding entry
 find_entry n e v rest quiet =
-    let goal : Outcome EntryTree = Ok (e, rest) in
+    let goal : Parsed EntryTree = Ok (e, rest) in
     let last : List Mark = mark 0 signs.Semicolon ∷ [] in
     let inner : List Mark = word 0 keywords.Begin ∷ (stmts_marks 0 e.body ++ word 0 keywords.End ∷ last) in
     find_token n (word 0 keywords.Entry) (grammar.name 0 e.name ∷ word 0 keywords.Of ∷ grammar.name 0 e.op ∷ (names_marks 0 e.parameters ++ (vars_marks e.vars ++ inner))) rest goal _ (omega arith)
@@ -156,7 +156,7 @@ behind_items w first k (x ∷ xs) ms rest h off =
 pub find_module : (n : ℕ) → Finds n HasTokens module_marks Free (one_module n)
 unfolding one_module
 find_module n m v rest quiet =
-    let goal : Outcome ModuleTree = Ok (m, rest) in
+    let goal : Parsed ModuleTree = Ok (m, rest) in
     let last : List Mark = mark 0 signs.Dot ∷ [] in
     let inner : List Mark = word 0 keywords.Begin ∷ (stmts_marks 0 m.body ++ word 0 keywords.End ∷ last) in
     let four : List Mark = flat_map entry_marks m.entries ++ inner in
@@ -187,4 +187,4 @@ pub find_whole : (n : ℕ) (m : ModuleTree) → HasTokens m → whole n (kinds_i
 unfolding whole
 find_whole n m v =
     let plain : kinds_in (module_marks m) ++ [] ≡ kinds_in (module_marks m) = append-nil (kinds_in (module_marks m)) in
-    ap (λ (ks : List Kind). and_then (one_module n ks) at_end) (sym plain) ∙ ap (λ (o : Outcome ModuleTree). and_then o at_end) (find_module n m v [] tt) ∙ guard_then n (module_marks m) [] (Ok (m, [])) at_end
+    ap (λ (ks : List Kind). then_parse (one_module n ks) at_end) (sym plain) ∙ ap (λ (o : Parsed ModuleTree). then_parse o at_end) (find_module n m v [] tt) ∙ guard_then n (module_marks m) [] (Ok (m, [])) at_end

@@ -12,7 +12,7 @@ use Rattle.lynx_tree.specs.Trees as trees
 use Rattle.lynx_tree.specs.Trees.{ExprTree, ExprTrees, StmtTree, StmtTrees, HandlerTrees}
 use Rattle.lynx_tree.specs.Grammar as grammar
 use Rattle.lynx_tree.specs.Grammar.{Mark, word, mark, names_marks, exprs_marks, expr_marks, stmt_marks, stmts_marks, handlers_marks, index_marks, IsExpr, IsStmt, AreStmts, AreHandlers, AreExprs}
-use Rattle.lynx_descent.specs.Reading.{Parser, Outcome, and_then, ◌>>=◌, pure, advance, same_keyword, same_sign, sees_keyword, sign, keyword, name}
+use Rattle.lynx_descent.specs.Reading.{Parser, Parsed, then_parse, ◌>>=◌, pure, advance, same_keyword, same_sign, sees_keyword, sign, keyword, name}
 use Rattle.lynx_descent.specs.ReadingExpressions.{exprs_of, inside, expr, index}
 use Rattle.lynx_descent.specs.ReadingLists.{names, values}
 use Rattle.lynx_descent.specs.ReadingStatements.{stmts_of, handlers_of, assign_of, choice_of, assign, pair, new, connect, reply, otherwise, choice, repetition, accept, handler, handlers, attempt, within, begins_stmt, ended, stmts_by, stmt, stmts}
@@ -57,7 +57,7 @@ becomes_no_row ts = refl
 find_assign : (n room d : ℕ) → room + d ≡ n → (m : List ℕ) (e : ExprTree) → IsExpr e → (rest : List Kind) → NoOr rest → assign room (kinds_in (stmt_marks d (trees.Assign m e)) ++ rest) ≡ guard n (stmt_marks d (trees.Assign m e)) rest (Ok (trees.Assign m e, rest))
 unfolding assign
 find_assign n room d sum m e v rest quiet =
-    let goal : Outcome StmtTree = Ok (trees.Assign m e, rest) in
+    let goal : Parsed StmtTree = Ok (trees.Assign m e, rest) in
     find_name n d m (λ m'. index (inside room) >>= (λ i. sign signs.Becomes >>= (λ _. expr (inside room) >>= (λ x. pure (assign_of m' i x))))) (mark d signs.Becomes ∷ expr_marks d e) rest goal (omega arith)
     (find_next n IsIndex (index_in d) NoRow (index (inside room)) (λ i. sign signs.Becomes >>= (λ _. expr (inside room) >>= (λ x. pure (assign_of m i x)))) (find_index n d (inside room) (find_inside n room d sum)) None tt (mark d signs.Becomes ∷ expr_marks d e) rest goal
     (becomes_no_row (kinds_in (expr_marks d e) ++ rest))
@@ -69,7 +69,7 @@ member_marks d m i e = ap (λ (ms : List Mark). grammar.name d m ∷ mark (suc d
 find_member : (n room d : ℕ) → room + d ≡ n → (m : List ℕ) (i e : ExprTree) → IsExpr i → IsExpr e → (rest : List Kind) → NoOr rest → assign room (kinds_in (stmt_marks d (trees.AssignMember m i e)) ++ rest) ≡ guard n (stmt_marks d (trees.AssignMember m i e)) rest (Ok (trees.AssignMember m i e, rest))
 unfolding assign
 find_member n room d sum m i e vi v rest quiet =
-    let goal : Outcome StmtTree = Ok (trees.AssignMember m i e, rest) in
+    let goal : Parsed StmtTree = Ok (trees.AssignMember m i e, rest) in
     subst (λ (ms : List Mark). assign room (kinds_in ms ++ rest) ≡ guard n ms rest goal) (member_marks d m i e)
     (find_name n d m (λ m'. index (inside room) >>= (λ j. sign signs.Becomes >>= (λ _. expr (inside room) >>= (λ x. pure (assign_of m' j x))))) (index_marks d i ++ mark d signs.Becomes ∷ expr_marks d e) rest goal (omega arith)
     (find_next n IsIndex (index_in d) NoRow (index (inside room)) (λ j. sign signs.Becomes >>= (λ _. expr (inside room) >>= (λ x. pure (assign_of m j x)))) (find_index n d (inside room) (find_inside n room d sum)) (Some i) vi (mark d signs.Becomes ∷ expr_marks d e) rest goal
@@ -92,7 +92,7 @@ find_connect : (n room d : ℕ) → room + d ≡ n → (a b : List ℕ) (xs : Li
     → connect room (kinds_in (pair_marks d keywords.On (a, b) ++ (values_marks d xs ++ mark d signs.Colon ∷ names_marks d rs)) ++ rest) ≡ guard n (pair_marks d keywords.On (a, b) ++ (values_marks d xs ++ mark d signs.Colon ∷ names_marks d rs)) rest (Ok (trees.Connect a b (exprs_of xs) rs, rest))
 unfolding connect
 find_connect n room d sum a b xs rs v rest =
-    let goal : Outcome StmtTree = Ok (trees.Connect a b (exprs_of xs) rs, rest) in
+    let goal : Parsed StmtTree = Ok (trees.Connect a b (exprs_of xs) rs, rest) in
     find_next n Anything (pair_marks d keywords.On) Free (pair keywords.On) (λ p. values room >>= (λ ys. sign signs.Colon >>= (λ _. names room >>= (λ qs. pure (trees.Connect p.0 p.1 (exprs_of ys) qs))))) (find_pair n d keywords.On (omega arith)) (a, b) tt
     (values_marks d xs ++ mark d signs.Colon ∷ names_marks d rs) rest goal tt
     (λ w1. find_next n AreValues (values_marks d) Free (values room) (λ ys. sign signs.Colon >>= (λ _. names room >>= (λ qs. pure (trees.Connect a b (exprs_of ys) qs)))) (find_values n room d sum) xs v (mark d signs.Colon ∷ names_marks d rs) rest goal tt
@@ -126,7 +126,7 @@ find_choice : (n room d : ℕ) (body : Parser StmtTrees) → room + d ≡ n → 
     → choice room body (kinds_in (expr_marks d c ++ word d keywords.Then ∷ (stmts_marks d b ++ (other_in d o ++ word d keywords.End ∷ []))) ++ rest) ≡ guard n (expr_marks d c ++ word d keywords.Then ∷ (stmts_marks d b ++ (other_in d o ++ word d keywords.End ∷ []))) rest (Ok (choice_of c b o, rest))
 unfolding choice
 find_choice n room d body sum h c b o vc vb vo rest calm =
-    let goal : Outcome StmtTree = Ok (choice_of c b o, rest) in
+    let goal : Parsed StmtTree = Ok (choice_of c b o, rest) in
     let fits : d ≤ n = omega arith in
     let last : List Mark = word d keywords.End ∷ [] in
     find_next n IsExpr (expr_marks d) NoOr (expr (inside room)) (λ e. keyword keywords.Then >>= (λ _. body >>= (λ x. otherwise body >>= (λ y. keyword keywords.End >>= (λ _. pure (choice_of e x y)))))) (find_value n room d sum) c vc
@@ -140,7 +140,7 @@ find_repetition : (n room d : ℕ) (body : Parser StmtTrees) → room + d ≡ n 
     → repetition room body (kinds_in (expr_marks d c ++ word d keywords.Do ∷ (stmts_marks d b ++ word d keywords.End ∷ [])) ++ rest) ≡ guard n (expr_marks d c ++ word d keywords.Do ∷ (stmts_marks d b ++ word d keywords.End ∷ [])) rest (Ok (trees.While c b, rest))
 unfolding repetition
 find_repetition n room d body sum h c b vc vb rest =
-    let goal : Outcome StmtTree = Ok (trees.While c b, rest) in
+    let goal : Parsed StmtTree = Ok (trees.While c b, rest) in
     let fits : d ≤ n = omega arith in
     let last : List Mark = word d keywords.End ∷ [] in
     find_next n IsExpr (expr_marks d) NoOr (expr (inside room)) (λ e. keyword keywords.Do >>= (λ _. body >>= (λ x. keyword keywords.End >>= (λ _. pure (trees.While e x))))) (find_value n room d sum) c vc (word d keywords.Do ∷ (stmts_marks d b ++ last)) rest goal
@@ -153,7 +153,7 @@ find_accept : (n room d : ℕ) (body : Parser StmtTrees) → room + d ≡ n → 
     ≡ guard n (pair_marks d keywords.On (a, l) ++ (names_marks d ns ++ word d keywords.Do ∷ (stmts_marks d b ++ word d keywords.End ∷ []))) rest (Ok (trees.Accept a l ns b, rest))
 unfolding accept
 find_accept n room d body sum h a l ns b vb rest =
-    let goal : Outcome StmtTree = Ok (trees.Accept a l ns b, rest) in
+    let goal : Parsed StmtTree = Ok (trees.Accept a l ns b, rest) in
     let fits : d ≤ n = omega arith in
     let last : List Mark = word d keywords.End ∷ [] in
     find_next n Anything (pair_marks d keywords.On) Free (pair keywords.On) (λ p. names room >>= (λ ms. keyword keywords.Do >>= (λ _. body >>= (λ x. keyword keywords.End >>= (λ _. pure (trees.Accept p.0 p.1 ms x)))))) (find_pair n d keywords.On fits) (a, l) tt
@@ -195,7 +195,7 @@ find_attempt : (n d : ℕ) (body : Parser StmtTrees) → d ≤ n → BodyFinds n
     → attempt body (kinds_in (stmts_marks d b ++ (handlers_marks d hs ++ word d keywords.End ∷ [])) ++ rest) ≡ guard n (stmts_marks d b ++ (handlers_marks d hs ++ word d keywords.End ∷ [])) rest (Ok (trees.Try b hs, rest))
 unfolding attempt
 find_attempt n d body fits h b hs vb vh rest =
-    let goal : Outcome StmtTree = Ok (trees.Try b hs, rest) in
+    let goal : Parsed StmtTree = Ok (trees.Try b hs, rest) in
     let last : List Mark = word d keywords.End ∷ [] in
     let ending : List Kind = kinds_in last ++ rest in
     let xs = handlers_in hs in
@@ -204,8 +204,8 @@ find_attempt n d body fits h b hs vb vh rest =
     let done : f xs ending ≡ guard n last rest goal =
     find_keyword n d keywords.End (λ _. pure (trees.Try b (handlers_of xs))) [] rest (Ok (trees.Try b (handlers_of xs), rest)) fits refl ∙ ap (λ (ys : HandlerTrees). guard n last rest (Ok (trees.Try b ys, rest))) (handlers_again hs) in
     let others : (handlers body >>= f) (kinds_in (marks ++ last) ++ rest) ≡ guard n (marks ++ last) rest goal =
-    ap (λ (ks : List Kind). and_then (handlers body ks) f) (sym (kinds_append marks last rest))
-    ∙ ap (λ (o : Outcome (List (List ℕ × StmtTrees))). and_then o f) (find_many n IsHandler (handler_marks d) Calm (sees_keyword keywords.When) (handler body) (find_handler n d body fits h) (handler_begins d) xs [] ending (are_handlers hs vh) (end_calm rest) (end_no_when rest))
+    ap (λ (ks : List Kind). then_parse (handlers body ks) f) (sym (kinds_append marks last rest))
+    ∙ ap (λ (o : Parsed (List (List ℕ × StmtTrees))). then_parse o f) (find_many n IsHandler (handler_marks d) Calm (sees_keyword keywords.When) (handler body) (find_handler n d body fits h) (handler_begins d) xs [] ending (are_handlers hs vh) (end_calm rest) (end_no_when rest))
     ∙ guard_then n marks ending (Ok (xs, ending)) f ∙ ap (guard n marks ending) done ∙ sym (guard_append n marks last rest goal) in
     let calm : Calm (kinds_in (marks ++ last) ++ rest) = subst Calm (kinds_append marks last rest) (item_quiet IsHandler (handler_marks d) Calm (sees_keyword keywords.When) xs ending (handler_begins d) (are_handlers hs vh) (end_calm rest)) in
     subst (λ (ms : List Mark). attempt body (kinds_in (stmts_marks d b ++ (ms ++ last)) ++ rest) ≡ guard n (stmts_marks d b ++ (ms ++ last)) rest goal) (sym (handlers_flat d hs))
@@ -319,7 +319,7 @@ find_body n d one fits h ss v rest calm =
     let xs = stmts_in ss in
     let marks : List Mark = flat_map (ended_marks d) xs in
     subst (λ (ms : List Mark). stmts_by one (kinds_in ms ++ rest) ≡ guard n ms rest (Ok (ss, rest))) (sym (stmts_flat d ss))
-    (ap (λ (o : Outcome (List StmtTree)). and_then o (λ all. pure (stmts_of all))) (find_many n IsStmt (ended_marks d) Free begins_stmt (ended one) (find_ended n d one fits h) (stmt_begins d) xs [] rest (are_stmts ss v) tt calm)
+    (ap (λ (o : Parsed (List StmtTree)). then_parse o (λ all. pure (stmts_of all))) (find_many n IsStmt (ended_marks d) Free begins_stmt (ended one) (find_ended n d one fits h) (stmt_begins d) xs [] rest (are_stmts ss v) tt calm)
     ∙ guard_then n marks rest (Ok (xs, rest)) (λ all. pure (stmts_of all)) ∙ ap (λ (ys : StmtTrees). guard n marks rest (Ok (ys, rest))) (stmts_again ss))
 
 -- where so many more may be open

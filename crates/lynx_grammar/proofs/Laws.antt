@@ -7,13 +7,13 @@ use Rattle.lynx_tree.specs.Trees.{ModuleTree}
 use Rattle.lynx_tree.specs.Grammar.{Mark, module_marks, IsModule}
 use Rattle.lynx_tree.specs.Faults.{most_open}
 use Rattle.lynx_tree.specs.Answers.{IsTreeOf}
-use Rattle.lynx_descent.specs.Reading.{Outcome}
+use Rattle.lynx_descent.specs.Reading.{Parsed}
 use Rattle.lynx_descent.specs.ReadingModules.{whole}
 use Rattle.lynx_descent.proofs.Told.{Within, kinds_in}
 use Rattle.lynx_grammar.proofs.Guard.{guard, fits_true}
 use Rattle.lynx_grammar.proofs.FindModules.{find_whole}
 
-pub guard_within : {A : Type 0} (n : ℕ) (ms : List Mark) (rest : List Kind) (o : Outcome A) → Within n ms → guard n ms rest o ≡ o
+pub guard_within : {A : Type 0} (n : ℕ) (ms : List Mark) (rest : List Kind) (o : Parsed A) → Within n ms → guard n ms rest o ≡ o
 guard_within n [] rest o h = refl
 guard_within n (t ∷ ms) rest o h =
     ap (λ (b : Bool). cond b (guard n ms rest o) (Err (refusals.TooDeep (length (t.kind ∷ (kinds_in ms ++ rest)))))) (fits_true t.depth n h.0) ∙ guard_within n ms rest o h.1
@@ -35,7 +35,7 @@ within_total (t ∷ ms) = (omega arith, within_more (total ms) (t.depth + total 
 read_whole : (n : ℕ) (m : ModuleTree) (tokens : List Kind) → IsModule m tokens → Within n (module_marks m) → whole n tokens ≡ Ok (m, [])
 read_whole n m tokens h within = ap (whole n) h.1 ∙ find_whole n m h.0 ∙ guard_within n (module_marks m) [] (Ok (m, [])) within
 
-tree_in : ModuleTree → Outcome ModuleTree → ModuleTree
+tree_in : ModuleTree → Parsed ModuleTree → ModuleTree
 tree_in m (Ok p) = p.0
 tree_in m (Err e) = m
 
@@ -55,7 +55,7 @@ pub read_is : (tokens rest : List Kind) (m x : ModuleTree) → IsTreeOf tokens m
 unfolding tree_in
 read_is tokens rest m x h is = ap (tree_in m) (sym is ∙ tree_read tokens m h)
 
-abbrev Answered : Outcome ModuleTree → Type 0
+abbrev Answered : Parsed ModuleTree → Type 0
 Answered (Ok p) = Unit {0}
 Answered (Err e) = ⊥
 

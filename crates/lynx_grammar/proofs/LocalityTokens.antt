@@ -6,7 +6,7 @@ use Rattle.lynx_lexer.specs.declared.sign.Sign.TheVariants as signs
 use Rattle.lynx_lexer.specs.declared.token.Kind.{Kind}
 use Rattle.lynx_lexer.specs.declared.token.Kind.TheVariants as kinds
 use Rattle.lynx_descent.specs.declared.refusal.Refusal.TheVariants as refusals
-use Rattle.lynx_descent.specs.Reading.{Outcome, is_keyword, is_sign, sees_keyword, sees_sign, keyword, sign, name_in, name, number_in, number, text_in, text, opened, bracket}
+use Rattle.lynx_descent.specs.Reading.{Parsed, is_keyword, is_sign, sees_keyword, sees_sign, keyword, sign, name_in, name, number_in, number, text_in, text, opened, bracket}
 use Rattle.lynx_grammar.proofs.Locality.{Leaves, Agree, near, past, Local, Looks, Short, Eats, looks_ahead, local_refuse, local_too_deep, local_taken, local_choice}
 
 pub looks_keyword : (w : Keyword) → Looks (sees_keyword w)
@@ -26,7 +26,7 @@ local_sign s = local_choice (sees_sign s) (looks_sign s) (local_taken tt) local_
 -- ---- names, numbers and texts: a token is taken for what it holds, or refused
 
 -- at one token, whatever stands behind it
-record Takes {A : Type 0} (k : Kind) (f : List Kind → Outcome A) : Type 0 where
+record Takes {A : Type 0} (k : Kind) (f : List Kind → Parsed A) : Type 0 where
   pub leaves : (ts : List Kind) → Leaves (suc (length ts)) (f ts)
   pub first : (y z : List Kind) → Agree k y z (f y) (f z)
   pub later : (c : Kind) (x y z : List Kind) → Agree c y z (f (x ++ c ∷ y)) (f (x ++ c ∷ z))

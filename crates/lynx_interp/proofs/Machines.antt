@@ -9,17 +9,16 @@ use Rattle.lynx_tree.specs.declared.declaration.TypeName.TheVariants as types
 use Rattle.typing_rules.specs.Types.{has_length, is_length}
 use Rattle.lynx_code.specs.declared.code.Code.{Code}
 use Rattle.lynx_code.specs.declared.code.Part as kept
-use Rattle.lynx_meaning.specs.Values.{Value, HasType, Link, is_int, start_value}
+use Rattle.lynx_meaning.specs.Values.{Value, HasType, Link, is_int, start_value, HaveTypes}
 use Rattle.code_shapes.specs.Shapes.{AreShapes, code_types, kept_part}
-use Rattle.machine_turns.specs.Threads.{Outcome}
+use Rattle.lynx_meaning.specs.Courses.{Outcome}
 use Rattle.machine_turns.specs.Turns.{IsFree, at_start, given_to, spawned}
 use Rattle.machine_values.specs.declared.value.LinkRef.{LinkRef}
-use Rattle.machine_never_stuck.specs.Sound.{Typed}
 use Rattle.machine_never_stuck.proofs.Pairs.{same_length}
 use Rattle.compiler_runnable.specs.Runnable.{HaveStarts, IsRunnable, Part, parameters, part_of}
 use Rattle.machine_sound.specs.Sound.{FitsAction}
 use Rattle.machine_sound.proofs.Outside.{given_sound, spawned_sound, start_sound}
-use Rattle.lynx_interp.specs.Machines.{HasEntry, IsEntryFor, IsMachine, State, place_of, start_globals, start_locals, state_of}
+use Rattle.lynx_interp.specs.Machines.{HasEntry, IsEntryFor, IsMachine, State, begin_of, start_globals, start_locals, state_of}
 
 -- ---- variables at the start
 
@@ -38,7 +37,7 @@ start_typed types.Text is = omega arith
 start_typed types.Link is = tt
 start_typed (types.Row n) is = row_typed n is
 
-starts_typed : (ts : List TypeName) → HaveStarts ts → Typed ts (map start_value ts)
+starts_typed : (ts : List TypeName) → HaveStarts ts → HaveTypes ts (map start_value ts)
 starts_typed [] have = tt
 starts_typed (t ∷ ts) have = (start_typed t have.0, starts_typed ts have.1)
 
@@ -47,26 +46,26 @@ others_start [] us have = have
 others_start (t ∷ ts) us have = others_start ts us have.1
 
 -- the links of the params come before the other variables
-params_typed : (links : List LinkRef) (others : List TypeName) → HaveStarts others → Typed (replicate (length links) types.Link ++ others) (start_globals (replicate (length links) types.Link ++ others) links)
+params_typed : (links : List LinkRef) (others : List TypeName) → HaveStarts others → HaveTypes (replicate (length links) types.Link ++ others) (start_globals (replicate (length links) types.Link ++ others) links)
 params_typed [] others have = starts_typed others have
 params_typed (l ∷ links) others have = (tt, params_typed links others have)
 
-globals_typed : (kinds others : List TypeName) (n : ℕ) (links : List LinkRef) → kinds ≡ replicate n types.Link ++ others → length links ≡ n → HaveStarts kinds → Typed kinds (start_globals kinds links)
+globals_typed : (kinds others : List TypeName) (n : ℕ) (links : List LinkRef) → kinds ≡ replicate n types.Link ++ others → length links ≡ n → HaveStarts kinds → HaveTypes kinds (start_globals kinds links)
 globals_typed kinds others n links is many have =
     let known : kinds ≡ replicate (length links) types.Link ++ others = is ∙ ap (λ k. replicate k types.Link ++ others) (sym many) in
-    subst (λ (ts : List TypeName). Typed ts (start_globals ts links)) (sym known)
+    subst (λ (ts : List TypeName). HaveTypes ts (start_globals ts links)) (sym known)
     (params_typed links others (others_start (replicate (length links) types.Link) others (subst (λ (ts : List TypeName). HaveStarts ts) known have)))
 
 -- the values of the parameters come before the other variables
-values_typed : (ts others : List TypeName) (vs : List Value) → Typed ts vs → HaveStarts others → Typed (ts ++ others) (start_locals (ts ++ others) vs)
+values_typed : (ts others : List TypeName) (vs : List Value) → HaveTypes ts vs → HaveStarts others → HaveTypes (ts ++ others) (start_locals (ts ++ others) vs)
 values_typed [] others [] typed have = starts_typed others have
 values_typed [] others (v ∷ vs) typed have = absurd typed
 values_typed (t ∷ ts) others [] typed have = absurd typed
 values_typed (t ∷ ts) others (v ∷ vs) typed have = (typed.0, values_typed ts others vs typed.1 have)
 
-locals_typed : (kinds ts others : List TypeName) (vs : List Value) → kinds ≡ ts ++ others → Typed ts vs → HaveStarts kinds → Typed kinds (start_locals kinds vs)
+locals_typed : (kinds ts others : List TypeName) (vs : List Value) → kinds ≡ ts ++ others → HaveTypes ts vs → HaveStarts kinds → HaveTypes kinds (start_locals kinds vs)
 locals_typed kinds ts others vs is typed have =
-    subst (λ (us : List TypeName). Typed us (start_locals us vs)) (sym is) (values_typed ts others vs typed (others_start ts others (subst (λ (us : List TypeName). HaveStarts us) is have)))
+    subst (λ (us : List TypeName). HaveTypes us (start_locals us vs)) (sym is) (values_typed ts others vs typed (others_start ts others (subst (λ (us : List TypeName). HaveStarts us) is have)))
 
 -- ---- the start
 
@@ -78,18 +77,18 @@ params_fit kinds others n k is many =
     let first = length-replicate n types.Link in
     omega arith
 
-places_kept : (ks : List kept.Part) → map kept_part ks ≡ map place_of (map part_of ks)
+places_kept : (ks : List kept.Part) → map kept_part ks ≡ map begin_of (map part_of ks)
 places_kept [] = refl
 places_kept (k ∷ ks) = ap (λ (ps : List (ℕ × List TypeName)). kept_part k ∷ ps) (places_kept ks)
 
 -- where a part begins, and the types of its variables
-part_place : (parts : List Part) (i : ℕ) (p : Part) → slice_get parts i ≡ Some p → slice_get (map place_of parts) i ≡ Some (p.start, p.locals)
-part_place parts i p here = slice_get-map place_of parts i ∙ ap (option_map place_of) here
+part_place : (parts : List Part) (i : ℕ) (p : Part) → slice_get parts i ≡ Some p → slice_get (map begin_of parts) i ≡ Some (p.start, p.locals)
+part_place parts i p here = slice_get-map begin_of parts i ∙ ap (option_map begin_of) here
 
 pub start_machine : (code : Code) (links : List LinkRef) → IsRunnable code → length links ≡ code.params → IsMachine (state_of code (at_start (start_globals code.globals.items links)))
 start_machine code links is many =
     let parts : List Part = map part_of code.parts.items in
-    let places : List (ℕ × List TypeName) = map place_of parts in
+    let places : List (ℕ × List TypeName) = map begin_of parts in
     let body = is.parts.body in
     let at_first : (body.0.start, body.0.locals) ≡ (0, []) = ap (λ (n : ℕ). (n, body.0.locals)) body.2 ∙ ap (λ (ts : List TypeName). (0, ts)) body.3 in
     record {
@@ -133,15 +132,15 @@ pub part_there : (ps : List kept.Part) (n i : ℕ) (d : kept.Part) (p : Part) �
 part_there ps n i d p same found here = ap part_of (found ∙ ap (λ (k : ℕ). slice_index_or ps k d) same) ∙ part_at ps n d p here
 
 pub given_machine : (s : State) (n : ℕ) (outcome : Outcome) → IsMachine s → FitsAction s.types n outcome s.turns → IsMachine (record s { turns = given_to n outcome s.turns })
-given_machine s n outcome is fits = record { sound = given_sound s.types (map place_of s.parts) s.instructions s.turns n outcome is.sound fits; parts = is.parts }
+given_machine s n outcome is fits = record { sound = given_sound s.types (map begin_of s.parts) s.instructions s.turns n outcome is.sound fits; parts = is.parts }
 
-pub spawned_machine : (s : State) (n entry : ℕ) (values : List Value) (p : Part) → IsMachine s → IsFree n s.turns → slice_get s.parts (entry + 1) ≡ Some p → Typed (parameters s.types p) values →
+pub spawned_machine : (s : State) (n entry : ℕ) (values : List Value) (p : Part) → IsMachine s → IsFree n s.turns → slice_get s.parts (entry + 1) ≡ Some p → HaveTypes (parameters s.types p) values →
     IsMachine (record s { turns = spawned n p.start (start_locals p.locals values) s.turns })
 spawned_machine s n entry values p is free here typed =
     let size : entry + 1 ≡ suc entry = omega arith in
     let of_entry = is.parts.entries entry p (ap (slice_get s.parts) (sym size) ∙ here) in
     record {
-      sound = spawned_sound s.types (map place_of s.parts) s.instructions s.turns n (entry + 1) p.start p.locals (start_locals p.locals values) is.sound free (part_place s.parts (entry + 1) p here)
+      sound = spawned_sound s.types (map begin_of s.parts) s.instructions s.turns n (entry + 1) p.start p.locals (start_locals p.locals values) is.sound free (part_place s.parts (entry + 1) p here)
           (locals_typed p.locals (parameters s.types p) of_entry.0 values of_entry.1 typed (is.parts.starts (entry + 1) p here));
       parts = is.parts;
     }

@@ -6,12 +6,12 @@ use Rattle.lynx_tree.specs.declared.declaration.TypeName.{TypeName}
 use Rattle.lynx_code.specs.declared.code.Code.{Code}
 use Rattle.lynx_code.specs.declared.code.CodeOp.{CodeOp}
 use Rattle.lynx_code.specs.declared.code.Part as kept
-use Rattle.lynx_meaning.specs.Values.{HasType}
+use Rattle.lynx_meaning.specs.Values.{HasType, HaveTypes}
 use Rattle.lynx_meaning.specs.Values as meaning
-use Rattle.code_shapes.specs.Shapes.{OpTypes, code_types, kept_op, types_of}
+use Rattle.code_shapes.specs.Shapes.{code_types, kept_op}
+use Rattle.lynx_meaning.specs.Needs.{OpTypes, types_of}
 use Rattle.machine_values.specs.Told.{value_of, values_of}
 use Rattle.machine_values.specs.declared.value.Value.{Value}
-use Rattle.machine_never_stuck.specs.Sound.{Typed}
 use Rattle.compiler_runnable.specs.Runnable.{arguments_of, part_of}
 use Rattle.lynx_interp.specs.Machines.{IsEntryFor, State, state_of}
 
@@ -26,21 +26,21 @@ pub field_of : (field : OpTypes → List TypeName) (ops : List CodeOp) (n : ℕ)
 field_of field ops n op here = ap (types_of field) (slice_get-map kept_op ops n ∙ ap (option_map kept_op) here)
 
 -- values of them
-pub typed_of : (field : OpTypes → List TypeName) (ops : List CodeOp) (n : ℕ) (op : CodeOp) (vs : List meaning.Value) → slice_get ops n ≡ Some op → Typed (field (kept_op op)) vs → Typed (types_of field (slice_get (map kept_op ops) n)) vs
-typed_of field ops n op vs here typed = subst (λ (ts : List TypeName). Typed ts vs) (sym (field_of field ops n op here)) typed
+pub typed_of : (field : OpTypes → List TypeName) (ops : List CodeOp) (n : ℕ) (op : CodeOp) (vs : List meaning.Value) → slice_get ops n ≡ Some op → HaveTypes (field (kept_op op)) vs → HaveTypes (types_of field (slice_get (map kept_op ops) n)) vs
+typed_of field ops n op vs here typed = subst (λ (ts : List TypeName). HaveTypes ts vs) (sym (field_of field ops n op here)) typed
 
 -- values for the parameters of an entry
 pub entry_for : (s : State) (code : Code) (entry : ℕ) (k : kept.Part) (n : ℕ) (op : CodeOp) (vs : List meaning.Value) → s ≡ state_of code s.turns → slice_get code.parts.items (entry + 1) ≡ Some k → k.op ≡ Some n →
-    slice_get code.ops.items n ≡ Some op → Typed op.arguments.items vs → IsEntryFor entry vs s
+    slice_get code.ops.items n ≡ Some op → HaveTypes op.arguments.items vs → IsEntryFor entry vs s
 entry_for s code entry k n op vs same here serves there typed =
     subst (λ (m : State). IsEntryFor entry vs m) (sym same) (
       part_of k,
       slice_get-map part_of code.parts.items (entry + 1) ∙ ap (option_map part_of) here,
-      subst (λ (o : Option ℕ). Typed (arguments_of (code_types code) o) vs) (sym serves) (typed_of (λ o. o.arguments) code.ops.items n op vs there typed),
+      subst (λ (o : Option ℕ). HaveTypes (arguments_of (code_types code) o) vs) (sym serves) (typed_of (λ o. o.arguments) code.ops.items n op vs there typed),
     )
 
-one_value : (ts : List TypeName) (vs : List Value) (n : ℕ) (d : TypeName) (v : Value) → n < length ts → Typed (take n ts) (values_of vs) → HasType (slice_index_or ts n d) (value_of v) →
-    Typed (take (suc n) ts) (values_of (vs ++ v ∷ []))
+one_value : (ts : List TypeName) (vs : List Value) (n : ℕ) (d : TypeName) (v : Value) → n < length ts → HaveTypes (take n ts) (values_of vs) → HasType (slice_index_or ts n d) (value_of v) →
+    HaveTypes (take (suc n) ts) (values_of (vs ++ v ∷ []))
 one_value [] vs n d v there typed has = absurd (omega (arith, there))
 one_value (t ∷ ts) [] zero d v there typed has = (has, tt)
 one_value (t ∷ ts) (w ∷ vs) zero d v there typed has = absurd typed
@@ -48,8 +48,8 @@ one_value (t ∷ ts) [] (suc n) d v there typed has = absurd typed
 one_value (t ∷ ts) (w ∷ vs) (suc n) d v there typed has = (typed.0, one_value ts vs n d v (omega (arith, there)) typed.1 has)
 
 -- one value more has its type
-pub one_more : (ts : List TypeName) (vs all : List Value) (n : ℕ) (d : TypeName) (v : Value) → n < length ts → Typed (take n ts) (values_of vs) → HasType (slice_index_or ts n d) (value_of v) → all ≡ vs ++ v ∷ [] →
-    Typed (take (n + 1) ts) (values_of all)
+pub one_more : (ts : List TypeName) (vs all : List Value) (n : ℕ) (d : TypeName) (v : Value) → n < length ts → HaveTypes (take n ts) (values_of vs) → HasType (slice_index_or ts n d) (value_of v) → all ≡ vs ++ v ∷ [] →
+    HaveTypes (take (n + 1) ts) (values_of all)
 one_more ts vs all n d v there typed has is =
     let size : suc n ≡ n + 1 = omega arith in
-    subst (λ (ws : List Value). Typed (take (n + 1) ts) (values_of ws)) (sym is) (subst (λ (k : ℕ). Typed (take k ts) (values_of (vs ++ v ∷ []))) size (one_value ts vs n d v there typed has))
+    subst (λ (ws : List Value). HaveTypes (take (n + 1) ts) (values_of ws)) (sym is) (subst (λ (k : ℕ). HaveTypes (take k ts) (values_of (vs ++ v ∷ []))) size (one_value ts vs n d v there typed has))

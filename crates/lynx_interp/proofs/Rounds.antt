@@ -4,7 +4,7 @@ use Rattle.std.proofs.lemmas.Option.{slice_get_within}
 use Rattle.lynx_meaning.specs.Code.{Program}
 use Rattle.code_shapes.specs.Shapes.{program}
 use Rattle.machine_turns.specs.Threads.{Standing, Made, course}
-use Rattle.machine_turns.specs.Turns.{Act, Beat, Turns, Goes, Runs, Stops, beats, comes, stands, with_thread}
+use Rattle.machine_turns.specs.Turns.{Act, Beat, Turns, RunsOn, Runs, Stops, beats, comes, stands, with_thread}
 use Rattle.machine_thread.specs.Told.{action_of, told}
 use Rattle.machine_thread.specs.declared.action.Action.{Action}
 use Rattle.machine_thread.specs.declared.action.Move.{Move}
@@ -13,17 +13,17 @@ use Rattle.machine_sound.specs.Taken.{takes_turn}
 use Rattle.machine_sound.proofs.Outside.{taken_sound}
 use Rattle.machine_sound.proofs.Placing.{get_set}
 use Rattle.machine_sound.proofs.Rounds as rounds
-use Rattle.lynx_interp.specs.Machines.{IsMachine, State, place_of}
+use Rattle.lynx_interp.specs.Machines.{IsMachine, State, begin_of}
 use Rattle.lynx_interp.specs.Runs.{CanGoOn, Comes, IsAsked, IsRound, IsTurn, MayGoOn, Settles, StopsAt, after_turn, stop_of}
 use Rattle.lynx_interp.specs.declared.stop.Stop.{Stop}
 use Rattle.lynx_interp.specs.declared.stop.Stop.TheVariants as stop
 
 -- all threads are sound where the round led to this
 abbrev pub round_of : ℕ → State → Beat → Type 0
-round_of fuel before b = rounds.IsRound before.types (map place_of before.parts) before.instructions fuel before.turns b
+round_of fuel before b = rounds.IsRound before.types (map begin_of before.parts) before.instructions fuel before.turns b
 
 -- the same machine with other turns
-with_turns : (before now : State) → now ≡ record before { turns = now.turns } → IsMachine before → AreSound before.types (map place_of before.parts) before.instructions now.turns → IsMachine now
+with_turns : (before now : State) → now ≡ record before { turns = now.turns } → IsMachine before → AreSound before.types (map begin_of before.parts) before.instructions now.turns → IsMachine now
 with_turns before now same is sound = subst (λ (s : State). IsMachine s) (sym same) (record { sound = sound; parts = is.parts })
 
 told_round : (fuel left n : ℕ) (before now : State) (action : Option Action) → IsMachine before → now ≡ record before { turns = now.turns } → round_of fuel before (after_turn left n action now.turns) →
@@ -60,9 +60,9 @@ stopped_round fuel before stop is at = record {
 pub taken_goes : (n : ℕ) (before taken : State) → IsMachine before → taken ≡ record before { turns = takes_turn before.turns } → taken.turns.running ≡ Some n → CanGoOn n taken
 taken_goes n before taken is takes runs =
     let first : State = record before { turns = takes_turn before.turns } in
-    let sound = taken_sound before.types (map place_of before.parts) before.instructions before.turns is.sound in
+    let sound = taken_sound before.types (map begin_of before.parts) before.instructions before.turns is.sound in
     subst (λ (s : State). CanGoOn n s) (sym takes)
-    (rounds.can_go_on before.types (map place_of before.parts) before.instructions first.turns n sound (ap (λ (s : State). s.turns.running) (sym takes) ∙ runs))
+    (rounds.can_go_on before.types (map begin_of before.parts) before.instructions first.turns n sound (ap (λ (s : State). s.turns.running) (sym takes) ∙ runs))
 
 -- after its turn it stands
 pub gone_stands : (n fuel left : ℕ) (taken gone : State) (made : Move) → IsTurn n fuel taken gone made left → (s : Standing) × (slice_get gone.turns.threads n ≡ Some (Some s))
@@ -95,15 +95,15 @@ module _ (fuel left n : ℕ) (before taken gone now : State) (made : Move) (acti
       let made_beat : after_turn left n action now.turns ≡ comes left n first last =
       settles.1 left t there
       ∙ ap (λ (u : Turns). comes left n u last) gone_turns
-      ∙ rounds.comes_there before.types (map place_of before.parts) before.instructions left n first gone.turns.globals t last runs_first in
+      ∙ rounds.comes_there before.types (map begin_of before.parts) before.instructions left n first gone.turns.globals t last runs_first in
       told_round fuel left n before now action is same_machine
-      (rounds.round before.types (map place_of before.parts) before.instructions fuel left before.turns n j s last (after_turn left n action now.turns) is.sound may.stands may.fueled runs_first here ran made_beat)
+      (rounds.round before.types (map begin_of before.parts) before.instructions fuel left before.turns n j s last (after_turn left n action now.turns) is.sound may.stands may.fueled runs_first here ran made_beat)
 
 -- ---- a run
 
 -- rounds of a run led here
 pub record IsSoFar (fuel : ℕ) (start : State) (left : ℕ) (now : State) : Type 0 where
-  pub come : Comes (program start.types start.instructions) fuel start.turns (Goes left now.turns)
+  pub come : Comes (program start.types start.instructions) fuel start.turns (RunsOn left now.turns)
   pub blocked : StayBlocked start.turns now.turns
   pub machine : IsMachine now
   pub same : now ≡ record start { turns = now.turns }
@@ -124,15 +124,15 @@ module _ (fuel left rest : ℕ) (start before now : State) (far : IsSoFar fuel s
   more : (b : Beat) → Comes (program before.types before.instructions) left before.turns b → Comes (program start.types start.instructions) fuel start.turns b
   more b come =
       let p : Program = program start.types start.instructions in
-      let here : beats p come.0 (Goes left before.turns) ≡ b = subst (λ (s : State). beats (program s.types s.instructions) come.0 (Goes left before.turns) ≡ b) far.same come.1 in
-      (far.come.0 + come.0, rounds.beats_on p far.come.0 come.0 (Goes fuel start.turns) b left before.turns far.come.1 here)
+      let here : beats p come.0 (RunsOn left before.turns) ≡ b = subst (λ (s : State). beats (program s.types s.instructions) come.0 (RunsOn left before.turns) ≡ b) far.same come.1 in
+      (far.come.0 + come.0, rounds.beats_on p far.come.0 come.0 (RunsOn fuel start.turns) b left before.turns far.come.1 here)
 
   same_code : now ≡ record before { turns = now.turns } → now ≡ record start { turns = now.turns }
   same_code same = same ∙ ap (λ (s : State). record s { turns = now.turns }) far.same
 
   pub goes_far : IsRound left before None rest now → IsSoFar fuel start rest now
   goes_far round = record {
-    come = more (Goes rest now.turns) round.come;
+    come = more (RunsOn rest now.turns) round.come;
     blocked = λ n s there blocked. round.blocked n s (far.blocked n s there blocked) blocked;
     machine = round.machine;
     same = same_code round.same;

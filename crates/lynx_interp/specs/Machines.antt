@@ -2,9 +2,8 @@
 use Rattle.std.specs.Prelude.{◌≡◌, ℕ, ◌+◌, ◌<◌, ◌≤◌, List, [], ◌∷◌, ◌++◌, length, map, drop, Option, Some, None, slice_get}
 use Rattle.lynx_code.specs.declared.code.Code.{Code}
 use Rattle.lynx_code.specs.declared.instruction.Instruction.{Instruction}
-use Rattle.lynx_meaning.specs.Values.{Value, Link, start_value}
+use Rattle.lynx_meaning.specs.Values.{Value, Link, start_value, HaveTypes}
 use Rattle.lynx_tree.specs.declared.declaration.TypeName.{TypeName}
-use Rattle.machine_never_stuck.specs.Sound.{Typed}
 use Rattle.code_shapes.specs.Shapes.{ModuleTypes, code_types}
 use Rattle.machine_turns.specs.Threads.{Standing}
 use Rattle.machine_turns.specs.Turns.{Turns, IsFree, spawned}
@@ -23,8 +22,8 @@ pub record State : Type 0 where
   pub parts : List Part
   pub turns : Turns
 
-abbrev pub place_of : Part → ℕ × List TypeName
-place_of p = (p.start, p.locals)
+abbrev pub begin_of : Part → ℕ × List TypeName
+begin_of p = (p.start, p.locals)
 
 -- the machine of this code, with these turns
 abbrev pub state_of : Code → Turns → State
@@ -46,7 +45,7 @@ how_many (None ∷ os) = how_many os
 -- ---- what holds of each machine
 
 pub record IsMachine (s : State) : Type 0 where
-  pub sound : AreSound s.types (map place_of s.parts) s.instructions s.turns
+  pub sound : AreSound s.types (map begin_of s.parts) s.instructions s.turns
   pub parts : AreParts s.types s.parts
 
 -- ---- the start
@@ -65,7 +64,7 @@ StandBelow n t = (k : ℕ) → k < n → (s : Standing) × (slice_get t.threads 
 
 -- there is this entry, and these values are for its parameters
 abbrev pub IsEntryFor : ℕ → List Value → State → Type 0
-IsEntryFor entry values s = (p : Part) × (slice_get s.parts (entry + 1) ≡ Some p) × Typed (parameters s.types p) values
+IsEntryFor entry values s = (p : Part) × (slice_get s.parts (entry + 1) ≡ Some p) × HaveTypes (parameters s.types p) values
 
 -- there is this entry, with a variable for each of these values
 abbrev pub HasEntry : ℕ → List Value → State → Type 0

@@ -2,8 +2,9 @@
 use Rattle.std.specs.Prelude.{◌≡◌, ◌<◌, ℕ, true, Option, None, Some, IfSome, IfNone, is_some, slice_get, ⊤}
 use Rattle.lynx_meaning.specs.Code.{Program}
 use Rattle.code_shapes.specs.Shapes.{program}
-use Rattle.machine_turns.specs.Threads.{Standing, wanted_by}
-use Rattle.machine_turns.specs.Turns.{Beat, Goes, Stops, Act, Turns, beat, beats, comes, with_thread}
+use Rattle.machine_turns.specs.Threads.{Standing}
+use Rattle.lynx_meaning.specs.Needs.{wanted_by}
+use Rattle.machine_turns.specs.Turns.{Beat, RunsOn, Stops, Act, Turns, beat, beats, comes, with_thread}
 use Rattle.machine_turns.specs.Turns as turns
 use Rattle.machine_steps.specs.Operands.{IsCourse, StaysReady}
 use Rattle.machine_thread.specs.Told.{action_of, told}
@@ -24,12 +25,12 @@ stop_of stop.Finished = turns.Finished
 
 -- how far a run came: it goes on, or stops so
 abbrev pub beat_of : Option Stop → ℕ → Turns → Beat
-beat_of None left t = Goes left t
+beat_of None left t = RunsOn left t
 beat_of (Some stop) left t = Stops (stop_of stop) left t
 
 -- some beats lead to this
 abbrev pub Comes : Program → ℕ → Turns → Beat → Type 0
-Comes p fuel t b = (k : ℕ) × (beats p k (Goes fuel t) ≡ b)
+Comes p fuel t b = (k : ℕ) × (beats p k (RunsOn fuel t) ≡ b)
 
 -- where a run stopped for an action, the thread waits for its outcome
 abbrev pub IsAsked : Stop → Turns → Type 0
@@ -55,7 +56,7 @@ IsTurn n fuel before after made left =
 
 -- its thread may have asked for this
 abbrev pub after_turn : ℕ → ℕ → Option Action → Turns → Beat
-after_turn fuel n None t = Goes fuel t
+after_turn fuel n None t = RunsOn fuel t
 after_turn fuel n (Some a) t = Stops (Act n (action_of a)) fuel t
 
 -- those that wait are changed by what came of the turn of this thread

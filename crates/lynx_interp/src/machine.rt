@@ -1,8 +1,8 @@
 //! A machine.
 
-ghost use Rattle.std.specs.Prelude.{◌≡◌, ◌≤◌, [], ◌∷◌, length, replicate, false, None, Some, IfOk};
+ghost use Rattle.std.specs.Prelude.{◌≡◌, ◌≤◌, [], ◌∷◌, length, replicate, false, None, Some, IfOk, ◌-◌};
 ghost use Rattle.machine_turns.specs.Threads.{begun};
-ghost use Rattle.machine_turns.specs.Turns.{at_start};
+ghost use Rattle.machine_turns.specs.Turns.{at_start, most_threads};
 ghost use Rattle.lynx_interp.specs.Machines.{IsMachine, how_many, start_globals, state_of};
 ghost use Rattle.compiler_runnable.specs.Runnable.{HaveStarts, IsRunnable};
 
@@ -36,13 +36,14 @@ pub struct Machine {
 
 impl Model for Machine {
     ghost use Rattle.std.specs.Prelude.{◌≡◌, length};
+    ghost use Rattle.machine_turns.specs.Turns.{most_threads};
     ghost use Rattle.lynx_interp.specs.Machines.{State, state_of};
 
     ghost Value = { State };
 
     ghost view = { λ m. state_of m.code (record { globals = m.globals; threads = m.threads.items; running = m.running; ready = m.ready.items; awaiting = m.awaiting.items }) };
 
-    ghost invariant = { λ m. length m.threads.items ≡ 32 };
+    ghost invariant = { λ m. length m.threads.items ≡ most_threads };
 }
 
 impl Machine {
@@ -98,7 +99,7 @@ impl Machine {
 
 // The thread of the module's body, and no other.
 fn body_alone(alloc: Global) -> Result<Vec<Option<Thread>>, NoMemory>
-    ensures { IfOk result (λ threads. threads.items ≡ Some (begun false 0 []) ∷ replicate 31 None) }
+    ensures { IfOk result (λ threads. threads.items ≡ Some (begun false 0 []) ∷ replicate (most_threads - 1) None) }
 {
     let mut threads = Vec::with_capacity(alloc, MOST_THREADS)?;
     threads.push(Some(Thread::new(alloc, false, 0, Variables::new(alloc))))?;

@@ -2,7 +2,7 @@
 
 ghost use Rattle.std.specs.Prelude.{◌≡◌, ◌+◌, ◌↔◌, [], ◌∷◌, ◌++◌, true, IfOk, OnOk, OnErr, IsNone, IfSome, IfNone, MatchOption, Some, None, slice_get};
 ghost use Rattle.machine_turns.specs.Threads.{Standing, begun};
-ghost use Rattle.machine_turns.specs.Turns.{IsFree, given_to, is_ready_after, spawned, with_thread};
+ghost use Rattle.machine_turns.specs.Turns.{IsFree, given_to, is_ready_after, spawned, with_thread, most_threads};
 ghost use Rattle.machine_values.specs.Told.{values_of};
 ghost use Rattle.machine_sound.specs.Sound.{FitsAction};
 ghost use Rattle.machine_thread.specs.Told.{outcome_of};
@@ -32,7 +32,7 @@ impl Machine {
     pub fn spawn(&mut self, entry: u16, values: Vec<Value>) -> Result<Option<u8>, NoMemory>
         requires machine { IsMachine self.old }
         requires entry { IsEntryFor entry (values_of values.items) self.old }
-        ensures full { IfOk result (λ number. IsNone number ↔ (how_many self.old.turns.threads ≡ 32)) }
+        ensures full { IfOk result (λ number. IsNone number ↔ (how_many self.old.turns.threads ≡ most_threads)) }
         ensures spawned { IfOk result (λ number. IfSome number (λ n. IsSpawned n entry (values_of values.items) self.old self.new)) }
         ensures first { IfOk result (λ number. IfSome number (λ n. StandBelow n self.old.turns)) }
         ensures none { IfOk result (λ number. IfNone number (self.new ≡ self.old)) }
@@ -73,7 +73,7 @@ impl Machine {
 
     // The first number of no thread.
     fn free_number(&self) -> Option<u8>
-        ensures free { MatchOption result (how_many self.now.turns.threads ≡ 32) (λ n. IsFree n self.now.turns) }
+        ensures free { MatchOption result (how_many self.now.turns.threads ≡ most_threads) (λ n. IsFree n self.now.turns) }
         ensures first { IfSome result (λ n. StandBelow n self.now.turns) }
     {
         for number in 0..32_u8 {

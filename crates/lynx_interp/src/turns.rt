@@ -3,7 +3,7 @@
 ghost use Rattle.std.specs.Prelude.{◌≡◌, ◌<◌, ℕ, true, None, Some, IfOk, OnOk, MatchOption, is_some, length, option_map, slice_get};
 ghost use Rattle.code_shapes.specs.Shapes.{program};
 ghost use Rattle.machine_turns.specs.Threads.{Standing};
-ghost use Rattle.machine_turns.specs.Turns.{Runs, acts, awaits, stands, wakes, with_thread};
+ghost use Rattle.machine_turns.specs.Turns.{Runs, asks_for, awaits, stands, wakes, with_thread};
 ghost use Rattle.machine_thread.specs.Told.{action_of};
 ghost use Rattle.machine_sound.specs.Sound.{StayBlocked};
 ghost use Rattle.machine_sound.specs.Taken.{next_number, takes_turn};
@@ -174,7 +174,7 @@ impl Machine {
 
     // To connect or to accept is to block.
     fn blocks_for(&mut self, action: &Action) -> Result<(), NoMemory>
-        ensures { OnOk result ((n : ℕ) → self.old.turns.running ≡ Some n → self.new ≡ record self.old { turns = acts n (action_of action.now) self.old.turns }) }
+        ensures { OnOk result ((n : ℕ) → self.old.turns.running ≡ Some n → self.new ≡ record self.old { turns = asks_for n (action_of action.now) self.old.turns }) }
     {
         match action {
             Action::Connect(..) | Action::Accept(..) => self.wakes(),

@@ -17,3 +17,7 @@ class_of b =
     else (if b == 95 then Underscore
     else (if b == 39 then Quote
     else Other))))
+
+-- the most bytes of a name
+abbrev pub most_name : ℕ
+most_name = 32

@@ -2,7 +2,7 @@
 use Rattle.std.specs.Prelude.{◌≡◌, ◌≢◌, ℕ, ◌+◌, ◌*◌, ◌-◌, ◌≤◌, ◌⊎◌, Bool, true, false, not, ◌&&◌, ◌==◌, nat_le, nat_lt}
 use Rattle.std.specs.Prelude.{if◌then◌else◌, IsTrue, List, [], ◌∷◌, ◌++◌, length, Option, Some, None, pos, int_lt}
 use Rattle.std.specs.List.{list_all, fold}
-use Rattle.lynx_lexer.specs.Bytes.{class_of}
+use Rattle.lynx_lexer.specs.Bytes.{class_of, most_name}
 use Rattle.lynx_lexer.specs.Words.{word_of, sign_of}
 use Rattle.lynx_lexer.specs.declared.class.Class.{Class}
 use Rattle.lynx_lexer.specs.declared.class.Class.TheVariants.{Blank, Letter, Digit, Underscore, Quote, Other}
@@ -77,6 +77,6 @@ IsLongest text rest =
 abbrev pub limit_passed : Kind → Option FaultKind
 limit_passed (kinds.Keyword keyword) = None
 limit_passed (kinds.Sign sign) = None
-limit_passed (kinds.Name name) = if nat_lt 32 (length name) then Some NameTooLong else None
+limit_passed (kinds.Name name) = if nat_lt most_name (length name) then Some NameTooLong else None
 limit_passed (kinds.Number number) = if int_lt (pos 9223372036854775807) number then Some NumberTooWide else None
 limit_passed (kinds.Text inside) = if nat_lt 64 (length inside) then Some TextTooLong else None

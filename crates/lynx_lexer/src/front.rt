@@ -9,12 +9,10 @@ ghost use Rattle.lynx_lexer.specs.Fronts.{StandsAs, Begins};
 
 use crate::class::Class;
 use crate::fault::FaultKind;
+use crate::ident::MOST_NAME;
 use crate::keyword::Keyword;
 use crate::lexeme::Shape;
 use crate::sign::Sign;
-
-/// The most bytes of a name.
-const MOST_NAME: usize = 32;
 
 /// The most bytes of a text.
 const MOST_TEXT: usize = 64;

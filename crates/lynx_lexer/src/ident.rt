@@ -1,15 +1,19 @@
 //! Names.
 
 ghost use Rattle.std.specs.Prelude.{◌≡◌, ◌≤◌, ◌<◌, ◌↔◌, length, IsSome, IfSome};
+ghost use Rattle.lynx_lexer.specs.Bytes.{most_name};
 
 use arrayvec::ArrayVec;
 use std::marker::Model;
+
+/// The most bytes of a name.
+pub(crate) const MOST_NAME: usize = 32;
 
 /// The bytes of a name, from 1 to 32, which outlive the source. Tokens and trees lend theirs (`IdentRef`); compiled code is to
 /// keep names so.
 #[derive(Debug, Drop)]
 pub struct Ident {
-    bytes: ArrayVec<u8, 32>,
+    bytes: ArrayVec<u8, MOST_NAME>,
 }
 
 impl Model for Ident {
@@ -25,7 +29,7 @@ impl Model for Ident {
 impl Ident {
     /// The name of these bytes. None exactly where they are none or more than 32.
     pub fn from_slice(bytes: &[u8]) -> Option<Ident>
-        ensures variant { IsSome result ↔ ((0 < length bytes.now) × (length bytes.now ≤ 32)) }
+        ensures variant { IsSome result ↔ ((0 < length bytes.now) × (length bytes.now ≤ most_name)) }
         ensures value { IfSome result (λ ident. ident ≡ bytes.now) }
     {
         if bytes.is_empty() {
@@ -39,7 +43,7 @@ impl Ident {
     /// The bytes.
     pub fn as_slice(&self) -> &[u8]
         ensures value { result.now ≡ self.now }
-        ensures fits { length result.now ≤ 32 }
+        ensures fits { length result.now ≤ most_name }
         ensures some { 0 < length result.now }
     {
         self.bytes.as_slice()
@@ -63,21 +67,22 @@ pub struct IdentRef<'a> {
 
 impl<'a> Model for IdentRef<'a> {
     ghost use Rattle.std.specs.Prelude.{ℕ, List, length, ◌<◌, ◌≤◌};
+    ghost use Rattle.lynx_lexer.specs.Bytes.{most_name};
 
     ghost Value = { List ℕ };
 
     ghost view = { λ a. a.bytes.now };
 
-    ghost invariant = { λ a. (0 < length a.bytes.now) × (length a.bytes.now ≤ 32) };
+    ghost invariant = { λ a. (0 < length a.bytes.now) × (length a.bytes.now ≤ most_name) };
 }
 
 impl<'a> IdentRef<'a> {
     /// The name of these bytes. None exactly where they are none or more than 32.
     pub fn from_slice(bytes: &'a [u8]) -> Option<IdentRef<'a>>
-        ensures variant { IsSome result ↔ ((0 < length bytes.now) × (length bytes.now ≤ 32)) }
+        ensures variant { IsSome result ↔ ((0 < length bytes.now) × (length bytes.now ≤ most_name)) }
         ensures value { IfSome result (λ ident. ident ≡ bytes.now) }
     {
-        if bytes.is_empty() || bytes.len() > 32 {
+        if bytes.is_empty() || bytes.len() > MOST_NAME {
             return None;
         }
         Some(IdentRef { bytes })
@@ -85,7 +90,7 @@ impl<'a> IdentRef<'a> {
 
     /// The name of these bytes, which are some and no more than 32.
     pub(crate) fn within(bytes: &'a [u8]) -> IdentRef<'a>
-        requires { 0 < length bytes.now × length bytes.now ≤ 32 }
+        requires { 0 < length bytes.now × length bytes.now ≤ most_name }
         ensures { result ≡ bytes.now }
     {
         IdentRef { bytes }
@@ -94,7 +99,7 @@ impl<'a> IdentRef<'a> {
     /// The bytes.
     pub fn as_slice(&self) -> &'a [u8]
         ensures value { result.now ≡ self.now }
-        ensures fits { length result.now ≤ 32 }
+        ensures fits { length result.now ≤ most_name }
         ensures some { 0 < length result.now }
     {
         self.bytes

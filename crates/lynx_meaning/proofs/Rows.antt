@@ -12,7 +12,7 @@ use Rattle.typing_rules.specs.declared.exception.Exception.TheVariants as except
 use Rattle.lynx_code.proofs.Rows.{exprs, stmts, op, var, entry, module_of, number, plus, minus, over}
 use Rattle.lynx_meaning.specs.Agree.{Start, source, target}
 use Rattle.lynx_meaning.specs.Code.{Comes}
-use Rattle.lynx_meaning.specs.Courses.{Action, Answer, Outcome, Destroy, Bind, Unbind, Connect, Accept, Close, Reply, Write, Await, Stop, Ended, Waits, Out}
+use Rattle.lynx_meaning.specs.Courses.{Action, Answer, Behaviour, Destroy, Bind, Unbind, Connect, Accept, Close, Reply, Write, Await, Stop, Ended, Waits, Out}
 use Rattle.lynx_meaning.specs.Courses as actions
 use Rattle.lynx_meaning.specs.Source.{main_tree, entry_part_tree}
 use Rattle.lynx_meaning.specs.Values.{Value, Int, Truth, Row, Link}
@@ -41,14 +41,14 @@ abbrev refuses : Exception → ℤ → Answer
 refuses exception n = record { given = Err exception; globals = with_n n }
 
 -- a thread of the body, with `n` as 0, comes to this by the source and by the code
-abbrev Comes_to : List StmtTree → List Answer → Outcome → Type 0
+abbrev Comes_to : List StmtTree → List Answer → Behaviour → Type 0
 Comes_to body answers outcome =
     let m = the_module [] body in
     let given : Start = record { globals = with_n (pos 0); arguments = []; answers = answers } in
     (source (main_tree m) given 3 ≡ outcome) × (target m (main_tree m) 0 given 60 ≡ Comes outcome)
 
 -- a thread of the entry, whose parameter is 7; its code begins behind the one instruction of the body
-abbrev Entry_comes_to : List StmtTree → List Answer → Outcome → Type 0
+abbrev Entry_comes_to : List StmtTree → List Answer → Behaviour → Type 0
 Entry_comes_to body answers outcome =
     let m = the_module body [] in
     let part = entry_part_tree m (the_entry body) in
@@ -56,13 +56,13 @@ Entry_comes_to body answers outcome =
     (source part given 3 ≡ outcome) × (target m part 1 given 60 ≡ Comes outcome)
 
 -- it ends after these actions, with this `n`
-abbrev ended : List Action → ℤ → Outcome
+abbrev ended : List Action → ℤ → Behaviour
 ended done n = Ended done (record { globals = with_n n; locals = [] })
 
-abbrev waits : List Action → ℤ → Outcome
+abbrev waits : List Action → ℤ → Behaviour
 waits done n = Waits done (record { globals = with_n n; locals = [] })
 
-abbrev entry_ended : List Action → ℤ → Outcome
+abbrev entry_ended : List Action → ℤ → Behaviour
 entry_ended done y = Ended done (record { globals = with_n (pos 0); locals = Int (pos 7) ∷ Int y ∷ [] })
 
 -- ---- statements

@@ -1,33 +1,21 @@
 -- Source and code agree.
-use Rattle.std.specs.Prelude.{◌≡◌, ◌≢◌, ℕ, suc, ◌≤◌, List, [], ◌∷◌, map, Option, None, Some, IfOk, slice_get, ⊤}
+use Rattle.std.specs.Prelude.{◌≡◌, ◌≢◌, ℕ, suc, ◌≤◌, List, ◌∷◌, map, Some, IfOk, slice_get, ⊤}
 use Rattle.lynx_tree.specs.Grammar.{HasTokens}
-use Rattle.lynx_tree.specs.Trees.{ModuleTree, OpTree, EntryTree}
+use Rattle.lynx_tree.specs.Trees.{ModuleTree, EntryTree}
 use Rattle.lynx_tree.specs.declared.declaration.TypeName.{TypeName}
-use Rattle.lynx_tree.specs.declared.declaration.TypeName.TheVariants as types
 use Rattle.typing_rules.specs.Modules.{IsWellTyped}
-use Rattle.lynx_code.specs.Modules.{ArePairs, PartCode, parts_of, variables}
-use Rattle.lynx_meaning.specs.Code.{CodeOutcome, Comes, Stuck, code_meaning, program_of}
-use Rattle.lynx_meaning.specs.Courses.{Action, Answer, Outcome, New, Connect, Accept, Stop, Ended, Waits, Out}
+use Rattle.lynx_code.specs.Modules.{PartCode, parts_of, variables}
+use Rattle.lynx_meaning.specs.Code.{CodeBehaviour, Comes, Stuck, code_meaning, program_of}
+use Rattle.lynx_meaning.specs.Courses.{Action, Answer, Behaviour, Stop, Ended, Waits, Out}
+use Rattle.lynx_meaning.specs.Needs.{op_types, wanted_by, wanted_types}
 use Rattle.lynx_meaning.specs.Source.{PartTree, main_tree, entry_part_tree, source_meaning, start_store}
-use Rattle.lynx_meaning.specs.Values.{Value, HasType}
+use Rattle.lynx_meaning.specs.Values.{Value, HaveTypes}
 
 -- ---- answers that fit
 
--- as many values as types, each of its type
-abbrev pub HaveTypes : List TypeName → List Value → Type 0
-HaveTypes ts vs = ArePairs HasType ts vs
-
--- the types of the operation of this number
-abbrev pub types_of : (OpTree → List TypeName) → Option OpTree → List TypeName
-types_of field None = []
-types_of field (Some op) = field op
-
 -- the types of the values that an action needs
 abbrev pub needed : ModuleTree → Action → List TypeName
-needed m New = types.Link ∷ types.Link ∷ []
-needed m (Connect link op values) = types_of (λ o. o.results) (slice_get m.ops op)
-needed m (Accept link op) = types_of (λ o. o.arguments) (slice_get m.ops op)
-needed m _ = []
+needed m action = wanted_types (map op_types m.ops) (wanted_by action)
 
 -- the variables of the module have their types
 abbrev pub HaveGlobals : ModuleTree → List Value → Type 0
@@ -44,7 +32,7 @@ Fit m (Stop ∷ actions) answers = ⊤
 Fit m (action ∷ actions) (a ∷ answers) = Fits m action a × Fit m actions answers
 Fit m _ _ = ⊤
 
-abbrev pub actions_of : Outcome → List Action
+abbrev pub actions_of : Behaviour → List Action
 actions_of (Ended actions store) = actions
 actions_of (Waits actions store) = actions
 actions_of (Out actions) = actions
@@ -56,11 +44,11 @@ pub record Start : Type 0 where
   pub answers : List Answer
 
 -- the source, with loops of at most n turns
-abbrev pub source : PartTree → Start → ℕ → Outcome
+abbrev pub source : PartTree → Start → ℕ → Behaviour
 source part given n = source_meaning part n (start_store part given.globals given.arguments) given.answers
 
 -- the code from this address on, with at most n instructions
-abbrev pub target : ModuleTree → PartTree → ℕ → Start → ℕ → CodeOutcome
+abbrev pub target : ModuleTree → PartTree → ℕ → Start → ℕ → CodeBehaviour
 target m part start given n =
     code_meaning (program_of m) part.is_entry start n (start_store part given.globals given.arguments) given.answers
 
@@ -73,27 +61,28 @@ pub record IsFitting (m : ModuleTree) (part : PartTree) (given : Start) : Type 0
 -- ---- agreement
 
 -- the thread ends, or waits for an answer
-abbrev pub IsOver : Outcome → Type 0
+abbrev pub IsOver : Behaviour → Type 0
 IsOver (Ended actions store) = ⊤
 IsOver (Waits actions store) = ⊤
 IsOver (Out actions) = ⊥
 
-abbrev pub IsOut : Outcome → Type 0
+abbrev pub IsOut : Behaviour → Type 0
 IsOut (Out actions) = ⊤
 IsOut _ = ⊥
 
-abbrev pub IsCodeOut : CodeOutcome → Type 0
-IsCodeOut (Comes outcome) = IsOut outcome
+abbrev pub IsCodeOut : CodeBehaviour → Type 0
+IsCodeOut (Comes behaviour) = IsOut behaviour
 IsCodeOut Stuck = ⊥
 
 -- a part of a module, and its code that starts at this address
 pub record Agrees (m : ModuleTree) (part : PartTree) (start : ℕ) : Type 0 where
   -- where the source ends or waits, so does the code, after the same actions and with the same variables
-  pub code_follows : (given : Start) → IsFitting m part given → (n : ℕ) (outcome : Outcome) → IsOver outcome → source part given n ≡ outcome
-      → (k : ℕ) × (target m part start given k ≡ Comes outcome)
+  pub code_follows : (given : Start) → IsFitting m part given → (n : ℕ) (behaviour : Behaviour) → IsOver behaviour
+      → source part given n ≡ behaviour
+      → (k : ℕ) × (target m part start given k ≡ Comes behaviour)
   -- where the code ends or waits within so many instructions, so does the source with loops of at most so many turns
-  pub source_follows : (given : Start) → IsFitting m part given → (n : ℕ) (outcome : Outcome) → IsOver outcome
-      → target m part start given n ≡ Comes outcome → source part given n ≡ outcome
+  pub source_follows : (given : Start) → IsFitting m part given → (n : ℕ) (behaviour : Behaviour) → IsOver behaviour
+      → target m part start given n ≡ Comes behaviour → source part given n ≡ behaviour
   -- where the source goes on for ever, so does the code
   pub goes_on : (given : Start) → IsFitting m part given → ((n : ℕ) → IsOut (source part given n)) → (k : ℕ)
       → IsCodeOut (target m part start given k)

@@ -10,7 +10,7 @@ use Rattle.lynx_code.specs.declared.instruction.Literal.{Literal}
 use Rattle.lynx_code.specs.declared.instruction.Literal.TheVariants as literal
 use Rattle.typing_rules.specs.Exceptions.{exception_text}
 use Rattle.typing_rules.specs.declared.exception.Exception.{Exception}
-use Rattle.lynx_meaning.specs.Courses.{Action, Answer, Moment, Outcome, Store, New, Destroy, Bind, Unbind, Connect}
+use Rattle.lynx_meaning.specs.Courses.{Action, Answer, Moment, Behaviour, Store, New, Destroy, Bind, Unbind, Connect, Outcome}
 use Rattle.lynx_meaning.specs.Courses.{Accept, Close, Reply, Write, Await, Stop, Ended, Waits, Out, after}
 use Rattle.lynx_meaning.specs.Values.{Value, Int, Truth, Text, Row, Link, Given, add, subtract, multiply}
 use Rattle.lynx_meaning.specs.Values.{divide, reduce, negate, truth_eq, value_eq, member, with_member, written}
@@ -45,15 +45,15 @@ pub record Program : Type 0 where
 abbrev pub program_of : ModuleTree → Program
 program_of m = record { instructions = module_code m; arguments = map (λ op. length op.arguments) m.ops }
 
--- what code comes to: an outcome, or an instruction finds no operand, one of a wrong kind, or an address that is not there
-pub data CodeOutcome : Type 0 where
-  Comes : Outcome → CodeOutcome
-  Stuck : CodeOutcome
+-- what code comes to: a behaviour, or an instruction finds no operand, one of a wrong kind, or an address that is not there
+pub data CodeBehaviour : Type 0 where
+  Comes : Behaviour → CodeBehaviour
+  Stuck : CodeBehaviour
 
 -- what comes after an instruction
 pub data Next : Type 0 where
   Goes : Thread → Next
-  Over : CodeOutcome → Next
+  Over : CodeBehaviour → Next
 
 abbrev pub stuck : Next
 stuck = Over Stuck
@@ -61,29 +61,29 @@ stuck = Over Stuck
 -- ---- actions
 
 -- an action, and what comes with what it is given
-abbrev pub acts_with : Moment → Action → List Answer → (Result (List Value) Exception → Moment → Next) → Next
-acts_with m action [] next = Over (Comes (Waits (m.actions ++ action ∷ []) m.store))
-acts_with m action (a ∷ rest) next = next a.given (after m action a rest)
+abbrev pub takes_outcome : Moment → Action → List Answer → (Outcome → Moment → Next) → Next
+takes_outcome m action [] next = Over (Comes (Waits (m.actions ++ action ∷ []) m.store))
+takes_outcome m action (a ∷ rest) next = next a.given (after m action a rest)
 
-abbrev pub acts : Moment → Action → (Result (List Value) Exception → Moment → Next) → Next
-acts m action next = acts_with m action m.answers next
+abbrev pub with_outcome : Moment → Action → (Outcome → Moment → Next) → Next
+with_outcome m action next = takes_outcome m action m.answers next
 
 -- ---- the end, and exceptions
 
 -- a thread ends; one of an entry closes its own request, and what that is given changes nothing
 abbrev pub ends : Bool → Moment → Next
-ends true m = acts m Close (λ given now. Over (Comes (Ended now.actions now.store)))
+ends true m = with_outcome m Close (λ given now. Over (Comes (Ended now.actions now.store)))
 ends false m = Over (Comes (Ended m.actions m.store))
 
 -- one that an action raises takes the place of one that is under way
-abbrev pub instead : Result (List Value) Exception → Exception → Exception
+abbrev pub instead : Outcome → Exception → Exception
 instead (Ok vs) exception = exception
 instead (Err other) exception = other
 
 -- so many accepts are closed, while an exception is under way
 abbrev pub closes : ℕ → Exception → Moment → (Exception → Moment → Next) → Next
 closes zero exception m next = next exception m
-closes (suc k) exception m next = acts m Close (λ given now. closes k (instead given exception) now next)
+closes (suc k) exception m next = with_outcome m Close (λ given now. closes k (instead given exception) now next)
 
 -- the lowest operands of a stack
 abbrev pub cut : ℕ → List Value → List Value
@@ -121,14 +121,14 @@ gives is_entry (Ok v) stack t = goes (v ∷ stack) t
 gives is_entry (Err exception) stack t = raises is_entry exception t
 
 -- the values that an action is given come on the stack in their order; the thread may change besides
-abbrev pub answered : Bool → Result (List Value) Exception → (Thread → Thread) → Thread → Next
+abbrev pub answered : Bool → Outcome → (Thread → Thread) → Thread → Next
 answered is_entry (Ok vs) change t = goes (reverse vs ++ t.stack) (change t)
 answered is_entry (Err exception) change t = raises is_entry exception t
 
 -- an action, for which operands were taken from the stack
 abbrev pub asks : Bool → Action → List Value → Thread → (Thread → Thread) → Next
 asks is_entry action stack t change =
-    acts t.moment action (λ given now. answered is_entry given change (record t { moment = now; stack = stack }))
+    with_outcome t.moment action (λ given now. answered is_entry given change (record t { moment = now; stack = stack }))
 
 -- ---- variables
 
@@ -244,7 +244,7 @@ closes_accept is_entry zero t = stuck
 closes_accept is_entry (suc accepts) t = asks is_entry Close t.stack (record t { accepts = accepts }) (λ now. now)
 
 -- after an await with false
-abbrev pub tries_again : Bool → ℕ → Result (List Value) Exception → Thread → Next
+abbrev pub tries_again : Bool → ℕ → Outcome → Thread → Next
 tries_again is_entry address (Ok vs) t = jumps address t.stack t
 tries_again is_entry address (Err exception) t = raises is_entry exception t
 
@@ -277,7 +277,7 @@ step p e t (code.JumpF address) = by_truth (λ b stack. if b then goes stack t e
 step p e t (code.Jump address) = jumps address t.stack t
 step p e t (code.Await address) =
     by_truth (λ b stack. if b then goes stack t
-    else acts t.moment Await (λ given now. tries_again e address given (record t { moment = now; stack = stack }))) t.stack
+    else with_outcome t.moment Await (λ given now. tries_again e address given (record t { moment = now; stack = stack }))) t.stack
 step p e t (code.Try address) =
     goes t.stack (record t { tries = record { handlers = address; height = length t.stack; accepts = t.accepts } ∷ t.tries })
 step p e t code.Untry = untries t.tries t
@@ -307,12 +307,12 @@ fetched p is_entry t (Some i) = step p is_entry t i
 abbrev pub next_of : Program → Bool → Thread → Next
 next_of p is_entry t = fetched p is_entry t (slice_get p.instructions t.address)
 
-abbrev pub go_on : Next → (Thread → CodeOutcome) → CodeOutcome
+abbrev pub go_on : Next → (Thread → CodeBehaviour) → CodeBehaviour
 go_on (Goes t) next = next t
-go_on (Over outcome) next = outcome
+go_on (Over behaviour) next = behaviour
 
 -- at most so many instructions
-abbrev pub exec : Program → Bool → ℕ → Thread → CodeOutcome
+abbrev pub exec : Program → Bool → ℕ → Thread → CodeBehaviour
 exec p is_entry zero t = Comes (Out t.moment.actions)
 exec p is_entry (suc m) t = go_on (next_of p is_entry t) (λ now. exec p is_entry m now)
 
@@ -329,5 +329,5 @@ begins start store answers =
     }
 
 -- The meaning of a part that starts at this address, an entry or the module's body, with at most m instructions.
-abbrev pub code_meaning : Program → Bool → ℕ → ℕ → Store → List Answer → CodeOutcome
+abbrev pub code_meaning : Program → Bool → ℕ → ℕ → Store → List Answer → CodeBehaviour
 code_meaning p is_entry start m store answers = exec p is_entry m (begins start store answers)

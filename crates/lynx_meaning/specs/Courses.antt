@@ -24,9 +24,13 @@ pub record Store : Type 0 where
   pub globals : List Value
   pub locals : List Value
 
--- what an action is given: values or an exception, and the variables of the module as they stand when the thread goes on
+-- what an action is given: values, or an exception
+abbrev pub Outcome : Type 0
+Outcome = Result (List Value) Exception
+
+-- the outcome of an action, and the variables of the module as they stand when the thread goes on
 pub record Answer : Type 0 where
-  pub given : Result (List Value) Exception
+  pub given : Outcome
   pub globals : List Value
 
 -- a thread between two steps: its variables, the answers that are left, and its actions so far
@@ -36,23 +40,23 @@ pub record Moment : Type 0 where
   pub actions : List Action
 
 -- what a thread comes to, after these actions: it ends with these variables, waits for an answer, or goes on beyond the bound
-pub data Outcome : Type 0 where
-  Ended : List Action → Store → Outcome
-  Waits : List Action → Store → Outcome
-  Out : List Action → Outcome
+pub data Behaviour : Type 0 where
+  Ended : List Action → Store → Behaviour
+  Waits : List Action → Store → Behaviour
+  Out : List Action → Behaviour
 
 -- what a part of a thread comes to: the thread goes on behind it, an exception is raised, or the thread waits or is out
 pub data Course : Type 0 where
-  Goes : Moment → Course
+  Proceeds : Moment → Course
   Raises : Exception → Moment → Course
-  Over : Outcome → Course
+  Over : Behaviour → Course
 
 -- ---- one after the other
 
 abbrev pub and_then : Course → (Moment → Course) → Course
-and_then (Goes m) next = next m
+and_then (Proceeds m) next = next m
 and_then (Raises exception m) next = Raises exception m
-and_then (Over outcome) next = Over outcome
+and_then (Over behaviour) next = Over behaviour
 
 -- what is given, or the exception that is raised in its place
 abbrev pub with_value : {X : Type 0} → Result X Exception → Moment → (X → Course) → Course
@@ -75,4 +79,4 @@ acts m action next = answered m action m.answers next
 
 -- one that is given no values
 abbrev pub does : Moment → Action → Course
-does m action = acts m action (λ vs now. Goes now)
+does m action = acts m action (λ vs now. Proceeds now)

@@ -9,8 +9,8 @@ use Rattle.lynx_tree.specs.declared.declaration.TypeName.{TypeName}
 use Rattle.typing_rules.specs.Exceptions.{exception_of, exception_text}
 use Rattle.typing_rules.specs.Names.{arguments_of, known, module_scope}
 use Rattle.typing_rules.specs.declared.exception.Exception.{Exception}
-use Rattle.lynx_meaning.specs.Courses.{Answer, Course, Moment, Outcome, Store, New, Destroy, Bind, Unbind, Connect, Accept, Close, Reply}
-use Rattle.lynx_meaning.specs.Courses.{Write, Await, Stop, Goes, Raises, Over, Ended, Waits, Out, acts, and_then, does, with_value}
+use Rattle.lynx_meaning.specs.Courses.{Answer, Course, Moment, Behaviour, Store, New, Destroy, Bind, Unbind, Connect, Accept, Close, Reply}
+use Rattle.lynx_meaning.specs.Courses.{Write, Await, Stop, Proceeds, Raises, Over, Ended, Waits, Out, acts, and_then, does, with_value}
 use Rattle.lynx_meaning.specs.Expressions.{assigned, looked_up, value_of, values_of}
 use Rattle.lynx_meaning.specs.Values.{Value, Row, Given, int_of, row_of, truth_of, with_member, start_value, written}
 
@@ -31,44 +31,45 @@ assigns_all names xs vs m = assigns_from_last names (reverse xs) (reverse vs) m
 abbrev pub assigns_member : Names → List ℕ → Value → Value → Moment → Course
 assigns_member names name index v m =
     with_value (with_member (row_of (looked_up names m.store name)) (int_of index) (int_of v)) m
-    (λ row. Goes (assigns names name (Row row) m))
+    (λ row. Proceeds (assigns names name (Row row) m))
 
 -- ---- loops
 
 -- at most so many turns; the condition is tested before each, and once more
 abbrev pub loops : ℕ → (Moment → Given) → (Moment → Course) → Moment → Course
-loops zero condition body m = with_value (condition m) m (λ v. if truth_of v then Over (Out m.actions) else Goes m)
-loops (suc n) condition body m = with_value (condition m) m (λ v. if truth_of v then and_then (body m) (loops n condition body) else Goes m)
+loops zero condition body m = with_value (condition m) m (λ v. if truth_of v then Over (Out m.actions) else Proceeds m)
+loops (suc n) condition body m =
+    with_value (condition m) m (λ v. if truth_of v then and_then (body m) (loops n condition body) else Proceeds m)
 
 -- An await goes on where its condition is true. Else that is an action, and with its answer it tries again.
 abbrev pub awaits : (Moment → Given) → List Answer → Moment → Course
-awaits condition [] m = with_value (condition m) m (λ v. if truth_of v then Goes m else does m Await)
+awaits condition [] m = with_value (condition m) m (λ v. if truth_of v then Proceeds m else does m Await)
 awaits condition (a ∷ rest) m =
-    with_value (condition m) m (λ v. if truth_of v then Goes m else and_then (does m Await) (awaits condition rest))
+    with_value (condition m) m (λ v. if truth_of v then Proceeds m else and_then (does m Await) (awaits condition rest))
 
 -- ---- requests
 
 -- A request is closed however its body ends. An exception that the close raises takes the place of one that is under way.
 abbrev pub closes : Course → Course
-closes (Goes m) = does m Close
+closes (Proceeds m) = does m Close
 closes (Raises exception m) = and_then (does m Close) (λ now. Raises exception now)
-closes (Over outcome) = Over outcome
+closes (Over behaviour) = Over behaviour
 
 -- an exception in the body of a `try` meets its handlers; none of them catches what is raised in another
 abbrev pub catches : Course → (Exception → Moment → Course) → Course
-catches (Goes m) handlers = Goes m
+catches (Proceeds m) handlers = Proceeds m
 catches (Raises exception m) handlers = handlers exception m
-catches (Over outcome) handlers = Over outcome
+catches (Over behaviour) handlers = Over behaviour
 
 -- ---- statements
 
 abbrev mutual
   pub runs : Names → ℕ → StmtTree → Moment → Course
-  runs names n (trees.Assign name value) m = with_value (value_of names m.store value) m (λ v. Goes (assigns names name v m))
+  runs names n (trees.Assign name value) m = with_value (value_of names m.store value) m (λ v. Proceeds (assigns names name v m))
   runs names n (trees.AssignMember name index value) m =
       with_value (value_of names m.store index) m (λ i. with_value (value_of names m.store value) m (λ v. assigns_member names name i v m))
   runs names n (trees.If condition then_part) m =
-      with_value (value_of names m.store condition) m (λ v. if truth_of v then runs_all names n then_part m else Goes m)
+      with_value (value_of names m.store condition) m (λ v. if truth_of v then runs_all names n then_part m else Proceeds m)
   runs names n (trees.IfElse condition then_part else_part) m =
       with_value (value_of names m.store condition) m
       (λ v. if truth_of v then runs_all names n then_part m else runs_all names n else_part m)
@@ -77,13 +78,13 @@ abbrev mutual
   runs names n (trees.Await condition) m = awaits (λ now. value_of names now.store condition) m.answers m
   runs names n trees.Stop m = Over (Waits (m.actions ++ Stop ∷ []) m.store)
   runs names n (trees.Raise name) m = Raises (exception_named (exception_of name)) m
-  runs names n (trees.New first second) m = acts m New (λ vs now. Goes (assigns_all names (first ∷ second ∷ []) vs now))
+  runs names n (trees.New first second) m = acts m New (λ vs now. Proceeds (assigns_all names (first ∷ second ∷ []) vs now))
   runs names n (trees.Destroy name) m = does m (Destroy (looked_up names m.store name))
   runs names n (trees.Bind link entry) m = does m (Bind (looked_up names m.store link) (names.entry entry))
   runs names n (trees.Unbind link entry) m = does m (Unbind (looked_up names m.store link) (names.entry entry))
   runs names n (trees.Connect op link values results) m =
       with_value (values_of names m.store values) m
-      (λ vs. acts m (Connect (looked_up names m.store link) (names.op op) vs) (λ given now. Goes (assigns_all names results given now)))
+      (λ vs. acts m (Connect (looked_up names m.store link) (names.op op) vs) (λ given now. Proceeds (assigns_all names results given now)))
   runs names n (trees.Accept op link arguments body) m =
       acts m (Accept (looked_up names m.store link) (names.op op))
       (λ given now. closes (runs_all names n body (assigns_all names arguments given now)))
@@ -92,7 +93,7 @@ abbrev mutual
 
   -- one statement after the other
   pub runs_all : Names → ℕ → StmtTrees → Moment → Course
-  runs_all names n trees.no_stmts m = Goes m
+  runs_all names n trees.no_stmts m = Proceeds m
   runs_all names n (trees.more_stmts s ss) m = and_then (runs names n s m) (runs_all names n ss)
 
   -- the first handler of the exception; where there is none it is raised further
@@ -134,12 +135,12 @@ whole_course true course = closes course
 whole_course false course = course
 
 -- an exception that no handler catches ends the thread
-abbrev pub outcome_of : Course → Outcome
-outcome_of (Goes m) = Ended m.actions m.store
-outcome_of (Raises exception m) = Ended m.actions m.store
-outcome_of (Over outcome) = outcome
+abbrev pub behaviour_of : Course → Behaviour
+behaviour_of (Proceeds m) = Ended m.actions m.store
+behaviour_of (Raises exception m) = Ended m.actions m.store
+behaviour_of (Over behaviour) = behaviour
 
 -- The meaning of a part with loops of at most n turns: what its thread does from these variables, with these answers.
-abbrev pub source_meaning : PartTree → ℕ → Store → List Answer → Outcome
+abbrev pub source_meaning : PartTree → ℕ → Store → List Answer → Behaviour
 source_meaning part n store answers =
-    outcome_of (whole_course part.is_entry (runs_all part.names n part.body (record { store = store; answers = answers; actions = [] })))
+    behaviour_of (whole_course part.is_entry (runs_all part.names n part.body (record { store = store; answers = answers; actions = [] })))

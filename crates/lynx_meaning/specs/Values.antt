@@ -8,6 +8,7 @@ use Rattle.std.specs.Ordering.{int_eq}
 use Rattle.std.specs.Str.{bytes_eq}
 use Rattle.lynx_tree.specs.declared.declaration.TypeName.{TypeName}
 use Rattle.lynx_tree.specs.declared.declaration.TypeName.TheVariants as types
+use Rattle.lynx_code.specs.Modules.{ArePairs}
 use Rattle.typing_rules.specs.declared.exception.Exception.{Exception}
 use Rattle.typing_rules.specs.declared.exception.Exception.TheVariants as exceptions
 
@@ -68,6 +69,10 @@ HasType types.Text (Text bytes) = length bytes ≤ 64
 HasType types.Link (Link n) = ⊤
 HasType (types.Row n) (Row ns) = (pos (length ns) ≡ n) × AllByRecursion (λ member. IsTrue (is_int member)) ns
 HasType _ _ = ⊥
+
+-- as many values as types, each of its type
+abbrev pub HaveTypes : List TypeName → List Value → Type 0
+HaveTypes ts vs = ArePairs HasType ts vs
 
 -- ---- numbers
 

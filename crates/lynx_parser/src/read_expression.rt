@@ -1,7 +1,7 @@
 //! Reading expressions.
 
 ghost use Rattle.std.specs.Prelude.{◌≡◌, ℕ, map, option_map};
-ghost use Rattle.lynx_descent.specs.Reading.{Reads, and_then, number, pure, text};
+ghost use Rattle.lynx_descent.specs.Reading.{Reads, then_parse, number, pure, text};
 ghost use Rattle.lynx_descent.specs.ReadingExpressions as spec;
 ghost use Rattle.lynx_descent.specs.ReadingExpressions.{inside};
 ghost use Rattle.lynx_tree.specs.Trees as trees;
@@ -58,13 +58,13 @@ impl<'t, 'a> Reader<'t, 'a> {
     }
 
     fn number_expr(&mut self) -> Result<Expr<'a>, Refusal>
-        ensures { Reads expr_tree (and_then (number self.old) (λ n. pure (trees.Number n))) result self.new }
+        ensures { Reads expr_tree (then_parse (number self.old) (λ n. pure (trees.Number n))) result self.new }
     {
         Ok(Expr::Number(self.number()?))
     }
 
     fn text_expr(&mut self) -> Result<Expr<'a>, Refusal>
-        ensures { Reads expr_tree (and_then (text self.old) (λ inside. pure (trees.Text inside))) result self.new }
+        ensures { Reads expr_tree (then_parse (text self.old) (λ inside. pure (trees.Text inside))) result self.new }
     {
         Ok(Expr::Text(self.text()?))
     }

@@ -1,7 +1,7 @@
 //! Reading statements.
 
 ghost use Rattle.std.specs.Prelude.{◌≡◌, ℕ, drop, map, option_map};
-ghost use Rattle.lynx_descent.specs.Reading.{Reads, and_then, name, pure};
+ghost use Rattle.lynx_descent.specs.Reading.{Reads, then_parse, name, pure};
 ghost use Rattle.lynx_descent.specs.ReadingExpressions.{inside, expr};
 ghost use Rattle.lynx_descent.specs.ReadingStatements as spec;
 ghost use Rattle.lynx_descent.specs.ReadingStatements.{stmts, body_of, handler_of};
@@ -72,35 +72,35 @@ impl<'t, 'a> Reader<'t, 'a> {
     }
 
     fn write(&mut self, room: usize) -> Result<Stmt<'a>, Refusal>
-        ensures { Reads stmt_tree (and_then (expr (inside room) (drop 1 self.old)) (λ e. pure (trees.Write e))) result self.new }
+        ensures { Reads stmt_tree (then_parse (expr (inside room) (drop 1 self.old)) (λ e. pure (trees.Write e))) result self.new }
     {
         self.advance();
         Ok(Stmt::Write(self.expr(room)?))
     }
 
     fn await_stmt(&mut self, room: usize) -> Result<Stmt<'a>, Refusal>
-        ensures { Reads stmt_tree (and_then (expr (inside room) (drop 1 self.old)) (λ e. pure (trees.Await e))) result self.new }
+        ensures { Reads stmt_tree (then_parse (expr (inside room) (drop 1 self.old)) (λ e. pure (trees.Await e))) result self.new }
     {
         self.advance();
         Ok(Stmt::Await(self.expr(room)?))
     }
 
     fn raise(&mut self) -> Result<Stmt<'a>, Refusal>
-        ensures { Reads stmt_tree (and_then (name (drop 1 self.old)) (λ n. pure (trees.Raise n))) result self.new }
+        ensures { Reads stmt_tree (then_parse (name (drop 1 self.old)) (λ n. pure (trees.Raise n))) result self.new }
     {
         self.advance();
         Ok(Stmt::Raise(self.name()?))
     }
 
     fn destroy(&mut self) -> Result<Stmt<'a>, Refusal>
-        ensures { Reads stmt_tree (and_then (name (drop 1 self.old)) (λ n. pure (trees.Destroy n))) result self.new }
+        ensures { Reads stmt_tree (then_parse (name (drop 1 self.old)) (λ n. pure (trees.Destroy n))) result self.new }
     {
         self.advance();
         Ok(Stmt::Destroy(self.name()?))
     }
 
     fn bind(&mut self) -> Result<Stmt<'a>, Refusal>
-        ensures { Reads stmt_tree (and_then (spec.pair keywords.To (drop 1 self.old)) (λ p. pure (trees.Bind p.0 p.1))) result self.new }
+        ensures { Reads stmt_tree (then_parse (spec.pair keywords.To (drop 1 self.old)) (λ p. pure (trees.Bind p.0 p.1))) result self.new }
     {
         self.advance();
         let (link, entry) = self.pair(Keyword::To)?;
@@ -108,7 +108,7 @@ impl<'t, 'a> Reader<'t, 'a> {
     }
 
     fn unbind(&mut self) -> Result<Stmt<'a>, Refusal>
-        ensures { Reads stmt_tree (and_then (spec.pair keywords.From (drop 1 self.old)) (λ p. pure (trees.Unbind p.0 p.1))) result self.new }
+        ensures { Reads stmt_tree (then_parse (spec.pair keywords.From (drop 1 self.old)) (λ p. pure (trees.Unbind p.0 p.1))) result self.new }
     {
         self.advance();
         let (link, entry) = self.pair(Keyword::From)?;

@@ -1,6 +1,7 @@
 -- What the program does with its words.
 use Rattle.std.specs.Prelude.{◌≡◌, ℕ, List, [], Option, Some, None, Err, codes, string_bytes}
 use Rattle.lynx_command.specs.Course.{Course, IsOfFile}
+use Rattle.lynx_command.specs.Limits.{most_bytes, most_transcript_bytes}
 use Rattle.lynx_command.specs.declared.failure.Failure.{Failure}
 use Rattle.lynx_command.specs.declared.failure.Failure.TheVariants.{Usage, Unbuilt}
 use Rattle.lynx_run.specs.Audit.{Audits}
@@ -30,8 +31,8 @@ pub record IsRefusedAs (failure : Failure) (name : List ℕ) (course : Course) :
 -- `audit` read the file that is named, and a command that is not built yet is refused by its name.
 abbrev pub Answers : Option Command → Course → Type 0
 Answers None course = IsRefusedAs Usage [] course
-Answers (Some (Drive file)) course = IsOfFile Drives 1048576 (string_bytes file) course
-Answers (Some (Check file)) course = IsOfFile Checks 1048576 (string_bytes file) course
-Answers (Some (Code file)) course = IsOfFile Codes 1048576 (string_bytes file) course
-Answers (Some (Audit file)) course = IsOfFile Audits 67108864 (string_bytes file) course
+Answers (Some (Drive file)) course = IsOfFile Drives most_bytes (string_bytes file) course
+Answers (Some (Check file)) course = IsOfFile Checks most_bytes (string_bytes file) course
+Answers (Some (Code file)) course = IsOfFile Codes most_bytes (string_bytes file) course
+Answers (Some (Audit file)) course = IsOfFile Audits most_transcript_bytes (string_bytes file) course
 Answers (Some command) course = IsRefusedAs Unbuilt (command_name command) course

@@ -1,5 +1,6 @@
 //! The command that audits a transcript.
 ghost use Rattle.std.specs.Prelude.{◌≡◌, ◌∷◌, [], IfOk, map};
+ghost use Rattle.lynx_command.specs.Limits.{most_transcript_bytes};
 ghost use Rattle.lynx_command.specs.Course.{Course, outside, Took, IsOfFile};
 ghost use Rattle.lynx_run.specs.Audit.{audited_text, Audits, failure_of_audit};
 
@@ -17,7 +18,7 @@ impl FileCommand for AuditCommand {
 
     const MOST: u32 = MOST_TRANSCRIPT_BYTES;
 
-    ghost MOST = { 67108864 };
+    ghost MOST = { most_transcript_bytes };
 
     ghost finds = { Audits };
 
@@ -60,7 +61,7 @@ pub fn audit_file<F: Files, O: Sink, E: Sink>(
     out: &mut O,
     err: &mut E,
 ) -> Status
-    ensures { (course : Course) × IsOfFile Audits 67108864 name.now course
+    ensures { (course : Course) × IsOfFile Audits most_transcript_bytes name.now course
         × Took course result (outside (F.state files.old) (O.state out.old) (E.state err.old))
         (outside (F.state files.new) (O.state out.new) (E.state err.new)) }
 {

@@ -1,5 +1,6 @@
 //! The command that checks a module.
 ghost use Rattle.std.specs.Prelude.{◌≡◌, ◌≤◌, ◌∷◌, [], IfOk, length, map};
+ghost use Rattle.lynx_command.specs.Limits.{most_bytes};
 ghost use Rattle.lynx_command.specs.Course.{Course, outside, Took, IsOfFile};
 ghost use Rattle.lynx_run.specs.Check.{checked_text, Checks};
 
@@ -17,7 +18,7 @@ impl FileCommand for CheckCommand {
 
     const MOST: u32 = MOST_BYTES;
 
-    ghost MOST = { 1048576 };
+    ghost MOST = { most_bytes };
 
     ghost finds = { Checks };
 
@@ -51,7 +52,7 @@ pub fn check_file<F: Files, O: Sink, E: Sink>(
     out: &mut O,
     err: &mut E,
 ) -> Status
-    ensures { (course : Course) × IsOfFile Checks 1048576 name.now course
+    ensures { (course : Course) × IsOfFile Checks most_bytes name.now course
         × Took course result (outside (F.state files.old) (O.state out.old) (E.state err.old))
         (outside (F.state files.new) (O.state out.new) (E.state err.new)) }
 {

@@ -1,5 +1,6 @@
 //! The command that lists the code of a module.
 ghost use Rattle.std.specs.Prelude.{◌≡◌, ◌≤◌, IfOk, length};
+ghost use Rattle.lynx_command.specs.Limits.{most_bytes};
 ghost use Rattle.lynx_code.specs.Listing.{module_listing};
 ghost use Rattle.lynx_code.specs.Modules.{IsCodeOf};
 ghost use Rattle.lynx_command.specs.Course.{Course, outside, Took, IsOfFile};
@@ -21,7 +22,7 @@ impl FileCommand for CodeCommand {
 
     const MOST: u32 = MOST_BYTES;
 
-    ghost MOST = { 1048576 };
+    ghost MOST = { most_bytes };
 
     ghost finds = { Codes };
 
@@ -54,7 +55,7 @@ pub fn code_file<F: Files, O: Sink, E: Sink>(
     out: &mut O,
     err: &mut E,
 ) -> Status
-    ensures { (course : Course) × IsOfFile Codes 1048576 name.now course
+    ensures { (course : Course) × IsOfFile Codes most_bytes name.now course
         × Took course result (outside (F.state files.old) (O.state out.old) (E.state err.old))
         (outside (F.state files.new) (O.state out.new) (E.state err.new)) }
 {

@@ -1,5 +1,6 @@
 //! The command that performs a script.
 ghost use Rattle.std.specs.Prelude.{◌≤◌, ◌+◌, ◌*◌, ℕ, List, IfOk, length};
+ghost use Rattle.lynx_command.specs.Limits.{most_bytes};
 ghost use Rattle.lynx_command.specs.Course.{Course, outside, Took, IsOfFile};
 ghost use Rattle.lynx_command.specs.Text.{IsNextLine};
 ghost use Rattle.lynx_plan.specs.ScriptText.{AreRisingLines};
@@ -44,7 +45,7 @@ impl FileCommand for DriveCommand {
 
     const MOST: u32 = MOST_BYTES;
 
-    ghost MOST = { 1048576 };
+    ghost MOST = { most_bytes };
 
     ghost finds = { Drives };
 
@@ -61,7 +62,7 @@ impl FileCommand for DriveCommand {
 // The transcript of the script that these bytes are. They are let go before it is performed.
 #[tactic(auto, using(crate::proofs::Lawful::performance_is_lawful))]
 fn perform_script(alloc: Global, bytes: Vec<u8>, script: Script) -> Result<Transcript, NoMemory>
-    requires within { length bytes.items ≤ 1048576 }
+    requires within { length bytes.items ≤ most_bytes }
     requires given { IsScriptOf bytes.items script }
     requires rising { AreRisingLines script.lines }
     requires few { 7 * length script.lines ≤ length bytes.items + 1 }
@@ -88,7 +89,7 @@ pub fn drive_file<F: Files, O: Sink, E: Sink>(
     out: &mut O,
     err: &mut E,
 ) -> Status
-    ensures { (course : Course) × IsOfFile Drives 1048576 name.now course
+    ensures { (course : Course) × IsOfFile Drives most_bytes name.now course
         × Took course result (outside (F.state files.old) (O.state out.old) (E.state err.old))
         (outside (F.state files.new) (O.state out.new) (E.state err.new)) }
 {

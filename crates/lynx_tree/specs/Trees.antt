@@ -97,6 +97,11 @@ pub record ModuleTree : Type 0 where
   pub entries : List EntryTree
   pub body : StmtTrees
 
+-- a choice, with its other side where there is one
+abbrev pub choice_tree : ExprTree → StmtTrees → Option StmtTrees → StmtTree
+choice_tree condition then None = If condition then
+choice_tree condition then (Some otherwise) = IfElse condition then otherwise
+
 -- ---- the tree that a value of the program holds
 
 abbrev mutual

@@ -1,9 +1,8 @@
 //! Loops: an entry that takes a number of turns, or a thread's number besides and is run by as many threads as there may be.
 
 ghost use Rattle.std.specs.Prelude.{◌≡◌, IfOk, IfSome, OnOk};
-ghost use Rattle.lynx_meaning.specs.Values.{HasType};
-ghost use Rattle.machine_never_stuck.specs.Sound.{Typed};
-ghost use Rattle.machine_turns.specs.Threads.{NoValue, wanted_by};
+ghost use Rattle.lynx_meaning.specs.Values.{HasType, HaveTypes};
+ghost use Rattle.lynx_meaning.specs.Needs.{NoValue, wanted_by};
 ghost use Rattle.machine_values.specs.Told.{value_of, values_of};
 ghost use Rattle.machine_thread.specs.Told.{action_of};
 ghost use Rattle.lynx_interp.specs.Machines.{IsEntryFor, IsMachine};
@@ -105,7 +104,7 @@ fn parameters(alloc: Global, machine: &Machine, numbers: &[i64]) -> Result<Vec<V
 
 /// The values of these numbers, where these are the types of as many numbers.
 fn values_for(alloc: Global, kinds: &[TypeName], numbers: &[i64]) -> Result<Vec<Value>, Trouble>
-    ensures { IfOk result (λ values. Typed kinds.now (values_of values.items)) }
+    ensures { IfOk result (λ values. HaveTypes kinds.now (values_of values.items)) }
 {
     let mut values = Vec::new(alloc);
     for kind in kinds {

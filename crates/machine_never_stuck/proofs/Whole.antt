@@ -9,11 +9,12 @@ use Rattle.lynx_code.specs.declared.instruction.Instruction.{Instruction}
 use Rattle.lynx_code.specs.declared.instruction.Instruction.TheVariants as code
 use Rattle.typing_rules.specs.Exceptions.{exception_text}
 use Rattle.typing_rules.specs.declared.exception.Exception.{Exception}
-use Rattle.lynx_meaning.specs.Code.{Next, Opened, Thread, Global, Local, acts, again, asks, begins, by_link, by_truth, by_values, closes_accept, compares, connects, decides, fetched, goes, handles, jumps, raises, step, tries_again, two_alike, two_ints, untries, value_of_literal}
+use Rattle.lynx_meaning.specs.Code.{Next, Opened, Thread, Global, Local, with_outcome, again, asks, begins, by_link, by_truth, by_values, closes_accept, compares, connects, decides, fetched, goes, handles, jumps, raises, step, tries_again, two_alike, two_ints, untries, value_of_literal}
 use Rattle.lynx_meaning.specs.Courses.{Action, Accept, Answer, Await, Bind, Close, Connect, Destroy, New, Reply, Stop, Store, Unbind, Write}
-use Rattle.lynx_meaning.specs.Values.{Value, Given, Truth, Link, HasType, add, divide, is_int, multiply, negate, reduce, subtract, truth_eq, value_eq}
-use Rattle.code_shapes.specs.Shapes.{ModuleTypes, OpTypes, Shape, Shapes, Accepts, AllObey, AreShapes, Connects, IsPlaced, IsPlain, Leads, MayRaise, Obeys, Untries, literal_type, part_shape, program, pushed, types_of}
-use Rattle.machine_never_stuck.specs.Sound.{Typed, AllFit, FirstFits, IsAction, IsSound, ShapedCodeIsNeverStuck, needs, wants}
+use Rattle.lynx_meaning.specs.Values.{Value, Given, Truth, Link, HasType, add, divide, is_int, multiply, negate, reduce, subtract, truth_eq, value_eq, HaveTypes}
+use Rattle.code_shapes.specs.Shapes.{ModuleTypes, Shape, Shapes, Accepts, AllObey, AreShapes, Connects, IsPlaced, IsPlain, Leads, MayRaise, Obeys, Untries, literal_type, part_shape, program, pushed}
+use Rattle.lynx_meaning.specs.Needs.{OpTypes, types_of, wanted_by, wanted_types}
+use Rattle.machine_never_stuck.specs.Sound.{AllFit, FirstFits, IsAction, IsSound, ShapedCodeIsNeverStuck, needs}
 use Rattle.machine_never_stuck.proofs.Numbers.{divide_typed, reduce_typed, within_typed}
 use Rattle.machine_never_stuck.proofs.Pairs.{same_length}
 use Rattle.machine_never_stuck.proofs.Steps.{IsBeside, accepts_there, asks_there, awaits_there, ends_known, jumps_there, raises_there, wider}
@@ -23,16 +24,16 @@ use Rattle.machine_never_stuck.proofs.Slots.{loads_member_there, loads_there, st
 abbrev opened : ℕ → ℕ → ℕ → Opened
 opened handlers height accepts = record { handlers = handlers; height = height; accepts = accepts }
 
-module _ (m : ModuleTypes) (instructions : List Instruction) (shapes : Shapes) (is_entry : Bool) (s : Shape) (t : Thread) (beside : IsBeside m s t) (whole : Typed s.stack t.stack) where
+module _ (m : ModuleTypes) (instructions : List Instruction) (shapes : Shapes) (is_entry : Bool) (s : Shape) (t : Thread) (beside : IsBeside m s t) (whole : HaveTypes s.stack t.stack) where
   -- what is proved of each instruction, by the types of the values that it needs
   abbrev Sound : List TypeName → Next → Type 0
   Sound needed next = IsSound m shapes needed t.moment.answers next
 
   -- a stack of these types
-  on : (ts : List TypeName) → s.stack ≡ ts → Typed ts t.stack
-  on ts is = subst (λ (us : List TypeName). Typed us t.stack) is whole
+  on : (ts : List TypeName) → s.stack ≡ ts → HaveTypes ts t.stack
+  on ts is = subst (λ (us : List TypeName). HaveTypes us t.stack) is whole
 
-  goes_on : (needed : List TypeName) (address : ℕ) (ts : List TypeName) (stack : List Value) → Leads shapes address (record s { stack = ts }) → Typed ts stack → Sound needed (jumps address stack t)
+  goes_on : (needed : List TypeName) (address : ℕ) (ts : List TypeName) (stack : List Value) → Leads shapes address (record s { stack = ts }) → HaveTypes ts stack → Sound needed (jumps address stack t)
   goes_on needed address ts stack leads typed = jumps_there m shapes needed t.moment.answers s t address ts stack leads beside typed
 
   -- ---- jumps
@@ -41,7 +42,7 @@ module _ (m : ModuleTypes) (instructions : List Instruction) (shapes : Shapes) (
   chosen true a c first second = first
   chosen false a c first second = second
 
-  by_bool : (ts : List TypeName) (next : Bool → List Value → Next) → s.stack ≡ types.Bool ∷ ts → ((b : Bool) (rest : List Value) → Typed ts rest → Sound [] (next b rest)) → Sound [] (by_truth next t.stack)
+  by_bool : (ts : List TypeName) (next : Bool → List Value → Next) → s.stack ≡ types.Bool ∷ ts → ((b : Bool) (rest : List Value) → HaveTypes ts rest → Sound [] (next b rest)) → Sound [] (by_truth next t.stack)
   by_bool ts next is k = truth_there m shapes [] t.moment.answers ts t.stack next (on (types.Bool ∷ ts) is) k
 
   jump_if : (address : ℕ) (ts : List TypeName) → s.stack ≡ types.Bool ∷ ts → Leads shapes (t.address + 1) (record s { stack = ts }) → Leads shapes address (record s { stack = ts }) →
@@ -59,9 +60,9 @@ module _ (m : ModuleTypes) (instructions : List Instruction) (shapes : Shapes) (
   await_there : (address : ℕ) (ts : List TypeName) → s.stack ≡ types.Bool ∷ ts → Leads shapes (t.address + 1) (record s { stack = ts }) → Leads shapes address (record s { stack = ts }) → MayRaise shapes ts s →
       FirstFits [] t.moment.answers → Sound [] (step (program m instructions) is_entry t (code.Await address))
   await_there address ts is onward leads may fits =
-      by_bool ts (λ b stack. if b then goes stack t else acts t.moment Await (λ given now. tries_again is_entry address given (record t { moment = now; stack = stack }))) is
+      by_bool ts (λ b stack. if b then goes stack t else with_outcome t.moment Await (λ given now. tries_again is_entry address given (record t { moment = now; stack = stack }))) is
       (λ b rest typed.
-      chosen b (goes rest t) (acts t.moment Await (λ given now. tries_again is_entry address given (record t { moment = now; stack = rest })))
+      chosen b (goes rest t) (with_outcome t.moment Await (λ given now. tries_again is_entry address given (record t { moment = now; stack = rest })))
       (goes_on [] (t.address + 1) ts rest onward typed)
       (awaits_there m shapes [] t.moment.answers is_entry address s t ts rest (λ h. refl) refl leads may beside typed fits))
 
@@ -94,11 +95,11 @@ module _ (m : ModuleTypes) (instructions : List Instruction) (shapes : Shapes) (
   -- ---- actions
 
   -- one that needs no values, on what is left of the stack
-  does : (ts : List TypeName) (action : Action) (stack : List Value) → IsAction m action → wants m action ≡ [] → Leads shapes (t.address + 1) (record s { stack = ts }) → MayRaise shapes ts s → Typed ts stack →
+  does : (ts : List TypeName) (action : Action) (stack : List Value) → IsAction m action → wanted_types m.ops (wanted_by action) ≡ [] → Leads shapes (t.address + 1) (record s { stack = ts }) → MayRaise shapes ts s → HaveTypes ts stack →
       FirstFits [] t.moment.answers → Sound [] (asks is_entry action stack t (λ it. it))
   does ts action stack is want leads may typed fits = asks_there m shapes [] t.moment.answers is_entry ts action stack s t is (λ h. want) refl leads may beside typed fits
 
-  on_link : (ts : List TypeName) (action : Value → Action) → ((l : ℕ) → IsAction m (action (Link l))) → ((l : ℕ) → wants m (action (Link l)) ≡ []) → s.stack ≡ types.Link ∷ ts →
+  on_link : (ts : List TypeName) (action : Value → Action) → ((l : ℕ) → IsAction m (action (Link l))) → ((l : ℕ) → wanted_types m.ops (wanted_by (action (Link l))) ≡ []) → s.stack ≡ types.Link ∷ ts →
       Leads shapes (t.address + 1) (record s { stack = ts }) → MayRaise shapes ts s → FirstFits [] t.moment.answers → Sound [] (by_link (λ link stack. asks is_entry (action link) stack t (λ it. it)) t.stack)
   on_link ts action is want stack_is leads may fits =
       link_there m shapes [] t.moment.answers ts t.stack (λ link stack. asks is_entry (action link) stack t (λ it. it)) (on (types.Link ∷ ts) stack_is)
@@ -132,7 +133,7 @@ module _ (m : ModuleTypes) (instructions : List Instruction) (shapes : Shapes) (
       (λ l rest typed.
       values_there m shapes needed t.moment.answers (length op.arguments) (reverse op.arguments) obeys.0 rest (λ vs stack. asks is_entry (Connect (Link l) number vs) stack t (λ it. it)) (length-reverse op.arguments) typed
       (λ vs stack of others.
-      asks_there m shapes needed t.moment.answers is_entry obeys.0 (Connect (Link l) number vs) stack s t (op, e, subst (λ (ts : List TypeName). Typed ts vs) (reverse-reverse op.arguments) of) (λ h. refl) refl
+      asks_there m shapes needed t.moment.answers is_entry obeys.0 (Connect (Link l) number vs) stack s t (op, e, subst (λ (ts : List TypeName). HaveTypes ts vs) (reverse-reverse op.arguments) of) (λ h. refl) refl
       onward obeys.2.1 beside others fits)))
 
   accept_there : (number : ℕ) (o : Option OpTypes) → slice_get m.ops number ≡ o → Accepts shapes t.address s o → FirstFits (types_of (λ r. r.arguments) (slice_get m.ops number)) t.moment.answers →
@@ -249,7 +250,7 @@ never_stuck m parts instructions shapes are is_entry t is fitting =
 
 -- a new thread of a part
 pub begins_placed : (m : ModuleTypes) (parts : List (ℕ × List TypeName)) (instructions : List Instruction) (shapes : Shapes) (i start : ℕ) (locals : List TypeName) (store : Store) (given : List Answer) →
-    AreShapes m parts instructions shapes → slice_get parts i ≡ Some (start, locals) → Typed locals store.locals → IsPlaced shapes (begins start store given)
+    AreShapes m parts instructions shapes → slice_get parts i ≡ Some (start, locals) → HaveTypes locals store.locals → IsPlaced shapes (begins start store given)
 begins_placed m parts instructions shapes i start locals store given are here typed =
     let leads = are.starts i start locals here in
     record {
@@ -260,6 +261,6 @@ begins_placed m parts instructions shapes i start locals store given are here ty
     }
 
 -- what it is given, with the variables of the module as they stand
-pub all_fit : (ts : List TypeName) (globals : List Value) (given : List (Result (List Value) Exception)) → Typed ts globals → AllFit ts (map (λ (g : Result (List Value) Exception). record { given = g; globals = globals }) given)
+pub all_fit : (ts : List TypeName) (globals : List Value) (given : List (Result (List Value) Exception)) → HaveTypes ts globals → AllFit ts (map (λ (g : Result (List Value) Exception). record { given = g; globals = globals }) given)
 all_fit ts globals [] typed = tt
 all_fit ts globals (g ∷ given) typed = (typed, all_fit ts globals given typed)

@@ -3,7 +3,8 @@ use Rattle.std.proofs.Common.{arith, ◌≡◌, ℕ, zero, suc, ◌+◌, ◌*◌
 use Rattle.lynx_meaning.specs.Code.{Next, Goes, Over, Comes, Stuck, Program}
 use Rattle.lynx_meaning.specs.Courses.{Action, New, Destroy, Bind, Unbind, Connect, Accept, Close, Reply, Write, Await, Stop, Ended, Waits, Out}
 use Rattle.lynx_meaning.specs.Values.{Value}
-use Rattle.machine_turns.specs.Threads.{Standing, Made, Went, Acts, Awaits, Ends, Broken, acted, and_then, comes_of, course, fuel_after, goes_on, wanted_by, is_await, is_fresh, last_action, made}
+use Rattle.machine_turns.specs.Threads.{Standing, Made, Went, Acts, Awaits, Ends, Broken, acted, if_went, comes_of, course, fuel_after, goes_on, is_await, is_fresh, last_action, made}
+use Rattle.lynx_meaning.specs.Needs.{wanted_by}
 use Rattle.machine_turns.specs.Turns.{Turns, comes}
 use Rattle.machine_turns.specs.Turns as turns
 use Rattle.machine_sound.specs.Weights.{amid, amid_there, count_amid, one_unless, weight}
@@ -103,7 +104,7 @@ module _ (p : Program) where
   more_advances (suc k) fuel here zero left globals s last turn advances e = same_advances fuel here zero left (Went globals s) last advances e
   more_advances (suc k) fuel here (suc now) left globals s last turn advances e = wider (suc now) fuel (amid s) here left last advances (turn k refl now left globals s last e)
 
-  after_first : (k fuel here now left : ℕ) (first last : Made) → ((j : ℕ) → k ≡ suc j → Turn j) → Advances fuel here now first → ◌≡◌ {A = ℕ × Made} (and_then first (λ globals s. course p k now globals s) (λ over. (now, over))) (left, last) → Advances fuel here left last
+  after_first : (k fuel here now left : ℕ) (first last : Made) → ((j : ℕ) → k ≡ suc j → Turn j) → Advances fuel here now first → ◌≡◌ {A = ℕ × Made} (if_went first (λ globals s. course p k now globals s) (λ over. (now, over))) (left, last) → Advances fuel here left last
   after_first k fuel here now left (Went globals s) last turn advances e = more_advances k fuel here now left globals s last turn advances e
   after_first k fuel here now left (Acts a globals s) last turn advances e = same_advances fuel here now left (Acts a globals s) last advances e
   after_first k fuel here now left (Awaits globals s) last turn advances e = same_advances fuel here now left (Awaits globals s) last advances e
@@ -124,11 +125,11 @@ module _ (p : Program) where
 
 -- ---- all threads
 
-threads_goes : (fuel left : ℕ) (t u : Turns) → turns.Goes fuel t ≡ turns.Goes left u → (fuel ≡ left) × (t ≡ u)
+threads_goes : (fuel left : ℕ) (t u : Turns) → turns.RunsOn fuel t ≡ turns.RunsOn left u → (fuel ≡ left) × (t ≡ u)
 threads_goes fuel left t u e = (cc, cc)
 
 weighs : (fuel here left n : ℕ) (before t : Turns) (s : Standing) (o : Option Standing) (left_now : ℕ) (u : Turns) → slice_get before.threads n ≡ Some (Some s) → t.threads ≡ slice_set before.threads n o → 2 * left + amid_there o < 2 * fuel + amid s →
-    turns.Goes left t ≡ turns.Goes left_now u → weight left_now u < weight fuel before
+    turns.RunsOn left t ≡ turns.RunsOn left_now u → weight left_now u < weight fuel before
 weighs fuel here left n before t s o left_now u there changed advances e =
     let same = threads_goes left left_now t u e in
     let threads : count_amid u.threads ≡ count_amid (slice_set before.threads n o) = ap (λ (v : Turns). count_amid v.threads) (sym same.1) ∙ ap count_amid changed in
@@ -136,14 +137,14 @@ weighs fuel here left n before t s o left_now u there changed advances e =
     let left_same = same.0 in
     omega arith
 
-pub turn_weighs : (fuel left n : ℕ) (t : Turns) (s : Standing) (last : Made) (left_now : ℕ) (u : Turns) → slice_get t.threads n ≡ Some (Some s) → Advances fuel (amid s) left last → comes left n t last ≡ turns.Goes left_now u →
+pub turn_weighs : (fuel left n : ℕ) (t : Turns) (s : Standing) (last : Made) (left_now : ℕ) (u : Turns) → slice_get t.threads n ≡ Some (Some s) → Advances fuel (amid s) left last → comes left n t last ≡ turns.RunsOn left_now u →
     weight left_now u < weight fuel t
 turn_weighs fuel left n t s (Went globals v) left_now u there advances e =
     weighs fuel (amid s) left n t (turns.with_thread n (Some v) (record t { globals = globals; running = Some n })) s (Some v) left_now u there refl advances e
 turn_weighs fuel left n t s (Acts a globals v) left_now u there advances e = cc
 turn_weighs fuel left n t s (Awaits globals v) left_now u there advances e = by_again v.again e
   where
-    by_again : (again : Bool) → turns.Goes left (turns.with_thread n (Some v) (turns.awaits n again (record t { globals = globals }))) ≡ turns.Goes left_now u → weight left_now u < weight fuel t
+    by_again : (again : Bool) → turns.RunsOn left (turns.with_thread n (Some v) (turns.awaits n again (record t { globals = globals }))) ≡ turns.RunsOn left_now u → weight left_now u < weight fuel t
     by_again true e = weighs fuel (amid s) left n t (turns.with_thread n (Some v) (turns.awaits n true (record t { globals = globals }))) s (Some v) left_now u there refl advances e
     by_again false e = weighs fuel (amid s) left n t (turns.with_thread n (Some v) (turns.awaits n false (record t { globals = globals }))) s (Some v) left_now u there refl advances e
 turn_weighs fuel left n t s (Ends globals) left_now u there advances e =

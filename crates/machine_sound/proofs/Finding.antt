@@ -8,40 +8,40 @@ use Rattle.lynx_code.specs.declared.instruction.Instruction.{Instruction}
 use Rattle.lynx_code.specs.declared.instruction.Instruction.TheVariants as code
 use Rattle.typing_rules.specs.declared.exception.Exception.{Exception}
 use Rattle.lynx_meaning.specs.Code.{Opened}
-use Rattle.lynx_meaning.specs.Values.{Value, Int, Truth, Text, Row, Link, HasType}
+use Rattle.lynx_meaning.specs.Values.{Value, Int, Truth, Text, Row, Link, HasType, HaveTypes}
 use Rattle.machine_stack.specs.Stacks as stacks
 use Rattle.machine_stack.specs.Stacks.{TopIsInt, TopIsTruth, TopIsLink, TopIsLike, AreAlike, AreAlikeOnTop}
-use Rattle.code_shapes.specs.Shapes.{ModuleTypes, OpTypes, Shape, Shapes, Accepts, Connects, IsPlain, IsRow, Loads, Obeys, Stores, Untries, program}
+use Rattle.code_shapes.specs.Shapes.{ModuleTypes, Shape, Shapes, Accepts, Connects, IsPlain, IsRow, Loads, Obeys, Stores, Untries, program}
+use Rattle.lynx_meaning.specs.Needs.{OpTypes}
 use Rattle.machine_turns.specs.Threads.{Standing}
-use Rattle.machine_never_stuck.specs.Sound.{Typed}
 use Rattle.machine_never_stuck.proofs.Pairs.{is_found, same_length}
 use Rattle.machine_steps.specs.Operands.{AreInts, Finds, HasValues, IsOpen, IsPending, TopIsPlain}
 
 -- ---- on top of a stack
 
-an_int : (ts : List TypeName) (stack : List Value) → Typed (types.Int ∷ ts) stack → TopIsInt stack
+an_int : (ts : List TypeName) (stack : List Value) → HaveTypes (types.Int ∷ ts) stack → TopIsInt stack
 an_int ts [] h = absurd h
 an_int ts (Int n ∷ vs) h = tt
 an_int ts (_ ∷ vs) h = absurd h.0
 
-a_truth : (ts : List TypeName) (stack : List Value) → Typed (types.Bool ∷ ts) stack → TopIsTruth stack
+a_truth : (ts : List TypeName) (stack : List Value) → HaveTypes (types.Bool ∷ ts) stack → TopIsTruth stack
 a_truth ts [] h = absurd h
 a_truth ts (Truth b ∷ vs) h = tt
 a_truth ts (_ ∷ vs) h = absurd h.0
 
-a_link : (ts : List TypeName) (stack : List Value) → Typed (types.Link ∷ ts) stack → TopIsLink stack
+a_link : (ts : List TypeName) (stack : List Value) → HaveTypes (types.Link ∷ ts) stack → TopIsLink stack
 a_link ts [] h = absurd h
 a_link ts (Link l ∷ vs) h = tt
 a_link ts (_ ∷ vs) h = absurd h.0
 
-ints : (ts : List TypeName) (stack : List Value) → Typed (types.Int ∷ types.Int ∷ ts) stack → AreInts stack
+ints : (ts : List TypeName) (stack : List Value) → HaveTypes (types.Int ∷ types.Int ∷ ts) stack → AreInts stack
 ints ts [] h = absurd h
 ints ts (v ∷ []) h = absurd h.1
 ints ts (Int b ∷ Int a ∷ vs) h = tt
 ints ts (Int b ∷ _ ∷ vs) h = absurd h.1.0
 ints ts (_ ∷ w ∷ vs) h = absurd h.0
 
-plain : (u : TypeName) (ts : List TypeName) (stack : List Value) → IsPlain u → Typed (u ∷ ts) stack → TopIsPlain stack
+plain : (u : TypeName) (ts : List TypeName) (stack : List Value) → IsPlain u → HaveTypes (u ∷ ts) stack → TopIsPlain stack
 plain u ts [] is h = absurd h
 plain types.Int ts (Int n ∷ vs) is h = tt
 plain types.Bool ts (Truth b ∷ vs) is h = tt
@@ -52,7 +52,7 @@ plain types.Text ts (_ ∷ vs) is h = absurd h.0
 plain types.Link ts (v ∷ vs) is h = absurd is
 plain (types.Row n) ts (v ∷ vs) is h = absurd is
 
-alike : (u : TypeName) (ts : List TypeName) (stack : List Value) → IsPlain u → Typed (u ∷ u ∷ ts) stack → AreAlikeOnTop stack
+alike : (u : TypeName) (ts : List TypeName) (stack : List Value) → IsPlain u → HaveTypes (u ∷ u ∷ ts) stack → AreAlikeOnTop stack
 alike u ts [] is h = absurd h
 alike u ts (v ∷ []) is h = absurd h.1
 alike types.Int ts (Int b ∷ Int a ∷ vs) is h = tt
@@ -87,26 +87,26 @@ of_one_kind types.Text _ w h k = absurd h
 of_one_kind types.Link _ w h k = absurd h
 of_one_kind (types.Row n) _ w h k = absurd h
 
-there : (kinds : List TypeName) (vs : List Value) (shapes : Shapes) (at slot : ℕ) (s : Shape) (o : Option TypeName) → slice_get kinds slot ≡ o → Typed kinds vs → Loads shapes at s o → slot < length vs
+there : (kinds : List TypeName) (vs : List Value) (shapes : Shapes) (at slot : ℕ) (s : Shape) (o : Option TypeName) → slice_get kinds slot ≡ o → HaveTypes kinds vs → Loads shapes at s o → slot < length vs
 there kinds vs shapes at slot s None e typed obeys = absurd obeys
 there kinds vs shapes at slot s (Some u) e typed obeys = let found = is_found kinds vs slot u typed e in slice_get_within vs slot found.0 found.1
 
-like_top : (o : Option Value) (u : TypeName) (ts : List TypeName) (v : Value) (stack : List Value) → o ≡ Some v → HasType u v → Typed (u ∷ ts) stack → TopIsLike o stack
+like_top : (o : Option Value) (u : TypeName) (ts : List TypeName) (v : Value) (stack : List Value) → o ≡ Some v → HasType u v → HaveTypes (u ∷ ts) stack → TopIsLike o stack
 like_top o u ts v [] e h typed = absurd typed
 like_top o u ts v (w ∷ vs) e h typed = subst (λ (q : Option Value). TopIsLike q (w ∷ vs)) (sym e) (of_one_kind u v w h typed.0)
 
-like : (kinds : List TypeName) (vs : List Value) (shapes : Shapes) (at slot : ℕ) (s : Shape) (stack : List Value) (o : Option TypeName) → slice_get kinds slot ≡ o → Typed kinds vs → Typed s.stack stack →
+like : (kinds : List TypeName) (vs : List Value) (shapes : Shapes) (at slot : ℕ) (s : Shape) (stack : List Value) (o : Option TypeName) → slice_get kinds slot ≡ o → HaveTypes kinds vs → HaveTypes s.stack stack →
     Stores shapes at s o → TopIsLike (slice_get vs slot) stack
 like kinds vs shapes at slot s stack None e typed whole obeys = absurd obeys
 like kinds vs shapes at slot s stack (Some u) e typed whole obeys =
     let found = is_found kinds vs slot u typed e in
-    like_top (slice_get vs slot) u obeys.0 found.0 stack found.1 found.2 (subst (λ (ts : List TypeName). Typed ts stack) obeys.1 whole)
+    like_top (slice_get vs slot) u obeys.0 found.0 stack found.1 found.2 (subst (λ (ts : List TypeName). HaveTypes ts stack) obeys.1 whole)
 
 row_value : (n : ℤ) (v : Value) → HasType (types.Row n) v → stacks.IsRow (Some v)
 row_value n (Row ns) h = tt
 row_value n _ h = absurd h
 
-row : (kinds : List TypeName) (vs : List Value) (slot : ℕ) (o : Option TypeName) → slice_get kinds slot ≡ o → Typed kinds vs → IsRow o → stacks.IsRow (slice_get vs slot)
+row : (kinds : List TypeName) (vs : List Value) (slot : ℕ) (o : Option TypeName) → slice_get kinds slot ≡ o → HaveTypes kinds vs → IsRow o → stacks.IsRow (slice_get vs slot)
 row kinds vs slot (Some (types.Row n)) e typed is =
     let found = is_found kinds vs slot (types.Row n) typed e in
     subst (λ (q : Option Value). stacks.IsRow q) (sym found.1) (row_value n found.0 found.2)
@@ -122,15 +122,15 @@ a_pending : (o : Option Exception) → IsTrue (is_some o) → IsPending o
 a_pending None is = absurd (true≢false (sym is))
 a_pending (Some x) is = tt
 
-below_link : (k : ℕ) (ts us : List TypeName) (stack : List Value) → length ts ≡ k → Typed (types.Link ∷ (ts ++ us)) stack → HasValues (Some k) stack
+below_link : (k : ℕ) (ts us : List TypeName) (stack : List Value) → length ts ≡ k → HaveTypes (types.Link ∷ (ts ++ us)) stack → HasValues (Some k) stack
 below_link k ts us [] long typed = absurd typed
 below_link k ts us (Link l ∷ vs) long typed = let all = same_length (ts ++ us) vs typed.1 in omega (arith, length-append ts us)
 below_link k ts us (_ ∷ vs) long typed = absurd typed.0
 
-module _ (m : ModuleTypes) (instructions : List Instruction) (shapes : Shapes) (globals : List Value) (is_shape : Shape) (s : Standing) (known : Typed m.globals globals) (own : Typed is_shape.locals s.locals)
-    (whole : Typed is_shape.stack s.stack) (open_tries : s.tries ≡ is_shape.tries) (accepts : s.accepts ≡ is_shape.accepts) (pending : IsTrue is_shape.pending → IsTrue (is_some s.pending)) where
-  on : (ts : List TypeName) → is_shape.stack ≡ ts → Typed ts s.stack
-  on ts e = subst (λ (us : List TypeName). Typed us s.stack) e whole
+module _ (m : ModuleTypes) (instructions : List Instruction) (shapes : Shapes) (globals : List Value) (is_shape : Shape) (s : Standing) (known : HaveTypes m.globals globals) (own : HaveTypes is_shape.locals s.locals)
+    (whole : HaveTypes is_shape.stack s.stack) (open_tries : s.tries ≡ is_shape.tries) (accepts : s.accepts ≡ is_shape.accepts) (pending : IsTrue is_shape.pending → IsTrue (is_some s.pending)) where
+  on : (ts : List TypeName) → is_shape.stack ≡ ts → HaveTypes ts s.stack
+  on ts e = subst (λ (us : List TypeName). HaveTypes us s.stack) e whole
 
   connects : (number : ℕ) (o : Option OpTypes) → slice_get m.ops number ≡ o → Connects shapes s.address is_shape o → HasValues (slice_get (program m instructions).arguments number) s.stack
   connects number None e obeys = absurd obeys

@@ -3,18 +3,19 @@ use Rattle.std.proofs.Common.{◌≡◌, ℕ, List, [], ◌∷◌, ◌++◌, Boo
 use Rattle.lynx_tree.specs.declared.declaration.TypeName.{TypeName}
 use Rattle.lynx_code.specs.declared.instruction.Instruction.{Instruction}
 use Rattle.lynx_meaning.specs.Code.{Next, Thread, Goes, Over, Comes, Stuck}
-use Rattle.lynx_meaning.specs.Courses.{Action, Store, New, Destroy, Bind, Unbind, Connect, Accept, Close, Reply, Write, Await, Stop, Ended, Waits, Out}
-use Rattle.lynx_meaning.specs.Values.{Value}
+use Rattle.lynx_meaning.specs.Courses.{Action, Store, New, Destroy, Bind, Unbind, Connect, Accept, Close, Reply, Write, Await, Stop, Ended, Waits, Out, Outcome}
+use Rattle.lynx_meaning.specs.Values.{Value, HaveTypes}
 use Rattle.code_shapes.specs.Shapes.{ModuleTypes, Shapes, AreShapes, IsThread, program}
-use Rattle.machine_turns.specs.Threads.{Outcome, Standing, Wanted, Made, Went, Acts, Awaits, Ends, Broken, acted, answers, comes_of, goes_on, in_turn, is_await, last_action, made, wanted_by}
-use Rattle.machine_never_stuck.specs.Sound.{Typed, EndInAction, FirstFits, IsSound, needs, wants}
+use Rattle.machine_turns.specs.Threads.{Standing, Made, Went, Acts, Awaits, Ends, Broken, acted, answers, comes_of, goes_on, in_turn, is_await, last_action, made}
+use Rattle.lynx_meaning.specs.Needs.{Wanted, wanted_by, wanted_types}
+use Rattle.machine_never_stuck.specs.Sound.{EndInAction, FirstFits, IsSound, needs}
 use Rattle.machine_never_stuck.proofs.Whole.{all_fit, never_stuck}
-use Rattle.machine_sound.specs.Sound.{IsSoundThread, wanted_types}
+use Rattle.machine_sound.specs.Sound.{IsSoundThread}
 
 -- ---- other variables of the module
 
 -- where other threads changed the variables of the module
-pub with_globals : (m : ModuleTypes) (shapes : Shapes) (globals now : List Value) (s : Standing) → Typed m.globals now → IsThread m shapes (in_turn globals s) → IsThread m shapes (in_turn now s)
+pub with_globals : (m : ModuleTypes) (shapes : Shapes) (globals now : List Value) (s : Standing) → HaveTypes m.globals now → IsThread m shapes (in_turn globals s) → IsThread m shapes (in_turn now s)
 with_globals m shapes globals now s typed is = record {
   shape = is.shape;
   there = is.there;
@@ -27,7 +28,7 @@ first_fits : (ts : List TypeName) (globals now : List Value) (os : List Outcome)
 first_fits ts globals now [] fits = tt
 first_fits ts globals now (o ∷ os) fits = fits
 
-pub thread_with_globals : (m : ModuleTypes) (instructions : List Instruction) (shapes : Shapes) (globals now : List Value) (s : Standing) → Typed m.globals now →
+pub thread_with_globals : (m : ModuleTypes) (instructions : List Instruction) (shapes : Shapes) (globals now : List Value) (s : Standing) → HaveTypes m.globals now →
     IsSoundThread m instructions shapes globals s → IsSoundThread m instructions shapes now s
 thread_with_globals m instructions shapes globals now s typed is = record {
   thread = with_globals m shapes globals now s typed is.thread;
@@ -39,10 +40,10 @@ thread_with_globals m instructions shapes globals now s typed is = record {
 
 -- what comes of an instruction of a thread is sound
 abbrev pub SoundMade : ModuleTypes → List Instruction → Shapes → Standing → Made → Type 0
-SoundMade m instructions shapes s (Went globals t) = IsSoundThread m instructions shapes globals t × Typed m.globals globals × (t.wanted ≡ None)
-SoundMade m instructions shapes s (Acts a globals t) = IsSoundThread m instructions shapes globals t × Typed m.globals globals × (t.wanted ≡ Some (wanted_by a))
-SoundMade m instructions shapes s (Awaits globals t) = IsSoundThread m instructions shapes globals t × Typed m.globals globals × (t.wanted ≡ s.wanted)
-SoundMade m instructions shapes s (Ends globals) = Typed m.globals globals
+SoundMade m instructions shapes s (Went globals t) = IsSoundThread m instructions shapes globals t × HaveTypes m.globals globals × (t.wanted ≡ None)
+SoundMade m instructions shapes s (Acts a globals t) = IsSoundThread m instructions shapes globals t × HaveTypes m.globals globals × (t.wanted ≡ Some (wanted_by a))
+SoundMade m instructions shapes s (Awaits globals t) = IsSoundThread m instructions shapes globals t × HaveTypes m.globals globals × (t.wanted ≡ s.wanted)
+SoundMade m instructions shapes s (Ends globals) = HaveTypes m.globals globals
 SoundMade m instructions shapes s Broken = ⊥
 
 some_wanted : (w : Wanted) → None ≡ Some w → ⊥
@@ -53,33 +54,20 @@ last_of [] a = refl
 last_of (b ∷ []) a = refl
 last_of (b ∷ c ∷ rest) a = last_of (c ∷ rest) a
 
-wanted_is_wants : (m : ModuleTypes) (a : Action) → wanted_types m (wanted_by a) ≡ wants m a
-wanted_is_wants m New = refl
-wanted_is_wants m (Destroy link) = refl
-wanted_is_wants m (Bind link entry) = refl
-wanted_is_wants m (Unbind link entry) = refl
-wanted_is_wants m (Connect link op values) = refl
-wanted_is_wants m (Accept link op) = refl
-wanted_is_wants m Close = refl
-wanted_is_wants m (Reply values) = refl
-wanted_is_wants m (Write text) = refl
-wanted_is_wants m Await = refl
-wanted_is_wants m Stop = refl
-
 module _ (m : ModuleTypes) (instructions : List Instruction) (shapes : Shapes) (globals : List Value) (s : Standing) (is : IsSoundThread m instructions shapes globals s) where
   abbrev needed : List TypeName
   needed = needs m (slice_get instructions s.address)
 
   -- it is given no value more
   given_none : (now : List Value) (os : List Outcome) → (answers globals os ≡ [] → [] ≡ needed) → FirstFits needed (answers globals os) → FirstFits needed (answers now (os ++ Ok [] ∷ []))
-  given_none now [] first fits = subst (λ (ts : List TypeName). Typed ts []) (first refl) tt
+  given_none now [] first fits = subst (λ (ts : List TypeName). HaveTypes ts []) (first refl) tt
   given_none now (o ∷ os) first fits = fits
 
   some_more : (os : List Outcome) (o : Outcome) → os ++ o ∷ [] ≡ [] → ⊥
   some_more [] o e = cc
   some_more (p ∷ os) o e = cc
 
-  awaits : (now : List Value) → Typed m.globals now → (answers globals s.given ≡ [] → [] ≡ needed) → SoundMade m instructions shapes s (Awaits now (record s { given = s.given ++ Ok [] ∷ [] }))
+  awaits : (now : List Value) → HaveTypes m.globals now → (answers globals s.given ≡ [] → [] ≡ needed) → SoundMade m instructions shapes s (Awaits now (record s { given = s.given ++ Ok [] ∷ [] }))
   awaits now typed first = (
     record {
       thread =
@@ -91,7 +79,7 @@ module _ (m : ModuleTypes) (instructions : List Instruction) (shapes : Shapes) (
     refl,
   )
 
-  acts : (a : Action) (now : List Value) → Typed m.globals now → (answers globals s.given ≡ [] → wants m a ≡ needed) → SoundMade m instructions shapes s (Acts a now (record s { wanted = Some (wanted_by a) }))
+  acts : (a : Action) (now : List Value) → HaveTypes m.globals now → (answers globals s.given ≡ [] → wanted_types m.ops (wanted_by a) ≡ needed) → SoundMade m instructions shapes s (Acts a now (record s { wanted = Some (wanted_by a) }))
   acts a now typed first = (
     record {
       thread =
@@ -99,13 +87,13 @@ module _ (m : ModuleTypes) (instructions : List Instruction) (shapes : Shapes) (
       given = first_fits needed globals now s.given is.given;
       wanted = λ w e none.
           let same : wanted_by a ≡ w = cc in
-          ap (wanted_types m) (sym same) ∙ wanted_is_wants m a ∙ first (ap (answers globals) none);
+          ap (wanted_types m.ops) (sym same) ∙ first (ap (answers globals) none);
     },
     typed,
     refl,
   )
 
-  acted_sound : (a : Action) (now : List Value) → Typed m.globals now → (answers globals s.given ≡ [] → wants m a ≡ needed) → SoundMade m instructions shapes s (acted (Some a) now s)
+  acted_sound : (a : Action) (now : List Value) → HaveTypes m.globals now → (answers globals s.given ≡ [] → wanted_types m.ops (wanted_by a) ≡ needed) → SoundMade m instructions shapes s (acted (Some a) now s)
   acted_sound New now typed first = acts New now typed first
   acted_sound (Destroy link) now typed first = acts (Destroy link) now typed first
   acted_sound (Bind link entry) now typed first = acts (Bind link entry) now typed first
@@ -134,7 +122,7 @@ module _ (m : ModuleTypes) (instructions : List Instruction) (shapes : Shapes) (
     refl,
   )
 
-  waits : (b : Bool) (actions : List Action) (store : Store) → EndInAction m needed (answers globals s.given) actions → Typed m.globals store.globals →
+  waits : (b : Bool) (actions : List Action) (store : Store) → EndInAction m needed (answers globals s.given) actions → HaveTypes m.globals store.globals →
       SoundMade m instructions shapes s (made b s (Over (Comes (Waits actions store))))
   waits b actions store end typed =
       subst (λ (o : Option Action). SoundMade m instructions shapes s (acted o store.globals s)) (sym (ap last_action end.last ∙ last_of end.before end.action))

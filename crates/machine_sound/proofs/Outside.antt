@@ -4,13 +4,15 @@ use Rattle.std.proofs.lemmas.Bool.Decides.{nat_tests}
 use Rattle.std.proofs.lemmas.Option.{slice_get_within}
 use Rattle.lynx_tree.specs.declared.declaration.TypeName.{TypeName}
 use Rattle.lynx_code.specs.declared.instruction.Instruction.{Instruction}
-use Rattle.lynx_meaning.specs.Values.{Value}
+use Rattle.lynx_meaning.specs.Values.{Value, HaveTypes}
 use Rattle.code_shapes.specs.Shapes.{ModuleTypes, Shapes, AreShapes}
-use Rattle.machine_turns.specs.Threads.{Outcome, Standing, Wanted, answers, begun}
+use Rattle.machine_turns.specs.Threads.{Standing, answers, begun}
+use Rattle.lynx_meaning.specs.Courses.{Outcome}
+use Rattle.lynx_meaning.specs.Needs.{Wanted, wanted_types}
 use Rattle.machine_turns.specs.Turns.{Turns, IsFree, at_start, given_to, gives_to, is_ready_after, spawned, with_thread}
-use Rattle.machine_never_stuck.specs.Sound.{Typed, FirstFits, needs}
+use Rattle.machine_never_stuck.specs.Sound.{FirstFits, needs}
 use Rattle.machine_never_stuck.proofs.Whole.{begins_placed}
-use Rattle.machine_sound.specs.Sound.{AreSound, FitsAction, IsSoundThread, one_if, places, places_for, wanted_types}
+use Rattle.machine_sound.specs.Sound.{AreSound, FitsAction, IsSoundThread, one_if, places, places_for}
 use Rattle.machine_sound.specs.Taken.{takes_by, takes_turn}
 use Rattle.machine_sound.proofs.Placing.{is_given, is_new, is_ready, turn_taken}
 use Rattle.machine_sound.proofs.Turning.{with_changed}
@@ -21,12 +23,12 @@ some_wanted w e = cc
 module _ (m : ModuleTypes) (parts : List (ℕ × List TypeName)) (instructions : List Instruction) where
   -- ---- an outcome
 
-  first_given : (needed : List TypeName) (globals : List Value) (outcome : Outcome) (os : List Outcome) → (os ≡ [] → IfOk outcome (Typed needed)) → FirstFits needed (answers globals os) →
+  first_given : (needed : List TypeName) (globals : List Value) (outcome : Outcome) (os : List Outcome) → (os ≡ [] → IfOk outcome (HaveTypes needed)) → FirstFits needed (answers globals os) →
       FirstFits needed (answers globals (os ++ outcome ∷ []))
   first_given needed globals outcome [] first fits = first refl
   first_given needed globals outcome (o ∷ os) first fits = fits
 
-  given_thread : (shapes : Shapes) (globals : List Value) (s : Standing) (outcome : Outcome) (w : Wanted) → IsSoundThread m instructions shapes globals s → s.wanted ≡ Some w → IfOk outcome (Typed (wanted_types m w)) →
+  given_thread : (shapes : Shapes) (globals : List Value) (s : Standing) (outcome : Outcome) (w : Wanted) → IsSoundThread m instructions shapes globals s → s.wanted ≡ Some w → IfOk outcome (HaveTypes (wanted_types m.ops w)) →
       IsSoundThread m instructions shapes globals (record s { given = s.given ++ outcome ∷ []; wanted = None })
   given_thread shapes globals s outcome w is wants fits = record {
     thread = record {
@@ -35,12 +37,12 @@ module _ (m : ModuleTypes) (parts : List (ℕ × List TypeName)) (instructions :
       has = record { locals = is.thread.has.locals; stack = is.thread.has.stack; tries = is.thread.has.tries; accepts = is.thread.has.accepts; pending = is.thread.has.pending };
       globals = is.thread.globals;
     };
-    given = first_given (needs m (slice_get instructions s.address)) globals outcome s.given (λ none. subst (λ (ts : List TypeName). IfOk outcome (Typed ts)) (is.wanted w wants none) fits) is.given;
+    given = first_given (needs m (slice_get instructions s.address)) globals outcome s.given (λ none. subst (λ (ts : List TypeName). IfOk outcome (HaveTypes ts)) (is.wanted w wants none) fits) is.given;
     wanted = λ v e none. absurd (some_wanted v e);
   }
 
   given_by : (t : Turns) (n : ℕ) (outcome : Outcome) (s : Standing) (w : Wanted) (blocked : Bool) → is_ready_after s.wanted ≡ blocked → AreSound m parts instructions t → slice_get t.threads n ≡ Some (Some s) → s.wanted ≡ Some w →
-      IfOk outcome (Typed (wanted_types m w)) →
+      IfOk outcome (HaveTypes (wanted_types m.ops w)) →
       AreSound m parts instructions (with_thread n (Some (record s { given = s.given ++ outcome ∷ []; wanted = None })) (if blocked then record t { ready = t.ready ++ n ∷ [] } else t))
   given_by t n outcome s w true blocked is here wants fits =
       let now : Standing = record s { given = s.given ++ outcome ∷ []; wanted = None } in
@@ -61,8 +63,8 @@ module _ (m : ModuleTypes) (parts : List (ℕ × List TypeName)) (instructions :
 
   -- ---- a new thread
 
-  begun_thread : (shapes : Shapes) (globals : List Value) (is_entry : Bool) (i start : ℕ) (kinds : List TypeName) (locals : List Value) → AreShapes m parts instructions shapes → Typed m.globals globals →
-      slice_get parts i ≡ Some (start, kinds) → Typed kinds locals → IsSoundThread m instructions shapes globals (begun is_entry start locals)
+  begun_thread : (shapes : Shapes) (globals : List Value) (is_entry : Bool) (i start : ℕ) (kinds : List TypeName) (locals : List Value) → AreShapes m parts instructions shapes → HaveTypes m.globals globals →
+      slice_get parts i ≡ Some (start, kinds) → HaveTypes kinds locals → IsSoundThread m instructions shapes globals (begun is_entry start locals)
   begun_thread shapes globals is_entry i start kinds locals are known part typed =
       let placed = begins_placed m parts instructions shapes i start kinds (record { globals = globals; locals = locals }) [] are part typed in
       record {
@@ -71,7 +73,7 @@ module _ (m : ModuleTypes) (parts : List (ℕ × List TypeName)) (instructions :
         wanted = λ w e none. absurd (some_wanted w e);
       }
 
-  pub spawned_sound : (t : Turns) (n i start : ℕ) (kinds : List TypeName) (locals : List Value) → AreSound m parts instructions t → IsFree n t → slice_get parts i ≡ Some (start, kinds) → Typed kinds locals →
+  pub spawned_sound : (t : Turns) (n i start : ℕ) (kinds : List TypeName) (locals : List Value) → AreSound m parts instructions t → IsFree n t → slice_get parts i ≡ Some (start, kinds) → HaveTypes kinds locals →
       AreSound m parts instructions (spawned n start locals t)
   spawned_sound t n i start kinds locals is free part typed =
       let now : Standing = begun true start locals in
@@ -89,7 +91,7 @@ module _ (m : ModuleTypes) (parts : List (ℕ × List TypeName)) (instructions :
   elsewhere : (k : ℕ) → one_if (nat_eq (suc k) 0) ≡ 0
   elsewhere k = grind (arith, nat_tests)
 
-  first_only : (shapes : Shapes) (globals : List Value) → AreShapes m parts instructions shapes → Typed m.globals globals → slice_get parts 0 ≡ Some (0, []) → (k : ℕ) (s : Standing) →
+  first_only : (shapes : Shapes) (globals : List Value) → AreShapes m parts instructions shapes → HaveTypes m.globals globals → slice_get parts 0 ≡ Some (0, []) → (k : ℕ) (s : Standing) →
       slice_get (at_start globals).threads k ≡ Some (Some s) → IsSoundThread m instructions shapes globals s
   first_only shapes globals are typed body zero s e =
       let same : begun false 0 [] ≡ s = cc in
@@ -100,7 +102,7 @@ module _ (m : ModuleTypes) (parts : List (ℕ × List TypeName)) (instructions :
   first_place globals zero = omega arith
   first_place globals (suc k) = let none = elsewhere k in omega arith
 
-  pub start_sound : (shapes : Shapes) (globals : List Value) → AreShapes m parts instructions shapes → Typed m.globals globals → slice_get parts 0 ≡ Some (0, []) → AreSound m parts instructions (at_start globals)
+  pub start_sound : (shapes : Shapes) (globals : List Value) → AreShapes m parts instructions shapes → HaveTypes m.globals globals → slice_get parts 0 ≡ Some (0, []) → AreSound m parts instructions (at_start globals)
   start_sound shapes globals are typed body = record {
     shapes = shapes;
     are = are;

@@ -2,7 +2,8 @@
 use Rattle.std.proofs.Common.{arith, ◌≡◌, ℕ, zero, suc, ◌+◌, ◌≤◌, ◌<◌, List, [], ◌∷◌, ◌++◌, length, nat_eq, Bool, true, false, if◌then◌else◌, Option, Some, None, slice_get, slice_set, refl, sym, ap, subst, ◌∙◌, ◌⊎◌, ⊎_elim, inl, inr, not-suc-le-zero, le_of_suc-le-suc}
 use Rattle.std.proofs.lemmas.Bool.{eq-eqb, eqb-true, eqb-false}
 use Rattle.std.proofs.lemmas.Option.{slice_get_within}
-use Rattle.machine_turns.specs.Threads.{Standing, Wanted}
+use Rattle.machine_turns.specs.Threads.{Standing}
+use Rattle.lynx_meaning.specs.Needs.{Wanted}
 use Rattle.machine_turns.specs.Turns.{Turns, is_ready_after, with_thread}
 use Rattle.machine_sound.specs.Sound.{one_if, places, places_for, times, times_in}
 

@@ -7,8 +7,9 @@ use Rattle.lynx_meaning.specs.Courses.{Action, New, Destroy, Bind, Unbind, Conne
 use Rattle.lynx_meaning.specs.Code.{Program}
 use Rattle.lynx_meaning.specs.Values.{Value}
 use Rattle.code_shapes.specs.Shapes.{ModuleTypes, program}
-use Rattle.machine_turns.specs.Threads.{Standing, Made, Went, Acts, Awaits, Ends, Broken, course, wanted_by}
-use Rattle.machine_turns.specs.Turns.{Act, Beat, Turns, Goes, Stops, acts, awaits, beat, beats, comes, is_ready_after, stands, wakes, with_thread}
+use Rattle.machine_turns.specs.Threads.{Standing, Made, Went, Acts, Awaits, Ends, Broken, course}
+use Rattle.lynx_meaning.specs.Needs.{wanted_by}
+use Rattle.machine_turns.specs.Turns.{Act, Beat, Turns, RunsOn, Stops, asks_for, awaits, beat, beats, comes, is_ready_after, stands, wakes, with_thread}
 use Rattle.machine_turns.specs.Turns as turns
 use Rattle.machine_steps.specs.Operands.{StaysReady}
 use Rattle.machine_sound.specs.Sound.{AreSound, IsAsking, StayBlocked}
@@ -21,7 +22,7 @@ use Rattle.machine_sound.proofs.Turning.{SoundBeat, comes_again, stays_ready, ta
 
 -- ---- what a thread asks for
 
-pub acts_threads : (n : ℕ) (a : Action) (t : Turns) → (acts n a t).threads ≡ t.threads
+pub acts_threads : (n : ℕ) (a : Action) (t : Turns) → (asks_for n a t).threads ≡ t.threads
 acts_threads n New t = refl
 acts_threads n (Destroy link) t = refl
 acts_threads n (Bind link entry) t = refl
@@ -35,10 +36,10 @@ acts_threads n Await t = refl
 acts_threads n Stop t = refl
 
 -- it wants what its action needs
-asks_there : (n : ℕ) (a : Action) (t : Turns) (s : Standing) → n < length t.threads → s.wanted ≡ Some (wanted_by a) → IsAsking n (wanted_by a) (with_thread n (Some s) (acts n a t))
+asks_there : (n : ℕ) (a : Action) (t : Turns) (s : Standing) → n < length t.threads → s.wanted ≡ Some (wanted_by a) → IsAsking n (wanted_by a) (with_thread n (Some s) (asks_for n a t))
 asks_there n a t s there wants =
-    let within : n < length (acts n a t).threads = subst (λ (ts : List (Option Standing)). n < length ts) (sym (acts_threads n a t)) there in
-    (s, get_set (acts n a t).threads n (Some s) within, wants)
+    let within : n < length (asks_for n a t).threads = subst (λ (ts : List (Option Standing)). n < length ts) (sym (acts_threads n a t)) there in
+    (s, get_set (asks_for n a t).threads n (Some s) within, wants)
 
 stops_of : (n k left l : ℕ) (a b : Action) (t u : Turns) → Stops (Act n a) left t ≡ Stops (Act k b) l u → (n ≡ k) × (a ≡ b) × (t ≡ u)
 stops_of n k left l a b t u e = (cc, cc, cc)
@@ -47,7 +48,7 @@ asks : (fuel left n : ℕ) (t : Turns) (s : Standing) (last : Made) (k l : ℕ) 
 asks fuel left n t s (Went globals v) k l a u here advances e = cc
 asks fuel left n t s (Acts b globals v) k l a u here advances e =
     let now : Turns = record t { globals = globals } in
-    let same = stops_of n k left l b a (with_thread n (Some v) (acts n b now)) u e in
+    let same = stops_of n k left l b a (with_thread n (Some v) (asks_for n b now)) u e in
     subst (λ (i : ℕ). IsAsking i (wanted_by a) u) same.0
     (subst (λ (c : Action). IsAsking n (wanted_by c) u) same.1
     (subst (λ (w : Turns). IsAsking n (wanted_by b) w) same.2 (asks_there n b now v (slice_get_within t.threads n (Some s) here) advances)))
@@ -70,7 +71,7 @@ kept t u n s o here free changed k r there blocked =
 
 -- the turns of a beat
 abbrev pub KeepsBlocked : Turns → Beat → Type 0
-KeepsBlocked t (Goes fuel u) = StayBlocked t u
+KeepsBlocked t (RunsOn fuel u) = StayBlocked t u
 KeepsBlocked t (Stops stop fuel u) = StayBlocked t u
 KeepsBlocked t turns.Broken = Unit {0}
 
@@ -78,7 +79,7 @@ comes_blocked : (left n : ℕ) (t : Turns) (s : Standing) (last : Made) → slic
 comes_blocked left n t s (Went globals v) here free = kept t (with_thread n (Some v) (record t { globals = globals; running = Some n })) n s (Some v) here free refl
 comes_blocked left n t s (Acts a globals v) here free =
     let now : Turns = record t { globals = globals } in
-    kept t (with_thread n (Some v) (acts n a now)) n s (Some v) here free (ap (λ (ts : List (Option Standing)). slice_set ts n (Some v)) (acts_threads n a now))
+    kept t (with_thread n (Some v) (asks_for n a now)) n s (Some v) here free (ap (λ (ts : List (Option Standing)). slice_set ts n (Some v)) (acts_threads n a now))
 comes_blocked left n t s (Awaits globals v) here free = by_again v.again
   where
     by_again : (again : Bool) → StayBlocked t (with_thread n (Some v) (awaits n again (record t { globals = globals })))
@@ -94,7 +95,7 @@ taken_threads t None (n ∷ ready) = refl
 
 -- the turn was taken by a thread that was not blocked
 taken_blocked : (t u : Turns) → u.threads ≡ t.threads → (b : Beat) → KeepsBlocked u b → KeepsBlocked t b
-taken_blocked t u same (Goes fuel v) stay = λ k r there blocked. stay k r (ap (λ (ts : List (Option Standing)). slice_get ts k) same ∙ there) blocked
+taken_blocked t u same (RunsOn fuel v) stay = λ k r there blocked. stay k r (ap (λ (ts : List (Option Standing)). slice_get ts k) same ∙ there) blocked
 taken_blocked t u same (Stops stop fuel v) stay = λ k r there blocked. stay k r (ap (λ (ts : List (Option Standing)). slice_get ts k) same ∙ there) blocked
 taken_blocked t u same turns.Broken stay = tt
 
@@ -106,13 +107,13 @@ taken_weight fuel t None [] = refl
 taken_weight fuel t None (n ∷ ready) = refl
 
 -- beats after beats
-pub beats_on : (p : Program) (k j : ℕ) (b c : Beat) (fuel : ℕ) (t : Turns) → beats p k b ≡ Goes fuel t → beats p j (Goes fuel t) ≡ c → beats p (k + j) b ≡ c
+pub beats_on : (p : Program) (k j : ℕ) (b c : Beat) (fuel : ℕ) (t : Turns) → beats p k b ≡ RunsOn fuel t → beats p j (RunsOn fuel t) ≡ c → beats p (k + j) b ≡ c
 beats_on p zero j b c fuel t is onward =
     let size : zero + j ≡ j = omega arith in
     ap (λ n. beats p n b) size ∙ ap (beats p j) is ∙ onward
-beats_on p (suc k) j (Goes left u) c fuel t is onward =
+beats_on p (suc k) j (RunsOn left u) c fuel t is onward =
     let size : suc k + j ≡ suc (k + j) = omega arith in
-    ap (λ n. beats p n (Goes left u)) size ∙ beats_on p k j (beat p left u) c fuel t is onward
+    ap (λ n. beats p n (RunsOn left u)) size ∙ beats_on p k j (beat p left u) c fuel t is onward
 beats_on p (suc k) j (Stops stop left u) c fuel t is onward = cc
 beats_on p (suc k) j turns.Broken c fuel t is onward = cc
 
@@ -131,9 +132,9 @@ module _ (m : ModuleTypes) (parts : List (ℕ × List TypeName)) (instructions :
   -- Some beats lead to this, and all threads are sound. Where the run goes on, less is left to do; where a thread asks for an action, it
   -- wants what that needs.
   pub record IsRound (fuel : ℕ) (t : Turns) (b : Beat) : Type 0 where
-    pub come : (k : ℕ) × (beats (program m instructions) k (Goes fuel t) ≡ b)
+    pub come : (k : ℕ) × (beats (program m instructions) k (RunsOn fuel t) ≡ b)
     pub sound : SoundBeat m parts instructions b
-    pub less : (now : ℕ) (u : Turns) → b ≡ Goes now u → weight now u < weight fuel t
+    pub less : (now : ℕ) (u : Turns) → b ≡ RunsOn now u → weight now u < weight fuel t
     pub blocked : KeepsBlocked t b
     pub asked : (k now : ℕ) (a : Action) (u : Turns) → b ≡ Stops (Act k a) now u → IsAsking k (wanted_by a) u
 

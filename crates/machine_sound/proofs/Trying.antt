@@ -4,9 +4,9 @@ use Rattle.lynx_code.specs.declared.instruction.Instruction.{Instruction}
 use Rattle.lynx_code.specs.declared.instruction.Instruction.TheVariants as code
 use Rattle.typing_rules.specs.Exceptions.{exception_text}
 use Rattle.typing_rules.specs.declared.exception.Exception.{Exception}
-use Rattle.lynx_meaning.specs.Code.{Next, Goes, Over, Comes, Stuck, Opened, Program, Kind, Global, Local, Thread, acts, acts_with, again, answered, asks, by_link, by_truth, by_values, closes, closes_accept, compares, connects, cut, decides, ends}
+use Rattle.lynx_meaning.specs.Code.{Next, Goes, Over, Comes, Stuck, Opened, Program, Kind, Global, Local, Thread, with_outcome, takes_outcome, again, answered, asks, by_link, by_truth, by_values, closes, closes_accept, compares, connects, cut, decides, ends}
 use Rattle.lynx_meaning.specs.Code.{gives, goes, handles, instead, jumps, loads, loads_member, one_int, puts, raises, raises_in, stores, stores_member, step, stuck, fetched, tries_again, two_alike, two_ints, untries, variables, with_variables, writes}
-use Rattle.lynx_meaning.specs.Courses.{Action, Answer, Moment, Outcome, New, Destroy, Bind, Unbind, Connect, Accept, Close, Reply, Write, Await, Stop, Ended, Waits, Out, after}
+use Rattle.lynx_meaning.specs.Courses.{Action, Answer, Moment, New, Destroy, Bind, Unbind, Connect, Accept, Close, Reply, Write, Await, Stop, Ended, Waits, Out, after}
 use Rattle.lynx_meaning.specs.Values.{Value, Given, Int, Truth, Text, Row, Link, add, divide, member, multiply, negate, reduce, subtract, truth_eq, value_eq, with_member, written}
 use Rattle.machine_turns.specs.Threads.{Standing, Made, Went, Acts, Awaits, Ends, Broken, acted, answers, comes_of, goes_on, in_turn, is_await, is_empty, is_fresh, last_action, made}
 use Rattle.machine_turns.specs.Threads as threads
@@ -31,11 +31,11 @@ another actions a other e =
     let same : Some a ≡ Some Await = sym (last_of actions a) ∙ e in
     other cc
 
-asked_with : (m : Moment) (a : Action) (given : List Answer) (next : Result (List Value) Exception → Moment → Next) → (a ≡ Await → ⊥) → ((g : Result (List Value) Exception) (now : Moment) → Asks (next g now)) → Asks (acts_with m a given next)
+asked_with : (m : Moment) (a : Action) (given : List Answer) (next : Result (List Value) Exception → Moment → Next) → (a ≡ Await → ⊥) → ((g : Result (List Value) Exception) (now : Moment) → Asks (next g now)) → Asks (takes_outcome m a given next)
 asked_with m a [] next other onward = another m.actions a other
 asked_with m a (g ∷ rest) next other onward = onward g.given (after m a g rest)
 
-asked : (m : Moment) (a : Action) (next : Result (List Value) Exception → Moment → Next) → (a ≡ Await → ⊥) → ((g : Result (List Value) Exception) (now : Moment) → Asks (next g now)) → Asks (acts m a next)
+asked : (m : Moment) (a : Action) (next : Result (List Value) Exception → Moment → Next) → (a ≡ Await → ⊥) → ((g : Result (List Value) Exception) (now : Moment) → Asks (next g now)) → Asks (with_outcome m a next)
 asked m a next other onward = asked_with m a m.answers next other onward
 
 closing : (k : ℕ) (exception : Exception) (m : Moment) (next : Exception → Moment → Next) → ((x : Exception) (now : Moment) → Asks (next x now)) → Asks (closes k exception m next)
@@ -162,7 +162,7 @@ trying_again is_entry address (Err exception) t = raising is_entry exception t
 
 -- an await that found false was given its outcome
 waiting : (is_entry : Bool) (address : ℕ) (m : Moment) (given : List Answer) (t : Thread) (stack : List Value) → (given ≡ [] → ⊥) →
-    Asks (acts_with m Await given (λ g now. tries_again is_entry address g (record t { moment = now; stack = stack })))
+    Asks (takes_outcome m Await given (λ g now. tries_again is_entry address g (record t { moment = now; stack = stack })))
 waiting is_entry address m [] t stack some = absurd (some refl)
 waiting is_entry address m (a ∷ rest) t stack some = trying_again is_entry address a.given (record t { moment = after m Await a rest; stack = stack })
 
@@ -197,9 +197,9 @@ module _ (p : Program) (e : Bool) (t : Thread) (some : t.moment.answers ≡ [] �
   stepped (code.JumpF address) = with_truth (λ b stack. if b then goes stack t else jumps address stack t) t.stack (λ b rest. by_choice b (goes rest t) (jumps address rest t) tt tt)
   stepped (code.Jump address) = tt
   stepped (code.Await address) =
-      with_truth (λ b stack. if b then goes stack t else acts t.moment Await (λ given now. tries_again e address given (record t { moment = now; stack = stack }))) t.stack
+      with_truth (λ b stack. if b then goes stack t else with_outcome t.moment Await (λ given now. tries_again e address given (record t { moment = now; stack = stack }))) t.stack
       (λ b rest.
-      by_choice b (goes rest t) (acts t.moment Await (λ given now. tries_again e address given (record t { moment = now; stack = rest }))) tt
+      by_choice b (goes rest t) (with_outcome t.moment Await (λ given now. tries_again e address given (record t { moment = now; stack = rest }))) tt
       (waiting e address t.moment t.moment.answers t rest some))
   stepped (code.Try address) = tt
   stepped code.Untry = untrying t.tries t

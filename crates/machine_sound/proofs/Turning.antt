@@ -6,12 +6,12 @@ use Rattle.lynx_tree.specs.declared.declaration.TypeName.{TypeName}
 use Rattle.lynx_code.specs.declared.instruction.Instruction.{Instruction}
 use Rattle.lynx_meaning.specs.Code.{Program}
 use Rattle.lynx_meaning.specs.Courses.{Action, New, Destroy, Bind, Unbind, Connect, Accept, Close, Reply, Write, Await, Stop}
-use Rattle.lynx_meaning.specs.Values.{Value}
+use Rattle.lynx_meaning.specs.Values.{Value, HaveTypes}
 use Rattle.code_shapes.specs.Shapes.{ModuleTypes, Shapes, AreShapes, program}
-use Rattle.machine_turns.specs.Threads.{Standing, Wanted, Made, Went, Acts, Awaits, Ends, Broken, and_then, comes_of, course, fuel_after, wanted_by}
-use Rattle.machine_turns.specs.Turns.{Beat, Turns, Goes, Stops, Act, acts, awaits, beat, beats, comes, is_ready_after, next_turn, stands, turn_of, wakes, with_thread}
+use Rattle.machine_turns.specs.Threads.{Standing, Made, Went, Acts, Awaits, Ends, Broken, if_went, comes_of, course, fuel_after}
+use Rattle.lynx_meaning.specs.Needs.{Wanted, wanted_by}
+use Rattle.machine_turns.specs.Turns.{Beat, Turns, RunsOn, Stops, Act, asks_for, awaits, beat, beats, comes, is_ready_after, next_turn, stands, turn_of, wakes, with_thread}
 use Rattle.machine_turns.specs.Turns as turns
-use Rattle.machine_never_stuck.specs.Sound.{Typed}
 use Rattle.machine_steps.specs.Operands.{FindsInstruction, IsReady, StaysReady, after}
 use Rattle.machine_never_stuck.proofs.Whole.{instruction_at}
 use Rattle.machine_sound.specs.Sound.{AreSound, IsSoundThread, places_for}
@@ -35,7 +35,7 @@ one_place s w is free = ap (λ (v : Option Wanted). if is_ready_after v then 0 e
 
 module _ (m : ModuleTypes) (parts : List (ℕ × List TypeName)) (instructions : List Instruction) where
   abbrev pub SoundBeat : Beat → Type 0
-  SoundBeat (Goes fuel t) = AreSound m parts instructions t
+  SoundBeat (RunsOn fuel t) = AreSound m parts instructions t
   SoundBeat (Stops stop fuel t) = AreSound m parts instructions t
   SoundBeat turns.Broken = ⊥
 
@@ -45,7 +45,7 @@ module _ (m : ModuleTypes) (parts : List (ℕ × List TypeName)) (instructions :
   -- ---- one instruction
 
   -- turns in which one thread has changed
-  pub with_changed : (t u : Turns) (n : ℕ) (o : Option Standing) (is : AreSound m parts instructions t) → n < length t.threads → u.threads ≡ slice_set t.threads n o → Typed m.globals u.globals →
+  pub with_changed : (t u : Turns) (n : ℕ) (o : Option Standing) (is : AreSound m parts instructions t) → n < length t.threads → u.threads ≡ slice_set t.threads n o → HaveTypes m.globals u.globals →
       ((s : Standing) → o ≡ Some s → IsSoundThread m instructions is.shapes u.globals s) → ArePlaced u → AreSound m parts instructions u
   with_changed t u n o is there changed typed thread placed = record {
     shapes = is.shapes;
@@ -65,20 +65,20 @@ module _ (m : ModuleTypes) (parts : List (ℕ × List TypeName)) (instructions :
     abbrev now : List Value → Turns
     now globals = record t { globals = globals }
 
-    blocks : (a : Action) (globals : List Value) (u : Standing) → IsSoundThread m instructions is.shapes globals u → Typed m.globals globals → AreSound m parts instructions (with_thread n (Some u) (wakes (now globals)))
+    blocks : (a : Action) (globals : List Value) (u : Standing) → IsSoundThread m instructions is.shapes globals u → HaveTypes m.globals globals → AreSound m parts instructions (with_thread n (Some u) (wakes (now globals)))
     blocks a globals u sound typed =
         with_changed t (with_thread n (Some u) (wakes (now globals))) n (Some u) is there refl typed (λ r e. let same : u ≡ r = cc in subst (λ (q : Standing). IsSoundThread m instructions is.shapes globals q) same sound)
         (wakes_all t (with_thread n (Some u) (wakes (now globals))) n (Some u) there refl runs is.placed refl refl refl)
 
-    keeps : (globals : List Value) (u : Standing) → IsSoundThread m instructions is.shapes globals u → Typed m.globals globals → places_for (Some (Some u)) ≡ 1 →
+    keeps : (globals : List Value) (u : Standing) → IsSoundThread m instructions is.shapes globals u → HaveTypes m.globals globals → places_for (Some (Some u)) ≡ 1 →
         AreSound m parts instructions (with_thread n (Some u) (record t { globals = globals; running = Some n }))
     keeps globals u sound typed one =
         with_changed t (with_thread n (Some u) (record t { globals = globals; running = Some n })) n (Some u) is there refl typed
         (λ r e. let same : u ≡ r = cc in subst (λ (q : Standing). IsSoundThread m instructions is.shapes globals q) same sound)
         (keeps_turn t (with_thread n (Some u) (record t { globals = globals; running = Some n })) n (Some u) there refl runs is.placed refl refl refl one)
 
-    asks : (a : Action) (globals : List Value) (u : Standing) → IsSoundThread m instructions is.shapes globals u → Typed m.globals globals → u.wanted ≡ Some (wanted_by a) →
-        AreSound m parts instructions (with_thread n (Some u) (acts n a (now globals)))
+    asks : (a : Action) (globals : List Value) (u : Standing) → IsSoundThread m instructions is.shapes globals u → HaveTypes m.globals globals → u.wanted ≡ Some (wanted_by a) →
+        AreSound m parts instructions (with_thread n (Some u) (asks_for n a (now globals)))
     asks (Connect link op values) globals u sound typed wants = blocks (Connect link op values) globals u sound typed
     asks (Accept link op) globals u sound typed wants = blocks (Accept link op) globals u sound typed
     asks New globals u sound typed wants = keeps globals u sound typed (one_place u (Some (wanted_by New)) wants refl)
@@ -91,7 +91,7 @@ module _ (m : ModuleTypes) (parts : List (ℕ × List TypeName)) (instructions :
     asks Await globals u sound typed wants = keeps globals u sound typed (one_place u (Some (wanted_by Await)) wants refl)
     asks Stop globals u sound typed wants = keeps globals u sound typed (one_place u (Some (wanted_by Stop)) wants refl)
 
-    waits : (again : Bool) (globals : List Value) (u : Standing) → IsSoundThread m instructions is.shapes globals u → Typed m.globals globals → places_for (Some (Some u)) ≡ 1 →
+    waits : (again : Bool) (globals : List Value) (u : Standing) → IsSoundThread m instructions is.shapes globals u → HaveTypes m.globals globals → places_for (Some (Some u)) ≡ 1 →
         AreSound m parts instructions (with_thread n (Some u) (awaits n again (now globals)))
     waits true globals u sound typed one =
         with_changed t (with_thread n (Some u) (awaits n true (now globals))) n (Some u) is there refl typed (λ r e. let same : u ≡ r = cc in subst (λ (q : Standing). IsSoundThread m instructions is.shapes globals q) same sound)
@@ -100,7 +100,7 @@ module _ (m : ModuleTypes) (parts : List (ℕ × List TypeName)) (instructions :
         with_changed t (with_thread n (Some u) (awaits n false (now globals))) n (Some u) is there refl typed (λ r e. let same : u ≡ r = cc in subst (λ (q : Standing). IsSoundThread m instructions is.shapes globals q) same sound)
         (awaits_first t (with_thread n (Some u) (awaits n false (now globals))) n (Some u) there refl runs is.placed refl refl refl one)
 
-    ends : (globals : List Value) → Typed m.globals globals → AreSound m parts instructions (with_thread n None (wakes (now globals)))
+    ends : (globals : List Value) → HaveTypes m.globals globals → AreSound m parts instructions (with_thread n None (wakes (now globals)))
     ends globals typed =
         with_changed t (with_thread n None (wakes (now globals))) n None is there refl typed (λ r e. cc) (wakes_all t (with_thread n None (wakes (now globals))) n None there refl runs is.placed refl refl refl)
 
@@ -150,18 +150,18 @@ module _ (m : ModuleTypes) (parts : List (ℕ × List TypeName)) (instructions :
   acts_again fuel n t globals now s u (Accept link op) = blocks_again (Act n (Accept link op)) fuel n t globals now s u
 
   awaits_again_there : (fuel n : ℕ) (t : Turns) (globals now : List Value) (s u : Standing) (again : Bool) →
-      Goes fuel (with_thread n (Some u) (awaits n again (record t { globals = now; threads = slice_set t.threads n (Some s); running = Some n }))) ≡ Goes fuel (with_thread n (Some u) (awaits n again (record t { globals = now })))
+      RunsOn fuel (with_thread n (Some u) (awaits n again (record t { globals = now; threads = slice_set t.threads n (Some s); running = Some n }))) ≡ RunsOn fuel (with_thread n (Some u) (awaits n again (record t { globals = now })))
   awaits_again_there fuel n t globals now s u true =
-      ap (λ (ts : List (Option Standing)). Goes fuel (record t { globals = now; threads = ts; running = None; awaiting = t.awaiting ++ n ∷ [] })) (set_set t.threads n (Some s) (Some u))
+      ap (λ (ts : List (Option Standing)). RunsOn fuel (record t { globals = now; threads = ts; running = None; awaiting = t.awaiting ++ n ∷ [] })) (set_set t.threads n (Some s) (Some u))
   awaits_again_there fuel n t globals now s u false =
-      ap (λ (ts : List (Option Standing)). Goes fuel (record t { globals = now; threads = ts; running = None; ready = t.ready ++ t.awaiting; awaiting = [] ++ n ∷ [] })) (set_set t.threads n (Some s) (Some u))
+      ap (λ (ts : List (Option Standing)). RunsOn fuel (record t { globals = now; threads = ts; running = None; ready = t.ready ++ t.awaiting; awaiting = [] ++ n ∷ [] })) (set_set t.threads n (Some s) (Some u))
 
   pub comes_again : (fuel n : ℕ) (t : Turns) (globals : List Value) (s : Standing) (last : Made) → comes fuel n (with_thread n (Some s) (record t { globals = globals; running = Some n })) last ≡ comes fuel n t last
-  comes_again fuel n t globals s (Went now u) = ap (λ (ts : List (Option Standing)). Goes fuel (record t { globals = now; threads = ts; running = Some n })) (set_set t.threads n (Some s) (Some u))
+  comes_again fuel n t globals s (Went now u) = ap (λ (ts : List (Option Standing)). RunsOn fuel (record t { globals = now; threads = ts; running = Some n })) (set_set t.threads n (Some s) (Some u))
   comes_again fuel n t globals s (Acts a now u) = acts_again fuel n t globals now s u a
   comes_again fuel n t globals s (Awaits now u) = awaits_again_there fuel n t globals now s u u.again
   comes_again fuel n t globals s (Ends now) =
-      ap (λ (ts : List (Option Standing)). Goes fuel (record t { globals = now; threads = ts; running = None; ready = t.ready ++ t.awaiting; awaiting = [] })) (set_set t.threads n (Some s) None)
+      ap (λ (ts : List (Option Standing)). RunsOn fuel (record t { globals = now; threads = ts; running = None; ready = t.ready ++ t.awaiting; awaiting = [] })) (set_set t.threads n (Some s) None)
   comes_again fuel n t globals s Broken = refl
 
   -- the thread that has the turn has not changed
@@ -175,12 +175,12 @@ module _ (m : ModuleTypes) (parts : List (ℕ × List TypeName)) (instructions :
 
   -- no instruction has begun
   not_begun : (fuel left : ℕ) (t : Turns) (n : ℕ) (s : Standing) (last : Made) → AreSound m parts instructions t → t.running ≡ Some n → slice_get t.threads n ≡ Some (Some s) → ◌≡◌ {A = ℕ × Made} (fuel, Went t.globals s) (left, last) →
-      MakesTurn n t left last (Goes fuel t)
+      MakesTurn n t left last (RunsOn fuel t)
   not_begun fuel left t n s last is runs here e =
       let size : fuel ≡ left = ap (λ (q : ℕ × Made). q.0) e in
       let same : Went t.globals s ≡ last = ap (λ (q : ℕ × Made). q.1) e in
-      let stays : Goes fuel t ≡ comes left n t last =
-      ap (λ (u : Turns). Goes fuel u) (sym (no_change t n s runs here)) ∙ ap (λ (l : ℕ). comes l n t (Went t.globals s)) size ∙ ap (λ (l : Made). comes left n t l) same in
+      let stays : RunsOn fuel t ≡ comes left n t last =
+      ap (λ (u : Turns). RunsOn fuel u) (sym (no_change t n s runs here)) ∙ ap (λ (l : ℕ). comes l n t (Went t.globals s)) size ∙ ap (λ (l : Made). comes left n t l) same in
       (zero, stays, subst (λ (b : Beat). SoundBeat b) stays is)
 
   -- the last one is made
@@ -191,10 +191,10 @@ module _ (m : ModuleTypes) (parts : List (ℕ × List TypeName)) (instructions :
 
   abbrev ComesTo : ℕ → Type 0
   ComesTo k = (fuel left : ℕ) (t : Turns) (n : ℕ) (s : Standing) (last : Made) → AreSound m parts instructions t → t.running ≡ Some n → slice_get t.threads n ≡ Some (Some s) → course p k fuel t.globals s ≡ (left, last) →
-      MakesTurn n t left last (Goes fuel t)
+      MakesTurn n t left last (RunsOn fuel t)
 
   after_first : (k fuel left : ℕ) (t : Turns) (n : ℕ) (s : Standing) (last : Made) → ComesTo k → slice_get t.threads n ≡ Some (Some s) → (first : Made) → SoundBeat (comes fuel n t first) → (b : Beat) →
-      b ≡ comes fuel n t first → and_then first (λ now u. course p k fuel now u) (λ over. (fuel, over)) ≡ (left, last) → MakesTurn n t left last b
+      b ≡ comes fuel n t first → if_went first (λ now u. course p k fuel now u) (λ over. (fuel, over)) ≡ (left, last) → MakesTurn n t left last b
   after_first k fuel left t n s last on here (Went now u) sound b first e =
       let next = on fuel left (with_thread n (Some u) (record t { globals = now; running = Some n })) n u last sound refl (get_set t.threads n (Some u) (slice_get_within t.threads n (Some s) here)) e in
       let again = comes_again left n t now u last in
@@ -240,7 +240,7 @@ module _ (m : ModuleTypes) (parts : List (ℕ × List TypeName)) (instructions :
   Later shapes k = (globals now : List Value) (s t : Standing) → AreShapes m parts instructions shapes → IsSoundThread m instructions shapes globals s → after p k globals s ≡ Went now t → IsReady p now t
 
   after_one : (shapes : Shapes) (k : ℕ) (s : Standing) (now : List Value) (t : Standing) → Later shapes k → AreShapes m parts instructions shapes → (first : Made) → SoundMade m instructions shapes s first →
-      and_then first (λ g u. after p k g u) (λ over. Broken) ≡ Went now t → IsReady p now t
+      if_went first (λ g u. after p k g u) (λ over. Broken) ≡ Went now t → IsReady p now t
   after_one shapes k s now t on are (Went g u) sound e = on g now u t are sound.0 e
   after_one shapes k s now t on are (Acts a g u) sound e = cc
   after_one shapes k s now t on are (Awaits g u) sound e = cc

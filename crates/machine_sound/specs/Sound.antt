@@ -2,29 +2,23 @@
 use Rattle.std.specs.Prelude.{◌≡◌, ℕ, ◌+◌, ◌≤◌, List, [], ◌∷◌, length, nat_eq, Bool, true}
 use Rattle.std.specs.Prelude.{false, if◌then◌else◌, Option, None, Some, IfOk, slice_get}
 use Rattle.lynx_tree.specs.declared.declaration.TypeName.{TypeName}
-use Rattle.lynx_tree.specs.declared.declaration.TypeName.TheVariants as types
 use Rattle.lynx_code.specs.declared.instruction.Instruction.{Instruction}
-use Rattle.lynx_meaning.specs.Values.{Value}
-use Rattle.code_shapes.specs.Shapes.{ModuleTypes, Shapes, AreShapes, IsThread, types_of}
-use Rattle.machine_turns.specs.Threads.{Outcome, Standing, Wanted, NoValue, TwoLinks, Results, Arguments, answers, in_turn}
+use Rattle.lynx_meaning.specs.Values.{Value, HaveTypes}
+use Rattle.code_shapes.specs.Shapes.{ModuleTypes, Shapes, AreShapes, IsThread}
+use Rattle.machine_turns.specs.Threads.{Standing, answers, in_turn}
+use Rattle.lynx_meaning.specs.Courses.{Outcome}
+use Rattle.lynx_meaning.specs.Needs.{Wanted, wanted_types}
 use Rattle.machine_turns.specs.Turns.{Turns, is_ready_after, most_threads}
-use Rattle.machine_never_stuck.specs.Sound.{Typed, FirstFits, needs}
+use Rattle.machine_never_stuck.specs.Sound.{FirstFits, needs}
 
 -- ---- one thread
-
--- the types of the values that an action needs
-abbrev pub wanted_types : ModuleTypes → Wanted → List TypeName
-wanted_types m NoValue = []
-wanted_types m TwoLinks = types.Link ∷ types.Link ∷ []
-wanted_types m (Results op) = types_of (λ o. o.results) (slice_get m.ops op)
-wanted_types m (Arguments op) = types_of (λ o. o.arguments) (slice_get m.ops op)
 
 -- a thread of the shapes, with these variables of the module; what it was given fits its instruction, and what it wants is what that needs
 pub record IsSoundThread (m : ModuleTypes) (instructions : List Instruction) (shapes : Shapes) (globals : List Value)
     (s : Standing) : Type 0 where
   pub thread : IsThread m shapes (in_turn globals s)
   pub given : FirstFits (needs m (slice_get instructions s.address)) (answers globals s.given)
-  pub wanted : (w : Wanted) → s.wanted ≡ Some w → s.given ≡ [] → wanted_types m w ≡ needs m (slice_get instructions s.address)
+  pub wanted : (w : Wanted) → s.wanted ≡ Some w → s.given ≡ [] → wanted_types m.ops w ≡ needs m (slice_get instructions s.address)
 
 -- ---- places
 
@@ -56,7 +50,7 @@ places_for _ = 0
 pub record AreSound (m : ModuleTypes) (parts : List (ℕ × List TypeName)) (instructions : List Instruction) (t : Turns) : Type 0 where
   pub shapes : Shapes
   pub are : AreShapes m parts instructions shapes
-  pub globals : Typed m.globals t.globals
+  pub globals : HaveTypes m.globals t.globals
   pub threads : (n : ℕ) (s : Standing) → slice_get t.threads n ≡ Some (Some s) → IsSoundThread m instructions shapes t.globals s
   pub placed : (n : ℕ) → places n t ≤ places_for (slice_get t.threads n)
   pub many : length t.threads ≡ most_threads
@@ -75,4 +69,4 @@ StayBlocked before now =
 
 -- the outcome is an exception, or has the values that the action of this thread needs
 abbrev pub FitsAction : ModuleTypes → ℕ → Outcome → Turns → Type 0
-FitsAction m n outcome t = (wanted : Wanted) × IsAsking n wanted t × IfOk outcome (Typed (wanted_types m wanted))
+FitsAction m n outcome t = (wanted : Wanted) × IsAsking n wanted t × IfOk outcome (HaveTypes (wanted_types m.ops wanted))

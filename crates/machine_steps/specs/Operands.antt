@@ -6,7 +6,7 @@ use Rattle.lynx_code.specs.declared.instruction.Instruction.TheVariants as code
 use Rattle.lynx_meaning.specs.Code.{Opened, Program, step}
 use Rattle.lynx_meaning.specs.Values.{Value, Int, Truth, Text, Link}
 use Rattle.machine_stack.specs.Stacks.{TopIsInt, TopIsTruth, TopIsLink, TopIsLike, AreAlikeOnTop, IsRow}
-use Rattle.machine_turns.specs.Threads.{Standing, Made, Went, Broken, and_then, comes_of, course, in_turn, is_await, made}
+use Rattle.machine_turns.specs.Threads.{Standing, Made, Went, Broken, if_went, comes_of, course, in_turn, is_await, made}
 
 -- what comes of an instruction of a thread, with these variables of the module
 abbrev pub does : Program → Instruction → List Value → Standing → Made
@@ -105,7 +105,7 @@ IsCourse p fuel globals s left last = (k : ℕ) × (course p (suc k) fuel global
 -- what comes of so many instructions
 abbrev pub after : Program → ℕ → List Value → Standing → Made
 after p zero globals s = Went globals s
-after p (suc k) globals s = and_then (comes_of p globals s) (λ now t. after p k now t) (λ last. Broken)
+after p (suc k) globals s = if_went (comes_of p globals s) (λ now t. after p k now t) (λ last. Broken)
 
 -- each instruction that the thread comes to finds its operands
 abbrev pub StaysReady : Program → List Value → Standing → Type 0

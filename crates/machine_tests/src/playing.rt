@@ -1,15 +1,14 @@
 //! Modules whose threads are run, and are given what they need.
 
 ghost use Rattle.std.specs.Prelude.{◌≡◌, ◌+◌, length, Some, slice_get, IfOk, IfSome, OnOk};
-ghost use Rattle.lynx_meaning.specs.Values.{HasType};
-ghost use Rattle.machine_never_stuck.specs.Sound.{Typed};
+ghost use Rattle.lynx_meaning.specs.Values.{HasType, HaveTypes};
 ghost use Rattle.code_shapes.specs.Shapes.{code_types};
-ghost use Rattle.machine_turns.specs.Threads.{wanted_by};
+ghost use Rattle.lynx_meaning.specs.Needs.{wanted_by, wanted_types};
 ghost use Rattle.machine_turns.specs.Turns.{is_ready_after};
 ghost use Rattle.machine_values.specs.Told.{value_of, values_of};
 ghost use Rattle.machine_thread.specs.Told.{action_of, outcome_of};
 ghost use Rattle.compiler_runnable.specs.Runnable.{IsRunnable};
-ghost use Rattle.machine_sound.specs.Sound.{IsAsking, wanted_types};
+ghost use Rattle.machine_sound.specs.Sound.{IsAsking};
 ghost use Rattle.lynx_interp.specs.Machines.{IsEntryFor, IsMachine, state_of};
 
 use crate::words::{push_action, push_number, push_stop};
@@ -232,7 +231,7 @@ pub(crate) fn outcome(
     action: &Action,
     letter: u8,
 ) -> Result<Given, Fail>
-    ensures { IfOk result (λ outcome. IfOk (outcome_of outcome) (Typed (wanted_types machine.now.types (wanted_by (action_of action.now))))) }
+    ensures { IfOk result (λ outcome. IfOk (outcome_of outcome) (HaveTypes (wanted_types machine.now.types.ops (wanted_by (action_of action.now))))) }
 {
     let exception = match letter {
         b'B' => Exception::BusyLink,
@@ -247,7 +246,7 @@ pub(crate) fn outcome(
 }
 
 fn needed(alloc: Global, machine: &Machine, action: &Action) -> Result<Vec<Value>, Fail>
-    ensures { IfOk result (λ values. Typed (wanted_types machine.now.types (wanted_by (action_of action.now))) (values_of values.items)) }
+    ensures { IfOk result (λ values. HaveTypes (wanted_types machine.now.types.ops (wanted_by (action_of action.now))) (values_of values.items)) }
 {
     match action {
         Action::New => Ok(vec![in alloc; Value::Link(LinkRef(50)), Value::Link(LinkRef(51))]?),
@@ -265,7 +264,7 @@ fn needed(alloc: Global, machine: &Machine, action: &Action) -> Result<Vec<Value
 
 // A value for each type: 7, true, `t`, the link 9.
 fn values(alloc: Global, kinds: &[TypeName]) -> Result<Vec<Value>, Fail>
-    ensures { IfOk result (λ values. Typed kinds.now (values_of values.items)) }
+    ensures { IfOk result (λ values. HaveTypes kinds.now (values_of values.items)) }
 {
     let mut values = Vec::new(alloc);
     for kind in kinds {

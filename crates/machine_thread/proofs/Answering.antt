@@ -2,10 +2,10 @@
 use Rattle.std.proofs.Common.{arith, ◌≡◌, ℕ, suc, ◌+◌, ◌<◌, ◌≤◌, List, [], ◌∷◌, ◌++◌, length, take, drop, reverse, Bool, true, false, nat_le, Some, Result, Ok, Err, IfOk, refl, ap, sym, subst, if◌then◌else◌, ◌∙◌, not-suc-le-zero}
 use Rattle.std.proofs.lemmas.Bool.Decides.{nat_tests}
 use Rattle.typing_rules.specs.declared.exception.Exception.{Exception}
-use Rattle.lynx_meaning.specs.Code.{Next, Over, Stuck, Thread, acts, answered, asks, by_link, by_truth, by_values, closes_accept, goes, raises, tries_again, writes}
-use Rattle.lynx_meaning.specs.Courses.{Action, Await, Close}
+use Rattle.lynx_meaning.specs.Code.{Next, Over, Stuck, Thread, with_outcome, answered, asks, by_link, by_truth, by_values, closes_accept, goes, raises, tries_again, writes}
+use Rattle.lynx_meaning.specs.Courses.{Action, Await, Close, Outcome}
 use Rattle.lynx_meaning.specs.Values.{Value, Int, Truth, Text, Row, Link, written}
-use Rattle.machine_turns.specs.Threads.{Outcome, Standing, in_turn, is_empty, made}
+use Rattle.machine_turns.specs.Threads.{Standing, in_turn, is_empty, made}
 use Rattle.machine_stack.specs.Stacks.{TopIsLink}
 use Rattle.machine_steps.specs.Operands.{HasValues, TopIsPlain}
 use Rattle.machine_thread.specs.Closes.{raising}
@@ -91,7 +91,7 @@ closing globals k s some is = ap (λ n. made false s (closes_accept s.is_entry n
 -- what an await does
 abbrev awaits : Bool → ℕ → Thread → Next
 awaits e address t =
-    by_truth (λ b stack. if b then goes stack t else acts t.moment Await (λ given now. tries_again e address given (record t { moment = now; stack = stack }))) t.stack
+    by_truth (λ b stack. if b then goes stack t else with_outcome t.moment Await (λ given now. tries_again e address given (record t { moment = now; stack = stack }))) t.stack
 
 -- it was given an exception
 by_await : (globals : List Value) (address : ℕ) (x : Exception) (s : Standing) (below : List Value) (os : List Outcome) → raised_by (first_given os) ≡ Some x →

@@ -5,9 +5,10 @@ use Rattle.std.proofs.lemmas.List.{drop_all}
 use Rattle.std.proofs.lemmas.Bool.Decides.{nat_tests}
 use Rattle.typing_rules.specs.declared.exception.Exception.{Exception}
 use Rattle.lynx_meaning.specs.Code.{Next, Over, Comes, Goes, Opened, closes, cut, ends, instead, raises, raises_in}
-use Rattle.lynx_meaning.specs.Courses.{Action, Close, Moment, Waits}
+use Rattle.lynx_meaning.specs.Courses.{Action, Close, Moment, Waits, Outcome}
 use Rattle.lynx_meaning.specs.Values.{Value}
-use Rattle.machine_turns.specs.Threads.{Outcome, Standing, Made, Went, Acts, Ends, NoValue, acted, answers, is_fresh, last_action, made}
+use Rattle.machine_turns.specs.Threads.{Standing, Made, Went, Acts, Ends, acted, answers, is_fresh, last_action, made}
+use Rattle.lynx_meaning.specs.Needs.{NoValue}
 use Rattle.machine_thread.specs.Closes.{lasting, kept_accepts, moment_after, raising}
 
 -- a try again is over where there is one open try less

@@ -2,7 +2,7 @@
 use Rattle.std.proofs.Common.{arith, ◌≡◌, ℕ, zero, suc, ◌<◌, List, refl, ap, sym, ◌∙◌}
 use Rattle.lynx_meaning.specs.Code.{Program}
 use Rattle.lynx_meaning.specs.Values.{Value}
-use Rattle.machine_turns.specs.Threads.{Standing, Made, Went, Acts, Awaits, Ends, Broken, and_then, comes_of, course, fuel_after}
+use Rattle.machine_turns.specs.Threads.{Standing, Made, Went, Acts, Awaits, Ends, Broken, if_went, comes_of, course, fuel_after}
 use Rattle.machine_steps.specs.Operands.{HasCome, IsCourse, IsReady, StaysReady, after}
 
 -- ---- each instruction finds its operands
@@ -12,12 +12,12 @@ is_ready p globals s ready = ready 0 globals s refl
 
 pub stays_ready : (p : Program) (globals now : List Value) (s t : Standing) → Went now t ≡ comes_of p globals s → StaysReady p globals s → StaysReady p now t
 stays_ready p globals now s t is ready k later u there =
-    ready (suc k) later u (ap (λ (m : Made). and_then m (λ now t. after p k now t) (λ last. Broken)) (sym is) ∙ there)
+    ready (suc k) later u (ap (λ (m : Made). if_went m (λ now t. after p k now t) (λ last. Broken)) (sym is) ∙ there)
 
 -- ---- one instruction more
 
 abbrev going : Program → ℕ → ℕ → Made → ℕ × Made
-going p k fuel m = and_then m (λ now t. course p k fuel now t) (λ last. (fuel, last))
+going p k fuel m = if_went m (λ now t. course p k fuel now t) (λ last. (fuel, last))
 
 last_one : (p : Program) (fuel : ℕ) (m : Made) → going p 0 fuel m ≡ (fuel, m)
 last_one p fuel (Went globals s) = refl

@@ -4,7 +4,8 @@ use Rattle.lynx_code.specs.declared.code.CodeOp.{CodeOp}
 use Rattle.lynx_code.specs.declared.instruction.Instruction.{Instruction}
 use Rattle.lynx_meaning.specs.Code.{Program}
 use Rattle.lynx_meaning.specs.Values.{Value}
-use Rattle.code_shapes.specs.Shapes.{OpTypes, kept_op}
+use Rattle.code_shapes.specs.Shapes.{kept_op}
+use Rattle.lynx_meaning.specs.Needs.{OpTypes}
 use Rattle.machine_turns.specs.Threads.{Made, Standing}
 use Rattle.machine_steps.specs.Operands.{HasValues, does}
 

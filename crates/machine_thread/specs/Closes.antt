@@ -2,9 +2,9 @@
 use Rattle.std.specs.Prelude.{ℕ, List, [], ◌∷◌, drop}
 use Rattle.typing_rules.specs.declared.exception.Exception.{Exception}
 use Rattle.lynx_meaning.specs.Code.{Opened, Thread, instead}
-use Rattle.lynx_meaning.specs.Courses.{Action, Moment}
+use Rattle.lynx_meaning.specs.Courses.{Action, Moment, Outcome}
 use Rattle.lynx_meaning.specs.Values.{Value}
-use Rattle.machine_turns.specs.Threads.{Outcome, Standing, answers, in_turn}
+use Rattle.machine_turns.specs.Threads.{Standing, answers, in_turn}
 
 -- the exception that is under way after these outcomes of closes
 abbrev pub lasting : Exception → List Outcome → Exception

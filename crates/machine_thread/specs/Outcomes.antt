@@ -2,7 +2,7 @@
 use Rattle.std.specs.Prelude.{List, [], ◌∷◌, Option, Some, None, Ok, Err}
 use Rattle.typing_rules.specs.declared.exception.Exception.{Exception}
 use Rattle.lynx_meaning.specs.Values.{Value}
-use Rattle.machine_turns.specs.Threads.{Outcome}
+use Rattle.lynx_meaning.specs.Courses.{Outcome}
 
 abbrev pub first_given : List Outcome → Outcome
 first_given [] = Ok []

@@ -3,7 +3,8 @@ use Rattle.std.specs.Prelude.{List, Ok, Err}
 use Rattle.lynx_meaning.specs.Courses as meaning
 use Rattle.lynx_meaning.specs.Values.{Value, Link}
 use Rattle.machine_values.specs.Told.{values_of}
-use Rattle.machine_turns.specs.Threads.{Outcome, Standing, Made, Went, Acts, Awaits, Ends}
+use Rattle.machine_turns.specs.Threads.{Standing, Made, Went, Acts, Awaits, Ends}
+use Rattle.lynx_meaning.specs.Courses.{Outcome}
 use Rattle.machine_turns.specs.Threads as threads
 use Rattle.machine_thread.specs.declared.action.Action.{Action}
 use Rattle.machine_thread.specs.declared.action.Action.TheVariants as action

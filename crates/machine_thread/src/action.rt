@@ -2,7 +2,7 @@
 
 ghost use Rattle.std.specs.Prelude.{◌≡◌};
 ghost use Rattle.machine_thread.specs.Told.{action_of, wanted_of};
-ghost use Rattle.machine_turns.specs.Threads.{wanted_by};
+ghost use Rattle.lynx_meaning.specs.Needs.{wanted_by};
 
 use machine_values::{LinkRef, Value};
 use typing_rules::{Exception, ShortText};

@@ -5,7 +5,8 @@ ghost use Rattle.lynx_meaning.specs.Values as meaning;
 ghost use Rattle.lynx_meaning.specs.Values.{Int, Truth, Text};
 ghost use Rattle.machine_stack.specs.Stacks.{TopIsInt, TopIsTruth, AreAlikeOnTop, IsCompared, IsTop};
 ghost use Rattle.machine_values.specs.Told.{value_of, values_of};
-ghost use Rattle.machine_turns.specs.Threads.{Went, Acts, wanted_by, is_empty};
+ghost use Rattle.machine_turns.specs.Threads.{Went, Acts, is_empty};
+ghost use Rattle.lynx_meaning.specs.Needs.{wanted_by};
 ghost use Rattle.machine_thread.specs.Told.{action_of, outcome_of, told};
 ghost use Rattle.machine_thread.specs.Kept.{opened_of};
 

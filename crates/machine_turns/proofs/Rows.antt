@@ -7,7 +7,7 @@ use Rattle.lynx_code.specs.declared.instruction.Literal.TheVariants as literal
 use Rattle.lynx_meaning.specs.Code.{Program}
 use Rattle.lynx_meaning.specs.Courses.{Action, Connect, Accept, Close}
 use Rattle.lynx_meaning.specs.Values.{Value, Link, Truth}
-use Rattle.machine_turns.specs.Turns.{Turns, Beat, Stop, Goes, Stops, Broken, Spent, Act, AllBlocked, Finished, at_start, spawned, given_to, beats}
+use Rattle.machine_turns.specs.Turns.{Turns, Beat, Stop, RunsOn, Stops, Broken, Spent, Act, AllBlocked, Finished, at_start, spawned, given_to, beats}
 
 -- code with one operation, which has no arguments
 abbrev program : List Instruction → Program
@@ -19,14 +19,14 @@ start = at_start (Link 1 ∷ Truth false ∷ [])
 
 -- the turns after so many beats, with this fuel
 abbrev run : List Instruction → ℕ → ℕ → Turns → Beat
-run is k fuel t = beats (program is) k (Goes fuel t)
+run is k fuel t = beats (program is) k (RunsOn fuel t)
 
 abbrev stopped : Beat → Option (Stop × ℕ)
 stopped (Stops stop left t) = Some (stop, left)
 stopped _ = None
 
 abbrev turns : Beat → Turns
-turns (Goes left t) = t
+turns (RunsOn left t) = t
 turns (Stops stop left t) = t
 turns Broken = start
 

@@ -1,32 +1,15 @@
 -- A thread that stands, and what comes of its instruction in its turn.
 use Rattle.std.specs.Prelude.{◌≡◌, ℕ, zero, suc, ◌-◌, List, [], ◌∷◌, ◌++◌, length, map, nat_eq, Bool, true}
-use Rattle.std.specs.Prelude.{false, not, ◌&&◌, if◌then◌else◌, Option, None, Some, Result, Ok, Err, slice_get, ⊤}
+use Rattle.std.specs.Prelude.{false, not, ◌&&◌, if◌then◌else◌, Option, None, Some, Ok, Err, slice_get, ⊤}
 use Rattle.lynx_code.specs.declared.instruction.Instruction.{Instruction}
 use Rattle.lynx_code.specs.declared.instruction.Instruction.TheVariants as code
 use Rattle.typing_rules.specs.declared.exception.Exception.{Exception}
-use Rattle.lynx_meaning.specs.Code.{CodeOutcome, Comes, Stuck, Next, Goes, Over, Opened, Program, Thread, next_of}
-use Rattle.lynx_meaning.specs.Courses.{Action, Answer, New, Connect, Accept, Await, Ended, Waits, Out}
+use Rattle.lynx_meaning.specs.Code.{Comes, Stuck, Next, Goes, Over, Opened, Program, Thread, next_of}
+use Rattle.lynx_meaning.specs.Courses.{Action, Answer, Outcome, Await, Ended, Waits, Out}
+use Rattle.lynx_meaning.specs.Needs.{Wanted, wanted_by}
 use Rattle.lynx_meaning.specs.Values.{Value}
 
 -- ---- threads that stand
-
--- what an action is given: values, or an exception
-abbrev pub Outcome : Type 0
-Outcome = Result (List Value) Exception
-
--- which values an action needs
-pub data Wanted : Type 0 where
-  NoValue : Wanted
-  TwoLinks : Wanted
-  -- of the operation of this number
-  Results : ℕ → Wanted
-  Arguments : ℕ → Wanted
-
-abbrev pub wanted_by : Action → Wanted
-wanted_by New = TwoLinks
-wanted_by (Connect link op values) = Results op
-wanted_by (Accept link op) = Arguments op
-wanted_by _ = NoValue
 
 -- a thread that stands before the instruction at its address
 pub record Standing : Type 0 where
@@ -162,16 +145,16 @@ fuel_after fuel s = if is_fresh s then fuel - 1 else fuel
 -- ---- one thread alone
 
 -- what comes next where the thread goes on
-abbrev pub and_then : {X : Type 0} → Made → (List Value → Standing → X) → (Made → X) → X
-and_then (Went globals s) next over = next globals s
-and_then (Acts a globals s) next over = over (Acts a globals s)
-and_then (Awaits globals s) next over = over (Awaits globals s)
-and_then (Ends globals) next over = over (Ends globals)
-and_then Broken next over = over Broken
+abbrev pub if_went : {X : Type 0} → Made → (List Value → Standing → X) → (Made → X) → X
+if_went (Went globals s) next over = next globals s
+if_went (Acts a globals s) next over = over (Acts a globals s)
+if_went (Awaits globals s) next over = over (Awaits globals s)
+if_went (Ends globals) next over = over (Ends globals)
+if_went Broken next over = over Broken
 
 -- at most so many instructions one after the other: the fuel that is left, and what comes of the last one
 abbrev pub course : Program → ℕ → ℕ → List Value → Standing → ℕ × Made
 course p zero fuel globals s = (fuel, Went globals s)
 course p (suc k) zero globals s = (zero, Went globals s)
 course p (suc k) (suc fuel) globals s =
-    and_then (comes_of p globals s) (λ now t. course p k (fuel_after (suc fuel) s) now t) (λ last. (fuel_after (suc fuel) s, last))
+    if_went (comes_of p globals s) (λ now t. course p k (fuel_after (suc fuel) s) now t) (λ last. (fuel_after (suc fuel) s, last))

@@ -1,12 +1,13 @@
 -- The turns of threads: which of them goes on, and how far a run of so many instructions comes.
-use Rattle.std.specs.Prelude.{◌≡◌, ℕ, zero, suc, List, [], ◌∷◌, ◌++◌, replicate, Bool, true}
+use Rattle.std.specs.Prelude.{◌≡◌, ℕ, zero, suc, ◌-◌, List, [], ◌∷◌, ◌++◌, replicate, Bool, true}
 use Rattle.std.specs.Prelude.{false, if◌then◌else◌, Option, None, Some, slice_get, slice_set}
 use Rattle.std.specs.List.{list_any}
 use Rattle.std.specs.Option.{is_some}
 use Rattle.lynx_meaning.specs.Code.{Program}
-use Rattle.lynx_meaning.specs.Courses.{Action, Connect, Accept}
+use Rattle.lynx_meaning.specs.Courses.{Action, Connect, Accept, Outcome}
 use Rattle.lynx_meaning.specs.Values.{Value}
-use Rattle.machine_turns.specs.Threads.{Outcome, Wanted, Results, Arguments, Standing, Made}
+use Rattle.machine_turns.specs.Threads.{Standing, Made}
+use Rattle.lynx_meaning.specs.Needs.{Wanted, Results, Arguments}
 use Rattle.machine_turns.specs.Threads.{Went, Acts, Awaits, Ends, begun, comes_of, fuel_after}
 use Rattle.machine_turns.specs.Threads as threads
 
@@ -45,10 +46,10 @@ awaits n again t =
     record others { awaiting = others.awaiting ++ n ∷ [] }
 
 -- to connect or to accept is to block; a thread that asks for another action keeps its turn
-abbrev pub acts : ℕ → Action → Turns → Turns
-acts n (Connect link op values) t = wakes t
-acts n (Accept link op) t = wakes t
-acts n a t = record t { running = Some n }
+abbrev pub asks_for : ℕ → Action → Turns → Turns
+asks_for n (Connect link op values) t = wakes t
+asks_for n (Accept link op) t = wakes t
+asks_for n a t = record t { running = Some n }
 
 -- ---- a run
 
@@ -65,17 +66,17 @@ pub data Stop : Type 0 where
 
 -- what comes of one instruction of one thread: it goes on with the fuel that is left, or stops
 pub data Beat : Type 0 where
-  Goes : ℕ → Turns → Beat
+  RunsOn : ℕ → Turns → Beat
   Stops : Stop → ℕ → Turns → Beat
   -- no code of a module comes to this
   Broken : Beat
 
 -- what comes of the instruction of this thread
 abbrev pub comes : ℕ → ℕ → Turns → Made → Beat
-comes fuel n t (Went globals s) = Goes fuel (with_thread n (Some s) (record t { globals = globals; running = Some n }))
-comes fuel n t (Acts a globals s) = Stops (Act n a) fuel (with_thread n (Some s) (acts n a (record t { globals = globals })))
-comes fuel n t (Awaits globals s) = Goes fuel (with_thread n (Some s) (awaits n s.again (record t { globals = globals })))
-comes fuel n t (Ends globals) = Goes fuel (with_thread n None (wakes (record t { globals = globals })))
+comes fuel n t (Went globals s) = RunsOn fuel (with_thread n (Some s) (record t { globals = globals; running = Some n }))
+comes fuel n t (Acts a globals s) = Stops (Act n a) fuel (with_thread n (Some s) (asks_for n a (record t { globals = globals })))
+comes fuel n t (Awaits globals s) = RunsOn fuel (with_thread n (Some s) (awaits n s.again (record t { globals = globals })))
+comes fuel n t (Ends globals) = RunsOn fuel (with_thread n None (wakes (record t { globals = globals })))
 comes fuel n t threads.Broken = Broken
 
 abbrev pub turn_of : Program → ℕ → ℕ → Option (Option Standing) → Turns → Beat
@@ -99,14 +100,14 @@ beat p fuel t = if stands t then next_turn p fuel t t.running t.ready else Stops
 -- so many beats more
 abbrev pub beats : Program → ℕ → Beat → Beat
 beats p zero b = b
-beats p (suc k) (Goes fuel t) = beats p k (beat p fuel t)
+beats p (suc k) (RunsOn fuel t) = beats p k (beat p fuel t)
 beats p (suc k) (Stops stop fuel t) = Stops stop fuel t
 beats p (suc k) Broken = Broken
 
 -- A run with this fuel stops so, with so much fuel left and these turns.
 pub record Runs (p : Program) (fuel : ℕ) (t : Turns) (stop : Stop) (left : ℕ) (now : Turns) : Type 0 where
   pub beats_made : ℕ
-  pub stopped : beats p beats_made (Goes fuel t) ≡ Stops stop left now
+  pub stopped : beats p beats_made (RunsOn fuel t) ≡ Stops stop left now
 
 -- ---- what a process does to the turns
 
@@ -121,7 +122,8 @@ IsFree n t = slice_get t.threads n ≡ Some None
 -- the module's body begins as the only thread, as number 0
 abbrev pub at_start : List Value → Turns
 at_start globals =
-    record { globals = globals; threads = Some (begun false 0 []) ∷ replicate 31 None; running = None; ready = 0 ∷ []; awaiting = [] }
+    record { globals = globals; threads = Some (begun false 0 []) ∷ replicate (most_threads - 1) None; running = None; ready = 0 ∷ [];
+            awaiting = [] }
 
 -- a thread that connected or accepted is ready again, and any other keeps its turn
 abbrev pub is_ready_after : Option Wanted → Bool

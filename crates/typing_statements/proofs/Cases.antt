@@ -8,7 +8,7 @@ use Rattle.lynx_tree.specs.declared.expression.Expr as expr
 use Rattle.lynx_tree.specs.declared.statement.Handler.{Handler}
 use Rattle.lynx_tree.specs.declared.statement.Stmt as stmt
 use Rattle.lynx_tree.specs.Grammar.{mark, word, expr_marks, names_marks, stmt_marks, stmts_marks, handlers_marks}
-use Rattle.lynx_tree.specs.Trees.{ExprTree, StmtTree, StmtTrees, HandlerTrees, expr_tree, stmt_tree, stmt_list, handler_list, else_list}
+use Rattle.lynx_tree.specs.Trees.{ExprTree, StmtTree, StmtTrees, HandlerTrees, expr_tree, stmt_tree, stmt_list, handler_list, else_list, choice_tree}
 use Rattle.lynx_tree.specs.Trees as trees
 use Rattle.lynx_tree.proofs.Views.{while_tree, accept_tree, try_tree, if_tree, if_else_tree}
 use Rattle.typing_rules.specs.Expressions.{expr_size, value_faults}
@@ -17,7 +17,7 @@ use Rattle.typing_rules.specs.Progress.{first_with}
 use Rattle.typing_rules.specs.Rules.{Fault, Request, Asks, condition_is_bool, names_exception}
 use Rattle.typing_rules.specs.Statements.{stmts_size, stmt_faults, stmts_faults, handlers_faults}
 use Rattle.typing_rules.proofs.Members.{at_place}
-use Rattle.typing_statements.specs.Parts.{choice_tree, accept_faults}
+use Rattle.typing_statements.specs.Parts.{accept_faults}
 use Rattle.typing_statements.proofs.Actions.{found_then}
 use Rattle.typing_statements.proofs.Sizes.{stmt-size}
 

@@ -1,7 +1,7 @@
 -- Parts of statements, and their faults.
 use Rattle.std.specs.Prelude.{ℕ, ◌+◌, List, [], ◌∷◌, ◌++◌, length, Option, None, Some}
 use Rattle.lynx_tree.specs.declared.declaration.TypeName.{TypeName}
-use Rattle.lynx_tree.specs.Trees.{ExprTree, StmtTree, StmtTrees, Assign, AssignMember, If, IfElse}
+use Rattle.lynx_tree.specs.Trees.{ExprTree, StmtTree, Assign, AssignMember}
 use Rattle.typing_rules.specs.Names.{Scope, type_of_variable, arguments_of, known}
 use Rattle.typing_rules.specs.Rules.{Fault, wants, is_variable, is_op, accept_has_names, accept_name_fits}
 use Rattle.typing_rules.specs.Expressions.{expr_faults, value_faults}
@@ -21,11 +21,6 @@ typed_name rule scope at n (t ∷ ts) = is_variable at (scope n) ++ wants rule t
 abbrev pub assigned_tree : List ℕ → Option ExprTree → ExprTree → StmtTree
 assigned_tree n None value = Assign n value
 assigned_tree n (Some index) value = AssignMember n index value
-
--- a choice, with its other side where there is one
-abbrev pub choice_tree : ExprTree → StmtTrees → Option StmtTrees → StmtTree
-choice_tree condition then None = If condition then
-choice_tree condition then (Some otherwise) = IfElse condition then otherwise
 
 -- the faults of an accept up to its body
 abbrev pub accept_faults : Scope → ℕ → List ℕ → List ℕ → List (List ℕ) → List Fault

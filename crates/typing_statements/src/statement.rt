@@ -2,13 +2,12 @@
 
 ghost use Rattle.std.specs.Prelude.{◌≡◌, ◌+◌, ◌<◌, length};
 ghost use Rattle.lynx_tree.specs.Grammar.{stmt_marks, handlers_marks};
-ghost use Rattle.lynx_tree.specs.Trees.{expr_tree, stmt_tree, stmt_list, handler_list, else_list, While};
+ghost use Rattle.lynx_tree.specs.Trees.{expr_tree, stmt_tree, stmt_list, handler_list, else_list, While, choice_tree};
 ghost use Rattle.typing_rules.specs.Expressions.{expr_size, value_faults};
 ghost use Rattle.typing_rules.specs.Meanings.{scope_of};
 ghost use Rattle.typing_rules.specs.Progress.{first_with};
 ghost use Rattle.typing_rules.specs.Rules.{condition_is_bool};
 ghost use Rattle.typing_rules.specs.Statements.{stmts_size, stmt_faults, stmts_faults, handlers_faults};
-ghost use Rattle.typing_statements.specs.Parts.{choice_tree};
 ghost use Rattle.typing_statements.specs.Requests.{request_of};
 
 use crate::action::{

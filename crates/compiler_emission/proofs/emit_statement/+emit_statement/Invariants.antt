@@ -1,6 +1,5 @@
 use Rattle.std.proofs.Common.{◌≡◌, ◌+◌, ◌*◌, ◌++◌, length, drop}
-use Rattle.lynx_tree.specs.Trees.{expr_tree, stmt_tree, stmt_list, handler_list, else_list}
-use Rattle.compiler_emission.specs.Jumps.{choice_tree}
+use Rattle.lynx_tree.specs.Trees.{expr_tree, stmt_tree, stmt_list, handler_list, else_list, choice_tree}
 use Rattle.compiler_emission.specs.Tables.{names_in}
 use Rattle.compiler_emission.proofs.Emitting.{each}
 use Rattle.compiler_emission.proofs.Statements.{stmt_here, handler_here}

@@ -1,8 +1,8 @@
 use Rattle.std.proofs.Common.{take}
-use Rattle.machine_never_stuck.specs.Sound.{Typed}
+use Rattle.lynx_meaning.specs.Values.{HaveTypes}
 use Rattle.machine_values.specs.Told.{values_of}
 use Rattle.machine_tests.proofs.playing.values.Given as goal
 
 -- the values so far have their types
 abbrev pub invariant-loop-kind : goal.invariant-loop-kind
-invariant-loop-kind l = Typed (take l.kind-index l.kinds) (values_of l.values.items)
+invariant-loop-kind l = HaveTypes (take l.kind-index l.kinds) (values_of l.values.items)

@@ -1,13 +1,12 @@
 use Rattle.std.proofs.Common.{◌≡◌, ◌+◌, ◌<◌, ◌++◌, length, drop, subst, refl, sym, ap, ◌∙◌, arith}
 use Rattle.lynx_tree.specs.Grammar.{stmt_marks}
-use Rattle.lynx_tree.specs.Trees.{StmtTree, expr_tree, stmt_tree, stmt_list, handler_list, else_list}
+use Rattle.lynx_tree.specs.Trees.{StmtTree, expr_tree, stmt_tree, stmt_list, handler_list, else_list, choice_tree}
 use Rattle.lynx_tree.specs.Trees as trees
 use Rattle.typing_rules.specs.Meanings.{scope_of, types_known}
 use Rattle.typing_rules.specs.Progress.{first_with}
 use Rattle.typing_rules.specs.Rules.{names_exception}
 use Rattle.typing_rules.specs.Statements.{stmts_size, stmt_faults, stmts_faults, handlers_faults}
 use Rattle.typing_rules.proofs.Progress.{joined, left_first}
-use Rattle.typing_statements.specs.Parts.{choice_tree}
 use Rattle.typing_statements.specs.Requests.{request_of}
 use Rattle.typing_statements.proofs.Sizes.{accept-size, head-size}
 use Rattle.typing_statements.proofs.Cases.{choice_is, while_is, accept_is, try_is, stmt_at, stmt_first, if_else-size, while-size, try-size, choice_least, if_first, if_else_first, body_first, try_first, next_stmt, stmt-split, next_handler, handler-split}

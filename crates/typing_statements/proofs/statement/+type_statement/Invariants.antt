@@ -1,10 +1,9 @@
 use Rattle.std.proofs.Common.{◌≡◌, ◌+◌, ◌*◌, ◌≤◌, length, drop}
 use Rattle.lynx_tree.specs.Grammar.{stmt_marks, handlers_marks}
-use Rattle.lynx_tree.specs.Trees.{expr_tree, stmt_tree, stmt_list, handler_list, else_list, While}
+use Rattle.lynx_tree.specs.Trees.{expr_tree, stmt_tree, stmt_list, handler_list, else_list, While, choice_tree}
 use Rattle.typing_rules.specs.Meanings.{scope_of}
 use Rattle.typing_rules.specs.Progress.{first_with}
 use Rattle.typing_rules.specs.Statements.{stmts_size, stmts_faults, handlers_faults}
-use Rattle.typing_statements.specs.Parts.{choice_tree}
 use Rattle.typing_statements.specs.Requests.{request_of}
 use Rattle.typing_statements.proofs.statement.+type_statement.Given as goal
 

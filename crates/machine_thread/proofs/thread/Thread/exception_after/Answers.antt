@@ -1,7 +1,8 @@
 use Rattle.std.proofs.Common.{arith, ◌≡◌, ℕ, ◌+◌, ◌-◌, List, map, take, drop, ap, sym, ◌∙◌}
 use Rattle.std.proofs.lemmas.List.{drop-map, take-map}
 use Rattle.typing_rules.specs.declared.exception.Exception.{Exception}
-use Rattle.machine_turns.specs.Threads.{Outcome, Standing}
+use Rattle.machine_turns.specs.Threads.{Standing}
+use Rattle.lynx_meaning.specs.Courses.{Outcome}
 use Rattle.machine_thread.specs.Closes.{lasting}
 use Rattle.machine_thread.specs.Told.{outcome_of}
 use Rattle.machine_thread.specs.declared.action.Given.{Given}
