@@ -122,8 +122,13 @@ IsFree n t = slice_get t.threads n ≡ Some None
 -- the module's body begins as the only thread, as number 0
 abbrev pub at_start : List Value → Turns
 at_start globals =
-    record { globals = globals; threads = Some (begun false 0 []) ∷ replicate (most_threads - 1) None; running = None; ready = 0 ∷ [];
-            awaiting = [] }
+    record {
+      globals = globals;
+      threads = Some (begun false 0 []) ∷ replicate (most_threads - 1) None;
+      running = None;
+      ready = 0 ∷ [];
+      awaiting = [];
+    }
 
 -- a thread that connected or accepted is ready again, and any other keeps its turn
 abbrev pub is_ready_after : Option Wanted → Bool
