@@ -1,5 +1,5 @@
 -- Packets that go to kernels that are there have a list to go to.
-use Rattle.std.proofs.Common.{◌≡◌, ℕ, ◌<◌, List, ◌∷◌, length, All, get_or, sym, subst}
+use Rattle.std.proofs.Common.{◌≡◌, ℕ, ◌<◌, List, [], ◌∷◌, length, All, subst, arith}
 use Rattle.std.proofs.lemmas.List.Elements.{All-head, All-tail}
 use Rattle.charlotte_packets.specs.Packets.{what_picture}
 use Rattle.charlotte_packets.specs.declared.packet.Packet.{Packet}
@@ -8,13 +8,10 @@ use Rattle.kernel_named.specs.Named.{GoWithin, IsSentWithin}
 abbrev IsGoing : ℕ → ℕ × Packet → Type 0
 IsGoing n s = IsSentWithin n s.0 (what_picture s.1.what)
 
--- the first, as it is seen
-pub first-there : (n : ℕ) (x : ℕ × Packet) (xs : List (ℕ × Packet)) → GoWithin n xs → 0 < length xs → x ≡ get_or xs 0 x → x.0 < n
-first-there n x xs within some is = subst (λ (s : ℕ × Packet). s.0 < n) (sym is) (within 0 x some).0
-
 -- where all go to one kernel
-pub all-there : (n to : ℕ) (xs : List (ℕ × Packet)) (x : ℕ × Packet) → GoWithin n xs → 0 < length xs → All (λ s. s.0 ≡ to) xs → to < n
-all-there n to xs x within some all = subst (λ k. k < n) (all 0 x some) (within 0 x some).0
+pub all-there : (n to : ℕ) (xs : List (ℕ × Packet)) → GoWithin n xs → 0 < length xs → All (λ s. s.0 ≡ to) xs → to < n
+all-there n to [] within some all = absurd (omega (arith, some))
+all-there n to (x ∷ xs) within some all = subst (λ k. k < n) (all 0 x some) (within 0 x some).0
 
 -- the first, as it is taken, and those behind it
 pub head-there : (n : ℕ) (x : ℕ × Packet) (xs rest : List (ℕ × Packet)) → GoWithin n xs → xs ≡ x ∷ rest → x.0 < n

@@ -94,16 +94,15 @@ module _ (s : Setting) (valid : IsValid s) where
       ap (λ b. map (λ (s : ℕ × Picture). s.1) (cond b (x ∷ filter (λ s. nat_eq to s.0) xs) (filter (λ s. nat_eq to s.0) xs))) (ne_eqb to x.0 (λ same. omega (arith, near.0, far, same)))
       ∙ to_kernel-none to xs far (All-tail IsGoing x xs all)
 
+  addressed-more : (b : Bool) (x : ℕ × Picture) (others : List (ℕ × Picture)) → IsAddressed n x.1 → All (IsAddressed n) (map (λ (s : ℕ × Picture). s.1) others)
+      → All (IsAddressed n) (map (λ (s : ℕ × Picture). s.1) (cond b (x ∷ others) others))
+  addressed-more true x others is all = All-cons (IsAddressed n) x.1 (map (λ (s : ℕ × Picture). s.1) others) is all
+  addressed-more false x others is all = all
+
   to_kernel-addressed : (to : ℕ) (sent : List (ℕ × Picture)) → AreSentWithin n sent → All (IsAddressed n) (to_kernel to sent)
   to_kernel-addressed to [] all = All-nil (IsAddressed n)
-  to_kernel-addressed to (x ∷ xs) all = by (nat_eq to x.0)
-    where
-      others : All (IsAddressed n) (to_kernel to xs)
-      others = to_kernel-addressed to xs (All-tail IsGoing x xs all)
-
-      by : (b : Bool) → All (IsAddressed n) (map (λ (s : ℕ × Picture). s.1) (cond b (x ∷ filter (λ s. nat_eq to s.0) xs) (filter (λ s. nat_eq to s.0) xs)))
-      by true = All-cons (IsAddressed n) x.1 (to_kernel to xs) (All-head IsGoing x xs all).1 others
-      by false = others
+  to_kernel-addressed to (x ∷ xs) all =
+      addressed-more (nat_eq to x.0) x (filter (λ s. nat_eq to s.0) xs) (All-head IsGoing x xs all).1 (to_kernel-addressed to xs (All-tail IsGoing x xs all))
 
   rest-addressed : (ps : List Picture) → All (IsAddressed n) ps → All (IsAddressed n) (rest ps)
   rest-addressed [] all = all
