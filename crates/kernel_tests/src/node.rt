@@ -4,7 +4,7 @@ ghost use Rattle.charlotte_calls.specs.Setting.{IsValid};
 
 use charlotte_calls::{Answer, Call, EndId, Items, Pid, ServiceStep, Setting};
 use charlotte_packets::{Effect, Packet};
-use end_table::{Lent, Table};
+use end_table::Lent;
 use kernel_core::{Kernel, NotTaken};
 use std::alloc::{AllocError, Global};
 use std::collections::VecDeque;
@@ -151,20 +151,12 @@ impl Node {
         Ok(())
     }
 
-    /// The receive that asks an end that is here.
-    pub(crate) fn wanted(&self, end: EndId) -> Option<u32> {
-        wanted(self.table(), end)
-    }
-
-    fn table(&self) -> &Table {
-        self.kernel.table()
-    }
-}
-
-fn wanted(table: &Table, end: EndId) -> Option<u32> {
-    match table.lend(end) {
-        Lent::Here(living) => Some(living.value().want),
-        _ => None,
+    /// Which receive asks an end, where that is here.
+    pub(crate) fn tell_asked(&self, end: EndId) -> Result<String, Fail> {
+        match self.kernel.table().lend(end) {
+            Lent::Here(living) => Ok(format!(in self.alloc; "asked {}", living.value().want)?),
+            _ => Ok(String::from_str(self.alloc, "not here")?),
+        }
     }
 }
 

@@ -3,4 +3,4 @@ use Rattle.sent_within.proofs.Runs.{within}
 use Rattle.sent_within.proofs.law.sent_within.Goals as goal
 
 pub returns : goal.returns
-returns c = within
+returns c s es valid run = within s valid es run
