@@ -1,26 +1,21 @@
 -- A kernel as its parts, before and after an event.
+use Rattle.std.proofs.Common.{◌<◌, ◌≡◌, ℕ, nat_eq, List, length, length-set, slice_set, map, max, get_or, cond, refl, ap, sym, subst, ◌∙◌}
+use Rattle.std.proofs.lemmas.List.{length-map}
+use Rattle.std.proofs.Math.Seq.{map-set_same}
 use Rattle.charlotte_calls.specs.declared.names.Pid.{Pid}
 use Rattle.charlotte_packets.specs.declared.picture.Picture.{Picture}
 use Rattle.charlotte_packets.specs.declared.work.Effect.{Effect}
-use Rattle.end_table.specs.Table.{entries}
-use Rattle.end_table.specs.Table.{entries}
+use Rattle.end_table.specs.Table.{TableView, entries}
+use Rattle.kernel_core.specs.Consistent.{AreConsistentOf}
 use Rattle.kernel_core.specs.Started.{takes_addressed}
 use Rattle.kernel_core.specs.State.{KernelView, state_of}
-use Rattle.kernel_process.specs.Parts.{process_state, process_at, with_parts}
-use Rattle.kernel_core.specs.State.{KernelView, state_of}
-use Rattle.kernel_process.specs.Parts.{process_state, process_at, ended, with_parts}
-use Rattle.kernel_core.specs.State.{KernelView, state_of}
-use Rattle.kernel_process.specs.Parts.{process_state, process_at, with_parts}
-use Rattle.kernel_process.specs.declared.process.ControlBlock.{ControlBlock}
-use Rattle.kernel_step.specs.Kernel.{Process, closes}
-use Rattle.kernel_step.specs.Kernel.{with_process, process_of}
-use Rattle.kernel_step.specs.Kernel.{begins, closes, next_stamp, take_step}
-use Rattle.std.proofs.Common.{◌<◌, ◌≡◌, ℕ, List, map, sym, ap, subst, ◌∙◌}
-use Rattle.std.proofs.Common.{◌≡◌, ℕ, List, map, max, ap, ◌∙◌}
-use Rattle.std.proofs.Common.{◌≡◌, ℕ, ◌<◌, nat_eq, List, length, slice_set, map, ap, sym, subst, ◌∙◌, get_or, cond}
-use Rattle.std.proofs.lemmas.List.{length-map}
+use Rattle.kernel_process.proofs.ActiveSets.{tells_same}
 use Rattle.kernel_process.proofs.OneProcess.{process_at-at, process_at-set}
-
+use Rattle.kernel_process.specs.Active.{started_ends}
+use Rattle.kernel_process.specs.Parts.{process_state, process_at, ended, with_parts}
+use Rattle.kernel_process.specs.declared.process.ControlBlock.{ControlBlock}
+use Rattle.kernel_sound.specs.Sound.{IsSound}
+use Rattle.kernel_step.specs.Kernel.{Process, begins, closes, next_stamp, process_of, take_step, with_process}
 -- a kernel in the state that its parts have
 pub state-parts : (v : KernelView) (xs : List ControlBlock) → map process_state xs ≡ v.processes → with_parts (entries v.table) xs (state_of v) ≡ state_of v
 unfolding with_parts state_of
@@ -85,3 +80,15 @@ state_of-set v w xs i y p is now at below = ap state_of now ∙ λ j. record (st
   where
     within : i < length xs
     within = subst (λ n. n < length xs) (sym at) (subst (λ n. p.0 < n) (ap length (sym is) ∙ length-map xs process_state) below)
+
+-- what a kernel keeps, where a process changes and its set of ends does not
+pub consistent-set : (kernels made i : ℕ) (t : TableView) (xs : List ControlBlock) (y d : ControlBlock) → started_ends y ≡ started_ends (get_or xs i d) → AreConsistentOf kernels t xs made → AreConsistentOf kernels t (slice_set xs i y) made
+consistent-set kernels made i t xs y d same is =
+    record {
+      consistent = record {
+        sound = subst (λ n. IsSound t.kernel made n (entries t)) (sym (length-set xs i y)) is.consistent.sound;
+        active = tells_same (entries t) (entries t) xs (slice_set xs i y) is.consistent.active (map-set_same started_ends xs i y d same) (λ p e. refl);
+      };
+      number = is.number;
+      names = is.names;
+    }

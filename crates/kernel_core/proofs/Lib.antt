@@ -4,6 +4,7 @@ pub mod Callings
 pub mod Fresh
 pub mod Happened
 pub mod Kernels
+pub mod Naming
 pub mod Overwritten
 pub mod Performs
 pub mod Reserved

@@ -1,6 +1,7 @@
 -- What is true of the parts of every kernel.
-use Rattle.std.specs.Prelude.{◌≡◌, ℕ, List, length, map}
+use Rattle.std.specs.Prelude.{◌≡◌, ℕ, ◌<◌, List, length, map}
 use Rattle.end_table.specs.Table.{TableView, entries}
+use Rattle.kernel_named.specs.Named.{TableNamesBelow}
 use Rattle.kernel_sound.specs.Sound.{IsSound}
 use Rattle.kernel_process.specs.declared.process.ControlBlock.{ControlBlock}
 use Rattle.kernel_process.specs.Active.{Tells, started_ends}
@@ -11,6 +12,15 @@ use Rattle.kernel_core.specs.declared.state.State.{State}
 pub record AreConsistent (t : TableView) (xs : List ControlBlock) (made : ℕ) : Type 0 where
   pub sound : IsSound t.kernel made (length xs) (entries t)
   pub active : Tells (entries t) xs
+
+-- and one of so many kernels, which names no other
+pub record AreConsistentOf (kernels : ℕ) (t : TableView) (xs : List ControlBlock) (made : ℕ) : Type 0 where
+  pub consistent : AreConsistent t xs made
+  pub number : t.kernel < kernels
+  pub names : TableNamesBelow kernels (entries t)
+
+abbrev pub IsConsistentOf : ℕ → State → Type 0
+IsConsistentOf kernels s = AreConsistentOf kernels s.table s.processes s.made
 
 abbrev pub IsConsistent : State → Type 0
 IsConsistent s = AreConsistent s.table s.processes s.made

@@ -1,8 +1,9 @@
-ghost use Rattle.std.specs.Prelude.{◌≡◌, ◌<◌, ◌↔◌, List, length, None, IfOk, IfErr, OnErr, IsTrue};
+ghost use Rattle.std.specs.Prelude.{◌≡◌, ◌<◌, ◌↔◌, List, length, None, IfOk, IfErr, OnErr, IsTrue, option_copied};
 ghost use Rattle.charlotte_packets.specs.Packets.{packet_picture};
 ghost use Rattle.charlotte_calls.specs.Setting.{IsValid};
 ghost use Rattle.charlotte_calls.specs.declared.names.EndId.{EndId};
 ghost use Rattle.end_table.specs.Table.{entries};
+ghost use Rattle.kernel_named.specs.Named.{GoWithin};
 ghost use Rattle.kernel_step.specs.Calls.{IsCallWith};
 ghost use Rattle.kernel_step.specs.Kernel.{call_step, take_step, process_of, without_answer};
 ghost use Rattle.kernel_step.specs.Start.{start_kernel};
@@ -38,13 +39,13 @@ impl Model for Kernel {
     ghost use Rattle.std.specs.Prelude.{map};
     ghost use Rattle.kernel_core.specs.State.{KernelView};
     ghost use Rattle.kernel_process.specs.Parts.{process_state};
-    ghost use Rattle.kernel_core.specs.Consistent.{IsConsistent};
+    ghost use Rattle.kernel_core.specs.Consistent.{IsConsistentOf};
 
     ghost Value = { KernelView };
 
     ghost view = { λ k. record { kernels = k.kernels; version = k.version; table = k.state.table; processes = map process_state k.state.processes; made = k.state.made; stamp = k.stamp } };
 
-    ghost invariant = { λ k. IsConsistent k.state };
+    ghost invariant = { λ k. IsConsistentOf k.kernels k.state };
 }
 
 impl Kernel {
@@ -54,6 +55,7 @@ impl Kernel {
         requires below { id < setting.now.kernels }
         ensures state { IfOk result (λ k. state_of k ≡ start_kernel setting.now id) }
         ensures processes { IfOk result (λ k. length k.processes ≡ length setting.now.homes) }
+        ensures kernels { IfOk result (λ k. k.kernels ≡ setting.now.kernels) }
     {
         let (table, made) = wire_links(alloc, id, setting)?;
         let processes = Processes::fresh(alloc, setting.homes.len())?;
@@ -84,7 +86,9 @@ impl Kernel {
         ensures step { IfOk result (λ effect. (mine : List EndId) × IsCallWith p (entries self.old.table) mine call
             × (ended (state_of self.new) effect ≡ call_step (state_of self.old) p mine call)) }
         ensures stamp { IfOk result (λ effect. effect.stamp ≡ self.new.stamp) }
+        ensures there { IfOk result (λ effect. GoWithin self.new.kernels effect.packets.items) }
         ensures same { OnErr result (state_of self.new ≡ state_of self.old) }
+        ensures kernels { self.new.kernels ≡ self.old.kernels }
         ensures processes { length self.new.processes ≡ length self.old.processes }
     {
         self.ask(&Request { p, call })
@@ -98,7 +102,9 @@ impl Kernel {
         ensures step { IfOk result (λ effect. (mine : List EndId) × IsCallWith request.now.p (entries self.old.table) mine request.now.call
             × (ended (state_of self.new) effect ≡ call_step (state_of self.old) request.now.p mine request.now.call)) }
         ensures stamp { IfOk result (λ effect. effect.stamp ≡ self.new.stamp) }
+        ensures there { IfOk result (λ effect. GoWithin self.new.kernels effect.packets.items) }
         ensures same { OnErr result (state_of self.new ≡ state_of self.old) }
+        ensures kernels { self.new.kernels ≡ self.old.kernels }
         ensures processes { length self.new.processes ≡ length self.old.processes }
     {
         self.step(request)
@@ -111,7 +117,9 @@ impl Kernel {
         ensures step { IfOk result (λ effect. (mine : List EndId) × IsCallWith request.now.p (entries self.old.table) mine request.now.call
             × (ended (state_of self.new) effect ≡ call_step (without_answer request.now.p (state_of self.old)) request.now.p mine request.now.call)) }
         ensures stamp { IfOk result (λ effect. effect.stamp ≡ self.new.stamp) }
+        ensures there { IfOk result (λ effect. GoWithin self.new.kernels effect.packets.items) }
         ensures same { OnErr result (state_of self.new ≡ state_of self.old) }
+        ensures kernels { self.new.kernels ≡ self.old.kernels }
         ensures processes { length self.new.processes ≡ length self.old.processes }
     {
         let called = self.step(request);
@@ -126,6 +134,7 @@ impl Kernel {
         ensures state { IfOk called.now (λ effect. state_of self.new ≡ unanswered p effect.answered.items (state_of self.old)) }
         ensures same { OnErr called.now (self.new ≡ self.old) }
         ensures stamp { self.new.stamp ≡ self.old.stamp }
+        ensures kernels { self.new.kernels ≡ self.old.kernels }
         ensures processes { length self.new.processes ≡ length self.old.processes }
     {
         match called {
@@ -145,7 +154,9 @@ impl Kernel {
         ensures step { IfOk result (λ effect. (mine : List EndId) × IsCallWith request.now.p (entries self.old.table) mine request.now.call
             × (ended (state_of self.new) effect ≡ call_step (state_of self.old) request.now.p mine request.now.call)) }
         ensures stamp { IfOk result (λ effect. effect.stamp ≡ self.new.stamp) }
+        ensures there { IfOk result (λ effect. GoWithin self.new.kernels effect.packets.items) }
         ensures same { OnErr result (state_of self.new ≡ state_of self.old) }
+        ensures kernels { self.new.kernels ≡ self.old.kernels }
         ensures processes { length self.new.processes ≡ length self.old.processes }
     {
         let stamp = stamp_after(self.stamp);
@@ -154,13 +165,16 @@ impl Kernel {
         called
     }
 
-    /// Takes a packet from a kernel. Every packet, sensible or not, is taken by the rules of its kind. For want of memory
-    /// the packet comes back, and the kernel is as before.
+    /// Takes a packet from a kernel that is there. Every packet, sensible or not, is taken by the rules of its kind. For want of
+    /// memory the packet comes back, and the kernel is as before.
     pub fn take(&mut self, from: u8, packet: Packet) -> Result<Effect, NotTaken>
+        requires from { from < self.old.kernels }
         ensures step { IfOk result (λ effect. ended (state_of self.new) effect ≡ take_step (state_of self.old) from (packet_picture packet)) }
         ensures stamp { IfOk result (λ effect. effect.stamp ≡ self.new.stamp) }
+        ensures there { IfOk result (λ effect. GoWithin self.new.kernels effect.packets.items) }
         ensures back { IfErr result (λ e. e.packet ≡ packet) }
         ensures same { OnErr result (state_of self.new ≡ state_of self.old) }
+        ensures kernels { self.new.kernels ≡ self.old.kernels }
         ensures processes { length self.new.processes ≡ length self.old.processes }
     {
         let mut packet = packet;
@@ -174,10 +188,13 @@ impl Kernel {
     /// of it. For want of memory it is as before, and so is the kernel.
     #[inline(always)]
     pub fn take_from(&mut self, from: u8, packet: &mut Packet) -> Result<Effect, NoMemory>
+        requires from { from < self.old.kernels }
         ensures step { IfOk result (λ effect. ended (state_of self.new) effect ≡ take_step (state_of self.old) from (packet_picture packet.old)) }
         ensures stamp { IfOk result (λ effect. effect.stamp ≡ self.new.stamp) }
+        ensures there { IfOk result (λ effect. GoWithin self.new.kernels effect.packets.items) }
         ensures back { OnErr result (packet.new ≡ packet.old) }
         ensures same { OnErr result (state_of self.new ≡ state_of self.old) }
+        ensures kernels { self.new.kernels ≡ self.old.kernels }
         ensures processes { length self.new.processes ≡ length self.old.processes }
     {
         let stamp = stamp_after(greater(self.stamp, packet.stamp));
@@ -241,11 +258,20 @@ impl Kernel {
         matches!(self.process(p).phase, Phase::Running)
     }
 
+    /// The standing answer of a process, lent: it goes on standing. `None` exactly where none stands.
+    pub fn standing_answer(&self, p: Pid) -> Option<&Answer>
+        requires { p.0 < length self.now.processes }
+        ensures { option_copied result ≡ (process_of p (state_of self.now)).answer }
+    {
+        self.process(p).answer.as_ref()
+    }
+
     /// Takes the standing answer of a process.
     pub fn answer(&mut self, p: Pid) -> Option<Answer>
         requires { p.0 < length self.old.processes }
         ensures answer { result ≡ (process_of p (state_of self.old)).answer }
         ensures state { state_of self.new ≡ without_answer p (state_of self.old) }
+        ensures kernels { self.new.kernels ≡ self.old.kernels }
         ensures processes { length self.new.processes ≡ length self.old.processes }
     {
         let process = self.state.processes.at_mut(usize::from(p.0));
@@ -256,6 +282,7 @@ impl Kernel {
     pub fn forget_answer(&mut self, p: Pid)
         requires { p.0 < length self.old.processes }
         ensures state { state_of self.new ≡ without_answer p (state_of self.old) }
+        ensures kernels { self.new.kernels ≡ self.old.kernels }
         ensures processes { length self.new.processes ≡ length self.old.processes }
     {
         let process = self.state.processes.at_mut(usize::from(p.0));

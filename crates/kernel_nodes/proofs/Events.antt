@@ -40,12 +40,13 @@ pub record IsSentBy (effect : Effect) (noted : Noted) (old new : Node) : Type 0 
 
 -- the packets of an event were sent
 pub sent-after : (old new : Node) (k : KernelView) (effect : Effect) (o : Outcome) → IsEffectOf k effect o → new.kernel ≡ k → length k.processes ≡ length old.kernel.processes
-    → length new.sent.items ≡ length old.sent.items → ((to : ℕ) → sent_to new to ≡ sent_to old to ++ to_kernel to (map sent_picture effect.packets.items)) → IsAfter o old new
-sent-after old new k effect o is kernel processes lists sent =
+    → k.kernels ≡ old.kernel.kernels → length new.sent.items ≡ length old.sent.items → ((to : ℕ) → sent_to new to ≡ sent_to old to ++ to_kernel to (map sent_picture effect.packets.items)) → IsAfter o old new
+sent-after old new k effect o is kernel processes kernels lists sent =
     record {
       kernel = ap state_of kernel ∙ is.kernel;
       sent = λ to. sent to ∙ ap (λ qs. sent_to old to ++ to_kernel to qs) is.packets;
       processes = ap (λ (x : KernelView). length x.processes) kernel ∙ processes;
+      kernels = ap (λ (x : KernelView). x.kernels) kernel ∙ kernels;
       lists = lists;
     }
 

@@ -1,5 +1,5 @@
 -- The lists of packets that a node sent, while one of them changes.
-use Rattle.std.proofs.Common.{◌≡◌, ◌≢◌, ◌⊎◌, inl, inr, ℕ, ◌<◌, true, false, nat_eq, List, [], ◌∷◌, ◌++◌, length, map, set, get_or, ap, ◌∙◌, sym, refl, append_assoc, append-nil, Global, All, zero, suc}
+use Rattle.std.proofs.Common.{◌≡◌, ◌≢◌, ◌⊎◌, inl, inr, ℕ, ◌<◌, ◌≤◌, arith, true, false, nat_eq, List, [], ◌∷◌, ◌++◌, length, map, set, get_or, ap, ◌∙◌, sym, refl, append_assoc, append-nil, Global, All, zero, suc}
 use Rattle.std.specs.Prelude.{slice_index_or}
 use Rattle.std.specs.List.{filter}
 use Rattle.std.specs.declared.collections.VecDeque.{VecDeque}
@@ -114,6 +114,12 @@ sent_in-others lists t n list at q other = map-set_other pictures lists t q list
 -- the list to a kernel as it is read
 pub sent_in-read : (lists : Lists) (t n : ℕ) (list : VecDeque (ℕ × Packet) Global) → t ≡ n → t < length lists → list ≡ get_or lists t list → map picture_in list.items ≡ sent_in lists n
 sent_in-read lists t n list at below is = sym (map-read pictures lists t list [] below is) ∙ ap (sent_in lists) at
+
+-- there is no list to a kernel that is not there
+pub sent_in-away : (lists : Lists) (to : ℕ) → length lists ≤ to → sent_in lists to ≡ []
+sent_in-away [] to far = refl
+sent_in-away (x ∷ xs) zero far = absurd (omega (arith, far))
+sent_in-away (x ∷ xs) (suc to) far = sent_in-away xs to (omega (arith, far))
 
 abbrev pub IsEmptyList : VecDeque (ℕ × Packet) Global → Type 0
 IsEmptyList list = list.items ≡ []

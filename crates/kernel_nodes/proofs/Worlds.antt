@@ -79,7 +79,7 @@ with_sent s ns k node new below at all kernel lists =
         | inr e ↦ ap (λ b. cond b (state_of new.kernel) ((world_of s ns).kernel q)) e.0
       ];
       packets_are = λ from to. packets-set s ns k new from to below;
-      nodes = All-set (IsNodeOf s) ns k new (record { processes = ap (λ (x : KernelView). length x.processes) kernel ∙ was.processes; lists = lists ∙ was.lists }) all;
+      nodes = All-set (IsNodeOf s) ns k new (record { processes = ap (λ (x : KernelView). length x.processes) kernel ∙ was.processes; kernels = ap (λ (x : KernelView). x.kernels) kernel ∙ was.kernels; lists = lists ∙ was.lists }) all;
       count = length-set ns k new;
     }
   where
@@ -93,8 +93,9 @@ record IsWithKernel (s : Setting) (ns ms : List Node) (k : ℕ) (x : Kernel) : T
   pub nodes : All (IsNodeOf s) ms
   pub count : length ms ≡ length ns
 
-with_kernel : (s : Setting) (ns : List Node) (k : ℕ) (node new : Node) → k < length ns → node ≡ get_or ns k node → All (IsNodeOf s) ns → length new.kernel.processes ≡ length node.kernel.processes → new.sent ≡ node.sent → IsWithKernel s ns (set ns k new) k (state_of new.kernel)
-with_kernel s ns k node new below at all processes sent =
+with_kernel : (s : Setting) (ns : List Node) (k : ℕ) (node new : Node) → k < length ns → node ≡ get_or ns k node → All (IsNodeOf s) ns → length new.kernel.processes ≡ length node.kernel.processes → new.kernel.kernels ≡ node.kernel.kernels
+    → new.sent ≡ node.sent → IsWithKernel s ns (set ns k new) k (state_of new.kernel)
+with_kernel s ns k node new below at all processes kernels sent =
     record {
       kernel = λ q. kernel-set s ns k new q below;
       packets_are = λ from to. packets-set s ns k new from to below ∙ elim (eqb_tells from k) as (λ _. cond (nat_eq from k) (sent_to new to) ((world_of s ns).packets from to) ≡ (world_of s ns).packets from to) [
@@ -102,7 +103,7 @@ with_kernel s ns k node new below at all processes sent =
             ∙ sym (packets_at s ns k node below at to) ∙ ap (λ i. (world_of s ns).packets i to) (sym x.1)
         | inr x ↦ ap (λ b. cond b (sent_to new to) ((world_of s ns).packets from to)) x.0
       ];
-      nodes = All-set (IsNodeOf s) ns k new (record { processes = processes ∙ was.processes; lists = ap (λ lists. length lists.items) sent ∙ was.lists }) all;
+      nodes = All-set (IsNodeOf s) ns k new (record { processes = processes ∙ was.processes; kernels = kernels ∙ was.kernels; lists = ap (λ lists. length lists.items) sent ∙ was.lists }) all;
       count = length-set ns k new;
     }
   where
@@ -141,7 +142,7 @@ event_happens s ns ms mid new e noted are below at is event noted_is =
     was = node_at s ms k mid is.nodes below at
 
     here : IsNodeOf s new
-    here = record { processes = event.processes ∙ was.processes; lists = event.lists ∙ was.lists }
+    here = record { processes = event.processes ∙ was.processes; kernels = event.kernels ∙ was.kernels; lists = event.lists ∙ was.lists }
 
     kernel : (q : ℕ) → (world_of s (set ms k new)).kernel q ≡ cond (nat_eq q k) o.kernel (w.kernel q)
     kernel q = kernel-set s ms k new q below ∙ ap (λ (x : Kernel). cond (nat_eq q k) x ((world_of s ms).kernel q)) event.kernel ∙ elim (eqb_tells q k) as (λ _. cond (nat_eq q k) o.kernel ((world_of s ms).kernel q) ≡ cond (nat_eq q k) o.kernel (w.kernel q)) [
@@ -271,6 +272,13 @@ all-but-first : (list : List (ℕ × Packet)) → map picture_in (drop 1 list) �
 all-but-first [] = refl
 all-but-first (sent ∷ others) = refl
 
+-- once the node of kernel i lent a list, each node is one of the setting still
+pub after-lent : (s : Setting) (ns : List Node) (i j : ℕ) (n0 n1 m0 : Node) → AreNodes s ns → i < length ns → n0 ≡ get_or ns i n0 → n1.kernel ≡ n0.kernel → length n1.sent.items ≡ length n0.sent.items → j < length ns
+    → m0 ≡ get_or (set ns i n1) j m0 → IsNodeOf s m0
+after-lent s ns i j n0 n1 m0 are below at kernel lists below_to at_taker =
+    let one = with_sent s ns i n0 n1 below at are.nodes kernel lists in
+    node_at s (set ns i n1) j m0 one.nodes (subst (λ m. j < m) (sym one.count) below_to) at_taker
+
 -- node i lends its list of packets to kernel `to`, node j takes the first of it, and the list goes back; at last node j sends
 pub record IsTaking (ns : List Node) (to i j : ℕ) (list left : List (ℕ × Packet)) (n0 n1 m0 m1 p0 p1 r0 : Node) : Type 0 where
   pub below : i < length ns
@@ -283,6 +291,7 @@ pub record IsTaking (ns : List Node) (to i j : ℕ) (list left : List (ℕ × Pa
   pub takes_at : m0 ≡ get_or (set ns i n1) j m0
   pub takes : m1.sent ≡ m0.sent
   pub takes_processes : length m1.kernel.processes ≡ length m0.kernel.processes
+  pub takes_kernels : m1.kernel.kernels ≡ m0.kernel.kernels
   pub left_is : left ≡ drop 1 list
   pub gets_at : p0 ≡ get_or (set (set ns i n1) j m1) i p0
   pub gets_list : sent_to p1 to ≡ map picture_in left
@@ -308,7 +317,7 @@ module _ (s : Setting) (ns : List Node) (from to : ℕ) (are : AreNodes s ns) (l
   one = with_sent s ns from n0 n1 is.below is.lends_at are.nodes is.lends is.lends_lists
 
   two : IsWithKernel s lent took to (state_of m1.kernel)
-  two = with_kernel s lent to m0 m1 (subst (λ m. to < m) (sym one.count) is.below_to) is.takes_at one.nodes is.takes_processes is.takes
+  two = with_kernel s lent to m0 m1 (subst (λ m. to < m) (sym one.count) is.below_to) is.takes_at one.nodes is.takes_processes is.takes_kernels is.takes
 
   below_two : from < length took
   below_two = subst (λ m. from < m) (sym (two.count ∙ one.count)) is.below
@@ -318,6 +327,12 @@ module _ (s : Setting) (ns : List Node) (from to : ℕ) (are : AreNodes s ns) (l
 
   below_three : to < length back
   below_three = subst (λ m. to < m) (sym (three.count ∙ two.count ∙ one.count)) is.below_to
+
+  -- the kernel that took the packet names as many as the node that sends has lists
+  takes-lists : m1.kernel.kernels ≡ length r0.sent.items
+  takes-lists =
+      is.takes_kernels ∙ (node_at s lent to m0 one.nodes (subst (λ m. to < m) (sym one.count) is.below_to) is.takes_at).kernels
+      ∙ sym (node_at s back to r0 three.nodes below_three is.sends_at).lists
 
   inner : (t : ℕ) → sent_to p1 t ≡ cond (nat_eq t to) (rest (w.packets from t)) (w.packets from t)
   inner t = elim (eqb_tells t to) as (λ _. sent_to p1 t ≡ cond (nat_eq t to) (rest (w.packets from t)) (w.packets from t)) [
@@ -365,6 +380,7 @@ module _ (s : Setting) (ns : List Node) (from to : ℕ) (are : AreNodes s ns) (l
         kernel = ap state_of sent.kernel ∙ same ∙ about.kernel;
         sent = λ t. sent.sent t ∙ ap (λ qs. sent_to r0 t ++ to_kernel t qs) about.packets;
         processes = ap (λ (x : KernelView). length x.processes) sent.kernel;
+        kernels = ap (λ (x : KernelView). x.kernels) sent.kernel;
         lists = sent.lists;
       }
 
@@ -388,3 +404,11 @@ pub take_happens_at : (s : Setting) (ns : List Node) (from to i j : ℕ) → Are
 take_happens_at s ns from to i j are is_i is_j =
     subst (λ m. TakeHappens s ns from to i m) is_j (subst (λ m. TakeHappens s ns from to m to) is_i
     (λ list left n0 n1 m0 m1 p0 p1 r0 r1 first others effect noted is. take_happens s ns from to are list left n0 n1 m0 m1 p0 p1 r0 is r1 first others effect noted))
+
+abbrev ListsFit : Setting → List Node → ℕ → ℕ → ℕ → ℕ → Type 0
+ListsFit s ns from to i j =
+    (list left : List (ℕ × Packet)) (n0 n1 m0 m1 p0 p1 r0 : Node) → IsTaking ns to i j list left n0 n1 m0 m1 p0 p1 r0 → m1.kernel.kernels ≡ length r0.sent.items
+
+pub takes-lists_at : (s : Setting) (ns : List Node) (from to i j : ℕ) → AreNodes s ns → from ≡ i → to ≡ j → ListsFit s ns from to i j
+takes-lists_at s ns from to i j are is_i is_j =
+    subst (λ m. ListsFit s ns from to i m) is_j (subst (λ m. ListsFit s ns from to m to) is_i (λ list left n0 n1 m0 m1 p0 p1 r0 is. takes-lists s ns from to are list left n0 n1 m0 m1 p0 p1 r0 is))

@@ -20,10 +20,11 @@ picture_in sent = packet_picture sent.1
 abbrev pub sent_to : Node → ℕ → List Picture
 sent_to node to = slice_index_or (map (λ list. map picture_in list.items) node.sent.items) to []
 
--- a node of a setting: it has a place for each process and a list for each number of a kernel
+-- a node of a setting: it has a place for each process and a list for each kernel
 pub record IsNodeOf (s : Setting) (node : Node) : Type 0 where
   pub processes : length node.kernel.processes ≡ length s.homes
-  pub lists : length node.sent.items ≡ 256
+  pub kernels : node.kernel.kernels ≡ s.kernels
+  pub lists : length node.sent.items ≡ s.kernels
 
 -- what is noted of an event is what it gives
 pub record IsNotedOf (o : Outcome) (noted : Noted) : Type 0 where
@@ -35,6 +36,7 @@ pub record IsAfter (o : Outcome) (old new : Node) : Type 0 where
   pub kernel : state_of new.kernel ≡ o.kernel
   pub sent : (to : ℕ) → sent_to new to ≡ sent_to old to ++ to_kernel to o.packets
   pub processes : length new.kernel.processes ≡ length old.kernel.processes
+  pub kernels : new.kernel.kernels ≡ old.kernel.kernels
   pub lists : length new.sent.items ≡ length old.sent.items
 
 -- ---- all nodes, by the numbers of their kernels

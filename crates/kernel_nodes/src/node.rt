@@ -5,6 +5,7 @@ ghost use Rattle.charlotte_calls.specs.declared.names.EndId.{EndId};
 ghost use Rattle.charlotte_packets.specs.declared.packet.Packet.{Packet as APacket};
 ghost use Rattle.end_table.specs.Table.{entries};
 ghost use Rattle.kernel_core.specs.State.{ended, state_of};
+ghost use Rattle.kernel_named.specs.Named.{GoWithin};
 ghost use Rattle.kernel_step.specs.Calls.{IsCallWith};
 ghost use Rattle.kernel_step.specs.Kernel.{call_step, take_step, process_of, without_answer};
 ghost use Rattle.kernel_step.specs.Progress.{sent_picture};
@@ -25,12 +26,9 @@ use std::mem;
 #[derive(Drop)]
 pub(crate) struct Node {
     pub(crate) kernel: Kernel,
-    /// The packets that were not taken yet, oldest first, as its events gave them: a list for each number that a kernel may have.
+    /// The packets that were not taken yet, oldest first, as its events gave them: a list for each kernel that there is.
     pub(crate) sent: Vec<VecDeque<(u8, Packet)>>,
 }
-
-/// How many numbers a packet may be addressed to.
-const NUMBERS: usize = 256;
 
 /// For how many packets a list without any keeps its room. A longer one, which an exit filled, is let go, and its memory serves other kernels.
 const MOST_KEPT: usize = 64;
@@ -46,7 +44,7 @@ impl Node {
     {
         Ok(Node {
             kernel: Kernel::start(alloc, id, setting)?,
-            sent: empty_lists(alloc)?,
+            sent: empty_lists(alloc, setting.kernels)?,
         })
     }
 
@@ -54,7 +52,7 @@ impl Node {
     pub(crate) fn ask(&mut self, request: &Request) -> Result<Noted, NoMemory>
         requires process { request.now.p.0 < length self.old.kernel.processes }
         requires running { (process_of request.now.p (state_of self.old.kernel)).phase ≡ Running }
-        requires lists { length self.old.sent.items ≡ 256 }
+        requires lists { length self.old.sent.items ≡ self.old.kernel.kernels }
         ensures after { IfOk result (λ noted. (mine : List EndId) × IsCallWith request.now.p (entries self.old.kernel.table) mine request.now.call
             × IsNotedOf (call_step (without_answer request.now.p (state_of self.old.kernel)) request.now.p mine request.now.call) noted
             × IsAfter (call_step (without_answer request.now.p (state_of self.old.kernel)) request.now.p mine request.now.call) self.old self.new) }
@@ -70,11 +68,14 @@ impl Node {
         from: u8,
         waiting: &mut VecDeque<(u8, Packet)>,
     ) -> Result<Effect, NoMemory>
+        requires from { from < self.old.kernel.kernels }
         requires some { (sent : ℕ × APacket) × (others : List (ℕ × APacket)) × (waiting.old.items ≡ sent ∷ others) }
         ensures step { IfOk result (λ effect. (sent : ℕ × APacket) (others : List (ℕ × APacket)) → waiting.old.items ≡ sent ∷ others
             → ended (state_of self.new.kernel) effect ≡ take_step (state_of self.old.kernel) from (picture_in sent)) }
         ensures left { OnOk result (waiting.new.items ≡ drop 1 waiting.old.items) }
         ensures stamp { IfOk result (λ effect. effect.stamp ≡ self.new.kernel.stamp) }
+        ensures there { IfOk result (λ effect. GoWithin self.new.kernel.kernels effect.packets.items) }
+        ensures kernels { self.new.kernel.kernels ≡ self.old.kernel.kernels }
         ensures processes { length self.new.kernel.processes ≡ length self.old.kernel.processes }
         ensures sent { self.new.sent ≡ self.old.sent }
     {
@@ -86,7 +87,7 @@ impl Node {
     /// Takes out the list of the packets to a kernel.
     #[inline(always)]
     pub(crate) fn lift(&mut self, to: u8) -> VecDeque<(u8, Packet)>
-        requires { length self.old.sent.items ≡ 256 }
+        requires { to < length self.old.sent.items }
         ensures list { map picture_in result.items ≡ sent_to self.old to }
         ensures others { (q : ℕ) → q ≢ to → sent_to self.new q ≡ sent_to self.old q }
         ensures kernel { self.new.kernel ≡ self.old.kernel }
@@ -100,7 +101,7 @@ impl Node {
     /// Puts a list in the place of that of the packets to a kernel.
     #[inline(always)]
     pub(crate) fn lower(&mut self, to: u8, list: VecDeque<(u8, Packet)>)
-        requires { length self.old.sent.items ≡ 256 }
+        requires { to < length self.old.sent.items }
         ensures list { sent_to self.new to ≡ map picture_in list.items }
         ensures others { (q : ℕ) → q ≢ to → sent_to self.new q ≡ sent_to self.old q }
         ensures kernel { self.new.kernel ≡ self.old.kernel }
@@ -120,7 +121,7 @@ impl Node {
     /// Sends the packets of an event, and gives the kernel its lists back, but for that of the steps.
     #[inline(always)]
     pub(crate) fn send(&mut self, effect: Effect) -> Result<Noted, NoMemory>
-        requires { length self.old.sent.items ≡ 256 }
+        requires { GoWithin (length self.old.sent.items) effect.packets.items }
         ensures noted { IfOk result (λ noted. (noted.stamp ≡ effect.stamp) × (noted.steps ≡ effect.steps)) }
         ensures kernel { self.new.kernel ≡ self.old.kernel }
         ensures sent { OnOk result ((to : ℕ) → sent_to self.new to ≡ sent_to self.old to ++ to_kernel to (map sent_picture effect.packets.items)) }
@@ -143,7 +144,7 @@ impl Node {
     /// Sends packets, and gives their emptied list back. Most events have none.
     #[inline(always)]
     fn send_all(&mut self, packets: Vec<(u8, Packet)>) -> Result<Vec<(u8, Packet)>, NoMemory>
-        requires { length self.old.sent.items ≡ 256 }
+        requires { GoWithin (length self.old.sent.items) packets.items }
         ensures kernel { self.new.kernel ≡ self.old.kernel }
         ensures sent { OnOk result ((to : ℕ) → sent_to self.new to ≡ sent_to self.old to ++ to_kernel to (map sent_picture packets.items)) }
         ensures lists { length self.new.sent.items ≡ length self.old.sent.items }
@@ -157,7 +158,7 @@ impl Node {
     /// Sends packets, and gives an emptied list back. Those that all go where none waits are not moved: their list changes places with the empty one.
     #[inline(never)]
     fn send_some(&mut self, packets: Vec<(u8, Packet)>) -> Result<Vec<(u8, Packet)>, NoMemory>
-        requires { length self.old.sent.items ≡ 256 }
+        requires { GoWithin (length self.old.sent.items) packets.items }
         ensures kernel { self.new.kernel ≡ self.old.kernel }
         ensures sent { OnOk result ((to : ℕ) → sent_to self.new to ≡ sent_to self.old to ++ to_kernel to (map sent_picture packets.items)) }
         ensures lists { length self.new.sent.items ≡ length self.old.sent.items }
@@ -170,7 +171,7 @@ impl Node {
 
     /// Packets to one kernel are sent where none waits: their list is sent whole.
     fn send_whole(&mut self, to: u8, packets: Vec<(u8, Packet)>) -> Vec<(u8, Packet)>
-        requires lists { length self.old.sent.items ≡ 256 }
+        requires there { to < length self.old.sent.items }
         requires together { All (λ sent. sent.0 ≡ to) packets.items }
         requires none { sent_to self.old to ≡ [] }
         ensures kernel { self.new.kernel ≡ self.old.kernel }
@@ -182,7 +183,7 @@ impl Node {
     }
 
     fn send_many(&mut self, packets: Vec<(u8, Packet)>) -> Result<Vec<(u8, Packet)>, NoMemory>
-        requires { length self.old.sent.items ≡ 256 }
+        requires { GoWithin (length self.old.sent.items) packets.items }
         ensures kernel { self.new.kernel ≡ self.old.kernel }
         ensures sent { OnOk result ((to : ℕ) → sent_to self.new to ≡ sent_to self.old to ++ to_kernel to (map sent_picture packets.items)) }
         ensures lists { length self.new.sent.items ≡ length self.old.sent.items }
@@ -195,7 +196,7 @@ impl Node {
         &mut self,
         mut packets: VecDeque<(u8, Packet)>,
     ) -> Result<VecDeque<(u8, Packet)>, NoMemory>
-        requires { length self.old.sent.items ≡ 256 }
+        requires { GoWithin (length self.old.sent.items) packets.items }
         ensures kernel { self.new.kernel ≡ self.old.kernel }
         ensures sent { OnOk result ((to : ℕ) → sent_to self.new to ≡ sent_to self.old to ++ to_kernel to (map sent_picture packets.items)) }
         ensures lists { length self.new.sent.items ≡ length self.old.sent.items }
@@ -213,9 +214,11 @@ impl Node {
 
     /// The oldest packet to a kernel that was not taken yet, lent.
     pub(crate) fn first(&self, to: u8) -> Option<&Packet>
-        requires { length self.now.sent.items ≡ 256 }
         ensures { option_map packet_picture (option_copied result) ≡ slice_get (sent_to self.now to) 0 }
     {
+        if usize::from(to) >= self.sent.len() {
+            return None;
+        }
         match self.sent[usize::from(to)].front() {
             Some((_, packet)) => Some(packet),
             None => None,
@@ -232,7 +235,8 @@ impl Node {
 
 /// The kernel to which these packets go, where all go to one.
 fn target_of_all(packets: &[(u8, Packet)]) -> Option<u8>
-    ensures { IfSome result (λ to. All (λ sent. sent.0 ≡ to) packets.now) }
+    ensures all { IfSome result (λ to. All (λ sent. sent.0 ≡ to) packets.now) }
+    ensures some { IfSome result (λ to. 0 < length packets.now) }
 {
     let (first, _) = packets.first()?;
     if packets.iter().all(|(to, _)| to == first) {
@@ -254,11 +258,11 @@ fn kept(list: VecDeque<(u8, Packet)>) -> VecDeque<(u8, Packet)>
     }
 }
 
-fn empty_lists(alloc: Global) -> Result<Vec<VecDeque<(u8, Packet)>>, NoMemory>
-    ensures { IfOk result (λ lists. (length lists.items ≡ 256) × All (λ list. list.items ≡ []) lists.items) }
+fn empty_lists(alloc: Global, kernels: u8) -> Result<Vec<VecDeque<(u8, Packet)>>, NoMemory>
+    ensures { IfOk result (λ lists. (length lists.items ≡ kernels) × All (λ list. list.items ≡ []) lists.items) }
 {
-    let mut lists = Vec::with_capacity(alloc, NUMBERS)?;
-    for _ in 0..NUMBERS {
+    let mut lists = Vec::with_capacity(alloc, usize::from(kernels))?;
+    for _ in 0..kernels {
         lists.push(VecDeque::new(alloc))?;
     }
     Ok(lists)

@@ -30,7 +30,7 @@ const NOWHERE: EndId = EndId {
     side: Side::B,
 };
 
-/// What happens to the kernel: a process asks, it takes its oldest packet, or one that no kernel sent.
+/// What happens to the kernel: a process asks, it takes its oldest packet, or one that no kernel sent; or one of its ends is looked at.
 #[derive(Clone, Copy)]
 enum Act {
     Make,
@@ -44,6 +44,8 @@ enum Act {
     Take,
     /// A want of the receive 3 for this end, from this kernel, with this stamp.
     Stray(u64, EndId, u8),
+    /// Which receive asks this end.
+    Look(EndId),
 }
 
 /// By which process, and what is told of the event.
@@ -63,14 +65,18 @@ const A_MESSAGE: &[Row] = &[
 const STRAYS: &[Row] = &[
     (Act::Stray(41, NOWHERE, 0), P0, "42 rr"),
     (Act::Stray(7, A, 1), P0, "43 rr"),
+    (Act::Look(A), P0, "asked 0"),
+    (Act::Stray(7, A, 0), P0, "44 rr"),
+    (Act::Look(A), P0, "asked 3"),
 ];
 
 /// A link is made, and an end is destroyed.
 const ENDS: &[Row] = &[
-    (Act::Stray(7, A, 0), P0, "44 rr"),
     (Act::Make, P0, "45 rr p0 Made 1 .Make"),
     (Act::Destroy(A), P0, "46 rr p0 Ok >Gone .Destroy"),
     (Act::Destroy(A), P0, "47 rr p0 Refused(NoEnd) .Refuse"),
+    (Act::Look(A), P0, "not here"),
+    (Act::Look(NOWHERE), P0, "not here"),
 ];
 
 /// The answers that stand after the calls, behind a message that was taken.
@@ -130,7 +136,7 @@ fn call_of(act: Act) -> Result<Call, Fail> {
         Act::Wait => Ok(Call::Wait),
         Act::Print => Ok(Call::Print { bytes: hello()? }),
         Act::Exit => Ok(Call::Exit),
-        Act::Take | Act::Stray(..) => Err("no call".into()),
+        Act::Take | Act::Stray(..) | Act::Look(_) => Err("no call".into()),
     }
 }
 
@@ -142,6 +148,7 @@ fn happens(node: &mut Node, act: Act, p: Pid) -> Result<String, Fail> {
             let what = What::Want { to, w, at, hops };
             node.take_this(Packet { stamp, what })
         }
+        Act::Look(end) => node.tell_asked(end),
         _ => node.call(p, call_of(act)?),
     }
 }
@@ -158,26 +165,22 @@ fn each_gives(node: &mut Node, rows: &[Row]) -> Result<(), Fail> {
     Ok(())
 }
 
+/// The rows of all these, one after the other.
+fn all_give(node: &mut Node, all: &[&[Row]]) -> Result<(), Fail> {
+    for rows in all {
+        each_gives(node, rows)?;
+    }
+    Ok(())
+}
+
 #[test]
 fn strays_are_dropped(rt: HostRuntime) -> Result<(), Fail> {
     let mut node = Node::start(rt.alloc())?;
-    each_gives(&mut node, A_MESSAGE)?;
-    each_gives(&mut node, STRAYS)?;
-    holds(node.wanted(A) == Some(0), "the receive that is wanted")?;
-    each_gives(&mut node, &ENDS[..1])?;
-    holds(node.wanted(A) == Some(3), "the receive that is wanted")?;
-    each_gives(&mut node, &ENDS[1..])?;
-    holds(
-        (node.wanted(NOWHERE), node.wanted(A)) == (None, None),
-        "ends that are not here",
-    )
+    all_give(&mut node, &[A_MESSAGE, STRAYS, ENDS])
 }
 
 #[test]
 fn calls_are_answered(rt: HostRuntime) -> Result<(), Fail> {
     let mut node = Node::start(rt.alloc())?;
-    for rows in [A_MESSAGE, ANSWERS, CANCELS] {
-        each_gives(&mut node, rows)?;
-    }
-    Ok(())
+    all_give(&mut node, &[A_MESSAGE, ANSWERS, CANCELS])
 }

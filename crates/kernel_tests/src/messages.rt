@@ -35,7 +35,7 @@ enum Act {
 /// How the end begins, the call, and what is told of the end and of what the call adds.
 type Row = (Begin, Act, &'static str);
 
-const ROWS: [Row; 10] = [
+const ROWS: &[Row] = &[
     // The receive 1 asks the opposite end by a want.
     (
         (0, Send::Idle, Inward::Idle),
@@ -129,19 +129,34 @@ fn perform_ready(table: &mut Table, act: Act, out: &mut Work)
     }
 }
 
+/// Makes a call. What is told of the end and of what the call adds.
+fn performed(alloc: Global, table: &mut Table, act: Act) -> Result<String, Fail> {
+    let mut out = ample(alloc)?;
+    perform(table, act, &mut out)?;
+    Ok(told(alloc, table, END, &out)?)
+}
+
 fn gives(alloc: Global, (begin, act, want): Row) -> Result<(), Fail> {
     let mut table = kept(alloc, begin)?;
-    let mut out = ample(alloc)?;
-    perform(&mut table, act, &mut out)?;
-    let text = told(alloc, &table, END, &out)?;
+    let text = performed(alloc, &mut table, act)?;
     holds(text.as_str() == want, want)
+}
+
+fn each_gives(alloc: Global, rows: &[Row]) -> Result<(), Fail> {
+    for row in rows {
+        gives(alloc, *row)?;
+    }
+    Ok(())
+}
+
+/// The room of an action on an end without a message.
+fn room_is_ample(alloc: Global) -> Result<(), Fail> {
+    let table = kept(alloc, (0, Send::Idle, Inward::Idle))?;
+    holds(room(&table, END).packets == 10, "the room of an action")
 }
 
 #[test]
 fn each_call_of_cancel_core(rt: HostRuntime) -> Result<(), Fail> {
-    for row in ROWS {
-        gives(rt.alloc(), row)?;
-    }
-    let room = room(&kept(rt.alloc(), ROWS[0].0)?, END);
-    holds(room.packets == 10, "the room of an action")
+    each_gives(rt.alloc(), ROWS)?;
+    room_is_ample(rt.alloc())
 }

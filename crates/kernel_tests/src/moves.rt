@@ -50,7 +50,7 @@ const MATCHED: Begin = (0, Send::Matched(4), Inward::Idle);
 /// How the end begins, and the calls.
 type Row = (Begin, &'static [Step]);
 
-const ROWS: [Row; 9] = [
+const ROWS: &[Row] = &[
     // The carried end comes with its message, and tells its opposite.
     (
         POSTED,
@@ -214,7 +214,8 @@ fn gives(alloc: Global, table: &mut Table, (act, end, want, way): Step) -> Resul
     holds(text.as_str() == want && route(table, end) == way, want)
 }
 
-fn each_gives(alloc: Global, (begin, steps): Row) -> Result<(), Fail> {
+/// Makes the calls of a row in order.
+fn performed(alloc: Global, (begin, steps): Row) -> Result<(), Fail> {
     let mut table = kept(alloc, begin)?;
     for step in steps {
         gives(alloc, &mut table, *step)?;
@@ -222,11 +223,21 @@ fn each_gives(alloc: Global, (begin, steps): Row) -> Result<(), Fail> {
     Ok(())
 }
 
+fn each_performed(alloc: Global, rows: &[Row]) -> Result<(), Fail> {
+    for row in rows {
+        performed(alloc, *row)?;
+    }
+    Ok(())
+}
+
+/// The room of an action on an end without a message.
+fn room_is_ample(alloc: Global) -> Result<(), Fail> {
+    let table = kept(alloc, IDLE)?;
+    holds(room(&table, END).packets == 9, "the room of an action")
+}
+
 #[test]
 fn each_call_of_move_core(rt: HostRuntime) -> Result<(), Fail> {
-    for row in ROWS {
-        each_gives(rt.alloc(), row)?;
-    }
-    let room = room(&kept(rt.alloc(), IDLE)?, END);
-    holds(room.packets == 9, "the room of an action")
+    each_performed(rt.alloc(), ROWS)?;
+    room_is_ample(rt.alloc())
 }

@@ -4,7 +4,7 @@ ghost use Rattle.charlotte_calls.specs.Setting.{IsValid};
 
 use charlotte_calls::{Answer, Call, EndId, Items, Pid, ServiceStep, Setting};
 use charlotte_packets::{Effect, Packet};
-use end_table::{Lent, Table};
+use end_table::Lent;
 use kernel_core::{Kernel, NotTaken};
 use std::alloc::{AllocError, Global};
 use std::collections::VecDeque;
@@ -18,6 +18,7 @@ pub(crate) struct Node {
     kernel: Kernel,
     flying: VecDeque<Packet>,
     ghost counted: { 2 ≡ length kernel.processes },
+    ghost there: { 0 < kernel.kernels },
 }
 
 /// One kernel with two processes and a wire between them.
@@ -113,9 +114,23 @@ impl Node {
     fn push_answers(&mut self, text: &mut String, answered: &[Pid]) -> Result<(), Fail> {
         for p in answered {
             if p.0 < 2 {
-                push_answer(text, p.0, self.kernel.answer(*p))?;
+                self.push_taken(text, *p)?;
             }
         }
+        Ok(())
+    }
+
+    /// Takes the standing answer of a process, which is the one that is lent before, and adds it. None is lent after.
+    fn push_taken(&mut self, text: &mut String, p: Pid) -> Result<(), Fail>
+        requires { p.0 < 2 }
+    {
+        let lent = shown(self.alloc, self.kernel.standing_answer(p))?;
+        let answer = self.kernel.answer(p);
+        let taken = shown(self.alloc, answer.as_ref())?;
+        if lent.as_str() != taken.as_str() || self.kernel.standing_answer(p).is_some() {
+            return Err("another answer is lent than taken".into());
+        }
+        push_answer(text, p.0, answer)?;
         Ok(())
     }
 
@@ -136,20 +151,20 @@ impl Node {
         Ok(())
     }
 
-    /// The receive that asks an end that is here.
-    pub(crate) fn wanted(&self, end: EndId) -> Option<u32> {
-        wanted(self.table(), end)
-    }
-
-    fn table(&self) -> &Table {
-        self.kernel.table()
+    /// Which receive asks an end, where that is here.
+    pub(crate) fn tell_asked(&self, end: EndId) -> Result<String, Fail> {
+        match self.kernel.table().lend(end) {
+            Lent::Here(living) => Ok(format!(in self.alloc; "asked {}", living.value().want)?),
+            _ => Ok(String::from_str(self.alloc, "not here")?),
+        }
     }
 }
 
-fn wanted(table: &Table, end: EndId) -> Option<u32> {
-    match table.lend(end) {
-        Lent::Here(living) => Some(living.value().want),
-        _ => None,
+/// An answer, where one stands.
+fn shown(alloc: Global, answer: Option<&Answer>) -> Result<String, AllocError> {
+    match answer {
+        None => format!(in alloc; "none"),
+        Some(answer) => format!(in alloc; "{answer:?}"),
     }
 }
 

@@ -4,6 +4,7 @@ use Rattle.std.proofs.lemmas.Bool.{eq-eqb, ne_eqb}
 use Rattle.std.proofs.lemmas.Bool.Decides.{eqb_tells}
 use Rattle.std.proofs.lemmas.List.Elements.{All-head}
 use Rattle.charlotte_packets.specs.declared.picture.Picture.{Picture}
+use Rattle.charlotte_calls.specs.Setting.{IsValid}
 use Rattle.charlotte_calls.specs.declared.setting.Setting.{Setting}
 use Rattle.kernel_step.specs.Kernel.{Kernel}
 use Rattle.kernel_world.proofs.Packets.{happens-packets}
@@ -13,6 +14,7 @@ use Rattle.kernel_world.specs.declared.entry.Placed.{Placed}
 use Rattle.local_runs.specs.Local.{LocalEvent, MakesCall, TakesPacket, IsLocalEvent, IsLocalRun, AreLocalRuns, entries_of, entry_of, gives, takes_from, sends_to}
 use Rattle.local_runs.proofs.Kernels.{few_packet}
 use Rattle.local_runs.proofs.Together.{IsUnderWay, event-noted, event_of, got-first, got-other, happens-kernel, of_kernel-other, of_kernel-own, owns, sends-first, takes-not}
+use Rattle.sent_within.proofs.Runs.{AreWithin, happens-within, start-within, under_way-within}
 use Rattle.transcript_record.proofs.Worlds.{is_event, told-happens, told-start}
 use Rattle.transcript_record.specs.Told.{IsToldPacket, IsToldWorld}
 
@@ -98,26 +100,30 @@ apart-more s w k o es made there is a =
       | inr x ↦ of_kernel-other q here others x.1 ∙ a.entries q ∙ ap (λ y. entries_of y (made q)) (kernel-other w k o q there x.1) ∙ ap (entries_of (w.kernel q)) (sym (with-other k o made q x.1))
     ]
 
--- a packet that is there is the first, and can be told
-first-there : (s : Setting) (n : ℕ) (w : World) (k from : ℕ) (ps : List Picture) → n < 2 ^ 64 - 1 → IsToldWorld s n w → w.packets from k ≡ ps → ps ≢ [] → (q : Picture) × IsUnderWay w.packets k (TakesPacket from q) × IsLocalEvent s k (w.kernel k) (TakesPacket from q)
-first-there s n w k from [] early told is some = absurd (some refl)
-first-there s n w k from (q ∷ qs) early told is some =
+-- a packet that is there is the first, comes from a kernel that is there, and can be told
+first-there : (s : Setting) (valid : IsValid s) (n : ℕ) (w : World) (k from : ℕ) (ps : List Picture) → n < 2 ^ 64 - 1 → IsToldWorld s n w → AreWithin s.kernels w → w.packets from k ≡ ps → ps ≢ []
+    → (q : Picture) × IsUnderWay w.packets k (TakesPacket from q) × IsLocalEvent s k (w.kernel k) (TakesPacket from q)
+first-there s valid n w k from [] early told within is some = absurd (some refl)
+first-there s valid n w k from (q ∷ qs) early told within is some =
     let first : IsToldPacket s.version n q = All-head (IsToldPacket s.version n) q qs (subst (λ ps. All (IsToldPacket s.version n) ps) is (told.packets from k)) in
     let sent : q.stamp ≤ n = first.stamp in
     let stamp : (w.kernel k).stamp ≤ n = told.stamps k in
-    (q, (qs, is), (few_packet s.version q.what first.few, omega arith))
+    let there = under_way-within s valid w within from k (λ none. some (sym is ∙ none)) in
+    (q, (qs, is), (subst (λ m. from < m) (sym (within.kernels k)) there.0, few_packet s.version q.what first.few, omega arith))
 
-apart : (s : Setting) (n : ℕ) (w : World) (es : List Event) → n + length es < 2 ^ 64 - 1 → IsToldWorld s n w → AreAllowed s w es → (made : ℕ → List LocalEvent) × AreApart s w es made
-apart s n w [] early told allowed = ((λ k. []), record { each = λ k. tt; packets = λ from to. sym (append-nil (w.packets from to)); entries = λ k. refl })
-apart s n w (Calls k p c mine ∷ es) early told allowed =
-    let later = apart s (n + 1) (happens w (Calls k p c mine)) es (omega (arith, early)) (told-happens s n w (Calls k p c mine) (is_event s n w (Calls k p c mine) (omega (arith, early)) allowed.0 told) told) allowed.1 in
+apart : (s : Setting) (valid : IsValid s) (n : ℕ) (w : World) (es : List Event) → n + length es < 2 ^ 64 - 1 → IsToldWorld s n w → AreWithin s.kernels w → AreAllowed s w es → (made : ℕ → List LocalEvent) × AreApart s w es made
+apart s valid n w [] early told within allowed = ((λ k. []), record { each = λ k. tt; packets = λ from to. sym (append-nil (w.packets from to)); entries = λ k. refl })
+apart s valid n w (Calls k p c mine ∷ es) early told within allowed =
+    let e : Event = Calls k p c mine in
+    let later = apart s valid (n + 1) (happens w e) es (omega (arith, early)) (told-happens s n w e (is_event s n w e (omega (arith, early)) allowed.0 told) told) (happens-within s valid w e within allowed.0) allowed.1 in
     (with_first k (MakesCall p c mine) later.0, apart-more s w k (MakesCall p c mine) es later.0 tt allowed.0 later.1)
-apart s n w (Takes k from ∷ es) early told allowed =
-    let first = first-there s n w k from (w.packets from k) (omega (arith, early)) told refl allowed.0 in
-    let later = apart s (n + 1) (happens w (Takes k from)) es (omega (arith, early)) (told-happens s n w (Takes k from) (is_event s n w (Takes k from) (omega (arith, early)) allowed.0 told) told) allowed.1 in
+apart s valid n w (Takes k from ∷ es) early told within allowed =
+    let e : Event = Takes k from in
+    let first = first-there s valid n w k from (w.packets from k) (omega (arith, early)) told within refl allowed.0 in
+    let later = apart s valid (n + 1) (happens w e) es (omega (arith, early)) (told-happens s n w e (is_event s n w e (omega (arith, early)) allowed.0 told) told) (happens-within s valid w e within allowed.0) allowed.1 in
     (with_first k (TakesPacket from first.0) later.0, apart-more s w k (TakesPacket from first.0) es later.0 first.1 first.2 later.1)
 
-pub run-apart : (s : Setting) (es : List Event) → IsRun s es → AreLocalRuns s es
-run-apart s es run =
-    let a = apart s 0 (start s) es (let few : length es ≤ 2 ^ 31 = run.few in omega (arith, few)) (told-start s) run.allowed in
+pub run-apart : (s : Setting) (es : List Event) → IsValid s → IsRun s es → AreLocalRuns s es
+run-apart s es valid run =
+    let a = apart s valid 0 (start s) es (let few : length es ≤ 2 ^ 31 = run.few in omega (arith, few)) (told-start s) (start-within s valid) run.allowed in
     record { made = a.0; fit = record { each = a.1.each; packets = a.1.packets }; entries = a.1.entries }

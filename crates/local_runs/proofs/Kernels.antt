@@ -58,13 +58,13 @@ same-stamp n w o g = subst (λ m. Gives 2 m w o) (sym g.stamp) g
 -- what it gives can be told in version 2, whatever its own is
 pub local-gives : (s : Setting) (k : ℕ) (x : Kernel) (o : LocalEvent) → IsTold 2 x → IsLocalEvent s k x o → Gives 2 (gives x o).kernel.stamp (happened o) (gives x o)
 local-gives s k x (MakesCall p c mine) told is = same-stamp _ _ _ (call_step-gives 2 (without_answer p x) p mine c (few_call s.version c is.3) (told-without_answer 2 x p told))
-local-gives s k x (TakesPacket from q) told is = same-stamp _ _ _ (take_step-gives 2 (Took from q) x from q told is.0)
+local-gives s k x (TakesPacket from q) told is = same-stamp _ _ _ (take_step-gives 2 (Took from q) x from q told is.1)
 
 -- the taking of a packet is later than its sending
 pub get-later : (s : Setting) (k : ℕ) (x : Kernel) (from : ℕ) (q : Picture) → IsTold 2 x → IsLocalEvent s k x (TakesPacket from q) → q.stamp < (take_step x from q).kernel.stamp
 get-later s k x from q told is =
-    let at : (take_step x from q).kernel.stamp ≡ next_stamp (max x.stamp q.stamp) = (take_step-gives 2 (Took from q) x from q told is.0).stamp in
-    let early : max x.stamp q.stamp < 2 ^ 64 - 1 = is.1 in
+    let at : (take_step x from q).kernel.stamp ≡ next_stamp (max x.stamp q.stamp) = (take_step-gives 2 (Took from q) x from q told is.1).stamp in
+    let early : max x.stamp q.stamp < 2 ^ 64 - 1 = is.2 in
     omega arith
 
 -- ---- what the events send

@@ -58,12 +58,12 @@ takes_from from [] = []
 takes_from from (MakesCall p c mine ∷ os) = takes_from from os
 takes_from from (TakesPacket j q ∷ os) = if nat_eq from j then q ∷ takes_from from os else takes_from from os
 
--- A process that runs calls its own kernel. A packet carries at most eight values, as its type says whatever the version, and neither
--- its stamp nor the kernel's is the greatest number
+-- A process that runs calls its own kernel. A packet comes from a kernel that is there and carries at most eight values, as its type says
+-- whatever the version, and neither its stamp nor the kernel's is the greatest number
 abbrev pub IsLocalEvent : Setting → ℕ → Kernel → LocalEvent → Type 0
 IsLocalEvent s k x (MakesCall p c mine) =
     (p.0 < length s.homes) × (home s p ≡ k) × ((process_of p x).phase ≡ Running) × IsCallOf s.version c × IsCallWith p x.table mine c
-IsLocalEvent s k x (TakesPacket from q) = HasFewPacket 2 q.what × (max x.stamp q.stamp < 2 ^ 64 - 1)
+IsLocalEvent s k x (TakesPacket from q) = (from < x.kernels) × HasFewPacket 2 q.what × (max x.stamp q.stamp < 2 ^ 64 - 1)
 
 abbrev pub IsLocalRun : Setting → ℕ → Kernel → List LocalEvent → Type 0
 IsLocalRun s k x [] = Unit {0}

@@ -23,7 +23,7 @@ pub fn local_runs_are_lawful()
         → ((k : ℕ) → of_kernel k merged ≡ entries_of (start_kernel s k) (made k)) → length merged ≤ 2 ^ 31 → IsLawfulRecord s merged }
 {}
 
-/// Each run of the world is so: the events of its kernels are local runs that fit together.
+/// Each run of the world of a valid setting is so: the events of its kernels are local runs that fit together.
 pub fn run_is_local_runs()
-    ensures { (s : Setting) (es : List Event) → IsRun s es → AreLocalRuns s es }
+    ensures { (s : Setting) (es : List Event) → IsValid s → IsRun s es → AreLocalRuns s es }
 {}

@@ -1,7 +1,7 @@
 -- Equality, as `==` tells it.
 use Rattle.std.specs.Prelude.{Bool}
 use Rattle.charlotte_calls.specs.contracts.names.EndIdPartialEq.TheImpl as of_ends
-use Rattle.charlotte_calls.specs.contracts.picture.MovingPicturePartialEq.TheImpl as of_values
+use Rattle.charlotte_packets.specs.contracts.picture.MovingPicturePartialEq.TheImpl as of_values
 use Rattle.charlotte_calls.specs.declared.names.EndId.{EndId}
 use Rattle.charlotte_packets.specs.declared.picture.MovingPicture.{MovingPicture}
 

@@ -3,10 +3,11 @@ use Rattle.std.proofs.Common.{◌≡◌, ◌<◌, length, map, slice_set, Option
 use Rattle.charlotte_calls.specs.declared.calls.Answer.{Answer}
 use Rattle.kernel_step.specs.Kernel.{Process, process_of, with_process, without_answer}
 use Rattle.kernel_core.specs.State.{KernelView, state_of}
+use Rattle.kernel_process.specs.Active.{started_ends}
 use Rattle.kernel_process.specs.Parts.{process_state}
 use Rattle.kernel_process.specs.declared.process.ControlBlock.{ControlBlock}
 use Rattle.kernel_core.specs.contracts.kernel.Kernel.{the_view}
-use Rattle.kernel_core.proofs.Kernels.{state_of-at, state_of-set}
+use Rattle.kernel_core.proofs.Kernels.{consistent-set, state_of-at, state_of-set}
 use Rattle.kernel_core.proofs.kernel.Kernel.answer.Goals as goal
 
 pub returns-clause-answer : goal.returns-clause-answer
@@ -36,3 +37,7 @@ returns-clause-state c = subst (λ v. state_of after ≡ without_answer c.args.p
     left : process_state now ≡ record (process_of c.args.p (state_of before)) { answer = None }
     left = ap {A = Option Answer} {B = Process} (λ a. record (process_state found) { answer = a }) c.take.ensures.after
         ∙ ap {A = Process} {B = Process} (λ x. record x { answer = None }) (ap process_state (c.at_mut-process.ensures.value c.at_mut-process.result.now) ∙ sym (state_of-at before c.self.inside.state.processes found c.from.result c.args.p refl c.from.ensures below))
+
+pub invariant_of-self : goal.invariant_of-self
+invariant_of-self c =
+    consistent-set _ _ c.from.result c.self.inside.state.table c.self.inside.state.processes (record c.at_mut-process.result.now { answer = c.take.new.self }) c.at_mut-process.result.now (ap started_ends (c.at_mut-process.ensures.value c.at_mut-process.result.now)) c.self.invariant

@@ -1,8 +1,9 @@
 -- The event is that of the kernel's parts.
-use Rattle.std.proofs.Common.{◌≡◌, map, ap, subst, ◌∙◌, refl}
+use Rattle.std.proofs.Common.{◌≡◌, ◌<◌, map, ap, subst, sym, ◌∙◌, refl}
 use Rattle.charlotte_packets.specs.Packets.{packet_picture}
 use Rattle.kernel_core.proofs.Happened.{both_err, both_ok}
 use Rattle.kernel_core.proofs.Kernels.{state-same, take-by_parts}
+use Rattle.kernel_core.proofs.Naming.{take-goes, take-names}
 use Rattle.kernel_core.specs.State.{KernelView, state_of}
 use Rattle.kernel_process.specs.Parts.{process_state, ended}
 use Rattle.kernel_core.specs.contracts.kernel.Kernel.{the_view}
@@ -36,3 +37,17 @@ returns-clause-same c =
     both_err c.take_event-taken.result
     (λ same stamp. state-same (the_view c.self.inside) _ refl refl same.kernel same.entries same.states same.made stamp ∙ ap state_of c.self.view_is)
     c.take_event-taken.ensures.same c.stamp_with-self-inside.ensures.kept
+
+pub returns-clause-there : goal.returns-clause-there
+returns-clause-there c =
+    take-goes (the_view c.self.inside) c.args.self.now _ c.self.view_is (c.self.invariant.number, c.self.invariant.names) c.take_event-taken.result c.args.from (packet_picture c.args.packet.now) c.requires.from (returns-clause-step c)
+
+pub invariant_of-self : goal.invariant_of-self
+invariant_of-self c =
+    record {
+      consistent = c.take_event-taken.ensures.keeps.consistent;
+      number = subst (λ k. k < c.self.inside.kernels) (sym c.take_event-taken.ensures.keeps.kernel) c.self.invariant.number;
+      names =
+          take-names (the_view c.self.inside) c.args.self.now _ c.self.view_is (c.self.invariant.number, c.self.invariant.names) c.take_event-taken.result c.args.from (packet_picture c.args.packet.now) c.requires.from (returns-clause-step c)
+          (returns-clause-same c);
+    }
