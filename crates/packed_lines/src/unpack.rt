@@ -1,14 +1,26 @@
 //! Giving the text of packed lines.
 ghost use Rattle.std.specs.Prelude.{◌≡◌, ◌+◌, ◌≤◌, ◌<◌, ◌++◌, OnOk, length, vec_len, vec_capacity};
-ghost use Rattle.charlotte_text.specs.Spelling.{hex_digit};
-ghost use Rattle.written_journal.specs.Packed.{packed_piece_at, piece_text, unpacked};
+ghost use Rattle.packed_lines.specs.Packed.{given, packed_piece_at, piece_text, unpacked};
 
 use crate::piece::{ESCAPE, Piece, piece_of, stands};
 use charlotte_calls::NoMemory;
+use charlotte_text::hex_digit;
+
+/// Appends the text of a line that is kept so.
+#[inline(always)]
+pub fn push_line(out: &mut Vec<u8>, kept: &[u8], packed: bool) -> Result<(), NoMemory>
+    ensures { OnOk result (out.new.items ≡ out.old.items ++ given packed kept.now) }
+{
+    if packed {
+        return push_unpacked(out, kept);
+    }
+    out.extend_from_slice(kept)?;
+    Ok(())
+}
 
 /// Appends the text that was packed so.
 #[inline(never)]
-pub(crate) fn push_unpacked(out: &mut Vec<u8>, packed: &[u8]) -> Result<(), NoMemory>
+fn push_unpacked(out: &mut Vec<u8>, packed: &[u8]) -> Result<(), NoMemory>
     ensures { OnOk result (out.new.items ≡ out.old.items ++ unpacked packed.now) }
 {
     let Some(room) = packed.len().checked_mul(3) else {
@@ -46,18 +58,7 @@ fn push_piece(out: &mut Vec<u8>, piece: Piece)
         out.push_reserved(piece.byte);
     } else {
         out.push_reserved(b'%');
-        out.push_reserved(digit(piece.byte / 16));
-        out.push_reserved(digit(piece.byte % 16));
-    }
-}
-
-fn digit(value: u8) -> u8
-    requires { value < 16 }
-    ensures { result ≡ hex_digit value }
-{
-    if value <= 9 {
-        b'0' + value
-    } else {
-        b'A' - 10 + value
+        out.push_reserved(hex_digit(piece.byte / 16));
+        out.push_reserved(hex_digit(piece.byte % 16));
     }
 }

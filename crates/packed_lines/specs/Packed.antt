@@ -4,7 +4,7 @@ use Rattle.std.specs.Prelude.{◌*◌, ◌/◌, ◌%◌, if◌then◌else◌, Li
 use Rattle.std.specs.List.{concat, list_all}
 use Rattle.charlotte_text.specs.Spelling.{hex_digit}
 use Rattle.charlotte_text.specs.Reading.{hex_value}
-use Rattle.written_journal.specs.declared.piece.Piece.{Piece}
+use Rattle.packed_lines.specs.declared.piece.Piece.{Piece}
 
 -- ---- pieces: a byte that stands for itself, or one that is spelled by a code
 

@@ -1,7 +1,7 @@
 use Rattle.std.proofs.Common.{◌≡◌, ◌++◌, take, map}
-use Rattle.written_journal.specs.Lines.{step_lines}
-use Rattle.written_journal.specs.Packed.{kept_text, line_note}
-use Rattle.written_journal.proofs.kept_lines.KeptLines.push_steps.Given as goal
+use Rattle.packed_lines.specs.Lines.{step_lines}
+use Rattle.packed_lines.specs.Packed.{kept_text, line_note}
+use Rattle.packed_lines.proofs.kept_lines.KeptLines.push_steps.Given as goal
 
 abbrev pub invariant-loop-step : goal.invariant-loop-step
 invariant-loop-step l = record {

@@ -1,6 +1,6 @@
 //! What texts are made of, packed or not.
 ghost use Rattle.std.specs.Prelude.{◌≡◌};
-ghost use Rattle.written_journal.specs.Packed.{is_alone, stands};
+ghost use Rattle.packed_lines.specs.Packed.{is_alone, stands};
 
 /// Behind it a byte of a packed text is what it is not alone. No word of a transcript has this letter, but for what processes say.
 pub(crate) const ESCAPE: u8 = b'Z';

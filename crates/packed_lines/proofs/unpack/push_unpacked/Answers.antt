@@ -1,9 +1,9 @@
 use Rattle.std.proofs.Common.{◌≡◌, ◌∙◌, ℕ, ◌<◌, List, ◌++◌, length, ap, sym, arith}
 use Rattle.charlotte_text.proofs.Bytes.{is_left}
-use Rattle.written_journal.specs.Packed.{unpacked, piece_text}
-use Rattle.written_journal.specs.declared.piece.Piece.{Piece}
-use Rattle.written_journal.proofs.Packed.{at-end, moved-on, unpacked-first, unpacked-nil}
-use Rattle.written_journal.proofs.unpack.push_unpacked.Goals as goal
+use Rattle.packed_lines.specs.Packed.{unpacked, piece_text}
+use Rattle.packed_lines.specs.declared.piece.Piece.{Piece}
+use Rattle.packed_lines.proofs.Packed.{at-end, moved-on, unpacked-first, unpacked-nil}
+use Rattle.packed_lines.proofs.unpack.push_unpacked.Goals as goal
 
 pub loop-rest-preserved : goal.loop-rest-preserved
 loop-rest-preserved c =

@@ -1,11 +1,11 @@
 //! Packing lines that spell coded bytes: a code of three bytes becomes one byte or two.
 ghost use Rattle.std.specs.Prelude.{◌≡◌, ◌+◌, ◌≤◌, ◌<◌, ◌++◌, None, OnOk, Some, if◌then◌else◌, length, vec_len, vec_capacity};
 ghost use Rattle.std.specs.List.{list_all};
-ghost use Rattle.charlotte_text.specs.Reading.{hex_value};
-ghost use Rattle.written_journal.specs.Packed.{code_value, is_code, is_unmarked, packed, packs, piece_at, piece_packed};
+ghost use Rattle.packed_lines.specs.Packed.{code_value, is_code, is_unmarked, packed, packs, piece_at, piece_packed};
 
 use crate::piece::{ESCAPE, Piece, is_alone, piece_of};
 use charlotte_calls::NoMemory;
+use charlotte_text::digit_value;
 
 /// Whether a line is kept packed. Of a short one little would be saved.
 #[tactic(auto, unfolding(crate::specs::Packed::packs))]
@@ -67,16 +67,6 @@ fn coded(high: u8, low: u8) -> Option<u8>
         Some(16 * high + low)
     } else {
         None
-    }
-}
-
-fn digit_value(digit: u8) -> u8
-    ensures { result ≡ hex_value digit }
-{
-    match digit {
-        b'0'..=b'9' => digit - b'0',
-        b'A'..=b'F' => digit - (b'A' - 10),
-        _ => 16,
     }
 }
 

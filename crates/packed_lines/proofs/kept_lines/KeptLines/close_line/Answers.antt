@@ -1,12 +1,12 @@
 use Rattle.std.proofs.Common.{◌≡◌, ◌∙◌, ℕ, List, [], ◌∷◌, ◌++◌, ◌+◌, ◌-◌, ◌*◌, Ok, Err, ap, cond, drop, length, sym, take, arith, rules}
 use Rattle.std.specs.Prelude.{OnOk}
 use Rattle.std.proofs.lemmas.List.{length-drop, take-append-drop, take_all}
-use Rattle.written_journal.specs.Packed.{kept, line_note, packs}
-use Rattle.written_journal.specs.declared.kept_lines.KeptLines.{KeptLines}
-use Rattle.written_journal.proofs.Packed.{kept-packed, kept-plain}
-use Rattle.written_journal.proofs.Texts.{long-at, noted-line}
-use Rattle.written_journal.proofs.kept_lines.KeptLines.close_line.Goals.{then-packed+in_ok-pack, else-packed}
-use Rattle.written_journal.proofs.kept_lines.KeptLines.close_line.Goals as goal
+use Rattle.packed_lines.specs.Packed.{kept, line_note, packs}
+use Rattle.packed_lines.specs.declared.kept_lines.KeptLines.{KeptLines}
+use Rattle.packed_lines.proofs.Packed.{kept-packed, kept-plain}
+use Rattle.packed_lines.proofs.Texts.{long-at, noted-line}
+use Rattle.packed_lines.proofs.kept_lines.KeptLines.close_line.Goals.{then-packed+in_ok-pack, else-packed}
+use Rattle.packed_lines.proofs.kept_lines.KeptLines.close_line.Goals as goal
 
 pub returns-clause-text : goal.returns-clause-text
 returns-clause-text c =

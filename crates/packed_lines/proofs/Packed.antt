@@ -5,8 +5,8 @@ use Rattle.std.proofs.lemmas.Bool.Decides.{nat_tests}
 use Rattle.std.proofs.lemmas.List.{nil_from_length}
 use Rattle.charlotte_text.specs.Spelling.{hex_digit}
 use Rattle.charlotte_text.specs.Reading.{hex_value}
-use Rattle.written_journal.specs.Packed.{alone, behind_escape, code_text, code_value, coded, given, is_code, kept, literal, packed, packed_piece_at, packs, piece_at, piece_packed, piece_text, stands, unpacked}
-use Rattle.written_journal.specs.declared.piece.Piece.{Piece}
+use Rattle.packed_lines.specs.Packed.{alone, behind_escape, code_text, code_value, coded, given, is_code, kept, literal, packed, packed_piece_at, packs, piece_at, piece_packed, piece_text, stands, unpacked}
+use Rattle.packed_lines.specs.declared.piece.Piece.{Piece}
 
 -- ---- one piece
 

@@ -1,8 +1,8 @@
 use Rattle.std.proofs.Common.{◌≡◌, ◌∙◌, ℕ, List, [], ◌∷◌, ◌++◌, ap, drop, length, rules}
 use Rattle.transcript_lines.specs.Transcript.{line, step_text}
-use Rattle.written_journal.specs.Packed.{kept, line_note}
-use Rattle.written_journal.proofs.Texts.{IsCut, cut-at, notes-more, text-more}
-use Rattle.written_journal.proofs.kept_lines.KeptLines.push_steps.Goals as goal
+use Rattle.packed_lines.specs.Packed.{kept, line_note}
+use Rattle.packed_lines.proofs.Texts.{IsCut, cut-at, notes-more, text-more}
+use Rattle.packed_lines.proofs.kept_lines.KeptLines.push_steps.Goals as goal
 
 pub loop-step-preserved : goal.loop-step-preserved
 loop-step-preserved c =

@@ -1,9 +1,9 @@
 use Rattle.std.proofs.Common.{◌≡◌, ◌∙◌, ℕ, ◌<◌, List, ◌++◌, length, ap, sym, arith}
 use Rattle.charlotte_text.proofs.Bytes.{is_left}
-use Rattle.written_journal.specs.Packed.{packed, piece_packed}
-use Rattle.written_journal.specs.declared.piece.Piece.{Piece}
-use Rattle.written_journal.proofs.Packed.{at-end, moved-on, packed-first, packed-nil}
-use Rattle.written_journal.proofs.pack.push_packed.Goals as goal
+use Rattle.packed_lines.specs.Packed.{packed, piece_packed}
+use Rattle.packed_lines.specs.declared.piece.Piece.{Piece}
+use Rattle.packed_lines.proofs.Packed.{at-end, moved-on, packed-first, packed-nil}
+use Rattle.packed_lines.proofs.pack.push_packed.Goals as goal
 
 pub loop-rest-preserved : goal.loop-rest-preserved
 loop-rest-preserved c =

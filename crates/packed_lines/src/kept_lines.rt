@@ -1,9 +1,8 @@
 ghost use Rattle.std.specs.Prelude.{◌≡◌, ◌+◌, ◌*◌, ◌≤◌, ◌++◌, ◌∷◌, [], IfOk, OnErr, OnOk, drop, if◌then◌else◌, length, map, take};
 ghost use Rattle.charlotte_packets.specs.Packets.{packet_picture};
 ghost use Rattle.kernel_world.specs.declared.entry.Happened.TheVariants.{Asked, Took};
-ghost use Rattle.written_journal.specs.Kept.{AreLines};
-ghost use Rattle.written_journal.specs.Lines.{happened_line, step_lines};
-ghost use Rattle.written_journal.specs.Packed.{kept, kept_text, line_note, packed};
+ghost use Rattle.packed_lines.specs.Lines.{AreLines, happened_line, step_lines};
+ghost use Rattle.packed_lines.specs.Packed.{kept, kept_text, line_note, packed};
 
 use crate::pack::{is_packed, push_packed};
 use charlotte_calls::{Call, NoMemory, Pid, ServiceStep};
@@ -13,17 +12,17 @@ use std::alloc::Global;
 
 /// Lines of one event as they are kept, one after the other, some of them packed. The first line of an event has neither stamp nor kernel.
 #[derive(Drop)]
-pub(crate) struct KeptLines {
-    pub(crate) text: Vec<u8>,
+pub struct KeptLines {
+    pub text: Vec<u8>,
     /// Of each line twice how long it is as it is kept, and one more where it is packed. No value of the types has a line of more than 32,767 bytes.
-    pub(crate) notes: Vec<u16>,
+    pub notes: Vec<u16>,
     /// A line while it is packed.
     packed: Vec<u8>,
 }
 
 impl KeptLines {
     /// No lines.
-    pub(crate) fn nothing(alloc: Global) -> KeptLines
+    pub fn nothing(alloc: Global) -> KeptLines
         ensures { AreLines result [] }
     {
         KeptLines {
@@ -34,7 +33,7 @@ impl KeptLines {
     }
 
     /// The same lines.
-    pub(crate) fn copy(&self) -> Result<KeptLines, NoMemory>
+    pub fn copy(&self) -> Result<KeptLines, NoMemory>
         ensures text { IfOk result (λ copy. copy.text.items ≡ self.now.text.items) }
         ensures notes { IfOk result (λ copy. copy.notes.items ≡ self.now.notes.items) }
     {
@@ -47,7 +46,7 @@ impl KeptLines {
     }
 
     /// Lets the lines go, and keeps the room.
-    pub(crate) fn clear(&mut self)
+    pub fn clear(&mut self)
         ensures { AreLines self.new [] }
     {
         self.text.clear();
@@ -55,7 +54,7 @@ impl KeptLines {
     }
 
     /// Writes the line of a process's call in place of what stands here. After want of memory no lines stand here.
-    pub(crate) fn write_asked(&mut self, p: Pid, call: &Call) -> Result<(), NoMemory>
+    pub fn write_asked(&mut self, p: Pid, call: &Call) -> Result<(), NoMemory>
         ensures lines { OnOk result (AreLines self.new (happened_line (Asked p call.now) ∷ [])) }
         ensures none { OnErr result (AreLines self.new []) }
     {
@@ -70,7 +69,7 @@ impl KeptLines {
     }
 
     /// Writes the line of the taking of a packet from a kernel in place of what stands here. After want of memory no lines stand here.
-    pub(crate) fn write_took(&mut self, from: u8, packet: &Packet) -> Result<(), NoMemory>
+    pub fn write_took(&mut self, from: u8, packet: &Packet) -> Result<(), NoMemory>
         ensures lines { OnOk result (AreLines self.new (happened_line (Took from (packet_picture packet.now)) ∷ [])) }
         ensures none { OnErr result (AreLines self.new []) }
     {
@@ -85,7 +84,7 @@ impl KeptLines {
     }
 
     /// Writes the lines of steps in place of what stands here.
-    pub(crate) fn write_steps(&mut self, steps: &[ServiceStep]) -> Result<(), NoMemory>
+    pub fn write_steps(&mut self, steps: &[ServiceStep]) -> Result<(), NoMemory>
         ensures { OnOk result (AreLines self.new (step_lines steps.now)) }
     {
         self.clear();
