@@ -1,4 +1,3 @@
-pub mod Run
 pub mod Shown
 pub mod Standing
 pub mod Why

@@ -1,13 +1,12 @@
 //! Bytes as printable text.
 ghost use Rattle.std.specs.Prelude.{◌≡◌, ◌<◌, ◌++◌, IfOk, OnOk, length, take};
 ghost use Rattle.std.specs.List.{flat_map};
-ghost use Rattle.charlotte_text.specs.Spelling.{hex_digit};
 ghost use Rattle.transcript_lines.specs.Transcript.{line};
 ghost use Rattle.transcript_why.specs.Shown.{shown, shown_byte};
 ghost use Rattle.transcript_why.specs.Why.{labelled};
 
 use charlotte_calls::NoMemory;
-use charlotte_text::push_number;
+use charlotte_text::{hex_digit, push_number};
 use std::alloc::Global;
 
 /// The most bytes of a text that are shown.
@@ -62,19 +61,7 @@ fn push_byte(out: &mut Vec<u8>, byte: u8) -> Result<(), NoMemory>
     } else if 32 <= byte && byte <= 126 {
         out.push(byte)?;
     } else {
-        out.extend_from_slice(&[b'\\', b'x', digit(byte / 16), digit(byte % 16)])?;
+        out.extend_from_slice(&[b'\\', b'x', hex_digit(byte / 16), hex_digit(byte % 16)])?;
     }
     Ok(())
-}
-
-/// An upper-case hexadecimal digit.
-fn digit(value: u8) -> u8
-    requires { value < 16 }
-    ensures { result ≡ hex_digit value }
-{
-    if value <= 9 {
-        b'0' + value
-    } else {
-        b'A' - 10 + value
-    }
 }

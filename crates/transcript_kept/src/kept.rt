@@ -1,5 +1,5 @@
 //! What the kernels and the link service keep before a line, of what it names.
-ghost use Rattle.transcript_why.specs.Run.{IsRun};
+ghost use Rattle.transcript_kept.specs.Run.{IsRun};
 
 use crate::ends::add_end;
 use crate::named::{named_ends, named_process};
@@ -8,10 +8,10 @@ use charlotte_calls::{NoMemory, Pid};
 use charlotte_text::{Listing, push_number, push_process};
 use journal_text::print_picture;
 use std::alloc::Global;
-use transcript_reader::LineKind;
+use transcript_reading::LineKind;
 
 /// What is kept of what a line names; `nothing` where it names nothing.
-pub(crate) fn kept_items(alloc: Global, run: &Run, kind: &LineKind) -> Result<Vec<u8>, NoMemory>
+pub fn kept_items(alloc: Global, run: &Run, kind: &LineKind) -> Result<Vec<u8>, NoMemory>
     requires { IsRun run.now }
 {
     let mut items = Listing::new(alloc, b"; ");

@@ -1,5 +1,5 @@
-use Rattle.transcript_why.proofs.Runs.{noted}
-use Rattle.transcript_why.proofs.run.Run.take.Goals as goal
+use Rattle.transcript_kept.proofs.Runs.{noted}
+use Rattle.transcript_kept.proofs.run.Run.take.Goals as goal
 
 pub returns-in-Some : goal.returns-in-Some
 returns-in-Some c =

@@ -3,7 +3,7 @@
 use charlotte_calls::{Call, EndId, NoMemory, Pid, Report};
 use charlotte_packets::{MovingPicture, PictureWhat};
 use std::alloc::Global;
-use transcript_reader::{LineKind, ServiceLine};
+use transcript_reading::{LineKind, ServiceLine};
 
 /// The ends that a line names, each once, in order.
 pub(crate) fn named_ends(alloc: Global, kind: &LineKind) -> Result<Vec<EndId>, NoMemory> {

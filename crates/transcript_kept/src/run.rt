@@ -1,10 +1,11 @@
 //! The kernels and the link service, after the first lines of the transcript of a run.
-ghost use Rattle.std.specs.Prelude.{◌≡◌, ◌<◌, IfOk, IfSome, length};
+ghost use Rattle.std.specs.Prelude.{◌≡◌, ◌<◌, ◌↔◌, IfOk, IfSome, IsTrue, length};
 ghost use Rattle.std.specs.Bool.{OnTrue};
 ghost use Rattle.charlotte_calls.specs.Setting.{IsValid};
-ghost use Rattle.transcript_why.specs.Run.{IsRun, MayCall};
+ghost use Rattle.kernel_nodes.specs.Nodes.{world_of};
+ghost use Rattle.kernel_world.specs.Run.{AllTaken};
+ghost use Rattle.transcript_kept.specs.Run.{IsRun, MayCall};
 
-use crate::reached::next_line;
 use charlotte_calls::{Call, NoMemory, Pid, ServiceStep, Setting};
 use charlotte_packets::PictureWhat;
 use kernel_core::Kernel;
@@ -12,11 +13,11 @@ use kernel_nodes::{Nodes, Noted, Request};
 use link_service::{ApplyFault, Service};
 use std::alloc::Global;
 use std::collections::VecDeque;
-use transcript_reader::{LineKind, Reader};
+use transcript_reading::LineKind;
 
 /// The kernels and the service after some lines. The lines are those of a run, which an audit has tested; here they are followed.
 #[derive(Drop)]
-pub(crate) struct Run {
+pub struct Run {
     pub(crate) setting: Setting,
     pub(crate) nodes: Nodes,
     pub(crate) service: Service,
@@ -35,35 +36,9 @@ pub(crate) enum Doing {
     Exited,
 }
 
-/// The run of the lines before the one of a number; `None` where they are not those of a run.
-pub(crate) fn run_before(
-    alloc: Global,
-    bytes: &[u8],
-    number: u32,
-    setting: Setting,
-) -> Result<Option<Run>, NoMemory>
-    requires { length bytes.now < 4294967295 }
-    ensures { IfOk result (λ run. IfSome run IsRun) }
-{
-    if !setting.valid() {
-        return Ok(None);
-    }
-    let mut run = Run::start(alloc, setting)?;
-    let mut reader = Reader::new(bytes);
-    for _ in 1..number {
-        let Some(line) = next_line(&mut reader) else {
-            return Ok(None);
-        };
-        if !run.follow(&line.what)? {
-            return Ok(None);
-        }
-    }
-    Ok(Some(run))
-}
-
 impl Run {
     /// Before the first entry.
-    fn start(alloc: Global, setting: Setting) -> Result<Run, NoMemory>
+    pub fn start(alloc: Global, setting: Setting) -> Result<Run, NoMemory>
         requires { IsValid setting }
         ensures { IfOk result IsRun }
     {
@@ -79,7 +54,7 @@ impl Run {
     }
 
     /// Does what a line says; `false` where that is not possible.
-    fn follow(&mut self, kind: &LineKind) -> Result<bool, NoMemory>
+    pub fn follow(&mut self, kind: &LineKind) -> Result<bool, NoMemory>
         requires { IsRun self.old }
         ensures { IfOk result (λ went. OnTrue went (IsRun self.new)) }
     {
@@ -155,6 +130,20 @@ impl Run {
             Err(ApplyFault::NotAllowed(_)) => Ok(false),
             Err(ApplyFault::NoMemory) => Err(NoMemory),
         }
+    }
+
+    /// How many kernels there are.
+    pub fn kernels(&self) -> u8
+        ensures { result ≡ self.now.setting.kernels }
+    {
+        self.setting.kernels
+    }
+
+    /// Whether no packet is under way.
+    pub fn is_quiet(&self) -> bool
+        ensures { IsTrue result ↔ AllTaken (world_of self.now.setting self.now.nodes.nodes.items) }
+    {
+        self.nodes.are_quiet()
     }
 
     /// The kernel of a process, if the process is there.

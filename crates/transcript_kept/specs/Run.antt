@@ -4,7 +4,7 @@ use Rattle.charlotte_calls.specs.declared.names.Pid.{Pid}
 use Rattle.kernel_nodes.specs.Nodes.{AreNodes, world_of}
 use Rattle.kernel_step.specs.Kernel.{process_of}
 use Rattle.kernel_step.specs.declared.phase.Phase.TheVariants.{Running}
-use Rattle.transcript_why.specs.declared.run.Run.{Run}
+use Rattle.transcript_kept.specs.declared.run.Run.{Run}
 
 -- the kernels of a run are those of its setting
 abbrev pub IsRun : Run → Type 0

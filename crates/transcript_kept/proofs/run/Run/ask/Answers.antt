@@ -1,5 +1,5 @@
-use Rattle.transcript_why.proofs.Runs.{noted}
-use Rattle.transcript_why.proofs.run.Run.ask.Goals as goal
+use Rattle.transcript_kept.proofs.Runs.{noted}
+use Rattle.transcript_kept.proofs.run.Run.ask.Goals as goal
 
 pub returns : goal.returns
 returns c =
