@@ -11,7 +11,5 @@ mod expected;
 mod explaining;
 mod following;
 mod reached;
-mod shown;
-mod standing;
 
 pub use explaining::explain;

@@ -6,7 +6,7 @@ use Rattle.kernel_world.specs.declared.entry.Entry.{Entry}
 use Rattle.kernel_world.specs.declared.entry.Happened.{Happened}
 use Rattle.kernel_world.specs.declared.entry.Happened.TheVariants.{Asked, Took}
 use Rattle.written_journal.specs.Lines.{lines_of, text_of}
-use Rattle.packed_lines.specs.Lines.{happened_line}
+use Rattle.packed_lines.specs.Lines.{happened_line, AreLines}
 use Rattle.packed_lines.specs.Packed.{kept_text, line_note}
 use Rattle.written_journal.specs.Told.{Told}
 use Rattle.packed_lines.specs.declared.kept_lines.KeptLines.{KeptLines}

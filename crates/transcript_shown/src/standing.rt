@@ -3,8 +3,7 @@ ghost use Rattle.std.specs.Prelude.{◌≡◌, ◌++◌, IfOk, OnOk, drop, optio
 ghost use Rattle.charlotte_text.specs.Reading.{rest_parts};
 ghost use Rattle.charlotte_text.specs.Spelling.{line_feed};
 ghost use Rattle.transcript_lines.specs.Transcript.{line};
-ghost use Rattle.transcript_why.specs.Standing.{first_line, line_at};
-ghost use Rattle.transcript_why.specs.Why.{first_text, standing_text};
+ghost use Rattle.transcript_shown.specs.Standing.{first_line, first_text, line_at, standing_text};
 
 use crate::shown::push_shown;
 use charlotte_calls::NoMemory;
@@ -14,14 +13,14 @@ use std::marker::Model;
 
 /// The text of a line, without its line feed.
 #[derive(Drop)]
-pub(crate) struct Standing<'a> {
-    pub(crate) text: &'a [u8],
+pub struct Standing<'a> {
+    pub text: &'a [u8],
     /// Whether a line feed ends it, and not the text of the file.
-    pub(crate) ended: bool,
+    pub ended: bool,
 }
 
 impl<'a> Model for Standing<'a> {
-    ghost use Rattle.transcript_why.specs.Standing.{Line};
+    ghost use Rattle.transcript_shown.specs.Standing.{Line};
 
     ghost Value = { Line };
 
@@ -29,7 +28,7 @@ impl<'a> Model for Standing<'a> {
 }
 
 /// The line of a number, from 1; nothing stands there where the text has fewer.
-pub(crate) fn line_at(bytes: &[u8], number: u32) -> Standing<'_>
+pub fn line_at(bytes: &[u8], number: u32) -> Standing<'_>
     ensures { result ≡ line_at bytes.now number }
 {
     let mut rest = Some(bytes);
@@ -65,7 +64,7 @@ fn first(rest: Option<&[u8]>) -> Standing<'_>
 }
 
 /// The line that shows the line of a number.
-pub(crate) fn standing_line(alloc: Global, bytes: &[u8], number: u32) -> Result<Vec<u8>, NoMemory>
+pub fn standing_line(alloc: Global, bytes: &[u8], number: u32) -> Result<Vec<u8>, NoMemory>
     ensures { IfOk result (λ l. l.items ≡ line (first_text bytes.now number)) }
 {
     let mut out = b"line ".to_vec(alloc)?;

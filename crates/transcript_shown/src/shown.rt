@@ -2,8 +2,7 @@
 ghost use Rattle.std.specs.Prelude.{◌≡◌, ◌<◌, ◌++◌, IfOk, OnOk, length, take};
 ghost use Rattle.std.specs.List.{flat_map};
 ghost use Rattle.transcript_lines.specs.Transcript.{line};
-ghost use Rattle.transcript_why.specs.Shown.{shown, shown_byte};
-ghost use Rattle.transcript_why.specs.Why.{labelled};
+ghost use Rattle.transcript_shown.specs.Shown.{labelled, shown, shown_byte};
 
 use charlotte_calls::NoMemory;
 use charlotte_text::{hex_digit, push_number};
@@ -13,7 +12,7 @@ use std::alloc::Global;
 const MOST_SHOWN: usize = 4096;
 
 /// A line that shows a text behind a label.
-pub(crate) fn labelled_line(alloc: Global, label: &[u8], text: &[u8]) -> Result<Vec<u8>, NoMemory>
+pub fn labelled_line(alloc: Global, label: &[u8], text: &[u8]) -> Result<Vec<u8>, NoMemory>
     ensures { IfOk result (λ l. l.items ≡ line (labelled label.now text.now)) }
 {
     let mut out = label.to_vec(alloc)?;

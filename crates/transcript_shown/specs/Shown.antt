@@ -15,3 +15,7 @@ abbrev pub shown : List ℕ → List ℕ
 shown text =
     if nat_le (length text) 4096 then flat_map shown_byte text
     else flat_map shown_byte (take 4096 text) ++ 92 ∷ codes "... " ++ number_text (length text - 4096) ++ codes " more"
+
+-- a text as it is shown behind a label
+abbrev pub labelled : List ℕ → List ℕ → List ℕ
+labelled label text = label ++ shown text

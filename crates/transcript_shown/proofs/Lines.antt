@@ -2,7 +2,7 @@
 use Rattle.std.proofs.Common.{◌≡◌, ℕ, List, ◌∷◌, true, eqb, ap, refl, ◌∙◌}
 use Rattle.charlotte_text.specs.Reading.{parts}
 use Rattle.charlotte_text.proofs.Parts.{first_part}
-use Rattle.transcript_why.specs.Standing.{Line, first_line}
+use Rattle.transcript_shown.specs.Standing.{Line, first_line}
 
 -- what stands behind a line feed has a part
 pub first_ended : (text bytes rest : List ℕ) → parts 10 bytes ≡ text ∷ parts 10 rest → first_line (parts 10 bytes) ≡ record { text = text; ended = true }
