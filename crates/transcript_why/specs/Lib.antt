@@ -1,4 +1,1 @@
-pub mod Run
-pub mod Shown
-pub mod Standing
 pub mod Why

@@ -1,12 +1,11 @@
 //! What the kernels give in the place of a line.
-ghost use Rattle.transcript_why.specs.Run.{IsRun};
+ghost use Rattle.transcript_kept.specs.Run.{IsRun};
 
-use crate::alternatives::{add_alternatives, first_packet};
-use crate::printed::{call_line, step_line};
-use crate::run::{Doing, Run};
-use charlotte_calls::{Call, NoMemory, Pid};
-use charlotte_text::Listing;
+use charlotte_calls::NoMemory;
+use charlotte_text::{Listing, push_number};
 use std::alloc::Global;
+use transcript_expected::Form;
+use transcript_kept::{Run, add_next_entries, given_line};
 use transcript_reader::{LineKind, Place};
 
 /// What stands between alternatives.
@@ -22,10 +21,7 @@ pub(crate) fn expected_lines(
 ) -> Result<Vec<u8>, NoMemory>
     requires { IsRun run.now }
 {
-    if let Some(step) = run.due.front() {
-        return step_line(alloc, step);
-    }
-    if let Some(line) = right_line(alloc, run, kind)? {
+    if let Some(line) = given_line(alloc, run, kind)? {
         return Ok(line);
     }
     let mut lines = Listing::new(alloc, OR);
@@ -33,27 +29,26 @@ pub(crate) fn expected_lines(
     Ok(lines.text)
 }
 
-/// An entry with its right numbers, if it may stand next.
-fn right_line(alloc: Global, run: &Run, kind: &LineKind) -> Result<Option<Vec<u8>>, NoMemory>
+/// Adds each line that may stand next where no service line is due: notes, last lines, calls, and packets.
+fn add_alternatives(
+    alloc: Global,
+    lines: &mut Listing,
+    place: Place,
+    run: &Run,
+) -> Result<(), NoMemory>
     requires { IsRun run.now }
 {
-    match kind {
-        LineKind::CallEntry { p, call, .. } => right_call(alloc, run, *p, call),
-        LineKind::PacketEntry { kernel, from, .. } => first_packet(alloc, run, *from, *kernel),
-        _ => Ok(None),
+    Form::Note.add(lines, place)?;
+    let last = if run.is_quiet() {
+        Form::Quiet
+    } else {
+        Form::Open
+    };
+    last.add(lines, place)?;
+    if let Place::Noted { .. } = place {
+        return Ok(());
     }
-}
-
-/// The line of a call, if its process runs and the merge has a place for it.
-fn right_call(alloc: Global, run: &Run, p: Pid, call: &Call) -> Result<Option<Vec<u8>>, NoMemory>
-    requires { IsRun run.now }
-{
-    let Some((kernel, Doing::Runs)) = run.doing(p) else {
-        return Ok(None);
-    };
-    let Some(stamp) = run.call_stamp(kernel) else {
-        return Ok(None);
-    };
-    let line = call_line(alloc, stamp, kernel, p, call)?;
-    Ok(Some(line))
+    lines.add(b"spent K, K below ")?;
+    push_number(&mut lines.text, u64::from(run.kernels()))?;
+    add_next_entries(alloc, lines, run)
 }

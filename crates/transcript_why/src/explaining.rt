@@ -1,19 +1,18 @@
 //! The three lines that tell why.
 ghost use Rattle.std.specs.Prelude.{◌<◌, IfOk, length, map};
-ghost use Rattle.transcript_why.specs.Run.{IsRun};
+ghost use Rattle.transcript_kept.specs.Run.{IsRun};
 ghost use Rattle.transcript_why.specs.Why.{AreWhy};
 
 use crate::expected::{OR, expected_lines};
-use crate::kept::kept_items;
+use crate::following::run_before;
 use crate::reached::{Reached, reach};
-use crate::run::{Run, run_before};
-use crate::shown::labelled_line;
-use crate::standing::{line_at, standing_line};
 use charlotte_calls::NoMemory;
 use charlotte_text::Listing;
 use std::alloc::Global;
 use transcript_expected::expected_forms;
+use transcript_kept::{Run, kept_items};
 use transcript_reader::{LineKind, Place};
+use transcript_shown::{labelled_line, line_at, standing_line};
 
 /// What is told of the place of a line.
 #[derive(Drop)]

@@ -7,16 +7,9 @@
 //! By the clause of `explain`; `AreWhy` in `specs/Why.antt`.
 #![tactic(auto)]
 
-mod alternatives;
-mod ends;
 mod expected;
 mod explaining;
-mod kept;
-mod named;
-mod printed;
+mod following;
 mod reached;
-mod run;
-mod shown;
-mod standing;
 
 pub use explaining::explain;

@@ -12,7 +12,8 @@ use Rattle.kernel_world.specs.declared.entry.Happened.TheVariants.{Asked, Took}
 use Rattle.written_journal.specs.Alone.{lines_left}
 use Rattle.written_journal.specs.Given.{Rest}
 use Rattle.written_journal.specs.Kept.{sender_of}
-use Rattle.written_journal.specs.Lines.{happened_line, lines_of, step_lines}
+use Rattle.written_journal.specs.Lines.{lines_of}
+use Rattle.packed_lines.specs.Lines.{happened_line, step_lines}
 use Rattle.written_journal.proofs.Texts.{lines_of-cons, slice-at}
 
 -- its first line

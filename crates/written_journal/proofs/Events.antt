@@ -7,14 +7,16 @@ use Rattle.std.proofs.lemmas.Option.{slice_get-get_or, slice_get_cases, slice_ge
 use Rattle.charlotte_calls.specs.declared.calls.ServiceStep.{ServiceStep}
 use Rattle.transcript_lines.specs.Transcript.{line, step_text}
 use Rattle.kernel_world.specs.declared.entry.Entry.{Entry}
-use Rattle.written_journal.specs.Kept.{AreKept, AreLines, HasSame, event_of, sender_of}
-use Rattle.written_journal.specs.Lines.{happened_line, kept_lines, lines_of, step_lines, text_of}
+use Rattle.written_journal.specs.Kept.{AreKept, HasSame, event_of, sender_of}
+use Rattle.packed_lines.specs.Lines.{happened_line, step_lines, AreLines}
+use Rattle.written_journal.specs.Lines.{kept_lines, lines_of, text_of}
 use Rattle.written_journal.specs.Noted.{numbered}
-use Rattle.written_journal.specs.Packed.{kept_text, line_note}
-use Rattle.written_journal.specs.declared.kept_lines.KeptLines.{KeptLines}
+use Rattle.packed_lines.specs.Packed.{kept_text, line_note}
+use Rattle.packed_lines.specs.declared.kept_lines.KeptLines.{KeptLines}
 use Rattle.written_journal.specs.declared.written.Event.{Event}
 use Rattle.written_journal.specs.declared.written.Written.{Written}
-use Rattle.written_journal.proofs.Texts.{kept_text-append, lines_of-append, lines_of-nil, lines_of-push, slice-at, text_of-append, text_of-nil, text_of-push}
+use Rattle.written_journal.proofs.Texts.{lines_of-append, lines_of-nil, lines_of-push, slice-at, text_of-append, text_of-nil, text_of-push}
+use Rattle.packed_lines.proofs.Texts.{kept_text-append}
 
 -- no events
 pub nothing-kept : (w : Written) → w.text.items ≡ [] → w.notes.items ≡ [] → w.events.items ≡ [] → AreKept w []

@@ -8,10 +8,12 @@ use Rattle.journal_text.specs.Journal.{placed_at}
 use Rattle.transcript_lines.specs.Transcript.{entry_text, happened_text, line, step_text}
 use Rattle.kernel_world.specs.declared.entry.Entry.{Entry}
 use Rattle.written_journal.specs.Given.{IsPlace, rest_behind}
-use Rattle.written_journal.specs.Lines.{happened_line, kept_lines, lines_of, step_lines}
-use Rattle.written_journal.specs.Packed.{kept, kept_text}
+use Rattle.written_journal.specs.Lines.{kept_lines, lines_of}
+use Rattle.packed_lines.specs.Lines.{happened_line, step_lines}
+use Rattle.packed_lines.specs.Packed.{kept, kept_text}
 use Rattle.written_journal.specs.declared.reader.Place.{Place}
-use Rattle.written_journal.proofs.Texts.{IsAt, at-drop, kept_text-append, lines_of-append, lines_of-cons, lines_of-nil, lines_of-push}
+use Rattle.written_journal.proofs.Texts.{IsAt, at-drop, lines_of-append, lines_of-cons, lines_of-nil, lines_of-push}
+use Rattle.packed_lines.proofs.Texts.{kept_text-append}
 
 -- before all lines
 pub start-place : (es : List Entry) → IsPlace es (record { events = 0; left = 0; lines = 0; bytes = 0 })

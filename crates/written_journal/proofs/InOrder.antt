@@ -12,7 +12,7 @@ use Rattle.kernel_world.specs.declared.entry.Placed.{Placed}
 use Rattle.written_journal.specs.Given.{AreAll, AreLeft, Rest, all_of, rest_at}
 use Rattle.written_journal.specs.Kept.{Happenings}
 use Rattle.written_journal.specs.Left.{GivesFirst}
-use Rattle.written_journal.specs.Lines.{step_lines}
+use Rattle.packed_lines.specs.Lines.{step_lines}
 use Rattle.written_journal.specs.Merging.{journals_of}
 
 abbrev nothing : Rest

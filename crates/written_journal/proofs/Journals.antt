@@ -12,11 +12,11 @@ use Rattle.journal_text.proofs.Rising.{AreRising-push, AreRising-take}
 use Rattle.kernel_world.specs.Ranges.{IsEntryInRange, IsHappenedInRange}
 use Rattle.kernel_world.specs.declared.entry.Entry.{Entry}
 use Rattle.kernel_world.specs.declared.entry.Happened.{Happened}
-use Rattle.written_journal.specs.Kept.{AreKept, AreLines, HasSame, Happenings, IsStored, begun_lines, begun_sender, event_of, happenings, sender_of}
-use Rattle.written_journal.specs.Lines.{happened_line, step_lines}
+use Rattle.written_journal.specs.Kept.{AreKept, HasSame, Happenings, IsStored, begun_lines, begun_sender, event_of, happenings, sender_of}
+use Rattle.packed_lines.specs.Lines.{happened_line, step_lines, AreLines}
 use Rattle.written_journal.specs.Noted.{done, numbered}
 use Rattle.written_journal.specs.Told.{Told, nothing_told}
-use Rattle.written_journal.specs.declared.kept_lines.KeptLines.{KeptLines}
+use Rattle.packed_lines.specs.declared.kept_lines.KeptLines.{KeptLines}
 use Rattle.written_journal.specs.declared.written.Event.{Event}
 use Rattle.written_journal.specs.declared.written.Written.{Written}
 use Rattle.written_journal.proofs.Events.{appended, nothing-kept, one-is, same-kept, some-entry}

@@ -7,12 +7,13 @@ use Rattle.journal_text.specs.Heads.{first_stamp}
 use Rattle.kernel_world.specs.declared.entry.Entry.{Entry}
 use Rattle.written_journal.specs.Kept.{AreKept, Happenings, IsStored, event_of, happenings}
 use Rattle.written_journal.specs.Lines.{lines_of}
-use Rattle.written_journal.specs.Packed.{kept, kept_text, line_note}
+use Rattle.packed_lines.specs.Packed.{kept, kept_text, line_note}
 use Rattle.written_journal.specs.Told.{Told}
-use Rattle.written_journal.specs.declared.kept_lines.KeptLines.{KeptLines}
+use Rattle.packed_lines.specs.declared.kept_lines.KeptLines.{KeptLines}
 use Rattle.written_journal.specs.declared.written.Event.{Event}
 use Rattle.written_journal.specs.declared.written.Written.{Written}
-use Rattle.written_journal.proofs.Texts.{at-drop, kept_text-append, slice-at, text_of-is}
+use Rattle.written_journal.proofs.Texts.{at-drop, slice-at, text_of-is}
+use Rattle.packed_lines.proofs.Texts.{kept_text-append}
 
 -- what contracts see of a journal is kept
 pub are-kept : (w : Written) (b : KeptLines) (from : Option ℕ) (t : Told) (value : Happenings) → IsStored w b from t → happenings t ≡ value → AreKept w value.entries

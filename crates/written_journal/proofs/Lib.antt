@@ -1,5 +1,4 @@
 pub mod Walks
-pub mod Packed
 pub mod Texts
 pub mod Journals
 pub mod Events

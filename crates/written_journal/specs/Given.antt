@@ -5,7 +5,7 @@ use Rattle.kernel_world.specs.declared.entry.Entry.{Entry}
 use Rattle.kernel_world.specs.declared.entry.Placed.{Placed}
 use Rattle.written_journal.specs.Kept.{Happenings}
 use Rattle.written_journal.specs.Lines.{lines_of}
-use Rattle.written_journal.specs.Packed.{kept_text}
+use Rattle.packed_lines.specs.Packed.{kept_text}
 use Rattle.written_journal.specs.declared.reader.Place.{Place}
 
 -- what is left of a journal: lines of the entry whose first line is given, and the entries behind it

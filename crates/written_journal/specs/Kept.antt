@@ -5,10 +5,11 @@ use Rattle.kernel_world.specs.Ranges.{IsEntryInRange, IsHappenedInRange}
 use Rattle.kernel_world.specs.declared.entry.Entry.{Entry}
 use Rattle.kernel_world.specs.declared.entry.Happened.{Happened}
 use Rattle.kernel_world.specs.declared.entry.Happened.TheVariants.{Asked, Took}
-use Rattle.written_journal.specs.Lines.{happened_line, lines_of, text_of}
-use Rattle.written_journal.specs.Packed.{kept_text, line_note}
+use Rattle.written_journal.specs.Lines.{lines_of, text_of}
+use Rattle.packed_lines.specs.Lines.{happened_line, AreLines}
+use Rattle.packed_lines.specs.Packed.{kept_text, line_note}
 use Rattle.written_journal.specs.Told.{Told}
-use Rattle.written_journal.specs.declared.kept_lines.KeptLines.{KeptLines}
+use Rattle.packed_lines.specs.declared.kept_lines.KeptLines.{KeptLines}
 use Rattle.written_journal.specs.declared.written.Event.{Event}
 use Rattle.written_journal.specs.declared.written.Written.{Written}
 
@@ -40,11 +41,6 @@ pub record HasSame (old new : Written) : Type 0 where
   pub text : new.text.items ≡ old.text.items
   pub notes : new.notes.items ≡ old.notes.items
   pub events : new.events.items ≡ old.events.items
-
--- lines of one event are kept
-pub record AreLines (l : KeptLines) (lines : List (List ℕ)) : Type 0 where
-  pub text : l.text.items ≡ kept_text lines
-  pub notes : l.notes.items ≡ map line_note lines
 
 -- the line of what is begun
 abbrev pub begun_lines : Option Happened → List (List ℕ)

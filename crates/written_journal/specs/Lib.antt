@@ -1,6 +1,5 @@
 pub mod Told
 pub mod Noted
-pub mod Packed
 pub mod Lines
 pub mod Kept
 pub mod Late

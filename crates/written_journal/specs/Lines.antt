@@ -1,19 +1,9 @@
 -- The text in which events are kept: the lines of each, one after the other.
-use Rattle.std.specs.Prelude.{ℕ, List, ◌∷◌, map}
+use Rattle.std.specs.Prelude.{ℕ, List, ◌∷◌}
 use Rattle.std.specs.List.{flat_map}
-use Rattle.charlotte_calls.specs.declared.calls.ServiceStep.{ServiceStep}
-use Rattle.transcript_lines.specs.Transcript.{line, happened_text, step_text}
 use Rattle.kernel_world.specs.declared.entry.Entry.{Entry}
-use Rattle.kernel_world.specs.declared.entry.Happened.{Happened}
-use Rattle.written_journal.specs.Packed.{kept_text}
-
--- the line of what happened, without the stamp and the kernel that stand before it in a transcript
-abbrev pub happened_line : Happened → List ℕ
-happened_line what = line (happened_text what)
-
--- the lines of service steps
-abbrev pub step_lines : List ServiceStep → List (List ℕ)
-step_lines steps = map (λ s. line (step_text s)) steps
+use Rattle.packed_lines.specs.Lines.{happened_line, step_lines}
+use Rattle.packed_lines.specs.Packed.{kept_text}
 
 -- the lines of an entry, but for the stamp and the kernel
 abbrev pub kept_lines : Entry → List (List ℕ)

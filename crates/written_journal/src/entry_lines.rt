@@ -9,10 +9,10 @@ ghost use Rattle.written_journal.specs.Kept.{sender_of};
 ghost use Rattle.written_journal.specs.Left.{GivesFirst};
 
 use crate::reader::Reader;
-use crate::reading::push_line;
 use crate::stored::Stored;
 use charlotte_calls::NoMemory;
 use journal_text::push_taking;
+use packed_lines::push_line;
 use std::marker::Model;
 
 /// A copy of one entry of a journal, as its text. Contracts see the entry.

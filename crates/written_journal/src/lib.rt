@@ -14,18 +14,14 @@
 mod entry_lines;
 mod history;
 mod journal;
-mod kept_lines;
 mod lines;
 mod merged;
 mod merging;
 mod order;
-mod pack;
-mod piece;
 mod reader;
 mod reading;
 mod stored;
 mod transcript;
-mod unpack;
 mod written;
 
 pub use entry_lines::{EntryLines, LinesLeft};

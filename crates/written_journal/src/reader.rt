@@ -4,12 +4,12 @@ ghost use Rattle.transcript_lines.specs.Transcript.{entry_text, line};
 ghost use Rattle.kernel_world.specs.declared.entry.Entry.{Entry};
 ghost use Rattle.written_journal.specs.Given.{all_of};
 ghost use Rattle.written_journal.specs.Left.{GivesFirst};
-ghost use Rattle.written_journal.specs.Lines.{step_lines};
+ghost use Rattle.packed_lines.specs.Lines.{step_lines};
 
-use crate::reading::push_line;
 use crate::stored::Stored;
 use charlotte_calls::NoMemory;
 use journal_text::push_head;
+use packed_lines::push_line;
 use std::marker::Model;
 
 /// Which lines of a journal are given.

@@ -1,16 +1,14 @@
 //! What stands in a journal, by numbers and places.
-ghost use Rattle.std.specs.Prelude.{◌≡◌, ◌+◌, ◌^◌, ◌<◌, ◌∷◌, ◌++◌, [], IfSome, List, OnOk, drop, length, slice_index_or, take};
+ghost use Rattle.std.specs.Prelude.{◌≡◌, ◌+◌, ◌^◌, ◌<◌, ◌∷◌, [], IfSome, List, drop, length, slice_index_or, take};
 ghost use Rattle.journal_text.specs.Heads.{first_stamp};
 ghost use Rattle.journal_text.specs.Journal.{AreRising};
 ghost use Rattle.kernel_world.specs.declared.entry.Entry.{Entry};
 ghost use Rattle.written_journal.specs.Kept.{event_of};
 ghost use Rattle.written_journal.specs.Lines.{lines_of};
-ghost use Rattle.written_journal.specs.Packed.{given, kept, kept_text};
+ghost use Rattle.packed_lines.specs.Packed.{given, kept, kept_text};
 
 use crate::stored::Stored;
-use crate::unpack::push_unpacked;
 use crate::written::Event;
-use charlotte_calls::NoMemory;
 
 /// A line as it is kept.
 #[derive(Clone, Copy)]
@@ -56,16 +54,4 @@ impl Stored {
             packed: note % 2 == 1,
         }
     }
-}
-
-/// Appends the text of a line that is kept so.
-#[inline(always)]
-pub(crate) fn push_line(out: &mut Vec<u8>, kept: &[u8], packed: bool) -> Result<(), NoMemory>
-    ensures { OnOk result (out.new.items ≡ out.old.items ++ given packed kept.now) }
-{
-    if packed {
-        return push_unpacked(out, kept);
-    }
-    out.extend_from_slice(kept)?;
-    Ok(())
 }

@@ -7,11 +7,11 @@ ghost use Rattle.kernel_world.specs.declared.entry.Happened.{Happened};
 ghost use Rattle.kernel_world.specs.declared.entry.Happened.TheVariants.{Asked, Took};
 
 use crate::history::{History, Note};
-use crate::kept_lines::KeptLines;
 use crate::written::Written;
 use charlotte_calls::{Call, NoMemory, Pid, ServiceStep};
 use charlotte_packets::Packet;
 use kernel_world::{tell_call, tell_packet, tell_pid, tell_steps, tell_u8, tell_u64};
+use packed_lines::KeptLines;
 use std::alloc::Global;
 use std::marker::Model;
 

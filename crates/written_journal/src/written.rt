@@ -4,8 +4,8 @@ ghost use Rattle.written_journal.specs.Kept.{AreKept, HasSame};
 ghost use Rattle.written_journal.specs.Lines.{text_of};
 ghost use Rattle.written_journal.specs.Noted.{numbered};
 
-use crate::kept_lines::KeptLines;
 use charlotte_calls::NoMemory;
+use packed_lines::KeptLines;
 use std::alloc::Global;
 
 /// What stands of an event beside its lines.

@@ -2,7 +2,7 @@
 use Rattle.std.proofs.Common.{◌≡◌, ℕ, List, [], ◌∷◌, Vec, Global, map, ap, ◌∙◌, rules}
 use Rattle.std.specs.Prelude.{codes}
 use Rattle.transcript_lines.specs.Transcript.{line}
-use Rattle.transcript_why.specs.Why.{labelled}
+use Rattle.transcript_shown.specs.Shown.{labelled}
 use Rattle.transcript_why.proofs.explaining.explain.Goals as goal
 
 three : (a b c x y z : List ℕ) → a ≡ x → b ≡ y → c ≡ z → a ∷ b ∷ c ∷ [] ≡ x ∷ y ∷ z ∷ []

@@ -6,8 +6,8 @@ use Rattle.kernel_world.specs.declared.entry.Entry.{Entry}
 use Rattle.kernel_world.specs.declared.entry.Happened.{Happened}
 use Rattle.kernel_world.specs.declared.entry.Happened.TheVariants.{Took}
 use Rattle.written_journal.specs.Alone.{first_entry, picture_text}
-use Rattle.written_journal.specs.Lines.{happened_line}
-use Rattle.written_journal.specs.Packed.{given}
+use Rattle.packed_lines.specs.Lines.{happened_line}
+use Rattle.packed_lines.specs.Packed.{given}
 use Rattle.written_journal.proofs.Alone.{first-line, head_text, picture-at, sender-took, some-line}
 use Rattle.written_journal.proofs.entry_lines.EntryLines.push_picture.Goals as goal
 

@@ -1,7 +1,7 @@
 use Rattle.std.proofs.Common.{◌≡◌, ◌∙◌, ℕ, List, ◌++◌, ◌-◌, ap, codes, length, sym, arith}
 use Rattle.charlotte_text.specs.Spelling.{number_text}
 use Rattle.written_journal.specs.Given.{Rest}
-use Rattle.written_journal.specs.Packed.{given}
+use Rattle.packed_lines.specs.Packed.{given}
 use Rattle.written_journal.specs.declared.written.Event.{Event}
 use Rattle.written_journal.proofs.Given.{begun, first, first-text, none-left}
 use Rattle.written_journal.proofs.reader.Reader.first_line.Goals as goal

@@ -1,7 +1,7 @@
 use Rattle.std.proofs.Common.{◌≡◌, ◌∙◌, ℕ, List, [], ◌∷◌, ◌++◌, ◌+◌, ◌-◌, ◌<◌, ap, take, drop, get_or, length, refl, sym, arith}
 use Rattle.written_journal.specs.Given.{Rest}
 use Rattle.written_journal.specs.Lines.{lines_of}
-use Rattle.written_journal.specs.Packed.{given}
+use Rattle.packed_lines.specs.Packed.{given}
 use Rattle.written_journal.proofs.Given.{line-below, stepped}
 use Rattle.written_journal.proofs.reader.Reader.step_line.Goals as goal
 

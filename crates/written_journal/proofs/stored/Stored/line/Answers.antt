@@ -1,9 +1,9 @@
 use Rattle.std.proofs.Common.{◌≡◌, ◌∙◌, ℕ, List, [], ◌+◌, ◌/◌, ◌%◌, ap, eqb, get_or, length, arith}
 use Rattle.std.specs.List.{slice_range}
 use Rattle.written_journal.specs.Lines.{lines_of}
-use Rattle.written_journal.specs.Packed.{given, kept, line_note, packs}
+use Rattle.packed_lines.specs.Packed.{given, kept, line_note, packs}
 use Rattle.written_journal.proofs.Kept.{line-of}
-use Rattle.written_journal.proofs.Packed.{given-kept, note-half, note-odd}
+use Rattle.packed_lines.proofs.Packed.{given-kept, note-half, note-odd}
 use Rattle.written_journal.proofs.stored.Stored.line.Goals as goal
 
 pub overflow_add-result : goal.overflow_add-result

@@ -1,0 +1,18 @@
+//! The kernels and the link service beside the lines of a transcript: what they give next, and what they keep of what a line names.
+//!
+//! # What is proved
+//! The kernels of a `Run` are those of its setting, and a process is asked only where it is there and runs. What the texts say is tested
+//! only.
+//! By `IsRun` and `MayCall` in `specs/Run.antt`; the clauses of `Run::start` and `Run::follow`.
+#![tactic(auto)]
+
+mod ends;
+mod kept;
+mod named;
+mod next;
+mod printed;
+mod run;
+
+pub use kept::kept_items;
+pub use next::{add_next_entries, given_line};
+pub use run::Run;

@@ -1,5 +1,0 @@
-use Rattle.transcript_why.specs.Run.{IsRun}
-use Rattle.transcript_why.proofs.run.run_before.Given as goal
-
-abbrev pub invariant-loop : goal.invariant-loop
-invariant-loop l = IsRun l.run

@@ -1,7 +1,0 @@
-use Rattle.std.proofs.Common.{◌≡◌, take}
-use Rattle.std.specs.List.{list_all}
-use Rattle.written_journal.specs.Packed.{is_unmarked}
-use Rattle.written_journal.proofs.pack.all_unmarked.Given as goal
-
-abbrev pub invariant-loop-byte : goal.invariant-loop-byte
-invariant-loop-byte l = l.all ≡ list_all is_unmarked (take l.byte-index l.line)
