@@ -96,9 +96,9 @@ impl Written {
         ensures events_before { OnErr result (self.new.events.items ≡ self.old.events.items) }
     {
         self.text.extend_from_slice(&begun.text)?;
-        self.text.extend_from_slice(&steps.text)?;
-        self.notes.extend_from_slice(&begun.notes)?;
-        self.notes.extend_from_slice(&steps.notes)?;
+        append(&mut self.text, &steps.text)?;
+        append(&mut self.notes, &begun.notes)?;
+        append(&mut self.notes, &steps.notes)?;
         self.events.push(event)?;
         Ok(())
     }
@@ -162,6 +162,20 @@ const LONG: usize = 65_536;
 
 /// The room that a long text gets.
 const ROOM: usize = 2_097_152;
+
+/// Appends items, of which there are none or one as a rule: most events have no steps, and what happened is one line.
+#[inline(always)]
+fn append<T: Copy>(list: &mut Vec<T>, items: &[T]) -> Result<(), NoMemory>
+    ensures ok { OnOk result (list.new.items ≡ list.old.items ++ items.now) }
+    ensures err { OnErr result (list.new.items ≡ list.old.items) }
+{
+    match items {
+        [] => {}
+        [one] => list.push(*one)?,
+        _ => list.extend_from_slice(items)?,
+    }
+    Ok(())
+}
 
 /// The same number. There is no room for one that is greater.
 fn in_four_bytes(number: usize) -> Result<u32, NoMemory>
