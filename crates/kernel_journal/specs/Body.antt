@@ -20,6 +20,10 @@ use Rattle.kernel_journal.specs.declared.body.Body.{Body}
 use Rattle.kernel_journal.specs.declared.fault.Stop.{Stop}
 use Rattle.kernel_journal.specs.declared.fault.Stop.TheVariants as stop
 
+-- the events that a run has at most: so no number of a kernel comes to its end
+abbrev pub most_events : ℕ
+most_events = 2 ^ 31
+
 -- how far a body has come
 abbrev pub course_of : Body → Course
 course_of b =
@@ -29,7 +33,7 @@ course_of b =
 pub record IsReady (b : Body) : Type 0 where
   pub valid : IsValid b.setting
   pub nodes : AreNodes b.setting b.nodes.nodes.items
-  pub few : b.events ≤ 2 ^ 31
+  pub few : b.events ≤ most_events
 
 -- a process runs at its kernel, and its version has such a call
 abbrev pub CanCall : Setting → World → ℕ → Pid → Call → Type 0

@@ -1,7 +1,7 @@
 //! The entries of a transcript, replayed one line after the other.
 ghost use Rattle.std.specs.Prelude.{◌≡◌, ◌↔◌, ◌≤◌, ◌<◌, [], true, false, IfErr, IfOk, IsTrue, OnOk, length};
 ghost use Rattle.charlotte_calls.specs.Setting.{IsValid};
-ghost use Rattle.kernel_journal.specs.Body.{course_of, AreSameNodes, CanCall, Fails, Goes, IsNoted, IsReady, Passes, StopsAt};
+ghost use Rattle.kernel_journal.specs.Body.{course_of, most_events, AreSameNodes, CanCall, Fails, Goes, IsNoted, IsReady, Passes, StopsAt};
 ghost use Rattle.kernel_journal.specs.declared.fault.Stop.TheVariants as stops;
 ghost use Rattle.transcript_replay.specs.Header.{is_body};
 ghost use Rattle.transcript_replay.specs.Course.{comes_after, course_start};
@@ -55,7 +55,7 @@ impl Body {
 
     /// Whether no step is due and the run may have one event more.
     pub(crate) fn may_go_on(&self) -> bool
-        ensures { IsTrue result ↔ ((self.now.due ≡ []) × (self.now.events < 2147483648)) }
+        ensures { IsTrue result ↔ ((self.now.due ≡ []) × (self.now.events < most_events)) }
     {
         self.due.is_empty() && self.events < MOST_EVENTS
     }
@@ -133,7 +133,7 @@ impl Body {
 
     /// Notes an event that happened, if the entry line has its stamp and may stand there.
     pub(crate) fn note(&mut self, stamp: u64, kernel: u8, noted: Noted) -> Result<(), Stop>
-        requires few { self.old.events < 2147483648 }
+        requires few { self.old.events < most_events }
         ensures noted { OnOk result (IsNoted stamp kernel noted self.old self.new) }
         ensures differs { IfErr result (λ stop. (stop ≡ stops.Differs)
             × (noted.stamp ≡ stamp → IsTrue (comes_after self.old.latest stamp kernel) → ⊥)) }

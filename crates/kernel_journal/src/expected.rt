@@ -2,7 +2,7 @@
 ghost use Rattle.std.specs.Prelude.{◌≡◌, ◌<◌, ◌++◌, [], IfErr, IfOk, MatchBool, OnOk};
 ghost use Rattle.charlotte_packets.specs.declared.picture.PictureWhat.{PictureWhat as AWhat};
 ghost use Rattle.charlotte_calls.specs.declared.setting.Setting.{Setting as ASetting};
-ghost use Rattle.kernel_journal.specs.Body.{Goes, IsReady, StopsAt};
+ghost use Rattle.kernel_journal.specs.Body.{Goes, IsReady, StopsAt, most_events};
 ghost use Rattle.kernel_journal.specs.Expected.{ReadsDue, ReadsFirst, Stands, TookNext, Waits, told_packet};
 ghost use Rattle.charlotte_text.specs.Reading.{parts};
 ghost use Rattle.charlotte_text.specs.Spelling.{line_feed};
@@ -86,7 +86,7 @@ impl Body {
     /// The first packet from a kernel to another, which waits, is taken.
     fn take_first(&mut self, ahead: PacketAhead) -> Result<(), Stop>
         requires ready { IsReady self.old }
-        requires go { (self.old.due ≡ []) × (self.old.events < 2147483648) }
+        requires go { (self.old.due ≡ []) × (self.old.events < most_events) }
         requires waits { (what : AWhat) × Waits self.old ahead.from ahead.kernel what }
         ensures ready { OnOk result (IsReady self.new) }
         ensures leads { OnOk result ((what : AWhat) → Waits self.old ahead.from ahead.kernel what → Goes self.old (line.PacketEntry ahead.stamp ahead.kernel ahead.from (told_packet what)) self.new) }
