@@ -16,6 +16,7 @@ use Rattle.kernel_process.specs.Parts.{process_state, process_at, ended, with_pa
 use Rattle.kernel_process.specs.declared.process.ControlBlock.{ControlBlock}
 use Rattle.kernel_sound.specs.Sound.{IsSound}
 use Rattle.kernel_step.specs.Kernel.{Process, begins, closes, next_stamp, process_of, take_step, with_process}
+
 -- a kernel in the state that its parts have
 pub state-parts : (v : KernelView) (xs : List ControlBlock) → map process_state xs ≡ v.processes → with_parts (entries v.table) xs (state_of v) ≡ state_of v
 unfolding with_parts state_of
