@@ -6,7 +6,7 @@ use Rattle.typing_rules.specs.Exceptions.{exception_text}
 use Rattle.typing_rules.specs.declared.exception.Exception.{Exception}
 use Rattle.lynx_meaning.specs.Code.{Next, Goes, Over, Comes, Stuck, Opened, Program, Kind, Global, Local, Thread, with_outcome, takes_outcome, again, answered, asks, by_link, by_truth, by_values, closes, closes_accept, compares, connects, cut, decides, ends}
 use Rattle.lynx_meaning.specs.Code.{gives, goes, handles, instead, jumps, loads, loads_member, one_int, puts, raises, raises_in, stores, stores_member, step, stuck, fetched, tries_again, two_alike, two_ints, untries, variables, with_variables, writes}
-use Rattle.lynx_meaning.specs.Courses.{Action, Answer, Moment, New, Destroy, Bind, Unbind, Connect, Accept, Close, Reply, Write, Await, Stop, Ended, Waits, Out, after}
+use Rattle.lynx_meaning.specs.Courses.{Action, Answer, Outcome, Moment, New, Destroy, Bind, Unbind, Connect, Accept, Close, Reply, Write, Await, Stop, Ended, Waits, Out, after}
 use Rattle.lynx_meaning.specs.Values.{Value, Given, Int, Truth, Text, Row, Link, add, divide, member, multiply, negate, reduce, subtract, truth_eq, value_eq, with_member, written}
 use Rattle.machine_turns.specs.Threads.{Standing, Made, Went, Acts, Awaits, Ends, Broken, acted, answers, comes_of, goes_on, in_turn, is_await, is_empty, is_fresh, last_action, made}
 use Rattle.machine_turns.specs.Threads as threads
@@ -255,7 +255,7 @@ made_is_no_try awaits s (Over (Comes (Ended actions store))) asks = tt
 made_is_no_try awaits s (Over (Comes (Out actions))) asks = tt
 made_is_no_try awaits s (Over Stuck) asks = tt
 
-some_answers : (globals : List Value) (given : List threads.Outcome) → is_empty given ≡ false → answers globals given ≡ [] → ⊥
+some_answers : (globals : List Value) (given : List Outcome) → is_empty given ≡ false → answers globals given ≡ [] → ⊥
 some_answers globals [] some e = cc
 some_answers globals (o ∷ os) some e = cc
 

@@ -5,7 +5,7 @@ use Rattle.lynx_meaning.specs.Values.{Value, Link}
 use Rattle.machine_values.specs.Told.{values_of}
 use Rattle.machine_turns.specs.Threads.{Standing, Made, Went, Acts, Awaits, Ends}
 use Rattle.lynx_meaning.specs.Courses.{Outcome}
-use Rattle.machine_turns.specs.Threads as threads
+use Rattle.lynx_meaning.specs.Needs as needs
 use Rattle.machine_thread.specs.declared.action.Action.{Action}
 use Rattle.machine_thread.specs.declared.action.Action.TheVariants as action
 use Rattle.machine_thread.specs.declared.action.Given.{Given}
@@ -31,11 +31,11 @@ abbrev pub outcome_of : Given → Outcome
 outcome_of (given.Values values) = Ok (values_of values.items)
 outcome_of (given.Raise exception) = Err exception
 
-abbrev pub wanted_of : Wanted → threads.Wanted
-wanted_of wanted.NoValue = threads.NoValue
-wanted_of wanted.TwoLinks = threads.TwoLinks
-wanted_of (wanted.Results op) = threads.Results op
-wanted_of (wanted.Arguments op) = threads.Arguments op
+abbrev pub wanted_of : Wanted → needs.Wanted
+wanted_of wanted.NoValue = needs.NoValue
+wanted_of wanted.TwoLinks = needs.TwoLinks
+wanted_of (wanted.Results op) = needs.Results op
+wanted_of (wanted.Arguments op) = needs.Arguments op
 
 -- what came of an instruction, which left these variables of the module and this thread
 abbrev pub told : Move → List Value → Standing → Made
