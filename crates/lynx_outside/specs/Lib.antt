@@ -6,4 +6,5 @@ pub mod Planned
 pub mod Status
 pub mod Listed
 pub mod Host
+pub mod System
 pub mod Noted

@@ -16,11 +16,13 @@ mod law;
 mod list_files;
 mod list_sink;
 mod log;
+mod opener;
 mod planned;
 mod sink;
 mod status;
 mod sure_files;
 mod sure_sink;
+mod system;
 
 pub use files::{FileAnswer, Files};
 pub use host_files::HostFiles;
