@@ -4,10 +4,12 @@ use Rattle.std.specs.Io.KnownBytes.{Appends}
 use Rattle.std.specs.IoError.{error_kind}
 use Rattle.std.specs.declared.io.Error.{Error}
 use Rattle.std.specs.declared.io.ErrorKind.{ErrorKind}
-use Rattle.std.specs.declared.io.ErrorKind.TheVariants.{NotFound, OutOfMemory}
+use Rattle.std.specs.declared.io.ErrorKind.TheVariants.{NotFound, OutOfMemory, Interrupted}
 use Rattle.lynx_outside.specs.Files.{IsAnswer}
 use Rattle.lynx_outside.specs.Logged.{Read}
-use Rattle.lynx_outside.specs.System.{SystemCall, Opening}
+use Rattle.lynx_outside.specs.System.{SystemCall, Opening, Writing}
+use Rattle.lynx_outside.specs.declared.system.WriteAnswer.{WriteAnswer}
+use Rattle.lynx_outside.specs.declared.system.WriteAnswer.TheVariants as answer
 use Rattle.lynx_outside.specs.declared.files.FileAnswer.{FileAnswer}
 use Rattle.lynx_outside.specs.declared.files.FileAnswer.TheVariants.{Absent, TooBig, Failed, NoMemory}
 
@@ -46,6 +48,20 @@ abbrev pub ReadsOne : List SystemCall → List SystemCall → Option (List ℕ) 
 ReadsOne old new held read =
     (refusal : Option FileAnswer) × (new ≡ old ++ Opening read.name refusal ∷ [])
     × MatchOption refusal (ReadsWhole held read.most read.answer) (λ why. read.answer ≡ Err why)
+
+-- what an error of the system means for a write
+abbrev pub failed_by : ErrorKind → WriteAnswer
+failed_by Interrupted = answer.Interrupted
+failed_by _ = answer.Failed
+
+-- what a write answered
+abbrev pub answer_of_write : Result ℕ Error → WriteAnswer
+answer_of_write (Ok taken) = answer.Took taken
+answer_of_write (Err error) = failed_by (error_kind error)
+
+-- a write of these bytes that answered so
+abbrev pub writing_of : List ℕ → Result ℕ Error → SystemCall
+writing_of bytes result = Writing bytes (answer_of_write result)
 
 -- Ok hands exactly the bytes to the writer, an Err a prefix of them.
 abbrev pub Writes : {T E : Type 0} → Option (List ℕ) → Option (List ℕ) → List ℕ → Result T E → Type 0

@@ -6,5 +6,6 @@ pub mod Planned
 pub mod Status
 pub mod Listed
 pub mod Host
+pub mod Writing
 pub mod System
 pub mod Noted

@@ -23,6 +23,7 @@ mod status;
 mod sure_files;
 mod sure_sink;
 mod system;
+mod writer;
 
 pub use files::{FileAnswer, Files};
 pub use host_files::HostFiles;
