@@ -9,3 +9,4 @@ pub mod Host
 pub mod Writing
 pub mod System
 pub mod Noted
+pub mod Started

@@ -23,6 +23,7 @@ mod status;
 mod sure_files;
 mod sure_sink;
 mod system;
+mod words;
 mod writer;
 
 pub use files::{FileAnswer, Files};
@@ -35,3 +36,4 @@ pub use sink::{Failed, Sink};
 pub use status::Status;
 pub use sure_files::SureFiles;
 pub use sure_sink::SureSink;
+pub use words::{HostWords, Words, WordsFault, read_words};
