@@ -11,7 +11,7 @@ use Rattle.lynx_outside.specs.System.{SystemCall, Opening, Writing}
 use Rattle.lynx_outside.specs.declared.system.WriteAnswer.{WriteAnswer}
 use Rattle.lynx_outside.specs.declared.system.WriteAnswer.TheVariants as answer
 use Rattle.lynx_outside.specs.declared.files.FileAnswer.{FileAnswer}
-use Rattle.lynx_outside.specs.declared.files.FileAnswer.TheVariants.{Absent, TooBig, Failed, NoMemory}
+use Rattle.lynx_outside.specs.declared.files.FileAnswer.TheVariants.{Absent, Failed, NoMemory}
 
 -- a part of the host, how many calls over it failed, and the log of all calls
 pub record Hosted (H E : Type 0) : Type 0 where
