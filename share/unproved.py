@@ -1,6 +1,6 @@
 #!/usr/bin/env python3
-"""Runs a command of the program by the same sources, compiled without a proof: unproved.py TOP --for PARENT [COMMAND] FILE, with a line `NAME NEED ..`
-for each crate on standard input, that of the program first. It ends where the process PARENT, which waits for it, has ended.
+"""Runs a command of the program by the same sources, compiled without a proof: unproved.py TOP CRATES --for PARENT [COMMAND] FILE, where CRATES
+has a line `NAME NEED ..` for each crate, that of the program first. It ends where the process PARENT, which waits for it, has ended.
 
 The toolchain's `rt try` compiles the sources with checks, and runs them in a folder of its own, for 60 seconds at most, with at most 1 MiB of output.
 What the program puts on its streams, and its status, are handed on, with one line behind it on standard error: that nothing of this was proved.
@@ -18,6 +18,9 @@ import time
 NOT_BUILT = 70
 # A line of progress each so many seconds.
 STEP = 15
+STANDARD_INPUT = "/dev/stdin"
+# A byte more than the longest file that a command reads.
+MOST_KEPT = 67_108_865
 # What `rt try` adds to the program's standard error where that ended: its two last lines.
 ENDED = re.compile(rb"(?:^|\n)checked: [^\n]*\nrun=ended status=(\d+) [^\n]*\n*\Z")
 # The names under which `rt try` lends a file to the program: in its folder, and none of its own.
@@ -34,13 +37,22 @@ class Lent:
     def __init__(self, name):
         self.name = name
         self.there = os.path.abspath(name)
-        if not os.path.isfile(self.there):
+        self.copy = None
+        if not os.path.exists(self.there) or os.path.isdir(self.there):
             # a folder is a read fault by its whole name, and what is absent is absent by that too
             self.called = self.there
-        elif PLAIN.match(name):
-            self.called = name
-        else:
-            self.called = f"the_file_that_was_named_{os.getpid()}"
+            return
+        if not os.path.isfile(self.there) or name == STANDARD_INPUT:
+            self.keep()
+        self.called = name if PLAIN.match(name) else f"the_file_that_was_named_{os.getpid()}"
+
+    def keep(self):
+        """A copy of what another program can not read here, as standard input or a pipe."""
+        self.copy = tempfile.NamedTemporaryFile()
+        with open(self.name, "rb") as file:
+            self.copy.write(file.read(MOST_KEPT))
+        self.copy.flush()
+        self.there = self.copy.name
 
     def words(self):
         return ["--data", f"{self.called}={self.there}"] if os.path.isfile(self.there) else []
@@ -92,8 +104,8 @@ def hand_on(out, err, lent):
 
 
 def main():
-    top, _, parent, *words = sys.argv[1:]
-    crates = [line.split()[0] for line in sys.stdin]
+    top, needs, _, parent, *words = sys.argv[1:]
+    crates = [line.split()[0] for line in needs.splitlines()]
     *command, name = words
     lent = Lent(name)
     say(f"{len(crates)} crates are compiled without a proof, for this call alone: a minute or two")
