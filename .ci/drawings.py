@@ -6,6 +6,7 @@ that shares no code with share/draw: who holds an end comes from the service lin
 has to be one that may send such a packet.
 """
 
+import ast
 import re
 import subprocess
 import sys
@@ -15,6 +16,12 @@ from dataclasses import dataclass, field
 from pathlib import Path
 
 TOP = Path(__file__).resolve().parent.parent
+sys.dont_write_bytecode = True
+sys.path.insert(0, str(TOP / "share/draw"))
+
+from run import follow  # noqa: E402
+from transcript import Refused, read  # noqa: E402
+
 EXAMPLES = TOP / "examples"
 DRAW = [sys.executable, str(TOP / "share/draw/draw.py")]
 SVG = "{http://www.w3.org/2000/svg}"
@@ -467,6 +474,9 @@ def try_refusals(tries: Tries, folder: Path) -> None:
     def edited(line: int, *texts: str) -> str:
         return "".join(text + "\n" for text in good[:line - 1] + list(texts) + good[line:])
 
+    def noted(*notes: str) -> str:
+        return edited(len(good), *notes, good[-1])
+
     cases = [
         ("nothing", "", 1), ("a script", (EXAMPLES / "moving_end.script").read_text(), 1),
         ("no line feed at the end", "\n".join(good), len(good)),
@@ -482,14 +492,22 @@ def try_refusals(tries: Tries, folder: Path) -> None:
         ("a packet that was not sent", edited(12, "2 k0 from 1 want 0.0a 2 1 0"), 12),
         ("a packet from another kernel", edited(12, "2 k0 from 2 want 0.0a 1 1 0"), 12),
         ("a service line of no form", edited(13, ". matched 0.0a 1"), 13),
-        ("a wrong service line", edited(13, ". match 0.0a 2"), 13), ("a service line left out", edited(13), 12),
+        ("a wrong service line", edited(13, ". match 0.0a 2"), 13), ("a service line left out", edited(13), 13),
         ("a service line too many", edited(13, good[12], good[12]), 14),
-        ("a service line of a call left out", edited(9), 8),
+        ("a service line of a call left out", edited(9), 9),
         ("a refusal of a call that is allowed", edited(9, ". refuse p0 Busy"), 9),
         ("a report of another message", edited(25, ". report p1 0.0b in done mine +2.0b"), 25),
         ("a report without its ends", edited(25, ". report p1 0.0b in done yours"), 25),
         ("a last line that is wrong", edited(len(good), "open"), len(good)),
         ("a line behind the last", "".join(x + "\n" for x in good + ["quiet"]), len(good) + 1),
+        ("a note of a line past 32 bits", noted("note 4294967296 nothing"), len(good)),
+        ("notes out of order", noted("note 7 waits", "note 7 nothing"), len(good) + 1),
+        ("a note before `spent`", edited(len(good), "note 7 waits", "spent 0"), len(good) + 1),
+        ("`spent` of a kernel that is not there", edited(len(good), "spent 3"), len(good)),
+        ("a kernel that is not there", edited(8, "1 k3 p0 send 0.0a yours"), 8),
+        ("a wrong service line, and a line of no form far behind it", edited(13, ". match 0.0a 2").replace("quiet", "quite"), len(good)),
+        ("a stamp that is wrong, and one past 64 bits behind it", edited(8, "2" + good[7][1:]).replace("\n4 ", "\n18446744073709551616 ", 1),
+         next(number for number, line in enumerate(good, 1) if line.startswith("4 "))),
     ]
     for name, text, line in cases:
         file = folder / "case"
@@ -499,6 +517,36 @@ def try_refusals(tries: Tries, folder: Path) -> None:
         right = said.startswith(f"{file}:{line}: transcript: ") and said.count("\n") == 1
         tries.expect(right and made.returncode == 4 and not made.stdout, f"refused: {name}",
                      f"status {made.returncode}, {said.strip()}; wanted line {line}")
+    for name, text in (("notes", noted("note 0 waits", "note 4294967295 nothing")), ("`spent`", edited(len(good), "spent 2"))):
+        (folder / "case").write_text(text)
+        made = draw(str(folder / "case"))
+        tries.expect(made.returncode == 0, f"drawn: {name}", made.stderr.decode())
+
+
+def rows_of(name: str) -> list[tuple[str, bytes]]:
+    """The rows of a table of .ci/rows, each an answer of `audit` and a text."""
+    rows = [line.partition(" | ") for line in (TOP / ".ci/rows" / name).read_text(encoding="ascii").split("\n") if line and not line.startswith("#")]
+    return [(named, ast.literal_eval(f"b{text}")) for named, _, text in rows]
+
+
+def line_refused(text: bytes) -> int | None:
+    """The line at which `draw` refuses a text; none where it draws it."""
+    try:
+        follow(read(text))
+    except Refused as refused:
+        return refused.line
+    return None
+
+
+def try_rows(tries: Tries) -> None:
+    """`draw` names the lines that `audit` names (.ci/checks/audits), and takes the texts that it accepts."""
+    for versions, line in rows_of("lines"):
+        for version in "12":
+            text = f"transcript {version}\nkernels 1\nprocess 0 on 0\nwire 0 0\n9 k0 p0 make\n".encode() + line + b"\nquiet\n"
+            named = 5 if version in versions else 6
+            tries.expect(line_refused(text) == named, f"the line {line!r} in version {version}", f"line {line_refused(text)}; wanted {named}")
+    for named, text in rows_of("texts"):
+        tries.expect(str(line_refused(text) or "yes") == named, f"the text {text!r}", f"line {line_refused(text)}; wanted {named}")
 
 
 def try_words(tries: Tries, folder: Path) -> None:
@@ -507,7 +555,9 @@ def try_words(tries: Tries, folder: Path) -> None:
     for words in ((), ("a", "b")):
         made = draw(*words)
         tries.expect(made.returncode == 1 and made.stderr.startswith(b"lynx: usage\n"), f"{len(words)} words are no command")
-    for file, status, text in ((absent, 6, "absent"), (folder, 2, "read fault")):
+    file = folder / "file"
+    file.write_text("")
+    for file, status, text in ((absent, 6, "absent"), (folder, 2, "read fault"), (file / "below", 2, "read fault")):
         made = draw(str(file))
         said = made.stderr.decode()
         tries.expect(made.returncode == status and said == f"lynx: {file}: {text}\n", f"a file with the answer {text}")
@@ -517,6 +567,19 @@ def try_words(tries: Tries, folder: Path) -> None:
     made = draw(str(long))
     said = made.stderr.decode()
     tries.expect(made.returncode == 8 and ": too big: more than 1000 events" in said, "a run of 100,000 events is too long", said)
+
+
+def try_names(tries: Tries, folder: Path) -> None:
+    """Files whose names are no UTF-8, or have what an SVG can not hold."""
+    text = (EXAMPLES / "moving_end.transcript").read_bytes()
+    for name, status in ((b"\xff", 1), (b"\x01\x1b\n]]>&<\"", 0), ("\uffff\U0001f600".encode(), 0)):
+        file = bytes(folder) + b"/" + name
+        with open(file, "wb") as written:
+            written.write(text)
+        made = subprocess.run([*DRAW, file], capture_output=True, check=False)
+        said = made.stderr.decode()
+        good = said.startswith("lynx: usage\n") if status else not faults_of(made.stdout, text.decode())
+        tries.expect(made.returncode == status and good, f"a file of the name {name}", said)
 
 
 def try_pages(tries: Tries) -> None:
@@ -536,7 +599,9 @@ def main() -> int:
         try_pages(tries)
         try_wrong_drawings(tries)
         try_refusals(tries, Path(folder))
+        try_rows(tries)
         try_words(tries, Path(folder))
+        try_names(tries, Path(folder))
     print(f"draw: {tries.passed} passed, {tries.failed} failed")
     return 1 if tries.failed else 0
 

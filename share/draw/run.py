@@ -22,6 +22,8 @@ def follow(transcript: Transcript) -> Story:
     for number, entry in enumerate(transcript.entries):
         world.happens(number, entry)
     under_way = world.under_way()
+    if transcript.spent is not None and transcript.spent >= transcript.kernels:
+        raise Refused(transcript.last_line, f"there is no kernel {transcript.spent}")
     if transcript.last == "quiet" and under_way:
         raise Refused(transcript.last_line, "a packet is under way: the last line is not `quiet`")
     if transcript.last == "open" and not under_way:
@@ -43,6 +45,7 @@ class World:
         self.made = [0] * self.kernels
         self.lists = {(j, k): deque() for j in range(self.kernels) for k in range(self.kernels)}
         self.stamp_of: list[int] = []
+        self.latest = (0, -1)
         for first, second in transcript.wires:
             self.wire(first, second)
 
@@ -58,16 +61,31 @@ class World:
         self.story.changes.append(Change(event, here.value.end, f"p{here.owner}"))
 
     def happens(self, number: int, entry: Entry) -> None:
+        self.check_place(entry)
         packet = self.first_packet(entry) if entry.is_packet() else None
         before = max(self.stamps[entry.kernel], self.stamp_of[packet.tail] if packet else 0)
         if entry.stamp != before + 1:
             raise Refused(entry.line, f"the stamp of this event is {before + 1}")
         self.stamps[entry.kernel] = entry.stamp
+        self.latest = (entry.stamp, entry.kernel)
         self.stamp_of.append(entry.stamp)
         event = self.taking(number, entry, packet) if packet else CallEvent(self, number, entry)
         event.happens()
         event.answer_waits()
         event.compare_steps()
+
+    def check_place(self, entry: Entry) -> None:
+        """An event is one of a kernel and a process that are there, and stands in its order."""
+        for kernel in (entry.kernel, entry.sender or 0):
+            if kernel >= self.kernels:
+                raise Refused(entry.line, f"there is no kernel {kernel}")
+        if not entry.is_packet():
+            if entry.process >= len(self.homes):
+                raise Refused(entry.line, f"there is no process {entry.process}")
+            if self.homes[entry.process] != entry.kernel:
+                raise Refused(entry.line, f"process {entry.process} is at home on kernel {self.homes[entry.process]}")
+        if (entry.stamp, entry.kernel) <= self.latest:
+            raise Refused(entry.line, "events stand in the order of their stamps, and then of their kernels")
 
     def taking(self, number: int, entry: Entry, packet: Packet) -> PacketEvent:
         self.lists[entry.sender, entry.kernel].popleft()
