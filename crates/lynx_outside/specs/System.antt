@@ -31,5 +31,6 @@ call_of-parts (Writing bytes answer) = refl
 abbrev pub calls_code : Coded (List SystemCall)
 calls_code =
     coded_list (code_by CallParts
-    (coded⊎ (coded× (coded_list coded_ℕ) (coded_option FileAnswerType.the_row.coded)) (coded× (coded_list coded_ℕ) WriteAnswerType.the_row.coded))
+    (coded⊎ (coded× (coded_list coded_ℕ) (coded_option FileAnswerType.the_row.coded))
+    (coded× (coded_list coded_ℕ) WriteAnswerType.the_row.coded))
     parts call_of call_of-parts)

@@ -22,7 +22,8 @@ left_of bytes (Err error) = None
 
 -- what is left after so many interrupted writes: they are tried again, up to the greatest count
 abbrev pub left_tried : List ℕ → ℕ → Option Left
-left_tried bytes interrupted = if interrupted == last_count then None else Some (record { bytes = bytes; interrupted = interrupted })
+left_tried bytes interrupted =
+    if interrupted == last_count then None else Some (record { bytes = bytes; interrupted = interrupted })
 
 -- what is left after a write of all that was left; nothing is where the put has failed
 abbrev pub left_after : Left → WriteAnswer → Option Left
@@ -30,12 +31,13 @@ left_after left (Took n) = if n == 0 then None else begun (drop n left.bytes)
 left_after left Interrupted = left_tried left.bytes (left.interrupted + 1)
 left_after left Failed = None
 
--- These calls, each a write of all that was left, lead from what was left to what is left. None is made where nothing was left, or after a failure.
+-- These calls, each a write of all that was left, lead from the one to the other. None is made where nothing was left, or after a failure.
 abbrev pub Leads : Option Left → List SystemCall → Option Left → Type 0
 Leads old [] new = new ≡ old
 Leads None (call ∷ calls) new = ⊥
 Leads (Some left) (Opening name refusal ∷ calls) new = ⊥
-Leads (Some left) (Writing bytes answer ∷ calls) new = (0 < length left.bytes) × (bytes ≡ left.bytes) × Leads (left_after left answer) calls new
+Leads (Some left) (Writing bytes answer ∷ calls) new =
+    (0 < length left.bytes) × (bytes ≡ left.bytes) × Leads (left_after left answer) calls new
 
 -- the calls that came between two moments lead from the one to the other
 pub record Made (old new : List SystemCall) (from to : Option Left) : Type 0 where

@@ -1,5 +1,6 @@
 //! The words with which the program was started.
-ghost use Rattle.std.specs.Prelude.{◌≡◌, ◌≤◌, ℕ, List, Option, None, Some, IfOk, IfSome, take, drop, map, option_map, string_bytes, vec_len};
+ghost use Rattle.std.specs.Prelude.{◌≡◌, ◌≤◌, ℕ, List, take, drop, map, string_bytes, vec_len};
+ghost use Rattle.std.specs.Prelude.{Option, None, Some, IfOk, IfSome, option_map};
 ghost use Rattle.std.specs.List.{slice_get};
 ghost use Rattle.std.specs.Io.{WritesAtMost};
 ghost use Rattle.lynx_outside.specs.declared.words.WordsFault.TheVariants as faults;
