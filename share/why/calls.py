@@ -1,19 +1,13 @@
 """What is wrong with the form of a call line of a script, `pP CALL`."""
 
-import re
-
 from nearest import nearest
-from reason import Reason, listed
-from spelling import END, Fault, Word, end_fault, respelled, text_fault, words_of
+from reason import Reason, listed, put
+from spelling import END, Fault, Word, end_fault, text_fault
 
 VERBS = ("make", "destroy", "send", "receive", "cancel", "wait", "print", "exit")
 ALONE = ("settle", "take", "kernels", "process", "wire", "version")
 WAYS = ("in", "out")
 MOST_ENDS = {1: 1, 2: 8}
-
-
-def put(line: bytes, at: int, to: int, new: bytes) -> bytes:
-    return line[:at] + new + line[to:]
 
 
 def told(line: bytes, word: Word, fault: Fault | None) -> Reason | None:

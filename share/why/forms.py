@@ -3,9 +3,9 @@
 import re
 from itertools import zip_longest
 
-from calls import VERBS, call_fault, put
+from calls import VERBS, call_fault
 from nearest import nearest
-from reason import Reason, listed
+from reason import Reason, listed, put
 from spelling import PROCESS, Word, number_fault, words_of
 
 # The words of the lines that are no calls; those in capitals stand for numbers.
@@ -136,10 +136,10 @@ def call_in_full(line: bytes, head: Word, rest: list[Word]) -> Reason | None:
 
 
 def lead_fault(line: bytes, words: list[Word]) -> Reason:
-    return line_of_a_transcript(line) or other_comment(line) or other_process(line, words) or other_lead(line, words)
+    return line_of_another_file(line) or other_comment(line) or other_process(line, words) or other_lead(line, words)
 
 
-def line_of_a_transcript(line: bytes) -> Reason | None:
+def line_of_another_file(line: bytes) -> Reason | None:
     call = re.match(rb"[0-9]+ k[0-9]+ (?=p[0-9]+ )", line)
     if call:
         return Reason(0, call.end(), "This is a line of a transcript: a script has the call alone, without stamp and kernel.", line[call.end() :])
@@ -149,6 +149,8 @@ def line_of_a_transcript(line: bytes) -> Reason | None:
         return Reason(0, len(line), "This is a line of a transcript. A script has in its place the line by which the packet is taken.", written)
     if re.match(rb"transcript [12]$|\. [a-z]+|(quiet|open|note|spent)\b", line):
         return Reason(0, len(line), "This is a line of a transcript, which `audit` and `draw` read, and none of a script.")
+    if re.match(rb"module [A-Za-z]\w*;", line):
+        return Reason(0, len(line), "This is the first line of a module, which `check` and `code` read, and none of a script.")
     return None
 
 

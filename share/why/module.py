@@ -2,11 +2,10 @@
 
 import re
 
-from calls import put
-from grammar import Reader, read
+from grammar import read
 from names import name_reason
 from pages import advice, demand
-from reason import Reason
+from reason import Reason, put
 from shown import shown
 from syntax import syntax_reason
 from tokens import PIECE, tokens_of

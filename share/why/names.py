@@ -1,10 +1,9 @@
 """Why a name of a module is refused: it is declared twice, or not, or as something else."""
 
-from calls import put
 from grammar import Declared, Reader
 from nearest import nearest
 from pages import advice
-from reason import Reason, listed
+from reason import Reason, listed, put
 from tokens import Token
 
 EXCEPTIONS = ("BUSYLINK", "DEADLINK", "NOLINK", "DIVIDE", "OVERFLOW", "RANGE", "FAILED", "REPLIED", "LINKSFULL")

@@ -20,3 +20,8 @@ def listed(words) -> str:
     """`a`, `b` and `c`"""
     quoted = [f"`{word}`" for word in words]
     return " and ".join(filter(None, [", ".join(quoted[:-1]), quoted[-1]]))
+
+
+def put(line: bytes, at: int, to: int, new: bytes) -> bytes:
+    """The line with other bytes in the place of those from `at` up to `to`."""
+    return line[:at] + new + line[to:]

@@ -2,9 +2,8 @@
 
 from dataclasses import dataclass, field
 
-from calls import put
 from forms import form_fault, is_skipped
-from reason import Reason
+from reason import Reason, put
 from spelling import PIECE, Word, words_of
 
 MOST_KERNELS = 8
@@ -133,7 +132,8 @@ def long_text(line: bytes, words: list[Word], given: Given) -> Reason:
     text = words[2] if words[1].text == b"print" else words[3]
     pieces = list(PIECE.finditer(text.text))
     at = text.at + pieces[LONGEST_TEXT].start()
-    return Reason(at, text.to, f"The text has {len(pieces)} bytes, and {LONGEST_TEXT} are the most. The first that is too many stands here.", advice="Send it in several messages.")
+    sentence = f"The text has {len(pieces)} bytes, and {LONGEST_TEXT} are the most. The first that is too many stands here."
+    return Reason(at, text.to, sentence, advice="Send it in several messages.")
 
 
 def many_wires(line: bytes, words: list[Word], given: Given) -> Reason:

@@ -1,10 +1,9 @@
 """Why no module goes on with a token: what may stand in its place."""
 
-from calls import put
 from grammar import RELATIONS, STATEMENTS, Reader, read
 from names import Place
 from nearest import nearest
-from reason import Reason
+from reason import Reason, put
 from tokens import END, KEYWORDS, NAME, NUMBER, STRING, Token
 
 DECLARATIONS = ("op", "param", "var", "entry")

@@ -7,7 +7,10 @@ KEYWORDS = (
     "module begin end op param var entry of int bool text link row if then else while do write await stop raise new destroy bind to unbind from "
     "connect on accept reply try when or and mod not true false"
 ).split()
-PIECE = re.compile(rb"(?P<gap>[ \t\n\r]+|--[^\n]*)|(?P<name>[A-Za-z][A-Za-z0-9_]*)|(?P<number>[0-9]+)|(?P<text>'[ -&(-~]*')|(?P<sign>:=|<>|<=|>=|[;.():,\[\]=<>+*/-])")
+PIECE = re.compile(
+    rb"(?P<gap>[ \t\n\r]+|--[^\n]*)|(?P<name>[A-Za-z][A-Za-z0-9_]*)|(?P<number>[0-9]+)|(?P<text>'[ -&(-~]*')"
+    rb"|(?P<sign>:=|<>|<=|>=|[;.():,\[\]=<>+*/-])"
+)
 NAME, NUMBER, STRING, END = "a name", "a number", "a text", "the end of the file"
 
 

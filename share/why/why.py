@@ -62,14 +62,22 @@ def told(data: bytes, number: int, named: str, reason: Reason | None) -> list[st
     return [*said, f"more: lynx explain {named}"]
 
 
+def bytes_of(name: str) -> bytes:
+    """What the file holds; nothing where it can not be read any more."""
+    try:
+        with open(name, "rb") as file:
+            return file.read()
+    except OSError:
+        return b""
+
+
 def main() -> int:
     kind, name, *command = sys.argv[1:]
     status, kept, refusal = ran(kind, os.fsencode(name), command)
     if status == DONE:
         print("ok")
     elif status == REFUSED and refusal:
-        with open(name, "rb") as file:
-            data = file.read()
+        data = bytes_of(name)
         named = refusal[refusal.lastindex].decode()
         print(*told(data, int(refusal[1]), named, reason_of(kind, data, refusal)), sep="\n")
     sys.stdout.flush()
