@@ -6,6 +6,8 @@ that shares no code with share/draw (.ci/drawn): who holds an end comes from the
 has to be one that may send such a packet.
 """
 
+import ast
+import os
 import re
 import subprocess
 import sys
@@ -19,6 +21,7 @@ sys.path[:0] = [str(TOP / "share/draw"), str(TOP / ".ci/drawn")]
 
 from draw import Answer, answer_to  # noqa: E402
 from faults import faults_of, faults_of_looks, faults_of_texts  # noqa: E402
+from run import fault_of  # noqa: E402
 from seen import SVG, Drawing  # noqa: E402
 
 EXAMPLES = TOP / "examples"
@@ -143,6 +146,9 @@ def try_refusals(tries: Tries, folder: Path) -> None:
     def edited(line: int, *texts: str) -> str:
         return "".join(text + "\n" for text in good[:line - 1] + list(texts) + good[line:])
 
+    def noted(*notes: str) -> str:
+        return edited(len(good), *notes, good[-1])
+
     cases = [
         ("nothing", "", 1), ("a script", (EXAMPLES / "moving_end.script").read_text(), 1),
         ("no line feed at the end", "\n".join(good), len(good)),
@@ -158,14 +164,22 @@ def try_refusals(tries: Tries, folder: Path) -> None:
         ("a packet that was not sent", edited(12, "2 k0 from 1 want 0.0a 2 1 0"), 12),
         ("a packet from another kernel", edited(12, "2 k0 from 2 want 0.0a 1 1 0"), 12),
         ("a service line of no form", edited(13, ". matched 0.0a 1"), 13),
-        ("a wrong service line", edited(13, ". match 0.0a 2"), 13), ("a service line left out", edited(13), 12),
+        ("a wrong service line", edited(13, ". match 0.0a 2"), 13), ("a service line left out", edited(13), 13),
         ("a service line too many", edited(13, good[12], good[12]), 14),
-        ("a service line of a call left out", edited(9), 8),
+        ("a service line of a call left out", edited(9), 9),
         ("a refusal of a call that is allowed", edited(9, ". refuse p0 Busy"), 9),
         ("a report of another message", edited(25, ". report p1 0.0b in done mine +2.0b"), 25),
         ("a report without its ends", edited(25, ". report p1 0.0b in done yours"), 25),
         ("a last line that is wrong", edited(len(good), "open"), len(good)),
         ("a line behind the last", "".join(x + "\n" for x in good + ["quiet"]), len(good) + 1),
+        ("a note of a line past 32 bits", noted("note 4294967296 nothing"), len(good)),
+        ("notes out of order", noted("note 7 waits", "note 7 nothing"), len(good) + 1),
+        ("a note before `spent`", edited(len(good), "note 7 waits", "spent 0"), len(good) + 1),
+        ("`spent` of a kernel that is not there", edited(len(good), "spent 3"), len(good)),
+        ("a kernel that is not there", edited(8, "1 k3 p0 send 0.0a yours"), 8),
+        ("a wrong service line, and a line of no form far behind it", edited(13, ". match 0.0a 2").replace("quiet", "quite"), len(good)),
+        ("a stamp that is wrong, and one past 64 bits behind it", edited(8, "2" + good[7][1:]).replace("\n4 ", "\n18446744073709551616 ", 1),
+         next(number for number, line in enumerate(good, 1) if line.startswith("4 "))),
     ]
     for name, text, line in cases:
         file = folder / "case"
@@ -175,6 +189,10 @@ def try_refusals(tries: Tries, folder: Path) -> None:
         tries.expect(right and made.status == 4, f"refused: {name}", f"status {made.status}, {made.text}; wanted line {line}")
         faults = faults_of_part(made, text, line)
         tries.expect(not faults, f"refused: {name}: what stands before is drawn", *faults)
+    for name, text in (("notes", noted("note 0 waits", "note 4294967295 nothing")), ("`spent`", edited(len(good), "spent 2"))):
+        (folder / "case").write_text(text)
+        made = draw(folder / "case")
+        tries.expect(made.status == 0, f"drawn: {name}", made.text)
 
 
 def faults_of_part(made: Answer, text: str, line: int) -> list[str]:
@@ -182,8 +200,9 @@ def faults_of_part(made: Answer, text: str, line: int) -> list[str]:
     if line <= text.count("\nprocess ") + text.count("\nwire ") + 2 or not text.startswith("transcript "):
         return ["there is a drawing"] if made.svg else []
     drawing = Drawing(made.svg.encode())
-    faults = [f"line {one} is drawn" for one in drawing.cards if one >= line]
-    events = [number for number, one in enumerate(text.splitlines(), 1) if number < line and re.match(r"\d+ k\d", one)]
+    first = min(int(group.get("data-line")) for group in drawing.find("g", "wrong") if group.get("data-line"))
+    faults = [f"line {one} is drawn" for one in drawing.cards if one >= first]
+    events = [number for number, one in enumerate(text.splitlines(), 1) if number < first and re.match(r"\d+ k\d", one)]
     faults += [f"line {one} is not drawn" for one in events[:-1] if one not in drawing.cards]
     marks = [group for group in drawing.find("g", "wrong") if group.get("data-line") == str(line)]
     said = " ".join(" ".join(one.text for one in mark.iter(SVG + "text")) for mark in marks)
@@ -192,13 +211,38 @@ def faults_of_part(made: Answer, text: str, line: int) -> list[str]:
     return faults + [f"`{name}` is not told in `{said}`" for name in shown] + faults_of_texts(drawing) + faults_of_looks(drawing)
 
 
+def rows_of(name: str) -> list[tuple[str, bytes]]:
+    """The rows of a table of .ci/rows, each an answer of `audit` and a text."""
+    rows = [line.partition(" | ") for line in (TOP / ".ci/rows" / name).read_text(encoding="ascii").split("\n") if line and not line.startswith("#")]
+    return [(named, ast.literal_eval(f"b{text}")) for named, _, text in rows]
+
+
+def line_refused(text: bytes) -> int | None:
+    """The line at which `draw` refuses a text; none where it draws it."""
+    fault = fault_of(text)
+    return fault.line if fault else None
+
+
+def try_rows(tries: Tries) -> None:
+    """`draw` names the lines that `audit` names (.ci/checks/audits), and takes the texts that it accepts."""
+    for versions, line in rows_of("lines"):
+        for version in "12":
+            text = f"transcript {version}\nkernels 1\nprocess 0 on 0\nwire 0 0\n9 k0 p0 make\n".encode() + line + b"\nquiet\n"
+            named = 5 if version in versions else 6
+            tries.expect(line_refused(text) == named, f"the line {line!r} in version {version}", f"line {line_refused(text)}; wanted {named}")
+    for named, text in rows_of("texts"):
+        tries.expect(str(line_refused(text) or "yes") == named, f"the text {text!r}", f"line {line_refused(text)}; wanted {named}")
+
+
 def try_words(tries: Tries, folder: Path) -> None:
     """Wrong words, files that can't be read, and a run that is too long for a drawing."""
     absent = folder / "absent"
     for words in ((), ("a", "b")):
         made = draw(*words)
         tries.expect(made.status == 1 and made.text.startswith("lynx: usage\n"), f"{len(words)} words are no command")
-    for file, status, text in ((absent, 6, "absent"), (folder, 2, "read fault")):
+    file = folder / "file"
+    file.write_text("")
+    for file, status, text in ((absent, 6, "absent"), (folder, 2, "read fault"), (file / "below", 2, "read fault")):
         made = draw(file)
         tries.expect(made.status == status and made.text == f"lynx: {file}: {text}", f"a file with the answer {text}")
     long = folder / "long"
@@ -208,6 +252,18 @@ def try_words(tries: Tries, folder: Path) -> None:
     tries.expect(made.status == 8 and ": too big: more than 1000 events" in made.text, "a run of 100,000 events is too long", made.text)
     made = draw(long, "--from=1000", "--to", "1999")
     tries.expect(made.status == 0, "a thousand of its events are drawn", made.text)
+
+
+def try_names(tries: Tries, folder: Path) -> None:
+    """Files whose names are no UTF-8, or have what an SVG can not hold."""
+    text = (EXAMPLES / "moving_end.transcript").read_bytes()
+    for name, status in ((b"\xff", 1), (b"\x01\x1b\n]]>&<\"", 0), ("\uffff\U0001f600".encode(), 0)):
+        file = bytes(folder) + b"/" + name
+        with open(file, "wb") as written:
+            written.write(text)
+        made = draw(os.fsdecode(file))
+        good = made.text.startswith("lynx: usage\n") if status else not faults_of(made.svg.encode(), text.decode())
+        tries.expect(made.status == status and good, f"a file of the name {name}", made.text)
 
 
 def try_streams(tries: Tries, folder: Path) -> None:
@@ -240,7 +296,9 @@ def main() -> int:
         try_pages(tries)
         try_wrong_drawings(tries)
         try_refusals(tries, Path(folder))
+        try_rows(tries)
         try_words(tries, Path(folder))
+        try_names(tries, Path(folder))
         try_choices(tries)
         try_processes(tries, Path(folder))
         try_streams(tries, Path(folder))

@@ -62,7 +62,8 @@ class Event:
         if len(printed) > len(self.steps):
             raise Refused(printed[len(self.steps)].line, "this event has no such service line")
         if len(printed) < len(self.steps):
-            raise Refused(self.entry.line, f"the service line `. {self.steps[len(printed)]}` of this event is missing")
+            behind = self.entry.line + len(printed) + 1
+            raise Refused(behind, f"the service line `. {self.steps[len(printed)]}` of the event above is missing")
 
     def send_want(self, here: Here, name: str, manner: str) -> None:
         value = here.value

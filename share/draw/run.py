@@ -13,7 +13,7 @@ from collections import deque
 from calls import CallEvent
 from packets import PacketEvent
 from state import Arrow, Change, Destroyed, Here, Left, Packet, Process, Story, Value
-from transcript import Entry, Refused, Transcript
+from transcript import Entry, Refused, Transcript, read
 
 
 def follow(transcript: Transcript) -> Story:
@@ -32,6 +32,12 @@ def follow(transcript: Transcript) -> Story:
     return world.story
 
 
+def fault_of(data: bytes) -> Refused | None:
+    """Where this text is not the transcript of a run: the line that is named, and why. A line that no transcript has comes first."""
+    transcript = read(data)
+    return transcript.fault or follow(transcript).fault
+
+
 class World:
     """All kernels and the packets between them."""
 
@@ -45,6 +51,7 @@ class World:
         self.made = [0] * self.kernels
         self.lists = {(j, k): deque() for j in range(self.kernels) for k in range(self.kernels)}
         self.stamp_of: list[int] = []
+        self.latest = (0, -1)
         for first, second in transcript.wires:
             self.wire(first, second)
 
@@ -60,16 +67,31 @@ class World:
         self.story.changes.append(Change(event, here.value.end, f"p{here.owner}"))
 
     def happens(self, number: int, entry: Entry) -> None:
+        self.check_place(entry)
         packet = self.first_packet(entry) if entry.is_packet() else None
         before = max(self.stamps[entry.kernel], self.stamp_of[packet.tail] if packet else 0)
         if entry.stamp != before + 1:
             raise Refused(entry.line, f"the stamp of this event is {before + 1}")
         self.stamps[entry.kernel] = entry.stamp
+        self.latest = (entry.stamp, entry.kernel)
         self.stamp_of.append(entry.stamp)
         event = self.taking(number, entry, packet) if packet else CallEvent(self, number, entry)
         event.happens()
         event.answer_waits()
         event.compare_steps()
+
+    def check_place(self, entry: Entry) -> None:
+        """An event is one of a kernel and a process that are there, and stands in its order."""
+        for kernel in (entry.kernel, entry.sender or 0):
+            if kernel >= self.kernels:
+                raise Refused(entry.line, f"there is no kernel {kernel}")
+        if not entry.is_packet():
+            if entry.process >= len(self.homes):
+                raise Refused(entry.line, f"there is no process {entry.process}")
+            if self.homes[entry.process] != entry.kernel:
+                raise Refused(entry.line, f"process {entry.process} is at home on kernel {self.homes[entry.process]}")
+        if (entry.stamp, entry.kernel) <= self.latest:
+            raise Refused(entry.line, "events stand in the order of their stamps, and then of their kernels")
 
     def taking(self, number: int, entry: Entry, packet: Packet) -> PacketEvent:
         self.lists[entry.sender, entry.kernel].popleft()
@@ -87,6 +109,8 @@ class World:
 
     def compare_last(self, transcript: Transcript) -> None:
         is_quiet = not any(self.lists.values())
+        if transcript.spent is not None and transcript.spent >= self.kernels:
+            raise Refused(transcript.last_line, f"there is no kernel {transcript.spent}")
         if transcript.last == "quiet" and not is_quiet:
             raise Refused(transcript.last_line, "a packet is under way: the last line is not `quiet`")
         if transcript.last == "open" and is_quiet:

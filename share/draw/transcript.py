@@ -7,32 +7,41 @@ CAUSES = ("NoEnd", "Busy", "Dead", "EncloseNoEnd", "EncloseBusy", "EncloseSame",
           "LinksFull", "EncloseTwice")
 MOST_KERNELS, MOST_PROCESSES, MOST_WIRES, MOST_BYTES = 8, 64, 4096, 256
 MOST_EVENTS = 1_000
-GREATEST_LINE = 4294967295
 
-NUMBER = r"(?:0|[1-9][0-9]{0,19})"
-END = rf"{NUMBER}\.{NUMBER}[ab]"
+
+def up_to(most: int) -> str:
+    """The form of the numbers up to this one, which has several digits. None has a zero in front."""
+    digits = str(most)
+    forms = ["0", f"[1-9][0-9]{{0,{len(digits) - 2}}}", digits]
+    for at, digit in enumerate(digits):
+        least = 0 if at else 1
+        if int(digit) > least:
+            forms.append(f"{digits[:at]}[{least}-{int(digit) - 1}][0-9]{{{len(digits) - at - 1}}}")
+    return f"(?:{'|'.join(forms)})"
+
+
+U8, U16, U32, U64 = (up_to(2**bits - 1) for bits in (8, 16, 32, 64))
+END = rf"{U8}\.{U32}[ab]"
 TEXT = r"[A-Za-z0-9_.%]+|-"
 ENDS = rf"(?: \+{END})*"
-VALUES = rf"(?: \+{END}(?::{NUMBER}){{7}}:[01]:{NUMBER})*"
+VALUES = rf"(?: \+{END}:{U32}:{U8}(?::{U32}){{5}}:[01]:{U8})*"
 
-HEADER = re.compile(rf"(?:process (?P<i>{NUMBER}) on (?P<k>{NUMBER})|wire (?P<a>{NUMBER}) (?P<b>{NUMBER}))")
-ENTRY = re.compile(rf"(?P<stamp>{NUMBER}) k(?P<kernel>{NUMBER}) "
-                   rf"(?:p(?P<process>{NUMBER}) (?P<call>.+)|from (?P<sender>{NUMBER}) (?P<packet>.+))")
+HEADER = re.compile(rf"(?:process (?P<i>{U16}) on (?P<k>{U8})|wire (?P<a>{U16}) (?P<b>{U16}))")
+ENTRY = re.compile(rf"(?P<stamp>{U64}) k(?P<kernel>{U8}) (?:p(?P<process>{U16}) (?P<call>.+)|from (?P<sender>{U8}) (?P<packet>.+))")
 CALL = re.compile(rf"make|wait|exit|(?:destroy|receive) (?:{END})|cancel (?:{END}) (?:in|out)"
                   rf"|print (?:{TEXT})|send (?:{END}) (?:{TEXT}){ENDS}")
-PACKET = re.compile(rf"(?:want|unwant|unwanted|taken) {END}(?: {NUMBER}){{3}}"
-                    rf"|parcel {END}(?: {NUMBER}){{4}} (?:{TEXT}){VALUES}|back {END} {NUMBER}{VALUES}"
-                    rf"|(?:gone|known|forget) {END} {NUMBER}|moved {END} {NUMBER} {NUMBER}|goneseen {END}")
-STEP = re.compile(rf"\. (?:make {END} {END}|refuse p{NUMBER} (?:{'|'.join(CAUSES)})"
-                  rf"|(?:destroy|receive|withdraw|free) {END}|send {END} {NUMBER}{ENDS}|cancel {END} (?:in|out)"
-                  rf"|(?:wait|exit) p{NUMBER}|(?:match|complete) {END} {NUMBER}|take {END} {NUMBER} p{NUMBER}(?: late)?"
-                  rf"|notice {END}(?: dead)?|back {END} {NUMBER}(?: dead)?"
-                  rf"|report p{NUMBER} {END} (?:out done|out destroyed{ENDS}|in done (?:{TEXT}){ENDS}|in destroyed))")
-NOTE = re.compile(rf"note (?P<line>{NUMBER}) (?:nothing|waits)")
-LAST = re.compile(rf"quiet|open|spent (?P<kernel>{NUMBER})")
+PACKET = re.compile(rf"(?:want|unwant|unwanted|taken) {END} {U32} {U8} {U32}"
+                    rf"|parcel {END} {U32} {U32} {U8} {U32} (?:{TEXT}){VALUES}|back {END} {U32}{VALUES}"
+                    rf"|gone {END} {U8}|(?:known|forget) {END} {U32}|moved {END} {U8} {U32}|goneseen {END}")
+STEP = re.compile(rf"\. (?:make {END} {END}|refuse p{U16} (?:{'|'.join(CAUSES)})"
+                  rf"|(?:destroy|receive|withdraw|free) {END}|send {END} {U32}{ENDS}|cancel {END} (?:in|out)"
+                  rf"|(?:wait|exit) p{U16}|(?:match|complete) {END} {U32}|take {END} {U32} p{U16}(?: late)?"
+                  rf"|notice {END}(?: dead)?|back {END} {U32}(?: dead)?"
+                  rf"|report p{U16} {END} (?:out done|out destroyed{ENDS}|in done (?:{TEXT}){ENDS}|in destroyed))")
+NOTE = re.compile(rf"note (?P<line>{U32}) (?:nothing|waits)")
+LAST = re.compile(rf"quiet|open|spent (?P<kernel>{U8})")
 A_TEXT = re.compile(r"-|(?:[A-Za-z0-9_.]|%[0-9A-F]{2})+")
 ESCAPE = re.compile(r"%(..)")
-AN_END = re.compile(rf"\+?({END})(?::.*)?")
 
 
 class Refused(Exception):
@@ -100,6 +109,7 @@ class Transcript:
     entries: list[Entry] = field(default_factory=list)
     notes: list[str] = field(default_factory=list)
     last: str = ""
+    spent: int | None = None
     last_line: int = 0
     is_headed: bool = False
     is_cut: bool = False
@@ -132,7 +142,7 @@ def read_header(transcript: Transcript, lines: Lines) -> int:
     if first not in ("transcript 1", "transcript 2"):
         raise Refused(1, "a transcript begins with `transcript 1` or `transcript 2`")
     transcript.version = int(first[-1])
-    second = re.fullmatch(rf"kernels ({NUMBER})", line_at(lines, 1, "`kernels N`"))
+    second = re.fullmatch(rf"kernels ({U8})", line_at(lines, 1, "`kernels N`"))
     if not second or not 1 <= int(second[1]) <= MOST_KERNELS:
         raise Refused(2, "`kernels N` with 1 to 8 kernels belongs here")
     transcript.kernels = int(second[1])
@@ -149,11 +159,13 @@ def add_header_line(transcript: Transcript, found: re.Match, number: int) -> Non
             raise Refused(number, "a process line can't stand behind a wire")
         if int(found["i"]) != len(transcript.homes) or len(transcript.homes) == MOST_PROCESSES:
             raise Refused(number, f"processes are numbered 0, 1, 2 and so on, up to {MOST_PROCESSES - 1}")
-        check_kernel(transcript, found["k"], number)
+        if int(found["k"]) >= transcript.kernels:
+            raise Refused(number, f"there is no kernel {found['k']}")
         transcript.homes.append(int(found["k"]))
         return
     for name in (found["a"], found["b"]):
-        check_process(transcript, name, number)
+        if int(name) >= len(transcript.homes):
+            raise Refused(number, f"there is no process {name}")
     if len(transcript.wires) == MOST_WIRES:
         raise Refused(number, f"there are at most {MOST_WIRES} wires")
     transcript.wires.append((int(found["a"]), int(found["b"])))
@@ -161,15 +173,12 @@ def add_header_line(transcript: Transcript, found: re.Match, number: int) -> Non
 
 def read_entries(transcript: Transcript, lines: Lines, at: int, first: int, last: int | None) -> int:
     """Reads the entries with their service lines, and tells which line comes next."""
-    before, drawn = (0, -1), 0
+    drawn = 0
     while (line := lines.at(at)) is not None:
         if line.startswith(". "):
             add_step(transcript, line, at + 1)
         elif found := ENTRY.fullmatch(line):
             entry = entry_of(transcript, found, at + 1)
-            if (entry.stamp, entry.kernel) <= before:
-                raise Refused(at + 1, "events stand in the order of their stamps, and then of their kernels")
-            before = (entry.stamp, entry.kernel)
             if last is not None and entry.stamp > last:
                 transcript.is_cut = True
                 return at
@@ -184,22 +193,13 @@ def read_entries(transcript: Transcript, lines: Lines, at: int, first: int, last
 
 
 def entry_of(transcript: Transcript, found: re.Match, number: int) -> Entry:
-    check_kernel(transcript, found["kernel"], number)
-    kernel = int(found["kernel"])
-    if found["process"] is not None:
-        check_process(transcript, found["process"], number)
-        process, sender, what = int(found["process"]), None, found["call"]
-        if transcript.homes[process] != kernel:
-            raise Refused(number, f"process {process} is at home on kernel {transcript.homes[process]}")
-        known = CALL
-    else:
-        check_kernel(transcript, found["sender"], number)
-        process, sender, what = None, int(found["sender"]), found["packet"]
-        known = PACKET
+    what = found["call"] or found["packet"]
+    known = CALL if found["call"] else PACKET
     if not known.fullmatch(what):
         raise Refused(number, "no call has this form" if known is CALL else "no packet has this form")
     check_words(transcript, what, number)
-    return Entry(number, int(found["stamp"]), kernel, process, sender, what)
+    stamp, kernel, process, sender = (found[name] and int(found[name]) for name in ("stamp", "kernel", "process", "sender"))
+    return Entry(number, stamp, kernel, process, sender, what)
 
 
 def add_step(transcript: Transcript, line: str, number: int) -> None:
@@ -212,7 +212,7 @@ def add_step(transcript: Transcript, line: str, number: int) -> None:
 
 
 def check_words(transcript: Transcript, text: str, number: int) -> None:
-    """Tests what the forms of lines leave open: texts, the numbers of ends, and how many ends a message has."""
+    """Tests what the forms of lines leave open: texts, and how many ends a message has."""
     words = text.removeprefix(". ").split(" ")
     place = {"send": 2, "print": 1, "parcel": 6}.get(words[0])
     if words[0] == "send" and text.startswith(". "):
@@ -221,17 +221,8 @@ def check_words(transcript: Transcript, text: str, number: int) -> None:
         place = 5
     if place is not None:
         check_text(words[place], number)
-    for at, word in enumerate(words):
-        if at != place and (found := AN_END.fullmatch(word)):
-            check_end(found[1], number)
     if sum(word.startswith("+") for word in words) > (1 if transcript.version == 1 else 8):
         raise Refused(number, "a message has at most one end in version 1, at most eight in version 2")
-
-
-def check_end(end: str, number: int) -> None:
-    maker, count = end[:-1].split(".")
-    if int(maker) > 255 or int(count) > 4294967295:
-        raise Refused(number, f"{end} is no end: its maker is past 255 or its count past 4294967295")
 
 
 def check_text(text: str, number: int) -> None:
@@ -250,8 +241,6 @@ def check_text(text: str, number: int) -> None:
 def read_notes(transcript: Transcript, lines: Lines, at: int) -> int:
     before = -1
     while found := matched(NOTE, lines.at(at)):
-        if int(found["line"]) > GREATEST_LINE:
-            raise Refused(at + 1, f"no script has a line past {GREATEST_LINE}")
         if int(found["line"]) <= before:
             raise Refused(at + 1, "notes stand in the order of the script's lines")
         before = int(found["line"])
@@ -264,13 +253,12 @@ def read_last(transcript: Transcript, lines: Lines, at: int) -> None:
     found = LAST.fullmatch(line_at(lines, at, "`quiet`, `open` or `spent K`"))
     if not found:
         raise Refused(at + 1, "no line of a transcript that can stand here")
-    if found["kernel"] is not None:
-        check_kernel(transcript, found["kernel"], at + 1)
-        if transcript.notes:
-            raise Refused(at + 1, "`spent` stands behind no note")
+    if found["kernel"] and transcript.notes:
+        raise Refused(at + 1, "`spent` stands behind no note")
     if lines.at(at + 1) is not None:
         raise Refused(at + 2, "the transcript has ended with the line before")
     transcript.last = found[0]
+    transcript.spent = found["kernel"] and int(found["kernel"])
     transcript.last_line = at + 1
 
 
@@ -284,13 +272,3 @@ def line_at(lines: Lines, at: int, wanted: str) -> str:
     if line is None:
         raise Refused(at + 1, f"the text ends here, and {wanted} is missing")
     return line
-
-
-def check_kernel(transcript: Transcript, name: str, number: int) -> None:
-    if int(name) >= transcript.kernels:
-        raise Refused(number, f"there is no kernel {name}")
-
-
-def check_process(transcript: Transcript, name: str, number: int) -> None:
-    if int(name) >= len(transcript.homes):
-        raise Refused(number, f"there is no process {name}")

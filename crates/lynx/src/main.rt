@@ -2,10 +2,8 @@
 #![tactic(auto)]
 
 use lynx_command::Failure;
-use lynx_outside::{HostFiles, HostSink};
+use lynx_outside::{HostFiles, HostSink, HostWords, WordsFault, read_words};
 use lynx_run::{fail, lynx};
-use std::env;
-use std::io::{self, ErrorKind};
 use std::process::ExitCode;
 
 fn main(rt: HostRuntime) -> ExitCode {
@@ -13,24 +11,17 @@ fn main(rt: HostRuntime) -> ExitCode {
     let mut files = HostFiles::of(&rt);
     let mut out = HostSink::of(rt.stdout());
     let mut err = HostSink::of(rt.stderr());
-    let status = match words(&rt) {
+    let status = match read_words(alloc, &HostWords::of(&rt)) {
         Ok(words) => lynx(alloc, words, &mut files, &mut out, &mut err),
-        Err(failure) => fail(alloc, failure, &mut err),
+        Err(fault) => fail(alloc, failure_of(fault), &mut err),
     };
     ExitCode::from(status.number())
 }
 
-// The words after the program's name. Words that are not text are not of the form of a command.
-fn words(rt: &HostRuntime) -> Result<Vec<String>, Failure> {
-    let args = env::args(rt).map_err(failure_of)?;
-    args.skip(1)
-        .collect(rt.alloc())
-        .map_err(|_| Failure::NoMemory)
-}
-
-fn failure_of(error: io::Error) -> Failure {
-    match error.kind() {
-        ErrorKind::OutOfMemory => Failure::NoMemory,
-        _ => Failure::Usage,
+// Words that are not text are not of the form of a command.
+fn failure_of(fault: WordsFault) -> Failure {
+    match fault {
+        WordsFault::NotText => Failure::Usage,
+        WordsFault::NoMemory => Failure::NoMemory,
     }
 }

@@ -2,3 +2,4 @@ pub mod Chains
 pub mod Listings
 pub mod Pieces
 pub mod Walks
+pub mod Readings

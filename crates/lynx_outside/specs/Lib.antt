@@ -6,4 +6,7 @@ pub mod Planned
 pub mod Status
 pub mod Listed
 pub mod Host
+pub mod Writing
+pub mod System
 pub mod Noted
+pub mod Started

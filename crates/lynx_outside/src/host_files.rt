@@ -1,49 +1,57 @@
 //! Files of the host.
-ghost use Rattle.std.specs.Prelude.{◌≡◌, ◌↔◌, ◌⊎◌, ◌<◌, ◌≤◌, [], None, IfOk, IfSome, IsErrOf, length, take};
+ghost use Rattle.std.specs.Prelude.{◌≡◌, ◌↔◌, ◌⊎◌, ◌≤◌, ◌∷◌, ◌++◌, [], None, IfOk, IfSome, length, take};
 ghost use Rattle.std.specs.IoError.{error_kind};
-ghost use Rattle.lynx_outside.specs.Host.{Hosted};
+ghost use Rattle.lynx_outside.specs.Files.{read_of, answer_of, IsWithin, counted_read};
+ghost use Rattle.lynx_outside.specs.Host.{Hosted, ReadsOne, ReadsWhole, refused_by};
 ghost use Rattle.lynx_outside.specs.Logged.{Read as Logged};
 
 use crate::faults::raised;
 use crate::log::{ReadLog, ReadNote};
+use crate::opener::{HostOpener, Opener, refused_by};
 use crate::{FileAnswer, Files};
 use std::alloc::Global;
 use std::io::{ErrorKind, Read};
 use std::marker::Model;
-use std::{fs, io, rt};
+use std::{io, rt};
 
-/// Files of the host. It tells nothing of what they hold.
+/// Files of an opener. It tells nothing of what they hold.
 #[derive(Drop)]
-pub struct HostFiles<R> {
-    host: R,
+pub struct HostFiles<O> {
+    opener: O,
     faults: u64,
     log: ReadLog,
 }
 
-impl<R> Model for HostFiles<R> {
-    ghost Value = { Hosted R Logged };
+impl<O> Model for HostFiles<O> {
+    ghost Value = { Hosted O Logged };
 
-    ghost view = { λ a. record { host = a.host; faults = a.faults; log = a.log.reads } };
+    ghost view = { λ a. record { host = a.opener; faults = a.faults; log = a.log.reads } };
 }
 
-impl<R: rt::Files> HostFiles<R> {
+impl<R: rt::Files> HostFiles<HostOpener<R>> {
     /// The files of this host, without a fault.
-    pub fn of(host: R) -> HostFiles<R>
-        ensures { result ≡ record { host = host; faults = 0; log = [] } }
+    pub fn of(host: R) -> HostFiles<HostOpener<R>>
+        ensures { result ≡ record { host = record { host = host; calls = [] }; faults = 0; log = [] } }
     {
         HostFiles {
-            host,
+            opener: HostOpener::of(host),
             faults: 0,
             log: ReadLog::new(),
         }
     }
 }
 
-impl<R: rt::Files> Files for HostFiles<R> {
+impl<O: Opener> Files for HostFiles<O> {
     ghost state = { λ a. record { contents = None; faults = a.faults; log = a.log } };
 
-    fn read(&mut self, alloc: Global, name: &str, most: u32) -> Result<Vec<u8>, FileAnswer> {
-        let answer = read_file(alloc, &self.host, name, most);
+    /// Opens the file of that name alone, once, and reads it to its end, or to one byte past `most`.
+    fn read(&mut self, alloc: Global, name: &str, most: u32) -> Result<Vec<u8>, FileAnswer>
+        ensures opened { ReadsOne (O.calls self.old.host) (O.calls self.new.host) (O.holds self.old.host name.now) (read_of name.now most result) }
+        ensures within { IsWithin (read_of name.now most result) }
+        ensures counted { self.new.faults ≡ counted_read self.old.faults (answer_of result) }
+        ensures logged { self.new.log ≡ self.old.log ++ read_of name.now most result ∷ [] }
+    {
+        let answer = read_file(alloc, &mut self.opener, name, most);
         if matches!(answer, Err(FileAnswer::Failed)) {
             self.faults = raised(self.faults);
         }
@@ -56,24 +64,23 @@ impl<R: rt::Files> Files for HostFiles<R> {
     }
 }
 
-fn read_file<R: rt::Files>(
+fn read_file<O: Opener>(
     alloc: Global,
-    host: &R,
+    opener: &mut O,
     name: &str,
     most: u32,
 ) -> Result<Vec<u8>, FileAnswer>
-    ensures { IfOk result (λ bytes. length bytes.items ≤ most) }
+    ensures opened { ReadsOne (O.calls opener.old) (O.calls opener.new) (O.holds opener.old name.now) (read_of name.now most result) }
+    ensures within { IsWithin (read_of name.now most result) }
 {
-    let file = fs::open(host, name).map_err(answer_to_open)?;
+    let file = opener.open(name).map_err(answer_to_open)?;
     read_whole(alloc, file, most)
 }
 
 // Reads to the end, but no more than one byte past `most`.
 fn read_whole<F: Read + Drop>(alloc: Global, file: F, most: u32) -> Result<Vec<u8>, FileAnswer>
+    ensures whole { ReadsWhole (F.remaining file) most (answer_of result) }
     ensures within { IfOk result (λ bytes. length bytes.items ≤ most) }
-    ensures whole { IfOk result (λ bytes. IfSome (F.remaining file) (λ held. bytes.items ≡ held)) }
-    ensures too_big { IsErrOf result FileAnswer.TooBig → IfSome (F.remaining file) (λ held. most < length held) }
-    ensures there { ¬ IsErrOf result FileAnswer.Absent }
 {
     let bytes = read_front(alloc, file, u64::from(most) + 1).map_err(answer_to_read)?;
     if bytes.len() > most as usize {
@@ -92,12 +99,9 @@ fn read_front<F: Read + Drop>(alloc: Global, file: F, limit: u64) -> io::Result<
 }
 
 fn answer_to_open(error: io::Error) -> FileAnswer
-    ensures { (result ≡ FileAnswer.Absent) ↔ (error_kind error ≡ ErrorKind.NotFound) }
+    ensures { result ≡ refused_by (error_kind error) }
 {
-    match error.kind() {
-        ErrorKind::NotFound => FileAnswer::Absent,
-        _ => answer_to_read(error),
-    }
+    refused_by(error.kind())
 }
 
 fn answer_to_read(error: io::Error) -> FileAnswer
