@@ -1,415 +1,34 @@
 #!/usr/bin/env python3
-"""Tries share/draw on each transcript of examples/.
+"""Tries share/draw on each transcript of examples/, and on some that are wrong, long or of many kernels. `--write` makes the drawings of examples/.
 
-The drawings are read by the places and colours of what is drawn, and compared with the transcript in a second way
-that shares no code with share/draw: who holds an end comes from the service lines alone, and the event at the tail of an arrow
+The drawings are read by the places, colours and shapes of what is drawn, and compared with the transcript in a second way
+that shares no code with share/draw (.ci/drawn): who holds an end comes from the service lines alone, and the event at the tail of an arrow
 has to be one that may send such a packet.
 """
 
 import ast
+import os
 import re
 import subprocess
 import sys
 import tempfile
 import xml.etree.ElementTree as ElementTree
-from dataclasses import dataclass, field
 from pathlib import Path
 
 TOP = Path(__file__).resolve().parent.parent
 sys.dont_write_bytecode = True
-sys.path.insert(0, str(TOP / "share/draw"))
+sys.path[:0] = [str(TOP / "share/draw"), str(TOP / ".ci/drawn")]
 
-from run import follow  # noqa: E402
-from transcript import Refused, read  # noqa: E402
+from draw import Answer, answer_to  # noqa: E402
+from faults import faults_of, faults_of_looks, faults_of_texts  # noqa: E402
+from run import fault_of  # noqa: E402
+from seen import SVG, Drawing  # noqa: E402
 
 EXAMPLES = TOP / "examples"
 DRAW = [sys.executable, str(TOP / "share/draw/draw.py")]
-SVG = "{http://www.w3.org/2000/svg}"
-LEARNING = ("want", "unwant", "unwanted", "parcel", "taken", "moved")
-
-
-# The transcript
-
-
-@dataclass
-class Event:
-    line: int
-    stamp: int
-    kernel: int
-    sender: int | None
-    words: list[str]
-    steps: list[list[str]] = field(default_factory=list)
-
-    def has(self, *step: str) -> bool:
-        return any(tuple(words[:len(step)]) == step for words in self.steps)
-
-    def took(self, *words: str) -> bool:
-        return self.sender is not None and tuple(self.words[:len(words)]) == words
-
-
-@dataclass
-class Told:
-    """What a transcript tells: its events, and after each event the holder of each end and the ends that are known to be dead."""
-    events: list[Event]
-    holders: list[dict[str, str]]
-    dead: list[set[str]]
-    asked: list[dict[str, int]]
-    last: str
-
-
-def other(end: str) -> str:
-    return end[:-1] + {"a": "b", "b": "a"}[end[-1]]
-
-
-def told_by(text: str) -> Told:
-    homes: list[int] = []
-    service = Service()
-    told = Told([], [], [], [], "")
-    for number, line in enumerate(text.splitlines(), 1):
-        words = line.split(" ")
-        if words[0] == "process":
-            homes.append(int(words[3]))
-        elif words[0] == "wire":
-            service.wire(int(words[1]), int(words[2]), homes)
-        elif words[0] == ".":
-            told.events[-1].steps.append(words[1:])
-            service.step(words[1:], told.events[-1])
-        elif words[1:] and words[1].startswith("k"):
-            told.events.append(event_of(number, words))
-        told.last = line
-        if told.events and words[0] in (".", str(told.events[-1].stamp)):
-            service.note(told)
-    return told
-
-
-def event_of(number: int, words: list[str]) -> Event:
-    stamp, kernel = int(words[0]), int(words[1][1:])
-    if words[2] == "from":
-        return Event(number, stamp, kernel, int(words[3]), words[4:])
-    return Event(number, stamp, kernel, None, words[2:])
-
-
-class Service:
-    """The holders of ends, by the table of service steps in docs/WORLD.md."""
-
-    def __init__(self) -> None:
-        self.holder: dict[str, str] = {}
-        self.waiting: dict[str, list[str]] = {}
-        self.matched: dict[tuple[str, str], list[str]] = {}
-        self.dead: set[str] = set()
-        self.asked: dict[str, int] = {}
-        self.made: dict[int, int] = {}
-
-    def wire(self, first: int, second: int, homes: list[int]) -> None:
-        maker = homes[first]
-        link = f"{maker}.{self.made.get(maker, 0)}"
-        self.made[maker] = self.made.get(maker, 0) + 1
-        self.holder[link + "a"], self.holder[link + "b"] = f"p{first}", f"p{second}"
-
-    def note(self, told: Told) -> None:
-        """Notes what holds after the last event, in place of what held after its earlier lines."""
-        at = len(told.events) - 1
-        told.holders[at:] = [dict(self.holder)]
-        told.dead[at:] = [set(self.dead)]
-        told.asked[at:] = [dict(self.asked)]
-
-    def step(self, words: list[str], event: Event) -> None:
-        name, on = words[0], words[1]
-        if name == "make":
-            self.holder[on] = self.holder[words[2]] = event.words[0]
-        elif name == "destroy":
-            self.destroy(on)
-        elif name == "exit":
-            for end in [end for end, holder in self.holder.items() if holder == on]:
-                self.destroy(end)
-        elif name == "send":
-            self.waiting[on] = [word[1:] for word in words[3:]]
-            self.give(self.waiting[on], f"{on} {words[2]}")
-        elif name == "receive":
-            self.asked[on] = self.asked.get(on, 0) + 1
-        elif name == "cancel" and words[2] == "out":
-            self.give(self.waiting.pop(on), self.holder[on])
-        elif name == "match":
-            self.matched[on, words[2]] = self.waiting.pop(on)
-        elif name == "take":
-            self.give(self.matched.pop((on, words[2])), words[3])
-        elif name == "notice":
-            self.notice(on)
-        elif name == "back":
-            self.give(self.matched.pop((on, words[2])), self.holder[on])
-            if self.holder[on] != "destroyed":
-                self.notice(on)
-
-    def give(self, ends: list[str], holder: str) -> None:
-        for end in ends:
-            self.holder[end] = holder
-
-    def destroy(self, end: str) -> None:
-        self.holder[end] = "destroyed"
-        self.give(self.waiting.pop(end, []), "destroyed")
-
-    def notice(self, end: str) -> None:
-        self.dead.add(end)
-        self.give(self.waiting.pop(end, []), self.holder[end])
-
-
-# The drawing
-
-
-@dataclass
-class Box:
-    x: float
-    y: float
-    width: float
-    height: float
-    fill: str = ""
-
-    def covers(self, y: float) -> bool:
-        return self.y <= y <= self.y + self.height
-
-
-@dataclass
-class Arrow:
-    start: tuple[float, float]
-    stop: tuple[float, float]
-    tail: int
-    line: int | None
-    manner: str
-    words: list[str]
-
-
-class Drawing:
-    """The boxes and lines of a drawing."""
-
-    def __init__(self, svg: bytes):
-        self.root = ElementTree.fromstring(svg)
-        self.cards = {int(group.get("data-line")): box_of(group.find(SVG + "rect"))
-                      for group in self.find("g", "card") if group.get("data-line")}
-        self.lanes = {int(group.get("data-line")): int(group.get("data-kernel"))
-                      for group in self.find("g", "card") if group.get("data-line")}
-        self.colours = {"p" + chip.get("data-process"): chip.get("fill") for chip in self.find("rect", "owner")}
-        self.holds = [(rect.get("data-end"), rect.get("data-holder"), box_of(rect)) for rect in self.find("rect", "hold")]
-        self.dead = [(rect.get("data-end"), box_of(rect)) for rect in self.find("rect", "dead") if rect.get("data-end")]
-        self.arrows = [arrow_of(path) for path in self.find("path", "packet")]
-        self.texts = [(text.text, text_box(text)) for text in self.root.iter(SVG + "text")]
-        self.width = float(self.root.get("width"))
-        self.height = float(self.root.get("height"))
-
-    def find(self, tag: str, kind: str) -> list[ElementTree.Element]:
-        return [one for one in self.root.iter(SVG + tag) if kind in (one.get("class") or "").split(" ")]
-
-
-def box_of(rect: ElementTree.Element) -> Box:
-    return Box(*(float(rect.get(name)) for name in ("x", "y", "width", "height")), rect.get("fill") or "")
-
-
-def text_box(text: ElementTree.Element) -> Box:
-    """About the place that a text takes. Letters of these fonts have at most this width, in parts of their size."""
-    look = (text.get("class") or "").split(" ")
-    size = 16 if "title" in look else 12 if "head" in look else 9.5 if "label" in look else 10.5 if "step" in look else 11
-    width = len(text.text) * size * (0.56 if "sans" in look else 0.603)
-    start = {"middle": width / 2, "end": width}.get(text.get("text-anchor") or "", 0)
-    return Box(float(text.get("x")) - start, float(text.get("y")) - size * 0.75, width, size * 0.9)
-
-
-def meet(one: Box, two: Box) -> bool:
-    return (one.x < two.x + two.width and two.x < one.x + one.width
-            and one.y < two.y + two.height and two.y < one.y + one.height)
-
-
-def arrow_of(path: ElementTree.Element) -> Arrow:
-    places = [float(word.lstrip("MLC")) for word in path.get("d").split(" ")]
-    line = path.get("data-line")
-    manner = path.get("class").split(" ")[1]
-    words = path.find(SVG + "title").text.split(" ")
-    return Arrow((places[0], places[1]), (places[-2], places[-1]), int(path.get("data-tail")), int(line) if line else None,
-                 manner, words)
-
-
-def touches(place: tuple[float, float], box: Box) -> bool:
-    x, y = place
-    return box.covers(y) and min(abs(x - box.x), abs(x - box.x - box.width)) < 0.01
-
-
-# Comparing the two
-
-
-def faults_of(svg: bytes, text: str) -> list[str]:
-    """What is wrong with a drawing of this transcript. Empty where nothing is."""
-    try:
-        drawing = Drawing(svg)
-    except ElementTree.ParseError as fault:
-        return [f"no well-formed XML: {fault}"]
-    told = told_by(text)
-    return (faults_of_cards(drawing, told) + faults_of_arrows(drawing, told) + faults_of_holders(drawing, told)
-            + faults_of_texts(drawing))
-
-
-def faults_of_cards(drawing: Drawing, told: Told) -> list[str]:
-    """One box for each event, in the lane of its kernel, lower for a greater stamp."""
-    faults = []
-    if sorted(drawing.cards) != sorted(event.line for event in told.events):
-        return ["there is not one card for each entry line"]
-    for first, second in zip(told.events, told.events[1:]):
-        one, two = drawing.cards[first.line], drawing.cards[second.line]
-        if (one.y < two.y) != (first.stamp < second.stamp):
-            faults.append(f"the cards of lines {first.line} and {second.line} do not stand in the order of their stamps")
-    kernels = {event.kernel: drawing.cards[event.line] for event in told.events}
-    for event in told.events:
-        if drawing.lanes[event.line] != event.kernel or drawing.cards[event.line].x != kernels[event.kernel].x:
-            faults.append(f"the card of line {event.line} does not stand in the lane of its kernel")
-    lanes = [kernels[kernel] for kernel in sorted(kernels)]
-    faults += ["two lanes overlap" for one, two in zip(lanes, lanes[1:]) if one.x + one.width >= two.x]
-    return faults
-
-
-def faults_of_arrows(drawing: Drawing, told: Told) -> list[str]:
-    wanted = sorted(event.line for event in told.events if event.sender is not None)
-    drawn = sorted(arrow.line for arrow in drawing.arrows if arrow.line)
-    if wanted != drawn:
-        return [f"arrows to lines {drawn}, and packets at lines {wanted}"]
-    numbers = {event.line: number for number, event in enumerate(told.events)}
-    if any(arrow.tail not in numbers for arrow in drawing.arrows):
-        return ["an arrow begins at no event"]
-    faults = []
-    for arrow in drawing.arrows:
-        tail = told.events[numbers[arrow.tail]]
-        place = f"arrow from line {arrow.tail} to line {arrow.line}"
-        if not touches(arrow.start, drawing.cards[tail.line]):
-            faults.append(f"{place}: it does not begin at the card of its tail")
-        if not may_send(told, numbers[arrow.tail], arrow.words, arrow.manner):
-            faults.append(f"{place}: that event does not send `{' '.join(arrow.words)}` ({arrow.manner})")
-        if arrow.line:
-            faults += [f"{place}: {fault}" for fault in faults_of_head(drawing, arrow, tail, told.events[numbers[arrow.line]])]
-    return faults + faults_of_order(drawing, told, numbers) + faults_of_counts(drawing, told)
-
-
-def faults_of_head(drawing: Drawing, arrow: Arrow, tail: Event, head: Event) -> list[str]:
-    faults = []
-    if not touches(arrow.stop, drawing.cards[head.line]):
-        faults.append("it does not end at the card of its head")
-    if arrow.words != head.words:
-        faults.append("it names another packet than its head")
-    if tail.kernel != head.sender:
-        faults.append(f"its tail is at kernel {tail.kernel}, and the packet came from kernel {head.sender}")
-    if tail.stamp >= head.stamp:
-        faults.append("its tail is not earlier than its head")
-    return faults
-
-
-def faults_of_order(drawing: Drawing, told: Told, numbers: dict[int, int]) -> list[str]:
-    """From one kernel to another, packets are taken in the order in which they were sent."""
-    latest: dict[tuple[int, int], int] = {}
-    faults = []
-    for arrow in sorted((arrow for arrow in drawing.arrows if arrow.line), key=lambda arrow: arrow.line):
-        head = told.events[numbers[arrow.line]]
-        pair = (head.sender, head.kernel)
-        if arrow.tail < latest.get(pair, 0):
-            faults.append(f"line {arrow.line}: an earlier packet of this pair was sent later")
-        latest[pair] = arrow.tail
-    return faults
-
-
-def faults_of_counts(drawing: Drawing, told: Told) -> list[str]:
-    """Each receive, match and take sends its packet once; nothing is under way at the end of a quiet run."""
-    faults = []
-    for step, packet in (("receive", "want"), ("match", "parcel"), ("take", "taken"), ("withdraw", "unwanted")):
-        steps = sum(words[0] == step for event in told.events for words in event.steps)
-        arrows = sum(arrow.words[0] == packet and arrow.manner == "sent" for arrow in drawing.arrows)
-        if steps != arrows:
-            faults.append(f"{steps} steps {step}, and {arrows} arrows {packet} that begin at one")
-    rest = [arrow for arrow in drawing.arrows if not arrow.line]
-    if (told.last == "open") != bool(rest) and told.last in ("open", "quiet"):
-        faults.append(f"the run ends {told.last}, and {len(rest)} packets are drawn as never taken")
-    return faults
-
-
-def may_send(told: Told, number: int, words: list[str], manner: str) -> bool:
-    """Whether this event can send such a packet so, by the rules of tails in docs/DRAWINGS.md."""
-    tail = told.events[number]
-    name, to = words[0], words[1]
-    if manner == "forwarded":
-        return name in ("want", "unwant", "gone", "moved") and tail.took(*words)
-    if manner == "resent":
-        return name in ("want", "unwant", "moved") and any(tail.took(cause, other(to)) for cause in LEARNING)
-    return may_send_first(told, number, tail, words)
-
-
-def may_send_first(told: Told, number: int, tail: Event, words: list[str]) -> bool:
-    name, to, back = words[0], words[1], other(words[1])
-    before = told.holders[number - 1] if number else {}
-    match name:
-        case "want":
-            return tail.has("receive", back) and told.asked[number][back] == int(words[2])
-        case "unwant":
-            return tail.has("cancel", back, "in") and told.asked[number][back] == int(words[2])
-        case "unwanted":
-            return tail.took("unwant", back, words[2]) and tail.has("withdraw", to)
-        case "parcel":
-            return tail.has("match", back, words[2])
-        case "taken":
-            return tail.took("parcel", back, words[2]) and tail.has("take", to, words[2])
-        case "back":
-            return tail.took("parcel", back, words[2]) and not tail.has("take")
-        case "gone":
-            ended = told.holders[number].get(back) == "destroyed" and before.get(back) != "destroyed"
-            return ended or tail.took("moved", back)
-        case "moved":
-            carried = any(word.startswith(f"+{back}:") for word in tail.words)
-            return carried and (tail.took("parcel") or tail.took("back")) and told.holders[number][back].startswith("p")
-        case "known":
-            return tail.took("moved", back) and tail.words[3] == words[2]
-        case "forget":
-            noticed = tail.has("notice", to) or tail.has("back", to)
-            return noticed or tail.took("known", to, words[2]) or tail.took("goneseen", to) or tail.took("gone", to)
-        case "goneseen":
-            return tail.took("gone", back) or tail.took("back", back)
-    return False
-
-
-def faults_of_holders(drawing: Drawing, told: Told) -> list[str]:
-    """In each row the column of each end has the colour of its holder, and a red edge where it is dead."""
-    faults = []
-    columns = {end: box.x for end, _, box in drawing.holds}
-    if len(set(columns.values())) != len(columns) or any(box.x != columns[end] for end, _, box in drawing.holds):
-        faults.append("an end has not one column of its own")
-    # A row is a stamp, so it shows what holds after the last event of that stamp.
-    rows = {event.stamp: number for number, event in enumerate(told.events)}
-    for number in rows.values():
-        event, holders, dead = told.events[number], told.holders[number], told.dead[number]
-        y = drawing.cards[event.line].y + 3
-        seen = {}
-        for end, holder, box in drawing.holds:
-            if box.covers(y):
-                faults += [f"line {event.line}: {end} has two holders"] if end in seen else []
-                seen[end] = holder
-                if box.fill != drawing.colours.get(holder, "url(#enclosed)"):
-                    faults.append(f"line {event.line}: {end} has not the colour of {holder}")
-        wanted = {end: holder for end, holder in holders.items() if holder != "destroyed"}
-        faults += [f"line {event.line}: {end} is drawn with {seen.get(end)}, and held by {wanted.get(end)}"
-                   for end in sorted(seen.keys() | wanted.keys()) if seen.get(end) != wanted.get(end)]
-        edges = {end for end, box in drawing.dead if box.covers(y)}
-        if edges != {end for end in dead if end in wanted}:
-            faults.append(f"line {event.line}: the dead ends are drawn as {sorted(edges)}")
-    return faults
-
-
-def faults_of_texts(drawing: Drawing) -> list[str]:
-    """No text lies on another, or goes over the edge of the drawing or of its card."""
-    faults = []
-    for number, (text, box) in enumerate(drawing.texts):
-        if box.x < 0 or box.x + box.width > drawing.width or box.y + box.height > drawing.height:
-            faults.append(f"`{text}` goes over the edge of the drawing")
-        for other_text, other_box in drawing.texts[number + 1:]:
-            if meet(box, other_box):
-                faults.append(f"`{text}` lies on `{other_text}`")
-        for card in drawing.cards.values():
-            if meet(box, card) and box.x + box.width > card.x + card.width:
-                faults.append(f"`{text}` goes over the edge of its card")
-    return faults
-
-
-# The cases
+BUSY = TOP / ".ci/drawn/busy.transcript"
+# The width of a screen, in points.
+SCREEN = 1920
 
 
 class Tries:
@@ -427,27 +46,73 @@ class Tries:
             print(f"  {text}")
 
 
-def draw(*words: str) -> subprocess.CompletedProcess:
-    return subprocess.run(DRAW + list(words), capture_output=True, check=False)
+def draw(*words: object) -> Answer:
+    """What `draw` answers to these words, without a process of its own."""
+    return answer_to([str(word) for word in words])
+
+
+def try_drawing(tries: Tries, transcript: Path, *options: str) -> None:
+    made = draw(transcript, *options)
+    name = " ".join([transcript.name, *options])
+    tries.expect(made.status == 0 and not made.text, f"{name}: drawn", made.text)
+    faults = faults_of(made.svg.encode(), transcript.read_text(), "--all" in options)
+    tries.expect(not faults, f"{name}: its drawing", *faults)
 
 
 def try_examples(tries: Tries) -> None:
     for transcript in sorted(EXAMPLES.glob("*.transcript")):
         kept = transcript.with_suffix(".svg")
-        made = draw(str(transcript))
-        tries.expect(made.returncode == 0 and not made.stderr, f"{transcript.name}: drawn", made.stderr.decode())
-        tries.expect(kept.exists() and kept.read_bytes() == made.stdout, f"{kept.name} is the drawing of {transcript.name}")
-        faults = faults_of(made.stdout, transcript.read_text())
-        tries.expect(not faults, f"{transcript.name}: its drawing", *faults)
+        made = draw(transcript)
+        tries.expect(kept.exists() and kept.read_text() == made.svg, f"{kept.name} is the drawing of {transcript.name}")
+        try_drawing(tries, transcript)
+        try_drawing(tries, transcript, "--all")
+    for transcript in sorted((TOP / ".ci/rows/runs").glob("*.transcript")):
+        try_drawing(tries, transcript)
+
+
+def write_examples() -> None:
+    for transcript in sorted(EXAMPLES.glob("*.transcript")):
+        transcript.with_suffix(".svg").write_text(draw(transcript).svg)
+
+
+def try_choices(tries: Tries) -> None:
+    """A run of eight kernels is as wide as a screen, and the words choose of it."""
+    try_drawing(tries, BUSY)
+    text, whole = BUSY.read_text(), Drawing(draw(BUSY).svg.encode())
+    tries.expect(whole.width <= SCREEN, f"250 events of eight kernels are {whole.width:g} points wide; wanted {SCREEN}")
+    stamps = {line: int(one.split(" ")[0]) for line, one in enumerate(text.splitlines(), 1) if re.match(r"\d+ k", one)}
+    part = Drawing(draw(BUSY, "--from", "5", "--to=9").svg.encode())
+    tries.expect(part.cards.keys() == {line for line, stamp in stamps.items() if 5 <= stamp <= 9}, "--from and --to choose rows")
+    tries.expect(part.height < whole.height / 2, "--from and --to make a drawing smaller")
+    some = Drawing(draw("--ends=0.0a,1.0b", BUSY).svg.encode())
+    tries.expect({end for end, _, _ in some.holds} == {"0.0a", "1.0b"}, "--ends chooses ends")
+    every = Drawing(draw(BUSY, "--all").svg.encode())
+    tries.expect(len({end for end, _, _ in every.holds}) == 2 * text.count("\nwire "), "--all shows all ends")
+    eight = EXAMPLES / "eight_ends.transcript"
+    folded, single = Drawing(draw(eight).svg.encode()), Drawing(draw(eight, "--all").svg.encode())
+    tries.expect(folded.height < single.height * 0.6, "events that are alike share a box")
+    for words in (("--from", "9", "--to", "3"), ("--from",), ("--from", "x"), ("--to", "01"), ("--ends", "0.0"), ("--ends", "0.0a,0.0a"),
+                  ("--from=1", "--from=2"), ("--all=1",), ("--every",), ("-a",), ("--from", "100000"), ("--ends", "7.9a")):
+        made = draw(BUSY, *words)
+        tries.expect(made.status == 1 and not made.svg and made.text.startswith("lynx: "), f"{' '.join(words)} is refused", made.text)
+
+
+def try_processes(tries: Tries, folder: Path) -> None:
+    """64 processes are told apart without their colours."""
+    file = folder / "many"
+    homes = "".join(f"process {process} on {process % 8}\n" for process in range(64))
+    file.write_text(f"transcript 1\nkernels 8\n{homes}1 k0 p0 print x\nquiet\n")
+    try_drawing(tries, file)
 
 
 def try_wrong_drawings(tries: Tries) -> None:
     """A drawing with one thing wrong is found out."""
     text = (EXAMPLES / "moving_end.transcript").read_text()
-    svg = draw(str(EXAMPLES / "moving_end.transcript")).stdout.decode()
-    arrows = [line for line in svg.splitlines() if 'class="packet ' in line]
-    holds = [line for line in svg.splitlines() if 'data-holder="p1"' in line]
-    if not arrows or not holds:
+    svg = draw(EXAMPLES / "moving_end.transcript").svg
+    arrows = re.findall(r'<path class="packet .*?</path>', svg, re.DOTALL)
+    holds = re.findall(r'<rect class="hold".*? data-holder="p1".*?</rect>', svg)
+    cards = re.findall(r'<g class="card.*?</g>', svg, re.DOTALL)
+    if not arrows or not holds or not cards:
         return tries.expect(False, "wrong drawings: there is a drawing to change")
     mark = arrows[0].split('data-tail="')[1].split('"')[0]
     wrong = {
@@ -460,7 +125,14 @@ def try_wrong_drawings(tries: Tries) -> None:
         "a holder is missing": svg.replace(holds[-1], "", 1),
         "a holder has another colour": svg.replace(holds[-1], holds[-1].replace('fill="#', 'fill="#1'), 1),
         "a holder is another": svg.replace(holds[-1], holds[-1].replace('"p1"', '"p0"'), 1),
-        "two texts lie on each other": svg.replace(">0.0a<", ">0.0a_0.0a_0.0a_0.0a_0.0a<", 1),
+        "two texts lie on each other": svg.replace(">kernel 0<", f">{'kernel 0' * 9}<", 1),
+        "the legend lacks a packet": svg.replace(">packet about a move<", "><", 1),
+        "the legend has what is not there": svg.replace(">packet about a move<", ">events that are alike<", 1),
+        "two heads of arrows are alike": svg.replace('d="M1 1 L9 5 L1 9"', 'd="M0 1 L10 5 L0 9 z"', 1),
+        "two processes are alike": svg.replace('data-process="1" rx="9" fill="#d55e00"', 'data-process="1" rx="9" fill="#0072b2"', 1),
+        "a colour is for one page alone": svg.replace(".move, .open-move {", ".move {", 1),
+        "there is no description": svg.replace("<desc", "<metadata", 1).replace("</desc", "</metadata", 1),
+        "a box stands above the arrows": svg.replace(cards[0], "", 1).replace("</svg>", cards[0] + "</svg>", 1),
         "a tag is not closed": svg.replace("</svg>", "", 1),
     }
     for name, changed in wrong.items():
@@ -512,15 +184,31 @@ def try_refusals(tries: Tries, folder: Path) -> None:
     for name, text, line in cases:
         file = folder / "case"
         file.write_text(text)
-        made = draw(str(file))
-        said = made.stderr.decode()
-        right = said.startswith(f"{file}:{line}: transcript: ") and said.count("\n") == 1
-        tries.expect(right and made.returncode == 4 and not made.stdout, f"refused: {name}",
-                     f"status {made.returncode}, {said.strip()}; wanted line {line}")
+        made = draw(file)
+        right = made.text.startswith(f"{file}:{line}: transcript: ") and "\n" not in made.text
+        tries.expect(right and made.status == 4, f"refused: {name}", f"status {made.status}, {made.text}; wanted line {line}")
+        faults = faults_of_part(made, text, line)
+        tries.expect(not faults, f"refused: {name}: what stands before is drawn", *faults)
     for name, text in (("notes", noted("note 0 waits", "note 4294967295 nothing")), ("`spent`", edited(len(good), "spent 2"))):
         (folder / "case").write_text(text)
-        made = draw(str(folder / "case"))
-        tries.expect(made.returncode == 0, f"drawn: {name}", made.stderr.decode())
+        made = draw(folder / "case")
+        tries.expect(made.status == 0, f"drawn: {name}", made.text)
+
+
+def faults_of_part(made: Answer, text: str, line: int) -> list[str]:
+    """What is wrong with the drawing of the events before a wrong line: there is none of a wrong header, and else the line stands in it, and why."""
+    if line <= text.count("\nprocess ") + text.count("\nwire ") + 2 or not text.startswith("transcript "):
+        return ["there is a drawing"] if made.svg else []
+    drawing = Drawing(made.svg.encode())
+    first = min(int(group.get("data-line")) for group in drawing.find("g", "wrong") if group.get("data-line"))
+    faults = [f"line {one} is drawn" for one in drawing.cards if one >= first]
+    events = [number for number, one in enumerate(text.splitlines(), 1) if number < first and re.match(r"\d+ k\d", one)]
+    faults += [f"line {one} is not drawn" for one in events[:-1] if one not in drawing.cards]
+    marks = [group for group in drawing.find("g", "wrong") if group.get("data-line") == str(line)]
+    said = " ".join(" ".join(one.text for one in mark.iter(SVG + "text")) for mark in marks)
+    why = made.text.partition(": transcript: ")[2]
+    shown = [name for name in (f"line {line}", why) if "".join(name.split()) not in "".join(said.split())]
+    return faults + [f"`{name}` is not told in `{said}`" for name in shown] + faults_of_texts(drawing) + faults_of_looks(drawing)
 
 
 def rows_of(name: str) -> list[tuple[str, bytes]]:
@@ -531,11 +219,8 @@ def rows_of(name: str) -> list[tuple[str, bytes]]:
 
 def line_refused(text: bytes) -> int | None:
     """The line at which `draw` refuses a text; none where it draws it."""
-    try:
-        follow(read(text))
-    except Refused as refused:
-        return refused.line
-    return None
+    fault = fault_of(text)
+    return fault.line if fault else None
 
 
 def try_rows(tries: Tries) -> None:
@@ -554,19 +239,19 @@ def try_words(tries: Tries, folder: Path) -> None:
     absent = folder / "absent"
     for words in ((), ("a", "b")):
         made = draw(*words)
-        tries.expect(made.returncode == 1 and made.stderr.startswith(b"lynx: usage\n"), f"{len(words)} words are no command")
+        tries.expect(made.status == 1 and made.text.startswith("lynx: usage\n"), f"{len(words)} words are no command")
     file = folder / "file"
     file.write_text("")
     for file, status, text in ((absent, 6, "absent"), (folder, 2, "read fault"), (file / "below", 2, "read fault")):
-        made = draw(str(file))
-        said = made.stderr.decode()
-        tries.expect(made.returncode == status and said == f"lynx: {file}: {text}\n", f"a file with the answer {text}")
+        made = draw(file)
+        tries.expect(made.status == status and made.text == f"lynx: {file}: {text}", f"a file with the answer {text}")
     long = folder / "long"
     prints = "".join(f"{stamp} k0 p0 print x\n" for stamp in range(1, 100_001))
     long.write_text(f"transcript 1\nkernels 1\nprocess 0 on 0\n{prints}quiet\n")
-    made = draw(str(long))
-    said = made.stderr.decode()
-    tries.expect(made.returncode == 8 and ": too big: more than 1000 events" in said, "a run of 100,000 events is too long", said)
+    made = draw(long)
+    tries.expect(made.status == 8 and ": too big: more than 1000 events" in made.text, "a run of 100,000 events is too long", made.text)
+    made = draw(long, "--from=1000", "--to", "1999")
+    tries.expect(made.status == 0, "a thousand of its events are drawn", made.text)
 
 
 def try_names(tries: Tries, folder: Path) -> None:
@@ -576,10 +261,19 @@ def try_names(tries: Tries, folder: Path) -> None:
         file = bytes(folder) + b"/" + name
         with open(file, "wb") as written:
             written.write(text)
-        made = subprocess.run([*DRAW, file], capture_output=True, check=False)
-        said = made.stderr.decode()
-        good = said.startswith("lynx: usage\n") if status else not faults_of(made.stdout, text.decode())
-        tries.expect(made.returncode == status and good, f"a file of the name {name}", said)
+        made = draw(os.fsdecode(file))
+        good = made.text.startswith("lynx: usage\n") if status else not faults_of(made.svg.encode(), text.decode())
+        tries.expect(made.status == status and good, f"a file of the name {name}", made.text)
+
+
+def try_streams(tries: Tries, folder: Path) -> None:
+    """A process of its own puts the drawing on one stream, and what is wrong on the other."""
+    text, file = BUSY.read_text(), folder / "part"
+    file.write_text(text[:len(text) // 2])
+    for name, status in ((BUSY, 0), (file, 4), (folder, 2)):
+        run, made = subprocess.run([*DRAW, name], capture_output=True, check=False), draw(name)
+        good = run.stdout.decode() == made.svg and run.stderr.decode() == (made.text and made.text + "\n")
+        tries.expect(good and run.returncode == made.status == status, f"{name.name}: status {status}, and both streams", run.stderr.decode())
 
 
 def try_pages(tries: Tries) -> None:
@@ -593,6 +287,9 @@ def try_pages(tries: Tries) -> None:
 
 
 def main() -> int:
+    if sys.argv[1:] == ["--write"]:
+        write_examples()
+        return 0
     tries = Tries()
     with tempfile.TemporaryDirectory() as folder:
         try_examples(tries)
@@ -602,6 +299,9 @@ def main() -> int:
         try_rows(tries)
         try_words(tries, Path(folder))
         try_names(tries, Path(folder))
+        try_choices(tries)
+        try_processes(tries, Path(folder))
+        try_streams(tries, Path(folder))
     print(f"draw: {tries.passed} passed, {tries.failed} failed")
     return 1 if tries.failed else 0
 

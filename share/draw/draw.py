@@ -1,18 +1,20 @@
 #!/usr/bin/env python3
-"""lynx draw TRANSCRIPT: puts a drawing of a run, an SVG, on standard output. docs/DRAWINGS.md tells how to read it."""
+"""lynx draw TRANSCRIPT ..: puts a drawing of a run, an SVG, on standard output. docs/DRAWINGS.md tells how to read it."""
 
 import os
 import re
 import sys
+from dataclasses import dataclass
 
 sys.dont_write_bytecode = True
 if sys.version_info < (3, 10):
     sys.exit("lynx: draw needs Python 3.10 or later")
 
+from choice import NoEnd, NoRow, view_of  # noqa: E402
 from drawing import Drawing  # noqa: E402
 from run import follow  # noqa: E402
-from texts import shown_ends  # noqa: E402
-from transcript import MOST_EVENTS, Refused, TooMany, read  # noqa: E402
+from transcript import MOST_EVENTS, TooMany, read  # noqa: E402
+from words import FORM, NoWords, Wish, wish_of  # noqa: E402
 
 MOST_BYTES = 67_108_864
 MOST_ENDS = 200
@@ -30,6 +32,14 @@ class Stopped(Exception):
         self.text = text
 
 
+@dataclass(frozen=True, slots=True)
+class Answer:
+    """What goes to standard output and to standard error, and the status."""
+    svg: str
+    text: str
+    status: int
+
+
 def read_file(name: str) -> bytes:
     try:
         with open(name, "rb") as file:
@@ -43,19 +53,34 @@ def read_file(name: str) -> bytes:
     return data
 
 
-def drawing_of(name: str) -> str:
-    data = read_file(name)
+def drawn(wish: Wish) -> Answer:
+    """The drawing of the file. Where the text is wrong, it is drawn up to there, if it has a header."""
+    name, data = wish.name, read_file(wish.name)
     try:
-        transcript = read(data)
-        story = follow(transcript)
+        transcript = read(data, wish.first, wish.last)
     except TooMany:
-        raise Stopped(TOO_BIG, f"lynx: {name}: too big: more than {MOST_EVENTS} events, the most that are drawn") from None
-    except Refused as refused:
-        raise Stopped(REFUSED, f"{name}:{refused.line}: transcript: {refused.why}") from None
-    ends = shown_ends(transcript, story, MOST_ENDS)
-    if len(ends) > MOST_ENDS:
-        raise Stopped(TOO_BIG, f"lynx: {name}: too big: {len(ends)} ends, and a drawing has at most {MOST_ENDS}")
-    return Drawing(transcript, story, ends, title_of(name)).draw()
+        most = f"more than {MOST_EVENTS} events, the most that are drawn; --from and --to choose"
+        raise Stopped(TOO_BIG, f"lynx: {name}: too big: {most}") from None
+    story = follow(transcript)
+    fault = transcript.fault or story.fault
+    text = f"{name}:{fault.line}: transcript: {fault.why}" if fault else ""
+    if fault and not transcript.is_headed:
+        raise Stopped(REFUSED, text)
+    view = viewed(wish, transcript, story, data)
+    return Answer(Drawing(view, title_of(name)).draw(), text, REFUSED if fault else DONE)
+
+
+def viewed(wish: Wish, transcript, story, data: bytes):
+    try:
+        view = view_of(wish, transcript, story, data)
+    except NoEnd as none:
+        raise Stopped(USAGE, f"lynx: {wish.name}: no end {none}") from None
+    except NoRow:
+        raise Stopped(USAGE, f"lynx: {wish.name}: no event has such a stamp") from None
+    if len(view.ends) > MOST_ENDS:
+        most = f"{len(view.ends)} ends, and a drawing has at most {MOST_ENDS}; --ends chooses"
+        raise Stopped(TOO_BIG, f"lynx: {wish.name}: too big: {most}")
+    return view
 
 
 def title_of(name: str) -> str:
@@ -68,29 +93,38 @@ def is_text(word: str) -> bool:
     return not re.search(r"[\uD800-\uDFFF]", word)
 
 
-def main(words: list[str]) -> int:
+def answer_to(words: list[str]) -> Answer:
     try:
-        if len(words) != 1 or not is_text(words[0]):
-            raise Stopped(USAGE, "lynx: usage\n  lynx draw TRANSCRIPT > DRAWING.svg")
-        svg = drawing_of(words[0])
+        if not all(map(is_text, words)):
+            raise NoWords
+        return drawn(wish_of(words))
+    except NoWords:
+        return Answer("", f"lynx: usage\n  {FORM} > DRAWING.svg", USAGE)
     except Stopped as stopped:
-        if sys.stderr:
-            sys.stderr.write(f"{stopped.text}\n")
-        return stopped.status
-    return put(svg)
+        return Answer("", stopped.text, stopped.status)
 
 
-def put(svg: str) -> int:
-    if sys.stdout is None:
+def main(words: list[str]) -> int:
+    answer = answer_to(words)
+    if answer.svg and not put(answer.svg):
         return WRITE_FAULT
+    if answer.text and sys.stderr:
+        sys.stderr.write(f"{answer.text}\n")
+    return answer.status
+
+
+def put(svg: str) -> bool:
+    """Puts the drawing on standard output, and tells whether all of it was taken."""
+    if sys.stdout is None:
+        return False
     try:
         sys.stdout.buffer.write(svg.encode("utf-8"))
         sys.stdout.flush()
     except OSError:
         # what is left in the buffer must not fail once more at the end
         os.dup2(os.open(os.devnull, os.O_WRONLY), sys.stdout.fileno())
-        return WRITE_FAULT
-    return DONE
+        return False
+    return True
 
 
 if __name__ == "__main__":

@@ -13,23 +13,29 @@ from collections import deque
 from calls import CallEvent
 from packets import PacketEvent
 from state import Arrow, Change, Destroyed, Here, Left, Packet, Process, Story, Value
-from transcript import Entry, Refused, Transcript
+from transcript import Entry, Refused, Transcript, read
 
 
 def follow(transcript: Transcript) -> Story:
-    """What happens in a run: its arrows in the order of their heads, and the changes of holders in order."""
+    """What happens in a run: its arrows in the order of their heads, and the changes of holders in order. Where an event can't be, what
+    happens before it, and why it can't."""
     world = World(transcript)
-    for number, entry in enumerate(transcript.entries):
-        world.happens(number, entry)
-    under_way = world.under_way()
-    if transcript.spent is not None and transcript.spent >= transcript.kernels:
-        raise Refused(transcript.last_line, f"there is no kernel {transcript.spent}")
-    if transcript.last == "quiet" and under_way:
-        raise Refused(transcript.last_line, "a packet is under way: the last line is not `quiet`")
-    if transcript.last == "open" and not under_way:
-        raise Refused(transcript.last_line, "no packet is under way: the last line is not `open`")
-    world.story.arrows += under_way
+    try:
+        for number, entry in enumerate(transcript.entries):
+            world.happens(number, entry)
+            world.story.happened = number + 1
+        if transcript.last:
+            world.compare_last(transcript)
+    except Refused as refused:
+        world.story.fault = refused
+    world.stop()
     return world.story
+
+
+def fault_of(data: bytes) -> Refused | None:
+    """Where this text is not the transcript of a run: the line that is named, and why. A line that no transcript has comes first."""
+    transcript = read(data)
+    return transcript.fault or follow(transcript).fault
 
 
 class World:
@@ -100,6 +106,24 @@ class World:
         if waiting[0].text != entry.what:
             raise Refused(entry.line, f"the first packet from kernel {entry.sender} is `{waiting[0].text}`")
         return waiting[0]
+
+    def compare_last(self, transcript: Transcript) -> None:
+        is_quiet = not any(self.lists.values())
+        if transcript.spent is not None and transcript.spent >= self.kernels:
+            raise Refused(transcript.last_line, f"there is no kernel {transcript.spent}")
+        if transcript.last == "quiet" and not is_quiet:
+            raise Refused(transcript.last_line, "a packet is under way: the last line is not `quiet`")
+        if transcript.last == "open" and is_quiet:
+            raise Refused(transcript.last_line, "no packet is under way: the last line is not `open`")
+
+    def stop(self) -> None:
+        """Leaves of the story what happened, and the packets that are under way then."""
+        story, last = self.story, self.story.happened
+        story.changes = [change for change in story.changes if change.event < last]
+        for arrow in story.arrows:
+            if arrow.head == last:
+                arrow.head = None
+        story.arrows += [arrow for arrow in self.under_way() if arrow.tail < last]
 
     def under_way(self) -> list[Arrow]:
         return [Arrow(packet.text, packet.manner, j, k, packet.tail, None, [value.end for value in packet.cargo])

@@ -115,8 +115,11 @@ class Change:
 
 @dataclass
 class Story:
+    """What is found out of a run, as far as it is one: of its first events, so many as `happened`. `fault` tells what is wrong behind them."""
     arrows: list[Arrow] = field(default_factory=list)
     changes: list[Change] = field(default_factory=list)
+    happened: int = 0
+    fault: Exception | None = None
 
 
 def opposite(end: str) -> str:

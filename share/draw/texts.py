@@ -1,22 +1,24 @@
-"""The words of a drawing: what stands in its boxes, its columns and its legend."""
+"""The words of the boxes and columns of a drawing."""
 
 from dataclasses import dataclass
 
-from state import FORWARDED, RESENT, Story, order_of
-from transcript import Entry, Transcript
+from transcript import Entry
 
-MOST_LETTERS = 46
+FAMILIES = {"want": "ask", "unwant": "ask", "unwanted": "ask", "parcel": "message", "taken": "message", "back": "message",
+            "gone": "death", "goneseen": "death", "moved": "move", "known": "move", "forget": "move"}
+# The service lines that say once more what a call says.
+REPEATED = ("destroy ", "send ", "receive ", "cancel ", "wait ", "exit ")
 
 
 @dataclass(slots=True)
 class Line:
-    """A line of a card, and its look."""
+    """A line of a box, and its look."""
     text: str
     look: str
 
 
 def short(what: str) -> str:
-    """A packet without the fields that tell where its sender is; they stand in the tooltip of its card."""
+    """A packet without the fields that tell where its sender is; they stand in the tooltip of its box."""
     words = what.split(" ")
     match words[0]:
         case "want" | "unwant" | "unwanted" | "taken":
@@ -34,75 +36,63 @@ def short(what: str) -> str:
     return what
 
 
-def cut(text: str) -> str:
-    return text if len(text) <= MOST_LETTERS else text[:MOST_LETTERS - 1] + "…"
+def shape_of(entry: Entry) -> str | None:
+    """What events have in common that are alike but for the end; None for an event that says something to the links."""
+    if entry.steps:
+        return None
+    if not entry.is_packet():
+        return f"p{entry.process} {entry.what}"
+    words = short(entry.what).split(" ")
+    return " ".join([str(entry.sender), words[0]] + words[2:])
 
 
-def wrapped(text: str) -> list[str]:
-    """A text in lines of at most MOST_LETTERS letters. A longer word is cut; it stands whole in the tooltip."""
+def cut(text: str, most: int) -> str:
+    return text if len(text) <= most else text[:most - 1] + "…"
+
+
+def wrapped(text: str, most: int) -> list[str]:
+    """A text in lines of at most so many letters. A longer word is cut; it stands whole in the tooltip."""
     lines: list[str] = []
-    for word in map(cut, text.split(" ")):
-        if lines and len(lines[-1]) + 1 + len(word) <= MOST_LETTERS:
+    for word in text.split(" "):
+        word = cut(word, most - 2 if lines else most)
+        if lines and len(lines[-1]) + 1 + len(word) <= most:
             lines[-1] += " " + word
         else:
-            lines.append("  " + word if lines and len(word) < MOST_LETTERS - 1 else word)
+            lines.append("  " + word if lines else word)
     return lines
 
 
-def lines_of(entry: Entry) -> list[Line]:
-    """What stands in the card of an event: the event, and those of its service lines that tell more than it does."""
-    repeated = () if entry.is_packet() else ("destroy ", "send ", "receive ", "cancel ", "wait ", "exit ")
-    first = short(entry.what) if entry.is_packet() else f"p{entry.process} {entry.what}"
-    lines = [Line(text, "") for text in wrapped(first)]
+def entry_text(entry: Entry) -> str:
+    return short(entry.what) if entry.is_packet() else f"p{entry.process} {entry.what}"
+
+
+def lines_of(entry: Entry, most: int) -> list[Line]:
+    """What stands in the box of an event: the event, and those of its service lines that tell more than it does."""
+    lines = [Line(text, "") for text in wrapped(entry_text(entry), most)]
     for step in entry.steps:
-        if not step.text.startswith(repeated):
-            look = "step refused" if step.text.startswith("refuse ") else "step"
-            lines += [Line(text, look) for text in wrapped(step.text)]
+        if entry.is_packet() or not step.text.startswith(REPEATED):
+            look = "step wrongly" if step.text.startswith("refuse ") else "step"
+            lines += [Line(text, look) for text in wrapped(step.text, most)]
     return lines
 
 
-def named_links(transcript: Transcript) -> set[str]:
-    """The links that some event names."""
-    found = set()
-    for entry in transcript.entries:
-        for text in [entry.what] + [step.text for step in entry.steps]:
-            for word in text.split(" "):
-                name = word.lstrip("+").split(":")[0]
-                if name[-1:] in ("a", "b") and name[:1].isdigit():
-                    found.add(name[:-1])
-    return found
+def lines_of_all(entries: list[Entry], unit: int, most: int) -> list[Line]:
+    """What stands in the box of several events: each kind with its number, and then the ends in their order."""
+    lines, times = [], len(entries) // unit
+    for entry in entries[:unit]:
+        words = entry_text(entry).split(" ")
+        named = words[:1] + words[2:] if entry.is_packet() else words
+        lines += [Line(text, "") for text in wrapped(f"{times} × {' '.join(named)}", most)]
+    ends = [entry.what.split(" ")[1] for entry in entries if entry.is_packet()]
+    several = list(dict.fromkeys(ends))
+    return lines + [Line(text, "step") for text in wrapped(", ".join(several), most)[:4] if several]
+
+
+def told_of(entry: Entry) -> str:
+    """The lines of an event as they stand in the transcript."""
+    actor = f"from {entry.sender}" if entry.is_packet() else f"p{entry.process}"
+    return "\n".join([f"line {entry.line}: {entry.stamp} k{entry.kernel} {actor} {entry.what}"] + [f". {step.text}" for step in entry.steps])
 
 
 def holder_label(holder: str) -> str:
     return f"in {holder}" if " " in holder else holder
-
-
-def legend_items(story: Story) -> list[tuple[str, str]]:
-    items = [("call", "a process calls its kernel")]
-    if story.arrows:
-        items += [("taking", "a kernel takes a packet"), ("sent", "packet")]
-    manners = {arrow.manner for arrow in story.arrows}
-    if FORWARDED in manners or RESENT in manners:
-        items.append(("again", "packet forwarded, or sent again"))
-    if any(arrow.head is None for arrow in story.arrows):
-        items.append(("rest", "packet that nobody took"))
-    if any(arrow.cargo for arrow in story.arrows):
-        items.append(("cargo", "message that carries ends"))
-    holders = {change.holder for change in story.changes}
-    items.append(("owned", "end of a process, in its colour"))
-    if any(" " in holder for holder in holders):
-        items.append(("enclosed", "end inside a message"))
-    if "dead" in holders:
-        items.append(("dead", "opposite end known to be destroyed"))
-    if "destroyed" in holders:
-        items.append(("destroyed", "end destroyed"))
-    return items
-
-
-def shown_ends(transcript: Transcript, story: Story, most: int) -> list[str]:
-    """The ends of all links in order, or, where they are many, those of the links that an event names."""
-    ends = sorted({change.end for change in story.changes}, key=order_of)
-    if len(ends) <= most:
-        return ends
-    named = named_links(transcript)
-    return [end for end in ends if end[:-1] in named]

@@ -100,6 +100,8 @@ class Entry:
 
 @dataclass
 class Transcript:
+    """What was read. `is_headed` tells that the whole header was, `is_cut` that the reading stopped behind the last stamp that was asked for,
+    and `fault` where the text is no transcript: then what was read is what stands before."""
     version: int = 1
     kernels: int = 0
     homes: list[int] = field(default_factory=list)
@@ -109,17 +111,29 @@ class Transcript:
     last: str = ""
     spent: int | None = None
     last_line: int = 0
+    is_headed: bool = False
+    is_cut: bool = False
+    fault: Refused | None = None
 
 
-def read(data: bytes) -> Transcript:
-    """The transcript that this text is. Raises Refused for any other text, and TooMany at the first event that is one too many."""
-    lines = Lines(data)
+def read(data: bytes, first: int = 0, last: int | None = None) -> Transcript:
+    """The transcript that this text is, up to the stamp `last`, or up to where it is none. Raises TooMany at the first event that is one too many
+    from the stamp `first` on."""
     transcript = Transcript()
-    at = read_header(transcript, lines)
-    at = read_entries(transcript, lines, at)
-    at = read_notes(transcript, lines, at)
-    read_last(transcript, lines, at)
+    try:
+        read_lines(transcript, Lines(data), first, last)
+    except Refused as refused:
+        transcript.fault = refused
     return transcript
+
+
+def read_lines(transcript: Transcript, lines: Lines, first: int, last: int | None) -> None:
+    at = read_header(transcript, lines)
+    transcript.is_headed = True
+    at = read_entries(transcript, lines, at, first, last)
+    if not transcript.is_cut:
+        at = read_notes(transcript, lines, at)
+        read_last(transcript, lines, at)
 
 
 def read_header(transcript: Transcript, lines: Lines) -> int:
@@ -157,14 +171,19 @@ def add_header_line(transcript: Transcript, found: re.Match, number: int) -> Non
     transcript.wires.append((int(found["a"]), int(found["b"])))
 
 
-def read_entries(transcript: Transcript, lines: Lines, at: int) -> int:
+def read_entries(transcript: Transcript, lines: Lines, at: int, first: int, last: int | None) -> int:
     """Reads the entries with their service lines, and tells which line comes next."""
+    drawn = 0
     while (line := lines.at(at)) is not None:
         if line.startswith(". "):
             add_step(transcript, line, at + 1)
         elif found := ENTRY.fullmatch(line):
             entry = entry_of(transcript, found, at + 1)
-            if len(transcript.entries) == MOST_EVENTS:
+            if last is not None and entry.stamp > last:
+                transcript.is_cut = True
+                return at
+            drawn += entry.stamp >= first
+            if drawn > MOST_EVENTS:
                 raise TooMany
             transcript.entries.append(entry)
         else:
