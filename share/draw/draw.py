@@ -88,18 +88,11 @@ def title_of(name: str) -> str:
     return re.sub(r"[^\t\x20-\uD7FF\uE000-\uFFFD\U00010000-\U0010FFFF]", "\uFFFD", os.path.basename(name))
 
 
-def is_text(word: str) -> bool:
-    """Whether the word is UTF-8; other bytes come as lone surrogates."""
-    return not re.search(r"[\uD800-\uDFFF]", word)
-
-
 def answer_to(words: list[str]) -> Answer:
     try:
-        if not all(map(is_text, words)):
-            raise NoWords
         return drawn(wish_of(words))
-    except NoWords:
-        return Answer("", f"lynx: usage\n  {FORM} > DRAWING.svg", USAGE)
+    except NoWords as fault:
+        return Answer("", f"lynx: usage\nlynx: draw: {fault}\n  {FORM} > DRAWING.svg", USAGE)
     except Stopped as stopped:
         return Answer("", stopped.text, stopped.status)
 

@@ -9,7 +9,7 @@ END = re.compile(r"(?:0|[1-9][0-9]{0,2})\.(?:0|[1-9][0-9]{0,9})[ab]")
 
 
 class NoWords(Exception):
-    """The words are not of the form."""
+    """The words are not of the form: why, in words."""
 
 
 @dataclass(slots=True)
@@ -29,33 +29,55 @@ def wish_of(words: list[str]) -> Wish:
     while left:
         word = left.pop(0)
         if not word.startswith("--"):
-            if wish.name is not None or word == "" or word.startswith("-"):
-                raise NoWords
-            wish.name = word
+            name(wish, word)
             continue
         option, equals, value = word.partition("=")
         if option in seen:
-            raise NoWords
+            raise NoWords(f"`{shown(option)}` stands twice")
         seen.add(option)
         if option == "--all" and not equals:
             wish.all = True
-        elif option in ("--from", "--to", "--ends") and (equals or left):
+        elif option in ("--from", "--to", "--ends"):
+            if not equals and not left:
+                raise NoWords(f"nothing stands behind `{option}`")
             choose(wish, option, value if equals else left.pop(0))
         else:
-            raise NoWords
-    if wish.name is None or wish.last is not None and wish.last < wish.first:
-        raise NoWords
+            raise NoWords(f"there is no choice `{shown(word)}`")
+    if wish.name is None:
+        raise NoWords("the name of a file is missing")
+    if wish.last is not None and wish.last < wish.first:
+        raise NoWords(f"no stamp is from {wish.first} to {wish.last}")
     return wish
+
+
+def name(wish: Wish, word: str) -> None:
+    if word == "" or word.startswith("-") or not is_text(word):
+        raise NoWords(f"`{shown(word)}` is no name of a file")
+    if wish.name is not None:
+        raise NoWords(f"`{shown(word)}` is a word too many")
+    wish.name = word
 
 
 def choose(wish: Wish, option: str, value: str) -> None:
     if option == "--ends":
         wish.ends = value.split(",")
-        if not all(map(END.fullmatch, wish.ends)) or len(set(wish.ends)) < len(wish.ends):
-            raise NoWords
+        if not all(map(END.fullmatch, wish.ends)):
+            raise NoWords(f"`{shown(value)}` is no list of ends, as 0.1a,2.0b")
+        if len(set(wish.ends)) < len(wish.ends):
+            raise NoWords(f"`{shown(value)}` names an end twice")
     elif not NUMBER.fullmatch(value):
-        raise NoWords
+        raise NoWords(f"`{shown(value)}` is no stamp")
     elif option == "--from":
         wish.first = int(value)
     else:
         wish.last = int(value)
+
+
+def is_text(word: str) -> bool:
+    """Whether the word is UTF-8; other bytes come as lone surrogates."""
+    return not re.search(r"[\uD800-\uDFFF]", word)
+
+
+def shown(word: str) -> str:
+    """The first line of a word in printable ASCII, with a question mark for each other letter."""
+    return re.sub(r"[^ -~]", "?", word.split("\n")[0])
