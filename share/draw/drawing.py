@@ -4,7 +4,7 @@ from xml.sax.saxutils import escape
 
 from arrows import Ways
 from columns import draw_columns, draw_names
-from layout import ABOVE_COLUMNS, CHIP, GAP, LINE, MARGIN, PAD, Card, Layout
+from layout import CHIP, GAP, LINE, MARGIN, PAD, Card, Layout
 from looks import definitions, fill_of, ink_on, style
 from samples import draw_sample
 from summary import counted, heading, story_told
@@ -68,7 +68,7 @@ class Drawing:
             middle = lane.x + lane.width / 2
             svg.path("lifeline", f"M{middle:g} {layout.body_top + 8:g} V{layout.bottom - 4:g}")
         if layout.columns:
-            svg.text(layout.after_lanes, y + 12, ABOVE_COLUMNS, "sans head")
+            svg.text(layout.after_lanes, y + 12, "who holds each end", "sans head")
 
     def draw_chips(self, kernel: int, y: float) -> None:
         lane = self.layout.lanes[kernel]

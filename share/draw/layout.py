@@ -9,8 +9,6 @@ from texts import Line, cut, holder_label, lines_of, lines_of_all, short, wrappe
 from view import MOST_WIDE, Bundle, Group, View
 
 MARGIN, LEFT, RIGHT = 24, 58, 34
-# What stands above the columns of ends, in heavy letters.
-ABOVE_COLUMNS, HEAVY_CHAR = "who holds each end", 7.6
 LINE, PAD, GAP = 14, 5, 12
 CHAR, SMALL_CHAR, SANS_CHAR = 6.7, 5.8, 6.3
 CHIP = 34
@@ -79,15 +77,11 @@ class Layout:
         self.rests = self.rest_lines()
         self.place_lanes()
         self.place_columns()
-        self.width = max(self.right + MARGIN, self.right_of_columns() + MARGIN, LEAST_WIDTH)
+        self.width = max(self.right + MARGIN + (RIGHT if self.columns else 0), LEAST_WIDTH)
         self.place_heads()
         self.place_rows()
         self.place_cards()
         self.place_fault()
-
-    def right_of_columns(self) -> float:
-        """Where the columns of ends, their marks and the words above them end."""
-        return max(self.right + RIGHT, self.after_lanes + round(len(ABOVE_COLUMNS) * HEAVY_CHAR)) if self.columns else 0
 
     def group_lines(self, group: Group) -> list[Line]:
         entries = [self.view.entry(number) for number in group.events]
