@@ -19,6 +19,8 @@ LOW_ROW = 6
 # The names of kernels and ends stand once more behind so many points.
 NAMES_EVERY, NAMES, SLIM_NAMES = 620, 26, 52
 SLIM = 15
+# The heading of the columns is so wide.
+HEADING = 140
 # What is held before the first row stands in so much room above it.
 ROOM_ABOVE = 22
 LEAST_WIDTH = 640
@@ -144,7 +146,7 @@ class Layout:
                 x += 10
             self.columns[end] = x
             x += self.column_width + 3
-        self.right = x
+        self.right = max(x, self.after_lanes + HEADING) if self.columns else x
 
     # Down
 

@@ -28,7 +28,9 @@ def heading(view: View) -> str:
 
 
 def rows_told(view: View) -> str:
-    if view.events and len(view.events) < len(view.transcript.entries) or view.is_cut:
+    if view.faults:
+        return f", up to line {view.faults[0].line}"
+    if len(view.events) < len(view.transcript.entries) or view.is_cut:
         stamps = [view.entry(number).stamp for number in view.events]
         return f" (stamps {stamps[0]} to {stamps[-1]} of the run)" if stamps else ""
     return ""
