@@ -3,7 +3,7 @@ use Rattle.std.proofs.Common.{◌≡◌, ℕ, zero, suc, ◌+◌, ◌<◌, ◌�
 use Rattle.std.proofs.lemmas.Bool.Decides.{leb_tells}
 use Rattle.journal_text.specs.Heads.{entries_at, first_stamp, IsNoLater, earlier_head, IsFirstBelow}
 use Rattle.journal_text.specs.declared.merging.Head.{Head}
-use Rattle.kernel_world.specs.declared.entry.Entry.{Entry}
+use Rattle.kernel_entries.specs.declared.entry.Entry.{Entry}
 
 -- there are no entries of a kernel without a list
 pub entries_at-none : (ls : List (List Entry)) (k : ℕ) → length ls ≤ k → entries_at ls k ≡ []

@@ -3,9 +3,9 @@ use Rattle.std.proofs.Common.{◌≡◌, ℕ, zero, suc, map, ◌+◌, ◌<◌, 
 use Rattle.std.proofs.lemmas.Bool.Decides.{Decides-or, Decides-and, Decides-ltb, Decides-eqb, eqb_tells, leb_tells}
 use Rattle.std.proofs.lemmas.List.Sums.{sum_by-set}
 use Rattle.std.specs.List.{sum_by}
-use Rattle.kernel_world.specs.declared.entry.Entry.{Entry}
-use Rattle.kernel_world.specs.declared.entry.Placed.{Placed}
-use Rattle.kernel_world.specs.Run.{stands_before, AreInOrder, of_kernel, IsMerge}
+use Rattle.kernel_entries.specs.declared.entry.Entry.{Entry}
+use Rattle.kernel_entries.specs.declared.entry.Placed.{Placed}
+use Rattle.kernel_entries.specs.Order.{stands_before, AreInOrder, of_kernel, IsMerge}
 use Rattle.journal_text.specs.Journal.{AreRising, placed_at}
 use Rattle.journal_text.specs.Heads.{entries_at, first_stamp, IsNoLater, IsFirstBelow, StandsBeforeHeads, IsPopped}
 use Rattle.journal_text.specs.declared.merging.Head.{Head}

@@ -1,7 +1,7 @@
 -- Journals whose stamps rise.
 use Rattle.std.proofs.Common.{ℕ, zero, suc, ◌<◌, ◌≤◌, arith, List, [], ◌∷◌, ◌++◌, take}
 use Rattle.journal_text.specs.Journal.{AreRising, IsAfterLast}
-use Rattle.kernel_world.specs.declared.entry.Entry.{Entry}
+use Rattle.kernel_entries.specs.declared.entry.Entry.{Entry}
 
 -- an entry after the last is one more of a rising list
 pub AreRising-push : (es : List Entry) (e : Entry) → AreRising es → IsAfterLast es e.stamp → AreRising (es ++ e ∷ [])

@@ -1,7 +1,7 @@
 -- Journals: the entries of one kernel, in the order of its events.
 use Rattle.std.specs.Prelude.{ℕ, ◌<◌, List, [], ◌∷◌}
-use Rattle.kernel_world.specs.declared.entry.Entry.{Entry}
-use Rattle.kernel_world.specs.declared.entry.Placed.{Placed}
+use Rattle.kernel_entries.specs.declared.entry.Entry.{Entry}
+use Rattle.kernel_entries.specs.declared.entry.Placed.{Placed}
 
 -- this stamp is greater than that of the last entry
 abbrev pub IsAfterLast : List Entry → ℕ → Type 0

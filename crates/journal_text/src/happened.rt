@@ -3,7 +3,7 @@ ghost use Rattle.std.specs.Prelude.{◌≡◌, ◌++◌, OnOk, codes};
 ghost use Rattle.charlotte_packets.specs.Packets.{packet_picture};
 ghost use Rattle.charlotte_text.specs.Spelling.{number_text, process_text};
 ghost use Rattle.transcript_lines.specs.Transcript.{line, happened_text, step_text};
-ghost use Rattle.kernel_world.specs.declared.entry.Happened.TheVariants.{Asked, Took};
+ghost use Rattle.kernel_entries.specs.declared.entry.Happened.TheVariants.{Asked, Took};
 
 use crate::packet::push_packet;
 use crate::step::{push_of, push_step};

@@ -20,7 +20,7 @@ pub use end_lines::{push_last_line, push_note_line};
 pub use entry_lines::push_head;
 pub use happened::{push_asked, push_step_line, push_taking, push_took};
 pub use header_lines::{push_number_line, push_process_line, push_wire_line};
-pub use kernel_world::{Entry, Happened, Placed};
+pub use kernel_entries::{Entry, Happened, Placed};
 pub use merging::{Head, earlier};
 pub use print::{print_entry, print_header, print_picture, print_transcript};
 pub use transcript_lines::{Last, ScriptNote};

@@ -15,8 +15,8 @@ use Rattle.kernel_nodes.specs.declared.nodes.Nodes.{Nodes}
 use Rattle.kernel_step.specs.Calls.{IsCallWith}
 use Rattle.kernel_step.specs.Start.{home}
 use Rattle.kernel_world.specs.Run.{AllTaken, IsAllowed}
-use Rattle.kernel_world.specs.declared.entry.Happened.{Happened}
-use Rattle.kernel_world.specs.declared.entry.Happened.TheVariants.{Asked, Took}
+use Rattle.kernel_entries.specs.declared.entry.Happened.{Happened}
+use Rattle.kernel_entries.specs.declared.entry.Happened.TheVariants.{Asked, Took}
 use Rattle.kernel_world.specs.World.{World, Event, Calls, Takes, first_or, happens, kernel_of, nothing_sent, outcome}
 use Rattle.transcript_reading.specs.Kinds.{happened_kind, shown_step, without_stamp}
 use Rattle.transcript_reading.specs.declared.line.LineKind.TheVariants as line

@@ -13,7 +13,7 @@ ghost use Rattle.transcript_reading.specs.declared.line.LineKind.TheVariants as 
 use crate::shown::{has_few, has_shown};
 use charlotte_calls::{Call, ServiceStep};
 use charlotte_packets::Packet;
-use kernel_world::{tell_packet, tell_pid, tell_step, tell_u8, tell_u64};
+use kernel_entries::{tell_packet, tell_pid, tell_step, tell_u8, tell_u64};
 use transcript_reader::{
     CallAhead, PacketAhead, Reader, behind_packet, behind_step, read_leading_call,
 };

@@ -1,7 +1,5 @@
 -- World runs: lists of events, each allowed where it happens, and what is noted of them.
-use Rattle.std.specs.Prelude.{◌≡◌, ◌≢◌, ℕ, ◌≤◌, ◌<◌, ◌^◌, Bool, nat_eq, nat_lt, ◌&&◌, ◌||◌}
-use Rattle.std.specs.Prelude.{IsTrue, if◌then◌else◌, List, [], ◌∷◌, length, map, slice_index_or}
-use Rattle.std.specs.List.{filter}
+use Rattle.std.specs.Prelude.{◌≡◌, ◌≢◌, ℕ, ◌≤◌, ◌<◌, ◌^◌, nat_eq, if◌then◌else◌, List, [], ◌∷◌, length}
 use Rattle.charlotte_calls.specs.declared.calls.Call.{Call}
 use Rattle.charlotte_calls.specs.declared.calls.Call.TheVariants as call
 use Rattle.charlotte_calls.specs.declared.setting.Setting.{Setting}
@@ -9,9 +7,9 @@ use Rattle.kernel_step.specs.Calls.{IsCallWith}
 use Rattle.kernel_step.specs.Kernel.{process_of}
 use Rattle.kernel_step.specs.declared.phase.Phase.TheVariants.{Running}
 use Rattle.kernel_step.specs.Start.{home}
+use Rattle.kernel_entries.specs.declared.entry.Placed.{Placed}
+use Rattle.kernel_entries.specs.Order.{AreInOrder}
 use Rattle.kernel_world.specs.World.{World, Event, Calls, Takes, happens, noted, start}
-use Rattle.kernel_world.specs.declared.entry.Entry.{Entry}
-use Rattle.kernel_world.specs.declared.entry.Placed.{Placed}
 
 -- in version 1 a message encloses at most one end, in version 2 at most eight; messages and prints have at most 256 bytes
 abbrev pub IsCallOf : ℕ → Call → Type 0
@@ -36,26 +34,6 @@ pub record IsRun (s : Setting) (es : List Event) : Type 0 where
   pub allowed : AreAllowed s (start s) es
   -- no number runs out in so many events
   pub few : length es ≤ 2 ^ 31
-
--- an entry stands before another: by stamp, and at the same stamp by kernel
-abbrev pub stands_before : Placed → Placed → Bool
-stands_before a b =
-    nat_lt a.entry.stamp b.entry.stamp || (nat_eq a.entry.stamp b.entry.stamp && nat_lt a.kernel b.kernel)
-
--- each entry stands before the next
-abbrev pub AreInOrder : List Placed → Type 0
-AreInOrder [] = Unit {0}
-AreInOrder (a ∷ []) = Unit {0}
-AreInOrder (a ∷ b ∷ ps) = IsTrue (stands_before a b) × AreInOrder (b ∷ ps)
-
--- the entries of one kernel, in order
-abbrev pub of_kernel : ℕ → List Placed → List Entry
-of_kernel k ps = map (λ p. p.entry) (filter (λ p. nat_eq p.kernel k) ps)
-
--- the merge of journals, one for each kernel in order: all their entries by stamp and kernel
-pub record IsMerge (journals : List (List Entry)) (merged : List Placed) : Type 0 where
-  pub order : AreInOrder merged
-  pub entries : (k : ℕ) → of_kernel k merged ≡ slice_index_or journals k []
 
 -- these are the entries of a run of a setting, in the order of a merge
 pub record IsRecord (s : Setting) (es : List Event) (merged : List Placed) : Type 0 where

@@ -10,9 +10,9 @@ use Rattle.charlotte_calls.specs.declared.setting.Setting.{Setting}
 use Rattle.kernel_step.specs.Calls.{made_end}
 use Rattle.kernel_step.specs.Kernel.{Kernel, Outcome, call_step, take_step, without_answer}
 use Rattle.kernel_step.specs.Start.{start_kernel}
-use Rattle.kernel_world.specs.declared.entry.Happened.TheVariants.{Asked, Took}
-use Rattle.kernel_world.specs.declared.entry.Happened.{Happened}
-use Rattle.kernel_world.specs.declared.entry.Placed.{Placed}
+use Rattle.kernel_entries.specs.declared.entry.Happened.TheVariants.{Asked, Took}
+use Rattle.kernel_entries.specs.declared.entry.Happened.{Happened}
+use Rattle.kernel_entries.specs.declared.entry.Placed.{Placed}
 
 -- a state of each kernel, and for each ordered pair of kernels the packets that the first sent and the second has not taken, oldest first
 pub record World : Type 0 where

@@ -17,9 +17,9 @@ use Rattle.charlotte_calls.specs.declared.names.Way.TheVariants as way
 use Rattle.charlotte_calls.specs.declared.setting.Setting.{Setting}
 use Rattle.kernel_step.specs.Kernel.{Kernel}
 use Rattle.kernel_step.specs.Start.{start_kernel}
-use Rattle.kernel_world.specs.Run.{of_kernel}
-use Rattle.kernel_world.specs.declared.entry.Entry.{Entry}
-use Rattle.kernel_world.specs.declared.entry.Placed.{Placed}
+use Rattle.kernel_entries.specs.Order.{of_kernel}
+use Rattle.kernel_entries.specs.declared.entry.Entry.{Entry}
+use Rattle.kernel_entries.specs.declared.entry.Placed.{Placed}
 use Rattle.local_runs.specs.Local.{IsLocalEvent, IsLocalRun, LocalEvent, MakesCall, TakesPacket, entries_of, entry_of, gives, happened}
 use Rattle.service_step.specs.Run.{start_state}
 use Rattle.service_step.specs.State.{State}

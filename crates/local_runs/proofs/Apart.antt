@@ -8,9 +8,10 @@ use Rattle.charlotte_calls.specs.Setting.{IsValid}
 use Rattle.charlotte_calls.specs.declared.setting.Setting.{Setting}
 use Rattle.kernel_step.specs.Kernel.{Kernel}
 use Rattle.kernel_world.proofs.Packets.{happens-packets}
-use Rattle.kernel_world.specs.Run.{AreAllowed, IsRun, of_kernel}
+use Rattle.kernel_entries.specs.Order.{of_kernel}
+use Rattle.kernel_world.specs.Run.{AreAllowed, IsRun}
 use Rattle.kernel_world.specs.World.{World, Event, Calls, Takes, after, happens, left_at, noted, rest, sends_at, start}
-use Rattle.kernel_world.specs.declared.entry.Placed.{Placed}
+use Rattle.kernel_entries.specs.declared.entry.Placed.{Placed}
 use Rattle.local_runs.specs.Local.{LocalEvent, MakesCall, TakesPacket, IsLocalEvent, IsLocalRun, AreLocalRuns, entries_of, entry_of, gives, takes_from, sends_to}
 use Rattle.local_runs.proofs.Kernels.{few_packet}
 use Rattle.local_runs.proofs.Together.{IsUnderWay, event-noted, event_of, got-first, got-other, happens-kernel, of_kernel-other, of_kernel-own, owns, sends-first, takes-not}

@@ -12,12 +12,13 @@ use Rattle.charlotte_calls.specs.declared.setting.Setting.{Setting}
 use Rattle.transcript_lines.specs.TranscriptText.{HasFewCall, HasFewPacket}
 use Rattle.kernel_step.specs.Kernel.{Kernel, Outcome, take_step, next_stamp, without_answer}
 use Rattle.kernel_world.proofs.Packets.{to_kernel-first}
-use Rattle.kernel_world.specs.Run.{AreInOrder, IsCallOf, of_kernel, stands_before}
+use Rattle.kernel_entries.specs.Order.{AreInOrder, of_kernel, stands_before}
+use Rattle.kernel_world.specs.Run.{IsCallOf}
 use Rattle.kernel_world.specs.World.{to_kernel}
-use Rattle.kernel_world.specs.declared.entry.Entry.{Entry}
-use Rattle.kernel_world.specs.declared.entry.Happened.{Happened}
-use Rattle.kernel_world.specs.declared.entry.Happened.TheVariants.{Took}
-use Rattle.kernel_world.specs.declared.entry.Placed.{Placed}
+use Rattle.kernel_entries.specs.declared.entry.Entry.{Entry}
+use Rattle.kernel_entries.specs.declared.entry.Happened.{Happened}
+use Rattle.kernel_entries.specs.declared.entry.Happened.TheVariants.{Took}
+use Rattle.kernel_entries.specs.declared.entry.Placed.{Placed}
 use Rattle.local_runs.specs.Local.{LocalEvent, MakesCall, TakesPacket, IsLocalRun, IsLocalEvent, entries_of, entry_of, gives, happened, sends_to}
 use Rattle.transcript_record.proofs.Kept.{IsFewSent}
 use Rattle.transcript_record.proofs.KeptSteps.{Gives, call_step-gives, take_step-gives, told-without_answer}

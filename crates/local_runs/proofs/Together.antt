@@ -8,12 +8,13 @@ use Rattle.charlotte_calls.specs.declared.setting.Setting.{Setting}
 use Rattle.kernel_step.specs.Kernel.{Kernel, Outcome}
 use Rattle.kernel_step.specs.Start.{start_kernel}
 use Rattle.kernel_world.proofs.Packets.{happens-packets}
-use Rattle.kernel_world.specs.Run.{AreAllowed, AreInOrder, IsAllowed, of_kernel}
+use Rattle.kernel_entries.specs.Order.{AreInOrder, of_kernel}
+use Rattle.kernel_world.specs.Run.{AreAllowed, IsAllowed}
 use Rattle.kernel_world.specs.World.{World, Event, Calls, Takes, after, asked_or_took, first_or, happens, kernel_of, left_at, noted, noted_as, nothing_sent, outcome, rest, sends_at, start, takes_first, to_kernel}
-use Rattle.kernel_world.specs.declared.entry.Entry.{Entry}
-use Rattle.kernel_world.specs.declared.entry.Happened.{Happened}
-use Rattle.kernel_world.specs.declared.entry.Happened.TheVariants.{Took}
-use Rattle.kernel_world.specs.declared.entry.Placed.{Placed}
+use Rattle.kernel_entries.specs.declared.entry.Entry.{Entry}
+use Rattle.kernel_entries.specs.declared.entry.Happened.{Happened}
+use Rattle.kernel_entries.specs.declared.entry.Happened.TheVariants.{Took}
+use Rattle.kernel_entries.specs.declared.entry.Placed.{Placed}
 use Rattle.local_runs.specs.Local.{LocalEvent, MakesCall, TakesPacket, IsLocalRun, FitTogether, IsOneRun, IsLocalEvent, entries_of, entry_of, gives, takes_from, happened, left_by, sends_to}
 use Rattle.local_runs.proofs.Kernels.{get-later, in-order-least, local-gives, of_kernel-all, sent-least}
 use Rattle.transcript_record.proofs.Worlds.{is_event, told-happens, told-start}

@@ -10,12 +10,13 @@ use Rattle.kernel_step.specs.Calls.{IsCallWith}
 use Rattle.kernel_step.specs.Kernel.{Kernel, Outcome, call_step, process_of, take_step, without_answer}
 use Rattle.kernel_step.specs.Start.{home, start_kernel}
 use Rattle.kernel_step.specs.declared.phase.Phase.TheVariants.{Running}
-use Rattle.kernel_world.specs.Run.{IsCallOf, IsRecord, of_kernel}
+use Rattle.kernel_entries.specs.Order.{of_kernel}
+use Rattle.kernel_world.specs.Run.{IsCallOf, IsRecord}
 use Rattle.kernel_world.specs.World.{Event, after, noted, start, to_kernel}
-use Rattle.kernel_world.specs.declared.entry.Entry.{Entry}
-use Rattle.kernel_world.specs.declared.entry.Happened.TheVariants.{Asked, Took}
-use Rattle.kernel_world.specs.declared.entry.Happened.{Happened}
-use Rattle.kernel_world.specs.declared.entry.Placed.{Placed}
+use Rattle.kernel_entries.specs.declared.entry.Entry.{Entry}
+use Rattle.kernel_entries.specs.declared.entry.Happened.TheVariants.{Asked, Took}
+use Rattle.kernel_entries.specs.declared.entry.Happened.{Happened}
+use Rattle.kernel_entries.specs.declared.entry.Placed.{Placed}
 
 -- an event as its kernel knows it
 pub data LocalEvent : Type 0 where

@@ -3,9 +3,10 @@ ghost use Rattle.charlotte_calls.specs.Setting.{IsValid};
 ghost use Rattle.charlotte_packets.specs.declared.picture.Picture.{Picture};
 ghost use Rattle.charlotte_calls.specs.declared.setting.Setting.{Setting};
 ghost use Rattle.kernel_step.specs.Start.{start_kernel};
-ghost use Rattle.kernel_world.specs.Run.{AreInOrder, IsRun, of_kernel};
+ghost use Rattle.kernel_entries.specs.Order.{AreInOrder, of_kernel};
+ghost use Rattle.kernel_world.specs.Run.{IsRun};
 ghost use Rattle.kernel_world.specs.World.{Event};
-ghost use Rattle.kernel_world.specs.declared.entry.Placed.{Placed};
+ghost use Rattle.kernel_entries.specs.declared.entry.Placed.{Placed};
 ghost use Rattle.local_runs.specs.Local.{LocalEvent, AreLocalRuns, FitTogether, IsOneRun, entries_of};
 ghost use Rattle.theorem.specs.Record.{IsLawfulRecord};
 

@@ -5,7 +5,7 @@ use Rattle.transcript_lines.specs.Transcript.{transcript_lines}
 use Rattle.transcript_lines.specs.TranscriptText.{IsTranscript}
 use Rattle.transcript_lines.specs.declared.last.Last.{Last}
 use Rattle.transcript_lines.specs.declared.last.ScriptNote.{ScriptNote}
-use Rattle.kernel_world.specs.declared.entry.Placed.{Placed}
+use Rattle.kernel_entries.specs.declared.entry.Placed.{Placed}
 use Rattle.lynx_plan.specs.Reading.{script_of}
 use Rattle.lynx_plan.specs.ScriptText.{IsScriptText}
 use Rattle.lynx_plan.specs.declared.fault.PlanFault.TheVariants as plan

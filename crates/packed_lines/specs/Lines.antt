@@ -1,7 +1,7 @@
 -- The lines of one event, as they are kept.
 use Rattle.std.specs.Prelude.{◌≡◌, ℕ, List, map}
 use Rattle.charlotte_calls.specs.declared.calls.ServiceStep.{ServiceStep}
-use Rattle.kernel_world.specs.declared.entry.Happened.{Happened}
+use Rattle.kernel_entries.specs.declared.entry.Happened.{Happened}
 use Rattle.packed_lines.specs.Packed.{kept_text, line_note}
 use Rattle.packed_lines.specs.declared.kept_lines.KeptLines.{KeptLines}
 use Rattle.transcript_lines.specs.Transcript.{line, happened_text, step_text}

@@ -1,6 +1,6 @@
 ghost use Rattle.std.specs.Prelude.{◌≡◌, ◌+◌, ◌*◌, ◌≤◌, ◌++◌, ◌∷◌, [], IfOk, OnErr, OnOk, drop, if◌then◌else◌, length, map, take};
 ghost use Rattle.charlotte_packets.specs.Packets.{packet_picture};
-ghost use Rattle.kernel_world.specs.declared.entry.Happened.TheVariants.{Asked, Took};
+ghost use Rattle.kernel_entries.specs.declared.entry.Happened.TheVariants.{Asked, Took};
 ghost use Rattle.packed_lines.specs.Lines.{AreLines, happened_line, step_lines};
 ghost use Rattle.packed_lines.specs.Packed.{kept, kept_text, line_note, packed};
 

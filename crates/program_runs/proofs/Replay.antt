@@ -6,7 +6,7 @@ use Rattle.charlotte_calls.specs.declared.calls.Call.{Call}
 use Rattle.charlotte_calls.specs.declared.names.Pid.{Pid}
 use Rattle.charlotte_calls.specs.declared.program.Next.{Next}
 use Rattle.charlotte_calls.specs.declared.program.Next.TheVariants as next
-use Rattle.kernel_world.specs.declared.entry.Entry.{Entry}
+use Rattle.kernel_entries.specs.declared.entry.Entry.{Entry}
 use Rattle.program_runs.specs.Replay.{Asks, IsGiven, Passes, Pauses, Replayed, Replays, ReplaysVia, Rests, StepOf, with_entry, with_step}
 use Rattle.told_answers.specs.Standing.{HasFitting}
 use Rattle.told_answers.specs.Told.{Answered, Heard, hears, hears_all}

@@ -5,7 +5,7 @@ use Rattle.charlotte_calls.specs.declared.calls.Call.{Call}
 use Rattle.charlotte_calls.specs.declared.names.Pid.{Pid}
 use Rattle.charlotte_calls.specs.declared.program.Next.{Next}
 use Rattle.charlotte_calls.specs.declared.program.Next.TheVariants as next
-use Rattle.kernel_world.specs.declared.entry.Entry.{Entry}
+use Rattle.kernel_entries.specs.declared.entry.Entry.{Entry}
 use Rattle.told_answers.specs.Told.{Answered, Heard, NoCall, call_of, hears}
 
 -- what a program with these states does in a state with an answer, or with none, and the state after it

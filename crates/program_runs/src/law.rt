@@ -3,7 +3,7 @@ ghost use Rattle.charlotte_calls.specs.Program.{MayFollow};
 ghost use Rattle.charlotte_calls.specs.declared.calls.Answer.{Answer};
 ghost use Rattle.charlotte_calls.specs.declared.names.Pid.{Pid};
 ghost use Rattle.charlotte_calls.specs.declared.program.Next.{Next};
-ghost use Rattle.kernel_world.specs.declared.entry.Entry.{Entry};
+ghost use Rattle.kernel_entries.specs.declared.entry.Entry.{Entry};
 ghost use Rattle.program_runs.specs.Replay.{IsGiven, Replayed, Replays, ReplaysVia};
 ghost use Rattle.told_answers.specs.Standing.{HasFitting};
 ghost use Rattle.told_answers.specs.Told.{Heard, hears_all};

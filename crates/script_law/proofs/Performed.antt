@@ -6,7 +6,7 @@ use Rattle.transcript_lines.specs.declared.last.Last.{Last}
 use Rattle.transcript_lines.specs.declared.last.Last.TheVariants.{Quiet, Unsettled, Spent}
 use Rattle.transcript_lines.specs.declared.last.ScriptNote.{ScriptNote}
 use Rattle.kernel_world.specs.World.{World, after, start}
-use Rattle.kernel_world.specs.declared.entry.Placed.{Placed}
+use Rattle.kernel_entries.specs.declared.entry.Placed.{Placed}
 use Rattle.lynx_plan.specs.declared.script.ScriptLine.{ScriptLine}
 use Rattle.script_run.specs.Performing.{IsLast, IsPerformance}
 use Rattle.transcript_law.proofs.Within.{run-within}

@@ -3,7 +3,7 @@ ghost use Rattle.charlotte_calls.specs.Setting.{IsValid};
 ghost use Rattle.charlotte_calls.specs.declared.setting.Setting.{Setting};
 ghost use Rattle.transcript_lines.specs.declared.last.Last.{Last};
 ghost use Rattle.transcript_lines.specs.declared.last.ScriptNote.{ScriptNote};
-ghost use Rattle.kernel_world.specs.declared.entry.Placed.{Placed};
+ghost use Rattle.kernel_entries.specs.declared.entry.Placed.{Placed};
 ghost use Rattle.lynx_plan.specs.declared.script.ScriptLine.{ScriptLine};
 ghost use Rattle.script_run.specs.Performing.{IsPerformance};
 ghost use Rattle.transcript_reading.specs.Kinds.{transcript_kinds};

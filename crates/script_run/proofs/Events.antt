@@ -19,11 +19,12 @@ use Rattle.kernel_nodes.specs.Nodes.{AreNodes, Happens, IsNotedOf, world_of}
 use Rattle.kernel_nodes.specs.declared.node.Node.{Node}
 use Rattle.kernel_nodes.specs.declared.nodes.Noted.{Noted}
 use Rattle.kernel_step.specs.Kernel.{Outcome}
-use Rattle.kernel_world.specs.Ranges.{IsEntryInRange}
-use Rattle.kernel_world.specs.Run.{IsAllowed, AreAllowed, of_kernel}
+use Rattle.kernel_entries.specs.Ranges.{IsEntryInRange}
+use Rattle.kernel_entries.specs.Order.{of_kernel}
+use Rattle.kernel_world.specs.Run.{IsAllowed, AreAllowed}
 use Rattle.kernel_world.specs.World.{World, Event, Calls, kernel_of, outcome, happens, asked_or_took, noted_as, nothing_sent, first_or, after, noted}
-use Rattle.kernel_world.specs.declared.entry.Entry.{Entry}
-use Rattle.kernel_world.specs.declared.entry.Placed.{Placed}
+use Rattle.kernel_entries.specs.declared.entry.Entry.{Entry}
+use Rattle.kernel_entries.specs.declared.entry.Placed.{Placed}
 use Rattle.script_run.specs.Recorded.{AreRecorded, AreReady, Goes, IsCaller, noted_at, world_at}
 use Rattle.script_run.specs.declared.recorded.Recorded.{Recorded}
 use Rattle.kernel_nodes.proofs.Lists.{map-set_same, map-set_other, map-read}

@@ -13,16 +13,17 @@ use Rattle.transcript_lines.specs.declared.last.Last.TheVariants.{Quiet, Unsettl
 use Rattle.transcript_lines.specs.declared.last.ScriptNote.{ScriptNote}
 use Rattle.kernel_step.specs.declared.phase.Phase.{Phase}
 use Rattle.kernel_step.specs.declared.phase.Phase.TheVariants.{Running, Waiting, Cancelling, Exited}
-use Rattle.kernel_world.specs.Ranges.{IsPlacedInRange}
-use Rattle.kernel_world.specs.Run.{AreAllowed, IsMerge, of_kernel}
+use Rattle.kernel_entries.specs.Ranges.{IsPlacedInRange}
+use Rattle.kernel_entries.specs.Order.{IsMerge, of_kernel}
+use Rattle.kernel_world.specs.Run.{AreAllowed}
 use Rattle.kernel_world.specs.World.{World, Event, after, start, noted}
-use Rattle.kernel_world.specs.declared.entry.Placed.{Placed}
+use Rattle.kernel_entries.specs.declared.entry.Placed.{Placed}
 use Rattle.lynx_plan.specs.ScriptText.{AreRisingLines, FitsWhat}
 use Rattle.lynx_plan.specs.declared.script.ScriptLine.{ScriptLine}
 use Rattle.lynx_plan.specs.declared.script.ScriptCall.{ScriptCall}
 use Rattle.lynx_plan.specs.declared.script.ScriptCall.TheVariants.{Ask, Take, Settle}
 use Rattle.kernel_nodes.specs.Nodes.{AreNodes}
-use Rattle.kernel_world.specs.Ranges.{IsEntryInRange}
+use Rattle.kernel_entries.specs.Ranges.{IsEntryInRange}
 use Rattle.script_run.specs.Recorded.{noted_at, world_at, AreLinesDone, AreReady, Goes, IsLineDone}
 use Rattle.script_run.specs.declared.recorded.Recorded.{Recorded}
 use Rattle.script_run.proofs.Events.{Goes-then, entries_of, noted_in}

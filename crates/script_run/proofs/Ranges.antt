@@ -4,10 +4,10 @@ use Rattle.std.specs.List.{filter}
 use Rattle.std.proofs.lemmas.Bool.{eq-eqb}
 use Rattle.std.proofs.lemmas.List.Elements.{All-nil, All-cons, All-head, All-tail, All-weaker}
 use Rattle.charlotte_calls.specs.Ranges.{IsU8}
-use Rattle.kernel_world.specs.Ranges.{IsEntryInRange, IsPlacedInRange}
-use Rattle.kernel_world.specs.Run.{IsMerge, of_kernel}
-use Rattle.kernel_world.specs.declared.entry.Entry.{Entry}
-use Rattle.kernel_world.specs.declared.entry.Placed.{Placed}
+use Rattle.kernel_entries.specs.Ranges.{IsEntryInRange, IsPlacedInRange}
+use Rattle.kernel_entries.specs.Order.{IsMerge, of_kernel}
+use Rattle.kernel_entries.specs.declared.entry.Entry.{Entry}
+use Rattle.kernel_entries.specs.declared.entry.Placed.{Placed}
 use Rattle.script_run.proofs.Events.{entries_of, noted_in}
 use Rattle.written_journal.specs.Kept.{Happenings}
 

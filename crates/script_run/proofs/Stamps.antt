@@ -2,7 +2,7 @@
 use Rattle.std.proofs.Common.{ℕ, ◌<◌, ◌≤◌, arith, List, [], ◌∷◌, ◌++◌, All}
 use Rattle.std.proofs.lemmas.List.Elements.{All-push, All-head, All-tail, All-weaker}
 use Rattle.journal_text.specs.Journal.{IsAfterLast}
-use Rattle.kernel_world.specs.declared.entry.Entry.{Entry}
+use Rattle.kernel_entries.specs.declared.entry.Entry.{Entry}
 
 abbrev pub IsUpTo : ℕ → Entry → Type 0
 IsUpTo n e = e.stamp ≤ n

@@ -11,10 +11,11 @@ use Rattle.kernel_nodes.specs.Nodes.{AreNodes, sent_to, world_of}
 use Rattle.kernel_step.specs.Kernel.{process_of}
 use Rattle.kernel_step.specs.Start.{home}
 use Rattle.kernel_step.specs.declared.phase.Phase.TheVariants.{Running}
-use Rattle.kernel_world.specs.Ranges.{IsEntryInRange}
+use Rattle.kernel_entries.specs.Ranges.{IsEntryInRange}
 use Rattle.kernel_world.specs.World.{World, Event, Takes, after, noted}
-use Rattle.kernel_world.specs.Run.{AreAllowed, IsCallOf, of_kernel}
-use Rattle.kernel_world.specs.declared.entry.Entry.{Entry}
+use Rattle.kernel_entries.specs.Order.{of_kernel}
+use Rattle.kernel_world.specs.Run.{AreAllowed, IsCallOf}
+use Rattle.kernel_entries.specs.declared.entry.Entry.{Entry}
 use Rattle.transcript_lines.specs.declared.last.ScriptNote.{ScriptNote}
 use Rattle.lynx_plan.specs.declared.script.ScriptCall.{ScriptCall}
 use Rattle.lynx_plan.specs.declared.script.ScriptLine.{ScriptLine}

@@ -5,7 +5,7 @@ use Rattle.charlotte_calls.specs.declared.calls.ServiceStep.{ServiceStep}
 use Rattle.charlotte_calls.specs.declared.setting.Setting.{Setting}
 use Rattle.kernel_world.specs.Run.{IsRecord}
 use Rattle.kernel_world.specs.World.{World, Event, happens, noted, start}
-use Rattle.kernel_world.specs.declared.entry.Placed.{Placed}
+use Rattle.kernel_entries.specs.declared.entry.Placed.{Placed}
 use Rattle.charlotte_calls.specs.Setting.{IsValid}
 use Rattle.service_step.specs.Run.{start_state, state_after}
 use Rattle.service_step.specs.State.{State}

@@ -4,7 +4,7 @@ use Rattle.charlotte_calls.specs.declared.calls.ServiceStep.{ServiceStep}
 use Rattle.charlotte_calls.specs.declared.setting.Setting.{Setting}
 use Rattle.kernel_world.specs.Run.{IsRecord}
 use Rattle.kernel_world.specs.World.{Event}
-use Rattle.kernel_world.specs.declared.entry.Placed.{Placed}
+use Rattle.kernel_entries.specs.declared.entry.Placed.{Placed}
 use Rattle.theorem.specs.Law.{IsServedLawfully, joined}
 
 -- the service steps of these entries, one after the other

@@ -3,7 +3,7 @@ ghost use Rattle.charlotte_calls.specs.Setting.{IsValid};
 ghost use Rattle.charlotte_calls.specs.declared.setting.Setting.{Setting};
 ghost use Rattle.kernel_world.specs.Run.{IsRecord, IsRun};
 ghost use Rattle.kernel_world.specs.World.{Event};
-ghost use Rattle.kernel_world.specs.declared.entry.Placed.{Placed};
+ghost use Rattle.kernel_entries.specs.declared.entry.Placed.{Placed};
 ghost use Rattle.theorem.specs.Law.{IsServedLawfully};
 ghost use Rattle.theorem.specs.Record.{IsLawfulRecord};
 

@@ -8,7 +8,7 @@ use Rattle.charlotte_calls.specs.declared.names.Way.TheVariants.{Inward}
 use Rattle.kernel_step.specs.Kernel.{Outcome, Process}
 use Rattle.kernel_step.specs.declared.phase.Phase.TheVariants.{Running, Waiting, Cancelling, Exited}
 use Rattle.kernel_step.specs.declared.phase.Phase.{Phase}
-use Rattle.kernel_world.specs.declared.entry.Entry.{Entry}
+use Rattle.kernel_entries.specs.declared.entry.Entry.{Entry}
 use Rattle.told_answers.specs.Told.{Heard, NoCall, Pending, Answered, answer_of, heard, tells}
 
 -- a process of which this was heard is in this phase: a call whose answer is not told is a Wait or a Cancel of a receive

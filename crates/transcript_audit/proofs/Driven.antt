@@ -5,7 +5,7 @@ use Rattle.charlotte_calls.specs.declared.setting.Setting.{Setting}
 use Rattle.transcript_lines.specs.TranscriptText.{IsTranscript}
 use Rattle.transcript_lines.specs.declared.last.Last.{Last}
 use Rattle.transcript_lines.specs.declared.last.ScriptNote.{ScriptNote}
-use Rattle.kernel_world.specs.declared.entry.Placed.{Placed}
+use Rattle.kernel_entries.specs.declared.entry.Placed.{Placed}
 use Rattle.lynx_plan.specs.declared.script.ScriptLine.{ScriptLine}
 use Rattle.script_law.proofs.Performed.{performance-is-replayed}
 use Rattle.script_run.specs.Performing.{IsPerformance}

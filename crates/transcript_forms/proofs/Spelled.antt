@@ -13,8 +13,8 @@ use Rattle.charlotte_text.proofs.Calls.{call_words, call_again}
 use Rattle.transcript_lines.specs.Transcript.{packet_text}
 use Rattle.transcript_lines.specs.declared.last.Last.TheVariants.{Quiet, Unsettled, Spent}
 use Rattle.transcript_lines.specs.TranscriptText.{IsShownStep}
-use Rattle.kernel_world.specs.declared.entry.Happened.{Happened}
-use Rattle.kernel_world.specs.declared.entry.Happened.TheVariants.{Asked}
+use Rattle.kernel_entries.specs.declared.entry.Happened.{Happened}
+use Rattle.kernel_entries.specs.declared.entry.Happened.TheVariants.{Asked}
 use Rattle.transcript_reading.specs.Forms.{packet_of, took_of, happened_of, home_of, wire_of, waits_of, note_of, named_line_of, kind_of}
 use Rattle.transcript_reading.specs.Kinds.{shown_step}
 use Rattle.transcript_reading.specs.declared.line.LineKind.{LineKind}

@@ -8,9 +8,9 @@ use Rattle.charlotte_calls.specs.declared.calls.ServiceStep.TheVariants as step
 use Rattle.charlotte_text.specs.Spelling.{number_text, IsCall}
 use Rattle.transcript_lines.specs.Transcript.{entry_text, step_text, process_home_text, wire_text, note_text, last_text}
 use Rattle.transcript_lines.specs.TranscriptText.{IsFew, HasFewPacket, IsShownReport, IsNoteInRange, IsLastInRange}
-use Rattle.kernel_world.specs.declared.entry.Happened.{Happened}
-use Rattle.kernel_world.specs.declared.entry.Happened.TheVariants.{Asked, Took}
-use Rattle.kernel_world.specs.declared.entry.Placed.{Placed}
+use Rattle.kernel_entries.specs.declared.entry.Happened.{Happened}
+use Rattle.kernel_entries.specs.declared.entry.Happened.TheVariants.{Asked, Took}
+use Rattle.kernel_entries.specs.declared.entry.Placed.{Placed}
 use Rattle.transcript_reading.specs.declared.line.LineKind.{LineKind}
 use Rattle.transcript_reading.specs.declared.line.LineKind.TheVariants as kind
 use Rattle.transcript_reading.specs.declared.line.ServiceLine.{ServiceLine}

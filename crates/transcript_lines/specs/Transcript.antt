@@ -20,9 +20,9 @@ use Rattle.charlotte_text.specs.Spelling.{number_text, end_text, ends_text, proc
 use Rattle.transcript_lines.specs.declared.last.Last.{Last}
 use Rattle.transcript_lines.specs.declared.last.Last.TheVariants.{Quiet, Unsettled, Spent}
 use Rattle.transcript_lines.specs.declared.last.ScriptNote.{ScriptNote}
-use Rattle.kernel_world.specs.declared.entry.Happened.{Happened}
-use Rattle.kernel_world.specs.declared.entry.Happened.TheVariants.{Asked, Took}
-use Rattle.kernel_world.specs.declared.entry.Placed.{Placed}
+use Rattle.kernel_entries.specs.declared.entry.Happened.{Happened}
+use Rattle.kernel_entries.specs.declared.entry.Happened.TheVariants.{Asked, Took}
+use Rattle.kernel_entries.specs.declared.entry.Placed.{Placed}
 
 -- numbers, each behind this byte
 abbrev pub numbers_behind : ℕ → List ℕ → List ℕ

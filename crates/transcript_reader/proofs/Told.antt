@@ -23,10 +23,10 @@ use Rattle.transcript_lines.specs.TranscriptText.{HasFew, IsShown, IsShownStep, 
 use Rattle.transcript_lines.specs.declared.last.Last.{Last}
 use Rattle.transcript_lines.specs.declared.last.Last.TheVariants.{Quiet, Unsettled, Spent}
 use Rattle.transcript_lines.specs.declared.last.ScriptNote.{ScriptNote}
-use Rattle.kernel_world.specs.Ranges.{IsHappenedInRange, IsPlacedInRange}
-use Rattle.kernel_world.specs.declared.entry.Happened.{Happened}
-use Rattle.kernel_world.specs.declared.entry.Happened.TheVariants.{Asked, Took}
-use Rattle.kernel_world.specs.declared.entry.Placed.{Placed}
+use Rattle.kernel_entries.specs.Ranges.{IsHappenedInRange, IsPlacedInRange}
+use Rattle.kernel_entries.specs.declared.entry.Happened.{Happened}
+use Rattle.kernel_entries.specs.declared.entry.Happened.TheVariants.{Asked, Took}
+use Rattle.kernel_entries.specs.declared.entry.Placed.{Placed}
 use Rattle.transcript_reading.specs.Kinds.{full_step}
 use Rattle.transcript_reading.specs.Order.{Place, Start, Version, Processes, Wires, Entry, Noted, Over, body, housed, wired, next, follows, is_whole}
 use Rattle.transcript_reading.specs.Reading.{Told, ended_lines, lines_of, kinds_of, version_of, whole_of, full_steps, with_entry, with_line, with_lines, nothing_told, told_by}

@@ -16,10 +16,10 @@ use Rattle.transcript_lines.specs.TranscriptText.{HasFew, IsShown, IsShownStep, 
 use Rattle.transcript_lines.specs.declared.last.Last.{Last}
 use Rattle.transcript_lines.specs.declared.last.Last.TheVariants.{Quiet, Unsettled, Spent}
 use Rattle.transcript_lines.specs.declared.last.ScriptNote.{ScriptNote}
-use Rattle.kernel_world.specs.Ranges.{IsHappenedInRange, IsPlacedInRange}
-use Rattle.kernel_world.specs.declared.entry.Happened.{Happened}
-use Rattle.kernel_world.specs.declared.entry.Happened.TheVariants.{Asked, Took}
-use Rattle.kernel_world.specs.declared.entry.Placed.{Placed}
+use Rattle.kernel_entries.specs.Ranges.{IsHappenedInRange, IsPlacedInRange}
+use Rattle.kernel_entries.specs.declared.entry.Happened.{Happened}
+use Rattle.kernel_entries.specs.declared.entry.Happened.TheVariants.{Asked, Took}
+use Rattle.kernel_entries.specs.declared.entry.Placed.{Placed}
 use Rattle.transcript_reading.specs.Forms.{took_of, asked_of, happened_of, entry_of, home_of, wire_of, waits_of, note_of, named_line_of, kind_of}
 use Rattle.transcript_reading.specs.Kinds.{shown_step, happened_kind, entry_kinds, process_kinds, wire_kinds}
 use Rattle.transcript_reading.specs.declared.line.LineKind.{LineKind}

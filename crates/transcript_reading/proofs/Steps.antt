@@ -22,8 +22,8 @@ use Rattle.charlotte_text.proofs.Calls.{way_again}
 use Rattle.charlotte_text.proofs.Names.{end_again, ends_again}
 use Rattle.transcript_lines.specs.Transcript.{cause_text, result_text, report_text, step_text, suffix_text}
 use Rattle.transcript_lines.specs.TranscriptText.{IsShownReport, IsShownStep}
-use Rattle.kernel_world.specs.declared.entry.Happened.{Happened}
-use Rattle.kernel_world.specs.declared.entry.Happened.TheVariants.{Asked, Took}
+use Rattle.kernel_entries.specs.declared.entry.Happened.{Happened}
+use Rattle.kernel_entries.specs.declared.entry.Happened.TheVariants.{Asked, Took}
 use Rattle.transcript_reading.specs.Forms.{first_of, bare_report, cause_of, outcome_of, suffix_of, result_of, report_of, make_of, refuse_of, send_of, cancel_of, take_of, notice_of, back_step_of, named_step_of, step_of}
 use Rattle.transcript_reading.specs.Kinds.{shown_step}
 use Rattle.transcript_reading.specs.declared.line.ServiceLine.{ServiceLine}

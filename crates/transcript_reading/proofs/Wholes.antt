@@ -15,9 +15,9 @@ use Rattle.transcript_lines.specs.Transcript.{entry_lines, process_lines, wire_t
 use Rattle.transcript_lines.specs.TranscriptText.{IsShown, IsShownStep, AreOfTranscript, IsTranscript}
 use Rattle.transcript_lines.specs.declared.last.Last.{Last}
 use Rattle.transcript_lines.specs.declared.last.ScriptNote.{ScriptNote}
-use Rattle.kernel_world.specs.declared.entry.Happened.{Happened}
-use Rattle.kernel_world.specs.declared.entry.Happened.TheVariants.{Asked, Took}
-use Rattle.kernel_world.specs.declared.entry.Placed.{Placed}
+use Rattle.kernel_entries.specs.declared.entry.Happened.{Happened}
+use Rattle.kernel_entries.specs.declared.entry.Happened.TheVariants.{Asked, Took}
+use Rattle.kernel_entries.specs.declared.entry.Placed.{Placed}
 use Rattle.transcript_reading.specs.Kinds.{unstamped_what, unstamped, shown_step, happened_kind, entry_kinds, process_kinds, wire_kinds, transcript_kinds}
 use Rattle.transcript_reading.specs.Reading.{Told, full_steps, with_entry, with_line, with_lines, nothing_told, lines_of, kinds_of, whole_of, told_by}
 use Rattle.transcript_reading.specs.declared.line.LineKind.{LineKind}

@@ -9,9 +9,9 @@ use Rattle.charlotte_text.specs.Spelling.{line_feed}
 use Rattle.transcript_lines.specs.declared.last.Last.{Last}
 use Rattle.transcript_lines.specs.declared.last.Last.TheVariants.{Quiet}
 use Rattle.transcript_lines.specs.declared.last.ScriptNote.{ScriptNote}
-use Rattle.kernel_world.specs.declared.entry.Happened.{Happened}
-use Rattle.kernel_world.specs.declared.entry.Happened.TheVariants.{Asked, Took}
-use Rattle.kernel_world.specs.declared.entry.Placed.{Placed}
+use Rattle.kernel_entries.specs.declared.entry.Happened.{Happened}
+use Rattle.kernel_entries.specs.declared.entry.Happened.TheVariants.{Asked, Took}
+use Rattle.kernel_entries.specs.declared.entry.Placed.{Placed}
 use Rattle.transcript_reading.specs.Forms.{kind_of}
 use Rattle.transcript_reading.specs.Kinds.{full_step}
 use Rattle.transcript_reading.specs.Order.{Start, follows, is_whole}

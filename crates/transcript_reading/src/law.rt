@@ -3,7 +3,7 @@ ghost use Rattle.charlotte_calls.specs.declared.setting.Setting.{Setting};
 ghost use Rattle.transcript_lines.specs.TranscriptText.{IsTranscript};
 ghost use Rattle.transcript_lines.specs.declared.last.Last.{Last};
 ghost use Rattle.transcript_lines.specs.declared.last.ScriptNote.{ScriptNote};
-ghost use Rattle.kernel_world.specs.declared.entry.Placed.{Placed};
+ghost use Rattle.kernel_entries.specs.declared.entry.Placed.{Placed};
 ghost use Rattle.transcript_reading.specs.Kinds.{unstamped};
 
 /// A text is the transcript of one setting, of one list of entries, notes and last line: apart from the stamps of packets, which no line shows.

@@ -34,8 +34,8 @@ use Rattle.kernel_step.specs.Actions.{here, hint_kernel, enclosed_of, reports, a
 use Rattle.kernel_step.specs.Actions.{value_leaving, values_leaving, matches, match_waiting, tells_gone, ends_idle, ends_idle_here, end_each, ends, held, hold_each, noticed_outward, notice_send}
 use Rattle.kernel_step.specs.Actions.{notice_receive, notices, learned_view, resends_receive, tells_moved, resends, resends_on_news, learns, settle_each, tells_arrival, tell_arrivals}
 use Rattle.kernel_step.specs.Progress.{Progress, sends, reports_to, answers_to, means, keeps}
-use Rattle.kernel_world.specs.declared.entry.Happened.{Happened}
-use Rattle.kernel_world.specs.declared.entry.Happened.TheVariants.{Asked, Took}
+use Rattle.kernel_entries.specs.declared.entry.Happened.{Happened}
+use Rattle.kernel_entries.specs.declared.entry.Happened.TheVariants.{Asked, Took}
 use Rattle.transcript_record.specs.Told.{HasFewEnds, IsFewEntry, IsToldReport}
 
 -- v is the version, n the stamp of the event, w what happened

@@ -27,7 +27,7 @@ use Rattle.kernel_step.specs.Progress.{Progress, sends, means, keeps}
 use Rattle.kernel_step.specs.Rows.{wants, want_here, want_row, voids, unwant_here, unwant_row, frees, unwanted_here, unwanted_row, is_carried, passing, arriving, ends_in, takes, receives}
 use Rattle.kernel_step.specs.Rows.{pass_each, sends_back, is_asked, asks, parcel_row, completes, is_matched, awaits, taken_row, gives_back, notices_first, end_arrivals, means_back}
 use Rattle.kernel_step.specs.Rows.{is_here, back_row, erases, gone_here, gone_row, moved_here, mark_learns, moved_mark, moved_row, known_here, known_row, forget_row, goneseen_row, row}
-use Rattle.kernel_world.specs.declared.entry.Happened.{Happened}
+use Rattle.kernel_entries.specs.declared.entry.Happened.{Happened}
 use Rattle.transcript_record.specs.Told.{HasFewEnds, IsFewEntry}
 use Rattle.transcript_record.proofs.Kept.{Kept, IsFewView, few_none, few_fewer, sends-kept, says-kept, keeps-kept, reports-kept, answers-kept, forgets-kept, leaves-kept, match_waiting-kept, ends_idle-kept, notices-kept, resends_on_news-kept, learns-kept, settle_each-kept, tell_arrivals-kept}
 

@@ -37,8 +37,8 @@ use Rattle.kernel_step.specs.Progress.{Progress, means, keeps}
 use Rattle.kernel_step.specs.Rows.{row}
 use Rattle.kernel_step.specs.declared.phase.Phase.{Phase}
 use Rattle.kernel_step.specs.declared.phase.Phase.TheVariants.{Running, Waiting, Cancelling, Exited}
-use Rattle.kernel_world.specs.declared.entry.Happened.{Happened}
-use Rattle.kernel_world.specs.declared.entry.Happened.TheVariants.{Asked}
+use Rattle.kernel_entries.specs.declared.entry.Happened.{Happened}
+use Rattle.kernel_entries.specs.declared.entry.Happened.TheVariants.{Asked}
 use Rattle.transcript_record.specs.Told.{HasFewEnds, IsFewEntry, IsToldReport, IsTold}
 use Rattle.transcript_record.proofs.Kept.{Kept, IsFewView, IsFewSent, IsToldSent, few_none, put-few, owned-few, report-shown, sends-kept, says-kept, means-kept, keeps-kept, matches-kept, ends-kept, hold_each-kept}
 use Rattle.transcript_record.proofs.KeptRows.{row-kept}

@@ -3,9 +3,10 @@ use Rattle.std.proofs.Common.{◌≡◌, ℕ, List, All, arith, subst, sym, ◌�
 use Rattle.charlotte_calls.specs.declared.setting.Setting.{Setting}
 use Rattle.journal_text.proofs.Merges.{in-order-unique}
 use Rattle.transcript_lines.specs.TranscriptText.{IsShown}
-use Rattle.kernel_world.specs.Run.{AreInOrder, IsRecord, IsRun, of_kernel}
+use Rattle.kernel_entries.specs.Order.{AreInOrder, of_kernel}
+use Rattle.kernel_world.specs.Run.{IsRecord, IsRun}
 use Rattle.kernel_world.specs.World.{Event, noted, start}
-use Rattle.kernel_world.specs.declared.entry.Placed.{Placed}
+use Rattle.kernel_entries.specs.declared.entry.Placed.{Placed}
 use Rattle.transcript_record.specs.Record.{IsRecordOf}
 use Rattle.transcript_record.proofs.Sorted.{IsSorted, sort}
 use Rattle.transcript_record.proofs.Worlds.{shown-noted, told-start}

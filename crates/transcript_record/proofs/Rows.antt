@@ -12,9 +12,9 @@ use Rattle.charlotte_calls.specs.declared.names.Way.TheVariants.{Inward, Outward
 use Rattle.charlotte_packets.specs.declared.picture.MovingPicture.{MovingPicture}
 use Rattle.charlotte_packets.specs.declared.picture.PictureWhat.TheVariants as packet
 use Rattle.charlotte_calls.specs.declared.setting.Setting.{Setting}
-use Rattle.kernel_world.specs.declared.entry.Happened.{Happened}
-use Rattle.kernel_world.specs.declared.entry.Happened.TheVariants.{Asked, Took}
-use Rattle.kernel_world.specs.declared.entry.Placed.{Placed}
+use Rattle.kernel_entries.specs.declared.entry.Happened.{Happened}
+use Rattle.kernel_entries.specs.declared.entry.Happened.TheVariants.{Asked, Took}
+use Rattle.kernel_entries.specs.declared.entry.Placed.{Placed}
 use Rattle.kernel_step.specs.Progress as progress
 use Rattle.kernel_step.specs.Actions as actions
 use Rattle.kernel_step.specs.Rows as rows

@@ -7,12 +7,13 @@ use Rattle.charlotte_packets.specs.declared.picture.Picture.{Picture}
 use Rattle.charlotte_calls.specs.declared.setting.Setting.{Setting}
 use Rattle.kernel_step.specs.Calls.{IsCallWith}
 use Rattle.kernel_step.specs.Kernel.{Kernel, process_of, take_step, next_stamp}
-use Rattle.kernel_world.specs.Run.{IsAllowed, AreAllowed, stands_before, AreInOrder, of_kernel}
+use Rattle.kernel_entries.specs.Order.{stands_before, AreInOrder, of_kernel}
+use Rattle.kernel_world.specs.Run.{IsAllowed, AreAllowed}
 use Rattle.kernel_world.specs.World.{World, Event, Calls, Takes, kernel_of, takes_first, nothing_sent, first_or, outcome, happens, noted_as, after, noted, to_kernel}
 use Rattle.kernel_world.proofs.Packets.{to_kernel-first}
-use Rattle.kernel_world.specs.declared.entry.Entry.{Entry}
-use Rattle.kernel_world.specs.declared.entry.Happened.TheVariants.{Took}
-use Rattle.kernel_world.specs.declared.entry.Placed.{Placed}
+use Rattle.kernel_entries.specs.declared.entry.Entry.{Entry}
+use Rattle.kernel_entries.specs.declared.entry.Happened.TheVariants.{Took}
+use Rattle.kernel_entries.specs.declared.entry.Placed.{Placed}
 use Rattle.transcript_record.specs.Told.{IsTold, IsToldPacket, IsToldWorld}
 use Rattle.transcript_record.proofs.Exchange.{kernel-same, kernel-own, packets-more, same-event, same-entry, either_order, same_number}
 use Rattle.transcript_record.proofs.Kept.{IsFewSent}

@@ -19,8 +19,8 @@ use Rattle.kernel_step.specs.Start.{home, Wired, nothing_wired, owned_from_start
 use Rattle.kernel_world.specs.Run.{IsCallOf, IsAllowed, AreAllowed}
 use Rattle.kernel_world.specs.World.{World, Event, Calls, Takes, kernel_of, takes_first, nothing_sent, first_or, outcome, rest, removes, adds, adds_all, happens, asked_or_took, noted_as, after, noted, start, to_kernel}
 use Rattle.kernel_world.proofs.Packets.{adds_all-own, adds_all-other}
-use Rattle.kernel_world.specs.declared.entry.Happened.{Happened}
-use Rattle.kernel_world.specs.declared.entry.Happened.TheVariants.{Asked, Took}
+use Rattle.kernel_entries.specs.declared.entry.Happened.{Happened}
+use Rattle.kernel_entries.specs.declared.entry.Happened.TheVariants.{Asked, Took}
 use Rattle.transcript_record.specs.Told.{IsFewEntry, IsTold, IsToldPacket, IsToldWorld, IsToldReport}
 use Rattle.transcript_record.proofs.Kept.{IsFewSent, few_none, put-few}
 use Rattle.transcript_record.proofs.KeptSteps.{Gives, call_step-gives, take_step-gives, told-without_answer}

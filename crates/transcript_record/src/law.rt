@@ -1,9 +1,10 @@
 ghost use Rattle.std.specs.Prelude.{◌≡◌, ℕ, List, All};
 ghost use Rattle.charlotte_calls.specs.declared.setting.Setting.{Setting};
 ghost use Rattle.transcript_lines.specs.TranscriptText.{IsShown};
-ghost use Rattle.kernel_world.specs.Run.{AreInOrder, IsRecord, IsRun, of_kernel};
+ghost use Rattle.kernel_entries.specs.Order.{AreInOrder, of_kernel};
+ghost use Rattle.kernel_world.specs.Run.{IsRecord, IsRun};
 ghost use Rattle.kernel_world.specs.World.{Event, noted, start};
-ghost use Rattle.kernel_world.specs.declared.entry.Placed.{Placed};
+ghost use Rattle.kernel_entries.specs.declared.entry.Placed.{Placed};
 ghost use Rattle.transcript_record.specs.Record.{IsRecordOf};
 
 /// Each run has a record: two events at two kernels change places where the later one stands before the earlier one.

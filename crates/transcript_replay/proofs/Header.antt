@@ -7,11 +7,12 @@ use Rattle.charlotte_calls.specs.declared.setting.Setting.{Setting}
 use Rattle.transcript_lines.specs.declared.last.Last.{Last}
 use Rattle.transcript_lines.specs.declared.last.Last.TheVariants.{Quiet}
 use Rattle.transcript_lines.specs.declared.last.ScriptNote.{ScriptNote}
-use Rattle.kernel_world.specs.Run.{AreInOrder, IsRecord}
+use Rattle.kernel_entries.specs.Order.{AreInOrder}
+use Rattle.kernel_world.specs.Run.{IsRecord}
 use Rattle.kernel_world.specs.World.{noted, start}
-use Rattle.kernel_world.specs.declared.entry.Happened.{Happened}
-use Rattle.kernel_world.specs.declared.entry.Happened.TheVariants.{Asked, Took}
-use Rattle.kernel_world.specs.declared.entry.Placed.{Placed}
+use Rattle.kernel_entries.specs.declared.entry.Happened.{Happened}
+use Rattle.kernel_entries.specs.declared.entry.Happened.TheVariants.{Asked, Took}
+use Rattle.kernel_entries.specs.declared.entry.Placed.{Placed}
 use Rattle.transcript_reading.specs.Kinds.{entry_kinds, happened_kind, process_kinds, transcript_kinds, wire_kinds}
 use Rattle.transcript_reading.specs.declared.line.LineKind.{LineKind}
 use Rattle.transcript_reading.specs.declared.line.LineKind.TheVariants as line

@@ -15,8 +15,8 @@ use Rattle.kernel_step.specs.Calls.{IsCallWith}
 use Rattle.kernel_step.specs.Kernel.{Kernel, Outcome, call_step, performs, without_answer}
 use Rattle.kernel_world.specs.Run.{AreAllowed, IsAllowed}
 use Rattle.kernel_world.specs.World.{World, Event, Calls, Takes, adds_all, after, asked_or_took, first_or, happens, kernel_of, noted, nothing_sent, outcome}
-use Rattle.kernel_world.specs.declared.entry.Happened.{Happened}
-use Rattle.kernel_world.specs.declared.entry.Happened.TheVariants.{Asked, Took}
+use Rattle.kernel_entries.specs.declared.entry.Happened.{Happened}
+use Rattle.kernel_entries.specs.declared.entry.Happened.TheVariants.{Asked, Took}
 use Rattle.transcript_reading.specs.Kinds.{entry_kinds, happened_kind, shown_step, without_stamp}
 use Rattle.transcript_reading.specs.declared.line.LineKind.{LineKind}
 use Rattle.transcript_reading.specs.declared.line.LineKind.TheVariants as line

@@ -8,7 +8,7 @@ use Rattle.transcript_lines.specs.declared.last.Last.{Last}
 use Rattle.transcript_lines.specs.declared.last.ScriptNote.{ScriptNote}
 use Rattle.kernel_world.specs.Run.{AreAllowed}
 use Rattle.kernel_world.specs.World.{World, Event, after, happens, kernel_of, noted, outcome, start}
-use Rattle.kernel_world.specs.declared.entry.Placed.{Placed}
+use Rattle.kernel_entries.specs.declared.entry.Placed.{Placed}
 use Rattle.transcript_reading.specs.Kinds.{entry_kinds, shown_step}
 use Rattle.transcript_reading.specs.declared.line.LineKind.{LineKind}
 use Rattle.transcript_reading.specs.declared.line.LineKind.TheVariants as line

@@ -7,7 +7,7 @@ use Rattle.transcript_lines.specs.declared.last.Last.TheVariants.{Quiet, Unsettl
 use Rattle.transcript_lines.specs.declared.last.ScriptNote.{ScriptNote}
 use Rattle.kernel_world.specs.Run.{AllTaken, IsRecord}
 use Rattle.kernel_world.specs.World.{World, Event, after, kernel_of, start}
-use Rattle.kernel_world.specs.declared.entry.Placed.{Placed}
+use Rattle.kernel_entries.specs.declared.entry.Placed.{Placed}
 use Rattle.transcript_reading.specs.Kinds.{transcript_kinds}
 use Rattle.transcript_reading.specs.declared.line.LineKind.{LineKind}
 

@@ -2,7 +2,7 @@
 use Rattle.std.specs.Prelude.{◌≡◌, ℕ, Ok, Err}
 use Rattle.charlotte_calls.specs.declared.calls.ServiceStep.{ServiceStep}
 use Rattle.charlotte_text.specs.declared.fault.Fault.TheVariants.{Form}
-use Rattle.kernel_world.specs.declared.entry.Happened.{Happened}
+use Rattle.kernel_entries.specs.declared.entry.Happened.{Happened}
 use Rattle.service_step.specs.State.{State}
 use Rattle.service_step.specs.Steps.{IsAllowed, IsServiceStep, step_number}
 use Rattle.transcript_reading.specs.Kinds.{full_step}

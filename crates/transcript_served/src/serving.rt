@@ -6,7 +6,7 @@ ghost use Rattle.transcript_served.specs.Serving.{Makes, IsTroubleOf};
 use crate::setting::setting_of;
 use crate::trouble::Trouble;
 use crate::whole::whole_step;
-use kernel_world::Happened;
+use kernel_entries::Happened;
 use link_service::{ApplyFault, Service};
 use std::alloc::Global;
 use transcript_reader::{Line, LineKind, ServiceLine, read_transcript};

@@ -5,7 +5,7 @@ ghost use Rattle.transcript_reading.specs.declared.line.ServiceLine.TheVariants.
 
 use charlotte_calls::{Call, EndId, Ends, ServiceStep};
 use charlotte_text::Fault;
-use kernel_world::Happened;
+use kernel_entries::Happened;
 use transcript_reader::ServiceLine;
 
 /// The step of a line below an entry; a fault exactly where the entry does not say what the line leaves out.

@@ -6,9 +6,9 @@ use Rattle.charlotte_packets.specs.declared.picture.Picture.{Picture}
 use Rattle.charlotte_text.specs.Spelling.{number_text}
 use Rattle.journal_text.specs.Journal.{placed_at}
 use Rattle.transcript_lines.specs.Transcript.{entry_lines, entry_text, line, packet_text}
-use Rattle.kernel_world.specs.declared.entry.Entry.{Entry}
-use Rattle.kernel_world.specs.declared.entry.Happened.{Happened}
-use Rattle.kernel_world.specs.declared.entry.Happened.TheVariants.{Asked, Took}
+use Rattle.kernel_entries.specs.declared.entry.Entry.{Entry}
+use Rattle.kernel_entries.specs.declared.entry.Happened.{Happened}
+use Rattle.kernel_entries.specs.declared.entry.Happened.TheVariants.{Asked, Took}
 use Rattle.written_journal.specs.Alone.{lines_left}
 use Rattle.written_journal.specs.Given.{Rest}
 use Rattle.written_journal.specs.Kept.{sender_of}

@@ -6,7 +6,7 @@ use Rattle.std.proofs.lemmas.List.{drop_more, get_or-take, get_or_append_left, g
 use Rattle.std.proofs.lemmas.Option.{slice_get-get_or, slice_get_cases, slice_get_past}
 use Rattle.charlotte_calls.specs.declared.calls.ServiceStep.{ServiceStep}
 use Rattle.transcript_lines.specs.Transcript.{line, step_text}
-use Rattle.kernel_world.specs.declared.entry.Entry.{Entry}
+use Rattle.kernel_entries.specs.declared.entry.Entry.{Entry}
 use Rattle.written_journal.specs.Kept.{AreKept, HasSame, event_of, sender_of}
 use Rattle.packed_lines.specs.Lines.{happened_line, step_lines, AreLines}
 use Rattle.written_journal.specs.Lines.{kept_lines, lines_of, text_of}

@@ -6,7 +6,7 @@ use Rattle.std.proofs.lemmas.List.{drop_more, length-map, take-append-drop, take
 use Rattle.std.proofs.Math.Seq.{drop-append_seam, get_or-append_seam, take-append_seam}
 use Rattle.journal_text.specs.Journal.{placed_at}
 use Rattle.transcript_lines.specs.Transcript.{entry_text, happened_text, line, step_text}
-use Rattle.kernel_world.specs.declared.entry.Entry.{Entry}
+use Rattle.kernel_entries.specs.declared.entry.Entry.{Entry}
 use Rattle.written_journal.specs.Given.{IsPlace, rest_behind}
 use Rattle.written_journal.specs.Lines.{kept_lines, lines_of}
 use Rattle.packed_lines.specs.Lines.{happened_line, step_lines}

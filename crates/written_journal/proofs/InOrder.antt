@@ -6,9 +6,9 @@ use Rattle.std.proofs.lemmas.List.{get_or_default, get_or_past}
 use Rattle.journal_text.specs.Heads.{entries_at}
 use Rattle.journal_text.specs.Journal.{placed_at}
 use Rattle.transcript_lines.specs.Transcript.{entry_lines, entry_text, line}
-use Rattle.kernel_world.specs.Run.{IsMerge, of_kernel}
-use Rattle.kernel_world.specs.declared.entry.Entry.{Entry}
-use Rattle.kernel_world.specs.declared.entry.Placed.{Placed}
+use Rattle.kernel_entries.specs.Order.{IsMerge, of_kernel}
+use Rattle.kernel_entries.specs.declared.entry.Entry.{Entry}
+use Rattle.kernel_entries.specs.declared.entry.Placed.{Placed}
 use Rattle.written_journal.specs.Given.{AreAll, AreLeft, Rest, all_of, rest_at}
 use Rattle.written_journal.specs.Kept.{Happenings}
 use Rattle.written_journal.specs.Left.{GivesFirst}

@@ -9,9 +9,9 @@ use Rattle.charlotte_calls.specs.Ranges.{IsU64, IsStepInRange}
 use Rattle.charlotte_calls.specs.declared.calls.ServiceStep.{ServiceStep}
 use Rattle.journal_text.specs.Journal.{AreRising, IsAfterLast}
 use Rattle.journal_text.proofs.Rising.{AreRising-push, AreRising-take}
-use Rattle.kernel_world.specs.Ranges.{IsEntryInRange, IsHappenedInRange}
-use Rattle.kernel_world.specs.declared.entry.Entry.{Entry}
-use Rattle.kernel_world.specs.declared.entry.Happened.{Happened}
+use Rattle.kernel_entries.specs.Ranges.{IsEntryInRange, IsHappenedInRange}
+use Rattle.kernel_entries.specs.declared.entry.Entry.{Entry}
+use Rattle.kernel_entries.specs.declared.entry.Happened.{Happened}
 use Rattle.written_journal.specs.Kept.{AreKept, HasSame, Happenings, IsStored, begun_lines, begun_sender, event_of, happenings, sender_of}
 use Rattle.packed_lines.specs.Lines.{happened_line, step_lines, AreLines}
 use Rattle.written_journal.specs.Noted.{done, numbered}

@@ -4,7 +4,7 @@ use Rattle.std.specs.List.{slice_get, slice_range}
 use Rattle.std.proofs.lemmas.List.{drop_more, get_or-map, length-map, take-append-drop}
 use Rattle.std.proofs.lemmas.Option.{slice_get-get_or, slice_get-map, slice_get_cases, slice_get_past}
 use Rattle.journal_text.specs.Heads.{first_stamp}
-use Rattle.kernel_world.specs.declared.entry.Entry.{Entry}
+use Rattle.kernel_entries.specs.declared.entry.Entry.{Entry}
 use Rattle.written_journal.specs.Kept.{AreKept, Happenings, IsStored, event_of, happenings}
 use Rattle.written_journal.specs.Lines.{lines_of}
 use Rattle.packed_lines.specs.Packed.{kept, kept_text, line_note}

@@ -8,9 +8,9 @@ use Rattle.journal_text.specs.Journal.{AreRising, placed_at}
 use Rattle.journal_text.specs.declared.merging.Head.{Head}
 use Rattle.journal_text.proofs.Heads.{entries_at-none}
 use Rattle.journal_text.proofs.Merges.{AreRising-popped, IsPopped-first, IsSoFar, IsSoFar-end, IsSoFar-popped}
-use Rattle.kernel_world.specs.Run.{IsMerge}
-use Rattle.kernel_world.specs.declared.entry.Entry.{Entry}
-use Rattle.kernel_world.specs.declared.entry.Placed.{Placed}
+use Rattle.kernel_entries.specs.Order.{IsMerge}
+use Rattle.kernel_entries.specs.declared.entry.Entry.{Entry}
+use Rattle.kernel_entries.specs.declared.entry.Placed.{Placed}
 
 -- the queues hold what the merge so far has not placed
 pub record IsMerging (journals queues : List (List Entry)) (placed : List Placed) : Type 0 where

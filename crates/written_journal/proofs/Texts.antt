@@ -8,7 +8,7 @@ use Rattle.std.proofs.lemmas.List.Folds.{concat-append}
 use Rattle.std.proofs.Math.Seq.{drop-append_seam, take-append_seam}
 use Rattle.charlotte_calls.specs.declared.calls.ServiceStep.{ServiceStep}
 use Rattle.transcript_lines.specs.Transcript.{line, step_text}
-use Rattle.kernel_world.specs.declared.entry.Entry.{Entry}
+use Rattle.kernel_entries.specs.declared.entry.Entry.{Entry}
 use Rattle.written_journal.specs.Lines.{kept_lines, lines_of, text_of}
 use Rattle.packed_lines.specs.Lines.{step_lines}
 use Rattle.packed_lines.proofs.Texts.{kept_text-append}

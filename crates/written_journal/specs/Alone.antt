@@ -4,9 +4,9 @@ use Rattle.std.specs.List.{flat_map}
 use Rattle.charlotte_calls.specs.declared.calls.Call.TheVariants.{Wait}
 use Rattle.journal_text.specs.Journal.{placed_at}
 use Rattle.transcript_lines.specs.Transcript.{entry_lines, packet_text}
-use Rattle.kernel_world.specs.declared.entry.Entry.{Entry}
-use Rattle.kernel_world.specs.declared.entry.Happened.{Happened}
-use Rattle.kernel_world.specs.declared.entry.Happened.TheVariants.{Asked, Took}
+use Rattle.kernel_entries.specs.declared.entry.Entry.{Entry}
+use Rattle.kernel_entries.specs.declared.entry.Happened.{Happened}
+use Rattle.kernel_entries.specs.declared.entry.Happened.TheVariants.{Asked, Took}
 use Rattle.written_journal.specs.Given.{Rest}
 
 -- stands for the first of no entries

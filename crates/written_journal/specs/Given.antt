@@ -1,8 +1,8 @@
 -- Journals whose lines are given one after the other, and what is left of each.
 use Rattle.std.specs.Prelude.{◌≡◌, ◌≢◌, ℕ, ◌+◌, List, [], length, take, drop, slice_index_or}
-use Rattle.kernel_world.specs.Run.{of_kernel}
-use Rattle.kernel_world.specs.declared.entry.Entry.{Entry}
-use Rattle.kernel_world.specs.declared.entry.Placed.{Placed}
+use Rattle.kernel_entries.specs.Order.{of_kernel}
+use Rattle.kernel_entries.specs.declared.entry.Entry.{Entry}
+use Rattle.kernel_entries.specs.declared.entry.Placed.{Placed}
 use Rattle.written_journal.specs.Kept.{Happenings}
 use Rattle.written_journal.specs.Lines.{lines_of}
 use Rattle.packed_lines.specs.Packed.{kept_text}

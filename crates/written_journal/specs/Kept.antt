@@ -1,10 +1,10 @@
 -- Events that are kept in a text.
 use Rattle.std.specs.Prelude.{◌≡◌, ℕ, ◌+◌, ◌<◌, ◌^◌, List, [], ◌∷◌, Option, None, Some, All, IfSome, length, map, slice_index_or, take}
 use Rattle.journal_text.specs.Journal.{AreRising}
-use Rattle.kernel_world.specs.Ranges.{IsEntryInRange, IsHappenedInRange}
-use Rattle.kernel_world.specs.declared.entry.Entry.{Entry}
-use Rattle.kernel_world.specs.declared.entry.Happened.{Happened}
-use Rattle.kernel_world.specs.declared.entry.Happened.TheVariants.{Asked, Took}
+use Rattle.kernel_entries.specs.Ranges.{IsEntryInRange, IsHappenedInRange}
+use Rattle.kernel_entries.specs.declared.entry.Entry.{Entry}
+use Rattle.kernel_entries.specs.declared.entry.Happened.{Happened}
+use Rattle.kernel_entries.specs.declared.entry.Happened.TheVariants.{Asked, Took}
 use Rattle.written_journal.specs.Lines.{lines_of, text_of}
 use Rattle.packed_lines.specs.Lines.{happened_line, AreLines}
 use Rattle.packed_lines.specs.Packed.{kept_text, line_note}

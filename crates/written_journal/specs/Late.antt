@@ -1,7 +1,7 @@
 -- The last entry of a journal, while its steps are kept by value.
 use Rattle.std.specs.Prelude.{◌≡◌, ◌<◌, ◌+◌, ◌^◌, ◌++◌, ℕ, Option, None, Some, length}
 use Rattle.journal_text.specs.Journal.{IsAfterLast}
-use Rattle.kernel_world.specs.declared.entry.Happened.{Happened}
+use Rattle.kernel_entries.specs.declared.entry.Happened.{Happened}
 use Rattle.written_journal.specs.Kept.{Happenings}
 use Rattle.written_journal.specs.Noted.{done}
 use Rattle.written_journal.specs.declared.journal.Late.{Late}

@@ -1,7 +1,7 @@
 -- The text in which events are kept: the lines of each, one after the other.
 use Rattle.std.specs.Prelude.{ℕ, List, ◌∷◌}
 use Rattle.std.specs.List.{flat_map}
-use Rattle.kernel_world.specs.declared.entry.Entry.{Entry}
+use Rattle.kernel_entries.specs.declared.entry.Entry.{Entry}
 use Rattle.packed_lines.specs.Lines.{happened_line, step_lines}
 use Rattle.packed_lines.specs.Packed.{kept_text}
 

@@ -1,7 +1,7 @@
 -- Merging journals: what is left of each.
 use Rattle.std.specs.Prelude.{◌≡◌, ℕ, ◌+◌, ◌<◌, ◌^◌, List, Option, IfSome, drop, map}
 use Rattle.journal_text.specs.Heads.{first_stamp}
-use Rattle.kernel_world.specs.declared.entry.Entry.{Entry}
+use Rattle.kernel_entries.specs.declared.entry.Entry.{Entry}
 use Rattle.written_journal.specs.Kept.{Happenings}
 
 -- the entries of journals

@@ -3,9 +3,9 @@ use Rattle.std.specs.Prelude.{ℕ, List, [], ◌∷◌, ◌++◌, Option, None, 
 use Rattle.charlotte_packets.specs.Packets.{packet_picture}
 use Rattle.charlotte_calls.specs.declared.calls.ServiceStep.{ServiceStep}
 use Rattle.journal_text.specs.Journal.{placed_at}
-use Rattle.kernel_world.specs.declared.entry.Entry.{Entry}
-use Rattle.kernel_world.specs.declared.entry.Happened.{Happened}
-use Rattle.kernel_world.specs.declared.entry.Happened.TheVariants as happened
+use Rattle.kernel_entries.specs.declared.entry.Entry.{Entry}
+use Rattle.kernel_entries.specs.declared.entry.Happened.{Happened}
+use Rattle.kernel_entries.specs.declared.entry.Happened.TheVariants as happened
 use Rattle.written_journal.specs.Told.{Told}
 use Rattle.written_journal.specs.declared.history.Note.{Note}
 use Rattle.written_journal.specs.declared.history.Note.TheVariants.{Asked, Took, Done, Forgotten, Cut, One, Begun, Next, Taken}

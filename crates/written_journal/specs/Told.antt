@@ -1,12 +1,12 @@
 -- What happened at kernels, as proofs keep it, and how the logic stores that.
 use Rattle.std.specs.Prelude.{List, [], Option, None, refl}
 use Rattle.std.specs.Coded.{Coded, code_by, coded×, coded_list, coded_option}
-use Rattle.kernel_world.specs.declared.entry.Entry.{Entry}
-use Rattle.kernel_world.specs.declared.entry.Happened.{Happened}
-use Rattle.kernel_world.specs.declared.entry.Placed.{Placed}
-use Rattle.kernel_world.specs.contracts.entry.Entry as EntryType
-use Rattle.kernel_world.specs.contracts.entry.Happened as HappenedType
-use Rattle.kernel_world.specs.contracts.entry.Placed as PlacedType
+use Rattle.kernel_entries.specs.declared.entry.Entry.{Entry}
+use Rattle.kernel_entries.specs.declared.entry.Happened.{Happened}
+use Rattle.kernel_entries.specs.declared.entry.Placed.{Placed}
+use Rattle.kernel_entries.specs.contracts.entry.Entry as EntryType
+use Rattle.kernel_entries.specs.contracts.entry.Happened as HappenedType
+use Rattle.kernel_entries.specs.contracts.entry.Placed as PlacedType
 
 pub record Told : Type 0 where
   -- the entries of one kernel

@@ -3,7 +3,7 @@ ghost use Rattle.std.specs.Prelude.{◌≡◌, ◌+◌, ◌-◌, ◌≤◌, ◌�
 ghost use Rattle.std.specs.List.{slice_range};
 ghost use Rattle.journal_text.specs.Journal.{placed_at};
 ghost use Rattle.transcript_lines.specs.Transcript.{entry_lines};
-ghost use Rattle.kernel_world.specs.declared.entry.Entry.{Entry};
+ghost use Rattle.kernel_entries.specs.declared.entry.Entry.{Entry};
 ghost use Rattle.written_journal.specs.Alone.{picture_text};
 ghost use Rattle.written_journal.specs.Kept.{sender_of};
 ghost use Rattle.written_journal.specs.Left.{GivesFirst};
@@ -22,7 +22,7 @@ pub struct EntryLines {
 }
 
 impl Model for EntryLines {
-    ghost use Rattle.kernel_world.specs.declared.entry.Entry.{Entry};
+    ghost use Rattle.kernel_entries.specs.declared.entry.Entry.{Entry};
     ghost use Rattle.written_journal.specs.Alone.{IsAlone, first_entry};
 
     ghost Value = { Entry };

@@ -1,9 +1,9 @@
 ghost use Rattle.std.specs.Prelude.{◌≡◌, [], ◌∷◌, ◌++◌, ◌<◌, ◌≤◌, Some, None, All, IfOk, OnOk, OnErr, length, slice_get, take};
 ghost use Rattle.charlotte_packets.specs.Packets.{packet_picture};
 ghost use Rattle.journal_text.specs.Journal.{IsAfterLast};
-ghost use Rattle.kernel_world.specs.Ranges.{IsEntryInRange};
-ghost use Rattle.kernel_world.specs.declared.entry.Happened.{Happened};
-ghost use Rattle.kernel_world.specs.declared.entry.Happened.TheVariants.{Asked, Took};
+ghost use Rattle.kernel_entries.specs.Ranges.{IsEntryInRange};
+ghost use Rattle.kernel_entries.specs.declared.entry.Happened.{Happened};
+ghost use Rattle.kernel_entries.specs.declared.entry.Happened.TheVariants.{Asked, Took};
 ghost use Rattle.written_journal.specs.Late.{IsLate, with_late};
 
 use crate::EntryLines;

@@ -1,7 +1,7 @@
 ghost use Rattle.std.specs.Prelude.{◌≡◌, [], IfOk, List, OnErr};
 ghost use Rattle.std.specs.List.{flat_map};
 ghost use Rattle.transcript_lines.specs.Transcript.{entry_lines};
-ghost use Rattle.kernel_world.specs.declared.entry.Placed.{Placed};
+ghost use Rattle.kernel_entries.specs.declared.entry.Placed.{Placed};
 ghost use Rattle.written_journal.specs.Given.{AreLeft, rest_at};
 ghost use Rattle.written_journal.specs.Left.{GivesFirst};
 

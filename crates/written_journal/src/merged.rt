@@ -1,6 +1,6 @@
 ghost use Rattle.std.specs.Prelude.{◌≡◌, ◌≤◌, IfOk, List, length, map};
-ghost use Rattle.kernel_world.specs.Run.{IsMerge};
-ghost use Rattle.kernel_world.specs.declared.entry.Placed.{Placed as APlaced};
+ghost use Rattle.kernel_entries.specs.Order.{IsMerge};
+ghost use Rattle.kernel_entries.specs.declared.entry.Placed.{Placed as APlaced};
 ghost use Rattle.written_journal.specs.Given.{all_of};
 ghost use Rattle.written_journal.specs.Merging.{journals_of};
 
@@ -22,8 +22,8 @@ pub struct Merged {
 
 impl Model for Merged {
     ghost use Rattle.std.specs.Prelude.{List};
-    ghost use Rattle.kernel_world.specs.declared.entry.Placed.{Placed};
-    ghost use Rattle.kernel_world.specs.declared.entry.Placed.{Placed as APlaced};
+    ghost use Rattle.kernel_entries.specs.declared.entry.Placed.{Placed};
+    ghost use Rattle.kernel_entries.specs.declared.entry.Placed.{Placed as APlaced};
     ghost use Rattle.written_journal.specs.Given.{AreAll};
 
     ghost Value = { List Placed };

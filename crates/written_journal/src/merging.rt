@@ -1,8 +1,8 @@
 ghost use Rattle.std.specs.Prelude.{◌≡◌, ◌≤◌, ◌∷◌, ◌++◌, [], All, IfOk, OnOk, length, List};
 ghost use Rattle.journal_text.specs.Heads.{first_stamp, IsFirstBelow};
 ghost use Rattle.journal_text.specs.Journal.{AreRising, placed_at};
-ghost use Rattle.kernel_world.specs.Run.{IsMerge};
-ghost use Rattle.kernel_world.specs.declared.entry.Entry.{Entry};
+ghost use Rattle.kernel_entries.specs.Order.{IsMerge};
+ghost use Rattle.kernel_entries.specs.declared.entry.Entry.{Entry};
 ghost use Rattle.written_journal.specs.Merging.{journals_of};
 
 use crate::order::Order;
@@ -24,7 +24,7 @@ pub(crate) struct Queue<'a> {
 
 impl<'a> Model for Queue<'a> {
     ghost use Rattle.std.specs.Prelude.{List, drop};
-    ghost use Rattle.kernel_world.specs.declared.entry.Entry.{Entry};
+    ghost use Rattle.kernel_entries.specs.declared.entry.Entry.{Entry};
     ghost use Rattle.written_journal.specs.Merging.{IsQueue};
 
     ghost Value = { List Entry };

@@ -1,6 +1,6 @@
 ghost use Rattle.std.specs.Prelude.{◌≡◌, ◌∷◌, ◌++◌, [], IfOk, List, OnOk, drop, map, slice_get};
 ghost use Rattle.journal_text.specs.Journal.{placed_at};
-ghost use Rattle.kernel_world.specs.declared.entry.Entry.{Entry};
+ghost use Rattle.kernel_entries.specs.declared.entry.Entry.{Entry};
 
 use crate::history::{History, Note};
 use crate::stored::Stored;
@@ -18,7 +18,7 @@ pub(crate) struct Order {
 
 impl Model for Order {
     ghost use Rattle.std.specs.Prelude.{◌≡◌, List, map};
-    ghost use Rattle.kernel_world.specs.declared.entry.Placed.{Placed};
+    ghost use Rattle.kernel_entries.specs.declared.entry.Placed.{Placed};
 
     ghost Value = { List Placed };
 

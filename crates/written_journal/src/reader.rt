@@ -1,7 +1,7 @@
 ghost use Rattle.std.specs.Prelude.{◌≡◌, ◌==◌, ◌∷◌, [], IfOk, List, OnErr, OnOk, length};
 ghost use Rattle.journal_text.specs.Journal.{placed_at};
 ghost use Rattle.transcript_lines.specs.Transcript.{entry_text, line};
-ghost use Rattle.kernel_world.specs.declared.entry.Entry.{Entry};
+ghost use Rattle.kernel_entries.specs.declared.entry.Entry.{Entry};
 ghost use Rattle.written_journal.specs.Given.{all_of};
 ghost use Rattle.written_journal.specs.Left.{GivesFirst};
 ghost use Rattle.packed_lines.specs.Lines.{step_lines};

@@ -2,7 +2,7 @@
 ghost use Rattle.std.specs.Prelude.{◌≡◌, ◌+◌, ◌^◌, ◌<◌, ◌∷◌, [], IfSome, List, drop, length, slice_index_or, take};
 ghost use Rattle.journal_text.specs.Heads.{first_stamp};
 ghost use Rattle.journal_text.specs.Journal.{AreRising};
-ghost use Rattle.kernel_world.specs.declared.entry.Entry.{Entry};
+ghost use Rattle.kernel_entries.specs.declared.entry.Entry.{Entry};
 ghost use Rattle.written_journal.specs.Kept.{event_of};
 ghost use Rattle.written_journal.specs.Lines.{lines_of};
 ghost use Rattle.packed_lines.specs.Packed.{given, kept, kept_text};

@@ -1,16 +1,16 @@
 ghost use Rattle.std.specs.Prelude.{◌≡◌, [], ◌∷◌, ◌++◌, ◌+◌, ◌<◌, ◌≤◌, ◌^◌, Some, None, All, IfOk, OnOk, OnErr, length, slice_get, take};
 ghost use Rattle.charlotte_packets.specs.Packets.{packet_picture};
 ghost use Rattle.journal_text.specs.Journal.{IsAfterLast};
-ghost use Rattle.kernel_world.specs.Ranges.{IsEntryInRange};
-ghost use Rattle.kernel_world.specs.declared.entry.Entry.{Entry};
-ghost use Rattle.kernel_world.specs.declared.entry.Happened.{Happened};
-ghost use Rattle.kernel_world.specs.declared.entry.Happened.TheVariants.{Asked, Took};
+ghost use Rattle.kernel_entries.specs.Ranges.{IsEntryInRange};
+ghost use Rattle.kernel_entries.specs.declared.entry.Entry.{Entry};
+ghost use Rattle.kernel_entries.specs.declared.entry.Happened.{Happened};
+ghost use Rattle.kernel_entries.specs.declared.entry.Happened.TheVariants.{Asked, Took};
 
 use crate::history::{History, Note};
 use crate::written::Written;
 use charlotte_calls::{Call, NoMemory, Pid, ServiceStep};
 use charlotte_packets::Packet;
-use kernel_world::{tell_call, tell_packet, tell_pid, tell_steps, tell_u8, tell_u64};
+use kernel_entries::{tell_call, tell_packet, tell_pid, tell_steps, tell_u8, tell_u64};
 use packed_lines::KeptLines;
 use std::alloc::Global;
 use std::marker::Model;

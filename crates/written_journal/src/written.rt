@@ -1,5 +1,5 @@
 ghost use Rattle.std.specs.Prelude.{◌≡◌, ◌+◌, ◌<◌, ◌++◌, ◌∷◌, [], IfOk, OnErr, OnOk, List, length, slice_get, take};
-ghost use Rattle.kernel_world.specs.declared.entry.Entry.{Entry};
+ghost use Rattle.kernel_entries.specs.declared.entry.Entry.{Entry};
 ghost use Rattle.written_journal.specs.Kept.{AreKept, HasSame};
 ghost use Rattle.written_journal.specs.Lines.{text_of};
 ghost use Rattle.written_journal.specs.Noted.{numbered};

@@ -2,9 +2,9 @@ use Rattle.std.proofs.Common.{◌≡◌, ◌≤◌, All, List, arith, length, ma
 use Rattle.charlotte_calls.specs.declared.setting.Setting.{Setting}
 use Rattle.transcript_lines.specs.declared.last.ScriptNote.{ScriptNote}
 use Rattle.transcript_lines.specs.TranscriptText.{IsNoteInRange}
-use Rattle.kernel_world.specs.Ranges.{IsPlacedInRange}
-use Rattle.kernel_world.specs.Run.{IsMerge}
-use Rattle.kernel_world.specs.declared.entry.Entry.{Entry}
+use Rattle.kernel_entries.specs.Ranges.{IsPlacedInRange}
+use Rattle.kernel_entries.specs.Order.{IsMerge}
+use Rattle.kernel_entries.specs.declared.entry.Entry.{Entry}
 use Rattle.lynx_plan.specs.declared.script.ScriptLine.{ScriptLine}
 use Rattle.script_run.specs.Recorded.{AreLinesDone}
 use Rattle.script_run.specs.Performing.{IsPerformance}

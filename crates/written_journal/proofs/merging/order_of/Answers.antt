@@ -1,7 +1,7 @@
 use Rattle.std.proofs.Common.{◌≡◌, ℕ, List, [], Some, length, arith, ap, subst, rules}
 use Rattle.std.proofs.lemmas.List.{length-map}
 use Rattle.journal_text.specs.Heads.{IsFirstBelow, entries_at}
-use Rattle.kernel_world.specs.declared.entry.Entry.{Entry}
+use Rattle.kernel_entries.specs.declared.entry.Entry.{Entry}
 use Rattle.journal_text.proofs.Heads.{nothing-left}
 use Rattle.written_journal.specs.Kept.{Happenings}
 use Rattle.written_journal.specs.Merging.{journals_of}

@@ -1,5 +1,5 @@
 use Rattle.std.proofs.Common.{refl}
-use Rattle.kernel_world.specs.declared.entry.Happened.TheVariants.{Asked}
+use Rattle.kernel_entries.specs.declared.entry.Happened.TheVariants.{Asked}
 use Rattle.kernel_journal.proofs.Bodies.{ask-goes, ask-ready, ask-stops, call-stops, if_err, late-stops, not-so, on_ok}
 use Rattle.kernel_journal.proofs.body.Body.ask.Goals as goal
 

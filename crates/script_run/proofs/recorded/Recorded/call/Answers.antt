@@ -1,9 +1,9 @@
 use Rattle.std.proofs.Common.{◌≡◌, ◌++◌, ◌∷◌, [], ap, refl, ◌∙◌, List}
 use Rattle.charlotte_calls.specs.declared.calls.ServiceStep.{ServiceStep}
 use Rattle.kernel_world.specs.World.{Calls}
-use Rattle.kernel_world.specs.declared.entry.Entry.{Entry}
-use Rattle.kernel_world.specs.declared.entry.Happened.{Happened}
-use Rattle.kernel_world.specs.declared.entry.Happened.TheVariants.{Asked}
+use Rattle.kernel_entries.specs.declared.entry.Entry.{Entry}
+use Rattle.kernel_entries.specs.declared.entry.Happened.{Happened}
+use Rattle.kernel_entries.specs.declared.entry.Happened.TheVariants.{Asked}
 use Rattle.script_run.proofs.Events.{caller-allowed, event-goes, noting, noting-later}
 use Rattle.script_run.proofs.recorded.Recorded.call.Goals as goal
 

@@ -3,8 +3,8 @@ use Rattle.charlotte_packets.specs.Packets.{packet_picture}
 use Rattle.charlotte_calls.specs.declared.calls.ServiceStep.{ServiceStep}
 use Rattle.charlotte_packets.specs.declared.picture.Picture.{Picture}
 use Rattle.kernel_world.specs.World.{Takes}
-use Rattle.kernel_world.specs.declared.entry.Entry.{Entry}
-use Rattle.kernel_world.specs.declared.entry.Happened.TheVariants.{Took}
+use Rattle.kernel_entries.specs.declared.entry.Entry.{Entry}
+use Rattle.kernel_entries.specs.declared.entry.Happened.TheVariants.{Took}
 use Rattle.script_run.specs.Recorded.{sent_from}
 use Rattle.script_run.proofs.Events.{Goes-start, event-goes, first-is, none-first, noting, noting-later, some-first}
 use Rattle.script_run.proofs.recorded.Recorded.take_first.Goals as goal

@@ -1,6 +1,6 @@
 use Rattle.std.proofs.Common.{◌≡◌, ◌∙◌, ℕ, Option, Some, ap, arith, length, rules, sym}
 use Rattle.std.specs.List.{slice_get}
-use Rattle.kernel_world.specs.declared.entry.Entry.{Entry}
+use Rattle.kernel_entries.specs.declared.entry.Entry.{Entry}
 use Rattle.written_journal.specs.Kept.{Happenings}
 use Rattle.written_journal.specs.Late.{with_late}
 use Rattle.written_journal.proofs.Late.{late-alone, stored-place}

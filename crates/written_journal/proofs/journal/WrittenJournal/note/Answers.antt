@@ -1,7 +1,7 @@
 use Rattle.std.proofs.Common.{◌≡◌, ◌∙◌, List, [], ◌∷◌, ◌++◌, All, Some, ap, subst, sym}
 use Rattle.charlotte_calls.specs.declared.calls.ServiceStep.{ServiceStep}
-use Rattle.kernel_world.specs.Ranges.{IsEntryInRange}
-use Rattle.kernel_world.specs.declared.entry.Entry.{Entry}
+use Rattle.kernel_entries.specs.Ranges.{IsEntryInRange}
+use Rattle.kernel_entries.specs.declared.entry.Entry.{Entry}
 use Rattle.written_journal.specs.Kept.{Happenings}
 use Rattle.written_journal.proofs.Late.{begun-none, late-begun, stored-begun, with-none}
 use Rattle.written_journal.proofs.journal.WrittenJournal.note.Goals as goal

@@ -2,7 +2,7 @@ use Rattle.std.proofs.Common.{◌≡◌, ◌∙◌, ℕ, List, ◌∷◌, ◌++�
 use Rattle.std.specs.List.{flat_map}
 use Rattle.std.proofs.lemmas.List.{set-get_or, with_items_is}
 use Rattle.transcript_lines.specs.Transcript.{entry_lines}
-use Rattle.kernel_world.specs.Run.{of_kernel}
+use Rattle.kernel_entries.specs.Order.{of_kernel}
 use Rattle.written_journal.specs.Given.{AreLeft, Rest, rest_at}
 use Rattle.written_journal.proofs.InOrder.{between, first-given, next-of, no-entry}
 use Rattle.written_journal.proofs.lines.MergedLines.next_line.Goals as goal

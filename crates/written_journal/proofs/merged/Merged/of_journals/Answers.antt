@@ -1,5 +1,5 @@
 use Rattle.std.proofs.Common.{List, ap, sym, subst}
-use Rattle.kernel_world.specs.Run.{IsMerge}
+use Rattle.kernel_entries.specs.Order.{IsMerge}
 use Rattle.journal_text.proofs.Merges.{merge-unique}
 use Rattle.written_journal.specs.Kept.{Happenings}
 use Rattle.written_journal.specs.Merging.{journals_of}

@@ -1,7 +1,7 @@
 use Rattle.std.proofs.Common.{◌≤◌, subst}
 use Rattle.std.proofs.lemmas.List.Elements.{recursion_from_All}
 use Rattle.charlotte_calls.specs.Ranges.{IsEnd, AreEndsInRange}
-use Rattle.kernel_world.proofs.ranges.tell_ends.Goals as goal
+use Rattle.kernel_entries.proofs.ranges.tell_ends.Goals as goal
 
 pub returns : goal.returns
 returns c =

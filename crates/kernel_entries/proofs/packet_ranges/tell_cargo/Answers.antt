@@ -1,7 +1,7 @@
 use Rattle.std.proofs.lemmas.List.Elements.{recursion_from_All}
 use Rattle.std.proofs.Common.{subst}
 use Rattle.charlotte_packets.specs.Ranges.{IsValueInRange, AreValuesInRange}
-use Rattle.kernel_world.proofs.packet_ranges.tell_cargo.Goals as goal
+use Rattle.kernel_entries.proofs.packet_ranges.tell_cargo.Goals as goal
 
 pub returns : goal.returns
 returns c =

@@ -1,6 +1,6 @@
 ghost use Rattle.std.specs.Prelude.{◌≡◌, IfOk};
-ghost use Rattle.kernel_world.specs.Ranges.{IsHappenedInRange, IsEntryInRange};
-ghost use Rattle.kernel_world.specs.declared.entry.Happened.TheVariants.{Asked, Took};
+ghost use Rattle.kernel_entries.specs.Ranges.{IsHappenedInRange, IsEntryInRange};
+ghost use Rattle.kernel_entries.specs.declared.entry.Happened.TheVariants.{Asked, Took};
 
 use crate::ranges::{tell_call, tell_picture, tell_pid, tell_steps, tell_u8, tell_u64};
 use charlotte_calls::{Call, Items, NoMemory, Pid, ServiceStep};

@@ -2,10 +2,10 @@
 use Rattle.std.specs.Prelude.{All}
 use Rattle.charlotte_calls.specs.Ranges.{IsU8, IsU64, IsPid, IsCallInRange, IsStepInRange}
 use Rattle.charlotte_packets.specs.Ranges.{IsPictureInRange}
-use Rattle.kernel_world.specs.declared.entry.Entry.{Entry}
-use Rattle.kernel_world.specs.declared.entry.Happened.{Happened}
-use Rattle.kernel_world.specs.declared.entry.Happened.TheVariants.{Asked, Took}
-use Rattle.kernel_world.specs.declared.entry.Placed.{Placed}
+use Rattle.kernel_entries.specs.declared.entry.Entry.{Entry}
+use Rattle.kernel_entries.specs.declared.entry.Happened.{Happened}
+use Rattle.kernel_entries.specs.declared.entry.Happened.TheVariants.{Asked, Took}
+use Rattle.kernel_entries.specs.declared.entry.Placed.{Placed}
 
 -- what happened
 abbrev pub IsHappenedInRange : Happened → Type 0
