@@ -111,9 +111,9 @@ pub record Runs (p : Program) (fuel : ℕ) (t : Turns) (stop : Stop) (left : ℕ
 
 -- ---- what a process does to the turns
 
--- a thread begins at the end of the ready list
-abbrev pub spawned : ℕ → ℕ → List Value → Turns → Turns
-spawned n start locals t = with_thread n (Some (begun true start locals)) (record t { ready = t.ready ++ n ∷ [] })
+-- a thread with these open requests begins at the end of the ready list
+abbrev pub spawned : ℕ → List ℕ → ℕ → List Value → Turns → Turns
+spawned n requests start locals t = with_thread n (Some (begun requests start locals)) (record t { ready = t.ready ++ n ∷ [] })
 
 -- the number is one of no thread that stands
 abbrev pub IsFree : ℕ → Turns → Type 0
@@ -124,7 +124,7 @@ abbrev pub at_start : List Value → Turns
 at_start globals =
     record {
       globals = globals;
-      threads = Some (begun false 0 []) ∷ replicate (most_threads - 1) None;
+      threads = Some (begun [] 0 []) ∷ replicate (most_threads - 1) None;
       running = None;
       ready = 0 ∷ [];
       awaiting = [];
