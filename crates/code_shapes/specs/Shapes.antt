@@ -63,7 +63,7 @@ abbrev pub RaisesIn : Shapes → List TypeName → Shape → List Opened → Typ
 RaisesIn shapes stack s [] = ⊤
 RaisesIn shapes stack s (o ∷ os) =
     (o.height ≤ length stack) × Leads shapes o.handlers
-        (record s { stack = drop (length stack - o.height) stack; tries = os; requests = cut o.depth s.requests; pending = true })
+    (record s { stack = drop (length stack - o.height) stack; tries = os; requests = cut o.depth s.requests; pending = true })
 
 abbrev pub MayRaise : Shapes → List TypeName → Shape → Type 0
 MayRaise shapes stack s = RaisesIn shapes stack s s.tries
@@ -144,7 +144,7 @@ abbrev pub Accepts : Shapes → ℕ → Shape → ℕ → Option OpTypes → Typ
 Accepts shapes at s number None = ⊥
 Accepts shapes at s number (Some op) =
     Takes (types.Link ∷ []) s
-        (λ below. LeadsOn shapes at (record s { requests = number ∷ s.requests }) (pushed op.arguments below) × MayRaise shapes below s)
+    (λ below. LeadsOn shapes at (record s { requests = number ∷ s.requests }) (pushed op.arguments below) × MayRaise shapes below s)
 
 -- the innermost open request is closed, and then no longer open
 abbrev pub Closes : Shapes → ℕ → Shape → List ℕ → Type 0
@@ -156,7 +156,7 @@ abbrev pub Replies : ModuleTypes → Shapes → ℕ → Shape → ℕ → List �
 Replies m shapes at s k [] = ⊥
 Replies m shapes at s k (op ∷ requests) =
     (o : OpTypes) × (slice_get m.ops op ≡ Some o) × (length o.results ≡ k)
-        × Takes (reverse o.results) s (λ below. Asks shapes at s below [])
+    × Takes (reverse o.results) s (λ below. Asks shapes at s below [])
 
 abbrev pub Untries : Shapes → ℕ → Shape → List Opened → Type 0
 Untries shapes at s [] = ⊥

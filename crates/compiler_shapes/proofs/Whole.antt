@@ -122,7 +122,7 @@ body_covers c op asked at place d body is clean tokens =
       begin = λ shapes stand i. by shapes (enters shapes stand) i;
     }
   where
-    abbrev part : PartTypes
+    part : PartTypes
     part = record { start = at; op = op; locals = c.locals }
 
     by : (shapes : Shapes) → Leads shapes at (part_shape part) → (i : ℕ) (p : PartTypes) → slice_get (part ∷ []) i ≡ Some p → Leads shapes p.start (part_shape p)

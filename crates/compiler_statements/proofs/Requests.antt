@@ -92,7 +92,7 @@ module _ (b : Body) (tries : List Opened) (requests : List ℕ) (n : ℕ) (neste
   pub connect-runs : (op link : List ℕ) (values : ExprTrees) (results : List (List ℕ)) (request : Request) (at place : ℕ) (pending : Option Exception) (m : Moment) → AreExprs 6 values → StandAt b.setting.program.instructions at (stmt_code b.setting.names at (trees.Connect op link values results))
       → stmt_faults b.setting.scope request place (trees.Connect op link values results) ≡ [] → IsSound b m
       → Fit b.tree (trace (runs b.setting.names n (trees.Connect op link values results) m)) b.answers
-          → Runs b tries requests n (starts b tries requests n nested at pending m) (at + length (stmt_code b.setting.names at (trees.Connect op link values results))) (runs b.setting.names n (trees.Connect op link values results) m)
+      → Runs b tries requests n (starts b tries requests n nested at pending m) (at + length (stmt_code b.setting.names at (trees.Connect op link values results))) (runs b.setting.names n (trees.Connect op link values results) m)
   connect-runs op link values results request at place pending m is has clean sound fit =
       let c = b.setting in
       let x = exprs_code c.names at values in

@@ -203,7 +203,7 @@ module _ (b : Body) (n : ℕ) where
       (runs-from b tries requests n t u behind (runs c.names n (trees.Try body handlers) m) (reaches-step c.program t (code.Try first) _ has.0 refl)
       (runs-caught b tries requests n u middle first behind (runs_all c.names n body m) (λ raised now. handles c.names n raised handlers now) tail.0 tail.1.0
       (run (o ∷ tries) requests (refl, le_refl (length requests), nested) request (at + 1) (place + 1) pending m is.0 (front-stands c.program.instructions (at + 1) y rest front.1) parts.0 sound
-              (fit-front b.tree (trace (runs_all c.names n body m)) (trace (runs c.names n (trees.Try body handlers) m)) b.answers after_body fit))
+      (fit-front b.tree (trace (runs_all c.names n body m)) (trace (runs c.names n (trees.Try body handlers) m)) b.answers after_body fit))
       (λ raised now sound_now fit_now. run_handlers tries requests nested request behind first (place + stmts_size body + 1) raised now is.1 at_handlers at_again parts.1 sound_now fit_now)
       fit))
 

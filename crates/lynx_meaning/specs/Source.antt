@@ -118,8 +118,13 @@ main_tree m = record { requests = []; names = names_of m []; parameters = []; va
 
 abbrev pub entry_part_tree : ModuleTree → EntryTree → PartTree
 entry_part_tree m e =
-    record { requests = (names_of m (local_names e)).op e.op ∷ []; names = names_of m (local_names e);
-            parameters = known (arguments_of (module_scope m e.op)); vars = map (λ v. v.kind) e.vars; body = e.body }
+    record {
+      requests = (names_of m (local_names e)).op e.op ∷ [];
+      names = names_of m (local_names e);
+      parameters = known (arguments_of (module_scope m e.op));
+      vars = map (λ v. v.kind) e.vars;
+      body = e.body;
+    }
 
 -- the variables of a thread at its start: an entry's parameters have the values of its request
 abbrev pub start_store : PartTree → List Value → List Value → Store

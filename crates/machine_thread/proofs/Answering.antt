@@ -46,15 +46,15 @@ accepts globals op link s = made false s (asks (Accept link op) (drop 1 s.stack)
 
 accepted_by : (globals : List Value) (op : ℕ) (link : Value) (s : Standing) (os : List Outcome) → 0 < length os → raised_by (first_given os) ≡ None →
     let given = record s { given = os } in
-    let open = record given { requests = op ∷ s.requests } in
-    accepts globals op link given ≡ made false open (answered (first_given os) (λ now. now) (raising globals ([] ++ Accept link op ∷ []) 1 1 0 open))
+    let opened = record given { requests = op ∷ s.requests } in
+    accepts globals op link given ≡ made false opened (answered (first_given os) (λ now. now) (raising globals ([] ++ Accept link op ∷ []) 1 1 0 opened))
 accepted_by globals op link s [] some none = absurd (not-suc-le-zero some)
 accepted_by globals op link s (Ok vs ∷ os) some none = refl
 accepted_by globals op link s (Err x ∷ os) some none = cc
 
-pub accepted : (globals : List Value) (op : ℕ) (link : Value) (s open : Standing) → open ≡ record s { requests = op ∷ s.requests } → 0 < length s.given → raised_by (first_given s.given) ≡ None →
-    accepts globals op link s ≡ made false open (answered (first_given open.given) (λ now. now) (raising globals ([] ++ Accept link op ∷ []) 1 1 0 open))
-accepted globals op link s open is some none =
+pub accepted : (globals : List Value) (op : ℕ) (link : Value) (s opened : Standing) → opened ≡ record s { requests = op ∷ s.requests } → 0 < length s.given → raised_by (first_given s.given) ≡ None →
+    accepts globals op link s ≡ made false opened (answered (first_given opened.given) (λ now. now) (raising globals ([] ++ Accept link op ∷ []) 1 1 0 opened))
+accepted globals op link s opened is some none =
     accepted_by globals op link s s.given some none
     ∙ ap (λ (u : Standing). made false u (answered (first_given u.given) (λ now. now) (raising globals ([] ++ Accept link op ∷ []) 1 1 0 u))) (sym is)
 
@@ -83,13 +83,13 @@ by_close globals op requests s (Err x) os = refl
 with_close : (globals : List Value) (s : Standing) (requests : List ℕ) (os : List Outcome) → 0 < length os → 0 < length requests →
     let given = record s { requests = requests; given = os } in
     made false given (closes_request requests (in_turn globals given)) ≡ made false given (answered (first_given os) (λ now. now) (raising globals ([] ++ Close ∷ []) 0 1 1 given))
-with_close globals s requests [] some open = absurd (not-suc-le-zero some)
-with_close globals s [] (o ∷ os) some open = absurd (not-suc-le-zero open)
-with_close globals s (op ∷ requests) (o ∷ os) some open = by_close globals op requests s o os
+with_close globals s requests [] some opened = absurd (not-suc-le-zero some)
+with_close globals s [] (o ∷ os) some opened = absurd (not-suc-le-zero opened)
+with_close globals s (op ∷ requests) (o ∷ os) some opened = by_close globals op requests s o os
 
 pub closing : (globals : List Value) (s : Standing) → 0 < length s.given → 0 < length s.requests →
     made false s (closes_request s.requests (in_turn globals s)) ≡ made false s (answered (first_given s.given) (λ now. now) (raising globals ([] ++ Close ∷ []) 0 1 1 s))
-closing globals s some open = with_close globals s s.requests s.given some open
+closing globals s some opened = with_close globals s s.requests s.given some opened
 
 -- what an await does
 abbrev awaits : ℕ → Thread → Next
