@@ -1,5 +1,5 @@
--- The shapes that code gives a thread: what stands on its stack at each address, and which tries and accepts are open.
-use Rattle.std.specs.Prelude.{◌≡◌, ◌≤◌, ◌<◌, ℕ, suc, ◌+◌, ◌-◌, List, [], ◌∷◌, ◌++◌, length, map, reverse}
+-- The shapes that code gives a thread: what stands on its stack at each address, and which tries and requests are open.
+use Rattle.std.specs.Prelude.{◌≡◌, ◌≤◌, ◌<◌, ℕ, ◌+◌, ◌-◌, List, [], ◌∷◌, ◌++◌, length, map, reverse}
 use Rattle.std.specs.Prelude.{drop, Bool, true, false, IsTrue, Option, None, Some, slice_get, ⊤}
 use Rattle.std.specs.Option.{is_some}
 use Rattle.lynx_tree.specs.declared.declaration.TypeName.{TypeName}
@@ -11,14 +11,21 @@ use Rattle.lynx_code.specs.declared.instruction.Instruction.{Instruction}
 use Rattle.lynx_code.specs.declared.instruction.Instruction.TheVariants as code
 use Rattle.lynx_code.specs.declared.instruction.Literal.{Literal}
 use Rattle.lynx_code.specs.declared.instruction.Literal.TheVariants as literal
-use Rattle.lynx_meaning.specs.Code.{Opened, Program, Thread, value_of_literal}
+use Rattle.lynx_meaning.specs.Code.{Opened, Program, Thread, value_of_literal, cut}
 use Rattle.lynx_meaning.specs.Needs.{OpTypes}
 use Rattle.lynx_meaning.specs.Values.{HasType, HaveTypes}
 
--- the types of the module's variables, and of its operations
+-- the types of the module's variables, and of its operations; and how many entries it has
 pub record ModuleTypes : Type 0 where
   pub globals : List TypeName
   pub ops : List OpTypes
+  pub entries : ℕ
+
+-- the body of a module, or an entry: where it begins, the operation that it serves, and the types of its parameters and variables
+pub record PartTypes : Type 0 where
+  pub start : ℕ
+  pub op : Option ℕ
+  pub locals : List TypeName
 
 -- a thread before an instruction
 pub record Shape : Type 0 where
@@ -28,8 +35,8 @@ pub record Shape : Type 0 where
   pub stack : List TypeName
   -- the open tries, the innermost one first
   pub tries : List Opened
-  -- how many accepts are open
-  pub accepts : ℕ
+  -- the operations of the open requests, the innermost one first
+  pub requests : List ℕ
   -- an exception is there for handlers to look at
   pub pending : Bool
 
@@ -44,7 +51,7 @@ pub record IsWithin (s wider : Shape) : Type 0 where
   pub locals : wider.locals ≡ s.locals
   pub stack : wider.stack ≡ s.stack
   pub tries : wider.tries ≡ s.tries
-  pub accepts : wider.accepts ≡ s.accepts
+  pub requests : wider.requests ≡ s.requests
   pub pending : IsTrue wider.pending → IsTrue s.pending
 
 -- a thread of this shape may go on at this address
@@ -56,7 +63,7 @@ abbrev pub RaisesIn : Shapes → List TypeName → Shape → List Opened → Typ
 RaisesIn shapes stack s [] = ⊤
 RaisesIn shapes stack s (o ∷ os) =
     (o.height ≤ length stack) × Leads shapes o.handlers
-    (record s { stack = drop (length stack - o.height) stack; tries = os; accepts = o.accepts; pending = true })
+    (record s { stack = drop (length stack - o.height) stack; tries = os; requests = cut o.depth s.requests; pending = true })
 
 abbrev pub MayRaise : Shapes → List TypeName → Shape → Type 0
 MayRaise shapes stack s = RaisesIn shapes stack s s.tries
@@ -133,15 +140,23 @@ abbrev pub Connects : Shapes → ℕ → Shape → Option OpTypes → Type 0
 Connects shapes at s None = ⊥
 Connects shapes at s (Some op) = Takes (types.Link ∷ reverse op.arguments) s (λ below. Asks shapes at s below op.results)
 
-abbrev pub Accepts : Shapes → ℕ → Shape → Option OpTypes → Type 0
-Accepts shapes at s None = ⊥
-Accepts shapes at s (Some op) =
+abbrev pub Accepts : Shapes → ℕ → Shape → ℕ → Option OpTypes → Type 0
+Accepts shapes at s number None = ⊥
+Accepts shapes at s number (Some op) =
     Takes (types.Link ∷ []) s
-    (λ below. LeadsOn shapes at (record s { accepts = s.accepts + 1 }) (pushed op.arguments below) × MayRaise shapes below s)
+    (λ below. LeadsOn shapes at (record s { requests = number ∷ s.requests }) (pushed op.arguments below) × MayRaise shapes below s)
 
--- the innermost open accept is closed, and then no longer open
-abbrev pub Closes : Shapes → ℕ → Shape → Type 0
-Closes shapes at s = (k : ℕ) × (s.accepts ≡ suc k) × Asks shapes at (record s { accepts = k }) s.stack []
+-- the innermost open request is closed, and then no longer open
+abbrev pub Closes : Shapes → ℕ → Shape → List ℕ → Type 0
+Closes shapes at s [] = ⊥
+Closes shapes at s (op ∷ requests) = Asks shapes at (record s { requests = requests }) s.stack []
+
+-- so many values are taken, which are the results of the innermost open request's operation
+abbrev pub Replies : ModuleTypes → Shapes → ℕ → Shape → ℕ → List ℕ → Type 0
+Replies m shapes at s k [] = ⊥
+Replies m shapes at s k (op ∷ requests) =
+    (o : OpTypes) × (slice_get m.ops op ≡ Some o) × (length o.results ≡ k)
+    × Takes (reverse o.results) s (λ below. Asks shapes at s below [])
 
 abbrev pub Untries : Shapes → ℕ → Shape → List Opened → Type 0
 Untries shapes at s [] = ⊥
@@ -180,7 +195,8 @@ Obeys m shapes at s (code.Await address) =
     Takes (types.Bool ∷ []) s
     (λ below. LeadsOn shapes at s below × Leads shapes address (record s { stack = below }) × MayRaise shapes below s)
 Obeys m shapes at s (code.Try address) =
-    LeadsOn shapes at (record s { tries = record { handlers = address; height = length s.stack; accepts = s.accepts } ∷ s.tries }) s.stack
+    LeadsOn shapes at
+    (record s { tries = record { handlers = address; height = length s.stack; depth = length s.requests } ∷ s.tries }) s.stack
 Obeys m shapes at s code.Untry = Untries shapes at s s.tries
 Obeys m shapes at s (code.Case exception address) = IsTrue s.pending × LeadsOn shapes at s s.stack × Leads shapes address s
 Obeys m shapes at s code.Again = IsTrue s.pending × MayRaise shapes s.stack s
@@ -188,12 +204,12 @@ Obeys m shapes at s (code.Raise exception) = MayRaise shapes s.stack s
 Obeys m shapes at s code.Write = (t : TypeName) × IsPlain t × Takes (t ∷ []) s (λ below. Asks shapes at s below [])
 Obeys m shapes at s code.New = Asks shapes at s s.stack (types.Link ∷ types.Link ∷ [])
 Obeys m shapes at s code.Destroy = AsksOnLink shapes at s
-Obeys m shapes at s (code.Bind entry) = AsksOnLink shapes at s
-Obeys m shapes at s (code.Unbind entry) = AsksOnLink shapes at s
+Obeys m shapes at s (code.Bind entry) = (entry < m.entries) × AsksOnLink shapes at s
+Obeys m shapes at s (code.Unbind entry) = (entry < m.entries) × AsksOnLink shapes at s
 Obeys m shapes at s (code.Connect op) = Connects shapes at s (slice_get m.ops op)
-Obeys m shapes at s (code.Accept op) = Accepts shapes at s (slice_get m.ops op)
-Obeys m shapes at s code.Close = Closes shapes at s
-Obeys m shapes at s (code.Reply k) = (ts : List TypeName) × (length ts ≡ k) × Takes ts s (λ below. Asks shapes at s below [])
+Obeys m shapes at s (code.Accept op) = Accepts shapes at s op (slice_get m.ops op)
+Obeys m shapes at s code.Close = Closes shapes at s s.requests
+Obeys m shapes at s (code.Reply k) = Replies m shapes at s k s.requests
 Obeys m shapes at s code.Stop = ⊤
 Obeys m shapes at s code.End = ⊤
 
@@ -204,18 +220,23 @@ abbrev pub AllObey : ModuleTypes → Shapes → ℕ → List Instruction → Typ
 AllObey m shapes at [] = ⊤
 AllObey m shapes at (i ∷ is) = ((s : Shape) × (shapes at ≡ Some s) × Obeys m shapes at s i) × AllObey m shapes (at + 1) is
 
--- the thread of a part before its first instruction
-abbrev pub part_shape : List TypeName → Shape
-part_shape locals = record { locals = locals; stack = []; tries = []; accepts = 0; pending = false }
+-- the requests that are open as a thread of a part begins: that of the operation which the part serves
+abbrev pub opened_by : Option ℕ → List ℕ
+opened_by None = []
+opened_by (Some op) = op ∷ []
 
--- these shapes are those of the code, whose parts begin at these addresses with variables of these types
-pub record AreShapes (m : ModuleTypes) (parts : List (ℕ × List TypeName)) (instructions : List Instruction) (shapes : Shapes) : Type 0 where
+-- the thread of a part before its first instruction
+abbrev pub part_shape : PartTypes → Shape
+part_shape p = record { locals = p.locals; stack = []; tries = []; requests = opened_by p.op; pending = false }
+
+-- these shapes are those of the code of these parts
+pub record AreShapes (m : ModuleTypes) (parts : List PartTypes) (instructions : List Instruction) (shapes : Shapes) : Type 0 where
   pub code : AllObey m shapes 0 instructions
   pub ends : (at : ℕ) (s : Shape) → shapes at ≡ Some s → at < length instructions
-  pub starts : (i at : ℕ) (locals : List TypeName) → slice_get parts i ≡ Some (at, locals) → Leads shapes at (part_shape locals)
+  pub starts : (i : ℕ) (p : PartTypes) → slice_get parts i ≡ Some p → Leads shapes p.start (part_shape p)
 
 -- each instruction finds its operands
-abbrev pub IsShaped : ModuleTypes → List (ℕ × List TypeName) → List Instruction → Type 0
+abbrev pub IsShaped : ModuleTypes → List PartTypes → List Instruction → Type 0
 IsShaped m parts instructions = (shapes : Shapes) × AreShapes m parts instructions shapes
 
 -- the program of these instructions
@@ -228,12 +249,12 @@ abbrev pub kept_op : CodeOp → OpTypes
 kept_op op = record { arguments = op.arguments.items; results = op.results.items }
 
 abbrev pub code_types : Code → ModuleTypes
-code_types made = record { globals = made.globals.items; ops = map kept_op made.ops.items }
+code_types made = record { globals = made.globals.items; ops = map kept_op made.ops.items; entries = length made.parts.items - 1 }
 
-abbrev pub kept_part : Part → ℕ × List TypeName
-kept_part part = (part.start, part.locals.items)
+abbrev pub kept_part : Part → PartTypes
+kept_part part = record { start = part.start; op = part.op; locals = part.locals.items }
 
-abbrev pub code_parts : Code → List (ℕ × List TypeName)
+abbrev pub code_parts : Code → List PartTypes
 code_parts made = map kept_part made.parts.items
 
 abbrev pub IsShapedCode : Code → Type 0
@@ -246,7 +267,7 @@ pub record HasShape (s : Shape) (t : Thread) : Type 0 where
   pub locals : HaveTypes s.locals t.moment.store.locals
   pub stack : HaveTypes s.stack t.stack
   pub tries : t.tries ≡ s.tries
-  pub accepts : t.accepts ≡ s.accepts
+  pub requests : t.requests ≡ s.requests
   pub pending : IsTrue s.pending → IsTrue (is_some t.pending)
 
 -- a thread at an address that has a shape

@@ -1,2 +1,2 @@
-//! The shapes of code: what stands on a thread's stack at each address, and which tries and accepts are open. Definitions.
+//! The shapes of code: what stands on a thread's stack at each address, and which tries and requests are open. Definitions.
 #![tactic(auto)]

@@ -39,7 +39,7 @@ related-clean sign at (f ∷ fs) first second_at gs second h = absurd (some-faul
 module _ (c : Setting) (a : Around) (ready : IsReady c a) where
   -- a literal
   push-gives : (at : ℕ) (stack : List Value) (l : Literal) (held : Held) → slice_get c.program.instructions at ≡ Some (code.Push l) → IsHeld held (value_of_literal l) → Gives c a (stands a at stack) (at + 1) stack held (Ok (value_of_literal l))
-  push-gives at stack l held here of = (of, reaches-step c.program c.is_entry (stands a at stack) (code.Push l) _ here refl)
+  push-gives at stack l held here of = (of, reaches-step c.program (stands a at stack) (code.Push l) _ here refl)
 
   -- a variable
   pub name-gives : (at : ℕ) (stack : List Value) (name : List ℕ) → slice_get c.program.instructions at ≡ Some (load c.names name) → is_some (type_of_variable (c.scope name)) ≡ true
@@ -47,11 +47,11 @@ module _ (c : Setting) (a : Around) (ready : IsReady c a) where
   name-gives at stack name here known =
       let found = some-of (type_of_variable (c.scope name)) known in
       let loaded = load-steps c a (c.names.slot name) found.0 at stack ready.kinds (c.variable name found.0 found.1) in
-      (subst (λ (h : Held). IsHeld h (looked_up c.names a.moment.store name)) (sym found.1) loaded.1, reaches-step c.program c.is_entry (stands a at stack) (load c.names name) _ here loaded.0)
+      (subst (λ (h : Held). IsHeld h (looked_up c.names a.moment.store name)) (sym found.1) loaded.1, reaches-step c.program (stands a at stack) (load c.names name) _ here loaded.0)
 
   -- an operand, and an operator
   one-gives : (x : List Instruction) (i : Instruction) (at : ℕ) (stack : List Value) (operand held : Held) (o : Given) (f : Value → Given) → StandAt c.program.instructions at (x ++ i ∷ [])
-      → ((end : ℕ) (v : Value) → IsHeld operand v → step c.program c.is_entry (stands a end (v ∷ stack)) i ≡ gives c.is_entry (f v) stack (stands a end (v ∷ stack)))
+      → ((end : ℕ) (v : Value) → IsHeld operand v → step c.program (stands a end (v ∷ stack)) i ≡ gives (f v) stack (stands a end (v ∷ stack)))
       → ((v : Value) → IsHeld operand v → IsGiven held (f v))
       → Gives c a (stands a at stack) (at + length x) stack operand o → Gives c a (stands a at stack) (at + length (x ++ i ∷ [])) stack held (with_one o f)
   one-gives x i at stack operand held o f has steps of first =
@@ -61,7 +61,7 @@ module _ (c : Setting) (a : Around) (ready : IsReady c a) where
 
   -- two operands, and an operator
   two-give : (x y : List Instruction) (i : Instruction) (at : ℕ) (stack : List Value) (left right held : Held) (o r : Given) (f : Value → Value → Given) → StandAt c.program.instructions at ((x ++ y) ++ i ∷ [])
-      → ((end : ℕ) (v w : Value) → IsHeld left v → IsHeld right w → step c.program c.is_entry (stands a end (w ∷ v ∷ stack)) i ≡ gives c.is_entry (f v w) stack (stands a end (w ∷ v ∷ stack)))
+      → ((end : ℕ) (v w : Value) → IsHeld left v → IsHeld right w → step c.program (stands a end (w ∷ v ∷ stack)) i ≡ gives (f v w) stack (stands a end (w ∷ v ∷ stack)))
       → ((v w : Value) → IsHeld left v → IsHeld right w → IsGiven held (f v w))
       → Gives c a (stands a at stack) (at + length x) stack left o → ((v : Value) → Gives c a (stands a (at + length x) (v ∷ stack)) (at + length x + length y) (v ∷ stack) right r)
       → Gives c a (stands a at stack) (at + length ((x ++ y) ++ i ∷ [])) stack held (with_both o r f)
@@ -77,42 +77,42 @@ module _ (c : Setting) (a : Around) (ready : IsReady c a) where
 
   -- what a member of a chain leaves on the stack, and what comes behind it
   member-then : (truth : Bool) (t : Thread) (middle end : ℕ) (stack : List Value) (operand : Held) (o rest : Given) → fits types.Bool operand ≡ true → Gives c a t middle stack operand o
-      → ((b : Bool) → Reaches c.program c.is_entry t (Goes (stands a middle (Truth b ∷ stack))) → Gives c a t end stack (Some types.Bool) (if truth_eq truth b then Ok (Truth truth) else rest))
+      → ((b : Bool) → Reaches c.program t (Goes (stands a middle (Truth b ∷ stack))) → Gives c a t end stack (Some types.Bool) (if truth_eq truth b then Ok (Truth truth) else rest))
       → Gives c a t end stack (Some types.Bool) (with_one o (λ x. if truth_eq truth (truth_of x) then Ok (Truth truth) else rest))
   member-then truth t middle end stack operand (Err exception) rest fit first next = first
   member-then truth t middle end stack operand (Ok v) rest fit first next =
       let is = truth-is v (held-fits types.Bool operand v fit first.0) in
-      next (truth_of v) (subst (λ (x : Value). Reaches c.program c.is_entry t (Goes (stands a middle (x ∷ stack)))) is first.1)
+      next (truth_of v) (subst (λ (x : Value). Reaches c.program t (Goes (stands a middle (x ∷ stack)))) is first.1)
 
   -- a chain without further members: what stands on the stack is its value
-  no-more : (truth b : Bool) (t : Thread) (at : ℕ) (stack : List Value) → Reaches c.program c.is_entry t (Goes (stands a at (Truth b ∷ stack))) → Gives c a t at stack (Some types.Bool) (if truth_eq truth b then Ok (Truth truth) else Ok (Truth (not truth)))
+  no-more : (truth b : Bool) (t : Thread) (at : ℕ) (stack : List Value) → Reaches c.program t (Goes (stands a at (Truth b ∷ stack))) → Gives c a t at stack (Some types.Bool) (if truth_eq truth b then Ok (Truth truth) else Ok (Truth (not truth)))
   no-more true true t at stack first = (tt, first)
   no-more true false t at stack first = (tt, first)
   no-more false true t at stack first = (tt, first)
   no-more false false t at stack first = (tt, first)
 
   -- a member behind a jump: the jump is made where the chain is decided, and goes to the next jump
-  one-more : (truth b : Bool) (jump : ℕ → Instruction) → ((n : ℕ) (t : Thread) → step c.program c.is_entry t (jump n) ≡ decides truth n t) → (t : Thread) (at behind end : ℕ) (stack : List Value) (operand : Held) (o rest : Given)
-      → slice_get c.program.instructions at ≡ Some (jump behind) → Reaches c.program c.is_entry t (Goes (stands a at (Truth b ∷ stack))) → fits types.Bool operand ≡ true
+  one-more : (truth b : Bool) (jump : ℕ → Instruction) → ((n : ℕ) (t : Thread) → step c.program t (jump n) ≡ decides truth n t) → (t : Thread) (at behind end : ℕ) (stack : List Value) (operand : Held) (o rest : Given)
+      → slice_get c.program.instructions at ≡ Some (jump behind) → Reaches c.program t (Goes (stands a at (Truth b ∷ stack))) → fits types.Bool operand ≡ true
       → Gives c a (stands a (at + 1) stack) behind stack operand o
-      → ((u : Thread) (d : Bool) → Reaches c.program c.is_entry u (Goes (stands a behind (Truth d ∷ stack))) → Gives c a u end stack (Some types.Bool) (if truth_eq truth d then Ok (Truth truth) else rest))
+      → ((u : Thread) (d : Bool) → Reaches c.program u (Goes (stands a behind (Truth d ∷ stack))) → Gives c a u end stack (Some types.Bool) (if truth_eq truth d then Ok (Truth truth) else rest))
       → Gives c a t end stack (Some types.Bool) (if truth_eq truth b then Ok (Truth truth) else with_one o (λ x. if truth_eq truth (truth_of x) then Ok (Truth truth) else rest))
   one-more true true jump jumps t at behind end stack operand o rest here first fit inner next =
-      next t true (reaches-on c.program c.is_entry t (stands a at (Truth true ∷ stack)) _ first (reaches-step c.program c.is_entry (stands a at (Truth true ∷ stack)) (jump behind) _ here (jumps behind _)))
+      next t true (reaches-on c.program t (stands a at (Truth true ∷ stack)) _ first (reaches-step c.program (stands a at (Truth true ∷ stack)) (jump behind) _ here (jumps behind _)))
   one-more false false jump jumps t at behind end stack operand o rest here first fit inner next =
-      next t false (reaches-on c.program c.is_entry t (stands a at (Truth false ∷ stack)) _ first (reaches-step c.program c.is_entry (stands a at (Truth false ∷ stack)) (jump behind) _ here (jumps behind _)))
+      next t false (reaches-on c.program t (stands a at (Truth false ∷ stack)) _ first (reaches-step c.program (stands a at (Truth false ∷ stack)) (jump behind) _ here (jumps behind _)))
   one-more true false jump jumps t at behind end stack operand o rest here first fit inner next =
-      let on = reaches-on c.program c.is_entry t (stands a at (Truth false ∷ stack)) _ first (reaches-step c.program c.is_entry (stands a at (Truth false ∷ stack)) (jump behind) _ here (jumps behind _)) in
+      let on = reaches-on c.program t (stands a at (Truth false ∷ stack)) _ first (reaches-step c.program (stands a at (Truth false ∷ stack)) (jump behind) _ here (jumps behind _)) in
       member-then true t behind end stack operand o rest fit (gives-from c a t (stands a (at + 1) stack) behind stack operand o on inner) (λ d. next t d)
   one-more false true jump jumps t at behind end stack operand o rest here first fit inner next =
-      let on = reaches-on c.program c.is_entry t (stands a at (Truth true ∷ stack)) _ first (reaches-step c.program c.is_entry (stands a at (Truth true ∷ stack)) (jump behind) _ here (jumps behind _)) in
+      let on = reaches-on c.program t (stands a at (Truth true ∷ stack)) _ first (reaches-step c.program (stands a at (Truth true ∷ stack)) (jump behind) _ here (jumps behind _)) in
       member-then false t behind end stack operand o rest fit (gives-from c a t (stands a (at + 1) stack) behind stack operand o on inner) (λ d. next t d)
 
   -- ---- sums and terms
 
   -- one member more of a chain of numbers
   another : (x : List Instruction) (i : Instruction) (t : Thread) (at : ℕ) (stack : List Value) (operand : Held) (o r : Given) (f : Value → Value → Given) → slice_get c.program.instructions (at + length x) ≡ Some i → fits types.Int operand ≡ true
-      → ((u : Thread) (v w : Value) → IsOf types.Int v → IsOf types.Int w → u.stack ≡ w ∷ v ∷ stack → step c.program c.is_entry u i ≡ gives c.is_entry (f v w) stack u)
+      → ((u : Thread) (v w : Value) → IsOf types.Int v → IsOf types.Int w → u.stack ≡ w ∷ v ∷ stack → step c.program u i ≡ gives (f v w) stack u)
       → ((v w : Value) → IsGiven (Some types.Int) (f v w))
       → Gives c a t at stack (Some types.Int) o → ((v : Value) → Gives c a (stands a at (v ∷ stack)) (at + length x) (v ∷ stack) operand r) → Gives c a t (at + length x + 1) stack (Some types.Int) (with_both o r f)
   another x i t at stack operand o r f here fit steps of first second =
@@ -132,7 +132,7 @@ module _ (c : Setting) (a : Around) (ready : IsReady c a) where
         let met = related-clean sign place (expr_faults c.scope place first) (shown_type c.scope first) (place + expr_size first + 1) (expr_faults c.scope (place + expr_size first + 1) second) (shown_type c.scope second) clean in
         let both = front-stands c.program.instructions at (x ++ y) (relation sign ∷ []) has in
         two-give x y (relation sign) at stack (shown_type c.scope first) (shown_type c.scope second) (Some types.Bool) (value_of c.names a.moment.store first) (value_of c.names a.moment.store second) (λ v w. Ok (Truth (related sign v w))) has
-        (λ end v w h k. relation-steps c.program c.is_entry (stands a end (w ∷ v ∷ stack)) stack sign place (place + expr_size first + 1) (shown_type c.scope first) (shown_type c.scope second) met.2 v w h k refl)
+        (λ end v w h k. relation-steps c.program (stands a end (w ∷ v ∷ stack)) stack sign place (place + expr_size first + 1) (shown_type c.scope first) (shown_type c.scope second) met.2 v w h k refl)
         (λ v w h k. tt)
         (expr-gives first at place stack is.1 (front-stands c.program.instructions at x y both) met.0)
         (λ v. expr-gives second (at + length x) (place + expr_size first + 1) (v ∷ stack) is.4 (back-stands c.program.instructions at x y both) met.1)
@@ -160,7 +160,7 @@ module _ (c : Setting) (a : Around) (ready : IsReady c a) where
         let x = expr_code c.names at inner in
         let met = judged-clean operand_is_int (place + 1) (expr_faults c.scope (place + 1) inner) (shown_type c.scope inner) clean in
         one-gives x code.Neg at stack (shown_type c.scope inner) (Some types.Int) (value_of c.names a.moment.store inner) (λ v. negate (int_of v)) has
-        (λ end v h. one-int c.is_entry negate (stands a end (v ∷ stack)) v stack (held-fits types.Int (shown_type c.scope inner) v (demand-met _ _ _ met.1) h))
+        (λ end v h. one-int negate (stands a end (v ∷ stack)) v stack (held-fits types.Int (shown_type c.scope inner) v (demand-met _ _ _ met.1) h))
         (λ v h. within-int (neg_ℤ (int_of v)))
         (expr-gives inner at (place + 1) stack is.1 (front-stands c.program.instructions at x (code.Neg ∷ []) has) met.0)
     expr-gives (trees.Not inner) at place stack is has clean =
@@ -188,7 +188,7 @@ module _ (c : Setting) (a : Around) (ready : IsReady c a) where
         (expr-gives index at (place + 2) stack is (front-stands c.program.instructions at x (load_member c.names name ∷ []) has) met.0)
     expr-gives (trees.Bracket inner) at place stack is has clean = expr-gives inner at (place + 1) stack is has clean
 
-    chain-gives : (es : ExprTrees) (truth : Bool) (jump : ℕ → Instruction) → ((n : ℕ) (t : Thread) → step c.program c.is_entry t (jump n) ≡ decides truth n t) → (most at place : ℕ) (stack : List Value) → HasTwo es → AreExprs most es
+    chain-gives : (es : ExprTrees) (truth : Bool) (jump : ℕ → Instruction) → ((n : ℕ) (t : Thread) → step c.program t (jump n) ≡ decides truth n t) → (most at place : ℕ) (stack : List Value) → HasTwo es → AreExprs most es
         → StandAt c.program.instructions at (chain_code c.names jump at es) → bools_faults c.scope place es ≡ []
         → Gives c a (stands a at stack) (at + length (chain_code c.names jump at es)) stack (Some types.Bool) (until c.names a.moment.store truth es)
     chain-gives trees.no_exprs truth jump jumps most at place stack two is has clean = absurd two
@@ -203,8 +203,8 @@ module _ (c : Setting) (a : Around) (ready : IsReady c a) where
         (expr-gives e at place stack is.1 (front-stands c.program.instructions at x y has) met.0)
         (λ b on. rest-gives es truth b jump jumps most (stands a at stack) (at + length x) (place + expr_size e + 1) stack is.2 (back-stands c.program.instructions at x y has) parts.1 on))
 
-    rest-gives : (es : ExprTrees) (truth b : Bool) (jump : ℕ → Instruction) → ((n : ℕ) (t : Thread) → step c.program c.is_entry t (jump n) ≡ decides truth n t) → (most : ℕ) (t : Thread) (at place : ℕ) (stack : List Value) → AreExprs most es
-        → StandAt c.program.instructions at (chain_rest c.names jump at es) → bools_faults c.scope place es ≡ [] → Reaches c.program c.is_entry t (Goes (stands a at (Truth b ∷ stack)))
+    rest-gives : (es : ExprTrees) (truth b : Bool) (jump : ℕ → Instruction) → ((n : ℕ) (t : Thread) → step c.program t (jump n) ≡ decides truth n t) → (most : ℕ) (t : Thread) (at place : ℕ) (stack : List Value) → AreExprs most es
+        → StandAt c.program.instructions at (chain_rest c.names jump at es) → bools_faults c.scope place es ≡ [] → Reaches c.program t (Goes (stands a at (Truth b ∷ stack)))
         → Gives c a t (at + length (chain_rest c.names jump at es)) stack (Some types.Bool) (if truth_eq truth b then Ok (Truth truth) else until c.names a.moment.store truth es)
     rest-gives trees.no_exprs truth b jump jumps most t at place stack is has clean on =
         let same : at ≡ at + 0 = omega arith in
@@ -237,7 +237,7 @@ module _ (c : Setting) (a : Around) (ready : IsReady c a) where
         gives-to c a t (next + length y) (at + length (x ++ sum_operator sign ∷ y)) stack (Some types.Int) (sum_of c.names a.moment.store now rest) long
         (sum-gives rest now t next (place + 1 + expr_size e) stack is.3 (rest-stands c.program.instructions at x (sum_operator sign) y has) parts.1
         (another x (sum_operator sign) t at stack (shown_type c.scope e) o (value_of c.names a.moment.store e) (λ v w. summed sign (int_of v) (int_of w)) (next-stands c.program.instructions at x (sum_operator sign) y has) (demand-met _ _ _ met.1)
-        (λ u v w h k on. sum-steps c.program c.is_entry u stack sign v w h k on) (λ v w. summed-int sign (int_of v) (int_of w)) first
+        (λ u v w h k on. sum-steps c.program u stack sign v w h k on) (λ v w. summed-int sign (int_of v) (int_of w)) first
         (λ v. expr-gives e at (place + 1) (v ∷ stack) is.2 (front-stands c.program.instructions at x (sum_operator sign ∷ y) has) met.0)))
 
     term-gives : (rest : TermTail) (o : Given) (t : Thread) (at place : ℕ) (stack : List Value) → AreTerms rest → StandAt c.program.instructions at (term_code c.names at rest) → term_faults c.scope place rest ≡ []
@@ -256,7 +256,7 @@ module _ (c : Setting) (a : Around) (ready : IsReady c a) where
         gives-to c a t (next + length y) (at + length (x ++ term_operator sign ∷ y)) stack (Some types.Int) (term_of c.names a.moment.store now rest) long
         (term-gives rest now t next (place + 1 + expr_size e) stack is.2 (rest-stands c.program.instructions at x (term_operator sign) y has) parts.1
         (another x (term_operator sign) t at stack (shown_type c.scope e) o (value_of c.names a.moment.store e) (λ v w. multiplied sign (int_of v) (int_of w)) (next-stands c.program.instructions at x (term_operator sign) y has) (demand-met _ _ _ met.1)
-        (λ u v w h k on. term-steps c.program c.is_entry u stack sign v w h k on) (λ v w. multiplied-int sign (int_of v) (int_of w)) first
+        (λ u v w h k on. term-steps c.program u stack sign v w h k on) (λ v w. multiplied-int sign (int_of v) (int_of w)) first
         (λ v. expr-gives e at (place + 1) (v ∷ stack) is.1 (front-stands c.program.instructions at x (term_operator sign ∷ y) has) met.0)))
 
   -- values one after the other
@@ -266,8 +266,8 @@ module _ (c : Setting) (a : Around) (ready : IsReady c a) where
   all-from t middle end number stack operand (Ok v) e es first rest = by (values_of c.names a.moment.store es) (rest v)
     where
       by : (r : _) → GivesAll c a (stands a middle (v ∷ stack)) end (v ∷ stack) number r → GivesAll c a t end stack (number + 1) (before (Ok v) r)
-      by (Ok vs) there = let more : suc (length vs) ≡ number + 1 = omega (arith, there.0) in (more, reaches-on c.program c.is_entry t (stands a middle (v ∷ stack)) _ first.1 there.1)
-      by (Err exception) there = reaches-on c.program c.is_entry t (stands a middle (v ∷ stack)) _ first.1 there
+      by (Ok vs) there = let more : suc (length vs) ≡ number + 1 = omega (arith, there.0) in (more, reaches-on c.program t (stands a middle (v ∷ stack)) _ first.1 there.1)
+      by (Err exception) there = reaches-on c.program t (stands a middle (v ∷ stack)) _ first.1 there
 
   more-give : (e : ExprTree) (es : ExprTrees) (most at place : ℕ) (stack : List Value) → IsExpr e → StandAt c.program.instructions at (exprs_code c.names at (trees.more_exprs e es)) → expr_faults c.scope place e ≡ []
       → ((v : Value) → StandAt c.program.instructions (at + length (expr_code c.names at e)) (exprs_code c.names (at + length (expr_code c.names at e)) es)
@@ -286,7 +286,7 @@ module _ (c : Setting) (a : Around) (ready : IsReady c a) where
       → GivesAll c a (stands a at stack) (at + length (exprs_code c.names at es)) stack (how_many es) (values_of c.names a.moment.store es)
   exprs-give trees.no_exprs rule ts most at place stack is has clean =
       let same : at ≡ at + 0 = omega arith in
-      (refl, subst (λ (n : ℕ). Reaches c.program c.is_entry (stands a at stack) (Goes (stands a n stack))) same (reaches-none c.program c.is_entry (stands a at stack)))
+      (refl, subst (λ (n : ℕ). Reaches c.program (stands a at stack) (Goes (stands a n stack))) same (reaches-none c.program (stands a at stack)))
   exprs-give (trees.more_exprs e es) rule [] most at place stack is has clean =
       let parts = both-clean (expr_faults c.scope place e) (values_faults rule c.scope (place + expr_size e + 1) es []) clean in
       more-give e es most at place stack is.1 has parts.0

@@ -55,13 +55,13 @@ multiplied-int terms.Mod a b = beside-int (divide a b) (int_rem a b)
 
 -- ---- what they find
 
-pub two-ints : (e : Bool) (operator : ℤ → ℤ → Given) (t : Thread) (v w : Value) (stack : List Value) → IsOf types.Int v → IsOf types.Int w → two_ints e operator t (w ∷ v ∷ stack) ≡ gives e (operator (int_of v) (int_of w)) stack t
-two-ints e operator t v w stack h k =
-    subst₂ (λ (x y : Value). two_ints e operator t (y ∷ x ∷ stack) ≡ gives e (operator (int_of x) (int_of y)) stack t) (sym (int-is v h)) (sym (int-is w k)) refl
+pub two-ints : (operator : ℤ → ℤ → Given) (t : Thread) (v w : Value) (stack : List Value) → IsOf types.Int v → IsOf types.Int w → two_ints operator t (w ∷ v ∷ stack) ≡ gives (operator (int_of v) (int_of w)) stack t
+two-ints operator t v w stack h k =
+    subst₂ (λ (x y : Value). two_ints operator t (y ∷ x ∷ stack) ≡ gives (operator (int_of x) (int_of y)) stack t) (sym (int-is v h)) (sym (int-is w k)) refl
 
-pub one-int : (e : Bool) (operator : ℤ → Given) (t : Thread) (v : Value) (stack : List Value) → IsOf types.Int v → one_int e operator t (v ∷ stack) ≡ gives e (operator (int_of v)) stack t
-one-int e operator t v stack h =
-    subst (λ (x : Value). one_int e operator t (x ∷ stack) ≡ gives e (operator (int_of x)) stack t) (sym (int-is v h)) refl
+pub one-int : (operator : ℤ → Given) (t : Thread) (v : Value) (stack : List Value) → IsOf types.Int v → one_int operator t (v ∷ stack) ≡ gives (operator (int_of v)) stack t
+one-int operator t v stack h =
+    subst (λ (x : Value). one_int operator t (x ∷ stack) ≡ gives (operator (int_of x)) stack t) (sym (int-is v h)) refl
 
 ints-compared : (test : ℤ → ℤ → Bool) (t : Thread) (v w : Value) (stack : List Value) → IsOf types.Int v → IsOf types.Int w → compares test t (w ∷ v ∷ stack) ≡ goes (Truth (test (int_of v) (int_of w)) ∷ stack) t
 ints-compared test t v w stack h k =
@@ -92,32 +92,32 @@ two-alike (Some t) second met v w h k test u stack =
     same-alike t v w inner.1 h (held-fits t second w inner.0 k) test u stack
 
 -- a relation on what its rule allows
-pub relation-steps : (p : Program) (e : Bool) (t : Thread) (stack : List Value) (sign : Sign) (at second_at : ℕ) (first second : Held) → relation_faults sign at first second_at second ≡ [] → (v w : Value) → IsHeld first v → IsHeld second w → t.stack ≡ w ∷ v ∷ stack
-    → step p e t (relation sign) ≡ goes (Truth (related sign v w) ∷ stack) t
-relation-steps p e t stack signs.Equal at second_at first second clean v w h k on =
+pub relation-steps : (p : Program) (t : Thread) (stack : List Value) (sign : Sign) (at second_at : ℕ) (first second : Held) → relation_faults sign at first second_at second ≡ [] → (v w : Value) → IsHeld first v → IsHeld second w → t.stack ≡ w ∷ v ∷ stack
+    → step p t (relation sign) ≡ goes (Truth (related sign v w) ∷ stack) t
+relation-steps p t stack signs.Equal at second_at first second clean v w h k on =
     ap (two_alike value_eq t) on ∙ two-alike first second (demand-met 10 second_at (agree first second && not (is_row_or_link first) && not (is_row_or_link second)) clean) v w h k value_eq t stack
-relation-steps p e t stack signs.NotEqual at second_at first second clean v w h k on =
+relation-steps p t stack signs.NotEqual at second_at first second clean v w h k on =
     ap (two_alike (λ (x y : Value). not (value_eq x y)) t) on ∙ two-alike first second (demand-met 10 second_at (agree first second && not (is_row_or_link first) && not (is_row_or_link second)) clean) v w h k (λ (x y : Value). not (value_eq x y)) t stack
-relation-steps p e t stack signs.Less at second_at first second clean v w h k on =
+relation-steps p t stack signs.Less at second_at first second clean v w h k on =
     let both = both-clean (operand_is_int at first) (operand_is_int second_at second) clean in
     ap (compares int_lt t) on ∙ ints-compared int_lt t v w stack (held-fits types.Int first v (demand-met 9 at (fits types.Int first) both.0) h) (held-fits types.Int second w (demand-met 9 second_at (fits types.Int second) both.1) k)
-relation-steps p e t stack signs.AtMost at second_at first second clean v w h k on =
+relation-steps p t stack signs.AtMost at second_at first second clean v w h k on =
     let both = both-clean (operand_is_int at first) (operand_is_int second_at second) clean in
     ap (compares int_le t) on ∙ ints-compared int_le t v w stack (held-fits types.Int first v (demand-met 9 at (fits types.Int first) both.0) h) (held-fits types.Int second w (demand-met 9 second_at (fits types.Int second) both.1) k)
-relation-steps p e t stack signs.Greater at second_at first second clean v w h k on =
+relation-steps p t stack signs.Greater at second_at first second clean v w h k on =
     let both = both-clean (operand_is_int at first) (operand_is_int second_at second) clean in
     ap (compares (λ (x y : ℤ). int_lt y x) t) on ∙ ints-compared (λ (x y : ℤ). int_lt y x) t v w stack (held-fits types.Int first v (demand-met 9 at (fits types.Int first) both.0) h) (held-fits types.Int second w (demand-met 9 second_at (fits types.Int second) both.1) k)
-relation-steps p e t stack _ at second_at first second clean v w h k on =
+relation-steps p t stack _ at second_at first second clean v w h k on =
     let both = both-clean (operand_is_int at first) (operand_is_int second_at second) clean in
     ap (compares (λ (x y : ℤ). int_le y x) t) on ∙ ints-compared (λ (x y : ℤ). int_le y x) t v w stack (held-fits types.Int first v (demand-met 9 at (fits types.Int first) both.0) h) (held-fits types.Int second w (demand-met 9 second_at (fits types.Int second) both.1) k)
 
-pub sum-steps : (p : Program) (e : Bool) (t : Thread) (stack : List Value) (sign : Sign) (v w : Value) → IsOf types.Int v → IsOf types.Int w → t.stack ≡ w ∷ v ∷ stack
-    → step p e t (sum_operator sign) ≡ gives e (summed sign (int_of v) (int_of w)) stack t
-sum-steps p e t stack signs.Plus v w h k on = ap (two_ints e add t) on ∙ two-ints e add t v w stack h k
-sum-steps p e t stack _ v w h k on = ap (two_ints e subtract t) on ∙ two-ints e subtract t v w stack h k
+pub sum-steps : (p : Program) (t : Thread) (stack : List Value) (sign : Sign) (v w : Value) → IsOf types.Int v → IsOf types.Int w → t.stack ≡ w ∷ v ∷ stack
+    → step p t (sum_operator sign) ≡ gives (summed sign (int_of v) (int_of w)) stack t
+sum-steps p t stack signs.Plus v w h k on = ap (two_ints add t) on ∙ two-ints add t v w stack h k
+sum-steps p t stack _ v w h k on = ap (two_ints subtract t) on ∙ two-ints subtract t v w stack h k
 
-pub term-steps : (p : Program) (e : Bool) (t : Thread) (stack : List Value) (sign : TermSign) (v w : Value) → IsOf types.Int v → IsOf types.Int w → t.stack ≡ w ∷ v ∷ stack
-    → step p e t (term_operator sign) ≡ gives e (multiplied sign (int_of v) (int_of w)) stack t
-term-steps p e t stack terms.Times v w h k on = ap (two_ints e multiply t) on ∙ two-ints e multiply t v w stack h k
-term-steps p e t stack terms.Over v w h k on = ap (two_ints e divide t) on ∙ two-ints e divide t v w stack h k
-term-steps p e t stack terms.Mod v w h k on = ap (two_ints e reduce t) on ∙ two-ints e reduce t v w stack h k
+pub term-steps : (p : Program) (t : Thread) (stack : List Value) (sign : TermSign) (v w : Value) → IsOf types.Int v → IsOf types.Int w → t.stack ≡ w ∷ v ∷ stack
+    → step p t (term_operator sign) ≡ gives (multiplied sign (int_of v) (int_of w)) stack t
+term-steps p t stack terms.Times v w h k on = ap (two_ints multiply t) on ∙ two-ints multiply t v w stack h k
+term-steps p t stack terms.Over v w h k on = ap (two_ints divide t) on ∙ two-ints divide t v w stack h k
+term-steps p t stack terms.Mod v w h k on = ap (two_ints reduce t) on ∙ two-ints reduce t v w stack h k

@@ -11,10 +11,10 @@ use Rattle.compiler_expressions.specs.Setting.{Around, Setting, stands}
 
 -- from this thread the value comes on the stack, and the thread to this address; or the exception is raised
 abbrev pub Gives : Setting → Around → Thread → ℕ → List Value → Held → Given → Type 0
-Gives c a t end stack held (Ok v) = IsHeld held v × Reaches c.program c.is_entry t (Goes (stands a end (v ∷ stack)))
-Gives c a t end stack held (Err exception) = Reaches c.program c.is_entry t (thrown c.is_entry a.tries a.accepts exception a.moment)
+Gives c a t end stack held (Ok v) = IsHeld held v × Reaches c.program t (Goes (stands a end (v ∷ stack)))
+Gives c a t end stack held (Err exception) = Reaches c.program t (thrown a.tries a.requests exception a.moment)
 
 -- the same of values one after the other, which are so many
 abbrev pub GivesAll : Setting → Around → Thread → ℕ → List Value → ℕ → Result (List Value) Exception → Type 0
-GivesAll c a t end stack number (Ok vs) = (length vs ≡ number) × Reaches c.program c.is_entry t (Goes (stands a end (reverse_aux vs stack)))
-GivesAll c a t end stack number (Err exception) = Reaches c.program c.is_entry t (thrown c.is_entry a.tries a.accepts exception a.moment)
+GivesAll c a t end stack number (Ok vs) = (length vs ≡ number) × Reaches c.program t (Goes (stands a end (reverse_aux vs stack)))
+GivesAll c a t end stack number (Err exception) = Reaches c.program t (thrown a.tries a.requests exception a.moment)

@@ -1,5 +1,5 @@
 -- What is known of a part of a module whose code runs.
-use Rattle.std.specs.Prelude.{◌≡◌, ℕ, List, Bool, Option, Some, slice_get}
+use Rattle.std.specs.Prelude.{length, ◌≡◌, ℕ, List, Option, Some, slice_get}
 use Rattle.lynx_tree.specs.declared.declaration.TypeName.{TypeName}
 use Rattle.typing_rules.specs.Names.{Scope, type_of_variable}
 use Rattle.typing_rules.specs.declared.exception.Exception.{Exception}
@@ -18,7 +18,6 @@ type_at globals locals (Local place) = slice_get locals place
 -- a part of a module: its code, what its names mean by the typing rules, and where they stand
 pub record Setting : Type 0 where
   pub program : Program
-  pub is_entry : Bool
   pub scope : Scope
   pub names : Names
   -- the types of the variables
@@ -35,15 +34,15 @@ pub record HasKinds (c : Setting) (s : Store) : Type 0 where
 -- what an expression leaves as it is
 pub record Around : Type 0 where
   pub tries : List Opened
-  pub accepts : ℕ
+  pub requests : List ℕ
   pub pending : Option Exception
   pub moment : Moment
 
 -- a thread at this address, with these operands
 abbrev pub stands : Around → ℕ → List Value → Thread
-stands a at stack = thread at stack a.tries a.accepts a.pending a.moment
+stands a at stack = thread at stack a.tries a.requests a.pending a.moment
 
 -- an expression may run here
 pub record IsReady (c : Setting) (a : Around) : Type 0 where
   pub kinds : HasKinds c a.moment.store
-  pub nested : AreNested a.accepts a.tries
+  pub nested : AreNested (length a.requests) a.tries

@@ -49,7 +49,6 @@ module _ (m : ModuleTree) (part : PartTree) (start : ℕ) (is : IsPart m part st
   abbrev the-setting : Setting
   the-setting = record {
     program = program_of m;
-    is_entry = part.is_entry;
     scope = is.scope;
     names = part.names;
     globals = map (λ v. v.kind) (variables m);
@@ -71,9 +70,9 @@ module _ (m : ModuleTree) (part : PartTree) (start : ℕ) (is : IsPart m part st
   first-moment given = record { store = start_store part given.globals given.arguments; answers = given.answers; actions = [] }
 
   abbrev first-thread : Start → Thread
-  first-thread given = begins start (start_store part given.globals given.arguments) given.answers
+  first-thread given = begins part.requests start (start_store part given.globals given.arguments) given.answers
 
-  follows : (given : Start) → IsFitting m part given → (n : ℕ) → Follows (program_of m) part.is_entry (first-thread given) n (source part given n)
+  follows : (given : Start) → IsFitting m part given → (n : ℕ) → Follows (program_of m) (first-thread given) n (source part given n)
   follows given fitting n =
       let b = the-body given in
       let now = first-moment given in
@@ -83,15 +82,15 @@ module _ (m : ModuleTree) (part : PartTree) (start : ℕ) (is : IsPart m part st
         kinds = record { of_globals = types-kinds (map (λ v. v.kind) (variables m)) given.globals fitting.globals; of_locals = local-kinds part.parameters given.arguments part.vars fitting.arguments };
         used = refl;
       } in
-      let fit = fit-front m (trace c) (actions_of (source part given n)) given.answers (part-front part.is_entry c) (fitting.answers n) in
-      part-follows b n (first-thread given) (start + length x) c (next-stands (module_code m) start x code.End [] is.stands)
-      (stmts-run b n part.body [] 0 tt is.request start is.place None now is.written (front-stands (module_code m) start x (code.End ∷ []) is.stands) is.clean sound fit)
+      let fit = fit-front m (trace c) (actions_of (source part given n)) given.answers (part-front part.requests c) (fitting.answers n) in
+      part-follows b part.requests n (first-thread given) (start + length x) c (next-stands (module_code m) start x code.End [] is.stands)
+      (stmts-run b n part.body [] part.requests tt is.request start is.place None now is.written (front-stands (module_code m) start x (code.End ∷ []) is.stands) is.clean sound fit)
 
   pub agrees : Agrees m part start
   agrees = record {
-    code_follows = λ given fitting n outcome over same. follows-over (program_of m) part.is_entry (first-thread given) n outcome over (subst (Follows (program_of m) part.is_entry (first-thread given) n) same (follows given fitting n));
-    source_follows = λ given fitting n outcome over was. code-over (program_of m) part.is_entry (first-thread given) n (source part given n) outcome over (follows given fitting n) was;
-    goes_on = λ given fitting out k. code-out (program_of m) part.is_entry (first-thread given) k (source part given k) (out k) (follows given fitting k);
-    does_all = λ given fitting n actions same. subst (Follows (program_of m) part.is_entry (first-thread given) n) same (follows given fitting n);
-    never_stuck = λ given fitting k was. not-stuck (program_of m) part.is_entry (first-thread given) k (source part given k) (follows given fitting k) was;
+    code_follows = λ given fitting n outcome over same. follows-over (program_of m) (first-thread given) n outcome over (subst (Follows (program_of m) (first-thread given) n) same (follows given fitting n));
+    source_follows = λ given fitting n outcome over was. code-over (program_of m) (first-thread given) n (source part given n) outcome over (follows given fitting n) was;
+    goes_on = λ given fitting out k. code-out (program_of m) (first-thread given) k (source part given k) (out k) (follows given fitting k);
+    does_all = λ given fitting n actions same. subst (Follows (program_of m) (first-thread given) n) same (follows given fitting n);
+    never_stuck = λ given fitting k was. not-stuck (program_of m) (first-thread given) k (source part given k) (follows given fitting k) was;
   }

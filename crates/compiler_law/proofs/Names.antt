@@ -1,13 +1,14 @@
 -- What names mean by the typing rules, and where the code finds them.
-use Rattle.std.proofs.Common.{◌≡◌, ℕ, suc, ◌+◌, List, [], ◌∷◌, ◌++◌, length, map, Bool, true, false, Option, Some, None, if◌then◌else◌, bytes_eq, option_map, unwrap_or, slice_get, refl, sym, ap, ◌∙◌, subst, append_assoc, suc-ne-zero, arith}
+use Rattle.std.proofs.Common.{◌≡◌, ℕ, suc, ◌+◌, List, [], ◌∷◌, ◌++◌, length, map, Bool, true, false, Option, Some, None, if◌then◌else◌, bytes_eq, option_map, unwrap_or, slice_get, refl, sym, ap, ◌∙◌, subst, append_assoc, suc-ne-zero, arith, ◌<◌, zero-lt-suc}
 use Rattle.std.proofs.lemmas.Option.{none-some, same_Some}
 use Rattle.lynx_tree.specs.Trees.{EntryTree, ModuleTree, OpTree, VarTree}
 use Rattle.lynx_tree.specs.declared.declaration.TypeName.{TypeName}
 use Rattle.typing_rules.specs.Names.{Declared, Meaning, Variable, Operation, Entry, arguments_of, each_at, entries_at, entry_named, entry_size, inside, known, local_names, locals_at, meaning_in}
-use Rattle.typing_rules.specs.Names.{module_scope, op_named, op_size, ops_at, or_outside, parameters_at, parameters_named, params_at, results_of, type_of_variable, var_named, var_size, vars_at}
-use Rattle.lynx_code.specs.Modules.{global_names, names_of, op_names, place_in, index_of, slot_at, variables}
+use Rattle.typing_rules.specs.Names.{module_scope, op_named, op_size, ops_at, or_outside, parameters_at, parameters_named, params_at, results_of, type_of_variable, var_named, var_size, vars_at, is_entry}
+use Rattle.lynx_code.specs.Modules.{global_names, op_names, place_in, index_of, slot_at, variables, entry_names}
 use Rattle.lynx_code.specs.Modules as modules
 use Rattle.compiler_expressions.specs.Setting.{type_at}
+use Rattle.compiler_expressions.proofs.Clean.{no-false}
 
 meaning-append : (xs ys : List Declared) (name : List ℕ) → meaning_in (xs ++ ys) name ≡ or_outside (meaning_in xs name) (meaning_in ys name)
 meaning-append [] ys name = refl
@@ -144,6 +145,37 @@ module-operation m name arguments is =
     (ap arguments_of (sym (module-meaning m name)) ∙ is) in
     (found.0, found.1, found.2, ap results_of (module-meaning m name) ∙ found.3)
 
+-- an entry of the module
+one-entry-placed : (b : Bool) (meaning : Option Meaning) (place : Option ℕ) (n : ℕ) → (is_entry meaning ≡ true → unwrap_or place 0 < n) → is_entry (if b then Some Entry else meaning) ≡ true
+    → unwrap_or (if b then Some 0 else option_map (λ k. k + 1) place) 0 < suc n
+one-entry-placed true meaning place n h is = zero-lt-suc n
+one-entry-placed false meaning None n h is = zero-lt-suc n
+one-entry-placed false meaning (Some k) n h is =
+    let less : k < n = h is in
+    let next : k + 1 < suc n = omega (arith, less) in
+    next
+
+entries-placed : (es : List EntryTree) (at : ℕ) (name : List ℕ) → is_entry (meaning_in (each_at entry_size entry_named at es) name) ≡ true → index_of (map (λ e. e.name) es) name < length es
+entries-placed [] at name is = no-false is
+entries-placed (e ∷ es) at name is =
+    one-entry-placed (bytes_eq e.name name) (meaning_in (each_at entry_size entry_named (at + entry_size e) es) name) (place_in (map (λ x. x.name) es) name) (length es) (entries-placed es (at + entry_size e) name) is
+
+outside-entry : (o pv e : Option Meaning) (number place : Option ℕ) (ops : List OpTree) (vs : List TypeName) → HasNumber o number ops → HasPlace pv place vs → is_entry (or_outside (or_outside o pv) e) ≡ true → is_entry e ≡ true
+outside-entry None None e number place ops vs ho hp is = is
+outside-entry None (Some (Variable u)) e number place ops vs ho hp is = no-false is
+outside-entry None (Some (Operation left rs)) e number place ops vs ho hp is = no-false is
+outside-entry None (Some Entry) e number place ops vs ho hp is = absurd hp
+outside-entry (Some (Operation left rs)) pv e number place ops vs ho hp is = no-false is
+outside-entry (Some (Variable u)) pv e number place ops vs ho hp is = no-false is
+outside-entry (Some Entry) pv e number place ops vs ho hp is = absurd ho
+
+pub module-entry : (m : ModuleTree) (name : List ℕ) → is_entry (module_scope m name) ≡ true → index_of (entry_names m) name < length m.entries
+module-entry m name is =
+    entries-placed m.entries (entries_at m) name
+    (outside-entry (meaning_in (each_at op_size op_named ops_at m.ops) name) (meaning_in (each_at var_size var_named (params_at m) m.params ++ each_at var_size var_named (vars_at m) m.vars) name) (meaning_in (each_at entry_size entry_named (entries_at m) m.entries) name)
+    (place_in (op_names m) name) (place_in (global_names m) name) m.ops (map (λ v. v.kind) (variables m)) (look-ops m.ops ops_at name) (look-two m.params m.vars (params_at m) (vars_at m) name)
+    (ap is_entry (sym (module-meaning m name)) ∙ is))
+
 -- ---- the names of an entry
 
 inside-variable : (l o : Option Meaning) (place : Option ℕ) (outside : ℕ) (gs ls : List TypeName) (t : TypeName) → HasPlace l place ls → (type_of_variable o ≡ Some t → slice_get gs outside ≡ Some t) → type_of_variable (or_outside l o) ≡ Some t → type_at gs ls (slot_at place outside) ≡ Some t
@@ -176,3 +208,16 @@ entry-operation m at e name arguments long is =
     inside-operation (meaning_in (local_names (module_scope m) at e) name) (module_scope m name) (place_in (modules.local_names e) name) (known (arguments_of (module_scope m e.op)) ++ map (λ v. v.kind) e.vars) arguments
     (λ r. (op : OpTree) × (slice_get m.ops (index_of (op_names m) name) ≡ Some op) × (op.arguments ≡ arguments) × (r ≡ Some op.results))
     (look-locals e.parameters (known (arguments_of (module_scope m e.op))) e.vars (parameters_at at) (locals_at at e) name long) (module-operation m name arguments) is
+
+inside-entry : (l o : Option Meaning) (place : Option ℕ) (ls : List TypeName) → HasPlace l place ls → is_entry (or_outside l o) ≡ true → is_entry o ≡ true
+inside-entry None o place ls h is = is
+inside-entry (Some (Variable u)) o place ls h is = no-false is
+inside-entry (Some (Operation left rs)) o place ls h is = no-false is
+inside-entry (Some Entry) o place ls h is = absurd h
+
+pub entry-entry : (m : ModuleTree) (at : ℕ) (e : EntryTree) (name : List ℕ) → length e.parameters ≡ length (known (arguments_of (module_scope m e.op))) → is_entry (inside (local_names (module_scope m) at e) (module_scope m) name) ≡ true
+    → index_of (entry_names m) name < length m.entries
+entry-entry m at e name long is =
+    module-entry m name
+    (inside-entry (meaning_in (local_names (module_scope m) at e) name) (module_scope m name) (place_in (modules.local_names e) name) (known (arguments_of (module_scope m e.op)) ++ map (λ v. v.kind) e.vars)
+    (look-locals e.parameters (known (arguments_of (module_scope m e.op))) e.vars (parameters_at at) (locals_at at e) name long) is)

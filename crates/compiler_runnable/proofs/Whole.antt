@@ -1,7 +1,6 @@
 -- The code of a module can be run.
-use Rattle.std.proofs.Common.{◌≡◌, ℕ, zero, suc, ◌+◌, List, [], ◌∷◌, ◌++◌, length, map, replicate, Bool, true, IsTrue, is_some, option_map, Option, Some, None, slice_get, refl, sym, ap, ◌∙◌, subst}
+use Rattle.std.proofs.Common.{◌≡◌, ℕ, zero, suc, ◌+◌, List, [], ◌∷◌, ◌++◌, length, map, replicate, is_some, option_map, Option, Some, None, slice_get, refl, sym, ap, ◌∙◌, subst}
 use Rattle.std.proofs.lemmas.List.{map-append}
-use Rattle.std.specs.List.{AllByRecursion}
 use Rattle.std.proofs.lemmas.Option.{none-some, same_Some, slice_get-map}
 use Rattle.lynx_tree.specs.Trees.{EntryTree, ModuleTree, OpTree}
 use Rattle.lynx_tree.specs.declared.declaration.TypeName.{TypeName}
@@ -10,21 +9,19 @@ use Rattle.typing_rules.specs.Modules.{entry_faults, module_faults, names_are_ne
 use Rattle.typing_rules.specs.Names.{arguments_of, each_at, entry_body_at, inside, known, local_names, locals_at, module_scope, op_size, ops_at, entries_at, entry_size, results_of, var_size}
 use Rattle.typing_rules.specs.Rules.{Asks, entry_has_parameters, entry_is_of_op, local_name_is_new}
 use Rattle.typing_rules.specs.Statements.{stmts_faults}
-use Rattle.lynx_code.specs.Modules.{ArePairs, IsCodeOf, IsOpOf, IsPartOf, PartCode, entry_part, entry_parts, main_part, op_names, parts_of, index_of, variables}
+use Rattle.lynx_code.specs.Modules.{ArePairs, IsCodeOf, IsPartOf, PartCode, entry_part, entry_parts, main_part, op_names, parts_of, index_of}
 use Rattle.lynx_code.specs.declared.code.Code.{Code}
-use Rattle.lynx_code.specs.declared.code.CodeOp.{CodeOp}
 use Rattle.lynx_code.specs.declared.code.Part as kept
 use Rattle.compiler_expressions.proofs.Clean.{both-clean, demand-met}
 use Rattle.compiler_expressions.proofs.Variables.{some-of}
 use Rattle.compiler_law.proofs.Names.{module-operation}
 use Rattle.compiler_law.proofs.Parts.{each-clean}
 use Rattle.compiler_law.proofs.Whole.{no-faults}
-use Rattle.code_shapes.specs.Shapes.{code_types, kept_op}
-use Rattle.lynx_meaning.specs.Needs.{OpTypes, types_of, op_types}
+use Rattle.code_shapes.specs.Shapes.{code_types, PartTypes, code_parts, kept_part}
+use Rattle.lynx_meaning.specs.Needs.{OpTypes, op_types}
 use Rattle.compiler_shapes.proofs.Whole as shapes
 use Rattle.compiler_runnable.specs.Law.{ModuleCodeIsRunnable}
-use Rattle.compiler_runnable.specs.Runnable as runnable
-use Rattle.compiler_runnable.specs.Runnable.{AreParts, HaveStarts, Part, parameters, part_of}
+use Rattle.compiler_runnable.specs.Runnable.{HaveStarts, IsEntryPart}
 use Rattle.compiler_runnable.proofs.Starts.{AreClean, arguments_start, both_start, declarations, params_are_links, params_start, vars_start}
 
 -- ---- lists
@@ -44,8 +41,8 @@ pair_at P (x ∷ xs) (z ∷ ys) (suc i) y pairs here = pair_at P xs ys i y pairs
 -- ---- parts
 
 -- what the part of an entry has
-abbrev IsEntryPart : ModuleTree → Part → EntryTree → Type 0
-IsEntryPart m p e = (p.op ≡ Some (index_of (op_names m) e.op)) × (p.locals ≡ known (arguments_of (module_scope m e.op)) ++ map (λ v. v.kind) e.vars)
+abbrev IsPartFor : ModuleTree → PartTypes → EntryTree → Type 0
+IsPartFor m p e = (p.op ≡ Some (index_of (op_names m) e.op)) × (p.locals ≡ known (arguments_of (module_scope m e.op)) ++ map (λ v. v.kind) e.vars)
 
 entry_at : (m : ModuleTree) (at : ℕ) (es : List EntryTree) (i : ℕ) (c : PartCode) → slice_get (entry_parts m at es) i ≡ Some c →
     (e : EntryTree) × (slice_get es i ≡ Some e) × (c.op ≡ Some (index_of (op_names m) e.op)) × (c.locals ≡ known (arguments_of (module_scope m e.op)) ++ map (λ v. v.kind) e.vars)
@@ -55,15 +52,15 @@ entry_at m at (e ∷ es) zero c here =
     (e, refl, ap (λ (q : PartCode). q.op) (sym same), ap (λ (q : PartCode). q.locals) (sym same))
 entry_at m at (e ∷ es) (suc i) c here = entry_at m (at + length (entry_part m at e).instructions) es i c here
 
-part_at : (m : ModuleTree) (made : Code) → IsCodeOf m made → (i : ℕ) (p : Part) → slice_get (map part_of made.parts.items) i ≡ Some p →
+part_at : (m : ModuleTree) (made : Code) → IsCodeOf m made → (i : ℕ) (p : PartTypes) → slice_get (code_parts made) i ≡ Some p →
     (c : PartCode) × (slice_get (parts_of m) i ≡ Some c) × (p.start ≡ c.start) × (p.op ≡ c.op) × (p.locals ≡ c.locals)
 part_at m made is i p here =
-    let k = map_at part_of made.parts.items i p here in
+    let k = map_at kept_part made.parts.items i p here in
     let c = pair_at IsPartOf (parts_of m) made.parts.items i k.0 is.parts k.1 in
     let same = k.2 in
-    (c.0, c.1, ap (λ (q : Part). q.start) (sym same) ∙ c.2.2, ap (λ (q : Part). q.op) (sym same) ∙ c.2.1, ap (λ (q : Part). q.locals) (sym same) ∙ c.2.3)
+    (c.0, c.1, ap (λ (q : PartTypes). q.start) (sym same) ∙ c.2.2, ap (λ (q : PartTypes). q.op) (sym same) ∙ c.2.1, ap (λ (q : PartTypes). q.locals) (sym same) ∙ c.2.3)
 
-entry_part_at : (m : ModuleTree) (made : Code) → IsCodeOf m made → (i : ℕ) (p : Part) → slice_get (map part_of made.parts.items) (suc i) ≡ Some p → (e : EntryTree) × (slice_get m.entries i ≡ Some e) × IsEntryPart m p e
+entry_part_at : (m : ModuleTree) (made : Code) → IsCodeOf m made → (i : ℕ) (p : PartTypes) → slice_get (code_parts made) (suc i) ≡ Some p → (e : EntryTree) × (slice_get m.entries i ≡ Some e) × IsPartFor m p e
 entry_part_at m made is i p here =
     let c = part_at m made is (suc i) p here in
     let e = entry_at m (length (main_part m).instructions) m.entries i c.0 c.1 in
@@ -100,14 +97,12 @@ entry_vars m at e clean =
     vars_start (locals_at at e) e.vars (both-clean (f1 ++ f2 ++ f3) f4 (both-clean (f1 ++ f2 ++ f3 ++ f4) f5 clean).0).1
 
 module _ (m : ModuleTree) (made : Code) (clean : AreClean m) (is : IsCodeOf m made) where
-  -- the types of the operation's arguments, as they are kept
-  kept_arguments : (number : ℕ) (op : OpTree) → slice_get m.ops number ≡ Some op → types_of (λ o. o.arguments) (slice_get (code_types made).ops number) ≡ op.arguments
-  kept_arguments number op here =
-      ap (λ (qs : List OpTypes). types_of (λ o. o.arguments) (slice_get qs number)) (shapes.ops_kept m.ops made.ops.items is.ops)
-      ∙ ap (λ (q : Option OpTypes). types_of (λ o. o.arguments) q) (slice_get-map op_types m.ops number)
-      ∙ ap (λ (q : Option OpTree). types_of (λ o. o.arguments) (option_map op_types q)) here
+  -- the operation, as it is kept
+  kept_operation : (number : ℕ) (op : OpTree) → slice_get m.ops number ≡ Some op → slice_get (code_types made).ops number ≡ Some (op_types op)
+  kept_operation number op here =
+      ap (λ (qs : List OpTypes). slice_get qs number) (shapes.ops_kept m.ops made.ops.items is.ops) ∙ slice_get-map op_types m.ops number ∙ ap (λ (q : Option OpTree). option_map op_types q) here
 
-  entry_starts : (i : ℕ) (p : Part) → slice_get (map part_of made.parts.items) (suc i) ≡ Some p → HaveStarts p.locals
+  entry_starts : (i : ℕ) (p : PartTypes) → slice_get (code_parts made) (suc i) ≡ Some p → HaveStarts p.locals
   entry_starts i p here =
       let e = entry_part_at m made is i p here in
       let sound = each-clean entry_size (entry_faults (module_scope m)) (entries_at m) m.entries i e.0 clean.entries e.1 in
@@ -116,26 +111,33 @@ module _ (m : ModuleTree) (made : Code) (clean : AreClean m) (is : IsCodeOf m ma
       subst (λ (ts : List TypeName). HaveStarts ts) (sym e.2.1)
       (both_start (known (arguments_of (module_scope m e.0.op))) (map (λ v. v.kind) e.0.vars) (subst (λ (ts : List TypeName). HaveStarts ts) (sym op.2) (arguments_start of_op.0 op.0 of_op.1)) (entry_vars m sound.0 e.0 sound.1))
 
-  body_part : (p : Part) × (slice_get (map part_of made.parts.items) 0 ≡ Some p) × (p.start ≡ 0) × (p.locals ≡ [])
+  body_part : slice_get (code_parts made) 0 ≡ Some (record { start = 0; op = None; locals = [] })
   body_part = first made.parts.items is.parts
     where
-      first : (ks : List kept.Part) → ArePairs IsPartOf (parts_of m) ks → (p : Part) × (slice_get (map part_of ks) 0 ≡ Some p) × (p.start ≡ 0) × (p.locals ≡ [])
+      first : (ks : List kept.Part) → ArePairs IsPartOf (parts_of m) ks → slice_get (map kept_part ks) 0 ≡ Some (record { start = 0; op = None; locals = [] })
       first [] pairs = absurd pairs
-      first (k ∷ ks) pairs = (part_of k, refl, pairs.0.2, pairs.0.3)
+      first (k ∷ ks) pairs =
+          ap (λ (n : ℕ). Some (record { start = n; op = k.op; locals = k.locals.items })) pairs.0.2
+          ∙ ap (λ (o : Option ℕ). Some (record { start = 0; op = o; locals = k.locals.items })) pairs.0.1
+          ∙ ap (λ (ts : List TypeName). Some (record { start = 0; op = None; locals = ts })) pairs.0.3
 
-  part_starts : (i : ℕ) (p : Part) → slice_get (map part_of made.parts.items) i ≡ Some p → HaveStarts p.locals
-  part_starts zero p here =
-      let same = same_Some body_part.0 p (sym body_part.1 ∙ here) in
-      subst (λ (ts : List TypeName). HaveStarts ts) (sym (ap (λ (q : Part). q.locals) (sym same) ∙ body_part.3)) tt
+  part_starts : (i : ℕ) (p : PartTypes) → slice_get (code_parts made) i ≡ Some p → HaveStarts p.locals
+  part_starts zero p here = subst (λ (q : PartTypes). HaveStarts q.locals) (same_Some (record { start = 0; op = None; locals = [] }) p (sym body_part ∙ here)) tt
   part_starts (suc i) p here = entry_starts i p here
 
-  entry_parameters : (i : ℕ) (p : Part) → slice_get (map part_of made.parts.items) (suc i) ≡ Some p → (others : List TypeName) × (p.locals ≡ parameters (code_types made) p ++ others)
-  entry_parameters i p here =
+  entry_parts_kept : (i : ℕ) (p : PartTypes) → slice_get (code_parts made) (suc i) ≡ Some p → IsEntryPart (code_types made) p
+  entry_parts_kept i p here =
       let e = entry_part_at m made is i p here in
       let sound = each-clean entry_size (entry_faults (module_scope m)) (entries_at m) m.entries i e.0 clean.entries e.1 in
       let op = entry_operation m sound.0 e.0 sound.1 in
-      let same : parameters (code_types made) p ≡ op.0.arguments = ap (runnable.arguments_of (code_types made)) e.2.0 ∙ kept_arguments (index_of (op_names m) e.0.op) op.0 op.1 in
-      (map (λ v. v.kind) e.0.vars, e.2.1 ∙ ap (λ (ts : List TypeName). ts ++ map (λ v. v.kind) e.0.vars) (op.2 ∙ sym same))
+      record {
+        op = index_of (op_names m) e.0.op;
+        serves = e.2.0;
+        of_op = op_types op.0;
+        there = kept_operation (index_of (op_names m) e.0.op) op.0 op.1;
+        others = map (λ v. v.kind) e.0.vars;
+        locals = e.2.1 ∙ ap (λ (ts : List TypeName). ts ++ map (λ v. v.kind) e.0.vars) op.2;
+      }
 
   kinds_kept : made.globals.items ≡ map (λ v. v.kind) m.params ++ map (λ v. v.kind) m.vars
   kinds_kept = is.globals ∙ map-append (λ v. v.kind) m.params m.vars
@@ -145,7 +147,7 @@ law m made written tokens typed is =
     let clean = declarations m (no-faults (module_faults m) typed) in
     record {
       shaped = shapes.law m made written tokens typed is;
-      parts = record { body = body_part m made clean is; starts = part_starts m made clean is; entries = entry_parameters m made clean is };
+      parts = record { body = body_part m made clean is; starts = part_starts m made clean is; entries = entry_parts_kept m made clean is };
       globals = subst (λ (ts : List TypeName). HaveStarts ts) (sym (kinds_kept m made clean is))
           (both_start (map (λ v. v.kind) m.params) (map (λ v. v.kind) m.vars) (params_start _ m.params clean.params) (vars_start _ m.vars clean.vars));
       params = (

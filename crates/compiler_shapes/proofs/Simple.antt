@@ -1,6 +1,5 @@
 -- The shapes of the code of statements without others inside.
-use Rattle.std.proofs.Common.{◌≡◌, ℕ, ◌+◌, List, [], ◌∷◌, ◌++◌, length, reverse, true, Option, Some, slice_get, refl, sym, ap, ◌∙◌, subst}
-use Rattle.std.proofs.lemmas.List.{length-reverse}
+use Rattle.std.proofs.Common.{◌≡◌, ℕ, ◌+◌, List, [], ◌∷◌, ◌++◌, length, true, false, Option, Some, slice_get, refl, sym, ap, ◌∙◌, subst}
 use Rattle.lynx_tree.specs.Trees.{ExprTree, ExprTrees}
 use Rattle.lynx_tree.specs.Trees as trees
 use Rattle.lynx_tree.specs.Grammar.{AreExprs, IsExpr, exprs_marks}
@@ -9,22 +8,22 @@ use Rattle.lynx_tree.specs.declared.declaration.TypeName.TheVariants as types
 use Rattle.typing_rules.specs.Expressions.{expr_faults, expr_size, number_of, shown_type, value_faults, values_faults}
 use Rattle.typing_rules.specs.Names.{arguments_of, known, results_of, type_of_variable}
 use Rattle.typing_rules.specs.Rules.{Request, condition_is_bool, connect_has_names, connect_has_values, connect_name_fits, connect_value_fits, index_is_int, indexed_is_row, is_op}
-use Rattle.typing_rules.specs.Rules.{is_variable, new_names_differ, reply_has_request, reply_has_values, reply_value_fits, results_needed, value_is_of_target, value_is_written}
+use Rattle.typing_rules.specs.Rules.{is_variable, new_names_differ, reply_has_request, reply_has_values, reply_value_fits, value_is_of_target, value_is_written, Outside, Asks}
 use Rattle.typing_rules.specs.Statements.{link_faults, names_faults, stmt_faults}
 use Rattle.typing_rules.specs.Types.{Held, agree, may_be_row}
 use Rattle.lynx_code.specs.Generation.{expr_code, exprs_code, how_many, load, stmt_code, store, store_member, stores}
 use Rattle.lynx_code.specs.declared.instruction.Instruction.{Instruction}
 use Rattle.lynx_code.specs.declared.instruction.Instruction.TheVariants as code
 use Rattle.typing_rules.specs.declared.exception.Exception.{Exception}
-use Rattle.compiler_expressions.proofs.Clean.{both-clean, demand-met, judged-clean}
+use Rattle.compiler_expressions.proofs.Clean.{both-clean, demand-met, judged-clean, no-false}
 use Rattle.compiler_expressions.proofs.Variables.{row-type, some-of}
 use Rattle.compiler_statements.proofs.Requests.{number-met}
 use Rattle.compiler_statements.proofs.Simple.{counted}
-use Rattle.code_shapes.specs.Shapes.{Shape, Shapes, AsksOnLink, Connects, Leads, Obeys, pushed}
+use Rattle.code_shapes.specs.Shapes.{Shape, Shapes, AsksOnLink, Connects, Leads, Obeys, pushed, Replies}
 use Rattle.lynx_meaning.specs.Needs.{OpTypes}
 use Rattle.compiler_shapes.proofs.Expressions.{as_wanted, expr_shows, pass_on}
 use Rattle.compiler_shapes.proofs.Operands.{load_passes, plain_type, put_passes, store_passes}
-use Rattle.compiler_shapes.proofs.Parts.{Caught, Open, Part, Passes, may_raise, on}
+use Rattle.compiler_shapes.proofs.Parts.{Caught, Open, Part, Passes, may_raise, on, Asked, IsFor}
 use Rattle.compiler_shapes.proofs.Stores.{as_many_wanted, exprs_show, link_variable, stores_pass, variables_of}
 use Rattle.compiler_shapes.proofs.Walks.{one}
 
@@ -108,15 +107,26 @@ module _ (c : Part) (o : Open) where
       pass_on c o at (load c.names name ∷ []) (i ∷ []) [] (types.Link ∷ []) [] (load_passes c o at name types.Link [] (link_variable c place name clean))
       (one c.whole (Caught c o) (at + 1) i s (on c o []) (λ shapes leads needs fits. obeys shapes (at + 1) s ([], refl, (leads, may_raise shapes s [] needs))))
 
-  pub reply_passes : (values : ExprTrees) (request : Request) (at place : ℕ) → AreExprs 6 values → stmt_faults c.scope request place (trees.Reply values) ≡ [] → Passes c o at (stmt_code c.names at (trees.Reply values)) [] []
-  reply_passes values request at place is clean =
+  reply_by : (values : ExprTrees) (request : Request) (at place : ℕ) → IsFor c.whole o.requests request → AreExprs 6 values → stmt_faults c.scope request place (trees.Reply values) ≡ [] → Passes c o at (stmt_code c.names at (trees.Reply values)) [] []
+  reply_by values Outside at place meant is clean =
+      let parts = both-clean (reply_has_request place Outside ++ reply_has_values place (number_of values) Outside) (values_faults reply_value_fits c.scope (place + 2) values []) clean in
+      no-false (demand-met 20 place false (both-clean (reply_has_request place Outside) (reply_has_values place (number_of values) Outside) parts.0).0)
+  reply_by values (Asks results) at place meant is clean =
       let x = exprs_code c.names at values in
-      let parts = both-clean (reply_has_request place request ++ reply_has_values place (number_of values) request) (values_faults reply_value_fits c.scope (place + 2) values (known (results_needed request))) clean in
-      let shows = exprs_show c o values reply_value_fits (λ t there held met. demand-met _ _ _ met) (known (results_needed request)) 6 at (place + 2) [] is parts.1 in
-      let s = on c o (pushed shows.kinds []) in
-      pass_on c o at x (code.Reply (how_many values) ∷ []) [] (pushed shows.kinds []) [] shows.passes
+      let ts = meant.2.results in
+      let met = subst (λ (r : Option (List TypeName)). stmt_faults c.scope (Asks r) place (trees.Reply values) ≡ []) meant.5 clean in
+      let parts = both-clean (reply_has_request place (Asks (Some ts)) ++ reply_has_values place (number_of values) (Asks (Some ts))) (values_faults reply_value_fits c.scope (place + 2) values ts) met in
+      let count = number-met (number_of values) (Some ts) ts refl (demand-met _ _ _ (both-clean (reply_has_request place (Asks (Some ts))) (reply_has_values place (number_of values) (Asks (Some ts))) parts.0).1) in
+      let shows = exprs_show c o values reply_value_fits (λ t there held met. demand-met _ _ _ met) ts 6 at (place + 2) [] is parts.1 in
+      let s = on c o (pushed ts []) in
+      pass_on c o at x (code.Reply (how_many values) ∷ []) [] (pushed ts []) [] (as_many_wanted c o at (how_many values) values [] ts shows (sym count ∙ counted values))
       (one c.whole (Caught c o) (at + length x) (code.Reply (how_many values)) s (on c o [])
-      (λ shapes leads needs fits. (reverse shows.kinds, length-reverse shows.kinds ∙ shows.size, ([], refl, (leads, may_raise shapes s [] needs)))))
+      (λ shapes leads needs fits.
+      subst (λ (rs : List ℕ). Replies c.whole shapes (at + length x) s (how_many values) rs) (sym meant.3)
+      (meant.2, meant.4, sym count ∙ counted values, ([], refl, (leads, may_raise shapes s [] needs)))))
+
+  pub reply_passes : (values : ExprTrees) (asked : Asked c.whole o.requests) (at place : ℕ) → AreExprs 6 values → stmt_faults c.scope asked.request place (trees.Reply values) ≡ [] → Passes c o at (stmt_code c.names at (trees.Reply values)) [] []
+  reply_passes values asked at place is clean = reply_by values asked.request at place asked.meant is clean
 
   connect_obeys : (shapes : Shapes) (at number : ℕ) (op : OpTypes) → slice_get c.whole.ops number ≡ Some op → Leads shapes (at + 1) (on c o (pushed op.results [])) → Caught c o shapes →
       Obeys c.whole shapes at (on c o (types.Link ∷ pushed op.arguments [])) (code.Connect number)

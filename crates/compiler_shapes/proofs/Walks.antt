@@ -54,7 +54,7 @@ both_obey m shapes at (i ∷ a) b h k =
     (h.0, both_obey m shapes (at + 1) a b h.1 (subst (λ (n : ℕ). AllObey m shapes n b) same k))
 
 pub same_shape : (s : Shape) → IsWithin s s
-same_shape s = record { locals = refl; stack = refl; tries = refl; accepts = refl; pending = λ h. h }
+same_shape s = record { locals = refl; stack = refl; tries = refl; requests = refl; pending = λ h. h }
 
 module _ (m : ModuleTypes) where
   pub nothing : (N : Shapes → Type 0) (at : ℕ) (s : Shape) → Walks m N at [] s s

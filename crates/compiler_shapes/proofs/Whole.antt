@@ -1,5 +1,5 @@
 -- The code of a module is shaped.
-use Rattle.std.proofs.Common.{◌≡◌, ◌<◌, ℕ, zero, suc, ◌+◌, List, [], ◌∷◌, ◌++◌, length, map, false, Option, Some, slice_get, option_map, flat_map, refl, sym, ap, ◌∙◌, subst, append_assoc, length-append, arith}
+use Rattle.std.proofs.Common.{◌≡◌, ◌<◌, ℕ, zero, suc, ◌+◌, List, [], ◌∷◌, ◌++◌, length, map, false, Option, Some, None, ◌-◌, slice_get, option_map, flat_map, refl, sym, ap, ◌∙◌, subst, append_assoc, length-append, arith}
 use Rattle.std.specs.List.{AllByRecursion}
 use Rattle.std.proofs.lemmas.Option.{none-some, same_Some, slice_get-map, slice_get_within}
 use Rattle.lynx_lexer.specs.declared.keyword.Keyword.TheVariants as keywords
@@ -10,7 +10,7 @@ use Rattle.lynx_tree.specs.Trees.{EntryTree, ModuleTree, OpTree, StmtTrees}
 use Rattle.lynx_tree.specs.declared.declaration.TypeName.{TypeName}
 use Rattle.typing_rules.specs.Modules.{entry_faults, module_faults, names_are_new, var_faults}
 use Rattle.typing_rules.specs.Names.{arguments_of, body_at, each_at, entries_at, entry_body_at, entry_size, inside, known, local_names, locals_at, module_scope, results_of, var_size}
-use Rattle.typing_rules.specs.Rules.{Asks, Outside, Request, entry_has_parameters, entry_is_of_op, local_name_is_new}
+use Rattle.typing_rules.specs.Rules.{Asks, Outside, entry_has_parameters, entry_is_of_op, local_name_is_new}
 use Rattle.typing_rules.specs.Statements.{stmts_faults}
 use Rattle.lynx_code.specs.Generation.{stmts_code}
 use Rattle.lynx_code.specs.Modules.{ArePairs, IsCodeOf, IsOpOf, IsPartOf, PartCode, body_code, entry_part, entry_parts, instructions_of, main_part, module_code, names_of, op_names, parts_of, index_of, variables}
@@ -20,24 +20,25 @@ use Rattle.lynx_code.specs.declared.code.CodeOp.{CodeOp}
 use Rattle.lynx_code.specs.declared.code.Part.{Part as KeptPart}
 use Rattle.lynx_code.specs.declared.instruction.Instruction.{Instruction}
 use Rattle.lynx_code.specs.declared.instruction.Instruction.TheVariants as code
-use Rattle.compiler_expressions.proofs.Clean.{both-clean}
-use Rattle.compiler_law.proofs.Names.{entry-operation, entry-variable, main-variable, module-operation}
+use Rattle.compiler_expressions.proofs.Clean.{both-clean, demand-met}
+use Rattle.compiler_expressions.proofs.Variables.{some-of}
+use Rattle.compiler_law.proofs.Names.{entry-operation, entry-variable, main-variable, module-operation, module-entry, entry-entry}
 use Rattle.compiler_law.proofs.Whole.{as-many, entries-and-body, no-faults}
-use Rattle.code_shapes.specs.Shapes.{ModuleTypes, Shape, Shapes, AllObey, IsShaped, Leads, code_parts, code_types, kept_op, kept_part, part_shape}
+use Rattle.code_shapes.specs.Shapes.{ModuleTypes, Shape, Shapes, AllObey, IsShaped, Leads, code_parts, code_types, kept_op, kept_part, part_shape, PartTypes, opened_by}
 use Rattle.lynx_meaning.specs.Needs.{OpTypes, op_types}
 use Rattle.compiler_shapes.specs.Law.{ModuleCodeIsShaped}
 use Rattle.compiler_shapes.proofs.Literals.{AreTokens, stmts_literals}
-use Rattle.compiler_shapes.proofs.Parts.{Open, Part, on}
+use Rattle.compiler_shapes.proofs.Parts.{Open, Part, on, Asked}
 use Rattle.compiler_shapes.proofs.Statements.{stmts_pass}
 use Rattle.compiler_shapes.proofs.Walks.{Stand, all_back, all_front, back_stands, both_obey, front_stands, same_shape}
 
 -- ---- what a module has
 
 abbrev tree_types : ModuleTree → ModuleTypes
-tree_types m = record { globals = map (λ v. v.kind) (variables m); ops = map op_types m.ops }
+tree_types m = record { globals = map (λ v. v.kind) (variables m); ops = map op_types m.ops; entries = length m.entries }
 
-abbrev start_of : PartCode → ℕ × List TypeName
-start_of p = (p.start, p.locals)
+abbrev start_of : PartCode → PartTypes
+start_of p = record { start = p.start; op = p.op; locals = p.locals }
 
 -- what a module tells of an operation
 operation_types : (m : ModuleTree) (number : ℕ) (arguments : List TypeName) (results : Option (List TypeName)) →
@@ -54,6 +55,7 @@ main_of m = record {
   names = names_of m [];
   variable = λ name t is. main-variable m name t is;
   operation = λ name arguments is. operation_types m (index_of (op_names m) name) arguments (results_of (module_scope m name)) (module-operation m name arguments is);
+  entry = λ name is. module-entry m name is;
 }
 
 abbrev entry_of : (m : ModuleTree) (at : ℕ) (e : EntryTree) → length e.parameters ≡ length (known (arguments_of (module_scope m e.op))) → Part
@@ -65,21 +67,22 @@ entry_of m at e long = record {
   variable = λ name t is. entry-variable m at e name t long is;
   operation = λ name arguments is.
       operation_types m (index_of (op_names m) name) arguments (results_of (inside (local_names (module_scope m) at e) (module_scope m) name)) (entry-operation m at e name arguments long is);
+  entry = λ name is. entry-entry m at e name long is;
 }
 
 -- ---- parts, one after the other
 
 -- code from this address on, whose parts begin so
-record Covers (m : ModuleTypes) (at : ℕ) (is : List Instruction) (starts : List (ℕ × List TypeName)) : Type 0 where
+record Covers (m : ModuleTypes) (at : ℕ) (is : List Instruction) (starts : List PartTypes) : Type 0 where
   each : List Shape
   long : length each ≡ length is
   obeys : (shapes : Shapes) → Stand shapes at each → AllObey m shapes at is
-  begin : (shapes : Shapes) → Stand shapes at each → (i start : ℕ) (locals : List TypeName) → slice_get starts i ≡ Some (start, locals) → Leads shapes start (part_shape locals)
+  begin : (shapes : Shapes) → Stand shapes at each → (i : ℕ) (p : PartTypes) → slice_get starts i ≡ Some p → Leads shapes p.start (part_shape p)
 
 no_parts : (m : ModuleTypes) (at : ℕ) → Covers m at [] []
-no_parts m at = record { each = []; long = refl; obeys = λ shapes stand. tt; begin = λ shapes stand i start locals here. absurd (none-some (start, locals) here) }
+no_parts m at = record { each = []; long = refl; obeys = λ shapes stand. tt; begin = λ shapes stand i p here. absurd (none-some p here) }
 
-both_cover : (m : ModuleTypes) (at middle : ℕ) (a b : List Instruction) (start : ℕ × List TypeName) (starts : List (ℕ × List TypeName)) → at + length a ≡ middle → Covers m at a (start ∷ []) → Covers m middle b starts → Covers m at (a ++ b) (start ∷ starts)
+both_cover : (m : ModuleTypes) (at middle : ℕ) (a b : List Instruction) (start : PartTypes) (starts : List PartTypes) → at + length a ≡ middle → Covers m at a (start ∷ []) → Covers m middle b starts → Covers m at (a ++ b) (start ∷ starts)
 both_cover m at middle a b start starts here first second =
     let size : at + length first.each ≡ middle = omega (arith, first.long, here) in
     let long : length (first.each ++ second.each) ≡ length (a ++ b) = omega (arith, length-append first.each second.each, length-append a b, first.long, second.long) in
@@ -92,20 +95,23 @@ both_cover m at middle a b start starts here first second =
       begin = λ shapes stand i. by shapes (first.begin shapes (front shapes stand)) (second.begin shapes (back shapes stand)) i;
     }
   where
-    by : (shapes : Shapes) → ((i at : ℕ) (locals : List TypeName) → slice_get (start ∷ []) i ≡ Some (at, locals) → Leads shapes at (part_shape locals)) →
-        ((i at : ℕ) (locals : List TypeName) → slice_get starts i ≡ Some (at, locals) → Leads shapes at (part_shape locals)) →
-        (i at : ℕ) (locals : List TypeName) → slice_get (start ∷ starts) i ≡ Some (at, locals) → Leads shapes at (part_shape locals)
-    by shapes one others zero at locals here = one zero at locals here
-    by shapes one others (suc i) at locals here = others i at locals here
+    by : (shapes : Shapes) → ((i : ℕ) (p : PartTypes) → slice_get (start ∷ []) i ≡ Some p → Leads shapes p.start (part_shape p)) →
+        ((i : ℕ) (p : PartTypes) → slice_get starts i ≡ Some p → Leads shapes p.start (part_shape p)) →
+        (i : ℕ) (p : PartTypes) → slice_get (start ∷ starts) i ≡ Some p → Leads shapes p.start (part_shape p)
+    by shapes one others zero p here = one zero p here
+    by shapes one others (suc i) p here = others i p here
+
+abbrev part_from : Part → ℕ → Option ℕ → PartTypes
+part_from c at op = record { start = at; op = op; locals = c.locals }
 
 -- a body and its end
-body_covers : (c : Part) (request : Request) (at place d : ℕ) (body : StmtTrees) → AreStmts body → stmts_faults c.scope request place body ≡ [] → AreTokens (stmts_marks d body) →
-    Covers c.whole at (body_code c.names at body) ((at, c.locals) ∷ [])
-body_covers c request at place d body is clean tokens =
-    let outside : Open = record { tries = []; accepts = 0; pending = false } in
+body_covers : (c : Part) (op : Option ℕ) (asked : Asked c.whole (opened_by op)) (at place d : ℕ) (body : StmtTrees) → AreStmts body → stmts_faults c.scope asked.request place body ≡ [] → AreTokens (stmts_marks d body) →
+    Covers c.whole at (body_code c.names at body) (part_from c at op ∷ [])
+body_covers c op asked at place d body is clean tokens =
+    let outside : Open = record { tries = []; requests = opened_by op; pending = false } in
     let s = on c outside [] in
     let x = stmts_code c.names at body in
-    let w = stmts_pass c body outside request at place is clean in
+    let w = stmts_pass c body outside asked at place is clean in
     let long : length (w.each ++ s ∷ []) ≡ length (x ++ code.End ∷ []) = omega (arith, w.long, length-append w.each (s ∷ []), length-append x (code.End ∷ [])) in
     let size : at + length w.each ≡ at + length x = omega (arith, w.long) in
     let last = λ (shapes : Shapes) (stand : Stand shapes at (w.each ++ s ∷ [])).
@@ -120,11 +126,9 @@ body_covers c request at place d body is clean tokens =
       begin = λ shapes stand i. by shapes (enters shapes stand) i;
     }
   where
-    by : (shapes : Shapes) → Leads shapes at (part_shape c.locals) → (i start : ℕ) (locals : List TypeName) → slice_get {X = ℕ × List TypeName} ((at, c.locals) ∷ []) i ≡ Some (start, locals) → Leads shapes start (part_shape locals)
-    by shapes leads zero start locals here =
-        let same = same_Some (at, c.locals) (start, locals) here in
-        subst (λ (p : ℕ × List TypeName). Leads shapes p.0 (part_shape p.1)) same leads
-    by shapes leads (suc i) start locals here = absurd (none-some (start, locals) here)
+    by : (shapes : Shapes) → Leads shapes at (part_shape (part_from c at op)) → (i : ℕ) (p : PartTypes) → slice_get (part_from c at op ∷ []) i ≡ Some p → Leads shapes p.start (part_shape p)
+    by shapes leads zero p here = subst (λ (q : PartTypes). Leads shapes q.start (part_shape q)) (same_Some (part_from c at op) p here) leads
+    by shapes leads (suc i) p here = absurd (none-some p here)
 
 entry_covers : (m : ModuleTree) (start at : ℕ) (e : EntryTree) → AreStmts e.body → entry_faults (module_scope m) at e ≡ [] → AreTokens (entry_marks e) →
     Covers (tree_types m) start (entry_part m start e).instructions (start_of (entry_part m start e) ∷ [])
@@ -145,7 +149,10 @@ entry_covers m start at e written clean tokens =
     let body = word 0 keywords.Begin ∷ (stmts_marks 0 e.body ++ end) in
     let behind = all_back printable (names_marks 0 e.parameters) (vars_marks e.vars ++ body) tokens.1.1.1.1 in
     let inner = all_back printable (vars_marks e.vars) body behind in
-    body_covers (entry_of m at e long) (Asks (results_of (outside e.op))) start (entry_body_at at e) 0 e.body written p4.1 (all_front printable (stmts_marks 0 e.body) end inner.1)
+    let found = some-of (arguments_of (outside e.op)) (demand-met _ _ _ p1.1) in
+    let op = operation_types m (index_of (op_names m) e.op) found.0 (results_of (outside e.op)) (module-operation m e.op found.0 found.1) in
+    let asked : Asked (tree_types m) (index_of (op_names m) e.op ∷ []) = record { request = Asks (results_of (outside e.op)); meant = (index_of (op_names m) e.op, [], op.0, refl, op.1, op.3) } in
+    body_covers (entry_of m at e long) (Some (index_of (op_names m) e.op)) asked start (entry_body_at at e) 0 e.body written p4.1 (all_front printable (stmts_marks 0 e.body) end inner.1)
 
 entries_cover : (m : ModuleTree) (es : List EntryTree) (start at : ℕ) → AllByRecursion (λ (e : EntryTree). AreStmts e.body) es → each_at entry_size (entry_faults (module_scope m)) at es ≡ [] → AreTokens (flat_map entry_marks es) →
     Covers (tree_types m) start (instructions_of (entry_parts m start es)) (map start_of (entry_parts m start es))
@@ -183,7 +190,7 @@ module_covers m written tokens clean =
     let inner = all_back printable entries body behind_vars in
     let here : 0 + length main.instructions ≡ length main.instructions = omega arith in
     both_cover (tree_types m) 0 (length main.instructions) main.instructions (instructions_of (entry_parts m (length main.instructions) m.entries)) (start_of main) (map start_of (entry_parts m (length main.instructions) m.entries)) here
-    (body_covers (main_of m) Outside 0 (body_at m) 0 m.body written.1 faults.1 (all_front printable (stmts_marks 0 m.body) end inner.1))
+    (body_covers (main_of m) None (record { request = Outside; meant = tt }) 0 (body_at m) 0 m.body written.1 faults.1 (all_front printable (stmts_marks 0 m.body) end inner.1))
     (entries_cover m m.entries (length main.instructions) (entries_at m) written.0 faults.0 (all_front printable entries body behind_vars))
 
 -- the shapes as a table
@@ -198,7 +205,7 @@ all_stand before (s ∷ each) =
     here [] = refl
     here (r ∷ ss) = here ss
 
-covers_shaped : (m : ModuleTypes) (is : List Instruction) (starts : List (ℕ × List TypeName)) → Covers m 0 is starts → IsShaped m starts is
+covers_shaped : (m : ModuleTypes) (is : List Instruction) (starts : List PartTypes) → Covers m 0 is starts → IsShaped m starts is
 covers_shaped m is starts w =
     let table = λ (at : ℕ). slice_get w.each at in
     let stand = all_stand [] w.each in (
@@ -206,7 +213,7 @@ covers_shaped m is starts w =
       record {
         code = w.obeys table stand;
         ends = λ at s here. subst (λ (n : ℕ). at < n) w.long (slice_get_within w.each at s here);
-        starts = λ i at locals here. w.begin table stand i at locals here;
+        starts = λ i p here. w.begin table stand i p here;
       },
     )
 
@@ -225,17 +232,36 @@ parts_kept [] [] h = refl
 parts_kept [] (k ∷ kept) h = absurd h
 parts_kept (p ∷ parts) [] h = absurd h
 parts_kept (p ∷ parts) (k ∷ kept) h =
-    let of_part : kept_part k ≡ start_of p = ap (λ (n : ℕ). (n, k.locals.items)) h.0.2 ∙ ap (λ (ts : List TypeName). (p.start, ts)) h.0.3 in
-    ap (λ (q : ℕ × List TypeName). q ∷ map kept_part kept) of_part ∙ ap (λ (qs : List (ℕ × List TypeName)). start_of p ∷ qs) (parts_kept parts kept h.1)
+    let of_part : kept_part k ≡ start_of p = ap (λ (n : ℕ). record { start = n; op = k.op; locals = k.locals.items }) h.0.2 ∙ ap (λ (o : Option ℕ). record { start = p.start; op = o; locals = k.locals.items }) h.0.1
+    ∙ ap (λ (ts : List TypeName). record { start = p.start; op = p.op; locals = ts }) h.0.3 in
+    ap (λ (q : PartTypes). q ∷ map kept_part kept) of_part ∙ ap (λ (qs : List PartTypes). start_of p ∷ qs) (parts_kept parts kept h.1)
+
+-- as many entries as parts behind the body
+entries_kept : (m : ModuleTree) (made : Code) → IsCodeOf m made → length made.parts.items - 1 ≡ length m.entries
+entries_kept m made is =
+    let size : suc (length (entry_parts m (length (main_part m).instructions) m.entries)) ≡ length made.parts.items = pairs_length IsPartOf (parts_of m) made.parts.items is.parts in
+    let all = entries_many m m.entries (length (main_part m).instructions) in
+    omega (arith, size, all)
+  where
+    pairs_length : {X Y : Type 0} (P : X → Y → Type 0) (xs : List X) (ys : List Y) → ArePairs P xs ys → length xs ≡ length ys
+    pairs_length P [] [] h = refl
+    pairs_length P [] (y ∷ ys) h = absurd h
+    pairs_length P (x ∷ xs) [] h = absurd h
+    pairs_length P (x ∷ xs) (y ∷ ys) h = let rest = pairs_length P xs ys h.1 in omega (arith, rest)
+
+    entries_many : (m : ModuleTree) (es : List EntryTree) (at : ℕ) → length (entry_parts m at es) ≡ length es
+    entries_many m [] at = refl
+    entries_many m (e ∷ es) at = let rest = entries_many m es (at + length (entry_part m at e).instructions) in omega (arith, rest)
 
 types_kept : (m : ModuleTree) (made : Code) → IsCodeOf m made → code_types made ≡ tree_types m
 types_kept m made is =
-    ap (λ (ts : List TypeName). record { globals = ts; ops = map kept_op made.ops.items }) is.globals
-    ∙ ap (λ (qs : List OpTypes). record { globals = map (λ v. v.kind) (variables m); ops = qs }) (ops_kept m.ops made.ops.items is.ops)
+    ap (λ (ts : List TypeName). record { globals = ts; ops = map kept_op made.ops.items; entries = length made.parts.items - 1 }) is.globals
+    ∙ ap (λ (qs : List OpTypes). record { globals = map (λ v. v.kind) (variables m); ops = qs; entries = length made.parts.items - 1 }) (ops_kept m.ops made.ops.items is.ops)
+    ∙ ap (λ (n : ℕ). record { globals = map (λ v. v.kind) (variables m); ops = map op_types m.ops; entries = n }) (entries_kept m made is)
 
 pub law : ModuleCodeIsShaped
 law m made written tokens typed is =
     let shaped = covers_shaped (tree_types m) (module_code m) (map start_of (parts_of m)) (module_covers m written tokens (no-faults (module_faults m) typed)) in
     let of_types = subst (λ (q : ModuleTypes). IsShaped q (map start_of (parts_of m)) (module_code m)) (sym (types_kept m made is)) shaped in
-    let of_parts = subst (λ (ps : List (ℕ × List TypeName)). IsShaped (code_types made) ps (module_code m)) (sym (parts_kept (parts_of m) made.parts.items is.parts)) of_types in
+    let of_parts = subst (λ (ps : List PartTypes). IsShaped (code_types made) ps (module_code m)) (sym (parts_kept (parts_of m) made.parts.items is.parts)) of_types in
     subst (λ (l : List Instruction). IsShaped (code_types made) (code_parts made) l) (sym is.instructions) of_parts

@@ -63,55 +63,55 @@ same-test name x pending is =
     ap (λ (text : List ℕ). bytes_eq (exception_text pending) text) is
     ∙ one-answer (exception_text pending ≡ name) (bytes_eq (exception_text pending) name) (bytes_eq name (exception_text pending)) (bytes_eq-Decides (exception_text pending) name) ((λ e. sym (turned.0 e)), (λ q. turned.1 (sym q)))
 
-module _ (b : Body) (tries : List Opened) (accepts n : ℕ) where
+module _ (b : Body) (tries : List Opened) (requests : List ℕ) (n : ℕ) where
   -- behind a stretch comes a jump
-  pub runs-jump : (t : Thread) (at behind : ℕ) (c : Course) → slice_get b.setting.program.instructions at ≡ Some (code.Jump behind) → Runs b tries accepts n t at c → Runs b tries accepts n t behind c
+  pub runs-jump : (t : Thread) (at behind : ℕ) (c : Course) → slice_get b.setting.program.instructions at ≡ Some (code.Jump behind) → Runs b tries requests n t at c → Runs b tries requests n t behind c
   runs-jump t at behind (course.Proceeds m) here r =
-      (r.0, r.1, reaches-on b.setting.program b.setting.is_entry t (thread at [] tries accepts r.1 m) _ r.2 (reaches-step b.setting.program b.setting.is_entry (thread at [] tries accepts r.1 m) (code.Jump behind) _ here refl))
+      (r.0, r.1, reaches-on b.setting.program t (thread at [] tries requests r.1 m) _ r.2 (reaches-step b.setting.program (thread at [] tries requests r.1 m) (code.Jump behind) _ here refl))
   runs-jump t at behind (course.Raises exception m) here r = r
   runs-jump t at behind (course.Over (Ended actions store)) here r = r
   runs-jump t at behind (course.Over (Waits actions store)) here r = r
   runs-jump t at behind (course.Over (Out actions)) here r = r
 
   by-case : (at next behind : ℕ) (x pending : Exception) (m : Moment) (met : Bool) (yes_course no_course : Course) → slice_get b.setting.program.instructions at ≡ Some (code.Case x next)
-      → step b.setting.program b.setting.is_entry (thread at [] tries accepts (Some pending) m) (code.Case x next) ≡ (if met then goes [] (thread at [] tries accepts (Some pending) m) else jumps next [] (thread at [] tries accepts (Some pending) m))
-      → (Fit b.tree (trace yes_course) b.answers → Runs b tries accepts n (thread (at + 1) [] tries accepts (Some pending) m) behind yes_course)
-      → (Fit b.tree (trace no_course) b.answers → Runs b tries accepts n (thread next [] tries accepts (Some pending) m) behind no_course)
-      → Fit b.tree (trace (if met then yes_course else no_course)) b.answers → Runs b tries accepts n (thread at [] tries accepts (Some pending) m) behind (if met then yes_course else no_course)
+      → step b.setting.program (thread at [] tries requests (Some pending) m) (code.Case x next) ≡ (if met then goes [] (thread at [] tries requests (Some pending) m) else jumps next [] (thread at [] tries requests (Some pending) m))
+      → (Fit b.tree (trace yes_course) b.answers → Runs b tries requests n (thread (at + 1) [] tries requests (Some pending) m) behind yes_course)
+      → (Fit b.tree (trace no_course) b.answers → Runs b tries requests n (thread next [] tries requests (Some pending) m) behind no_course)
+      → Fit b.tree (trace (if met then yes_course else no_course)) b.answers → Runs b tries requests n (thread at [] tries requests (Some pending) m) behind (if met then yes_course else no_course)
   by-case at next behind x pending m true yes_course no_course here steps first second fit =
-      runs-from b tries accepts n (thread at [] tries accepts (Some pending) m) (thread (at + 1) [] tries accepts (Some pending) m) behind yes_course (reaches-step b.setting.program b.setting.is_entry (thread at [] tries accepts (Some pending) m) (code.Case x next) _ here steps) (first fit)
+      runs-from b tries requests n (thread at [] tries requests (Some pending) m) (thread (at + 1) [] tries requests (Some pending) m) behind yes_course (reaches-step b.setting.program (thread at [] tries requests (Some pending) m) (code.Case x next) _ here steps) (first fit)
   by-case at next behind x pending m false yes_course no_course here steps first second fit =
-      runs-from b tries accepts n (thread at [] tries accepts (Some pending) m) (thread next [] tries accepts (Some pending) m) behind no_course (reaches-step b.setting.program b.setting.is_entry (thread at [] tries accepts (Some pending) m) (code.Case x next) _ here steps) (second fit)
+      runs-from b tries requests n (thread at [] tries requests (Some pending) m) (thread next [] tries requests (Some pending) m) behind no_course (reaches-step b.setting.program (thread at [] tries requests (Some pending) m) (code.Case x next) _ here steps) (second fit)
 
   -- one handler
   pub runs-case : (at next behind : ℕ) (name : List ℕ) (x pending : Exception) (m : Moment) (yes_course no_course : Course) → slice_get b.setting.program.instructions at ≡ Some (code.Case x next) → exception_text x ≡ name
-      → (Fit b.tree (trace yes_course) b.answers → Runs b tries accepts n (thread (at + 1) [] tries accepts (Some pending) m) behind yes_course)
-      → (Fit b.tree (trace no_course) b.answers → Runs b tries accepts n (thread next [] tries accepts (Some pending) m) behind no_course)
+      → (Fit b.tree (trace yes_course) b.answers → Runs b tries requests n (thread (at + 1) [] tries requests (Some pending) m) behind yes_course)
+      → (Fit b.tree (trace no_course) b.answers → Runs b tries requests n (thread next [] tries requests (Some pending) m) behind no_course)
       → Fit b.tree (trace (if bytes_eq name (exception_text pending) then yes_course else no_course)) b.answers
-      → Runs b tries accepts n (thread at [] tries accepts (Some pending) m) behind (if bytes_eq name (exception_text pending) then yes_course else no_course)
+      → Runs b tries requests n (thread at [] tries requests (Some pending) m) behind (if bytes_eq name (exception_text pending) then yes_course else no_course)
   runs-case at next behind name x pending m yes_course no_course here is first second fit =
       by-case at next behind x pending m (bytes_eq name (exception_text pending)) yes_course no_course here
-      (ap (λ (met : Bool). if met then goes [] (thread at [] tries accepts (Some pending) m) else jumps next [] (thread at [] tries accepts (Some pending) m)) (same-test name x pending is)) first second fit
+      (ap (λ (met : Bool). if met then goes [] (thread at [] tries requests (Some pending) m) else jumps next [] (thread at [] tries requests (Some pending) m)) (same-test name x pending is)) first second fit
 
   -- no handler is left
-  pub runs-again : AreNested accepts tries → (at behind : ℕ) (pending : Exception) (m : Moment) → IsSound b m → slice_get b.setting.program.instructions at ≡ Some code.Again → Runs b tries accepts n (thread at [] tries accepts (Some pending) m) behind (course.Raises pending m)
+  pub runs-again : AreNested (length requests) tries → (at behind : ℕ) (pending : Exception) (m : Moment) → IsSound b m → slice_get b.setting.program.instructions at ≡ Some code.Again → Runs b tries requests n (thread at [] tries requests (Some pending) m) behind (course.Raises pending m)
   runs-again nested at behind pending m sound here =
-      (sound, reaches-step b.setting.program b.setting.is_entry (thread at [] tries accepts (Some pending) m) code.Again _ here (raises-thrown b.setting.is_entry pending at [] tries accepts (Some pending) m nested))
+      (sound, reaches-step b.setting.program (thread at [] tries requests (Some pending) m) code.Again _ here (raises-thrown pending at [] tries requests (Some pending) m nested))
 
   abbrev pub opened : ℕ → Opened
-  opened first = record { handlers = first; height = 0; accepts = accepts }
+  opened first = record { handlers = first; height = 0; depth = length requests }
 
   -- the body of a try, and its handlers
   pub runs-caught : (t : Thread) (at first behind : ℕ) (c : Course) (handlers : Exception → Moment → Course) → slice_get b.setting.program.instructions at ≡ Some code.Untry → slice_get b.setting.program.instructions (at + 1) ≡ Some (code.Jump behind)
-      → Runs b (opened first ∷ tries) accepts n t at c
-      → ((pending : Exception) (m : Moment) → IsSound b m → Fit b.tree (trace (handlers pending m)) b.answers → Runs b tries accepts n (thread first [] tries accepts (Some pending) m) behind (handlers pending m))
-      → Fit b.tree (trace (catches c handlers)) b.answers → Runs b tries accepts n t behind (catches c handlers)
+      → Runs b (opened first ∷ tries) requests n t at c
+      → ((pending : Exception) (m : Moment) → IsSound b m → Fit b.tree (trace (handlers pending m)) b.answers → Runs b tries requests n (thread first [] tries requests (Some pending) m) behind (handlers pending m))
+      → Fit b.tree (trace (catches c handlers)) b.answers → Runs b tries requests n t behind (catches c handlers)
   runs-caught t at first behind (course.Proceeds m) handlers here next r on fit =
       runs-jump t (at + 1) behind (course.Proceeds m) next
-      (r.0, r.1, reaches-on b.setting.program b.setting.is_entry t (thread at [] (opened first ∷ tries) accepts r.1 m) _ r.2 (reaches-step b.setting.program b.setting.is_entry (thread at [] (opened first ∷ tries) accepts r.1 m) code.Untry _ here refl))
+      (r.0, r.1, reaches-on b.setting.program t (thread at [] (opened first ∷ tries) requests r.1 m) _ r.2 (reaches-step b.setting.program (thread at [] (opened first ∷ tries) requests r.1 m) code.Untry _ here refl))
   runs-caught t at first behind (course.Raises exception m) handlers here next r on fit =
-      runs-from b tries accepts n t (thread first [] tries accepts (Some exception) m) behind (handlers exception m)
-      (reaches-as b.setting.program b.setting.is_entry t _ _ (thrown-caught b.setting.is_entry exception first tries accepts m) r.1) (on exception m r.0 fit)
+      runs-from b tries requests n t (thread first [] tries requests (Some exception) m) behind (handlers exception m)
+      (reaches-as b.setting.program t _ _ (thrown-caught exception first tries requests m) r.1) (on exception m r.0 fit)
   runs-caught t at first behind (course.Over (Ended actions store)) handlers here next r on fit = r
   runs-caught t at first behind (course.Over (Waits actions store)) handlers here next r on fit = r
   runs-caught t at first behind (course.Over (Out actions)) handlers here next r on fit = r

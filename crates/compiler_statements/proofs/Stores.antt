@@ -32,7 +32,7 @@ kinds-after c (Global k) m t v kinds is of = record { of_globals = kinds-set c.g
 kinds-after c (Local k) m t v kinds is of = record { of_globals = kinds.of_globals; of_locals = kinds-set c.locals m.store.locals k t v kinds.of_locals is of }
 
 pub store-steps : (c : Setting) (a : Around) (slot : Slot) (t : TypeName) (at : ℕ) (stack : List Value) (v : Value) → HasKinds c a.moment.store → type_at c.globals c.locals slot ≡ Some t
-    → step c.program c.is_entry (stands a at (v ∷ stack)) (by_slot code.StoreG code.StoreL slot) ≡ Goes (thread (at + 1) stack a.tries a.accepts a.pending (record a.moment { store = with_value_at slot v a.moment.store }))
+    → step c.program (stands a at (v ∷ stack)) (by_slot code.StoreG code.StoreL slot) ≡ Goes (thread (at + 1) stack a.tries a.requests a.pending (record a.moment { store = with_value_at slot v a.moment.store }))
 store-steps c a (Global k) t at stack v kinds is =
     let u = stands a at (v ∷ stack) in
     let vs = a.moment.store.globals in
@@ -44,31 +44,31 @@ store-steps c a (Local k) t at stack v kinds is =
 
 -- ---- a member of a row
 
-row-stored : (e : Bool) (kind : machine.Kind) (k : ℕ) (n : ℤ) (r i v : Value) (stack : List Value) (t : Thread) → IsOf (types.Row n) r → IsOf types.Int i → IsOf types.Int v
-    → stores_member e kind k (Some r) (v ∷ i ∷ stack) t ≡ puts e kind k (with_member (row_of r) (int_of i) (int_of v)) stack t
-row-stored e kind k n r i v stack t h hi hv =
-    subst (λ (x : Value). stores_member e kind k (Some x) (v ∷ i ∷ stack) t ≡ puts e kind k (with_member (row_of x) (int_of i) (int_of v)) stack t) (sym (row-is n r h))
-    (subst₂ (λ (x y : Value). stores_member e kind k (Some (Row (row_of r))) (y ∷ x ∷ stack) t ≡ puts e kind k (with_member (row_of r) (int_of x) (int_of y)) stack t) (sym (int-is i hi)) (sym (int-is v hv)) refl)
+row-stored : (kind : machine.Kind) (k : ℕ) (n : ℤ) (r i v : Value) (stack : List Value) (t : Thread) → IsOf (types.Row n) r → IsOf types.Int i → IsOf types.Int v
+    → stores_member kind k (Some r) (v ∷ i ∷ stack) t ≡ puts kind k (with_member (row_of r) (int_of i) (int_of v)) stack t
+row-stored kind k n r i v stack t h hi hv =
+    subst (λ (x : Value). stores_member kind k (Some x) (v ∷ i ∷ stack) t ≡ puts kind k (with_member (row_of x) (int_of i) (int_of v)) stack t) (sym (row-is n r h))
+    (subst₂ (λ (x y : Value). stores_member kind k (Some (Row (row_of r))) (y ∷ x ∷ stack) t ≡ puts kind k (with_member (row_of r) (int_of x) (int_of y)) stack t) (sym (int-is i hi)) (sym (int-is v hv)) refl)
 
 -- what comes of it
-abbrev pub put : Bool → Slot → Result (List ℤ) Exception → List Value → Thread → Next
-put e (Global k) o stack t = puts e machine.Global k o stack t
-put e (Local k) o stack t = puts e machine.Local k o stack t
+abbrev pub put : Slot → Result (List ℤ) Exception → List Value → Thread → Next
+put (Global k) o stack t = puts machine.Global k o stack t
+put (Local k) o stack t = puts machine.Local k o stack t
 
 pub put-steps : (c : Setting) (a : Around) (slot : Slot) (n : ℤ) (at : ℕ) (stack : List Value) (i v : Value) → HasKinds c a.moment.store → type_at c.globals c.locals slot ≡ Some (types.Row n) → IsOf types.Int i → IsOf types.Int v
-    → step c.program c.is_entry (stands a at (v ∷ i ∷ stack)) (by_slot code.PutG code.PutL slot) ≡ put c.is_entry slot (with_member (row_of (value_at slot a.moment.store)) (int_of i) (int_of v)) stack (stands a at (v ∷ i ∷ stack))
+    → step c.program (stands a at (v ∷ i ∷ stack)) (by_slot code.PutG code.PutL slot) ≡ put slot (with_member (row_of (value_at slot a.moment.store)) (int_of i) (int_of v)) stack (stands a at (v ∷ i ∷ stack))
 put-steps c a (Global k) n at stack i v kinds is hi hv =
     let got = kinds-get c.globals a.moment.store.globals k (types.Row n) kinds.of_globals is in
-    ap (λ found. stores_member c.is_entry machine.Global k found (v ∷ i ∷ stack) (stands a at (v ∷ i ∷ stack))) got.0 ∙ row-stored c.is_entry machine.Global k n _ i v stack _ got.1 hi hv
+    ap (λ found. stores_member machine.Global k found (v ∷ i ∷ stack) (stands a at (v ∷ i ∷ stack))) got.0 ∙ row-stored machine.Global k n _ i v stack _ got.1 hi hv
 put-steps c a (Local k) n at stack i v kinds is hi hv =
     let got = kinds-get c.locals a.moment.store.locals k (types.Row n) kinds.of_locals is in
-    ap (λ found. stores_member c.is_entry machine.Local k found (v ∷ i ∷ stack) (stands a at (v ∷ i ∷ stack))) got.0 ∙ row-stored c.is_entry machine.Local k n _ i v stack _ got.1 hi hv
+    ap (λ found. stores_member machine.Local k found (v ∷ i ∷ stack) (stands a at (v ∷ i ∷ stack))) got.0 ∙ row-stored machine.Local k n _ i v stack _ got.1 hi hv
 
-pub put-goes : (c : Setting) (a : Around) (slot : Slot) (at : ℕ) (on stack : List Value) (row : List ℤ) → put c.is_entry slot (Ok row) stack (stands a at on) ≡ Goes (thread (at + 1) stack a.tries a.accepts a.pending (record a.moment { store = with_value_at slot (Row row) a.moment.store }))
+pub put-goes : (c : Setting) (a : Around) (slot : Slot) (at : ℕ) (on stack : List Value) (row : List ℤ) → put slot (Ok row) stack (stands a at on) ≡ Goes (thread (at + 1) stack a.tries a.requests a.pending (record a.moment { store = with_value_at slot (Row row) a.moment.store }))
 put-goes c a (Global k) at on stack row = refl
 put-goes c a (Local k) at on stack row = refl
 
-pub put-raises : (c : Setting) (a : Around) (slot : Slot) (at : ℕ) (on stack : List Value) (exception : Exception) → put c.is_entry slot (Err exception) stack (stands a at on) ≡ machine.raises c.is_entry exception (stands a at on)
+pub put-raises : (c : Setting) (a : Around) (slot : Slot) (at : ℕ) (on stack : List Value) (exception : Exception) → put slot (Err exception) stack (stands a at on) ≡ machine.raises exception (stands a at on)
 put-raises c a (Global k) at on stack exception = refl
 put-raises c a (Local k) at on stack exception = refl
 
@@ -118,23 +118,23 @@ module _ (b : Body) where
   assigned-sound name t v m is of sound = record { kinds = kinds-after b.setting (b.setting.names.slot name) m t v sound.kinds (b.setting.variable name t is) of; used = sound.used }
 
   -- values on the stack, which the variables get
-  pub stores-run : (tries : List Opened) (accepts at : ℕ) (pending : Option Exception) (xs : List (List ℕ)) (vs : List Value) (m : Moment) → ArePairs (MayStore b.setting) xs vs → StandAt b.setting.program.instructions at (map (store b.setting.names) xs) → IsSound b m
+  pub stores-run : (tries : List Opened) (requests : List ℕ) (at : ℕ) (pending : Option Exception) (xs : List (List ℕ)) (vs : List Value) (m : Moment) → ArePairs (MayStore b.setting) xs vs → StandAt b.setting.program.instructions at (map (store b.setting.names) xs) → IsSound b m
       → IsSound b (assigns_from_last b.setting.names xs vs m)
-      × Reaches b.setting.program b.setting.is_entry (thread at vs tries accepts pending m) (Goes (thread (at + length (map (store b.setting.names) xs)) [] tries accepts pending (assigns_from_last b.setting.names xs vs m)))
-  stores-run tries accepts at pending [] [] m fit has sound =
+      × Reaches b.setting.program (thread at vs tries requests pending m) (Goes (thread (at + length (map (store b.setting.names) xs)) [] tries requests pending (assigns_from_last b.setting.names xs vs m)))
+  stores-run tries requests at pending [] [] m fit has sound =
       let same : at ≡ at + 0 = omega arith in
-      (sound, subst (λ (n : ℕ). Reaches b.setting.program b.setting.is_entry (thread at [] tries accepts pending m) (Goes (thread n [] tries accepts pending m))) same (reaches-none b.setting.program b.setting.is_entry _))
-  stores-run tries accepts at pending [] (v ∷ vs) m fit has sound = absurd fit
-  stores-run tries accepts at pending (x ∷ xs) [] m fit has sound = absurd fit
-  stores-run tries accepts at pending (x ∷ xs) (v ∷ vs) m fit has sound =
+      (sound, subst (λ (n : ℕ). Reaches b.setting.program (thread at [] tries requests pending m) (Goes (thread n [] tries requests pending m))) same (reaches-none b.setting.program _))
+  stores-run tries requests at pending [] (v ∷ vs) m fit has sound = absurd fit
+  stores-run tries requests at pending (x ∷ xs) [] m fit has sound = absurd fit
+  stores-run tries requests at pending (x ∷ xs) (v ∷ vs) m fit has sound =
       let now = assigns b.setting.names x v m in
-      let a : Around = record { tries = tries; accepts = accepts; pending = pending; moment = m } in
+      let a : Around = record { tries = tries; requests = requests; pending = pending; moment = m } in
       let t = fit.0.0 in
-      let first = reaches-step b.setting.program b.setting.is_entry (thread at (v ∷ vs) tries accepts pending m) (store b.setting.names x) _ has.0
+      let first = reaches-step b.setting.program (thread at (v ∷ vs) tries requests pending m) (store b.setting.names x) _ has.0
       (store-steps b.setting a (b.setting.names.slot x) t at vs v sound.kinds (b.setting.variable x t fit.0.1)) in
-      let next = stores-run tries accepts (at + 1) pending xs vs now fit.1 has.1 (assigned-sound x t v m fit.0.1 fit.0.2 sound) in
+      let next = stores-run tries requests (at + 1) pending xs vs now fit.1 has.1 (assigned-sound x t v m fit.0.1 fit.0.2 sound) in
       let end : at + 1 + length (map (store b.setting.names) xs) ≡ at + length (map (store b.setting.names) (x ∷ xs)) = omega arith in (
         next.0,
-        subst (λ (n : ℕ). Reaches b.setting.program b.setting.is_entry (thread at (v ∷ vs) tries accepts pending m) (Goes (thread n [] tries accepts pending (assigns_from_last b.setting.names xs vs now)))) end
-            (reaches-on b.setting.program b.setting.is_entry _ (thread (at + 1) vs tries accepts pending now) _ first next.1),
+        subst (λ (n : ℕ). Reaches b.setting.program (thread at (v ∷ vs) tries requests pending m) (Goes (thread n [] tries requests pending (assigns_from_last b.setting.names xs vs now)))) end
+            (reaches-on b.setting.program _ (thread (at + 1) vs tries requests pending now) _ first next.1),
       )

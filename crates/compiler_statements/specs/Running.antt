@@ -56,14 +56,10 @@ pub record IsSound (b : Body) (m : Moment) : Type 0 where
 
 -- From this thread the code comes to what the course says: to this address; to what an exception does there; to an outcome; or beyond so
 -- many instructions, where a loop of the source would make a turn more than it may.
-abbrev pub Runs : Body → List Opened → ℕ → ℕ → Thread → ℕ → Course → Type 0
-Runs b tries accepts n t end (course.Proceeds m) =
-    IsSound b m × (pending : Option Exception)
-    × Reaches b.setting.program b.setting.is_entry t (Goes (thread end [] tries accepts pending m))
-Runs b tries accepts n t end (course.Raises exception m) =
-    IsSound b m × Reaches b.setting.program b.setting.is_entry t (thrown b.setting.is_entry tries accepts exception m)
-Runs b tries accepts n t end (course.Over (Ended actions store)) = ⊥
-Runs b tries accepts n t end (course.Over (Waits actions store)) =
-    Reaches b.setting.program b.setting.is_entry t (Over (Comes (Waits actions store)))
-Runs b tries accepts n t end (course.Over (Out actions)) =
-    (j : ℕ) × (n ≤ j) × (exec b.setting.program b.setting.is_entry j t ≡ Comes (Out actions))
+abbrev pub Runs : Body → List Opened → List ℕ → ℕ → Thread → ℕ → Course → Type 0
+Runs b tries requests n t end (course.Proceeds m) =
+    IsSound b m × (pending : Option Exception) × Reaches b.setting.program t (Goes (thread end [] tries requests pending m))
+Runs b tries requests n t end (course.Raises exception m) = IsSound b m × Reaches b.setting.program t (thrown tries requests exception m)
+Runs b tries requests n t end (course.Over (Ended actions store)) = ⊥
+Runs b tries requests n t end (course.Over (Waits actions store)) = Reaches b.setting.program t (Over (Comes (Waits actions store)))
+Runs b tries requests n t end (course.Over (Out actions)) = (j : ℕ) × (n ≤ j) × (exec b.setting.program j t ≡ Comes (Out actions))

@@ -2,7 +2,7 @@
 //! where the statement does. Definitions and lemmas alone.
 //!
 //! - `Runs` says this of a course and a thread: where the course goes on, so does the thread, at the address behind, with no operand and the
-//!   same open tries and accepts; where it raises, the thread comes to what that exception does there (`thrown`); where it waits, so does the
+//!   same open tries and requests; where it raises, the thread comes to what that exception does there (`thrown`); where it waits, so does the
 //!   code; and where a loop would make a turn more than n, the code is out after n instructions or more, with the same actions.
 //! - The number n stays the same through a statement, and a turn of a loop takes one off: its jump counts for one instruction. So the code
 //!   that is over within n instructions has no source that is out with loops of n turns.

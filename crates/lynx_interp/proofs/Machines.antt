@@ -1,24 +1,23 @@
 -- Machines at the start, with an outcome more, and with a thread more.
-use Rattle.std.proofs.Common.{arith, ◌≡◌, ℕ, ℤ, zero, suc, ◌+◌, List, [], ◌∷◌, ◌++◌, length, map, replicate, take, drop, pos, negsuc, Bool, IsTrue, Some, slice_get, option_map, refl, sym, ap, subst, ◌∙◌, true≢false, ◌≤◌, length-append}
+use Rattle.std.proofs.Common.{arith, ◌≡◌, ℕ, ℤ, zero, suc, ◌+◌, List, [], ◌∷◌, ◌++◌, length, map, replicate, take, drop, pos, negsuc, Bool, IsTrue, Some, slice_get, refl, sym, ap, subst, ◌∙◌, true≢false, ◌≤◌, length-append}
 use Rattle.std.proofs.lemmas.List.{length-replicate}
 use Rattle.std.specs.List.{AllByRecursion}
 use Rattle.std.specs.Prelude.{slice_index_or}
-use Rattle.std.proofs.lemmas.Option.{slice_get-map}
 use Rattle.lynx_tree.specs.declared.declaration.TypeName.{TypeName}
 use Rattle.lynx_tree.specs.declared.declaration.TypeName.TheVariants as types
 use Rattle.typing_rules.specs.Types.{has_length, is_length}
 use Rattle.lynx_code.specs.declared.code.Code.{Code}
 use Rattle.lynx_code.specs.declared.code.Part as kept
 use Rattle.lynx_meaning.specs.Values.{Value, HasType, Link, is_int, start_value, HaveTypes}
-use Rattle.code_shapes.specs.Shapes.{AreShapes, code_types, kept_part}
+use Rattle.code_shapes.specs.Shapes.{code_types, kept_part, ModuleTypes, PartTypes, code_parts, opened_by, types_of}
 use Rattle.lynx_meaning.specs.Courses.{Outcome}
 use Rattle.machine_turns.specs.Turns.{IsFree, at_start, given_to, spawned}
 use Rattle.machine_values.specs.declared.value.LinkRef.{LinkRef}
 use Rattle.machine_never_stuck.proofs.Pairs.{same_length}
-use Rattle.compiler_runnable.specs.Runnable.{HaveStarts, IsRunnable, Part, parameters, part_of}
+use Rattle.compiler_runnable.specs.Runnable.{HaveStarts, IsRunnable, parameters, IsEntryPart, arguments_of}
 use Rattle.machine_sound.specs.Sound.{FitsAction}
 use Rattle.machine_sound.proofs.Outside.{given_sound, spawned_sound, start_sound}
-use Rattle.lynx_interp.specs.Machines.{HasEntry, IsEntryFor, IsMachine, State, begin_of, start_globals, start_locals, state_of}
+use Rattle.lynx_interp.specs.Machines.{HasEntry, IsEntryFor, IsMachine, State, start_globals, start_locals, state_of}
 
 -- ---- variables at the start
 
@@ -77,26 +76,17 @@ params_fit kinds others n k is many =
     let first = length-replicate n types.Link in
     omega arith
 
-places_kept : (ks : List kept.Part) → map kept_part ks ≡ map begin_of (map part_of ks)
-places_kept [] = refl
-places_kept (k ∷ ks) = ap (λ (ps : List (ℕ × List TypeName)). kept_part k ∷ ps) (places_kept ks)
-
--- where a part begins, and the types of its variables
-part_place : (parts : List Part) (i : ℕ) (p : Part) → slice_get parts i ≡ Some p → slice_get (map begin_of parts) i ≡ Some (p.start, p.locals)
-part_place parts i p here = slice_get-map begin_of parts i ∙ ap (option_map begin_of) here
-
 pub start_machine : (code : Code) (links : List LinkRef) → IsRunnable code → length links ≡ code.params → IsMachine (state_of code (at_start (start_globals code.globals.items links)))
 start_machine code links is many =
-    let parts : List Part = map part_of code.parts.items in
-    let places : List (ℕ × List TypeName) = map begin_of parts in
-    let body = is.parts.body in
-    let at_first : (body.0.start, body.0.locals) ≡ (0, []) = ap (λ (n : ℕ). (n, body.0.locals)) body.2 ∙ ap (λ (ts : List TypeName). (0, ts)) body.3 in
     record {
-      sound = start_sound (code_types code) places code.instructions.items is.shaped.0 (start_globals code.globals.items links)
-          (subst (λ (ps : List (ℕ × List TypeName)). AreShapes (code_types code) ps code.instructions.items is.shaped.0) (places_kept code.parts.items) is.shaped.1)
-          (globals_typed code.globals.items is.params.0 code.params links is.params.1 many is.globals) (part_place parts 0 body.0 body.1 ∙ ap Some at_first);
+      sound = start_sound (code_types code) (code_parts code) code.instructions.items is.shaped.0 (start_globals code.globals.items links) is.shaped.1
+          (globals_typed code.globals.items is.params.0 code.params links is.params.1 many is.globals) is.parts.body;
       parts = is.parts;
     }
+
+-- the parameters of an entry have the types of its operation's arguments
+parameters_of : (m : ModuleTypes) (p : PartTypes) (is : IsEntryPart m p) → parameters m p ≡ is.of_op.arguments
+parameters_of m p is = ap (arguments_of m) is.serves ∙ ap (types_of (λ o. o.arguments)) is.there
 
 -- ---- what the process does
 
@@ -106,7 +96,8 @@ has_entry s entry values is for =
     let p = for.0 in
     let size : entry + 1 ≡ suc entry = omega arith in
     let of_entry = is.parts.entries entry p (ap (slice_get s.parts) (sym size) ∙ for.1) in
-    let long = ap length of_entry.1 ∙ length-append (parameters s.types p) of_entry.0 in
+    let long = ap length of_entry.locals ∙ length-append of_entry.of_op.arguments of_entry.others in
+    let parameters_long = ap length (parameters_of s.types p of_entry) in
     let same = same_length (parameters s.types p) values for.2 in
     (p, for.1, omega arith, is.parts.starts (entry + 1) p for.1)
 
@@ -123,24 +114,24 @@ rest_start (t ∷ ts) zero zero have = tt
 rest_start (t ∷ ts) zero (suc n) have = (have.0, rest_start ts zero n have.1)
 
 -- a part at its place
-part_at : (ps : List kept.Part) (n : ℕ) (d : kept.Part) (p : Part) → slice_get (map part_of ps) n ≡ Some p → part_of (slice_index_or ps n d) ≡ p
+part_at : (ps : List kept.Part) (n : ℕ) (d : kept.Part) (p : PartTypes) → slice_get (map kept_part ps) n ≡ Some p → kept_part (slice_index_or ps n d) ≡ p
 part_at [] n d p here = cc
 part_at (q ∷ ps) zero d p here = cc
 part_at (q ∷ ps) (suc n) d p here = part_at ps n d p here
 
-pub part_there : (ps : List kept.Part) (n i : ℕ) (d : kept.Part) (p : Part) → i ≡ n → d ≡ slice_index_or ps i d → slice_get (map part_of ps) n ≡ Some p → part_of d ≡ p
-part_there ps n i d p same found here = ap part_of (found ∙ ap (λ (k : ℕ). slice_index_or ps k d) same) ∙ part_at ps n d p here
+pub part_there : (ps : List kept.Part) (n i : ℕ) (d : kept.Part) (p : PartTypes) → i ≡ n → d ≡ slice_index_or ps i d → slice_get (map kept_part ps) n ≡ Some p → kept_part d ≡ p
+part_there ps n i d p same found here = ap kept_part (found ∙ ap (λ (k : ℕ). slice_index_or ps k d) same) ∙ part_at ps n d p here
 
 pub given_machine : (s : State) (n : ℕ) (outcome : Outcome) → IsMachine s → FitsAction s.types n outcome s.turns → IsMachine (record s { turns = given_to n outcome s.turns })
-given_machine s n outcome is fits = record { sound = given_sound s.types (map begin_of s.parts) s.instructions s.turns n outcome is.sound fits; parts = is.parts }
+given_machine s n outcome is fits = record { sound = given_sound s.types s.parts s.instructions s.turns n outcome is.sound fits; parts = is.parts }
 
-pub spawned_machine : (s : State) (n entry : ℕ) (values : List Value) (p : Part) → IsMachine s → IsFree n s.turns → slice_get s.parts (entry + 1) ≡ Some p → HaveTypes (parameters s.types p) values →
-    IsMachine (record s { turns = spawned n p.start (start_locals p.locals values) s.turns })
+pub spawned_machine : (s : State) (n entry : ℕ) (values : List Value) (p : PartTypes) → IsMachine s → IsFree n s.turns → slice_get s.parts (entry + 1) ≡ Some p → HaveTypes (parameters s.types p) values →
+    IsMachine (record s { turns = spawned n (opened_by p.op) p.start (start_locals p.locals values) s.turns })
 spawned_machine s n entry values p is free here typed =
     let size : entry + 1 ≡ suc entry = omega arith in
     let of_entry = is.parts.entries entry p (ap (slice_get s.parts) (sym size) ∙ here) in
     record {
-      sound = spawned_sound s.types (map begin_of s.parts) s.instructions s.turns n (entry + 1) p.start p.locals (start_locals p.locals values) is.sound free (part_place s.parts (entry + 1) p here)
-          (locals_typed p.locals (parameters s.types p) of_entry.0 values of_entry.1 typed (is.parts.starts (entry + 1) p here));
+      sound = spawned_sound s.types s.parts s.instructions s.turns n (entry + 1) p (start_locals p.locals values) is.sound free here
+          (locals_typed p.locals of_entry.of_op.arguments of_entry.others values of_entry.locals (subst (λ (ts : List TypeName). HaveTypes ts values) (parameters_of s.types p of_entry) typed) (is.parts.starts (entry + 1) p here));
       parts = is.parts;
     }

@@ -8,11 +8,11 @@ use Rattle.lynx_code.specs.declared.code.CodeOp.{CodeOp}
 use Rattle.lynx_code.specs.declared.code.Part as kept
 use Rattle.lynx_meaning.specs.Values.{HasType, HaveTypes}
 use Rattle.lynx_meaning.specs.Values as meaning
-use Rattle.code_shapes.specs.Shapes.{code_types, kept_op}
+use Rattle.code_shapes.specs.Shapes.{code_types, kept_op, kept_part}
 use Rattle.lynx_meaning.specs.Needs.{OpTypes, types_of}
 use Rattle.machine_values.specs.Told.{value_of, values_of}
 use Rattle.machine_values.specs.declared.value.Value.{Value}
-use Rattle.compiler_runnable.specs.Runnable.{arguments_of, part_of}
+use Rattle.compiler_runnable.specs.Runnable.{arguments_of}
 use Rattle.lynx_interp.specs.Machines.{IsEntryFor, State, state_of}
 
 -- what is found at a place
@@ -34,8 +34,8 @@ pub entry_for : (s : State) (code : Code) (entry : ℕ) (k : kept.Part) (n : ℕ
     slice_get code.ops.items n ≡ Some op → HaveTypes op.arguments.items vs → IsEntryFor entry vs s
 entry_for s code entry k n op vs same here serves there typed =
     subst (λ (m : State). IsEntryFor entry vs m) (sym same) (
-      part_of k,
-      slice_get-map part_of code.parts.items (entry + 1) ∙ ap (option_map part_of) here,
+      kept_part k,
+      slice_get-code_parts code (entry + 1) ∙ ap (option_map kept_part) here,
       subst (λ (o : Option ℕ). HaveTypes (arguments_of (code_types code) o) vs) (sym serves) (typed_of (λ o. o.arguments) code.ops.items n op vs there typed),
     )
 

@@ -1,29 +1,31 @@
 -- A round of a machine, from what its functions tell.
-use Rattle.std.proofs.Common.{◌≡◌, ℕ, suc, ◌+◌, Option, Some, None, option_map, map, slice_get, refl, sym, ap, subst, ◌∙◌}
+use Rattle.machine_sound.proofs.Stopping.{run_stopped}
+use Rattle.machine_sound.proofs.Ending.{run_is}
+use Rattle.std.proofs.Common.{◌≡◌, ℕ, suc, ◌+◌, Option, Some, None, length, option_map, slice_get, refl, sym, ap, subst, ◌∙◌, ◌≤◌}
 use Rattle.std.proofs.lemmas.Option.{slice_get_within}
 use Rattle.lynx_meaning.specs.Code.{Program}
 use Rattle.code_shapes.specs.Shapes.{program}
 use Rattle.machine_turns.specs.Threads.{Standing, Made, course}
-use Rattle.machine_turns.specs.Turns.{Act, Beat, Turns, RunsOn, Runs, Stops, beats, comes, stands, with_thread}
+use Rattle.machine_turns.specs.Turns.{Act, Beat, Turns, RunsOn, Stops, beats, comes, most_threads, run, stands, with_thread}
 use Rattle.machine_thread.specs.Told.{action_of, told}
 use Rattle.machine_thread.specs.declared.action.Action.{Action}
 use Rattle.machine_thread.specs.declared.action.Move.{Move}
-use Rattle.machine_sound.specs.Sound.{AreSound, StayBlocked}
+use Rattle.machine_sound.specs.Sound.{AreSound, StayBlocked, IsStopped}
 use Rattle.machine_sound.specs.Taken.{takes_turn}
 use Rattle.machine_sound.proofs.Outside.{taken_sound}
 use Rattle.machine_sound.proofs.Placing.{get_set}
 use Rattle.machine_sound.proofs.Rounds as rounds
-use Rattle.lynx_interp.specs.Machines.{IsMachine, State, begin_of}
+use Rattle.lynx_interp.specs.Machines.{IsMachine, State}
 use Rattle.lynx_interp.specs.Runs.{CanGoOn, Comes, IsAsked, IsRound, IsTurn, MayGoOn, Settles, StopsAt, after_turn, stop_of}
 use Rattle.lynx_interp.specs.declared.stop.Stop.{Stop}
 use Rattle.lynx_interp.specs.declared.stop.Stop.TheVariants as stop
 
 -- all threads are sound where the round led to this
 abbrev pub round_of : ℕ → State → Beat → Type 0
-round_of fuel before b = rounds.IsRound before.types (map begin_of before.parts) before.instructions fuel before.turns b
+round_of fuel before b = rounds.IsRound before.types before.parts before.instructions fuel before.turns b
 
 -- the same machine with other turns
-with_turns : (before now : State) → now ≡ record before { turns = now.turns } → IsMachine before → AreSound before.types (map begin_of before.parts) before.instructions now.turns → IsMachine now
+with_turns : (before now : State) → now ≡ record before { turns = now.turns } → IsMachine before → AreSound before.types before.parts before.instructions now.turns → IsMachine now
 with_turns before now same is sound = subst (λ (s : State). IsMachine s) (sym same) (record { sound = sound; parts = is.parts })
 
 told_round : (fuel left n : ℕ) (before now : State) (action : Option Action) → IsMachine before → now ≡ record before { turns = now.turns } → round_of fuel before (after_turn left n action now.turns) →
@@ -60,9 +62,9 @@ stopped_round fuel before stop is at = record {
 pub taken_goes : (n : ℕ) (before taken : State) → IsMachine before → taken ≡ record before { turns = takes_turn before.turns } → taken.turns.running ≡ Some n → CanGoOn n taken
 taken_goes n before taken is takes runs =
     let first : State = record before { turns = takes_turn before.turns } in
-    let sound = taken_sound before.types (map begin_of before.parts) before.instructions before.turns is.sound in
+    let sound = taken_sound before.types before.parts before.instructions before.turns is.sound in
     subst (λ (s : State). CanGoOn n s) (sym takes)
-    (rounds.can_go_on before.types (map begin_of before.parts) before.instructions first.turns n sound (ap (λ (s : State). s.turns.running) (sym takes) ∙ runs))
+    (rounds.can_go_on before.types before.parts before.instructions first.turns n sound (ap (λ (s : State). s.turns.running) (sym takes) ∙ runs))
 
 -- after its turn it stands
 pub gone_stands : (n fuel left : ℕ) (taken gone : State) (made : Move) → IsTurn n fuel taken gone made left → (s : Standing) × (slice_get gone.turns.threads n ≡ Some (Some s))
@@ -95,29 +97,31 @@ module _ (fuel left n : ℕ) (before taken gone now : State) (made : Move) (acti
       let made_beat : after_turn left n action now.turns ≡ comes left n first last =
       settles.1 left t there
       ∙ ap (λ (u : Turns). comes left n u last) gone_turns
-      ∙ rounds.comes_there before.types (map begin_of before.parts) before.instructions left n first gone.turns.globals t last runs_first in
+      ∙ rounds.comes_there before.types before.parts before.instructions left n first gone.turns.globals t last runs_first in
       told_round fuel left n before now action is same_machine
-      (rounds.round before.types (map begin_of before.parts) before.instructions fuel left before.turns n j s last (after_turn left n action now.turns) is.sound may.stands may.fueled runs_first here ran made_beat)
+      (rounds.round before.types before.parts before.instructions fuel left before.turns n j s last (after_turn left n action now.turns) is.sound may.stands may.fueled runs_first here ran made_beat)
 
 -- ---- a run
 
 -- rounds of a run led here
 pub record IsSoFar (fuel : ℕ) (start : State) (left : ℕ) (now : State) : Type 0 where
   pub come : Comes (program start.types start.instructions) fuel start.turns (RunsOn left now.turns)
+  pub many : length start.turns.threads ≡ most_threads
   pub blocked : StayBlocked start.turns now.turns
   pub machine : IsMachine now
   pub same : now ≡ record start { turns = now.turns }
 
 pub at_first : (fuel : ℕ) (start : State) → IsMachine start → IsSoFar fuel start fuel start
-at_first fuel start is = record { come = (0, refl); blocked = λ n s there blocked. there; machine = is; same = refl }
+at_first fuel start is = record { come = (0, refl); many = is.sound.many; blocked = λ n s there blocked. there; machine = is; same = refl }
 
 -- what a run tells where it stops
 pub record IsOver (fuel : ℕ) (start : State) (over : Stop) (left : ℕ) (now : State) : Type 0 where
-  pub runs : Runs (program start.types start.instructions) fuel start.turns (stop_of over) left now.turns
+  pub runs : run (program start.types start.instructions) fuel start.turns ≡ Stops (stop_of over) left now.turns
   pub asked : IsAsked over now.turns
   pub blocked : StayBlocked start.turns now.turns
   pub machine : IsMachine now
   pub same : now ≡ record start { turns = now.turns }
+  pub stopped : IsStopped (stop_of over) left now.turns × (left ≤ fuel)
 
 module _ (fuel left rest : ℕ) (start before now : State) (far : IsSoFar fuel start left before) where
   -- the round was one of the same code
@@ -133,6 +137,7 @@ module _ (fuel left rest : ℕ) (start before now : State) (far : IsSoFar fuel s
   pub goes_far : IsRound left before None rest now → IsSoFar fuel start rest now
   goes_far round = record {
     come = more (RunsOn rest now.turns) round.come;
+    many = far.many;
     blocked = λ n s there blocked. round.blocked n s (far.blocked n s there blocked) blocked;
     machine = round.machine;
     same = same_code round.same;
@@ -142,9 +147,10 @@ module _ (fuel left rest : ℕ) (start before now : State) (far : IsSoFar fuel s
   goes_over over round =
       let come = more (Stops (stop_of over) rest now.turns) round.come in
       record {
-        runs = record { beats_made = come.0; stopped = come.1 };
+        runs = run_is (program start.types start.instructions) fuel come.0 start.turns (stop_of over) rest now.turns far.many come.1;
         asked = round.asked;
         blocked = λ n s there blocked. round.blocked n s (far.blocked n s there blocked) blocked;
         machine = round.machine;
         same = same_code round.same;
+        stopped = run_stopped (program start.types start.instructions) fuel start.turns come.0 (stop_of over) rest now.turns round.machine.sound.placed come.1;
       }

@@ -4,11 +4,11 @@ use Rattle.lynx_code.specs.declared.code.Code.{Code}
 use Rattle.lynx_code.specs.declared.instruction.Instruction.{Instruction}
 use Rattle.lynx_meaning.specs.Values.{Value, Link, start_value, HaveTypes}
 use Rattle.lynx_tree.specs.declared.declaration.TypeName.{TypeName}
-use Rattle.code_shapes.specs.Shapes.{ModuleTypes, code_types}
+use Rattle.code_shapes.specs.Shapes.{ModuleTypes, code_types, PartTypes, code_parts, opened_by}
 use Rattle.machine_turns.specs.Threads.{Standing}
 use Rattle.machine_turns.specs.Turns.{Turns, IsFree, spawned}
 use Rattle.machine_values.specs.declared.value.LinkRef.{LinkRef}
-use Rattle.compiler_runnable.specs.Runnable.{AreParts, HaveStarts, Part, parameters, part_of}
+use Rattle.compiler_runnable.specs.Runnable.{AreParts, HaveStarts, parameters}
 use Rattle.machine_sound.specs.Sound.{AreSound}
 
 -- ---- what a machine is
@@ -19,11 +19,8 @@ pub record State : Type 0 where
   pub instructions : List Instruction
   pub types : ModuleTypes
   -- the body, and then the entries
-  pub parts : List Part
+  pub parts : List PartTypes
   pub turns : Turns
-
-abbrev pub begin_of : Part → ℕ × List TypeName
-begin_of p = (p.start, p.locals)
 
 -- the machine of this code, with these turns
 abbrev pub state_of : Code → Turns → State
@@ -32,7 +29,7 @@ state_of code turns =
       code = code;
       instructions = code.instructions.items;
       types = code_types code;
-      parts = map part_of code.parts.items;
+      parts = code_parts code;
       turns = turns;
     }
 
@@ -45,7 +42,7 @@ how_many (None ∷ os) = how_many os
 -- ---- what holds of each machine
 
 pub record IsMachine (s : State) : Type 0 where
-  pub sound : AreSound s.types (map begin_of s.parts) s.instructions s.turns
+  pub sound : AreSound s.types s.parts s.instructions s.turns
   pub parts : AreParts s.types s.parts
 
 -- ---- the start
@@ -64,15 +61,16 @@ StandBelow n t = (k : ℕ) → k < n → (s : Standing) × (slice_get t.threads 
 
 -- there is this entry, and these values are for its parameters
 abbrev pub IsEntryFor : ℕ → List Value → State → Type 0
-IsEntryFor entry values s = (p : Part) × (slice_get s.parts (entry + 1) ≡ Some p) × HaveTypes (parameters s.types p) values
+IsEntryFor entry values s = (p : PartTypes) × (slice_get s.parts (entry + 1) ≡ Some p) × HaveTypes (parameters s.types p) values
 
 -- there is this entry, with a variable for each of these values
 abbrev pub HasEntry : ℕ → List Value → State → Type 0
-HasEntry entry values s = (p : Part) × (slice_get s.parts (entry + 1) ≡ Some p) × (length values ≤ length p.locals) × HaveStarts p.locals
+HasEntry entry values s =
+    (p : PartTypes) × (slice_get s.parts (entry + 1) ≡ Some p) × (length values ≤ length p.locals) × HaveStarts p.locals
 
--- a thread of the entry begins under a free number
+-- a thread of the entry begins under a free number, with one open request, of the operation that the entry serves
 abbrev pub IsSpawned : ℕ → ℕ → List Value → State → State → Type 0
 IsSpawned n entry values before after =
     IsFree n before.turns
-    × ((p : Part) → slice_get before.parts (entry + 1) ≡ Some p
-    → after ≡ record before { turns = spawned n p.start (start_locals p.locals values) before.turns })
+    × ((p : PartTypes) → slice_get before.parts (entry + 1) ≡ Some p
+    → after ≡ record before { turns = spawned n (opened_by p.op) p.start (start_locals p.locals values) before.turns })

@@ -99,10 +99,11 @@ impl Machine {
 
 // The thread of the module's body, and no other.
 fn body_alone(alloc: Global) -> Result<Vec<Option<Thread>>, NoMemory>
-    ensures { IfOk result (λ threads. threads.items ≡ Some (begun false 0 []) ∷ replicate (most_threads - 1) None) }
+    ensures { IfOk result (λ threads. threads.items ≡ Some (begun [] 0 []) ∷ replicate (most_threads - 1) None) }
 {
     let mut threads = Vec::with_capacity(alloc, MOST_THREADS)?;
-    threads.push(Some(Thread::new(alloc, false, 0, Variables::new(alloc))))?;
+    let body = Thread::new(alloc, None, 0, Variables::new(alloc))?;
+    threads.push(Some(body))?;
     for _ in 0..MOST_THREADS - 1 {
         threads.push(None)?;
     }

@@ -4,9 +4,9 @@ ghost use Rattle.std.specs.Prelude.{◌≡◌, ◌+◌, ◌↔◌, [], ◌∷◌
 ghost use Rattle.machine_turns.specs.Threads.{Standing, begun};
 ghost use Rattle.machine_turns.specs.Turns.{IsFree, given_to, is_ready_after, spawned, with_thread, most_threads};
 ghost use Rattle.machine_values.specs.Told.{values_of};
-ghost use Rattle.machine_sound.specs.Sound.{FitsAction};
+ghost use Rattle.machine_sound.specs.Sound.{FitsAction, StayOthers};
 ghost use Rattle.machine_thread.specs.Told.{outcome_of};
-ghost use Rattle.compiler_runnable.specs.Runnable.{Part};
+ghost use Rattle.code_shapes.specs.Shapes.{PartTypes, opened_by};
 ghost use Rattle.lynx_interp.specs.Machines.{HasEntry, IsEntryFor, IsMachine, IsSpawned, StandBelow, how_many, start_locals};
 
 use crate::machine::Machine;
@@ -22,6 +22,7 @@ impl Machine {
         requires machine { IsMachine self.old }
         requires fits { FitsAction self.old.types thread (outcome_of outcome) self.old.turns }
         ensures given { OnOk result (self.new ≡ record self.old { turns = given_to thread (outcome_of outcome) self.old.turns }) }
+        ensures others { OnOk result (StayOthers thread self.old.turns self.new.turns) }
         ensures machine { OnOk result (IsMachine self.new) }
     {
         self.gives(thread, outcome)
@@ -35,6 +36,7 @@ impl Machine {
         ensures full { IfOk result (λ number. IsNone number ↔ (how_many self.old.turns.threads ≡ most_threads)) }
         ensures spawned { IfOk result (λ number. IfSome number (λ n. IsSpawned n entry (values_of values.items) self.old self.new)) }
         ensures first { IfOk result (λ number. IfSome number (λ n. StandBelow n self.old.turns)) }
+        ensures others { IfOk result (λ number. IfSome number (λ n. StayOthers n self.old.turns self.new.turns)) }
         ensures none { IfOk result (λ number. IfNone number (self.new ≡ self.old)) }
         ensures unchanged { OnErr result (self.new ≡ self.old) }
         ensures machine { OnOk result (IsMachine self.new) }
@@ -61,7 +63,7 @@ impl Machine {
     fn begins(&mut self, number: u8, entry: u16, values: Vec<Value>) -> Result<(), NoMemory>
         requires free { IsFree number self.old.turns }
         requires entry { HasEntry entry (values_of values.items) self.old }
-        ensures begun { OnOk result ((p : Part) → slice_get self.old.parts (entry + 1) ≡ Some p → self.new ≡ record self.old { turns = spawned number p.start (start_locals p.locals (values_of values.items)) self.old.turns }) }
+        ensures begun { OnOk result ((p : PartTypes) → slice_get self.old.parts (entry + 1) ≡ Some p → self.new ≡ record self.old { turns = spawned number (opened_by p.op) p.start (start_locals p.locals (values_of values.items)) self.old.turns }) }
         ensures unchanged { OnErr result (self.new ≡ self.old) }
     {
         let thread = self.new_thread(entry, values)?;
@@ -87,11 +89,11 @@ impl Machine {
     // The thread of an entry before its first instruction.
     fn new_thread(&self, entry: u16, values: Vec<Value>) -> Result<Thread, NoMemory>
         requires { HasEntry entry (values_of values.items) self.now }
-        ensures { IfOk result (λ thread. (p : Part) → slice_get self.now.parts (entry + 1) ≡ Some p → thread ≡ begun true p.start (start_locals p.locals (values_of values.items))) }
+        ensures { IfOk result (λ thread. (p : PartTypes) → slice_get self.now.parts (entry + 1) ≡ Some p → thread ≡ begun (opened_by p.op) p.start (start_locals p.locals (values_of values.items))) }
     {
         let part = &self.code.parts[usize::from(entry) + 1];
         let locals = entry_variables(self.alloc, &part.locals, values)?;
-        Ok(Thread::new(self.alloc, true, part.start, locals))
+        Thread::new(self.alloc, part.op, part.start, locals)
     }
 
     // A thread has an outcome. Tells whether it connected or accepted.

@@ -50,7 +50,7 @@ source part given n = source_meaning part n (start_store part given.globals give
 -- the code from this address on, with at most n instructions
 abbrev pub target : ModuleTree → PartTree → ℕ → Start → ℕ → CodeBehaviour
 target m part start given n =
-    code_meaning (program_of m) part.is_entry start n (start_store part given.globals given.arguments) given.answers
+    code_meaning (program_of m) part.requests start n (start_store part given.globals given.arguments) given.answers
 
 -- the variables of the module and the parameters have their types, and the answers fit
 pub record IsFitting (m : ModuleTree) (part : PartTree) (given : Start) : Type 0 where

@@ -17,11 +17,11 @@ use Rattle.lynx_meaning.specs.Values.{divide, reduce, negate, truth_eq, value_eq
 
 -- ---- threads
 
--- an open try: where its handlers begin, and how high the stack stood and how many accepts were open as it was opened
+-- an open try: where its handlers begin, and how high the stack stood and how many requests were open as it was opened
 pub record Opened : Type 0 where
   pub handlers : ℕ
   pub height : ℕ
-  pub accepts : ℕ
+  pub depth : ℕ
 
 -- a thread before an instruction
 pub record Thread : Type 0 where
@@ -30,8 +30,8 @@ pub record Thread : Type 0 where
   pub stack : List Value
   -- the open tries, the innermost one first
   pub tries : List Opened
-  -- how many accepts are open
-  pub accepts : ℕ
+  -- the operations of the open requests, the innermost one first
+  pub requests : List ℕ
   -- the exception that handlers look at
   pub pending : Option Exception
   pub moment : Moment
@@ -70,41 +70,41 @@ with_outcome m action next = takes_outcome m action m.answers next
 
 -- ---- the end, and exceptions
 
--- a thread ends; one of an entry closes its own request, and what that is given changes nothing
-abbrev pub ends : Bool → Moment → Next
-ends true m = with_outcome m Close (λ given now. Over (Comes (Ended now.actions now.store)))
-ends false m = Over (Comes (Ended m.actions m.store))
+-- each open request is closed, the innermost one first, and then the thread ends; what the closes are given changes nothing
+abbrev pub ends : List ℕ → Moment → Next
+ends [] m = Over (Comes (Ended m.actions m.store))
+ends (op ∷ requests) m = with_outcome m Close (λ given now. ends requests now)
 
 -- one that an action raises takes the place of one that is under way
 abbrev pub instead : Outcome → Exception → Exception
 instead (Ok vs) exception = exception
 instead (Err other) exception = other
 
--- so many accepts are closed, while an exception is under way
+-- so many requests are closed, while an exception is under way
 abbrev pub closes : ℕ → Exception → Moment → (Exception → Moment → Next) → Next
 closes zero exception m next = next exception m
 closes (suc k) exception m next = with_outcome m Close (λ given now. closes k (instead given exception) now next)
 
--- the lowest operands of a stack
-abbrev pub cut : ℕ → List Value → List Value
+-- the lowest ones of a stack
+abbrev pub cut : {X : Type 0} → ℕ → List X → List X
 cut height stack = drop (length stack - height) stack
 
 -- an exception goes to the handlers of the innermost open try, which is then closed; where none is open, the thread ends
-abbrev pub raises_in : Bool → Exception → Thread → List Opened → Next
-raises_in is_entry exception t [] = closes t.accepts exception t.moment (λ other now. ends is_entry now)
-raises_in is_entry exception t (o ∷ os) =
-    closes (t.accepts - o.accepts) exception t.moment
+abbrev pub raises_in : Exception → Thread → List Opened → Next
+raises_in exception t [] = ends t.requests t.moment
+raises_in exception t (o ∷ os) =
+    closes (length t.requests - o.depth) exception t.moment
     (λ other now. Goes (record {
       address = o.handlers;
       stack = cut o.height t.stack;
       tries = os;
-      accepts = o.accepts;
+      requests = cut o.depth t.requests;
       pending = Some other;
       moment = now;
     }))
 
-abbrev pub raises : Bool → Exception → Thread → Next
-raises is_entry exception t = raises_in is_entry exception t t.tries
+abbrev pub raises : Exception → Thread → Next
+raises exception t = raises_in exception t t.tries
 
 -- ---- going on
 
@@ -116,19 +116,18 @@ abbrev pub goes : List Value → Thread → Next
 goes stack t = jumps (t.address + 1) stack t
 
 -- with what an operator gives on this stack, or the exception that it raises
-abbrev pub gives : Bool → Given → List Value → Thread → Next
-gives is_entry (Ok v) stack t = goes (v ∷ stack) t
-gives is_entry (Err exception) stack t = raises is_entry exception t
+abbrev pub gives : Given → List Value → Thread → Next
+gives (Ok v) stack t = goes (v ∷ stack) t
+gives (Err exception) stack t = raises exception t
 
 -- the values that an action is given come on the stack in their order; the thread may change besides
-abbrev pub answered : Bool → Outcome → (Thread → Thread) → Thread → Next
-answered is_entry (Ok vs) change t = goes (reverse vs ++ t.stack) (change t)
-answered is_entry (Err exception) change t = raises is_entry exception t
+abbrev pub answered : Outcome → (Thread → Thread) → Thread → Next
+answered (Ok vs) change t = goes (reverse vs ++ t.stack) (change t)
+answered (Err exception) change t = raises exception t
 
 -- an action, for which operands were taken from the stack
-abbrev pub asks : Bool → Action → List Value → Thread → (Thread → Thread) → Next
-asks is_entry action stack t change =
-    with_outcome t.moment action (λ given now. answered is_entry given change (record t { moment = now; stack = stack }))
+abbrev pub asks : Action → List Value → Thread → (Thread → Thread) → Next
+asks action stack t change = with_outcome t.moment action (λ given now. answered given change (record t { moment = now; stack = stack }))
 
 -- ---- variables
 
@@ -155,23 +154,23 @@ stores kind slot (v ∷ stack) t =
     if nat_lt slot (length (variables kind t)) then goes stack (with_variables kind (slice_set (variables kind t) slot v) t) else stuck
 
 -- a member of a row
-abbrev pub loads_member : Bool → Option Value → List Value → Thread → Next
-loads_member is_entry (Some (Row row)) (Int index ∷ stack) t = gives is_entry (member row index) stack t
-loads_member is_entry _ _ t = stuck
+abbrev pub loads_member : Option Value → List Value → Thread → Next
+loads_member (Some (Row row)) (Int index ∷ stack) t = gives (member row index) stack t
+loads_member _ _ t = stuck
 
-abbrev pub puts : Bool → Kind → ℕ → Result (List ℤ) Exception → List Value → Thread → Next
-puts is_entry kind slot (Ok row) stack t = goes stack (with_variables kind (slice_set (variables kind t) slot (Row row)) t)
-puts is_entry kind slot (Err exception) stack t = raises is_entry exception t
+abbrev pub puts : Kind → ℕ → Result (List ℤ) Exception → List Value → Thread → Next
+puts kind slot (Ok row) stack t = goes stack (with_variables kind (slice_set (variables kind t) slot (Row row)) t)
+puts kind slot (Err exception) stack t = raises exception t
 
-abbrev pub stores_member : Bool → Kind → ℕ → Option Value → List Value → Thread → Next
-stores_member is_entry kind slot (Some (Row row)) (Int v ∷ Int index ∷ stack) t = puts is_entry kind slot (with_member row index v) stack t
-stores_member is_entry kind slot _ _ t = stuck
+abbrev pub stores_member : Kind → ℕ → Option Value → List Value → Thread → Next
+stores_member kind slot (Some (Row row)) (Int v ∷ Int index ∷ stack) t = puts kind slot (with_member row index v) stack t
+stores_member kind slot _ _ t = stuck
 
 -- ---- operators
 
-abbrev pub two_ints : Bool → (ℤ → ℤ → Given) → Thread → List Value → Next
-two_ints is_entry operator t (Int b ∷ Int a ∷ stack) = gives is_entry (operator a b) stack t
-two_ints is_entry operator t _ = stuck
+abbrev pub two_ints : (ℤ → ℤ → Given) → Thread → List Value → Next
+two_ints operator t (Int b ∷ Int a ∷ stack) = gives (operator a b) stack t
+two_ints operator t _ = stuck
 
 -- numbers, truths or texts
 abbrev pub two_alike : (Value → Value → Bool) → Thread → List Value → Next
@@ -184,9 +183,9 @@ abbrev pub compares : (ℤ → ℤ → Bool) → Thread → List Value → Next
 compares test t (Int b ∷ Int a ∷ stack) = goes (Truth (test a b) ∷ stack) t
 compares test t _ = stuck
 
-abbrev pub one_int : Bool → (ℤ → Given) → Thread → List Value → Next
-one_int is_entry operator t (Int a ∷ stack) = gives is_entry (operator a) stack t
-one_int is_entry operator t _ = stuck
+abbrev pub one_int : (ℤ → Given) → Thread → List Value → Next
+one_int operator t (Int a ∷ stack) = gives (operator a) stack t
+one_int operator t _ = stuck
 
 -- by the truth that stands on the stack
 abbrev pub by_truth : (Bool → List Value → Next) → List Value → Next
@@ -229,105 +228,118 @@ handles exception address None t = stuck
 handles exception address (Some pending) t =
     if bytes_eq (exception_text pending) (exception_text exception) then goes t.stack t else jumps address t.stack t
 
-abbrev pub again : Bool → Option Exception → Thread → Next
-again is_entry None t = stuck
-again is_entry (Some exception) t = raises is_entry exception t
+abbrev pub again : Option Exception → Thread → Next
+again None t = stuck
+again (Some exception) t = raises exception t
 
-abbrev pub connects : Bool → ℕ → Option ℕ → Thread → Next
-connects is_entry op None t = stuck
-connects is_entry op (Some arguments) t =
-    by_link (λ link below. by_values arguments (λ vs stack. asks is_entry (Connect link op vs) stack t (λ now. now)) below) t.stack
+abbrev pub connects : ℕ → Option ℕ → Thread → Next
+connects op None t = stuck
+connects op (Some arguments) t =
+    by_link (λ link below. by_values arguments (λ vs stack. asks (Connect link op vs) stack t (λ now. now)) below) t.stack
 
--- the innermost open accept is closed
-abbrev pub closes_accept : Bool → ℕ → Thread → Next
-closes_accept is_entry zero t = stuck
-closes_accept is_entry (suc accepts) t = asks is_entry Close t.stack (record t { accepts = accepts }) (λ now. now)
+-- the innermost open request is closed
+abbrev pub closes_request : List ℕ → Thread → Next
+closes_request [] t = stuck
+closes_request (op ∷ requests) t = asks Close t.stack (record t { requests = requests }) (λ now. now)
 
 -- after an await with false
-abbrev pub tries_again : Bool → ℕ → Outcome → Thread → Next
-tries_again is_entry address (Ok vs) t = jumps address t.stack t
-tries_again is_entry address (Err exception) t = raises is_entry exception t
+abbrev pub tries_again : ℕ → Outcome → Thread → Next
+tries_again address (Ok vs) t = jumps address t.stack t
+tries_again address (Err exception) t = raises exception t
 
-abbrev pub step : Program → Bool → Thread → Instruction → Next
-step p e t (code.Push l) = goes (value_of_literal l ∷ t.stack) t
-step p e t (code.LoadG slot) = loads (slice_get (variables Global t) slot) t
-step p e t (code.LoadL slot) = loads (slice_get (variables Local t) slot) t
-step p e t (code.AtG slot) = loads_member e (slice_get (variables Global t) slot) t.stack t
-step p e t (code.AtL slot) = loads_member e (slice_get (variables Local t) slot) t.stack t
-step p e t (code.StoreG slot) = stores Global slot t.stack t
-step p e t (code.StoreL slot) = stores Local slot t.stack t
-step p e t (code.PutG slot) = stores_member e Global slot (slice_get (variables Global t) slot) t.stack t
-step p e t (code.PutL slot) = stores_member e Local slot (slice_get (variables Local t) slot) t.stack t
-step p e t code.Add = two_ints e add t t.stack
-step p e t code.Sub = two_ints e subtract t t.stack
-step p e t code.Mul = two_ints e multiply t t.stack
-step p e t code.Div = two_ints e divide t t.stack
-step p e t code.Mod = two_ints e reduce t t.stack
-step p e t code.Neg = one_int e negate t t.stack
-step p e t code.Eq = two_alike value_eq t t.stack
-step p e t code.Ne = two_alike (λ a b. not (value_eq a b)) t t.stack
-step p e t code.Lt = compares int_lt t t.stack
-step p e t code.Le = compares int_le t t.stack
-step p e t code.Gt = compares (λ a b. int_lt b a) t t.stack
-step p e t code.Ge = compares (λ a b. int_le b a) t t.stack
-step p e t code.Not = by_truth (λ b stack. goes (Truth (not b) ∷ stack) t) t.stack
-step p e t (code.AndJ address) = decides false address t
-step p e t (code.OrJ address) = decides true address t
-step p e t (code.JumpF address) = by_truth (λ b stack. if b then goes stack t else jumps address stack t) t.stack
-step p e t (code.Jump address) = jumps address t.stack t
-step p e t (code.Await address) =
+abbrev pub step : Program → Thread → Instruction → Next
+step p t (code.Push l) = goes (value_of_literal l ∷ t.stack) t
+step p t (code.LoadG slot) = loads (slice_get (variables Global t) slot) t
+step p t (code.LoadL slot) = loads (slice_get (variables Local t) slot) t
+step p t (code.AtG slot) = loads_member (slice_get (variables Global t) slot) t.stack t
+step p t (code.AtL slot) = loads_member (slice_get (variables Local t) slot) t.stack t
+step p t (code.StoreG slot) = stores Global slot t.stack t
+step p t (code.StoreL slot) = stores Local slot t.stack t
+step p t (code.PutG slot) = stores_member Global slot (slice_get (variables Global t) slot) t.stack t
+step p t (code.PutL slot) = stores_member Local slot (slice_get (variables Local t) slot) t.stack t
+step p t code.Add = two_ints add t t.stack
+step p t code.Sub = two_ints subtract t t.stack
+step p t code.Mul = two_ints multiply t t.stack
+step p t code.Div = two_ints divide t t.stack
+step p t code.Mod = two_ints reduce t t.stack
+step p t code.Neg = one_int negate t t.stack
+step p t code.Eq = two_alike value_eq t t.stack
+step p t code.Ne = two_alike (λ a b. not (value_eq a b)) t t.stack
+step p t code.Lt = compares int_lt t t.stack
+step p t code.Le = compares int_le t t.stack
+step p t code.Gt = compares (λ a b. int_lt b a) t t.stack
+step p t code.Ge = compares (λ a b. int_le b a) t t.stack
+step p t code.Not = by_truth (λ b stack. goes (Truth (not b) ∷ stack) t) t.stack
+step p t (code.AndJ address) = decides false address t
+step p t (code.OrJ address) = decides true address t
+step p t (code.JumpF address) = by_truth (λ b stack. if b then goes stack t else jumps address stack t) t.stack
+step p t (code.Jump address) = jumps address t.stack t
+step p t (code.Await address) =
     by_truth (λ b stack. if b then goes stack t
-    else with_outcome t.moment Await (λ given now. tries_again e address given (record t { moment = now; stack = stack }))) t.stack
-step p e t (code.Try address) =
-    goes t.stack (record t { tries = record { handlers = address; height = length t.stack; accepts = t.accepts } ∷ t.tries })
-step p e t code.Untry = untries t.tries t
-step p e t (code.Case exception address) = handles exception address t.pending t
-step p e t code.Again = again e t.pending t
-step p e t (code.Raise exception) = raises e exception t
-step p e t code.Write = writes (λ text stack. asks e (Write text) stack t (λ now. now)) t.stack
-step p e t code.New = asks e New t.stack t (λ now. now)
-step p e t code.Destroy = by_link (λ link stack. asks e (Destroy link) stack t (λ now. now)) t.stack
-step p e t (code.Bind entry) = by_link (λ link stack. asks e (Bind link entry) stack t (λ now. now)) t.stack
-step p e t (code.Unbind entry) = by_link (λ link stack. asks e (Unbind link entry) stack t (λ now. now)) t.stack
-step p e t (code.Connect op) = connects e op (slice_get p.arguments op) t
-step p e t (code.Accept op) =
-    by_link (λ link stack. asks e (Accept link op) stack t (λ now. record now { accepts = now.accepts + 1 })) t.stack
-step p e t code.Close = closes_accept e t.accepts t
-step p e t (code.Reply k) = by_values k (λ vs stack. asks e (Reply vs) stack t (λ now. now)) t.stack
-step p e t code.Stop = Over (Comes (Waits (t.moment.actions ++ Stop ∷ []) t.moment.store))
-step p e t code.End = ends e t.moment
+    else with_outcome t.moment Await (λ given now. tries_again address given (record t { moment = now; stack = stack }))) t.stack
+step p t (code.Try address) =
+    goes t.stack (record t { tries = record { handlers = address; height = length t.stack; depth = length t.requests } ∷ t.tries })
+step p t code.Untry = untries t.tries t
+step p t (code.Case exception address) = handles exception address t.pending t
+step p t code.Again = again t.pending t
+step p t (code.Raise exception) = raises exception t
+step p t code.Write = writes (λ text stack. asks (Write text) stack t (λ now. now)) t.stack
+step p t code.New = asks New t.stack t (λ now. now)
+step p t code.Destroy = by_link (λ link stack. asks (Destroy link) stack t (λ now. now)) t.stack
+step p t (code.Bind entry) = by_link (λ link stack. asks (Bind link entry) stack t (λ now. now)) t.stack
+step p t (code.Unbind entry) = by_link (λ link stack. asks (Unbind link entry) stack t (λ now. now)) t.stack
+step p t (code.Connect op) = connects op (slice_get p.arguments op) t
+step p t (code.Accept op) =
+    by_link (λ link stack. asks (Accept link op) stack t (λ now. record now { requests = op ∷ now.requests })) t.stack
+step p t code.Close = closes_request t.requests t
+step p t (code.Reply k) = by_values k (λ vs stack. asks (Reply vs) stack t (λ now. now)) t.stack
+step p t code.Stop = Over (Comes (Waits (t.moment.actions ++ Stop ∷ []) t.moment.store))
+step p t code.End = ends t.requests t.moment
+
+-- ---- open requests
+
+-- those that are open behind an action with this outcome: values for an accept open one, and a close is of the innermost one
+abbrev pub open_after : Action → Outcome → List ℕ → List ℕ
+open_after (Accept link op) (Ok values) requests = op ∷ requests
+open_after Close outcome requests = drop 1 requests
+open_after action outcome requests = requests
+
+-- behind actions with these outcomes; one that has no outcome yet changes nothing
+abbrev pub open_behind : List Action → List (Outcome) → List ℕ → List ℕ
+open_behind (action ∷ actions) (outcome ∷ outcomes) requests = open_behind actions outcomes (open_after action outcome requests)
+open_behind _ _ requests = requests
 
 -- ---- runs
 
 -- what comes after the instruction at the thread's address
-abbrev pub fetched : Program → Bool → Thread → Option Instruction → Next
-fetched p is_entry t None = stuck
-fetched p is_entry t (Some i) = step p is_entry t i
+abbrev pub fetched : Program → Thread → Option Instruction → Next
+fetched p t None = stuck
+fetched p t (Some i) = step p t i
 
-abbrev pub next_of : Program → Bool → Thread → Next
-next_of p is_entry t = fetched p is_entry t (slice_get p.instructions t.address)
+abbrev pub next_of : Program → Thread → Next
+next_of p t = fetched p t (slice_get p.instructions t.address)
 
 abbrev pub go_on : Next → (Thread → CodeBehaviour) → CodeBehaviour
 go_on (Goes t) next = next t
 go_on (Over behaviour) next = behaviour
 
 -- at most so many instructions
-abbrev pub exec : Program → Bool → ℕ → Thread → CodeBehaviour
-exec p is_entry zero t = Comes (Out t.moment.actions)
-exec p is_entry (suc m) t = go_on (next_of p is_entry t) (λ now. exec p is_entry m now)
+abbrev pub exec : Program → ℕ → Thread → CodeBehaviour
+exec p zero t = Comes (Out t.moment.actions)
+exec p (suc m) t = go_on (next_of p t) (λ now. exec p m now)
 
--- a thread before the first instruction of its part
-abbrev pub begins : ℕ → Store → List Answer → Thread
-begins start store answers =
+-- a thread before the first instruction of its part, with these requests open
+abbrev pub begins : List ℕ → ℕ → Store → List Answer → Thread
+begins requests start store answers =
     record {
       address = start;
       stack = [];
       tries = [];
-      accepts = 0;
+      requests = requests;
       pending = None;
       moment = record { store = store; answers = answers; actions = [] };
     }
 
--- The meaning of a part that starts at this address, an entry or the module's body, with at most m instructions.
-abbrev pub code_meaning : Program → Bool → ℕ → ℕ → Store → List Answer → CodeBehaviour
-code_meaning p is_entry start m store answers = exec p is_entry m (begins start store answers)
+-- The meaning of a part that starts at this address with these requests open, with at most m instructions.
+abbrev pub code_meaning : Program → List ℕ → ℕ → ℕ → Store → List Answer → CodeBehaviour
+code_meaning p requests start m store answers = exec p m (begins requests start store answers)

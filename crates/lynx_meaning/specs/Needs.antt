@@ -3,11 +3,13 @@ use Rattle.std.specs.Prelude.{ℕ, List, [], ◌∷◌, Option, None, Some, slic
 use Rattle.lynx_tree.specs.Trees.{OpTree}
 use Rattle.lynx_tree.specs.declared.declaration.TypeName.{TypeName}
 use Rattle.lynx_tree.specs.declared.declaration.TypeName.TheVariants as types
-use Rattle.lynx_meaning.specs.Courses.{Action, New, Connect, Accept}
+use Rattle.lynx_meaning.specs.Courses.{Action, New, Connect, Accept, Close}
 
 -- which values an action needs
 pub data Wanted : Type 0 where
   NoValue : Wanted
+  -- none, and the innermost open request is closed then
+  Closing : Wanted
   TwoLinks : Wanted
   -- of the operation of this number
   Results : ℕ → Wanted
@@ -17,6 +19,7 @@ abbrev pub wanted_by : Action → Wanted
 wanted_by New = TwoLinks
 wanted_by (Connect link op values) = Results op
 wanted_by (Accept link op) = Arguments op
+wanted_by Close = Closing
 wanted_by _ = NoValue
 
 -- the types of an operation's arguments and results
@@ -35,6 +38,7 @@ types_of field (Some op) = field op
 -- the types of these values, in a module with these operations
 abbrev pub wanted_types : List OpTypes → Wanted → List TypeName
 wanted_types ops NoValue = []
+wanted_types ops Closing = []
 wanted_types ops TwoLinks = types.Link ∷ types.Link ∷ []
 wanted_types ops (Results op) = types_of (λ o. o.results) (slice_get ops op)
 wanted_types ops (Arguments op) = types_of (λ o. o.arguments) (slice_get ops op)

@@ -1,9 +1,9 @@
 -- What a thread does, by the source: each loop makes at most n turns.
-use Rattle.std.specs.Prelude.{ℕ, zero, suc, List, [], ◌∷◌, ◌++◌, map, reverse, Bool, true, false, if◌then◌else◌}
+use Rattle.std.specs.Prelude.{ℕ, zero, suc, List, [], ◌∷◌, ◌++◌, map, reverse, if◌then◌else◌}
 use Rattle.std.specs.Str.{bytes_eq}
 use Rattle.lynx_code.specs.Generation.{Names, exception_named}
 use Rattle.lynx_code.specs.Modules.{names_of, local_names}
-use Rattle.lynx_tree.specs.Trees.{ExprTree, StmtTree, StmtTrees, HandlerTrees, EntryTree, ModuleTree}
+use Rattle.lynx_tree.specs.Trees.{StmtTree, StmtTrees, HandlerTrees, EntryTree, ModuleTree}
 use Rattle.lynx_tree.specs.Trees as trees
 use Rattle.lynx_tree.specs.declared.declaration.TypeName.{TypeName}
 use Rattle.typing_rules.specs.Exceptions.{exception_of, exception_text}
@@ -106,19 +106,20 @@ abbrev mutual
 
 -- a part of a module: its body, or an entry with its parameters
 pub record PartTree : Type 0 where
-  pub is_entry : Bool
+  -- the operations of the requests that are open at its start
+  pub requests : List ℕ
   pub names : Names
   pub parameters : List TypeName
   pub vars : List TypeName
   pub body : StmtTrees
 
 abbrev pub main_tree : ModuleTree → PartTree
-main_tree m = record { is_entry = false; names = names_of m []; parameters = []; vars = []; body = m.body }
+main_tree m = record { requests = []; names = names_of m []; parameters = []; vars = []; body = m.body }
 
 abbrev pub entry_part_tree : ModuleTree → EntryTree → PartTree
 entry_part_tree m e =
     record {
-      is_entry = true;
+      requests = (names_of m (local_names e)).op e.op ∷ [];
       names = names_of m (local_names e);
       parameters = known (arguments_of (module_scope m e.op));
       vars = map (λ v. v.kind) e.vars;
@@ -129,10 +130,10 @@ entry_part_tree m e =
 abbrev pub start_store : PartTree → List Value → List Value → Store
 start_store part globals arguments = record { globals = globals; locals = arguments ++ map start_value part.vars }
 
--- an entry closes its own request at its end
-abbrev pub whole_course : Bool → Course → Course
-whole_course true course = closes course
-whole_course false course = course
+-- what is open at the start is closed at the end: an entry closes its own request
+abbrev pub whole_course : List ℕ → Course → Course
+whole_course [] course = course
+whole_course (op ∷ requests) course = whole_course requests (closes course)
 
 -- an exception that no handler catches ends the thread
 abbrev pub behaviour_of : Course → Behaviour
@@ -143,4 +144,4 @@ behaviour_of (Over behaviour) = behaviour
 -- The meaning of a part with loops of at most n turns: what its thread does from these variables, with these answers.
 abbrev pub source_meaning : PartTree → ℕ → Store → List Answer → Behaviour
 source_meaning part n store answers =
-    behaviour_of (whole_course part.is_entry (runs_all part.names n part.body (record { store = store; answers = answers; actions = [] })))
+    behaviour_of (whole_course part.requests (runs_all part.names n part.body (record { store = store; answers = answers; actions = [] })))

@@ -11,7 +11,7 @@ use Rattle.lynx_meaning.specs.Code.{Opened}
 use Rattle.lynx_meaning.specs.Values.{Value, Int, Truth, Text, Row, Link, HasType, HaveTypes}
 use Rattle.machine_stack.specs.Stacks as stacks
 use Rattle.machine_stack.specs.Stacks.{TopIsInt, TopIsTruth, TopIsLink, TopIsLike, AreAlike, AreAlikeOnTop}
-use Rattle.code_shapes.specs.Shapes.{ModuleTypes, Shape, Shapes, Accepts, Connects, IsPlain, IsRow, Loads, Obeys, Stores, Untries, program}
+use Rattle.code_shapes.specs.Shapes.{ModuleTypes, Shape, Shapes, Accepts, Connects, IsPlain, IsRow, Loads, Obeys, Stores, Untries, program, Closes, Replies}
 use Rattle.lynx_meaning.specs.Needs.{OpTypes}
 use Rattle.machine_turns.specs.Threads.{Standing}
 use Rattle.machine_never_stuck.proofs.Pairs.{is_found, same_length}
@@ -128,7 +128,7 @@ below_link k ts us (Link l ∷ vs) long typed = let all = same_length (ts ++ us)
 below_link k ts us (_ ∷ vs) long typed = absurd typed.0
 
 module _ (m : ModuleTypes) (instructions : List Instruction) (shapes : Shapes) (globals : List Value) (is_shape : Shape) (s : Standing) (known : HaveTypes m.globals globals) (own : HaveTypes is_shape.locals s.locals)
-    (whole : HaveTypes is_shape.stack s.stack) (open_tries : s.tries ≡ is_shape.tries) (accepts : s.accepts ≡ is_shape.accepts) (pending : IsTrue is_shape.pending → IsTrue (is_some s.pending)) where
+    (whole : HaveTypes is_shape.stack s.stack) (open_tries : s.tries ≡ is_shape.tries) (are_open : s.requests ≡ is_shape.requests) (pending : IsTrue is_shape.pending → IsTrue (is_some s.pending)) where
   on : (ts : List TypeName) → is_shape.stack ≡ ts → HaveTypes ts s.stack
   on ts e = subst (λ (us : List TypeName). HaveTypes us s.stack) e whole
 
@@ -140,9 +140,20 @@ module _ (m : ModuleTypes) (instructions : List Instruction) (shapes : Shapes) (
       subst (λ (q : Option ℕ). HasValues q s.stack) (sym count)
       (below_link (length op.arguments) (reverse op.arguments) obeys.0 s.stack (length-reverse op.arguments) (on (types.Link ∷ (reverse op.arguments ++ obeys.0)) obeys.1))
 
-  accepted : (number : ℕ) (o : Option OpTypes) → Accepts shapes s.address is_shape o → TopIsLink s.stack
+  accepted : (number : ℕ) (o : Option OpTypes) → Accepts shapes s.address is_shape number o → TopIsLink s.stack
   accepted number None obeys = absurd obeys
   accepted number (Some op) obeys = a_link obeys.0 s.stack (on (types.Link ∷ obeys.0) obeys.1)
+
+  one_open : (requests : List ℕ) → s.requests ≡ requests → Closes shapes s.address is_shape requests → 0 < length s.requests
+  one_open [] are obeys = absurd obeys
+  one_open (op ∷ requests) are obeys = let size = ap length are in omega (arith, size)
+
+  has_values : (k : ℕ) (requests : List ℕ) → Replies m shapes s.address is_shape k requests → k ≤ length s.stack
+  has_values k [] obeys = absurd obeys
+  has_values k (op ∷ requests) obeys =
+      let results = reverse obeys.0.results in
+      let all = same_length (results ++ obeys.3.0) s.stack (on (results ++ obeys.3.0) obeys.3.1) in
+      omega (arith, all, obeys.2, length-reverse obeys.0.results, length-append results obeys.3.0)
 
   pub finds : (i : Instruction) → Obeys m shapes s.address is_shape i → Finds (program m instructions) i globals s
   finds (code.Push l) obeys = tt
@@ -180,13 +191,11 @@ module _ (m : ModuleTypes) (instructions : List Instruction) (shapes : Shapes) (
   finds code.Write obeys = plain obeys.0 obeys.2.0 s.stack obeys.1 (on (obeys.0 ∷ obeys.2.0) obeys.2.1)
   finds code.New obeys = tt
   finds code.Destroy obeys = a_link obeys.0 s.stack (on (types.Link ∷ obeys.0) obeys.1)
-  finds (code.Bind entry) obeys = a_link obeys.0 s.stack (on (types.Link ∷ obeys.0) obeys.1)
-  finds (code.Unbind entry) obeys = a_link obeys.0 s.stack (on (types.Link ∷ obeys.0) obeys.1)
+  finds (code.Bind entry) obeys = a_link obeys.1.0 s.stack (on (types.Link ∷ obeys.1.0) obeys.1.1)
+  finds (code.Unbind entry) obeys = a_link obeys.1.0 s.stack (on (types.Link ∷ obeys.1.0) obeys.1.1)
   finds (code.Connect op) obeys = connects op (slice_get m.ops op) refl obeys
   finds (code.Accept op) obeys = accepted op (slice_get m.ops op) obeys
-  finds code.Close obeys = omega (arith, obeys.1, accepts)
-  finds (code.Reply k) obeys =
-      let all = same_length (obeys.0 ++ obeys.2.0) s.stack (on (obeys.0 ++ obeys.2.0) obeys.2.1) in
-      omega (arith, obeys.1, length-append obeys.0 obeys.2.0)
+  finds code.Close obeys = one_open is_shape.requests are_open obeys
+  finds (code.Reply k) obeys = has_values k is_shape.requests obeys
   finds code.Stop obeys = tt
   finds code.End obeys = tt

@@ -1,14 +1,14 @@
 -- A thread of the shapes is one of the shapes behind its instruction.
-use Rattle.std.proofs.Common.{◌≡◌, ℕ, List, [], ◌∷◌, ◌++◌, Bool, Option, Some, None, Ok, slice_get, refl, sym, ap, subst, ◌∙◌}
+use Rattle.std.proofs.Common.{◌≡◌, List, [], ◌∷◌, ◌++◌, Bool, Option, Some, None, Ok, slice_get, refl, sym, ap, subst, ◌∙◌}
 use Rattle.lynx_tree.specs.declared.declaration.TypeName.{TypeName}
 use Rattle.lynx_code.specs.declared.instruction.Instruction.{Instruction}
 use Rattle.lynx_meaning.specs.Code.{Next, Thread, Goes, Over, Comes, Stuck}
 use Rattle.lynx_meaning.specs.Courses.{Action, Store, New, Destroy, Bind, Unbind, Connect, Accept, Close, Reply, Write, Await, Stop, Ended, Waits, Out, Outcome}
 use Rattle.lynx_meaning.specs.Values.{Value, HaveTypes}
-use Rattle.code_shapes.specs.Shapes.{ModuleTypes, Shapes, AreShapes, IsThread, program}
+use Rattle.code_shapes.specs.Shapes.{ModuleTypes, Shapes, AreShapes, IsThread, program, PartTypes}
 use Rattle.machine_turns.specs.Threads.{Standing, Made, Went, Acts, Awaits, Ends, Broken, acted, answers, comes_of, goes_on, in_turn, is_await, last_action, made}
 use Rattle.lynx_meaning.specs.Needs.{Wanted, wanted_by, wanted_types}
-use Rattle.machine_never_stuck.specs.Sound.{EndInAction, FirstFits, IsSound, needs}
+use Rattle.machine_never_stuck.specs.Sound.{EndInAction, FirstFits, IsSound, needs, HaveTypes}
 use Rattle.machine_never_stuck.proofs.Whole.{all_fit, never_stuck}
 use Rattle.machine_sound.specs.Sound.{IsSoundThread}
 
@@ -19,7 +19,7 @@ pub with_globals : (m : ModuleTypes) (shapes : Shapes) (globals now : List Value
 with_globals m shapes globals now s typed is = record {
   shape = is.shape;
   there = is.there;
-  has = record { locals = is.has.locals; stack = is.has.stack; tries = is.has.tries; accepts = is.has.accepts; pending = is.has.pending };
+  has = record { locals = is.has.locals; stack = is.has.stack; tries = is.has.tries; requests = is.has.requests; pending = is.has.pending };
   globals = typed;
 }
 
@@ -71,7 +71,7 @@ module _ (m : ModuleTypes) (instructions : List Instruction) (shapes : Shapes) (
   awaits now typed first = (
     record {
       thread =
-          let there = with_globals m shapes globals now s typed is.thread in record { shape = there.shape; there = there.there; has = record { locals = there.has.locals; stack = there.has.stack; tries = there.has.tries; accepts = there.has.accepts; pending = there.has.pending }; globals = typed };
+          let there = with_globals m shapes globals now s typed is.thread in record { shape = there.shape; there = there.there; has = record { locals = there.has.locals; stack = there.has.stack; tries = there.has.tries; requests = there.has.requests; pending = there.has.pending }; globals = typed };
       given = given_none now s.given first is.given;
       wanted = λ w e none. absurd (some_more s.given (Ok []) none);
     },
@@ -83,7 +83,7 @@ module _ (m : ModuleTypes) (instructions : List Instruction) (shapes : Shapes) (
   acts a now typed first = (
     record {
       thread =
-          let there = with_globals m shapes globals now s typed is.thread in record { shape = there.shape; there = there.there; has = record { locals = there.has.locals; stack = there.has.stack; tries = there.has.tries; accepts = there.has.accepts; pending = there.has.pending }; globals = typed };
+          let there = with_globals m shapes globals now s typed is.thread in record { shape = there.shape; there = there.there; has = record { locals = there.has.locals; stack = there.has.stack; tries = there.has.tries; requests = there.has.requests; pending = there.has.pending }; globals = typed };
       given = first_fits needed globals now s.given is.given;
       wanted = λ w e none.
           let same : wanted_by a ≡ w = cc in
@@ -112,7 +112,7 @@ module _ (m : ModuleTypes) (instructions : List Instruction) (shapes : Shapes) (
       thread = record {
         shape = sound.shape;
         there = sound.there;
-        has = record { locals = sound.has.locals; stack = sound.has.stack; tries = sound.has.tries; accepts = sound.has.accepts; pending = sound.has.pending };
+        has = record { locals = sound.has.locals; stack = sound.has.stack; tries = sound.has.tries; requests = sound.has.requests; pending = sound.has.pending };
         globals = sound.globals;
       };
       given = tt;
@@ -122,20 +122,20 @@ module _ (m : ModuleTypes) (instructions : List Instruction) (shapes : Shapes) (
     refl,
   )
 
-  waits : (b : Bool) (actions : List Action) (store : Store) → EndInAction m needed (answers globals s.given) actions → HaveTypes m.globals store.globals →
+  waits : (b : Bool) (actions : List Action) (store : Store) → EndInAction m needed (in_turn globals s) actions → HaveTypes m.globals store.globals →
       SoundMade m instructions shapes s (made b s (Over (Comes (Waits actions store))))
   waits b actions store end typed =
       subst (λ (o : Option Action). SoundMade m instructions shapes s (acted o store.globals s)) (sym (ap last_action end.last ∙ last_of end.before end.action))
       (acted_sound end.action store.globals typed end.first)
 
-  next_sound : (b : Bool) (next : Next) → IsSound m shapes needed (answers globals s.given) next → SoundMade m instructions shapes s (made b s next)
-  next_sound b (Goes now) sound = goes b now sound
+  next_sound : (b : Bool) (next : Next) → IsSound m shapes needed (in_turn globals s) next → SoundMade m instructions shapes s (made b s next)
+  next_sound b (Goes now) sound = goes b now sound.0
   next_sound b (Over (Comes (Waits actions store))) sound = waits b actions store sound.0 sound.1
-  next_sound b (Over (Comes (Ended actions store))) sound = sound
+  next_sound b (Over (Comes (Ended actions store))) sound = sound.1
   next_sound b (Over (Comes (Out actions))) sound = absurd sound
   next_sound b (Over Stuck) sound = absurd sound
 
-  pub made_sound : (parts : List (ℕ × List TypeName)) → AreShapes m parts instructions shapes → SoundMade m instructions shapes s (comes_of (program m instructions) globals s)
+  pub made_sound : (parts : List PartTypes) → AreShapes m parts instructions shapes → SoundMade m instructions shapes s (comes_of (program m instructions) globals s)
   made_sound parts are =
       next_sound (is_await (slice_get instructions s.address)) (goes_on (program m instructions) globals s)
-      (never_stuck m parts instructions shapes are s.is_entry (in_turn globals s) is.thread (record { first = is.given; globals = all_fit m.globals globals s.given is.thread.globals }))
+      (never_stuck m parts instructions shapes are (in_turn globals s) is.thread (record { first = is.given; globals = all_fit m.globals globals s.given is.thread.globals }))

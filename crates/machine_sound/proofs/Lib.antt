@@ -6,3 +6,5 @@ pub mod Outside
 pub mod Trying
 pub mod Advancing
 pub mod Rounds
+pub mod Stopping
+pub mod Ending

@@ -59,22 +59,20 @@ decided k n = by_decision k n (nat_eq k n) refl
 -- ---- threads at their places
 
 abbrev pub ArePlaced : Turns → Type 0
-ArePlaced t = (k : ℕ) → places k t ≤ places_for (slice_get t.threads k)
+ArePlaced t = (k : ℕ) → places k t ≡ places_for (slice_get t.threads k)
 
 abbrev Place : Turns → ℕ → Type 0
-Place t k = places k t ≤ places_for (slice_get t.threads k)
+Place t k = places k t ≡ places_for (slice_get t.threads k)
 
--- one thread changes, and the others have no more places than before
-one_changes : (t u : Turns) (n : ℕ) (o : Option Standing) → n < length t.threads → u.threads ≡ slice_set t.threads n o → ArePlaced t → places n u ≤ places_for (Some o) →
-    ((k : ℕ) → (k ≡ n → ⊥) → places k u ≤ places k t) → ArePlaced u
+-- one thread changes, and the others have as many places as before
+one_changes : (t u : Turns) (n : ℕ) (o : Option Standing) → n < length t.threads → u.threads ≡ slice_set t.threads n o → ArePlaced t → places n u ≡ places_for (Some o) →
+    ((k : ℕ) → (k ≡ n → ⊥) → places k u ≡ places k t) → ArePlaced u
 one_changes t u n o there is placed here others k =
     ⊎_elim
-    (λ (e : k ≡ n). subst (λ i. Place u i) (sym e) (subst (λ (q : Option (Option Standing)). places n u ≤ places_for q) (sym (ap (λ (ts : List (Option Standing)). slice_get ts n) is ∙ get_set t.threads n o there)) here))
+    (λ (e : k ≡ n). subst (λ i. Place u i) (sym e) (subst (λ (q : Option (Option Standing)). places n u ≡ places_for q) (sym (ap (λ (ts : List (Option Standing)). slice_get ts n) is ∙ get_set t.threads n o there)) here))
     (λ (e : k ≡ n → ⊥).
-    let before = placed k in
-    let fewer = others k e in
     let at_k : slice_get u.threads k ≡ slice_get t.threads k = ap (λ (ts : List (Option Standing)). slice_get ts k) is ∙ get_other t.threads n k o e in
-    subst (λ (q : Option (Option Standing)). places k u ≤ places_for q) (sym at_k) (omega arith))
+    subst (λ (q : Option (Option Standing)). places k u ≡ places_for q) (sym at_k) (others k e ∙ placed k))
     (decided k n)
 
 unblocked : (b : Bool) → 0 < (if b then 0 else 1) → b ≡ false
@@ -123,12 +121,12 @@ module _ (t u : Turns) (n : ℕ) (o : Option Standing) (there : n < length t.thr
       ∙ ap (λ (xs : List ℕ). times_in k t.running + times k xs + times k u.awaiting) ready
       ∙ ap (λ (xs : List ℕ). times_in k t.running + times k t.ready + times k xs) awaiting in
       one_changes t u n o there is placed
-      (let e = as_before n in let here = placed n in let most = at_most_one (slice_get t.threads n) in omega arith)
-      (λ k other. let e = as_before k in omega arith)
+      (let e = as_before n in let here = placed n in let most = at_most_one (slice_get t.threads n) in let turn = ap (times_in n) runs ∙ same n in omega arith)
+      (λ k other. as_before k)
 
   -- it blocks or ends, and each await is tried again
-  pub wakes_all : u.running ≡ None → u.ready ≡ t.ready ++ t.awaiting → u.awaiting ≡ [] → ArePlaced u
-  wakes_all running ready awaiting =
+  pub wakes_all : u.running ≡ None → u.ready ≡ t.ready ++ t.awaiting → u.awaiting ≡ [] → places_for (Some o) ≡ 0 → ArePlaced u
+  wakes_all running ready awaiting no_place =
       let fewer : (k : ℕ) → places k u ≡ times k t.ready + times k t.awaiting = λ k.
       let a = ap (times_in k) running in
       let b = ap (times k) ready ∙ times_append k t.ready t.awaiting in
@@ -136,7 +134,7 @@ module _ (t u : Turns) (n : ℕ) (o : Option Standing) (there : n < length t.thr
       omega arith in
       one_changes t u n o there is placed
       (let e = fewer n in let none = only_the_turn t n placed runs in omega arith)
-      (λ k other. let e = fewer k in omega arith)
+      (λ k other. let e = fewer k in let turn = ap (times_in k) runs ∙ other_one k n other in omega arith)
 
   -- a first await wakes the others
   pub awaits_first : u.running ≡ None → u.ready ≡ t.ready ++ t.awaiting → u.awaiting ≡ n ∷ [] → places_for (Some o) ≡ 1 → ArePlaced u
@@ -148,7 +146,7 @@ module _ (t u : Turns) (n : ℕ) (o : Option Standing) (there : n < length t.thr
       omega arith in
       one_changes t u n o there is placed
       (let e = now n in let none = only_the_turn t n placed runs in let it = same n in omega arith)
-      (λ k other. let e = now k in let zero_times = other_one k n other in omega arith)
+      (λ k other. let e = now k in let zero_times = other_one k n other in let turn = ap (times_in k) runs ∙ other_one k n other in omega arith)
 
   -- one more does not
   pub awaits_again : u.running ≡ None → u.ready ≡ t.ready → u.awaiting ≡ t.awaiting ++ n ∷ [] → places_for (Some o) ≡ 1 → ArePlaced u
@@ -160,7 +158,7 @@ module _ (t u : Turns) (n : ℕ) (o : Option Standing) (there : n < length t.thr
       omega arith in
       one_changes t u n o there is placed
       (let e = now n in let none = only_the_turn t n placed runs in let it = same n in omega arith)
-      (λ k other. let e = now k in let zero_times = other_one k n other in omega arith)
+      (λ k other. let e = now k in let zero_times = other_one k n other in let turn = ap (times_in k) runs ∙ other_one k n other in omega arith)
 
 -- ---- a thread has the turn that was ready
 
@@ -187,14 +185,14 @@ is_ready t n s now there blocked free placed =
     (λ k other. let more = times_append k t.ready (n ∷ []) in let zero_times = other_one k n other in omega arith)
 
 -- any other keeps its turn
-pub is_given : (t : Turns) (n : ℕ) (s now : Standing) → slice_get t.threads n ≡ Some (Some s) → now.wanted ≡ None → ArePlaced t → ArePlaced (with_thread n (Some now) t)
-is_given t n s now there free placed =
+pub is_given : (t : Turns) (n : ℕ) (s now : Standing) → slice_get t.threads n ≡ Some (Some s) → is_ready_after s.wanted ≡ false → now.wanted ≡ None → ArePlaced t → ArePlaced (with_thread n (Some now) t)
+is_given t n s now there goes_on free placed =
     one_changes t (with_thread n (Some now) t) n (Some now) (slice_get_within t.threads n (Some s) there) refl placed
     (let here = placed n in
-    let most = at_most_one (slice_get t.threads n) in
+    let before : places_for (slice_get t.threads n) ≡ 1 = ap places_for there ∙ ap (λ b. if b then 0 else 1) goes_on in
     let one : places_for (Some (Some now)) ≡ 1 = ap (λ (w : Option Wanted). if is_ready_after w then 0 else 1) free in
     omega arith)
-    (λ k other. omega arith)
+    (λ k other. refl)
 
 -- a new thread is ready
 pub is_new : (t : Turns) (n : ℕ) (now : Standing) → slice_get t.threads n ≡ Some None → now.wanted ≡ None → ArePlaced t →

@@ -1,12 +1,11 @@
 -- A round of a run: a thread takes its turn, goes on, and what came of it changes those that wait.
 use Rattle.std.proofs.Common.{arith, ◌≡◌, ℕ, zero, suc, ◌+◌, ◌<◌, List, ◌∷◌, [], Bool, true, false, Option, Some, None, length, slice_get, slice_set, refl, sym, ap, subst, ◌∙◌, ⊎_elim, not-suc-le-zero, true≢false}
 use Rattle.std.proofs.lemmas.Option.{slice_get_within}
-use Rattle.lynx_tree.specs.declared.declaration.TypeName.{TypeName}
 use Rattle.lynx_code.specs.declared.instruction.Instruction.{Instruction}
 use Rattle.lynx_meaning.specs.Courses.{Action, New, Destroy, Bind, Unbind, Connect, Accept, Close, Reply, Write, Await, Stop}
 use Rattle.lynx_meaning.specs.Code.{Program}
 use Rattle.lynx_meaning.specs.Values.{Value}
-use Rattle.code_shapes.specs.Shapes.{ModuleTypes, program}
+use Rattle.code_shapes.specs.Shapes.{ModuleTypes, program, PartTypes}
 use Rattle.machine_turns.specs.Threads.{Standing, Made, Went, Acts, Awaits, Ends, Broken, course}
 use Rattle.lynx_meaning.specs.Needs.{wanted_by}
 use Rattle.machine_turns.specs.Turns.{Act, Beat, Turns, RunsOn, Stops, asks_for, awaits, beat, beats, comes, is_ready_after, stands, wakes, with_thread}
@@ -117,7 +116,7 @@ beats_on p (suc k) j (RunsOn left u) c fuel t is onward =
 beats_on p (suc k) j (Stops stop left u) c fuel t is onward = cc
 beats_on p (suc k) j turns.Broken c fuel t is onward = cc
 
-module _ (m : ModuleTypes) (parts : List (ℕ × List TypeName)) (instructions : List Instruction) where
+module _ (m : ModuleTypes) (parts : List PartTypes) (instructions : List Instruction) where
   -- the thread that has the turn stands, and finds its operands
   pub can_go_on : (t : Turns) (n : ℕ) → AreSound m parts instructions t → t.running ≡ Some n → (s : Standing) × (slice_get t.threads n ≡ Some (Some s)) × StaysReady (program m instructions) t.globals s
   can_go_on t n is runs =

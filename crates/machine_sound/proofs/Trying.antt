@@ -1,25 +1,34 @@
 -- A thread that was given something never finds false at an await: so it takes fuel, or comes behind its instruction.
-use Rattle.std.proofs.Common.{◌≡◌, ℕ, ℤ, zero, suc, ◌+◌, ◌-◌, List, [], ◌∷◌, ◌++◌, Bool, true, false, not, nat_lt, nat_le, int_le, int_lt, if◌then◌else◌, Option, Some, None, Result, Ok, Err, length, reverse, take, drop, slice_get, slice_set, bytes_eq, refl, sym, ◌∙◌}
+use Rattle.std.proofs.Common.{◌≡◌, ℕ, ℤ, zero, suc, ◌+◌, ◌-◌, List, [], ◌∷◌, ◌++◌, Bool, true, false, not, nat_lt, nat_le, int_le, int_lt, if◌then◌else◌, Option, Some, None, Result, Ok, Err, length, reverse, take, drop, slice_get, slice_set, bytes_eq, refl, sym, ◌∙◌, subst}
 use Rattle.lynx_code.specs.declared.instruction.Instruction.{Instruction}
 use Rattle.lynx_code.specs.declared.instruction.Instruction.TheVariants as code
 use Rattle.typing_rules.specs.Exceptions.{exception_text}
 use Rattle.typing_rules.specs.declared.exception.Exception.{Exception}
-use Rattle.lynx_meaning.specs.Code.{Next, Goes, Over, Comes, Stuck, Opened, Program, Kind, Global, Local, Thread, with_outcome, takes_outcome, again, answered, asks, by_link, by_truth, by_values, closes, closes_accept, compares, connects, cut, decides, ends}
-use Rattle.lynx_meaning.specs.Code.{gives, goes, handles, instead, jumps, loads, loads_member, one_int, puts, raises, raises_in, stores, stores_member, step, stuck, fetched, tries_again, two_alike, two_ints, untries, variables, with_variables, writes}
-use Rattle.lynx_meaning.specs.Courses.{Action, Answer, Outcome, Moment, New, Destroy, Bind, Unbind, Connect, Accept, Close, Reply, Write, Await, Stop, Ended, Waits, Out, after}
+use Rattle.lynx_meaning.specs.Code.{Next, Goes, Over, Comes, Stuck, Opened, Program, Kind, Global, Local, Thread, with_outcome, takes_outcome, again, answered, asks, by_link, by_truth, by_values, closes, compares, connects, cut, decides, ends, gives, goes}
+use Rattle.lynx_meaning.specs.Code.{handles, instead, jumps, loads, loads_member, one_int, puts, raises, raises_in, stores, stores_member, step, stuck, fetched, tries_again, two_alike, two_ints, untries, variables, with_variables, writes, closes_request}
+use Rattle.lynx_meaning.specs.Courses.{Action, Answer, Moment, New, Destroy, Bind, Unbind, Connect, Accept, Close, Reply, Write, Await, Stop, Ended, Waits, Out, after, Store}
 use Rattle.lynx_meaning.specs.Values.{Value, Given, Int, Truth, Text, Row, Link, add, divide, member, multiply, negate, reduce, subtract, truth_eq, value_eq, with_member, written}
 use Rattle.machine_turns.specs.Threads.{Standing, Made, Went, Acts, Awaits, Ends, Broken, acted, answers, comes_of, goes_on, in_turn, is_await, is_empty, is_fresh, last_action, made}
 use Rattle.machine_turns.specs.Threads as threads
 
 -- ---- an instruction that finds no await with false
 
--- it asks for no try again
-abbrev Asks : Next → Type 0
-Asks (Goes t) = Unit {0}
-Asks (Over (Comes (Waits actions store))) = last_action actions ≡ Some Await → ⊥
-Asks (Over (Comes (Ended actions store))) = Unit {0}
-Asks (Over (Comes (Out actions))) = Unit {0}
-Asks (Over Stuck) = Unit {0}
+-- where it waits: it asks for no try again if something was given, and leaves these variables of the module
+abbrev Asks : Type 0 → List Value → Next → Type 0
+Asks Some_given globals (Goes t) = Unit {0}
+Asks Some_given globals (Over (Comes (Waits actions store))) = (Some_given → last_action actions ≡ Some Await → ⊥) × (store.globals ≡ globals)
+Asks Some_given globals (Over (Comes (Ended actions store))) = Unit {0}
+Asks Some_given globals (Over (Comes (Out actions))) = Unit {0}
+Asks Some_given globals (Over Stuck) = Unit {0}
+
+abbrev AllTell : List Value → List Answer → Type 0
+AllTell globals [] = Unit {0}
+AllTell globals (a ∷ rest) = (a.globals ≡ globals) × AllTell globals rest
+
+-- the moment has these variables of the module, and all its answers tell them
+record Tells (globals : List Value) (m : Moment) : Type 0 where
+  now : m.store.globals ≡ globals
+  later : AllTell globals m.answers
 
 last_of : (actions : List Action) (a : Action) → last_action (actions ++ a ∷ []) ≡ Some a
 last_of [] a = refl
@@ -31,198 +40,200 @@ another actions a other e =
     let same : Some a ≡ Some Await = sym (last_of actions a) ∙ e in
     other cc
 
-asked_with : (m : Moment) (a : Action) (given : List Answer) (next : Result (List Value) Exception → Moment → Next) → (a ≡ Await → ⊥) → ((g : Result (List Value) Exception) (now : Moment) → Asks (next g now)) → Asks (takes_outcome m a given next)
-asked_with m a [] next other onward = another m.actions a other
-asked_with m a (g ∷ rest) next other onward = onward g.given (after m a g rest)
+module _ (G : Type 0) (globals : List Value) where
+  asked_with : (m : Moment) (a : Action) (given : List Answer) (next : Result (List Value) Exception → Moment → Next) → (a ≡ Await → ⊥) → m.store.globals ≡ globals → AllTell globals given → ((g : Result (List Value) Exception) (now : Moment) → Tells globals now → Asks G globals (next g now))
+      → Asks G globals (takes_outcome m a given next)
+  asked_with m a [] next other now later onward = ((λ some. another m.actions a other), now)
+  asked_with m a (g ∷ rest) next other now later onward = onward g.given (after m a g rest) (record { now = later.0; later = later.1 })
 
-asked : (m : Moment) (a : Action) (next : Result (List Value) Exception → Moment → Next) → (a ≡ Await → ⊥) → ((g : Result (List Value) Exception) (now : Moment) → Asks (next g now)) → Asks (with_outcome m a next)
-asked m a next other onward = asked_with m a m.answers next other onward
+  asked : (m : Moment) (a : Action) (next : Result (List Value) Exception → Moment → Next) → (a ≡ Await → ⊥) → Tells globals m → ((g : Result (List Value) Exception) (now : Moment) → Tells globals now → Asks G globals (next g now)) → Asks G globals (with_outcome m a next)
+  asked m a next other tells onward = asked_with m a m.answers next other tells.now tells.later onward
 
-closing : (k : ℕ) (exception : Exception) (m : Moment) (next : Exception → Moment → Next) → ((x : Exception) (now : Moment) → Asks (next x now)) → Asks (closes k exception m next)
-closing zero exception m next onward = onward exception m
-closing (suc k) exception m next onward = asked m Close (λ given now. closes k (instead given exception) now next) (λ e. cc) (λ g now. closing k (instead g exception) now next onward)
+  closing : (k : ℕ) (exception : Exception) (m : Moment) (next : Exception → Moment → Next) → Tells globals m → ((x : Exception) (now : Moment) → Tells globals now → Asks G globals (next x now)) → Asks G globals (closes k exception m next)
+  closing zero exception m next tells onward = onward exception m tells
+  closing (suc k) exception m next tells onward = asked m Close (λ given now. closes k (instead given exception) now next) (λ e. cc) tells (λ g now later. closing k (instead g exception) now next later onward)
 
-ending : (is_entry : Bool) (m : Moment) → Asks (ends is_entry m)
-ending true m = asked m Close (λ given now. Over (Comes (Ended now.actions now.store))) (λ e. cc) (λ g now. tt)
-ending false m = tt
+  ending : (requests : List ℕ) (m : Moment) → Tells globals m → Asks G globals (ends requests m)
+  ending [] m tells = tt
+  ending (op ∷ requests) m tells = asked m Close (λ given now. ends requests now) (λ e. cc) tells (λ g now later. ending requests now later)
 
-raising_in : (is_entry : Bool) (exception : Exception) (t : Thread) (os : List Opened) → Asks (raises_in is_entry exception t os)
-raising_in is_entry exception t [] = closing t.accepts exception t.moment (λ other now. ends is_entry now) (λ x now. ending is_entry now)
-raising_in is_entry exception t (o ∷ os) = closing (t.accepts - o.accepts) exception t.moment
-    (λ other now. Goes (record { address = o.handlers; stack = cut o.height t.stack; tries = os; accepts = o.accepts; pending = Some other; moment = now })) (λ x now. tt)
+  raising_in : (exception : Exception) (t : Thread) (os : List Opened) → Tells globals t.moment → Asks G globals (raises_in exception t os)
+  raising_in exception t [] tells = ending t.requests t.moment tells
+  raising_in exception t (o ∷ os) tells = closing (length t.requests - o.depth) exception t.moment
+      (λ other now. Goes (record { address = o.handlers; stack = cut o.height t.stack; tries = os; requests = cut o.depth t.requests; pending = Some other; moment = now })) tells (λ x now later. tt)
 
-raising : (is_entry : Bool) (exception : Exception) (t : Thread) → Asks (raises is_entry exception t)
-raising is_entry exception t = raising_in is_entry exception t t.tries
+  raising : (exception : Exception) (t : Thread) → Tells globals t.moment → Asks G globals (raises exception t)
+  raising exception t tells = raising_in exception t t.tries tells
 
-giving : (is_entry : Bool) (g : Given) (stack : List Value) (t : Thread) → Asks (gives is_entry g stack t)
-giving is_entry (Ok v) stack t = tt
-giving is_entry (Err exception) stack t = raising is_entry exception t
+  giving : (g : Given) (stack : List Value) (t : Thread) → Tells globals t.moment → Asks G globals (gives g stack t)
+  giving (Ok v) stack t tells = tt
+  giving (Err exception) stack t tells = raising exception t tells
 
-answering : (is_entry : Bool) (g : Result (List Value) Exception) (change : Thread → Thread) (t : Thread) → Asks (answered is_entry g change t)
-answering is_entry (Ok vs) change t = tt
-answering is_entry (Err exception) change t = raising is_entry exception t
+  answering : (g : Result (List Value) Exception) (change : Thread → Thread) (t : Thread) → Tells globals t.moment → Asks G globals (answered g change t)
+  answering (Ok vs) change t tells = tt
+  answering (Err exception) change t tells = raising exception t tells
 
-asking : (is_entry : Bool) (a : Action) (stack : List Value) (t : Thread) (change : Thread → Thread) → (a ≡ Await → ⊥) → Asks (asks is_entry a stack t change)
-asking is_entry a stack t change other =
-    asked t.moment a (λ given now. answered is_entry given change (record t { moment = now; stack = stack })) other (λ g now. answering is_entry g change (record t { moment = now; stack = stack }))
+  asking : (a : Action) (stack : List Value) (t : Thread) (change : Thread → Thread) → (a ≡ Await → ⊥) → Tells globals t.moment → Asks G globals (asks a stack t change)
+  asking a stack t change other tells =
+      asked t.moment a (λ given now. answered given change (record t { moment = now; stack = stack })) other tells (λ g now later. answering g change (record t { moment = now; stack = stack }) later)
 
--- ---- operands
+  -- ---- operands
 
-loading : (o : Option Value) (t : Thread) → Asks (loads o t)
-loading None t = tt
-loading (Some v) t = tt
+  loading : (o : Option Value) (t : Thread) → Asks G globals (loads o t)
+  loading None t = tt
+  loading (Some v) t = tt
 
-by_choice : (b : Bool) (first second : Next) → Asks first → Asks second → Asks (if b then first else second)
-by_choice true first second f s = f
-by_choice false first second f s = s
+  by_choice : (b : Bool) (first second : Next) → Asks first → Asks second → Asks G globals (if b then first else second)
+  by_choice true first second f s = f
+  by_choice false first second f s = s
 
-storing : (kind : Kind) (slot : ℕ) (stack : List Value) (t : Thread) → Asks (stores kind slot stack t)
-storing kind slot [] t = tt
-storing kind slot (v ∷ stack) t =
-    by_choice (nat_lt slot (length (variables kind t))) (goes stack (with_variables kind (slice_set (variables kind t) slot v) t)) stuck tt tt
+  storing : (kind : Kind) (slot : ℕ) (stack : List Value) (t : Thread) → Asks G globals (stores kind slot stack t)
+  storing kind slot [] t = tt
+  storing kind slot (v ∷ stack) t =
+      by_choice (nat_lt slot (length (variables kind t))) (goes stack (with_variables kind (slice_set (variables kind t) slot v) t)) stuck tt tt
 
-loading_member : (is_entry : Bool) (o : Option Value) (stack : List Value) (t : Thread) → Asks (loads_member is_entry o stack t)
-loading_member is_entry (Some (Row row)) (Int index ∷ stack) t = giving is_entry (member row index) stack t
-loading_member is_entry _ _ t = tt
+  loading_member : (o : Option Value) (stack : List Value) (t : Thread) → Tells globals t.moment → Asks G globals (loads_member o stack t)
+  loading_member (Some (Row row)) (Int index ∷ stack) t tells = giving (member row index) stack t tells
+  loading_member _ _ t tells = tt
 
-putting : (is_entry : Bool) (kind : Kind) (slot : ℕ) (r : Result (List ℤ) Exception) (stack : List Value) (t : Thread) → Asks (puts is_entry kind slot r stack t)
-putting is_entry kind slot (Ok row) stack t = tt
-putting is_entry kind slot (Err exception) stack t = raising is_entry exception t
+  putting : (kind : Kind) (slot : ℕ) (r : Result (List ℤ) Exception) (stack : List Value) (t : Thread) → Tells globals t.moment → Asks G globals (puts kind slot r stack t)
+  putting kind slot (Ok row) stack t tells = tt
+  putting kind slot (Err exception) stack t tells = raising exception t tells
 
-storing_member : (is_entry : Bool) (kind : Kind) (slot : ℕ) (o : Option Value) (stack : List Value) (t : Thread) → Asks (stores_member is_entry kind slot o stack t)
-storing_member is_entry kind slot (Some (Row row)) (Int v ∷ Int index ∷ stack) t = putting is_entry kind slot (with_member row index v) stack t
-storing_member is_entry kind slot _ _ t = tt
+  storing_member : (kind : Kind) (slot : ℕ) (o : Option Value) (stack : List Value) (t : Thread) → Tells globals t.moment → Asks G globals (stores_member kind slot o stack t)
+  storing_member kind slot (Some (Row row)) (Int v ∷ Int index ∷ stack) t tells = putting kind slot (with_member row index v) stack t tells
+  storing_member kind slot _ _ t tells = tt
 
-with_two_ints : (is_entry : Bool) (operator : ℤ → ℤ → Given) (t : Thread) (stack : List Value) → Asks (two_ints is_entry operator t stack)
-with_two_ints is_entry operator t (Int b ∷ Int a ∷ stack) = giving is_entry (operator a b) stack t
-with_two_ints is_entry operator t _ = tt
+  with_two_ints : (operator : ℤ → ℤ → Given) (t : Thread) (stack : List Value) → Tells globals t.moment → Asks G globals (two_ints operator t stack)
+  with_two_ints operator t (Int b ∷ Int a ∷ stack) tells = giving (operator a b) stack t tells
+  with_two_ints operator t _ tells = tt
 
-with_one_int : (is_entry : Bool) (operator : ℤ → Given) (t : Thread) (stack : List Value) → Asks (one_int is_entry operator t stack)
-with_one_int is_entry operator t (Int a ∷ stack) = giving is_entry (operator a) stack t
-with_one_int is_entry operator t _ = tt
+  with_one_int : (operator : ℤ → Given) (t : Thread) (stack : List Value) → Tells globals t.moment → Asks G globals (one_int operator t stack)
+  with_one_int operator t (Int a ∷ stack) tells = giving (operator a) stack t tells
+  with_one_int operator t _ tells = tt
 
-with_two_alike : (test : Value → Value → Bool) (t : Thread) (stack : List Value) → Asks (two_alike test t stack)
-with_two_alike test t (Int b ∷ Int a ∷ stack) = tt
-with_two_alike test t (Truth b ∷ Truth a ∷ stack) = tt
-with_two_alike test t (Text b ∷ Text a ∷ stack) = tt
-with_two_alike test t _ = tt
+  with_two_alike : (test : Value → Value → Bool) (t : Thread) (stack : List Value) → Asks G globals (two_alike test t stack)
+  with_two_alike test t (Int b ∷ Int a ∷ stack) = tt
+  with_two_alike test t (Truth b ∷ Truth a ∷ stack) = tt
+  with_two_alike test t (Text b ∷ Text a ∷ stack) = tt
+  with_two_alike test t _ = tt
 
-comparing : (test : ℤ → ℤ → Bool) (t : Thread) (stack : List Value) → Asks (compares test t stack)
-comparing test t (Int b ∷ Int a ∷ stack) = tt
-comparing test t _ = tt
+  comparing : (test : ℤ → ℤ → Bool) (t : Thread) (stack : List Value) → Asks G globals (compares test t stack)
+  comparing test t (Int b ∷ Int a ∷ stack) = tt
+  comparing test t _ = tt
 
-with_truth : (next : Bool → List Value → Next) (stack : List Value) → ((b : Bool) (rest : List Value) → Asks (next b rest)) → Asks (by_truth next stack)
-with_truth next (Truth b ∷ stack) onward = onward b stack
-with_truth next _ onward = tt
+  with_truth : (next : Bool → List Value → Next) (stack : List Value) → ((b : Bool) (rest : List Value) → Asks G globals (next b rest)) → Asks G globals (by_truth next stack)
+  with_truth next (Truth b ∷ stack) onward = onward b stack
+  with_truth next _ onward = tt
 
-deciding : (truth : Bool) (address : ℕ) (t : Thread) → Asks (decides truth address t)
-deciding truth address t =
-    with_truth (λ b stack. if truth_eq truth b then jumps address t.stack t else goes stack t) t.stack (λ b rest. by_choice (truth_eq truth b) (jumps address t.stack t) (goes rest t) tt tt)
+  deciding : (truth : Bool) (address : ℕ) (t : Thread) → Asks G globals (decides truth address t)
+  deciding truth address t =
+      with_truth (λ b stack. if truth_eq truth b then jumps address t.stack t else goes stack t) t.stack (λ b rest. by_choice (truth_eq truth b) (jumps address t.stack t) (goes rest t) tt tt)
 
-with_link : (next : Value → List Value → Next) (stack : List Value) → ((l : Value) (rest : List Value) → Asks (next l rest)) → Asks (by_link next stack)
-with_link next (Link n ∷ stack) onward = onward (Link n) stack
-with_link next _ onward = tt
+  with_link : (next : Value → List Value → Next) (stack : List Value) → ((l : Value) (rest : List Value) → Asks G globals (next l rest)) → Asks G globals (by_link next stack)
+  with_link next (Link n ∷ stack) onward = onward (Link n) stack
+  with_link next _ onward = tt
 
-with_values : (k : ℕ) (next : List Value → List Value → Next) (stack : List Value) → ((vs rest : List Value) → Asks (next vs rest)) → Asks (by_values k next stack)
-with_values k next stack onward =
-    by_choice (nat_le k (length stack)) (next (reverse (take k stack)) (drop k stack)) stuck (onward (reverse (take k stack)) (drop k stack)) tt
+  with_values : (k : ℕ) (next : List Value → List Value → Next) (stack : List Value) → ((vs rest : List Value) → Asks G globals (next vs rest)) → Asks G globals (by_values k next stack)
+  with_values k next stack onward =
+      by_choice (nat_le k (length stack)) (next (reverse (take k stack)) (drop k stack)) stuck (onward (reverse (take k stack)) (drop k stack)) tt
 
-writing : (next : List ℕ → List Value → Next) (stack : List Value) → ((text : List ℕ) (rest : List Value) → Asks (next text rest)) → Asks (writes next stack)
-writing next (Int n ∷ stack) onward = onward (written (Int n)) stack
-writing next (Truth b ∷ stack) onward = onward (written (Truth b)) stack
-writing next (Text bytes ∷ stack) onward = onward (written (Text bytes)) stack
-writing next _ onward = tt
+  writing : (next : List ℕ → List Value → Next) (stack : List Value) → ((text : List ℕ) (rest : List Value) → Asks G globals (next text rest)) → Asks G globals (writes next stack)
+  writing next (Int n ∷ stack) onward = onward (written (Int n)) stack
+  writing next (Truth b ∷ stack) onward = onward (written (Truth b)) stack
+  writing next (Text bytes ∷ stack) onward = onward (written (Text bytes)) stack
+  writing next _ onward = tt
 
-untrying : (os : List Opened) (t : Thread) → Asks (untries os t)
-untrying [] t = tt
-untrying (o ∷ os) t = tt
+  untrying : (os : List Opened) (t : Thread) → Asks G globals (untries os t)
+  untrying [] t = tt
+  untrying (o ∷ os) t = tt
 
-handling : (exception : Exception) (address : ℕ) (o : Option Exception) (t : Thread) → Asks (handles exception address o t)
-handling exception address None t = tt
-handling exception address (Some pending) t =
-    by_choice (bytes_eq (exception_text pending) (exception_text exception)) (goes t.stack t) (jumps address t.stack t) tt tt
+  handling : (exception : Exception) (address : ℕ) (o : Option Exception) (t : Thread) → Asks G globals (handles exception address o t)
+  handling exception address None t = tt
+  handling exception address (Some pending) t =
+      by_choice (bytes_eq (exception_text pending) (exception_text exception)) (goes t.stack t) (jumps address t.stack t) tt tt
 
-raising_again : (is_entry : Bool) (o : Option Exception) (t : Thread) → Asks (again is_entry o t)
-raising_again is_entry None t = tt
-raising_again is_entry (Some exception) t = raising is_entry exception t
+  raising_again : (o : Option Exception) (t : Thread) → Tells globals t.moment → Asks G globals (again o t)
+  raising_again None t tells = tt
+  raising_again (Some exception) t tells = raising exception t tells
 
-connecting : (is_entry : Bool) (op : ℕ) (o : Option ℕ) (t : Thread) → Asks (connects is_entry op o t)
-connecting is_entry op None t = tt
-connecting is_entry op (Some arguments) t =
-    with_link (λ link below. by_values arguments (λ vs stack. asks is_entry (Connect link op vs) stack t (λ now. now)) below) t.stack
-    (λ link below. with_values arguments (λ vs stack. asks is_entry (Connect link op vs) stack t (λ now. now)) below (λ vs stack. asking is_entry (Connect link op vs) stack t (λ now. now) (λ e. cc)))
+  connecting : (op : ℕ) (o : Option ℕ) (t : Thread) → Tells globals t.moment → Asks G globals (connects op o t)
+  connecting op None t tells = tt
+  connecting op (Some arguments) t tells =
+      with_link (λ link below. by_values arguments (λ vs stack. asks (Connect link op vs) stack t (λ now. now)) below) t.stack
+      (λ link below. with_values arguments (λ vs stack. asks (Connect link op vs) stack t (λ now. now)) below (λ vs stack. asking (Connect link op vs) stack t (λ now. now) (λ e. cc) tells))
 
-closing_accept : (is_entry : Bool) (n : ℕ) (t : Thread) → Asks (closes_accept is_entry n t)
-closing_accept is_entry zero t = tt
-closing_accept is_entry (suc accepts) t = asking is_entry Close t.stack (record t { accepts = accepts }) (λ now. now) (λ e. cc)
+  closing_request : (requests : List ℕ) (t : Thread) → Tells globals t.moment → Asks G globals (closes_request requests t)
+  closing_request [] t tells = tt
+  closing_request (op ∷ requests) t tells = asking Close t.stack (record t { requests = requests }) (λ now. now) (λ e. cc) tells
 
-trying_again : (is_entry : Bool) (address : ℕ) (g : Result (List Value) Exception) (t : Thread) → Asks (tries_again is_entry address g t)
-trying_again is_entry address (Ok vs) t = tt
-trying_again is_entry address (Err exception) t = raising is_entry exception t
+  trying_again : (address : ℕ) (g : Result (List Value) Exception) (t : Thread) → Tells globals t.moment → Asks G globals (tries_again address g t)
+  trying_again address (Ok vs) t tells = tt
+  trying_again address (Err exception) t tells = raising exception t tells
 
--- an await that found false was given its outcome
-waiting : (is_entry : Bool) (address : ℕ) (m : Moment) (given : List Answer) (t : Thread) (stack : List Value) → (given ≡ [] → ⊥) →
-    Asks (takes_outcome m Await given (λ g now. tries_again is_entry address g (record t { moment = now; stack = stack })))
-waiting is_entry address m [] t stack some = absurd (some refl)
-waiting is_entry address m (a ∷ rest) t stack some = trying_again is_entry address a.given (record t { moment = after m Await a rest; stack = stack })
+  -- an await that found false was given its outcome
+  waiting : (address : ℕ) (m : Moment) (given : List Answer) (t : Thread) (stack : List Value) → (G → given ≡ [] → ⊥) → m.store.globals ≡ globals → AllTell globals given →
+      Asks G globals (takes_outcome m Await given (λ g now. tries_again address g (record t { moment = now; stack = stack })))
+  waiting address m [] t stack some now later = ((λ given e. some given refl), now)
+  waiting address m (a ∷ rest) t stack some now later = trying_again address a.given (record t { moment = after m Await a rest; stack = stack }) (record { now = later.0; later = later.1 })
 
--- ---- all instructions
+  -- ---- all instructions
 
-module _ (p : Program) (e : Bool) (t : Thread) (some : t.moment.answers ≡ [] → ⊥) where
-  stepped : (i : Instruction) → Asks (step p e t i)
-  stepped (code.Push l) = tt
-  stepped (code.LoadG slot) = loading (slice_get (variables Global t) slot) t
-  stepped (code.LoadL slot) = loading (slice_get (variables Local t) slot) t
-  stepped (code.AtG slot) = loading_member e (slice_get (variables Global t) slot) t.stack t
-  stepped (code.AtL slot) = loading_member e (slice_get (variables Local t) slot) t.stack t
-  stepped (code.StoreG slot) = storing Global slot t.stack t
-  stepped (code.StoreL slot) = storing Local slot t.stack t
-  stepped (code.PutG slot) = storing_member e Global slot (slice_get (variables Global t) slot) t.stack t
-  stepped (code.PutL slot) = storing_member e Local slot (slice_get (variables Local t) slot) t.stack t
-  stepped code.Add = with_two_ints e add t t.stack
-  stepped code.Sub = with_two_ints e subtract t t.stack
-  stepped code.Mul = with_two_ints e multiply t t.stack
-  stepped code.Div = with_two_ints e divide t t.stack
-  stepped code.Mod = with_two_ints e reduce t t.stack
-  stepped code.Neg = with_one_int e negate t t.stack
-  stepped code.Eq = with_two_alike value_eq t t.stack
-  stepped code.Ne = with_two_alike (λ a b. not (value_eq a b)) t t.stack
-  stepped code.Lt = comparing int_lt t t.stack
-  stepped code.Le = comparing int_le t t.stack
-  stepped code.Gt = comparing (λ a b. int_lt b a) t t.stack
-  stepped code.Ge = comparing (λ a b. int_le b a) t t.stack
-  stepped code.Not = with_truth (λ b stack. goes (Truth (not b) ∷ stack) t) t.stack (λ b rest. tt)
-  stepped (code.AndJ address) = deciding false address t
-  stepped (code.OrJ address) = deciding true address t
-  stepped (code.JumpF address) = with_truth (λ b stack. if b then goes stack t else jumps address stack t) t.stack (λ b rest. by_choice b (goes rest t) (jumps address rest t) tt tt)
-  stepped (code.Jump address) = tt
-  stepped (code.Await address) =
-      with_truth (λ b stack. if b then goes stack t else with_outcome t.moment Await (λ given now. tries_again e address given (record t { moment = now; stack = stack }))) t.stack
-      (λ b rest.
-      by_choice b (goes rest t) (with_outcome t.moment Await (λ given now. tries_again e address given (record t { moment = now; stack = rest }))) tt
-      (waiting e address t.moment t.moment.answers t rest some))
-  stepped (code.Try address) = tt
-  stepped code.Untry = untrying t.tries t
-  stepped (code.Case exception address) = handling exception address t.pending t
-  stepped code.Again = raising_again e t.pending t
-  stepped (code.Raise exception) = raising e exception t
-  stepped code.Write = writing (λ text stack. asks e (Write text) stack t (λ now. now)) t.stack (λ text rest. asking e (Write text) rest t (λ now. now) (λ e. cc))
-  stepped code.New = asking e New t.stack t (λ now. now) (λ e. cc)
-  stepped code.Destroy = with_link (λ link stack. asks e (Destroy link) stack t (λ now. now)) t.stack (λ link rest. asking e (Destroy link) rest t (λ now. now) (λ e. cc))
-  stepped (code.Bind entry) = with_link (λ link stack. asks e (Bind link entry) stack t (λ now. now)) t.stack (λ link rest. asking e (Bind link entry) rest t (λ now. now) (λ e. cc))
-  stepped (code.Unbind entry) = with_link (λ link stack. asks e (Unbind link entry) stack t (λ now. now)) t.stack (λ link rest. asking e (Unbind link entry) rest t (λ now. now) (λ e. cc))
-  stepped (code.Connect op) = connecting e op (slice_get p.arguments op) t
-  stepped (code.Accept op) =
-      with_link (λ link stack. asks e (Accept link op) stack t (λ now. record now { accepts = now.accepts + 1 })) t.stack
-      (λ link rest. asking e (Accept link op) rest t (λ now. record now { accepts = now.accepts + 1 }) (λ e. cc))
-  stepped code.Close = closing_accept e t.accepts t
-  stepped (code.Reply k) = with_values k (λ vs stack. asks e (Reply vs) stack t (λ now. now)) t.stack (λ vs rest. asking e (Reply vs) rest t (λ now. now) (λ e. cc))
-  stepped code.Stop = another t.moment.actions Stop (λ e. cc)
-  stepped code.End = ending e t.moment
+  module _ (p : Program) (t : Thread) (some : G → t.moment.answers ≡ [] → ⊥) (tells : Tells globals t.moment) where
+    stepped : (i : Instruction) → Asks G globals (step p t i)
+    stepped (code.Push l) = tt
+    stepped (code.LoadG slot) = loading (slice_get (variables Global t) slot) t
+    stepped (code.LoadL slot) = loading (slice_get (variables Local t) slot) t
+    stepped (code.AtG slot) = loading_member (slice_get (variables Global t) slot) t.stack t tells
+    stepped (code.AtL slot) = loading_member (slice_get (variables Local t) slot) t.stack t tells
+    stepped (code.StoreG slot) = storing Global slot t.stack t
+    stepped (code.StoreL slot) = storing Local slot t.stack t
+    stepped (code.PutG slot) = storing_member Global slot (slice_get (variables Global t) slot) t.stack t tells
+    stepped (code.PutL slot) = storing_member Local slot (slice_get (variables Local t) slot) t.stack t tells
+    stepped code.Add = with_two_ints add t t.stack tells
+    stepped code.Sub = with_two_ints subtract t t.stack tells
+    stepped code.Mul = with_two_ints multiply t t.stack tells
+    stepped code.Div = with_two_ints divide t t.stack tells
+    stepped code.Mod = with_two_ints reduce t t.stack tells
+    stepped code.Neg = with_one_int negate t t.stack tells
+    stepped code.Eq = with_two_alike value_eq t t.stack
+    stepped code.Ne = with_two_alike (λ a b. not (value_eq a b)) t t.stack
+    stepped code.Lt = comparing int_lt t t.stack
+    stepped code.Le = comparing int_le t t.stack
+    stepped code.Gt = comparing (λ a b. int_lt b a) t t.stack
+    stepped code.Ge = comparing (λ a b. int_le b a) t t.stack
+    stepped code.Not = with_truth (λ b stack. goes (Truth (not b) ∷ stack) t) t.stack (λ b rest. tt)
+    stepped (code.AndJ address) = deciding false address t
+    stepped (code.OrJ address) = deciding true address t
+    stepped (code.JumpF address) = with_truth (λ b stack. if b then goes stack t else jumps address stack t) t.stack (λ b rest. by_choice b (goes rest t) (jumps address rest t) tt tt)
+    stepped (code.Jump address) = tt
+    stepped (code.Await address) =
+        with_truth (λ b stack. if b then goes stack t else with_outcome t.moment Await (λ given now. tries_again address given (record t { moment = now; stack = stack }))) t.stack
+        (λ b rest.
+        by_choice b (goes rest t) (with_outcome t.moment Await (λ given now. tries_again address given (record t { moment = now; stack = rest }))) tt
+        (waiting address t.moment t.moment.answers t rest some tells.now tells.later))
+    stepped (code.Try address) = tt
+    stepped code.Untry = untrying t.tries t
+    stepped (code.Case exception address) = handling exception address t.pending t
+    stepped code.Again = raising_again t.pending t tells
+    stepped (code.Raise exception) = raising exception t tells
+    stepped code.Write = writing (λ text stack. asks (Write text) stack t (λ now. now)) t.stack (λ text rest. asking (Write text) rest t (λ now. now) (λ e. cc) tells)
+    stepped code.New = asking New t.stack t (λ now. now) (λ e. cc) tells
+    stepped code.Destroy = with_link (λ link stack. asks (Destroy link) stack t (λ now. now)) t.stack (λ link rest. asking (Destroy link) rest t (λ now. now) (λ e. cc) tells)
+    stepped (code.Bind entry) = with_link (λ link stack. asks (Bind link entry) stack t (λ now. now)) t.stack (λ link rest. asking (Bind link entry) rest t (λ now. now) (λ e. cc) tells)
+    stepped (code.Unbind entry) = with_link (λ link stack. asks (Unbind link entry) stack t (λ now. now)) t.stack (λ link rest. asking (Unbind link entry) rest t (λ now. now) (λ e. cc) tells)
+    stepped (code.Connect op) = connecting op (slice_get p.arguments op) t tells
+    stepped (code.Accept op) =
+        with_link (λ link stack. asks (Accept link op) stack t (λ now. record now { requests = op ∷ now.requests })) t.stack
+        (λ link rest. asking (Accept link op) rest t (λ now. record now { requests = op ∷ now.requests }) (λ e. cc) tells)
+    stepped code.Close = closing_request t.requests t tells
+    stepped (code.Reply k) = with_values k (λ vs stack. asks (Reply vs) stack t (λ now. now)) t.stack (λ vs rest. asking (Reply vs) rest t (λ now. now) (λ e. cc) tells)
+    stepped code.Stop = ((λ some. another t.moment.actions Stop (λ e. cc)), tells.now)
+    stepped code.End = ending t.requests t.moment tells
 
-  fetching : (o : Option Instruction) → Asks (fetched p e t o)
-  fetching None = tt
-  fetching (Some i) = stepped i
+    pub fetching : (o : Option Instruction) → Asks G globals (fetched p t o)
+    fetching None = tt
+    fetching (Some i) = stepped i
 
 -- ---- what comes of an instruction
 
@@ -248,18 +259,31 @@ acted_is_no_try (Some (Write text)) globals s other = tt
 acted_is_no_try (Some Await) globals s other = absurd (other refl)
 acted_is_no_try (Some Stop) globals s other = tt
 
-made_is_no_try : (awaits : Bool) (s : Standing) (next : Next) → Asks next → IsNoTry (made awaits s next)
-made_is_no_try awaits s (Goes now) asks = tt
-made_is_no_try awaits s (Over (Comes (Waits actions store))) asks = acted_is_no_try (last_action actions) store.globals s asks
-made_is_no_try awaits s (Over (Comes (Ended actions store))) asks = tt
-made_is_no_try awaits s (Over (Comes (Out actions))) asks = tt
-made_is_no_try awaits s (Over Stuck) asks = tt
+made_is_no_try : (G : Type 0) (globals : List Value) (awaits : Bool) (s : Standing) (next : Next) → G → Asks G globals next → IsNoTry (made awaits s next)
+made_is_no_try G globals awaits s (Goes now) some asks = tt
+made_is_no_try G globals awaits s (Over (Comes (Waits actions store))) some asks = acted_is_no_try (last_action actions) store.globals s (asks.0 some)
+made_is_no_try G globals awaits s (Over (Comes (Ended actions store))) some asks = tt
+made_is_no_try G globals awaits s (Over (Comes (Out actions))) some asks = tt
+made_is_no_try G globals awaits s (Over Stuck) some asks = tt
 
 some_answers : (globals : List Value) (given : List Outcome) → is_empty given ≡ false → answers globals given ≡ [] → ⊥
 some_answers globals [] some e = cc
 some_answers globals (o ∷ os) some e = cc
 
+-- all that an instruction was given tells the variables as they stand
+all_tell : (globals : List Value) (given : List threads.Outcome) → AllTell globals (answers globals given)
+all_tell globals [] = tt
+all_tell globals (o ∷ os) = (refl, all_tell globals os)
+
+asks_there : (G : Type 0) (p : Program) (globals : List Value) (s : Standing) → (G → answers globals s.given ≡ [] → ⊥) → Asks G globals (goes_on p globals s)
+asks_there G p globals s some =
+    fetching G globals p (in_turn globals s) some (record { now = refl; later = all_tell globals s.given }) (slice_get p.instructions s.address)
+
+-- where its instruction waits, the variables of the module are as before
+pub waits_with : (p : Program) (globals : List Value) (s : Standing) (actions : List Action) (store : Store) → goes_on p globals s ≡ Over (Comes (Waits actions store)) → store.globals ≡ globals
+waits_with p globals s actions store is = (subst (λ (next : Next). Asks ⊥ globals next) is (asks_there ⊥ p globals s (λ given. absurd given))).1
+
 pub given_is_no_try : (p : Program) (globals : List Value) (s : Standing) → is_fresh s ≡ false → IsNoTry (comes_of p globals s)
 given_is_no_try p globals s some =
-    made_is_no_try (is_await (slice_get p.instructions s.address)) s (goes_on p globals s)
-    (fetching p s.is_entry (in_turn globals s) (some_answers globals s.given some) (slice_get p.instructions s.address))
+    made_is_no_try Unit globals (is_await (slice_get p.instructions s.address)) s (goes_on p globals s) tt
+    (asks_there Unit p globals s (λ given. some_answers globals s.given some))

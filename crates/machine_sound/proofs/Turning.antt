@@ -2,14 +2,13 @@
 use Rattle.std.proofs.Common.{◌≡◌, ℕ, zero, suc, ◌+◌, ◌<◌, List, [], ◌∷◌, ◌++◌, length, Bool, true, false, if◌then◌else◌, Option, Some, None, is_some, slice_get, slice_set, refl, sym, ap, subst, ◌∙◌, ⊎_elim, length-set}
 use Rattle.std.specs.List.{list_any}
 use Rattle.std.proofs.lemmas.Option.{slice_get_within}
-use Rattle.lynx_tree.specs.declared.declaration.TypeName.{TypeName}
 use Rattle.lynx_code.specs.declared.instruction.Instruction.{Instruction}
 use Rattle.lynx_meaning.specs.Code.{Program}
 use Rattle.lynx_meaning.specs.Courses.{Action, New, Destroy, Bind, Unbind, Connect, Accept, Close, Reply, Write, Await, Stop}
 use Rattle.lynx_meaning.specs.Values.{Value, HaveTypes}
-use Rattle.code_shapes.specs.Shapes.{ModuleTypes, Shapes, AreShapes, program}
+use Rattle.code_shapes.specs.Shapes.{ModuleTypes, Shapes, AreShapes, program, PartTypes}
 use Rattle.machine_turns.specs.Threads.{Standing, Made, Went, Acts, Awaits, Ends, Broken, if_went, comes_of, course, fuel_after}
-use Rattle.lynx_meaning.specs.Needs.{Wanted, wanted_by}
+use Rattle.lynx_meaning.specs.Needs.{Wanted, wanted_by, Results, Arguments}
 use Rattle.machine_turns.specs.Turns.{Beat, Turns, RunsOn, Stops, Act, asks_for, awaits, beat, beats, comes, is_ready_after, next_turn, stands, turn_of, wakes, with_thread}
 use Rattle.machine_turns.specs.Turns as turns
 use Rattle.machine_steps.specs.Operands.{FindsInstruction, IsReady, StaysReady, after}
@@ -33,7 +32,10 @@ changed_threads ts n o P there changed others k s is =
 one_place : (s : Standing) (w : Option Wanted) → s.wanted ≡ w → is_ready_after w ≡ false → places_for (Some (Some s)) ≡ 1
 one_place s w is free = ap (λ (v : Option Wanted). if is_ready_after v then 0 else 1) is ∙ ap (λ b. if b then 0 else 1) free
 
-module _ (m : ModuleTypes) (parts : List (ℕ × List TypeName)) (instructions : List Instruction) where
+blocked_place : (s : Standing) (w : Wanted) → s.wanted ≡ Some w → is_ready_after (Some w) ≡ true → places_for (Some (Some s)) ≡ 0
+blocked_place s w is blocked = ap (λ (v : Option Wanted). if is_ready_after v then 0 else 1) is ∙ ap (λ b. if b then 0 else 1) blocked
+
+module _ (m : ModuleTypes) (parts : List PartTypes) (instructions : List Instruction) where
   abbrev pub SoundBeat : Beat → Type 0
   SoundBeat (RunsOn fuel t) = AreSound m parts instructions t
   SoundBeat (Stops stop fuel t) = AreSound m parts instructions t
@@ -65,10 +67,10 @@ module _ (m : ModuleTypes) (parts : List (ℕ × List TypeName)) (instructions :
     abbrev now : List Value → Turns
     now globals = record t { globals = globals }
 
-    blocks : (a : Action) (globals : List Value) (u : Standing) → IsSoundThread m instructions is.shapes globals u → HaveTypes m.globals globals → AreSound m parts instructions (with_thread n (Some u) (wakes (now globals)))
-    blocks a globals u sound typed =
+    blocks : (globals : List Value) (u : Standing) → IsSoundThread m instructions is.shapes globals u → HaveTypes m.globals globals → places_for (Some (Some u)) ≡ 0 → AreSound m parts instructions (with_thread n (Some u) (wakes (now globals)))
+    blocks globals u sound typed no_place =
         with_changed t (with_thread n (Some u) (wakes (now globals))) n (Some u) is there refl typed (λ r e. let same : u ≡ r = cc in subst (λ (q : Standing). IsSoundThread m instructions is.shapes globals q) same sound)
-        (wakes_all t (with_thread n (Some u) (wakes (now globals))) n (Some u) there refl runs is.placed refl refl refl)
+        (wakes_all t (with_thread n (Some u) (wakes (now globals))) n (Some u) there refl runs is.placed refl refl refl no_place)
 
     keeps : (globals : List Value) (u : Standing) → IsSoundThread m instructions is.shapes globals u → HaveTypes m.globals globals → places_for (Some (Some u)) ≡ 1 →
         AreSound m parts instructions (with_thread n (Some u) (record t { globals = globals; running = Some n }))
@@ -79,8 +81,8 @@ module _ (m : ModuleTypes) (parts : List (ℕ × List TypeName)) (instructions :
 
     asks : (a : Action) (globals : List Value) (u : Standing) → IsSoundThread m instructions is.shapes globals u → HaveTypes m.globals globals → u.wanted ≡ Some (wanted_by a) →
         AreSound m parts instructions (with_thread n (Some u) (asks_for n a (now globals)))
-    asks (Connect link op values) globals u sound typed wants = blocks (Connect link op values) globals u sound typed
-    asks (Accept link op) globals u sound typed wants = blocks (Accept link op) globals u sound typed
+    asks (Connect link op values) globals u sound typed wants = blocks globals u sound typed (blocked_place u (Results op) wants refl)
+    asks (Accept link op) globals u sound typed wants = blocks globals u sound typed (blocked_place u (Arguments op) wants refl)
     asks New globals u sound typed wants = keeps globals u sound typed (one_place u (Some (wanted_by New)) wants refl)
     asks (Destroy link) globals u sound typed wants = keeps globals u sound typed (one_place u (Some (wanted_by (Destroy link))) wants refl)
     asks (Bind link entry) globals u sound typed wants = keeps globals u sound typed (one_place u (Some (wanted_by (Bind link entry))) wants refl)
@@ -102,7 +104,7 @@ module _ (m : ModuleTypes) (parts : List (ℕ × List TypeName)) (instructions :
 
     ends : (globals : List Value) → HaveTypes m.globals globals → AreSound m parts instructions (with_thread n None (wakes (now globals)))
     ends globals typed =
-        with_changed t (with_thread n None (wakes (now globals))) n None is there refl typed (λ r e. cc) (wakes_all t (with_thread n None (wakes (now globals))) n None there refl runs is.placed refl refl refl)
+        with_changed t (with_thread n None (wakes (now globals))) n None is there refl typed (λ r e. cc) (wakes_all t (with_thread n None (wakes (now globals))) n None there refl runs is.placed refl refl refl refl)
 
     comes_sound : (last : Made) → is_ready_after s.wanted ≡ false → SoundMade m instructions is.shapes s last → SoundBeat (comes fuel n t last)
     comes_sound (Went globals u) free sound = keeps globals u sound.0 sound.1 (one_place u None sound.2 refl)
@@ -234,7 +236,7 @@ module _ (m : ModuleTypes) (parts : List (ℕ × List TypeName)) (instructions :
       let th = is.thread in
       let found = instruction_at m parts instructions shapes s.address th.shape are th.there in
       subst (λ (o : Option Instruction). FindsInstruction p o globals s) (sym found.1)
-      (finds m instructions shapes globals th.shape s th.globals th.has.locals th.has.stack th.has.tries th.has.accepts th.has.pending found.0 found.2)
+      (finds m instructions shapes globals th.shape s th.globals th.has.locals th.has.stack th.has.tries th.has.requests th.has.pending found.0 found.2)
 
   abbrev Later : Shapes → ℕ → Type 0
   Later shapes k = (globals now : List Value) (s t : Standing) → AreShapes m parts instructions shapes → IsSoundThread m instructions shapes globals s → after p k globals s ≡ Went now t → IsReady p now t

@@ -10,7 +10,7 @@ use Rattle.machine_turns.specs.Threads.{Standing, Made, Went, Broken, if_went, c
 
 -- what comes of an instruction of a thread, with these variables of the module
 abbrev pub does : Program → Instruction → List Value → Standing → Made
-does p i globals s = made (is_await (Some i)) s (step p s.is_entry (in_turn globals s) i)
+does p i globals s = made (is_await (Some i)) s (step p (in_turn globals s) i)
 
 -- ---- what stands on top
 
@@ -79,7 +79,7 @@ Finds p (code.Bind entry) globals s = TopIsLink s.stack
 Finds p (code.Unbind entry) globals s = TopIsLink s.stack
 Finds p (code.Connect op) globals s = HasValues (slice_get p.arguments op) s.stack
 Finds p (code.Accept op) globals s = TopIsLink s.stack
-Finds p code.Close globals s = 0 < s.accepts
+Finds p code.Close globals s = 0 < length s.requests
 Finds p (code.Reply k) globals s = k ≤ length s.stack
 Finds p code.Stop globals s = ⊤
 Finds p code.End globals s = ⊤

@@ -1,11 +1,11 @@
 -- An instruction that goes on with the outcome of its action.
-use Rattle.std.proofs.Common.{arith, ◌≡◌, ℕ, suc, ◌+◌, ◌<◌, ◌≤◌, List, [], ◌∷◌, ◌++◌, length, take, drop, reverse, Bool, true, false, nat_le, Some, Result, Ok, Err, IfOk, refl, ap, sym, subst, if◌then◌else◌, ◌∙◌, not-suc-le-zero}
+use Rattle.std.proofs.Common.{arith, ◌≡◌, ℕ, suc, ◌+◌, ◌<◌, ◌≤◌, List, [], ◌∷◌, ◌++◌, length, take, drop, reverse, Bool, true, false, nat_le, Some, Result, Ok, Err, IfOk, refl, ap, sym, subst, if◌then◌else◌, ◌∙◌, not-suc-le-zero, None}
 use Rattle.std.proofs.lemmas.Bool.Decides.{nat_tests}
 use Rattle.typing_rules.specs.declared.exception.Exception.{Exception}
-use Rattle.lynx_meaning.specs.Code.{Next, Over, Stuck, Thread, with_outcome, answered, asks, by_link, by_truth, by_values, closes_accept, goes, raises, tries_again, writes}
-use Rattle.lynx_meaning.specs.Courses.{Action, Await, Close, Outcome}
+use Rattle.lynx_meaning.specs.Code.{Next, Over, Stuck, Thread, with_outcome, answered, asks, by_link, by_truth, by_values, goes, raises, tries_again, writes, closes_request}
+use Rattle.lynx_meaning.specs.Courses.{Action, Await, Close, Outcome, Accept}
 use Rattle.lynx_meaning.specs.Values.{Value, Int, Truth, Text, Row, Link, written}
-use Rattle.machine_turns.specs.Threads.{Standing, in_turn, is_empty, made}
+use Rattle.machine_turns.specs.Threads.{Standing, in_turn, is_empty, made, Made}
 use Rattle.machine_stack.specs.Stacks.{TopIsLink}
 use Rattle.machine_steps.specs.Operands.{HasValues, TopIsPlain}
 use Rattle.machine_thread.specs.Closes.{raising}
@@ -26,93 +26,95 @@ has_outcome (o ∷ os) is = omega arith
 -- that changes nothing but the stack
 by_plain : (globals : List Value) (action : Action) (taken : ℕ) (s : Standing) (o : Outcome) (os : List Outcome) →
     let given = record s { given = o ∷ os } in
-    made false given (asks s.is_entry action (drop taken s.stack) (in_turn globals given) (λ now. now)) ≡
-    made false given (answered s.is_entry o (λ now. record now { accepts = s.accepts }) (raising globals ([] ++ action ∷ []) taken 1 s.accepts given))
+    made false given (asks action (drop taken s.stack) (in_turn globals given) (λ now. now)) ≡ made false given (answered o (λ now. now) (raising globals ([] ++ action ∷ []) taken 1 0 given))
 by_plain globals action taken s (Ok vs) os = refl
 by_plain globals action taken s (Err x) os = refl
 
 with_plain : (globals : List Value) (action : Action) (taken : ℕ) (s : Standing) (os : List Outcome) → 0 < length os →
     let given = record s { given = os } in
-    made false given (asks s.is_entry action (drop taken s.stack) (in_turn globals given) (λ now. now)) ≡
-    made false given (answered s.is_entry (first_given os) (λ now. record now { accepts = s.accepts }) (raising globals ([] ++ action ∷ []) taken 1 s.accepts given))
+    made false given (asks action (drop taken s.stack) (in_turn globals given) (λ now. now)) ≡ made false given (answered (first_given os) (λ now. now) (raising globals ([] ++ action ∷ []) taken 1 0 given))
 with_plain globals action taken s [] some = absurd (not-suc-le-zero some)
 with_plain globals action taken s (o ∷ os) some = by_plain globals action taken s o os
 
-pub plain : (globals : List Value) (action : Action) (taken accepts : ℕ) (s : Standing) → accepts ≡ s.accepts → 0 < length s.given →
-    made false s (asks s.is_entry action (drop taken s.stack) (in_turn globals s) (λ now. now)) ≡
-    made false s (answered s.is_entry (first_given s.given) (λ now. record now { accepts = accepts }) (raising globals ([] ++ action ∷ []) taken 1 accepts s))
-plain globals action taken accepts s is some =
-    with_plain globals action taken s s.given some
-    ∙ ap (λ (n : ℕ). made false s (answered s.is_entry (first_given s.given) (λ now. record now { accepts = n }) (raising globals ([] ++ action ∷ []) taken 1 n s))) (sym is)
+pub plain : (globals : List Value) (action : Action) (taken : ℕ) (s : Standing) → 0 < length s.given →
+    made false s (asks action (drop taken s.stack) (in_turn globals s) (λ now. now)) ≡ made false s (answered (first_given s.given) (λ now. now) (raising globals ([] ++ action ∷ []) taken 1 0 s))
+plain globals action taken s some = with_plain globals action taken s s.given some
 
--- after which one accept more is open
-by_accept : (globals : List Value) (action : Action) (s : Standing) (o : Outcome) (os : List Outcome) →
-    let given = record s { given = o ∷ os } in
-    made false given (asks s.is_entry action (drop 1 s.stack) (in_turn globals given) (λ now. record now { accepts = now.accepts + 1 })) ≡
-    made false given (answered s.is_entry o (λ now. record now { accepts = s.accepts + 1 }) (raising globals ([] ++ action ∷ []) 1 1 s.accepts given))
-by_accept globals action s (Ok vs) os = refl
-by_accept globals action s (Err x) os = refl
+-- an accept, after whose values a request more is open
+abbrev accepts : List Value → ℕ → Value → Standing → Made
+accepts globals op link s = made false s (asks (Accept link op) (drop 1 s.stack) (in_turn globals s) (λ now. record now { requests = op ∷ now.requests }))
 
-with_accept : (globals : List Value) (action : Action) (s : Standing) (os : List Outcome) → 0 < length os →
+accepted_by : (globals : List Value) (op : ℕ) (link : Value) (s : Standing) (os : List Outcome) → 0 < length os → raised_by (first_given os) ≡ None →
     let given = record s { given = os } in
-    made false given (asks s.is_entry action (drop 1 s.stack) (in_turn globals given) (λ now. record now { accepts = now.accepts + 1 })) ≡
-    made false given (answered s.is_entry (first_given os) (λ now. record now { accepts = s.accepts + 1 }) (raising globals ([] ++ action ∷ []) 1 1 s.accepts given))
-with_accept globals action s [] some = absurd (not-suc-le-zero some)
-with_accept globals action s (o ∷ os) some = by_accept globals action s o os
+    let opened = record given { requests = op ∷ s.requests } in
+    accepts globals op link given ≡ made false opened (answered (first_given os) (λ now. now) (raising globals ([] ++ Accept link op ∷ []) 1 1 0 opened))
+accepted_by globals op link s [] some none = absurd (not-suc-le-zero some)
+accepted_by globals op link s (Ok vs ∷ os) some none = refl
+accepted_by globals op link s (Err x ∷ os) some none = cc
 
-pub accepting : (globals : List Value) (action : Action) (before now : ℕ) (s : Standing) → before ≡ s.accepts → now ≡ s.accepts + 1 → 0 < length s.given →
-    made false s (asks s.is_entry action (drop 1 s.stack) (in_turn globals s) (λ now. record now { accepts = now.accepts + 1 })) ≡
-    made false s (answered s.is_entry (first_given s.given) (λ t. record t { accepts = now }) (raising globals ([] ++ action ∷ []) 1 1 before s))
-accepting globals action before now s same more some =
-    with_accept globals action s s.given some
-    ∙ ap (λ (n : ℕ). made false s (answered s.is_entry (first_given s.given) (λ t. record t { accepts = n }) (raising globals ([] ++ action ∷ []) 1 1 s.accepts s))) (sym more)
-    ∙ ap (λ (n : ℕ). made false s (answered s.is_entry (first_given s.given) (λ t. record t { accepts = now }) (raising globals ([] ++ action ∷ []) 1 1 n s))) (sym same)
+pub accepted : (globals : List Value) (op : ℕ) (link : Value) (s opened : Standing) → opened ≡ record s { requests = op ∷ s.requests } → 0 < length s.given → raised_by (first_given s.given) ≡ None →
+    accepts globals op link s ≡ made false opened (answered (first_given opened.given) (λ now. now) (raising globals ([] ++ Accept link op ∷ []) 1 1 0 opened))
+accepted globals op link s opened is some none =
+    accepted_by globals op link s s.given some none
+    ∙ ap (λ (u : Standing). made false u (answered (first_given u.given) (λ now. now) (raising globals ([] ++ Accept link op ∷ []) 1 1 0 u))) (sym is)
 
--- the innermost accept is closed
-by_close : (globals : List Value) (k : ℕ) (s : Standing) (o : Outcome) (os : List Outcome) →
-    let given = record s { given = o ∷ os } in
-    made false given (closes_accept s.is_entry (suc k) (in_turn globals given)) ≡
-    made false given (answered s.is_entry o (λ now. record now { accepts = k }) (raising globals ([] ++ Close ∷ []) 0 1 k given))
-by_close globals k s (Ok vs) os = refl
-by_close globals k s (Err x) os = refl
-
-with_close : (globals : List Value) (k : ℕ) (s : Standing) (os : List Outcome) → 0 < length os →
+refused_by : (globals : List Value) (op : ℕ) (link : Value) (x : Exception) (s : Standing) (os : List Outcome) → raised_by (first_given os) ≡ Some x →
     let given = record s { given = os } in
-    made false given (closes_accept s.is_entry (suc k) (in_turn globals given)) ≡
-    made false given (answered s.is_entry (first_given os) (λ now. record now { accepts = k }) (raising globals ([] ++ Close ∷ []) 0 1 k given))
-with_close globals k s [] some = absurd (not-suc-le-zero some)
-with_close globals k s (o ∷ os) some = by_close globals k s o os
+    accepts globals op link given ≡ made false given (raises x (raising globals ([] ++ Accept link op ∷ []) 1 1 0 given))
+refused_by globals op link x s [] is = cc
+refused_by globals op link x s (Ok vs ∷ os) is = cc
+refused_by globals op link x s (Err y ∷ os) is =
+    let same : y ≡ x = cc in
+    let given = record s { given = Err y ∷ os } in
+    ap (λ (z : Exception). made false given (raises z (raising globals ([] ++ Accept link op ∷ []) 1 1 0 given))) same
 
-pub closing : (globals : List Value) (k : ℕ) (s : Standing) → 0 < length s.given → s.accepts ≡ suc k →
-    made false s (closes_accept s.is_entry s.accepts (in_turn globals s)) ≡
-    made false s (answered s.is_entry (first_given s.given) (λ now. record now { accepts = k }) (raising globals ([] ++ Close ∷ []) 0 1 k s))
-closing globals k s some is = ap (λ n. made false s (closes_accept s.is_entry n (in_turn globals s))) is ∙ with_close globals k s s.given some
+-- it opened none
+pub refused : (globals : List Value) (op : ℕ) (link : Value) (x : Exception) (s : Standing) → raised_by (first_given s.given) ≡ Some x →
+    accepts globals op link s ≡ made false s (raises x (raising globals ([] ++ Accept link op ∷ []) 1 1 0 s))
+refused globals op link x s is = refused_by globals op link x s s.given is
+
+-- the innermost request is closed
+by_close : (globals : List Value) (op : ℕ) (requests : List ℕ) (s : Standing) (o : Outcome) (os : List Outcome) →
+    let given = record s { requests = op ∷ requests; given = o ∷ os } in
+    made false given (closes_request (op ∷ requests) (in_turn globals given)) ≡ made false given (answered o (λ now. now) (raising globals ([] ++ Close ∷ []) 0 1 1 given))
+by_close globals op requests s (Ok vs) os = refl
+by_close globals op requests s (Err x) os = refl
+
+with_close : (globals : List Value) (s : Standing) (requests : List ℕ) (os : List Outcome) → 0 < length os → 0 < length requests →
+    let given = record s { requests = requests; given = os } in
+    made false given (closes_request requests (in_turn globals given)) ≡ made false given (answered (first_given os) (λ now. now) (raising globals ([] ++ Close ∷ []) 0 1 1 given))
+with_close globals s requests [] some opened = absurd (not-suc-le-zero some)
+with_close globals s [] (o ∷ os) some opened = absurd (not-suc-le-zero opened)
+with_close globals s (op ∷ requests) (o ∷ os) some opened = by_close globals op requests s o os
+
+pub closing : (globals : List Value) (s : Standing) → 0 < length s.given → 0 < length s.requests →
+    made false s (closes_request s.requests (in_turn globals s)) ≡ made false s (answered (first_given s.given) (λ now. now) (raising globals ([] ++ Close ∷ []) 0 1 1 s))
+closing globals s some opened = with_close globals s s.requests s.given some opened
 
 -- what an await does
-abbrev awaits : Bool → ℕ → Thread → Next
-awaits e address t =
-    by_truth (λ b stack. if b then goes stack t else with_outcome t.moment Await (λ given now. tries_again e address given (record t { moment = now; stack = stack }))) t.stack
+abbrev awaits : ℕ → Thread → Next
+awaits address t =
+    by_truth (λ b stack. if b then goes stack t else with_outcome t.moment Await (λ given now. tries_again address given (record t { moment = now; stack = stack }))) t.stack
 
 -- it was given an exception
 by_await : (globals : List Value) (address : ℕ) (x : Exception) (s : Standing) (below : List Value) (os : List Outcome) → raised_by (first_given os) ≡ Some x →
     let given = record s { stack = Truth false ∷ below; given = os } in
-    made true given (awaits s.is_entry address (in_turn globals given)) ≡ made true given (raises s.is_entry x (raising globals ([] ++ Await ∷ []) 1 1 s.accepts given))
+    made true given (awaits address (in_turn globals given)) ≡ made true given (raises x (raising globals ([] ++ Await ∷ []) 1 1 0 given))
 by_await globals address x s below [] is = cc
 by_await globals address x s below (Ok vs ∷ os) is = cc
 by_await globals address x s below (Err y ∷ os) is =
     let same : y ≡ x = cc in
     let given = record s { stack = Truth false ∷ below; given = Err y ∷ os } in
-    ap (λ (z : Exception). made true given (raises s.is_entry z (raising globals ([] ++ Await ∷ []) 1 1 s.accepts given))) same
+    ap (λ (z : Exception). made true given (raises z (raising globals ([] ++ Await ∷ []) 1 1 0 given))) same
 
-pub awaiting : (globals : List Value) (address accepts : ℕ) (x : Exception) (s : Standing) (below : List Value) → accepts ≡ s.accepts → s.stack ≡ Truth false ∷ below → raised_by (first_given s.given) ≡ Some x →
-    made true s (awaits s.is_entry address (in_turn globals s)) ≡ made true s (raises s.is_entry x (raising globals ([] ++ Await ∷ []) 1 1 accepts s))
-awaiting globals address accepts x s below same top is =
+pub awaiting : (globals : List Value) (address : ℕ) (x : Exception) (s : Standing) (below : List Value) → s.stack ≡ Truth false ∷ below → raised_by (first_given s.given) ≡ Some x →
+    made true s (awaits address (in_turn globals s)) ≡ made true s (raises x (raising globals ([] ++ Await ∷ []) 1 1 0 s))
+awaiting globals address x s below top is =
     subst
     (λ (stack : List Value). let now = record s { stack = stack } in
-    made true now (awaits s.is_entry address (in_turn globals now)) ≡ made true now (raises s.is_entry x (raising globals ([] ++ Await ∷ []) 1 1 s.accepts now)))
+    made true now (awaits address (in_turn globals now)) ≡ made true now (raises x (raising globals ([] ++ Await ∷ []) 1 1 0 now)))
     (sym top)
     (by_await globals address x s below s.given is)
-    ∙ ap (λ (n : ℕ). made true s (raises s.is_entry x (raising globals ([] ++ Await ∷ []) 1 1 n s))) (sym same)
 
 -- ---- by the operands that it takes
 

@@ -3,3 +3,4 @@ pub mod Answering
 pub mod Members
 pub mod Places
 pub mod Courses
+pub mod Cutting

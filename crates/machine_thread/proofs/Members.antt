@@ -39,11 +39,11 @@ unchanged {X} slot index number vs now (Err y) x failed set =
 -- the instruction raises the exception
 raised : (kind : Kind) (slot : ℕ) (index number : ℤ) (globals below : List Value) (s : Standing) (o : Option Value) (row : List ℤ) (x : Exception) →
     o ≡ Some (Row row) → s.stack ≡ Int number ∷ Int index ∷ below → with_member row index number ≡ Err x →
-    made false s (stores_member s.is_entry kind slot o s.stack (in_turn globals s)) ≡ made false s (raises s.is_entry x (in_turn globals s))
+    made false s (stores_member kind slot o s.stack (in_turn globals s)) ≡ made false s (raises x (in_turn globals s))
 raised kind slot index number globals below s o row x there top failed =
-    ap (λ (v : Option Value). made false s (stores_member s.is_entry kind slot v s.stack (in_turn globals s))) there
-    ∙ ap (λ (stack : List Value). made false s (stores_member s.is_entry kind slot (Some (Row row)) stack (in_turn globals s))) top
-    ∙ ap (λ (r : Result (List ℤ) Exception). made false s (puts s.is_entry kind slot r below (in_turn globals s))) failed
+    ap (λ (v : Option Value). made false s (stores_member kind slot v s.stack (in_turn globals s))) there
+    ∙ ap (λ (stack : List Value). made false s (stores_member kind slot (Some (Row row)) stack (in_turn globals s))) top
+    ∙ ap (λ (r : Result (List ℤ) Exception). made false s (puts kind slot r below (in_turn globals s))) failed
 
 -- ---- a thread that took two operands, and has them back on its stack
 
@@ -57,19 +57,19 @@ module _ (slot : ℕ) (index number : ℤ) (s once_popped popped once_pushed pus
 
   -- the row is a variable of the module
   pub global_refused : (globals now : List Value) → once_pushed ≡ record popped { stack = Int index ∷ popped.stack } → now ≡ globals → slice_get globals slot ≡ Some (Row row) →
-      made false pushed (raises pushed.is_entry x (in_turn now pushed)) ≡ made false s (stores_member s.is_entry Global slot (slice_get globals slot) s.stack (in_turn globals s))
+      made false pushed (raises x (in_turn now pushed)) ≡ made false s (stores_member Global slot (slice_get globals slot) s.stack (in_turn globals s))
   global_refused globals now once same there =
-      ap (λ (u : Standing). made false u (raises u.is_entry x (in_turn now u))) (back once)
-      ∙ ap (λ (vs : List Value). made false s (raises s.is_entry x (in_turn vs s))) same
+      ap (λ (u : Standing). made false u (raises x (in_turn now u))) (back once)
+      ∙ ap (λ (vs : List Value). made false s (raises x (in_turn vs s))) same
       ∙ sym (raised Global slot index number globals popped.stack s (slice_get globals slot) row x there on_top failed)
 
   -- it is one of the thread's, which were taken out meanwhile
   pub local_refused : (globals now : List Value) (seen : Standing) → seen ≡ popped → now ≡ seen.locals → once_pushed ≡ record seen { locals = now; stack = Int index ∷ seen.stack } →
       slice_get seen.locals slot ≡ Some (Row row) →
-      made false pushed (raises pushed.is_entry x (in_turn globals pushed)) ≡ made false s (stores_member s.is_entry Local slot (slice_get s.locals slot) s.stack (in_turn globals s))
+      made false pushed (raises x (in_turn globals pushed)) ≡ made false s (stores_member Local slot (slice_get s.locals slot) s.stack (in_turn globals s))
   local_refused globals now seen view same once there =
       let put_back : once_pushed ≡ record popped { stack = Int index ∷ popped.stack } =
       once ∙ ap (λ (vs : List Value). record seen { locals = vs; stack = Int index ∷ seen.stack }) same ∙ ap (λ (u : Standing). record u { stack = Int index ∷ u.stack }) view in
       let locals : s.locals ≡ seen.locals = ap (λ (u : Standing). u.locals) first ∙ ap (λ (u : Standing). u.locals) second ∙ sym (ap (λ (u : Standing). u.locals) view) in
-      ap (λ (u : Standing). made false u (raises u.is_entry x (in_turn globals u))) (back put_back)
+      ap (λ (u : Standing). made false u (raises x (in_turn globals u))) (back put_back)
       ∙ sym (raised Local slot index number globals popped.stack s (slice_get s.locals slot) row x (ap (λ (vs : List Value). slice_get vs slot) locals ∙ there) on_top failed)

@@ -4,7 +4,7 @@ use Rattle.lynx_meaning.specs.Code as meaning
 use Rattle.machine_thread.specs.declared.thread.Opened.{Opened}
 
 abbrev pub opened_of : Opened → meaning.Opened
-opened_of o = record { handlers = o.handlers; height = o.height; accepts = o.accepts }
+opened_of o = record { handlers = o.handlers; height = o.height; depth = o.depth }
 
 -- the innermost one first
 abbrev pub open_tries : List Opened → List meaning.Opened

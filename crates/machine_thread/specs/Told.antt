@@ -33,6 +33,7 @@ outcome_of (given.Raise exception) = Err exception
 
 abbrev pub wanted_of : Wanted → needs.Wanted
 wanted_of wanted.NoValue = needs.NoValue
+wanted_of wanted.Closing = needs.Closing
 wanted_of wanted.TwoLinks = needs.TwoLinks
 wanted_of (wanted.Results op) = needs.Results op
 wanted_of (wanted.Arguments op) = needs.Arguments op

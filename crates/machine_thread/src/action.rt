@@ -20,7 +20,7 @@ pub enum Action {
     Connect(LinkRef, u32, Vec<Value>),
     /// A request of this operation. It is given the arguments.
     Accept(LinkRef, u32),
-    /// The request that was accepted last and is not yet closed, or that of an entry.
+    /// Of the innermost open request.
     Close,
     Reply(Vec<Value>),
     Write(ShortText),
@@ -50,6 +50,8 @@ pub enum Move {
 #[derive(Clone, Copy, Debug, PartialEq, Eq)]
 pub enum Wanted {
     NoValue,
+    /// None, and the innermost open request is closed then.
+    Closing,
     TwoLinks,
     /// Those of the operation of this number.
     Results(u32),
@@ -65,10 +67,10 @@ impl Action {
             Action::New => Wanted::TwoLinks,
             Action::Connect(_, op, _) => Wanted::Results(*op),
             Action::Accept(_, op) => Wanted::Arguments(*op),
+            Action::Close => Wanted::Closing,
             Action::Destroy(_)
             | Action::Bind(..)
             | Action::Unbind(..)
-            | Action::Close
             | Action::Reply(_)
             | Action::Write(_)
             | Action::StopAll => Wanted::NoValue,

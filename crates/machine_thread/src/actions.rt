@@ -10,6 +10,7 @@ ghost use Rattle.machine_thread.specs.Told.{told};
 ghost use Rattle.machine_steps.specs.Operands.{HasValues, TopIsPlain, does};
 
 use crate::action::{Action, Move};
+use crate::exceptions::Raised;
 use crate::outcomes::Answered;
 use crate::thread::Thread;
 use lynx_lexer::NoMemory;
@@ -93,29 +94,44 @@ impl Thread {
             let link = self.operands.link();
             return self.asks(Action::Accept(link, op));
         }
-        let accepts = self.accepts;
+        self.accepted(op)
+    }
+
+    // With its values the request is open. One that was refused never was.
+    fn accepted(&mut self, op: u32) -> Result<Move, NoMemory>
+        requires place { self.old.address < usize.MAX }
+        requires operands { TopIsLink self.old.stack }
+        requires given { 0 < length self.old.given }
+        ensures { IfOk result (λ move. (p : Program) (globals : List meaning.Value) → told move globals self.new ≡ does p (code.Accept op) globals self.old) }
+    {
+        if let Some(exception) = self.first_exception() {
+            return self.raises_after(Raised {
+                exception,
+                taken: 1,
+                heard: 1,
+                closed: 0,
+            });
+        }
+        self.opens_request(op)?;
         self.answered(Answered {
             taken: 1,
-            accepts: accepts.checked_add(1).ok_or(NoMemory)?,
-            accepts_where_raised: accepts,
+            closed: 0,
         })
     }
 
-    /// The innermost open accept is closed.
+    /// The innermost open request is closed.
     #[inline(never)]
     pub(crate) fn closes(&mut self) -> Result<Move, NoMemory>
         requires place { self.old.address < usize.MAX }
-        requires accepts { 0 < self.old.accepts }
+        requires unclosed { 0 < length self.old.requests }
         ensures { IfOk result (λ move. (p : Program) (globals : List meaning.Value) → told move globals self.new ≡ does p code.Close globals self.old) }
     {
         if self.is_fresh() {
             return self.asks(Action::Close);
         }
-        let accepts = self.accepts - 1;
         self.answered(Answered {
             taken: 0,
-            accepts,
-            accepts_where_raised: accepts,
+            closed: 1,
         })
     }
 

@@ -54,15 +54,12 @@ impl Thread {
             return self.finds_false();
         }
         match self.first_exception() {
-            Some(exception) => {
-                let accepts = self.accepts;
-                self.raises_after(Raised {
-                    exception,
-                    taken: 1,
-                    heard: 1,
-                    accepts,
-                })
-            }
+            Some(exception) => self.raises_after(Raised {
+                exception,
+                taken: 1,
+                heard: 1,
+                closed: 0,
+            }),
             None => Ok(self.tries_again(address)),
         }
     }

@@ -8,6 +8,7 @@ mod jumps;
 mod operators;
 mod outcomes;
 mod registers;
+mod requests;
 mod slots;
 mod step;
 mod thread;

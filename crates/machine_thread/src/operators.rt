@@ -40,7 +40,7 @@ impl Thread {
         found: Result<i64, Exception>,
     ) -> Result<Move, NoMemory>
         requires { self.old.address < usize.MAX }
-        ensures { IfOk result (λ move. (globals : List meaning.Value) → let s = record self.old { stack = Int second ∷ Int first ∷ self.old.stack } in told move globals self.new ≡ made false s (gives s.is_entry (values.told found) self.old.stack (in_turn globals s))) }
+        ensures { IfOk result (λ move. (globals : List meaning.Value) → let s = record self.old { stack = Int second ∷ Int first ∷ self.old.stack } in told move globals self.new ≡ made false s (gives (values.told found) self.old.stack (in_turn globals s))) }
     {
         match found {
             Ok(number) => {
@@ -62,7 +62,7 @@ impl Thread {
         found: Result<i64, Exception>,
     ) -> Result<Move, NoMemory>
         requires { self.old.address < usize.MAX }
-        ensures { IfOk result (λ move. (globals : List meaning.Value) → let s = record self.old { stack = Int number ∷ self.old.stack } in told move globals self.new ≡ made false s (gives s.is_entry (values.told found) self.old.stack (in_turn globals s))) }
+        ensures { IfOk result (λ move. (globals : List meaning.Value) → let s = record self.old { stack = Int number ∷ self.old.stack } in told move globals self.new ≡ made false s (gives (values.told found) self.old.stack (in_turn globals s))) }
     {
         match found {
             Ok(other) => {

@@ -15,12 +15,11 @@ use crate::thread::Thread;
 use lynx_lexer::NoMemory;
 use typing_rules::Exception;
 
-/// What an action leaves: so many operands were taken for it, and so many accepts are open where it is given values, or an exception.
+/// What an action leaves: so many operands were taken for it, and so many of the innermost requests are closed by it.
 #[derive(Clone, Copy, Debug)]
 pub(crate) struct Answered {
     pub(crate) taken: usize,
-    pub(crate) accepts: u32,
-    pub(crate) accepts_where_raised: u32,
+    pub(crate) closed: usize,
 }
 
 impl Thread {
@@ -30,19 +29,19 @@ impl Thread {
         requires place { self.old.address < usize.MAX }
         requires taken { action.taken ≤ length self.old.stack }
         requires given { 0 < length self.old.given }
-        ensures { IfOk result (λ move. (globals : List meaning.Value) (actions : List courses.Action) → told move globals self.new ≡ made false self.old (answered self.old.is_entry (first_given self.old.given) (λ now. record now { accepts = action.accepts }) (raising globals actions action.taken 1 action.accepts_where_raised self.old))) }
+        ensures { IfOk result (λ move. (globals : List meaning.Value) (actions : List courses.Action) → told move globals self.new ≡ made false self.old (answered (first_given self.old.given) (λ now. now) (raising globals actions action.taken 1 action.closed self.old))) }
     {
         if let Some(exception) = self.first_exception() {
             return self.raises_after(Raised {
                 exception,
                 taken: action.taken,
                 heard: 1,
-                accepts: action.accepts_where_raised,
+                closed: action.closed,
             });
         }
         self.drops(action.taken);
+        self.closes_innermost(action.closed);
         self.push_given()?;
-        self.accepts = action.accepts;
         Ok(self.goes())
     }
 
@@ -52,14 +51,9 @@ impl Thread {
         requires place { self.old.address < usize.MAX }
         requires taken { taken ≤ length self.old.stack }
         requires given { 0 < length self.old.given }
-        ensures { IfOk result (λ move. (globals : List meaning.Value) (action : courses.Action) → told move globals self.new ≡ made false self.old (asks self.old.is_entry action (drop taken self.old.stack) (in_turn globals self.old) (λ now. now))) }
+        ensures { IfOk result (λ move. (globals : List meaning.Value) (action : courses.Action) → told move globals self.new ≡ made false self.old (asks action (drop taken self.old.stack) (in_turn globals self.old) (λ now. now))) }
     {
-        let accepts = self.accepts;
-        self.answered(Answered {
-            taken,
-            accepts,
-            accepts_where_raised: accepts,
-        })
+        self.answered(Answered { taken, closed: 0 })
     }
 
     /// The exception that its first action was given.

@@ -134,14 +134,29 @@ impl Thread {
         self.operands.cut(height);
     }
 
+    /// A request is open, and is the innermost one.
+    pub(crate) fn opens_request(&mut self, op: u32) -> Result<(), NoMemory>
+        ensures { OnOk result (self.new ≡ record self.old { requests = op ∷ self.old.requests }) }
+    {
+        self.requests.push(op)
+    }
+
+    /// So many of the innermost open requests are closed.
+    pub(crate) fn closes_innermost(&mut self, count: usize)
+        ensures { self.new ≡ record self.old { requests = drop count self.old.requests } }
+    {
+        let left = self.requests.len().saturating_sub(count);
+        self.requests.cut(left);
+    }
+
     /// A `try` is opened.
     pub(crate) fn push_try(&mut self, handlers: u16) -> Result<(), NoMemory>
-        ensures { OnOk result (self.new ≡ record self.old { tries = record { handlers = handlers; height = length self.old.stack; accepts = self.old.accepts } ∷ self.old.tries }) }
+        ensures { OnOk result (self.new ≡ record self.old { tries = record { handlers = handlers; height = length self.old.stack; depth = length self.old.requests } ∷ self.old.tries }) }
     {
         self.tries.push(Opened {
             handlers,
             height: self.operands.len(),
-            accepts: self.accepts,
+            depth: self.requests.len(),
         })?;
         Ok(())
     }

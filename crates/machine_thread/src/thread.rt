@@ -3,9 +3,11 @@
 ghost use Rattle.std.specs.Prelude.{◌≡◌, [], ◌∷◌, ◌++◌, None, IfOk, OnOk};
 ghost use Rattle.machine_turns.specs.Threads.{begun};
 ghost use Rattle.machine_turns.specs.Turns.{is_ready_after};
+ghost use Rattle.code_shapes.specs.Shapes.{opened_by};
 ghost use Rattle.machine_thread.specs.Told.{outcome_of};
 
 use crate::action::{Given, Wanted};
+use crate::requests::Requests;
 use lynx_lexer::NoMemory;
 use machine_stack::{Operands, Variables};
 use std::alloc::Global;
@@ -17,7 +19,7 @@ use typing_rules::Exception;
 pub(crate) struct Opened {
     pub(crate) handlers: u16,
     pub(crate) height: usize,
-    pub(crate) accepts: u32,
+    pub(crate) depth: usize,
 }
 
 /// A thread, which stands before the instruction at its address. An instruction with actions asks for them one by one: it begins anew
@@ -25,12 +27,11 @@ pub(crate) struct Opened {
 #[derive(Debug, Drop)]
 pub struct Thread {
     pub(crate) alloc: Global,
-    pub(crate) is_entry: bool,
     pub(crate) address: usize,
     pub(crate) locals: Variables,
     pub(crate) operands: Operands,
     pub(crate) tries: Vec<Opened>,
-    pub(crate) accepts: u32,
+    pub(crate) requests: Requests,
     pub(crate) pending: Option<Exception>,
     pub(crate) given: Vec<Given>,
     pub(crate) wanted: Option<Wanted>,
@@ -46,12 +47,11 @@ impl Model for Thread {
     ghost Value = { Standing };
 
     ghost view = { λ t. record {
-      is_entry = t.is_entry;
       address = t.address;
       locals = t.locals;
       stack = t.operands;
       tries = open_tries t.tries.items;
-      accepts = t.accepts;
+      requests = t.requests;
       pending = t.pending;
       given = map outcome_of t.given.items;
       wanted = option_map wanted_of t.wanted;
@@ -60,23 +60,29 @@ impl Model for Thread {
 }
 
 impl Thread {
-    /// A thread of the part that begins at this address, with these locals; one of an entry closes its request at its end.
-    pub fn new(alloc: Global, is_entry: bool, start: u16, locals: Variables) -> Thread
-        ensures { result ≡ begun is_entry start locals }
+    /// A thread of the part that begins at this address and serves this operation, with these locals. An entry's begins with one open
+    /// request.
+    pub fn new(
+        alloc: Global,
+        op: Option<u32>,
+        start: u16,
+        locals: Variables,
+    ) -> Result<Thread, NoMemory>
+        ensures { IfOk result (λ thread. thread ≡ begun (opened_by op) start locals) }
     {
-        Thread {
+        let requests = Requests::opened_by(alloc, op)?;
+        Ok(Thread {
             alloc,
-            is_entry,
             address: usize::from(start),
             locals,
             operands: Operands::new(alloc),
             tries: Vec::new(alloc),
-            accepts: 0,
+            requests,
             pending: None,
             given: Vec::new(alloc),
             wanted: None,
             again: false,
-        }
+        })
     }
 
     /// Its action has this outcome. Tells whether the action was to connect or to accept.
@@ -86,7 +92,7 @@ impl Thread {
     {
         let ready = match self.wanted {
             Some(Wanted::Results(_) | Wanted::Arguments(_)) => true,
-            Some(Wanted::NoValue | Wanted::TwoLinks) | None => false,
+            Some(Wanted::NoValue | Wanted::Closing | Wanted::TwoLinks) | None => false,
         };
         self.given.push(outcome)?;
         self.wanted = None;

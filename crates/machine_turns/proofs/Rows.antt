@@ -1,12 +1,12 @@
 -- Small runs of threads that take turns.
-use Rattle.std.specs.Prelude.{◌≡◌, ℕ, List, [], ◌∷◌, Bool, true, false, Option, None, Some, Ok, Err, refl, slice_get}
+use Rattle.std.specs.Prelude.{◌≡◌, ℕ, List, [], ◌∷◌, Bool, true, false, Option, None, Some, Ok, Err, refl}
 use Rattle.typing_rules.specs.declared.exception.Exception.TheVariants as exceptions
 use Rattle.lynx_code.specs.declared.instruction.Instruction.{Instruction}
 use Rattle.lynx_code.specs.declared.instruction.Instruction.TheVariants as code
 use Rattle.lynx_code.specs.declared.instruction.Literal.TheVariants as literal
 use Rattle.lynx_meaning.specs.Code.{Program}
-use Rattle.lynx_meaning.specs.Courses.{Action, Connect, Accept, Close}
-use Rattle.lynx_meaning.specs.Values.{Value, Link, Truth}
+use Rattle.lynx_meaning.specs.Courses.{Connect, Accept, Close}
+use Rattle.lynx_meaning.specs.Values.{Link, Truth}
 use Rattle.machine_turns.specs.Turns.{Turns, Beat, Stop, RunsOn, Stops, Broken, Spent, Act, AllBlocked, Finished, at_start, spawned, given_to, beats}
 
 -- code with one operation, which has no arguments
@@ -73,7 +73,7 @@ abbrev waiting : List Instruction
 waiting = code.LoadG 1 ∷ code.Await 0 ∷ code.End ∷ code.Push (literal.Bool true) ∷ code.StoreG 1 ∷ code.End ∷ []
 
 abbrev closing : Beat
-closing = run waiting 5 20 (spawned 1 3 [] start)
+closing = run waiting 5 20 (spawned 1 (0 ∷ []) 3 [] start)
 
 -- the body waits, and the entry closes its request at its end
 pub the_entry_closes : stopped closing ≡ Some (Act 1 Close, 15)
@@ -90,7 +90,7 @@ abbrev blocking : List Instruction
 blocking = code.LoadG 0 ∷ code.Accept 0 ∷ code.End ∷ code.LoadG 1 ∷ code.Await 3 ∷ code.End ∷ []
 
 abbrev accepting : Beat
-accepting = run blocking 2 30 (spawned 2 3 [] (spawned 1 3 [] start))
+accepting = run blocking 2 30 (spawned 2 (0 ∷ []) 3 [] (spawned 1 (0 ∷ []) 3 [] start))
 
 abbrev vain : Beat
 vain = run blocking 8 28 (turns accepting)
@@ -125,3 +125,28 @@ it_is_closed = refl
 -- the thread keeps its turn, and goes on at the handlers
 pub it_is_handled : stopped (run leaving 4 5 (given_to 0 (Ok []) (turns left))) ≡ Some (Finished, 3)
 it_is_handled = refl
+
+-- ---- an exception that leaves two requests
+
+-- the entry: accept o on l do raise FAILED; end; the body ends
+abbrev through : List Instruction
+through = code.End ∷ code.LoadG 0 ∷ code.Accept 0 ∷ code.Raise exceptions.Failed ∷ []
+
+abbrev entered : Beat
+entered = run through 3 9 (spawned 1 (0 ∷ []) 1 [] start)
+
+abbrev inner : Beat
+inner = run through 2 6 (given_to 1 (Ok []) (turns entered))
+
+pub the_inner_one_is_closed : stopped inner ≡ Some (Act 1 Close, 5)
+the_inner_one_is_closed = refl
+
+-- the instruction goes on, without fuel
+abbrev outer : Beat
+outer = run through 1 5 (given_to 1 (Ok []) (turns inner))
+
+pub the_outer_one_is_closed : stopped outer ≡ Some (Act 1 Close, 5)
+the_outer_one_is_closed = refl
+
+pub it_has_left_both : stopped (run through 2 5 (given_to 1 (Ok []) (turns outer))) ≡ Some (Finished, 5)
+it_has_left_both = refl

@@ -1,6 +1,6 @@
 -- A thread that stands, and what comes of its instruction in its turn.
-use Rattle.std.specs.Prelude.{◌≡◌, ℕ, zero, suc, ◌-◌, List, [], ◌∷◌, ◌++◌, length, map, nat_eq, Bool, true}
-use Rattle.std.specs.Prelude.{false, not, ◌&&◌, if◌then◌else◌, Option, None, Some, Ok, Err, slice_get, ⊤}
+use Rattle.std.specs.Prelude.{ℕ, zero, suc, ◌-◌, List, [], ◌∷◌, ◌++◌, length, map, nat_eq, Bool, true}
+use Rattle.std.specs.Prelude.{false, not, ◌&&◌, if◌then◌else◌, Option, None, Some, Ok, slice_get}
 use Rattle.lynx_code.specs.declared.instruction.Instruction.{Instruction}
 use Rattle.lynx_code.specs.declared.instruction.Instruction.TheVariants as code
 use Rattle.typing_rules.specs.declared.exception.Exception.{Exception}
@@ -13,8 +13,6 @@ use Rattle.lynx_meaning.specs.Values.{Value}
 
 -- a thread that stands before the instruction at its address
 pub record Standing : Type 0 where
-  -- its request is closed at its end
-  pub is_entry : Bool
   pub address : ℕ
   -- the variables of its part
   pub locals : List Value
@@ -22,8 +20,8 @@ pub record Standing : Type 0 where
   pub stack : List Value
   -- the open tries, the innermost one first
   pub tries : List Opened
-  -- how many accepts are open
-  pub accepts : ℕ
+  -- the operations of the requests that were open before the instruction, the innermost one first
+  pub requests : List ℕ
   -- the exception that handlers look at
   pub pending : Option Exception
   -- what the instruction has been given so far
@@ -33,16 +31,15 @@ pub record Standing : Type 0 where
   -- it evaluates once more the condition of an await that found false
   pub again : Bool
 
--- a thread on the part that begins at this address, with these variables
-abbrev pub begun : Bool → ℕ → List Value → Standing
-begun is_entry start locals =
+-- a thread on the part that begins at this address, with these open requests and these variables
+abbrev pub begun : List ℕ → ℕ → List Value → Standing
+begun requests start locals =
     record {
-      is_entry = is_entry;
       address = start;
       locals = locals;
       stack = [];
       tries = [];
-      accepts = 0;
+      requests = requests;
       pending = None;
       given = [];
       wanted = None;
@@ -62,14 +59,14 @@ in_turn globals s =
       address = s.address;
       stack = s.stack;
       tries = s.tries;
-      accepts = s.accepts;
+      requests = s.requests;
       pending = s.pending;
       moment = record { store = record { globals = globals; locals = s.locals }; answers = answers globals s.given; actions = [] };
     }
 
 -- its instruction, by the meaning of code
 abbrev pub goes_on : Program → List Value → Standing → Next
-goes_on p globals s = next_of p s.is_entry (in_turn globals s)
+goes_on p globals s = next_of p (in_turn globals s)
 
 -- ---- what comes of an instruction
 
@@ -102,7 +99,7 @@ stands_at now again s =
       locals = now.moment.store.locals;
       stack = now.stack;
       tries = now.tries;
-      accepts = now.accepts;
+      requests = now.requests;
       pending = now.pending;
       given = [];
       wanted = None;

@@ -1,5 +1,5 @@
 -- The turns of threads: which of them goes on, and how far a run of so many instructions comes.
-use Rattle.std.specs.Prelude.{◌≡◌, ℕ, zero, suc, ◌-◌, List, [], ◌∷◌, ◌++◌, replicate, Bool, true}
+use Rattle.std.specs.Prelude.{◌≡◌, ℕ, zero, suc, ◌+◌, ◌*◌, ◌-◌, List, [], ◌∷◌, ◌++◌, replicate, Bool, true}
 use Rattle.std.specs.Prelude.{false, if◌then◌else◌, Option, None, Some, slice_get, slice_set}
 use Rattle.std.specs.List.{list_any}
 use Rattle.std.specs.Option.{is_some}
@@ -104,16 +104,19 @@ beats p (suc k) (RunsOn fuel t) = beats p k (beat p fuel t)
 beats p (suc k) (Stops stop fuel t) = Stops stop fuel t
 beats p (suc k) Broken = Broken
 
--- A run with this fuel stops so, with so much fuel left and these turns.
-pub record Runs (p : Program) (fuel : ℕ) (t : Turns) (stop : Stop) (left : ℕ) (now : Turns) : Type 0 where
-  pub beats_made : ℕ
-  pub stopped : beats p beats_made (RunsOn fuel t) ≡ Stops stop left now
+-- A run makes at most so many beats: each after which it goes on takes fuel, or comes behind an instruction that a thread stood amid.
+abbrev pub most_beats : ℕ → ℕ
+most_beats fuel = 2 * fuel + most_threads + 1
+
+-- a run with this fuel: how it stops, with the fuel that is left and the turns then
+abbrev pub run : Program → ℕ → Turns → Beat
+run p fuel t = beats p (most_beats fuel) (RunsOn fuel t)
 
 -- ---- what a process does to the turns
 
--- a thread begins at the end of the ready list
-abbrev pub spawned : ℕ → ℕ → List Value → Turns → Turns
-spawned n start locals t = with_thread n (Some (begun true start locals)) (record t { ready = t.ready ++ n ∷ [] })
+-- a thread with these open requests begins at the end of the ready list
+abbrev pub spawned : ℕ → List ℕ → ℕ → List Value → Turns → Turns
+spawned n requests start locals t = with_thread n (Some (begun requests start locals)) (record t { ready = t.ready ++ n ∷ [] })
 
 -- the number is one of no thread that stands
 abbrev pub IsFree : ℕ → Turns → Type 0
@@ -124,7 +127,7 @@ abbrev pub at_start : List Value → Turns
 at_start globals =
     record {
       globals = globals;
-      threads = Some (begun false 0 []) ∷ replicate (most_threads - 1) None;
+      threads = Some (begun [] 0 []) ∷ replicate (most_threads - 1) None;
       running = None;
       ready = 0 ∷ [];
       awaiting = [];

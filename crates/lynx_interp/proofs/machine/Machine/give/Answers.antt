@@ -1,3 +1,5 @@
+use Rattle.machine_sound.proofs.Outside.{given_stay}
+use Rattle.machine_sound.specs.Sound.{StayOthers}
 use Rattle.std.proofs.Common.{◌≡◌, sym, subst}
 use Rattle.std.proofs.lemmas.Result.{on_ok_weaker}
 use Rattle.machine_turns.specs.Turns.{given_to}
@@ -16,4 +18,13 @@ returns-clause-machine c =
     on_ok_weaker c.gives.result
     (λ (e : c.gives.new.self ≡ record before { turns = given_to c.args.thread outcome before.turns }).
     subst (λ (m : State). IsMachine m) (sym e) (given_machine before c.args.thread outcome c.requires.machine c.requires.fits))
+    c.gives.ensures
+
+pub returns-clause-others : goal.returns-clause-others
+returns-clause-others c =
+    let before = c.args.self.now in
+    let outcome = outcome_of c.args.outcome in
+    on_ok_weaker c.gives.result
+    (λ (e : c.gives.new.self ≡ record before { turns = given_to c.args.thread outcome before.turns }).
+    subst (λ (m : State). StayOthers c.args.thread before.turns m.turns) (sym e) (given_stay before.turns c.args.thread outcome))
     c.gives.ensures

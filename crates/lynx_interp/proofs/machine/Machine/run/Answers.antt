@@ -9,6 +9,16 @@ returns-in-Some-clause-runs c =
     let round = subst (λ (o : Option Stop). IsRound c.rounds.left c.rounds.self o c.in_ok-stopped.rest c.round.new.self) c.in-Some.is c.in_ok-stopped.ensures in
     (goes_over c.args.fuel c.rounds.left c.in_ok-stopped.rest c.args.self.now c.rounds.self c.round.new.self c.rounds.invariant c.in-Some.stop round).runs
 
+pub returns-in-Some-clause-left : goal.returns-in-Some-clause-left
+returns-in-Some-clause-left c =
+    let round = subst (λ (o : Option Stop). IsRound c.rounds.left c.rounds.self o c.in_ok-stopped.rest c.round.new.self) c.in-Some.is c.in_ok-stopped.ensures in
+    (goes_over c.args.fuel c.rounds.left c.in_ok-stopped.rest c.args.self.now c.rounds.self c.round.new.self c.rounds.invariant c.in-Some.stop round).stopped.1
+
+pub returns-in-Some-clause-stops : goal.returns-in-Some-clause-stops
+returns-in-Some-clause-stops c =
+    let round = subst (λ (o : Option Stop). IsRound c.rounds.left c.rounds.self o c.in_ok-stopped.rest c.round.new.self) c.in-Some.is c.in_ok-stopped.ensures in
+    (goes_over c.args.fuel c.rounds.left c.in_ok-stopped.rest c.args.self.now c.rounds.self c.round.new.self c.rounds.invariant c.in-Some.stop round).stopped.0
+
 pub rounds-preserved : goal.rounds-preserved
 rounds-preserved c =
     let round = subst (λ (o : Option Stop). IsRound c.rounds.left c.rounds.self o c.in_ok-stopped.rest c.round.new.self) c.in-None.is c.in_ok-stopped.ensures in

@@ -11,8 +11,8 @@ returns-then-not-is_fresh c =
     c.answered_after.result
     (λ move is p globals has.
     let s = c.args.self.now in
-    let found = link_and_values c.args.arguments (c.args.arguments + 1) (λ link vs stack. asks s.is_entry (Connect link c.args.op vs) stack (in_turn globals s) (λ now. now)) s.stack c.requires.operands refl in
+    let found = link_and_values c.args.arguments (c.args.arguments + 1) (λ link vs stack. asks (Connect link c.args.op vs) stack (in_turn globals s) (λ now. now)) s.stack c.requires.operands refl in
     is globals (Connect found.0 c.args.op found.1)
     ∙ ap (λ (n : Next). made false s n) (sym found.2)
-    ∙ ap (λ (k : Option ℕ). made false s (connects s.is_entry c.args.op k (in_turn globals s))) (sym has))
+    ∙ ap (λ (k : Option ℕ). made false s (connects c.args.op k (in_turn globals s))) (sym has))
     c.answered_after.ensures

@@ -12,6 +12,6 @@ returns-then-not-is_fresh c =
     c.answered_after.result
     (λ move is p globals.
     let s = c.args.self.now in
-    let found = linked (λ link stack. asks s.is_entry (Destroy link) stack (in_turn globals s) (λ now. now)) s.stack c.requires.operands in
+    let found = linked (λ link stack. asks (Destroy link) stack (in_turn globals s) (λ now. now)) s.stack c.requires.operands in
     is globals (Destroy (Link found.0)) ∙ ap (λ (n : Next). made false s n) (sym found.1))
     c.answered_after.ensures

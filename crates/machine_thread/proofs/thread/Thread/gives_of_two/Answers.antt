@@ -23,6 +23,6 @@ returns-in_ok-push_int-in-Err-2 c =
     c.raises.result
     (λ move is globals.
     is false globals
-    ∙ ap (λ (u : Standing). made false u (raises u.is_entry c.in-Err.exception (in_turn globals u))) pushed
-    ∙ ap (λ (found : Result ℤ Exception). made false s (gives s.is_entry (values.told found) c.args.self.now.stack (in_turn globals s))) (sym c.in-Err.is))
+    ∙ ap (λ (u : Standing). made false u (raises c.in-Err.exception (in_turn globals u))) pushed
+    ∙ ap (λ (found : Result ℤ Exception). made false s (gives (values.told found) c.args.self.now.stack (in_turn globals s))) (sym c.in-Err.is))
     c.raises.ensures
