@@ -1,11 +1,12 @@
 -- A round of a machine, from what its functions tell.
 use Rattle.machine_sound.proofs.Stopping.{run_stopped}
-use Rattle.std.proofs.Common.{◌≡◌, ℕ, suc, ◌+◌, Option, Some, None, option_map, slice_get, refl, sym, ap, subst, ◌∙◌, ◌≤◌}
+use Rattle.machine_sound.proofs.Ending.{run_is}
+use Rattle.std.proofs.Common.{◌≡◌, ℕ, suc, ◌+◌, Option, Some, None, length, option_map, slice_get, refl, sym, ap, subst, ◌∙◌, ◌≤◌}
 use Rattle.std.proofs.lemmas.Option.{slice_get_within}
 use Rattle.lynx_meaning.specs.Code.{Program}
 use Rattle.code_shapes.specs.Shapes.{program}
 use Rattle.machine_turns.specs.Threads.{Standing, Made, course}
-use Rattle.machine_turns.specs.Turns.{Act, Beat, Turns, RunsOn, Runs, Stops, beats, comes, stands, with_thread}
+use Rattle.machine_turns.specs.Turns.{Act, Beat, Turns, RunsOn, Stops, beats, comes, most_threads, run, stands, with_thread}
 use Rattle.machine_thread.specs.Told.{action_of, told}
 use Rattle.machine_thread.specs.declared.action.Action.{Action}
 use Rattle.machine_thread.specs.declared.action.Move.{Move}
@@ -105,16 +106,17 @@ module _ (fuel left n : ℕ) (before taken gone now : State) (made : Move) (acti
 -- rounds of a run led here
 pub record IsSoFar (fuel : ℕ) (start : State) (left : ℕ) (now : State) : Type 0 where
   pub come : Comes (program start.types start.instructions) fuel start.turns (RunsOn left now.turns)
+  pub many : length start.turns.threads ≡ most_threads
   pub blocked : StayBlocked start.turns now.turns
   pub machine : IsMachine now
   pub same : now ≡ record start { turns = now.turns }
 
 pub at_first : (fuel : ℕ) (start : State) → IsMachine start → IsSoFar fuel start fuel start
-at_first fuel start is = record { come = (0, refl); blocked = λ n s there blocked. there; machine = is; same = refl }
+at_first fuel start is = record { come = (0, refl); many = is.sound.many; blocked = λ n s there blocked. there; machine = is; same = refl }
 
 -- what a run tells where it stops
 pub record IsOver (fuel : ℕ) (start : State) (over : Stop) (left : ℕ) (now : State) : Type 0 where
-  pub runs : Runs (program start.types start.instructions) fuel start.turns (stop_of over) left now.turns
+  pub runs : run (program start.types start.instructions) fuel start.turns ≡ Stops (stop_of over) left now.turns
   pub asked : IsAsked over now.turns
   pub blocked : StayBlocked start.turns now.turns
   pub machine : IsMachine now
@@ -135,6 +137,7 @@ module _ (fuel left rest : ℕ) (start before now : State) (far : IsSoFar fuel s
   pub goes_far : IsRound left before None rest now → IsSoFar fuel start rest now
   goes_far round = record {
     come = more (RunsOn rest now.turns) round.come;
+    many = far.many;
     blocked = λ n s there blocked. round.blocked n s (far.blocked n s there blocked) blocked;
     machine = round.machine;
     same = same_code round.same;
@@ -144,7 +147,7 @@ module _ (fuel left rest : ℕ) (start before now : State) (far : IsSoFar fuel s
   goes_over over round =
       let come = more (Stops (stop_of over) rest now.turns) round.come in
       record {
-        runs = record { beats_made = come.0; stopped = come.1 };
+        runs = run_is (program start.types start.instructions) fuel come.0 start.turns (stop_of over) rest now.turns far.many come.1;
         asked = round.asked;
         blocked = λ n s there blocked. round.blocked n s (far.blocked n s there blocked) blocked;
         machine = round.machine;

@@ -3,7 +3,7 @@
 ghost use Rattle.std.specs.Prelude.{◌≡◌, ◌<◌, ◌≤◌, ℕ, true, None, Some, IfOk, OnOk, MatchOption, is_some, length, option_map, slice_get};
 ghost use Rattle.code_shapes.specs.Shapes.{program};
 ghost use Rattle.machine_turns.specs.Threads.{Standing};
-ghost use Rattle.machine_turns.specs.Turns.{Runs, asks_for, awaits, stands, wakes, with_thread};
+ghost use Rattle.machine_turns.specs.Turns.{Stops, asks_for, awaits, run, stands, wakes, with_thread};
 ghost use Rattle.machine_thread.specs.Told.{action_of};
 ghost use Rattle.machine_sound.specs.Sound.{IsStopped, StayBlocked};
 ghost use Rattle.machine_sound.specs.Taken.{next_number, takes_turn};
@@ -21,7 +21,7 @@ impl Machine {
     /// stopped, and the fuel that is left. After NoMemory the machine is spoiled.
     pub fn run(&mut self, fuel: u32) -> Result<(Stop, u32), NoMemory>
         requires { IsMachine self.old }
-        ensures runs { IfOk result (λ r. Runs (program self.old.types self.old.instructions) fuel self.old.turns (stop_of r.0) r.1 self.new.turns) }
+        ensures runs { IfOk result (λ r. run (program self.old.types self.old.instructions) fuel self.old.turns ≡ Stops (stop_of r.0) r.1 self.new.turns) }
         ensures asked { IfOk result (λ r. IsAsked r.0 self.new.turns) }
         ensures left { IfOk result (λ r. r.1 ≤ fuel) }
         ensures stops { IfOk result (λ r. IsStopped (stop_of r.0) r.1 self.new.turns) }

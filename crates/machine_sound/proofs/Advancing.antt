@@ -62,7 +62,7 @@ Advances fuel here left (Awaits globals s) = 2 * left + amid s < 2 * fuel + here
 Advances fuel here left (Ends globals) = 2 * left < 2 * fuel + here
 Advances fuel here left Broken = Unit {0}
 
-at_most_one : (b : Bool) → one_unless b ≤ 1
+pub at_most_one : (b : Bool) → one_unless b ≤ 1
 at_most_one true = omega arith
 at_most_one false = omega arith
 
@@ -78,7 +78,7 @@ advances_by fuel false (Awaits globals s) behind try = absurd (try refl)
 advances_by fuel false (Ends globals) behind try = omega arith
 advances_by fuel false Broken behind try = tt
 
-first_advances : (p : Program) (fuel : ℕ) (globals : List Value) (s : Standing) → Advances (suc fuel) (amid s) (fuel_after (suc fuel) s) (comes_of p globals s)
+pub first_advances : (p : Program) (fuel : ℕ) (globals : List Value) (s : Standing) → Advances (suc fuel) (amid s) (fuel_after (suc fuel) s) (comes_of p globals s)
 first_advances p fuel globals s = advances_by fuel (is_fresh s) (comes_of p globals s) (comes_behind p globals s) (λ some. given_is_no_try p globals s some)
 
 -- ---- a turn

@@ -7,3 +7,4 @@ pub mod Trying
 pub mod Advancing
 pub mod Rounds
 pub mod Stopping
+pub mod Ending

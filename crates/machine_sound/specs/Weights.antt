@@ -1,7 +1,8 @@
 -- How much is left to do of a run.
-use Rattle.std.specs.Prelude.{ℕ, ◌+◌, ◌*◌, List, [], ◌∷◌, Bool, true, false, Option, Some, None}
+use Rattle.std.specs.Prelude.{ℕ, ◌+◌, ◌*◌, List, [], ◌∷◌, Bool, true, false, Option, Some, None, ⊤, ⊥}
 use Rattle.machine_turns.specs.Threads.{Standing, is_fresh}
-use Rattle.machine_turns.specs.Turns.{Turns}
+use Rattle.machine_turns.specs.Turns.{Turns, Beat, RunsOn, Stops}
+use Rattle.machine_turns.specs.Turns as turns
 
 abbrev pub one_unless : Bool → ℕ
 one_unless true = 0
@@ -23,3 +24,9 @@ count_amid (o ∷ os) = amid_there o + count_amid os
 -- What is left to do with so much fuel: an instruction takes fuel as it begins, and none where it goes on with what it was given.
 abbrev pub weight : ℕ → Turns → ℕ
 weight fuel t = 2 * fuel + count_amid t.threads
+
+-- a run does not go on: it stopped, or what no code of a module comes to
+abbrev pub Ends : Beat → Type 0
+Ends (RunsOn fuel t) = ⊥
+Ends (Stops stop fuel t) = ⊤
+Ends turns.Broken = ⊤

@@ -1,5 +1,5 @@
 -- The turns of threads: which of them goes on, and how far a run of so many instructions comes.
-use Rattle.std.specs.Prelude.{◌≡◌, ℕ, zero, suc, ◌-◌, List, [], ◌∷◌, ◌++◌, replicate, Bool, true}
+use Rattle.std.specs.Prelude.{◌≡◌, ℕ, zero, suc, ◌+◌, ◌*◌, ◌-◌, List, [], ◌∷◌, ◌++◌, replicate, Bool, true}
 use Rattle.std.specs.Prelude.{false, if◌then◌else◌, Option, None, Some, slice_get, slice_set}
 use Rattle.std.specs.List.{list_any}
 use Rattle.std.specs.Option.{is_some}
@@ -104,10 +104,13 @@ beats p (suc k) (RunsOn fuel t) = beats p k (beat p fuel t)
 beats p (suc k) (Stops stop fuel t) = Stops stop fuel t
 beats p (suc k) Broken = Broken
 
--- A run with this fuel stops so, with so much fuel left and these turns.
-pub record Runs (p : Program) (fuel : ℕ) (t : Turns) (stop : Stop) (left : ℕ) (now : Turns) : Type 0 where
-  pub beats_made : ℕ
-  pub stopped : beats p beats_made (RunsOn fuel t) ≡ Stops stop left now
+-- A run makes at most so many beats: each after which it goes on takes fuel, or comes behind an instruction that a thread stood amid.
+abbrev pub most_beats : ℕ → ℕ
+most_beats fuel = 2 * fuel + most_threads + 1
+
+-- a run with this fuel: how it stops, with the fuel that is left and the turns then
+abbrev pub run : Program → ℕ → Turns → Beat
+run p fuel t = beats p (most_beats fuel) (RunsOn fuel t)
 
 -- ---- what a process does to the turns
 
