@@ -1,0 +1,5 @@
+pub mod Steps
+pub mod Amid
+pub mod Hearing
+pub mod Beats
+pub mod Outside
