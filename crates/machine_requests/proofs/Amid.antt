@@ -1,10 +1,10 @@
 -- What is open amid an instruction is what the meaning of code says.
-use Rattle.std.proofs.Common.{arith, ◌≡◌, ℕ, zero, suc, ◌≤◌, List, [], ◌∷◌, ◌++◌, Bool, Option, Some, None, Result, Ok, Err, length, map, slice_get, refl, sym, ap, subst, ◌∙◌, ◌⊎◌, ⊎_elim, inl, inr, append-nil, length-append, not-suc-le-zero, le_of_suc-le-suc}
+use Rattle.std.proofs.Common.{arith, ◌≡◌, ℕ, zero, suc, ◌≤◌, List, [], ◌∷◌, ◌++◌, Bool, Option, Some, Ok, Err, length, map, slice_get, refl, sym, ap, subst, ◌∙◌, ◌⊎◌, ⊎_elim, inl, inr, append-nil, length-append, not-suc-le-zero, le_of_suc-le-suc}
 use Rattle.std.proofs.lemmas.List.{map-append, length-map}
 use Rattle.lynx_code.specs.declared.instruction.Instruction.{Instruction}
-use Rattle.lynx_meaning.specs.Code.{Next, Thread, Goes, Over, Comes, Stuck, open_after, open_behind}
+use Rattle.lynx_meaning.specs.Code.{Next, Goes, Over, Comes, Stuck, open_after, open_behind}
 use Rattle.lynx_meaning.specs.Courses.{Action, Answer, Outcome, Store, New, Destroy, Bind, Unbind, Connect, Accept, Close, Reply, Write, Await, Stop, Ended, Waits, Out}
-use Rattle.lynx_meaning.specs.Needs.{Wanted, NoValue, Closing, wanted_by}
+use Rattle.lynx_meaning.specs.Needs.{Wanted, Closing, wanted_by}
 use Rattle.lynx_meaning.specs.Values.{Value}
 use Rattle.code_shapes.specs.Shapes.{ModuleTypes, Shapes, AreShapes, PartTypes, program}
 use Rattle.machine_turns.specs.Threads.{Standing, Made, Went, Acts, Awaits, Ends, Broken, acted, answers, comes_of, goes_on, in_turn, is_await, last_action, made}
@@ -12,39 +12,34 @@ use Rattle.machine_turns.specs.Turns.{Turns}
 use Rattle.machine_never_stuck.specs.Sound.{EndInAction, HasOpen, IsAction, IsSound, needs}
 use Rattle.machine_never_stuck.proofs.Whole.{all_fit, never_stuck}
 use Rattle.machine_sound.specs.Sound.{AreSound, IsSoundThread}
+use Rattle.machine_sound.proofs.Keeping.{last_of}
 use Rattle.machine_requests.specs.Open.{first_wanted, later_wanted, open_amid, open_given, open_in, open_of, opens}
 use Rattle.machine_requests.specs.Heard.{Asks, HearsAll}
-use Rattle.machine_requests.proofs.Steps.{AreInOrder, Closes, IsFirst, IsLater, IsOrderly, Tells, Told, before, fetching}
+use Rattle.machine_requests.proofs.Steps.{AreInOrder, Closes, IsFirst, IsLater, Tells, Told, fetching}
 
 -- ---- outcomes
 
--- what the next action needs, behind so many outcomes
+-- what the next action needs, behind so many outcomes: the one or the other
+abbrev next_of : Wanted → Wanted → ℕ → Wanted
+next_of first later zero = first
+next_of first later (suc k) = later
+
 abbrev pub next_wanted : Option Instruction → ℕ → Wanted
-next_wanted i zero = first_wanted i
-next_wanted i (suc k) = later_wanted i
+next_wanted i k = next_of (first_wanted i) (later_wanted i) k
 
-abbrev next_of_two : Wanted → Wanted → ℕ → Wanted
-next_of_two first later zero = first
-next_of_two first later (suc k) = later
-
-next_same : (later : Wanted) (k : ℕ) → next_of_two later later k ≡ later
+next_same : (later : Wanted) (k : ℕ) → next_of later later k ≡ later
 next_same later zero = refl
 next_same later (suc k) = refl
 
-next_is : (i : Option Instruction) (k : ℕ) → next_of_two (first_wanted i) (later_wanted i) k ≡ next_wanted i k
-next_is i zero = refl
-next_is i (suc k) = refl
-
 given_more : (first later : Wanted) (os ps : List Outcome) (requests : List ℕ) →
-    open_given first later (os ++ ps) requests ≡ open_given (next_of_two first later (length os)) later ps (open_given first later os requests)
+    open_given first later (os ++ ps) requests ≡ open_given (next_of first later (length os)) later ps (open_given first later os requests)
 given_more first later [] ps requests = refl
 given_more first later (o ∷ os) ps requests =
     given_more later later os ps (opens first o requests) ∙ ap (λ (w : Wanted). open_given w later ps (open_given later later os (opens first o requests))) (next_same later (length os))
 
 -- one outcome more
 pub amid_more : (i : Option Instruction) (os : List Outcome) (o : Outcome) (requests : List ℕ) → open_amid i (os ++ o ∷ []) requests ≡ opens (next_wanted i (length os)) o (open_amid i os requests)
-amid_more i os o requests =
-    given_more (first_wanted i) (later_wanted i) os (o ∷ []) requests ∙ ap (λ (w : Wanted). opens w o (open_amid i os requests)) (next_is i (length os))
+amid_more i os o requests = given_more (first_wanted i) (later_wanted i) os (o ∷ []) requests
 
 -- where none is open, closes close none
 none_closes : (os : List Outcome) → open_given Closing Closing os [] ≡ []
@@ -96,11 +91,6 @@ closes_next : (i : Option Instruction) (actions : List Action) → Closes (IsFir
 closes_next i [] c = sym (c.first refl).0
 closes_next i (a ∷ actions) c = sym c.later.0
 
-pub last_of : (actions : List Action) (a : Action) → last_action (actions ++ a ∷ []) ≡ Some a
-last_of [] a = refl
-last_of (b ∷ []) a = refl
-last_of (b ∷ c ∷ rest) a = last_of (c ∷ rest) a
-
 stop_or_not : (a : Action) → (a ≡ Stop) ⊎ (a ≡ Stop → ⊥)
 stop_or_not Stop = inl refl
 stop_or_not _ = inr (λ e. cc)
@@ -129,7 +119,7 @@ outcomes : (globals : List Value) (os : List Outcome) → map given_of (answers 
 outcomes globals [] = refl
 outcomes globals (o ∷ os) = ap (λ (ps : List Outcome). o ∷ ps) (outcomes globals os)
 
-module _ (m : ModuleTypes) (parts : List PartTypes) (instructions : List Instruction) (shapes : Shapes) (globals : List Value) (s : Standing) where
+module _ (m : ModuleTypes) (instructions : List Instruction) (globals : List Value) (s : Standing) where
   abbrev i : Option Instruction
   i = slice_get instructions s.address
 
@@ -168,11 +158,10 @@ module _ (m : ModuleTypes) (parts : List PartTypes) (instructions : List Instruc
   none_open actions left has c =
       let os = map given_of has.heard in
       let ps = map given_of left in
-      let behind : next_of_two (first_wanted i) (later_wanted i) (length os) ≡ Closing =
-      next_is i (length os) ∙ ap (next_wanted i) (sym (ap length has.acted ∙ many_heard actions left [] has)) ∙ closes_next i actions c in
+      let behind : next_wanted i (length os) ≡ Closing = ap (next_wanted i) (sym (ap length has.acted ∙ many_heard actions left [] has)) ∙ closes_next i actions c in
       ap (λ (qs : List Outcome). open_amid i qs s.requests) (heard_outcomes actions left [] has)
       ∙ given_more (first_wanted i) (later_wanted i) os ps s.requests
-      ∙ ap (λ (rs : List ℕ). open_given (next_of_two (first_wanted i) (later_wanted i) (length os)) (later_wanted i) ps rs) (sym (unclosed_given actions left [] has c.order))
+      ∙ ap (λ (rs : List ℕ). open_given (next_wanted i (length os)) (later_wanted i) ps rs) (sym (unclosed_given actions left [] has c.order))
       ∙ ap (λ (w : Wanted). open_given w (later_wanted i) ps []) behind
       ∙ ap (λ (w : Wanted). open_given Closing w ps []) (sym c.later.0)
       ∙ none_closes ps
@@ -206,17 +195,17 @@ module _ (m : ModuleTypes) (parts : List PartTypes) (instructions : List Instruc
         (stop_or_not end.action)
 
   -- what it wants is that
-  pub wants_next : (w : Wanted) (next : Next) → IsSound m shapes (needs m i) (in_turn globals s) next → Told (IsFirst i) (IsLater i) next → Asks w next → w ≡ next_wanted i (length s.given)
-  wants_next w (Over (Comes (Waits actions store))) sound order asks =
+  pub wants_next : (shapes : Shapes) (w : Wanted) (next : Next) → IsSound m shapes (needs m i) (in_turn globals s) next → Told (IsFirst i) (IsLater i) next → Asks w next → w ≡ next_wanted i (length s.given)
+  wants_next shapes w (Over (Comes (Waits actions store))) sound order asks =
       let next = asked_next actions order sound.0 in
       let it : Some asks.0 ≡ Some sound.0.action = sym asks.1 ∙ ap last_action sound.0.last ∙ last_of sound.0.before sound.0.action in
       let same : asks.0 ≡ sound.0.action = cc in
       sym asks.2 ∙ ap wanted_by same ∙ next.0
-  wants_next w _ sound order asks = absurd asks
+  wants_next shapes w _ sound order asks = absurd asks
 
   -- the last action has no outcome yet
-  pub waits_behind : (actions : List Action) (store : Store) → EndInAction m (needs m i) (in_turn globals s) actions → InOrder actions → (last_action actions ≡ Some Stop → ⊥) → here ≡ open_behind actions s.given s.requests
-  waits_behind actions store end order other =
+  pub waits_behind : (actions : List Action) → EndInAction m (needs m i) (in_turn globals s) actions → InOrder actions → (last_action actions ≡ Some Stop → ⊥) → here ≡ open_behind actions s.given s.requests
+  waits_behind actions end order other =
       let some : end.action ≡ Stop → ⊥ = λ e. other (ap last_action end.last ∙ last_of end.before end.action ∙ ap (λ (a : Action). Some a) e) in
       let many = many_acted end.before end.left end.requests end.here (end.all some) in
       let more = ap length end.last ∙ length-append end.before (end.action ∷ []) in
@@ -240,14 +229,14 @@ module _ (m : ModuleTypes) (parts : List PartTypes) (instructions : List Instruc
       (λ e. amid_more i s.given (Ok []) s.requests ∙ ap (λ (w : Wanted). opens w (Ok []) here) (sym next.0 ∙ ap wanted_by e))
       (λ e. (refl, asked_here actions order end)))
 
-  of_next : (b : Bool) (next : Next) → IsSound m shapes (needs m i) (in_turn globals s) next → Told (IsFirst i) (IsLater i) next → HearsAll next → OpenMade (made b s next)
-  of_next b (Goes now) sound order hears = now_open now.moment.actions now.moment.answers now.requests sound.1 hears order
-  of_next b (Over (Comes (Waits actions store))) sound order hears = waits actions store.globals order sound.0
-  of_next b (Over (Comes (Ended actions store))) sound c hears = none_open actions sound.0.0 sound.0.1 c
-  of_next b (Over (Comes (Out actions))) sound order hears = absurd sound
-  of_next b (Over Stuck) sound order hears = absurd sound
+  of_next : (shapes : Shapes) (b : Bool) (next : Next) → IsSound m shapes (needs m i) (in_turn globals s) next → Told (IsFirst i) (IsLater i) next → HearsAll next → OpenMade (made b s next)
+  of_next shapes b (Goes now) sound order hears = now_open now.moment.actions now.moment.answers now.requests sound.1 hears order
+  of_next shapes b (Over (Comes (Waits actions store))) sound order hears = waits actions store.globals order sound.0
+  of_next shapes b (Over (Comes (Ended actions store))) sound c hears = none_open actions sound.0.0 sound.0.1 c
+  of_next shapes b (Over (Comes (Out actions))) sound order hears = absurd sound
+  of_next shapes b (Over Stuck) sound order hears = absurd sound
 
-  module _ (are : AreShapes m parts instructions shapes) (is : IsSoundThread m instructions shapes globals s) where
+  module _ (parts : List PartTypes) (shapes : Shapes) (are : AreShapes m parts instructions shapes) (is : IsSoundThread m instructions shapes globals s) where
     pub sound : IsSound m shapes (needs m i) (in_turn globals s) (goes_on (program m instructions) globals s)
     sound = never_stuck m parts instructions shapes are (in_turn globals s) is.thread (record { first = is.given; globals = all_fit m.globals globals s.given is.thread.globals })
 
@@ -255,7 +244,7 @@ module _ (m : ModuleTypes) (parts : List PartTypes) (instructions : List Instruc
     told = (fetching (program m instructions) (in_turn globals s) i).told (answers globals s.given)
 
     pub made_open : HearsAll (goes_on (program m instructions) globals s) → OpenMade (comes_of (program m instructions) globals s)
-    made_open hears = of_next (is_await i) (goes_on (program m instructions) globals s) sound told hears
+    made_open hears = of_next shapes (is_await i) (goes_on (program m instructions) globals s) sound told hears
 
 -- where an instruction waits, the open requests are those of the meaning of code
 pub open_by_meaning : (m : ModuleTypes) (parts : List PartTypes) (instructions : List Instruction) (t : Turns) (n : ℕ) (s : Standing) (actions : List Action) (store : Store) → AreSound m parts instructions t → slice_get t.threads n ≡ Some (Some s) →
@@ -263,6 +252,6 @@ pub open_by_meaning : (m : ModuleTypes) (parts : List PartTypes) (instructions :
 open_by_meaning m parts instructions t n s actions store are here waits other =
     let i = slice_get instructions s.address in
     let is = are.threads n s here in
-    let end = subst (λ (next : Next). IsSound m are.shapes (needs m i) (in_turn t.globals s) next) waits (sound m parts instructions are.shapes t.globals s are.are is) in
-    let order = subst (λ (next : Next). Told (IsFirst i) (IsLater i) next) waits (told m parts instructions are.shapes t.globals s are.are is) in
-    ap (open_in instructions) here ∙ waits_behind m parts instructions are.shapes t.globals s actions store end.0 order other
+    let end = subst (λ (next : Next). IsSound m are.shapes (needs m i) (in_turn t.globals s) next) waits (sound m instructions t.globals s parts are.shapes are.are is) in
+    let order = subst (λ (next : Next). Told (IsFirst i) (IsLater i) next) waits (told m instructions t.globals s parts are.shapes are.are is) in
+    ap (open_in instructions) here ∙ waits_behind m instructions t.globals s actions end.0 order other

@@ -3,10 +3,10 @@ use Rattle.std.proofs.Common.{◌≡◌, ℕ, zero, suc, ◌<◌, List, [], ◌�
 use Rattle.std.proofs.lemmas.Option.{slice_get_within}
 use Rattle.lynx_code.specs.declared.instruction.Instruction.{Instruction}
 use Rattle.lynx_meaning.specs.Code.{Program}
-use Rattle.lynx_meaning.specs.Courses.{Action, New, Destroy, Bind, Unbind, Connect, Accept, Close, Reply, Write, Await, Stop}
+use Rattle.lynx_meaning.specs.Courses.{Action, Connect, Accept}
 use Rattle.lynx_meaning.specs.Needs.{wanted_by}
 use Rattle.lynx_meaning.specs.Values.{Value}
-use Rattle.code_shapes.specs.Shapes.{ModuleTypes, PartTypes, Shapes, program}
+use Rattle.code_shapes.specs.Shapes.{ModuleTypes, PartTypes, program}
 use Rattle.machine_turns.specs.Threads.{Standing, Made, Went, Acts, Awaits, Ends, Broken, comes_of, fuel_after, if_went}
 use Rattle.machine_turns.specs.Turns.{Act, Beat, Stop as Why, Turns, RunsOn, Stops, asks_for, awaits, beat, beats, comes, is_ready_after, next_turn, stands, turn_of, wakes, with_thread}
 use Rattle.machine_turns.specs.Turns as turns
@@ -118,24 +118,24 @@ module _ (m : ModuleTypes) (parts : List PartTypes) (instructions : List Instruc
     keeps_awaits true now v sound same hears = keeps (with_thread n (Some v) (awaits n true (record t { globals = now }))) v sound refl same (λ them turn. hears them)
     keeps_awaits false now v sound same hears = keeps (with_thread n (Some v) (awaits n false (record t { globals = now }))) v sound refl same (λ them turn. hears them)
 
-    comes_keeps : (shapes : Shapes) (last : Made) → SoundBeat m parts instructions (comes left n t last) → OpenMade m parts instructions shapes t.globals s last → HeardMade m parts instructions shapes t.globals s last → KeepsBeat (opened t) (comes left n t last)
-    comes_keeps shapes (Went now v) sound same hears = keeps (with_thread n (Some v) (record t { globals = now; running = Some n })) v sound refl same (λ them turn. hears them)
-    comes_keeps shapes (Acts a now v) sound same hears =
+    comes_keeps : (last : Made) → SoundBeat m parts instructions (comes left n t last) → OpenMade m instructions t.globals s last → HeardMade m instructions t.globals s last → KeepsBeat (opened t) (comes left n t last)
+    comes_keeps (Went now v) sound same hears = keeps (with_thread n (Some v) (record t { globals = now; running = Some n })) v sound refl same (λ them turn. hears them)
+    comes_keeps (Acts a now v) sound same hears =
         let mid : Turns = record t { globals = now } in
         let u : Turns = with_thread n (Some v) (asks_for n a mid) in
         let changed : u.threads ≡ slice_set t.threads n (Some v) = ap (λ (ts : List (Option Standing)). slice_set ts n (Some v)) (acts_threads n a mid) in
         let hears_so : (them : List Value) → (u.running ≡ Some n → them ≡ u.globals) → IsHeard p them v = λ them turn. hears.1 them (λ free. turn (asks_running n a mid free) ∙ asks_globals n a mid ∙ hears.0) in
         let open_now : opened u n ≡ open_in instructions (Some (Some s)) = open_there instructions t u n (Some v) there changed ∙ same.0 in
         (keeps u v sound changed same.0 hears_so, subst (λ (rs : List ℕ). IsAction m rs a) (sym open_now) same.1)
-    comes_keeps shapes (Awaits now v) sound same hears = keeps_awaits v.again now v sound same hears
-    comes_keeps shapes (Ends now) sound none hears =
+    comes_keeps (Awaits now v) sound same hears = keeps_awaits v.again now v sound same hears
+    comes_keeps (Ends now) sound none hears =
         let u : Turns = with_thread n None (wakes (record t { globals = now })) in
         record {
           sound = sound;
           heard = heard_changed p t u n None heard there refl (no_other u) (λ r them e turn. cc);
           same = open_changed instructions t u n None there refl (sym (open_here ∙ none));
         }
-    comes_keeps shapes Broken sound same hears = absurd same
+    comes_keeps Broken sound same hears = absurd same
 
   -- ---- a beat
 
@@ -152,9 +152,9 @@ module _ (m : ModuleTypes) (parts : List PartTypes) (instructions : List Instruc
       let it = heard n s t.globals here (λ e. refl) in
       let is = sound.threads n s here in
       subst (λ (o : Option (Option Standing)). KeepsBeat (opened t) (turn_of p (suc fuel) n o t)) (sym here)
-      (comes_keeps t n s heard runs here (fuel_after (suc fuel) s) sound.shapes (comes_of p t.globals s) (turn_sound t n fuel s sound runs here)
-      (made_open m parts instructions sound.shapes t.globals s sound.are is it.hears)
-      (made_heard m parts instructions sound.shapes t.globals s sound.are is it))
+      (comes_keeps t n s heard runs here (fuel_after (suc fuel) s) (comes_of p t.globals s) (turn_sound t n fuel s sound runs here)
+      (made_open m instructions t.globals s parts sound.shapes sound.are is it.hears)
+      (made_heard m instructions t.globals s parts sound.shapes sound.are is it))
 
   unchanged : (t : Turns) → AreSound m parts instructions t → AreHeard p t → Keeps (opened t) t
   unchanged t sound heard = record { sound = sound; heard = heard; same = λ k. refl }
@@ -192,16 +192,14 @@ module _ (m : ModuleTypes) (parts : List PartTypes) (instructions : List Instruc
   pub beats_keep : (k fuel : ℕ) (t : Turns) → AreSound m parts instructions t → AreHeard p t → KeepsBeat (opened t) (beats p k (RunsOn fuel t))
   beats_keep k fuel t sound heard = beats_from (opened t) k (RunsOn fuel t) (unchanged t sound heard)
 
-  leaves : (were : ℕ → List ℕ) (Holds : Turns → Type 0) → ((u : Turns) → Keeps were u → Holds u) → (b : Beat) → KeepsBeat were b → Leaves Holds b
-  leaves were Holds holds (RunsOn left u) kept = holds u kept
-  leaves were Holds holds (Stops stop left u) kept = holds u kept.0
-  leaves were Holds holds turns.Broken kept = kept
+  -- where they stop
+  pub beats_stop : (k fuel left : ℕ) (t u : Turns) (stop : Why) → AreSound m parts instructions t → AreHeard p t → beats p k (RunsOn fuel t) ≡ Stops stop left u → Keeps (opened t) u × IsAsked stop u
+  beats_stop k fuel left t u stop sound heard e = subst (KeepsBeat (opened t)) e (beats_keep k fuel t sound heard)
 
-  pub beats_leave : (Holds : Turns → Type 0) (k fuel : ℕ) (t : Turns) → ((u : Turns) → Keeps (opened t) u → Holds u) → AreSound m parts instructions t → AreHeard p t → Leaves Holds (beats p k (RunsOn fuel t))
-  beats_leave Holds k fuel t holds sound heard = leaves (opened t) Holds holds (beats p k (RunsOn fuel t)) (beats_keep k fuel t sound heard)
+  leaves : (were : ℕ → List ℕ) (b : Beat) → KeepsBeat were b → Leaves (λ u. AreHeard p u × ((n : ℕ) → opened u n ≡ were n)) b
+  leaves were (RunsOn left u) kept = (kept.heard, kept.same)
+  leaves were (Stops stop left u) kept = (kept.0.heard, kept.0.same)
+  leaves were turns.Broken kept = kept
 
-  pub beats_ask : (k fuel left n : ℕ) (a : Action) (t u : Turns) → AreSound m parts instructions t → AreHeard p t → beats p k (RunsOn fuel t) ≡ Stops (Act n a) left u → IsAction m (opened u n) a
-  beats_ask k fuel left n a t u sound heard e = (subst (KeepsBeat (opened t)) e (beats_keep k fuel t sound heard)).1
-
-  pub beats_kept : (k fuel : ℕ) (t : Turns) → AreSound m parts instructions t → AreHeard p t → Leaves (λ u. AreHeard p u × ((n : ℕ) → opened u n ≡ opened t n)) (beats p k (RunsOn fuel t))
-  beats_kept k fuel t sound heard = beats_leave (λ u. AreHeard p u × ((n : ℕ) → opened u n ≡ opened t n)) k fuel t (λ u kept. (kept.heard, kept.same)) sound heard
+  pub beats_leave : (k fuel : ℕ) (t : Turns) → AreSound m parts instructions t → AreHeard p t → Leaves (λ u. AreHeard p u × ((n : ℕ) → opened u n ≡ opened t n)) (beats p k (RunsOn fuel t))
+  beats_leave k fuel t sound heard = leaves (opened t) (beats p k (RunsOn fuel t)) (beats_keep k fuel t sound heard)

@@ -1,10 +1,10 @@
 -- What a thread was given its instruction hears, and a thread that is blocked waits whatever the variables of the module are.
-use Rattle.std.proofs.Common.{◌≡◌, ℕ, zero, suc, List, [], ◌∷◌, ◌++◌, Bool, true, false, nat_le, if◌then◌else◌, Option, Some, None, Ok, length, map, take, drop, reverse, slice_get, refl, sym, ap, subst, ◌∙◌}
+use Rattle.std.proofs.Common.{◌≡◌, ℕ, List, [], ◌∷◌, ◌++◌, Bool, true, false, nat_le, if◌then◌else◌, Option, Some, None, Ok, length, take, drop, reverse, slice_get, refl, sym, ap, subst, ◌∙◌}
 use Rattle.std.proofs.lemmas.List.{map-append}
 use Rattle.lynx_code.specs.declared.instruction.Instruction.{Instruction}
 use Rattle.lynx_code.specs.declared.instruction.Instruction.TheVariants as code
 use Rattle.lynx_meaning.specs.Code.{Next, Thread, Program, Goes, Over, Comes, Stuck, with_outcome, asks, by_link, by_truth, by_values, connects, fetched, goes, stuck, tries_again}
-use Rattle.lynx_meaning.specs.Courses.{Action, Answer, Outcome, New, Destroy, Bind, Unbind, Connect, Accept, Close, Reply, Write, Await, Stop, Ended, Waits, Out}
+use Rattle.lynx_meaning.specs.Courses.{Action, Answer, Outcome, Connect, Accept, Await, Ended, Waits, Out}
 use Rattle.lynx_meaning.specs.Needs.{Wanted, Closing, wanted_by}
 use Rattle.lynx_meaning.specs.Values.{Value, Truth, Link}
 use Rattle.code_shapes.specs.Shapes.{ModuleTypes, Shapes, AreShapes, PartTypes, program}
@@ -12,11 +12,12 @@ use Rattle.machine_turns.specs.Threads.{Standing, Made, Went, Acts, Awaits, Ends
 use Rattle.machine_turns.specs.Turns.{is_ready_after}
 use Rattle.machine_never_stuck.specs.Sound.{EndInAction, IsSound, needs}
 use Rattle.machine_sound.specs.Sound.{IsSoundThread}
+use Rattle.machine_sound.proofs.Keeping.{last_of, some_wanted}
 use Rattle.machine_sound.proofs.Trying.{waits_with}
 use Rattle.machine_requests.specs.Open.{later_wanted}
 use Rattle.machine_requests.specs.Heard.{Asks, HearsAll, IsHeard}
-use Rattle.machine_requests.proofs.Steps.{AreInOrder, Blocks, IsFirst, IsLater, IsOrderly, Tells, Told, Waits_now, before, fetching}
-use Rattle.machine_requests.proofs.Amid.{asked_next, last_of, next_wanted, of_acted, sound, told}
+use Rattle.machine_requests.proofs.Steps.{AreInOrder, Blocks, IsFirst, IsLater, Tells, Told, Waits_now, before, fetching}
+use Rattle.machine_requests.proofs.Amid.{asked_next, next_wanted, of_acted, sound, told}
 
 -- ---- waiting
 
@@ -123,9 +124,6 @@ none_given : (i : Option Instruction) (a : Action) (given : List Outcome) → Is
 none_given i a [] is blocks e = refl
 none_given i a (o ∷ os) is blocks e = absurd (no_close a is (e ∙ later_closes i blocks))
 
-some_wanted : (w : Wanted) → None ≡ Some w → ⊥
-some_wanted w e = cc
-
 -- a thread that was given nothing, and wants nothing
 pub fresh_heard : (p : Program) (globals : List Value) (s : Standing) → IsHeard p globals (record s { given = []; wanted = None })
 fresh_heard p globals s = record {
@@ -144,7 +142,7 @@ given_heard p globals s o waits = record {
 
 -- ---- what comes of an instruction
 
-module _ (m : ModuleTypes) (parts : List PartTypes) (instructions : List Instruction) (shapes : Shapes) (globals : List Value) (s : Standing) where
+module _ (m : ModuleTypes) (instructions : List Instruction) (globals : List Value) (s : Standing) where
   abbrev p : Program
   p = program m instructions
 
@@ -203,20 +201,20 @@ module _ (m : ModuleTypes) (parts : List PartTypes) (instructions : List Instruc
   waits_heard actions now same waiting end order heard =
       let last : last_action actions ≡ Some end.action = ap last_action end.last ∙ last_of end.before end.action in
       let waits : WaitsFor end.action (goes_on p globals s) = waiting end.action last in
-      let next = asked_next m parts instructions shapes globals s actions order end in
+      let next = asked_next m instructions globals s actions order end in
       subst (λ (o : Option Action). HeardMade (acted o now s)) (sym last)
       (of_acted HeardMade end.action now s
       (λ e. awaits_heard (subst Next_to_ask e next) (subst (λ (a : Action). WaitsFor a (goes_on p globals s)) e waits) heard)
       (λ other. (same, acts_heard end.action other next waits)))
 
-  of_next : (b : Bool) (next : Next) → goes_on p globals s ≡ next → IsSound m shapes (needs m i) (in_turn globals s) next → Told (IsFirst i) (IsLater i) next → IsHeard p globals s → HeardMade (made b s next)
-  of_next b (Goes now) e sound order heard = λ them. fresh_heard p them (stands_at now (tried b s now) s)
-  of_next b (Over (Comes (Waits actions store))) e sound order heard =
+  of_next : (shapes : Shapes) (b : Bool) (next : Next) → goes_on p globals s ≡ next → IsSound m shapes (needs m i) (in_turn globals s) next → Told (IsFirst i) (IsLater i) next → IsHeard p globals s → HeardMade (made b s next)
+  of_next shapes b (Goes now) e sound order heard = λ them. fresh_heard p them (stands_at now (tried b s now) s)
+  of_next shapes b (Over (Comes (Waits actions store))) e sound order heard =
       waits_heard actions store.globals (waits_with p globals s actions store e) (λ a last. subst (WaitsFor a) (sym e) last) sound.0 order heard
-  of_next b (Over (Comes (Ended actions store))) e sound order heard = tt
-  of_next b (Over (Comes (Out actions))) e sound order heard = absurd sound
-  of_next b (Over Stuck) e sound order heard = absurd sound
+  of_next shapes b (Over (Comes (Ended actions store))) e sound order heard = tt
+  of_next shapes b (Over (Comes (Out actions))) e sound order heard = absurd sound
+  of_next shapes b (Over Stuck) e sound order heard = absurd sound
 
-  pub made_heard : AreShapes m parts instructions shapes → IsSoundThread m instructions shapes globals s → IsHeard p globals s → HeardMade (comes_of p globals s)
-  made_heard are is heard =
-      of_next (is_await i) (goes_on p globals s) refl (sound m parts instructions shapes globals s are is) (told m parts instructions shapes globals s are is) heard
+  pub made_heard : (parts : List PartTypes) (shapes : Shapes) → AreShapes m parts instructions shapes → IsSoundThread m instructions shapes globals s → IsHeard p globals s → HeardMade (comes_of p globals s)
+  made_heard parts shapes are is heard =
+      of_next shapes (is_await i) (goes_on p globals s) refl (sound m instructions globals s parts shapes are is) (told m instructions globals s parts shapes are is) heard

@@ -3,3 +3,4 @@ pub mod Amid
 pub mod Hearing
 pub mod Beats
 pub mod Outside
+pub mod Rows

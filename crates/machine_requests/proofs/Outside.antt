@@ -1,5 +1,5 @@
 -- What a process does to the open requests.
-use Rattle.std.proofs.Common.{◌≡◌, ℕ, zero, suc, List, [], ◌∷◌, ◌++◌, replicate, Bool, true, false, if◌then◌else◌, Option, Some, None, length, slice_get, slice_set, refl, sym, ap, subst, ◌∙◌}
+use Rattle.std.proofs.Common.{◌≡◌, ℕ, zero, suc, List, [], ◌∷◌, ◌++◌, replicate, Bool, true, false, if◌then◌else◌, Option, Some, None, slice_get, slice_set, refl, sym, ap, subst, ◌∙◌}
 use Rattle.std.proofs.lemmas.Option.{slice_get_within}
 use Rattle.lynx_code.specs.declared.instruction.Instruction.{Instruction}
 use Rattle.lynx_meaning.specs.Code.{Program}
@@ -52,7 +52,7 @@ given_open m parts instructions t n o w are heard asking =
     let i = slice_get instructions s.address in
     let is = are.threads n s here in
     let asks = (heard n s t.globals here (λ e. refl)).asks w asking.2 in
-    let next = wants_next m parts instructions are.shapes t.globals s w (goes_on p t.globals s) (sound m parts instructions are.shapes t.globals s are.are is) (told m parts instructions are.shapes t.globals s are.are is) asks in
+    let next = wants_next m instructions t.globals s are.shapes w (goes_on p t.globals s) (sound m instructions t.globals s parts are.shapes are.are is) (told m instructions t.globals s parts are.shapes are.are is) asks in
     let threads : (given_to n o t).threads ≡ slice_set t.threads n (Some (heard_one s o)) = ap (λ (q : Option (Option Standing)). (gives_to n o q t).threads) here ∙ given_threads n o s t in
     open_there instructions t (given_to n o t) n (Some (heard_one s o)) (slice_get_within t.threads n (Some s) here) threads
     ∙ amid_more i s.given o s.requests

@@ -6,7 +6,7 @@ use Rattle.typing_rules.specs.Exceptions.{exception_text}
 use Rattle.typing_rules.specs.declared.exception.Exception.{Exception}
 use Rattle.lynx_meaning.specs.Code.{Next, Goes, Over, Comes, Stuck, Opened, Program, Kind, Global, Local, Thread, with_outcome, again, answered, asks, by_link, by_truth, by_values, closes, closes_request, compares, connects, cut, decides, ends, fetched}
 use Rattle.lynx_meaning.specs.Code.{gives, goes, handles, instead, jumps, loads, loads_member, one_int, puts, raises, raises_in, stores, stores_member, step, stuck, tries_again, two_alike, two_ints, untries, value_of_literal, variables, with_variables, writes}
-use Rattle.lynx_meaning.specs.Courses.{Action, Answer, Moment, Store, Outcome, New, Destroy, Bind, Unbind, Connect, Accept, Close, Reply, Write, Await, Stop, Ended, Waits, Out, after}
+use Rattle.lynx_meaning.specs.Courses.{Action, Answer, Moment, Outcome, New, Destroy, Bind, Unbind, Connect, Accept, Close, Reply, Write, Await, Stop, Ended, Waits, Out, after}
 use Rattle.lynx_meaning.specs.Needs.{NoValue, wanted_by}
 use Rattle.lynx_meaning.specs.Values.{Value, Given, Int, Truth, Text, Row, Link, add, divide, member, multiply, negate, reduce, subtract, truth_eq, value_eq, with_member, written}
 use Rattle.machine_requests.specs.Open.{first_wanted, later_wanted}
@@ -79,6 +79,7 @@ module _ (First Later : Action → Type 0) where
       more : (L : List Answer) (b : Answer) → Waits_now (with_outcome (at m L) a next) → HearsAll (with_outcome (at m (L ++ b ∷ [])) a next)
       more [] b w = (onward b).none
       more (c ∷ L) b w = (onward c).more L b w
+
       told : (L : List Answer) → Told (with_outcome (at m L) a next)
       told [] = order
       told (c ∷ L) = (onward c).told L
@@ -333,7 +334,7 @@ module _ (p : Program) (it : Thread) where
   stepped (code.OrJ address) = deciding (IsFirst (Some (code.OrJ address))) (IsLater (Some (code.OrJ address))) t (begun (code.OrJ address) (refl, tt) (refl, tt)) true address
   stepped (code.JumpF address) = with_truth (IsFirst (Some (code.JumpF address))) (IsLater (Some (code.JumpF address))) (λ L b stack. if b then goes stack (before it L) else jumps address stack (before it L)) it.stack (λ b rest. choosing (IsFirst (Some (code.JumpF address))) (IsLater (Some (code.JumpF address))) t (begun (code.JumpF address) (refl, tt) (refl, tt)) b (it.address + 1) address rest rest)
   stepped (code.Jump address) = jumping (IsFirst (Some (code.Jump address))) (IsLater (Some (code.Jump address))) address it.stack t tt
-  stepped (code.Await address) = 
+  stepped (code.Await address) =
       with_truth (IsFirst (Some (code.Await address))) (IsLater (Some (code.Await address)))
       (λ L b stack. if b then goes stack (before it L) else with_outcome (before it L).moment Await (λ given now. tries_again address given (record (before it L) { moment = now; stack = stack }))) it.stack
       (λ b rest.

@@ -1,5 +1,5 @@
 -- What a thread was given its instruction hears.
-use Rattle.std.specs.Prelude.{◌≡◌, ℕ, List, [], Option, Some, slice_get, ⊤}
+use Rattle.std.specs.Prelude.{◌≡◌, ℕ, List, [], Some, slice_get, ⊤}
 use Rattle.lynx_meaning.specs.Code.{Next, Goes, Over, Comes, Program}
 use Rattle.lynx_meaning.specs.Courses.{Action, Await, Waits}
 use Rattle.lynx_meaning.specs.Needs.{Wanted, wanted_by}

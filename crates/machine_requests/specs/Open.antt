@@ -1,5 +1,5 @@
 -- Which requests are open in a thread that stands, amid its instruction too.
-use Rattle.std.specs.Prelude.{ℕ, List, [], ◌∷◌, drop, Option, None, Some, Ok, slice_get}
+use Rattle.std.specs.Prelude.{ℕ, List, [], ◌∷◌, drop, Option, Some, Ok, slice_get}
 use Rattle.lynx_code.specs.declared.instruction.Instruction.{Instruction}
 use Rattle.lynx_code.specs.declared.instruction.Instruction.TheVariants as code
 use Rattle.lynx_meaning.specs.Courses.{Outcome}

@@ -4,4 +4,7 @@
 
 mod law;
 
-pub use law::{at_the_start_none_is_open, beats_ask_of_the_code, beats_keep_what_is_open, given_changes_what_is_open, new_threads_open_their_own, open_amid_an_instruction};
+pub use law::{
+    at_the_start_none_is_open, beats_ask_of_the_code, beats_keep_what_is_open,
+    given_changes_what_is_open, new_threads_open_their_own, open_amid_an_instruction,
+};
