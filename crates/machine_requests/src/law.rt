@@ -20,7 +20,7 @@ pub fn open_amid_an_instruction()
         → (last_action actions ≡ Some Stop → ⊥) → open_of instructions n t ≡ open_behind actions s.given s.requests }
 {}
 
-/// Beats change no open requests: those of a thread that stands stay as they were, and a thread that ended had none. What threads were given
+/// So many beats, and so a run, change no open requests: those of a thread that stands stay as they were, and a thread that ended had none. What threads were given
 /// stays heard.
 pub fn beats_keep_what_is_open()
     ensures { (m : ModuleTypes) (parts : List PartTypes) (instructions : List Instruction) (k fuel : ℕ) (t : Turns)
