@@ -8,7 +8,7 @@ use Rattle.lynx_meaning.specs.Needs.{wanted_by}
 use Rattle.lynx_meaning.specs.Values.{Value}
 use Rattle.code_shapes.specs.Shapes.{ModuleTypes, PartTypes, program}
 use Rattle.machine_turns.specs.Threads.{Standing, Made, Went, Acts, Awaits, Ends, Broken, comes_of, fuel_after, if_went}
-use Rattle.machine_turns.specs.Turns.{Act, Beat, Stop as Why, Turns, RunsOn, Stops, asks_for, awaits, beat, beats, comes, is_ready_after, next_turn, stands, turn_of, wakes, with_thread}
+use Rattle.machine_turns.specs.Turns.{Act, Beat, Turns, RunsOn, Stops, asks_for, awaits, beat, beats, comes, is_ready_after, next_turn, stands, turn_of, wakes, with_thread}
 use Rattle.machine_turns.specs.Turns as turns
 use Rattle.machine_never_stuck.specs.Sound.{IsAction}
 use Rattle.machine_sound.specs.Sound.{AreSound}
@@ -85,7 +85,7 @@ module _ (m : ModuleTypes) (parts : List PartTypes) (instructions : List Instruc
     pub same : (k : ℕ) → opened u k ≡ were k
 
   -- an action that is asked for is one of the module, where the open requests are those of its thread
-  abbrev pub IsAsked : Why → Turns → Type 0
+  abbrev pub IsAsked : turns.Stop → Turns → Type 0
   IsAsked (Act n a) u = IsAction m (opened u n) a
   IsAsked _ u = Unit {0}
 
@@ -193,7 +193,7 @@ module _ (m : ModuleTypes) (parts : List PartTypes) (instructions : List Instruc
   beats_keep k fuel t sound heard = beats_from (opened t) k (RunsOn fuel t) (unchanged t sound heard)
 
   -- where they stop
-  pub beats_stop : (k fuel left : ℕ) (t u : Turns) (stop : Why) → AreSound m parts instructions t → AreHeard p t → beats p k (RunsOn fuel t) ≡ Stops stop left u → Keeps (opened t) u × IsAsked stop u
+  pub beats_stop : (k fuel left : ℕ) (t u : Turns) (stop : turns.Stop) → AreSound m parts instructions t → AreHeard p t → beats p k (RunsOn fuel t) ≡ Stops stop left u → Keeps (opened t) u × IsAsked stop u
   beats_stop k fuel left t u stop sound heard e = subst (KeepsBeat (opened t)) e (beats_keep k fuel t sound heard)
 
   leaves : (were : ℕ → List ℕ) (b : Beat) → KeepsBeat were b → Leaves (λ u. AreHeard p u × ((n : ℕ) → opened u n ≡ were n)) b

@@ -8,7 +8,8 @@ use Rattle.lynx_meaning.specs.Courses.{Action, Answer, Outcome, Connect, Accept,
 use Rattle.lynx_meaning.specs.Needs.{Wanted, Closing, wanted_by}
 use Rattle.lynx_meaning.specs.Values.{Value, Truth, Link}
 use Rattle.code_shapes.specs.Shapes.{ModuleTypes, Shapes, AreShapes, PartTypes, program}
-use Rattle.machine_turns.specs.Threads.{Standing, Made, Went, Acts, Awaits, Ends, Broken, acted, answers, comes_of, goes_on, in_turn, is_await, last_action, made, stands_at, tries_again as tried}
+use Rattle.machine_turns.specs.Threads.{Standing, Made, Went, Acts, Awaits, Ends, Broken, acted, answers, comes_of, goes_on, in_turn, is_await, last_action, made, stands_at}
+use Rattle.machine_turns.specs.Threads as threads
 use Rattle.machine_turns.specs.Turns.{is_ready_after}
 use Rattle.machine_never_stuck.specs.Sound.{EndInAction, IsSound, needs}
 use Rattle.machine_sound.specs.Sound.{IsSoundThread}
@@ -16,7 +17,7 @@ use Rattle.machine_sound.proofs.Keeping.{last_of, some_wanted}
 use Rattle.machine_sound.proofs.Trying.{waits_with}
 use Rattle.machine_requests.specs.Open.{later_wanted}
 use Rattle.machine_requests.specs.Heard.{Asks, HearsAll, IsHeard}
-use Rattle.machine_requests.proofs.Steps.{AreInOrder, Blocks, IsFirst, IsLater, Tells, Told, Waits_now, before, fetching}
+use Rattle.machine_requests.proofs.Steps.{AreInOrder, Blocks, IsFirst, IsLater, Tells, Told, WaitsHere, before, fetching}
 use Rattle.machine_requests.proofs.Amid.{asked_next, next_wanted, of_acted, sound, told}
 
 -- ---- waiting
@@ -26,9 +27,9 @@ abbrev pub WaitsFor : Action → Next → Type 0
 WaitsFor a (Over (Comes (Waits actions store))) = last_action actions ≡ Some a
 WaitsFor a _ = ⊥
 
-waits_now : (a : Action) (next : Next) → WaitsFor a next → Waits_now next
-waits_now a (Over (Comes (Waits actions store))) is = tt
-waits_now a _ is = absurd is
+waits_here : (a : Action) (next : Next) → WaitsFor a next → WaitsHere next
+waits_here a (Over (Comes (Waits actions store))) is = tt
+waits_here a _ is = absurd is
 
 waits_hear : (a : Action) (next : Next) → WaitsFor a next → HearsAll next
 waits_hear a (Over (Comes (Waits actions store))) is = tt
@@ -38,7 +39,7 @@ waits_ask : (a : Action) (next : Next) → WaitsFor a next → (a ≡ Await → 
 waits_ask a (Over (Comes (Waits actions store))) is other = (a, is, refl, other)
 waits_ask a _ is other = absurd is
 
-pub asks_waits : (w : Wanted) (next : Next) → Asks w next → Waits_now next
+pub asks_waits : (w : Wanted) (next : Next) → Asks w next → WaitsHere next
 asks_waits w (Over (Comes (Waits actions store))) is = tt
 asks_waits w _ is = absurd is
 
@@ -132,7 +133,7 @@ fresh_heard p globals s = record {
 }
 
 -- a thread that waits hears one outcome more
-pub given_heard : (p : Program) (globals : List Value) (s : Standing) (o : Outcome) → Waits_now (goes_on p globals s) → IsHeard p globals (record s { given = s.given ++ o ∷ []; wanted = None })
+pub given_heard : (p : Program) (globals : List Value) (s : Standing) (o : Outcome) → WaitsHere (goes_on p globals s) → IsHeard p globals (record s { given = s.given ++ o ∷ []; wanted = None })
 given_heard p globals s o waits = record {
   hears = subst (λ (L : List Answer). HearsAll (fetched p (before (in_turn globals s) L) (slice_get p.instructions s.address)))
       (sym (map-append (λ (g : Outcome). record { given = g; globals = globals }) s.given (o ∷ [])))
@@ -158,22 +159,22 @@ module _ (m : ModuleTypes) (instructions : List Instruction) (globals : List Val
   HeardMade Broken = ⊥
 
   -- what its action tells
-  abbrev Next_to_ask : Action → Type 0
-  Next_to_ask a = (wanted_by a ≡ next_wanted i (length s.given)) × Tells i a
+  abbrev ComesNext : Action → Type 0
+  ComesNext a = (wanted_by a ≡ next_wanted i (length s.given)) × Tells i a
 
-  anyhow : (a : Action) → IsBlocking a → Next_to_ask a → WaitsFor a (goes_on p globals s) → (them : List Value) → WaitsFor a (goes_on p them s)
+  anyhow : (a : Action) → IsBlocking a → ComesNext a → WaitsFor a (goes_on p globals s) → (them : List Value) → WaitsFor a (goes_on p them s)
   anyhow a blocking next waits them =
       let blocks = tells_blocks i a blocking next.1 in
       let none = none_given i a s.given blocking blocks next.0 in
       subst (λ (os : List Outcome). WaitsFor a (fetched p (before (in_turn them s) (answers them os)) i)) (sym none)
       (waits_anyhow a p s globals them i blocks (subst (λ (os : List Outcome). WaitsFor a (fetched p (before (in_turn globals s) (answers globals os)) i)) none waits))
 
-  acts_anyhow : (a : Action) → Next_to_ask a → WaitsFor a (goes_on p globals s) → (them : List Value) → (is_ready_after (Some (wanted_by a)) ≡ false → them ≡ globals) → WaitsFor a (goes_on p them s)
+  acts_anyhow : (a : Action) → ComesNext a → WaitsFor a (goes_on p globals s) → (them : List Value) → (is_ready_after (Some (wanted_by a)) ≡ false → them ≡ globals) → WaitsFor a (goes_on p them s)
   acts_anyhow (Connect link op values) next waits them same = anyhow (Connect link op values) tt next waits them
   acts_anyhow (Accept link op) next waits them same = anyhow (Accept link op) tt next waits them
   acts_anyhow a next waits them same = subst (λ (vs : List Value). WaitsFor a (goes_on p vs s)) (sym (same refl)) waits
 
-  acts_heard : (a : Action) → (a ≡ Await → ⊥) → Next_to_ask a → WaitsFor a (goes_on p globals s) → (them : List Value) → (is_ready_after (Some (wanted_by a)) ≡ false → them ≡ globals) →
+  acts_heard : (a : Action) → (a ≡ Await → ⊥) → ComesNext a → WaitsFor a (goes_on p globals s) → (them : List Value) → (is_ready_after (Some (wanted_by a)) ≡ false → them ≡ globals) →
       IsHeard p them (record s { wanted = Some (wanted_by a) })
   acts_heard a other next waits them same =
       let anyhow_waits = acts_anyhow a next waits them same in
@@ -190,9 +191,9 @@ module _ (m : ModuleTypes) (instructions : List Instruction) (globals : List Val
       asks.3 cc
   no_await w _ is asks = absurd is
 
-  awaits_heard : Next_to_ask Await → WaitsFor Await (goes_on p globals s) → IsHeard p globals s → (them : List Value) → IsHeard p them (record s { given = s.given ++ Ok [] ∷ [] })
+  awaits_heard : ComesNext Await → WaitsFor Await (goes_on p globals s) → IsHeard p globals s → (them : List Value) → IsHeard p them (record s { given = s.given ++ Ok [] ∷ [] })
   awaits_heard next waits heard them = record {
-    hears = (given_heard p them s (Ok []) (waits_now Await (goes_on p them s) (anyhow Await tt next waits them))).hears;
+    hears = (given_heard p them s (Ok []) (waits_here Await (goes_on p them s) (anyhow Await tt next waits them))).hears;
     asks = λ w e. absurd (no_await w (goes_on p globals s) waits (heard.asks w e));
   }
 
@@ -204,11 +205,11 @@ module _ (m : ModuleTypes) (instructions : List Instruction) (globals : List Val
       let next = asked_next m instructions globals s actions order end in
       subst (λ (o : Option Action). HeardMade (acted o now s)) (sym last)
       (of_acted HeardMade end.action now s
-      (λ e. awaits_heard (subst Next_to_ask e next) (subst (λ (a : Action). WaitsFor a (goes_on p globals s)) e waits) heard)
+      (λ e. awaits_heard (subst ComesNext e next) (subst (λ (a : Action). WaitsFor a (goes_on p globals s)) e waits) heard)
       (λ other. (same, acts_heard end.action other next waits)))
 
   of_next : (shapes : Shapes) (b : Bool) (next : Next) → goes_on p globals s ≡ next → IsSound m shapes (needs m i) (in_turn globals s) next → Told (IsFirst i) (IsLater i) next → IsHeard p globals s → HeardMade (made b s next)
-  of_next shapes b (Goes now) e sound order heard = λ them. fresh_heard p them (stands_at now (tried b s now) s)
+  of_next shapes b (Goes now) e sound order heard = λ them. fresh_heard p them (stands_at now (threads.tries_again b s now) s)
   of_next shapes b (Over (Comes (Waits actions store))) e sound order heard =
       waits_heard actions store.globals (waits_with p globals s actions store e) (λ a last. subst (WaitsFor a) (sym e) last) sound.0 order heard
   of_next shapes b (Over (Comes (Ended actions store))) e sound order heard = tt

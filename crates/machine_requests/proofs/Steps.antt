@@ -28,9 +28,9 @@ some_more [] a e = cc
 some_more (b ∷ xs) a e = cc
 
 -- an instruction waits
-abbrev pub Waits_now : Next → Type 0
-Waits_now (Over (Comes (Waits actions store))) = Unit {0}
-Waits_now _ = ⊥
+abbrev pub WaitsHere : Next → Type 0
+WaitsHere (Over (Comes (Waits actions store))) = Unit {0}
+WaitsHere _ = ⊥
 
 -- with these answers
 abbrev pub at : Moment → List Answer → Moment
@@ -64,7 +64,7 @@ module _ (First Later : Action → Type 0) where
   -- what comes of an instruction with these answers or those
   pub record IsOrderly (f : List Answer → Next) : Type 0 where
     pub none : HearsAll (f [])
-    pub more : (L : List Answer) (a : Answer) → Waits_now (f L) → HearsAll (f (L ++ a ∷ []))
+    pub more : (L : List Answer) (a : Answer) → WaitsHere (f L) → HearsAll (f (L ++ a ∷ []))
     pub told : (L : List Answer) → Told (f L)
 
   going : (t : Thread) → AreInOrder First Later t.moment.actions → IsOrderly (λ L. Goes (with_answers t L))
@@ -76,7 +76,7 @@ module _ (First Later : Action → Type 0) where
   acting : (m : Moment) (a : Action) (next : Outcome → Moment → Next) → AreInOrder First Later (m.actions ++ a ∷ []) → ((b : Answer) → IsOrderly (λ L. next b.given (at (after m a b []) L))) → IsOrderly (λ L. with_outcome (at m L) a next)
   acting m a next order onward = record { none = tt; more = more; told = told }
     where
-      more : (L : List Answer) (b : Answer) → Waits_now (with_outcome (at m L) a next) → HearsAll (with_outcome (at m (L ++ b ∷ [])) a next)
+      more : (L : List Answer) (b : Answer) → WaitsHere (with_outcome (at m L) a next) → HearsAll (with_outcome (at m (L ++ b ∷ [])) a next)
       more [] b w = (onward b).none
       more (c ∷ L) b w = (onward c).more L b w
 
