@@ -189,12 +189,9 @@ module _ (m : ModuleTypes) (parts : List PartTypes) (instructions : List Instruc
   beats_from were (suc k) (Stops stop left u) kept = kept
   beats_from were (suc k) turns.Broken kept = absurd kept
 
-  pub beats_keep : (k fuel : ℕ) (t : Turns) → AreSound m parts instructions t → AreHeard p t → KeepsBeat (opened t) (beats p k (RunsOn fuel t))
-  beats_keep k fuel t sound heard = beats_from (opened t) k (RunsOn fuel t) (unchanged t sound heard)
-
-  -- where they stop
-  pub beats_stop : (k fuel left : ℕ) (t u : Turns) (stop : turns.Stop) → AreSound m parts instructions t → AreHeard p t → beats p k (RunsOn fuel t) ≡ Stops stop left u → Keeps (opened t) u × IsAsked stop u
-  beats_stop k fuel left t u stop sound heard e = subst (KeepsBeat (opened t)) e (beats_keep k fuel t sound heard)
+  -- what they come to
+  pub beats_come : (k fuel : ℕ) (t : Turns) (b : Beat) → AreSound m parts instructions t → AreHeard p t → beats p k (RunsOn fuel t) ≡ b → KeepsBeat (opened t) b
+  beats_come k fuel t b sound heard e = subst (KeepsBeat (opened t)) e (beats_from (opened t) k (RunsOn fuel t) (unchanged t sound heard))
 
   leaves : (were : ℕ → List ℕ) (b : Beat) → KeepsBeat were b → Leaves (λ u. AreHeard p u × ((n : ℕ) → opened u n ≡ were n)) b
   leaves were (RunsOn left u) kept = (kept.heard, kept.same)
@@ -202,4 +199,4 @@ module _ (m : ModuleTypes) (parts : List PartTypes) (instructions : List Instruc
   leaves were turns.Broken kept = kept
 
   pub beats_leave : (k fuel : ℕ) (t : Turns) → AreSound m parts instructions t → AreHeard p t → Leaves (λ u. AreHeard p u × ((n : ℕ) → opened u n ≡ opened t n)) (beats p k (RunsOn fuel t))
-  beats_leave k fuel t sound heard = leaves (opened t) (beats p k (RunsOn fuel t)) (beats_keep k fuel t sound heard)
+  beats_leave k fuel t sound heard = leaves (opened t) (beats p k (RunsOn fuel t)) (beats_come k fuel t (beats p k (RunsOn fuel t)) sound heard refl)
