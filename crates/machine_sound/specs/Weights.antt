@@ -1,5 +1,5 @@
 -- How much is left to do of a run.
-use Rattle.std.specs.Prelude.{ℕ, ◌+◌, ◌*◌, List, [], ◌∷◌, Bool, true, false, Option, Some, None, ⊤, ⊥}
+use Rattle.std.specs.Prelude.{ℕ, ◌+◌, ◌*◌, List, [], ◌∷◌, Bool, true, false, Option, Some, None, ⊤}
 use Rattle.machine_turns.specs.Threads.{Standing, is_fresh}
 use Rattle.machine_turns.specs.Turns.{Turns, Beat, RunsOn, Stops}
 use Rattle.machine_turns.specs.Turns as turns
