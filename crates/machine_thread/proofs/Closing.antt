@@ -1,6 +1,5 @@
 -- Exceptions that close requests, and the end of a thread.
-use Rattle.std.proofs.Common.{arith, ◌≡◌, ℕ, zero, suc, ◌+◌, ◌-◌, ◌<◌, ◌≤◌, List, [], ◌∷◌, ◌++◌, length, take, drop, Bool, true, false, not, if◌then◌else◌, ◌&&◌, nat_eq, Option, None, Some, refl, ap, sym, subst, ◌∙◌, not-suc-le-zero, le_of_suc-le-suc, length-drop}
-use Rattle.std.proofs.Math.Seq.{drop-nil}
+use Rattle.std.proofs.Common.{arith, ◌≡◌, ℕ, zero, suc, ◌-◌, ◌<◌, ◌≤◌, List, [], ◌∷◌, ◌++◌, length, take, drop, Bool, true, false, not, if◌then◌else◌, ◌&&◌, nat_eq, Option, None, Some, refl, ap, sym, subst, ◌∙◌, not-suc-le-zero, le_of_suc-le-suc, length-drop}
 use Rattle.std.proofs.lemmas.Bool.Decides.{nat_tests}
 use Rattle.typing_rules.specs.declared.exception.Exception.{Exception}
 use Rattle.lynx_meaning.specs.Code.{Next, Over, Comes, Goes, Opened, closes, cut, ends, instead, raises, raises_in, Program}
@@ -35,11 +34,6 @@ last_of : (actions : List Action) (a : Action) → last_action (actions ++ a ∷
 last_of [] a = refl
 last_of (b ∷ []) a = refl
 last_of (b ∷ c ∷ rest) a = last_of (c ∷ rest) a
-
-drop_drop : (h k : ℕ) (os : List Outcome) → drop k (drop h os) ≡ drop (h + k) os
-drop_drop zero k os = let e : k ≡ 0 + k = omega arith in ap (λ n. drop n os) e
-drop_drop (suc h) k [] = drop-nil k ∙ sym (drop-nil (suc h + k))
-drop_drop (suc h) k (o ∷ os) = let e : suc (h + k) ≡ suc h + k = omega arith in drop_drop h k os ∙ ap (λ n. drop n (o ∷ os)) e
 
 -- there is an outcome for each close
 heard_all : (k : ℕ) (x : Exception) (globals locals : List Value) (os : List Outcome) (actions : List Action) (next : Exception → Moment → Next) → k ≤ length os →

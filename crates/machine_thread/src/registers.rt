@@ -142,6 +142,7 @@ impl Thread {
     }
 
     /// So many of the innermost open requests are closed.
+    #[tactic(auto, using(crate::proofs::Cutting::innermost))]
     pub(crate) fn closes_innermost(&mut self, count: usize)
         ensures { self.new ≡ record self.old { requests = drop count self.old.requests } }
     {

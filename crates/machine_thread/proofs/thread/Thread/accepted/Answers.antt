@@ -1,4 +1,4 @@
-use Rattle.std.proofs.Common.{rules, ◌≡◌, [], ◌∷◌, ◌++◌, None, ap, sym, ◌∙◌}
+use Rattle.std.proofs.Common.{rules, ◌≡◌, [], ◌∷◌, ◌++◌, None, false, ap, sym, ◌∙◌}
 use Rattle.lynx_meaning.specs.Code.{Next, asks}
 use Rattle.lynx_meaning.specs.Courses.{Accept}
 use Rattle.lynx_meaning.specs.Values.{Link}
