@@ -1,5 +1,5 @@
 -- Small runs of threads that take turns.
-use Rattle.std.specs.Prelude.{◌≡◌, ℕ, List, [], ◌∷◌, Bool, true, false, Option, None, Some, Ok, Err, refl}
+use Rattle.std.specs.Prelude.{◌≡◌, ℕ, List, [], ◌∷◌, true, false, Option, None, Some, Ok, Err, slice_get, refl}
 use Rattle.typing_rules.specs.declared.exception.Exception.TheVariants as exceptions
 use Rattle.lynx_code.specs.declared.instruction.Instruction.{Instruction}
 use Rattle.lynx_code.specs.declared.instruction.Instruction.TheVariants as code
@@ -7,6 +7,7 @@ use Rattle.lynx_code.specs.declared.instruction.Literal.TheVariants as literal
 use Rattle.lynx_meaning.specs.Code.{Program}
 use Rattle.lynx_meaning.specs.Courses.{Connect, Accept, Close}
 use Rattle.lynx_meaning.specs.Values.{Link, Truth}
+use Rattle.machine_turns.specs.Threads.{Standing}
 use Rattle.machine_turns.specs.Turns.{Turns, Beat, Stop, RunsOn, Stops, Broken, Spent, Act, AllBlocked, Finished, at_start, spawned, given_to, beats}
 
 -- code with one operation, which has no arguments
@@ -29,6 +30,14 @@ abbrev turns : Beat → Turns
 turns (RunsOn left t) = t
 turns (Stops stop left t) = t
 turns Broken = start
+
+-- the operations of the requests that were open before the instruction of a thread
+abbrev requests_of : Option (Option Standing) → List ℕ
+requests_of (Some (Some s)) = s.requests
+requests_of _ = []
+
+abbrev requests : ℕ → Beat → List ℕ
+requests n b = requests_of (slice_get (turns b).threads n)
 
 -- ---- fuel
 
@@ -150,3 +159,39 @@ the_outer_one_is_closed = refl
 
 pub it_has_left_both : stopped (run through 2 5 (given_to 1 (Ok []) (turns outer))) ≡ Some (Finished, 5)
 it_has_left_both = refl
+
+-- ---- a close that raises in place of the exception that leaves its request
+
+-- an entry of operation 1: try accept o on l do raise FAILED; end; when NOLINK do end; end; the body ends
+abbrev replacing : List Instruction
+replacing =
+    code.End ∷ code.Try 5 ∷ code.LoadG 0 ∷ code.Accept 0 ∷ code.Raise exceptions.Failed ∷ code.Case exceptions.NoLink 7 ∷ code.End ∷ code.Again ∷ []
+
+abbrev opening : Beat
+opening = run replacing 4 9 (spawned 1 (1 ∷ []) 1 [] start)
+
+pub it_accepts : stopped opening ≡ Some (Act 1 (Accept (Link 1) 0), 5)
+it_accepts = refl
+
+abbrev raising : Beat
+raising = run replacing 2 5 (given_to 1 (Ok []) (turns opening))
+
+pub it_leaves_the_inner_one : stopped raising ≡ Some (Act 1 Close, 4)
+it_leaves_the_inner_one = refl
+
+pub both_were_open : requests 1 raising ≡ 0 ∷ 1 ∷ []
+both_were_open = refl
+
+-- the handler of what the close raised is found, and the end closes the entry's own
+abbrev ending : Beat
+ending = run replacing 3 4 (given_to 1 (Err exceptions.NoLink) (turns raising))
+
+pub it_closes_its_own : stopped ending ≡ Some (Act 1 Close, 2)
+it_closes_its_own = refl
+
+pub its_own_was_open : requests 1 ending ≡ 1 ∷ []
+its_own_was_open = refl
+
+-- what the last close is given changes nothing
+pub it_has_ended : stopped (run replacing 2 2 (given_to 1 (Err exceptions.Failed) (turns ending))) ≡ Some (Finished, 2)
+it_has_ended = refl
