@@ -93,6 +93,22 @@ const ACTIONS_ARE_ASKED_FOR: &[Row] = &[
         "module m; begin write 1; stop; write 2; end.",
         ".",
         "0 write 1; 0 stop; left 997",
+    ), // each one with the last operation and the last entry, by the body and by that entry
+    (
+        "module m; op a () : (); op b (int) : (); op c (int) : (text); param l : link; var x : link; var y : link; var n : int; var t : text; entry d of a () begin end; entry e of c (k) begin reply ('e'); end; begin new x, y; bind y to e; unbind y from e; connect c on l (4) : (t); accept c on l (n) do reply (t); end; write n; destroy y; stop; end.",
+        ".........",
+        "0 new; 0 bind 51 1; 0 unbind 51 1; 0 connect 1 2 4; 0 accept 1 2; 0 reply t; 0 close; 0 write 7; 0 destroy 51; 0 stop; left 978",
+    ),
+    (
+        "module m; op a () : (); op b (int) : (); op c (int) : (text); param l : link; var x : link; var y : link; var t : text; entry d of a () begin end; entry e of c (k) begin new x, y; bind y to e; unbind y from e; connect c on l (k) : (t); accept c on l (k) do reply (t); end; write k; destroy y; reply ('e'); stop; end; begin end.",
+        "1..........",
+        "1 starts; 1 new; 1 bind 51 1; 1 unbind 51 1; 1 connect 1 2 7; 1 accept 1 2; 1 reply t; 1 close; 1 write 7; 1 destroy 51; 1 reply e; 1 stop; left 975",
+    ),
+    // in a module without entries
+    (
+        "module m; op a () : (); op b (int) : (text); var x : link; var y : link; var n : int; var t : text; begin new x, y; connect b on x (4) : (t); accept b on y (n) do reply (t); end; write t; destroy x; stop; end.",
+        ".......",
+        "0 new; 0 connect 50 1 4; 0 accept 51 1; 0 reply t; 0 close; 0 write t; 0 destroy 50; 0 stop; left 982",
     ),
 ];
 

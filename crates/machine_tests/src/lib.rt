@@ -8,6 +8,8 @@ mod instructions;
 #[cfg(test)]
 mod playing;
 #[cfg(test)]
+mod requests;
+#[cfg(test)]
 mod turns;
 #[cfg(test)]
 mod words;

@@ -139,6 +139,18 @@ const WITH_FUEL: &[(&str, u32, &str, &str)] = &[
         3,
         "0.",
         "1 starts; 1 close; finished 1",
+    ), // so does a thread amid an exception that closes two requests, and each close takes none
+    (
+        "module m; op o () : (); param a : link; entry e of o () begin accept o on a () do raise FAILED; end; end; begin end.",
+        4,
+        "0..",
+        "1 starts; 1 accept 1 0; 1 close; spent 0",
+    ),
+    (
+        "module m; op o () : (); param a : link; entry e of o () begin accept o on a () do raise FAILED; end; end; begin end.",
+        5,
+        "0...",
+        "1 starts; 1 accept 1 0; 1 close; 1 close; finished 1",
     ),
 ];
 

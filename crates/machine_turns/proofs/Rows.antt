@@ -1,5 +1,5 @@
 -- Small runs of threads that take turns.
-use Rattle.std.specs.Prelude.{◌≡◌, ℕ, List, [], ◌∷◌, Bool, true, false, Option, None, Some, Ok, Err, refl}
+use Rattle.std.specs.Prelude.{◌≡◌, ℕ, List, [], ◌∷◌, true, false, Option, None, Some, Ok, Err, slice_get, refl}
 use Rattle.typing_rules.specs.declared.exception.Exception.TheVariants as exceptions
 use Rattle.lynx_code.specs.declared.instruction.Instruction.{Instruction}
 use Rattle.lynx_code.specs.declared.instruction.Instruction.TheVariants as code
@@ -7,7 +7,8 @@ use Rattle.lynx_code.specs.declared.instruction.Literal.TheVariants as literal
 use Rattle.lynx_meaning.specs.Code.{Program}
 use Rattle.lynx_meaning.specs.Courses.{Connect, Accept, Close}
 use Rattle.lynx_meaning.specs.Values.{Link, Truth}
-use Rattle.machine_turns.specs.Turns.{Turns, Beat, Stop, RunsOn, Stops, Broken, Spent, Act, AllBlocked, Finished, at_start, spawned, given_to, beats}
+use Rattle.machine_turns.specs.Threads.{Standing}
+use Rattle.machine_turns.specs.Turns.{Turns, Beat, Stop, RunsOn, Stops, Broken, Spent, Act, AllBlocked, Finished, at_start, spawned, given_to, run}
 
 -- code with one operation, which has no arguments
 abbrev program : List Instruction → Program
@@ -17,9 +18,9 @@ program is = record { instructions = is; arguments = 0 ∷ [] }
 abbrev start : Turns
 start = at_start (Link 1 ∷ Truth false ∷ [])
 
--- the turns after so many beats, with this fuel
-abbrev run : List Instruction → ℕ → ℕ → Turns → Beat
-run is k fuel t = beats (program is) k (RunsOn fuel t)
+-- a run of this code, with this fuel
+abbrev runs : List Instruction → ℕ → Turns → Beat
+runs is fuel t = run (program is) fuel t
 
 abbrev stopped : Beat → Option (Stop × ℕ)
 stopped (Stops stop left t) = Some (stop, left)
@@ -30,15 +31,23 @@ turns (RunsOn left t) = t
 turns (Stops stop left t) = t
 turns Broken = start
 
+-- the operations of the requests that were open before the instruction of a thread
+abbrev requests_of : Option (Option Standing) → List ℕ
+requests_of (Some (Some s)) = s.requests
+requests_of _ = []
+
+abbrev requests : ℕ → Beat → List ℕ
+requests n b = requests_of (slice_get (turns b).threads n)
+
 -- ---- fuel
 
-pub a_loop_spends_its_fuel : stopped (run (code.Jump 0 ∷ []) 6 5 start) ≡ Some (Spent, 0)
+pub a_loop_spends_its_fuel : stopped (runs (code.Jump 0 ∷ []) 5 start) ≡ Some (Spent, 0)
 a_loop_spends_its_fuel = refl
 
-pub a_body_ends : stopped (run (code.End ∷ []) 2 1 start) ≡ Some (Finished, 0)
+pub a_body_ends : stopped (runs (code.End ∷ []) 1 start) ≡ Some (Finished, 0)
 a_body_ends = refl
 
-pub a_body_does_not_begin : stopped (run (code.End ∷ []) 1 0 start) ≡ Some (Spent, 0)
+pub a_body_does_not_begin : stopped (runs (code.End ∷ []) 0 start) ≡ Some (Spent, 0)
 a_body_does_not_begin = refl
 
 -- ---- a thread that connects
@@ -47,23 +56,23 @@ abbrev connecting : List Instruction
 connecting = code.LoadG 0 ∷ code.Connect 0 ∷ code.End ∷ []
 
 abbrev connected : Beat
-connected = run connecting 2 9 start
+connected = runs connecting 9 start
 
 pub it_asks : stopped connected ≡ Some (Act 0 (Connect (Link 1) 0 []), 7)
 it_asks = refl
 
-pub it_is_blocked : stopped (run connecting 1 7 (turns connected)) ≡ Some (AllBlocked, 7)
+pub it_is_blocked : stopped (runs connecting 7 (turns connected)) ≡ Some (AllBlocked, 7)
 it_is_blocked = refl
 
 -- with an outcome it is ready, and what it does with it takes no fuel
-pub it_goes_on : stopped (run connecting 3 7 (given_to 0 (Ok []) (turns connected))) ≡ Some (Finished, 6)
+pub it_goes_on : stopped (runs connecting 7 (given_to 0 (Ok []) (turns connected))) ≡ Some (Finished, 6)
 it_goes_on = refl
 
-pub it_does_not_go_on_without_fuel : stopped (run connecting 1 0 (given_to 0 (Ok []) (turns connected))) ≡ Some (Spent, 0)
+pub it_does_not_go_on_without_fuel : stopped (runs connecting 0 (given_to 0 (Ok []) (turns connected))) ≡ Some (Spent, 0)
 it_does_not_go_on_without_fuel = refl
 
 -- an exception that nothing handles ends it, after the instruction's fuel
-pub it_is_refused : stopped (run connecting 2 7 (given_to 0 (Err exceptions.DeadLink) (turns connected))) ≡ Some (Finished, 7)
+pub it_is_refused : stopped (runs connecting 7 (given_to 0 (Err exceptions.DeadLink) (turns connected))) ≡ Some (Finished, 7)
 it_is_refused = refl
 
 -- ---- an entry that makes the body's condition true
@@ -73,14 +82,14 @@ abbrev waiting : List Instruction
 waiting = code.LoadG 1 ∷ code.Await 0 ∷ code.End ∷ code.Push (literal.Bool true) ∷ code.StoreG 1 ∷ code.End ∷ []
 
 abbrev closing : Beat
-closing = run waiting 5 20 (spawned 1 (0 ∷ []) 3 [] start)
+closing = runs waiting 20 (spawned 1 (0 ∷ []) 3 [] start)
 
 -- the body waits, and the entry closes its request at its end
 pub the_entry_closes : stopped closing ≡ Some (Act 1 Close, 15)
 the_entry_closes = refl
 
 -- where it has ended the body tries again
-pub the_body_goes_on : stopped (run waiting 6 15 (given_to 1 (Ok []) (turns closing))) ≡ Some (Finished, 12)
+pub the_body_goes_on : stopped (runs waiting 15 (given_to 1 (Ok []) (turns closing))) ≡ Some (Finished, 12)
 the_body_goes_on = refl
 
 -- ---- awaits that stay false
@@ -90,10 +99,10 @@ abbrev blocking : List Instruction
 blocking = code.LoadG 0 ∷ code.Accept 0 ∷ code.End ∷ code.LoadG 1 ∷ code.Await 3 ∷ code.End ∷ []
 
 abbrev accepting : Beat
-accepting = run blocking 2 30 (spawned 2 (0 ∷ []) 3 [] (spawned 1 (0 ∷ []) 3 [] start))
+accepting = runs blocking 30 (spawned 2 (0 ∷ []) 3 [] (spawned 1 (0 ∷ []) 3 [] start))
 
 abbrev vain : Beat
-vain = run blocking 8 28 (turns accepting)
+vain = runs blocking 28 (turns accepting)
 
 -- the first tries again after the second has blocked, and wakes nobody
 pub all_are_blocked : stopped vain ≡ Some (AllBlocked, 22)
@@ -114,16 +123,16 @@ abbrev leaving : List Instruction
 leaving = code.Try 4 ∷ code.LoadG 0 ∷ code.Accept 0 ∷ code.Raise exceptions.Failed ∷ code.Case exceptions.Failed 6 ∷ code.End ∷ code.Again ∷ []
 
 abbrev accepted : Beat
-accepted = run leaving 3 9 start
+accepted = runs leaving 9 start
 
 abbrev left : Beat
-left = run leaving 2 6 (given_to 0 (Ok []) (turns accepted))
+left = runs leaving 6 (given_to 0 (Ok []) (turns accepted))
 
 pub it_is_closed : stopped left ≡ Some (Act 0 Close, 5)
 it_is_closed = refl
 
 -- the thread keeps its turn, and goes on at the handlers
-pub it_is_handled : stopped (run leaving 4 5 (given_to 0 (Ok []) (turns left))) ≡ Some (Finished, 3)
+pub it_is_handled : stopped (runs leaving 5 (given_to 0 (Ok []) (turns left))) ≡ Some (Finished, 3)
 it_is_handled = refl
 
 -- ---- an exception that leaves two requests
@@ -133,20 +142,56 @@ abbrev through : List Instruction
 through = code.End ∷ code.LoadG 0 ∷ code.Accept 0 ∷ code.Raise exceptions.Failed ∷ []
 
 abbrev entered : Beat
-entered = run through 3 9 (spawned 1 (0 ∷ []) 1 [] start)
+entered = runs through 9 (spawned 1 (0 ∷ []) 1 [] start)
 
 abbrev inner : Beat
-inner = run through 2 6 (given_to 1 (Ok []) (turns entered))
+inner = runs through 6 (given_to 1 (Ok []) (turns entered))
 
 pub the_inner_one_is_closed : stopped inner ≡ Some (Act 1 Close, 5)
 the_inner_one_is_closed = refl
 
 -- the instruction goes on, without fuel
 abbrev outer : Beat
-outer = run through 1 5 (given_to 1 (Ok []) (turns inner))
+outer = runs through 5 (given_to 1 (Ok []) (turns inner))
 
 pub the_outer_one_is_closed : stopped outer ≡ Some (Act 1 Close, 5)
 the_outer_one_is_closed = refl
 
-pub it_has_left_both : stopped (run through 2 5 (given_to 1 (Ok []) (turns outer))) ≡ Some (Finished, 5)
+pub it_has_left_both : stopped (runs through 5 (given_to 1 (Ok []) (turns outer))) ≡ Some (Finished, 5)
 it_has_left_both = refl
+
+-- ---- a close that raises in place of the exception that leaves its request
+
+-- an entry of operation 1: try accept o on l do raise FAILED; end; when NOLINK do end; end; the body ends
+abbrev replacing : List Instruction
+replacing =
+    code.End ∷ code.Try 5 ∷ code.LoadG 0 ∷ code.Accept 0 ∷ code.Raise exceptions.Failed ∷ code.Case exceptions.NoLink 7 ∷ code.End ∷ code.Again ∷ []
+
+abbrev opening : Beat
+opening = runs replacing 9 (spawned 1 (1 ∷ []) 1 [] start)
+
+pub it_accepts : stopped opening ≡ Some (Act 1 (Accept (Link 1) 0), 5)
+it_accepts = refl
+
+abbrev raising : Beat
+raising = runs replacing 5 (given_to 1 (Ok []) (turns opening))
+
+pub it_leaves_the_inner_one : stopped raising ≡ Some (Act 1 Close, 4)
+it_leaves_the_inner_one = refl
+
+pub both_were_open : requests 1 raising ≡ 0 ∷ 1 ∷ []
+both_were_open = refl
+
+-- the handler of what the close raised is found, and the end closes the entry's own
+abbrev ending : Beat
+ending = runs replacing 4 (given_to 1 (Err exceptions.NoLink) (turns raising))
+
+pub it_closes_its_own : stopped ending ≡ Some (Act 1 Close, 2)
+it_closes_its_own = refl
+
+pub its_own_was_open : requests 1 ending ≡ 1 ∷ []
+its_own_was_open = refl
+
+-- what the last close is given changes nothing
+pub it_has_ended : stopped (runs replacing 2 (given_to 1 (Err exceptions.Failed) (turns ending))) ≡ Some (Finished, 2)
+it_has_ended = refl
