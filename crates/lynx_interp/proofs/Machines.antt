@@ -9,15 +9,17 @@ use Rattle.typing_rules.specs.Types.{has_length, is_length}
 use Rattle.lynx_code.specs.declared.code.Code.{Code}
 use Rattle.lynx_code.specs.declared.code.Part as kept
 use Rattle.lynx_meaning.specs.Values.{Value, HasType, Link, is_int, start_value, HaveTypes}
-use Rattle.code_shapes.specs.Shapes.{code_types, kept_part, ModuleTypes, PartTypes, code_parts, opened_by, types_of}
+use Rattle.code_shapes.specs.Shapes.{code_types, kept_part, ModuleTypes, PartTypes, code_parts, opened_by, program}
+use Rattle.lynx_meaning.specs.Needs.{types_of}
 use Rattle.lynx_meaning.specs.Courses.{Outcome}
 use Rattle.machine_turns.specs.Turns.{IsFree, at_start, given_to, spawned}
 use Rattle.machine_values.specs.declared.value.LinkRef.{LinkRef}
 use Rattle.machine_never_stuck.proofs.Pairs.{same_length}
-use Rattle.compiler_runnable.specs.Runnable.{HaveStarts, IsRunnable, parameters, IsEntryPart, arguments_of}
+use Rattle.compiler_runnable.specs.Runnable.{HaveStarts, IsEntryPart, IsRunnable, arguments_of, parameters}
 use Rattle.machine_sound.specs.Sound.{FitsAction}
 use Rattle.machine_sound.proofs.Outside.{given_sound, spawned_sound, start_sound}
-use Rattle.lynx_interp.specs.Machines.{HasEntry, IsEntryFor, IsMachine, State, start_globals, start_locals, state_of}
+use Rattle.machine_requests.proofs.Outside.{given_heard_there, given_open, given_others, spawned_heard, spawned_open, spawned_others, start_heard}
+use Rattle.lynx_interp.specs.Machines.{GivesRequests, HasEntry, IsEntryFor, IsMachine, SpawnsRequests, State, start_globals, start_locals, state_of}
 
 -- ---- variables at the start
 
@@ -82,6 +84,7 @@ start_machine code links is many =
       sound = start_sound (code_types code) (code_parts code) code.instructions.items is.shaped.0 (start_globals code.globals.items links) is.shaped.1
           (globals_typed code.globals.items is.params.0 code.params links is.params.1 many is.globals) is.parts.body;
       parts = is.parts;
+      heard = start_heard (program (code_types code) code.instructions.items) (start_globals code.globals.items links);
     }
 
 -- the parameters of an entry have the types of its operation's arguments
@@ -123,7 +126,19 @@ pub part_there : (ps : List kept.Part) (n i : ℕ) (d : kept.Part) (p : PartType
 part_there ps n i d p same found here = ap kept_part (found ∙ ap (λ (k : ℕ). slice_index_or ps k d) same) ∙ part_at ps n d p here
 
 pub given_machine : (s : State) (n : ℕ) (outcome : Outcome) → IsMachine s → FitsAction s.types n outcome s.turns → IsMachine (record s { turns = given_to n outcome s.turns })
-given_machine s n outcome is fits = record { sound = given_sound s.types s.parts s.instructions s.turns n outcome is.sound fits; parts = is.parts }
+given_machine s n outcome is fits =
+    record {
+      sound = given_sound s.types s.parts s.instructions s.turns n outcome is.sound fits;
+      parts = is.parts;
+      heard = given_heard_there (program s.types s.instructions) s.turns n outcome fits.0 is.heard fits.1;
+    }
+
+pub gives_requests : (s : State) (n : ℕ) (outcome : Outcome) → IsMachine s → GivesRequests n outcome s (record s { turns = given_to n outcome s.turns })
+gives_requests s n outcome is =
+    record {
+      there = λ wanted asking. given_open s.types s.parts s.instructions s.turns n outcome wanted is.sound is.heard asking;
+      others = λ k other. given_others s.instructions s.turns n k outcome other;
+    }
 
 pub spawned_machine : (s : State) (n entry : ℕ) (values : List Value) (p : PartTypes) → IsMachine s → IsFree n s.turns → slice_get s.parts (entry + 1) ≡ Some p → HaveTypes (parameters s.types p) values →
     IsMachine (record s { turns = spawned n (opened_by p.op) p.start (start_locals p.locals values) s.turns })
@@ -134,4 +149,16 @@ spawned_machine s n entry values p is free here typed =
       sound = spawned_sound s.types s.parts s.instructions s.turns n (entry + 1) p (start_locals p.locals values) is.sound free here
           (locals_typed p.locals of_entry.of_op.arguments of_entry.others values of_entry.locals (subst (λ (ts : List TypeName). HaveTypes ts values) (parameters_of s.types p of_entry) typed) (is.parts.starts (entry + 1) p here));
       parts = is.parts;
+      heard = spawned_heard (program s.types s.instructions) s.turns n (opened_by p.op) p.start (start_locals p.locals values) free is.heard;
+    }
+
+pub spawns_requests : (s : State) (n entry : ℕ) (values : List Value) (p : PartTypes) → IsFree n s.turns → slice_get s.parts (entry + 1) ≡ Some p →
+    SpawnsRequests n entry s (record s { turns = spawned n (opened_by p.op) p.start (start_locals p.locals values) s.turns })
+spawns_requests s n entry values p free here =
+    record {
+      there = λ q there.
+          let one : Some p ≡ Some q = sym here ∙ there in
+          let same : p ≡ q = cc in
+          spawned_open s.instructions s.turns n (opened_by p.op) p.start (start_locals p.locals values) free ∙ ap (λ (r : PartTypes). opened_by r.op) same;
+      others = λ k other. spawned_others s.instructions s.turns n k (opened_by p.op) p.start (start_locals p.locals values) other;
     }

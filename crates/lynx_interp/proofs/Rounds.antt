@@ -1,8 +1,7 @@
 -- A round of a machine, from what its functions tell.
-use Rattle.machine_sound.proofs.Stopping.{run_stopped}
-use Rattle.machine_sound.proofs.Ending.{run_is}
-use Rattle.std.proofs.Common.{◌≡◌, ℕ, suc, ◌+◌, Option, Some, None, length, option_map, slice_get, refl, sym, ap, subst, ◌∙◌, ◌≤◌}
+use Rattle.std.proofs.Common.{◌≡◌, ℕ, suc, ◌+◌, List, Option, Some, None, length, option_map, slice_get, refl, sym, ap, subst, ◌∙◌, ◌≤◌}
 use Rattle.std.proofs.lemmas.Option.{slice_get_within}
+use Rattle.lynx_code.specs.declared.instruction.Instruction.{Instruction}
 use Rattle.lynx_meaning.specs.Code.{Program}
 use Rattle.code_shapes.specs.Shapes.{program}
 use Rattle.machine_turns.specs.Threads.{Standing, Made, course}
@@ -15,8 +14,14 @@ use Rattle.machine_sound.specs.Taken.{takes_turn}
 use Rattle.machine_sound.proofs.Outside.{taken_sound}
 use Rattle.machine_sound.proofs.Placing.{get_set}
 use Rattle.machine_sound.proofs.Rounds as rounds
+use Rattle.machine_sound.proofs.Stopping.{run_stopped}
+use Rattle.machine_sound.proofs.Ending.{run_is}
+use Rattle.machine_never_stuck.specs.Sound.{IsAction}
+use Rattle.machine_requests.specs.Heard.{AreHeard}
+use Rattle.machine_requests.specs.Open.{open_of}
+use Rattle.machine_requests.proofs.Beats as requests
 use Rattle.lynx_interp.specs.Machines.{IsMachine, State}
-use Rattle.lynx_interp.specs.Runs.{CanGoOn, Comes, IsAsked, IsRound, IsTurn, MayGoOn, Settles, StopsAt, after_turn, stop_of}
+use Rattle.lynx_interp.specs.Runs.{CanGoOn, Comes, IsAsked, IsOfCode, IsRound, IsTurn, KeepRequests, MayGoOn, Settles, StopsAt, after_turn, stop_of}
 use Rattle.lynx_interp.specs.declared.stop.Stop.{Stop}
 use Rattle.lynx_interp.specs.declared.stop.Stop.TheVariants as stop
 
@@ -25,33 +30,54 @@ abbrev pub round_of : ℕ → State → Beat → Type 0
 round_of fuel before b = rounds.IsRound before.types before.parts before.instructions fuel before.turns b
 
 -- the same machine with other turns
-with_turns : (before now : State) → now ≡ record before { turns = now.turns } → IsMachine before → AreSound before.types before.parts before.instructions now.turns → IsMachine now
-with_turns before now same is sound = subst (λ (s : State). IsMachine s) (sym same) (record { sound = sound; parts = is.parts })
+with_turns : (before now : State) → now ≡ record before { turns = now.turns } → IsMachine before → AreSound before.types before.parts before.instructions now.turns → AreHeard (program before.types before.instructions) now.turns → IsMachine now
+with_turns before now same is sound heard = subst (λ (s : State). IsMachine s) (sym same) (record { sound = sound; parts = is.parts; heard = heard })
+
+-- what beats of a machine came to
+came : (fuel : ℕ) (before : State) (b : Beat) → IsMachine before → Comes (program before.types before.instructions) fuel before.turns b →
+    requests.KeepsBeat before.types before.parts before.instructions (requests.opened before.types before.parts before.instructions before.turns) b
+came fuel before b is come = requests.beats_come before.types before.parts before.instructions come.0 fuel before.turns b is.sound is.heard come.1
+
+asked_of_code : (before now : State) (over : Stop) → now ≡ record before { turns = now.turns } → requests.IsAsked before.types before.parts before.instructions (stop_of over) now.turns → IsOfCode over now
+asked_of_code before now stop.Spent same asked = tt
+asked_of_code before now (stop.Act n a) same asked = subst (λ (s : State). IsAction s.types (open_of s.instructions n now.turns) (action_of a)) (sym same) asked
+asked_of_code before now stop.AllBlocked same asked = tt
+asked_of_code before now stop.Finished same asked = tt
 
 told_round : (fuel left n : ℕ) (before now : State) (action : Option Action) → IsMachine before → now ≡ record before { turns = now.turns } → round_of fuel before (after_turn left n action now.turns) →
     IsRound fuel before (option_map (λ asked. stop.Act n asked) action) left now
-told_round fuel left n before now None is same round = record {
-  come = round.come;
-  asked = tt;
-  blocked = round.blocked;
-  less = round.less left now.turns refl;
-  machine = with_turns before now same is round.sound;
-  same = same;
-}
-told_round fuel left n before now (Some a) is same round = record {
-  come = round.come;
-  asked = round.asked n left (action_of a) now.turns refl;
-  blocked = round.blocked;
-  less = tt;
-  machine = with_turns before now same is round.sound;
-  same = same;
-}
+told_round fuel left n before now None is same round =
+    let kept = came fuel before (RunsOn left now.turns) is round.come in
+    record {
+      come = round.come;
+      asked = tt;
+      of_code = tt;
+      blocked = round.blocked;
+      requests = kept.same;
+      less = round.less left now.turns refl;
+      machine = with_turns before now same is kept.sound kept.heard;
+      same = same;
+    }
+told_round fuel left n before now (Some a) is same round =
+    let kept = came fuel before (Stops (Act n (action_of a)) left now.turns) is round.come in
+    record {
+      come = round.come;
+      asked = round.asked n left (action_of a) now.turns refl;
+      of_code = asked_of_code before now (stop.Act n a) same kept.1;
+      blocked = round.blocked;
+      requests = kept.0.same;
+      less = tt;
+      machine = with_turns before now same is kept.0.sound kept.0.heard;
+      same = same;
+    }
 
 -- a run that stops at once
 pub stopped_round : (fuel : ℕ) (before : State) (stop : Stop) → IsMachine before → StopsAt fuel before.turns stop → IsRound fuel before (Some stop) fuel before
 stopped_round fuel before stop is at = record {
   come = (1, at.stops (program before.types before.instructions));
   asked = at.asked;
+  of_code = asked_of_code before before stop refl (came fuel before (Stops (stop_of stop) fuel before.turns) is (1, at.stops (program before.types before.instructions))).1;
+  requests = λ n. refl;
   blocked = λ n s there blocked. there;
   less = tt;
   machine = is;
@@ -108,17 +134,20 @@ pub record IsSoFar (fuel : ℕ) (start : State) (left : ℕ) (now : State) : Typ
   pub come : Comes (program start.types start.instructions) fuel start.turns (RunsOn left now.turns)
   pub many : length start.turns.threads ≡ most_threads
   pub blocked : StayBlocked start.turns now.turns
+  pub requests : KeepRequests start now
   pub machine : IsMachine now
   pub same : now ≡ record start { turns = now.turns }
 
 pub at_first : (fuel : ℕ) (start : State) → IsMachine start → IsSoFar fuel start fuel start
-at_first fuel start is = record { come = (0, refl); many = is.sound.many; blocked = λ n s there blocked. there; machine = is; same = refl }
+at_first fuel start is = record { come = (0, refl); many = is.sound.many; blocked = λ n s there blocked. there; requests = λ n. refl; machine = is; same = refl }
 
 -- what a run tells where it stops
 pub record IsOver (fuel : ℕ) (start : State) (over : Stop) (left : ℕ) (now : State) : Type 0 where
   pub runs : run (program start.types start.instructions) fuel start.turns ≡ Stops (stop_of over) left now.turns
   pub asked : IsAsked over now.turns
+  pub of_code : IsOfCode over now
   pub blocked : StayBlocked start.turns now.turns
+  pub requests : KeepRequests start now
   pub machine : IsMachine now
   pub same : now ≡ record start { turns = now.turns }
   pub stopped : IsStopped (stop_of over) left now.turns × (left ≤ fuel)
@@ -134,11 +163,17 @@ module _ (fuel left rest : ℕ) (start before now : State) (far : IsSoFar fuel s
   same_code : now ≡ record before { turns = now.turns } → now ≡ record start { turns = now.turns }
   same_code same = same ∙ ap (λ (s : State). record s { turns = now.turns }) far.same
 
+  -- the open requests of each thread are as they were at the start
+  unchanged : KeepRequests before now → KeepRequests start now
+  unchanged same n =
+      subst (λ (is : List Instruction). open_of is n now.turns ≡ open_of is n before.turns) (ap (λ (s : State). s.instructions) far.same) (same n) ∙ far.requests n
+
   pub goes_far : IsRound left before None rest now → IsSoFar fuel start rest now
   goes_far round = record {
     come = more (RunsOn rest now.turns) round.come;
     many = far.many;
     blocked = λ n s there blocked. round.blocked n s (far.blocked n s there blocked) blocked;
+    requests = unchanged round.requests;
     machine = round.machine;
     same = same_code round.same;
   }
@@ -149,6 +184,8 @@ module _ (fuel left rest : ℕ) (start before now : State) (far : IsSoFar fuel s
       record {
         runs = run_is (program start.types start.instructions) fuel come.0 start.turns (stop_of over) rest now.turns far.many come.1;
         asked = round.asked;
+        of_code = round.of_code;
+        requests = unchanged round.requests;
         blocked = λ n s there blocked. round.blocked n s (far.blocked n s there blocked) blocked;
         machine = round.machine;
         same = same_code round.same;

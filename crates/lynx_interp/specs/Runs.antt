@@ -13,6 +13,8 @@ use Rattle.machine_thread.specs.declared.action.Move.{Move}
 use Rattle.machine_sound.specs.Sound.{IsAsking, StayBlocked}
 use Rattle.machine_sound.specs.Taken.{next_number}
 use Rattle.machine_sound.specs.Weights.{weight}
+use Rattle.machine_never_stuck.specs.Sound.{IsAction}
+use Rattle.machine_requests.specs.Open.{open_of}
 use Rattle.lynx_interp.specs.Machines.{IsMachine, State}
 use Rattle.lynx_interp.specs.declared.stop.Stop.{Stop}
 use Rattle.lynx_interp.specs.declared.stop.Stop.TheVariants as stop
@@ -36,6 +38,16 @@ Comes p fuel t b = (k : ℕ) × (beats p k (RunsOn fuel t) ≡ b)
 abbrev pub IsAsked : Stop → Turns → Type 0
 IsAsked (stop.Act thread action) t = IsAsking thread (wanted_by (action_of action)) t
 IsAsked _ t = ⊤
+
+-- The action for which it stopped is one of the code, where the requests are open that are open in its thread: the operation or entry is there, what it
+-- sends has the types of the operation, and a reply or close finds a request open.
+abbrev pub IsOfCode : Stop → State → Type 0
+IsOfCode (stop.Act thread action) now = IsAction now.types (open_of now.instructions thread now.turns) (action_of action)
+IsOfCode _ now = ⊤
+
+-- the open requests of each thread that stands are as before, and a thread that ended had none
+abbrev pub KeepRequests : State → State → Type 0
+KeepRequests before now = (n : ℕ) → open_of before.instructions n now.turns ≡ open_of before.instructions n before.turns
 
 -- ---- a turn
 
@@ -83,7 +95,9 @@ pub record StopsAt (fuel : ℕ) (t : Turns) (stop : Stop) : Type 0 where
 pub record IsRound (fuel : ℕ) (before : State) (stopped : Option Stop) (left : ℕ) (now : State) : Type 0 where
   pub come : Comes (program before.types before.instructions) fuel before.turns (beat_of stopped left now.turns)
   pub asked : IfSome stopped (λ stop. IsAsked stop now.turns)
+  pub of_code : IfSome stopped (λ stop. IsOfCode stop now)
   pub blocked : StayBlocked before.turns now.turns
+  pub requests : KeepRequests before now
   pub less : IfNone stopped (weight left now.turns < weight fuel before.turns)
   pub machine : IsMachine now
   pub same : now ≡ record before { turns = now.turns }

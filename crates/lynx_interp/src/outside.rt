@@ -7,7 +7,7 @@ ghost use Rattle.machine_values.specs.Told.{values_of};
 ghost use Rattle.machine_sound.specs.Sound.{FitsAction, StayOthers};
 ghost use Rattle.machine_thread.specs.Told.{outcome_of};
 ghost use Rattle.code_shapes.specs.Shapes.{PartTypes, opened_by};
-ghost use Rattle.lynx_interp.specs.Machines.{HasEntry, IsEntryFor, IsMachine, IsSpawned, StandBelow, how_many, start_locals};
+ghost use Rattle.lynx_interp.specs.Machines.{GivesRequests, HasEntry, IsEntryFor, IsMachine, IsSpawned, SpawnsRequests, StandBelow, how_many, start_locals};
 
 use crate::machine::Machine;
 use crate::starts::entry_variables;
@@ -23,6 +23,7 @@ impl Machine {
         requires fits { FitsAction self.old.types thread (outcome_of outcome) self.old.turns }
         ensures given { OnOk result (self.new ≡ record self.old { turns = given_to thread (outcome_of outcome) self.old.turns }) }
         ensures others { OnOk result (StayOthers thread self.old.turns self.new.turns) }
+        ensures requests { OnOk result (GivesRequests thread (outcome_of outcome) self.old self.new) }
         ensures machine { OnOk result (IsMachine self.new) }
     {
         self.gives(thread, outcome)
@@ -37,6 +38,7 @@ impl Machine {
         ensures spawned { IfOk result (λ number. IfSome number (λ n. IsSpawned n entry (values_of values.items) self.old self.new)) }
         ensures first { IfOk result (λ number. IfSome number (λ n. StandBelow n self.old.turns)) }
         ensures others { IfOk result (λ number. IfSome number (λ n. StayOthers n self.old.turns self.new.turns)) }
+        ensures requests { IfOk result (λ number. IfSome number (λ n. SpawnsRequests n entry self.old self.new)) }
         ensures none { IfOk result (λ number. IfNone number (self.new ≡ self.old)) }
         ensures unchanged { OnErr result (self.new ≡ self.old) }
         ensures machine { OnOk result (IsMachine self.new) }

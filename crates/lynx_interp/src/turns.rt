@@ -8,7 +8,7 @@ ghost use Rattle.machine_thread.specs.Told.{action_of};
 ghost use Rattle.machine_sound.specs.Sound.{IsStopped, StayBlocked};
 ghost use Rattle.machine_sound.specs.Taken.{next_number, takes_turn};
 ghost use Rattle.lynx_interp.specs.Machines.{IsMachine};
-ghost use Rattle.lynx_interp.specs.Runs.{CanGoOn, IsAsked, IsRound, IsTurn, MayGoOn, Settles, StopsAt, stop_of};
+ghost use Rattle.lynx_interp.specs.Runs.{CanGoOn, IsAsked, IsOfCode, IsRound, IsTurn, KeepRequests, MayGoOn, Settles, StopsAt, stop_of};
 ghost use Rattle.lynx_interp.specs.declared.stop.Stop.TheVariants as stop;
 
 use crate::machine::Machine;
@@ -24,6 +24,8 @@ impl Machine {
         ensures runs { IfOk result (λ r. run (program self.old.types self.old.instructions) fuel self.old.turns ≡ Stops (stop_of r.0) r.1 self.new.turns) }
         ensures asked { IfOk result (λ r. IsAsked r.0 self.new.turns) }
         ensures left { IfOk result (λ r. r.1 ≤ fuel) }
+        ensures of_code { IfOk result (λ r. IsOfCode r.0 self.new) }
+        ensures requests { OnOk result (KeepRequests self.old self.new) }
         ensures stops { IfOk result (λ r. IsStopped (stop_of r.0) r.1 self.new.turns) }
         ensures blocked { OnOk result (StayBlocked self.old.turns self.new.turns) }
         ensures machine { OnOk result (IsMachine self.new) }

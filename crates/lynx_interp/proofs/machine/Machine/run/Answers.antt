@@ -23,3 +23,13 @@ pub rounds-preserved : goal.rounds-preserved
 rounds-preserved c =
     let round = subst (λ (o : Option Stop). IsRound c.rounds.left c.rounds.self o c.in_ok-stopped.rest c.round.new.self) c.in-None.is c.in_ok-stopped.ensures in
     goes_far c.args.fuel c.rounds.left c.in_ok-stopped.rest c.args.self.now c.rounds.self c.round.new.self c.rounds.invariant round
+
+pub returns-in-Some-clause-of_code : goal.returns-in-Some-clause-of_code
+returns-in-Some-clause-of_code c =
+    let round = subst (λ (o : Option Stop). IsRound c.rounds.left c.rounds.self o c.in_ok-stopped.rest c.round.new.self) c.in-Some.is c.in_ok-stopped.ensures in
+    (goes_over c.args.fuel c.rounds.left c.in_ok-stopped.rest c.args.self.now c.rounds.self c.round.new.self c.rounds.invariant c.in-Some.stop round).of_code
+
+pub returns-in-Some-clause-requests : goal.returns-in-Some-clause-requests
+returns-in-Some-clause-requests c =
+    let round = subst (λ (o : Option Stop). IsRound c.rounds.left c.rounds.self o c.in_ok-stopped.rest c.round.new.self) c.in-Some.is c.in_ok-stopped.ensures in
+    (goes_over c.args.fuel c.rounds.left c.in_ok-stopped.rest c.args.self.now c.rounds.self c.round.new.self c.rounds.invariant c.in-Some.stop round).requests
