@@ -3,7 +3,7 @@
 //! # What is proved
 //! What an entry is made of are values of their types, and so is any call, packet, picture and step. The order of entries and the merge
 //! of journals are definitions.
-//! By clauses `in_range` of `Happened::asked`, `Happened::took` and `Entry::of`; those of `tell_*`.
+//! By Clauses `in_range` of `Happened::asked`, `Happened::took` and `Entry::of`; those of `tell_*`.
 #![tactic(auto)]
 
 mod entry;
