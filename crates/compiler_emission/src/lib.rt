@@ -1,5 +1,9 @@
 //! The code of the parts of a module, emitted from its tree: expressions, statements, parts, and the places of variables.
 //!
+//! Each function that adds code says two things: that the list is what it was, and behind that the code of its part; and that the code is
+//! too long only where these are more than 65,535 together. So both add up along the tree, and no size is counted beforehand, but that a
+//! body of 65,535 statements or more, each of which has an instruction, is refused at once.
+//!
 //! # What is proved
 //! The parts of a module and their instructions are those of the definitions; the answer is that the code is too long exactly where it has
 //! more than 65,535 instructions.

@@ -1,5 +1,7 @@
 //! The frame of commands: a file is read, what is found in it is put line by line, and a failure is told by its line.
 //!
+//! It knows the faults of scripts and of modules (`lynx_plan`, `lynx_source`), so that each failure has its status and text in one place.
+//!
 //! # What is proved
 //! A command that reads one file reads it once, and gives its result of just the bytes that this read answered. Standard output gets one
 //! put for each line of its text, and nothing is put anywhere after a put that failed. A failure is told by its one line; each failure has

@@ -1,4 +1,7 @@
 //! Tokens of LYNX modules: a source is cut into its longest tokens, and the first fault is found.
+//!
+//! The lexer finds the shape and the length of a piece, and no value. Blanks are passed over one by one, before a front is looked for: they
+//! are a third of the pieces of a usual source.
 #![tactic(auto)]
 
 mod class;

@@ -1,4 +1,6 @@
 //! Modules from their sources: a source is read into the tree of its module, or its first fault is told with its place.
+//!
+//! Lines and columns are counted only once there is a fault, from the start of the source.
 #![tactic(auto)]
 
 mod checking;

@@ -1,6 +1,9 @@
 //! Enclosing, leaving, arriving and routing of ends: each call does one part of the kernel step on the table of a kernel,
 //! and adds to a `Work` what that part sends and reports.
 //!
+//! An end that only passes through, or is destroyed as it arrives, is here meanwhile, in a message of the end that the packet is addressed
+//! to.
+//!
 //! # What is proved
 //! The same of enclosing, of the ends in a parcel and in a back, of destroying an end, and of the packets moved, known, forget and
 //! goneseen. `route` is exact.

@@ -1,5 +1,7 @@
 //! Performing a script: the run of kernels that its lines name, and what is noted of it.
 //!
+//! The lines belong to what performs them, and each goes as it is done, so that their memory serves the events.
+//!
 //! # What is proved
 //! Performing a script is the run that its lines name, in their order: which events, which notes, and whether a packet is left at the end.
 //! What is handed on is the record of a run in the order of a merge, which at each kernel has the same events in the same order, and leaves

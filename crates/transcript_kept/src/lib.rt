@@ -1,5 +1,7 @@
 //! The kernels and the link service beside the lines of a transcript: what they give next, and what they keep of what a line names.
 //!
+//! An audit went over the lines before. They are not tested again here, so that a `Run` needs no part of a replay.
+//!
 //! # What is proved
 //! The kernels of a `Run` are those of its setting, and a process is asked only where it is there and runs. What the texts say is tested
 //! only.

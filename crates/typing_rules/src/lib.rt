@@ -1,5 +1,8 @@
 //! Typing of LYNX modules from below: the rules that a module obeys, as definitions; what names mean, and the types of expressions; the
 //! values of texts and rows, exceptions, and the signatures of operations.
+//!
+//! A walk over a part is told by three clauses: where it ends, the first of the faults so far and those of the part (`first_with`), and
+//! what is known of the part's type. Where a function answers a bool, it tells that no rule failed.
 #![tactic(auto)]
 
 mod compare;

@@ -1,5 +1,8 @@
 //! What happens at kernels, written as text when it happens; the merge of such texts, and the transcript of a run.
 //!
+//! Beside its text an event has 32 bytes, and each of its lines two. A merge leaves the texts where they are and keeps the order alone, one
+//! byte an event: the kernel whose event comes next.
+//!
 //! # What is proved
 //! A journal has the entries of the events that were noted, in order, though it keeps only their text, and some lines of that packed; after
 //! want of memory it has those that it had, and `note` succeeds without memory too. `entry` gives the lines that `print_entry` gives, `len`
