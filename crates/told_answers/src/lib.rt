@@ -1,8 +1,8 @@
 //! What a process is answered is determined by the entries of its kernel. Laws: in each local run the available answer is the one that they
 //! determine, it becomes available in just the event whose entry determines it, and it fits its call.
 //!
-//! `heard` is one walk along entries, which keeps the last call and what was told of it. A refuse or make in the call's own entry is taken
-//! as it stands there, without a look at whom it names, since an entry of a call has none of another.
+//! `heard` is one fold over entries, which keeps the last call and its answer. A refuse or make in the call's own entry is taken as it is,
+//! without testing whom it names, since an entry of a call has none of another.
 //!
 //! # What is proved
 //! What a process is answered is determined by the service steps of its kernel's entries, by a definition on entries alone. In each local
