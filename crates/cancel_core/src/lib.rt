@@ -5,7 +5,7 @@
 //!
 //! # What is proved
 //! Each function does to the table and to the lists of an event exactly what the definition of its part of the kernel step computes, for
-//! every state that meets its conditions, with messages that enclose up to eight ends, and takes no memory: Send, Receive, both Cancels,
+//! every state that meets its conditions, with messages that enclose up to eight ends, and does not allocate: Send, Receive, both Cancels,
 //! the notice of a death, and the packets want, unwant, unwanted, parcel (at its receive) and taken.
 //! By clauses `part`, and `room` (how much it adds), of `start_send`, `post`, `withdraw_send`, `withdraw_receive`, `want`, `unwant`,
 //! `unwanted`, `arrived`, `finished`, `notice`.

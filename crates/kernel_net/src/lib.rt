@@ -1,4 +1,4 @@
-//! Ports over rings: what kernels that run beside each other send, in order and without loss.
+//! Ports over rings: what kernels that run concurrently send, in order and without loss.
 //!
 //! # What is proved
 //! The ports of a net are of one net, each two of them, and each with itself, and no call changes that. What a port put to each kernel and
@@ -6,9 +6,9 @@
 //! marker of its ring; who gets a letter knows that of it. A put adds its letter, or the letter comes back and nothing changed, exactly
 //! where no free place of its ring is known; a get gives the first letter that is known to be there from the first kernel from which one
 //! is, with its number, or none and nothing changed, exactly where none is known. After a meeting of two ports, or of one with itself, what
-//! the one got of the other, followed by what is there, is what the other put; each place without a letter is known to be free; and the
-//! answer is how many letters are there. So what was got is the beginning of what was put. A meeting takes no memory. Workers will use it;
-//! no command does yet.
+//! the one got from the other, followed by what is in the ring, is what the other put; each place without a letter is known to be free; and
+//! the answer is how many letters are in the rings. So what was got is a prefix of what was put. A meeting does not allocate. Workers will
+//! use it; no command does yet.
 //! By clauses of `Net::make`, `Port::put`, `Port::get`, `Port::meet_self` and `meet`; `MayBePut` in `specs/Letters.antt`; `HasPut`,
 //! `HasGot`, `HasLooked`, `AreAllThere`, `IsNet` in `specs/Ports.antt`.
 #![tactic(auto)]

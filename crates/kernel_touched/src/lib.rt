@@ -3,8 +3,8 @@
 //!
 //! # What is proved
 //! By which end a packet may be heard, and what a call touches, are told exactly. Where an event changed no other activity, the sets of
-//! active ends tell the truth again once they were made anew there. Behind it: a packet of a silent kind, and one to an end that is not
-//! here, changes no activity and gives no report; after an Exit its process has none.
+//! active ends are correct again once they are rebuilt there. Also: a packet of a silent kind, and one to an end that is not here, changes
+//! no activity and gives no report; after an Exit its process has none.
 //! By clauses of `touched_of`, `refresh_touched`, `find` and `refresh_if_heard`; `quiet-calm`, `quiet-reports` (`proofs/Silent.antt`),
 //! `exit-silent` (`proofs/ExitSilent.antt`).
 #![tactic(auto)]

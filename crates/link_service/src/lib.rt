@@ -6,7 +6,7 @@
 //!
 //! # What is proved
 //! `start` gives the start state of a valid setting. `apply` makes the step of the service where it is allowed, and answers `NotAllowed`
-//! with the step's number exactly where it is not; after that, and after want of memory, the state is as before. `place` is the end's place
+//! with the step's number exactly where it is not; after that, and when memory runs out, the state is unchanged. `place` is the end's place
 //! in the state, and `Unmade` exactly for an end of no made link. That each end which a process owns is known to be its own holds of every
 //! service (`IsWellKept`).
 //! By the clause of `start` and of `place`; `ok`, `fault` and `same` of `apply`.

@@ -4,8 +4,8 @@
 //!
 //! # What is proved
 //! Performing a script is the run that its lines name, in their order: which events, which notes, and whether a packet is left at the end.
-//! What is handed on is the record of a run in the order of a merge, which at each kernel has the same events in the same order, and leaves
-//! the same world. It can be told by a transcript: all are values of their types, and the lines show all of it but the stamps of packets.
+//! The result is the record of a run in the order of a merge, which at each kernel has the same events in the same order, and leaves the
+//! same world. It can be told by a transcript: all are values of their types, and the lines show all of it but the stamps of packets.
 //! By clauses `performed` and `told` of `perform`; `specs/Performing.antt`.
 #![tactic(auto)]
 

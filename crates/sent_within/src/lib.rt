@@ -1,5 +1,5 @@
-//! In each world of a run packets go between kernels that are there and name no others, and no stamp is greater than the number of events.
-//! The law alone, on plain worlds.
+//! In each world of a run packets go between kernels that exist and name no others, and no stamp is greater than the number of events. The
+//! law alone, on plain worlds.
 #![tactic(auto)]
 
 mod law;

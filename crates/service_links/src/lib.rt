@@ -2,8 +2,8 @@
 //! end is refused.
 //!
 //! # What is proved
-//! What an end is. Each writer does to the table of all ends exactly what the word of a step does, and takes no memory, but for `add`. The
-//! first cause of a Destroy, Send, Receive and Cancel that holds, in the order of the causes.
+//! What an end is. Each writer does to the table of all ends exactly what the word of a step does, and does not allocate, but for `add`.
+//! The first cause of a Destroy, Send, Receive and Cancel that holds, in the order of the causes.
 //! By clauses of `look`, `add`, `destroy` to `return_message`; of `destroy_cause`, `send_cause`, `receive_cause`, `cancel_cause`.
 #![tactic(auto)]
 

@@ -1,9 +1,9 @@
-//! Laws of replayed transcripts: each is one lawful run of the link service, and its events happen at kernels that are there.
+//! Laws of replayed transcripts: each is one lawful run of the link service, and its events happen at kernels that exist.
 //!
 //! # What is proved
 //! A transcript that is the transcript of a run (`IsReplay` in `transcript_replay/specs/Replay.antt`: its entries are a run of the kernels
 //! in the order of a merge, its service lines the steps of these events, its last line true) shows one lawful run of the link service. The
-//! events of a run happen at kernels that are there.
+//! events of a run happen at kernels that exist.
 //! By laws `every_replay_is_lawful` and `every_run_is_within`.
 #![tactic(auto)]
 

@@ -1,2 +1,2 @@
-//! Which transcripts tell a run of kernels, and which line may follow in one: definitions and lemmas alone.
+//! Which transcripts are valid, and which line may follow in one: definitions and lemmas alone.
 #![tactic(auto)]
