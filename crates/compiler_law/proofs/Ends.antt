@@ -33,43 +33,43 @@ module _ (p : Program) (t : Thread) where
   over-waits [] n actions store reached = over (Comes (Waits actions store)) reached
   over-waits (op ∷ requests) n actions store reached = over-waits requests n actions store reached
 
+  -- with these requests open, what the code does at an end is what the source says, and so it is where an exception ends the thread
+  abbrev EndFollows : List ℕ → ℕ → Type 0
+  EndFollows requests n = (m : Moment) → Reaches p t (ends requests m)
+      → Follows p t n (behaviour_of (whole_course requests (course.Proceeds m))) × ((exception : Exception) → Follows p t n (behaviour_of (whole_course requests (course.Raises exception m))))
+
+  closed-given : (requests : List ℕ) (n : ℕ) (now : Moment) (g : Result (List Value) Exception) → EndFollows requests n → Reaches p t (ends requests now)
+      → Follows p t n (behaviour_of (whole_course requests (with_value g now (λ vs. course.Proceeds now))))
+  closed-given requests n now (Ok vs) on reached = (on now reached).0
+  closed-given requests n now (Err exception) on reached = (on now reached).1 exception
+
+  closed : (requests : List ℕ) (n : ℕ) (m : Moment) (left : List Answer) → EndFollows requests n → Reaches p t (takes_outcome m Close left (λ given now. ends requests now))
+      → Follows p t n (behaviour_of (whole_course requests (course.answered m Close left (λ vs now. course.Proceeds now))))
+  closed requests n m [] on reached = over-waits requests n (m.actions ++ Close ∷ []) m.store reached
+  closed requests n m (a ∷ rest) on reached = closed-given requests n (after m Close a rest) a.given on reached
+
+  raised-given : (requests : List ℕ) (n : ℕ) (now : Moment) (exception : Exception) (g : Result (List Value) Exception) → EndFollows requests n → Reaches p t (ends requests now)
+      → Follows p t n (behaviour_of (whole_course requests (and_then (with_value g now (λ vs. course.Proceeds now)) (λ later. course.Raises exception later))))
+  raised-given requests n now exception (Ok vs) on reached = (on now reached).1 exception
+  raised-given requests n now exception (Err other) on reached = (on now reached).1 other
+
+  raised : (requests : List ℕ) (n : ℕ) (m : Moment) (exception : Exception) (left : List Answer) → EndFollows requests n → Reaches p t (takes_outcome m Close left (λ given now. ends requests now))
+      → Follows p t n (behaviour_of (whole_course requests (and_then (course.answered m Close left (λ vs now. course.Proceeds now)) (λ later. course.Raises exception later))))
+  raised requests n m exception [] on reached = over-waits requests n (m.actions ++ Close ∷ []) m.store reached
+  raised requests n m exception (a ∷ rest) on reached = raised-given requests n (after m Close a rest) exception a.given on reached
+
   -- what is open is closed at the end, and what the closes are given changes nothing
-  mutual
-    ends-goes : (requests : List ℕ) (n : ℕ) (m : Moment) → Reaches p t (ends requests m) → Follows p t n (behaviour_of (whole_course requests (course.Proceeds m)))
-    ends-goes [] n m reached = over (Comes (Ended m.actions m.store)) reached
-    ends-goes (op ∷ requests) n m reached = closed requests n m m.answers reached
-
-    closed : (requests : List ℕ) (n : ℕ) (m : Moment) (left : List Answer) → Reaches p t (takes_outcome m Close left (λ given now. ends requests now))
-        → Follows p t n (behaviour_of (whole_course requests (course.answered m Close left (λ vs now. course.Proceeds now))))
-    closed requests n m [] reached = over-waits requests n (m.actions ++ Close ∷ []) m.store reached
-    closed requests n m (a ∷ rest) reached = closed-given requests n (after m Close a rest) a.given reached
-
-    closed-given : (requests : List ℕ) (n : ℕ) (now : Moment) (g : Result (List Value) Exception) → Reaches p t (ends requests now)
-        → Follows p t n (behaviour_of (whole_course requests (with_value g now (λ vs. course.Proceeds now))))
-    closed-given requests n now (Ok vs) reached = ends-goes requests n now reached
-    closed-given requests n now (Err exception) reached = ends-raises requests n exception now reached
-
-    ends-raises : (requests : List ℕ) (n : ℕ) (exception : Exception) (m : Moment) → Reaches p t (ends requests m) → Follows p t n (behaviour_of (whole_course requests (course.Raises exception m)))
-    ends-raises [] n exception m reached = over (Comes (Ended m.actions m.store)) reached
-    ends-raises (op ∷ requests) n exception m reached = raised requests n m exception m.answers reached
-
-    raised : (requests : List ℕ) (n : ℕ) (m : Moment) (exception : Exception) (left : List Answer) → Reaches p t (takes_outcome m Close left (λ given now. ends requests now))
-        → Follows p t n (behaviour_of (whole_course requests (and_then (course.answered m Close left (λ vs now. course.Proceeds now)) (λ later. course.Raises exception later))))
-    raised requests n m exception [] reached = over-waits requests n (m.actions ++ Close ∷ []) m.store reached
-    raised requests n m exception (a ∷ rest) reached = raised-given requests n (after m Close a rest) exception a.given reached
-
-    raised-given : (requests : List ℕ) (n : ℕ) (now : Moment) (exception : Exception) (g : Result (List Value) Exception) → Reaches p t (ends requests now)
-        → Follows p t n (behaviour_of (whole_course requests (and_then (with_value g now (λ vs. course.Proceeds now)) (λ later. course.Raises exception later))))
-    raised-given requests n now exception (Ok vs) reached = ends-raises requests n exception now reached
-    raised-given requests n now exception (Err other) reached = ends-raises requests n other now reached
+  end-follows : (requests : List ℕ) (n : ℕ) → EndFollows requests n
+  end-follows [] n m reached = (over (Comes (Ended m.actions m.store)) reached, λ exception. over (Comes (Ended m.actions m.store)) reached)
+  end-follows (op ∷ requests) n m reached = (closed requests n m m.answers (end-follows requests n) reached, λ exception. raised requests n m exception m.answers (end-follows requests n) reached)
 
 -- a part whose body runs, with its end behind
 pub part-follows : (b : Body) (requests : List ℕ) (n : ℕ) (t : Thread) (end : ℕ) (c : Course) → slice_get b.setting.program.instructions end ≡ Some code.End → Runs b [] requests n t end c → Follows b.setting.program t n (behaviour_of (whole_course requests c))
 part-follows b requests n t end (course.Proceeds m) here r =
     let p = b.setting.program in
     let u = thread end [] [] requests r.1 m in
-    ends-goes p t requests n m (reaches-on p t u _ r.2 (reaches-step p u code.End _ here refl))
-part-follows b requests n t end (course.Raises exception m) here r = ends-raises b.setting.program t requests n exception m r.1
+    (end-follows p t requests n m (reaches-on p t u _ r.2 (reaches-step p u code.End _ here refl))).0
+part-follows b requests n t end (course.Raises exception m) here r = (end-follows b.setting.program t requests n m r.1).1 exception
 part-follows b requests n t end (course.Over (Ended actions store)) here r = absurd r
 part-follows b requests n t end (course.Over (Waits actions store)) here r = over-waits b.setting.program t requests n actions store r
 part-follows b requests n t end (course.Over (Out actions)) here r = over-out b.setting.program t requests n r.0 actions r.1 r.2

@@ -1,5 +1,5 @@
 -- What names mean by the typing rules, and where the code finds them.
-use Rattle.std.proofs.Common.{◌≡◌, ℕ, suc, ◌+◌, List, [], ◌∷◌, ◌++◌, length, map, Bool, true, false, Option, Some, None, if◌then◌else◌, bytes_eq, option_map, unwrap_or, slice_get, refl, sym, ap, ◌∙◌, subst, append_assoc, suc-ne-zero, arith, ◌<◌}
+use Rattle.std.proofs.Common.{◌≡◌, ℕ, suc, ◌+◌, List, [], ◌∷◌, ◌++◌, length, map, Bool, true, false, Option, Some, None, if◌then◌else◌, bytes_eq, option_map, unwrap_or, slice_get, refl, sym, ap, ◌∙◌, subst, append_assoc, suc-ne-zero, arith, ◌<◌, zero-lt-suc}
 use Rattle.std.proofs.lemmas.Option.{none-some, same_Some}
 use Rattle.lynx_tree.specs.Trees.{EntryTree, ModuleTree, OpTree, VarTree}
 use Rattle.lynx_tree.specs.declared.declaration.TypeName.{TypeName}
@@ -148,9 +148,12 @@ module-operation m name arguments is =
 -- an entry of the module
 one-entry-placed : (b : Bool) (meaning : Option Meaning) (place : Option ℕ) (n : ℕ) → (is_entry meaning ≡ true → unwrap_or place 0 < n) → is_entry (if b then Some Entry else meaning) ≡ true
     → unwrap_or (if b then Some 0 else option_map (λ k. k + 1) place) 0 < suc n
-one-entry-placed true meaning place n h is = omega arith
-one-entry-placed false meaning None n h is = omega arith
-one-entry-placed false meaning (Some k) n h is = let less = h is in omega (arith, less)
+one-entry-placed true meaning place n h is = zero-lt-suc n
+one-entry-placed false meaning None n h is = zero-lt-suc n
+one-entry-placed false meaning (Some k) n h is =
+    let less : k < n = h is in
+    let next : k + 1 < suc n = omega (arith, less) in
+    next
 
 entries-placed : (es : List EntryTree) (at : ℕ) (name : List ℕ) → is_entry (meaning_in (each_at entry_size entry_named at es) name) ≡ true → index_of (map (λ e. e.name) es) name < length es
 entries-placed [] at name is = no-false is

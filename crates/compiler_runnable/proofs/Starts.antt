@@ -1,8 +1,7 @@
 -- Rows have lengths where no rule fails, and params are links.
-use Rattle.std.proofs.Common.{◌≡◌, ℕ, suc, ◌+◌, List, [], ◌∷◌, ◌++◌, length, map, replicate, Bool, true, IsTrue, Option, Some, slice_get, refl, sym, ap, ◌∙◌, subst}
-use Rattle.std.specs.List.{AllByRecursion}
+use Rattle.std.proofs.Common.{◌≡◌, ℕ, ◌+◌, List, [], ◌∷◌, ◌++◌, length, map, replicate, true, refl, ap, ◌∙◌}
 use Rattle.lynx_tree.specs.Grammar.{type_marks, types_marks}
-use Rattle.lynx_tree.specs.Trees.{ModuleTree, OpTree, VarTree, EntryTree}
+use Rattle.lynx_tree.specs.Trees.{ModuleTree, OpTree, VarTree}
 use Rattle.lynx_tree.specs.declared.declaration.TypeName.{TypeName}
 use Rattle.lynx_tree.specs.declared.declaration.TypeName.TheVariants as types
 use Rattle.typing_rules.specs.Modules.{module_faults, entry_faults, names_are_new, op_faults, param_faults, type_faults, types_faults, var_faults}

@@ -5,8 +5,8 @@ use Rattle.lynx_tree.specs.declared.declaration.TypeName.{TypeName}
 use Rattle.lynx_tree.specs.declared.declaration.TypeName.TheVariants as types
 use Rattle.typing_rules.specs.Types.{has_length}
 use Rattle.lynx_code.specs.declared.code.Code.{Code}
-use Rattle.code_shapes.specs.Shapes.{ModuleTypes, IsShapedCode, code_types, OpTypes, PartTypes, code_parts}
-use Rattle.lynx_meaning.specs.Needs.{types_of}
+use Rattle.code_shapes.specs.Shapes.{ModuleTypes, IsShapedCode, code_types, PartTypes, code_parts}
+use Rattle.lynx_meaning.specs.Needs.{OpTypes, types_of}
 
 -- the types of an operation's arguments, where there is one
 abbrev pub arguments_of : ModuleTypes → Option ℕ → List TypeName

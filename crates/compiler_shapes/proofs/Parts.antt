@@ -1,6 +1,6 @@
 -- What is known of a part of a module, and what an exception finds there.
 use Rattle.typing_rules.specs.Rules.{Request, Outside, Asks}
-use Rattle.std.proofs.Common.{◌≡◌, ◌≤◌, ℕ, ◌-◌, List, [], ◌∷◌, length, Bool, true, Some, slice_get, refl, sym, subst, arith, ◌<◌}
+use Rattle.std.proofs.Common.{◌≡◌, ◌≤◌, ℕ, suc, ◌-◌, ap, drop, List, [], ◌∷◌, length, Bool, true, Some, slice_get, refl, sym, subst, arith, ◌<◌}
 use Rattle.std.proofs.lemmas.List.{drop_all}
 use Rattle.lynx_tree.specs.declared.declaration.TypeName.{TypeName}
 use Rattle.typing_rules.specs.Names.{Scope, arguments_of, results_of, type_of_variable, is_entry}
@@ -44,10 +44,11 @@ pub record Asked (m : ModuleTypes) (requests : List ℕ) : Type 0 where
   pub request : Request
   pub meant : IsFor m requests request
 
--- the handlers of the innermost open try are there; a try is opened where no operand stands
+-- the handlers of the innermost open try are there; a try is opened where no operand stands and no more requests are open
 abbrev pub Catches : List TypeName → List ℕ → List Opened → Shapes → Type 0
 Catches locals requests [] shapes = Unit {0}
-Catches locals requests (o ∷ os) shapes = (o.height ≡ 0) × Leads shapes o.handlers (record { locals = locals; stack = []; tries = os; requests = cut o.depth requests; pending = true })
+Catches locals requests (o ∷ os) shapes =
+    (o.height ≡ 0) × (o.depth ≤ length requests) × Leads shapes o.handlers (record { locals = locals; stack = []; tries = os; requests = cut o.depth requests; pending = true })
 
 abbrev pub Caught : Part → Open → Shapes → Type 0
 Caught c o shapes = Catches c.locals o.requests o.tries shapes
@@ -61,11 +62,20 @@ raises_in shapes s stack [] h = tt
 raises_in shapes s stack (o ∷ os) h =
     let low : o.height ≤ length stack = omega (arith, h.0) in
     let all : length stack ≤ length stack - o.height = omega (arith, h.0) in
-    (low, subst (λ (ts : List TypeName). Leads shapes o.handlers (record { locals = s.locals; stack = ts; tries = os; requests = cut o.depth s.requests; pending = true })) (sym (drop_all (length stack - o.height) stack all)) h.1)
+    (low, subst (λ (ts : List TypeName). Leads shapes o.handlers (record { locals = s.locals; stack = ts; tries = os; requests = cut o.depth s.requests; pending = true })) (sym (drop_all (length stack - o.height) stack all)) h.2)
 
 -- an exception may be raised on any stack
 pub may_raise : (shapes : Shapes) (s : Shape) (stack : List TypeName) → Catches s.locals s.requests s.tries shapes → MayRaise shapes stack s
 may_raise shapes s stack h = raises_in shapes s stack s.tries h
+
+-- a request more is open
+pub catches_inside : (shapes : Shapes) (locals : List TypeName) (op : ℕ) (requests : List ℕ) (os : List Opened) → Catches locals requests os shapes → Catches locals (op ∷ requests) os shapes
+catches_inside shapes locals op requests [] h = tt
+catches_inside shapes locals op requests (o ∷ os) h =
+    let inner : o.depth ≤ length requests = h.1 in
+    let outer : o.depth ≤ length (op ∷ requests) = omega (arith, inner) in
+    let more : length (op ∷ requests) - o.depth ≡ suc (length requests - o.depth) = omega (arith, inner) in
+    (h.0, outer, subst (λ (rs : List ℕ). Leads shapes o.handlers (record { locals = locals; stack = []; tries = os; requests = rs; pending = true })) (sym (ap (λ (k : ℕ). drop k (op ∷ requests)) more)) h.2)
 
 -- among handlers
 abbrev pub raised : Open → Open

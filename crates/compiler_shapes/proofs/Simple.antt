@@ -1,5 +1,5 @@
 -- The shapes of the code of statements without others inside.
-use Rattle.std.proofs.Common.{◌≡◌, ℕ, ◌+◌, List, [], ◌∷◌, ◌++◌, length, true, Option, Some, slice_get, refl, sym, ap, ◌∙◌, subst}
+use Rattle.std.proofs.Common.{◌≡◌, ℕ, ◌+◌, List, [], ◌∷◌, ◌++◌, length, true, false, Option, Some, slice_get, refl, sym, ap, ◌∙◌, subst}
 use Rattle.lynx_tree.specs.Trees.{ExprTree, ExprTrees}
 use Rattle.lynx_tree.specs.Trees as trees
 use Rattle.lynx_tree.specs.Grammar.{AreExprs, IsExpr, exprs_marks}
@@ -110,7 +110,7 @@ module _ (c : Part) (o : Open) where
   reply_by : (values : ExprTrees) (request : Request) (at place : ℕ) → IsFor c.whole o.requests request → AreExprs 6 values → stmt_faults c.scope request place (trees.Reply values) ≡ [] → Passes c o at (stmt_code c.names at (trees.Reply values)) [] []
   reply_by values Outside at place meant is clean =
       let parts = both-clean (reply_has_request place Outside ++ reply_has_values place (number_of values) Outside) (values_faults reply_value_fits c.scope (place + 2) values []) clean in
-      no-false (demand-met _ _ _ (both-clean (reply_has_request place Outside) (reply_has_values place (number_of values) Outside) parts.0).0)
+      no-false (demand-met 20 place false (both-clean (reply_has_request place Outside) (reply_has_values place (number_of values) Outside) parts.0).0)
   reply_by values (Asks results) at place meant is clean =
       let x = exprs_code c.names at values in
       let ts = meant.2.results in

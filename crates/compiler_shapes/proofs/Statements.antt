@@ -1,5 +1,5 @@
 -- The shapes of the code of statements.
-use Rattle.std.proofs.Common.{◌≡◌, ℕ, ◌+◌, List, [], ◌∷◌, ◌++◌, length, Option, Some, slice_get, refl, sym, ap, ◌∙◌, subst, length-append, arith, drop, ◌-◌, ◌<◌}
+use Rattle.std.proofs.Common.{◌≡◌, ℕ, ◌+◌, List, [], ◌∷◌, ◌++◌, length, Option, Some, slice_get, refl, sym, ap, ◌∙◌, subst, length-append, arith, drop, ◌-◌, ◌<◌, le_refl}
 use Rattle.lynx_tree.specs.Trees.{ExprTree, HandlerTrees, StmtTree, StmtTrees}
 use Rattle.lynx_tree.specs.Trees as trees
 use Rattle.lynx_tree.specs.Grammar.{AreHandlers, AreStmts, IsStmt, names_marks, stmt_marks}
@@ -18,11 +18,11 @@ use Rattle.compiler_expressions.proofs.Clean.{both-clean, demand-met}
 use Rattle.compiler_expressions.proofs.Variables.{some-of}
 use Rattle.compiler_statements.proofs.Handlers.{handlers-length}
 use Rattle.compiler_statements.proofs.Requests.{number-met}
-use Rattle.code_shapes.specs.Shapes.{Shapes, Accepts, Leads, Obeys, pushed, AsksOnLink}
+use Rattle.code_shapes.specs.Shapes.{Shape, Shapes, Accepts, Leads, Obeys, pushed, AsksOnLink}
 use Rattle.lynx_meaning.specs.Needs.{OpTypes}
 use Rattle.compiler_shapes.proofs.Expressions.{pass_on}
 use Rattle.compiler_shapes.proofs.Operands.{load_passes}
-use Rattle.compiler_shapes.proofs.Parts.{Caught, Open, Part, Passes, leads_raised, may_raise, on, raised, Asked}
+use Rattle.compiler_shapes.proofs.Parts.{Caught, Open, Part, Passes, leads_raised, may_raise, on, raised, Asked, catches_inside}
 use Rattle.compiler_shapes.proofs.Simple.{assign_member_passes, assign_passes, condition_passes, connect_passes, new_passes, on_link_passes, raise_passes, reply_passes, stop_passes, write_passes}
 use Rattle.compiler_shapes.proofs.Stores.{link_variable, stores_pass, variables_of}
 use Rattle.compiler_shapes.proofs.Walks.{Walks, around, followed, followed_past, nothing, one, where_more}
@@ -175,13 +175,15 @@ module _ (c : Part) where
       let head_long : at + length head ≡ start = omega arith in
       let next : at + 1 + 1 ≡ at + 2 = omega arith in
       let taken_request : Asked c.whole inside.requests = record { request = Asks (results_of (c.scope op)); meant = (number, o.requests, q, refl, found.1, found.3) } in
+      let caught = λ (shapes : Shapes) (needs : Caught c o shapes). catches_inside shapes c.locals number o.requests o.tries needs in
       let begins = followed c.whole (Caught c o) at (at + 1) (load c.names link ∷ []) (code.Accept number ∷ names) s (on c o (types.Link ∷ [])) t refl
       (load_passes c o at link types.Link [] (link_variable c (place + 3) link p2.1))
       (followed c.whole (Caught c o) (at + 1) (at + 1 + 1) (code.Accept number ∷ []) names (on c o (types.Link ∷ [])) taken t refl
       (one c.whole (Caught c o) (at + 1) (code.Accept number) (on c o (types.Link ∷ [])) taken (λ shapes leads needs fits. accept_obeys o shapes (at + 1) number q found.1 leads needs))
-      (stores_pass c inside (at + 1 + 1) arguments q.arguments [] of_names)) in
+      (where_more c.whole (Caught c inside) (Caught c o) (at + 1 + 1) names taken t caught (stores_pass c inside (at + 1 + 1) arguments q.arguments [] of_names))) in
       followed c.whole (Caught c o) at (at + length (head ++ y)) (head ++ y) (code.Close ∷ []) s t s refl
-      (followed c.whole (Caught c o) at start head y s t t head_long begins (pass inside taken_request start inner is p4.1))
+      (followed c.whole (Caught c o) at start head y s t t head_long begins
+      (where_more c.whole (Caught c inside) (Caught c o) start y t t caught (pass inside taken_request start inner is p4.1)))
       (one c.whole (Caught c o) (at + length (head ++ y)) code.Close t s (λ shapes leads needs fits. (leads, may_raise shapes s [] needs)))
 
   -- ---- tries
@@ -215,7 +217,7 @@ module _ (c : Part) where
       let caught = λ (shapes : Shapes). known shapes × Leads shapes first r in
       let begins = followed c.whole caught at (at + 1) (code.Try first ∷ []) y s t t refl
       (one c.whole caught at (code.Try first) s t (λ shapes leads needs fits. leads))
-      (where_more c.whole (Caught c inside) caught (at + 1) y t t (λ shapes needs. (refl, subst (λ (rs : List ℕ). Leads shapes first (record r { requests = rs })) (sym (cut_all o.requests)) needs.1)) (pass inside asked (at + 1) (place + 1) is.0 parts.0)) in
+      (where_more c.whole (Caught c inside) caught (at + 1) y t t (λ shapes needs. (refl, le_refl (length o.requests), subst (λ (rs : List ℕ). Leads shapes first (record r { requests = rs })) (sym (cut_all o.requests)) needs.1)) (pass inside asked (at + 1) (place + 1) is.0 parts.0)) in
       let leaves = followed c.whole known middle (middle + 1) (code.Untry ∷ []) (code.Jump behind ∷ []) t s r refl
       (one c.whole known middle code.Untry t s (λ shapes leads needs fits. leads))
       (one c.whole known (middle + 1) (code.Jump behind) s r (λ shapes leads needs fits. subst (λ (n : ℕ). Leads shapes n s) long needs.2)) in

@@ -1,5 +1,5 @@
 -- The code of a module is shaped.
-use Rattle.std.proofs.Common.{◌≡◌, ◌<◌, ℕ, zero, suc, ◌+◌, List, [], ◌∷◌, ◌++◌, length, map, false, Option, Some, slice_get, option_map, flat_map, refl, sym, ap, ◌∙◌, subst, append_assoc, length-append, arith}
+use Rattle.std.proofs.Common.{◌≡◌, ◌<◌, ℕ, zero, suc, ◌+◌, List, [], ◌∷◌, ◌++◌, length, map, false, Option, Some, None, ◌-◌, slice_get, option_map, flat_map, refl, sym, ap, ◌∙◌, subst, append_assoc, length-append, arith}
 use Rattle.std.specs.List.{AllByRecursion}
 use Rattle.std.proofs.lemmas.Option.{none-some, same_Some, slice_get-map, slice_get_within}
 use Rattle.lynx_lexer.specs.declared.keyword.Keyword.TheVariants as keywords
@@ -20,7 +20,8 @@ use Rattle.lynx_code.specs.declared.code.CodeOp.{CodeOp}
 use Rattle.lynx_code.specs.declared.code.Part.{Part as KeptPart}
 use Rattle.lynx_code.specs.declared.instruction.Instruction.{Instruction}
 use Rattle.lynx_code.specs.declared.instruction.Instruction.TheVariants as code
-use Rattle.compiler_expressions.proofs.Clean.{both-clean}
+use Rattle.compiler_expressions.proofs.Clean.{both-clean, demand-met}
+use Rattle.compiler_expressions.proofs.Variables.{some-of}
 use Rattle.compiler_law.proofs.Names.{entry-operation, entry-variable, main-variable, module-operation, module-entry, entry-entry}
 use Rattle.compiler_law.proofs.Whole.{as-many, entries-and-body, no-faults}
 use Rattle.code_shapes.specs.Shapes.{ModuleTypes, Shape, Shapes, AllObey, IsShaped, Leads, code_parts, code_types, kept_op, kept_part, part_shape, PartTypes, opened_by}
@@ -100,9 +101,12 @@ both_cover m at middle a b start starts here first second =
     by shapes one others zero p here = one zero p here
     by shapes one others (suc i) p here = others i p here
 
+abbrev part_from : Part → ℕ → Option ℕ → PartTypes
+part_from c at op = record { start = at; op = op; locals = c.locals }
+
 -- a body and its end
 body_covers : (c : Part) (op : Option ℕ) (asked : Asked c.whole (opened_by op)) (at place d : ℕ) (body : StmtTrees) → AreStmts body → stmts_faults c.scope asked.request place body ≡ [] → AreTokens (stmts_marks d body) →
-    Covers c.whole at (body_code c.names at body) (record { start = at; op = op; locals = c.locals } ∷ [])
+    Covers c.whole at (body_code c.names at body) (part_from c at op ∷ [])
 body_covers c op asked at place d body is clean tokens =
     let outside : Open = record { tries = []; requests = opened_by op; pending = false } in
     let s = on c outside [] in
@@ -122,11 +126,8 @@ body_covers c op asked at place d body is clean tokens =
       begin = λ shapes stand i. by shapes (enters shapes stand) i;
     }
   where
-    part : PartTypes
-    part = record { start = at; op = op; locals = c.locals }
-
-    by : (shapes : Shapes) → Leads shapes at (part_shape part) → (i : ℕ) (p : PartTypes) → slice_get (part ∷ []) i ≡ Some p → Leads shapes p.start (part_shape p)
-    by shapes leads zero p here = subst (λ (q : PartTypes). Leads shapes q.start (part_shape q)) (same_Some part p here) leads
+    by : (shapes : Shapes) → Leads shapes at (part_shape (part_from c at op)) → (i : ℕ) (p : PartTypes) → slice_get (part_from c at op ∷ []) i ≡ Some p → Leads shapes p.start (part_shape p)
+    by shapes leads zero p here = subst (λ (q : PartTypes). Leads shapes q.start (part_shape q)) (same_Some (part_from c at op) p here) leads
     by shapes leads (suc i) p here = absurd (none-some p here)
 
 entry_covers : (m : ModuleTree) (start at : ℕ) (e : EntryTree) → AreStmts e.body → entry_faults (module_scope m) at e ≡ [] → AreTokens (entry_marks e) →
@@ -238,7 +239,7 @@ parts_kept (p ∷ parts) (k ∷ kept) h =
 -- as many entries as parts behind the body
 entries_kept : (m : ModuleTree) (made : Code) → IsCodeOf m made → length made.parts.items - 1 ≡ length m.entries
 entries_kept m made is =
-    let size = pairs_length IsPartOf (parts_of m) made.parts.items is.parts in
+    let size : suc (length (entry_parts m (length (main_part m).instructions) m.entries)) ≡ length made.parts.items = pairs_length IsPartOf (parts_of m) made.parts.items is.parts in
     let all = entries_many m m.entries (length (main_part m).instructions) in
     omega (arith, size, all)
   where

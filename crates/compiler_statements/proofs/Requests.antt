@@ -14,7 +14,7 @@ use Rattle.typing_rules.specs.declared.exception.Exception.{Exception}
 use Rattle.lynx_code.specs.Generation.{exprs_code, how_many, load, stmt_code, stores}
 use Rattle.lynx_code.specs.declared.instruction.Instruction.TheVariants as code
 use Rattle.lynx_meaning.specs.Agree.{Fit, needed}
-use Rattle.lynx_meaning.specs.Needs.{types_of}
+use Rattle.lynx_meaning.specs.Needs.{op_types, types_of}
 use Rattle.lynx_meaning.specs.Code.{Goes, Opened, Thread, answered, asks, by_values, connects, instead, step}
 use Rattle.lynx_meaning.specs.Courses.{Accept, Close, Connect, Course, Moment, Ended, Out, Reply, Waits, does, with_value}
 use Rattle.lynx_meaning.specs.Courses as course
@@ -125,7 +125,7 @@ module _ (b : Body) (tries : List Opened) (requests : List ℕ) (n : ℕ) (neste
       let rest = back-stands c.program.instructions at x (load c.names link ∷ code.Connect k ∷ s) has in
       let long : end ≡ at + length (x ++ load c.names link ∷ code.Connect k ∷ s) = omega (arith, length-append x (load c.names link ∷ code.Connect k ∷ s)) in
       let here : middle + 1 + 1 + length s ≡ end = omega arith in
-      let needs : needed b.tree (Connect named k []) ≡ o.results = ap (λ (q : Option OpTree). types_of (λ r. r.results) q) found.1 in
+      let needs : needed b.tree (Connect named k []) ≡ o.results = ap (types_of (λ r. r.results)) (slice_get-map op_types b.tree.ops k ∙ ap (λ (q : Option OpTree). option_map op_types q) found.1) in
       runs-to b tries requests n t end (at + length (x ++ load c.names link ∷ code.Connect k ∷ s)) (runs c.names n (trees.Connect op link values results) m) long
       (runs-values pending m t middle end (how_many values) (values_of c.names m.store values) (λ vs. course.acts m (Connect named k vs) (λ given now. course.Proceeds (assigns_all c.names results given now))) sound
       (exprs-give c (around tries requests pending m) (ready b tries requests n nested pending m sound) values connect_value_fits (known (arguments_of (c.scope op))) 6 at (place + 5) [] is (front-stands c.program.instructions at x (load c.names link ∷ code.Connect k ∷ s) has) p4.1)
@@ -188,7 +188,7 @@ module _ (b : Body) (tries : List Opened) (requests : List ℕ) (n : ℕ) (neste
       let number : length arguments ≡ length o.arguments = number-met (length arguments) (arguments_of (c.scope op)) o.arguments declared (demand-met _ _ _ clean_number) in
       let of_names = variables-of c accept_name_fits (λ ty there held met. demand-met _ _ _ met) (place + 5) arguments o.arguments number
       (subst (λ (q : Option (List TypeName)). names_faults accept_name_fits c.scope (place + 5) arguments (known q) ≡ []) declared clean_names) in
-      let needs : needed b.tree (Accept named k) ≡ o.arguments = ap (λ (q : Option OpTree). types_of (λ r. r.arguments) q) found.1 in
+      let needs : needed b.tree (Accept named k) ≡ o.arguments = ap (types_of (λ r. r.arguments)) (slice_get-map op_types b.tree.ops k ∙ ap (λ (q : Option OpTree). option_map op_types q) found.1) in
       let loaded = link-loads b tries requests n nested link at (place + 3) [] pending m has.0 clean_link sound in
       let u = thread (at + 1) (named ∷ []) tries requests pending m in
       let same : at + 1 + 1 + length s ≡ at + 2 + length s = omega arith in
