@@ -1,5 +1,5 @@
 -- A thread of the shapes finds the operands of its instruction.
-use Rattle.std.proofs.Common.{arith, ◌≡◌, ℕ, ℤ, ◌+◌, ◌<◌, List, [], ◌∷◌, ◌++◌, length, reverse, Bool, true, false, IsTrue, is_some, Option, Some, None, slice_get, option_map, refl, sym, ap, subst, ◌∙◌, true≢false, length-append}
+use Rattle.std.proofs.Common.{arith, ◌≡◌, ℕ, ℤ, ◌<◌, ◌≤◌, List, [], ◌∷◌, ◌++◌, length, reverse, IsTrue, is_some, Option, Some, None, slice_get, option_map, refl, sym, ap, subst, ◌∙◌, true≢false, length-append}
 use Rattle.std.proofs.lemmas.List.{length-reverse}
 use Rattle.std.proofs.lemmas.Option.{slice_get-map, slice_get_within}
 use Rattle.lynx_tree.specs.declared.declaration.TypeName.{TypeName}

@@ -8,7 +8,7 @@ use Rattle.lynx_meaning.specs.Values.{Value, HaveTypes}
 use Rattle.code_shapes.specs.Shapes.{ModuleTypes, Shapes, AreShapes, IsThread, program, PartTypes}
 use Rattle.machine_turns.specs.Threads.{Standing, Made, Went, Acts, Awaits, Ends, Broken, acted, answers, comes_of, goes_on, in_turn, is_await, last_action, made}
 use Rattle.lynx_meaning.specs.Needs.{Wanted, wanted_by, wanted_types}
-use Rattle.machine_never_stuck.specs.Sound.{EndInAction, FirstFits, IsSound, needs, HaveTypes}
+use Rattle.machine_never_stuck.specs.Sound.{EndInAction, FirstFits, IsSound, needs}
 use Rattle.machine_never_stuck.proofs.Whole.{all_fit, never_stuck}
 use Rattle.machine_sound.specs.Sound.{IsSoundThread}
 
@@ -46,10 +46,10 @@ SoundMade m instructions shapes s (Awaits globals t) = IsSoundThread m instructi
 SoundMade m instructions shapes s (Ends globals) = HaveTypes m.globals globals
 SoundMade m instructions shapes s Broken = ⊥
 
-some_wanted : (w : Wanted) → None ≡ Some w → ⊥
+pub some_wanted : (w : Wanted) → None ≡ Some w → ⊥
 some_wanted w e = cc
 
-last_of : (actions : List Action) (a : Action) → last_action (actions ++ a ∷ []) ≡ Some a
+pub last_of : (actions : List Action) (a : Action) → last_action (actions ++ a ∷ []) ≡ Some a
 last_of [] a = refl
 last_of (b ∷ []) a = refl
 last_of (b ∷ c ∷ rest) a = last_of (c ∷ rest) a

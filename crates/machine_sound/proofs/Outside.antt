@@ -14,11 +14,9 @@ use Rattle.machine_never_stuck.specs.Sound.{FirstFits, needs}
 use Rattle.machine_never_stuck.proofs.Whole.{begins_placed}
 use Rattle.machine_sound.specs.Sound.{AreSound, FitsAction, IsSoundThread, one_if, places, places_for, StayOthers}
 use Rattle.machine_sound.specs.Taken.{takes_by, takes_turn}
+use Rattle.machine_sound.proofs.Keeping.{some_wanted}
 use Rattle.machine_sound.proofs.Placing.{is_given, is_new, is_ready, turn_taken, get_other}
 use Rattle.machine_sound.proofs.Turning.{with_changed}
-
-some_wanted : (w : Wanted) → None ≡ Some w → ⊥
-some_wanted w e = cc
 
 module _ (m : ModuleTypes) (parts : List PartTypes) (instructions : List Instruction) where
   -- ---- an outcome

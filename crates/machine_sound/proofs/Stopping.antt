@@ -69,16 +69,16 @@ module _ (p : Program) where
 
 some_times : (n : ℕ) (ks : List ℕ) → 0 < times n ks → Contains ks n
 some_times n [] some = absurd (omega arith)
-some_times n (k ∷ ks) some = by_first (nat_eq n k) refl
+some_times n (k ∷ ks) some = by_first (nat_eq n k) refl (λ more. some_times n ks more)
   where
-    by_first : (b : Bool) → nat_eq n k ≡ b → Contains (k ∷ ks) n
-    by_first true e = (0, zero-lt-suc (length ks), sym (eqb-true n k e))
-    by_first false e =
+    by_first : (b : Bool) → nat_eq n k ≡ b → (0 < times n ks → Contains ks n) → Contains (k ∷ ks) n
+    by_first true e others = (0, zero-lt-suc (length ks), sym (eqb-true n k e))
+    by_first false e others =
         let none = ap one_if e in
-        let rest = some_times n ks (omega (arith, some, none)) in
+        let rest = others (omega (arith, some, none)) in
         (suc rest.0, omega (arith, rest.1), rest.2)
 
-by_blocked : (b : Bool) → (if b then 0 else 1) ≡ 0 → b ≡ true
+by_blocked : (b : Bool) → zero ≡ (if b then 0 else 1) → b ≡ true
 by_blocked true none = refl
 by_blocked false none = absurd (omega arith)
 
@@ -94,7 +94,7 @@ waiting t n s placed runs none here = by_times (times n t.awaiting) refl
         omega (arith, a, b, c, d)
 
     by_times : (k : ℕ) → times n t.awaiting ≡ k → IsWaiting n s t
-    by_times zero e = inl (by_blocked (is_ready_after s.wanted) (sym at_n ∙ e))
+    by_times zero e = inl (by_blocked (is_ready_after s.wanted) (sym e ∙ at_n))
     by_times (suc k) e = inr (some_times n t.awaiting (omega arith))
 
 none_stands : (ts : List (Option Standing)) (n : ℕ) (s : Standing) → list_any is_some ts ≡ false → slice_get ts n ≡ Some (Some s) → ⊥

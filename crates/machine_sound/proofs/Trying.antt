@@ -1,15 +1,15 @@
 -- A thread that was given something never finds false at an await: so it takes fuel, or comes behind its instruction.
-use Rattle.std.proofs.Common.{◌≡◌, ℕ, ℤ, zero, suc, ◌+◌, ◌-◌, List, [], ◌∷◌, ◌++◌, Bool, true, false, not, nat_lt, nat_le, int_le, int_lt, if◌then◌else◌, Option, Some, None, Result, Ok, Err, length, reverse, take, drop, slice_get, slice_set, bytes_eq, refl, sym, ◌∙◌, subst}
+use Rattle.std.proofs.Common.{◌≡◌, ℕ, ℤ, zero, suc, ◌-◌, List, [], ◌∷◌, ◌++◌, Bool, true, false, not, nat_lt, nat_le, int_le, int_lt, if◌then◌else◌, Option, Some, None, Result, Ok, Err, length, reverse, take, drop, slice_get, slice_set, bytes_eq, refl, sym, ◌∙◌, subst}
 use Rattle.lynx_code.specs.declared.instruction.Instruction.{Instruction}
 use Rattle.lynx_code.specs.declared.instruction.Instruction.TheVariants as code
 use Rattle.typing_rules.specs.Exceptions.{exception_text}
 use Rattle.typing_rules.specs.declared.exception.Exception.{Exception}
 use Rattle.lynx_meaning.specs.Code.{Next, Goes, Over, Comes, Stuck, Opened, Program, Kind, Global, Local, Thread, with_outcome, takes_outcome, again, answered, asks, by_link, by_truth, by_values, closes, compares, connects, cut, decides, ends, gives, goes}
 use Rattle.lynx_meaning.specs.Code.{handles, instead, jumps, loads, loads_member, one_int, puts, raises, raises_in, stores, stores_member, step, stuck, fetched, tries_again, two_alike, two_ints, untries, variables, with_variables, writes, closes_request}
-use Rattle.lynx_meaning.specs.Courses.{Action, Answer, Moment, New, Destroy, Bind, Unbind, Connect, Accept, Close, Reply, Write, Await, Stop, Ended, Waits, Out, after, Store}
+use Rattle.lynx_meaning.specs.Courses.{Action, Answer, Moment, New, Destroy, Bind, Unbind, Connect, Accept, Close, Reply, Write, Await, Stop, Ended, Waits, Out, Outcome, after, Store}
 use Rattle.lynx_meaning.specs.Values.{Value, Given, Int, Truth, Text, Row, Link, add, divide, member, multiply, negate, reduce, subtract, truth_eq, value_eq, with_member, written}
 use Rattle.machine_turns.specs.Threads.{Standing, Made, Went, Acts, Awaits, Ends, Broken, acted, answers, comes_of, goes_on, in_turn, is_await, is_empty, is_fresh, last_action, made}
-use Rattle.machine_turns.specs.Threads as threads
+use Rattle.machine_sound.proofs.Keeping.{last_of}
 
 -- ---- an instruction that finds no await with false
 
@@ -29,11 +29,6 @@ AllTell globals (a ∷ rest) = (a.globals ≡ globals) × AllTell globals rest
 record Tells (globals : List Value) (m : Moment) : Type 0 where
   now : m.store.globals ≡ globals
   later : AllTell globals m.answers
-
-last_of : (actions : List Action) (a : Action) → last_action (actions ++ a ∷ []) ≡ Some a
-last_of [] a = refl
-last_of (b ∷ []) a = refl
-last_of (b ∷ c ∷ rest) a = last_of (c ∷ rest) a
 
 another : (actions : List Action) (a : Action) → (a ≡ Await → ⊥) → last_action (actions ++ a ∷ []) ≡ Some Await → ⊥
 another actions a other e =
@@ -83,7 +78,7 @@ module _ (G : Type 0) (globals : List Value) where
   loading None t = tt
   loading (Some v) t = tt
 
-  by_choice : (b : Bool) (first second : Next) → Asks first → Asks second → Asks G globals (if b then first else second)
+  by_choice : (b : Bool) (first second : Next) → Asks G globals first → Asks G globals second → Asks G globals (if b then first else second)
   by_choice true first second f s = f
   by_choice false first second f s = s
 
@@ -231,7 +226,7 @@ module _ (G : Type 0) (globals : List Value) where
     stepped code.Stop = ((λ some. another t.moment.actions Stop (λ e. cc)), tells.now)
     stepped code.End = ending t.requests t.moment tells
 
-    pub fetching : (o : Option Instruction) → Asks G globals (fetched p t o)
+    fetching : (o : Option Instruction) → Asks G globals (fetched p t o)
     fetching None = tt
     fetching (Some i) = stepped i
 
@@ -271,7 +266,7 @@ some_answers globals [] some e = cc
 some_answers globals (o ∷ os) some e = cc
 
 -- all that an instruction was given tells the variables as they stand
-all_tell : (globals : List Value) (given : List threads.Outcome) → AllTell globals (answers globals given)
+all_tell : (globals : List Value) (given : List Outcome) → AllTell globals (answers globals given)
 all_tell globals [] = tt
 all_tell globals (o ∷ os) = (refl, all_tell globals os)
 
@@ -285,5 +280,5 @@ waits_with p globals s actions store is = (subst (λ (next : Next). Asks ⊥ glo
 
 pub given_is_no_try : (p : Program) (globals : List Value) (s : Standing) → is_fresh s ≡ false → IsNoTry (comes_of p globals s)
 given_is_no_try p globals s some =
-    made_is_no_try Unit globals (is_await (slice_get p.instructions s.address)) s (goes_on p globals s) tt
-    (asks_there Unit p globals s (λ given. some_answers globals s.given some))
+    made_is_no_try (Unit {0}) globals (is_await (slice_get p.instructions s.address)) s (goes_on p globals s) tt
+    (asks_there (Unit {0}) p globals s (λ given. some_answers globals s.given some))

@@ -1,5 +1,5 @@
 -- Turns of sound threads.
-use Rattle.std.proofs.Common.{◌≡◌, ℕ, zero, suc, ◌+◌, ◌<◌, List, [], ◌∷◌, ◌++◌, length, Bool, true, false, if◌then◌else◌, Option, Some, None, is_some, slice_get, slice_set, refl, sym, ap, subst, ◌∙◌, ⊎_elim, length-set}
+use Rattle.std.proofs.Common.{◌≡◌, ℕ, zero, suc, ◌<◌, List, [], ◌∷◌, ◌++◌, length, Bool, true, false, if◌then◌else◌, Option, Some, None, is_some, slice_get, slice_set, refl, sym, ap, subst, ◌∙◌, ⊎_elim, length-set}
 use Rattle.std.specs.List.{list_any}
 use Rattle.std.proofs.lemmas.Option.{slice_get_within}
 use Rattle.lynx_code.specs.declared.instruction.Instruction.{Instruction}

@@ -1,6 +1,6 @@
 -- Threads of shaped code that take turns.
 use Rattle.std.specs.Prelude.{◌≡◌, ℕ, ◌+◌, List, [], ◌∷◌, length, nat_eq, Bool, true, false}
-use Rattle.std.specs.Prelude.{if◌then◌else◌, Option, None, Some, IfOk, slice_get, ⊤, ⊎, Contains}
+use Rattle.std.specs.Prelude.{if◌then◌else◌, Option, None, Some, IfOk, slice_get, ⊤, ◌⊎◌, Contains}
 use Rattle.lynx_code.specs.declared.instruction.Instruction.{Instruction}
 use Rattle.lynx_meaning.specs.Values.{Value, HaveTypes}
 use Rattle.code_shapes.specs.Shapes.{ModuleTypes, Shapes, AreShapes, IsThread, PartTypes}
