@@ -35,7 +35,7 @@ pub entry_for : (s : State) (code : Code) (entry : ℕ) (k : kept.Part) (n : ℕ
 entry_for s code entry k n op vs same here serves there typed =
     subst (λ (m : State). IsEntryFor entry vs m) (sym same) (
       kept_part k,
-      slice_get-code_parts code (entry + 1) ∙ ap (option_map kept_part) here,
+      slice_get-map kept_part code.parts.items (entry + 1) ∙ ap (option_map kept_part) here,
       subst (λ (o : Option ℕ). HaveTypes (arguments_of (code_types code) o) vs) (sym serves) (typed_of (λ o. o.arguments) code.ops.items n op vs there typed),
     )
 

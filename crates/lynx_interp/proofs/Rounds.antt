@@ -1,11 +1,10 @@
 -- A round of a machine, from what its functions tell.
-use Rattle.machine_sound.proofs.Stopping.{run_stopped}
 use Rattle.std.proofs.Common.{◌≡◌, ℕ, suc, ◌+◌, Option, Some, None, option_map, slice_get, refl, sym, ap, subst, ◌∙◌, ◌≤◌}
 use Rattle.std.proofs.lemmas.Option.{slice_get_within}
 use Rattle.lynx_meaning.specs.Code.{Program}
 use Rattle.code_shapes.specs.Shapes.{program}
 use Rattle.machine_turns.specs.Threads.{Standing, Made, course}
-use Rattle.machine_turns.specs.Turns.{Act, Beat, Turns, RunsOn, Runs, Stops, beats, comes, stands, with_thread}
+use Rattle.machine_turns.specs.Turns.{Beat, Turns, RunsOn, Runs, Stops, beats, comes, with_thread}
 use Rattle.machine_thread.specs.Told.{action_of, told}
 use Rattle.machine_thread.specs.declared.action.Action.{Action}
 use Rattle.machine_thread.specs.declared.action.Move.{Move}
@@ -14,6 +13,7 @@ use Rattle.machine_sound.specs.Taken.{takes_turn}
 use Rattle.machine_sound.proofs.Outside.{taken_sound}
 use Rattle.machine_sound.proofs.Placing.{get_set}
 use Rattle.machine_sound.proofs.Rounds as rounds
+use Rattle.machine_sound.proofs.Stopping.{run_stopped}
 use Rattle.lynx_interp.specs.Machines.{IsMachine, State}
 use Rattle.lynx_interp.specs.Runs.{CanGoOn, Comes, IsAsked, IsRound, IsTurn, MayGoOn, Settles, StopsAt, after_turn, stop_of}
 use Rattle.lynx_interp.specs.declared.stop.Stop.{Stop}

@@ -1,6 +1,6 @@
 //! A machine.
 
-ghost use Rattle.std.specs.Prelude.{◌≡◌, ◌≤◌, [], ◌∷◌, length, replicate, false, None, Some, IfOk, ◌-◌};
+ghost use Rattle.std.specs.Prelude.{◌≡◌, ◌≤◌, [], ◌∷◌, length, replicate, None, Some, IfOk, ◌-◌};
 ghost use Rattle.machine_turns.specs.Threads.{begun};
 ghost use Rattle.machine_turns.specs.Turns.{at_start, most_threads};
 ghost use Rattle.lynx_interp.specs.Machines.{IsMachine, how_many, start_globals, state_of};

@@ -1,6 +1,7 @@
 use Rattle.code_shapes.specs.Shapes.{PartTypes, kept_part, opened_by}
 use Rattle.std.proofs.Common.{◌∙◌, ◌+◌, ◌≤◌, List, ap, arith, length, slice_get, subst, sym}
 use Rattle.std.proofs.lemmas.List.{length-map}
+use Rattle.std.proofs.lemmas.Result.{IfOk-weaker}
 use Rattle.lynx_meaning.specs.Values.{Value}
 use Rattle.lynx_tree.specs.declared.declaration.TypeName.{TypeName}
 use Rattle.machine_turns.specs.Threads.{begun}
