@@ -1,5 +1,5 @@
 -- Machines at the start, with an outcome more, and with a thread more.
-use Rattle.std.proofs.Common.{arith, ◌≡◌, ℕ, ℤ, zero, suc, ◌+◌, List, [], ◌∷◌, ◌++◌, length, map, replicate, take, drop, pos, negsuc, Bool, IsTrue, Some, slice_get, refl, sym, ap, subst, ◌∙◌, true≢false, ◌≤◌, length-append}
+use Rattle.std.proofs.Common.{arith, ◌≡◌, ℕ, ℤ, zero, suc, ◌+◌, List, [], ◌∷◌, ◌++◌, length, map, replicate, take, drop, pos, negsuc, IsTrue, Some, slice_get, refl, sym, ap, subst, ◌∙◌, true≢false, ◌≤◌, length-append}
 use Rattle.std.proofs.lemmas.List.{length-replicate}
 use Rattle.std.specs.List.{AllByRecursion}
 use Rattle.std.specs.Prelude.{slice_index_or}
@@ -8,7 +8,7 @@ use Rattle.lynx_tree.specs.declared.declaration.TypeName.TheVariants as types
 use Rattle.typing_rules.specs.Types.{has_length, is_length}
 use Rattle.lynx_code.specs.declared.code.Code.{Code}
 use Rattle.lynx_code.specs.declared.code.Part as kept
-use Rattle.lynx_meaning.specs.Values.{Value, HasType, Link, is_int, start_value, HaveTypes}
+use Rattle.lynx_meaning.specs.Values.{Value, HasType, is_int, start_value, HaveTypes}
 use Rattle.code_shapes.specs.Shapes.{code_types, kept_part, ModuleTypes, PartTypes, code_parts, opened_by, program}
 use Rattle.lynx_meaning.specs.Needs.{types_of}
 use Rattle.lynx_meaning.specs.Courses.{Outcome}

@@ -5,7 +5,7 @@ use Rattle.lynx_code.specs.declared.instruction.Instruction.{Instruction}
 use Rattle.lynx_meaning.specs.Code.{Program}
 use Rattle.code_shapes.specs.Shapes.{program}
 use Rattle.machine_turns.specs.Threads.{Standing, Made, course}
-use Rattle.machine_turns.specs.Turns.{Act, Beat, Turns, RunsOn, Stops, beats, comes, most_threads, run, stands, with_thread}
+use Rattle.machine_turns.specs.Turns.{Act, Beat, Turns, RunsOn, Stops, beats, comes, most_threads, run, with_thread}
 use Rattle.machine_thread.specs.Told.{action_of, told}
 use Rattle.machine_thread.specs.declared.action.Action.{Action}
 use Rattle.machine_thread.specs.declared.action.Move.{Move}
