@@ -1,5 +1,5 @@
 -- A machine: the code that it runs, and its threads.
-use Rattle.std.specs.Prelude.{◌≡◌, ⊥, ℕ, ◌+◌, ◌<◌, ◌≤◌, List, [], ◌∷◌, ◌++◌, length, map, drop, Option, Some, None, slice_get}
+use Rattle.std.specs.Prelude.{◌≡◌, ℕ, ◌+◌, ◌<◌, ◌≤◌, List, [], ◌∷◌, ◌++◌, length, map, drop, Option, Some, None, slice_get}
 use Rattle.lynx_code.specs.declared.code.Code.{Code}
 use Rattle.lynx_code.specs.declared.instruction.Instruction.{Instruction}
 use Rattle.lynx_meaning.specs.Values.{Value, Link, start_value, HaveTypes}
