@@ -51,7 +51,7 @@ pub(crate) fn same_lines(lines: &[Vec<u8>], wanted: &[&str]) -> Result<(), Fail>
     Ok(())
 }
 
-const A: EndId = EndId {
+pub(crate) const A: EndId = EndId {
     link: LinkId { maker: 0, count: 0 },
     side: Side::A,
 };
@@ -61,13 +61,13 @@ const B: EndId = EndId {
     side: Side::B,
 };
 
-const MADE: ServiceStep = ServiceStep::Make {
+pub(crate) const MADE: ServiceStep = ServiceStep::Make {
     p: Pid(0),
     a: A,
     b: B,
 };
 
-fn setting(alloc: Global) -> Result<Setting, Fail> {
+pub(crate) fn setting(alloc: Global) -> Result<Setting, Fail> {
     Ok(Setting {
         version: 2,
         kernels: 8,
@@ -77,7 +77,7 @@ fn setting(alloc: Global) -> Result<Setting, Fail> {
 }
 
 /// Entries, notes and a last line that go together in no run have their lines all the same.
-const LINES: [&str; 17] = [
+pub(crate) const LINES: [&str; 17] = [
     "transcript 2\n",
     "kernels 8\n",
     "process 0 on 0\n",
@@ -97,7 +97,7 @@ const LINES: [&str; 17] = [
     "spent 3\n",
 ];
 
-const NOTES: [ScriptNote; 2] = [
+pub(crate) const NOTES: [ScriptNote; 2] = [
     ScriptNote {
         line: 7,
         waits: false,

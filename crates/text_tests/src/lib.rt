@@ -8,6 +8,8 @@ mod journals;
 #[cfg(test)]
 mod lines;
 #[cfg(test)]
+mod noted;
+#[cfg(test)]
 mod reading;
 #[cfg(test)]
 mod replays;
