@@ -1,3 +1,4 @@
 pub mod Generation
 pub mod Modules
 pub mod Listing
+pub mod Told
