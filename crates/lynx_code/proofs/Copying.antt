@@ -4,6 +4,7 @@ use Rattle.lynx_tree.specs.Trees.{ModuleTree, OpTree}
 use Rattle.lynx_code.specs.declared.code.Code.{Code}
 use Rattle.lynx_code.specs.declared.code.CodeOp.{CodeOp}
 use Rattle.lynx_code.specs.declared.code.Part.{Part}
+use Rattle.lynx_code.specs.Checked.{IsCheckedCode}
 use Rattle.lynx_code.specs.Modules.{ArePairs, IsCodeOf, IsOpOf, IsPartOf, PartCode, parts_of}
 use Rattle.lynx_code.specs.Told.{CodeTold, OpTold, PartTold, code_told, op_told, part_told}
 
@@ -38,3 +39,6 @@ code_stays m copy made e is = record {
   parts = same_pairs IsPartOf part_told part_stays (parts_of m) copy.parts.items made.parts.items (ap (λ (t : CodeTold). t.parts) e) is.parts;
   instructions = ap (λ (t : CodeTold). t.instructions) e ∙ is.instructions;
 }
+
+pub checked_stays : (copy made : Code) → code_told copy ≡ code_told made → IsCheckedCode made → IsCheckedCode copy
+checked_stays copy made e is = record { tree = is.tree; checked = is.checked; code = code_stays is.tree copy made e is.code }

@@ -1,6 +1,7 @@
 //! Copies of code.
 
 ghost use Rattle.std.specs.Prelude.{◌≡◌, map, IfOk};
+ghost use Rattle.lynx_code.specs.Checked.{IsCheckedCode};
 ghost use Rattle.lynx_code.specs.Modules.{IsCodeOf};
 ghost use Rattle.lynx_code.specs.Told.{code_told, op_told, part_told};
 ghost use Rattle.lynx_tree.specs.Trees.{ModuleTree};
@@ -84,6 +85,7 @@ impl Code {
     pub fn copy(&self, alloc: Global) -> Result<Code, NoMemory>
         ensures same { IfOk result (λ copy. code_told copy ≡ code_told self.now) }
         ensures code { (m : ModuleTree) → IsCodeOf m self.now → IfOk result (IsCodeOf m) }
+        ensures checked { IsCheckedCode self.now → IfOk result IsCheckedCode }
     {
         let globals = self.globals.to_vec(alloc)?;
         let ops = copy_ops(alloc, &self.ops)?;

@@ -1,6 +1,6 @@
 use Rattle.std.proofs.Common.{rules, ◌≡◌, ◌∙◌, map, ap}
 use Rattle.lynx_code.specs.Told.{op_told, part_told}
-use Rattle.lynx_code.proofs.Copying.{code_stays}
+use Rattle.lynx_code.proofs.Copying.{code_stays, checked_stays}
 use Rattle.lynx_code.proofs.code.Code.copy.Goals as goal
 
 pub returns-clause-same : goal.returns-clause-same
@@ -13,3 +13,6 @@ returns-clause-same c =
 
 pub returns-clause-code : goal.returns-clause-code
 returns-clause-code c m is = code_stays m _ c.args.self.now (returns-clause-same c) is
+
+pub returns-clause-checked : goal.returns-clause-checked
+returns-clause-checked c is = checked_stays _ c.args.self.now (returns-clause-same c) is
