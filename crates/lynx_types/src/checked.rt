@@ -41,7 +41,7 @@ impl<'a> Checked<'a> {
         Checked { tree }
     }
 
-    /// The module. It has a list of tokens by the grammar, can be printed, and breaks no rule.
+    /// The module. It has a list of tokens by the grammar, fewer than 2^32, can be printed, and breaks no rule.
     pub fn module(&self) -> &Module<'a>
         ensures module { result.now ≡ self.now }
         ensures checked { IsChecked (module_tree self.now) }
