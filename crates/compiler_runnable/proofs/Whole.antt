@@ -1,5 +1,6 @@
--- The code of a module can be run.
+-- The code of a module that was checked can be run.
 use Rattle.std.proofs.Common.{◌≡◌, ℕ, zero, suc, ◌+◌, List, [], ◌∷◌, ◌++◌, length, map, replicate, is_some, option_map, Option, Some, None, slice_get, refl, sym, ap, ◌∙◌, subst}
+use Rattle.std.specs.List.{AllByRecursion}
 use Rattle.std.proofs.lemmas.List.{map-append}
 use Rattle.std.proofs.lemmas.Option.{none-some, same_Some, slice_get-map}
 use Rattle.lynx_tree.specs.Trees.{EntryTree, ModuleTree, OpTree}
@@ -9,8 +10,9 @@ use Rattle.typing_rules.specs.Modules.{entry_faults, module_faults, names_are_ne
 use Rattle.typing_rules.specs.Names.{arguments_of, each_at, entry_body_at, inside, known, local_names, locals_at, module_scope, op_size, ops_at, entries_at, entry_size, results_of, var_size}
 use Rattle.typing_rules.specs.Rules.{Asks, entry_has_parameters, entry_is_of_op, local_name_is_new}
 use Rattle.typing_rules.specs.Statements.{stmts_faults}
-use Rattle.lynx_code.specs.Modules.{ArePairs, IsCodeOf, IsPartOf, PartCode, entry_part, entry_parts, main_part, op_names, parts_of, index_of}
+use Rattle.lynx_code.specs.Modules.{ArePairs, IsCodeOf, IsOpOf, IsPartOf, PartCode, entry_part, entry_parts, main_part, op_names, parts_of, index_of}
 use Rattle.lynx_code.specs.declared.code.Code.{Code}
+use Rattle.lynx_code.specs.declared.code.CodeOp.{CodeOp}
 use Rattle.lynx_code.specs.declared.code.Part as kept
 use Rattle.compiler_expressions.proofs.Clean.{both-clean, demand-met}
 use Rattle.compiler_expressions.proofs.Variables.{some-of}
@@ -20,8 +22,10 @@ use Rattle.compiler_law.proofs.Whole.{no-faults}
 use Rattle.code_shapes.specs.Shapes.{code_types, PartTypes, code_parts, kept_part}
 use Rattle.lynx_meaning.specs.Needs.{OpTypes, op_types}
 use Rattle.compiler_shapes.proofs.Whole as shapes
-use Rattle.compiler_runnable.specs.Law.{ModuleCodeIsRunnable}
-use Rattle.compiler_runnable.specs.Runnable.{HaveStarts, IsEntryPart}
+use Rattle.compiler_runnable.specs.Law.{CheckedCodeIsRunnable}
+use Rattle.compiler_runnable.specs.Runnable.{HaveStarts, IsEntryPart, IsRunnableOp}
+use Rattle.typing_signatures.specs.Facts.{HasFacts}
+use Rattle.typing_signatures.proofs.Clean.{law as ops_have_facts}
 use Rattle.compiler_runnable.proofs.Starts.{AreClean, arguments_start, both_start, declarations, params_are_links, params_start, vars_start}
 
 -- ---- lists
@@ -142,11 +146,20 @@ module _ (m : ModuleTree) (made : Code) (clean : AreClean m) (is : IsCodeOf m ma
   kinds_kept : made.globals.items ≡ map (λ v. v.kind) m.params ++ map (λ v. v.kind) m.vars
   kinds_kept = is.globals ∙ map-append (λ v. v.kind) m.params m.vars
 
-pub law : ModuleCodeIsRunnable
-law m made written tokens typed is =
-    let clean = declarations m (no-faults (module_faults m) typed) in
+-- each op as it is kept
+ops_runnable : (ops : List OpTree) (kept : List CodeOp) → ArePairs IsOpOf ops kept → AllByRecursion HasFacts ops → AllByRecursion IsRunnableOp kept
+ops_runnable [] [] pairs have = tt
+ops_runnable [] (k ∷ ks) pairs have = absurd pairs
+ops_runnable (op ∷ ops) [] pairs have = absurd pairs
+ops_runnable (op ∷ ops) (k ∷ ks) pairs have = ((op, have.0, pairs.0), ops_runnable ops ks pairs.1 have.1)
+
+pub law : CheckedCodeIsRunnable
+law made from =
+    let m = from.tree in
+    let is = from.code in
+    let clean = declarations m (no-faults (module_faults m) from.checked.well_typed) in
     record {
-      shaped = shapes.law m made written tokens typed is;
+      shaped = shapes.law m made from.checked.grammar from.checked.printable from.checked.well_typed is;
       parts = record { body = body_part m made clean is; starts = part_starts m made clean is; entries = entry_parts_kept m made clean is };
       globals = subst (λ (ts : List TypeName). HaveStarts ts) (sym (kinds_kept m made clean is))
           (both_start (map (λ v. v.kind) m.params) (map (λ v. v.kind) m.vars) (params_start _ m.params clean.params) (vars_start _ m.vars clean.vars));
@@ -155,4 +168,5 @@ law m made written tokens typed is =
         kinds_kept m made clean is
             ∙ ap (λ (ts : List TypeName). ts ++ map (λ v. v.kind) m.vars) (params_are_links _ m.params clean.params ∙ ap (λ n. replicate n types.Link) (sym is.params)),
       );
+      ops = ops_runnable m.ops made.ops.items is.ops (ops_have_facts m from.checked.printable from.checked.well_typed);
     }

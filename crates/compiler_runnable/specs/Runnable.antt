@@ -1,10 +1,14 @@
 -- Code that a machine can run.
 use Rattle.std.specs.Prelude.{◌≡◌, ℕ, suc, List, [], ◌++◌, replicate, IsTrue, Option, Some, None, slice_get}
 use Rattle.std.specs.List.{AllByRecursion}
+use Rattle.lynx_tree.specs.Trees.{OpTree}
 use Rattle.lynx_tree.specs.declared.declaration.TypeName.{TypeName}
 use Rattle.lynx_tree.specs.declared.declaration.TypeName.TheVariants as types
 use Rattle.typing_rules.specs.Types.{has_length}
+use Rattle.typing_signatures.specs.Facts.{HasFacts}
+use Rattle.lynx_code.specs.Modules.{IsOpOf}
 use Rattle.lynx_code.specs.declared.code.Code.{Code}
+use Rattle.lynx_code.specs.declared.code.CodeOp.{CodeOp}
 use Rattle.code_shapes.specs.Shapes.{ModuleTypes, IsShapedCode, code_types, PartTypes, code_parts}
 use Rattle.lynx_meaning.specs.Needs.{OpTypes, types_of}
 
@@ -36,9 +40,14 @@ pub record AreParts (m : ModuleTypes) (parts : List PartTypes) : Type 0 where
   pub starts : (i : ℕ) (p : PartTypes) → slice_get parts i ≡ Some p → HaveStarts p.locals
   pub entries : (i : ℕ) (p : PartTypes) → slice_get parts (suc i) ≡ Some p → IsEntryPart m p
 
+-- it has the facts of ops, and its signature is the text for a name and its types
+abbrev pub IsRunnableOp : CodeOp → Type 0
+IsRunnableOp made = (op : OpTree) × HasFacts op × IsOpOf op made
+
 pub record IsRunnable (made : Code) : Type 0 where
   pub shaped : IsShapedCode made
   pub parts : AreParts (code_types made) (code_parts made)
   pub globals : HaveStarts made.globals.items
   -- the params come first, and are links
   pub params : (others : List TypeName) × (made.globals.items ≡ replicate made.params types.Link ++ others)
+  pub ops : AllByRecursion IsRunnableOp made.ops.items

@@ -3,4 +3,4 @@
 
 mod law;
 
-pub use law::module_code_is_runnable;
+pub use law::checked_code_is_runnable;

@@ -1,5 +1,7 @@
 //! Instructions.
 
+ghost use Rattle.std.specs.Prelude.{◌≡◌};
+
 use lynx_lexer::TextLit;
 use typing_rules::Exception;
 
@@ -71,4 +73,70 @@ pub enum Instruction {
     Raise(Exception),
     /// Goes on where this exception is pending; else jumps to this address.
     Case(Exception, u16),
+}
+
+impl Literal {
+    /// A literal that is equal.
+    pub fn copy(&self) -> Literal
+        ensures { result ≡ self.now }
+    {
+        match self {
+            Literal::Int(number) => Literal::Int(*number),
+            Literal::Bool(truth) => Literal::Bool(*truth),
+            Literal::Text(inside) => Literal::Text(inside.copy()),
+        }
+    }
+}
+
+impl Instruction {
+    /// An instruction that is equal.
+    pub fn copy(&self) -> Instruction
+        ensures { result ≡ self.now }
+    {
+        match self {
+            Instruction::Push(literal) => Instruction::Push(literal.copy()),
+            Instruction::LoadG(slot) => Instruction::LoadG(*slot),
+            Instruction::LoadL(slot) => Instruction::LoadL(*slot),
+            Instruction::AtG(slot) => Instruction::AtG(*slot),
+            Instruction::AtL(slot) => Instruction::AtL(*slot),
+            Instruction::StoreG(slot) => Instruction::StoreG(*slot),
+            Instruction::StoreL(slot) => Instruction::StoreL(*slot),
+            Instruction::PutG(slot) => Instruction::PutG(*slot),
+            Instruction::PutL(slot) => Instruction::PutL(*slot),
+            Instruction::Add => Instruction::Add,
+            Instruction::Sub => Instruction::Sub,
+            Instruction::Mul => Instruction::Mul,
+            Instruction::Div => Instruction::Div,
+            Instruction::Mod => Instruction::Mod,
+            Instruction::Neg => Instruction::Neg,
+            Instruction::Eq => Instruction::Eq,
+            Instruction::Ne => Instruction::Ne,
+            Instruction::Lt => Instruction::Lt,
+            Instruction::Le => Instruction::Le,
+            Instruction::Gt => Instruction::Gt,
+            Instruction::Ge => Instruction::Ge,
+            Instruction::Not => Instruction::Not,
+            Instruction::AndJ(address) => Instruction::AndJ(*address),
+            Instruction::OrJ(address) => Instruction::OrJ(*address),
+            Instruction::JumpF(address) => Instruction::JumpF(*address),
+            Instruction::Jump(address) => Instruction::Jump(*address),
+            Instruction::Await(address) => Instruction::Await(*address),
+            Instruction::Try(address) => Instruction::Try(*address),
+            Instruction::Write => Instruction::Write,
+            Instruction::New => Instruction::New,
+            Instruction::Destroy => Instruction::Destroy,
+            Instruction::Close => Instruction::Close,
+            Instruction::Stop => Instruction::Stop,
+            Instruction::Untry => Instruction::Untry,
+            Instruction::Again => Instruction::Again,
+            Instruction::End => Instruction::End,
+            Instruction::Bind(entry) => Instruction::Bind(*entry),
+            Instruction::Unbind(entry) => Instruction::Unbind(*entry),
+            Instruction::Connect(op) => Instruction::Connect(*op),
+            Instruction::Accept(op) => Instruction::Accept(*op),
+            Instruction::Reply(count) => Instruction::Reply(*count),
+            Instruction::Raise(exception) => Instruction::Raise(*exception),
+            Instruction::Case(exception, address) => Instruction::Case(*exception, *address),
+        }
+    }
 }

@@ -1,7 +1,8 @@
-//! Code of LYNX modules: its instructions and parts, which code a module has, and how it is listed.
+//! Code of LYNX modules: its instructions and parts, which code a module has, how it is listed, and copies of it.
 #![tactic(auto)]
 
 mod code;
+mod copies;
 mod instruction;
 mod texts;
 

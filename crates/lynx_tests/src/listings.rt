@@ -174,6 +174,43 @@ fn declarations_are_kept(rt: HostRuntime) -> Result<(), Fail> {
     Ok(())
 }
 
+/// Whether two codes have the same listing.
+fn are_listed_alike(alloc: Global, one: &Code, other: &Code) -> bool {
+    let Ok(text) = listing(alloc, one) else {
+        return false;
+    };
+    let Ok(other_text) = listing(alloc, other) else {
+        return false;
+    };
+    text.as_slice() == other_text.as_slice()
+}
+
+/// What a copy of code keeps: declarations, parts and instructions, also with texts.
+#[test]
+fn copies_are_equal(rt: HostRuntime) -> Result<(), Fail> {
+    let source =
+        "module m; op a (int, bool) : (text); param p : link; var n : int; entry e of a (x, y) var r : row 3; begin reply ('yes'); end; begin write 'no'; end.";
+    let Ok(checked) = check_source(rt.alloc(), source.as_bytes()) else {
+        return Err("the module".into());
+    };
+    let Ok(code) = compile(rt.alloc(), &checked) else {
+        return Err("the code".into());
+    };
+    let Ok(copy) = code.copy(rt.alloc()) else {
+        return Err("the copy".into());
+    };
+    if !has_declarations(&copy) {
+        return Err("the declarations".into());
+    }
+    if !has_parts(&copy) {
+        return Err("the parts".into());
+    }
+    if !are_listed_alike(rt.alloc(), &code, &copy) {
+        return Err("the listing".into());
+    }
+    Ok(())
+}
+
 /// How many instructions a body of so many statements `write 1;` has; none where it is too long.
 fn instructions(alloc: Global, statements: u32) -> Result<Option<usize>, AllocError> {
     let mut source = String::from_str(alloc, "module m; begin ")?;

@@ -2,6 +2,7 @@
 
 ghost use Rattle.std.specs.Prelude.{◌≡◌, ◌<◌, ◌≤◌, length, map, Err, IfOk, OnOk};
 ghost use Rattle.lynx_tree.specs.Trees.{module_tree, op_tree};
+ghost use Rattle.lynx_code.specs.Checked.{IsCheckedCode};
 ghost use Rattle.lynx_code.specs.Modules.{module_code, variables, ArePairs, IsOpOf, IsCodeOf};
 ghost use Rattle.lynx_threads.specs.Agreement.{AgreesWithSource};
 ghost use Rattle.compiler_emission.specs.declared.fault.CompileFault.TheVariants as faults;
@@ -83,6 +84,7 @@ fn code_of(alloc: Global, tree: &Module) -> Result<Code, CompileFault>
 /// instructions. The time is linear in the module.
 pub fn compile(alloc: Global, checked: &Checked) -> Result<Code, CompileFault>
     ensures code { IfOk result (IsCodeOf (module_tree checked.now)) }
+    ensures checked { IfOk result IsCheckedCode }
     ensures agrees { IfOk result (AgreesWithSource (module_tree checked.now)) }
     ensures fits { OnOk result (length (module_code (module_tree checked.now)) ≤ 65535) }
     ensures long { result ≡ Err faults.CodeTooLong → 65535 < length (module_code (module_tree checked.now)) }

@@ -1,4 +1,3 @@
 pub mod Parts
 pub mod News
-pub mod WellTyped
 pub mod Answers

@@ -2,7 +2,7 @@
 
 ghost use Rattle.std.specs.Prelude.{◌≡◌};
 ghost use Rattle.lynx_tree.specs.Trees.{module_tree};
-ghost use Rattle.lynx_types.specs.WellTyped.{IsChecked};
+ghost use Rattle.typing_signatures.specs.Checked.{IsChecked};
 
 use lynx_tree::Module;
 use std::marker::Model;
@@ -25,7 +25,7 @@ impl<'a> Model for Checked<'a> {
     ghost coded = { Prim.hlevel (codes, (statements.the_row (record { mir = named 0; lft = [] })).coded) };
 
     ghost use Rattle.lynx_tree.specs.Trees.{module_tree};
-    ghost use Rattle.lynx_types.specs.WellTyped.{IsChecked};
+    ghost use Rattle.typing_signatures.specs.Checked.{IsChecked};
 
     ghost view = { λ a. a.tree };
 
@@ -41,7 +41,7 @@ impl<'a> Checked<'a> {
         Checked { tree }
     }
 
-    /// The module. It has a list of tokens by the grammar, can be printed, and breaks no rule.
+    /// The module. It has a list of tokens by the grammar, fewer than 2^32, can be printed, and breaks no rule.
     pub fn module(&self) -> &Module<'a>
         ensures module { result.now ≡ self.now }
         ensures checked { IsChecked (module_tree self.now) }

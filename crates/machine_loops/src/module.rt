@@ -31,7 +31,6 @@ fn code_of(alloc: Global, source: &[u8]) -> Result<Code, Trouble>
     let Ok(checked) = check_source(alloc, source) else {
         return Err(Trouble::Module);
     };
-    let _breaks_no_rule = checked.module();
     match compile(alloc, &checked) {
         Ok(code) => Ok(code),
         Err(_) => Err(Trouble::Module),

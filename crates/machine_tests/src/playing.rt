@@ -179,7 +179,6 @@ fn code(alloc: Global, source: &str) -> Result<Code, Fail>
     let Ok(checked) = check_source(alloc, source.as_bytes()) else {
         return Err("no module".into());
     };
-    let _breaks_no_rule = checked.module();
     match compile(alloc, &checked) {
         Ok(code) => Ok(code),
         Err(_) => Err("no code".into()),

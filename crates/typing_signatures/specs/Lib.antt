@@ -1,2 +1,3 @@
+pub mod Checked
 pub mod Facts
 pub mod Law

@@ -15,6 +15,7 @@ pub new-requires : goal.new-requires
 new-requires c = record {
   grammar = c.requires.grammar;
   printable = c.requires.printable;
+  fits = c.requires.fits;
   well_typed = none_is_well_typed (module_tree c.args.tree) (sym c.in_ok-first_fault.ensures ∙ ap first_found c.in-None.is);
 }
 

@@ -1,5 +1,5 @@
 use Rattle.compiler_runnable.proofs.Whole.{law}
-use Rattle.compiler_runnable.proofs.law.module_code_is_runnable.Goals as goal
+use Rattle.compiler_runnable.proofs.law.checked_code_is_runnable.Goals as goal
 
 pub returns : goal.returns
 returns c = law
