@@ -54,7 +54,8 @@ fn exception(name: &IdentRef) -> Exception
     }
 }
 
-/// A number of 16 bits. The number of an entry is one, and the count of the values of a `reply`, so this fails at no module that was checked.
+/// A number of 16 bits. In a module that was checked this never fails: it has no more than 65,534 entries where it comes here, and of the values of a
+/// `reply` each one has its instruction before they are counted.
 fn short(number: usize) -> Result<u16, CompileFault>
     ensures ok { IfOk result (λ n. n ≡ number) }
     ensures err { result ≢ Err faults.CodeTooLong }
@@ -162,8 +163,9 @@ fn emit_reply(
     ensures ok { OnOk result (code.new.items ≡ code.old.items ++ stmt_code (names_in names.now) (length code.old.items) (Reply (expr_list values.now))) }
     ensures long { result ≡ Err faults.CodeTooLong → 65535 < length code.old.items + length (stmt_code (names_in names.now) (length code.old.items) (Reply (expr_list values.now))) }
 {
-    let count = short(values.len())?;
+    // Each value has an instruction, so values too many to count are code that is too long.
     emit_exprs(values, code, names)?;
+    let count = short(values.len())?;
     push(code, Instruction::Reply(count))
 }
 

@@ -1,6 +1,7 @@
 //! The code of a module.
 
 ghost use Rattle.std.specs.Prelude.{◌≡◌, ◌<◌, ◌≤◌, length, map, Err, IfOk, OnOk};
+ghost use Rattle.lynx_tree.specs.Grammar.{module_marks};
 ghost use Rattle.lynx_tree.specs.Trees.{module_tree, op_tree};
 ghost use Rattle.lynx_code.specs.Checked.{IsCheckedCode};
 ghost use Rattle.lynx_code.specs.Modules.{module_code, variables, ArePairs, IsOpOf, IsCodeOf};
@@ -50,30 +51,28 @@ fn global_types(alloc: Global, tree: &Module) -> Result<Vec<TypeName>, NoMemory>
     Ok(types)
 }
 
-/// How many params a module has. There is no memory for a list whose length is no number of 32 bits.
-fn count_params(tree: &Module) -> Result<u32, NoMemory>
-    ensures { IfOk result (λ count. count ≡ length (module_tree tree.now).params) }
+/// How many params a module has.
+fn count_params(tree: &Module) -> u32
+    requires { length (module_marks (module_tree tree.now)) < 4294967296 }
+    ensures { result ≡ length (module_tree tree.now).params }
 {
-    match u32::try_from(tree.params.len()) {
-        Ok(count) => Ok(count),
-        Err(_) => Err(NoMemory),
-    }
+    tree.params.len() as u32
 }
 
 /// The code of the tree of a module.
 fn code_of(alloc: Global, tree: &Module) -> Result<Code, CompileFault>
+    requires { length (module_marks (module_tree tree.now)) < 4294967296 }
     ensures code { IfOk result (IsCodeOf (module_tree tree.now)) }
     ensures fits { OnOk result (length (module_code (module_tree tree.now)) ≤ 65535) }
     ensures long { result ≡ Err faults.CodeTooLong → 65535 < length (module_code (module_tree tree.now)) }
 {
     let emitted = compile_parts(alloc, tree)?;
     let globals = global_types(alloc, tree)?;
-    let params = count_params(tree)?;
     let ops = code_ops(alloc, &tree.ops)?;
     Ok(Code {
         name: tree.name.to_ident(),
         globals,
-        params,
+        params: count_params(tree),
         ops,
         parts: emitted.parts,
         instructions: emitted.instructions,
