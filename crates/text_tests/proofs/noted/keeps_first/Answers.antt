@@ -1,4 +1,4 @@
-use Rattle.std.proofs.Common.{◌≡◌, length, ap, arith, length-take-le}
+use Rattle.std.proofs.Common.{length, ap, arith, length-take-le}
 use Rattle.text_tests.proofs.noted.keeps_first.Goals as goal
 
 pub entry-requires : goal.entry-requires
