@@ -1,8 +1,8 @@
 //! Loops: an entry that takes a number of turns, or a thread's number besides and is run by as many threads as there may be.
 
-ghost use Rattle.std.specs.Prelude.{◌≡◌, IfOk, IfSome, OnOk};
+ghost use Rattle.std.specs.Prelude.{◌≡◌, [], List, IfOk, IfSome, OnOk};
 ghost use Rattle.lynx_meaning.specs.Values.{HasType, HaveTypes};
-ghost use Rattle.lynx_meaning.specs.Needs.{NoValue, wanted_by};
+ghost use Rattle.lynx_meaning.specs.Needs.{OpTypes, wanted_by, wanted_types};
 ghost use Rattle.machine_values.specs.Told.{value_of, values_of};
 ghost use Rattle.machine_thread.specs.Told.{action_of};
 ghost use Rattle.lynx_interp.specs.Machines.{IsEntryFor, IsMachine};
@@ -165,7 +165,7 @@ fn finishes(alloc: Global, machine: &mut Machine, told: &mut Told) -> Result<boo
 
 /// The loops close their requests and reply with a number, and ask for nothing else.
 fn answered(told: &mut Told, action: &Action) -> Result<(), Trouble>
-    ensures { OnOk result (wanted_by (action_of action.now) ≡ NoValue) }
+    ensures { OnOk result ((ops : List OpTypes) → wanted_types ops (wanted_by (action_of action.now)) ≡ []) }
 {
     match action {
         Action::Close => Ok(()),
