@@ -1,0 +1,3 @@
+//! Threads of a machine mean their sources: what a thread did in a history of a machine, and that it is what its code and its source mean.
+//! Definitions and laws.
+#![tactic(auto)]
