@@ -1,4 +1,4 @@
--- What an instruction comes to, as a tree: whatever it is given, it goes on, ends, or asks for an action and then comes to what its answer leads to.
+-- What an instruction comes to, as a tree: it goes on, ends, or asks for an action and then comes to what the answer leads to.
 use Rattle.std.proofs.Common.{◌≡◌, ℕ, ℤ, zero, suc, ◌+◌, ◌-◌, List, [], ◌∷◌, ◌++◌, Bool, true, false, not, nat_lt, nat_le, int_le, int_lt, if◌then◌else◌, Option, Some, None, Result, Ok, Err, length, reverse, take, drop, slice_get, slice_set, bytes_eq, refl}
 use Rattle.lynx_code.specs.declared.instruction.Instruction.{Instruction}
 use Rattle.lynx_code.specs.declared.instruction.Instruction.TheVariants as code
@@ -15,6 +15,8 @@ pub data Tree : Type 0 where
   Closed : Store → Tree
   -- it asks for this action, with these variables
   Asks : Action → Store → (Answer → Tree) → Tree
+  -- it asks for a stop, with these variables, whatever it is given
+  Halts : Store → Tree
   Broken : Tree
 
 abbrev pub moment : Store → List Answer → List Action → Moment
@@ -30,6 +32,7 @@ run (Leads t) L X = Goes (at t L X)
 run (Closed store) L X = Over (Comes (Ended X store))
 run (Asks a store onward) [] X = Over (Comes (Waits (X ++ a ∷ []) store))
 run (Asks a store onward) (b ∷ L) X = run (onward b) L (X ++ a ∷ [])
+run (Halts store) L X = Over (Comes (Waits (X ++ Stop ∷ []) store))
 run Broken L X = stuck
 
 -- ---- the actions of an instruction
@@ -37,6 +40,7 @@ run Broken L X = stuck
 -- it only closes requests
 abbrev pub OnlyCloses : Tree → Type 0
 OnlyCloses (Asks a store onward) = (a ≡ Close) × ((b : Answer) → OnlyCloses (onward b))
+OnlyCloses (Halts store) = ⊥
 OnlyCloses _ = Unit {0}
 
 -- an action that ends a thread's turn
@@ -56,6 +60,7 @@ Blocks _ = ⊥
 -- it acts once, as its instruction does, and then only closes requests
 abbrev pub IsOf : Option Instruction → Tree → Type 0
 IsOf o (Asks a store onward) = (IsBlocking a → Blocks o) × ((b : Answer) → OnlyCloses (onward b))
+IsOf o (Halts store) = o ≡ Some code.Stop
 IsOf o _ = Unit {0}
 
 pub closes_of : (o : Option Instruction) (tree : Tree) → OnlyCloses tree → IsOf o tree
@@ -72,6 +77,7 @@ closes_of o (Asks (Reply values) store onward) only = cc
 closes_of o (Asks (Write text) store onward) only = cc
 closes_of o (Asks Await store onward) only = cc
 closes_of o (Asks Stop store onward) only = cc
+closes_of o (Halts store) only = absurd only
 closes_of o Broken only = tt
 
 -- what comes is that of a tree of which this holds
@@ -296,59 +302,59 @@ module _ (p : Program) (t : Thread) where
   abbrev by_itself : (i : Instruction) → IsClosing (λ L X. step p (at t L X) i) → Stepped i
   by_itself i is = only (Some i) (λ L X. step p (at t L X) i) is
 
-  stepped : (i : Instruction) → (i ≡ code.Stop → ⊥) → Stepped i
-  stepped (code.Push l) other = by_itself (code.Push l) (jumping (t.address + 1) (value_of_literal l ∷ t.stack) t)
-  stepped (code.LoadG slot) other = by_itself (code.LoadG slot) (loading t (slice_get (variables Global t) slot))
-  stepped (code.LoadL slot) other = by_itself (code.LoadL slot) (loading t (slice_get (variables Local t) slot))
-  stepped (code.AtG slot) other = by_itself (code.AtG slot) (loading_member t (slice_get (variables Global t) slot) t.stack)
-  stepped (code.AtL slot) other = by_itself (code.AtL slot) (loading_member t (slice_get (variables Local t) slot) t.stack)
-  stepped (code.StoreG slot) other = by_itself (code.StoreG slot) (storing t Global slot t.stack)
-  stepped (code.StoreL slot) other = by_itself (code.StoreL slot) (storing t Local slot t.stack)
-  stepped (code.PutG slot) other = by_itself (code.PutG slot) (storing_member t Global slot (slice_get (variables Global t) slot) t.stack)
-  stepped (code.PutL slot) other = by_itself (code.PutL slot) (storing_member t Local slot (slice_get (variables Local t) slot) t.stack)
-  stepped code.Add other = by_itself code.Add (with_two_ints t add t.stack)
-  stepped code.Sub other = by_itself code.Sub (with_two_ints t subtract t.stack)
-  stepped code.Mul other = by_itself code.Mul (with_two_ints t multiply t.stack)
-  stepped code.Div other = by_itself code.Div (with_two_ints t divide t.stack)
-  stepped code.Mod other = by_itself code.Mod (with_two_ints t reduce t.stack)
-  stepped code.Neg other = by_itself code.Neg (with_one_int t negate t.stack)
-  stepped code.Eq other = by_itself code.Eq (with_two_alike t value_eq t.stack)
-  stepped code.Ne other = by_itself code.Ne (with_two_alike t (λ a b. not (value_eq a b)) t.stack)
-  stepped code.Lt other = by_itself code.Lt (comparing t int_lt t.stack)
-  stepped code.Le other = by_itself code.Le (comparing t int_le t.stack)
-  stepped code.Gt other = by_itself code.Gt (comparing t (λ a b. int_lt b a) t.stack)
-  stepped code.Ge other = by_itself code.Ge (comparing t (λ a b. int_le b a) t.stack)
-  stepped code.Not other = by_itself code.Not (with_truth OnlyCloses tt (λ L X b stack. goes (Truth (not b) ∷ stack) (at t L X)) t.stack (λ b rest. jumping (t.address + 1) (Truth (not b) ∷ rest) t))
-  stepped (code.AndJ address) other = by_itself (code.AndJ address) (deciding t false address)
-  stepped (code.OrJ address) other = by_itself (code.OrJ address) (deciding t true address)
-  stepped (code.JumpF address) other =
+  stepped : (i : Instruction) → Stepped i
+  stepped (code.Push l) = by_itself (code.Push l) (jumping (t.address + 1) (value_of_literal l ∷ t.stack) t)
+  stepped (code.LoadG slot) = by_itself (code.LoadG slot) (loading t (slice_get (variables Global t) slot))
+  stepped (code.LoadL slot) = by_itself (code.LoadL slot) (loading t (slice_get (variables Local t) slot))
+  stepped (code.AtG slot) = by_itself (code.AtG slot) (loading_member t (slice_get (variables Global t) slot) t.stack)
+  stepped (code.AtL slot) = by_itself (code.AtL slot) (loading_member t (slice_get (variables Local t) slot) t.stack)
+  stepped (code.StoreG slot) = by_itself (code.StoreG slot) (storing t Global slot t.stack)
+  stepped (code.StoreL slot) = by_itself (code.StoreL slot) (storing t Local slot t.stack)
+  stepped (code.PutG slot) = by_itself (code.PutG slot) (storing_member t Global slot (slice_get (variables Global t) slot) t.stack)
+  stepped (code.PutL slot) = by_itself (code.PutL slot) (storing_member t Local slot (slice_get (variables Local t) slot) t.stack)
+  stepped code.Add = by_itself code.Add (with_two_ints t add t.stack)
+  stepped code.Sub = by_itself code.Sub (with_two_ints t subtract t.stack)
+  stepped code.Mul = by_itself code.Mul (with_two_ints t multiply t.stack)
+  stepped code.Div = by_itself code.Div (with_two_ints t divide t.stack)
+  stepped code.Mod = by_itself code.Mod (with_two_ints t reduce t.stack)
+  stepped code.Neg = by_itself code.Neg (with_one_int t negate t.stack)
+  stepped code.Eq = by_itself code.Eq (with_two_alike t value_eq t.stack)
+  stepped code.Ne = by_itself code.Ne (with_two_alike t (λ a b. not (value_eq a b)) t.stack)
+  stepped code.Lt = by_itself code.Lt (comparing t int_lt t.stack)
+  stepped code.Le = by_itself code.Le (comparing t int_le t.stack)
+  stepped code.Gt = by_itself code.Gt (comparing t (λ a b. int_lt b a) t.stack)
+  stepped code.Ge = by_itself code.Ge (comparing t (λ a b. int_le b a) t.stack)
+  stepped code.Not = by_itself code.Not (with_truth OnlyCloses tt (λ L X b stack. goes (Truth (not b) ∷ stack) (at t L X)) t.stack (λ b rest. jumping (t.address + 1) (Truth (not b) ∷ rest) t))
+  stepped (code.AndJ address) = by_itself (code.AndJ address) (deciding t false address)
+  stepped (code.OrJ address) = by_itself (code.OrJ address) (deciding t true address)
+  stepped (code.JumpF address) =
       by_itself (code.JumpF address) (with_truth OnlyCloses tt (λ L X b stack. if b then goes stack (at t L X) else jumps address stack (at t L X)) t.stack (λ b rest. jumping_or t b (t.address + 1) address rest rest))
-  stepped (code.Jump address) other = by_itself (code.Jump address) (jumping address t.stack t)
-  stepped (code.Await address) other = awaiting (Some (code.Await address)) address t tt
-  stepped (code.Try address) other =
+  stepped (code.Jump address) = by_itself (code.Jump address) (jumping address t.stack t)
+  stepped (code.Await address) = awaiting (Some (code.Await address)) address t tt
+  stepped (code.Try address) =
       by_itself (code.Try address) (jumping (t.address + 1) t.stack (record t { tries = record { handlers = address; height = length t.stack; depth = length t.requests } ∷ t.tries }))
-  stepped code.Untry other = by_itself code.Untry (untrying t t.tries)
-  stepped (code.Case x address) other = by_itself (code.Case x address) (handling t x address t.pending)
-  stepped code.Again other = by_itself code.Again (raising_again t t.pending)
-  stepped (code.Raise x) other = by_itself (code.Raise x) (raising x t)
-  stepped code.Write other =
+  stepped code.Untry = by_itself code.Untry (untrying t t.tries)
+  stepped (code.Case x address) = by_itself (code.Case x address) (handling t x address t.pending)
+  stepped code.Again = by_itself code.Again (raising_again t t.pending)
+  stepped (code.Raise x) = by_itself (code.Raise x) (raising x t)
+  stepped code.Write =
       writing (IsOf (Some code.Write)) tt (λ L X text stack. asks (Write text) stack (at t L X) (λ now. now)) t.stack (λ text rest. asking (Some code.Write) (Write text) rest t (λ now. now) (still (Some code.Write)) (λ h. absurd h))
-  stepped code.New other = asking (Some code.New) New t.stack t (λ now. now) (still (Some code.New)) (λ h. absurd h)
-  stepped code.Destroy other = on_link (Some code.Destroy) (λ link. Destroy link) t (λ l h. absurd h)
-  stepped (code.Bind entry) other = on_link (Some (code.Bind entry)) (λ link. Bind link entry) t (λ l h. absurd h)
-  stepped (code.Unbind entry) other = on_link (Some (code.Unbind entry)) (λ link. Unbind link entry) t (λ l h. absurd h)
-  stepped (code.Connect op) other = connecting (Some (code.Connect op)) op (slice_get p.arguments op) t tt
-  stepped (code.Accept op) other = accepting (Some (code.Accept op)) op t tt
-  stepped code.Close other = closing_request (Some code.Close) t.requests t
-  stepped (code.Reply k) other =
+  stepped code.New = asking (Some code.New) New t.stack t (λ now. now) (still (Some code.New)) (λ h. absurd h)
+  stepped code.Destroy = on_link (Some code.Destroy) (λ link. Destroy link) t (λ l h. absurd h)
+  stepped (code.Bind entry) = on_link (Some (code.Bind entry)) (λ link. Bind link entry) t (λ l h. absurd h)
+  stepped (code.Unbind entry) = on_link (Some (code.Unbind entry)) (λ link. Unbind link entry) t (λ l h. absurd h)
+  stepped (code.Connect op) = connecting (Some (code.Connect op)) op (slice_get p.arguments op) t tt
+  stepped (code.Accept op) = accepting (Some (code.Accept op)) op t tt
+  stepped code.Close = closing_request (Some code.Close) t.requests t
+  stepped (code.Reply k) =
       with_values (IsOf (Some (code.Reply k))) tt k (λ L X vs stack. asks (Reply vs) stack (at t L X) (λ now. now)) t.stack (λ vs rest. asking (Some (code.Reply k)) (Reply vs) rest t (λ now. now) (still (Some (code.Reply k))) (λ h. absurd h))
-  stepped code.Stop other = absurd (other refl)
-  stepped code.End other = by_itself code.End (ending t.requests t.moment.store)
+  stepped code.Stop = record { tree = Halts t.moment.store; same = λ L X. refl; holds = refl }
+  stepped code.End = by_itself code.End (ending t.requests t.moment.store)
 
-  -- whatever it is given, an instruction other than a stop comes to what a tree says
-  pub tree_of : (o : Option Instruction) → (o ≡ Some code.Stop → ⊥) → IsTree (IsOf o) (λ L X. fetched p (at t L X) o)
-  tree_of None other = never (IsOf None) tt
-  tree_of (Some i) other = stepped i (λ e. other cc)
+  -- whatever it is given, an instruction comes to what a tree says
+  pub tree_of : (o : Option Instruction) → IsTree (IsOf o) (λ L X. fetched p (at t L X) o)
+  tree_of None = never (IsOf None) tt
+  tree_of (Some i) = stepped i
 
 -- ---- whatever the variables of the module were
 
