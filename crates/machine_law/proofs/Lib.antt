@@ -1,3 +1,5 @@
 pub mod Trees
 pub mod Living
 pub mod Beating
+pub mod Rounds
+pub mod Whole
