@@ -7,6 +7,7 @@ use Rattle.lynx_meaning.specs.Code.{Next, Goes, Over, Comes, Program, Thread, ex
 use Rattle.lynx_meaning.specs.Courses.{Action, Answer, Behaviour, Outcome, Store, New, Destroy, Bind, Unbind, Connect, Accept, Close, Reply, Write, Await, Stop, Ended, Waits, Out}
 use Rattle.lynx_meaning.specs.Needs.{Wanted, wanted_by}
 use Rattle.lynx_meaning.specs.Values.{Value}
+use Rattle.code_shapes.specs.Shapes.{ModuleTypes}
 use Rattle.machine_turns.specs.Threads.{Standing, Made, Acts, Awaits, acted, answers, goes_on, in_turn, is_await, is_fresh, last_action, made, stands_at}
 use Rattle.machine_turns.specs.Threads as threads
 use Rattle.machine_turns.specs.Turns.{Beat, RunsOn, Stops, Turns, asks_for, awaits, comes, wakes, with_thread}
@@ -15,9 +16,10 @@ use Rattle.machine_sound.proofs.Keeping.{last_of}
 use Rattle.machine_sound.proofs.Placing.{get_set}
 use Rattle.machine_sound.proofs.Rounds.{acts_threads}
 use Rattle.machine_sound.proofs.Trying.{waits_with}
+use Rattle.machine_law.specs.Fitting.{FitAll}
 use Rattle.machine_law.specs.Lives.{Life, latest, lived, new_answer, one_more}
 use Rattle.machine_law.proofs.Trees.{Tree, Leads, Closed, Asks, Halts, Broken, IsBlocking, IsOf, OnlyCloses, WaitsHere, at, run, same_then}
-use Rattle.machine_law.proofs.Living.{Came, Holds, IsAmid, IsBetween, IsOver, IsTurn, Lives, Between, Amid, Stopped, answer, begin, latest_last, turned}
+use Rattle.machine_law.proofs.Living.{Came, FitsOutcome, Holds, IsAmid, IsBetween, IsOver, IsTurn, Lives, Between, Amid, Stopped, answer, begin, latest_last, turned}
 
 -- a thread that asks for an action blocks or has the turn
 keeps_or_blocks : (n : ℕ) (a : Action) (t : Turns) → IsBlocking a ⊎ ((asks_for n a t).running ≡ Some n)
@@ -51,12 +53,18 @@ IsWhole turns.Broken = ⊥
 IsWhole _ = Unit {0}
 
 -- the thread of this number has this life behind a beat
-abbrev pub HoldsBehind : Program → ℕ → Option Life → Beat → Type 0
-HoldsBehind p n life (RunsOn left u) = Holds p n u (slice_get u.threads n) life
-HoldsBehind p n life (Stops stop left u) = Holds p n u (slice_get u.threads n) life
-HoldsBehind p n life turns.Broken = ⊥
+abbrev pub HoldsBehind : ModuleTypes → Program → ℕ → Option Life → Beat → Type 0
+HoldsBehind m p n life (RunsOn left u) = Holds m p n u (slice_get u.threads n) life
+HoldsBehind m p n life (Stops stop left u) = Holds m p n u (slice_get u.threads n) life
+HoldsBehind m p n life turns.Broken = ⊥
 
-module _ (p : Program) (t : Turns) (n : ℕ) (s : Standing) (life : Life) (there : n < length t.threads) (free : s.wanted ≡ None) (turn : IsTurn p t s life) (left : ℕ) (awaiting : Bool) where
+-- one action more
+fits_front : (m : ModuleTypes) (xs : List Action) (a : Action) (answers : List Answer) → FitAll m xs answers → FitAll m (xs ++ a ∷ []) answers
+fits_front m xs a [] fits = tt
+fits_front m [] a (b ∷ answers) fits = absurd fits
+fits_front m (x ∷ xs) a (b ∷ answers) fits = (fits.0, fits_front m xs a answers fits.1)
+
+module _ (m : ModuleTypes) (p : Program) (t : Turns) (n : ℕ) (s : Standing) (life : Life) (there : n < length t.threads) (free : s.wanted ≡ None) (turn : IsTurn m p t s life) (left : ℕ) (awaiting : Bool) where
   abbrev i : Option Instruction
   i = slice_get p.instructions s.address
 
@@ -67,14 +75,14 @@ module _ (p : Program) (t : Turns) (n : ℕ) (s : Standing) (life : Life) (there
   abbrev Onward : (List Answer → Next) → Type 0
   Onward next = (M : List Answer) (k : ℕ) → exec p (one_more (is_fresh s) life.made + k) (begin life turn.first ((life.answers ++ new_answer t.globals s.given) ++ M)) ≡ go_on (next M) (exec p k)
 
-  set_there : (u : Turns) (v : Option Standing) (l : Life) → u.threads ≡ slice_set t.threads n v → Holds p n u (Some v) (Some l) → Holds p n u (slice_get u.threads n) (Some l)
-  set_there u v l changed is = subst (λ (o : Option (Option Standing)). Holds p n u o (Some l)) (sym (ap (λ (ts : List (Option Standing)). slice_get ts n) changed ∙ get_set t.threads n v there)) is
+  set_there : (u : Turns) (v : Option Standing) (l : Life) → u.threads ≡ slice_set t.threads n v → Holds m p n u (Some v) (Some l) → Holds m p n u (slice_get u.threads n) (Some l)
+  set_there u v l changed is = subst (λ (o : Option (Option Standing)). Holds m p n u o (Some l)) (sym (ap (λ (ts : List (Option Standing)). slice_get ts n) changed ∙ get_set t.threads n v there)) is
 
   first_there : ◌≡◌ {A = Option (List Value)} (after (goes_on p t.globals s)).first (Some turn.first)
   first_there = ap (λ (g : List Value). Some g) turn.is_first
 
   -- it goes on
-  leads : (th : Thread) → Onward (λ M. run (Leads th) M turn.actions) → HoldsBehind p n (Some (after (Goes (at th [] turn.own)))) (comes left n t (made awaiting s (Goes (at th [] turn.own))))
+  leads : (th : Thread) → Onward (λ M. run (Leads th) M turn.actions) → HoldsBehind m p n (Some (after (Goes (at th [] turn.own)))) (comes left n t (made awaiting s (Goes (at th [] turn.own))))
   leads th came =
       let v = stands_at (at th [] turn.own) (threads.tries_again awaiting s (at th [] turn.own)) s in
       let u : Turns = with_thread n (Some v) (record t { globals = th.moment.store.globals; running = Some n }) in
@@ -82,29 +90,39 @@ module _ (p : Program) (t : Turns) (n : ℕ) (s : Standing) (life : Life) (there
       (Between (record {
         first = turn.first;
         is_first = first_there;
+        typed = turn.typed;
         given = refl;
         wanted = refl;
         runs = refl;
         actions = turn.actions;
         did = ap Out turn.did;
+        fits = turn.fits;
+        many = turn.many;
         came = came;
       }))
 
   -- it ends
-  ends : (store : Store) → Onward (λ M. run (Closed store) M turn.actions) → HoldsBehind p n (Some (after (Over (Comes (Ended turn.own store))))) (comes left n t (threads.Ends store.globals))
+  ends : (store : Store) → Onward (λ M. run (Closed store) M turn.actions) → HoldsBehind m p n (Some (after (Over (Comes (Ended turn.own store))))) (comes left n t (threads.Ends store.globals))
   ends store came =
       set_there (with_thread n None (wakes (record t { globals = store.globals }))) None (after (Over (Comes (Ended turn.own store)))) refl
       (record {
-        first = turn.first;
-        is_first = first_there;
-        came = λ M k. came M k ∙ ap (λ (X : List Action). Comes (Ended X store)) (sym turn.did);
+        over = record {
+          first = turn.first;
+          is_first = first_there;
+          typed = turn.typed;
+          came = λ M k. came M k ∙ ap (λ (X : List Action). Comes (Ended X store)) (sym turn.did);
+          fits = subst (λ (X : List Action). FitAll m X (life.answers ++ new_answer t.globals s.given)) (sym turn.did) turn.fits;
+        };
+        actions = turn.actions;
+        store = store;
+        did = ap (λ (X : List Action). Ended X store) turn.did;
       })
 
   waits_did : (a : Action) (store : Store) → Waits (actions_of life.did ++ latest (turn.own ++ a ∷ [])) store ≡ Waits (turn.actions ++ a ∷ []) store
   waits_did a store = ap (λ (X : List Action). Waits (X ++ latest (turn.own ++ a ∷ [])) store) turn.did ∙ ap (λ (X : List Action). Waits (turn.actions ++ X) store) (latest_last turn.own a)
 
   -- it asks for a stop
-  halts : (store : Store) → i ≡ Some code.Stop → Onward (λ M. run (Halts store) M turn.actions) → HoldsBehind p n (Some (after (Over (Comes (Waits (turn.own ++ Stop ∷ []) store))))) (comes left n t (Acts Stop store.globals (record s { wanted = Some (wanted_by Stop) })))
+  halts : (store : Store) → i ≡ Some code.Stop → Onward (λ M. run (Halts store) M turn.actions) → HoldsBehind m p n (Some (after (Over (Comes (Waits (turn.own ++ Stop ∷ []) store))))) (comes left n t (Acts Stop store.globals (record s { wanted = Some (wanted_by Stop) })))
   halts store is came =
       let v : Standing = record s { wanted = Some (wanted_by Stop) } in
       set_there (with_thread n (Some v) (record t { globals = store.globals; running = Some n })) (Some v) (after (Over (Comes (Waits (turn.own ++ Stop ∷ []) store)))) refl
@@ -112,8 +130,13 @@ module _ (p : Program) (t : Turns) (n : ℕ) (s : Standing) (life : Life) (there
         over = record {
           first = turn.first;
           is_first = first_there;
+          typed = turn.typed;
           came = λ M k. came M k ∙ ap Comes (sym (waits_did Stop store));
+          fits = subst (λ (d : Behaviour). FitAll m (actions_of d) (life.answers ++ new_answer t.globals s.given)) (sym (waits_did Stop store)) (fits_front m turn.actions Stop (life.answers ++ new_answer t.globals s.given) turn.fits);
         };
+        actions = turn.actions;
+        store = store;
+        did = waits_did Stop store;
         wanted = refl;
         stop = is;
       }))
@@ -153,16 +176,19 @@ module _ (p : Program) (t : Turns) (n : ℕ) (s : Standing) (life : Life) (there
     now = after (Over (Comes (Waits (turn.own ++ a ∷ []) store)))
 
     amid : (u : Turns) (given : List Outcome) (wanted : Option Wanted) → u.globals ≡ store.globals → IsBlocking a ⊎ (u.running ≡ Some n) →
-        ((given ≡ s.given) × (wanted ≡ Some (wanted_by a))) ⊎ ((o : Outcome) × (given ≡ s.given ++ o ∷ []) × (wanted ≡ None)) → IsAmid p n u (record s { given = given; wanted = wanted }) now
+        ((given ≡ s.given) × (wanted ≡ Some (wanted_by a))) ⊎ ((o : Outcome) × (given ≡ s.given ++ o ∷ []) × (wanted ≡ None) × FitsOutcome m a o) → IsAmid m p n u (record s { given = given; wanted = wanted }) now
     amid u given wanted kept turn_kept hears = record {
       first = turn.first;
       is_first = first_there;
+      typed = turn.typed;
       action = a;
       store = store;
       onward = onward;
       closes = of.1;
       actions = turn.actions;
       did = waits_did a store;
+      fits = turn.fits;
+      many = turn.many;
       came = came;
       own = turn.own ++ a ∷ [];
       heard = s.given;
@@ -170,7 +196,7 @@ module _ (p : Program) (t : Turns) (n : ℕ) (s : Standing) (life : Life) (there
       hears = hears;
     }
 
-    asks_action : HoldsBehind p n (Some now) (comes left n t (Acts a store.globals (record s { wanted = Some (wanted_by a) })))
+    asks_action : HoldsBehind m p n (Some now) (comes left n t (Acts a store.globals (record s { wanted = Some (wanted_by a) })))
     asks_action =
         let mid : Turns = record t { globals = store.globals } in
         let v : Standing = record s { wanted = Some (wanted_by a) } in
@@ -178,25 +204,25 @@ module _ (p : Program) (t : Turns) (n : ℕ) (s : Standing) (life : Life) (there
         set_there u (Some v) now (ap (λ (ts : List (Option Standing)). slice_set ts n (Some v)) (acts_threads n a mid))
         (Amid (amid u s.given (Some (wanted_by a)) (asks_globals n a mid) (keeps_or_blocks n a mid) (inl (refl, refl))))
 
-    finds_false : IsBlocking a → (again : Bool) → HoldsBehind p n (Some now) (RunsOn left (with_thread n (Some (record s { given = s.given ++ Ok [] ∷ [] })) (awaits n again (record t { globals = store.globals }))))
-    finds_false blocking true =
+    finds_false : IsBlocking a → FitsOutcome m a (Ok []) → (again : Bool) → HoldsBehind m p n (Some now) (RunsOn left (with_thread n (Some (record s { given = s.given ++ Ok [] ∷ [] })) (awaits n again (record t { globals = store.globals }))))
+    finds_false blocking fits true =
         let v : Standing = record s { given = s.given ++ Ok [] ∷ [] } in
         let u : Turns = with_thread n (Some v) (awaits n true (record t { globals = store.globals })) in
-        set_there u (Some v) now refl (Amid (amid u (s.given ++ Ok [] ∷ []) s.wanted refl (inl blocking) (inr (Ok [], refl, free))))
-    finds_false blocking false =
+        set_there u (Some v) now refl (Amid (amid u (s.given ++ Ok [] ∷ []) s.wanted refl (inl blocking) (inr (Ok [], refl, free, fits))))
+    finds_false blocking fits false =
         let v : Standing = record s { given = s.given ++ Ok [] ∷ [] } in
         let u : Turns = with_thread n (Some v) (awaits n false (record t { globals = store.globals })) in
-        set_there u (Some v) now refl (Amid (amid u (s.given ++ Ok [] ∷ []) s.wanted refl (inl blocking) (inr (Ok [], refl, free))))
+        set_there u (Some v) now refl (Amid (amid u (s.given ++ Ok [] ∷ []) s.wanted refl (inl blocking) (inr (Ok [], refl, free, fits))))
 
-    asks : HoldsBehind p n (Some now) (comes left n t (acted (last_action (turn.own ++ a ∷ [])) store.globals s))
+    asks : HoldsBehind m p n (Some now) (comes left n t (acted (last_action (turn.own ++ a ∷ [])) store.globals s))
     asks =
-        subst (λ (o : Option Action). HoldsBehind p n (Some now) (comes left n t (acted o store.globals s))) (sym (last_of turn.own a))
-        (of_acted (λ (last : Made). HoldsBehind p n (Some now) (comes left n t last)) a store.globals s (λ e. finds_false (subst IsBlocking (sym e) tt) s.again) asks_action)
+        subst (λ (o : Option Action). HoldsBehind m p n (Some now) (comes left n t (acted o store.globals s))) (sym (last_of turn.own a))
+        (of_acted (λ (last : Made). HoldsBehind m p n (Some now) (comes left n t last)) a store.globals s (λ e. finds_false (subst IsBlocking (sym e) tt) (subst (λ (q : Action). FitsOutcome m q (Ok [])) (sym e) tt) s.again) asks_action)
 
   -- ---- whatever it comes to
 
   abbrev Behind : Next → Type 0
-  Behind next = HoldsBehind p n (Some (after next)) (comes left n t (made awaiting s next))
+  Behind next = HoldsBehind m p n (Some (after next)) (comes left n t (made awaiting s next))
 
   next_is : goes_on p t.globals s ≡ run turn.tree [] turn.own
   next_is = ap (λ (L : List Answer). fetched p (at (in_turn t.globals s) L []) i) (sym (append-nil (answers t.globals s.given))) ∙ turn.goes []
@@ -207,7 +233,7 @@ module _ (p : Program) (t : Turns) (n : ℕ) (s : Standing) (life : Life) (there
   settles (Closed store) is of came goes first whole = ends store came
   settles (Asks a store onward) is of came goes first whole = asks a store onward of came goes first (waits_with p t.globals s (turn.own ++ a ∷ []) store is)
   settles (Halts store) is of came goes first whole =
-      subst (λ (o : Option Action). HoldsBehind p n (Some (after (Over (Comes (Waits (turn.own ++ Stop ∷ []) store))))) (comes left n t (acted o store.globals s))) (sym (last_of turn.own Stop)) (halts store of came)
+      subst (λ (o : Option Action). HoldsBehind m p n (Some (after (Over (Comes (Waits (turn.own ++ Stop ∷ []) store))))) (comes left n t (acted o store.globals s))) (sym (last_of turn.own Stop)) (halts store of came)
   settles Broken is of came goes first whole = absurd whole
 
   pub lives_behind : IsWhole (comes left n t (made awaiting s (goes_on p t.globals s))) → Behind (goes_on p t.globals s)

@@ -1,17 +1,19 @@
 -- One thread: its code comes to what it did, and at its turn it goes on as its code does.
-use Rattle.std.proofs.Common.{arith, ◌≡◌, ℕ, zero, suc, ◌+◌, ◌<◌, List, [], ◌∷◌, ◌++◌, map, Bool, true, false, Option, Some, None, Result, Ok, length, slice_get, slice_set, unwrap_or, refl, sym, ap, subst, ◌∙◌, ◌⊎◌, inl, inr, ⊎_elim, append-nil, append_assoc}
+use Rattle.std.proofs.Common.{arith, ◌≡◌, ℕ, zero, suc, ◌+◌, ◌<◌, List, [], ◌∷◌, ◌++◌, map, Bool, true, false, Option, Some, None, Result, Ok, length, slice_get, slice_set, unwrap_or, refl, sym, ap, subst, ◌∙◌, ◌⊎◌, inl, inr, ⊎_elim, append-nil, append_assoc, length-append, IfOk}
 use Rattle.std.proofs.lemmas.List.{map-append}
+use Rattle.std.proofs.lemmas.Option.{same_Some}
 use Rattle.lynx_code.specs.declared.instruction.Instruction.{Instruction}
 use Rattle.lynx_code.specs.declared.instruction.Instruction.TheVariants as code
 use Rattle.lynx_meaning.specs.Agree.{actions_of}
 use Rattle.lynx_meaning.specs.Code.{Next, Goes, Over, Comes, Stuck, Program, Thread, begins, exec, fetched, go_on, next_of}
 use Rattle.lynx_meaning.specs.Courses.{Action, Answer, Behaviour, Outcome, Store, New, Destroy, Bind, Unbind, Connect, Accept, Close, Reply, Write, Await, Stop, Ended, Waits, Out}
-use Rattle.lynx_meaning.specs.Needs.{Wanted, wanted_by}
-use Rattle.lynx_meaning.specs.Values.{Value}
-use Rattle.code_shapes.specs.Shapes.{PartTypes, opened_by}
+use Rattle.lynx_meaning.specs.Needs.{Wanted, wanted_by, wanted_types}
+use Rattle.lynx_meaning.specs.Values.{Value, HaveTypes}
+use Rattle.code_shapes.specs.Shapes.{ModuleTypes, PartTypes, opened_by}
 use Rattle.machine_turns.specs.Threads.{Standing, answers, begun, goes_on, in_turn, is_empty, is_fresh, last_action}
 use Rattle.machine_turns.specs.Turns.{Turns}
 use Rattle.machine_sound.proofs.Keeping.{last_of}
+use Rattle.machine_law.specs.Fitting.{FitAll, FitsTo}
 use Rattle.machine_law.specs.Lives.{Life, born, does, latest, lived, new_answer, one_more}
 use Rattle.machine_law.specs.Histories.{DidByCode, IsStop}
 use Rattle.machine_law.proofs.Trees.{Tree, Leads, Closed, Asks, Broken, Blocks, IsBlocking, IsOf, IsTree, OnlyCloses, at, closes_of, run, same_then, tree_of, WaitsHere}
@@ -33,49 +35,73 @@ turned globals s heard M = at (in_turn globals s) (answers globals heard ++ M) [
 abbrev pub answer : List Value → Outcome → Answer
 answer globals o = record { given = o; globals = globals }
 
+abbrev pub FitsOutcome : ModuleTypes → Action → Outcome → Type 0
+FitsOutcome m action o = IfOk o (HaveTypes (wanted_types m.ops (wanted_by action)))
+
 -- it has not begun its first instruction
 pub record IsNew (s : Standing) (life : Life) : Type 0 where
   pub stands : s ≡ begun (opened_by life.part.op) life.part.start life.locals
   pub born_so : life ≡ born life.part life.locals
 
-module _ (p : Program) where
+pub some_wanted : (o : Option Wanted) (w : Wanted) → o ≡ None → o ≡ Some w → ⊥
+some_wanted o w none some = let e : None ≡ Some w = sym none ∙ some in cc
+
+module _ (m : ModuleTypes) (p : Program) where
   -- it stands before an instruction, and has the turn
   pub record IsBetween (n : ℕ) (t : Turns) (s : Standing) (life : Life) : Type 0 where
     pub first : List Value
     pub is_first : life.first ≡ Some first
+    pub typed : HaveTypes m.globals first
     pub given : s.given ≡ []
     pub wanted : s.wanted ≡ None
     pub runs : t.running ≡ Some n
     pub actions : List Action
     pub did : life.did ≡ Out actions
+    pub fits : FitAll m actions life.answers
+    pub many : length life.answers ≡ length actions
     pub came : Came p life first (λ M. Goes (at (in_turn t.globals s) M actions))
 
   -- It asked for an action, and goes on as a tree says. Where it has the turn the variables of the module stay as they are.
   pub record IsAmid (n : ℕ) (t : Turns) (s : Standing) (life : Life) : Type 0 where
     pub first : List Value
     pub is_first : life.first ≡ Some first
+    pub typed : HaveTypes m.globals first
     pub action : Action
     pub store : Store
     pub onward : Answer → Tree
     pub closes : (b : Answer) → OnlyCloses (onward b)
     pub actions : List Action
     pub did : life.did ≡ Waits (actions ++ action ∷ []) store
+    pub fits : FitAll m actions life.answers
+    pub many : length life.answers ≡ length actions
     pub came : Came p life first (λ M. run (Asks action store onward) M actions)
     pub own : List Action
     pub heard : List Outcome
     pub goes : (globals : List Value) (o : Outcome) (M : List Answer) → (t.running ≡ Some n → globals ≡ t.globals)
         → fetched p (turned globals s heard (answer globals o ∷ M)) (slice_get p.instructions s.address) ≡ run (onward (answer globals o)) M own
-    pub hears : ((s.given ≡ heard) × (s.wanted ≡ Some (wanted_by action))) ⊎ ((o : Outcome) × (s.given ≡ heard ++ o ∷ []) × (s.wanted ≡ None))
+    pub hears : ((s.given ≡ heard) × (s.wanted ≡ Some (wanted_by action))) ⊎ ((o : Outcome) × (s.given ≡ heard ++ o ∷ []) × (s.wanted ≡ None) × FitsOutcome m action o)
 
   -- nothing comes behind what it did
   pub record IsOver (life : Life) : Type 0 where
     pub first : List Value
     pub is_first : life.first ≡ Some first
+    pub typed : HaveTypes m.globals first
     pub came : Came p life first (λ M. Over (Comes life.did))
+    pub fits : FitAll m (actions_of life.did) life.answers
+
+  -- it ended
+  pub record IsGone (life : Life) : Type 0 where
+    pub over : IsOver life
+    pub actions : List Action
+    pub store : Store
+    pub did : life.did ≡ Ended actions store
 
   -- it asked for a stop
   pub record IsStopped (s : Standing) (life : Life) : Type 0 where
     pub over : IsOver life
+    pub actions : List Action
+    pub store : Store
+    pub did : life.did ≡ Waits (actions ++ Stop ∷ []) store
     pub wanted : s.wanted ≡ Some (wanted_by Stop)
     pub stop : IsStop p.instructions s
 
@@ -90,7 +116,7 @@ module _ (p : Program) where
   abbrev pub Holds : ℕ → Turns → Option (Option Standing) → Option Life → Type 0
   Holds n t (Some (Some s)) (Some life) = Lives n t s life
   Holds n t (Some (Some s)) None = ⊥
-  Holds n t _ (Some life) = IsOver life
+  Holds n t _ (Some life) = IsGone life
   Holds n t _ None = Unit {0}
 
   -- ---- what is so of its code
@@ -120,8 +146,8 @@ module _ (p : Program) where
 
   pub did_by_code : (now : List Value) (n : ℕ) (t : Turns) (o : Option (Option Standing)) (life : Life) → Holds n t o (Some life) → DidByCode p now life
   did_by_code now n t (Some (Some s)) life is = lives_did now n t s life is
-  did_by_code now n t (Some None) life is = over_did now life is
-  did_by_code now n t None life is = over_did now life is
+  did_by_code now n t (Some None) life is = over_did now life is.over
+  did_by_code now n t None life is = over_did now life is.over
 
   -- ---- what others do
 
@@ -134,11 +160,14 @@ module _ (p : Program) where
   between_stays n t u s life (inr same) is = record {
     first = is.first;
     is_first = is.is_first;
+    typed = is.typed;
     given = is.given;
     wanted = is.wanted;
     runs = same.0 ∙ is.runs;
     actions = is.actions;
     did = is.did;
+    fits = is.fits;
+    many = is.many;
     came = subst (λ (g : List Value). Came p life is.first (λ M. Goes (at (in_turn g s) M is.actions))) (sym same.1) is.came;
   }
 
@@ -150,12 +179,15 @@ module _ (p : Program) where
   amid_stays n t u s life stays is = record {
     first = is.first;
     is_first = is.is_first;
+    typed = is.typed;
     action = is.action;
     store = is.store;
     onward = is.onward;
     closes = is.closes;
     actions = is.actions;
     did = is.did;
+    fits = is.fits;
+    many = is.many;
     came = is.came;
     own = is.own;
     heard = is.heard;
@@ -180,38 +212,40 @@ module _ (p : Program) where
 
   -- ---- an outcome
 
-  pub some_wanted : (o : Option Wanted) (w : Wanted) → o ≡ None → o ≡ Some w → ⊥
-  some_wanted o w none some = let e : None ≡ Some w = sym none ∙ some in cc
-
   hears_one : (heard : List Outcome) (a : Action) (s : Standing) (o : Outcome) (w : Wanted) → s.wanted ≡ Some w →
-      ((s.given ≡ heard) × (s.wanted ≡ Some (wanted_by a))) ⊎ ((q : Outcome) × (s.given ≡ heard ++ q ∷ []) × (s.wanted ≡ None)) → s.given ++ o ∷ [] ≡ heard ++ o ∷ []
-  hears_one heard a s o w wants (inl same) = ap (λ (os : List Outcome). os ++ o ∷ []) same.0
-  hears_one heard a s o w wants (inr has) = absurd (some_wanted s.wanted w has.2 wants)
+      ((s.given ≡ heard) × (s.wanted ≡ Some (wanted_by a))) ⊎ ((q : Outcome) × (s.given ≡ heard ++ q ∷ []) × (s.wanted ≡ None) × FitsOutcome m a q) → IfOk o (HaveTypes (wanted_types m.ops w)) → (s.given ++ o ∷ [] ≡ heard ++ o ∷ []) × FitsOutcome m a o
+  hears_one heard a s o w wants (inl same) fits =
+      let wanted : Some w ≡ Some (wanted_by a) = sym wants ∙ same.1 in
+      (ap (λ (os : List Outcome). os ++ o ∷ []) same.0, subst (λ (v : Wanted). IfOk o (HaveTypes (wanted_types m.ops v))) (same_Some w (wanted_by a) wanted) fits)
+  hears_one heard a s o w wants (inr has) fits = absurd (some_wanted s.wanted w has.2 wants)
 
-  given_amid : (n : ℕ) (t u : Turns) (s : Standing) (life : Life) (o : Outcome) (w : Wanted) → u.running ≡ t.running → u.globals ≡ t.globals → s.wanted ≡ Some w → IsAmid n t s life → IsAmid n u (record s { given = s.given ++ o ∷ []; wanted = None }) life
-  given_amid n t u s life o w runs globals wants is = record {
+  given_amid : (n : ℕ) (t u : Turns) (s : Standing) (life : Life) (o : Outcome) (w : Wanted) → u.running ≡ t.running → u.globals ≡ t.globals → s.wanted ≡ Some w → IfOk o (HaveTypes (wanted_types m.ops w)) → IsAmid n t s life → IsAmid n u (record s { given = s.given ++ o ∷ []; wanted = None }) life
+  given_amid n t u s life o w runs globals wants fits is = record {
     first = is.first;
     is_first = is.is_first;
+    typed = is.typed;
     action = is.action;
     store = is.store;
     onward = is.onward;
     closes = is.closes;
     actions = is.actions;
     did = is.did;
+    fits = is.fits;
+    many = is.many;
     came = is.came;
     own = is.own;
     heard = is.heard;
     goes = λ them q M same. is.goes them q M (same_variables n t u them (inr (runs, globals)) same);
-    hears = inr (o, hears_one is.heard is.action s o w wants is.hears, refl);
+    hears = let one = hears_one is.heard is.action s o w wants is.hears fits in inr (o, one.0, refl, one.1);
   }
 
   -- only a thread that asked for an action wants what it needs
-  pub given_lives : (n : ℕ) (t u : Turns) (s : Standing) (life : Life) (o : Outcome) (w : Wanted) → u.running ≡ t.running → u.globals ≡ t.globals → s.wanted ≡ Some w → (IsStop p.instructions s → ⊥) →
+  pub given_lives : (n : ℕ) (t u : Turns) (s : Standing) (life : Life) (o : Outcome) (w : Wanted) → u.running ≡ t.running → u.globals ≡ t.globals → s.wanted ≡ Some w → IfOk o (HaveTypes (wanted_types m.ops w)) → (IsStop p.instructions s → ⊥) →
       Lives n t s life → Lives n u (record s { given = s.given ++ o ∷ []; wanted = None }) life
-  given_lives n t u s life o w runs globals wants other (Fresh is) = absurd (some_wanted s.wanted w (ap (λ (r : Standing). r.wanted) is.stands) wants)
-  given_lives n t u s life o w runs globals wants other (Between is) = absurd (some_wanted s.wanted w is.wanted wants)
-  given_lives n t u s life o w runs globals wants other (Amid is) = Amid (given_amid n t u s life o w runs globals wants is)
-  given_lives n t u s life o w runs globals wants other (Stopped is) = absurd (other is.stop)
+  given_lives n t u s life o w runs globals wants fits other (Fresh is) = absurd (some_wanted s.wanted w (ap (λ (r : Standing). r.wanted) is.stands) wants)
+  given_lives n t u s life o w runs globals wants fits other (Between is) = absurd (some_wanted s.wanted w is.wanted wants)
+  given_lives n t u s life o w runs globals wants fits other (Amid is) = Amid (given_amid n t u s life o w runs globals wants fits is)
+  given_lives n t u s life o w runs globals wants fits other (Stopped is) = absurd (other is.stop)
 
 -- ---- small facts
 
@@ -229,9 +263,19 @@ latest_last [] a = refl
 latest_last (b ∷ []) a = refl
 latest_last (b ∷ c ∷ actions) a = latest_last (c ∷ actions) a
 
+-- one answer more
+fits_more : (m : ModuleTypes) (xs : List Action) (a : Action) (answers : List Answer) (b : Answer) → length answers ≡ length xs → FitAll m xs answers → FitsTo m a b → FitAll m (xs ++ a ∷ []) (answers ++ b ∷ [])
+fits_more m [] a [] b same fits one = (one, tt)
+fits_more m [] a (c ∷ answers) b same fits one = absurd fits
+fits_more m (x ∷ xs) a [] b same fits one = absurd (omega (arith, same))
+fits_more m (x ∷ xs) a (c ∷ answers) b same fits one = (fits.0, fits_more m xs a answers b (omega (arith, same)) fits.1 one)
+
+one_longer : (answers : List Answer) (b : Answer) (xs : List Action) (a : Action) → length answers ≡ length xs → length (answers ++ b ∷ []) ≡ length (xs ++ a ∷ [])
+one_longer answers b xs a same = omega (arith, same, length-append answers (b ∷ []), length-append xs (a ∷ []))
+
 -- ---- its turn
 
-module _ (p : Program) (t : Turns) (s : Standing) (life : Life) where
+module _ (m : ModuleTypes) (p : Program) (t : Turns) (s : Standing) (life : Life) where
   abbrev i : Option Instruction
   i = slice_get p.instructions s.address
 
@@ -242,8 +286,11 @@ module _ (p : Program) (t : Turns) (s : Standing) (life : Life) where
   pub record IsTurn : Type 0 where
     pub first : List Value
     pub is_first : unwrap_or life.first t.globals ≡ first
+    pub typed : HaveTypes m.globals first
     pub actions : List Action
     pub did : actions_of life.did ≡ actions
+    pub fits : FitAll m actions (life.answers ++ fresh)
+    pub many : length (life.answers ++ fresh) ≡ length actions
     pub tree : Tree
     pub of : IsOf i tree
     pub came : (M : List Answer) (k : ℕ) → exec p (one_more (is_fresh s) life.made + k) (begin life first ((life.answers ++ fresh) ++ M)) ≡ go_on (run tree M actions) (exec p k)
@@ -258,8 +305,12 @@ module _ (p : Program) (t : Turns) (s : Standing) (life : Life) where
   begins_goes : s.given ≡ [] → (M : List Answer) → fetched p (turned t.globals s s.given M) i ≡ run the_tree.tree M []
   begins_goes none M = ap (λ (os : List Outcome). fetched p (turned t.globals s os M) i) none ∙ the_tree.same M []
 
-  one_step : (k : ℕ) → 1 + k ≡ suc k
-  one_step k = omega arith
+  -- an instruction that begins has no answer yet
+  no_more : s.given ≡ [] → life.answers ++ fresh ≡ life.answers
+  no_more none = ap (λ (os : List Outcome). life.answers ++ new_answer t.globals os) none ∙ append-nil life.answers
+
+  one_more_answer : (heard : List Outcome) (o : Outcome) → s.given ≡ heard ++ o ∷ [] → life.answers ++ fresh ≡ life.answers ++ answer t.globals o ∷ []
+  one_more_answer heard o has = ap (λ (os : List Outcome). life.answers ++ new_answer t.globals os) has ∙ ap (λ (L : List Answer). life.answers ++ L) (new_last t.globals heard o)
 
   -- behind the instructions that it made before
   begins_came : (first : List Value) (actions : List Action) → s.given ≡ [] → Came p life first (λ M. Goes (at (in_turn t.globals s) M actions)) →
@@ -274,12 +325,15 @@ module _ (p : Program) (t : Turns) (s : Standing) (life : Life) where
       more : life.made + 1 + k ≡ life.made + suc k
       more = omega arith
 
-  pub turn_between : (n : ℕ) → IsBetween p n t s life → IsTurn
+  pub turn_between : (n : ℕ) → IsBetween m p n t s life → IsTurn
   turn_between n is = record {
     first = is.first;
     is_first = ap (λ (o : Option (List Value)). unwrap_or o t.globals) is.is_first;
+    typed = is.typed;
     actions = is.actions;
     did = ap actions_of is.did;
+    fits = subst (FitAll m is.actions) (sym (no_more is.given)) is.fits;
+    many = ap length (no_more is.given) ∙ is.many;
     tree = the_tree.tree;
     of = the_tree.holds;
     came = begins_came is.first is.actions is.given is.came;
@@ -306,19 +360,24 @@ module _ (p : Program) (t : Turns) (s : Standing) (life : Life) where
       ∙ ap (λ (L : List Answer). exec p (life.made + k) (begin life first L)) (append_assoc life.answers (answer t.globals o ∷ []) M)
       ∙ came (answer t.globals o ∷ M) k
 
-  has_one : (heard : List Outcome) (a : Action) → s.wanted ≡ None → ((s.given ≡ heard) × (s.wanted ≡ Some (wanted_by a))) ⊎ ((o : Outcome) × (s.given ≡ heard ++ o ∷ []) × (s.wanted ≡ None)) → (o : Outcome) × (s.given ≡ heard ++ o ∷ [])
-  has_one heard a free (inl same) = absurd (some_wanted p s.wanted (wanted_by a) free same.1)
-  has_one heard a free (inr has) = (has.0, has.1)
+  has_one : (heard : List Outcome) (a : Action) → s.wanted ≡ None → ((s.given ≡ heard) × (s.wanted ≡ Some (wanted_by a))) ⊎ ((o : Outcome) × (s.given ≡ heard ++ o ∷ []) × (s.wanted ≡ None) × FitsOutcome m a o) →
+      (o : Outcome) × (s.given ≡ heard ++ o ∷ []) × FitsOutcome m a o
+  has_one heard a free (inl same) = absurd (some_wanted s.wanted (wanted_by a) free same.1)
+  has_one heard a free (inr has) = (has.0, has.1, has.3)
 
-  pub turn_amid : (n : ℕ) → s.wanted ≡ None → IsAmid p n t s life → IsTurn
-  turn_amid n free is =
+  pub turn_amid : (n : ℕ) → s.wanted ≡ None → HaveTypes m.globals t.globals → IsAmid m p n t s life → IsTurn
+  turn_amid n free known is =
       let has = has_one is.heard is.action free is.hears in
       let tree = is.onward (answer t.globals has.0) in
       record {
         first = is.first;
         is_first = ap (λ (o : Option (List Value)). unwrap_or o t.globals) is.is_first;
+        typed = is.typed;
         actions = is.actions ++ is.action ∷ [];
         did = ap actions_of is.did;
+        fits = subst (FitAll m (is.actions ++ is.action ∷ [])) (sym (one_more_answer is.heard has.0 has.1))
+            (fits_more m is.actions is.action life.answers (answer t.globals has.0) is.many is.fits (record { given = has.2; globals = known }));
+        many = ap length (one_more_answer is.heard has.0 has.1) ∙ one_longer life.answers (answer t.globals has.0) is.actions is.action is.many;
         tree = tree;
         of = closes_of i tree (is.closes (answer t.globals has.0));
         came = amid_came is.first is.heard has.0 is.action is.store is.onward is.actions has.1 is.came;
@@ -328,26 +387,29 @@ module _ (p : Program) (t : Turns) (s : Standing) (life : Life) where
       }
 
 -- a thread that begins
-new_turn : (p : Program) (t : Turns) (part : PartTypes) (locals : List Value) → IsTurn p t (begun (opened_by part.op) part.start locals) (born part locals)
-new_turn p t part locals =
+new_turn : (m : ModuleTypes) (p : Program) (t : Turns) (part : PartTypes) (locals : List Value) → HaveTypes m.globals t.globals → IsTurn m p t (begun (opened_by part.op) part.start locals) (born part locals)
+new_turn m p t part locals known =
     let s = begun (opened_by part.op) part.start locals in
     record {
       first = t.globals;
       is_first = refl;
+      typed = known;
       actions = [];
       did = refl;
-      tree = (the_tree p t s (born part locals)).tree;
-      of = (the_tree p t s (born part locals)).holds;
-      came = begins_came p t s (born part locals) t.globals [] refl (λ M k. ap (λ (j : ℕ). exec p j (at (in_turn t.globals s) M [])) (none k));
+      fits = tt;
+      many = refl;
+      tree = (the_tree m p t s (born part locals)).tree;
+      of = (the_tree m p t s (born part locals)).holds;
+      came = begins_came m p t s (born part locals) t.globals [] refl (λ M k. ap (λ (j : ℕ). exec p j (at (in_turn t.globals s) M [])) (none k));
       own = [];
-      goes = begins_goes p t s (born part locals) refl;
+      goes = begins_goes m p t s (born part locals) refl;
       begins_or_closes = inl refl;
     }
   where
     none : (k : ℕ) → 0 + k ≡ k
     none k = omega arith
 
-pub turn_new : (p : Program) (t : Turns) (s : Standing) (life : Life) → IsNew s life → IsTurn p t s life
-turn_new p t s life is =
-    subst (λ (r : Standing). IsTurn p t r life) (sym is.stands)
-    (subst (λ (l : Life). IsTurn p t (begun (opened_by life.part.op) life.part.start life.locals) l) (sym is.born_so) (new_turn p t life.part life.locals))
+pub turn_new : (m : ModuleTypes) (p : Program) (t : Turns) (s : Standing) (life : Life) → HaveTypes m.globals t.globals → IsNew s life → IsTurn m p t s life
+turn_new m p t s life known is =
+    subst (λ (r : Standing). IsTurn m p t r life) (sym is.stands)
+    (subst (λ (l : Life). IsTurn m p t (begun (opened_by life.part.op) life.part.start life.locals) l) (sym is.born_so) (new_turn m p t life.part life.locals known))

@@ -5,8 +5,8 @@ use Rattle.std.proofs.lemmas.Option.{slice_get_within}
 use Rattle.lynx_code.specs.declared.instruction.Instruction.{Instruction}
 use Rattle.lynx_meaning.specs.Code.{Next, Goes, Over, Comes, Stuck, Program}
 use Rattle.lynx_meaning.specs.Courses.{Action, New, Destroy, Bind, Unbind, Connect, Accept, Close, Reply, Write, Await, Stop, Ended, Waits, Out}
-use Rattle.lynx_meaning.specs.Needs.{Wanted}
-use Rattle.lynx_meaning.specs.Values.{Value}
+use Rattle.lynx_meaning.specs.Needs.{Wanted, wanted_by}
+use Rattle.lynx_meaning.specs.Values.{Value, HaveTypes}
 use Rattle.code_shapes.specs.Shapes.{ModuleTypes, PartTypes, program}
 use Rattle.machine_turns.specs.Threads.{Standing, Made, Went, Acts, Awaits, Ends, Broken, acted, comes_of, fuel_after, goes_on, if_went, is_await, last_action, made}
 use Rattle.machine_turns.specs.Turns.{Beat, RunsOn, Stops, Turns, asks_for, awaits, beat, beats, comes, is_ready_after, next_turn, stands, turn_of, wakes, with_fuel, with_thread}
@@ -65,17 +65,17 @@ free_of (Some v) all free = absurd (true≢false (sym (all v refl) ∙ free))
 
 -- ---- the other threads
 
-module _ (p : Program) (t : Turns) (k left : ℕ) (n : ℕ) (life : Option Life) (other : n ≡ k → ⊥) (turn : t.running ≡ Some n → ⊥) (holds : Holds p n t (slice_get t.threads n) life) where
-  stays_there : (u : Turns) (v : Option Standing) → u.threads ≡ slice_set t.threads k v → Holds p n u (slice_get u.threads n) life
+module _ (m : ModuleTypes) (p : Program) (t : Turns) (k left : ℕ) (n : ℕ) (life : Option Life) (other : n ≡ k → ⊥) (turn : t.running ≡ Some n → ⊥) (holds : Holds m p n t (slice_get t.threads n) life) where
+  stays_there : (u : Turns) (v : Option Standing) → u.threads ≡ slice_set t.threads k v → Holds m p n u (slice_get u.threads n) life
   stays_there u v changed =
-      subst (λ (o : Option (Option Standing)). Holds p n u o life) (sym (ap (λ (ts : List (Option Standing)). slice_get ts n) changed ∙ get_other t.threads k n v other))
-      (holds_stays p n t u (slice_get t.threads n) life (inl turn) holds)
+      subst (λ (o : Option (Option Standing)). Holds m p n u o life) (sym (ap (λ (ts : List (Option Standing)). slice_get ts n) changed ∙ get_other t.threads k n v other))
+      (holds_stays m p n t u (slice_get t.threads n) life (inl turn) holds)
 
-  awaits_stays : (again : Bool) (globals : List Value) (v : Standing) → HoldsBehind p n life (RunsOn left (with_thread k (Some v) (awaits k again (record t { globals = globals }))))
+  awaits_stays : (again : Bool) (globals : List Value) (v : Standing) → HoldsBehind m p n life (RunsOn left (with_thread k (Some v) (awaits k again (record t { globals = globals }))))
   awaits_stays true globals v = stays_there (with_thread k (Some v) (awaits k true (record t { globals = globals }))) (Some v) refl
   awaits_stays false globals v = stays_there (with_thread k (Some v) (awaits k false (record t { globals = globals }))) (Some v) refl
 
-  others_stay : (last : Made) → IsWhole (comes left k t last) → HoldsBehind p n life (comes left k t last)
+  others_stay : (last : Made) → IsWhole (comes left k t last) → HoldsBehind m p n life (comes left k t last)
   others_stay (Went globals v) whole = stays_there (with_thread k (Some v) (record t { globals = globals; running = Some k })) (Some v) refl
   others_stay (Acts a globals v) whole =
       let mid : Turns = record t { globals = globals } in
@@ -124,11 +124,11 @@ module _ (m : ModuleTypes) (parts : List PartTypes) (instructions : List Instruc
 
   -- what is so behind beats: where the run goes on, each action was given its outcome
   abbrev pub Kept : ℕ → Option Life → Beat → Type 0
-  Kept n life (RunsOn left u) = AreSound m parts instructions u × AllGiven u × Holds p n u (slice_get u.threads n) life
-  Kept n life (Stops stop left u) = AreSound m parts instructions u × Holds p n u (slice_get u.threads n) life
+  Kept n life (RunsOn left u) = AreSound m parts instructions u × AllGiven u × Holds m p n u (slice_get u.threads n) life
+  Kept n life (Stops stop left u) = AreSound m parts instructions u × Holds m p n u (slice_get u.threads n) life
   Kept n life turns.Broken = ⊥
 
-  kept_of : (n : ℕ) (life : Option Life) (t : Turns) (k left : ℕ) (there : k < length t.threads) (given : AllGiven t) (b : Beat) → SoundBeat m parts instructions b → GivenBehind t k left there given b → HoldsBehind p n life b → Kept n life b
+  kept_of : (n : ℕ) (life : Option Life) (t : Turns) (k left : ℕ) (there : k < length t.threads) (given : AllGiven t) (b : Beat) → SoundBeat m parts instructions b → GivenBehind t k left there given b → HoldsBehind m p n life b → Kept n life b
   kept_of n life t k left there given (RunsOn rest u) sound all holds = (sound, all, holds)
   kept_of n life t k left there given (Stops stop rest u) sound all holds = (sound, holds)
   kept_of n life t k left there given turns.Broken sound all holds = holds
@@ -139,11 +139,11 @@ module _ (m : ModuleTypes) (parts : List PartTypes) (instructions : List Instruc
   whole_of turns.Broken sound = sound
 
   -- the thread that has the turn
-  turn_of_life : (n : ℕ) (t : Turns) (s : Standing) (life : Life) → s.wanted ≡ None → Lives p n t s life → IsTurn p t s life
-  turn_of_life n t s life free (Fresh is) = turn_new p t s life is
-  turn_of_life n t s life free (Between is) = turn_between p t s life n is
-  turn_of_life n t s life free (Amid is) = turn_amid p t s life n free is
-  turn_of_life n t s life free (Stopped is) = absurd (some_wanted p s.wanted _ free is.wanted)
+  turn_of_life : (n : ℕ) (t : Turns) (s : Standing) (life : Life) → HaveTypes m.globals t.globals → s.wanted ≡ None → Lives m p n t s life → IsTurn m p t s life
+  turn_of_life n t s life known free (Fresh is) = turn_new m p t s life known is
+  turn_of_life n t s life known free (Between is) = turn_between m p t s life n is
+  turn_of_life n t s life known free (Amid is) = turn_amid m p t s life n free known is
+  turn_of_life n t s life known free (Stopped is) = absurd (some_wanted s.wanted (wanted_by Stop) free is.wanted)
 
   module _ (n : ℕ) (t : Turns) (k fuel : ℕ) (sound : AreSound m parts instructions t) (runs : t.running ≡ Some k) (given : AllGiven t) where
     abbrev s : Standing
@@ -164,25 +164,25 @@ module _ (m : ModuleTypes) (parts : List PartTypes) (instructions : List Instruc
     last_sound : SoundBeat m parts instructions (comes left k t (comes_of p t.globals s))
     last_sound = (turn_made m parts instructions zero fuel left t k s (comes_of p t.globals s) sound runs here (one_course left (comes_of p t.globals s))).2
 
-    own_behind : (life : Option Life) → Holds p k t (Some (Some s)) life → HoldsBehind p k (lives_on p t (Some (Some s)) life) (comes left k t (comes_of p t.globals s))
+    own_behind : (life : Option Life) → Holds m p k t (Some (Some s)) life → HoldsBehind m p k (lives_on p t (Some (Some s)) life) (comes left k t (comes_of p t.globals s))
     own_behind None holds = absurd holds
     own_behind (Some life) holds =
-        lives_behind p t k s life there free (turn_of_life k t s life free holds) left (is_await (slice_get instructions s.address))
+        lives_behind m p t k s life there free (turn_of_life k t s life sound.globals free holds) left (is_await (slice_get instructions s.address))
         (whole_of (comes left k t (comes_of p t.globals s)) last_sound)
 
     other_number : (n ≡ k → ⊥) → t.running ≡ Some n → ⊥
     other_number other e = let same : Some n ≡ Some k = sym e ∙ runs in other cc
 
-    by_number : (life : Option Life) (b : Bool) → nat_eq n k ≡ b → Holds p n t (slice_get t.threads n) life → HoldsBehind p n (if b then lives_on p t (slice_get t.threads n) life else life) (comes left k t (comes_of p t.globals s))
+    by_number : (life : Option Life) (b : Bool) → nat_eq n k ≡ b → Holds m p n t (slice_get t.threads n) life → HoldsBehind m p n (if b then lives_on p t (slice_get t.threads n) life else life) (comes left k t (comes_of p t.globals s))
     by_number life true e holds =
         let same = eqb-true n k e in
-        subst (λ (j : ℕ). HoldsBehind p j (lives_on p t (slice_get t.threads j) life) (comes left k t (comes_of p t.globals s))) (sym same)
-        (subst (λ (o : Option (Option Standing)). HoldsBehind p k (lives_on p t o life) (comes left k t (comes_of p t.globals s))) (sym here)
-        (own_behind life (subst (λ (o : Option (Option Standing)). Holds p k t o life) here (subst (λ (j : ℕ). Holds p j t (slice_get t.threads j) life) same holds))))
+        subst (λ (j : ℕ). HoldsBehind m p j (lives_on p t (slice_get t.threads j) life) (comes left k t (comes_of p t.globals s))) (sym same)
+        (subst (λ (o : Option (Option Standing)). HoldsBehind m p k (lives_on p t o life) (comes left k t (comes_of p t.globals s))) (sym here)
+        (own_behind life (subst (λ (o : Option (Option Standing)). Holds m p k t o life) here (subst (λ (j : ℕ). Holds m p j t (slice_get t.threads j) life) same holds))))
     by_number life false e holds =
-        others_stay p t k left n life (eqb-false n k e) (other_number (eqb-false n k e)) holds (comes_of p t.globals s) (whole_of (comes left k t (comes_of p t.globals s)) last_sound)
+        others_stay m p t k left n life (eqb-false n k e) (other_number (eqb-false n k e)) holds (comes_of p t.globals s) (whole_of (comes left k t (comes_of p t.globals s)) last_sound)
 
-    pub turn_kept : (life : Option Life) → Holds p n t (slice_get t.threads n) life → Kept n (if nat_eq n k then lives_on p t (slice_get t.threads n) life else life) (turn_of p (suc fuel) k (slice_get t.threads k) t)
+    pub turn_kept : (life : Option Life) → Holds m p n t (slice_get t.threads n) life → Kept n (if nat_eq n k then lives_on p t (slice_get t.threads n) life else life) (turn_of p (suc fuel) k (slice_get t.threads k) t)
     turn_kept life holds =
         subst (λ (o : Option (Option Standing)). Kept n (if nat_eq n k then lives_on p t (slice_get t.threads n) life else life) (turn_of p (suc fuel) k o t)) (sym here)
         (kept_of n (if nat_eq n k then lives_on p t (slice_get t.threads n) life else life) t k left there given (comes left k t (comes_of p t.globals s)) last_sound
@@ -190,34 +190,34 @@ module _ (m : ModuleTypes) (parts : List PartTypes) (instructions : List Instruc
         (by_number life (nat_eq n k) refl holds))
 
   -- the thread that takes its turn had not got it
-  takes_kept : (n fuel : ℕ) (t : Turns) (k : ℕ) (ready : List ℕ) (life : Option Life) → t.running ≡ None → AreSound m parts instructions (record t { running = Some k; ready = ready }) → AllGiven t → Holds p n t (slice_get t.threads n) life →
+  takes_kept : (n fuel : ℕ) (t : Turns) (k : ℕ) (ready : List ℕ) (life : Option Life) → t.running ≡ None → AreSound m parts instructions (record t { running = Some k; ready = ready }) → AllGiven t → Holds m p n t (slice_get t.threads n) life →
       Kept n (if nat_eq n k then lives_on p t (slice_get t.threads n) life else life) (turn_of p (suc fuel) k (slice_get t.threads k) (record t { running = Some k; ready = ready }))
   takes_kept n fuel t k ready life none sound given holds =
       turn_kept n (record t { running = Some k; ready = ready }) k fuel sound refl given life
-      (holds_stays p n t (record t { running = Some k; ready = ready }) (slice_get t.threads n) life (inl (λ e. let never : None ≡ Some n = sym none ∙ e in cc)) holds)
+      (holds_stays m p n t (record t { running = Some k; ready = ready }) (slice_get t.threads n) life (inl (λ e. let never : None ≡ Some n = sym none ∙ e in cc)) holds)
 
-  next_kept : (n fuel : ℕ) (t : Turns) (running : Option ℕ) (ready : List ℕ) (life : Option Life) → t.running ≡ running → AreSound m parts instructions t → AreSound m parts instructions (takes_by t running ready) → AllGiven t → Holds p n t (slice_get t.threads n) life →
+  next_kept : (n fuel : ℕ) (t : Turns) (running : Option ℕ) (ready : List ℕ) (life : Option Life) → t.running ≡ running → AreSound m parts instructions t → AreSound m parts instructions (takes_by t running ready) → AllGiven t → Holds m p n t (slice_get t.threads n) life →
       Kept n (if is_number n (next_number running ready) then lives_on p t (slice_get t.threads n) life else life) (next_turn p (suc fuel) t running ready)
   next_kept n fuel t (Some k) ready life runs sound taken given holds = turn_kept n t k fuel sound runs given life holds
   next_kept n fuel t None [] life runs sound taken given holds = (sound, holds)
   next_kept n fuel t None (k ∷ ready) life runs sound taken given holds = takes_kept n fuel t k ready life runs taken given holds
 
-  stands_kept : (n fuel : ℕ) (t : Turns) (b : Bool) (life : Option Life) → AreSound m parts instructions t → AllGiven t → Holds p n t (slice_get t.threads n) life →
+  stands_kept : (n fuel : ℕ) (t : Turns) (b : Bool) (life : Option Life) → AreSound m parts instructions t → AllGiven t → Holds m p n t (slice_get t.threads n) life →
       Kept n (if is_number n (if b then next_number t.running t.ready else None) then lives_on p t (slice_get t.threads n) life else life) (if b then next_turn p (suc fuel) t t.running t.ready else Stops turns.Finished (suc fuel) t)
   stands_kept n fuel t true life sound given holds = next_kept n fuel t t.running t.ready life refl sound (taken_sound m parts instructions t sound) given holds
   stands_kept n fuel t false life sound given holds = (sound, holds)
 
   -- without fuel none goes on
-  spent_next : (n : ℕ) (t : Turns) (running : Option ℕ) (ready : List ℕ) (life : Option Life) → AreSound m parts instructions t → Holds p n t (slice_get t.threads n) life → Kept n life (next_turn p zero t running ready)
+  spent_next : (n : ℕ) (t : Turns) (running : Option ℕ) (ready : List ℕ) (life : Option Life) → AreSound m parts instructions t → Holds m p n t (slice_get t.threads n) life → Kept n life (next_turn p zero t running ready)
   spent_next n t (Some k) ready life sound holds = (sound, holds)
   spent_next n t None [] life sound holds = (sound, holds)
   spent_next n t None (k ∷ ready) life sound holds = (sound, holds)
 
-  spent_kept : (n : ℕ) (t : Turns) (b : Bool) (life : Option Life) → AreSound m parts instructions t → Holds p n t (slice_get t.threads n) life → Kept n life (if b then next_turn p zero t t.running t.ready else Stops turns.Finished zero t)
+  spent_kept : (n : ℕ) (t : Turns) (b : Bool) (life : Option Life) → AreSound m parts instructions t → Holds m p n t (slice_get t.threads n) life → Kept n life (if b then next_turn p zero t t.running t.ready else Stops turns.Finished zero t)
   spent_kept n t true life sound holds = spent_next n t t.running t.ready life sound holds
   spent_kept n t false life sound holds = (sound, holds)
 
-  beat_kept : (n fuel : ℕ) (t : Turns) (life : Option Life) → AreSound m parts instructions t → AllGiven t → Holds p n t (slice_get t.threads n) life → Kept n (behind_beat p n fuel t life) (beat p fuel t)
+  beat_kept : (n fuel : ℕ) (t : Turns) (life : Option Life) → AreSound m parts instructions t → AllGiven t → Holds m p n t (slice_get t.threads n) life → Kept n (behind_beat p n fuel t life) (beat p fuel t)
   beat_kept n zero t life sound given holds = spent_kept n t (stands t) life sound holds
   beat_kept n (suc fuel) t life sound given holds = stands_kept n fuel t (stands t) life sound given holds
 
@@ -228,12 +228,12 @@ module _ (m : ModuleTypes) (parts : List PartTypes) (instructions : List Instruc
   beats_kept n (suc k) turns.Broken life kept = absurd kept
 
   -- the turns behind beats
-  turns_kept : (n : ℕ) (life : Option Life) (t : Turns) (b : Beat) → Kept n life b → AreSound m parts instructions (turns_of b t) × Holds p n (turns_of b t) (slice_get (turns_of b t).threads n) life
+  turns_kept : (n : ℕ) (life : Option Life) (t : Turns) (b : Beat) → Kept n life b → AreSound m parts instructions (turns_of b t) × Holds m p n (turns_of b t) (slice_get (turns_of b t).threads n) life
   turns_kept n life t (RunsOn rest u) kept = (kept.0, kept.2)
   turns_kept n life t (Stops stop rest u) kept = (kept.0, kept.1)
   turns_kept n life t turns.Broken kept = absurd kept
 
-  pub run_kept : (n k fuel : ℕ) (t : Turns) (life : Option Life) → AreSound m parts instructions t → AllGiven t → Holds p n t (slice_get t.threads n) life →
-      AreSound m parts instructions (turns_of (beats p k (RunsOn fuel t)) t) × Holds p n (turns_of (beats p k (RunsOn fuel t)) t) (slice_get (turns_of (beats p k (RunsOn fuel t)) t).threads n) (behind_beats p n k (RunsOn fuel t) life)
+  pub run_kept : (n k fuel : ℕ) (t : Turns) (life : Option Life) → AreSound m parts instructions t → AllGiven t → Holds m p n t (slice_get t.threads n) life →
+      AreSound m parts instructions (turns_of (beats p k (RunsOn fuel t)) t) × Holds m p n (turns_of (beats p k (RunsOn fuel t)) t) (slice_get (turns_of (beats p k (RunsOn fuel t)) t).threads n) (behind_beats p n k (RunsOn fuel t) life)
   run_kept n k fuel t life sound given holds =
       turns_kept n (behind_beats p n k (RunsOn fuel t) life) t (beats p k (RunsOn fuel t)) (beats_kept n k (RunsOn fuel t) life (sound, given, holds))

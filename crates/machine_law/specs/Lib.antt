@@ -1,2 +1,3 @@
+pub mod Fitting
 pub mod Lives
 pub mod Histories
