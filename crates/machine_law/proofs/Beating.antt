@@ -19,7 +19,7 @@ use Rattle.machine_sound.proofs.Trying.{waits_with}
 use Rattle.machine_law.specs.Fitting.{FitAll}
 use Rattle.machine_law.specs.Lives.{Life, latest, lived, new_answer, one_more}
 use Rattle.machine_law.proofs.Trees.{Tree, Leads, Closed, Asks, Halts, Broken, IsBlocking, IsOf, OnlyCloses, WaitsHere, at, run, same_then}
-use Rattle.machine_law.proofs.Living.{Came, FitsOutcome, Holds, IsAmid, IsBetween, IsOver, IsTurn, Lives, Between, Amid, Stopped, answer, begin, latest_last, turned}
+use Rattle.machine_law.proofs.Living.{Came, FitsOutcome, Holds, IsAmid, IsBetween, IsOver, IsTurn, Lives, Between, Amid, Stopped, answer, begin, fits_front, latest_last, turned}
 
 -- a thread that asks for an action blocks or has the turn
 keeps_or_blocks : (n : ℕ) (a : Action) (t : Turns) → IsBlocking a ⊎ ((asks_for n a t).running ≡ Some n)
@@ -57,12 +57,6 @@ abbrev pub HoldsBehind : ModuleTypes → Program → ℕ → Option Life → Bea
 HoldsBehind m p n life (RunsOn left u) = Holds m p n u (slice_get u.threads n) life
 HoldsBehind m p n life (Stops stop left u) = Holds m p n u (slice_get u.threads n) life
 HoldsBehind m p n life turns.Broken = ⊥
-
--- one action more
-fits_front : (m : ModuleTypes) (xs : List Action) (a : Action) (answers : List Answer) → FitAll m xs answers → FitAll m (xs ++ a ∷ []) answers
-fits_front m xs a [] fits = tt
-fits_front m [] a (b ∷ answers) fits = absurd fits
-fits_front m (x ∷ xs) a (b ∷ answers) fits = (fits.0, fits_front m xs a answers fits.1)
 
 module _ (m : ModuleTypes) (p : Program) (t : Turns) (n : ℕ) (s : Standing) (life : Life) (there : n < length t.threads) (free : s.wanted ≡ None) (turn : IsTurn m p t s life) (left : ℕ) (awaiting : Bool) where
   abbrev i : Option Instruction

@@ -14,7 +14,7 @@ use Rattle.machine_turns.specs.Threads.{Standing, answers, begun, goes_on, in_tu
 use Rattle.machine_turns.specs.Turns.{Turns}
 use Rattle.machine_sound.proofs.Keeping.{last_of}
 use Rattle.machine_law.specs.Fitting.{FitAll, FitsTo}
-use Rattle.machine_law.specs.Lives.{Life, born, does, latest, lived, new_answer, one_more}
+use Rattle.machine_law.specs.Lives.{Life, born, does, latest, lived, locals_of, new_answer, one_more}
 use Rattle.machine_law.specs.Histories.{DidByCode, IsStop}
 use Rattle.machine_law.proofs.Trees.{Tree, Leads, Closed, Asks, Broken, Blocks, IsBlocking, IsOf, IsTree, OnlyCloses, at, closes_of, run, same_then, tree_of, WaitsHere}
 
@@ -22,7 +22,7 @@ use Rattle.machine_law.proofs.Trees.{Tree, Leads, Closed, Asks, Broken, Blocks, 
 
 -- a thread of this life before its first instruction
 abbrev pub begin : Life → List Value → List Answer → Thread
-begin life globals L = begins (opened_by life.part.op) life.part.start (record { globals = globals; locals = life.locals }) L
+begin life globals L = begins (opened_by life.part.op) life.part.start (record { globals = globals; locals = locals_of life.part life.arguments }) L
 
 -- with as many instructions as it has begun, and however many more and whatever answers more, its code comes first to this
 abbrev pub Came : Program → Life → List Value → (List Answer → Next) → Type 0
@@ -40,8 +40,14 @@ FitsOutcome m action o = IfOk o (HaveTypes (wanted_types m.ops (wanted_by action
 
 -- it has not begun its first instruction
 pub record IsNew (s : Standing) (life : Life) : Type 0 where
-  pub stands : s ≡ begun (opened_by life.part.op) life.part.start life.locals
-  pub born_so : life ≡ born life.part life.locals
+  pub stands : s ≡ begun (opened_by life.part.op) life.part.start (locals_of life.part life.arguments)
+  pub born_so : life ≡ born life.part life.arguments
+
+-- one action more
+pub fits_front : (m : ModuleTypes) (xs : List Action) (a : Action) (answers : List Answer) → FitAll m xs answers → FitAll m (xs ++ a ∷ []) answers
+fits_front m xs a [] fits = tt
+fits_front m [] a (b ∷ answers) fits = absurd fits
+fits_front m (x ∷ xs) a (b ∷ answers) fits = (fits.0, fits_front m xs a answers fits.1)
 
 pub some_wanted : (o : Option Wanted) (w : Wanted) → o ≡ None → o ≡ Some w → ⊥
 some_wanted o w none some = let e : None ≡ Some w = sym none ∙ some in cc
@@ -121,6 +127,9 @@ module _ (m : ModuleTypes) (p : Program) where
 
   -- ---- what is so of its code
 
+  first_typed : (life : Life) (now first : List Value) → life.first ≡ Some first → HaveTypes m.globals first → HaveTypes m.globals (unwrap_or life.first now)
+  first_typed life now first is typed = subst (HaveTypes m.globals) (sym (ap (λ (o : Option (List Value)). unwrap_or o now) is)) typed
+
   came_there : (life : Life) (now first : List Value) (next : List Answer → Next) → life.first ≡ Some first → Came p life first next → go_on (next []) (exec p 0) ≡ Comes life.did → DidByCode p now life
   came_there life now first next is_first came is =
       ap (λ (g : List Value). exec p life.made (begin life g life.answers)) (ap (λ (o : Option (List Value)). unwrap_or o now) is_first)
@@ -132,7 +141,7 @@ module _ (m : ModuleTypes) (p : Program) where
       none : life.made ≡ life.made + 0
       none = omega arith
 
-  new_did : (now : List Value) (life : Life) → life ≡ born life.part life.locals → DidByCode p now life
+  new_did : (now : List Value) (life : Life) → life ≡ born life.part life.arguments → DidByCode p now life
   new_did now life is = subst (DidByCode p now) (sym is) refl
 
   over_did : (now : List Value) (life : Life) → IsOver life → DidByCode p now life
@@ -148,6 +157,20 @@ module _ (m : ModuleTypes) (p : Program) where
   did_by_code now n t (Some (Some s)) life is = lives_did now n t s life is
   did_by_code now n t (Some None) life is = over_did now life is.over
   did_by_code now n t None life is = over_did now life is.over
+
+  -- ---- what fits
+
+  lives_fits : (n : ℕ) (t : Turns) (s : Standing) (life : Life) (now : List Value) → HaveTypes m.globals now → Lives n t s life → HaveTypes m.globals (unwrap_or life.first now) × FitAll m (actions_of life.did) life.answers
+  lives_fits n t s life now known (Fresh is) = subst (λ (l : Life). HaveTypes m.globals (unwrap_or l.first now) × FitAll m (actions_of l.did) l.answers) (sym is.born_so) (known, tt)
+  lives_fits n t s life now known (Between is) = (first_typed life now is.first is.is_first is.typed, subst (λ (d : Behaviour). FitAll m (actions_of d) life.answers) (sym is.did) is.fits)
+  lives_fits n t s life now known (Amid is) =
+      (first_typed life now is.first is.is_first is.typed, subst (λ (d : Behaviour). FitAll m (actions_of d) life.answers) (sym is.did) (fits_front m is.actions is.action life.answers is.fits))
+  lives_fits n t s life now known (Stopped is) = (first_typed life now is.over.first is.over.is_first is.over.typed, is.over.fits)
+
+  pub fits_of : (n : ℕ) (t : Turns) (o : Option (Option Standing)) (life : Life) (now : List Value) → HaveTypes m.globals now → Holds n t o (Some life) → HaveTypes m.globals (unwrap_or life.first now) × FitAll m (actions_of life.did) life.answers
+  fits_of n t (Some (Some s)) life now known is = lives_fits n t s life now known is
+  fits_of n t (Some None) life now known is = (first_typed life now is.over.first is.over.is_first is.over.typed, is.over.fits)
+  fits_of n t None life now known is = (first_typed life now is.over.first is.over.is_first is.over.typed, is.over.fits)
 
   -- ---- what others do
 
@@ -387,9 +410,9 @@ module _ (m : ModuleTypes) (p : Program) (t : Turns) (s : Standing) (life : Life
       }
 
 -- a thread that begins
-new_turn : (m : ModuleTypes) (p : Program) (t : Turns) (part : PartTypes) (locals : List Value) → HaveTypes m.globals t.globals → IsTurn m p t (begun (opened_by part.op) part.start locals) (born part locals)
-new_turn m p t part locals known =
-    let s = begun (opened_by part.op) part.start locals in
+new_turn : (m : ModuleTypes) (p : Program) (t : Turns) (part : PartTypes) (arguments : List Value) → HaveTypes m.globals t.globals → IsTurn m p t (begun (opened_by part.op) part.start (locals_of part arguments)) (born part arguments)
+new_turn m p t part arguments known =
+    let s = begun (opened_by part.op) part.start (locals_of part arguments) in
     record {
       first = t.globals;
       is_first = refl;
@@ -398,11 +421,11 @@ new_turn m p t part locals known =
       did = refl;
       fits = tt;
       many = refl;
-      tree = (the_tree m p t s (born part locals)).tree;
-      of = (the_tree m p t s (born part locals)).holds;
-      came = begins_came m p t s (born part locals) t.globals [] refl (λ M k. ap (λ (j : ℕ). exec p j (at (in_turn t.globals s) M [])) (none k));
+      tree = (the_tree m p t s (born part arguments)).tree;
+      of = (the_tree m p t s (born part arguments)).holds;
+      came = begins_came m p t s (born part arguments) t.globals [] refl (λ M k. ap (λ (j : ℕ). exec p j (at (in_turn t.globals s) M [])) (none k));
       own = [];
-      goes = begins_goes m p t s (born part locals) refl;
+      goes = begins_goes m p t s (born part arguments) refl;
       begins_or_closes = inl refl;
     }
   where
@@ -412,4 +435,4 @@ new_turn m p t part locals known =
 pub turn_new : (m : ModuleTypes) (p : Program) (t : Turns) (s : Standing) (life : Life) → HaveTypes m.globals t.globals → IsNew s life → IsTurn m p t s life
 turn_new m p t s life known is =
     subst (λ (r : Standing). IsTurn m p t r life) (sym is.stands)
-    (subst (λ (l : Life). IsTurn m p t (begun (opened_by life.part.op) life.part.start life.locals) l) (sym is.born_so) (new_turn m p t life.part life.locals known))
+    (subst (λ (l : Life). IsTurn m p t (begun (opened_by life.part.op) life.part.start (locals_of life.part life.arguments)) l) (sym is.born_so) (new_turn m p t life.part life.arguments known))

@@ -9,6 +9,7 @@ use Rattle.lynx_meaning.specs.Values.{Value, HaveTypes}
 use Rattle.code_shapes.specs.Shapes.{ModuleTypes, PartTypes, opened_by, program}
 use Rattle.machine_turns.specs.Threads.{Standing}
 use Rattle.machine_turns.specs.Turns.{Beat, RunsOn, Stops, Broken, IsFree, Turns, at_start, beats, given_to, is_ready_after, spawned}
+use Rattle.compiler_runnable.specs.Runnable.{parameters}
 use Rattle.machine_sound.specs.Sound.{FitsAction}
 use Rattle.machine_law.specs.Lives.{Life, behind_beats, born, locals_of}
 
@@ -35,7 +36,7 @@ moved p (Spawns n part values) t = spawned n (opened_by part.op) part.start (loc
 abbrev pub behind_move : Program → ℕ → Move → Turns → Option Life → Option Life
 behind_move p n (Beats k fuel) t life = behind_beats p n k (RunsOn fuel t) life
 behind_move p n (Gives k outcome) t life = life
-behind_move p n (Spawns k part values) t life = if nat_eq n k then Some (born part (locals_of part values)) else life
+behind_move p n (Spawns k part values) t life = if nat_eq n k then Some (born part values) else life
 
 -- ---- the conditions of moves
 
@@ -52,7 +53,7 @@ MayMove m parts instructions (Beats k fuel) t = AllGiven t
 MayMove m parts instructions (Gives n outcome) t =
     FitsAction m n outcome t × ((s : Standing) → slice_get t.threads n ≡ Some (Some s) → IsStop instructions s → ⊥)
 MayMove m parts instructions (Spawns n part values) t =
-    IsFree n t × ((i : ℕ) × (slice_get parts (suc i) ≡ Some part)) × HaveTypes part.locals (locals_of part values)
+    IsFree n t × ((i : ℕ) × (slice_get parts (suc i) ≡ Some part)) × HaveTypes (parameters m part) values
 
 -- ---- histories
 
@@ -80,6 +81,6 @@ life_of p globals n (move ∷ earlier) = behind_move p n move (behind p globals 
 -- instruction, or these where it has made none.
 abbrev pub DidByCode : Program → List Value → Life → Type 0
 DidByCode p now life =
-    code_meaning p (opened_by life.part.op) life.part.start life.made (record { globals = unwrap_or life.first now; locals = life.locals })
+    code_meaning p (opened_by life.part.op) life.part.start life.made (record { globals = unwrap_or life.first now; locals = locals_of life.part life.arguments })
     life.answers
     ≡ Comes life.did

@@ -1,3 +1,4 @@
 pub mod Fitting
 pub mod Lives
 pub mod Histories
+pub mod Law

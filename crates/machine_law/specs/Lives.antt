@@ -13,8 +13,8 @@ use Rattle.machine_sound.specs.Taken.{next_number}
 pub record Life : Type 0 where
   -- the part whose body it runs
   pub part : PartTypes
-  -- the variables of its part at its start
-  pub locals : List Value
+  -- the values of its parameters
+  pub arguments : List Value
   -- the variables of the module at its first instruction, where it has made one
   pub first : Option (List Value)
   -- how many instructions it has begun
@@ -26,11 +26,11 @@ pub record Life : Type 0 where
 
 -- that of a thread that begins
 abbrev pub born : PartTypes → List Value → Life
-born part locals = record { part = part; locals = locals; first = None; made = 0; answers = []; did = Out [] }
+born part arguments = record { part = part; arguments = arguments; first = None; made = 0; answers = []; did = Out [] }
 
 -- the variables of a part at its start, whose parameters have these values
 abbrev pub locals_of : PartTypes → List Value → List Value
-locals_of part values = values ++ map start_value (drop (length values) part.locals)
+locals_of part arguments = arguments ++ map start_value (drop (length arguments) part.locals)
 
 -- ---- an instruction
 
