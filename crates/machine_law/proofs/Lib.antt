@@ -5,3 +5,6 @@ pub mod Beating
 pub mod Rounds
 pub mod Whole
 pub mod Rows
+pub mod More
+pub mod Fewer
+pub mod Fitted
