@@ -17,33 +17,8 @@ use Rattle.machine_law.proofs.More.{DoesMore, source_more}
 
 -- ---- lists that fit
 
-cons_fit : (m : ModuleTree) (x : Action) (xs ys : List Action) (L M : List Answer) (a : Answer) → ((rest : List Answer) → rest ≡ L → Fit m xs rest → Fit m ys M) → Fit m (x ∷ xs) (a ∷ L) → Fit m (x ∷ ys) (a ∷ M)
-cons_fit m Stop xs ys L M a on fit = tt
-cons_fit m _ xs ys L M a on fit = (fit.0, on L refl fit.1)
-
--- the first answers fit
-fit_fewer : (m : ModuleTree) (xs : List Action) (L M : List Answer) → Fit m xs (L ++ M) → Fit m xs L
-fit_fewer m [] L M fit = tt
-fit_fewer m (x ∷ xs) [] M fit = none x
-  where
-    none : (y : Action) → Fit m (y ∷ xs) []
-    none Stop = tt
-    none _ = tt
-fit_fewer m (x ∷ xs) (a ∷ L) M fit = cons_fit m x xs xs (L ++ M) L a (λ rest same f. fit_fewer m xs L M (subst (Fit m xs) same f)) fit
-
--- only as many actions as answers count
-fit_first : (m : ModuleTree) (xs ys : List Action) (L : List Answer) → length xs ≡ length L → Fit m xs L → Fit m (xs ++ ys) L
-fit_first m [] [] [] same fit = tt
-fit_first m [] (y ∷ ys) [] same fit = none y
-  where
-    none : (z : Action) → Fit m (z ∷ ys) []
-    none Stop = tt
-    none _ = tt
-fit_first m [] ys (a ∷ L) same fit = absurd (omega (arith, same))
-fit_first m (x ∷ xs) ys [] same fit = absurd (omega (arith, same))
-fit_first m (x ∷ xs) ys (a ∷ L) same fit = cons_fit m x xs (xs ++ ys) L L a (λ rest is f. fit_first m xs ys L (omega (arith, same)) (subst (Fit m xs) is f)) fit
-
-no_answers : (m : ModuleTree) (xs : List Action) → Fit m xs []
+-- where there is no answer
+pub no_answers : (m : ModuleTree) (xs : List Action) → Fit m xs []
 no_answers m [] = tt
 no_answers m (x ∷ xs) = none x
   where
@@ -51,9 +26,26 @@ no_answers m (x ∷ xs) = none x
     none Stop = tt
     none _ = tt
 
+cons_fit : (m : ModuleTree) (x : Action) (xs ys : List Action) (L M : List Answer) (a : Answer) → ((rest : List Answer) → rest ≡ L → Fit m xs rest → Fit m ys M) → Fit m (x ∷ xs) (a ∷ L) → Fit m (x ∷ ys) (a ∷ M)
+cons_fit m Stop xs ys L M a on fit = tt
+cons_fit m _ xs ys L M a on fit = (fit.0, on L refl fit.1)
+
+-- the first answers fit
+fit_fewer : (m : ModuleTree) (xs : List Action) (L M : List Answer) → Fit m xs (L ++ M) → Fit m xs L
+fit_fewer m [] L M fit = tt
+fit_fewer m (x ∷ xs) [] M fit = no_answers m (x ∷ xs)
+fit_fewer m (x ∷ xs) (a ∷ L) M fit = cons_fit m x xs xs (L ++ M) L a (λ rest same f. fit_fewer m xs L M (subst (Fit m xs) same f)) fit
+
+-- only as many actions as answers count
+fit_first : (m : ModuleTree) (xs ys : List Action) (L : List Answer) → length xs ≡ length L → Fit m xs L → Fit m (xs ++ ys) L
+fit_first m [] ys [] same fit = no_answers m ys
+fit_first m [] ys (a ∷ L) same fit = absurd (omega (arith, same))
+fit_first m (x ∷ xs) ys [] same fit = absurd (omega (arith, same))
+fit_first m (x ∷ xs) ys (a ∷ L) same fit = cons_fit m x xs (xs ++ ys) L L a (λ rest is f. fit_first m xs ys L (omega (arith, same)) (subst (Fit m xs) is f)) fit
+
 -- ---- what the code comes to
 
-over_final : (o : Behaviour) → IsOver o → IsFinal (Comes o)
+pub over_final : (o : Behaviour) → IsOver o → IsFinal (Comes o)
 over_final (Ended actions store) over = tt
 over_final (Waits actions store) over = tt
 over_final (Out actions) over = over
@@ -62,10 +54,6 @@ over_final (Out actions) over = over
 abbrev actions_in : CodeBehaviour → List Action
 actions_in (Comes o) = actions_of o
 actions_in Stuck = []
-
-abbrev behaviour_in : CodeBehaviour → Behaviour
-behaviour_in (Comes o) = o
-behaviour_in Stuck = Out []
 
 module _ (m : ModuleTree) (part : PartTree) (start : ℕ) (agrees : Agrees m part start) (globals arguments : List Value) where
   abbrev with_answers : List Answer → Start
@@ -118,8 +106,8 @@ module _ (m : ModuleTree) (part : PartTree) (start : ℕ) (agrees : Agrees m par
 
   -- ---- all answers
 
-  more_than : (L R : List Answer) (b : Answer) → length (L ++ b ∷ []) ≡ suc (length L)
-  more_than L R b = omega (arith, length-append L (b ∷ []))
+  more_than : (L : List Answer) (b : Answer) → length (L ++ b ∷ []) ≡ suc (length L)
+  more_than L b = omega (arith, length-append L (b ∷ []))
 
   too_many : (L R : List Answer) (b : Answer) (actions : List Action) → length (L ++ b ∷ R) ≤ length actions → length actions ≤ length L → ⊥
   too_many L R b actions many few = omega (arith, many, few, length-append L (b ∷ R))
@@ -130,7 +118,7 @@ module _ (m : ModuleTree) (part : PartTree) (start : ℕ) (agrees : Agrees m par
       let Y = waits.0 in
       let front = subst (Begins Y) is waits.4 in
       let all : Fit m (actions_of did) ((L ++ b ∷ []) ++ R) = subst (Fit m (actions_of did)) (sym (append_assoc L (b ∷ []) R)) fits in
-      one_more_fits L b fitting made Y (Waits Y waits.1) tt refl waits.2 (waits.3 ∙ sym (more_than L R b))
+      one_more_fits L b fitting made Y (Waits Y waits.1) tt refl waits.2 (waits.3 ∙ sym (more_than L b))
       (fit_fewer m Y (L ++ b ∷ []) R (fit-front m Y (actions_of did) ((L ++ b ∷ []) ++ R) front all))
   waits_for L R b made did is many fits fitting (inr few) = absurd (too_many L R b (actions_of did) many (subst (DidAtMost (length L)) is few))
 

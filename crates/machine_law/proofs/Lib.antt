@@ -8,3 +8,4 @@ pub mod Rows
 pub mod More
 pub mod Fewer
 pub mod Fitted
+pub mod Sourced

@@ -2,3 +2,4 @@ pub mod Fitting
 pub mod Lives
 pub mod Histories
 pub mod Law
+pub mod Sources

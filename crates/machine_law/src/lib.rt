@@ -4,4 +4,4 @@
 
 mod law;
 
-pub use law::threads_mean_their_code;
+pub use law::{runs_are_moves, threads_mean_their_code, threads_mean_their_sources};
