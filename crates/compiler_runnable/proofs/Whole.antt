@@ -45,7 +45,7 @@ pair_at P (x ∷ xs) (z ∷ ys) (suc i) y pairs here = pair_at P xs ys i y pairs
 -- ---- parts
 
 -- what the part of an entry has
-abbrev IsPartFor : ModuleTree → PartTypes → EntryTree → Type 0
+abbrev pub IsPartFor : ModuleTree → PartTypes → EntryTree → Type 0
 IsPartFor m p e = (p.op ≡ Some (index_of (op_names m) e.op)) × (p.locals ≡ known (arguments_of (module_scope m e.op)) ++ map (λ v. v.kind) e.vars)
 
 entry_at : (m : ModuleTree) (at : ℕ) (es : List EntryTree) (i : ℕ) (c : PartCode) → slice_get (entry_parts m at es) i ≡ Some c →
@@ -56,7 +56,7 @@ entry_at m at (e ∷ es) zero c here =
     (e, refl, ap (λ (q : PartCode). q.op) (sym same), ap (λ (q : PartCode). q.locals) (sym same))
 entry_at m at (e ∷ es) (suc i) c here = entry_at m (at + length (entry_part m at e).instructions) es i c here
 
-part_at : (m : ModuleTree) (made : Code) → IsCodeOf m made → (i : ℕ) (p : PartTypes) → slice_get (code_parts made) i ≡ Some p →
+pub part_at : (m : ModuleTree) (made : Code) → IsCodeOf m made → (i : ℕ) (p : PartTypes) → slice_get (code_parts made) i ≡ Some p →
     (c : PartCode) × (slice_get (parts_of m) i ≡ Some c) × (p.start ≡ c.start) × (p.op ≡ c.op) × (p.locals ≡ c.locals)
 part_at m made is i p here =
     let k = map_at kept_part made.parts.items i p here in
@@ -64,7 +64,7 @@ part_at m made is i p here =
     let same = k.2 in
     (c.0, c.1, ap (λ (q : PartTypes). q.start) (sym same) ∙ c.2.2, ap (λ (q : PartTypes). q.op) (sym same) ∙ c.2.1, ap (λ (q : PartTypes). q.locals) (sym same) ∙ c.2.3)
 
-entry_part_at : (m : ModuleTree) (made : Code) → IsCodeOf m made → (i : ℕ) (p : PartTypes) → slice_get (code_parts made) (suc i) ≡ Some p → (e : EntryTree) × (slice_get m.entries i ≡ Some e) × IsPartFor m p e
+pub entry_part_at : (m : ModuleTree) (made : Code) → IsCodeOf m made → (i : ℕ) (p : PartTypes) → slice_get (code_parts made) (suc i) ≡ Some p → (e : EntryTree) × (slice_get m.entries i ≡ Some e) × IsPartFor m p e
 entry_part_at m made is i p here =
     let c = part_at m made is (suc i) p here in
     let e = entry_at m (length (main_part m).instructions) m.entries i c.0 c.1 in
@@ -73,7 +73,7 @@ entry_part_at m made is i p here =
 -- ---- an entry
 
 -- its operation, with the arguments that its parameters have
-entry_operation : (m : ModuleTree) (at : ℕ) (e : EntryTree) → entry_faults (module_scope m) at e ≡ [] →
+pub entry_operation : (m : ModuleTree) (at : ℕ) (e : EntryTree) → entry_faults (module_scope m) at e ≡ [] →
     (op : OpTree) × (slice_get m.ops (index_of (op_names m) e.op) ≡ Some op) × (known (arguments_of (module_scope m e.op)) ≡ op.arguments)
 entry_operation m at e clean =
     let outside = module_scope m in
@@ -102,7 +102,7 @@ entry_vars m at e clean =
 
 module _ (m : ModuleTree) (made : Code) (clean : AreClean m) (is : IsCodeOf m made) where
   -- the operation, as it is kept
-  kept_operation : (number : ℕ) (op : OpTree) → slice_get m.ops number ≡ Some op → slice_get (code_types made).ops number ≡ Some (op_types op)
+  pub kept_operation : (number : ℕ) (op : OpTree) → slice_get m.ops number ≡ Some op → slice_get (code_types made).ops number ≡ Some (op_types op)
   kept_operation number op here =
       ap (λ (qs : List OpTypes). slice_get qs number) (shapes.ops_kept m.ops made.ops.items is.ops) ∙ slice_get-map op_types m.ops number ∙ ap (λ (q : Option OpTree). option_map op_types q) here
 

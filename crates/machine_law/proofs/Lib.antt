@@ -1,0 +1,11 @@
+pub mod Starts
+pub mod Trees
+pub mod Living
+pub mod Beating
+pub mod Rounds
+pub mod Whole
+pub mod Rows
+pub mod More
+pub mod Fewer
+pub mod Fitted
+pub mod Sourced

@@ -1,0 +1,5 @@
+pub mod Fitting
+pub mod Lives
+pub mod Histories
+pub mod Law
+pub mod Sources
