@@ -180,8 +180,12 @@ module _ (m : ModuleTree) (made : Code) (tokens : HasTokens m) (typed : IsWellTy
         }
 
 pub law : ThreadsMeanTheirSources
-law m made tokens printable typed is globals moves n life known history lived =
-    let run = runnable.law m made tokens printable typed is in
+law made from globals moves n life known history lived =
+    let m = from.tree in
+    let tokens = from.checked.grammar in
+    let typed = from.checked.well_typed in
+    let is = from.code in
+    let run = runnable.law made from in
     let did = whole.law (code_types made) (code_parts made) made.instructions.items globals moves n life run.shaped run.parts known history lived in
     let t = behind (program (code_types made) made.instructions.items) globals moves in
     let part = part_of m made tokens typed is did.part.0 life.part run.parts.body did.part.1 in

@@ -1,11 +1,7 @@
 -- Threads of a machine do what their sources mean.
 use Rattle.std.specs.Prelude.{◌≡◌, ℕ, zero, suc, ◌≤◌, List, Option, Some, slice_get, option_map, unwrap_or}
-use Rattle.std.specs.List.{AllByRecursion}
-use Rattle.lynx_tree.specs.Grammar.{HasTokens, kinds_of}
-use Rattle.lynx_tree.specs.Printing.{IsPrintable}
 use Rattle.lynx_tree.specs.Trees.{ModuleTree}
-use Rattle.typing_rules.specs.Modules.{IsWellTyped}
-use Rattle.lynx_code.specs.Modules.{IsCodeOf}
+use Rattle.lynx_code.specs.Checked.{IsCheckedCode}
 use Rattle.lynx_code.specs.declared.code.Code.{Code}
 use Rattle.lynx_meaning.specs.Agree.{IsFitting, Start, actions_of, source}
 use Rattle.lynx_meaning.specs.Courses.{Behaviour, Ended, Waits, Out}
@@ -38,15 +34,14 @@ pub record MeansItsSource (m : ModuleTree) (part : PartTree) (now : List Value) 
   -- with each bound on loops that is not below the number of its instructions
   pub does_so : (n : ℕ) → life.made ≤ n → DoesSo life.did (source part (given_to now life) n)
 
--- Each thread of each history of a machine on the code of a module that obeys the rules: it did what its code means, and what the source of
--- its part means.
+-- Each thread of each history of a machine on checked code: it did what its code means, and what the source of its part means.
 abbrev pub ThreadsMeanTheirSources : Type 0
 ThreadsMeanTheirSources =
-    (m : ModuleTree) (made : Code) → HasTokens m → AllByRecursion IsPrintable (kinds_of m) → IsWellTyped m → IsCodeOf m made
-    → (globals : List Value) (moves : List Move) (n : ℕ) (life : Life) → HaveTypes made.globals.items globals
+    (made : Code) (from : IsCheckedCode made)
+    (globals : List Value) (moves : List Move) (n : ℕ) (life : Life) → HaveTypes made.globals.items globals
     → IsHistory (code_types made) (code_parts made) made.instructions.items globals moves
     → life_of (program (code_types made) made.instructions.items) globals n moves ≡ Some life
     → MeansItsCode (code_types made) (code_parts made) made.instructions.items n
     (behind (program (code_types made) made.instructions.items) globals moves) life
-    × ((i : ℕ) × (part : PartTree) × (slice_get (code_parts made) i ≡ Some life.part) × (part_tree m i ≡ Some part)
-    × MeansItsSource m part (behind (program (code_types made) made.instructions.items) globals moves).globals life)
+    × ((i : ℕ) × (part : PartTree) × (slice_get (code_parts made) i ≡ Some life.part) × (part_tree from.tree i ≡ Some part)
+    × MeansItsSource from.tree part (behind (program (code_types made) made.instructions.items) globals moves).globals life)
