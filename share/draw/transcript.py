@@ -265,7 +265,7 @@ def read_last(transcript: Transcript, lines: Lines, at: int) -> None:
     if found["kernel"] and transcript.notes:
         raise Refused(at + 1, "`spent` stands behind no note")
     if lines.at(at + 1) is not None:
-        raise Refused(at + 2, "the transcript has ended with the line before", "The line before this one is the last one of the transcript.")
+        raise Refused(at + 2, "the transcript has ended with the line before", "The line above is the last one of the transcript.")
     transcript.last = found[0]
     transcript.spent = found["kernel"] and int(found["kernel"])
     transcript.last_line = at + 1

@@ -59,8 +59,8 @@ def no_call(world: World, process: int) -> str:
     """Of a process that has exited, or waits."""
     called = next(before.line for before in reversed(world.entries[: world.story.happened]) if before.process == process)
     if world.processes[process].exited:
-        return f"Process {process} exited in line {called}, and makes no call behind that."
-    return f"Process {process} waits for the answer to its call in line {called}, and makes no other one before."
+        return f"Process {process} exited in line {called}, and makes no call after that."
+    return f"Process {process} waits for the answer to its call in line {called}, and makes no other call before."
 
 
 def other_order(world: World, entry: Entry) -> str:
@@ -70,7 +70,7 @@ def other_order(world: World, entry: Entry) -> str:
     if entry.stamp > stamp or entry.kernel > kernel:
         return ""
     if entry.kernel < kernel:
-        return f"Events with one stamp stand in the order of their kernels, and the event before is of kernel {kernel}."
+        return f"Events with the same stamp come in the order of their kernels, and the event before is of kernel {kernel}."
     return f"Kernel {kernel} has an event with stamp {stamp} already."
 
 
@@ -119,7 +119,8 @@ def differing(entry: Entry, first: str) -> str:
     if named[0] != wanted[0]:
         return f"The first packet under way from kernel {entry.sender} to kernel {entry.kernel} is a `{wanted[0]}`, and no `{named[0]}`."
     fields = FIELDS[named[0]]
-    wrong = [f"{field} {one} and not {other}" if field != "TEXT" else "another TEXT" for field, one, other in zip(fields, wanted[1:], named[1:]) if one != other]
+    pairs = [pair for pair in zip(fields, wanted[1:], named[1:]) if pair[1] != pair[2]]
+    wrong = ["another TEXT" if field == "TEXT" else f"{field} {one} and not {other}" for field, one, other in pairs]
     if named[1 + len(fields) :] != wanted[1 + len(fields) :]:
         wrong.append("other values of ends")
     return f"The `{named[0]}` that is under way has {', '.join(wrong)}."
@@ -134,7 +135,7 @@ def other_step(entry: Entry, printed: str, wanted: list[str], place: int) -> str
     if printed in wanted[place + 1 :]:
         return "Another service line of this event comes before this one."
     if printed in wanted[:place]:
-        return "This service line stands above already."
+        return "This service line is above already."
     if due.startswith("refuse "):
         other = " by another cause" if printed.startswith("refuse ") else ""
         return f"The call is refused{other}: {cause_of(entry, due)}."
@@ -164,7 +165,7 @@ def other_words(printed: list[str], due: list[str]) -> str:
 
 def too_many_steps(entry: Entry, printed: str, wanted: list[str]) -> str:
     if printed in wanted:
-        return "This service line stands above already."
+        return "This service line is above already."
     return f"The event of line {entry.line} has no {'further ' if wanted else ''}step."
 
 

@@ -29,8 +29,8 @@ def number(name: str, most: int) -> Part:
     def fault(word: Word) -> str | None:
         if not NUMBER.fullmatch(word.text):
             said = number_fault(word).sentence
-            return said if said.startswith("`") else f"{word} stands in the place of {name}. {said}"
-        return f"{word} stands in the place of {name}, and {most} is the most." if int(word.text) > most else None
+            return said if said.startswith("`") else f"{word} is in the place of {name}. {said}"
+        return f"{word} is in the place of {name}, and {most} is the most." if int(word.text) > most else None
 
     return Part(name, fault)
 
@@ -50,7 +50,7 @@ def lettered(letter: str, what: str, most: int) -> Part:
 def either(name: str, *words: str) -> Part:
     def fault(word: Word) -> str | None:
         said = " or ".join(f"`{one}`" for one in words)
-        return None if word.text.decode("latin-1") in words else f"{word} stands in the place of {said}."
+        return None if word.text.decode("latin-1") in words else f"{word} is in the place of {said}."
 
     return Part(name, fault)
 
@@ -82,10 +82,12 @@ def unknown(word: Word, what: str, names: tuple) -> str:
 
 
 STAMP, K, P = number("STAMP", U64), lettered("k", "kernel", U8), lettered("p", "process", U16)
-END, TEXT, N, W, AT, HOPS = Part("END", told(end_fault)), Part("TEXT", no_text), number("N", U32), number("W", U32), number("AT", U8), number("HOPS", U32)
+END, TEXT = Part("END", told(end_fault)), Part("TEXT", no_text)
+N, W, AT, HOPS = number("N", U32), number("W", U32), number("AT", U8), number("HOPS", U32)
 WAY, CAUSE = either("WAY", "in", "out"), Part("CAUSE", no_cause)
-FIELDS = [number(name, most) for name, most in (("HOPS", U32), ("HINTKERNEL", U8), *((name, U32) for name in ("HINTHOPS", "SENT", "ASKED", "SERVED", "WANT")),
-                                                ("DEAD", 1), ("TRAIL", U8))]
+# The numbers of a value: all of 32 bits but these.
+FIELDS = [number(name, {"HINTKERNEL": U8, "DEAD": 1, "TRAIL": U8}.get(name, U32))
+          for name in ("HOPS", "HINTKERNEL", "HINTHOPS", "SENT", "ASKED", "SERVED", "WANT", "DEAD", "TRAIL")]
 
 
 # ---- forms
@@ -99,10 +101,11 @@ class Form:
     behind: str = ""
 
 
+I, J, K_ALONE = number("I", U16), number("J", U16), number("K", U8)
 LINES = {
-    "transcript": Form((number("the version", U64),)), "kernels": Form((number("N", MOST_KERNELS),)), "process": Form((number("I", U16), either("`on`", "on"), number("K", U8))),
-    "wire": Form((number("I", U16), number("J", U16))), "note": Form((number("LINE", U32), either("`nothing` or `waits`", "nothing", "waits"))),
-    "quiet": Form(), "open": Form(), "spent": Form((number("K", U8),)),
+    "transcript": Form((number("the version", U64),)), "kernels": Form((number("N", MOST_KERNELS),)), "process": Form((I, either("`on`", "on"), K_ALONE)),
+    "wire": Form((I, J)), "note": Form((number("LINE", U32), either("`nothing` or `waits`", "nothing", "waits"))), "quiet": Form(), "open": Form(),
+    "spent": Form((K_ALONE,)),
 }
 CALLS = {
     "make": Form(), "destroy": Form((END,)), "send": Form((END, TEXT), "ends"), "receive": Form((END,)), "cancel": Form((END, WAY)), "wait": Form(),
@@ -143,26 +146,26 @@ def spacing_fault(line: bytes) -> str | None:
     if len(line) > LONGEST_LINE:
         return f"The line has {len(line)} bytes, and no line of a transcript has so many."
     if line.startswith(b"\xef\xbb\xbf"):
-        return "A byte order mark stands before the first word. Save the file as plain text, without one."
+        return "There is a byte order mark before the first word. Save the file as plain text, without one."
     if line.endswith(b"\r"):
-        return "The line ends with a carriage return, as in files of Windows. A line ends with a line feed alone: `tr -d '\\r' < FILE > NEW` mends all lines."
+        return "The line ends with a carriage return, as in files of Windows: `tr -d '\\r' < FILE > NEW` mends all lines."
     if not line:
         return "The line is empty, and a transcript has no empty line."
     if b"\t" in line:
-        return "A tab stands in the line. Between words stands one blank."
+        return "There is a tab in the line. Between words is one blank."
     if line.startswith(b" ") or line.endswith(b" "):
-        return "A blank stands before the first word." if line.startswith(b" ") else "A blank stands behind the last word."
-    return "Two blanks stand between two words." if b"  " in line else None
+        return "There is a blank before the first word." if line.startswith(b" ") else "There is a blank after the last word."
+    return "There are two blanks between two words." if b"  " in line else None
 
 
 def other_line(first: Word) -> str | None:
     """A line of a script, or a service line in another spelling."""
     if first.text.startswith(b"."):
-        return "Behind the dot of a service line a blank is missing."
+        return "A blank is missing after the dot of a service line."
     if first.text.startswith(b"#"):
         return "This is a comment, and a transcript has none."
     if PROCESS.fullmatch(first.text):
-        return "This is a call of a script: in a transcript the stamp and the kernel stand before it."
+        return "This is a call of a script: in a transcript the stamp and the kernel come before it."
     if first.text in (b"take", b"settle", b"version"):
         return f"{first} is a line of a script, and none of a transcript."
     return None
@@ -173,7 +176,7 @@ def entry_fault(words: list[Word], version: int) -> str | None:
     if said:
         return said
     if len(words) == 2:
-        return "Behind the kernel a process with its call is missing, or `from` with a kernel and its packet."
+        return "After the kernel a process with its call is missing, or `from` with a kernel and its packet."
     if words[2].text == b"from":
         return parts_fault(words[:4], 3, Form((number("J", U8),)), version) or named_fault(words, 4, "packet", PACKETS, version)
     return parts_fault(words[:3], 2, Form((P,)), version) or named_fault(words, 3, "call", CALLS, version)
@@ -182,7 +185,7 @@ def entry_fault(words: list[Word], version: int) -> str | None:
 def named_fault(words: list[Word], at: int, what: str, forms: dict[str, Form], version: int) -> str | None:
     """Of words whose form is chosen by the one at this place."""
     if len(words) == at:
-        return f"The line ends behind {words[-1]}, and a {what} is missing."
+        return f"The line ends after {words[-1]}, and a {what} is missing."
     name = words[at].text.decode("latin-1")
     if name not in forms:
         return unknown(words[at], what, tuple(forms))
@@ -204,7 +207,7 @@ def parts_fault(words: list[Word], at: int, form: Form, version: int) -> str | N
     """What is wrong first with the words from this place on."""
     for part in form.parts:
         if at == len(words):
-            return f"The line ends behind {words[-1]}, and {part.name} is missing."
+            return f"The line ends after {words[-1]}, and {part.name} is missing."
         said = part.fault(words[at])
         if said:
             return said
@@ -216,7 +219,7 @@ def behind_fault(words: list[Word], at: int, behind: str, version: int) -> str |
     if behind in ("late", "dead") and words[at:] and words[at].text == behind.encode():
         at += 1
     if behind not in ("ends", "values"):
-        return f"Behind {words[at - 1]} the line has to end, and {words[at]} stands there." if at < len(words) else None
+        return f"The line has to end after {words[at - 1]}, and {words[at]} is there." if at < len(words) else None
     for word in words[at:]:
         said = (no_enclosed_end if behind == "ends" else no_value)(word)
         if said:
@@ -233,19 +236,19 @@ def too_many(count: int, what: str, version: int) -> str | None:
 
 def no_enclosed_end(word: Word) -> str | None:
     if not word.text.startswith(b"+"):
-        return f"Here stand ends alone, each behind a `+`, and {word} is none. In a text a blank is `%20`."
+        return f"Only ends can be here, each with a `+` before it, and {word} is none. In a text a blank is `%20`."
     return told(end_fault)(Word(word.at + 1, word.text[1:]))
 
 
 def no_value(word: Word) -> str | None:
     if not word.text.startswith(b"+"):
-        return f"Here stand values of ends alone, each behind a `+`, and {word} is none."
+        return f"Only values of ends can be here, each with a `+` before it, and {word} is none."
     end, *fields = (Word(word.at, text) for text in word.text[1:].split(b":"))
     said = told(end_fault)(end)
     if said:
         return said
     if len(fields) != len(FIELDS):
-        return f"The value of an end has {len(FIELDS)} numbers behind the end, and here stand {len(fields)}."
+        return f"The value of an end has {len(FIELDS)} numbers after the end, and this one has {len(fields)}."
     return next(filter(None, (part.fault(field) for part, field in zip(FIELDS, fields))), None)
 
 
@@ -258,7 +261,7 @@ def place_fault(transcript, number: int, line: bytes) -> str:
     if number <= 2:
         return first_lines(number, head)
     if head in ("transcript", "kernels"):
-        return f"A `{head}` line stands in line {1 if head == 'transcript' else 2} alone."
+        return f"Only line {1 if head == 'transcript' else 2} is a `{head}` line."
     if head in ("process", "wire"):
         return in_the_header(transcript, head)
     return behind_the_header(transcript, head, number)
@@ -268,7 +271,7 @@ def text_ends(number: int) -> str:
     if number == 1:
         return "The text is empty."
     if number == 2:
-        return "The text ends behind its first line, and has no kernels."
+        return "The text ends after its first line, and has no kernels."
     return "The text ends before its last line, which says whether a packet is under way."
 
 
@@ -276,16 +279,17 @@ def first_lines(number: int, head: str) -> str:
     wanted = ("transcript", "kernels")[number - 1]
     if head == wanted:
         return "The version is 1 or 2." if number == 1 else f"There are 1 to {MOST_KERNELS} kernels."
-    return "The first line tells the version, and this one does not." if number == 1 else "The second line tells how many kernels there are, and this one does not."
+    what = "the version" if number == 1 else "how many kernels there are"
+    return f"The {'first' if number == 1 else 'second'} line tells {what}, and this one does not."
 
 
 def in_the_header(transcript, head: str) -> str:
     if transcript.entries or transcript.notes:
-        return f"A `{head}` line stands above all events and notes."
+        return f"A `{head}` line comes before all events and notes."
     if head == "wire":
         return f"There are {MOST_WIRES} wires already, and that is the most."
     if transcript.wires:
-        return "Processes stand above the wires."
+        return "Processes come before the wires."
     count = len(transcript.homes)
     if count == MOST_PROCESSES:
         return f"There are {MOST_PROCESSES} processes already, and that is the most."
@@ -294,9 +298,9 @@ def in_the_header(transcript, head: str) -> str:
 
 def behind_the_header(transcript, head: str, number: int) -> str:
     if head == ".":
-        return "Behind a note stands no service line." if transcript.notes else f"A service line stands below an event, and line {number - 1} is none."
+        return "No service line comes after a note." if transcript.notes else f"A service line comes below an event, and line {number - 1} is none."
     if head[0].isdigit():
-        return "Events stand above the notes, and the line before this one is a note."
+        return "Events come before the notes, and the line above is a note."
     if head == "note":
-        return f"Notes stand in the order of the lines that they are about, and the one before is about line {transcript.notes[-1].split(' ')[1]}."
+        return f"Notes come in the order of the lines that they are about, and the one above is about line {transcript.notes[-1].split(' ')[1]}."
     return "`spent` is of a run of programs, and notes are of a script: no transcript has both." if head == "spent" else ""
