@@ -44,20 +44,20 @@ def put(stream, text):
 
 
 def sentence_of(name, number):
-    """What is wrong with the line of this number. None where that is not known; whatever goes wrong here changes nothing else."""
-    try:
-        from line import line_sentence, lines_of
+    """What is wrong with the line of this number, or None."""
+    from line import line_sentence, lines_of
 
-        return line_sentence(lines_of(name, number), number)
-    except Exception:
-        return None
+    return line_sentence(lines_of(name, number), number)
 
 
 def told(name, status, out):
-    """The line behind the three lines."""
+    """The line behind the three lines. Whatever goes wrong here changes nothing else."""
     lines = THREE_LINES.fullmatch(out) if status == REFUSED else None
-    sentence = sentence_of(name, int(lines[1])) if lines else None
-    return b"why: %s\n" % sentence.encode("ascii") if sentence else b""
+    try:
+        sentence = sentence_of(name, int(lines[1])) if lines else None
+        return b"why: %s\n" % sentence.encode("ascii") if sentence else b""
+    except Exception:
+        return b""
 
 
 def main(name, *command):
@@ -73,6 +73,5 @@ if __name__ == "__main__":
     try:
         sys.exit(main(*sys.argv[1:]))
     except OSError:
-        # no further write is tried when Python ends
-        sys.stdout = sys.stderr = None
+        # with no further try to write
         os._exit(WRITE_FAULT)
