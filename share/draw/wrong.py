@@ -136,12 +136,13 @@ def other_step(entry: Entry, printed: str, wanted: list[str], place: int) -> str
         return "Another service line of this event comes before this one."
     if printed in wanted[:place]:
         return "This service line is above already."
-    if due.startswith("refuse "):
-        other = " by another cause" if printed.startswith("refuse ") else ""
+    named, words = printed.split(" "), due.split(" ")
+    if words[0] == "refuse" and words[-1] != named[-1]:
+        other = " by another cause" if named[0] == "refuse" else ""
         return f"The call is refused{other}: {cause_of(entry, due)}."
-    if printed.startswith("refuse "):
+    if named[0] == "refuse" and words[0] != "refuse":
         return "The call is allowed here."
-    return other_words(printed.split(" "), due.split(" "))
+    return other_words(named, words)
 
 
 def cause_of(entry: Entry, due: str) -> str:

@@ -64,6 +64,8 @@ def told(find: Callable) -> Callable[[Word], str | None]:
 
 
 def no_text(word: Word) -> str | None:
+    if word.text.startswith(b"+"):
+        return f"TEXT is missing before {word}; `-` is one of no bytes."
     found = told(text_fault)(word)
     count = len(PIECE.findall(word.text))
     return found or (f"The text has {count} bytes, and {LONGEST_TEXT} are the most." if count > LONGEST_TEXT else None)
@@ -139,7 +141,7 @@ def form_fault(line: bytes, version: int) -> str | None:
         return entry_fault(words, version)
     if first in LINES:
         return parts_fault(words, 1, LINES[first], version)
-    return other_line(words[0]) or unknown(words[0], "first word of a line", tuple(LINES))
+    return other_line(words) or unknown(words[0], "first word of a line", tuple(LINES))
 
 
 def spacing_fault(line: bytes) -> str | None:
@@ -158,10 +160,15 @@ def spacing_fault(line: bytes) -> str | None:
     return "There are two blanks between two words." if b"  " in line else None
 
 
-def other_line(first: Word) -> str | None:
-    """A line of a script, or a service line in another spelling."""
+def other_line(words: list[Word]) -> str | None:
+    """A line of a script, or one whose beginning is missing."""
+    first = words[0]
     if first.text.startswith(b"."):
         return "A blank is missing after the dot of a service line."
+    if re.fullmatch(rb"k[0-9]+", first.text):
+        return "The line of an event begins with its stamp."
+    if first.text.decode("latin-1") in STEPS and not (first.text == b"take" and words[1:] and NUMBER.fullmatch(words[1].text)):
+        return "A service line begins with a dot and a blank."
     if first.text.startswith(b"#"):
         return "This is a comment, and a transcript has none."
     if PROCESS.fullmatch(first.text):
