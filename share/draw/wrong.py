@@ -32,7 +32,7 @@ CAUSES = {
 
 def wrong_entry(world: World, entry: Entry) -> str:
     """Why this event can not come next, or not with this stamp."""
-    return no_such_place(world, entry) or no_such_event(world, entry) or other_order(world, entry) or other_stamp(world, entry)
+    return no_such_place(world, entry) or no_such_event(world, entry) or other_stamp(world, entry)
 
 
 def no_such_place(world: World, entry: Entry) -> str:
@@ -63,27 +63,27 @@ def no_call(world: World, process: int) -> str:
     return f"Process {process} waits for the answer to its call in line {called}, and makes no other call before."
 
 
-def other_order(world: World, entry: Entry) -> str:
-    stamp, kernel = world.latest
-    if entry.stamp < stamp:
-        return f"Stamp {entry.stamp} is earlier than stamp {stamp} of the event before."
-    if entry.stamp > stamp or entry.kernel > kernel:
-        return ""
-    if entry.kernel < kernel:
-        return f"Events with the same stamp come in the order of their kernels, and the event before is of kernel {kernel}."
-    return f"Kernel {kernel} has an event with stamp {stamp} already."
-
-
 def other_stamp(world: World, entry: Entry) -> str:
-    last = world.stamps[entry.kernel]
-    if entry.is_packet():
-        packet = world.lists[entry.sender, entry.kernel][0]
-        sent = world.stamp_of[packet.tail]
-        if sent > last:
-            return f"The packet was sent in line {world.entries[packet.tail].line}, at stamp {sent}, and its taking has a stamp that is one more."
+    """Of an event that can happen, but not with this stamp, or not any more."""
+    packet = world.lists[entry.sender, entry.kernel][0] if entry.is_packet() else None
+    last, sent = world.stamps[entry.kernel], world.stamp_of[packet.tail] if packet else 0
+    due = max(last, sent) + 1
+    if (due, entry.kernel) <= world.latest:
+        return no_place(world, due)
+    if sent > last:
+        return f"The packet was sent in line {world.entries[packet.tail].line}, at stamp {sent}, and its taking has a stamp that is one more."
     if last:
         return f"The event before at kernel {entry.kernel} has stamp {last}, and the next one a stamp that is one more."
     return f"Kernel {entry.kernel} had no event so far, and the first one has stamp 1."
+
+
+def no_place(world: World, due: int) -> str:
+    """Of an event that comes before the last one, by its stamp and its kernel."""
+    line = world.entries[world.story.happened - 1].line
+    stamp = world.latest[0]
+    if due < stamp:
+        return f"The stamp of this event is {due}, so it comes before the event of line {line}, which has stamp {stamp}."
+    return f"The stamp of this event is {due}, as that of line {line}, and such events come in the order of their kernels."
 
 
 # ---- packets
