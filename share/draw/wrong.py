@@ -9,7 +9,7 @@ from transcript import Entry, there_is_no
 if TYPE_CHECKING:
     from run import World
 
-# What docs/TRANSCRIPT.md calls the fields of packets, and what the words of service lines are.
+# What docs/TRANSCRIPT.md calls the fields of packets.
 FIELDS = {
     "want": ("END", "W", "AT", "HOPS"), "unwant": ("END", "W", "AT", "HOPS"), "unwanted": ("END", "W", "AT", "HOPS"),
     "parcel": ("END", "N", "W", "AT", "HOPS", "TEXT"), "taken": ("END", "N", "AT", "HOPS"), "back": ("END", "N"), "gone": ("END", "AT"),

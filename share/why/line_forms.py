@@ -97,7 +97,7 @@ FIELDS = [number(name, {"HINTKERNEL": U8, "DEAD": 1, "TRAIL": U8}.get(name, U32)
 
 @dataclass(frozen=True)
 class Form:
-    """The parts behind the first word, and what may stand behind them: ends, values, one word, or nothing."""
+    """The parts after the word that names the form, and what may come after them: ends, values, one word, or nothing."""
 
     parts: tuple[Part, ...] = ()
     behind: str = ""
@@ -124,7 +124,7 @@ STEPS = {
     "complete": Form((END, N)), "withdraw": Form((END,)), "free": Form((END,)), "notice": Form((END,), "dead"), "back": Form((END, N), "dead"),
     "report": Form((P, END, WAY, either("RESULT", "done", "destroyed"))),
 }
-# What stands behind `done` or `destroyed` of a report.
+# What comes after `done` or `destroyed` of a report.
 REPORTS = {("out", "done"): Form(), ("out", "destroyed"): Form((), "ends"), ("in", "done"): Form((TEXT,), "ends"), ("in", "destroyed"): Form()}
 
 
@@ -263,7 +263,7 @@ def no_value(word: Word) -> str | None:
 
 
 def place_fault(transcript, number: int, line: bytes) -> str:
-    """Why a line of a good form can not stand here. Empty where nothing is known. The transcript is what stands before."""
+    """Why a line of a good form can not be here. Empty where nothing is known. The transcript is what comes before."""
     head = line.split(b" ")[0].decode("latin-1")
     if number <= 2:
         return first_lines(number, head)
