@@ -3,6 +3,7 @@
 from event import Event
 from state import SENT, Here, Message, Process, Value, order_of
 from transcript import Refused
+from wrong import no_call
 
 MOST_LINKS = 65_536
 
@@ -12,9 +13,9 @@ class CallEvent(Event):
 
     def happens(self) -> None:
         words, process = self.entry.what.split(" "), self.world.processes[self.entry.process]
-        if process.waits or process.cancels or process.exited:
+        if not process.runs():
             why = "has exited" if process.exited else "waits for an answer"
-            raise Refused(self.entry.line, f"process {self.entry.process} {why}")
+            raise Refused(self.entry.line, f"process {self.entry.process} {why}", no_call(self.world, self.entry.process))
         if cause := self.cause(words, process):
             self.step(f"refuse p{self.entry.process} {cause}")
         else:

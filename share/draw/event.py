@@ -6,6 +6,7 @@ from typing import TYPE_CHECKING
 
 from state import RESENT, SENT, Change, Destroyed, Here, Left, Packet, Process, Report, Value, opposite
 from transcript import Entry, Refused
+from wrong import missing_step, other_step, too_many_steps
 
 if TYPE_CHECKING:
     from run import World
@@ -55,15 +56,16 @@ class Event:
 
     def compare_steps(self) -> None:
         """The service lines are those that this event has."""
-        printed = self.entry.steps
-        for step, wanted in zip(printed, self.steps):
+        entry, printed, due = self.entry, self.entry.steps, self.steps
+        for place, (step, wanted) in enumerate(zip(printed, due)):
             if step.text != wanted:
-                raise Refused(step.line, f"the service line of this event is `. {wanted}`")
-        if len(printed) > len(self.steps):
-            raise Refused(printed[len(self.steps)].line, "this event has no such service line")
-        if len(printed) < len(self.steps):
-            behind = self.entry.line + len(printed) + 1
-            raise Refused(behind, f"the service line `. {self.steps[len(printed)]}` of the event above is missing")
+                raise Refused(step.line, f"the service line of this event is `. {wanted}`", other_step(entry, step.text, due, place))
+        if len(printed) > len(due):
+            more = printed[len(due)]
+            raise Refused(more.line, "this event has no such service line", too_many_steps(entry, more.text, due))
+        if len(printed) < len(due):
+            behind, wanted = entry.line + len(printed) + 1, due[len(printed)]
+            raise Refused(behind, f"the service line `. {wanted}` of the event above is missing", missing_step(entry, wanted))
 
     def send_want(self, here: Here, name: str, manner: str) -> None:
         value = here.value

@@ -13,7 +13,8 @@ from collections import deque
 from calls import CallEvent
 from packets import PacketEvent
 from state import Arrow, Change, Destroyed, Here, Left, Packet, Process, Story, Value
-from transcript import Entry, Refused, Transcript, read
+from transcript import Entry, Refused, Transcript, read, there_is_no
+from wrong import NOT_OPEN, not_quiet, wrong_entry
 
 
 def follow(transcript: Transcript) -> Story:
@@ -45,6 +46,7 @@ class World:
         self.story = Story()
         self.kernels = transcript.kernels
         self.homes = transcript.homes
+        self.entries = transcript.entries
         self.tables: list[dict[str, Here | Left | Destroyed]] = [{} for _ in range(self.kernels)]
         self.processes = [Process() for _ in self.homes]
         self.stamps = [0] * self.kernels
@@ -71,7 +73,7 @@ class World:
         packet = self.first_packet(entry) if entry.is_packet() else None
         before = max(self.stamps[entry.kernel], self.stamp_of[packet.tail] if packet else 0)
         if entry.stamp != before + 1:
-            raise Refused(entry.line, f"the stamp of this event is {before + 1}")
+            raise self.refused(entry, f"the stamp of this event is {before + 1}")
         self.stamps[entry.kernel] = entry.stamp
         self.latest = (entry.stamp, entry.kernel)
         self.stamp_of.append(entry.stamp)
@@ -84,14 +86,17 @@ class World:
         """An event is one of a kernel and a process that are there, and stands in its order."""
         for kernel in (entry.kernel, entry.sender or 0):
             if kernel >= self.kernels:
-                raise Refused(entry.line, f"there is no kernel {kernel}")
+                raise self.refused(entry, f"there is no kernel {kernel}")
         if not entry.is_packet():
             if entry.process >= len(self.homes):
-                raise Refused(entry.line, f"there is no process {entry.process}")
+                raise self.refused(entry, f"there is no process {entry.process}")
             if self.homes[entry.process] != entry.kernel:
-                raise Refused(entry.line, f"process {entry.process} is at home on kernel {self.homes[entry.process]}")
+                raise self.refused(entry, f"process {entry.process} is at home on kernel {self.homes[entry.process]}")
         if (entry.stamp, entry.kernel) <= self.latest:
-            raise Refused(entry.line, "events stand in the order of their stamps, and then of their kernels")
+            raise self.refused(entry, "events stand in the order of their stamps, and then of their kernels")
+
+    def refused(self, entry: Entry, why: str) -> Refused:
+        return Refused(entry.line, why, wrong_entry(self, entry))
 
     def taking(self, number: int, entry: Entry, packet: Packet) -> PacketEvent:
         self.lists[entry.sender, entry.kernel].popleft()
@@ -102,19 +107,19 @@ class World:
     def first_packet(self, entry: Entry) -> Packet:
         waiting = self.lists[entry.sender, entry.kernel]
         if not waiting:
-            raise Refused(entry.line, f"no packet is under way from kernel {entry.sender} to kernel {entry.kernel}")
+            raise self.refused(entry, f"no packet is under way from kernel {entry.sender} to kernel {entry.kernel}")
         if waiting[0].text != entry.what:
-            raise Refused(entry.line, f"the first packet from kernel {entry.sender} is `{waiting[0].text}`")
+            raise self.refused(entry, f"the first packet from kernel {entry.sender} is `{waiting[0].text}`")
         return waiting[0]
 
     def compare_last(self, transcript: Transcript) -> None:
-        is_quiet = not any(self.lists.values())
+        packets = sum(map(len, self.lists.values()))
         if transcript.spent is not None and transcript.spent >= self.kernels:
-            raise Refused(transcript.last_line, f"there is no kernel {transcript.spent}")
-        if transcript.last == "quiet" and not is_quiet:
-            raise Refused(transcript.last_line, "a packet is under way: the last line is not `quiet`")
-        if transcript.last == "open" and is_quiet:
-            raise Refused(transcript.last_line, "no packet is under way: the last line is not `open`")
+            raise Refused(transcript.last_line, f"there is no kernel {transcript.spent}", there_is_no("kernel", transcript.spent, self.kernels))
+        if transcript.last == "quiet" and packets:
+            raise Refused(transcript.last_line, "a packet is under way: the last line is not `quiet`", not_quiet(packets))
+        if transcript.last == "open" and not packets:
+            raise Refused(transcript.last_line, "no packet is under way: the last line is not `open`", NOT_OPEN)
 
     def stop(self) -> None:
         """Leaves of the story what happened, and the packets that are under way then."""

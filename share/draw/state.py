@@ -91,6 +91,9 @@ class Process:
     cancels: bool = False
     exited: bool = False
 
+    def runs(self) -> bool:
+        return not (self.waits or self.cancels or self.exited)
+
 
 @dataclass(slots=True)
 class Arrow:

@@ -45,16 +45,25 @@ ESCAPE = re.compile(r"%(..)")
 
 
 class Refused(Exception):
-    """The text is no transcript that this program draws: the first line where that shows, and why."""
+    """The text is no transcript that this program draws: the first line where that shows, and why. `wrong` says in a sentence what is wrong with the
+    line, for those who see what was expected there; where it is empty, `why` does."""
 
-    def __init__(self, line: int, why: str):
+    def __init__(self, line: int, why: str, wrong: str = ""):
         super().__init__(why)
         self.line = line
         self.why = why
+        self.wrong = wrong
 
 
 class TooMany(Exception):
     """The transcript has more events than are drawn."""
+
+
+def there_is_no(what: str, number: int, count: int) -> str:
+    """That there is no kernel or no process of this number."""
+    many = {"kernel": "kernels", "process": "processes"}[what]
+    has = f"the {many} are 0 to {count - 1}" if count > 1 else f"the one {what} is 0" if count else f"there are no {many}"
+    return f"There is no {what} {number}: {has}."
 
 
 class Lines:
@@ -160,12 +169,12 @@ def add_header_line(transcript: Transcript, found: re.Match, number: int) -> Non
         if int(found["i"]) != len(transcript.homes) or len(transcript.homes) == MOST_PROCESSES:
             raise Refused(number, f"processes are numbered 0, 1, 2 and so on, up to {MOST_PROCESSES - 1}")
         if int(found["k"]) >= transcript.kernels:
-            raise Refused(number, f"there is no kernel {found['k']}")
+            raise Refused(number, f"there is no kernel {found['k']}", there_is_no("kernel", int(found["k"]), transcript.kernels))
         transcript.homes.append(int(found["k"]))
         return
     for name in (found["a"], found["b"]):
         if int(name) >= len(transcript.homes):
-            raise Refused(number, f"there is no process {name}")
+            raise Refused(number, f"there is no process {name}", there_is_no("process", int(name), len(transcript.homes)))
     if len(transcript.wires) == MOST_WIRES:
         raise Refused(number, f"there are at most {MOST_WIRES} wires")
     transcript.wires.append((int(found["a"]), int(found["b"])))
@@ -256,7 +265,7 @@ def read_last(transcript: Transcript, lines: Lines, at: int) -> None:
     if found["kernel"] and transcript.notes:
         raise Refused(at + 1, "`spent` stands behind no note")
     if lines.at(at + 1) is not None:
-        raise Refused(at + 2, "the transcript has ended with the line before")
+        raise Refused(at + 2, "the transcript has ended with the line before", "The line above is the last one of the transcript.")
     transcript.last = found[0]
     transcript.spent = found["kernel"] and int(found["kernel"])
     transcript.last_line = at + 1

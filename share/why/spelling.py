@@ -3,7 +3,7 @@
 import re
 from dataclasses import dataclass
 
-from shown import shown
+from shown import cut, shown
 
 NUMBER = re.compile(rb"0|[1-9][0-9]*")
 PROCESS = re.compile(rb"p(0|[1-9][0-9]*)")
@@ -30,7 +30,7 @@ class Word:
         return self.at + len(self.text)
 
     def __str__(self) -> str:
-        return f"`{shown(self.text)}`"
+        return f"`{cut(self.text)}`"
 
 
 def words_of(line: bytes) -> list[Word]:
