@@ -1,2 +1,4 @@
+mod Complete
+mod Driven
 mod Faults
 pub mod Lawful

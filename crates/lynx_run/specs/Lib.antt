@@ -2,5 +2,6 @@ pub mod Audit
 pub mod Check
 pub mod Code
 pub mod Commands
+pub mod Complete
 pub mod Drive
 pub mod Failing

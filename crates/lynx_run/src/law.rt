@@ -1,11 +1,29 @@
 //! What holds of the texts of commands.
-ghost use Rattle.std.specs.Prelude.{ℕ, List};
+ghost use Rattle.std.specs.Prelude.{◌≡◌, ℕ, List, Some};
 ghost use Rattle.std.specs.List.{concat};
-ghost use Rattle.transcript_lines.specs.declared.last.Last.{Last};
+ghost use Rattle.command_words.specs.declared.words.Command.{Command as ACommand};
+ghost use Rattle.lynx_command.specs.Course.{Course, Outside, Took};
+ghost use Rattle.lynx_outside.specs.Files.{Listing};
+ghost use Rattle.lynx_outside.specs.declared.status.Status.{Status as AStatus};
+ghost use Rattle.lynx_run.specs.Commands.{Answers};
+ghost use Rattle.lynx_run.specs.Complete.{AreObeyed, FileOf, HasFileOf, HasNoFault, IsComplete};
 ghost use Rattle.lynx_run.specs.Drive.{IsDriven};
 ghost use Rattle.transcript_audit.specs.Audit.{IsAudited};
+ghost use Rattle.transcript_lines.specs.declared.last.Last.{Last};
 
 /// What `drive` puts on out is a text that `audit` accepts, where it has no more bytes than `audit` reads.
 pub fn driven_is_audited()
     ensures { (bytes : List ℕ) (lines : List (List ℕ)) → IsDriven bytes lines → (last : Last) × IsAudited (concat lines) last }
+{}
+
+/// Where nothing outside fails, the file of a command that is built is there and within its limit, and its bytes obey the command's rules, the
+/// status is 0 and out gets the whole text, or memory ran out. Of files that tell what they hold this is said by that, else by what the
+/// read answered.
+pub fn each_command_is_complete()
+    ensures by_files { (command : ACommand) (course : Course) (ended : AStatus) (old new : Outside) (files : Listing)
+        → old.files.contents ≡ Some files → HasFileOf command files → Answers (Some command) course → Took course ended old new
+        → HasNoFault old new → IsComplete command course ended }
+    ensures by_answer { (command : ACommand) (name : List ℕ) (most : ℕ) (course : Course) (ended : AStatus) (old new : Outside)
+        → FileOf command name most → Answers (Some command) course → Took course ended old new → HasNoFault old new
+        → AreObeyed command course.reads → IsComplete command course ended }
 {}

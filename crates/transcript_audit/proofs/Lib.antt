@@ -1,3 +1,3 @@
-pub mod Driven
+pub mod Told
 pub mod Once
 pub mod Taken

@@ -34,7 +34,7 @@ lines-bad bytes x n are bad = ok-bad (lines_read bytes) x n (lines_only bytes x 
 pub not-both : (bytes : List ℕ) (a : Last) (n : ℕ) → IsAudited bytes a → IsRejected bytes n → ⊥
 not-both bytes a n is (Bad bad) = lines-bad bytes is.lines n is.are bad
 not-both bytes a n is (Different d) =
-    differing-none d.lines n a d.first (subst (λ (x : List Line). IsReplayOf x a) (same-lines bytes is.lines d.lines is.are d.are) is.replayed)
+    differing-none d.lines n a d.first (subst (λ (x : List Line). IsReplayOf x a) (same-lines bytes is.lines d.lines is.are d.are) is.run.replayed)
 
 -- ---- one last line
 
@@ -71,8 +71,8 @@ replay-last ks last r =
 
 pub one-accepted : (bytes : List ℕ) (a b : Last) → IsAudited bytes a → IsAudited bytes b → a ≡ b
 one-accepted bytes a b x y =
-    let there : IsReplayOf y.lines a = subst (λ (ls : List Line). IsReplayOf ls a) (same-lines bytes x.lines y.lines x.are y.are) x.replayed in
-    sym (replay-last (kinds_in y.lines) a there) ∙ replay-last (kinds_in y.lines) b y.replayed
+    let there : IsReplayOf y.lines a = subst (λ (ls : List Line). IsReplayOf ls a) (same-lines bytes x.lines y.lines x.are y.are) x.run.replayed in
+    sym (replay-last (kinds_in y.lines) a there) ∙ replay-last (kinds_in y.lines) b y.run.replayed
 
 -- ---- one line that is rejected
 

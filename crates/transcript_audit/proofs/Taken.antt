@@ -127,8 +127,7 @@ going-ends bytes old r s is all = record {
 
 pub audited-of : (bytes : List ℕ) (r : Replay) (is : HasAudited bytes r) → IsAudited bytes is.ended.last
 audited-of bytes r is =
-    let replayed = ended-replay is.lines r is.ended in
-    record { lines = is.lines; are = is.are; replayed = replayed; lawful = replay-is-lawful (kinds_in is.lines) is.ended.last replayed }
+    record { lines = is.lines; are = is.are; run = replay-is-lawful (kinds_in is.lines) is.ended.last (ended-replay is.lines r is.ended) }
 
 -- ---- a line that differs
 

@@ -1,9 +1,16 @@
 -- What an audit of a text answers.
 use Rattle.std.specs.Prelude.{◌≡◌, ℕ, List, [], ◌∷◌, ◌++◌, None, Ok, Err}
+use Rattle.charlotte_calls.specs.declared.setting.Setting.{Setting}
+use Rattle.kernel_entries.specs.declared.entry.Placed.{Placed}
+use Rattle.kernel_world.specs.Run.{IsRecord}
+use Rattle.kernel_world.specs.World.{Event, after, start}
+use Rattle.transcript_lines.specs.TranscriptText.{IsTranscript}
 use Rattle.transcript_lines.specs.declared.last.Last.{Last}
+use Rattle.transcript_lines.specs.declared.last.ScriptNote.{ScriptNote}
+use Rattle.transcript_replay.specs.Replay.{IsTrueLast}
 use Rattle.kernel_journal.specs.At.{IsAt}
 use Rattle.kernel_journal.specs.Expected.{HasDiffered}
-use Rattle.kernel_journal.specs.Faults.{IsFaultAt, IsFirstDifference, IsReplayOf, kinds_in}
+use Rattle.kernel_journal.specs.Faults.{IsFaultAt, IsFirstDifference, kinds_in}
 use Rattle.kernel_journal.specs.declared.fault.ReplayFault.{ReplayFault}
 use Rattle.kernel_journal.specs.declared.fault.ReplayFault.TheVariants as replay
 use Rattle.kernel_journal.specs.declared.lines.Replay.{Replay}
@@ -19,12 +26,21 @@ use Rattle.transcript_reader.specs.declared.fault.LineFault.TheVariants as readi
 use Rattle.transcript_reader.specs.declared.line.Line.{Line}
 use Rattle.transcript_reading.specs.declared.line.LineKind.{LineKind}
 
--- The text is the transcript of a run with this last line, and its service lines are one lawful run of the link service.
+-- The text is the transcript of a run with this last line, whose entries show one lawful run of the link service.
 pub record IsAudited (bytes : List ℕ) (last : Last) : Type 0 where
   pub lines : List Line
   pub are : AreLines bytes lines
-  pub replayed : IsReplayOf lines last
-  pub lawful : IsLawfulReplay (kinds_in lines) last
+  pub run : IsLawfulReplay (kinds_in lines) last
+
+-- the text is the transcript of a run in the order of a merge, and its last line is true of the world that is left
+pub record IsRunTranscript (bytes : List ℕ) (last : Last) : Type 0 where
+  pub setting : Setting
+  pub events : List Event
+  pub merged : List Placed
+  pub recorded : IsRecord setting events merged
+  pub notes : List ScriptNote
+  pub told : IsTranscript bytes setting merged notes last
+  pub true_last : IsTrueLast setting (after (start setting) events) last
 
 -- each line of a text can stand where it stands, and this one is the first that differs from what the kernels give there
 pub record IsDifferent (bytes : List ℕ) (number : ℕ) : Type 0 where

@@ -1,14 +1,8 @@
 //! What holds of every audit.
 ghost use Rattle.std.specs.Prelude.{◌≡◌, ℕ, List};
-ghost use Rattle.charlotte_calls.specs.Setting.{IsValid};
-ghost use Rattle.charlotte_calls.specs.declared.setting.Setting.{Setting};
 ghost use Rattle.transcript_lines.specs.TranscriptText.{IsTranscript};
 ghost use Rattle.transcript_lines.specs.declared.last.Last.{Last};
-ghost use Rattle.transcript_lines.specs.declared.last.ScriptNote.{ScriptNote};
-ghost use Rattle.kernel_entries.specs.declared.entry.Placed.{Placed};
-ghost use Rattle.lynx_plan.specs.declared.script.ScriptLine.{ScriptLine};
-ghost use Rattle.script_run.specs.Performing.{IsPerformance};
-ghost use Rattle.transcript_audit.specs.Audit.{IsAudited, IsRejected};
+ghost use Rattle.transcript_audit.specs.Audit.{IsAudited, IsRejected, IsRunTranscript};
 
 /// A text is accepted with one last line at most, or rejected at one line at most, and not both.
 pub fn one_audit()
@@ -17,8 +11,13 @@ pub fn one_audit()
     ensures not_both { (bytes : List ℕ) (a : Last) (n : ℕ) → IsAudited bytes a → IsRejected bytes n → ⊥ }
 {}
 
-/// The transcript of a performed script is accepted.
-pub fn driven_is_audited()
-    ensures { (bytes : List ℕ) (s : Setting) (lines : List ScriptLine) (merged : List Placed) (notes : List ScriptNote) (last : Last)
-        → IsValid s → IsPerformance s lines merged notes last → IsTranscript bytes s merged notes last → IsAudited bytes last }
+/// The transcript of any run, with a last line that is true of it, is accepted.
+pub fn record_is_audited()
+    ensures { (bytes : List ℕ) (last : Last) → IsRunTranscript bytes last → IsAudited bytes last }
+{}
+
+/// What is accepted is the transcript of the very run that it is accepted for: its entries, with the stamps of the packets, and its notes.
+pub fn audited_is_transcript()
+    ensures { (bytes : List ℕ) (last : Last) (is : IsAudited bytes last)
+        → IsTranscript bytes is.run.replayed.setting is.run.replayed.merged is.run.replayed.notes last }
 {}

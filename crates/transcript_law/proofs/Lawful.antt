@@ -7,4 +7,4 @@ use Rattle.transcript_reading.specs.declared.line.LineKind.{LineKind}
 use Rattle.transcript_replay.specs.Replay.{IsReplay}
 
 pub replay-is-lawful : (kinds : List LineKind) (last : Last) → IsReplay kinds last → IsLawfulReplay kinds last
-replay-is-lawful kinds last r = record { setting = r.setting; merged = r.merged; notes = r.notes; shown = r.shown; lawful = record-is-lawful r.setting r.events r.merged r.valid r.recorded }
+replay-is-lawful kinds last r = record { replayed = r; lawful = record-is-lawful r.setting r.events r.merged r.valid r.recorded }

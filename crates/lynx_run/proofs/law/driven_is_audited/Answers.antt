@@ -1,6 +1,7 @@
 use Rattle.std.specs.List.{concat}
-use Rattle.transcript_audit.proofs.Driven.{driven-is-audited}
+use Rattle.transcript_audit.proofs.Told.{record-is-audited}
+use Rattle.lynx_run.proofs.Driven.{driven-transcript}
 use Rattle.lynx_run.proofs.law.driven_is_audited.Goals as goal
 
 pub returns : goal.returns
-returns c = λ bytes lines is. (is.last, driven-is-audited (concat lines) is.script.setting is.script.lines is.merged is.notes is.last is.told.told.setting is.performed is.told)
+returns c = λ bytes lines is. (is.last, record-is-audited (concat lines) is.last (driven-transcript bytes lines is))
