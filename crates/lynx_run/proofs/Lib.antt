@@ -1,4 +1,5 @@
 mod Complete
 mod Driven
 mod Faults
+mod Once
 pub mod Lawful

@@ -16,6 +16,11 @@ pub fn driven_is_audited()
     ensures { (bytes : List ℕ) (lines : List (List ℕ)) → IsDriven bytes lines → (last : Last) × IsAudited (concat lines) last }
 {}
 
+/// `drive` has one text to put of a script.
+pub fn driven_is_one_text()
+    ensures { (bytes : List ℕ) (lines others : List (List ℕ)) → IsDriven bytes lines → IsDriven bytes others → lines ≡ others }
+{}
+
 /// Where nothing outside fails, the file of a command that is built is there and within its limit, and its bytes obey the command's rules, the
 /// status is 0 and out gets the whole text, or memory ran out. Of files that tell what they hold this is said by that, else by what the
 /// read answered.

@@ -11,7 +11,8 @@
 //! at which a transcript is not that of a run. The bytes are those that the command's one read answered, of real files too. Every other
 //! command fails by its name, and reads nothing.
 //! By clauses of `lynx`, `drive_file`, `check_file`, `code_file` and `audit_file`; `Answers`, `Drives`, `Checks`, `Codes`, `Audits` in
-//! `specs/`; `lawful` of `IsDriven`; the laws `driven_is_audited` and `each_command_is_complete`.
+//! `specs/`; `lawful` of `IsDriven`; the laws
+//! `driven_is_audited`, `driven_is_one_text` and `each_command_is_complete`.
 #![tactic(auto)]
 
 mod audit;
@@ -25,5 +26,5 @@ pub use audit::{AuditCommand, audit_file};
 pub use check::{CheckCommand, check_file};
 pub use code::{CodeCommand, code_file};
 pub use drive::{DriveCommand, drive_file};
-pub use law::{driven_is_audited, each_command_is_complete};
+pub use law::{driven_is_audited, driven_is_one_text, each_command_is_complete};
 pub use top::{fail, lynx};

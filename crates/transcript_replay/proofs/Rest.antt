@@ -52,12 +52,12 @@ calls-alike s p (call.Print bytes) m n a b = refl
 calls-alike s p call.Exit m n a b = ap (λ l. call_step (without_answer p s) p l call.Exit) (AreEndsOf-unique p s.table m n a b)
 
 -- two events do the same
-record IsSame (w : World) (e f : Event) : Type 0 where
-  outcome_is : outcome w e ≡ outcome w f
-  world_is : happens w e ≡ happens w f
-  kernel_is : kernel_of e ≡ kernel_of f
+pub record IsSame (w : World) (e f : Event) : Type 0 where
+  pub outcome_is : outcome w e ≡ outcome w f
+  pub world_is : happens w e ≡ happens w f
+  pub kernel_is : kernel_of e ≡ kernel_of f
 
-calls-same : (w : World) (k j : ℕ) (p q : Pid) (c d : Call) (m n : List EndId) → k ≡ j → p ≡ q → c ≡ d → IsCallWith p (w.kernel k).table m c → IsCallWith q (w.kernel j).table n d → IsSame w (Calls k p c m) (Calls j q d n)
+pub calls-same : (w : World) (k j : ℕ) (p q : Pid) (c d : Call) (m n : List EndId) → k ≡ j → p ≡ q → c ≡ d → IsCallWith p (w.kernel k).table m c → IsCallWith q (w.kernel j).table n d → IsSame w (Calls k p c m) (Calls j q d n)
 calls-same w k j p q c d m n k_is p_is c_is a b =
     record {
       outcome_is = (λ i. outcome w (Calls (k_is i) (p_is i) (c_is i) m)) ∙ one;
