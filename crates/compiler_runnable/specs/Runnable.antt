@@ -1,5 +1,5 @@
 -- Code that a machine can run.
-use Rattle.std.specs.Prelude.{◌≡◌, ℕ, suc, List, [], ◌++◌, replicate, IsTrue, Option, Some, None, slice_get}
+use Rattle.std.specs.Prelude.{◌≡◌, ℕ, suc, List, [], ◌++◌, length, map, drop, replicate, IsTrue, Option, Some, None, slice_get}
 use Rattle.std.specs.List.{AllByRecursion}
 use Rattle.lynx_tree.specs.Trees.{OpTree}
 use Rattle.lynx_tree.specs.declared.declaration.TypeName.{TypeName}
@@ -11,6 +11,7 @@ use Rattle.lynx_code.specs.declared.code.Code.{Code}
 use Rattle.lynx_code.specs.declared.code.CodeOp.{CodeOp}
 use Rattle.code_shapes.specs.Shapes.{ModuleTypes, IsShapedCode, code_types, PartTypes, code_parts}
 use Rattle.lynx_meaning.specs.Needs.{OpTypes, types_of}
+use Rattle.lynx_meaning.specs.Values.{Value, start_value}
 
 -- the types of an operation's arguments, where there is one
 abbrev pub arguments_of : ModuleTypes → Option ℕ → List TypeName
@@ -24,6 +25,10 @@ parameters m p = arguments_of m p.op
 -- variables of these types have values at the start
 abbrev pub HaveStarts : List TypeName → Type 0
 HaveStarts ts = AllByRecursion (λ t. IsTrue (has_length t)) ts
+
+-- the variables of an entry, whose parameters have these values
+abbrev pub start_locals : List TypeName → List Value → List Value
+start_locals kinds values = values ++ map start_value (drop (length values) kinds)
 
 -- the part of an entry: the operation that it serves is there, and its parameters, which have the types of the arguments, come first
 pub record IsEntryPart (m : ModuleTypes) (p : PartTypes) : Type 0 where

@@ -1,50 +1,25 @@
 -- Machines at the start, with an outcome more, and with a thread more.
-use Rattle.std.proofs.Common.{arith, ◌≡◌, ℕ, ℤ, zero, suc, ◌+◌, List, [], ◌∷◌, ◌++◌, length, map, replicate, take, drop, pos, negsuc, IsTrue, Some, slice_get, refl, sym, ap, subst, ◌∙◌, true≢false, ◌≤◌, length-append}
+use Rattle.std.proofs.Common.{arith, ◌≡◌, ℕ, zero, suc, ◌+◌, List, [], ◌∷◌, ◌++◌, length, map, replicate, take, drop, Some, slice_get, sym, ap, subst, ◌∙◌, ◌≤◌, length-append}
 use Rattle.std.proofs.lemmas.List.{length-replicate}
-use Rattle.std.specs.List.{AllByRecursion}
 use Rattle.std.specs.Prelude.{slice_index_or}
 use Rattle.lynx_tree.specs.declared.declaration.TypeName.{TypeName}
 use Rattle.lynx_tree.specs.declared.declaration.TypeName.TheVariants as types
-use Rattle.typing_rules.specs.Types.{has_length, is_length}
 use Rattle.lynx_code.specs.declared.code.Code.{Code}
 use Rattle.lynx_code.specs.declared.code.Part as kept
-use Rattle.lynx_meaning.specs.Values.{Value, HasType, is_int, start_value, HaveTypes}
-use Rattle.code_shapes.specs.Shapes.{code_types, kept_part, ModuleTypes, PartTypes, code_parts, opened_by, program}
-use Rattle.lynx_meaning.specs.Needs.{types_of}
+use Rattle.lynx_meaning.specs.Values.{Value, HaveTypes}
+use Rattle.code_shapes.specs.Shapes.{code_types, kept_part, PartTypes, code_parts, opened_by, program}
 use Rattle.lynx_meaning.specs.Courses.{Outcome}
 use Rattle.machine_turns.specs.Turns.{IsFree, at_start, given_to, spawned}
 use Rattle.machine_values.specs.declared.value.LinkRef.{LinkRef}
 use Rattle.machine_never_stuck.proofs.Pairs.{same_length}
-use Rattle.compiler_runnable.specs.Runnable.{HaveStarts, IsEntryPart, IsRunnable, arguments_of, parameters}
+use Rattle.compiler_runnable.specs.Runnable.{HaveStarts, IsRunnable, parameters, start_locals}
+use Rattle.compiler_runnable.proofs.Typed.{entry_typed, others_start, parameters_of, starts_typed}
 use Rattle.machine_sound.specs.Sound.{FitsAction}
 use Rattle.machine_sound.proofs.Outside.{given_sound, spawned_sound, start_sound}
 use Rattle.machine_requests.proofs.Outside.{given_heard_there, given_open, given_others, spawned_heard, spawned_open, spawned_others, start_heard}
-use Rattle.lynx_interp.specs.Machines.{GivesRequests, HasEntry, IsEntryFor, IsMachine, SpawnsRequests, State, start_globals, start_locals, state_of}
+use Rattle.lynx_interp.specs.Machines.{GivesRequests, HasEntry, IsEntryFor, IsMachine, SpawnsRequests, State, start_globals, state_of}
 
 -- ---- variables at the start
-
-zeros_typed : (n : ℕ) → AllByRecursion (λ (member : ℤ). IsTrue (is_int member)) (replicate n (pos 0))
-zeros_typed zero = tt
-zeros_typed (suc n) = (refl, zeros_typed n)
-
-row_typed : (n : ℤ) → IsTrue (is_length n) → HasType (types.Row n) (start_value (types.Row n))
-row_typed (pos n) is = (ap pos (length-replicate n (pos 0)), zeros_typed n)
-row_typed (negsuc n) is = absurd (true≢false (sym is))
-
-start_typed : (t : TypeName) → IsTrue (has_length t) → HasType t (start_value t)
-start_typed types.Int is = refl
-start_typed types.Bool is = tt
-start_typed types.Text is = omega arith
-start_typed types.Link is = tt
-start_typed (types.Row n) is = row_typed n is
-
-starts_typed : (ts : List TypeName) → HaveStarts ts → HaveTypes ts (map start_value ts)
-starts_typed [] have = tt
-starts_typed (t ∷ ts) have = (start_typed t have.0, starts_typed ts have.1)
-
-others_start : (ts us : List TypeName) → HaveStarts (ts ++ us) → HaveStarts us
-others_start [] us have = have
-others_start (t ∷ ts) us have = others_start ts us have.1
 
 -- the links of the params come before the other variables
 params_typed : (links : List LinkRef) (others : List TypeName) → HaveStarts others → HaveTypes (replicate (length links) types.Link ++ others) (start_globals (replicate (length links) types.Link ++ others) links)
@@ -56,17 +31,6 @@ globals_typed kinds others n links is many have =
     let known : kinds ≡ replicate (length links) types.Link ++ others = is ∙ ap (λ k. replicate k types.Link ++ others) (sym many) in
     subst (λ (ts : List TypeName). HaveTypes ts (start_globals ts links)) (sym known)
     (params_typed links others (others_start (replicate (length links) types.Link) others (subst (λ (ts : List TypeName). HaveStarts ts) known have)))
-
--- the values of the parameters come before the other variables
-values_typed : (ts others : List TypeName) (vs : List Value) → HaveTypes ts vs → HaveStarts others → HaveTypes (ts ++ others) (start_locals (ts ++ others) vs)
-values_typed [] others [] typed have = starts_typed others have
-values_typed [] others (v ∷ vs) typed have = absurd typed
-values_typed (t ∷ ts) others [] typed have = absurd typed
-values_typed (t ∷ ts) others (v ∷ vs) typed have = (typed.0, values_typed ts others vs typed.1 have)
-
-locals_typed : (kinds ts others : List TypeName) (vs : List Value) → kinds ≡ ts ++ others → HaveTypes ts vs → HaveStarts kinds → HaveTypes kinds (start_locals kinds vs)
-locals_typed kinds ts others vs is typed have =
-    subst (λ (us : List TypeName). HaveTypes us (start_locals us vs)) (sym is) (values_typed ts others vs typed (others_start ts others (subst (λ (us : List TypeName). HaveStarts us) is have)))
 
 -- ---- the start
 
@@ -86,10 +50,6 @@ start_machine code links is many =
       parts = is.parts;
       heard = start_heard (program (code_types code) code.instructions.items) (start_globals code.globals.items links);
     }
-
--- the parameters of an entry have the types of its operation's arguments
-parameters_of : (m : ModuleTypes) (p : PartTypes) (is : IsEntryPart m p) → parameters m p ≡ is.of_op.arguments
-parameters_of m p is = ap (arguments_of m) is.serves ∙ ap (types_of (λ o. o.arguments)) is.there
 
 -- ---- what the process does
 
@@ -144,10 +104,9 @@ pub spawned_machine : (s : State) (n entry : ℕ) (values : List Value) (p : Par
     IsMachine (record s { turns = spawned n (opened_by p.op) p.start (start_locals p.locals values) s.turns })
 spawned_machine s n entry values p is free here typed =
     let size : entry + 1 ≡ suc entry = omega arith in
-    let of_entry = is.parts.entries entry p (ap (slice_get s.parts) (sym size) ∙ here) in
     record {
       sound = spawned_sound s.types s.parts s.instructions s.turns n (entry + 1) p (start_locals p.locals values) is.sound free here
-          (locals_typed p.locals of_entry.of_op.arguments of_entry.others values of_entry.locals (subst (λ (ts : List TypeName). HaveTypes ts values) (parameters_of s.types p of_entry) typed) (is.parts.starts (entry + 1) p here));
+          (entry_typed s.types s.parts is.parts entry p values (ap (slice_get s.parts) (sym size) ∙ here) typed);
       parts = is.parts;
       heard = spawned_heard (program s.types s.instructions) s.turns n (opened_by p.op) p.start (start_locals p.locals values) free is.heard;
     }

@@ -10,7 +10,7 @@ use Rattle.code_shapes.specs.Shapes.{ModuleTypes, code_types, PartTypes, code_pa
 use Rattle.machine_turns.specs.Threads.{Standing}
 use Rattle.machine_turns.specs.Turns.{Turns, IsFree, spawned}
 use Rattle.machine_values.specs.declared.value.LinkRef.{LinkRef}
-use Rattle.compiler_runnable.specs.Runnable.{AreParts, HaveStarts, parameters}
+use Rattle.compiler_runnable.specs.Runnable.{AreParts, HaveStarts, parameters, start_locals}
 use Rattle.machine_sound.specs.Sound.{AreSound, IsAsking}
 use Rattle.machine_requests.specs.Heard.{AreHeard}
 use Rattle.machine_requests.specs.Open.{open_of, opens}
@@ -56,10 +56,6 @@ pub record IsMachine (s : State) : Type 0 where
 -- the variables of the module at the start: the params hold these links
 abbrev pub start_globals : List TypeName → List LinkRef → List Value
 start_globals kinds links = map (λ l. Link l.0) links ++ map start_value (drop (length links) kinds)
-
--- the variables of an entry, whose parameters have these values
-abbrev pub start_locals : List TypeName → List Value → List Value
-start_locals kinds values = values ++ map start_value (drop (length values) kinds)
 
 -- each lower number has a thread that stands
 abbrev pub StandBelow : ℕ → Turns → Type 0

@@ -7,7 +7,8 @@ ghost use Rattle.machine_values.specs.Told.{values_of};
 ghost use Rattle.machine_sound.specs.Sound.{FitsAction, StayOthers};
 ghost use Rattle.machine_thread.specs.Told.{outcome_of};
 ghost use Rattle.code_shapes.specs.Shapes.{PartTypes, opened_by};
-ghost use Rattle.lynx_interp.specs.Machines.{GivesRequests, HasEntry, IsEntryFor, IsMachine, IsSpawned, SpawnsRequests, StandBelow, how_many, start_locals};
+ghost use Rattle.lynx_interp.specs.Machines.{GivesRequests, HasEntry, IsEntryFor, IsMachine, IsSpawned, SpawnsRequests, StandBelow, how_many};
+ghost use Rattle.compiler_runnable.specs.Runnable.{start_locals};
 
 use crate::machine::Machine;
 use crate::starts::entry_variables;

@@ -6,8 +6,7 @@ ghost use Rattle.lynx_meaning.specs.Values as meaning;
 ghost use Rattle.lynx_tree.specs.declared.declaration.TypeName.TheVariants as types;
 ghost use Rattle.machine_values.specs.Told.{value_of, values_of};
 ghost use Rattle.typing_rules.specs.Types.{has_length};
-ghost use Rattle.compiler_runnable.specs.Runnable.{HaveStarts};
-ghost use Rattle.lynx_interp.specs.Machines.{start_locals};
+ghost use Rattle.compiler_runnable.specs.Runnable.{HaveStarts, start_locals};
 
 use lynx_lexer::NoMemory;
 use lynx_tree::TypeName;

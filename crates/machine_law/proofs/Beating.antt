@@ -4,11 +4,11 @@ use Rattle.lynx_code.specs.declared.instruction.Instruction.{Instruction}
 use Rattle.lynx_code.specs.declared.instruction.Instruction.TheVariants as code
 use Rattle.lynx_meaning.specs.Agree.{actions_of}
 use Rattle.lynx_meaning.specs.Code.{Next, Goes, Over, Comes, Program, Thread, exec, fetched, go_on}
-use Rattle.lynx_meaning.specs.Courses.{Action, Answer, Behaviour, Outcome, Store, New, Destroy, Bind, Unbind, Connect, Accept, Close, Reply, Write, Await, Stop, Ended, Waits, Out}
+use Rattle.lynx_meaning.specs.Courses.{Action, Answer, Behaviour, Outcome, Store, Connect, Accept, Await, Stop, Ended, Waits, Out}
 use Rattle.lynx_meaning.specs.Needs.{Wanted, wanted_by}
 use Rattle.lynx_meaning.specs.Values.{Value}
 use Rattle.code_shapes.specs.Shapes.{ModuleTypes}
-use Rattle.machine_turns.specs.Threads.{Standing, Made, Acts, Awaits, acted, answers, goes_on, in_turn, is_await, is_fresh, last_action, made, stands_at}
+use Rattle.machine_turns.specs.Threads.{Standing, Made, Acts, acted, answers, goes_on, in_turn, is_await, is_fresh, last_action, made, stands_at}
 use Rattle.machine_turns.specs.Threads as threads
 use Rattle.machine_turns.specs.Turns.{Beat, RunsOn, Stops, Turns, asks_for, awaits, comes, wakes, with_thread}
 use Rattle.machine_turns.specs.Turns as turns
@@ -16,6 +16,8 @@ use Rattle.machine_sound.proofs.Keeping.{last_of}
 use Rattle.machine_sound.proofs.Placing.{get_set}
 use Rattle.machine_sound.proofs.Rounds.{acts_threads}
 use Rattle.machine_sound.proofs.Trying.{waits_with}
+use Rattle.machine_requests.proofs.Amid.{of_acted}
+use Rattle.machine_requests.proofs.Beats.{asks_globals}
 use Rattle.machine_law.specs.Fitting.{FitAll}
 use Rattle.machine_law.specs.Lives.{Life, latest, lived, new_answer, one_more}
 use Rattle.machine_law.proofs.Trees.{Tree, Leads, Closed, Asks, Halts, Broken, IsBlocking, IsOf, OnlyCloses, WaitsHere, at, run, same_then}
@@ -27,25 +29,6 @@ keeps_or_blocks n (Connect link op values) t = inl tt
 keeps_or_blocks n (Accept link op) t = inl tt
 keeps_or_blocks n Await t = inl tt
 keeps_or_blocks n _ t = inr refl
-
-asks_globals : (n : ℕ) (a : Action) (t : Turns) → (asks_for n a t).globals ≡ t.globals
-asks_globals n (Connect link op values) t = refl
-asks_globals n (Accept link op) t = refl
-asks_globals n _ t = refl
-
--- an await is given no value, and any other action has no outcome yet
-of_acted : (P : Made → Type 0) (a : Action) (globals : List Value) (s : Standing) → (a ≡ Await → P (Awaits globals (record s { given = s.given ++ Ok [] ∷ [] }))) → P (Acts a globals (record s { wanted = Some (wanted_by a) })) → P (acted (Some a) globals s)
-of_acted P Await globals s awaits acts = awaits refl
-of_acted P New globals s awaits acts = acts
-of_acted P (Destroy link) globals s awaits acts = acts
-of_acted P (Bind link entry) globals s awaits acts = acts
-of_acted P (Unbind link entry) globals s awaits acts = acts
-of_acted P (Connect link op values) globals s awaits acts = acts
-of_acted P (Accept link op) globals s awaits acts = acts
-of_acted P Close globals s awaits acts = acts
-of_acted P (Reply values) globals s awaits acts = acts
-of_acted P (Write text) globals s awaits acts = acts
-of_acted P Stop globals s awaits acts = acts
 
 -- no code of a module comes to this
 abbrev pub IsWhole : Beat → Type 0
@@ -210,7 +193,7 @@ module _ (m : ModuleTypes) (p : Program) (t : Turns) (n : ℕ) (s : Standing) (l
     asks : HoldsBehind m p n (Some now) (comes left n t (acted (last_action (turn.own ++ a ∷ [])) store.globals s))
     asks =
         subst (λ (o : Option Action). HoldsBehind m p n (Some now) (comes left n t (acted o store.globals s))) (sym (last_of turn.own a))
-        (of_acted (λ (last : Made). HoldsBehind m p n (Some now) (comes left n t last)) a store.globals s (λ e. finds_false (subst IsBlocking (sym e) tt) (subst (λ (q : Action). FitsOutcome m q (Ok [])) (sym e) tt) s.again) asks_action)
+        (of_acted (λ (last : Made). HoldsBehind m p n (Some now) (comes left n t last)) a store.globals s (λ e. finds_false (subst IsBlocking (sym e) tt) (subst (λ (q : Action). FitsOutcome m q (Ok [])) (sym e) tt) s.again) (λ other. asks_action))
 
   -- ---- whatever it comes to
 

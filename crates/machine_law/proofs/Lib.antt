@@ -1,4 +1,3 @@
-pub mod Starts
 pub mod Trees
 pub mod Living
 pub mod Beating

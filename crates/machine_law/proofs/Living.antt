@@ -13,8 +13,9 @@ use Rattle.code_shapes.specs.Shapes.{ModuleTypes, PartTypes, opened_by}
 use Rattle.machine_turns.specs.Threads.{Standing, answers, begun, goes_on, in_turn, is_empty, is_fresh, last_action}
 use Rattle.machine_turns.specs.Turns.{Turns}
 use Rattle.machine_sound.proofs.Keeping.{last_of}
+use Rattle.compiler_runnable.specs.Runnable.{start_locals}
 use Rattle.machine_law.specs.Fitting.{FitAll, FitsTo}
-use Rattle.machine_law.specs.Lives.{Life, born, does, latest, lived, locals_of, new_answer, one_more}
+use Rattle.machine_law.specs.Lives.{Life, born, does, latest, lived, new_answer, one_more}
 use Rattle.machine_law.specs.Histories.{DidByCode, IsStop}
 use Rattle.machine_law.proofs.Trees.{Tree, Leads, Closed, Asks, Broken, Blocks, IsBlocking, IsOf, IsTree, OnlyCloses, at, closes_of, run, same_then, tree_of, WaitsHere}
 
@@ -22,7 +23,7 @@ use Rattle.machine_law.proofs.Trees.{Tree, Leads, Closed, Asks, Broken, Blocks, 
 
 -- a thread of this life before its first instruction
 abbrev pub begin : Life → List Value → List Answer → Thread
-begin life globals L = begins (opened_by life.part.op) life.part.start (record { globals = globals; locals = locals_of life.part life.arguments }) L
+begin life globals L = begins (opened_by life.part.op) life.part.start (record { globals = globals; locals = start_locals life.part.locals life.arguments }) L
 
 -- with as many instructions as it has begun, and however many more and whatever answers more, its code comes first to this
 abbrev pub Came : Program → Life → List Value → (List Answer → Next) → Type 0
@@ -40,7 +41,7 @@ FitsOutcome m action o = IfOk o (HaveTypes (wanted_types m.ops (wanted_by action
 
 -- it has not begun its first instruction
 pub record IsNew (s : Standing) (life : Life) : Type 0 where
-  pub stands : s ≡ begun (opened_by life.part.op) life.part.start (locals_of life.part life.arguments)
+  pub stands : s ≡ begun (opened_by life.part.op) life.part.start (start_locals life.part.locals life.arguments)
   pub born_so : life ≡ born life.part life.arguments
 
 -- one action more
@@ -410,9 +411,9 @@ module _ (m : ModuleTypes) (p : Program) (t : Turns) (s : Standing) (life : Life
       }
 
 -- a thread that begins
-new_turn : (m : ModuleTypes) (p : Program) (t : Turns) (part : PartTypes) (arguments : List Value) → HaveTypes m.globals t.globals → IsTurn m p t (begun (opened_by part.op) part.start (locals_of part arguments)) (born part arguments)
+new_turn : (m : ModuleTypes) (p : Program) (t : Turns) (part : PartTypes) (arguments : List Value) → HaveTypes m.globals t.globals → IsTurn m p t (begun (opened_by part.op) part.start (start_locals part.locals arguments)) (born part arguments)
 new_turn m p t part arguments known =
-    let s = begun (opened_by part.op) part.start (locals_of part arguments) in
+    let s = begun (opened_by part.op) part.start (start_locals part.locals arguments) in
     record {
       first = t.globals;
       is_first = refl;
@@ -435,4 +436,4 @@ new_turn m p t part arguments known =
 pub turn_new : (m : ModuleTypes) (p : Program) (t : Turns) (s : Standing) (life : Life) → HaveTypes m.globals t.globals → IsNew s life → IsTurn m p t s life
 turn_new m p t s life known is =
     subst (λ (r : Standing). IsTurn m p t r life) (sym is.stands)
-    (subst (λ (l : Life). IsTurn m p t (begun (opened_by life.part.op) life.part.start (locals_of life.part life.arguments)) l) (sym is.born_so) (new_turn m p t life.part life.arguments known))
+    (subst (λ (l : Life). IsTurn m p t (begun (opened_by life.part.op) life.part.start (start_locals life.part.locals life.arguments)) l) (sym is.born_so) (new_turn m p t life.part life.arguments known))

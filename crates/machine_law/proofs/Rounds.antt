@@ -8,7 +8,7 @@ use Rattle.lynx_meaning.specs.Courses.{Action, New, Destroy, Bind, Unbind, Conne
 use Rattle.lynx_meaning.specs.Needs.{Wanted, wanted_by}
 use Rattle.lynx_meaning.specs.Values.{Value, HaveTypes}
 use Rattle.code_shapes.specs.Shapes.{ModuleTypes, PartTypes, program}
-use Rattle.machine_turns.specs.Threads.{Standing, Made, Went, Acts, Awaits, Ends, Broken, acted, comes_of, fuel_after, goes_on, if_went, is_await, last_action, made}
+use Rattle.machine_turns.specs.Threads.{Standing, Made, Went, Acts, Awaits, Ends, Broken, acted, comes_of, fuel_after, goes_on, is_await, last_action, made}
 use Rattle.machine_turns.specs.Turns.{Beat, RunsOn, Stops, Turns, asks_for, awaits, beat, beats, comes, is_ready_after, next_turn, stands, turn_of, wakes, with_fuel, with_thread}
 use Rattle.machine_turns.specs.Turns as turns
 use Rattle.machine_sound.specs.Sound.{AreSound}
@@ -17,6 +17,7 @@ use Rattle.machine_sound.proofs.Outside.{taken_sound}
 use Rattle.machine_sound.proofs.Placing.{get_other, get_set, running_there}
 use Rattle.machine_sound.proofs.Rounds.{acts_threads}
 use Rattle.machine_sound.proofs.Turning.{SoundBeat, turn_made}
+use Rattle.machine_requests.proofs.Beats.{one_course}
 use Rattle.machine_law.specs.Lives.{Life, behind_beat, behind_beats, is_number, lived, lives_on, mover}
 use Rattle.machine_law.specs.Histories.{AllGiven, turns_of}
 use Rattle.machine_law.proofs.Living.{Holds, IsTurn, Lives, Amid, Between, Fresh, Stopped, StaysWith, holds_stays, some_wanted, turn_amid, turn_between, turn_new}
@@ -50,14 +51,6 @@ made_wants b s (Over (Comes (Waits actions store))) free = acted_wants (last_act
 made_wants b s (Over (Comes (Ended actions store))) free = tt
 made_wants b s (Over (Comes (Out actions))) free = tt
 made_wants b s (Over Stuck) free = tt
-
--- one instruction is a course of one
-one_course : (left : ℕ) (last : Made) → ◌≡◌ {A = ℕ × Made} (if_went last (λ now u. (left, Went now u)) (λ over. (left, over))) (left, last)
-one_course left (Went now u) = refl
-one_course left (Acts a now u) = refl
-one_course left (Awaits now u) = refl
-one_course left (Ends now) = refl
-one_course left Broken = refl
 
 free_of : (w : Option Wanted) → ((v : Wanted) → w ≡ Some v → is_ready_after (Some v) ≡ true) → is_ready_after w ≡ false → w ≡ None
 free_of None all free = refl

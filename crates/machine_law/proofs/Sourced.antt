@@ -26,12 +26,12 @@ use Rattle.compiler_statements.specs.Running.{IsFront}
 use Rattle.compiler_law.proofs.Parts.{each-clean}
 use Rattle.compiler_law.proofs.Whole as compiler
 use Rattle.compiler_shapes.proofs.Whole.{ops_kept}
-use Rattle.compiler_runnable.specs.Runnable.{IsRunnable, arguments_of, parameters}
+use Rattle.compiler_runnable.specs.Runnable.{IsRunnable, arguments_of, parameters, start_locals}
 use Rattle.compiler_runnable.proofs.Starts.{declarations}
 use Rattle.compiler_runnable.proofs.Whole as runnable
 use Rattle.machine_never_stuck.proofs.Pairs.{same_length}
 use Rattle.machine_law.specs.Fitting.{FitAll}
-use Rattle.machine_law.specs.Lives.{Life, locals_of}
+use Rattle.machine_law.specs.Lives.{Life}
 use Rattle.machine_law.specs.Histories.{DidByCode, behind, body_part}
 use Rattle.machine_law.specs.Law.{MeansItsCode}
 use Rattle.machine_law.specs.Sources.{DoesSo, MeansItsSource, ThreadsMeanTheirSources, given_to, part_tree}
@@ -151,7 +151,7 @@ module _ (m : ModuleTree) (made : Code) (tokens : HasTokens m) (typed : IsWellTy
     abbrev given : Start
     given = given_to now life
 
-    locals_same : length life.arguments ≡ length part.parameters → locals_of life.part life.arguments ≡ life.arguments ++ map start_value part.vars
+    locals_same : length life.arguments ≡ length part.parameters → start_locals life.part.locals life.arguments ≡ life.arguments ++ map start_value part.vars
     locals_same many =
         ap (λ (ts : List TypeName). life.arguments ++ map start_value (drop (length life.arguments) ts)) of.locals
         ∙ ap (λ (k : ℕ). life.arguments ++ map start_value (drop k (part.parameters ++ part.vars))) many
@@ -160,8 +160,8 @@ module _ (m : ModuleTree) (made : Code) (tokens : HasTokens m) (typed : IsWellTy
     by_target : length life.arguments ≡ length part.parameters → DidByCode p now life → target m part life.part.start given life.made ≡ Comes life.did
     by_target many did =
         sym
-        (ap (λ (q : Program). code_meaning q (opened_by life.part.op) life.part.start life.made (record { globals = given.globals; locals = locals_of life.part life.arguments }) life.answers) program_same
-        ∙ ap (λ (rs : List ℕ). code_meaning (program_of m) rs life.part.start life.made (record { globals = given.globals; locals = locals_of life.part life.arguments }) life.answers) of.requests
+        (ap (λ (q : Program). code_meaning q (opened_by life.part.op) life.part.start life.made (record { globals = given.globals; locals = start_locals life.part.locals life.arguments }) life.answers) program_same
+        ∙ ap (λ (rs : List ℕ). code_meaning (program_of m) rs life.part.start life.made (record { globals = given.globals; locals = start_locals life.part.locals life.arguments }) life.answers) of.requests
         ∙ ap (λ (vs : List Value). code_meaning (program_of m) part.requests life.part.start life.made (record { globals = given.globals; locals = vs }) life.answers) (locals_same many))
         ∙ did
 

@@ -1,5 +1,5 @@
 -- Each thread of a history did what its code means.
-use Rattle.std.proofs.Common.{◌≡◌, ℕ, zero, suc, List, [], ◌∷◌, ◌++◌, nat_eq, replicate, Bool, true, false, if◌then◌else◌, Option, Some, None, slice_get, slice_set, refl, sym, ap, subst, ◌∙◌, inl, inr, ⊎_elim, IfOk}
+use Rattle.std.proofs.Common.{◌≡◌, ℕ, zero, suc, List, [], ◌∷◌, ◌++◌, nat_eq, replicate, Bool, true, false, if◌then◌else◌, Option, Some, None, slice_get, refl, sym, ap, subst, ◌∙◌, inl, inr, ⊎_elim, IfOk}
 use Rattle.std.proofs.lemmas.Bool.{eqb-true, eqb-false}
 use Rattle.std.proofs.lemmas.Option.{slice_get_within}
 use Rattle.lynx_code.specs.declared.instruction.Instruction.{Instruction}
@@ -9,16 +9,17 @@ use Rattle.lynx_meaning.specs.Needs.{Wanted, wanted_by, wanted_types}
 use Rattle.lynx_meaning.specs.Values.{Value, HaveTypes}
 use Rattle.code_shapes.specs.Shapes.{ModuleTypes, PartTypes, Shapes, AreShapes, opened_by, program}
 use Rattle.machine_turns.specs.Threads.{Standing, begun}
-use Rattle.compiler_runnable.specs.Runnable.{AreParts, parameters}
+use Rattle.compiler_runnable.specs.Runnable.{AreParts, parameters, start_locals}
+use Rattle.compiler_runnable.proofs.Typed.{entry_typed}
 use Rattle.machine_turns.specs.Turns.{Beat, RunsOn, Stops, Turns, at_start, beat, given_to, gives_to, is_ready_after, spawned, with_thread}
 use Rattle.machine_turns.specs.Turns as turns
 use Rattle.machine_sound.specs.Sound.{AreSound, IsAsking}
 use Rattle.machine_sound.proofs.Outside.{given_sound, given_stay, spawned_sound, spawned_stay, start_sound}
 use Rattle.machine_sound.proofs.Placing.{decided, get_set}
+use Rattle.machine_requests.proofs.Outside.{given_threads, heard_one}
 use Rattle.machine_law.specs.Law.{IsWhere, ThreadsMeanTheirCode}
-use Rattle.machine_law.specs.Lives.{Life, behind_beat, behind_beats, born, is_number, lives_on, locals_of, mover}
+use Rattle.machine_law.specs.Lives.{Life, behind_beat, behind_beats, born, is_number, lives_on, mover}
 use Rattle.machine_law.specs.Histories.{DidByCode, IsHistory, IsStop, MayMove, Move, Beats, Gives, Spawns, behind, behind_move, body_part, life_of, moved}
-use Rattle.machine_law.proofs.Starts.{entry_typed}
 use Rattle.machine_law.proofs.Living.{FitsOutcome, Holds, Lives, Fresh, Between, Amid, Stopped, did_by_code, fits_of, some_wanted, given_lives, holds_stays}
 use Rattle.machine_law.proofs.Rounds.{run_kept}
 
@@ -29,17 +30,10 @@ given_by n outcome None t = (refl, refl)
 given_by n outcome (Some None) t = (refl, refl)
 given_by n outcome (Some (Some s)) t = by_blocked (is_ready_after s.wanted)
   where
-    by_blocked : (b : Bool) → ((with_thread n (Some (record s { given = s.given ++ outcome ∷ []; wanted = None })) (if b then record t { ready = t.ready ++ n ∷ [] } else t)).running ≡ t.running)
-        × ((with_thread n (Some (record s { given = s.given ++ outcome ∷ []; wanted = None })) (if b then record t { ready = t.ready ++ n ∷ [] } else t)).globals ≡ t.globals)
+    by_blocked : (b : Bool) → ((with_thread n (Some (heard_one s outcome)) (if b then record t { ready = t.ready ++ n ∷ [] } else t)).running ≡ t.running)
+        × ((with_thread n (Some (heard_one s outcome)) (if b then record t { ready = t.ready ++ n ∷ [] } else t)).globals ≡ t.globals)
     by_blocked true = (refl, refl)
     by_blocked false = (refl, refl)
-
-given_threads : (n : ℕ) (o : Outcome) (s : Standing) (t : Turns) → (gives_to n o (Some (Some s)) t).threads ≡ slice_set t.threads n (Some (record s { given = s.given ++ o ∷ []; wanted = None }))
-given_threads n o s t = by_blocked (is_ready_after s.wanted)
-  where
-    by_blocked : (b : Bool) → (with_thread n (Some (record s { given = s.given ++ o ∷ []; wanted = None })) (if b then record t { ready = t.ready ++ n ∷ [] } else t)).threads ≡ slice_set t.threads n (Some (record s { given = s.given ++ o ∷ []; wanted = None }))
-    by_blocked true = refl
-    by_blocked false = refl
 
 module _ (m : ModuleTypes) (p : Program) (t : Turns) (k : ℕ) (o : Outcome) (w : Wanted) (fits : IfOk o (HaveTypes (wanted_types m.ops w))) (asking : IsAsking k w t) (no_stop : (s : Standing) → slice_get t.threads k ≡ Some (Some s) → IsStop p.instructions s → ⊥) where
   abbrev s : Standing
@@ -48,13 +42,13 @@ module _ (m : ModuleTypes) (p : Program) (t : Turns) (k : ℕ) (o : Outcome) (w 
   abbrev u : Turns
   u = given_to k o t
 
-  own_there : slice_get u.threads k ≡ Some (Some (record s { given = s.given ++ o ∷ []; wanted = None }))
+  own_there : slice_get u.threads k ≡ Some (Some (heard_one s o))
   own_there =
       ap (λ (q : Option (Option Standing)). slice_get (gives_to k o q t).threads k) asking.1
       ∙ ap (λ (ts : List (Option Standing)). slice_get ts k) (given_threads k o s t)
-      ∙ get_set t.threads k (Some (record s { given = s.given ++ o ∷ []; wanted = None })) (slice_get_within t.threads k (Some s) asking.1)
+      ∙ get_set t.threads k (Some (heard_one s o)) (slice_get_within t.threads k (Some s) asking.1)
 
-  own_given : (life : Option Life) → Holds m p k t (Some (Some s)) life → Holds m p k u (Some (Some (record s { given = s.given ++ o ∷ []; wanted = None }))) life
+  own_given : (life : Option Life) → Holds m p k t (Some (Some s)) life → Holds m p k u (Some (Some (heard_one s o))) life
   own_given None holds = absurd holds
   own_given (Some life) holds = given_lives m p k t u s life o w (given_by k o (slice_get t.threads k) t).0 (given_by k o (slice_get t.threads k) t).1 asking.2 fits (no_stop s asking.1) holds
 
@@ -73,16 +67,16 @@ module _ (m : ModuleTypes) (p : Program) (t : Turns) (k : ℕ) (o : Outcome) (w 
 -- ---- a new thread
 
 spawned_kept : (m : ModuleTypes) (p : Program) (t : Turns) (k : ℕ) (part : PartTypes) (arguments : List Value) (n : ℕ) (life : Option Life) → slice_get t.threads k ≡ Some None → (b : Bool) → nat_eq n k ≡ b → Holds m p n t (slice_get t.threads n) life →
-    Holds m p n (spawned k (opened_by part.op) part.start (locals_of part arguments) t) (slice_get (spawned k (opened_by part.op) part.start (locals_of part arguments) t).threads n) (if b then Some (born part arguments) else life)
+    Holds m p n (spawned k (opened_by part.op) part.start (start_locals part.locals arguments) t) (slice_get (spawned k (opened_by part.op) part.start (start_locals part.locals arguments) t).threads n) (if b then Some (born part arguments) else life)
 spawned_kept m p t k part arguments n life free true e holds =
-    let u = spawned k (opened_by part.op) part.start (locals_of part arguments) t in
-    let s = begun (opened_by part.op) part.start (locals_of part arguments) in
+    let u = spawned k (opened_by part.op) part.start (start_locals part.locals arguments) t in
+    let s = begun (opened_by part.op) part.start (start_locals part.locals arguments) in
     subst (λ (j : ℕ). Holds m p j u (slice_get u.threads j) (Some (born part arguments))) (sym (eqb-true n k e))
     (subst (λ (q : Option (Option Standing)). Holds m p k u q (Some (born part arguments))) (sym (get_set t.threads k (Some s) (slice_get_within t.threads k None free)))
     (Fresh (record { stands = refl; born_so = refl })))
 spawned_kept m p t k part arguments n life free false e holds =
-    let u = spawned k (opened_by part.op) part.start (locals_of part arguments) t in
-    subst (λ (q : Option (Option Standing)). Holds m p n u q life) (sym ((spawned_stay t k (opened_by part.op) part.start (locals_of part arguments)).threads n (eqb-false n k e)))
+    let u = spawned k (opened_by part.op) part.start (start_locals part.locals arguments) t in
+    subst (λ (q : Option (Option Standing)). Holds m p n u q life) (sym ((spawned_stay t k (opened_by part.op) part.start (start_locals part.locals arguments)).threads n (eqb-false n k e)))
     (holds_stays m p n t u (slice_get t.threads n) life (inr (refl, refl)) holds)
 
 -- ---- the start
@@ -152,7 +146,7 @@ module _ (m : ModuleTypes) (parts : List PartTypes) (instructions : List Instruc
   move_kept n (Beats k fuel) t life are_parts given kept = run_kept m parts instructions n k fuel t life kept.0 given kept.1
   move_kept n (Gives k outcome) t life are_parts may kept = (given_sound m parts instructions t k outcome kept.0 may.0, given_kept m p t k outcome may.0.0 may.0.2 may.0.1 may.1 n life kept.1)
   move_kept n (Spawns k part values) t life are_parts may kept = (
-    spawned_sound m parts instructions t k (suc may.1.0) part (locals_of part values) kept.0 may.0 may.1.1 (entry_typed m parts are_parts may.1.0 part values may.1.1 may.2),
+    spawned_sound m parts instructions t k (suc may.1.0) part (start_locals part.locals values) kept.0 may.0 may.1.1 (entry_typed m parts are_parts may.1.0 part values may.1.1 may.2),
     spawned_kept m p t k part values n life may.0 (nat_eq n k) refl kept.1,
   )
 

@@ -9,9 +9,9 @@ use Rattle.lynx_meaning.specs.Values.{Value, HaveTypes}
 use Rattle.code_shapes.specs.Shapes.{ModuleTypes, PartTypes, opened_by, program}
 use Rattle.machine_turns.specs.Threads.{Standing}
 use Rattle.machine_turns.specs.Turns.{Beat, RunsOn, Stops, Broken, IsFree, Turns, at_start, beats, given_to, is_ready_after, spawned}
-use Rattle.compiler_runnable.specs.Runnable.{parameters}
+use Rattle.compiler_runnable.specs.Runnable.{parameters, start_locals}
 use Rattle.machine_sound.specs.Sound.{FitsAction}
-use Rattle.machine_law.specs.Lives.{Life, behind_beats, born, locals_of}
+use Rattle.machine_law.specs.Lives.{Life, behind_beats, born}
 
 -- what a process does to a machine
 pub data Move : Type 0 where
@@ -30,7 +30,7 @@ turns_of Broken before = before
 abbrev pub moved : Program → Move → Turns → Turns
 moved p (Beats k fuel) t = turns_of (beats p k (RunsOn fuel t)) t
 moved p (Gives n outcome) t = given_to n outcome t
-moved p (Spawns n part values) t = spawned n (opened_by part.op) part.start (locals_of part values) t
+moved p (Spawns n part values) t = spawned n (opened_by part.op) part.start (start_locals part.locals values) t
 
 -- the life of the thread of this number
 abbrev pub behind_move : Program → ℕ → Move → Turns → Option Life → Option Life
@@ -81,6 +81,6 @@ life_of p globals n (move ∷ earlier) = behind_move p n move (behind p globals 
 -- instruction, or these where it has made none.
 abbrev pub DidByCode : Program → List Value → Life → Type 0
 DidByCode p now life =
-    code_meaning p (opened_by life.part.op) life.part.start life.made (record { globals = unwrap_or life.first now; locals = locals_of life.part life.arguments })
+    code_meaning p (opened_by life.part.op) life.part.start life.made (record { globals = unwrap_or life.first now; locals = start_locals life.part.locals life.arguments })
     life.answers
     ≡ Comes life.did

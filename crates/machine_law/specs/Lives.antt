@@ -1,9 +1,9 @@
 -- What a thread did: its instructions, its actions and its answers.
-use Rattle.std.specs.Prelude.{ℕ, zero, suc, ◌+◌, List, [], ◌∷◌, ◌++◌, map, drop, nat_eq, length, Bool, true, false, if◌then◌else◌, Option, Some, None, unwrap_or, slice_get}
+use Rattle.std.specs.Prelude.{ℕ, zero, suc, ◌+◌, List, [], ◌∷◌, ◌++◌, nat_eq, Bool, true, false, if◌then◌else◌, Option, Some, None, unwrap_or, slice_get}
 use Rattle.lynx_meaning.specs.Agree.{actions_of}
 use Rattle.lynx_meaning.specs.Code.{Next, Goes, Over, Comes, Stuck, Program}
 use Rattle.lynx_meaning.specs.Courses.{Action, Answer, Behaviour, Outcome, Ended, Waits, Out}
-use Rattle.lynx_meaning.specs.Values.{Value, start_value}
+use Rattle.lynx_meaning.specs.Values.{Value}
 use Rattle.code_shapes.specs.Shapes.{PartTypes}
 use Rattle.machine_turns.specs.Threads.{Standing, goes_on, is_fresh}
 use Rattle.machine_turns.specs.Turns.{Beat, RunsOn, Stops, Turns, beat, stands}
@@ -27,10 +27,6 @@ pub record Life : Type 0 where
 -- that of a thread that begins
 abbrev pub born : PartTypes → List Value → Life
 born part arguments = record { part = part; arguments = arguments; first = None; made = 0; answers = []; did = Out [] }
-
--- the variables of a part at its start, whose parameters have these values
-abbrev pub locals_of : PartTypes → List Value → List Value
-locals_of part arguments = arguments ++ map start_value (drop (length arguments) part.locals)
 
 -- ---- an instruction
 

@@ -11,8 +11,8 @@ pub fn threads_mean_their_code()
     ensures { ThreadsMeanTheirCode }
 {}
 
-/// Where the code is that of a module that obeys the typing rules, each thread did what its source means: where it ended or waits, so does the
-/// source of its part, after the same actions and with the same variables; and where it goes on, the actions of the source begin with its own.
+/// On checked code each thread did what its source means: where it ended or waits, so does the source of its part, after the same actions and
+/// with the same variables; and where it goes on, the actions of the source begin with its own.
 pub fn threads_mean_their_sources()
     ensures { ThreadsMeanTheirSources }
 {}

@@ -57,13 +57,13 @@ asks_running n (Connect link op values) t e = absurd (true≢false e)
 asks_running n (Accept link op) t e = absurd (true≢false e)
 asks_running n _ t e = refl
 
-asks_globals : (n : ℕ) (a : Action) (t : Turns) → (asks_for n a t).globals ≡ t.globals
+pub asks_globals : (n : ℕ) (a : Action) (t : Turns) → (asks_for n a t).globals ≡ t.globals
 asks_globals n (Connect link op values) t = refl
 asks_globals n (Accept link op) t = refl
 asks_globals n _ t = refl
 
 -- one instruction is a course of one
-one_course : (left : ℕ) (last : Made) → ◌≡◌ {A = ℕ × Made} (if_went last (λ now u. (left, Went now u)) (λ over. (left, over))) (left, last)
+pub one_course : (left : ℕ) (last : Made) → ◌≡◌ {A = ℕ × Made} (if_went last (λ now u. (left, Went now u)) (λ over. (left, over))) (left, last)
 one_course left (Went now u) = refl
 one_course left (Acts a now u) = refl
 one_course left (Awaits now u) = refl

@@ -20,10 +20,10 @@ use Rattle.machine_requests.proofs.Beats.{heard_changed, open_other, open_there}
 -- ---- an outcome
 
 -- the thread with its outcome
-abbrev heard_one : Standing → Outcome → Standing
+abbrev pub heard_one : Standing → Outcome → Standing
 heard_one s o = record s { given = s.given ++ o ∷ []; wanted = None }
 
-given_threads : (n : ℕ) (o : Outcome) (s : Standing) (t : Turns) → (gives_to n o (Some (Some s)) t).threads ≡ slice_set t.threads n (Some (heard_one s o))
+pub given_threads : (n : ℕ) (o : Outcome) (s : Standing) (t : Turns) → (gives_to n o (Some (Some s)) t).threads ≡ slice_set t.threads n (Some (heard_one s o))
 given_threads n o s t = by_blocked (is_ready_after s.wanted)
   where
     by_blocked : (b : Bool) → (with_thread n (Some (heard_one s o)) (if b then record t { ready = t.ready ++ n ∷ [] } else t)).threads ≡ slice_set t.threads n (Some (heard_one s o))

@@ -6,8 +6,8 @@ use Rattle.lynx_meaning.specs.Values.{Value}
 use Rattle.lynx_tree.specs.declared.declaration.TypeName.{TypeName}
 use Rattle.machine_turns.specs.Threads.{begun}
 use Rattle.machine_values.specs.Told.{value_of, values_of}
-use Rattle.compiler_runnable.specs.Runnable.{HaveStarts}
-use Rattle.lynx_interp.specs.Machines.{State, start_locals}
+use Rattle.compiler_runnable.specs.Runnable.{HaveStarts, start_locals}
+use Rattle.lynx_interp.specs.Machines.{State}
 use Rattle.lynx_interp.proofs.Machines.{part_there}
 use Rattle.lynx_interp.proofs.machine.Machine.new_thread.Goals as goal
 

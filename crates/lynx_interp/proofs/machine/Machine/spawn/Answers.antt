@@ -3,7 +3,8 @@ use Rattle.machine_sound.proofs.Outside.{spawned_stay}
 use Rattle.machine_sound.specs.Sound.{StayOthers}
 use Rattle.std.proofs.Common.{arith, sym, subst, true≢false}
 use Rattle.machine_values.specs.Told.{values_of}
-use Rattle.lynx_interp.specs.Machines.{IsMachine, SpawnsRequests, State, start_locals}
+use Rattle.compiler_runnable.specs.Runnable.{start_locals}
+use Rattle.lynx_interp.specs.Machines.{IsMachine, SpawnsRequests, State}
 use Rattle.lynx_interp.proofs.Counting.{one_free}
 use Rattle.lynx_interp.proofs.Machines.{has_entry, spawned_machine, spawns_requests}
 use Rattle.lynx_interp.proofs.machine.Machine.spawn.Goals as goal

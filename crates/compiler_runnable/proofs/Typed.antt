@@ -1,5 +1,5 @@
 -- The variables of an entry at its start have their types.
-use Rattle.std.proofs.Common.{arith, ◌≡◌, ℕ, ℤ, zero, suc, List, [], ◌∷◌, ◌++◌, length, map, replicate, drop, pos, negsuc, IsTrue, Some, slice_get, refl, sym, ap, subst, ◌∙◌, true≢false}
+use Rattle.std.proofs.Common.{arith, ◌≡◌, ℕ, ℤ, zero, suc, List, [], ◌∷◌, ◌++◌, map, replicate, pos, negsuc, IsTrue, Some, slice_get, refl, sym, ap, subst, ◌∙◌, true≢false}
 use Rattle.std.proofs.lemmas.List.{length-replicate}
 use Rattle.std.specs.List.{AllByRecursion}
 use Rattle.lynx_tree.specs.declared.declaration.TypeName.{TypeName}
@@ -8,8 +8,7 @@ use Rattle.typing_rules.specs.Types.{has_length, is_length}
 use Rattle.lynx_meaning.specs.Needs.{types_of}
 use Rattle.lynx_meaning.specs.Values.{Value, HasType, HaveTypes, is_int, start_value}
 use Rattle.code_shapes.specs.Shapes.{ModuleTypes, PartTypes}
-use Rattle.compiler_runnable.specs.Runnable.{AreParts, HaveStarts, IsEntryPart, arguments_of, parameters}
-use Rattle.machine_law.specs.Lives.{locals_of}
+use Rattle.compiler_runnable.specs.Runnable.{AreParts, HaveStarts, IsEntryPart, arguments_of, parameters, start_locals}
 
 zeros_typed : (n : ℕ) → AllByRecursion (λ (member : ℤ). IsTrue (is_int member)) (replicate n (pos 0))
 zeros_typed zero = tt
@@ -26,27 +25,27 @@ start_typed types.Text is = omega arith
 start_typed types.Link is = tt
 start_typed (types.Row n) is = row_typed n is
 
-starts_typed : (ts : List TypeName) → HaveStarts ts → HaveTypes ts (map start_value ts)
+pub starts_typed : (ts : List TypeName) → HaveStarts ts → HaveTypes ts (map start_value ts)
 starts_typed [] have = tt
 starts_typed (t ∷ ts) have = (start_typed t have.0, starts_typed ts have.1)
 
-others_start : (ts us : List TypeName) → HaveStarts (ts ++ us) → HaveStarts us
+pub others_start : (ts us : List TypeName) → HaveStarts (ts ++ us) → HaveStarts us
 others_start [] us have = have
 others_start (t ∷ ts) us have = others_start ts us have.1
 
 -- the values of the parameters come first
-values_typed : (ts others : List TypeName) (vs : List Value) → HaveTypes ts vs → HaveStarts others → HaveTypes (ts ++ others) (vs ++ map start_value (drop (length vs) (ts ++ others)))
+values_typed : (ts others : List TypeName) (vs : List Value) → HaveTypes ts vs → HaveStarts others → HaveTypes (ts ++ others) (start_locals (ts ++ others) vs)
 values_typed [] others [] typed have = starts_typed others have
 values_typed [] others (v ∷ vs) typed have = absurd typed
 values_typed (t ∷ ts) others [] typed have = absurd typed
 values_typed (t ∷ ts) others (v ∷ vs) typed have = (typed.0, values_typed ts others vs typed.1 have)
 
-parameters_of : (m : ModuleTypes) (p : PartTypes) (is : IsEntryPart m p) → parameters m p ≡ is.of_op.arguments
+pub parameters_of : (m : ModuleTypes) (p : PartTypes) (is : IsEntryPart m p) → parameters m p ≡ is.of_op.arguments
 parameters_of m p is = ap (arguments_of m) is.serves ∙ ap (types_of (λ o. o.arguments)) is.there
 
-pub entry_typed : (m : ModuleTypes) (parts : List PartTypes) → AreParts m parts → (i : ℕ) (p : PartTypes) (values : List Value) → slice_get parts (suc i) ≡ Some p → HaveTypes (parameters m p) values → HaveTypes p.locals (locals_of p values)
+pub entry_typed : (m : ModuleTypes) (parts : List PartTypes) → AreParts m parts → (i : ℕ) (p : PartTypes) (values : List Value) → slice_get parts (suc i) ≡ Some p → HaveTypes (parameters m p) values → HaveTypes p.locals (start_locals p.locals values)
 entry_typed m parts are i p values there typed =
     let is = are.entries i p there in
     let have = subst (λ (ts : List TypeName). HaveStarts ts) is.locals (are.starts (suc i) p there) in
-    subst (λ (ts : List TypeName). HaveTypes ts (values ++ map start_value (drop (length values) ts))) (sym is.locals)
+    subst (λ (ts : List TypeName). HaveTypes ts (start_locals ts values)) (sym is.locals)
     (values_typed is.of_op.arguments is.others values (subst (λ (ts : List TypeName). HaveTypes ts values) (parameters_of m p is) typed) (others_start is.of_op.arguments is.others have))
