@@ -8,3 +8,6 @@ pub mod More
 pub mod Fewer
 pub mod Fitted
 pub mod Sourced
+pub mod Counts
+pub mod Paid
+pub mod Actions

@@ -3,3 +3,4 @@ pub mod Lives
 pub mod Histories
 pub mod Law
 pub mod Sources
+pub mod Actions
