@@ -21,8 +21,9 @@ use Rattle.machine_requests.proofs.Beats.{beats_come, open_there}
 use Rattle.machine_requests.proofs.Outside.{given_heard_there, given_open, spawned_heard, start_heard}
 use Rattle.machine_law.specs.Histories.{AllGiven, IsHistory, IsStop, MayMove, Move, Beats, Gives, Spawns, behind, moved, turns_of}
 use Rattle.machine_law.specs.Actions.{ActionsAreBounded, ActionsBeginOrClose, AllActionsAreBounded, AreBounded, HandOn, IsAtFirst, asked, asked_by, closing, in_all, left_by, left_in, open_count, open_requests, opened, opened_with, unasked_count, unasked_requests, used, wanted_of}
+use Rattle.machine_law.proofs.Rounds.{free_of}
 use Rattle.machine_law.proofs.Whole.{history_kept}
-use Rattle.machine_law.proofs.Paid.{Each, IsSettled, Leaves, Pays, Unstopped, beats_pay, counted, each_changed, each_of, settled, sum_changed}
+use Rattle.machine_law.proofs.Paid.{Each, IsSettled, Leaves, Pays, Unstopped, beats_pay, counted, each_changed, each_of, sum_changed}
 
 module _ (m : ModuleTypes) (parts : List PartTypes) (instructions : List Instruction) where
   abbrev p : Program
@@ -56,7 +57,7 @@ module _ (m : ModuleTypes) (parts : List PartTypes) (instructions : List Instruc
       Leaves m parts instructions (beats p k (RunsOn fuel t)) × Pays m parts instructions fuel (fuel + unasked t) (beats p k (RunsOn fuel t))
   beats_come_to k fuel t are steady given =
       beats_pay m parts instructions fuel (fuel + unasked t) k (RunsOn fuel t) (are, steady.heard)
-      (each_of IsSettled t (λ n s here. settled s.wanted (λ w wants. given n s w here wants)), steady.unstopped, omega arith, omega arith)
+      (each_of IsSettled t (λ n s here. free_of s.wanted (λ w wants. given n s w here wants)), steady.unstopped, omega arith, omega arith)
 
   beats_move : (k fuel : ℕ) (t : Turns) → AreSound m parts instructions t → Steady t → AllGiven t → Steady (moved p (Beats k fuel) t) × Costs (Beats k fuel) t
   beats_move k fuel t are steady given =

@@ -61,10 +61,6 @@ sum_changed f t u n old o here changed =
 abbrev pub IsSettled : Standing → Type 0
 IsSettled s = is_ready_after s.wanted ≡ false → s.wanted ≡ None
 
-pub settled : (w : Option Wanted) → ((v : Wanted) → w ≡ Some v → is_ready_after (Some v) ≡ true) → is_ready_after w ≡ false → w ≡ None
-settled None given free = refl
-settled (Some v) given free = absurd (true≢false (sym (given v refl) ∙ free))
-
 -- a stop was given nothing
 abbrev pub Unstopped : List Instruction → Standing → Type 0
 Unstopped instructions s = IsStop instructions s → s.given ≡ []

@@ -52,7 +52,7 @@ made_wants b s (Over (Comes (Ended actions store))) free = tt
 made_wants b s (Over (Comes (Out actions))) free = tt
 made_wants b s (Over Stuck) free = tt
 
-free_of : (w : Option Wanted) → ((v : Wanted) → w ≡ Some v → is_ready_after (Some v) ≡ true) → is_ready_after w ≡ false → w ≡ None
+pub free_of : (w : Option Wanted) → ((v : Wanted) → w ≡ Some v → is_ready_after (Some v) ≡ true) → is_ready_after w ≡ false → w ≡ None
 free_of None all free = refl
 free_of (Some v) all free = absurd (true≢false (sym (all v refl) ∙ free))
 
