@@ -93,8 +93,7 @@ last-once w l (Spent k) a b = absurd b
 pub performance-once : (s : Setting) (lines : List ScriptLine) (merged others : List Placed) (notes noted_b : List ScriptNote) (last ending : Last) → IsPerformance s lines merged notes last → IsPerformance s lines others noted_b ending
     → (merged ≡ others) × (notes ≡ noted_b) × (last ≡ ending)
 performance-once s lines merged others notes noted_b last ending a b =
-    let same = performs-once s (start s) lines a.named b.named notes noted_b a.performed b.performed in
-    (
+    let same = performs-once s (start s) lines a.named b.named notes noted_b a.performed b.performed in (
       in-order-unique merged others a.recorded.recorded.order b.recorded.recorded.order (λ k. a.recorded.same k ∙ ap (of_kernel k) same.entries ∙ sym (b.recorded.same k)),
       same.notes,
       last-once (after (start s) b.named) last ending (subst (λ (w : World). IsLast w last) same.worlds a.last_world) b.last_world,
