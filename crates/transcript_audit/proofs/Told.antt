@@ -3,6 +3,7 @@ use Rattle.std.proofs.Common.{◌≡◌, ◌≢◌, ℕ, ◌+◌, ◌-◌, ◌^�
 use Rattle.std.specs.List.{concat, flat_map}
 use Rattle.std.proofs.lemmas.List.Elements.{All-nil, All-cons, All-head, All-tail}
 use Rattle.charlotte_calls.specs.Ranges.{IsU64}
+use Rattle.charlotte_calls.specs.declared.calls.ServiceStep.{ServiceStep}
 use Rattle.charlotte_calls.specs.declared.setting.Setting.{Setting}
 use Rattle.charlotte_packets.specs.declared.picture.Picture.{Picture}
 use Rattle.kernel_entries.specs.Ranges.{IsHappenedInRange, IsPlacedInRange}
@@ -95,14 +96,16 @@ in-range (p ∷ ps) stamped all =
     (in-range ps (All-tail IsStamped p ps stamped) (All-tail IsPlacedInRange (unstamped p) (map unstamped ps) all))
 
 -- and its lines are the same
-entry-shows : (p : Placed) (what : Happened) → p.entry.what ≡ what → entry_lines (unstamped p) ≡ entry_lines p
-entry-shows p (Asked q c) is = cc
-entry-shows p (Took from q) is = cc
+entry-shows : (stamp kernel : ℕ) (what : Happened) (steps : List ServiceStep)
+    → entry_lines (unstamped (record { kernel = kernel; entry = record { stamp = stamp; what = what; steps = steps } }))
+    ≡ entry_lines (record { kernel = kernel; entry = record { stamp = stamp; what = what; steps = steps } })
+entry-shows stamp kernel (Asked p c) steps = refl
+entry-shows stamp kernel (Took from q) steps = refl
 
 entries-show : (ps : List Placed) → flat_map entry_lines (map unstamped ps) ≡ flat_map entry_lines ps
 entries-show [] = refl
 entries-show (p ∷ ps) =
-    ap (λ ls. ls ++ flat_map entry_lines (map unstamped ps)) (entry-shows p p.entry.what refl) ∙ ap (λ ls. entry_lines p ++ ls) (entries-show ps)
+    ap (λ ls. ls ++ flat_map entry_lines (map unstamped ps)) (entry-shows p.entry.stamp p.kernel p.entry.what p.entry.steps) ∙ ap (λ ls. entry_lines p ++ ls) (entries-show ps)
 
 lines-show : (s : Setting) (ps : List Placed) (notes : List ScriptNote) (last : Last) → transcript_lines s (map unstamped ps) notes last ≡ transcript_lines s ps notes last
 lines-show s ps notes last = ap (λ ls. header_lines s ++ ls ++ map (λ n. line (note_text n)) notes ++ line (last_text last) ∷ []) (entries-show ps)
