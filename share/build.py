@@ -7,6 +7,7 @@ It is done by the toolchain's gate, in a copy that has those crates alone, witho
 at once as there are processors, the longest chain first. What is proved there stays proved for this machine, also for the gate itself.
 """
 
+import contextlib
 import math
 import os
 import re
@@ -31,7 +32,10 @@ def unblock():
 
 
 def say(text):
-    print(f"lynx: {text}", file=sys.stderr, flush=True)
+    """A line on standard error. Where that can not be written nothing else changes."""
+    if sys.stderr is not None:
+        with contextlib.suppress(OSError):
+            os.write(sys.stderr.fileno(), f"lynx: {text}\n".encode())
 
 
 def minutes_of(seconds):
