@@ -167,7 +167,7 @@ class Build:
         say(
             f"the program has to be proved and built first: {len(self.needs)} crates, some {counted(minutes, 'processor minute')}."
             f" Once, on {counted(self.work.lanes, 'processor')} with nothing else to do that takes about"
-            f" {counted(minutes_of(self.work.seconds_of(self.needs)), 'minute')}; after a change it takes less."
+            f" {counted(minutes_of(self.work.seconds_of(self.needs)), 'minute')}; what was proved on this machine before is not proved again."
         )
         say("meanwhile: `lynx --unproved ..` answers in a minute or two, and `lynx draw` draws the transcripts in examples/ at once")
         self.copy()
