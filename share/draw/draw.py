@@ -9,7 +9,9 @@ from dataclasses import dataclass
 
 sys.dont_write_bytecode = True
 if sys.version_info < (3, 10):
-    sys.exit("lynx: draw needs Python 3.10 or later")
+    print("lynx: draw needs Python 3.10 or later", file=sys.stderr)
+    # as where there is no Python
+    sys.exit(69)
 
 from choice import NoEnd, NoRow, view_of  # noqa: E402
 from drawing import Drawing  # noqa: E402

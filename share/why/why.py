@@ -11,7 +11,9 @@ import sys
 
 sys.dont_write_bytecode = True
 if sys.version_info < (3, 10):
-    sys.exit("lynx: why needs Python 3.10 or later")
+    print("lynx: why needs Python 3.10 or later", file=sys.stderr)
+    # as where there is no Python
+    sys.exit(69)
 
 from audited import WRITE_FAULT, put  # noqa: E402
 from module import module_reason  # noqa: E402
