@@ -9,7 +9,8 @@ from dataclasses import dataclass
 
 sys.dont_write_bytecode = True
 if sys.version_info < (3, 10):
-    print("lynx: draw needs Python 3.10 or later", file=sys.stderr)
+    if sys.stderr:
+        print("lynx: draw needs Python 3.10 or later", file=sys.stderr)
     # as where there is no Python
     sys.exit(69)
 
