@@ -18,9 +18,11 @@ from pathlib import Path
 TOP = Path(__file__).resolve().parent.parent
 sys.dont_write_bytecode = True
 sys.path[:0] = [str(TOP / "share/draw"), str(TOP / ".ci/drawn")]
+sys.path.append(str(TOP / "share/why"))
 
 from draw import Answer, answer_to  # noqa: E402
 from faults import faults_of, faults_of_looks, faults_of_texts  # noqa: E402
+from line import line_sentence  # noqa: E402
 from run import fault_of  # noqa: E402
 from seen import SVG, Drawing  # noqa: E402
 
@@ -196,7 +198,8 @@ def try_refusals(tries: Tries, folder: Path) -> None:
 
 
 def faults_of_part(made: Answer, text: str, line: int) -> list[str]:
-    """What is wrong with the drawing of the events before a wrong line: there is none of a wrong header, and else the line stands in it, and why."""
+    """What is wrong with the drawing of the events before a wrong line: there is none of a wrong header, and else the line stands in it, why, and
+    the sentence of `why`."""
     if line <= text.count("\nprocess ") + text.count("\nwire ") + 2 or not text.startswith("transcript "):
         return ["there is a drawing"] if made.svg else []
     drawing = Drawing(made.svg.encode())
@@ -207,8 +210,9 @@ def faults_of_part(made: Answer, text: str, line: int) -> list[str]:
     marks = [group for group in drawing.find("g", "wrong") if group.get("data-line") == str(line)]
     said = " ".join(" ".join(one.text for one in mark.iter(SVG + "text")) for mark in marks)
     why = made.text.partition(": transcript: ")[2]
-    shown = [name for name in (f"line {line}", why) if "".join(name.split()) not in "".join(said.split())]
-    return faults + [f"`{name}` is not told in `{said}`" for name in shown] + faults_of_texts(drawing) + faults_of_looks(drawing)
+    told = line_sentence("".join(text.splitlines(True)[:line]).encode(), line) or "(no sentence)"
+    missing = [name for name in (f"line {line}", why, told.rstrip(".")) if "".join(name.split()).lower() not in "".join(said.split()).lower()]
+    return faults + [f"`{name}` is not told in `{said}`" for name in missing] + faults_of_texts(drawing) + faults_of_looks(drawing)
 
 
 def rows_of(name: str) -> list[tuple[str, bytes]]:

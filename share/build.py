@@ -7,6 +7,7 @@ It is done by the toolchain's gate, in a copy that has those crates alone, witho
 at once as there are processors, the longest chain first. What is proved there stays proved for this machine, also for the gate itself.
 """
 
+import contextlib
 import math
 import os
 import re
@@ -31,7 +32,10 @@ def unblock():
 
 
 def say(text):
-    print(f"lynx: {text}", file=sys.stderr, flush=True)
+    """A line on standard error. Where that can not be written nothing else changes."""
+    if sys.stderr is not None:
+        with contextlib.suppress(OSError):
+            os.write(sys.stderr.fileno(), f"lynx: {text}\n".encode())
 
 
 def minutes_of(seconds):
@@ -163,7 +167,7 @@ class Build:
         say(
             f"the program has to be proved and built first: {len(self.needs)} crates, some {counted(minutes, 'processor minute')}."
             f" Once, on {counted(self.work.lanes, 'processor')} with nothing else to do that takes about"
-            f" {counted(minutes_of(self.work.seconds_of(self.needs)), 'minute')}; after a change it takes less."
+            f" {counted(minutes_of(self.work.seconds_of(self.needs)), 'minute')}; what was proved on this machine before is not proved again."
         )
         say("meanwhile: `lynx --unproved ..` answers in a minute or two, and `lynx draw` draws the transcripts in examples/ at once")
         self.copy()

@@ -7,6 +7,7 @@ What the program puts on its streams, and its status, are handed on, with one li
 Nothing is kept of it: each call compiles anew, and the program counts as built or not as before.
 """
 
+import contextlib
 import os
 import re
 import signal
@@ -15,7 +16,7 @@ import sys
 import tempfile
 import time
 
-NOT_BUILT = 70
+WRITE_FAULT, NOT_BUILT = 3, 70
 # A line of progress each so many seconds.
 STEP = 15
 STANDARD_INPUT = "/dev/stdin"
@@ -28,7 +29,10 @@ PLAIN = re.compile(r"(?!program|stdin|stdout|stderr)[A-Za-z0-9_][A-Za-z0-9_.-]*\
 
 
 def say(text):
-    print(f"lynx: {text}", file=sys.stderr, flush=True)
+    """A line on standard error. Where that can not be written nothing else changes."""
+    if sys.stderr is not None:
+        with contextlib.suppress(OSError):
+            os.write(sys.stderr.fileno(), f"lynx: {text}\n".encode())
 
 
 class Lent:
@@ -95,12 +99,26 @@ def hand_on(out, err, lent):
         for line in err.decode("utf-8", "replace").splitlines()[-3:]:
             say(f"the toolchain: {line}")
         return NOT_BUILT
-    sys.stdout.buffer.write(lent.renamed(out))
-    sys.stdout.flush()
     program = err[: ended.start()]
-    sys.stderr.buffer.write(lent.renamed(program + b"\n" if program and not program.endswith(b"\n") else program))
-    say("nothing of this was proved: the sources were compiled without their proofs, for this call alone")
+    said = b"lynx: nothing of this was proved: the sources were compiled without their proofs, for this call alone\n"
+    try:
+        put(sys.stdout, lent.renamed(out))
+        put(sys.stderr, lent.renamed(program + b"\n" if program and not program.endswith(b"\n") else program))
+        put(sys.stderr, said)
+    except OSError:
+        # no further write is tried when Python ends
+        sys.stdout = sys.stderr = None
+        return WRITE_FAULT
     return int(ended[1])
+
+
+def put(stream, text):
+    if not text:
+        return
+    if stream is None:
+        raise OSError
+    stream.buffer.write(text)
+    stream.flush()
 
 
 def main():

@@ -1,7 +1,10 @@
 """Chooses what of a run is drawn."""
 
+import os
+import sys
+
 from state import Story
-from transcript import Transcript
+from transcript import Refused, Transcript
 from view import Fault, View, all_ends, alone, changing_ends, folded
 from words import Wish
 
@@ -51,8 +54,20 @@ def faults_shown(transcript: Transcript, story: Story, data: bytes) -> list[Faul
         event = None
     if read:
         found.append((read, event))
-    return [Fault(refused.line, [told_line(lines, line) for line in range(min(above or refused.line, refused.line), refused.line + 1)], refused.why)
+    return [Fault(refused.line, [told_line(lines, line) for line in range(min(above or refused.line, refused.line), refused.line + 1)], refused.why,
+                  other_sentence(data, transcript, refused))
             for refused, above in found]
+
+
+def other_sentence(data: bytes, transcript: Transcript, refused: Refused) -> str:
+    """What `why` says of the line, where that is not what the refusal says."""
+    why = f"{os.path.dirname(os.path.dirname(os.path.abspath(__file__)))}/why"
+    if why not in sys.path:
+        sys.path.append(why)
+    from line import fault_sentence
+
+    sentence = fault_sentence(data, transcript, refused)
+    return "" if sentence.rstrip(".").lower() == refused.why.lower() else sentence
 
 
 def told_line(lines: list[str], number: int) -> str:

@@ -3,12 +3,16 @@
 
 import os
 import re
+import signal
 import sys
 from dataclasses import dataclass
 
 sys.dont_write_bytecode = True
 if sys.version_info < (3, 10):
-    sys.exit("lynx: draw needs Python 3.10 or later")
+    if sys.stderr:
+        print("lynx: draw needs Python 3.10 or later", file=sys.stderr)
+    # as where there is no Python
+    sys.exit(69)
 
 from choice import NoEnd, NoRow, view_of  # noqa: E402
 from drawing import Drawing  # noqa: E402
@@ -99,26 +103,24 @@ def answer_to(words: list[str]) -> Answer:
 
 def main(words: list[str]) -> int:
     answer = answer_to(words)
-    if answer.svg and not put(answer.svg):
-        return WRITE_FAULT
-    if answer.text and sys.stderr:
-        sys.stderr.write(f"{answer.text}\n")
+    put(sys.stdout, answer.svg)
+    put(sys.stderr, f"{answer.text}\n" if answer.text else "")
     return answer.status
 
 
-def put(svg: str) -> bool:
-    """Puts the drawing on standard output, and tells whether all of it was taken."""
-    if sys.stdout is None:
-        return False
-    try:
-        sys.stdout.buffer.write(svg.encode("utf-8"))
-        sys.stdout.flush()
-    except OSError:
-        # what is left in the buffer must not fail once more at the end
-        os.dup2(os.open(os.devnull, os.O_WRONLY), sys.stdout.fileno())
-        return False
-    return True
+def put(stream, text: str) -> None:
+    if not text:
+        return
+    if stream is None:
+        raise OSError
+    stream.buffer.write(text.encode("utf-8", "backslashreplace"))
+    stream.flush()
 
 
 if __name__ == "__main__":
-    sys.exit(main(sys.argv[1:]))
+    signal.signal(signal.SIGINT, signal.SIG_DFL)
+    try:
+        sys.exit(main(sys.argv[1:]))
+    except OSError:
+        # with no further try to write
+        os._exit(WRITE_FAULT)

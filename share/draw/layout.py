@@ -237,7 +237,7 @@ class Layout:
         for fault in self.view.faults:
             lines = [Line(part, "quiet") for text in fault.texts[:-1] for part in wrapped(text, letters)]
             lines += [Line(part, "wrongly") for part in wrapped(f"✗ {fault.texts[-1]}", letters)]
-            lines += [Line(part, "") for part in wrapped(fault.why, letters)]
+            lines += [Line(part, "") for text in (fault.why, fault.sentence) if text for part in wrapped(text, letters)]
             width = max(len(line.text) for line in lines) * CHAR + 4 * PAD
             self.fault_cards.append(Card(MARGIN, y, width, len(lines) * LINE + 2 * PAD, lines))
             y += self.fault_cards[-1].height + 10

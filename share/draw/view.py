@@ -14,10 +14,12 @@ MOST_WIDE, MOST_MOVING = 12, 40
 
 @dataclass(slots=True)
 class Fault:
-    """Where a text is wrong: the line, as it stands and with the event line above it where it is a service line, and a sentence."""
+    """Where a text is wrong: the line, as it stands and with the event line above it where it is a service line, what it has to be, and the sentence of
+    `why` where that says something else."""
     line: int
     texts: list[str]
     why: str
+    sentence: str
 
 
 @dataclass(slots=True)

@@ -30,15 +30,19 @@ def line_sentence(text: bytes, number: int) -> str | None:
         return None
     transcript = read(text, first=NO_STAMP)
     fault = transcript.fault
-    if fault and fault.line == number:
-        return printable(of_form(text, transcript, fault))
-    fault = follow(transcript).fault if transcript.is_headed else fault
-    return printable(sentence(fault)) if fault and fault.line == number else None
+    if not (fault and fault.line == number) and transcript.is_headed:
+        fault = follow(transcript).fault
+    return fault_sentence(text, transcript, fault) if fault and fault.line == number else None
+
+
+def fault_sentence(text: bytes, transcript: Transcript, fault: Refused) -> str:
+    """What is wrong with the line that the reader names, or with the one that the events named when they were followed."""
+    return printable(of_form(text, transcript, fault) if fault is transcript.fault else sentence(fault))
 
 
 def of_form(text: bytes, transcript: Transcript, fault: Refused) -> str:
     """Of a line that no transcript has in its place."""
-    lines = text.split(b"\n")
+    lines = text.split(b"\n", fault.line)
     line = lines[fault.line - 1]
     if len(lines) == fault.line:
         return "A line feed is missing at the end of this line." if line else text_ends(fault.line)

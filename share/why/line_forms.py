@@ -4,7 +4,7 @@ import re
 from collections.abc import Callable
 from dataclasses import dataclass
 
-from spelling import NUMBER, PIECE, PROCESS, Word, end_fault, number_fault, text_fault, words_of
+from spelling import NUMBER, PIECE, PROCESS, Word, end_fault, is_above, number_fault, text_fault, words_of
 
 U8, U16, U32, U64 = (2**bits - 1 for bits in (8, 16, 32, 64))
 LONGEST_TEXT = 256
@@ -30,7 +30,7 @@ def number(name: str, most: int) -> Part:
         if not NUMBER.fullmatch(word.text):
             said = number_fault(word).sentence
             return said if said.startswith("`") else f"{word} is in the place of {name}. {said}"
-        return f"{word} is in the place of {name}, and {most} is the most." if int(word.text) > most else None
+        return f"{word} is in the place of {name}, and {most} is the most." if is_above(word.text, most) else None
 
     return Part(name, fault)
 
@@ -42,7 +42,7 @@ def lettered(letter: str, what: str, most: int) -> Part:
         found = re.fullmatch(rb"%s(0|[1-9][0-9]*)" % letter.encode(), word.text)
         if not found:
             return f"{word} names no {what}: a {what} is a small `{letter}` and its number in plain decimal, as `{letter}0`."
-        return f"{word} names no {what}: {most} is the greatest number." if int(found[1]) > most else None
+        return f"{word} names no {what}: {most} is the greatest number." if is_above(found[1], most) else None
 
     return Part(f"the {what}", fault)
 

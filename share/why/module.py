@@ -20,6 +20,7 @@ OTHER_SIGNS = (
     (rb"%", b"mod"),
     (rb"#", b"--"),
 )
+# The least and the greatest length of a row.
 LENGTHS = (1, 16)
 
 
@@ -75,5 +76,5 @@ def open_text(line: bytes, at: int) -> Reason:
 
 def length_of_a_row(line: bytes, at: int) -> Reason:
     end = end_of_token(line, at)
-    near = LENGTHS[0] if int(line[at:end]) < LENGTHS[0] else LENGTHS[1]
+    near = LENGTHS[1] if line[at:end].strip(b"0") else LENGTHS[0]
     return Reason(at, end, demand("rule 4"), put(line, at, end, b"%d" % near))

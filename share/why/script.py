@@ -4,7 +4,7 @@ from dataclasses import dataclass, field
 
 from forms import form_fault, is_skipped
 from reason import Reason, put
-from spelling import PIECE, Word, words_of
+from spelling import PIECE, Word, is_above, words_of
 
 MOST_KERNELS = 8
 MOST_PROCESSES = 64
@@ -109,8 +109,8 @@ def numbering(line: bytes, words: list[Word], given: Given) -> Reason:
 
 def kernel(line: bytes, words: list[Word], given: Given) -> Reason:
     named = words[3:] if words[0].text == b"process" else words[1:]
-    wrong = next(word for word in named if int(word.text) >= given.kernels)
     last = given.kernels - 1
+    wrong = next(word for word in named if is_above(word.text, last))
     has = f"the kernels are 0 to {last}" if last else "the one kernel is 0"
     return Reason(wrong.at, wrong.to, f"There is no kernel {wrong}: {has}.", numbered(line, wrong, last))
 
@@ -120,8 +120,8 @@ def process(line: bytes, words: list[Word], given: Given) -> Reason:
         named = words[1:]
     else:
         named = [Word(1, words[0].text[1:])]
-    wrong = next(word for word in named if int(word.text) >= given.processes)
     last = given.processes - 1
+    wrong = next(word for word in named if is_above(word.text, last))
     if last < 0:
         return Reason(wrong.at, wrong.to, "No process is declared. A line as `process 0 on 0` declares one.")
     has = f"the processes are 0 to {last}" if last else "the one process is 0"

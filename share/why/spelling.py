@@ -47,6 +47,11 @@ class Fault:
     written: bytes | None = None
 
 
+def is_above(digits: bytes, most: int) -> bool:
+    """Whether a number in plain decimal is more. It may have more digits than Python makes a number of."""
+    return len(digits) > len(str(most)) or int(digits) > most
+
+
 def number_fault(word: Word) -> Fault | None:
     if NUMBER.fullmatch(word.text):
         return None
@@ -65,9 +70,9 @@ def number_fault(word: Word) -> Fault | None:
 def end_fault(word: Word) -> Fault | None:
     """Of an END without its `+`."""
     whole = END.fullmatch(word.text)
-    if whole and int(whole[1]) > MOST_MAKER:
+    if whole and is_above(whole[1], MOST_MAKER):
         return Fault(word.at, word.to, f"The maker of a link, which stands before the dot, is at most {MOST_MAKER}.")
-    if whole and int(whole[2]) > MOST_COUNT:
+    if whole and is_above(whole[2], MOST_COUNT):
         return Fault(word.at, word.to, f"The count of a link, which stands behind the dot, is at most {MOST_COUNT}.")
     if whole:
         return None

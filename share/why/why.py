@@ -11,15 +11,19 @@ import sys
 
 sys.dont_write_bytecode = True
 if sys.version_info < (3, 10):
-    sys.exit("lynx: why needs Python 3.10 or later")
+    if sys.stderr:
+        print("lynx: why needs Python 3.10 or later", file=sys.stderr)
+    # as where there is no Python
+    sys.exit(69)
 
+from audited import WRITE_FAULT, put  # noqa: E402
 from module import module_reason  # noqa: E402
 from pages import advice, demand  # noqa: E402
 from reason import Reason  # noqa: E402
 from script import script_reason  # noqa: E402
 from shown import cut, framed  # noqa: E402
 
-DONE, WRITE_FAULT, REFUSED = 0, 3, 4
+DONE, REFUSED = 0, 4
 # A refusal, behind the name of the file.
 FORMS = {
     "script": re.compile(rb":(\d+): (script \d+)\n"),
@@ -37,8 +41,7 @@ def ran(kind: str, name: bytes, command: list[str]) -> tuple[int, bytes, re.Matc
         if found:
             kept, refusal = line, found
         else:
-            sys.stderr.buffer.write(line)
-            sys.stderr.flush()
+            put(sys.stderr, line)
     return run.wait(), kept, refusal
 
 
@@ -75,21 +78,20 @@ def main() -> int:
     kind, name, *command = sys.argv[1:]
     status, kept, refusal = ran(kind, os.fsencode(name), command)
     if status == DONE:
-        print("ok")
+        put(sys.stdout, b"ok\n")
     elif status == REFUSED and refusal:
         data = bytes_of(name)
         named = refusal[refusal.lastindex].decode()
-        print(*told(data, int(refusal[1]), named, reason_of(kind, data, refusal)), sep="\n")
-    sys.stdout.flush()
-    sys.stderr.buffer.write(kept)
-    sys.stderr.flush()
+        lines = told(data, int(refusal[1]), named, reason_of(kind, data, refusal))
+        put(sys.stdout, "".join(f"{line}\n" for line in lines).encode())
+    put(sys.stderr, kept)
     return status if status >= 0 else 128 - status
 
 
 if __name__ == "__main__":
+    signal.signal(signal.SIGINT, signal.SIG_DFL)
     try:
         sys.exit(main())
     except OSError:
-        # no further write is tried when Python ends
-        sys.stdout = sys.stderr = None
-        sys.exit(WRITE_FAULT)
+        # with no further try to write
+        os._exit(WRITE_FAULT)
