@@ -1,1 +1,1 @@
-mod Stages
+pub mod Stages

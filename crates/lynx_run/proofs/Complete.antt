@@ -65,13 +65,19 @@ told-memory name old new ended errs stays were (inr (inr fails)) = absurd (no-fa
 -- a text is put whole, or memory ran out
 text-ends : (old new : Outside) (name : List ℕ) (output : OutputLines) (ended : Status) (outs errs : List Put) → HasNoFault old new → WerePut old.out new.out outs → WerePut old.err new.err errs → output.end ≡ Done
     → EndsText name output ended outs errs → ((ended ≡ status.Done) × (outs ≡ map taken output.lines) × (errs ≡ [])) ⊎ (ended ≡ status.NoMemory)
-text-ends old new name output ended outs errs none out err is (inl whole) = inl (whole.0 ∙ ap end_status is, whole.1)
-text-ends old new name output ended outs errs none out err is (inr (inl stops)) = absurd (no-failed old.out new.out outs stops.1.0.before stops.1.0.line none.out out stops.1.0.puts_are)
+text-ends old new name output ended outs errs none out err is (inl whole) = inl (whole.0 ∙ ap end_status is, whole.1, whole.2)
+text-ends old new name output ended outs errs none out err is (inr (inl stops)) = absurd (no-failed old.out new.out outs stops.1.before stops.1.line none.out out stops.1.puts_are)
 text-ends old new name output ended outs errs none out err is (inr (inr short)) = inr (told-memory name old.err new.err ended errs none.err err short.1)
 
 -- ---- what obeys the rules has no failure but want of memory
 
-ok-err : (m : ModuleTree) (fault : SourceFault) → Result.Ok m ≡ Err fault → ⊥
+abbrev given : ModuleTree → Result ModuleTree SourceFault
+given m = Ok m
+
+abbrev failing : SourceFault → Result ModuleTree SourceFault
+failing fault = Err fault
+
+ok-err : (m : ModuleTree) (fault : SourceFault) → given m ≡ failing fault → ⊥
 ok-err m fault e = cc
 
 no-script : (script : Script) (n r : ℕ) (read : Result Script PlanFault) → read ≡ Ok script → read ≡ Err (plan.BadPlan n r) → ⊥
@@ -126,10 +132,10 @@ audited-only bytes last audited (failure.NoTranscript n) is = absurd (not-both b
 audited-only bytes last audited failure.Unbuilt is = absurd is
 audited-only bytes last audited failure.NoMemory is = refl
 
-some-fault : (fault : SourceFault) → fault ≢ source.NoMemory → Err fault ≢ Result.Err {ModuleTree} source.NoMemory
+some-fault : (fault : SourceFault) → fault ≢ source.NoMemory → failing fault ≢ failing source.NoMemory
 some-fault fault other e = other cc
 
-some-tree : (m : ModuleTree) → Ok m ≢ Result.Err {ModuleTree} source.NoMemory
+some-tree : (m : ModuleTree) → given m ≢ failing source.NoMemory
 some-tree m e = cc
 
 pub only-memory : (command : Command) (bytes : List ℕ) → Obeys command bytes → (f : Failure) → Finds command bytes (Err f) → f ≡ failure.NoMemory
@@ -145,9 +151,9 @@ only-memory (Snapshot file at serial) bytes obeys = absurd obeys
 
 ends-done : (command : Command) (bytes : List ℕ) → Obeys command bytes → (output : OutputLines) → Finds command bytes (Ok output) → output.end ≡ Done
 ends-done (Drive file) bytes obeys output is = is.1
-ends-done (Check file) bytes obeys output is = is.1.1.1
-ends-done (Code file) bytes obeys output is = is.1.1.1
-ends-done (Audit file) bytes obeys output is = is.1.1.1
+ends-done (Check file) bytes obeys output is = is.3
+ends-done (Code file) bytes obeys output is = is.3
+ends-done (Audit file) bytes obeys output is = is.3
 ends-done (Run file serial turns) bytes obeys output is = absurd obeys
 ends-done (Bench seed) bytes obeys output is = absurd obeys
 ends-done (Snapshot file at serial) bytes obeys output is = absurd obeys
@@ -162,7 +168,7 @@ answered command name most course ended old new file took none (Ok bytes) reads 
     by : (found : Found) → course.found ≡ found → Finds command bytes found → IsComplete command course ended
     by (Ok output) e is =
         elim (text-ends old new course.name output ended course.outs course.errs none took.outs took.errs (ends-done command bytes obeys output is) (subst (λ f. Ends course.name f ended course.outs course.errs) e took.ends)) [
-          | inl whole ↦ inl (whole.0, record { name = name; most = most; file = file; bytes = bytes; reads = reads; output = output; finds = is; outs = whole.1.0; errs = whole.1.1 })
+          | inl whole ↦ inl (whole.0, record { name = name; most = most; file = file; bytes = bytes; reads = reads; output = output; finds = is; outs = whole.1; errs = whole.2 })
           | inr short ↦ inr short
         ]
     by (Err f) e is =
@@ -194,7 +200,7 @@ pub complete : (command : Command) (name : List ℕ) (most : ℕ) (course : Cour
     → Took course ended old new → HasNoFault old new → AreObeyed command course.reads → IsComplete command course ended
 complete command name most course ended old new file answers took none obeyed =
     let finds = reads-file command name most course file answers in
-    answered command name most course ended old new file took none finds.0 finds.1.0 finds.1.1 (obeyed (read name most finds.0) finds.1.0)
+    answered command name most course ended old new file took none finds.0 finds.1 finds.2 (obeyed (read name most finds.0) finds.1)
 
 -- ---- files that are told
 
@@ -219,5 +225,5 @@ pub told-complete : (command : Command) (course : Course) (ended : Status) (old 
 told-complete command course ended old new files told has answers took none =
     let finds = reads-file command has.name has.most course has.file answers in
     let all : All (Reads files) course.reads = subst (λ (held : Option Listing). IfSome held (λ fs. All (Reads fs) course.reads)) told took.reads.told in
-    let one : Reads files (read has.name has.most finds.0) = All-head (Reads files) _ [] (subst (All (Reads files)) finds.1.0 all) in
-    answered command has.name has.most course ended old new has.file took none finds.0 finds.1.0 finds.1.1 (told-read command files has finds.0 one)
+    let one : Reads files (read has.name has.most finds.0) = All-head (Reads files) _ [] (subst (All (Reads files)) finds.1 all) in
+    answered command has.name has.most course ended old new has.file took none finds.0 finds.1 finds.2 (told-read command files has finds.0 one)

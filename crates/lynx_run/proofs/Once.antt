@@ -108,4 +108,4 @@ driven-once bytes lines others a b =
     let moved : IsPerformance b.script.setting b.script.lines a.merged a.notes a.last = subst (λ (x : Script). IsPerformance x.setting x.lines a.merged a.notes a.last) script a.performed in
     let same = performance-once b.script.setting b.script.lines a.merged b.merged a.notes b.notes a.last b.last moved b.performed in
     a.line_by_line ∙ ap (λ (x : Script). transcript_lines x.setting a.merged a.notes a.last) script ∙ ap (λ m. transcript_lines b.script.setting m a.notes a.last) same.0
-    ∙ ap (λ n. transcript_lines b.script.setting b.merged n a.last) same.1.0 ∙ ap (λ l. transcript_lines b.script.setting b.merged b.notes l) same.1.1 ∙ sym b.line_by_line
+    ∙ ap (λ n. transcript_lines b.script.setting b.merged n a.last) same.1 ∙ ap (λ l. transcript_lines b.script.setting b.merged b.notes l) same.2 ∙ sym b.line_by_line
