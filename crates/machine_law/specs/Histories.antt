@@ -42,7 +42,8 @@ behind_move p n (Spawns k part values) t life = if nat_eq n k then Some (born pa
 
 -- each action other than a connect or an accept was given its outcome
 abbrev pub AllGiven : Turns → Type 0
-AllGiven t = (n : ℕ) (s : Standing) (w : Wanted) → slice_get t.threads n ≡ Some (Some s) → s.wanted ≡ Some w → is_ready_after (Some w) ≡ true
+AllGiven t =
+    (n : ℕ) (s : Standing) (w : Wanted) → slice_get t.threads n ≡ Some (Some s) → s.wanted ≡ Some w → is_ready_after (Some w) ≡ true
 
 -- it is given no outcome
 abbrev pub IsStop : List Instruction → Standing → Type 0
@@ -81,6 +82,7 @@ life_of p globals n (move ∷ earlier) = behind_move p n move (behind p globals 
 -- instruction, or these where it has made none.
 abbrev pub DidByCode : Program → List Value → Life → Type 0
 DidByCode p now life =
-    code_meaning p (opened_by life.part.op) life.part.start life.made (record { globals = unwrap_or life.first now; locals = start_locals life.part.locals life.arguments })
+    code_meaning p (opened_by life.part.op) life.part.start life.made
+    (record { globals = unwrap_or life.first now; locals = start_locals life.part.locals life.arguments })
     life.answers
     ≡ Comes life.did

@@ -22,7 +22,8 @@ IsWhere _ (Ended actions store) = ⊤
 IsWhere _ _ = ⊥
 
 -- the thread under this number, with this life, did what its code means
-pub record MeansItsCode (m : ModuleTypes) (parts : List PartTypes) (instructions : List Instruction) (n : ℕ) (t : Turns) (life : Life) : Type 0 where
+pub record MeansItsCode (m : ModuleTypes) (parts : List PartTypes) (instructions : List Instruction) (n : ℕ) (t : Turns)
+    (life : Life) : Type 0 where
   pub place : IsWhere (slice_get t.threads n) life.did
   pub part : (i : ℕ) × (slice_get parts i ≡ Some life.part)
   -- what it was given fits
@@ -35,7 +36,8 @@ pub record MeansItsCode (m : ModuleTypes) (parts : List PartTypes) (instructions
 -- Each thread of each history, standing or ended: a thread whose number another one has got stands or ended in an earlier history.
 abbrev pub ThreadsMeanTheirCode : Type 0
 ThreadsMeanTheirCode =
-    (m : ModuleTypes) (parts : List PartTypes) (instructions : List Instruction) (globals : List Value) (moves : List Move) (n : ℕ) (life : Life)
+    (m : ModuleTypes) (parts : List PartTypes) (instructions : List Instruction) (globals : List Value) (moves : List Move)
+    (n : ℕ) (life : Life)
     → IsShaped m parts instructions → AreParts m parts → HaveTypes m.globals globals → IsHistory m parts instructions globals moves
     → life_of (program m instructions) globals n moves ≡ Some life
     → MeansItsCode m parts instructions n (behind (program m instructions) globals moves) life

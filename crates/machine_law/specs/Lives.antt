@@ -1,5 +1,6 @@
 -- What a thread did: its instructions, its actions and its answers.
-use Rattle.std.specs.Prelude.{ℕ, zero, suc, ◌+◌, List, [], ◌∷◌, ◌++◌, nat_eq, Bool, true, false, if◌then◌else◌, Option, Some, None, unwrap_or, slice_get}
+use Rattle.std.specs.Prelude.{ℕ, zero, suc, ◌+◌, List, [], ◌∷◌, ◌++◌, nat_eq, Bool, true, false, if◌then◌else◌}
+use Rattle.std.specs.Prelude.{Option, Some, None, unwrap_or, slice_get}
 use Rattle.lynx_meaning.specs.Agree.{actions_of}
 use Rattle.lynx_meaning.specs.Code.{Next, Goes, Over, Comes, Stuck, Program}
 use Rattle.lynx_meaning.specs.Courses.{Action, Answer, Behaviour, Outcome, Ended, Waits, Out}
