@@ -8,7 +8,7 @@
 mod meaning;
 mod module;
 
-use std::collections::{HashMap, VecDeque};
+use std::collections::{BTreeMap, HashMap, VecDeque};
 use std::env;
 use std::fs;
 use std::process::ExitCode;
@@ -152,6 +152,7 @@ impl<'a> Process<'a> {
             self.wake();
         }
         self.counts.actions += 1;
+        *self.counts.asked.entry(word(&action)).or_default() += 1;
         self.thread(number).asked = Some(action.clone());
         Stop::Act(number, action)
     }
@@ -197,6 +198,8 @@ struct Counts {
     moves: u64,
     instructions: u64,
     actions: u64,
+    /// The actions by their words.
+    asked: BTreeMap<&'static str, u64>,
     opened: u64,
     spawned: u64,
     ended: u64,
@@ -212,6 +215,9 @@ impl Counts {
         self.moves += other.moves;
         self.instructions += other.instructions;
         self.actions += other.actions;
+        for (&word, count) in &other.asked {
+            *self.asked.entry(word).or_default() += count;
+        }
         self.opened += other.opened;
         self.spawned += other.spawned;
         self.ended += other.ended;
@@ -222,18 +228,14 @@ impl Counts {
     }
 
     fn tell(&self) {
+        let asked: Vec<String> = self.asked.iter().map(|(word, count)| format!("{word} {count}")).collect();
+        println!("{} histories, {} moves, {} instructions, {} requests opened", self.histories, self.moves, self.instructions, self.opened);
+        println!("{} actions, of which {} were given exceptions: {}", self.actions, self.raised, asked.join(", "));
         println!(
-            "{} histories, {} moves, {} instructions, {} actions, of which {} were given exceptions; {} requests opened, {} vain awaits; {} threads \
-             started, {} ended, at most {} at a time, in {} histories as many as may be",
-            self.histories,
-            self.moves,
-            self.instructions,
-            self.actions,
-            self.raised,
-            self.opened,
-            self.awaits,
-            self.spawned + self.histories,
+            "{} threads, of which {} ended, {} vain awaits; at most {} threads at a time, as many as may be in {} histories",
+            self.histories + self.spawned,
             self.ended,
+            self.awaits,
             self.most_standing,
             self.full
         );
@@ -256,20 +258,32 @@ fn told_values(values: &[Value]) -> String {
     values.iter().map(|value| format!(" {}", told_value(value))).collect()
 }
 
-fn told_action(action: &Action) -> String {
+fn word(action: &Action) -> &'static str {
     match action {
-        Action::New => "new".to_string(),
-        Action::Destroy(link) => format!("destroy #{link}"),
-        Action::Bind(link, entry) => format!("bind #{link} {entry}"),
-        Action::Unbind(link, entry) => format!("unbind #{link} {entry}"),
-        Action::Connect(link, op, values) => format!("connect #{link} {op}{}", told_values(values)),
-        Action::Accept(link, op) => format!("accept #{link} {op}"),
-        Action::Close => "close".to_string(),
-        Action::Reply(values) => format!("reply{}", told_values(values)),
-        Action::Write(text) => format!("write '{}'", String::from_utf8_lossy(text)),
-        Action::StopAll => "stop".to_string(),
-        Action::Await { .. } => "await".to_string(),
+        Action::New => "new",
+        Action::Destroy(_) => "destroy",
+        Action::Bind(..) => "bind",
+        Action::Unbind(..) => "unbind",
+        Action::Connect(..) => "connect",
+        Action::Accept(..) => "accept",
+        Action::Close => "close",
+        Action::Reply(_) => "reply",
+        Action::Write(_) => "write",
+        Action::StopAll => "stop",
+        Action::Await { .. } => "await",
     }
+}
+
+fn told_action(action: &Action) -> String {
+    let rest = match action {
+        Action::Destroy(link) => format!(" #{link}"),
+        Action::Bind(link, number) | Action::Unbind(link, number) | Action::Accept(link, number) => format!(" #{link} {number}"),
+        Action::Connect(link, op, values) => format!(" #{link} {op}{}", told_values(values)),
+        Action::Reply(values) => told_values(values),
+        Action::Write(text) => format!(" '{}'", String::from_utf8_lossy(text)),
+        _ => String::new(),
+    };
+    format!("{}{rest}", word(action))
 }
 
 fn told_stop(stop: &Stop) -> String {
@@ -378,13 +392,26 @@ fn is_meant(number: &str, source: &str, lines: &[&str], all: &mut Counts) -> boo
     difference.is_none()
 }
 
+/// The histories that are told, each the number of its module and its lines.
+fn histories(told: &str) -> Vec<(&str, Vec<&str>)> {
+    let mut histories: Vec<(&str, Vec<&str>)> = Vec::new();
+    for line in told.lines() {
+        match (line.strip_prefix("history "), histories.last_mut()) {
+            (Some(number), _) => histories.push((number, Vec::new())),
+            (None, Some(last)) => last.1.push(line),
+            (None, None) => wrong(line),
+        }
+    }
+    histories
+}
+
+/// Whether all histories are those of the sources. After a few differences the others are left out.
 fn compare(modules: &str, told: &str) -> bool {
     let modules: HashMap<&str, &str> = modules.lines().map(|line| line.split_once(' ').unwrap_or_else(|| wrong(line))).collect();
     let (mut all, mut differences) = (Counts::default(), 0);
-    for history in told.split("history ").skip(1) {
-        let lines: Vec<&str> = history.lines().collect();
-        let source = modules.get(lines[0]).unwrap_or_else(|| wrong(lines[0]));
-        differences += usize::from(!is_meant(lines[0], source, &lines[1..], &mut all));
+    for (number, lines) in histories(told) {
+        let source = modules.get(number).unwrap_or_else(|| wrong(number));
+        differences += usize::from(!is_meant(number, source, &lines, &mut all));
         if differences == FEW {
             break;
         }
