@@ -8,6 +8,7 @@ mod module;
 
 use std::fs::File;
 use std::io::{self, Write};
+use std::iter;
 use std::os::fd::AsFd;
 use std::process::exit;
 
@@ -157,8 +158,10 @@ impl Listing<'_> {
     fn whole(&mut self, module: &Module, code: &Code) -> io::Result<()> {
         self.heading(b"code ", module.name.of(self.source))?;
         let ends = code.parts[1..].iter().map(|next| usize::from(next.start)).chain([code.instructions.len()]);
-        for (part, end) in code.parts.iter().zip(ends) {
-            self.heading(b"part ", part.entry.map_or(b"main", |entry| entry.name.of(self.source)))?;
+        let source = self.source;
+        let names = iter::once(&b"main"[..]).chain(module.entries.iter().map(|entry| entry.name.of(source)));
+        for ((part, name), end) in code.parts.iter().zip(names).zip(ends) {
+            self.heading(b"part ", name)?;
             let start = usize::from(part.start);
             for (&instruction, address) in code.instructions[start..end].iter().zip(start..) {
                 self.instruction(address, instruction)?;

@@ -3,7 +3,7 @@
 // not each program runs the code
 #![allow(dead_code)]
 
-use crate::module::{names, EntryDecl, Expr, ExprKind, Kind, Module, Name, Stmt, Table, Try, EXCEPTIONS};
+use crate::module::{names, Expr, ExprKind, Kind, Module, Name, Stmt, Table, Try, EXCEPTIONS};
 
 /// The most instructions of a module.
 const MOST_CODE: usize = 65_535;
@@ -46,14 +46,13 @@ pub enum Instruction {
     Case(Exception, u16),
 }
 
-/// A part of the code. The first one is that of the body, and has no entry.
-pub struct Part<'a> {
-    pub entry: Option<&'a EntryDecl>,
+/// A part of the code. The first one is that of the body, and then comes that of each entry.
+pub struct Part {
     pub start: u16,
 }
 
-pub struct Code<'a> {
-    pub parts: Vec<Part<'a>>,
+pub struct Code {
+    pub parts: Vec<Part>,
     /// Each text that is pushed, with its quotes.
     pub texts: Vec<Name>,
     pub instructions: Vec<Instruction>,
@@ -74,16 +73,16 @@ struct Compiler<'a> {
 }
 
 /// The code of a module that obeys the typing rules.
-pub fn compile<'a>(source: &'a [u8], module: &'a Module) -> Result<Code<'a>, TooLong> {
+pub fn compile(source: &[u8], module: &Module) -> Result<Code, TooLong> {
     let count = module.ops.len() + module.params.len() + module.vars.len() + module.entries.len();
     let mut compiler = Compiler { source, names: names(count), locals: names(0), texts: Vec::new(), instructions: Vec::new() };
     number(&mut compiler.names, source, module.params.iter().chain(&module.vars).map(|var| var.name));
     number(&mut compiler.names, source, module.ops.iter().map(|op| op.name));
     number(&mut compiler.names, source, module.entries.iter().map(|entry| entry.name));
-    let mut parts = vec![Part { entry: None, start: 0 }];
+    let mut parts = vec![Part { start: 0 }];
     compiler.body(&module.body)?;
     for entry in &module.entries {
-        parts.push(Part { entry: Some(entry), start: compiler.here() });
+        parts.push(Part { start: compiler.here() });
         compiler.locals = names(entry.parameters.len() + entry.vars.len());
         number(&mut compiler.locals, source, entry.parameters.iter().copied().chain(entry.vars.iter().map(|var| var.name)));
         compiler.body(&entry.body)?;

@@ -273,7 +273,7 @@ enum Turn {
 
 pub struct Machine<'a> {
     module: &'a Module,
-    code: &'a Code<'a>,
+    code: &'a Code,
     texts: Vec<Rc<Text>>,
     globals: Vec<Value>,
     threads: [Option<Box<Thread>>; MOST_THREADS],
@@ -295,7 +295,7 @@ fn start_value(kind: Type) -> Value {
 
 impl<'a> Machine<'a> {
     /// The module's body is the first thread. Its params are no links, until they are set.
-    pub fn start(source: &[u8], module: &'a Module, code: &'a Code<'a>) -> Machine<'a> {
+    pub fn start(source: &[u8], module: &'a Module, code: &'a Code) -> Machine<'a> {
         let inside = |text: &[u8]| Rc::new(Text::of(&text[1..text.len() - 1]));
         let mut threads = [const { None }; MOST_THREADS];
         threads[0] = Some(Box::new(Thread::new(0, false, Vec::new())));

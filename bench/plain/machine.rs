@@ -76,8 +76,9 @@ impl Loop<'_> {
 }
 
 fn measure(name: &str, text: &str, turns: i64, tells_seconds: bool) {
-    let module = checked(name, text.as_bytes(), true);
+    let mut module = checked(name, text.as_bytes(), true);
     let code = compile(text.as_bytes(), &module).unwrap_or_else(|_| fail(1, "the code is too long"));
+    module.drop_statements();
     let machine = Machine::start(text.as_bytes(), &module, &code);
     let mut run = Loop { machine, instructions: 0, answer: 0 };
     let start = processor_seconds();

@@ -262,6 +262,14 @@ pub struct Module {
     pub body: Vec<Stmt>,
 }
 
+impl Module {
+    /// Code was made of them.
+    pub fn drop_statements(&mut self) {
+        self.body = Vec::new();
+        self.entries.iter_mut().for_each(|entry| entry.body = Vec::new());
+    }
+}
+
 pub struct OpDecl {
     pub name: Name,
     pub arguments: Vec<TypeName>,

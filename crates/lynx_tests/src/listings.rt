@@ -211,6 +211,23 @@ fn copies_are_equal(rt: HostRuntime) -> Result<(), Fail> {
     Ok(())
 }
 
+/// The copy of code with a try.
+#[test]
+fn handlers_are_copied(rt: HostRuntime) -> Result<(), Fail> {
+    let source =
+        "module m; var n : int; begin try n := 1 / n; when DIVIDE do n := 3; end; write n; end.";
+    let Ok(checked) = check_source(rt.alloc(), source.as_bytes()) else {
+        return Err("the module".into());
+    };
+    let Ok(code) = compile(rt.alloc(), &checked) else {
+        return Err("the code".into());
+    };
+    let Ok(copy) = code.copy(rt.alloc()) else {
+        return Err("the copy".into());
+    };
+    holds(are_listed_alike(rt.alloc(), &code, &copy), "the listing")
+}
+
 /// How many instructions a body of so many statements `write 1;` has; none where it is too long.
 fn instructions(alloc: Global, statements: u32) -> Result<Option<usize>, AllocError> {
     let mut source = String::from_str(alloc, "module m; begin ")?;
