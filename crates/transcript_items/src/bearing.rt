@@ -1,7 +1,7 @@
 //! Which items of what is kept bear on a line.
 ghost use Rattle.std.specs.Prelude.{◌≡◌, ◌++◌, ◌∷◌, [], IfOk, OnOk, map};
-ghost use Rattle.std.specs.List.{flat_map};
-ghost use Rattle.transcript_items.specs.Bearing.{add_each, add_once, bearing, mentioned, of_due, of_end, of_home, listed, of_last, of_latest, of_line, of_named, of_process, of_waiting, of_way};
+ghost use Rattle.std.specs.List.{flat_map, list_any};
+ghost use Rattle.transcript_items.specs.Bearing.{add_each, add_once, bearing, item_eq, mentioned, of_due, of_end, of_home, listed, of_last, of_latest, of_line, of_named, of_process, of_waiting, of_way};
 ghost use Rattle.transcript_items.specs.declared.bearing.Item.TheVariants.{Process, Stamp, Way};
 
 use crate::naming::{Named, named_by_line, named_by_step};
@@ -80,10 +80,18 @@ fn add_each(items: &mut Vec<Item>, others: &[Item]) -> Result<(), NoMemory>
 fn add_once(items: &mut Vec<Item>, item: Item) -> Result<(), NoMemory>
     ensures { OnOk result (items.new.items ≡ add_once item items.old.items) }
 {
-    if !items.contains(&item) {
-        items.push(item)?;
+    if is_there(items, item) {
+        return Ok(());
     }
+    items.push(item)?;
     Ok(())
+}
+
+#[tactic(auto, unfolding(crate::specs::Bearing::item_eq))]
+fn is_there(items: &[Item], item: Item) -> bool
+    ensures { result ≡ list_any (λ y. item_eq y item) items.now }
+{
+    items.contains(&item)
 }
 
 fn add_mentioned(items: &mut Vec<Item>, before: &Before, kind: &LineKind) -> Result<(), NoMemory>
