@@ -141,12 +141,7 @@ fn add_call(items: &mut Vec<Item>, before: &Before, p: Pid) -> Result<(), NoMemo
     Ok(())
 }
 
-fn add_packet(
-    items: &mut Vec<Item>,
-    before: &Before,
-    from: u8,
-    to: u8,
-) -> Result<(), NoMemory>
+fn add_packet(items: &mut Vec<Item>, before: &Before, from: u8, to: u8) -> Result<(), NoMemory>
     ensures { OnOk result (items.new.items ≡ items.old.items ++ of_latest before.now.latest ++ Stamp to ∷ Way from to ∷ []) }
 {
     add_latest(items, before.latest)?;
@@ -200,11 +195,7 @@ fn add_ways(items: &mut Vec<Item>, ways: &[(u8, u8)]) -> Result<(), NoMemory>
 }
 
 /// Adds a process and ends, at the kernel of the last entry and in the service.
-fn add_named(
-    items: &mut Vec<Item>,
-    latest: Option<(u64, u8)>,
-    named: Named,
-) -> Result<(), NoMemory>
+fn add_named(items: &mut Vec<Item>, latest: Option<(u64, u8)>, named: Named) -> Result<(), NoMemory>
     ensures { OnOk result (items.new.items ≡ items.old.items ++ of_named latest named.entry) }
 {
     add_process(items, named.process)?;

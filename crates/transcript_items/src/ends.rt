@@ -8,7 +8,12 @@ use end_table::{Holder, Inward, Lent, Living, Sending};
 use service_step::Place;
 
 /// Appends what a kernel keeps of an end.
-pub(crate) fn push_entry(out: &mut Vec<u8>, kernel: u8, end: EndId, entry: Lent) -> Result<(), NoMemory> {
+pub(crate) fn push_entry(
+    out: &mut Vec<u8>,
+    kernel: u8,
+    end: EndId,
+    entry: Lent,
+) -> Result<(), NoMemory> {
     push_end(out, end)?;
     let number = u64::from(kernel);
     match entry {
@@ -70,7 +75,11 @@ fn push_fields(out: &mut Vec<u8>, value: &MovingPicture) -> Result<(), NoMemory>
         u64::from(value.want),
         u64::from(value.dead),
     ];
-    fill(out, b", sent #, asked #, served #, want #, dead #", &numbers)
+    fill(
+        out,
+        b", sent #, asked #, served #, want #, dead #",
+        &numbers,
+    )
 }
 
 /// Appends where an end is in the link service.

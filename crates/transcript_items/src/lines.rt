@@ -54,6 +54,15 @@ pub(crate) fn step_line(alloc: Global, step: &ServiceStep) -> Result<Vec<u8>, No
 }
 
 /// Appends the form of a call of a process that runs.
-pub(crate) fn push_call_form(out: &mut Vec<u8>, stamp: u64, kernel: u8, p: Pid) -> Result<(), NoMemory> {
-    fill(out, b"# k# p# CALL", &[stamp, u64::from(kernel), u64::from(p.0)])
+pub(crate) fn push_call_form(
+    out: &mut Vec<u8>,
+    stamp: u64,
+    kernel: u8,
+    p: Pid,
+) -> Result<(), NoMemory> {
+    fill(
+        out,
+        b"# k# p# CALL",
+        &[stamp, u64::from(kernel), u64::from(p.0)],
+    )
 }

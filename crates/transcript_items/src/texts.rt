@@ -27,7 +27,11 @@ pub(crate) fn push_latest(out: &mut Vec<u8>, stamp: u64, kernel: u8) -> Result<(
 }
 
 /// Appends the last stamp of a kernel, if it is there.
-pub(crate) fn push_stamp(out: &mut Vec<u8>, kernel: u8, stamp: Option<u64>) -> Result<(), NoMemory> {
+pub(crate) fn push_stamp(
+    out: &mut Vec<u8>,
+    kernel: u8,
+    stamp: Option<u64>,
+) -> Result<(), NoMemory> {
     let number = u64::from(kernel);
     match stamp {
         Some(stamp) => fill(out, b"k# stamp #", &[number, stamp]),
