@@ -39,11 +39,7 @@ pub fn explain<K: Kernels>(
 }
 
 /// What stands in the second and in the third line. A line that cannot stand is named before any is replayed, so nothing is kept then.
-fn tell_reasons<K: Kernels>(
-    alloc: Global,
-    bytes: &[u8],
-    number: u32,
-) -> Result<Reasons, NoMemory>
+fn tell_reasons<K: Kernels>(alloc: Global, bytes: &[u8], number: u32) -> Result<Reasons, NoMemory>
     requires { length bytes.now < 4294967295 }
 {
     let Reached {

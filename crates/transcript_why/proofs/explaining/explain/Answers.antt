@@ -9,7 +9,7 @@ three : (a b c x y z : List ℕ) → a ≡ x → b ≡ y → c ≡ z → a ∷ b
 three a b c x y z e f g = cc
 
 pub returns : goal.returns
-returns c =
+returns g c =
     record {
       expected = c.in_ok-told.told.expected.items;
       kept = c.in_ok-told.told.kept.items;
