@@ -1,5 +1,5 @@
 -- The three lines, each as it was made.
-use Rattle.std.proofs.Common.{◌≡◌, ℕ, List, [], ◌∷◌, Vec, Global, map, ap, ◌∙◌, rules}
+use Rattle.std.proofs.Common.{◌≡◌, ℕ, List, [], ◌∷◌, Vec, Global, map, ap, ◌∙◌}
 use Rattle.std.specs.Prelude.{codes}
 use Rattle.transcript_lines.specs.Transcript.{line}
 use Rattle.transcript_shown.specs.Shown.{labelled}
