@@ -9,8 +9,7 @@ use lynx_command::{Failure, Lines, MOST_TRANSCRIPT_BYTES, read_file};
 use lynx_outside::Files;
 use std::alloc::Global;
 use transcript_audit::{AuditFault, audit};
-use transcript_kept::Run;
-use transcript_why::explain;
+use transcript_kept::explain;
 
 /// Lines that are put on out, and what is told on err behind them.
 #[derive(Drop)]
@@ -64,7 +63,7 @@ fn find_lines(alloc: Global, bytes: &[u8]) -> Result<Finding, NoMemory>
             failure: None,
         }),
         Err(AuditFault::NoTranscript { line }) => Ok(Finding {
-            lines: Lines::of(explain::<Run>(alloc, bytes, line)?),
+            lines: Lines::of(explain(alloc, bytes, line)?),
             failure: Some(Failure::NoTranscript { line }),
         }),
         Err(AuditFault::NoMemory) => Err(NoMemory),

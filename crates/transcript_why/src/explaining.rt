@@ -21,7 +21,7 @@ struct Reasons {
 }
 
 /// Why the line of a number, which an audit named, is not that of a run of kernels, in three lines: the line as it stands, what was expected
-/// in its place, and what the kernels and the service keep then of what it names. Lines are counted from 1.
+/// in its place, and of what the kernels and the service keep then what bears on it. Lines are counted from 1.
 pub fn explain<K: Kernels>(
     alloc: Global,
     bytes: &[u8],
