@@ -80,10 +80,10 @@ of_end (Some at) end = item.Entry at.1 end ∷ item.Place end ∷ []
 abbrev pub of_named : Option (ℕ × ℕ) → Named → List Item
 of_named latest n = of_process n.process ++ flat_map (of_end latest) n.ends
 
--- a last line tells of packets that wait, or of a kernel
 abbrev pub of_way : ℕ × ℕ → Item
 of_way way = item.Way way.0 way.1
 
+-- a last line tells of packets that wait, or of a kernel
 abbrev pub of_waiting : List (ℕ × ℕ) → List Item
 of_waiting [] = item.NoPacket ∷ []
 of_waiting (way ∷ ways) = map of_way (way ∷ ways)
