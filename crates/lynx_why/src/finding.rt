@@ -9,7 +9,7 @@ use lynx_command::{Failure, Lines, MOST_TRANSCRIPT_BYTES, read_file};
 use lynx_outside::Files;
 use std::alloc::Global;
 use transcript_audit::{AuditFault, audit};
-use transcript_why::explain;
+use transcript_kept::explain;
 
 /// Lines that are put on out, and what is told on err behind them.
 #[derive(Drop)]

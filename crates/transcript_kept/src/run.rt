@@ -6,42 +6,33 @@ ghost use Rattle.kernel_nodes.specs.Nodes.{world_of};
 ghost use Rattle.kernel_world.specs.Run.{AllTaken};
 ghost use Rattle.transcript_kept.specs.Run.{IsRun, MayCall};
 
-use charlotte_calls::{Call, NoMemory, Pid, ServiceStep, Setting};
-use charlotte_packets::PictureWhat;
+use charlotte_calls::{Call, EndId, NoMemory, Pid, ServiceStep, Setting};
+use charlotte_packets::{Packet, PictureWhat};
+use end_table::Lent;
 use kernel_core::Kernel;
 use kernel_nodes::{Nodes, Noted, Request};
-use link_service::{ApplyFault, Service};
+use link_service::{ApplyFault, Place, Service};
 use std::alloc::Global;
 use std::collections::VecDeque;
+use transcript_items::{Doing, Kernels};
 use transcript_reading::LineKind;
 
 /// The kernels and the service after some lines. The lines are those of a run, which an audit has tested; here they are followed.
 #[derive(Drop)]
 pub struct Run {
-    pub(crate) setting: Setting,
-    pub(crate) nodes: Nodes,
-    pub(crate) service: Service,
+    setting: Setting,
+    nodes: Nodes,
+    service: Service,
     /// Stamp and kernel of the last entry.
-    pub(crate) latest: Option<(u64, u8)>,
+    latest: Option<(u64, u8)>,
     /// The service steps of the last event that no line has shown yet.
-    pub(crate) due: VecDeque<ServiceStep>,
+    due: VecDeque<ServiceStep>,
 }
 
-/// What a process is doing.
-#[derive(Clone, Copy)]
-pub(crate) enum Doing {
-    Runs,
-    /// It is in a Wait or a Cancel.
-    Waits,
-    Exited,
-}
+impl Kernels for Run {
+    ghost stand = { IsRun };
 
-impl Run {
-    /// Before the first entry.
-    pub fn start(alloc: Global, setting: Setting) -> Result<Run, NoMemory>
-        requires { IsValid setting }
-        ensures { IfOk result IsRun }
-    {
+    fn start(alloc: Global, setting: Setting) -> Result<Run, NoMemory> {
         let nodes = Nodes::start(alloc, &setting)?;
         let service = Service::start(alloc, &setting)?;
         Ok(Run {
@@ -53,11 +44,7 @@ impl Run {
         })
     }
 
-    /// Does what a line says; `false` where that is not possible.
-    pub fn follow(&mut self, kind: &LineKind) -> Result<bool, NoMemory>
-        requires { IsRun self.old }
-        ensures { IfOk result (λ went. OnTrue went (IsRun self.new)) }
-    {
+    fn follow(&mut self, kind: &LineKind) -> Result<bool, NoMemory> {
         match kind {
             LineKind::CallEntry {
                 kernel,
@@ -72,12 +59,55 @@ impl Run {
                 ..
             } => self.take(*from, *kernel, &picture.what),
             LineKind::Service(_) => self.show(),
-            LineKind::First { .. } | LineKind::Kernels(_) => Ok(true),
-            LineKind::Process { .. } | LineKind::Wire { .. } => Ok(true),
-            LineKind::Note(_) | LineKind::End(_) => Ok(true),
+            _ => Ok(true),
         }
     }
 
+    fn count(&self) -> u8 {
+        self.setting.kernels
+    }
+
+    fn latest(&self) -> Option<(u64, u8)> {
+        self.latest
+    }
+
+    fn due(&self) -> Option<&ServiceStep> {
+        self.due.front()
+    }
+
+    fn is_quiet(&self) -> bool
+        ensures { IsTrue result ↔ AllTaken (world_of self.now.setting self.now.nodes.nodes.items) }
+    {
+        self.nodes.are_quiet()
+    }
+
+    fn doing(&self, p: Pid) -> Option<(u8, Doing)> {
+        let home = self.home(p)?;
+        let kernel = self.nodes.kernel(home)?;
+        Some((home, doing_at(kernel, p)))
+    }
+
+    fn stamp(&self, kernel: u8) -> Option<u64> {
+        Some(self.nodes.kernel(kernel)?.stamp())
+    }
+
+    fn first(&self, from: u8, to: u8) -> Option<&Packet> {
+        self.nodes.first(from, to)
+    }
+
+    fn entry(&self, kernel: u8, end: EndId) -> Lent<'_> {
+        match self.nodes.kernel(kernel) {
+            Some(kernel) => kernel.table().lend(end),
+            None => Lent::Nothing,
+        }
+    }
+
+    fn place(&self, end: EndId) -> Place {
+        self.service.place(end)
+    }
+}
+
+impl Run {
     /// A process makes a call at its kernel.
     fn ask(&mut self, kernel: u8, p: Pid, call: &Call) -> Result<bool, NoMemory>
         requires { IsRun self.old }
@@ -132,20 +162,6 @@ impl Run {
         }
     }
 
-    /// How many kernels there are.
-    pub fn kernels(&self) -> u8
-        ensures { result ≡ self.now.setting.kernels }
-    {
-        self.setting.kernels
-    }
-
-    /// Whether no packet is under way.
-    pub fn is_quiet(&self) -> bool
-        ensures { IsTrue result ↔ AllTaken (world_of self.now.setting self.now.nodes.nodes.items) }
-    {
-        self.nodes.are_quiet()
-    }
-
     /// The kernel of a process, if the process is there.
     fn home(&self, p: Pid) -> Option<u8>
         ensures { IfSome result (λ _. p.0 < length self.now.setting.homes) }
@@ -163,35 +179,6 @@ impl Run {
                 home == kernel && kernel < self.setting.kernels && self.nodes.running(kernel, p)
             }
             None => false,
-        }
-    }
-
-    /// The kernel of a process, and what the process is doing; `None` where it is not there.
-    pub(crate) fn doing(&self, p: Pid) -> Option<(u8, Doing)>
-        requires { IsRun self.now }
-    {
-        let home = self.home(p)?;
-        let kernel = self.nodes.kernel(home)?;
-        Some((home, doing_at(kernel, p)))
-    }
-
-    /// The stamp that a call has at a kernel, if that is there, and the merge has a place for it behind the last entry.
-    pub(crate) fn call_stamp(&self, kernel: u8) -> Option<u64> {
-        let last = self.nodes.kernel(kernel)?.stamp();
-        self.placed(last.saturating_add(1), kernel)
-    }
-
-    /// The same of a packet with a stamp of its own, that the kernel takes.
-    pub(crate) fn take_stamp(&self, kernel: u8, sent: u64) -> Option<u64> {
-        let last = self.nodes.kernel(kernel)?.stamp();
-        self.placed(last.max(sent).saturating_add(1), kernel)
-    }
-
-    /// The stamp, if an entry with it may stand behind the last one.
-    fn placed(&self, stamp: u64, kernel: u8) -> Option<u64> {
-        match self.latest {
-            Some((at, by)) if stamp < at || (stamp == at && kernel <= by) => None,
-            _ => Some(stamp),
         }
     }
 }

@@ -1,11 +1,10 @@
 //! What the kernels give in the place of a line.
-ghost use Rattle.transcript_kept.specs.Run.{IsRun};
 
 use charlotte_calls::NoMemory;
 use charlotte_text::{Listing, push_number};
 use std::alloc::Global;
 use transcript_expected::Form;
-use transcript_kept::{Run, add_next_entries, given_line};
+use transcript_items::{Kernels, add_next_entries, given_line};
 use transcript_reader::{LineKind, Place};
 
 /// What stands between alternatives.
@@ -13,33 +12,33 @@ pub(crate) const OR: &[u8] = b" | ";
 
 /// What the kernels give in the place of a line that differs: the step that is due, the line with its right numbers, or each line that may
 /// stand there.
-pub(crate) fn expected_lines(
+pub(crate) fn expected_lines<K: Kernels>(
     alloc: Global,
     place: Place,
-    run: &Run,
+    kernels: &K,
     kind: &LineKind,
 ) -> Result<Vec<u8>, NoMemory>
-    requires { IsRun run.now }
+    requires { K.stand kernels.now }
 {
-    if let Some(line) = given_line(alloc, run, kind)? {
+    if let Some(line) = given_line(alloc, kernels, kind)? {
         return Ok(line);
     }
     let mut lines = Listing::new(alloc, OR);
-    add_alternatives(alloc, &mut lines, place, run)?;
+    add_alternatives(alloc, &mut lines, place, kernels)?;
     Ok(lines.text)
 }
 
 /// Adds each line that may stand next where no service line is due: notes, last lines, calls, and packets.
-fn add_alternatives(
+fn add_alternatives<K: Kernels>(
     alloc: Global,
     lines: &mut Listing,
     place: Place,
-    run: &Run,
+    kernels: &K,
 ) -> Result<(), NoMemory>
-    requires { IsRun run.now }
+    requires { K.stand kernels.now }
 {
     Form::Note.add(lines, place)?;
-    let last = if run.is_quiet() {
+    let last = if kernels.is_quiet() {
         Form::Quiet
     } else {
         Form::Open
@@ -49,6 +48,6 @@ fn add_alternatives(
         return Ok(());
     }
     lines.add(b"spent K, K below ")?;
-    push_number(&mut lines.text, u64::from(run.kernels()))?;
-    add_next_entries(alloc, lines, run)
+    push_number(&mut lines.text, u64::from(kernels.count()))?;
+    add_next_entries(alloc, lines, kernels)
 }

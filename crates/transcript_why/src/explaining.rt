@@ -1,6 +1,5 @@
 //! The three lines that tell why.
 ghost use Rattle.std.specs.Prelude.{◌<◌, IfOk, length, map};
-ghost use Rattle.transcript_kept.specs.Run.{IsRun};
 ghost use Rattle.transcript_why.specs.Why.{AreWhy};
 
 use crate::expected::{OR, expected_lines};
@@ -10,7 +9,7 @@ use charlotte_calls::NoMemory;
 use charlotte_text::Listing;
 use std::alloc::Global;
 use transcript_expected::expected_forms;
-use transcript_kept::{Run, kept_items};
+use transcript_items::{Kernels, kept_items};
 use transcript_reader::{LineKind, Place};
 use transcript_shown::{labelled_line, line_at, standing_line};
 
@@ -22,12 +21,16 @@ struct Reasons {
 }
 
 /// Why the line of a number, which an audit named, is not that of a run of kernels, in three lines: the line as it stands, what was expected
-/// in its place, and what the kernels and the service keep then of what it names. Lines are counted from 1.
-pub fn explain(alloc: Global, bytes: &[u8], number: u32) -> Result<Vec<Vec<u8>>, NoMemory>
+/// in its place, and of what the kernels and the service keep then what bears on it. Lines are counted from 1.
+pub fn explain<K: Kernels>(
+    alloc: Global,
+    bytes: &[u8],
+    number: u32,
+) -> Result<Vec<Vec<u8>>, NoMemory>
     requires { length bytes.now < 4294967295 }
     ensures { IfOk result (λ lines. AreWhy bytes.now number (map (λ l. l.items) lines.items)) }
 {
-    let told = tell_reasons(alloc, bytes, number)?;
+    let told = tell_reasons::<K>(alloc, bytes, number)?;
     let first = standing_line(alloc, bytes, number)?;
     let second = labelled_line(alloc, b"expected: ", told.expected.as_slice())?;
     let third = labelled_line(alloc, b"kept: ", told.kept.as_slice())?;
@@ -36,7 +39,7 @@ pub fn explain(alloc: Global, bytes: &[u8], number: u32) -> Result<Vec<Vec<u8>>,
 }
 
 /// What stands in the second and in the third line. A line that cannot stand is named before any is replayed, so nothing is kept then.
-fn tell_reasons(alloc: Global, bytes: &[u8], number: u32) -> Result<Reasons, NoMemory>
+fn tell_reasons<K: Kernels>(alloc: Global, bytes: &[u8], number: u32) -> Result<Reasons, NoMemory>
     requires { length bytes.now < 4294967295 }
 {
     let Reached {
@@ -46,8 +49,8 @@ fn tell_reasons(alloc: Global, bytes: &[u8], number: u32) -> Result<Reasons, NoM
     } = reach(alloc, bytes, number)?;
     let version = setting.version;
     if let Some(kind) = next {
-        if let Some(run) = run_before(alloc, bytes, number, setting)? {
-            return differing(alloc, place, &run, &kind);
+        if let Some(kernels) = run_before::<K>(alloc, bytes, number, setting)? {
+            return differing(alloc, place, &kernels, &kind);
         }
     }
     let mut forms = Listing::new(alloc, OR);
@@ -59,11 +62,16 @@ fn tell_reasons(alloc: Global, bytes: &[u8], number: u32) -> Result<Reasons, NoM
 }
 
 /// The same of a line that differs from what the kernels give there.
-fn differing(alloc: Global, place: Place, run: &Run, kind: &LineKind) -> Result<Reasons, NoMemory>
-    requires { IsRun run.now }
+fn differing<K: Kernels>(
+    alloc: Global,
+    place: Place,
+    kernels: &K,
+    kind: &LineKind,
+) -> Result<Reasons, NoMemory>
+    requires { K.stand kernels.now }
 {
     Ok(Reasons {
-        expected: expected_lines(alloc, place, run, kind)?,
-        kept: kept_items(alloc, run, kind)?,
+        expected: expected_lines(alloc, place, kernels, kind)?,
+        kept: kept_items(alloc, kernels, kind)?,
     })
 }

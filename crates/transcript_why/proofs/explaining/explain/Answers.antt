@@ -1,5 +1,5 @@
 -- The three lines, each as it was made.
-use Rattle.std.proofs.Common.{◌≡◌, ℕ, List, [], ◌∷◌, Vec, Global, map, ap, ◌∙◌, rules}
+use Rattle.std.proofs.Common.{◌≡◌, ℕ, List, [], ◌∷◌, Vec, Global, map, ap, ◌∙◌}
 use Rattle.std.specs.Prelude.{codes}
 use Rattle.transcript_lines.specs.Transcript.{line}
 use Rattle.transcript_shown.specs.Shown.{labelled}
@@ -9,7 +9,7 @@ three : (a b c x y z : List ℕ) → a ≡ x → b ≡ y → c ≡ z → a ∷ b
 three a b c x y z e f g = cc
 
 pub returns : goal.returns
-returns c =
+returns g c =
     record {
       expected = c.in_ok-told.told.expected.items;
       kept = c.in_ok-told.told.kept.items;
