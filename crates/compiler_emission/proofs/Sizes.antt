@@ -4,7 +4,7 @@ use Rattle.std.specs.List.{AllByRecursion}
 use Rattle.lynx_lexer.specs.declared.keyword.Keyword.{Keyword}
 use Rattle.lynx_lexer.specs.declared.keyword.Keyword.TheVariants as keywords
 use Rattle.lynx_lexer.specs.declared.sign.Sign.TheVariants as signs
-use Rattle.lynx_tree.specs.Grammar.{Mark, word, mark, name, commas, names_marks, op_marks, var_marks, vars_marks, entry_marks, stmts_marks, module_marks, AreStmts, HasTokens}
+use Rattle.lynx_tree.specs.Grammar.{Mark, word, mark, name, names_marks, op_marks, var_marks, vars_marks, entry_marks, stmts_marks, module_marks, AreStmts, HasTokens}
 use Rattle.lynx_tree.specs.Trees.{ModuleTree, OpTree, VarTree, EntryTree}
 use Rattle.compiler_emission.specs.Tables.{IsFit}
 

@@ -1,5 +1,5 @@
 -- The tables of a module, and the names that they make known.
-use Rattle.std.specs.Prelude.{◌<◌, ◌+◌, List, length, unwrap_or}
+use Rattle.std.specs.Prelude.{◌<◌, ◌+◌, length, unwrap_or}
 use Rattle.lynx_code.specs.Generation.{Names}
 use Rattle.lynx_tree.specs.Grammar.{AreStmts}
 use Rattle.lynx_tree.specs.Trees.{EntryTree, ModuleTree}

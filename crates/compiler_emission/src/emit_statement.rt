@@ -3,7 +3,7 @@
 ghost use Rattle.std.specs.Prelude.{◌≡◌, ◌<◌, ◌≤◌, ◌+◌, ◌∷◌, [], ◌++◌, List, ℕ, length, slice_get, true, false, Err, Some, OnOk};
 ghost use Rattle.lynx_tree.specs.Grammar.{IsStmt, AreExprs, AreStmts, AreHandlers};
 ghost use Rattle.lynx_tree.specs.Trees.{expr_tree, expr_list, stmt_tree, stmt_list, handler_list, else_list, assign_tree, If, IfElse, While, Await, New, Connect, Accept, Reply, Try, choice_tree};
-ghost use Rattle.lynx_code.specs.Generation.{expr_code, exprs_code, stmt_code, stmts_code, handlers_code, store, stores, exception_named};
+ghost use Rattle.lynx_code.specs.Generation.{stmt_code, stmts_code, handlers_code, store, stores, exception_named};
 ghost use Rattle.lynx_code.specs.declared.instruction.Instruction.TheVariants as code_of;
 ghost use Rattle.compiler_emission.specs.declared.fault.CompileFault.TheVariants as faults;
 ghost use Rattle.lynx_code.specs.declared.instruction.Instruction.{Instruction};

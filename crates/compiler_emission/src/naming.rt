@@ -1,6 +1,6 @@
 //! The tables of a module.
 
-ghost use Rattle.std.specs.Prelude.{◌≡◌, ◌<◌, [], length, IfOk, OnOk};
+ghost use Rattle.std.specs.Prelude.{◌<◌, [], length, IfOk, OnOk};
 ghost use Rattle.lynx_tree.specs.Grammar.{module_marks};
 ghost use Rattle.lynx_tree.specs.Trees.{module_tree};
 ghost use Rattle.lynx_code.specs.Modules.{global_names, op_names, entry_names};

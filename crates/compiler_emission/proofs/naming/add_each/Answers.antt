@@ -1,4 +1,4 @@
-use Rattle.std.proofs.Common.{◌≡◌, [], ◌++◌, List, ℕ, map, length, ap, subst, sym, ◌∙◌, arith}
+use Rattle.std.proofs.Common.{[], ◌++◌, List, ℕ, map, length, ap, subst, sym, ◌∙◌, arith}
 use Rattle.std.proofs.lemmas.List.{map-append, length-map}
 use Rattle.lynx_tree.specs.Trees.{VarTree, OpTree, EntryTree, var_tree, op_tree, entry_tree, module_tree}
 use Rattle.compiler_emission.specs.Places.{IsTableOf}

@@ -1,8 +1,7 @@
-use Rattle.std.proofs.Common.{◌≡◌, ◌++◌, length, sym, subst}
+use Rattle.std.proofs.Common.{length, sym, subst}
 use Rattle.lynx_tree.specs.Grammar.{AreStmts}
 use Rattle.lynx_tree.specs.Trees.{entry_tree, stmt_list}
 use Rattle.lynx_code.specs.Modules.{local_names, body_code}
-use Rattle.compiler_emission.specs.Tables.{names_in}
 use Rattle.compiler_emission.proofs.Emitting.{same_ok, same_long}
 use Rattle.compiler_emission.proofs.parts.emit_entry.Goals as goal
 
