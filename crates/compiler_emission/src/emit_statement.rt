@@ -2,7 +2,7 @@
 
 ghost use Rattle.std.specs.Prelude.{◌≡◌, ◌<◌, ◌≤◌, ◌+◌, ◌∷◌, [], ◌++◌, List, ℕ, length, slice_get, true, false, Err, Some, OnOk};
 ghost use Rattle.lynx_tree.specs.Grammar.{IsStmt, AreExprs, AreStmts, AreHandlers};
-ghost use Rattle.lynx_tree.specs.Trees.{expr_tree, expr_list, stmt_tree, stmt_list, handler_list, else_list, assign_tree, If, IfElse, While, Await, New, Connect, Accept, Reply, Try, choice_tree};
+ghost use Rattle.lynx_tree.specs.Trees.{expr_tree, expr_list, stmt_tree, stmt_list, handler_list, else_list, assign_tree, If, IfElse, While, Connect, Accept, Reply, Try, choice_tree};
 ghost use Rattle.lynx_code.specs.Generation.{stmt_code, stmts_code, handlers_code, store, stores, exception_named};
 ghost use Rattle.lynx_code.specs.declared.instruction.Instruction.TheVariants as code_of;
 ghost use Rattle.compiler_emission.specs.declared.fault.CompileFault.TheVariants as faults;
@@ -102,31 +102,6 @@ fn emit_assign<'t, 'm>(
     }
 }
 
-fn emit_await(
-    condition: &Expr,
-    code: &mut Vec<Instruction>,
-    names: &Scope,
-) -> Result<(), CompileFault>
-    ensures ok { OnOk result (code.new.items ≡ code.old.items ++ stmt_code (names_in names.now) (length code.old.items) (Await (expr_tree condition.now))) }
-    ensures long { result ≡ Err faults.CodeTooLong → 65535 < length code.old.items + length (stmt_code (names_in names.now) (length code.old.items) (Await (expr_tree condition.now))) }
-{
-    let start = behind(code, 0)?;
-    emit_then(condition, Instruction::Await(start), code, names)
-}
-
-fn emit_new(
-    first: &IdentRef,
-    second: &IdentRef,
-    code: &mut Vec<Instruction>,
-    names: &Scope,
-) -> Result<(), CompileFault>
-    ensures ok { OnOk result (code.new.items ≡ code.old.items ++ stmt_code (names_in names.now) (length code.old.items) (New first.now second.now)) }
-    ensures long { result ≡ Err faults.CodeTooLong → 65535 < length code.old.items + length (stmt_code (names_in names.now) (length code.old.items) (New first.now second.now)) }
-{
-    push(code, Instruction::New)?;
-    emit_two(code, names.store(second), names.store(first))
-}
-
 fn emit_connect<'t, 'm>(
     op: &'t IdentRef<'m>,
     link: &'t IdentRef<'m>,
@@ -167,7 +142,10 @@ fn emit_link(stmt: &Stmt, code: &mut Vec<Instruction>, names: &Scope) -> Result<
     ensures long { result ≡ Err faults.CodeTooLong → 65535 < length code.old.items + length (stmt_code (names_in names.now) (length code.old.items) (stmt_tree stmt.now)) }
 {
     match stmt {
-        Stmt::New { first, second } => emit_new(first, second, code, names),
+        Stmt::New { first, second } => {
+            push(code, Instruction::New)?;
+            emit_two(code, names.store(second), names.store(first))
+        }
         Stmt::Destroy(name) => emit_two(code, names.load(name), Instruction::Destroy),
         Stmt::Bind { link, entry } => {
             emit_two(
@@ -204,7 +182,10 @@ fn emit_action(stmt: &Stmt, code: &mut Vec<Instruction>, names: &Scope) -> Resul
     match stmt {
         Stmt::Assign { name, index, value } => emit_assign(name, index, value, code, names),
         Stmt::Write(value) => emit_then(value, Instruction::Write, code, names),
-        Stmt::Await(condition) => emit_await(condition, code, names),
+        Stmt::Await(condition) => {
+            let start = behind(code, 0)?;
+            emit_then(condition, Instruction::Await(start), code, names)
+        }
         Stmt::Stop => push(code, Instruction::Stop),
         Stmt::Raise(name) => push(code, Instruction::Raise(exception(name))),
         _ => emit_link(stmt, code, names),

@@ -5,7 +5,7 @@ ghost use Rattle.std.specs.List.{AllByRecursion};
 ghost use Rattle.lynx_tree.specs.Grammar.{AreStmts, HasTokens, module_marks};
 ghost use Rattle.lynx_tree.specs.Trees.{ModuleTree, stmt_list, entry_tree, module_tree, var_tree};
 ghost use Rattle.typing_rules.specs.Names.{arguments_of, known, module_scope};
-ghost use Rattle.lynx_code.specs.Modules.{PartCode, body_code, main_part, entry_part, entry_parts, parts_of, module_code, instructions_of, local_names, ArePairs, IsPartOf};
+ghost use Rattle.lynx_code.specs.Modules.{PartCode, body_code, main_part, entry_part, entry_parts, parts_of, module_code, instructions_of, ArePairs, IsPartOf};
 ghost use Rattle.compiler_emission.specs.declared.fault.CompileFault.TheVariants as faults;
 ghost use Rattle.compiler_emission.specs.Places.{IsTableOf};
 ghost use Rattle.compiler_emission.specs.Tables.{AreTablesOf, IsFit, names_in};
@@ -93,15 +93,22 @@ fn entry_locals<'t, 'm>(
     Ok(types)
 }
 
-/// Adds the local names of an entry to a table, which is empty.
-fn add_locals<'t, 'm>(entry: &'t EntryDecl<'m>, names: &mut Places<'m>) -> Result<(), NoMemory>
+/// Adds the code of an entry, and its local names to a table, which is empty.
+fn emit_named<'t, 'm>(
+    entry: &'t EntryDecl<'m>,
+    code: &mut Vec<Instruction>,
+    names: &mut Places<'m>,
+    tables: &Tables<'m>,
+) -> Result<(), CompileFault>
     requires empty { IsTableOf [] names.old }
     requires fits { IsFit (entry_tree entry.now) }
-    ensures { OnOk result (IsTableOf (local_names (entry_tree entry.now)) names.new) }
+    ensures ok { (m : ModuleTree) → AreTablesOf m tables.now → OnOk result (code.new.items ≡ code.old.items ++ (entry_part m (length code.old.items) (entry_tree entry.now)).instructions) }
+    ensures fits { OnOk result (length code.new.items ≤ 65535) }
+    ensures long { (m : ModuleTree) → AreTablesOf m tables.now → result ≡ Err faults.CodeTooLong → 65535 < length code.old.items + length (entry_part m (length code.old.items) (entry_tree entry.now)).instructions }
 {
     names.add_names(&entry.parameters)?;
     names.add_vars(&entry.vars)?;
-    Ok(())
+    emit_body(&entry.body, code, &tables.scope(names))
 }
 
 /// Adds the code of an entry.
@@ -117,8 +124,7 @@ fn emit_entry<'t, 'm>(
     ensures long { (m : ModuleTree) → AreTablesOf m tables.now → result ≡ Err faults.CodeTooLong → 65535 < length code.old.items + length (entry_part m (length code.old.items) (entry_tree entry.now)).instructions }
 {
     let mut names = Places::new(alloc);
-    add_locals(entry, &mut names)?;
-    emit_body(&entry.body, code, &tables.scope(&names))
+    emit_named(entry, code, &mut names, tables)
 }
 
 /// Compiles an entry: adds its code, and answers its part.
