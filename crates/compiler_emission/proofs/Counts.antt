@@ -9,7 +9,7 @@ use Rattle.lynx_code.specs.declared.instruction.Instruction.{Instruction}
 use Rattle.lynx_code.specs.declared.instruction.Instruction.TheVariants as code
 
 -- instructions with one among them
-has : (before behind : List Instruction) (i : Instruction) → 0 < length (before ++ i ∷ behind)
+pub has : (before behind : List Instruction) (i : Instruction) → 0 < length (before ++ i ∷ behind)
 has before behind i = omega (arith, length-append before (i ∷ behind))
 
 has_one : (names : Names) (at : ℕ) (s : StmtTree) → 0 < length (stmt_code names at s)

@@ -4,10 +4,12 @@ pub mod Counts
 pub mod Emitting
 pub mod Entries
 pub mod Loops
+pub mod Members
 pub mod Operations
 pub mod Pairing
 pub mod Placing
 pub mod Scoping
+pub mod Sizes
 pub mod Statements
 pub mod Weights
 pub mod Wholes

@@ -6,7 +6,8 @@ use Rattle.lynx_code.specs.Generation.{Names}
 use Rattle.lynx_code.specs.Modules.{slot_at, names_of}
 use Rattle.compiler_emission.specs.declared.places.Places.{Places}
 use Rattle.compiler_emission.specs.declared.tables.Tables.{Tables}
-use Rattle.compiler_emission.specs.Tables.{found, IsTableOf, AreTablesOf}
+use Rattle.compiler_emission.specs.Places.{found, IsTableOf}
+use Rattle.compiler_emission.specs.Tables.{AreTablesOf}
 
 abbrev pub names_by : Places → Tables → Names
 names_by locals tables = record {

@@ -1,6 +1,6 @@
 //! Instructions one after the other.
 
-ghost use Rattle.std.specs.Prelude.{◌≡◌, ◌<◌, ◌≤◌, ◌+◌, ◌∷◌, [], ◌++◌, List, length, Err, IfOk, OnOk};
+ghost use Rattle.std.specs.Prelude.{◌≡◌, ◌≢◌, ◌<◌, ◌≤◌, ◌+◌, ◌∷◌, [], ◌++◌, List, length, Err, IfOk, OnOk};
 ghost use Rattle.lynx_code.specs.declared.instruction.Instruction.{Instruction};
 ghost use Rattle.compiler_emission.specs.declared.fault.CompileFault.TheVariants as faults;
 
@@ -23,15 +23,24 @@ pub fn push(code: &mut Vec<Instruction>, instruction: Instruction) -> Result<(),
     Ok(())
 }
 
+/// A number of 16 bits. One that is larger comes from code that is too long, and never from want of memory.
+pub fn short(number: usize) -> Result<u16, CompileFault>
+    ensures ok { IfOk result (λ n. n ≡ number) }
+    ensures long { result ≡ Err faults.CodeTooLong → 65535 < number }
+    ensures memory { result ≢ Err faults.NoMemory }
+{
+    match u16::try_from(number) {
+        Ok(number) => Ok(number),
+        Err(_) => Err(CompileFault::CodeTooLong),
+    }
+}
+
 /// The address behind the next so many instructions.
 pub fn behind(code: &[Instruction], more: u16) -> Result<u16, CompileFault>
     ensures ok { IfOk result (λ address. address ≡ length code.now + more) }
     ensures long { result ≡ Err faults.CodeTooLong → 65535 < length code.now + more }
 {
-    match u16::try_from(code.len() + usize::from(more)) {
-        Ok(address) => Ok(address),
-        Err(_) => Err(CompileFault::CodeTooLong),
-    }
+    short(code.len() + usize::from(more))
 }
 
 /// Writes a jump in the place that was kept for it.

@@ -1,8 +1,9 @@
 //! The code of statements.
 
-ghost use Rattle.std.specs.Prelude.{◌≡◌, ◌≢◌, ◌<◌, ◌≤◌, ◌+◌, ◌∷◌, [], ◌++◌, List, ℕ, length, map, reverse, slice_get, true, false, Err, Some, OnOk, IfOk};
-ghost use Rattle.lynx_tree.specs.Trees.{expr_tree, expr_list, stmt_tree, stmt_list, handler_list, else_list, assign_tree, If, IfElse, While, Await, New, Bind, Unbind, Connect, Accept, Reply, Try, choice_tree};
-ghost use Rattle.lynx_code.specs.Generation.{expr_code, exprs_code, stmt_code, stmts_code, handlers_code, store, stores, exception_named};
+ghost use Rattle.std.specs.Prelude.{◌≡◌, ◌<◌, ◌≤◌, ◌+◌, ◌∷◌, [], ◌++◌, List, ℕ, length, slice_get, true, false, Err, Some, OnOk};
+ghost use Rattle.lynx_tree.specs.Grammar.{IsStmt, AreExprs, AreStmts, AreHandlers};
+ghost use Rattle.lynx_tree.specs.Trees.{expr_tree, expr_list, stmt_tree, stmt_list, handler_list, else_list, assign_tree, If, IfElse, While, Connect, Accept, Reply, Try, choice_tree};
+ghost use Rattle.lynx_code.specs.Generation.{stmt_code, stmts_code, handlers_code, store, stores, exception_named};
 ghost use Rattle.lynx_code.specs.declared.instruction.Instruction.TheVariants as code_of;
 ghost use Rattle.compiler_emission.specs.declared.fault.CompileFault.TheVariants as faults;
 ghost use Rattle.lynx_code.specs.declared.instruction.Instruction.{Instruction};
@@ -13,7 +14,7 @@ ghost use Rattle.compiler_emission.specs.Jumps.{jump_to, over_code, handler_code
 ghost use Rattle.compiler_emission.specs.Tables.{names_in};
 ghost use Rattle.typing_rules.specs.Exceptions.{exception_of};
 
-use crate::emit::{behind, push, set};
+use crate::emit::{behind, push, set, short};
 use crate::emit_expression::{emit_expr, emit_exprs, emit_then};
 use crate::fault::CompileFault;
 use crate::scope::Scope;
@@ -54,18 +55,6 @@ fn exception(name: &IdentRef) -> Exception
     }
 }
 
-/// A number of 16 bits. In a module that was checked this never fails: it has no more than 65,534 entries where it comes here, and of the values of a
-/// `reply` each one has its instruction before they are counted.
-fn short(number: usize) -> Result<u16, CompileFault>
-    ensures ok { IfOk result (λ n. n ≡ number) }
-    ensures err { result ≢ Err faults.CodeTooLong }
-{
-    match u16::try_from(number) {
-        Ok(number) => Ok(number),
-        Err(_) => Err(CompileFault::NoMemory),
-    }
-}
-
 fn emit_two(
     code: &mut Vec<Instruction>,
     first: Instruction,
@@ -94,10 +83,10 @@ fn emit_stores(
     Ok(())
 }
 
-fn emit_assign(
-    name: &IdentRef,
-    index: &Option<Box<Expr>>,
-    value: &Expr,
+fn emit_assign<'t, 'm>(
+    name: &'t IdentRef<'m>,
+    index: &'t Option<Box<Expr<'m>>>,
+    value: &'t Expr<'m>,
     code: &mut Vec<Instruction>,
     names: &Scope,
 ) -> Result<(), CompileFault>
@@ -113,36 +102,11 @@ fn emit_assign(
     }
 }
 
-fn emit_await(
-    condition: &Expr,
-    code: &mut Vec<Instruction>,
-    names: &Scope,
-) -> Result<(), CompileFault>
-    ensures ok { OnOk result (code.new.items ≡ code.old.items ++ stmt_code (names_in names.now) (length code.old.items) (Await (expr_tree condition.now))) }
-    ensures long { result ≡ Err faults.CodeTooLong → 65535 < length code.old.items + length (stmt_code (names_in names.now) (length code.old.items) (Await (expr_tree condition.now))) }
-{
-    let start = behind(code, 0)?;
-    emit_then(condition, Instruction::Await(start), code, names)
-}
-
-fn emit_new(
-    first: &IdentRef,
-    second: &IdentRef,
-    code: &mut Vec<Instruction>,
-    names: &Scope,
-) -> Result<(), CompileFault>
-    ensures ok { OnOk result (code.new.items ≡ code.old.items ++ stmt_code (names_in names.now) (length code.old.items) (New first.now second.now)) }
-    ensures long { result ≡ Err faults.CodeTooLong → 65535 < length code.old.items + length (stmt_code (names_in names.now) (length code.old.items) (New first.now second.now)) }
-{
-    push(code, Instruction::New)?;
-    emit_two(code, names.store(second), names.store(first))
-}
-
-fn emit_connect(
-    op: &IdentRef,
-    link: &IdentRef,
-    values: &[Expr],
-    results: &[IdentRef],
+fn emit_connect<'t, 'm>(
+    op: &'t IdentRef<'m>,
+    link: &'t IdentRef<'m>,
+    values: &'t [Expr<'m>],
+    results: &'t [IdentRef<'m>],
     code: &mut Vec<Instruction>,
     names: &Scope,
 ) -> Result<(), CompileFault>
@@ -160,6 +124,7 @@ fn emit_reply(
     code: &mut Vec<Instruction>,
     names: &Scope,
 ) -> Result<(), CompileFault>
+    requires { AreExprs 6 (expr_list values.now) }
     ensures ok { OnOk result (code.new.items ≡ code.old.items ++ stmt_code (names_in names.now) (length code.old.items) (Reply (expr_list values.now))) }
     ensures long { result ≡ Err faults.CodeTooLong → 65535 < length code.old.items + length (stmt_code (names_in names.now) (length code.old.items) (Reply (expr_list values.now))) }
 {
@@ -169,43 +134,33 @@ fn emit_reply(
     push(code, Instruction::Reply(count))
 }
 
-fn emit_bind(
-    link: &IdentRef,
-    entry: &IdentRef,
-    code: &mut Vec<Instruction>,
-    names: &Scope,
-) -> Result<(), CompileFault>
-    ensures ok { OnOk result (code.new.items ≡ code.old.items ++ stmt_code (names_in names.now) (length code.old.items) (Bind link.now entry.now)) }
-    ensures long { result ≡ Err faults.CodeTooLong → 65535 < length code.old.items + length (stmt_code (names_in names.now) (length code.old.items) (Bind link.now entry.now)) }
-{
-    let number = short(names.entry(entry) as usize)?;
-    emit_two(code, names.load(link), Instruction::Bind(number))
-}
-
-fn emit_unbind(
-    link: &IdentRef,
-    entry: &IdentRef,
-    code: &mut Vec<Instruction>,
-    names: &Scope,
-) -> Result<(), CompileFault>
-    ensures ok { OnOk result (code.new.items ≡ code.old.items ++ stmt_code (names_in names.now) (length code.old.items) (Unbind link.now entry.now)) }
-    ensures long { result ≡ Err faults.CodeTooLong → 65535 < length code.old.items + length (stmt_code (names_in names.now) (length code.old.items) (Unbind link.now entry.now)) }
-{
-    let number = short(names.entry(entry) as usize)?;
-    emit_two(code, names.load(link), Instruction::Unbind(number))
-}
-
 /// Adds the code of a statement that acts on links.
 fn emit_link(stmt: &Stmt, code: &mut Vec<Instruction>, names: &Scope) -> Result<(), CompileFault>
-    requires { acts_on_links (stmt_tree stmt.now) ≡ true }
+    requires links { acts_on_links (stmt_tree stmt.now) ≡ true }
+    requires grammar { IsStmt (stmt_tree stmt.now) }
     ensures ok { OnOk result (code.new.items ≡ code.old.items ++ stmt_code (names_in names.now) (length code.old.items) (stmt_tree stmt.now)) }
     ensures long { result ≡ Err faults.CodeTooLong → 65535 < length code.old.items + length (stmt_code (names_in names.now) (length code.old.items) (stmt_tree stmt.now)) }
 {
     match stmt {
-        Stmt::New { first, second } => emit_new(first, second, code, names),
+        Stmt::New { first, second } => {
+            push(code, Instruction::New)?;
+            emit_two(code, names.store(second), names.store(first))
+        }
         Stmt::Destroy(name) => emit_two(code, names.load(name), Instruction::Destroy),
-        Stmt::Bind { link, entry } => emit_bind(link, entry, code, names),
-        Stmt::Unbind { link, entry } => emit_unbind(link, entry, code, names),
+        Stmt::Bind { link, entry } => {
+            emit_two(
+                code,
+                names.load(link),
+                Instruction::Bind(names.entry(entry)),
+            )
+        }
+        Stmt::Unbind { link, entry } => {
+            emit_two(
+                code,
+                names.load(link),
+                Instruction::Unbind(names.entry(entry)),
+            )
+        }
         Stmt::Connect {
             op,
             link,
@@ -219,14 +174,18 @@ fn emit_link(stmt: &Stmt, code: &mut Vec<Instruction>, names: &Scope) -> Result<
 
 /// Adds the code of a statement with no others inside.
 fn emit_action(stmt: &Stmt, code: &mut Vec<Instruction>, names: &Scope) -> Result<(), CompileFault>
-    requires { has_statements (stmt_tree stmt.now) ≡ false }
+    requires alone { has_statements (stmt_tree stmt.now) ≡ false }
+    requires grammar { IsStmt (stmt_tree stmt.now) }
     ensures ok { OnOk result (code.new.items ≡ code.old.items ++ stmt_code (names_in names.now) (length code.old.items) (stmt_tree stmt.now)) }
     ensures long { result ≡ Err faults.CodeTooLong → 65535 < length code.old.items + length (stmt_code (names_in names.now) (length code.old.items) (stmt_tree stmt.now)) }
 {
     match stmt {
         Stmt::Assign { name, index, value } => emit_assign(name, index, value, code, names),
         Stmt::Write(value) => emit_then(value, Instruction::Write, code, names),
-        Stmt::Await(condition) => emit_await(condition, code, names),
+        Stmt::Await(condition) => {
+            let start = behind(code, 0)?;
+            emit_then(condition, Instruction::Await(start), code, names)
+        }
         Stmt::Stop => push(code, Instruction::Stop),
         Stmt::Raise(name) => push(code, Instruction::Raise(exception(name))),
         _ => emit_link(stmt, code, names),
@@ -236,6 +195,7 @@ fn emit_action(stmt: &Stmt, code: &mut Vec<Instruction>, names: &Scope) -> Resul
 /// Adds the code of a statement.
 #[cycle(emit_statement)]
 fn emit_stmt(stmt: &Stmt, code: &mut Vec<Instruction>, names: &Scope) -> Result<(), CompileFault>
+    requires { IsStmt (stmt_tree stmt.now) }
     ensures ok { OnOk result (code.new.items ≡ code.old.items ++ stmt_code (names_in names.now) (length code.old.items) (stmt_tree stmt.now)) }
     ensures long { result ≡ Err faults.CodeTooLong → 65535 < length code.old.items + length (stmt_code (names_in names.now) (length code.old.items) (stmt_tree stmt.now)) }
 {
@@ -264,6 +224,7 @@ pub fn emit_stmts(
     code: &mut Vec<Instruction>,
     names: &Scope,
 ) -> Result<(), CompileFault>
+    requires { AreStmts (stmt_list stmts.now) }
     ensures ok { OnOk result (code.new.items ≡ code.old.items ++ stmts_code (names_in names.now) (length code.old.items) (stmt_list stmts.now)) }
     ensures long { result ≡ Err faults.CodeTooLong → 65535 < length code.old.items + length (stmts_code (names_in names.now) (length code.old.items) (stmt_list stmts.now)) }
 {
@@ -282,6 +243,7 @@ fn emit_over(
     code: &mut Vec<Instruction>,
     names: &Scope,
 ) -> Result<(), CompileFault>
+    requires { AreStmts (stmt_list stmts.now) }
     ensures ok { OnOk result (code.new.items ≡ code.old.items ++ over_code (names_in names.now) (jump_to jump) more (length code.old.items) (stmt_list stmts.now)) }
     ensures long { result ≡ Err faults.CodeTooLong → 65535 < length code.old.items + length (over_code (names_in names.now) (jump_to jump) more (length code.old.items) (stmt_list stmts.now)) + more }
 {
@@ -300,6 +262,7 @@ fn emit_if<'t, 'm>(
     code: &mut Vec<Instruction>,
     names: &Scope,
 ) -> Result<(), CompileFault>
+    requires { AreStmts (stmt_list then.now) }
     ensures ok { OnOk result (code.new.items ≡ code.old.items ++ stmt_code (names_in names.now) (length code.old.items) (If (expr_tree condition.now) (stmt_list then.now))) }
     ensures long { result ≡ Err faults.CodeTooLong → 65535 < length code.old.items + length (stmt_code (names_in names.now) (length code.old.items) (If (expr_tree condition.now) (stmt_list then.now))) }
 {
@@ -315,6 +278,7 @@ fn emit_if_else<'t, 'm>(
     code: &mut Vec<Instruction>,
     names: &Scope,
 ) -> Result<(), CompileFault>
+    requires { AreStmts (stmt_list then.now) × AreStmts (stmt_list otherwise.now) }
     ensures ok { OnOk result (code.new.items ≡ code.old.items ++ stmt_code (names_in names.now) (length code.old.items) (IfElse (expr_tree condition.now) (stmt_list then.now) (stmt_list otherwise.now))) }
     ensures long { result ≡ Err faults.CodeTooLong → 65535 < length code.old.items + length (stmt_code (names_in names.now) (length code.old.items) (IfElse (expr_tree condition.now) (stmt_list then.now) (stmt_list otherwise.now))) }
 {
@@ -332,6 +296,7 @@ fn emit_choice<'t, 'm>(
     code: &mut Vec<Instruction>,
     names: &Scope,
 ) -> Result<(), CompileFault>
+    requires { IsStmt (choice_tree (expr_tree condition.now) (stmt_list then.now) (else_list otherwise.now)) }
     ensures ok { OnOk result (code.new.items ≡ code.old.items ++ stmt_code (names_in names.now) (length code.old.items) (choice_tree (expr_tree condition.now) (stmt_list then.now) (else_list otherwise.now))) }
     ensures long { result ≡ Err faults.CodeTooLong → 65535 < length code.old.items + length (stmt_code (names_in names.now) (length code.old.items) (choice_tree (expr_tree condition.now) (stmt_list then.now) (else_list otherwise.now))) }
 {
@@ -348,6 +313,7 @@ fn emit_while<'t, 'm>(
     code: &mut Vec<Instruction>,
     names: &Scope,
 ) -> Result<(), CompileFault>
+    requires { AreStmts (stmt_list body.now) }
     ensures ok { OnOk result (code.new.items ≡ code.old.items ++ stmt_code (names_in names.now) (length code.old.items) (While (expr_tree condition.now) (stmt_list body.now))) }
     ensures long { result ≡ Err faults.CodeTooLong → 65535 < length code.old.items + length (stmt_code (names_in names.now) (length code.old.items) (While (expr_tree condition.now) (stmt_list body.now))) }
 {
@@ -366,6 +332,7 @@ fn emit_accept<'t, 'm>(
     code: &mut Vec<Instruction>,
     names: &Scope,
 ) -> Result<(), CompileFault>
+    requires { AreStmts (stmt_list body.now) }
     ensures ok { OnOk result (code.new.items ≡ code.old.items ++ stmt_code (names_in names.now) (length code.old.items) (Accept op.now link.now arguments.now (stmt_list body.now))) }
     ensures long { result ≡ Err faults.CodeTooLong → 65535 < length code.old.items + length (stmt_code (names_in names.now) (length code.old.items) (Accept op.now link.now arguments.now (stmt_list body.now))) }
 {
@@ -382,6 +349,7 @@ fn emit_handler(
     code: &mut Vec<Instruction>,
     names: &Scope,
 ) -> Result<(), CompileFault>
+    requires { AreStmts (stmt_list handler.now.body.items) }
     ensures ok { OnOk result (code.new.items ≡ code.old.items ++ handler_code (names_in names.now) 0 (length code.old.items) handler.now.name (stmt_list handler.now.body.items)) }
     ensures long { result ≡ Err faults.CodeTooLong → 65535 < length code.old.items + length (handler_code (names_in names.now) 0 (length code.old.items) handler.now.name (stmt_list handler.now.body.items)) }
 {
@@ -397,6 +365,7 @@ fn emit_handlers(
     code: &mut Vec<Instruction>,
     names: &Scope,
 ) -> Result<(), CompileFault>
+    requires { AreHandlers (handler_list handlers.now) }
     ensures ok { OnOk result (code.new.items ≡ code.old.items ++ handlers_code (names_in names.now) 0 (length code.old.items) (handler_list handlers.now)) }
     ensures long { result ≡ Err faults.CodeTooLong → 65535 < length code.old.items + length (handlers_code (names_in names.now) 0 (length code.old.items) (handler_list handlers.now)) }
 {
@@ -457,6 +426,7 @@ fn emit_guarded(
     code: &mut Vec<Instruction>,
     names: &Scope,
 ) -> Result<(), CompileFault>
+    requires { AreStmts (stmt_list body.now) }
     ensures ok { OnOk result (code.new.items ≡ code.old.items ++ guarded_code (names_in names.now) (length code.old.items) (stmt_list body.now)) }
     ensures long { result ≡ Err faults.CodeTooLong → 65535 < length code.old.items + length (guarded_code (names_in names.now) (length code.old.items) (stmt_list body.now)) }
 {
@@ -471,6 +441,7 @@ fn emit_caught(
     code: &mut Vec<Instruction>,
     names: &Scope,
 ) -> Result<(), CompileFault>
+    requires { AreHandlers (handler_list handlers.now) }
     ensures ok { OnOk result (code.new.items ≡ code.old.items ++ caught_code (names_in names.now) 0 (length code.old.items) (handler_list handlers.now)) }
     ensures long { result ≡ Err faults.CodeTooLong → 65535 < length code.old.items + length (caught_code (names_in names.now) 0 (length code.old.items) (handler_list handlers.now)) }
 {
@@ -486,6 +457,7 @@ fn emit_try<'t, 'm>(
     code: &mut Vec<Instruction>,
     names: &Scope,
 ) -> Result<(), CompileFault>
+    requires { AreStmts (stmt_list body.now) × AreHandlers (handler_list handlers.now) }
     ensures ok { OnOk result (code.new.items ≡ code.old.items ++ stmt_code (names_in names.now) (length code.old.items) (Try (stmt_list body.now) (handler_list handlers.now))) }
     ensures long { result ≡ Err faults.CodeTooLong → 65535 < length code.old.items + length (stmt_code (names_in names.now) (length code.old.items) (Try (stmt_list body.now) (handler_list handlers.now))) }
 {

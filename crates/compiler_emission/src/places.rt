@@ -1,9 +1,9 @@
 //! Tables of places.
 
-ghost use Rattle.std.specs.Prelude.{◌≡◌, ℕ, ◌∷◌, [], ◌++◌, List, map, None, Some, OnOk, if◌then◌else◌};
+ghost use Rattle.std.specs.Prelude.{◌≡◌, ◌<◌, ◌+◌, ℕ, ◌∷◌, [], ◌++◌, List, length, map, unwrap_or, None, Some, OnOk, if◌then◌else◌};
 ghost use Rattle.std.specs.Str.{bytes_eq};
 ghost use Rattle.lynx_tree.specs.Trees.{var_tree, op_tree, entry_tree};
-ghost use Rattle.compiler_emission.specs.Tables.{found, first_of, IsTableOf};
+ghost use Rattle.compiler_emission.specs.Places.{found, first_of, IsTableOf};
 
 use indexmap::IndexMap;
 use lynx_lexer::{IdentRef, NoMemory};
@@ -37,6 +37,13 @@ impl<'m> Places<'m> {
         self.places.get(&Key { bytes }).copied()
     }
 
+    /// The place of a name, and 0 of one that has none.
+    pub fn place(&self, name: &IdentRef) -> u32
+        ensures { result ≡ unwrap_or (found self.now name.now) 0 }
+    {
+        self.look(name).unwrap_or(0)
+    }
+
     /// Gives a name the next place, where it has none.
     fn keep(&mut self, name: &IdentRef<'m>) -> Result<(), NoMemory>
         ensures count { self.new.count ≡ self.old.count }
@@ -49,13 +56,12 @@ impl<'m> Places<'m> {
         Ok(())
     }
 
-    /// Adds a name at the end of the list.
-    pub fn add(&mut self, name: &IdentRef<'m>) -> Result<(), NoMemory>
-        ensures { (names : List (List ℕ)) → IsTableOf names self.old → OnOk result (IsTableOf (names ++ name.now ∷ []) self.new) }
+    /// Adds a name at the end of the list, where its place can be counted.
+    fn add(&mut self, name: &IdentRef<'m>) -> Result<(), NoMemory>
+        requires { self.old.count + 1 < 4294967296 }
+        ensures count { OnOk result (self.new.count ≡ self.old.count + 1) }
+        ensures table { (names : List (List ℕ)) → IsTableOf names self.old → OnOk result (IsTableOf (names ++ name.now ∷ []) self.new) }
     {
-        if self.count == u32::MAX {
-            return Err(NoMemory);
-        }
         self.keep(name)?;
         self.count += 1;
         Ok(())
@@ -63,13 +69,16 @@ impl<'m> Places<'m> {
 
     /// Makes room for so many names more, so that the table does not grow name by name.
     fn make_room(&mut self, more: usize) -> Result<(), NoMemory>
-        ensures { (names : List (List ℕ)) → IsTableOf names self.old → OnOk result (IsTableOf names self.new) }
+        ensures count { self.new.count ≡ self.old.count }
+        ensures table { (names : List (List ℕ)) → IsTableOf names self.old → OnOk result (IsTableOf names self.new) }
     {
         self.places.reserve(more)?;
         Ok(())
     }
 
+    /// Adds names.
     pub fn add_names(&mut self, list: &[IdentRef<'m>]) -> Result<(), NoMemory>
+        requires { self.old.count + length list.now < 4294967296 }
         ensures { (names : List (List ℕ)) → IsTableOf names self.old → OnOk result (IsTableOf (names ++ list.now) self.new) }
     {
         self.make_room(list.len())?;
@@ -79,7 +88,9 @@ impl<'m> Places<'m> {
         Ok(())
     }
 
+    /// Adds those of variables.
     pub fn add_vars(&mut self, list: &[VarDecl<'m>]) -> Result<(), NoMemory>
+        requires { self.old.count + length list.now < 4294967296 }
         ensures { (names : List (List ℕ)) → IsTableOf names self.old → OnOk result (IsTableOf (names ++ map (λ v. v.name) (map var_tree list.now)) self.new) }
     {
         self.make_room(list.len())?;
@@ -89,7 +100,9 @@ impl<'m> Places<'m> {
         Ok(())
     }
 
+    /// Adds those of operations.
     pub fn add_ops(&mut self, list: &[OpDecl<'m>]) -> Result<(), NoMemory>
+        requires { self.old.count + length list.now < 4294967296 }
         ensures { (names : List (List ℕ)) → IsTableOf names self.old → OnOk result (IsTableOf (names ++ map (λ op. op.name) (map op_tree list.now)) self.new) }
     {
         self.make_room(list.len())?;
@@ -98,14 +111,19 @@ impl<'m> Places<'m> {
         }
         Ok(())
     }
+}
 
-    pub fn add_entries(&mut self, list: &[EntryDecl<'m>]) -> Result<(), NoMemory>
-        ensures { (names : List (List ℕ)) → IsTableOf names self.old → OnOk result (IsTableOf (names ++ map (λ e. e.name) (map entry_tree list.now)) self.new) }
-    {
-        self.make_room(list.len())?;
-        for entry in list {
-            self.add(&entry.name)?;
-        }
-        Ok(())
+/// Adds the names of entries.
+pub fn add_entries<'t, 'm>(
+    entries: &'t [EntryDecl<'m>],
+    table: &mut Places<'m>,
+) -> Result<(), NoMemory>
+    requires { table.old.count + length entries.now < 4294967296 }
+    ensures { (names : List (List ℕ)) → IsTableOf names table.old → OnOk result (IsTableOf (names ++ map (λ e. e.name) (map entry_tree entries.now)) table.new) }
+{
+    table.make_room(entries.len())?;
+    for entry in entries {
+        table.add(&entry.name)?;
     }
+    Ok(())
 }

@@ -1,10 +1,11 @@
 //! What names stand for in a part of a module.
 
-ghost use Rattle.std.specs.Prelude.{◌≡◌, unwrap_or};
+ghost use Rattle.std.specs.Prelude.{◌≡◌};
 ghost use Rattle.lynx_code.specs.Generation.{load, load_member, store, store_member};
-ghost use Rattle.compiler_emission.specs.Tables.{found, names_in};
+ghost use Rattle.compiler_emission.specs.Tables.{names_in};
 
 use crate::places::Places;
+use crate::tables::Tables;
 use lynx_code::Instruction;
 use lynx_lexer::IdentRef;
 
@@ -12,15 +13,7 @@ use lynx_lexer::IdentRef;
 #[derive(Clone, Copy)]
 pub struct Scope<'s, 'm> {
     pub locals: &'s Places<'m>,
-    pub globals: &'s Places<'m>,
-    pub ops: &'s Places<'m>,
-    pub entries: &'s Places<'m>,
-}
-
-fn place(places: &Places, name: &IdentRef) -> u32
-    ensures { result ≡ unwrap_or (found places.now name.now) 0 }
-{
-    places.look(name).unwrap_or(0)
+    pub tables: &'s Tables<'m>,
 }
 
 impl<'s, 'm> Scope<'s, 'm> {
@@ -30,7 +23,7 @@ impl<'s, 'm> Scope<'s, 'm> {
     {
         match self.locals.look(name) {
             Some(slot) => Instruction::LoadL(slot),
-            None => Instruction::LoadG(place(self.globals, name)),
+            None => Instruction::LoadG(self.tables.globals.place(name)),
         }
     }
 
@@ -40,7 +33,7 @@ impl<'s, 'm> Scope<'s, 'm> {
     {
         match self.locals.look(name) {
             Some(slot) => Instruction::AtL(slot),
-            None => Instruction::AtG(place(self.globals, name)),
+            None => Instruction::AtG(self.tables.globals.place(name)),
         }
     }
 
@@ -50,7 +43,7 @@ impl<'s, 'm> Scope<'s, 'm> {
     {
         match self.locals.look(name) {
             Some(slot) => Instruction::StoreL(slot),
-            None => Instruction::StoreG(place(self.globals, name)),
+            None => Instruction::StoreG(self.tables.globals.place(name)),
         }
     }
 
@@ -60,7 +53,7 @@ impl<'s, 'm> Scope<'s, 'm> {
     {
         match self.locals.look(name) {
             Some(slot) => Instruction::PutL(slot),
-            None => Instruction::PutG(place(self.globals, name)),
+            None => Instruction::PutG(self.tables.globals.place(name)),
         }
     }
 
@@ -68,13 +61,16 @@ impl<'s, 'm> Scope<'s, 'm> {
     pub fn op(&self, name: &IdentRef) -> u32
         ensures { result ≡ (names_in self.now).op name.now }
     {
-        place(self.ops, name)
+        self.tables.ops.place(name)
     }
 
     /// The number of an entry.
-    pub fn entry(&self, name: &IdentRef) -> u32
+    pub fn entry(&self, name: &IdentRef) -> u16
         ensures { result ≡ (names_in self.now).entry name.now }
     {
-        place(self.entries, name)
+        match self.tables.entries.look(name) {
+            Some(place) => place as u16,
+            None => 0,
+        }
     }
 }

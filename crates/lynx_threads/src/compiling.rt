@@ -1,7 +1,7 @@
 //! The code of a module.
 
 ghost use Rattle.std.specs.Prelude.{◌≡◌, ◌<◌, ◌≤◌, length, map, Err, IfOk, OnOk};
-ghost use Rattle.lynx_tree.specs.Grammar.{module_marks};
+ghost use Rattle.lynx_tree.specs.Grammar.{HasTokens, module_marks};
 ghost use Rattle.lynx_tree.specs.Trees.{module_tree, op_tree};
 ghost use Rattle.lynx_code.specs.Checked.{IsCheckedCode};
 ghost use Rattle.lynx_code.specs.Modules.{module_code, variables, ArePairs, IsOpOf, IsCodeOf};
@@ -61,7 +61,8 @@ fn count_params(tree: &Module) -> u32
 
 /// The code of the tree of a module.
 fn code_of(alloc: Global, tree: &Module) -> Result<Code, CompileFault>
-    requires { length (module_marks (module_tree tree.now)) < 4294967296 }
+    requires grammar { HasTokens (module_tree tree.now) }
+    requires fits { length (module_marks (module_tree tree.now)) < 4294967296 }
     ensures code { IfOk result (IsCodeOf (module_tree tree.now)) }
     ensures fits { OnOk result (length (module_code (module_tree tree.now)) ≤ 65535) }
     ensures long { result ≡ Err faults.CodeTooLong → 65535 < length (module_code (module_tree tree.now)) }

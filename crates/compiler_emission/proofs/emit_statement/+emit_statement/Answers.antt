@@ -1,16 +1,19 @@
-use Rattle.std.proofs.Common.{◌≡◌, ◌<◌, ◌+◌, ◌++◌, [], ◌∷◌, ℕ, List, length, ap, subst, ◌∙◌, arith, append_assoc}
+use Rattle.std.proofs.Common.{◌≡◌, ◌<◌, ◌+◌, ◌++◌, [], ◌∷◌, ℕ, List, Option, length, sym, ap, subst, ◌∙◌, arith, append_assoc}
+use Rattle.std.specs.Global.{Vec}
 use Rattle.std.proofs.lemmas.Result.{err_from_is_err_and}
 use Rattle.lynx_code.specs.declared.instruction.Instruction.{Instruction}
 use Rattle.lynx_code.specs.declared.instruction.Instruction.TheVariants as code
 use Rattle.lynx_code.specs.Generation.{load, expr_code, stmt_code, stmts_code, stores}
-use Rattle.lynx_tree.specs.Trees.{expr_tree, stmt_list, handler_list}
+use Rattle.lynx_tree.specs.Grammar.{IsStmt, AreStmts}
+use Rattle.lynx_tree.specs.Trees.{expr_tree, stmt_list, handler_list, else_list, choice_tree}
 use Rattle.lynx_tree.specs.declared.statement.Stmt as stmt
 use Rattle.compiler_emission.specs.Jumps.{over_code}
 use Rattle.compiler_emission.specs.Tables.{names_in}
 use Rattle.compiler_emission.proofs.Arms.{has_none}
 use Rattle.compiler_emission.proofs.Emitting.{as_failed, each_end, each_long, same_ok, same_long}
+use Rattle.compiler_emission.proofs.Members.{stmt_at, handler_at}
 use Rattle.compiler_emission.proofs.Statements.{stmt_here, handler_here, stmts_are, handlers_are}
-use Rattle.compiler_emission.proofs.Wholes.{seq, one, then_ok, is_ok, one_long, no_more, seq_ok, seq_first, seq_second, seq_more, if_is, choice_is, while_is, accept_is, choice_view, while_view, accept_view, try_view, handler_view, handlers_number, try_first, try_second, try_third, try_is}
+use Rattle.compiler_emission.proofs.Wholes.{seq, one, then_ok, is_ok, one_long, no_more, seq_ok, seq_first, seq_second, seq_more, if_is, choice_is, while_is, accept_is, choice_view, else_view, while_view, accept_view, try_view, handler_view, handlers_number, try_first, try_second, try_third, try_is}
 use Rattle.compiler_emission.proofs.Weights.{stmt_weight, stmts_weight, one_stmt, one_handler}
 use Rattle.compiler_emission.proofs.emit_statement.+emit_statement.Goals as goal
 
@@ -18,30 +21,51 @@ use Rattle.compiler_emission.proofs.emit_statement.+emit_statement.Goals as goal
 
 pub emit_stmt-emit_choice-requires : goal.emit_stmt-emit_choice-requires
 emit_stmt-emit_choice-requires t c =
-    omega (arith, c.decreases, ap stmt_weight (choice_view c.args.stmt.now c.in-If.condition c.in-If.then c.in-If.otherwise c.deref.result.now c.deref-in-If.result.now c.in-If.is c.deref.ensures c.deref-in-If.ensures.value))
+    let is = choice_view c.args.stmt.now c.in-If.condition c.in-If.then c.in-If.otherwise c.deref.result.now c.deref-in-If.result.now c.in-If.is c.deref.ensures c.deref-in-If.ensures.value in
+    (omega (arith, c.decreases, ap stmt_weight is), subst IsStmt (sym is) c.requires)
 
 pub emit_stmt-emit_while-requires : goal.emit_stmt-emit_while-requires
-emit_stmt-emit_while-requires t c = omega (arith, c.decreases, ap stmt_weight (while_view c.args.stmt.now c.in-While.condition c.in-While.body c.deref-in-While.result.now c.in-While.is c.deref-in-While.ensures.value))
+emit_stmt-emit_while-requires t c =
+    let is = while_view c.args.stmt.now c.in-While.condition c.in-While.body c.deref-in-While.result.now c.in-While.is c.deref-in-While.ensures.value in
+    (omega (arith, c.decreases, ap stmt_weight is), (subst IsStmt (sym is) c.requires).1)
 
 pub emit_stmt-emit_accept-requires : goal.emit_stmt-emit_accept-requires
 emit_stmt-emit_accept-requires t c =
-    omega (arith, c.decreases, ap stmt_weight (accept_view c.args.stmt.now c.in-Accept.op c.in-Accept.link c.in-Accept.arguments c.in-Accept.body c.deref-in-Accept.result.now c.deref-in-Accept-2.result.now c.in-Accept.is c.deref-in-Accept.ensures.value c.deref-in-Accept-2.ensures.value))
+    let is = accept_view c.args.stmt.now c.in-Accept.op c.in-Accept.link c.in-Accept.arguments c.in-Accept.body c.deref-in-Accept.result.now c.deref-in-Accept-2.result.now c.in-Accept.is c.deref-in-Accept.ensures.value c.deref-in-Accept-2.ensures.value in
+    (omega (arith, c.decreases, ap stmt_weight is), subst IsStmt (sym is) c.requires)
 
 pub emit_stmt-emit_try-requires : goal.emit_stmt-emit_try-requires
 emit_stmt-emit_try-requires t c =
-    omega (arith, c.decreases, ap stmt_weight (try_view c.args.stmt.now c.in-Try.body c.in-Try.handlers c.deref-in-Try.result.now c.deref-in-Try-2.result.now c.in-Try.is c.deref-in-Try.ensures.value c.deref-in-Try-2.ensures.value))
+    let is = try_view c.args.stmt.now c.in-Try.body c.in-Try.handlers c.deref-in-Try.result.now c.deref-in-Try-2.result.now c.in-Try.is c.deref-in-Try.ensures.value c.deref-in-Try-2.ensures.value in
+    (omega (arith, c.decreases, ap stmt_weight is), subst IsStmt (sym is) c.requires)
 
-pub emit_stmt-emit_action-requires : goal.emit_stmt-emit_action-requires
-emit_stmt-emit_action-requires t c = has_none c.args.stmt.now c.in_default.not-If c.in_default.not-While c.in_default.not-Accept c.in_default.not-Try
+pub emit_stmt-emit_action-requires-clause-alone : goal.emit_stmt-emit_action-requires-clause-alone
+emit_stmt-emit_action-requires-clause-alone t c = has_none c.args.stmt.now c.in_default.not-If c.in_default.not-While c.in_default.not-Accept c.in_default.not-Try
+
+pub emit_choice-emit_if-requires : goal.emit_choice-emit_if-requires
+emit_choice-emit_if-requires t c =
+    let is = ap (λ (o : Option (Vec stmt.Stmt)). choice_tree (expr_tree c.args.condition.now) (stmt_list c.args.then.now) (else_list o)) c.in-None.is in
+    (omega (arith, c.decreases, ap stmt_weight is), (subst IsStmt is c.requires).1)
+
+pub emit_choice-emit_if_else-requires : goal.emit_choice-emit_if_else-requires
+emit_choice-emit_if_else-requires t c =
+    let is = else_view (expr_tree c.args.condition.now) (stmt_list c.args.then.now) c.args.otherwise.now c.in-Some.otherwise c.deref.result.now c.in-Some.is c.deref.ensures.value in
+    let fit = subst IsStmt (sym is) c.requires in
+    (omega (arith, c.decreases, ap stmt_weight is), (fit.1, fit.2))
 
 pub emit_stmts-emit_stmt-requires : goal.emit_stmts-emit_stmt-requires
-emit_stmts-emit_stmt-requires t c = omega (arith, c.decreases, one_stmt c.args.stmts.now c.loop-stmt.stmt-index c.stmt-item.result (omega arith) c.stmt-item.is)
+emit_stmts-emit_stmt-requires t c =
+    let i = c.loop-stmt.stmt-index in
+    (omega (arith, c.decreases, one_stmt c.args.stmts.now i c.stmt-item.result (omega arith) c.stmt-item.is), stmt_at c.args.stmts.now i c.stmt-item.result (omega arith) c.stmt-item.is c.requires)
 
 pub emit_handlers-emit_handler-requires : goal.emit_handlers-emit_handler-requires
-emit_handlers-emit_handler-requires t c = omega (arith, c.decreases, one_handler c.args.handlers.now c.loop-handler.handler-index c.handler-item.result (omega arith) c.handler-item.is)
+emit_handlers-emit_handler-requires t c =
+    let i = c.loop-handler.handler-index in
+    (omega (arith, c.decreases, one_handler c.args.handlers.now i c.handler-item.result (omega arith) c.handler-item.is), handler_at c.args.handlers.now i c.handler-item.result (omega arith) c.handler-item.is c.requires)
 
 pub emit_handler-emit_over-requires : goal.emit_handler-emit_over-requires
-emit_handler-emit_over-requires t c = omega (arith, c.decreases, ap (λ (xs : List stmt.Stmt). stmts_weight (stmt_list xs)) c.deref.ensures.value)
+emit_handler-emit_over-requires t c =
+    (omega (arith, c.decreases, ap (λ (xs : List stmt.Stmt). stmts_weight (stmt_list xs)) c.deref.ensures.value), subst (λ (xs : List stmt.Stmt). AreStmts (stmt_list xs)) (sym c.deref.ensures.value) c.requires)
 
 -- ---- statements with others inside
 

@@ -6,8 +6,13 @@ use Rattle.lynx_code.specs.declared.instruction.Instruction.{Instruction}
 use Rattle.lynx_code.specs.Modules.{PartCode, entry_parts, IsPartOf}
 use Rattle.compiler_emission.proofs.Emitting.{as_failed, each_step, each_end, each_long}
 use Rattle.compiler_emission.proofs.Entries.{entry_here, entries_are, next_part, last_part}
+use Rattle.compiler_emission.specs.Tables.{IsFit}
+use Rattle.compiler_emission.proofs.Members.{all_at}
 use Rattle.compiler_emission.proofs.Pairing.{IsLeft, pairs_append}
 use Rattle.compiler_emission.proofs.parts.compile_entries.Goals as goal
+
+pub compile_entry-requires-clause-fits : goal.compile_entry-requires-clause-fits
+compile_entry-requires-clause-fits c = all_at IsFit entry_tree c.args.entries.now c.loop-entry.entry-index c.entry-item.result (omega arith) c.entry-item.is c.requires.entries
 
 pub loop-entry-init : goal.loop-entry-init
 loop-entry-init c = record {

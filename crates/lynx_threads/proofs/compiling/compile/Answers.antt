@@ -1,7 +1,7 @@
 use Rattle.std.proofs.Common.{◌<◌, length, sym, subst}
 use Rattle.std.specs.Prelude.{IfOk}
 use Rattle.std.proofs.lemmas.Result.{IfOk-weaker}
-use Rattle.lynx_tree.specs.Grammar.{module_marks}
+use Rattle.lynx_tree.specs.Grammar.{HasTokens, module_marks}
 use Rattle.lynx_tree.specs.Trees.{module_tree}
 use Rattle.lynx_tree.specs.declared.module.Module.{Module}
 use Rattle.lynx_code.specs.Checked.{IsCheckedCode}
@@ -10,8 +10,11 @@ use Rattle.lynx_threads.specs.Agreement.{AgreesWithSource}
 use Rattle.lynx_threads.proofs.Agreement.{agrees}
 use Rattle.lynx_threads.proofs.compiling.compile.Goals as goal
 
-pub code_of-requires : goal.code_of-requires
-code_of-requires c = subst (λ (m : Module). length (module_marks (module_tree m)) < 4294967296) (sym c.module.ensures.module) c.module.ensures.checked.fits
+pub code_of-requires-clause-grammar : goal.code_of-requires-clause-grammar
+code_of-requires-clause-grammar c = subst (λ (m : Module). HasTokens (module_tree m)) (sym c.module.ensures.module) c.module.ensures.checked.grammar
+
+pub code_of-requires-clause-fits : goal.code_of-requires-clause-fits
+code_of-requires-clause-fits c = subst (λ (m : Module). length (module_marks (module_tree m)) < 4294967296) (sym c.module.ensures.module) c.module.ensures.checked.fits
 
 pub returns-clause-agrees : goal.returns-clause-agrees
 returns-clause-agrees c =

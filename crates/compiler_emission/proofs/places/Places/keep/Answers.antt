@@ -3,7 +3,7 @@ use Rattle.std.specs.HashMap.{get_by}
 use Rattle.std.specs.Str.{bytes_eq}
 use Rattle.std.proofs.lemmas.Slice.Eq.{bytes_eq-Decides}
 use Rattle.typing_rules.specs.declared.key.Key.{Key}
-use Rattle.compiler_emission.specs.Tables.{found, first_of}
+use Rattle.compiler_emission.specs.Places.{found, first_of}
 use Rattle.compiler_emission.proofs.places.Places.keep.Goals as goal
 
 -- a name that stood nowhere has its place, and the others have theirs
