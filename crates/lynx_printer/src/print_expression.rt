@@ -27,8 +27,7 @@ pub fn push_expr(expr: &Expr, out: &mut Vec<u8>) -> Result<(), NoMemory>
         } => {
             push_expr(first, out)?;
             push_sign(*sign, out)?;
-            push_expr(second, out)?;
-            Ok(())
+            push_expr(second, out)
         }
         Expr::Sum { first, rest } => {
             push_expr(first, out)?;
@@ -54,16 +53,15 @@ pub fn push_expr(expr: &Expr, out: &mut Vec<u8>) -> Result<(), NoMemory>
         Expr::False => push_keyword(Keyword::False, out),
         Expr::Name { name, index } => {
             push_name(name, out)?;
-            if let Some(index) = index {
-                push_index(index, out)?;
+            match index {
+                None => Ok(()),
+                Some(index) => push_index(index, out),
             }
-            Ok(())
         }
         Expr::Bracket(inner) => {
             push_sign(Sign::Open, out)?;
             push_expr(inner, out)?;
-            push_sign(Sign::Close, out)?;
-            Ok(())
+            push_sign(Sign::Close, out)
         }
     }
 }
@@ -76,8 +74,7 @@ pub fn push_index(index: &Expr, out: &mut Vec<u8>) -> Result<(), NoMemory>
 {
     push_sign(Sign::OpenRow, out)?;
     push_expr(index, out)?;
-    push_sign(Sign::CloseRow, out)?;
-    Ok(())
+    push_sign(Sign::CloseRow, out)
 }
 
 /// Adds expressions with a token between them, which a blank follows.

@@ -58,8 +58,7 @@ pub fn push_type(kind: TypeName, out: &mut Vec<u8>) -> Result<(), NoMemory>
         TypeName::Link => push_keyword(Keyword::Link, out),
         TypeName::Row(length) => {
             push_keyword(Keyword::Row, out)?;
-            push_number(length, out)?;
-            Ok(())
+            push_number(length, out)
         }
     }
 }

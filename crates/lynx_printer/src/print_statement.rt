@@ -25,10 +25,7 @@ fn push_target<'t, 'm>(
     push_name(name, out)?;
     match index {
         None => Ok(()),
-        Some(index) => {
-            push_index(index, out)?;
-            Ok(())
-        }
+        Some(index) => push_index(index, out),
     }
 }
 
@@ -38,8 +35,7 @@ pub fn push_named(keyword: Keyword, ident: &IdentRef, out: &mut Vec<u8>) -> Resu
     ensures { (d : ℕ) → OnOk result (Prints out.old.items out.new.items (word d keyword ∷ name d ident.now ∷ [])) }
 {
     push_keyword(keyword, out)?;
-    push_name(ident, out)?;
-    Ok(())
+    push_name(ident, out)
 }
 
 /// Adds two names, each behind its keyword.
@@ -56,8 +52,7 @@ pub fn push_two<'t, 'm>(
     push_keyword(keyword, out)?;
     push_name(first, out)?;
     push_keyword(between, out)?;
-    push_name(second, out)?;
-    Ok(())
+    push_name(second, out)
 }
 
 /// Adds a keyword and a value.
@@ -66,8 +61,7 @@ fn push_value(value: &Expr, keyword: Keyword, out: &mut Vec<u8>) -> Result<(), N
     ensures { (d : ℕ) → OnOk result (Prints out.old.items out.new.items (word d keyword ∷ expr_marks d (expr_tree value.now))) }
 {
     push_keyword(keyword, out)?;
-    push_expr(value, out)?;
-    Ok(())
+    push_expr(value, out)
 }
 
 #[tactic(auto, using(crate::proofs::Texts::texts))]
@@ -81,8 +75,7 @@ fn push_new<'t, 'm>(
     push_keyword(Keyword::New, out)?;
     push_name(first, out)?;
     push_sign(Sign::Comma, out)?;
-    push_name(second, out)?;
-    Ok(())
+    push_name(second, out)
 }
 
 /// Adds a value between two keywords.
@@ -97,8 +90,7 @@ fn push_test(
 {
     push_keyword(first, out)?;
     push_expr(value, out)?;
-    push_keyword(second, out)?;
-    Ok(())
+    push_keyword(second, out)
 }
 
 /// Adds an assignment.
@@ -113,8 +105,7 @@ fn push_assign<'t, 'm>(
 {
     push_target(name, index, out)?;
     push_sign(Sign::Becomes, out)?;
-    push_expr(value, out)?;
-    Ok(())
+    push_expr(value, out)
 }
 
 /// Adds a request.
@@ -155,8 +146,7 @@ fn push_reply(values: &[Expr], out: &mut Vec<u8>) -> Result<(), NoMemory>
     ensures { (d : ℕ) → OnOk result (Prints out.old.items out.new.items (stmt_marks d (Reply (expr_list values.now)))) }
 {
     push_keyword(Keyword::Reply, out)?;
-    push_exprs(values, out)?;
-    Ok(())
+    push_exprs(values, out)
 }
 
 /// Adds a statement.

@@ -20,8 +20,7 @@ pub fn push_spelling(spelling: &[u8], gap: u8, out: &mut Vec<u8>) -> Result<(), 
 pub fn push_keyword(keyword: Keyword, out: &mut Vec<u8>) -> Result<(), NoMemory>
     ensures { OnOk result (out.new.items ≡ out.old.items ++ token_text (kinds.Keyword keyword)) }
 {
-    push_spelling(keyword.as_slice(), b' ', out)?;
-    Ok(())
+    push_spelling(keyword.as_slice(), b' ', out)
 }
 
 #[tactic(auto, unfolding(lynx_tree::specs::Printing::token_text))]
@@ -32,16 +31,14 @@ pub fn push_sign(sign: Sign, out: &mut Vec<u8>) -> Result<(), NoMemory>
         Sign::Semicolon | Sign::Dot => b'\n',
         _ => b' ',
     };
-    push_spelling(sign.as_slice(), gap, out)?;
-    Ok(())
+    push_spelling(sign.as_slice(), gap, out)
 }
 
 #[tactic(auto, unfolding(lynx_tree::specs::Printing::token_text))]
 pub fn push_name(name: &IdentRef, out: &mut Vec<u8>) -> Result<(), NoMemory>
     ensures { OnOk result (out.new.items ≡ out.old.items ++ token_text (kinds.Name name.now)) }
 {
-    push_spelling(name.as_slice(), b' ', out)?;
-    Ok(())
+    push_spelling(name.as_slice(), b' ', out)
 }
 
 #[tactic(auto, unfolding(lynx_tree::specs::Printing::token_text))]
@@ -49,8 +46,7 @@ pub fn push_number(number: i64, out: &mut Vec<u8>) -> Result<(), NoMemory>
     ensures { OnOk result (out.new.items ≡ out.old.items ++ token_text (kinds.Number number)) }
 {
     let mut buffer = Buffer::new();
-    push_spelling(buffer.format(number).as_bytes(), b' ', out)?;
-    Ok(())
+    push_spelling(buffer.format(number).as_bytes(), b' ', out)
 }
 
 #[tactic(auto, unfolding(lynx_tree::specs::Printing::token_text))]
