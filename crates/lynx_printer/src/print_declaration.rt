@@ -20,8 +20,7 @@ fn push_op(op: &OpDecl, out: &mut Vec<u8>) -> Result<(), NoMemory>
     push_types(&op.arguments, out)?;
     push_sign(Sign::Colon, out)?;
     push_types(&op.results, out)?;
-    push_sign(Sign::Semicolon, out)?;
-    Ok(())
+    push_sign(Sign::Semicolon, out)
 }
 
 impl<'a> Declaration for OpDecl<'a> {
@@ -38,8 +37,7 @@ fn push_var(var: &VarDecl, keyword: Keyword, out: &mut Vec<u8>) -> Result<(), No
     push_named(keyword, &var.name, out)?;
     push_sign(Sign::Colon, out)?;
     push_type(var.kind, out)?;
-    push_sign(Sign::Semicolon, out)?;
-    Ok(())
+    push_sign(Sign::Semicolon, out)
 }
 
 impl<'a> Declaration for VarDecl<'a> {
@@ -57,8 +55,7 @@ pub fn push_body(body: &[Stmt], last: Sign, out: &mut Vec<u8>) -> Result<(), NoM
     push_keyword(Keyword::Begin, out)?;
     push_stmts(body, out)?;
     push_keyword(Keyword::End, out)?;
-    push_sign(last, out)?;
-    Ok(())
+    push_sign(last, out)
 }
 
 fn push_entry(entry: &EntryDecl, out: &mut Vec<u8>) -> Result<(), NoMemory>
@@ -67,8 +64,7 @@ fn push_entry(entry: &EntryDecl, out: &mut Vec<u8>) -> Result<(), NoMemory>
     push_two(Keyword::Entry, &entry.name, Keyword::Of, &entry.op, out)?;
     push_names(&entry.parameters, out)?;
     push_all(&entry.vars, Keyword::Var, out)?;
-    push_body(&entry.body, Sign::Semicolon, out)?;
-    Ok(())
+    push_body(&entry.body, Sign::Semicolon, out)
 }
 
 impl<'a> Declaration for EntryDecl<'a> {

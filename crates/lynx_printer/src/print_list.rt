@@ -31,8 +31,7 @@ pub fn push_names(names: &[IdentRef], out: &mut Vec<u8>) -> Result<(), NoMemory>
 {
     push_sign(Sign::Open, out)?;
     push_name_list(names, out)?;
-    push_sign(Sign::Close, out)?;
-    Ok(())
+    push_sign(Sign::Close, out)
 }
 
 /// Adds values in brackets.
@@ -42,8 +41,7 @@ pub fn push_exprs(values: &[Expr], out: &mut Vec<u8>) -> Result<(), NoMemory>
 {
     push_sign(Sign::Open, out)?;
     push_chain(values, b",", out)?;
-    push_sign(Sign::Close, out)?;
-    Ok(())
+    push_sign(Sign::Close, out)
 }
 
 /// Adds a type.
@@ -84,6 +82,5 @@ pub fn push_types(types: &[TypeName], out: &mut Vec<u8>) -> Result<(), NoMemory>
 {
     push_sign(Sign::Open, out)?;
     push_type_list(types, out)?;
-    push_sign(Sign::Close, out)?;
-    Ok(())
+    push_sign(Sign::Close, out)
 }

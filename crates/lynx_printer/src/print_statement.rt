@@ -121,8 +121,7 @@ fn push_connect<'t, 'm>(
     push_two(Keyword::Connect, op, Keyword::On, link, out)?;
     push_exprs(values, out)?;
     push_sign(Sign::Colon, out)?;
-    push_names(results, out)?;
-    Ok(())
+    push_names(results, out)
 }
 
 /// Adds the first line of an accept.
@@ -136,8 +135,7 @@ fn push_accept<'t, 'm>(
 {
     push_two(Keyword::Accept, op, Keyword::On, link, out)?;
     push_names(names, out)?;
-    push_keyword(Keyword::Do, out)?;
-    Ok(())
+    push_keyword(Keyword::Do, out)
 }
 
 /// Adds an answer.

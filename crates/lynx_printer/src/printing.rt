@@ -25,8 +25,7 @@ fn push_module(tree: &Module, out: &mut Vec<u8>) -> Result<(), NoMemory>
     push_all(&tree.params, Keyword::Param, out)?;
     push_all(&tree.vars, Keyword::Var, out)?;
     push_all(&tree.entries, Keyword::Entry, out)?;
-    push_body(&tree.body, Sign::Dot, out)?;
-    Ok(())
+    push_body(&tree.body, Sign::Dot, out)
 }
 
 /// The text of a module: its tokens with one blank between them, a line feed in its place after each `;`,
