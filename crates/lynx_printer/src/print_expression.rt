@@ -31,13 +31,11 @@ pub fn push_expr(expr: &Expr, out: &mut Vec<u8>) -> Result<(), NoMemory>
         }
         Expr::Sum { first, rest } => {
             push_expr(first, out)?;
-            push_sums(rest, out)?;
-            Ok(())
+            push_sums(rest, out)
         }
         Expr::Term { first, rest } => {
             push_expr(first, out)?;
-            push_terms(rest, out)?;
-            Ok(())
+            push_terms(rest, out)
         }
         Expr::Minus(inner) => {
             push_sign(Sign::Minus, out)?;
