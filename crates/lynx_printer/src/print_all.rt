@@ -13,20 +13,20 @@ pub trait Declaration {
     /// The tokens of one. Only a variable's depend on the keyword.
     ghost marks: { Keyword → Self → List Mark };
 
-    fn push(&self, out: &mut Vec<u8>, keyword: Keyword) -> Result<(), NoMemory>
+    fn push(&self, keyword: Keyword, out: &mut Vec<u8>) -> Result<(), NoMemory>
         ensures { OnOk result (Prints out.old.items out.new.items (marks keyword self.now)) };
 }
 
 /// Adds declarations, each behind the keyword.
 pub fn push_all<T: Declaration>(
-    out: &mut Vec<u8>,
-    keyword: Keyword,
     all: &[T],
+    keyword: Keyword,
+    out: &mut Vec<u8>,
 ) -> Result<(), NoMemory>
     ensures { OnOk result (Prints out.old.items out.new.items (flat_map (T.marks keyword) all.now)) }
 {
     for item in all {
-        item.push(out, keyword)?;
+        item.push(keyword, out)?;
     }
     Ok(())
 }

@@ -13,68 +13,64 @@ use crate::print_token::{push_keyword, push_sign};
 use lynx_lexer::{Keyword, NoMemory, Sign};
 use lynx_tree::{EntryDecl, OpDecl, Stmt, VarDecl};
 
-fn push_op(out: &mut Vec<u8>, op: &OpDecl) -> Result<(), NoMemory>
+fn push_op(op: &OpDecl, out: &mut Vec<u8>) -> Result<(), NoMemory>
     ensures { OnOk result (Prints out.old.items out.new.items (op_marks (op_tree op.now))) }
 {
-    push_named(out, Keyword::Op, &op.name)?;
-    push_types(out, &op.arguments)?;
-    push_sign(out, Sign::Colon)?;
-    push_types(out, &op.results)?;
-    push_sign(out, Sign::Semicolon)?;
-    Ok(())
+    push_named(Keyword::Op, &op.name, out)?;
+    push_types(&op.arguments, out)?;
+    push_sign(Sign::Colon, out)?;
+    push_types(&op.results, out)?;
+    push_sign(Sign::Semicolon, out)
 }
 
 impl<'a> Declaration for OpDecl<'a> {
     ghost marks = { λ _ op. op_marks (op_tree op) };
 
-    fn push(&self, out: &mut Vec<u8>, _keyword: Keyword) -> Result<(), NoMemory> {
-        push_op(out, self)
+    fn push(&self, _keyword: Keyword, out: &mut Vec<u8>) -> Result<(), NoMemory> {
+        push_op(self, out)
     }
 }
 
-fn push_var(out: &mut Vec<u8>, keyword: Keyword, var: &VarDecl) -> Result<(), NoMemory>
+fn push_var(var: &VarDecl, keyword: Keyword, out: &mut Vec<u8>) -> Result<(), NoMemory>
     ensures { OnOk result (Prints out.old.items out.new.items (var_marks keyword (var_tree var.now))) }
 {
-    push_named(out, keyword, &var.name)?;
-    push_sign(out, Sign::Colon)?;
-    push_type(out, var.kind)?;
-    push_sign(out, Sign::Semicolon)?;
-    Ok(())
+    push_named(keyword, &var.name, out)?;
+    push_sign(Sign::Colon, out)?;
+    push_type(var.kind, out)?;
+    push_sign(Sign::Semicolon, out)
 }
 
 impl<'a> Declaration for VarDecl<'a> {
     ghost marks = { λ keyword var. var_marks keyword (var_tree var) };
 
-    fn push(&self, out: &mut Vec<u8>, keyword: Keyword) -> Result<(), NoMemory> {
-        push_var(out, keyword, self)
+    fn push(&self, keyword: Keyword, out: &mut Vec<u8>) -> Result<(), NoMemory> {
+        push_var(self, keyword, out)
     }
 }
 
 /// Adds statements from `begin` to `end` and a sign.
-pub fn push_body(out: &mut Vec<u8>, body: &[Stmt], last: Sign) -> Result<(), NoMemory>
+pub fn push_body(body: &[Stmt], last: Sign, out: &mut Vec<u8>) -> Result<(), NoMemory>
     ensures { OnOk result (Prints out.old.items out.new.items (word 0 keywords.Begin ∷ (stmts_marks 0 (stmt_list body.now) ++ word 0 keywords.End ∷ mark 0 last ∷ []))) }
 {
-    push_keyword(out, Keyword::Begin)?;
-    push_stmts(out, body)?;
-    push_keyword(out, Keyword::End)?;
-    push_sign(out, last)?;
-    Ok(())
+    push_keyword(Keyword::Begin, out)?;
+    push_stmts(body, out)?;
+    push_keyword(Keyword::End, out)?;
+    push_sign(last, out)
 }
 
-fn push_entry(out: &mut Vec<u8>, entry: &EntryDecl) -> Result<(), NoMemory>
+fn push_entry(entry: &EntryDecl, out: &mut Vec<u8>) -> Result<(), NoMemory>
     ensures { OnOk result (Prints out.old.items out.new.items (entry_marks (entry_tree entry.now))) }
 {
-    push_two(out, Keyword::Entry, &entry.name, Keyword::Of, &entry.op)?;
-    push_names(out, &entry.parameters)?;
-    push_all(out, Keyword::Var, &entry.vars)?;
-    push_body(out, &entry.body, Sign::Semicolon)?;
-    Ok(())
+    push_two(Keyword::Entry, &entry.name, Keyword::Of, &entry.op, out)?;
+    push_names(&entry.parameters, out)?;
+    push_all(&entry.vars, Keyword::Var, out)?;
+    push_body(&entry.body, Sign::Semicolon, out)
 }
 
 impl<'a> Declaration for EntryDecl<'a> {
     ghost marks = { λ _ entry. entry_marks (entry_tree entry) };
 
-    fn push(&self, out: &mut Vec<u8>, _keyword: Keyword) -> Result<(), NoMemory> {
-        push_entry(out, self)
+    fn push(&self, _keyword: Keyword, out: &mut Vec<u8>) -> Result<(), NoMemory> {
+        push_entry(self, out)
     }
 }

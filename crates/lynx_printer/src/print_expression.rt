@@ -14,56 +14,52 @@ use lynx_tree::{Expr, TermSign};
 /// Adds an expression.
 #[cycle(print_expression)]
 #[tactic(auto, using(crate::proofs::Texts::texts))]
-pub fn push_expr(out: &mut Vec<u8>, expr: &Expr) -> Result<(), NoMemory>
+pub fn push_expr(expr: &Expr, out: &mut Vec<u8>) -> Result<(), NoMemory>
     ensures { (d : ℕ) → OnOk result (Prints out.old.items out.new.items (expr_marks d (expr_tree expr.now))) }
 {
     match expr {
-        Expr::Or(members) => push_chain(out, b"or", members),
-        Expr::And(members) => push_chain(out, b"and", members),
+        Expr::Or(members) => push_chain(members, b"or", out),
+        Expr::And(members) => push_chain(members, b"and", out),
         Expr::Relation {
             first,
             sign,
             second,
         } => {
-            push_expr(out, first)?;
-            push_sign(out, *sign)?;
-            push_expr(out, second)?;
-            Ok(())
+            push_expr(first, out)?;
+            push_sign(*sign, out)?;
+            push_expr(second, out)
         }
         Expr::Sum { first, rest } => {
-            push_expr(out, first)?;
-            push_sums(out, rest)?;
-            Ok(())
+            push_expr(first, out)?;
+            push_sums(rest, out)
         }
         Expr::Term { first, rest } => {
-            push_expr(out, first)?;
-            push_terms(out, rest)?;
-            Ok(())
+            push_expr(first, out)?;
+            push_terms(rest, out)
         }
         Expr::Minus(inner) => {
-            push_sign(out, Sign::Minus)?;
-            push_expr(out, inner)
+            push_sign(Sign::Minus, out)?;
+            push_expr(inner, out)
         }
         Expr::Not(inner) => {
-            push_keyword(out, Keyword::Not)?;
-            push_expr(out, inner)
+            push_keyword(Keyword::Not, out)?;
+            push_expr(inner, out)
         }
-        Expr::Number(number) => push_number(out, *number),
-        Expr::Text(inside) => push_text(out, inside),
-        Expr::True => push_keyword(out, Keyword::True),
-        Expr::False => push_keyword(out, Keyword::False),
+        Expr::Number(number) => push_number(*number, out),
+        Expr::Text(inside) => push_text(inside, out),
+        Expr::True => push_keyword(Keyword::True, out),
+        Expr::False => push_keyword(Keyword::False, out),
         Expr::Name { name, index } => {
-            push_name(out, name)?;
-            if let Some(index) = index {
-                push_index(out, index)?;
+            push_name(name, out)?;
+            match index {
+                None => Ok(()),
+                Some(index) => push_index(index, out),
             }
-            Ok(())
         }
         Expr::Bracket(inner) => {
-            push_sign(out, Sign::Open)?;
-            push_expr(out, inner)?;
-            push_sign(out, Sign::Close)?;
-            Ok(())
+            push_sign(Sign::Open, out)?;
+            push_expr(inner, out)?;
+            push_sign(Sign::Close, out)
         }
     }
 }
@@ -71,28 +67,27 @@ pub fn push_expr(out: &mut Vec<u8>, expr: &Expr) -> Result<(), NoMemory>
 /// Adds an index in its brackets.
 #[cycle(print_expression)]
 #[tactic(auto, using(crate::proofs::Texts::texts))]
-pub fn push_index(out: &mut Vec<u8>, index: &Expr) -> Result<(), NoMemory>
+pub fn push_index(index: &Expr, out: &mut Vec<u8>) -> Result<(), NoMemory>
     ensures { (d : ℕ) → OnOk result (Prints out.old.items out.new.items (index_marks d (expr_tree index.now))) }
 {
-    push_sign(out, Sign::OpenRow)?;
-    push_expr(out, index)?;
-    push_sign(out, Sign::CloseRow)?;
-    Ok(())
+    push_sign(Sign::OpenRow, out)?;
+    push_expr(index, out)?;
+    push_sign(Sign::CloseRow, out)
 }
 
 /// Adds expressions with a token between them, which a blank follows.
 #[cycle(print_expression)]
 #[tactic(auto, using(crate::proofs::Texts::texts))]
-pub fn push_chain(out: &mut Vec<u8>, between: &[u8], members: &[Expr]) -> Result<(), NoMemory>
+pub fn push_chain(members: &[Expr], between: &[u8], out: &mut Vec<u8>) -> Result<(), NoMemory>
     ensures { (d : ℕ) (t : Mark) → token_text t.kind ≡ between.now ++ 32 ∷ [] → OnOk result (Prints out.old.items out.new.items (chain_marks d t (expr_list members.now))) }
 {
     let Some((first, rest)) = members.split_first() else {
         return Ok(());
     };
-    push_expr(out, first)?;
+    push_expr(first, out)?;
     for member in rest {
-        push_spelling(out, between, b' ')?;
-        push_expr(out, member)?;
+        push_spelling(between, b' ', out)?;
+        push_expr(member, out)?;
     }
     Ok(())
 }
@@ -100,12 +95,12 @@ pub fn push_chain(out: &mut Vec<u8>, between: &[u8], members: &[Expr]) -> Result
 /// Adds members of a sum, each behind its sign.
 #[cycle(print_expression)]
 #[tactic(auto, using(crate::proofs::Texts::texts))]
-fn push_sums(out: &mut Vec<u8>, members: &[(Sign, Expr)]) -> Result<(), NoMemory>
+fn push_sums(members: &[(Sign, Expr)], out: &mut Vec<u8>) -> Result<(), NoMemory>
     ensures { (d : ℕ) → OnOk result (Prints out.old.items out.new.items (sum_marks d (sum_list members.now))) }
 {
     for (sign, member) in members {
-        push_sign(out, *sign)?;
-        push_expr(out, member)?;
+        push_sign(*sign, out)?;
+        push_expr(member, out)?;
     }
     Ok(())
 }
@@ -113,23 +108,23 @@ fn push_sums(out: &mut Vec<u8>, members: &[(Sign, Expr)]) -> Result<(), NoMemory
 /// Adds members of a term, each behind its sign.
 #[cycle(print_expression)]
 #[tactic(auto, using(crate::proofs::Texts::texts))]
-fn push_terms(out: &mut Vec<u8>, members: &[(TermSign, Expr)]) -> Result<(), NoMemory>
+fn push_terms(members: &[(TermSign, Expr)], out: &mut Vec<u8>) -> Result<(), NoMemory>
     ensures { (d : ℕ) → OnOk result (Prints out.old.items out.new.items (term_marks d (term_list members.now))) }
 {
     for (sign, member) in members {
-        push_term_sign(out, *sign)?;
-        push_expr(out, member)?;
+        push_term_sign(*sign, out)?;
+        push_expr(member, out)?;
     }
     Ok(())
 }
 
 #[tactic(auto, using(crate::proofs::Texts::texts))]
-fn push_term_sign(out: &mut Vec<u8>, sign: TermSign) -> Result<(), NoMemory>
+fn push_term_sign(sign: TermSign, out: &mut Vec<u8>) -> Result<(), NoMemory>
     ensures { (d : ℕ) → OnOk result (Prints out.old.items out.new.items (term_sign d sign ∷ [])) }
 {
     match sign {
-        TermSign::Times => push_sign(out, Sign::Times),
-        TermSign::Over => push_sign(out, Sign::Over),
-        TermSign::Mod => push_keyword(out, Keyword::Mod),
+        TermSign::Times => push_sign(Sign::Times, out),
+        TermSign::Over => push_sign(Sign::Over, out),
+        TermSign::Mod => push_keyword(Keyword::Mod, out),
     }
 }

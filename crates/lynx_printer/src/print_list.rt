@@ -10,81 +10,77 @@ use crate::print_token::{push_keyword, push_name, push_number, push_sign};
 use lynx_lexer::{IdentRef, Keyword, NoMemory, Sign};
 use lynx_tree::{Expr, TypeName};
 
-fn push_name_list(out: &mut Vec<u8>, names: &[IdentRef]) -> Result<(), NoMemory>
+fn push_name_list(names: &[IdentRef], out: &mut Vec<u8>) -> Result<(), NoMemory>
     ensures { (d : ℕ) → OnOk result (Prints out.old.items out.new.items (commas d (map (λ n. name d n ∷ []) names.now))) }
 {
     let Some((first, rest)) = names.split_first() else {
         return Ok(());
     };
-    push_name(out, first)?;
+    push_name(first, out)?;
     for name in rest {
-        push_sign(out, Sign::Comma)?;
-        push_name(out, name)?;
+        push_sign(Sign::Comma, out)?;
+        push_name(name, out)?;
     }
     Ok(())
 }
 
 /// Adds names in brackets.
 #[tactic(auto, using(crate::proofs::Texts::texts))]
-pub fn push_names(out: &mut Vec<u8>, names: &[IdentRef]) -> Result<(), NoMemory>
+pub fn push_names(names: &[IdentRef], out: &mut Vec<u8>) -> Result<(), NoMemory>
     ensures { (d : ℕ) → OnOk result (Prints out.old.items out.new.items (names_marks d names.now)) }
 {
-    push_sign(out, Sign::Open)?;
-    push_name_list(out, names)?;
-    push_sign(out, Sign::Close)?;
-    Ok(())
+    push_sign(Sign::Open, out)?;
+    push_name_list(names, out)?;
+    push_sign(Sign::Close, out)
 }
 
 /// Adds values in brackets.
 #[tactic(auto, using(crate::proofs::Texts::texts))]
-pub fn push_exprs(out: &mut Vec<u8>, values: &[Expr]) -> Result<(), NoMemory>
+pub fn push_exprs(values: &[Expr], out: &mut Vec<u8>) -> Result<(), NoMemory>
     ensures { (d : ℕ) → OnOk result (Prints out.old.items out.new.items (exprs_marks d (expr_list values.now))) }
 {
-    push_sign(out, Sign::Open)?;
-    push_chain(out, b",", values)?;
-    push_sign(out, Sign::Close)?;
-    Ok(())
+    push_sign(Sign::Open, out)?;
+    push_chain(values, b",", out)?;
+    push_sign(Sign::Close, out)
 }
 
 /// Adds a type.
 #[tactic(auto, using(crate::proofs::Texts::texts))]
-pub fn push_type(out: &mut Vec<u8>, kind: TypeName) -> Result<(), NoMemory>
+pub fn push_type(kind: TypeName, out: &mut Vec<u8>) -> Result<(), NoMemory>
     ensures { (d : ℕ) → OnOk result (Prints out.old.items out.new.items (type_marks d kind)) }
 {
     match kind {
-        TypeName::Int => push_keyword(out, Keyword::Int),
-        TypeName::Bool => push_keyword(out, Keyword::Bool),
-        TypeName::Text => push_keyword(out, Keyword::Text),
-        TypeName::Link => push_keyword(out, Keyword::Link),
+        TypeName::Int => push_keyword(Keyword::Int, out),
+        TypeName::Bool => push_keyword(Keyword::Bool, out),
+        TypeName::Text => push_keyword(Keyword::Text, out),
+        TypeName::Link => push_keyword(Keyword::Link, out),
         TypeName::Row(length) => {
-            push_keyword(out, Keyword::Row)?;
-            push_number(out, length)?;
-            Ok(())
+            push_keyword(Keyword::Row, out)?;
+            push_number(length, out)
         }
     }
 }
 
-fn push_type_list(out: &mut Vec<u8>, types: &[TypeName]) -> Result<(), NoMemory>
+fn push_type_list(types: &[TypeName], out: &mut Vec<u8>) -> Result<(), NoMemory>
     ensures { OnOk result (Prints out.old.items out.new.items (commas 1 (map (type_marks 1) types.now))) }
 {
     let Some((first, rest)) = types.split_first() else {
         return Ok(());
     };
-    push_type(out, *first)?;
+    push_type(*first, out)?;
     for kind in rest {
-        push_sign(out, Sign::Comma)?;
-        push_type(out, *kind)?;
+        push_sign(Sign::Comma, out)?;
+        push_type(*kind, out)?;
     }
     Ok(())
 }
 
 /// Adds types in brackets.
 #[tactic(auto, using(crate::proofs::Texts::texts))]
-pub fn push_types(out: &mut Vec<u8>, types: &[TypeName]) -> Result<(), NoMemory>
+pub fn push_types(types: &[TypeName], out: &mut Vec<u8>) -> Result<(), NoMemory>
     ensures { OnOk result (Prints out.old.items out.new.items (types_marks types.now)) }
 {
-    push_sign(out, Sign::Open)?;
-    push_type_list(out, types)?;
-    push_sign(out, Sign::Close)?;
-    Ok(())
+    push_sign(Sign::Open, out)?;
+    push_type_list(types, out)?;
+    push_sign(Sign::Close, out)
 }

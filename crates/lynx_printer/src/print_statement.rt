@@ -15,228 +15,220 @@ use lynx_tree::{Expr, Handler, Stmt};
 
 /// Adds the target of an assignment.
 #[tactic(auto, using(crate::proofs::Texts::texts))]
-fn push_target(
+fn push_target<'t, 'm>(
+    name: &'t IdentRef<'m>,
+    index: &'t Option<Box<Expr<'m>>>,
     out: &mut Vec<u8>,
-    name: &IdentRef,
-    index: &Option<Box<Expr>>,
 ) -> Result<(), NoMemory>
     ensures { (d : ℕ) → OnOk result (Prints out.old.items out.new.items (target_marks d name.now (index_tree index.now))) }
 {
-    push_name(out, name)?;
+    push_name(name, out)?;
     match index {
         None => Ok(()),
-        Some(index) => {
-            push_index(out, index)?;
-            Ok(())
-        }
+        Some(index) => push_index(index, out),
     }
 }
 
 /// Adds a keyword and a name.
 #[tactic(auto, using(crate::proofs::Texts::texts))]
-pub fn push_named(out: &mut Vec<u8>, keyword: Keyword, ident: &IdentRef) -> Result<(), NoMemory>
+pub fn push_named(keyword: Keyword, ident: &IdentRef, out: &mut Vec<u8>) -> Result<(), NoMemory>
     ensures { (d : ℕ) → OnOk result (Prints out.old.items out.new.items (word d keyword ∷ name d ident.now ∷ [])) }
 {
-    push_keyword(out, keyword)?;
-    push_name(out, ident)?;
-    Ok(())
+    push_keyword(keyword, out)?;
+    push_name(ident, out)
 }
 
 /// Adds two names, each behind its keyword.
 #[tactic(auto, using(crate::proofs::Texts::texts))]
-pub fn push_two(
-    out: &mut Vec<u8>,
+pub fn push_two<'t, 'm>(
     keyword: Keyword,
-    first: &IdentRef,
+    first: &'t IdentRef<'m>,
     between: Keyword,
-    second: &IdentRef,
+    second: &'t IdentRef<'m>,
+    out: &mut Vec<u8>,
 ) -> Result<(), NoMemory>
     ensures { (d : ℕ) → OnOk result (Prints out.old.items out.new.items (word d keyword ∷ name d first.now ∷ word d between ∷ name d second.now ∷ [])) }
 {
-    push_keyword(out, keyword)?;
-    push_name(out, first)?;
-    push_keyword(out, between)?;
-    push_name(out, second)?;
-    Ok(())
+    push_keyword(keyword, out)?;
+    push_name(first, out)?;
+    push_keyword(between, out)?;
+    push_name(second, out)
 }
 
 /// Adds a keyword and a value.
 #[tactic(auto, using(crate::proofs::Texts::texts))]
-fn push_value(out: &mut Vec<u8>, keyword: Keyword, value: &Expr) -> Result<(), NoMemory>
+fn push_value(value: &Expr, keyword: Keyword, out: &mut Vec<u8>) -> Result<(), NoMemory>
     ensures { (d : ℕ) → OnOk result (Prints out.old.items out.new.items (word d keyword ∷ expr_marks d (expr_tree value.now))) }
 {
-    push_keyword(out, keyword)?;
-    push_expr(out, value)?;
-    Ok(())
+    push_keyword(keyword, out)?;
+    push_expr(value, out)
 }
 
 #[tactic(auto, using(crate::proofs::Texts::texts))]
-fn push_new(out: &mut Vec<u8>, first: &IdentRef, second: &IdentRef) -> Result<(), NoMemory>
+fn push_new<'t, 'm>(
+    first: &'t IdentRef<'m>,
+    second: &'t IdentRef<'m>,
+    out: &mut Vec<u8>,
+) -> Result<(), NoMemory>
     ensures { (d : ℕ) → OnOk result (Prints out.old.items out.new.items (word d keywords.New ∷ name d first.now ∷ mark d signs.Comma ∷ name d second.now ∷ [])) }
 {
-    push_keyword(out, Keyword::New)?;
-    push_name(out, first)?;
-    push_sign(out, Sign::Comma)?;
-    push_name(out, second)?;
-    Ok(())
+    push_keyword(Keyword::New, out)?;
+    push_name(first, out)?;
+    push_sign(Sign::Comma, out)?;
+    push_name(second, out)
 }
 
 /// Adds a value between two keywords.
 #[tactic(auto, using(crate::proofs::Texts::texts))]
 fn push_test(
-    out: &mut Vec<u8>,
     first: Keyword,
     value: &Expr,
     second: Keyword,
+    out: &mut Vec<u8>,
 ) -> Result<(), NoMemory>
     ensures { (d : ℕ) → OnOk result (Prints out.old.items out.new.items (word d first ∷ (expr_marks d (expr_tree value.now) ++ word d second ∷ []))) }
 {
-    push_keyword(out, first)?;
-    push_expr(out, value)?;
-    push_keyword(out, second)?;
-    Ok(())
+    push_keyword(first, out)?;
+    push_expr(value, out)?;
+    push_keyword(second, out)
 }
 
 /// Adds an assignment.
 #[tactic(auto, using(crate::proofs::Texts::texts))]
-fn push_assign(
+fn push_assign<'t, 'm>(
+    name: &'t IdentRef<'m>,
+    index: &'t Option<Box<Expr<'m>>>,
+    value: &'t Expr<'m>,
     out: &mut Vec<u8>,
-    name: &IdentRef,
-    index: &Option<Box<Expr>>,
-    value: &Expr,
 ) -> Result<(), NoMemory>
     ensures { (d : ℕ) → OnOk result (Prints out.old.items out.new.items (target_marks d name.now (index_tree index.now) ++ mark d signs.Becomes ∷ expr_marks d (expr_tree value.now))) }
 {
-    push_target(out, name, index)?;
-    push_sign(out, Sign::Becomes)?;
-    push_expr(out, value)?;
-    Ok(())
+    push_target(name, index, out)?;
+    push_sign(Sign::Becomes, out)?;
+    push_expr(value, out)
 }
 
 /// Adds a request.
-fn push_connect(
+fn push_connect<'t, 'm>(
+    op: &'t IdentRef<'m>,
+    link: &'t IdentRef<'m>,
+    values: &'t [Expr<'m>],
+    results: &'t [IdentRef<'m>],
     out: &mut Vec<u8>,
-    op: &IdentRef,
-    link: &IdentRef,
-    values: &[Expr],
-    results: &[IdentRef],
 ) -> Result<(), NoMemory>
     ensures { (d : ℕ) → OnOk result (Prints out.old.items out.new.items (stmt_marks d (Connect op.now link.now (expr_list values.now) results.now))) }
 {
-    push_two(out, Keyword::Connect, op, Keyword::On, link)?;
-    push_exprs(out, values)?;
-    push_sign(out, Sign::Colon)?;
-    push_names(out, results)?;
-    Ok(())
+    push_two(Keyword::Connect, op, Keyword::On, link, out)?;
+    push_exprs(values, out)?;
+    push_sign(Sign::Colon, out)?;
+    push_names(results, out)
 }
 
 /// Adds the first line of an accept.
-fn push_accept(
+fn push_accept<'t, 'm>(
+    op: &'t IdentRef<'m>,
+    link: &'t IdentRef<'m>,
+    names: &'t [IdentRef<'m>],
     out: &mut Vec<u8>,
-    op: &IdentRef,
-    link: &IdentRef,
-    names: &[IdentRef],
 ) -> Result<(), NoMemory>
     ensures { (d : ℕ) → OnOk result (Prints out.old.items out.new.items (accept_marks d op.now link.now names.now)) }
 {
-    push_two(out, Keyword::Accept, op, Keyword::On, link)?;
-    push_names(out, names)?;
-    push_keyword(out, Keyword::Do)?;
-    Ok(())
+    push_two(Keyword::Accept, op, Keyword::On, link, out)?;
+    push_names(names, out)?;
+    push_keyword(Keyword::Do, out)
 }
 
 /// Adds an answer.
 #[tactic(auto, using(crate::proofs::Texts::texts))]
-fn push_reply(out: &mut Vec<u8>, values: &[Expr]) -> Result<(), NoMemory>
+fn push_reply(values: &[Expr], out: &mut Vec<u8>) -> Result<(), NoMemory>
     ensures { (d : ℕ) → OnOk result (Prints out.old.items out.new.items (stmt_marks d (Reply (expr_list values.now)))) }
 {
-    push_keyword(out, Keyword::Reply)?;
-    push_exprs(out, values)?;
-    Ok(())
+    push_keyword(Keyword::Reply, out)?;
+    push_exprs(values, out)
 }
 
 /// Adds a statement.
 #[cycle(print_statement)]
-fn push_stmt(out: &mut Vec<u8>, stmt: &Stmt) -> Result<(), NoMemory>
+fn push_stmt(stmt: &Stmt, out: &mut Vec<u8>) -> Result<(), NoMemory>
     ensures { (d : ℕ) → OnOk result (Prints out.old.items out.new.items (stmt_marks d (stmt_tree stmt.now))) }
 {
     match stmt {
-        Stmt::Assign { name, index, value } => push_assign(out, name, index, value),
+        Stmt::Assign { name, index, value } => push_assign(name, index, value, out),
         Stmt::If {
             condition,
             then,
             otherwise,
         } => {
-            push_test(out, Keyword::If, condition, Keyword::Then)?;
-            push_stmts(out, then)?;
+            push_test(Keyword::If, condition, Keyword::Then, out)?;
+            push_stmts(then, out)?;
             match otherwise {
-                None => push_keyword(out, Keyword::End),
+                None => push_keyword(Keyword::End, out),
                 Some(otherwise) => {
-                    push_keyword(out, Keyword::Else)?;
-                    push_stmts(out, otherwise)?;
-                    push_keyword(out, Keyword::End)
+                    push_keyword(Keyword::Else, out)?;
+                    push_stmts(otherwise, out)?;
+                    push_keyword(Keyword::End, out)
                 }
             }
         }
         Stmt::While { condition, body } => {
-            push_test(out, Keyword::While, condition, Keyword::Do)?;
-            push_stmts(out, body)?;
-            push_keyword(out, Keyword::End)
+            push_test(Keyword::While, condition, Keyword::Do, out)?;
+            push_stmts(body, out)?;
+            push_keyword(Keyword::End, out)
         }
-        Stmt::Write(value) => push_value(out, Keyword::Write, value),
-        Stmt::Await(condition) => push_value(out, Keyword::Await, condition),
-        Stmt::Stop => push_keyword(out, Keyword::Stop),
-        Stmt::Raise(name) => push_named(out, Keyword::Raise, name),
-        Stmt::New { first, second } => push_new(out, first, second),
-        Stmt::Destroy(name) => push_named(out, Keyword::Destroy, name),
-        Stmt::Bind { link, entry } => push_two(out, Keyword::Bind, link, Keyword::To, entry),
-        Stmt::Unbind { link, entry } => push_two(out, Keyword::Unbind, link, Keyword::From, entry),
+        Stmt::Write(value) => push_value(value, Keyword::Write, out),
+        Stmt::Await(condition) => push_value(condition, Keyword::Await, out),
+        Stmt::Stop => push_keyword(Keyword::Stop, out),
+        Stmt::Raise(name) => push_named(Keyword::Raise, name, out),
+        Stmt::New { first, second } => push_new(first, second, out),
+        Stmt::Destroy(name) => push_named(Keyword::Destroy, name, out),
+        Stmt::Bind { link, entry } => push_two(Keyword::Bind, link, Keyword::To, entry, out),
+        Stmt::Unbind { link, entry } => push_two(Keyword::Unbind, link, Keyword::From, entry, out),
         Stmt::Connect {
             op,
             link,
             values,
             results,
-        } => push_connect(out, op, link, values, results),
+        } => push_connect(op, link, values, results, out),
         Stmt::Accept {
             op,
             link,
             names,
             body,
         } => {
-            push_accept(out, op, link, names)?;
-            push_stmts(out, body)?;
-            push_keyword(out, Keyword::End)
+            push_accept(op, link, names, out)?;
+            push_stmts(body, out)?;
+            push_keyword(Keyword::End, out)
         }
-        Stmt::Reply(values) => push_reply(out, values),
+        Stmt::Reply(values) => push_reply(values, out),
         Stmt::Try { body, handlers } => {
-            push_keyword(out, Keyword::Try)?;
-            push_stmts(out, body)?;
-            push_handlers(out, handlers)?;
-            push_keyword(out, Keyword::End)
+            push_keyword(Keyword::Try, out)?;
+            push_stmts(body, out)?;
+            push_handlers(handlers, out)?;
+            push_keyword(Keyword::End, out)
         }
     }
 }
 
 /// Adds statements, each with its semicolon.
 #[cycle(print_statement)]
-pub fn push_stmts(out: &mut Vec<u8>, stmts: &[Stmt]) -> Result<(), NoMemory>
+pub fn push_stmts(stmts: &[Stmt], out: &mut Vec<u8>) -> Result<(), NoMemory>
     ensures { (d : ℕ) → OnOk result (Prints out.old.items out.new.items (stmts_marks d (stmt_list stmts.now))) }
 {
     for stmt in stmts {
-        push_stmt(out, stmt)?;
-        push_sign(out, Sign::Semicolon)?;
+        push_stmt(stmt, out)?;
+        push_sign(Sign::Semicolon, out)?;
     }
     Ok(())
 }
 
 #[cycle(print_statement)]
-fn push_handlers(out: &mut Vec<u8>, handlers: &[Handler]) -> Result<(), NoMemory>
+fn push_handlers(handlers: &[Handler], out: &mut Vec<u8>) -> Result<(), NoMemory>
     ensures { (d : ℕ) → OnOk result (Prints out.old.items out.new.items (handlers_marks d (handler_list handlers.now))) }
 {
     for handler in handlers {
-        push_named(out, Keyword::When, &handler.name)?;
-        push_keyword(out, Keyword::Do)?;
-        push_stmts(out, &handler.body)?;
+        push_named(Keyword::When, &handler.name, out)?;
+        push_keyword(Keyword::Do, out)?;
+        push_stmts(&handler.body, out)?;
     }
     Ok(())
 }

@@ -16,17 +16,16 @@ use lynx_lexer::{Keyword, NoMemory, Sign};
 use lynx_tree::Module;
 use std::alloc::Global;
 
-fn push_module(out: &mut Vec<u8>, tree: &Module) -> Result<(), NoMemory>
+fn push_module(tree: &Module, out: &mut Vec<u8>) -> Result<(), NoMemory>
     ensures { OnOk result (Prints out.old.items out.new.items (module_marks (module_tree tree.now))) }
 {
-    push_named(out, Keyword::Module, &tree.name)?;
-    push_sign(out, Sign::Semicolon)?;
-    push_all(out, Keyword::Op, &tree.ops)?;
-    push_all(out, Keyword::Param, &tree.params)?;
-    push_all(out, Keyword::Var, &tree.vars)?;
-    push_all(out, Keyword::Entry, &tree.entries)?;
-    push_body(out, &tree.body, Sign::Dot)?;
-    Ok(())
+    push_named(Keyword::Module, &tree.name, out)?;
+    push_sign(Sign::Semicolon, out)?;
+    push_all(&tree.ops, Keyword::Op, out)?;
+    push_all(&tree.params, Keyword::Param, out)?;
+    push_all(&tree.vars, Keyword::Var, out)?;
+    push_all(&tree.entries, Keyword::Entry, out)?;
+    push_body(&tree.body, Sign::Dot, out)
 }
 
 /// The text of a module: its tokens with one blank between them, a line feed in its place after each `;`,
@@ -40,6 +39,6 @@ pub fn print(alloc: Global, tree: &Module) -> Result<Vec<u8>, NoMemory>
     ensures spelled { IfOk result (λ v. (tokens : List Token) × Spell tokens v.items × AreWithinLimits tokens × (map (λ t. t.kind) tokens ≡ kinds_of (module_tree tree.now))) }
 {
     let mut out = Vec::new(alloc);
-    push_module(&mut out, tree)?;
+    push_module(tree, &mut out)?;
     Ok(out)
 }

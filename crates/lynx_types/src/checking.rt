@@ -1,11 +1,12 @@
 //! The rules of typing, tried on a module.
 
-ghost use Rattle.std.specs.Prelude.{◌≡◌, ◌<◌, length, IfOk, IfErr};
+ghost use Rattle.std.specs.Prelude.{◌≡◌, ℕ, List, None, ◌<◌, length, IfOk, IfErr};
 ghost use Rattle.std.specs.List.{AllByRecursion};
 ghost use Rattle.lynx_tree.specs.Grammar.{HasTokens, kinds_of, module_marks};
 ghost use Rattle.lynx_tree.specs.Printing.{IsPrintable};
 ghost use Rattle.lynx_tree.specs.Trees.{module_tree};
 ghost use Rattle.typing_rules.specs.Found.{first_found};
+ghost use Rattle.typing_rules.specs.Meanings.{look};
 ghost use Rattle.typing_rules.specs.Modules.{IsWellTyped, IsFirstFault, first_fault, module_faults};
 ghost use Rattle.typing_rules.specs.Rules.{Fault};
 ghost use Rattle.lynx_types.specs.Answers.{GivesModule, GivesFault, IsFaultOf};
@@ -30,23 +31,36 @@ fn count_names(tree: &Module) -> usize {
         .saturating_add(tree.entries.len())
 }
 
+/// The first fault of a module, by a table in which no name stands yet.
+fn fault_in<'m>(
+    alloc: Global,
+    tree: &'m Module,
+    names: &mut Names<'m>,
+) -> Result<Option<Found>, NoMemory>
+    requires fits { length (module_marks (module_tree tree.now)) < 4294967296 }
+    requires empty { (name : List ℕ) → look names.old name ≡ None }
+    ensures { IfOk result (λ found. first_found found ≡ first_fault (module_faults (module_tree tree.now))) }
+{
+    let mut walk = Walk::start();
+    walk.skip(3);
+    ops(&tree.ops, &mut walk, names)?;
+    params(&tree.params, &mut walk, names)?;
+    vars(&tree.vars, MODULE_NAME_IS_NEW, &mut walk, names)?;
+    let news = declare_entries(alloc, &tree.entries, names)?;
+    entries(alloc, &tree.entries, &news, &mut walk, names)?;
+    walk.skip(1);
+    let scope = Scope::outside(names);
+    statements(&tree.body, Request::Outside, &mut walk, &scope);
+    Ok(walk.first())
+}
+
 /// The first fault of a module.
 fn first_fault(alloc: Global, tree: &Module) -> Result<Option<Found>, NoMemory>
     requires { length (module_marks (module_tree tree.now)) < 4294967296 }
     ensures { IfOk result (λ found. first_found found ≡ first_fault (module_faults (module_tree tree.now))) }
 {
-    let mut walk = Walk::start();
     let mut names = Names::with_capacity(alloc, count_names(tree))?;
-    walk.skip(3);
-    ops(&mut walk, &mut names, &tree.ops)?;
-    params(&mut walk, &mut names, &tree.params)?;
-    vars(&mut walk, &mut names, MODULE_NAME_IS_NEW, &tree.vars)?;
-    let news = declare_entries(alloc, &mut names, &tree.entries)?;
-    entries(alloc, &mut walk, &names, &news, &tree.entries)?;
-    walk.skip(1);
-    let scope = Scope::outside(&names);
-    statements(&mut walk, &scope, Request::Outside, &tree.body);
-    Ok(walk.first())
+    fault_in(alloc, tree, &mut names)
 }
 
 /// Tries the 24 typing rules on a module, and answers it as one that breaks none; else the first place at which a rule fails, and the least

@@ -30,7 +30,7 @@ fn type_size(kind: TypeName) -> u32
 }
 
 /// Goes over a type.
-fn type_name(walk: &mut Walk, kind: TypeName)
+fn type_name(kind: TypeName, walk: &mut Walk)
     requires { walk.old.at + length (type_marks 0 kind) < 4294967296 }
     ensures at { walk.new.at ≡ walk.old.at + length (type_marks 0 kind) }
     ensures first { walk.new.first ≡ first_with walk.old.first (type_faults walk.old.at kind) }
@@ -42,7 +42,7 @@ fn type_name(walk: &mut Walk, kind: TypeName)
 }
 
 /// Goes over types in brackets.
-fn types(walk: &mut Walk, types: &[TypeName])
+fn types(types: &[TypeName], walk: &mut Walk)
     requires { walk.old.at + length (types_marks types.now) < 4294967296 }
     ensures at { walk.new.at ≡ walk.old.at + length (types_marks types.now) }
     ensures first { walk.new.first ≡ first_with walk.old.first (types_faults (walk.old.at + 1) types.now) }
@@ -53,18 +53,18 @@ fn types(walk: &mut Walk, types: &[TypeName])
         return;
     }
     for kind in types {
-        type_name(walk, *kind);
+        type_name(*kind, walk);
         walk.skip(1);
     }
 }
 
 /// Declares the name at the walk's next token but one.
 fn declared<'m>(
-    walk: &mut Walk,
-    names: &mut Names<'m>,
-    rule: u8,
     name: &'m IdentRef,
     meaning: Named<'m>,
+    rule: u8,
+    walk: &mut Walk,
+    names: &mut Names<'m>,
 ) -> Result<(), NoMemory>
     requires { walk.old.at + 2 < 4294967296 }
     ensures at { OnOk result (walk.new.at ≡ walk.old.at + 2) }
@@ -79,7 +79,7 @@ fn declared<'m>(
 }
 
 /// Goes over an operation, and declares it.
-fn op<'m>(walk: &mut Walk, names: &mut Names<'m>, op: &'m OpDecl) -> Result<(), NoMemory>
+fn op<'m>(op: &'m OpDecl, walk: &mut Walk, names: &mut Names<'m>) -> Result<(), NoMemory>
     requires { walk.old.at + op_size (op_tree op.now) < 4294967296 }
     ensures at { OnOk result (walk.new.at ≡ walk.old.at + op_size (op_tree op.now)) }
     ensures first { OnOk result (walk.new.first ≡ first_with walk.old.first (news_faults 1 (look names.old) (op_named walk.old.at (op_tree op.now)) ++ op_faults walk.old.at (op_tree op.now))) }
@@ -90,21 +90,21 @@ fn op<'m>(walk: &mut Walk, names: &mut Names<'m>, op: &'m OpDecl) -> Result<(), 
         results: &op.results,
     };
     let place = walk.at() + 1;
-    declared(walk, names, MODULE_NAME_IS_NEW, &op.name, meaning)?;
+    declared(&op.name, meaning, MODULE_NAME_IS_NEW, walk, names)?;
     walk.demand(OP_HAS_FEW_LINKS, place, has_few_links(op));
     walk.demand(OP_FITS_PACKETS, place, fits_packets(op));
-    types(walk, &op.arguments);
+    types(&op.arguments, walk);
     walk.skip(1);
-    types(walk, &op.results);
+    types(&op.results, walk);
     walk.skip(1);
     Ok(())
 }
 
 /// Goes over operations, and declares them.
 pub(crate) fn ops<'m>(
+    ops: &'m [OpDecl],
     walk: &mut Walk,
     names: &mut Names<'m>,
-    ops: &'m [OpDecl],
 ) -> Result<(), NoMemory>
     requires { walk.old.at + length (flat_map op_marks (map op_tree ops.now)) < 4294967296 }
     ensures at { OnOk result (walk.new.at ≡ walk.old.at + length (flat_map op_marks (map op_tree ops.now))) }
@@ -112,36 +112,36 @@ pub(crate) fn ops<'m>(
     ensures names { OnOk result ((q : List ℕ) → look names.new q ≡ then_declared (look names.old) (each_at op_size op_named walk.old.at (map op_tree ops.now)) q) }
 {
     for item in ops {
-        op(walk, names, item)?;
+        op(item, walk, names)?;
     }
     Ok(())
 }
 
 /// Goes over a param or a variable, and declares it by the rule that its name is new.
 fn var<'m>(
+    var: &'m VarDecl,
+    rule: u8,
     walk: &mut Walk,
     names: &mut Names<'m>,
-    rule: u8,
-    var: &'m VarDecl,
 ) -> Result<(), NoMemory>
     requires { walk.old.at + var_size (var_tree var.now) < 4294967296 }
     ensures at { OnOk result (walk.new.at ≡ walk.old.at + var_size (var_tree var.now)) }
     ensures first { OnOk result (walk.new.first ≡ first_with walk.old.first (news_faults rule (look names.old) (var_named walk.old.at (var_tree var.now)) ++ var_faults walk.old.at (var_tree var.now))) }
     ensures names { OnOk result ((q : List ℕ) → look names.new q ≡ then_declared (look names.old) (var_named walk.old.at (var_tree var.now)) q) }
 {
-    declared(walk, names, rule, &var.name, Named::Variable(var.kind))?;
+    declared(&var.name, Named::Variable(var.kind), rule, walk, names)?;
     walk.skip(1);
-    type_name(walk, var.kind);
+    type_name(var.kind, walk);
     walk.skip(1);
     Ok(())
 }
 
 /// Goes over variables, and declares them by the rule that their names are new.
 pub(crate) fn vars<'m>(
+    vars: &'m [VarDecl],
+    rule: u8,
     walk: &mut Walk,
     names: &mut Names<'m>,
-    rule: u8,
-    vars: &'m [VarDecl],
 ) -> Result<(), NoMemory>
     requires { walk.old.at + length (vars_marks (map var_tree vars.now)) < 4294967296 }
     ensures at { OnOk result (walk.new.at ≡ walk.old.at + length (vars_marks (map var_tree vars.now))) }
@@ -149,16 +149,16 @@ pub(crate) fn vars<'m>(
     ensures names { OnOk result ((q : List ℕ) → look names.new q ≡ then_declared (look names.old) (each_at var_size var_named walk.old.at (map var_tree vars.now)) q) }
 {
     for item in vars {
-        var(walk, names, rule, item)?;
+        var(item, rule, walk, names)?;
     }
     Ok(())
 }
 
 /// Goes over params, and declares them.
 pub(crate) fn params<'m>(
+    params: &'m [VarDecl],
     walk: &mut Walk,
     names: &mut Names<'m>,
-    params: &'m [VarDecl],
 ) -> Result<(), NoMemory>
     requires { walk.old.at + length (flat_map (var_marks keywords.Param) (map var_tree params.now)) < 4294967296 }
     ensures at { OnOk result (walk.new.at ≡ walk.old.at + length (flat_map (var_marks keywords.Param) (map var_tree params.now))) }
@@ -167,7 +167,7 @@ pub(crate) fn params<'m>(
 {
     for param in params {
         let place = walk.at();
-        var(walk, names, MODULE_NAME_IS_NEW, param)?;
+        var(param, MODULE_NAME_IS_NEW, walk, names)?;
         walk.demand(PARAM_IS_LINK, place + 3, is_link(param.kind));
     }
     Ok(())

@@ -25,8 +25,8 @@ use typing_statements::{Request, behind_first, is_number_of, known, statements};
 /// Declares entries, and tells of each name whether it is new.
 pub(crate) fn declare_entries<'m>(
     alloc: Global,
-    names: &mut Names<'m>,
     entries: &'m [EntryDecl],
+    names: &mut Names<'m>,
 ) -> Result<Vec<bool>, NoMemory>
     ensures news { (at : ℕ) → IfOk result (λ news. news.items ≡ are_new (look names.old) (each_at entry_size entry_named at (map entry_tree entries.now))) }
     ensures names { (at : ℕ) (q : List ℕ) → OnOk result (look names.new q ≡ then_declared (look names.old) (each_at entry_size entry_named at (map entry_tree entries.now)) q) }
@@ -39,7 +39,7 @@ pub(crate) fn declare_entries<'m>(
 }
 
 /// Goes over an entry up to its parameters.
-fn heading(walk: &mut Walk, new: bool, parameters: usize, arguments: Option<&[TypeName]>)
+fn heading(new: bool, parameters: usize, arguments: Option<&[TypeName]>, walk: &mut Walk)
     requires { walk.old.at + 4 < 4294967296 }
     ensures at { walk.new.at ≡ walk.old.at + 4 }
     ensures first { walk.new.first ≡ first_with walk.old.first (heading_faults walk.old.at new parameters (types_known arguments.entry)) }
@@ -65,10 +65,10 @@ fn parameter_type(types: &[TypeName]) -> TypeName
 
 /// Goes over the parameters of an entry in brackets, and declares them as variables of these types.
 fn parameters<'m>(
-    walk: &mut Walk,
-    names: &mut Names<'m>,
     parameters: &'m [IdentRef],
     types: &[TypeName],
+    walk: &mut Walk,
+    names: &mut Names<'m>,
 ) -> Result<(), NoMemory>
     requires { walk.old.at + length (names_marks 0 parameters.now) < 4294967296 }
     ensures at { OnOk result (walk.new.at ≡ walk.old.at + length (names_marks 0 parameters.now)) }
@@ -94,9 +94,9 @@ fn parameters<'m>(
 /// Goes over the parameters of an entry, which have these types, and its variables, and answers their names.
 fn locals<'m>(
     alloc: Global,
-    walk: &mut Walk,
     entry: &'m EntryDecl,
     types: &[TypeName],
+    walk: &mut Walk,
 ) -> Result<Names<'m>, NoMemory>
     requires { walk.old.at + length (names_marks 0 (entry_tree entry.now).parameters) + length (vars_marks (entry_tree entry.now).vars) < 4294967296 }
     ensures at { OnOk result (walk.new.at ≡ walk.old.at + length (names_marks 0 (entry_tree entry.now).parameters) + length (vars_marks (entry_tree entry.now).vars)) }
@@ -105,18 +105,18 @@ fn locals<'m>(
 {
     let count = entry.parameters.len().saturating_add(entry.vars.len());
     let mut names = Names::with_capacity(alloc, count)?;
-    parameters(walk, &mut names, &entry.parameters, types)?;
-    vars(walk, &mut names, LOCAL_NAME_IS_NEW, &entry.vars)?;
+    parameters(&entry.parameters, types, walk, &mut names)?;
+    vars(&entry.vars, LOCAL_NAME_IS_NEW, walk, &mut names)?;
     Ok(names)
 }
 
 /// Goes over an entry, whose name is new in its module or not.
 fn entry<'m>(
     alloc: Global,
+    entry: &'m EntryDecl,
+    new: bool,
     walk: &mut Walk,
     outside: &Names<'m>,
-    new: bool,
-    entry: &'m EntryDecl,
 ) -> Result<(), NoMemory>
     requires { walk.old.at + entry_size (entry_tree entry.now) < 4294967296 }
     ensures at { OnOk result (walk.new.at ≡ walk.old.at + entry_size (entry_tree entry.now)) }
@@ -124,16 +124,12 @@ fn entry<'m>(
 {
     let meaning = outside.look(&entry.op);
     let arguments = arguments_of(meaning);
-    heading(walk, new, entry.parameters.len(), arguments);
-    let locals = locals(alloc, walk, entry, known(arguments))?;
+    heading(new, entry.parameters.len(), arguments, walk);
+    let locals = locals(alloc, entry, known(arguments), walk)?;
     walk.skip(1);
     let scope = Scope::inside(&locals, outside);
-    statements(
-        walk,
-        &scope,
-        Request::Asks(results_of(meaning)),
-        &entry.body,
-    );
+    let request = Request::Asks(results_of(meaning));
+    statements(&entry.body, request, walk, &scope);
     walk.skip(2);
     Ok(())
 }
@@ -141,10 +137,10 @@ fn entry<'m>(
 /// Goes over entries, of each of which it is told whether its name is new.
 pub(crate) fn entries<'m>(
     alloc: Global,
+    entries: &'m [EntryDecl],
+    news: &[bool],
     walk: &mut Walk,
     outside: &Names<'m>,
-    news: &[bool],
-    entries: &'m [EntryDecl],
 ) -> Result<(), NoMemory>
     requires each { length news.now ≡ length entries.now }
     requires fits { walk.old.at + length (flat_map entry_marks (map entry_tree entries.now)) < 4294967296 }
@@ -152,7 +148,7 @@ pub(crate) fn entries<'m>(
     ensures first { OnOk result (walk.new.first ≡ first_with walk.old.first (told_faults 1 news.now (each_at entry_size entry_named walk.old.at (map entry_tree entries.now)) ++ each_at entry_size (entry_faults (look outside.now)) walk.old.at (map entry_tree entries.now))) }
 {
     for (new, item) in news.iter().zip(entries) {
-        entry(alloc, walk, outside, *new, item)?;
+        entry(alloc, item, *new, walk, outside)?;
     }
     Ok(())
 }

@@ -26,7 +26,7 @@ use typing_rules::{
 };
 
 /// Goes over a value that is assigned to a target of this type.
-fn assigned(walk: &mut Walk, scope: &Scope, target: Held, value: &Expr)
+fn assigned(value: &Expr, target: Held, walk: &mut Walk, scope: &Scope)
     requires { walk.old.at + expr_size (expr_tree value.now) < 4294967296 }
     ensures at { walk.new.at ≡ walk.old.at + expr_size (expr_tree value.now) }
     ensures first { walk.new.first ≡ first_with walk.old.first (value_faults (value_is_of_target target) (scope_of scope.now) walk.old.at (expr_tree value.now)) }
@@ -37,12 +37,12 @@ fn assigned(walk: &mut Walk, scope: &Scope, target: Held, value: &Expr)
 }
 
 /// Goes over an assignment to a variable or to a member of a row.
-pub(crate) fn assignment(
+pub(crate) fn assignment<'t, 'b>(
+    name: &'t IdentRef<'b>,
+    index: &'t Option<Box<Expr<'b>>>,
+    value: &'t Expr<'b>,
     walk: &mut Walk,
     scope: &Scope,
-    name: &IdentRef,
-    index: &Option<Box<Expr>>,
-    value: &Expr,
 )
     requires { walk.old.at + length (stmt_marks 0 (assigned_tree name.now (index_tree index.now) (expr_tree value.now))) < 4294967296 }
     ensures at { walk.new.at ≡ walk.old.at + length (stmt_marks 0 (assigned_tree name.now (index_tree index.now) (expr_tree value.now))) }
@@ -52,18 +52,18 @@ pub(crate) fn assignment(
         None => {
             let target = variable(walk, scope, name);
             walk.skip(1);
-            assigned(walk, scope, target, value);
+            assigned(value, target, walk, scope);
         }
         Some(index) => {
             member(walk, scope, name, index);
             walk.skip(1);
-            assigned(walk, scope, Some(TypeName::Int), value);
+            assigned(value, Some(TypeName::Int), walk, scope);
         }
     }
 }
 
 /// Goes over a value that is written, behind `write`.
-pub(crate) fn written(walk: &mut Walk, scope: &Scope, value: &Expr)
+pub(crate) fn written(value: &Expr, walk: &mut Walk, scope: &Scope)
     requires { walk.old.at + expr_size (expr_tree value.now) < 4294967296 }
     ensures at { walk.new.at ≡ walk.old.at + expr_size (expr_tree value.now) }
     ensures first { walk.new.first ≡ first_with walk.old.first (value_faults value_is_written (scope_of scope.now) walk.old.at (expr_tree value.now)) }
@@ -74,7 +74,7 @@ pub(crate) fn written(walk: &mut Walk, scope: &Scope, value: &Expr)
 }
 
 /// Goes over a word and the name of an exception.
-pub(crate) fn exception_named(walk: &mut Walk, name: &IdentRef)
+pub(crate) fn exception_named(name: &IdentRef, walk: &mut Walk)
     requires { walk.old.at + 2 < 4294967296 }
     ensures at { walk.new.at ≡ walk.old.at + 2 }
     ensures first { walk.new.first ≡ first_with walk.old.first (names_exception (walk.old.at + 1) name.now) }
@@ -86,7 +86,12 @@ pub(crate) fn exception_named(walk: &mut Walk, name: &IdentRef)
 }
 
 /// Goes over the making of a link.
-pub(crate) fn new_link(walk: &mut Walk, scope: &Scope, first: &IdentRef, second: &IdentRef)
+pub(crate) fn new_link<'t, 'b>(
+    first: &'t IdentRef<'b>,
+    second: &'t IdentRef<'b>,
+    walk: &mut Walk,
+    scope: &Scope,
+)
     requires { walk.old.at + 4 < 4294967296 }
     ensures at { walk.new.at ≡ walk.old.at + 4 }
     ensures first { walk.new.first ≡ first_with walk.old.first (stmt_faults (scope_of scope.now) Outside walk.old.at (New first.now second.now)) }
@@ -104,7 +109,12 @@ pub(crate) fn new_link(walk: &mut Walk, scope: &Scope, first: &IdentRef, second:
 }
 
 /// Goes over a binding, or the end of one.
-pub(crate) fn binding(walk: &mut Walk, scope: &Scope, name: &IdentRef, entry: &IdentRef)
+pub(crate) fn binding<'t, 'b>(
+    name: &'t IdentRef<'b>,
+    entry: &'t IdentRef<'b>,
+    walk: &mut Walk,
+    scope: &Scope,
+)
     requires { walk.old.at + 4 < 4294967296 }
     ensures at { walk.new.at ≡ walk.old.at + 4 }
     ensures first { walk.new.first ≡ first_with walk.old.first (stmt_faults (scope_of scope.now) Outside walk.old.at (Bind name.now entry.now)) }
@@ -117,13 +127,13 @@ pub(crate) fn binding(walk: &mut Walk, scope: &Scope, name: &IdentRef, entry: &I
 }
 
 /// Goes over a request.
-pub(crate) fn connect(
+pub(crate) fn connect<'t, 'b>(
+    op: &'t IdentRef<'b>,
+    name: &'t IdentRef<'b>,
+    given: &'t [Expr<'b>],
+    taken: &'t [IdentRef<'b>],
     walk: &mut Walk,
     scope: &Scope,
-    op: &IdentRef,
-    name: &IdentRef,
-    given: &[Expr],
-    taken: &[IdentRef],
 )
     requires { walk.old.at + length (stmt_marks 0 (Connect op.now name.now (expr_list given.now) taken.now)) < 4294967296 }
     ensures at { walk.new.at ≡ walk.old.at + length (stmt_marks 0 (Connect op.now name.now (expr_list given.now) taken.now)) }
@@ -143,18 +153,18 @@ pub(crate) fn connect(
     walk.demand(CONNECT_HAS_NAMES, place, is_number_of(taken.len(), results));
     walk.skip(2);
     link(walk, scope, name);
-    values(walk, scope, CONNECT_HAS_VALUES, given, known(arguments));
+    values(given, known(arguments), CONNECT_HAS_VALUES, walk, scope);
     walk.skip(1);
-    names(walk, scope, CONNECT_HAS_NAMES, taken, known(results));
+    names(taken, known(results), CONNECT_HAS_NAMES, walk, scope);
 }
 
 /// Goes over an accept up to its body, and answers the types of the results that a reply gives, where they are known.
-pub(crate) fn accept<'m>(
+pub(crate) fn accept<'t, 'b, 'm>(
+    op: &'t IdentRef<'b>,
+    name: &'t IdentRef<'b>,
+    taken: &'t [IdentRef<'b>],
     walk: &mut Walk,
     scope: &Scope<'_, 'm>,
-    op: &IdentRef,
-    name: &IdentRef,
-    taken: &[IdentRef],
 ) -> Option<&'m [TypeName]>
     requires { walk.old.at + length (accept_marks 0 op.now name.now taken.now) < 4294967296 }
     ensures at { walk.new.at ≡ walk.old.at + length (accept_marks 0 op.now name.now taken.now) }
@@ -173,13 +183,13 @@ pub(crate) fn accept<'m>(
     );
     walk.skip(2);
     link(walk, scope, name);
-    names(walk, scope, ACCEPT_HAS_NAMES, taken, known(arguments));
+    names(taken, known(arguments), ACCEPT_HAS_NAMES, walk, scope);
     walk.skip(1);
     results_of(meaning)
 }
 
 /// Goes over an answer to the request around it.
-pub(crate) fn reply(walk: &mut Walk, scope: &Scope, request: Request, given: &[Expr])
+pub(crate) fn reply(given: &[Expr], request: Request, walk: &mut Walk, scope: &Scope)
     requires { walk.old.at + length (stmt_marks 0 (Reply (expr_list given.now))) < 4294967296 }
     ensures at { walk.new.at ≡ walk.old.at + length (stmt_marks 0 (Reply (expr_list given.now))) }
     ensures first { walk.new.first ≡ first_with walk.old.first (stmt_faults (scope_of scope.now) (request_of request.entry) walk.old.at (Reply (expr_list given.now))) }
@@ -189,5 +199,5 @@ pub(crate) fn reply(walk: &mut Walk, scope: &Scope, request: Request, given: &[E
     walk.demand(REPLY_HAS_REQUEST, place, has_request(request));
     walk.demand(REPLY_HAS_VALUES, place, is_number_of(given.len(), results));
     walk.skip(1);
-    values(walk, scope, REPLY_HAS_VALUES, given, known(results));
+    values(given, known(results), REPLY_HAS_VALUES, walk, scope);
 }

@@ -25,7 +25,7 @@ pub fn behind_first(types: &[TypeName]) -> &[TypeName]
 }
 
 /// Goes over a value, and tries by the rule that it is of the first of the types that are left, if any is.
-fn next_value(walk: &mut Walk, scope: &Scope, rule: u8, value: &Expr, types: &[TypeName])
+fn next_value(value: &Expr, types: &[TypeName], rule: u8, walk: &mut Walk, scope: &Scope)
     requires { walk.old.at + expr_size (expr_tree value.now) < 4294967296 }
     ensures at { walk.new.at ≡ walk.old.at + expr_size (expr_tree value.now) }
     ensures first { walk.new.first ≡ first_with walk.old.first (typed_value rule (scope_of scope.now) walk.old.at (expr_tree value.now) types.now) }
@@ -41,7 +41,7 @@ fn next_value(walk: &mut Walk, scope: &Scope, rule: u8, value: &Expr, types: &[T
 }
 
 /// Goes over values in brackets, and tries by the rule that they are of these types.
-pub(crate) fn values(walk: &mut Walk, scope: &Scope, rule: u8, values: &[Expr], types: &[TypeName])
+pub(crate) fn values(values: &[Expr], types: &[TypeName], rule: u8, walk: &mut Walk, scope: &Scope)
     requires { walk.old.at + length (exprs_marks 0 (expr_list values.now)) < 4294967296 }
     ensures at { walk.new.at ≡ walk.old.at + length (exprs_marks 0 (expr_list values.now)) }
     ensures first { walk.new.first ≡ first_with walk.old.first (values_faults (wants rule) (scope_of scope.now) (walk.old.at + 1) (expr_list values.now) types.now) }
@@ -53,14 +53,14 @@ pub(crate) fn values(walk: &mut Walk, scope: &Scope, rule: u8, values: &[Expr], 
     }
     let mut left = types;
     for item in values {
-        next_value(walk, scope, rule, item, left);
+        next_value(item, left, rule, walk, scope);
         left = behind_first(left);
         walk.skip(1);
     }
 }
 
 /// Goes over the name of a variable, and tries by the rule that it is of the first of the types that are left, if any is.
-fn next_name(walk: &mut Walk, scope: &Scope, rule: u8, name: &IdentRef, types: &[TypeName])
+fn next_name(name: &IdentRef, types: &[TypeName], rule: u8, walk: &mut Walk, scope: &Scope)
     requires { walk.old.at + 1 < 4294967296 }
     ensures at { walk.new.at ≡ walk.old.at + 1 }
     ensures first { walk.new.first ≡ first_with walk.old.first (typed_name rule (scope_of scope.now) walk.old.at name.now types.now) }
@@ -74,11 +74,11 @@ fn next_name(walk: &mut Walk, scope: &Scope, rule: u8, name: &IdentRef, types: &
 
 /// Goes over names of variables in brackets, and tries by the rule that they are of these types.
 pub(crate) fn names(
-    walk: &mut Walk,
-    scope: &Scope,
-    rule: u8,
     names: &[IdentRef],
     types: &[TypeName],
+    rule: u8,
+    walk: &mut Walk,
+    scope: &Scope,
 )
     requires { walk.old.at + length (names_marks 0 names.now) < 4294967296 }
     ensures at { walk.new.at ≡ walk.old.at + length (names_marks 0 names.now) }
@@ -91,7 +91,7 @@ pub(crate) fn names(
     }
     let mut left = types;
     for item in names {
-        next_name(walk, scope, rule, item, left);
+        next_name(item, left, rule, walk, scope);
         left = behind_first(left);
         walk.skip(1);
     }

@@ -19,7 +19,7 @@ use typing_rules::rule::CONDITION_IS_BOOL;
 use typing_rules::{Scope, Walk, link, operand};
 
 /// Goes over a word and the condition behind it.
-fn condition(walk: &mut Walk, scope: &Scope, value: &Expr)
+fn condition(value: &Expr, walk: &mut Walk, scope: &Scope)
     requires { walk.old.at + 1 + expr_size (expr_tree value.now) < 4294967296 }
     ensures at { walk.new.at ≡ walk.old.at + 1 + expr_size (expr_tree value.now) }
     ensures first { walk.new.first ≡ first_with walk.old.first (value_faults condition_is_bool (scope_of scope.now) (walk.old.at + 1) (expr_tree value.now)) }
@@ -30,54 +30,54 @@ fn condition(walk: &mut Walk, scope: &Scope, value: &Expr)
 
 /// Goes over a statement.
 #[cycle(type_statement)]
-fn statement(walk: &mut Walk, scope: &Scope, request: Request, stmt: &Stmt)
+fn statement(stmt: &Stmt, request: Request, walk: &mut Walk, scope: &Scope)
     requires { walk.old.at + length (stmt_marks 0 (stmt_tree stmt.now)) < 4294967296 }
     ensures at { walk.new.at ≡ walk.old.at + length (stmt_marks 0 (stmt_tree stmt.now)) }
     ensures first { walk.new.first ≡ first_with walk.old.first (stmt_faults (scope_of scope.now) (request_of request.entry) walk.old.at (stmt_tree stmt.now)) }
 {
     match stmt {
-        Stmt::Assign { name, index, value } => assignment(walk, scope, name, index, value),
+        Stmt::Assign { name, index, value } => assignment(name, index, value, walk, scope),
         Stmt::If {
             condition,
             then,
             otherwise,
-        } => choice(walk, scope, request, condition, then, otherwise),
-        Stmt::While { condition, body } => repetition(walk, scope, request, condition, body),
+        } => choice(condition, then, otherwise, request, walk, scope),
+        Stmt::While { condition, body } => repetition(condition, body, request, walk, scope),
         Stmt::Write(value) => {
             walk.skip(1);
-            written(walk, scope, value);
+            written(value, walk, scope);
         }
-        Stmt::Await(value) => condition(walk, scope, value),
+        Stmt::Await(value) => condition(value, walk, scope),
         Stmt::Stop => walk.skip(1),
-        Stmt::Raise(name) => exception_named(walk, name),
-        Stmt::New { first, second } => new_link(walk, scope, first, second),
+        Stmt::Raise(name) => exception_named(name, walk),
+        Stmt::New { first, second } => new_link(first, second, walk, scope),
         Stmt::Destroy(name) => {
             walk.skip(1);
             link(walk, scope, name);
         }
-        Stmt::Bind { link, entry } => binding(walk, scope, link, entry),
-        Stmt::Unbind { link, entry } => binding(walk, scope, link, entry),
+        Stmt::Bind { link, entry } => binding(link, entry, walk, scope),
+        Stmt::Unbind { link, entry } => binding(link, entry, walk, scope),
         Stmt::Connect {
             op,
             link,
             values,
             results,
-        } => connect(walk, scope, op, link, values, results),
+        } => connect(op, link, values, results, walk, scope),
         Stmt::Accept {
             op,
             link,
             names,
             body,
         } => {
-            let results = accept(walk, scope, op, link, names);
-            statements(walk, scope, Request::Asks(results), body);
+            let results = accept(op, link, names, walk, scope);
+            statements(body, Request::Asks(results), walk, scope);
             walk.skip(1);
         }
-        Stmt::Reply(values) => reply(walk, scope, request, values),
+        Stmt::Reply(values) => reply(values, request, walk, scope),
         Stmt::Try { body, handlers } => {
             walk.skip(1);
-            statements(walk, scope, request, body);
-            handlers_of(walk, scope, request, handlers);
+            statements(body, request, walk, scope);
+            handlers_of(handlers, request, walk, scope);
             walk.skip(1);
         }
     }
@@ -85,64 +85,70 @@ fn statement(walk: &mut Walk, scope: &Scope, request: Request, stmt: &Stmt)
 
 /// Goes over a choice.
 #[cycle(type_statement)]
-fn choice(
+fn choice<'t, 'b>(
+    test: &'t Expr<'b>,
+    then: &'t [Stmt<'b>],
+    otherwise: &'t Option<Vec<Stmt<'b>>>,
+    request: Request,
     walk: &mut Walk,
     scope: &Scope,
-    request: Request,
-    test: &Expr,
-    then: &[Stmt],
-    otherwise: &Option<Vec<Stmt>>,
 )
     requires { walk.old.at + length (stmt_marks 0 (choice_tree (expr_tree test.now) (stmt_list then.now) (else_list otherwise.now))) < 4294967296 }
     ensures at { walk.new.at ≡ walk.old.at + length (stmt_marks 0 (choice_tree (expr_tree test.now) (stmt_list then.now) (else_list otherwise.now))) }
     ensures first { walk.new.first ≡ first_with walk.old.first (stmt_faults (scope_of scope.now) (request_of request.entry) walk.old.at (choice_tree (expr_tree test.now) (stmt_list then.now) (else_list otherwise.now))) }
 {
-    condition(walk, scope, test);
+    condition(test, walk, scope);
     walk.skip(1);
-    statements(walk, scope, request, then);
+    statements(then, request, walk, scope);
     walk.skip(1);
     if let Some(otherwise) = otherwise {
-        statements(walk, scope, request, otherwise);
+        statements(otherwise, request, walk, scope);
         walk.skip(1);
     }
 }
 
 /// Goes over a loop.
 #[cycle(type_statement)]
-fn repetition(walk: &mut Walk, scope: &Scope, request: Request, test: &Expr, body: &[Stmt])
+fn repetition<'t, 'b>(
+    test: &'t Expr<'b>,
+    body: &'t [Stmt<'b>],
+    request: Request,
+    walk: &mut Walk,
+    scope: &Scope,
+)
     requires { walk.old.at + length (stmt_marks 0 (While (expr_tree test.now) (stmt_list body.now))) < 4294967296 }
     ensures at { walk.new.at ≡ walk.old.at + length (stmt_marks 0 (While (expr_tree test.now) (stmt_list body.now))) }
     ensures first { walk.new.first ≡ first_with walk.old.first (stmt_faults (scope_of scope.now) (request_of request.entry) walk.old.at (While (expr_tree test.now) (stmt_list body.now))) }
 {
-    condition(walk, scope, test);
+    condition(test, walk, scope);
     walk.skip(1);
-    statements(walk, scope, request, body);
+    statements(body, request, walk, scope);
     walk.skip(1);
 }
 
 /// Goes over statements, each with its semicolon.
 #[cycle(type_statement)]
-pub fn statements(walk: &mut Walk, scope: &Scope, request: Request, stmts: &[Stmt])
+pub fn statements(stmts: &[Stmt], request: Request, walk: &mut Walk, scope: &Scope)
     requires { walk.old.at + stmts_size (stmt_list stmts.now) < 4294967296 }
     ensures at { walk.new.at ≡ walk.old.at + stmts_size (stmt_list stmts.now) }
     ensures first { walk.new.first ≡ first_with walk.old.first (stmts_faults (scope_of scope.now) (request_of request.entry) walk.old.at (stmt_list stmts.now)) }
 {
     for stmt in stmts {
-        statement(walk, scope, request, stmt);
+        statement(stmt, request, walk, scope);
         walk.skip(1);
     }
 }
 
 /// Goes over the handlers of a `try`.
 #[cycle(type_statement)]
-fn handlers_of(walk: &mut Walk, scope: &Scope, request: Request, handlers: &[Handler])
+fn handlers_of(handlers: &[Handler], request: Request, walk: &mut Walk, scope: &Scope)
     requires { walk.old.at + length (handlers_marks 0 (handler_list handlers.now)) < 4294967296 }
     ensures at { walk.new.at ≡ walk.old.at + length (handlers_marks 0 (handler_list handlers.now)) }
     ensures first { walk.new.first ≡ first_with walk.old.first (handlers_faults (scope_of scope.now) (request_of request.entry) walk.old.at (handler_list handlers.now)) }
 {
     for handler in handlers {
-        exception_named(walk, &handler.name);
+        exception_named(&handler.name, walk);
         walk.skip(1);
-        statements(walk, scope, request, &handler.body);
+        statements(&handler.body, request, walk, scope);
     }
 }

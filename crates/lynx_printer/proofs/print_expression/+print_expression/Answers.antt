@@ -1,4 +1,5 @@
 use Rattle.std.proofs.Common.{arith}
+use Rattle.std.proofs.lemmas.Result.{on_ok_weaker}
 use Rattle.lynx_tree.specs.Grammar.{word}
 use Rattle.lynx_lexer.specs.declared.keyword.Keyword.TheVariants as keywords
 use Rattle.lynx_printer.proofs.Texts.{chain_step, chain_end, sum_step, term_step, text_of_or, text_of_and, or_printed, and_printed, sum_printed, term_printed}
@@ -34,12 +35,18 @@ push_expr-returns-in-And t c d =
     and_printed c.args.expr.now c.in-And.members c.deref-in-And.result.now d c.push_chain-in-And.result c.args.out.now.items c.push_chain-in-And.new.out.items c.in-And.is c.deref-in-And.ensures.value
     (c.push_chain-in-And.ensures d (word d keywords.And) (text_of_and d))
 
-pub push_expr-returns-in_ok-push_sums-in-Sum : goal.push_expr-returns-in_ok-push_sums-in-Sum
-push_expr-returns-in_ok-push_sums-in-Sum t c d =
+pub push_expr-returns-in_ok-push_expr-in-Sum : goal.push_expr-returns-in_ok-push_expr-in-Sum
+push_expr-returns-in_ok-push_expr-in-Sum t c d =
+    on_ok_weaker c.push_sums.result
+    (λ last.
     sum_printed c.args.expr.now c.deref-in-Sum.result.now c.in-Sum.first c.in-Sum.rest c.deref-in-Sum-2.result.now d c.args.out.now.items c.push_expr-in-Sum.new.out.items c.push_sums.new.out.items c.in-Sum.is
-    c.deref-in-Sum.ensures c.deref-in-Sum-2.ensures.value (c.in_ok-push_expr-in-Sum.ensures d) (c.in_ok-push_sums-in-Sum.ensures d)
+    c.deref-in-Sum.ensures c.deref-in-Sum-2.ensures.value (c.in_ok-push_expr-in-Sum.ensures d) last)
+    (c.push_sums.ensures d)
 
-pub push_expr-returns-in_ok-push_terms-in-Term : goal.push_expr-returns-in_ok-push_terms-in-Term
-push_expr-returns-in_ok-push_terms-in-Term t c d =
+pub push_expr-returns-in_ok-push_expr-in-Term : goal.push_expr-returns-in_ok-push_expr-in-Term
+push_expr-returns-in_ok-push_expr-in-Term t c d =
+    on_ok_weaker c.push_terms.result
+    (λ last.
     term_printed c.args.expr.now c.deref-in-Term.result.now c.in-Term.first c.in-Term.rest c.deref-in-Term-2.result.now d c.args.out.now.items c.push_expr-in-Term.new.out.items c.push_terms.new.out.items c.in-Term.is
-    c.deref-in-Term.ensures c.deref-in-Term-2.ensures.value (c.in_ok-push_expr-in-Term.ensures d) (c.in_ok-push_terms-in-Term.ensures d)
+    c.deref-in-Term.ensures c.deref-in-Term-2.ensures.value (c.in_ok-push_expr-in-Term.ensures d) last)
+    (c.push_terms.ensures d)
