@@ -241,7 +241,7 @@ impl<'t, 'a> Reader<'t, 'a> {
         ensures { Reads stmt_tree (spec.repetition room (stmts room) (drop 1 self.old)) result self.new }
     {
         self.advance();
-        let condition = self.expr(room)?;
+        let condition = self.condition(room)?;
         self.keyword(Keyword::Do)?;
         let body = self.stmts(room)?;
         self.keyword(Keyword::End)?;
