@@ -68,11 +68,11 @@ term_more : (x : ExprTree) (ms : List (TermSign × expr.Expr)) → 0 < length ms
 term_more x [] some = absurd (omega arith)
 term_more x (m ∷ ms) some = refl
 
-pub sum_made : (first : Box expr.Expr) (x : expr.Expr) (v : Vec (Sign × expr.Expr)) → first.value ≡ x → 0 < length v.items → expr_tree (expr.Sum first v) ≡ sum_of (expr_tree x) (map (λ m. (m.0, expr_tree m.1)) v.items)
-sum_made first x v is some = made_sum first v ∙ ap (λ (y : expr.Expr). trees.Sum (expr_tree y) (sums_of (map (λ m. (m.0, expr_tree m.1)) v.items))) is ∙ sym (sum_more (expr_tree x) v.items some)
+pub sum_made : (first : Box expr.Expr) (v : Vec (Sign × expr.Expr)) → 0 < length v.items → expr_tree (expr.Sum first v) ≡ sum_of (expr_tree first.value) (map (λ m. (m.0, expr_tree m.1)) v.items)
+sum_made first v some = made_sum first v ∙ sym (sum_more (expr_tree first.value) v.items some)
 
-pub term_made : (first : Box expr.Expr) (x : expr.Expr) (v : Vec (TermSign × expr.Expr)) → first.value ≡ x → 0 < length v.items → expr_tree (expr.Term first v) ≡ term_of (expr_tree x) (map (λ m. (m.0, expr_tree m.1)) v.items)
-term_made first x v is some = made_term first v ∙ ap (λ (y : expr.Expr). trees.Term (expr_tree y) (terms_of (map (λ m. (m.0, expr_tree m.1)) v.items))) is ∙ sym (term_more (expr_tree x) v.items some)
+pub term_made : (first : Box expr.Expr) (v : Vec (TermSign × expr.Expr)) → 0 < length v.items → expr_tree (expr.Term first v) ≡ term_of (expr_tree first.value) (map (λ m. (m.0, expr_tree m.1)) v.items)
+term_made first v some = made_term first v ∙ sym (term_more (expr_tree first.value) v.items some)
 
 -- no item is read where none begins
 pub nothing_more : {A : Type 0} (goes : List Kind → Bool) (item : Parser A) (ts : List Kind) → goes ts ≡ false → many goes item [] ts ≡ Ok ([], ts)

@@ -1,8 +1,9 @@
 //! Lists of what is read alike: behind commas, or behind a keyword each.
 
 ghost use Rattle.std.specs.Prelude.{◌≡◌, ℕ, [], map};
-ghost use Rattle.lynx_descent.specs.Reading.{Reads, Parser, sees_keyword, many};
+ghost use Rattle.lynx_descent.specs.Reading.{Reads, Parser, pure, then_parse, sees_keyword, bracket, sign, many};
 ghost use Rattle.lynx_descent.specs.ReadingLists as spec;
+ghost use Rattle.lynx_lexer.specs.declared.sign.Sign.TheVariants as signs;
 
 use crate::reader::Reader;
 use lynx_descent::Refusal;
@@ -63,5 +64,18 @@ pub fn declared<'t, 'a, T: Item<'a>>(
         all.push(T::read(reader, room)?)?;
     }
     all.shrink_to_fit();
+    Ok(all)
+}
+
+/// Reads items in brackets, with commas between.
+pub fn bracketed<'t, 'a, T: Item<'a>>(
+    reader: &mut Reader<'t, 'a>,
+    room: usize,
+) -> Result<Vec<T>, Refusal>
+    ensures { Reads (λ v. map T.tree v.items) (then_parse (bracket room reader.old) (λ within ts. then_parse (spec.listed (T.parser within) ts) (λ all us. then_parse (sign signs.Close us) (λ _. pure all)))) result reader.new }
+{
+    let within = reader.bracket(room)?;
+    let all = listed(reader, within)?;
+    reader.sign(Sign::Close)?;
     Ok(all)
 }

@@ -11,17 +11,12 @@ use lynx_lexer::{IdentRef, Sign};
 use lynx_tree::{Expr, TermSign};
 use std::alloc::{AllocError, Global};
 
-/// A list of two expressions.
-pub fn two<'a>(
-    alloc: Global,
-    first: Expr<'a>,
-    second: Expr<'a>,
-) -> Result<Vec<Expr<'a>>, AllocError>
-    ensures { IfOk result (λ v. map expr_tree v.items ≡ expr_tree first.entry ∷ expr_tree second.entry ∷ []) }
+/// A list of one expression.
+pub fn one<'a>(alloc: Global, first: Expr<'a>) -> Result<Vec<Expr<'a>>, AllocError>
+    ensures { IfOk result (λ v. v.items ≡ first.entry ∷ []) }
 {
     let mut all = Vec::new(alloc);
     all.push(first)?;
-    all.push(second)?;
     Ok(all)
 }
 
@@ -42,14 +37,14 @@ pub fn and_of<'a>(members: Vec<Expr<'a>>) -> Expr<'a>
 #[tactic(auto, using(crate::proofs::Made::made))]
 pub fn relation_of<'a>(
     alloc: Global,
-    first: Expr<'a>,
+    first: Box<Expr<'a>>,
     sign: Sign,
     second: Expr<'a>,
 ) -> Result<Expr<'a>, Refusal>
-    ensures { Makes (trees.Relation (expr_tree first.entry) sign (expr_tree second.entry)) result }
+    ensures { Makes (trees.Relation (boxed_tree first.entry) sign (expr_tree second.entry)) result }
 {
     Ok(Expr::Relation {
-        first: Box::new(alloc, first)?,
+        first,
         sign,
         second: Box::new(alloc, second)?,
     })
@@ -57,38 +52,24 @@ pub fn relation_of<'a>(
 
 /// A sum, or its first member where it has no other.
 #[tactic(auto, using(crate::proofs::Made::made))]
-pub fn sum_of<'a>(
-    alloc: Global,
-    first: Expr<'a>,
-    rest: Vec<(Sign, Expr<'a>)>,
-) -> Result<Expr<'a>, Refusal>
-    ensures { Makes (sum_of (expr_tree first.entry) (map (λ m. (m.0, expr_tree m.1)) rest.entry.items)) result }
+pub fn sum_of<'a>(first: Box<Expr<'a>>, rest: Vec<(Sign, Expr<'a>)>) -> Expr<'a>
+    ensures { expr_tree result ≡ sum_of (boxed_tree first.entry) (map (λ m. (m.0, expr_tree m.1)) rest.entry.items) }
 {
     if rest.is_empty() {
-        return Ok(first);
+        return Box::into_inner(first);
     }
-    Ok(Expr::Sum {
-        first: Box::new(alloc, first)?,
-        rest,
-    })
+    Expr::Sum { first, rest }
 }
 
 /// A term, or its first member where it has no other.
 #[tactic(auto, using(crate::proofs::Made::made))]
-pub fn term_of<'a>(
-    alloc: Global,
-    first: Expr<'a>,
-    rest: Vec<(TermSign, Expr<'a>)>,
-) -> Result<Expr<'a>, Refusal>
-    ensures { Makes (term_of (expr_tree first.entry) (map (λ m. (m.0, expr_tree m.1)) rest.entry.items)) result }
+pub fn term_of<'a>(first: Box<Expr<'a>>, rest: Vec<(TermSign, Expr<'a>)>) -> Expr<'a>
+    ensures { expr_tree result ≡ term_of (boxed_tree first.entry) (map (λ m. (m.0, expr_tree m.1)) rest.entry.items) }
 {
     if rest.is_empty() {
-        return Ok(first);
+        return Box::into_inner(first);
     }
-    Ok(Expr::Term {
-        first: Box::new(alloc, first)?,
-        rest,
-    })
+    Expr::Term { first, rest }
 }
 
 #[tactic(auto, using(crate::proofs::Made::made))]
@@ -106,10 +87,10 @@ pub fn not_of<'a>(alloc: Global, inner: Expr<'a>) -> Result<Expr<'a>, Refusal>
 }
 
 #[tactic(auto, using(crate::proofs::Made::made))]
-pub fn bracket_of<'a>(alloc: Global, inner: Expr<'a>) -> Result<Expr<'a>, Refusal>
-    ensures { Makes (trees.Bracket (expr_tree inner.entry)) result }
+pub fn bracket_of<'a>(inner: Box<Expr<'a>>) -> Expr<'a>
+    ensures { expr_tree result ≡ trees.Bracket (boxed_tree inner.entry) }
 {
-    Ok(Expr::Bracket(Box::new(alloc, inner)?))
+    Expr::Bracket(inner)
 }
 
 /// A variable, or a member of a row.

@@ -56,10 +56,13 @@ pub fn choice_of<'a>(
 }
 
 #[tactic(auto, using(crate::proofs::MadeStatements::made_statements))]
-pub fn repetition_of<'a>(condition: Expr<'a>, body: Vec<Stmt<'a>>) -> Stmt<'a>
-    ensures { stmt_tree result ≡ trees.While (expr_tree condition.entry) (body_of body.entry.items) }
+pub fn repetition_of<'a>(condition: Box<Expr<'a>>, body: Vec<Stmt<'a>>) -> Stmt<'a>
+    ensures { stmt_tree result ≡ trees.While (boxed_tree condition.entry) (body_of body.entry.items) }
 {
-    Stmt::While { condition, body }
+    Stmt::While {
+        condition: Box::into_inner(condition),
+        body,
+    }
 }
 
 #[tactic(auto, using(crate::proofs::MadeStatements::made_statements))]

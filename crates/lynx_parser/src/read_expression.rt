@@ -8,7 +8,7 @@ ghost use Rattle.lynx_tree.specs.Trees as trees;
 ghost use Rattle.lynx_tree.specs.Trees.{expr_tree, boxed_tree};
 
 use crate::make_expression::{
-    and_of, bracket_of, minus_of, named_of, not_of, or_of, relation_of, sum_of, term_of, two,
+    and_of, bracket_of, minus_of, named_of, not_of, one, or_of, relation_of, sum_of, term_of,
 };
 use crate::reader::Reader;
 use lynx_descent::{Ahead, Refusal};
@@ -79,9 +79,9 @@ impl<'t, 'a> Reader<'t, 'a> {
         if !self.sees_keyword(Keyword::Or) {
             return Ok(first);
         }
+        let mut members = one(self.alloc(), first)?;
         self.advance();
-        let second = self.conj(room)?;
-        let members = two(self.alloc(), first, second)?;
+        members.push(self.conj(room)?)?;
         Ok(or_of(self.disjuncts(room, members)?))
     }
 
@@ -115,9 +115,9 @@ impl<'t, 'a> Reader<'t, 'a> {
         if !self.sees_keyword(Keyword::And) {
             return Ok(first);
         }
+        let mut members = one(self.alloc(), first)?;
         self.advance();
-        let second = self.rel(room)?;
-        let members = two(self.alloc(), first, second)?;
+        members.push(self.rel(room)?)?;
         Ok(and_of(self.conjuncts(room, members)?))
     }
 
@@ -151,6 +151,7 @@ impl<'t, 'a> Reader<'t, 'a> {
         let Some(sign) = self.relation_sign() else {
             return Ok(first);
         };
+        let first = Box::new(self.alloc(), first)?;
         self.advance();
         let second = self.sum(room)?;
         relation_of(self.alloc(), first, sign, second)
@@ -165,8 +166,9 @@ impl<'t, 'a> Reader<'t, 'a> {
         if self.sum_sign().is_none() {
             return Ok(first);
         }
+        let first = Box::new(self.alloc(), first)?;
         let rest = self.summands(room)?;
-        sum_of(self.alloc(), first, rest)
+        Ok(sum_of(first, rest))
     }
 
     /// Reads operators and what follows each.
@@ -196,8 +198,9 @@ impl<'t, 'a> Reader<'t, 'a> {
         if self.term_sign().is_none() {
             return Ok(first);
         }
+        let first = Box::new(self.alloc(), first)?;
         let rest = self.factors(room)?;
-        term_of(self.alloc(), first, rest)
+        Ok(term_of(first, rest))
     }
 
     /// Reads operators and what follows each.
@@ -253,9 +256,9 @@ impl<'t, 'a> Reader<'t, 'a> {
                 Ok(Expr::False)
             }
             Ahead::Sign(Sign::Open) => {
-                let inner = self.inside(room)?;
+                let inner = Box::new(self.alloc(), self.inside(room)?)?;
                 self.sign(Sign::Close)?;
-                bracket_of(self.alloc(), inner)
+                Ok(bracket_of(inner))
             }
             Ahead::Name => self.named(room),
             Ahead::Number => self.number_expr(),
@@ -284,9 +287,9 @@ impl<'t, 'a> Reader<'t, 'a> {
         if !self.sees_sign(Sign::OpenRow) {
             return Ok(None);
         }
-        let index = self.inside(room)?;
+        let index = Box::new(self.alloc(), self.inside(room)?)?;
         self.sign(Sign::CloseRow)?;
-        Ok(Some(Box::new(self.alloc(), index)?))
+        Ok(Some(index))
     }
 
     /// Goes past an opening bracket, and reads an expression.

@@ -7,10 +7,10 @@ ghost use Rattle.lynx_descent.specs.ReadingLists as spec;
 ghost use Rattle.lynx_tree.specs.Trees.{ExprTree, expr_tree};
 ghost use Rattle.lynx_tree.specs.declared.declaration.TypeName.{TypeName as TypeTree};
 
-use crate::item::{Item, listed};
+use crate::item::{Item, bracketed};
 use crate::reader::Reader;
 use lynx_descent::{Ahead, Refusal};
-use lynx_lexer::{IdentRef, Keyword, Sign};
+use lynx_lexer::{IdentRef, Keyword};
 use lynx_tree::{Expr, TypeName};
 
 impl<'a> Item<'a> for IdentRef<'a> {
@@ -55,10 +55,7 @@ impl<'t, 'a> Reader<'t, 'a> {
     pub fn names(&mut self, room: usize) -> Result<Vec<IdentRef<'a>>, Refusal>
         ensures { Reads (λ v. v.items) (spec.names room self.old) result self.new }
     {
-        let within = self.bracket(room)?;
-        let all = listed(self, within)?;
-        self.sign(Sign::Close)?;
-        Ok(all)
+        bracketed(self, room)
     }
 
     /// Reads values in brackets.
@@ -66,10 +63,7 @@ impl<'t, 'a> Reader<'t, 'a> {
     pub fn values(&mut self, room: usize) -> Result<Vec<Expr<'a>>, Refusal>
         ensures { Reads (λ v. map expr_tree v.items) (spec.values room self.old) result self.new }
     {
-        let within = self.bracket(room)?;
-        let all = listed(self, within)?;
-        self.sign(Sign::Close)?;
-        Ok(all)
+        bracketed(self, room)
     }
 
     /// Reads a type.
@@ -97,9 +91,6 @@ impl<'t, 'a> Reader<'t, 'a> {
     pub fn type_names(&mut self, room: usize) -> Result<Vec<TypeName>, Refusal>
         ensures { Reads (λ v. v.items) (spec.type_names room self.old) result self.new }
     {
-        let within = self.bracket(room)?;
-        let all = listed(self, within)?;
-        self.sign(Sign::Close)?;
-        Ok(all)
+        bracketed(self, room)
     }
 }

@@ -58,12 +58,12 @@ impl<'t, 'a> Reader<'t, 'a> {
         let arguments = self.type_names(room)?;
         self.sign(Sign::Colon)?;
         let results = self.type_names(room)?;
-        self.sign(Sign::Semicolon)?;
-        Ok(OpDecl {
+        let op = OpDecl {
             name,
             arguments,
             results,
-        })
+        };
+        self.closed(Sign::Semicolon, op)
     }
 
     /// Reads a param or a variable.
@@ -75,8 +75,7 @@ impl<'t, 'a> Reader<'t, 'a> {
         let name = self.name()?;
         self.sign(Sign::Colon)?;
         let kind = self.type_name()?;
-        self.sign(Sign::Semicolon)?;
-        Ok(VarDecl { name, kind })
+        self.closed(Sign::Semicolon, VarDecl { name, kind })
     }
 
     /// Reads statements from `begin` to `end`.
@@ -86,8 +85,7 @@ impl<'t, 'a> Reader<'t, 'a> {
     {
         self.keyword(Keyword::Begin)?;
         let body = self.stmts(room)?;
-        self.keyword(Keyword::End)?;
-        Ok(body)
+        self.ended(body)
     }
 
     #[tactic(auto, using(crate::proofs::MadeStatements::stmts_listed), unfolding(lynx_descent::specs::ReadingModules::entry))]
@@ -101,14 +99,14 @@ impl<'t, 'a> Reader<'t, 'a> {
         let parameters = self.names(room)?;
         let vars = declared(self, Keyword::Var, room)?;
         let body = self.body(room)?;
-        self.sign(Sign::Semicolon)?;
-        Ok(EntryDecl {
+        let entry = EntryDecl {
             name,
             op,
             parameters,
             vars,
             body,
-        })
+        };
+        self.closed(Sign::Semicolon, entry)
     }
 
     #[tactic(auto, using(crate::proofs::MadeStatements::stmts_listed), unfolding(lynx_descent::specs::ReadingModules::one_module))]
@@ -123,15 +121,15 @@ impl<'t, 'a> Reader<'t, 'a> {
         let vars = declared(self, Keyword::Var, room)?;
         let entries = declared(self, Keyword::Entry, room)?;
         let body = self.body(room)?;
-        self.sign(Sign::Dot)?;
-        Ok(Module {
+        let module = Module {
             name,
             ops,
             params,
             vars,
             entries,
             body,
-        })
+        };
+        self.closed(Sign::Dot, module)
     }
 
     /// Reads a module with nothing behind it, where `room` brackets and statements may be open.

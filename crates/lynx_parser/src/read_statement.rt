@@ -57,10 +57,10 @@ impl<'t, 'a> Reader<'t, 'a> {
     {
         self.advance();
         let (op, link) = self.pair(Keyword::On)?;
-        let values = self.values(room)?;
+        let given = self.values(room)?;
         self.sign(Sign::Colon)?;
         let results = self.names(room)?;
-        Ok(connect_of(op, link, values, results))
+        Ok(connect_of(op, link, given, results))
     }
 
     #[tactic(auto, unfolding(lynx_descent::specs::ReadingStatements::reply))]
@@ -218,8 +218,7 @@ impl<'t, 'a> Reader<'t, 'a> {
         self.keyword(Keyword::Then)?;
         let then = self.stmts(room)?;
         let otherwise = self.otherwise(room)?;
-        self.keyword(Keyword::End)?;
-        Ok(choice_of(condition, then, otherwise))
+        self.ended(choice_of(condition, then, otherwise))
     }
 
     /// Reads the other side of a choice, if it has one.
@@ -241,11 +240,10 @@ impl<'t, 'a> Reader<'t, 'a> {
         ensures { Reads stmt_tree (spec.repetition room (stmts room) (drop 1 self.old)) result self.new }
     {
         self.advance();
-        let condition = self.expr(room)?;
+        let condition = self.condition(room)?;
         self.keyword(Keyword::Do)?;
         let body = self.stmts(room)?;
-        self.keyword(Keyword::End)?;
-        Ok(repetition_of(condition, body))
+        self.ended(repetition_of(condition, body))
     }
 
     #[cycle(read_statement)]
@@ -258,8 +256,7 @@ impl<'t, 'a> Reader<'t, 'a> {
         let names = self.names(room)?;
         self.keyword(Keyword::Do)?;
         let body = self.stmts(room)?;
-        self.keyword(Keyword::End)?;
-        Ok(accept_of(op, link, names, body))
+        self.ended(accept_of(op, link, names, body))
     }
 
     #[cycle(read_statement)]
@@ -270,8 +267,7 @@ impl<'t, 'a> Reader<'t, 'a> {
         self.advance();
         let body = self.stmts(room)?;
         let handlers = self.handlers(room)?;
-        self.keyword(Keyword::End)?;
-        Ok(attempt_of(body, handlers))
+        self.ended(attempt_of(body, handlers))
     }
 
     #[cycle(read_statement)]

@@ -1,6 +1,7 @@
 //! The tokens that are left to read, and reading one.
 
-ghost use Rattle.std.specs.Prelude.{◌≡◌, ◌≢◌, ℕ, ◌<◌, List, length, drop, map, true, false};
+ghost use Rattle.std.specs.Prelude.{◌≡◌, ◌≢◌, ℕ, ◌<◌, List, length, drop, map, true, false, IfOk};
+ghost use Rattle.lynx_lexer.specs.declared.keyword.Keyword.TheVariants as keywords;
 ghost use Rattle.lynx_descent.specs.declared.refusal.Refusal.TheVariants as refusals;
 ghost use Rattle.lynx_descent.specs.Reading as spec;
 ghost use Rattle.lynx_descent.specs.Reading.{Reads};
@@ -136,6 +137,24 @@ impl<'t, 'a> Reader<'t, 'a> {
         }
         self.advance();
         Ok(())
+    }
+
+    /// Reads `end` behind what was made.
+    pub fn ended<T: Drop>(&mut self, made: T) -> Result<T, Refusal>
+        ensures reads { Reads (λ _. tt) (spec.keyword keywords.End self.old) result self.new }
+        ensures same { IfOk result (λ x. x ≡ made) }
+    {
+        self.keyword(Keyword::End)?;
+        Ok(made)
+    }
+
+    /// Reads the sign that closes what was made.
+    pub fn closed<T: Drop>(&mut self, sign: Sign, made: T) -> Result<T, Refusal>
+        ensures reads { Reads (λ _. tt) (spec.sign sign self.old) result self.new }
+        ensures same { IfOk result (λ x. x ≡ made) }
+    {
+        self.sign(sign)?;
+        Ok(made)
     }
 
     #[tactic(auto, unfolding(lynx_descent::specs::Reading::name))]

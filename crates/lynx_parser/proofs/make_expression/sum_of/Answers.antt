@@ -4,4 +4,4 @@ use Rattle.lynx_parser.proofs.Made.{sum_made}
 use Rattle.lynx_parser.proofs.make_expression.sum_of.Goals as goal
 
 pub returns : goal.returns
-returns c = sum_made c.in_ok-new.field-0 c.args.first c.args.rest c.in_ok-new.ensures.ok (first_of (search rules, omega arith, grind (arith, common_steps)))
+returns c = sum_made c.args.first c.args.rest (first_of (search rules, omega arith, grind (arith, common_steps)))
