@@ -59,7 +59,7 @@ full_all v what (s ∷ ss) all = rw (full_shown v what s (All-head (IsShownStep 
 
 -- ---- what each part tells
 
-abbrev tell : Setting → List ServiceLine → List Placed → List ScriptNote → Last → Told
+abbrev pub tell : Setting → List ServiceLine → List Placed → List ScriptNote → Last → Told
 tell s steps entries notes last = record { setting = s; steps = steps; entries = entries; notes = notes; last = last }
 
 steps_told : (ss : List ServiceStep) (s : Setting) (entries : List Placed) (notes : List ScriptNote) (last : Last)
@@ -118,7 +118,7 @@ unfolding with_lines with_line
 header_told s entries notes last = rw (homes_told 0 s.homes s.wires entries notes last) refl
 
 -- the whole
-all_told : (s : Setting) (merged : List Placed) (notes : List ScriptNote) (last : Last) → All (IsShown s.version) merged
+pub all_told : (s : Setting) (merged : List Placed) (notes : List ScriptNote) (last : Last) → All (IsShown s.version) merged
     → with_lines (transcript_kinds s merged notes last) nothing_told ≡ Ok (tell s [] (map unstamped merged) notes last)
 all_told s merged notes last shown =
     then_told _ (kind.End last ∷ []) nothing_told (tell (setting 0 0 [] []) [] [] [] last) _ (last_told last)
