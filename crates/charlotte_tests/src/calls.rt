@@ -23,7 +23,7 @@ fn report() -> Result<Report, Fail> {
 }
 
 /// The numbers of a call's causes, and whether it can be answered Ok, Made and Reported. The rows are in the order of `call`.
-const FITS: [(&[u8], [bool; 3]); 8] = [
+const FITS: &[(&[u8], [bool; 3])] = &[
     (&[9], [false, true, false]),
     (&[1], [true, false, false]),
     (&[1, 2, 3, 4, 5, 6, 10], [true, false, false]),
@@ -53,7 +53,7 @@ fn call(row: usize) -> Result<Call, Fail> {
 }
 
 /// The causes in the order of their numbers.
-const CAUSES: [Cause; 10] = [
+const CAUSES: &[Cause] = &[
     Cause::NoEnd,
     Cause::Busy,
     Cause::Dead,
@@ -80,7 +80,7 @@ fn answers_of(call: &Call) -> Result<[bool; 3], Fail> {
 /// These are the numbers of a call's causes, and no other.
 fn has_causes(call: &Call, numbers: &[u8]) -> Result<(), Fail> {
     for cause in CAUSES {
-        let refused = call.fits(&Answer::Refused(cause));
+        let refused = call.fits(&Answer::Refused(*cause));
         holds(
             refused == numbers.contains(&cause.number()),
             "the causes of a call",

@@ -64,7 +64,7 @@ fn kind(number: u8, at: u8) -> Result<Packet, Fail> {
 }
 
 /// Whether a packet names kernels that are there: a kernel, how many there are, and whether it is among them.
-const OWN: [(u8, u8, bool); 4] = [(0, 1, true), (0, 0, false), (7, 8, true), (7, 7, false)];
+const OWN: &[(u8, u8, bool)] = &[(0, 1, true), (0, 0, false), (7, 8, true), (7, 7, false)];
 
 fn is_addressed(number: u8, (at, kernels, want): (u8, u8, bool)) -> Result<(), Fail> {
     let addressed = kind(number, at)?.addressed(kernels);
@@ -75,7 +75,7 @@ fn is_addressed(number: u8, (at, kernels, want): (u8, u8, bool)) -> Result<(), F
 }
 
 /// The hint and the trail of a value, how many kernels there are, and whether it names only these.
-const CARRIED: [(u8, u8, u8, bool); 7] = [
+const CARRIED: &[(u8, u8, u8, bool)] = &[
     (0, 0, 1, true),
     (2, 0, 2, false),
     (2, 0, 3, true),
@@ -98,11 +98,11 @@ fn carries_addressed((hint, trail, kernels, want): (u8, u8, u8, bool)) -> Result
 fn packets_name_kernels() -> Result<(), Fail> {
     for row in OWN {
         for number in 0..11 {
-            is_addressed(number, row)?;
+            is_addressed(number, *row)?;
         }
     }
     for row in CARRIED {
-        carries_addressed(row)?;
+        carries_addressed(*row)?;
     }
     Ok(())
 }

@@ -19,11 +19,17 @@ pub(crate) fn end(count: u32, side: Side) -> EndId {
 }
 
 pub(crate) fn some_bytes() -> Result<Bytes, Fail> {
-    Ok(Bytes::from_slice(b"hi").ok_or("bytes")?)
+    match Bytes::from_slice(b"hi") {
+        Some(bytes) => Ok(bytes),
+        None => Err("bytes".into()),
+    }
 }
 
 pub(crate) fn two_ends() -> Result<Ends, Fail> {
-    Ok(Ends::from_slice(&[end(8, Side::B), end(7, Side::A)]).ok_or("ends")?)
+    match Ends::from_slice(&[end(8, Side::B), end(7, Side::A)]) {
+        Some(ends) => Ok(ends),
+        None => Err("ends".into()),
+    }
 }
 
 /// A packet with this stamp.

@@ -26,7 +26,7 @@ fn is_valid(
 /// The version and the kernels; the processes; the wires; and whether they are valid together.
 type Row = ((u8, u8), (usize, u8), (usize, u16, u16), bool);
 
-const ROWS: [Row; 13] = [
+const ROWS: &[Row] = &[
     ((0, 1), (1, 0), (1, 0, 0), false),
     ((1, 1), (0, 0), (0, 0, 0), true),
     ((1, 1), (1, 0), (1, 0, 0), true),
@@ -45,8 +45,8 @@ const ROWS: [Row; 13] = [
 #[test]
 fn settings_keep_the_limits_and_name_what_is_there(rt: HostRuntime) -> Result<(), Fail> {
     for (limits, homes, wires, want) in ROWS {
-        let valid = is_valid(rt.alloc(), limits, homes, wires)?;
-        holds(valid == want, "whether a setting is valid")?;
+        let valid = is_valid(rt.alloc(), *limits, *homes, *wires)?;
+        holds(valid == *want, "whether a setting is valid")?;
     }
     Ok(())
 }

@@ -20,9 +20,10 @@ fn put_to_all(ports: &mut Ports, kernels: u8, round: u8) -> Result<(), Fail> {
     for from in 0..kernels {
         for to in 0..kernels {
             let stamp = u64::from(from) * 8 + u64::from(to);
-            holds(ports.put(from, to, packet(stamp)).is_ok(), "a packet")?;
-            holds(ports.put(from, to, packet(100)).is_ok(), "another")?;
-            holds(ports.put(from, to, last_of(round)).is_ok(), "the last")?;
+            let first = ports.put(from, to, packet(stamp)).is_ok();
+            let second = ports.put(from, to, packet(100)).is_ok();
+            let last = ports.put(from, to, last_of(round)).is_ok();
+            holds(first && second && last, "two packets and a last letter")?;
         }
     }
     Ok(())
@@ -43,20 +44,31 @@ fn get_all(alloc: Global, ports: &mut Ports, kernels: u8, round: u8) -> Result<(
     Ok(())
 }
 
+/// A round between so many kernels.
+fn is_round(alloc: Global, ports: &mut Ports, kernels: u8, round: u8) -> Result<(), Fail> {
+    put_to_all(ports, kernels, round)?;
+    holds(ports.put(0, 0, packet(0)).is_err(), "a ring of three")?;
+    let own = ports.meet(0, 0) == 3;
+    let other = kernels == 1 || ports.meet(0, 1) == 6;
+    holds(
+        own && other,
+        "what kernel 0 put to itself, and what two put to each other",
+    )?;
+    get_all(alloc, ports, kernels, round)
+}
+
+fn three_rounds(alloc: Global, ports: &mut Ports, kernels: u8) -> Result<(), Fail> {
+    for round in 0..3 {
+        is_round(alloc, ports, kernels, round)?;
+    }
+    Ok(())
+}
+
 #[test]
 fn letters_come_in_order_from_each_kernel(rt: HostRuntime) -> Result<(), Fail> {
     for kernels in 1..9 {
         let mut ports = Ports::make(rt.alloc(), kernels, 3)?;
-        for round in 0..3 {
-            put_to_all(&mut ports, kernels, round)?;
-            holds(ports.put(0, 0, packet(0)).is_err(), "a ring of three")?;
-            holds(ports.meet(0, 0) == 3, "what kernel 0 put to itself")?;
-            holds(
-                kernels == 1 || ports.meet(0, 1) == 6,
-                "what two put to each other",
-            )?;
-            get_all(rt.alloc(), &mut ports, kernels, round)?;
-        }
+        three_rounds(rt.alloc(), &mut ports, kernels)?;
     }
     Ok(())
 }

@@ -9,7 +9,9 @@ use std::test::Fail;
 /// Lists in a value hold what they were made of up to their capacity, and no more.
 fn bytes_keep(count: usize) -> Result<(), Fail> {
     let bytes = [7; 257];
-    let some = bytes.get(..count).ok_or("a longer slice")?;
+    let Some(some) = bytes.get(..count) else {
+        return Err("a longer slice".into());
+    };
     let kept = Bytes::from_slice(some).map(|list| list.copy().as_slice() == some);
     holds(kept == (count <= 256).then_some(true), "what a list keeps")
 }
@@ -17,7 +19,9 @@ fn bytes_keep(count: usize) -> Result<(), Fail> {
 fn ends_keep(count: usize) -> Result<(), Fail> {
     let mut ends = [EndId::default(); 9];
     ends[7].side = Side::B;
-    let some = ends.get(..count).ok_or("a longer slice")?;
+    let Some(some) = ends.get(..count) else {
+        return Err("a longer slice".into());
+    };
     let kept = Ends::from_slice(some).map(|list| list.copy().as_slice() == some);
     holds(kept == (count <= 8).then_some(true), "what a list keeps")
 }
@@ -25,7 +29,9 @@ fn ends_keep(count: usize) -> Result<(), Fail> {
 fn values_keep(count: usize) -> Result<(), Fail> {
     let mut values = [MovingPicture::default(); 9];
     values[7].hops = 1;
-    let some = values.get(..count).ok_or("a longer slice")?;
+    let Some(some) = values.get(..count) else {
+        return Err("a longer slice".into());
+    };
     let kept = CargoPicture::from_slice(some).map(|list| list.copy().as_slice() == some);
     holds(kept == (count <= 8).then_some(true), "what a list keeps")
 }
@@ -39,14 +45,18 @@ fn items_come_back(alloc: Global) -> Result<(), Fail> {
     holds(counted && read && handed, "items")
 }
 
+const FEW_AND_MANY_BYTES: &[usize] = &[0, 1, 256, 257];
+
+const FEW_AND_MANY_ENDS: &[usize] = &[0, 1, 8, 9];
+
 #[test]
 fn lists_keep_their_limits(rt: HostRuntime) -> Result<(), Fail> {
-    for count in [0, 1, 256, 257] {
-        bytes_keep(count)?;
+    for count in FEW_AND_MANY_BYTES {
+        bytes_keep(*count)?;
     }
-    for count in [0, 1, 8, 9] {
-        ends_keep(count)?;
-        values_keep(count)?;
+    for count in FEW_AND_MANY_ENDS {
+        ends_keep(*count)?;
+        values_keep(*count)?;
     }
     items_come_back(rt.alloc())?;
     let text = format!(in rt.alloc(); "{NoMemory}")?;

@@ -3,8 +3,9 @@
 
 use crate::node::Node;
 use crate::samples::holds;
-use charlotte_calls::{Bytes, Call, EndId, Ends, LinkId, Pid, Side, Way};
+use charlotte_calls::{Bytes, Call, EndId, LinkId, Pid, Side, Way};
 use charlotte_packets::{Packet, What};
+use kernel_step::no_ends;
 use std::test::Fail;
 
 const P0: Pid = Pid(0);
@@ -114,15 +115,15 @@ const CANCELS: &[Row] = &[
 ];
 
 fn hello() -> Result<Bytes, Fail> {
-    Ok(Bytes::from_slice(b"hello").ok_or("bytes")?)
+    match Bytes::from_slice(b"hello") {
+        Some(bytes) => Ok(bytes),
+        None => Err("bytes".into()),
+    }
 }
 
 fn send() -> Result<Call, Fail> {
-    Ok(Call::Send {
-        on: A,
-        bytes: hello()?,
-        enclose: Ends::from_slice(&[]).ok_or("ends")?,
-    })
+    let (on, bytes, enclose) = (A, hello()?, no_ends());
+    Ok(Call::Send { on, bytes, enclose })
 }
 
 /// The call of an act that is one.

@@ -6,7 +6,7 @@ ghost use Rattle.kernel_step.specs.Progress.{HasRoom};
 
 use crate::samples::{Begin, END, Send, ample, holds, kept};
 use crate::states::{is_posted, is_ready};
-use crate::telling::told;
+use crate::telling::is_told;
 use cancel_core::{
     arrived, finished, notice, post, room, start_send, unwant, unwanted, want, withdraw_receive,
     withdraw_send,
@@ -129,17 +129,16 @@ fn perform_ready(table: &mut Table, act: Act, out: &mut Work)
     }
 }
 
-/// Makes a call. What is told of the end and of what the call adds.
-fn performed(alloc: Global, table: &mut Table, act: Act) -> Result<String, Fail> {
+/// Makes a call. This is told of the end and of what the call adds.
+fn performed(alloc: Global, table: &mut Table, act: Act, want: &str) -> Result<(), Fail> {
     let mut out = ample(alloc)?;
     perform(table, act, &mut out)?;
-    Ok(told(alloc, table, END, &out)?)
+    is_told(alloc, table, END, &out, want)
 }
 
 fn gives(alloc: Global, (begin, act, want): Row) -> Result<(), Fail> {
     let mut table = kept(alloc, begin)?;
-    let text = performed(alloc, &mut table, act)?;
-    holds(text.as_str() == want, want)
+    performed(alloc, &mut table, act, want)
 }
 
 fn each_gives(alloc: Global, rows: &[Row]) -> Result<(), Fail> {

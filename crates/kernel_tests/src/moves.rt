@@ -9,7 +9,7 @@ ghost use Rattle.kernel_step.specs.Room.{room_of_return};
 
 use crate::samples::{Begin, END, Send, ample, end_a, holds, kept};
 use crate::states::{is_idle, is_ready};
-use crate::telling::told;
+use crate::telling::is_told;
 use charlotte_calls::{EndId, LinkId, NoMemory, Side};
 use charlotte_packets::{Cargo, Work};
 use end_table::{Inward, Lent, Table};
@@ -207,25 +207,39 @@ fn perform_carried(table: &mut Table, act: Act, out: &mut Work)
     }
 }
 
-fn gives(alloc: Global, table: &mut Table, (act, end, want, way): Step) -> Result<(), Fail> {
+/// Makes a call. This is told of the end and of what the call adds.
+fn performed(
+    alloc: Global,
+    table: &mut Table,
+    (act, end): (Act, EndId),
+    want: &str,
+) -> Result<(), Fail> {
     let mut out = ample(alloc)?;
     perform(table, act, &mut out)?;
-    let text = told(alloc, table, end, &out)?;
-    holds(text.as_str() == want && route(table, end) == way, want)
+    is_told(alloc, table, end, &out, want)
 }
 
-/// Makes the calls of a row in order.
-fn performed(alloc: Global, (begin, steps): Row) -> Result<(), Fail> {
-    let mut table = kept(alloc, begin)?;
+fn gives(alloc: Global, table: &mut Table, (act, end, want, way): Step) -> Result<(), Fail> {
+    performed(alloc, table, (act, end), want)?;
+    holds(route(table, end) == way, want)
+}
+
+fn each_gives(alloc: Global, table: &mut Table, steps: &[Step]) -> Result<(), Fail> {
     for step in steps {
-        gives(alloc, &mut table, *step)?;
+        gives(alloc, table, *step)?;
     }
     Ok(())
 }
 
-fn each_performed(alloc: Global, rows: &[Row]) -> Result<(), Fail> {
+/// Makes the calls of a row in order.
+fn row_gives(alloc: Global, (begin, steps): Row) -> Result<(), Fail> {
+    let mut table = kept(alloc, begin)?;
+    each_gives(alloc, &mut table, steps)
+}
+
+fn each_row_gives(alloc: Global, rows: &[Row]) -> Result<(), Fail> {
     for row in rows {
-        performed(alloc, *row)?;
+        row_gives(alloc, *row)?;
     }
     Ok(())
 }
@@ -238,6 +252,6 @@ fn room_is_ample(alloc: Global) -> Result<(), Fail> {
 
 #[test]
 fn each_call_of_move_core(rt: HostRuntime) -> Result<(), Fail> {
-    each_performed(rt.alloc(), ROWS)?;
+    each_row_gives(rt.alloc(), ROWS)?;
     room_is_ample(rt.alloc())
 }

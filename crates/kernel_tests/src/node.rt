@@ -69,8 +69,10 @@ impl Node {
 
     /// The kernel takes its oldest packet.
     pub(crate) fn take(&mut self) -> Result<String, Fail> {
-        let packet = self.flying.pop_front().ok_or("no packet flies")?;
-        self.take_this(packet)
+        match self.flying.pop_front() {
+            Some(packet) => self.take_this(packet),
+            None => Err("no packet flies".into()),
+        }
     }
 
     /// The kernel takes a packet that no kernel sent.
@@ -83,17 +85,26 @@ impl Node {
 
     /// What is told of an event: its stamp, which phase each process is in, the answers, the packets, and the steps.
     fn tell(&mut self, effect: Effect) -> Result<String, Fail> {
-        let same = self.kernel.stamp() == effect.stamp;
-        let (first, second) = (self.phase(Pid(0)), self.phase(Pid(1)));
-        let mut text = format!(in self.alloc; "{} {first}{second}", effect.stamp)?;
+        let mut text = String::new(self.alloc);
+        self.push_event(&mut text, effect.stamp)?;
         self.push_answers(&mut text, effect.answered.as_slice())?;
-        self.send(&mut text, effect.packets, effect.stamp)?;
-        push_steps(self.alloc, &mut text, effect.steps.as_slice())?;
-        if same {
-            Ok(text)
-        } else {
-            Err("a kernel with another stamp".into())
+        self.push_effect(&mut text, effect)?;
+        Ok(text)
+    }
+
+    /// The stamp of an event, which is the kernel's, and which phase each process is in.
+    fn push_event(&self, text: &mut String, stamp: u64) -> Result<(), Fail> {
+        if self.kernel.stamp() != stamp {
+            return Err("a kernel with another stamp".into());
         }
+        let (first, second) = (self.phase(Pid(0)), self.phase(Pid(1)));
+        Ok(write!(text, "{stamp} {first}{second}")?)
+    }
+
+    /// The packets of an event fly, and their kinds and the steps are added.
+    fn push_effect(&mut self, text: &mut String, effect: Effect) -> Result<(), Fail> {
+        self.send(text, effect.packets, effect.stamp)?;
+        Ok(push_steps(self.alloc, text, effect.steps.as_slice())?)
     }
 
     /// Runs, waits, or has ended.

@@ -113,13 +113,17 @@ fn gives(alloc: Global, table: &mut Table, (act, answer, want): Row) -> Result<(
     holds(answered == answer && text.as_str() == want, want)
 }
 
+fn each_gives(alloc: Global, table: &mut Table, rows: &[Row]) -> Result<(), Fail> {
+    for row in rows {
+        gives(alloc, table, *row)?;
+    }
+    Ok(())
+}
+
 /// Makes the calls of these rows in order.
 fn performed(alloc: Global, rows: &[Row]) -> Result<(), Fail> {
     let mut table = Table::start(alloc, 1);
-    for row in rows {
-        gives(alloc, &mut table, *row)?;
-    }
-    Ok(())
+    each_gives(alloc, &mut table, rows)
 }
 
 #[test]
@@ -165,12 +169,17 @@ fn owns(alloc: Global, table: &Table, want: &str) -> Result<(), Fail> {
     holds(text.as_str() == want, want)
 }
 
+/// Settles these, and end a of a link.
+fn settle_each(table: &mut Table) -> Result<(), Fail> {
+    for (maker, count, p) in SETTLED {
+        settle(table, end_b(*maker, *count), *p)?;
+    }
+    settle(table, end_a(LinkId { maker: 2, count: 7 }), OWNER)
+}
+
 #[test]
 fn the_ends_of_a_process_are_in_order(rt: HostRuntime) -> Result<(), Fail> {
     let mut table = Table::start(rt.alloc(), 1);
-    for (maker, count, p) in SETTLED {
-        settle(&mut table, end_b(*maker, *count), *p)?;
-    }
-    settle(&mut table, end_a(LinkId { maker: 2, count: 7 }), OWNER)?;
+    settle_each(&mut table)?;
     owns(rt.alloc(), &table, IN_ORDER)
 }

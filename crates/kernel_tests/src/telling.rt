@@ -1,13 +1,15 @@
 //! What is told of an end and of what a call adds.
 
+use crate::samples::holds;
 use charlotte_calls::{Answer, EndId, Pid};
 use charlotte_packets::{Packet, Work};
 use end_table::{Lent, Table};
 use std::alloc::{AllocError, Global};
 use std::fmt::Write;
+use std::test::Fail;
 
 /// What the table tells of an end: of one that is here its holder and its activities.
-pub(crate) fn push_end(text: &mut String, table: &Table, end: EndId) -> Result<(), AllocError> {
+fn push_end(text: &mut String, table: &Table, end: EndId) -> Result<(), AllocError> {
     match table.lend(end) {
         Lent::Nothing => text.push_str("nothing"),
         Lent::Left { to, hops } => write!(text, "left to {to}, hops {hops}"),
@@ -21,7 +23,7 @@ pub(crate) fn push_end(text: &mut String, table: &Table, end: EndId) -> Result<(
 }
 
 /// The packets and the answers that were added, and how many reports and steps.
-pub(crate) fn push_work(text: &mut String, out: &Work) -> Result<(), AllocError> {
+fn push_work(text: &mut String, out: &Work) -> Result<(), AllocError> {
     for (to, packet) in &out.packets {
         push_packet(text, *to, packet, out.stamp)?;
     }
@@ -47,15 +49,20 @@ fn push_answer(text: &mut String, p: Pid, answer: &Answer) -> Result<(), AllocEr
     write!(text, "; {p:?} {answer:?}")
 }
 
-/// The text of both.
-pub(crate) fn told(
+fn push_both(text: &mut String, table: &Table, end: EndId, out: &Work) -> Result<(), AllocError> {
+    push_end(text, table, end)?;
+    push_work(text, out)
+}
+
+/// The text of both is this.
+pub(crate) fn is_told(
     alloc: Global,
     table: &Table,
     end: EndId,
     out: &Work,
-) -> Result<String, AllocError> {
+    want: &str,
+) -> Result<(), Fail> {
     let mut text = String::new(alloc);
-    push_end(&mut text, table, end)?;
-    push_work(&mut text, out)?;
-    Ok(text)
+    push_both(&mut text, table, end, out)?;
+    holds(text.as_str() == want, want)
 }

@@ -3,7 +3,7 @@
 use crate::service::{holds, push_words};
 use charlotte_calls::{Bytes, Cause, EndId, Ends, LinkId, Pid, Side, Way};
 use service_links::{
-    KeptEnd, Letter, Links, cancel_cause, destroy_cause, no_ends, receive_cause, send_cause,
+    KeptEnd, Letter, Links, cancel_cause, destroy_cause, receive_cause, send_cause,
 };
 use service_step::{Inward, Place};
 use std::alloc::{AllocError, Global};
@@ -171,16 +171,23 @@ const DIES: &[Row] = &[
 ];
 
 /// The send `n` of end A is started, with a message that carries these ends.
-fn starts(alloc: Global, links: &mut Links, n: u32, carried: &Ends) -> Result<(), Fail> {
-    let bytes = Bytes::from_slice(b"hi").ok_or("bytes")?;
-    let letter = Letter::of(alloc, &bytes, carried)?;
-    links.start_send(A, n, letter, carried.as_slice());
+fn starts(alloc: Global, links: &mut Links, n: u32, carried: &[EndId]) -> Result<(), Fail> {
+    let Some(ends) = Ends::from_slice(carried) else {
+        return Err("ends".into());
+    };
+    let Some(bytes) = Bytes::from_slice(b"hi") else {
+        return Err("bytes".into());
+    };
+    let letter = Letter::of(alloc, &bytes, &ends)?;
+    links.start_send(A, n, letter, ends.as_slice());
     Ok(())
 }
 
 /// The message of end A is taken, and carries C.
 fn takes(links: &mut Links) -> Result<(), Fail> {
-    let letter = links.take_message(A, P1).ok_or("no message")?;
+    let Some(letter) = links.take_message(A, P1) else {
+        return Err("no message".into());
+    };
     holds(
         letter.enclosed() == [C].as_slice(),
         "the message that is taken",
@@ -197,21 +204,30 @@ fn made(alloc: Global) -> Result<Links, Fail> {
 
 fn perform(alloc: Global, links: &mut Links, act: Act) -> Result<(), Fail> {
     match act {
-        Act::Look => {}
-        Act::StartSend(n) => starts(alloc, links, n, &Ends::from_slice(&[C]).ok_or("ends")?)?,
-        Act::StartEmpty(n) => starts(alloc, links, n, &no_ends())?,
+        Act::StartSend(n) => starts(alloc, links, n, &[C]),
+        Act::StartEmpty(n) => starts(alloc, links, n, &[]),
+        Act::TakeMessage => takes(links),
+        _ => {
+            perform_surely(links, act);
+            Ok(())
+        }
+    }
+}
+
+/// A call that takes no memory.
+fn perform_surely(links: &mut Links, act: Act) {
+    match act {
         Act::WithdrawSend => links.withdraw_send(P0, A),
         Act::Post => links.turn_inward(Inward::Posted, B),
         Act::MatchSend(n) => links.match_send(A, n),
-        Act::TakeMessage => takes(links)?,
         Act::FinishSend => links.finish_send(A),
         Act::Idle(way, e) => links.idle(way, e),
         Act::ReturnMessage => links.return_message(A),
         Act::Notice(e) => links.notice(e),
         Act::Destroy(e) => links.destroy(e),
         Act::DestroyEach(ends) => links.destroy_each(P1, ends),
+        Act::Look | Act::StartSend(_) | Act::StartEmpty(_) | Act::TakeMessage => {}
     }
-    Ok(())
 }
 
 /// What holds of an end, in words.
@@ -250,15 +266,18 @@ fn gives(alloc: Global, links: &mut Links, (act, e, want): Row) -> Result<(), Fa
     holds(text.as_str() == want, want)
 }
 
+fn each_gives(alloc: Global, links: &mut Links, rows: &[Row]) -> Result<(), Fail> {
+    for row in rows {
+        gives(alloc, links, *row)?;
+    }
+    Ok(())
+}
+
 #[test]
 fn each_call_of_service_links(rt: HostRuntime) -> Result<(), Fail> {
     let mut links = made(rt.alloc())?;
-    for rows in [CARRIES, DIES] {
-        for row in rows {
-            gives(rt.alloc(), &mut links, *row)?;
-        }
-    }
-    Ok(())
+    each_gives(rt.alloc(), &mut links, CARRIES)?;
+    each_gives(rt.alloc(), &mut links, DIES)
 }
 
 /// Nothing is refused but what is not a process's own.

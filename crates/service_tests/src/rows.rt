@@ -310,28 +310,26 @@ fn is_row(alloc: Global, version: u8, (before, acts, refused): Row) -> Result<()
     Ok(())
 }
 
-#[test]
-fn each_call_is_allowed_or_not(rt: HostRuntime) -> Result<(), Fail> {
-    for row in CALLS {
-        is_row(rt.alloc(), 1, *row)?;
+fn are_rows(alloc: Global, version: u8, rows: &[Row]) -> Result<(), Fail> {
+    for row in rows {
+        is_row(alloc, version, *row)?;
     }
     Ok(())
+}
+
+#[test]
+fn each_call_is_allowed_or_not(rt: HostRuntime) -> Result<(), Fail> {
+    are_rows(rt.alloc(), 1, CALLS)
 }
 
 #[test]
 fn each_event_is_allowed_or_not(rt: HostRuntime) -> Result<(), Fail> {
-    for row in EVENTS {
-        is_row(rt.alloc(), 1, *row)?;
-    }
-    Ok(())
+    are_rows(rt.alloc(), 1, EVENTS)
 }
 
 #[test]
 fn each_message_of_version_2_is_allowed_or_not(rt: HostRuntime) -> Result<(), Fail> {
-    for row in IN_VERSION_2 {
-        is_row(rt.alloc(), 2, *row)?;
-    }
-    Ok(())
+    are_rows(rt.alloc(), 2, IN_VERSION_2)
 }
 
 const TAKE: Row = (NOTHING, &[Takes(A, 1, Q, false)], Some(11));

@@ -125,11 +125,17 @@ pub(crate) fn push_words(
 }
 
 fn bytes() -> Result<Bytes, Fail> {
-    Ok(Bytes::from_slice(b"x").ok_or("one byte")?)
+    match Bytes::from_slice(b"x") {
+        Some(bytes) => Ok(bytes),
+        None => Err("one byte".into()),
+    }
 }
 
 fn ends(list: &[EndId]) -> Result<Ends, Fail> {
-    Ok(Ends::from_slice(list).ok_or("at most eight ends")?)
+    match Ends::from_slice(list) {
+        Some(ends) => Ok(ends),
+        None => Err("at most eight ends".into()),
+    }
 }
 
 fn done(enclosed: &[EndId]) -> Result<Report, Fail> {
@@ -224,7 +230,37 @@ fn step(service: &mut Service, act: Act) -> Result<Option<u8>, Fail> {
     }
 }
 
+/// Makes these steps, each of which is allowed.
+fn steps(service: &mut Service, acts: &[Act]) -> Result<(), Fail> {
+    for act in acts {
+        let answer = step(service, *act)?;
+        holds(answer == None, "each step before is allowed")?;
+    }
+    Ok(())
+}
+
+/// Makes these steps. Each but the last is allowed; the answer is that to the last.
+fn last_of(service: &mut Service, acts: &[Act]) -> Result<Option<u8>, Fail> {
+    let mut answer = None;
+    for act in acts {
+        holds(answer == None, "each step before the last is allowed")?;
+        answer = step(service, *act)?;
+    }
+    Ok(answer)
+}
+
 /// Makes these steps, one list after the other. Each but the last is allowed; the last is allowed, or not and of this number.
+fn performed(
+    service: &mut Service,
+    acts: (&[Act], &[Act]),
+    refused: Option<u8>,
+) -> Result<(), Fail> {
+    steps(service, acts.0)?;
+    let answer = last_of(service, acts.1)?;
+    holds(answer == refused, "the answer to the last step")
+}
+
+/// A new service that made these steps so.
 pub(crate) fn row(
     alloc: Global,
     version: u8,
@@ -232,17 +268,6 @@ pub(crate) fn row(
     refused: Option<u8>,
 ) -> Result<Service, Fail> {
     let mut service = start(alloc, version)?;
-    for act in acts.0 {
-        holds(
-            step(&mut service, *act)? == None,
-            "each step before is allowed",
-        )?;
-    }
-    let mut answer = None;
-    for act in acts.1 {
-        holds(answer == None, "each step before the last is allowed")?;
-        answer = step(&mut service, *act)?;
-    }
-    holds(answer == refused, "the answer to the last step")?;
+    performed(&mut service, acts, refused)?;
     Ok(service)
 }

@@ -63,7 +63,7 @@ fn told_line(alloc: Global, line: &ScriptLine) -> Result<String, Fail> {
 }
 
 /// Some lines of the script, as they are printed for debugging.
-const LINES: [(usize, &str); 4] = [
+const LINES: &[(usize, &str)] = &[
     (
         0,
         "7: Ask(Pid(1), Cancel { on: EndId { link: LinkId { maker: 0, count: 0 }, side: A }, way: Outward })",
@@ -77,20 +77,26 @@ const LINES: [(usize, &str); 4] = [
 ];
 
 fn is_line(alloc: Global, lines: &[ScriptLine], (number, want): (usize, &str)) -> Result<(), Fail> {
-    let line = lines.get(number).ok_or("no such line")?;
+    let Some(line) = lines.get(number) else {
+        return Err("no such line".into());
+    };
     let text = told_line(alloc, line)?;
     holds(text.as_str() == want, want)
+}
+
+fn is_read_so(alloc: Global, setting: &Setting, lines: &[ScriptLine]) -> Result<(), Fail> {
+    holds(has_setting(setting), "the setting")?;
+    holds(lines.len() == 6, "how many lines there are")?;
+    for row in LINES {
+        is_line(alloc, lines, *row)?;
+    }
+    Ok(())
 }
 
 #[test]
 fn a_script_is_read(rt: HostRuntime) -> Result<(), Fail> {
     let script = read_script(rt.alloc(), SCRIPT.as_bytes())?;
-    holds(has_setting(&script.setting), "the setting")?;
-    holds(script.lines.len() == 6, "how many lines there are")?;
-    for row in LINES {
-        is_line(rt.alloc(), script.lines.as_slice(), row)?;
-    }
-    Ok(())
+    is_read_so(rt.alloc(), &script.setting, script.lines.as_slice())
 }
 
 #[test]
