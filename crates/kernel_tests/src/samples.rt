@@ -63,10 +63,10 @@ pub(crate) fn end_b(maker: u8, count: u32) -> Moving {
 }
 
 /// A message that tells a number.
-pub(crate) fn message(n: u32) -> Result<(Bytes, Ends), Fail> {
+pub(crate) fn message(n: u32) -> Option<(Bytes, Ends)> {
     match Bytes::from_slice(&n.to_le_bytes()) {
-        Some(bytes) => Ok((bytes, no_ends())),
-        None => Err("bytes".into()),
+        Some(bytes) => Some((bytes, no_ends())),
+        None => None,
     }
 }
 

@@ -1,12 +1,10 @@
 //! What is told of an end and of what a call adds.
 
-use crate::samples::holds;
 use charlotte_calls::{Answer, EndId, Pid};
 use charlotte_packets::{Packet, Work};
 use end_table::{Lent, Table};
 use std::alloc::{AllocError, Global};
 use std::fmt::Write;
-use std::test::Fail;
 
 /// What the table tells of an end: of one that is here its holder and its activities.
 fn push_end(text: &mut String, table: &Table, end: EndId) -> Result<(), AllocError> {
@@ -49,20 +47,10 @@ fn push_answer(text: &mut String, p: Pid, answer: &Answer) -> Result<(), AllocEr
     write!(text, "; {p:?} {answer:?}")
 }
 
-fn push_both(text: &mut String, table: &Table, end: EndId, out: &Work) -> Result<(), AllocError> {
-    push_end(text, table, end)?;
-    push_work(text, out)
-}
-
-/// The text of both is this.
-pub(crate) fn is_told(
-    alloc: Global,
-    table: &Table,
-    end: EndId,
-    out: &Work,
-    want: &str,
-) -> Result<(), Fail> {
+/// Whether the text of both is this.
+pub(crate) fn is_told(alloc: Global, table: &Table, end: EndId, out: &Work, want: &str) -> bool {
     let mut text = String::new(alloc);
-    push_both(&mut text, table, end, out)?;
-    holds(text.as_str() == want, want)
+    push_end(&mut text, table, end).is_ok()
+        && push_work(&mut text, out).is_ok()
+        && text.as_str() == want
 }
