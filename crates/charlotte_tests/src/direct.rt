@@ -7,11 +7,10 @@ use crate::threads::{Exchange, Share, across};
 use kernel_net::Letter;
 use std::alloc::Global;
 use std::test::Fail;
-use std::thread::Threads;
 
 /// A letter.
 #[derive(Clone, Copy)]
-pub(crate) enum Sent {
+enum Sent {
     Marker,
     /// A packet, whose stamp is so much above the first.
     Packet(u64),
@@ -21,7 +20,7 @@ pub(crate) enum Sent {
 
 /// What is done with the ports.
 #[derive(Clone, Copy)]
-pub(crate) enum Act {
+enum Act {
     /// The first kernel puts a letter to the second.
     Put(u8, u8, Sent),
     /// It cannot.
@@ -34,7 +33,7 @@ pub(crate) enum Act {
 }
 
 /// What is done, and what is told where it fails.
-pub(crate) type Row = (Act, &'static str);
+type Row = (Act, &'static str);
 
 fn letter(first: u64, sent: Sent) -> Result<Letter, Fail> {
     match sent {
@@ -50,12 +49,7 @@ fn gets(alloc: Global, ports: &mut Ports, (at, from): (u8, u8), want: &Letter) -
 }
 
 /// What a row says can be done, where the first stamp is this.
-pub(crate) fn gives(
-    alloc: Global,
-    ports: &mut Ports,
-    first: u64,
-    (act, what): Row,
-) -> Result<(), Fail> {
+fn gives(alloc: Global, ports: &mut Ports, first: u64, (act, what): Row) -> Result<(), Fail> {
     match act {
         Act::Put(from, to, sent) => holds(ports.put(from, to, letter(first, sent)?).is_ok(), what),
         Act::PutInVain(from, to, sent) => {
@@ -164,23 +158,6 @@ fn the_first_marker_of_a_ring_and_the_last_stamp_are_put(rt: HostRuntime) -> Res
     two_give(rt.alloc(), 2, AT_THE_LIMITS)
 }
 
-/// Both do their shares in threads of their own, and then so many letters are there.
-fn exchange<R: Threads + Sync>(
-    rt: &R,
-    alloc: Global,
-    shares: [Share; 2],
-    there: u32,
-) -> Result<(), Fail> {
-    let done = across(rt, alloc, shares)?;
-    let [first, second] = shares;
-    let wanted = Exchange {
-        first,
-        second,
-        there,
-    };
-    holds(done == wanted, "what two ports did, and what is there")
-}
-
 #[test]
 fn ports_put_and_get_in_threads_of_their_own_and_then_meet(rt: HostRuntime) -> Result<(), Fail> {
     let all = [
@@ -193,7 +170,20 @@ fn ports_put_and_get_in_threads_of_their_own_and_then_meet(rt: HostRuntime) -> R
             got: 10_000,
         },
     ];
-    exchange(&rt, rt.alloc(), all, 0)?;
+    holds(across(&rt, rt.alloc(), all)? == done(all, 0), "each is got")?;
     let some = [Share { put: 100, got: 47 }, Share { put: 50, got: 98 }];
-    exchange(&rt, rt.alloc(), some, 5)
+    holds(
+        across(&rt, rt.alloc(), some)? == done(some, 5),
+        "five are there",
+    )
+}
+
+/// Both shares were done, and so many letters are there.
+fn done(shares: [Share; 2], there: u32) -> Exchange {
+    let [first, second] = shares;
+    Exchange {
+        first,
+        second,
+        there,
+    }
 }

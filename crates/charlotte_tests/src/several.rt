@@ -1,115 +1,60 @@
 //! Each kernel of a net puts to each.
 
-use crate::direct::{Act, Sent, gives};
 use crate::ports::Ports;
-use crate::samples::holds;
+use crate::samples::{holds, is_got, packet};
+use kernel_net::Letter;
 use std::alloc::Global;
 use std::test::Fail;
 
 /// What each kernel puts last to each: in the first round a marker.
-fn last_of(round: u8) -> Sent {
+fn last_of(round: u8) -> Letter {
     if round == 0 {
-        Sent::Marker
+        Letter::Marker
     } else {
-        Sent::Packet(200)
+        packet(200)
     }
 }
 
-/// The stamp of what a kernel puts first to another.
-fn stamp(from: u8, to: u8) -> u64 {
-    u64::from(from) * 8 + u64::from(to)
-}
-
-/// A kernel puts two packets and a last letter to another.
-fn put_three(
-    alloc: Global,
-    ports: &mut Ports,
-    (from, to): (u8, u8),
-    last: Sent,
-) -> Result<(), Fail> {
-    let first = Act::Put(from, to, Sent::Packet(stamp(from, to)));
-    gives(alloc, ports, 0, (first, "a packet"))?;
-    let second = Act::Put(from, to, Sent::Packet(100));
-    gives(alloc, ports, 0, (second, "another"))?;
-    gives(alloc, ports, 0, (Act::Put(from, to, last), "the last"))
-}
-
-/// The other gets them.
-fn get_three(
-    alloc: Global,
-    ports: &mut Ports,
-    (from, to): (u8, u8),
-    last: Sent,
-) -> Result<(), Fail> {
-    let first = Act::Get(to, from, Sent::Packet(stamp(from, to)));
-    gives(alloc, ports, 0, (first, "a packet"))?;
-    let second = Act::Get(to, from, Sent::Packet(100));
-    gives(alloc, ports, 0, (second, "another"))?;
-    gives(alloc, ports, 0, (Act::Get(to, from, last), "the last"))
-}
-
-/// Each kernel puts to each.
-fn put_to_all(alloc: Global, ports: &mut Ports, kernels: u8, last: Sent) -> Result<(), Fail> {
+/// Each kernel puts two packets and a last letter to each.
+fn put_to_all(ports: &mut Ports, kernels: u8, round: u8) -> Result<(), Fail> {
     for from in 0..kernels {
         for to in 0..kernels {
-            put_three(alloc, ports, (from, to), last)?;
+            let stamp = u64::from(from) * 8 + u64::from(to);
+            let first = ports.put(from, to, packet(stamp)).is_ok();
+            let second = ports.put(from, to, packet(100)).is_ok();
+            let last = ports.put(from, to, last_of(round)).is_ok();
+            holds(first && second && last, "two packets and a last letter")?;
         }
     }
     Ok(())
 }
 
-/// A kernel gets what was put to it, that of kernel 0 first, and nothing more. Its number is its place.
-fn get_at(
-    alloc: Global,
-    ports: &mut Ports,
-    (kernels, at): (u8, u8),
-    last: Sent,
-) -> Result<(), Fail> {
-    for from in 0..kernels {
-        get_three(alloc, ports, (from, at), last)?;
-    }
-    holds(ports.kernel(at) == Some(at), "its number is its place")?;
-    gives(alloc, ports, 0, (Act::GetNothing(at), "nothing more"))
-}
-
-/// Each kernel gets.
-fn get_all(alloc: Global, ports: &mut Ports, kernels: u8, last: Sent) -> Result<(), Fail> {
+/// Each kernel gets them, those of kernel 0 first.
+fn get_all(alloc: Global, ports: &mut Ports, kernels: u8, round: u8) -> Result<(), Fail> {
     for at in 0..kernels {
-        get_at(alloc, ports, (kernels, at), last)?;
+        holds(ports.kernel(at) == Some(at), "its number is its place")?;
+        for from in 0..kernels {
+            let stamp = u64::from(from) * 8 + u64::from(at);
+            is_got(alloc, ports.get(at), from, &packet(stamp))?;
+            is_got(alloc, ports.get(at), from, &packet(100))?;
+            is_got(alloc, ports.get(at), from, &last_of(round))?;
+        }
+        holds(ports.get(at).is_none(), "nothing more")?;
     }
     Ok(())
 }
 
-/// The rings are full: kernel 0 can put no more to itself, and so many letters are there.
-fn are_full(alloc: Global, ports: &mut Ports, kernels: u8) -> Result<(), Fail> {
-    gives(
-        alloc,
-        ports,
-        0,
-        (Act::PutInVain(0, 0, Sent::Packet(0)), "a ring of three"),
-    )?;
-    gives(
-        alloc,
-        ports,
-        0,
-        (Act::Meet(0, 0, 3), "what kernel 0 put to itself"),
-    )?;
-    if kernels == 1 {
-        return Ok(());
-    }
-    gives(
-        alloc,
-        ports,
-        0,
-        (Act::Meet(0, 1, 6), "what two put to each other"),
-    )
-}
-
 /// A round between so many kernels.
 fn is_round(alloc: Global, ports: &mut Ports, kernels: u8, round: u8) -> Result<(), Fail> {
-    put_to_all(alloc, ports, kernels, last_of(round))?;
-    are_full(alloc, ports, kernels)?;
-    get_all(alloc, ports, kernels, last_of(round))
+    put_to_all(ports, kernels, round)?;
+    holds(ports.put(0, 0, packet(0)).is_err(), "a ring of three")?;
+    let own = ports.meet(0, 0) == 3;
+    let other = kernels == 1 || ports.meet(0, 1) == 6;
+    holds(
+        own && other,
+        "what kernel 0 put to itself, and what two put to each other",
+    )?;
+    get_all(alloc, ports, kernels, round)
 }
 
 fn three_rounds(alloc: Global, ports: &mut Ports, kernels: u8) -> Result<(), Fail> {

@@ -12,11 +12,8 @@ fn bytes_keep(count: usize) -> Result<(), Fail> {
     let Some(some) = bytes.get(..count) else {
         return Err("a longer slice".into());
     };
-    let kept = match Bytes::from_slice(some) {
-        Some(list) => count <= 256 && list.copy().as_slice() == some,
-        None => 256 < count,
-    };
-    holds(kept, "what a list keeps")
+    let kept = Bytes::from_slice(some).map(|list| list.copy().as_slice() == some);
+    holds(kept == (count <= 256).then_some(true), "what a list keeps")
 }
 
 fn ends_keep(count: usize) -> Result<(), Fail> {
@@ -25,11 +22,8 @@ fn ends_keep(count: usize) -> Result<(), Fail> {
     let Some(some) = ends.get(..count) else {
         return Err("a longer slice".into());
     };
-    let kept = match Ends::from_slice(some) {
-        Some(list) => count <= 8 && list.copy().as_slice() == some,
-        None => 8 < count,
-    };
-    holds(kept, "what a list keeps")
+    let kept = Ends::from_slice(some).map(|list| list.copy().as_slice() == some);
+    holds(kept == (count <= 8).then_some(true), "what a list keeps")
 }
 
 fn values_keep(count: usize) -> Result<(), Fail> {
@@ -38,11 +32,8 @@ fn values_keep(count: usize) -> Result<(), Fail> {
     let Some(some) = values.get(..count) else {
         return Err("a longer slice".into());
     };
-    let kept = match CargoPicture::from_slice(some) {
-        Some(list) => count <= 8 && list.copy().as_slice() == some,
-        None => 8 < count,
-    };
-    holds(kept, "what a list keeps")
+    let kept = CargoPicture::from_slice(some).map(|list| list.copy().as_slice() == some);
+    holds(kept == (count <= 8).then_some(true), "what a list keeps")
 }
 
 /// Items are read, counted and handed back.
