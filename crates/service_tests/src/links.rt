@@ -181,7 +181,7 @@ fn starts(alloc: Global, links: &mut Links, n: u32, carried: &[EndId]) -> bool {
     let Ok(letter) = Letter::of(alloc, &bytes, &ends) else {
         return false;
     };
-    links.start_send(A, n, letter, carried);
+    links.start_send(A, n, letter, ends.as_slice());
     true
 }
 
