@@ -177,21 +177,25 @@ fn each_gives(alloc: Global, node: &mut Node, rows: &[Row]) -> Result<(), Fail> 
     Ok(())
 }
 
-/// A new node gives the rows of all these, one after the other.
-fn all_give(alloc: Global, all: &[&[Row]]) -> Result<(), Fail> {
+/// A message, these rows, and then those.
+fn both_give(alloc: Global, node: &mut Node, second: &[Row], third: &[Row]) -> Result<(), Fail> {
+    each_gives(alloc, node, A_MESSAGE)?;
+    each_gives(alloc, node, second)?;
+    each_gives(alloc, node, third)
+}
+
+/// A new node gives a message, these rows, and then those.
+fn node_gives(alloc: Global, second: &[Row], third: &[Row]) -> Result<(), Fail> {
     let mut node = Node::start(alloc)?;
-    for rows in all {
-        each_gives(alloc, &mut node, rows)?;
-    }
-    Ok(())
+    both_give(alloc, &mut node, second, third)
 }
 
 #[test]
 fn strays_are_dropped(rt: HostRuntime) -> Result<(), Fail> {
-    all_give(rt.alloc(), &[A_MESSAGE, STRAYS, ENDS])
+    node_gives(rt.alloc(), STRAYS, ENDS)
 }
 
 #[test]
 fn calls_are_answered(rt: HostRuntime) -> Result<(), Fail> {
-    all_give(rt.alloc(), &[A_MESSAGE, ANSWERS, CANCELS])
+    node_gives(rt.alloc(), ANSWERS, CANCELS)
 }

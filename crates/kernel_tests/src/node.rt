@@ -87,10 +87,11 @@ impl Node {
 
     /// Adds what is told of an event: its stamp, which phase each process is in, the answers, the packets, and the steps.
     fn tell(&mut self, text: &mut String, effect: Effect) -> bool {
-        self.push_event(text, effect.stamp)
-            && self.push_answers(text, effect.answered.as_slice())
-            && self.send(text, effect.packets, effect.stamp)
-            && push_steps(self.alloc, text, effect.steps.as_slice()).is_ok()
+        let is_told = self.push_event(text, effect.stamp);
+        let are_answers = self.push_answers(text, effect.answered.as_slice());
+        let are_sent = self.send(text, effect.packets, effect.stamp);
+        let are_steps = push_steps(self.alloc, text, effect.steps.as_slice()).is_ok();
+        is_told && are_answers && are_sent && are_steps
     }
 
     /// The stamp of an event, which is the kernel's, and which phase each process is in.
