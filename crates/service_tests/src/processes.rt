@@ -123,11 +123,14 @@ impl Two {
             Act::Activate(e) => self.processes.activate(P, e),
             Act::Learn(e) => self.processes.learn(P, e),
             Act::LearnBoth(first, second) => self.processes.learn_each(P, &[first, second]),
-            Act::Tell(e, on) => self.processes.tell(P, e, self.report(on), None),
+            Act::Tell(e, on) => {
+                let report = self.report(on);
+                self.processes.tell(P, e, report, None)
+            }
             Act::TellReserved(e, on) => self.tell_reserved(e, on),
             Act::Gain(first, second) => {
-                self.processes
-                    .gain(P, self.report(first), self.report(second))
+                let reports = (self.report(first), self.report(second));
+                self.processes.gain(P, reports.0, reports.1)
             }
             _ => {
                 self.perform_surely(act);
@@ -137,8 +140,9 @@ impl Two {
     }
 
     fn tell_reserved(&mut self, e: EndId, on: EndId) -> Result<(), NoMemory> {
+        let report = self.report(on);
         self.processes.reserve(P)?;
-        self.processes.tell_reserved(P, e, self.report(on));
+        self.processes.tell_reserved(P, e, report);
         Ok(())
     }
 
