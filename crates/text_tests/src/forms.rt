@@ -112,19 +112,11 @@ fn packet(number: u8) -> Result<(PictureWhat, &'static str), Fail> {
     })
 }
 
-fn cargo(values: &[MovingPicture]) -> Result<CargoPicture, Fail> {
-    match CargoPicture::from_slice(values) {
-        Some(moving) => Ok(moving),
-        None => Err("values".into()),
-    }
-}
-
 fn back() -> Result<PictureWhat, Fail> {
-    let moving = cargo(&[value(true)])?;
     Ok(PictureWhat::Back {
         to: A,
         n: 1,
-        moving,
+        moving: CargoPicture::from_slice(&[value(true)]).ok_or("values")?,
     })
 }
 
@@ -136,7 +128,7 @@ fn parcel() -> Result<PictureWhat, Fail> {
         at: 3,
         hops: 4,
         bytes: text(b"\x00~")?,
-        moving: cargo(&[value(false), value(true)])?,
+        moving: CargoPicture::from_slice(&[value(false), value(true)]).ok_or("values")?,
     })
 }
 

@@ -15,17 +15,11 @@ pub(crate) fn holds(is_so: bool, what: &str) -> Result<(), Fail> {
 }
 
 pub(crate) fn text(bytes: &[u8]) -> Result<Bytes, Fail> {
-    match Short::from_slice(bytes) {
-        Some(text) => Ok(text),
-        None => Err("at most 256 bytes".into()),
-    }
+    Ok(Short::from_slice(bytes).ok_or("at most 256 bytes")?)
 }
 
 pub(crate) fn ends(items: &[EndId]) -> Result<Ends, Fail> {
-    match Short::from_slice(items) {
-        Some(ends) => Ok(ends),
-        None => Err("at most eight ends".into()),
-    }
+    Ok(Short::from_slice(items).ok_or("at most eight ends")?)
 }
 
 pub(crate) fn asked(
@@ -83,7 +77,7 @@ pub(crate) fn setting(alloc: Global) -> Result<Setting, Fail> {
 }
 
 /// Entries, notes and a last line that go together in no run have their lines all the same.
-pub(crate) const LINES: &[&str] = &[
+pub(crate) const LINES: [&str; 17] = [
     "transcript 2\n",
     "kernels 8\n",
     "process 0 on 0\n",
@@ -114,50 +108,32 @@ pub(crate) const NOTES: [ScriptNote; 2] = [
     },
 ];
 
-/// The stamps and the kernels of the entries of `journals`, in order, and whether a link was made.
-const PLACES: &[(u64, u8, bool)] = &[
-    (1, 0, true),
-    (1, 1, true),
-    (2, 1, false),
-    (2, 2, true),
-    (3, 2, false),
-    (4, 0, false),
-];
-
-fn placed_at(alloc: Global, (stamp, kernel, is_made): (u64, u8, bool)) -> Result<Placed, Fail> {
-    let entry = if is_made {
-        asked(alloc, stamp, 0, &Call::Make, &[MADE])?
-    } else {
-        took(alloc, stamp, PictureWhat::GoneSeen { to: A })?
-    };
-    Ok(Placed { kernel, entry })
-}
-
+/// The entries of `journals` in order, with their kernels.
 fn placed(alloc: Global) -> Result<Vec<Placed>, Fail> {
     let mut placed = Vec::new(alloc);
-    for row in PLACES {
-        placed.push(placed_at(alloc, *row)?)?;
+    for (stamp, kernel, is_made) in [
+        (1, 0, true),
+        (1, 1, true),
+        (2, 1, false),
+        (2, 2, true),
+        (3, 2, false),
+        (4, 0, false),
+    ] {
+        let entry = if is_made {
+            asked(alloc, stamp, 0, &Call::Make, &[MADE])?
+        } else {
+            took(alloc, stamp, PictureWhat::GoneSeen { to: A })?
+        };
+        placed.push(Placed { kernel, entry })?;
     }
     Ok(placed)
 }
 
-fn are_printed(alloc: Global, setting: &Setting, merged: &[Placed]) -> Result<(), Fail> {
-    let lines = print_transcript(alloc, setting, merged, &NOTES, Last::Spent(3))?;
-    same_lines(&lines, LINES)
-}
-
-fn is_header(alloc: Global, setting: &Setting) -> Result<(), Fail> {
-    let Some(header) = LINES.get(..5) else {
-        return Err("the lines of a header".into());
-    };
-    let lines = print_header(alloc, setting)?;
-    same_lines(&lines, header)
-}
-
 #[test]
 fn entries_are_printed(rt: HostRuntime) -> Result<(), Fail> {
-    let setting = setting(rt.alloc())?;
-    is_header(rt.alloc(), &setting)?;
-    let merged = placed(rt.alloc())?;
-    are_printed(rt.alloc(), &setting, &merged)
+    let alloc = rt.alloc();
+    let (setting, merged) = (setting(alloc)?, placed(alloc)?);
+    let lines = print_transcript(alloc, &setting, &merged, &NOTES, Last::Spent(3))?;
+    same_lines(&lines, &LINES)?;
+    same_lines(&print_header(alloc, &setting)?, &LINES[..5])
 }

@@ -77,10 +77,10 @@ fn is_taking(entry: &EntryLines, text: &mut Vec<u8>) -> Result<(), Fail> {
 }
 
 /// The lines of the first entry.
-const FIRST: &[&str] = &["5 k7 p0 make\n", ". make 0.0a 0.0b\n"];
+const FIRST: [&str; 2] = ["5 k7 p0 make\n", ". make 0.0a 0.0b\n"];
 
 /// The line of the second.
-const SECOND: &[&str] = &["18446744073709551615 k7 from 0 goneseen 0.0a\n"];
+const SECOND: [&str; 1] = ["18446744073709551615 k7 from 0 goneseen 0.0a\n"];
 
 /// Each of two entries is found by its place.
 fn are_two(journal: &WrittenJournal, line: &mut Vec<u8>) -> Result<(), Fail>
@@ -88,8 +88,8 @@ fn are_two(journal: &WrittenJournal, line: &mut Vec<u8>) -> Result<(), Fail>
 {
     holds(journal.len() == 2, "how many entries there are")?;
     is_taking(&journal.entry(1)?, line)?;
-    are_lines(journal.entry(1)?, SECOND, line)?;
-    are_lines(journal.entry(0)?, FIRST, line)
+    are_lines(journal.entry(1)?, &SECOND, line)?;
+    are_lines(journal.entry(0)?, &FIRST, line)
 }
 
 /// Of two entries the first is kept.
@@ -100,21 +100,7 @@ fn keeps_first(journal: &mut WrittenJournal, line: &mut Vec<u8>) -> Result<(), F
     holds(journal.len() == 1, "how many entries are kept")?;
     let first = journal.entry(0)?;
     holds(first.from().is_none(), "no sender")?;
-    are_lines(first, FIRST, line)
-}
-
-/// Two entries are noted and found, and then the second is cut.
-fn notes_and_cuts(
-    journal: &mut WrittenJournal,
-    steps: Vec<ServiceStep>,
-    line: &mut Vec<u8>,
-) -> Result<(), Fail>
-    requires { journal.old.entries ≡ [] }
-{
-    let is_emptied = note_two(journal, (5, 18_446_744_073_709_551_615), steps)?.is_empty();
-    holds(is_emptied, "the list that comes back")?;
-    are_two(journal, line)?;
-    keeps_first(journal, line)
+    are_lines(first, &FIRST, line)
 }
 
 /// Entries are found by their places, after each want of memory too: with `rt try --test --fail-alloc N` one request for memory fails, that
@@ -125,7 +111,10 @@ fn entries_are_given_by_their_places(rt: HostRuntime) -> Result<(), Fail> {
     let mut line = Vec::with_capacity(alloc, 64)?;
     let steps = vec![in alloc; MADE]?;
     let mut journal = WrittenJournal::start(alloc);
-    notes_and_cuts(&mut journal, steps, &mut line)
+    let emptied = note_two(&mut journal, (5, 18_446_744_073_709_551_615), steps)?;
+    holds(emptied.is_empty(), "the list that comes back")?;
+    are_two(&journal, &mut line)?;
+    keeps_first(&mut journal, &mut line)
 }
 
 /// A journal of two entries with these stamps.
@@ -147,24 +136,6 @@ fn of_three(alloc: Global) -> Result<Merged, NoMemory> {
     Merged::of_journals(alloc, journals)
 }
 
-/// The next line is this.
-fn gives_line(lines: &mut TranscriptLines, want: &str, line: &mut Vec<u8>) -> Result<(), Fail> {
-    let is_there = lines.next_line(line)?;
-    holds(is_there && line.as_slice() == want.as_bytes(), want)
-}
-
-/// These lines are given, and no other.
-fn gives_lines(
-    lines: &mut TranscriptLines,
-    wanted: &[&str],
-    line: &mut Vec<u8>,
-) -> Result<(), Fail> {
-    for want in wanted {
-        gives_line(lines, want, line)?;
-    }
-    holds(!lines.next_line(line)?, "the end of a transcript")
-}
-
 #[test]
 fn journals_are_merged_by_stamp_and_then_by_kernel(rt: HostRuntime) -> Result<(), Fail> {
     let alloc = rt.alloc();
@@ -172,5 +143,9 @@ fn journals_are_merged_by_stamp_and_then_by_kernel(rt: HostRuntime) -> Result<()
     let notes = Items::of(Vec::from_array(alloc, NOTES)?);
     let mut lines = TranscriptLines::of(setting(alloc)?, merged, notes, Last::Spent(3));
     let mut line = Vec::new(alloc);
-    gives_lines(&mut lines, LINES, &mut line)
+    for want in LINES {
+        holds(lines.next_line(&mut line)?, "a line")?;
+        holds(line.as_slice() == want.as_bytes(), want)?;
+    }
+    holds(!lines.next_line(&mut line)?, "the end of a transcript")
 }

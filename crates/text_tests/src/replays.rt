@@ -50,7 +50,7 @@ fn differs(alloc: Global, number: u32, text: &str, line: u32) -> Result<(), Fail
 }
 
 /// Texts, and their last lines.
-const WHOLE: &[(&str, Last)] = &[
+const WHOLE: [(&str, Last); 3] = [
     (TRANSCRIPT, Last::Quiet),
     ("transcript 2\nkernels 8\nspent 7\n", Last::Spent(7)),
     (
@@ -62,7 +62,7 @@ const WHOLE: &[(&str, Last)] = &[
 #[test]
 fn a_transcript_is_replayed(rt: HostRuntime) -> Result<(), Fail> {
     for (text, last) in WHOLE {
-        gives(rt.alloc(), text.as_bytes(), Ok(*last))?;
+        gives(rt.alloc(), text.as_bytes(), Ok(last))?;
     }
     let without_note = with_line(rt.alloc(), 21, "")?;
     gives(rt.alloc(), without_note.as_slice(), Ok(Last::Quiet))

@@ -63,7 +63,7 @@ fn told_line(alloc: Global, line: &ScriptLine) -> Result<String, Fail> {
 }
 
 /// Some lines of the script, as they are printed for debugging.
-const LINES: &[(usize, &str)] = &[
+const LINES: [(usize, &str); 4] = [
     (
         0,
         "7: Ask(Pid(1), Cancel { on: EndId { link: LinkId { maker: 0, count: 0 }, side: A }, way: Outward })",
@@ -77,26 +77,20 @@ const LINES: &[(usize, &str)] = &[
 ];
 
 fn is_line(alloc: Global, lines: &[ScriptLine], (number, want): (usize, &str)) -> Result<(), Fail> {
-    let Some(line) = lines.get(number) else {
-        return Err("no such line".into());
-    };
+    let line = lines.get(number).ok_or("no such line")?;
     let text = told_line(alloc, line)?;
     holds(text.as_str() == want, want)
-}
-
-fn is_read_so(alloc: Global, setting: &Setting, lines: &[ScriptLine]) -> Result<(), Fail> {
-    holds(has_setting(setting), "the setting")?;
-    holds(lines.len() == 6, "how many lines there are")?;
-    for row in LINES {
-        is_line(alloc, lines, *row)?;
-    }
-    Ok(())
 }
 
 #[test]
 fn a_script_is_read(rt: HostRuntime) -> Result<(), Fail> {
     let script = read_script(rt.alloc(), SCRIPT.as_bytes())?;
-    is_read_so(rt.alloc(), &script.setting, script.lines.as_slice())
+    holds(has_setting(&script.setting), "the setting")?;
+    holds(script.lines.len() == 6, "how many lines there are")?;
+    for row in LINES {
+        is_line(rt.alloc(), script.lines.as_slice(), row)?;
+    }
+    Ok(())
 }
 
 #[test]

@@ -37,7 +37,7 @@ enum Word {
     Way(Way),
 }
 
-const WORDS: &[(Word, &str)] = &[
+const WORDS: [(Word, &str); 5] = [
     (Word::Number(u64::MAX), "18446744073709551615"),
     (Word::Process(Pid(7)), "p7"),
     (Word::Ends(&[END, ZERO]), " +255.4294967295b +0.0a"),
@@ -64,12 +64,12 @@ fn is_written(alloc: Global, word: Word, text: &str) -> Result<(), Fail> {
 #[test]
 fn names_are_written(rt: HostRuntime) -> Result<(), Fail> {
     for (word, text) in WORDS {
-        is_written(rt.alloc(), *word, text)?;
+        is_written(rt.alloc(), word, text)?;
     }
     Ok(())
 }
 
-const NUMBERS: &[(&[u8], Result<Number, Fault>)] = &[
+const NUMBERS: [(&[u8], Result<Number, Fault>); 4] = [
     (b"18446744073709551615", Ok(Number::Is(u64::MAX))),
     (b"18446744073709551616", Ok(Number::Large)),
     (b"007", Err(Fault::Form)),
@@ -101,7 +101,7 @@ fn ends_read(most: usize) -> Option<usize>
 #[test]
 fn names_are_read() -> Result<(), Fail> {
     for (word, number) in NUMBERS {
-        holds(read_number(word) == *number, "a number")?;
+        holds(read_number(word) == number, "a number")?;
     }
     holds(read_process(b"p64") == Ok(Number::Is(64)), "a process")?;
     holds(is_below_read(), "a number below 64")?;
@@ -111,7 +111,7 @@ fn names_are_read() -> Result<(), Fail> {
 }
 
 /// Words, and the bytes that they spell.
-const SPELLED: &[(&[u8], &[u8])] = &[
+const SPELLED: [(&[u8], &[u8]); 3] = [
     (b"-", b""),
     (b"%2D%20a%00%FF%0A", &[45, 32, 97, 0, 255, 10]),
     (&[b'z'; 256], &[b'z'; 256]),
@@ -151,7 +151,7 @@ fn lines_are_cut() -> Result<(), Fail> {
     )
 }
 
-const CALLS: &[&str] = &[
+const CALLS: [&str; 10] = [
     "make",
     "destroy 0.1b",
     "send 0.0a -",
@@ -174,7 +174,7 @@ fn is_call(alloc: Global, line: &str) -> Result<(), Fail> {
 }
 
 /// Lines that are no calls of version 1.
-const NO_CALLS: &[Option<&[u8]>] = &[None, Some(b"send 0.0a x +0.1a +0.2a"), Some(b"exit 0")];
+const NO_CALLS: [Option<&[u8]>; 3] = [None, Some(b"send 0.0a x +0.1a +0.2a"), Some(b"exit 0")];
 
 #[test]
 fn calls_have_their_texts(rt: HostRuntime) -> Result<(), Fail> {
@@ -183,7 +183,7 @@ fn calls_have_their_texts(rt: HostRuntime) -> Result<(), Fail> {
     }
     for line in NO_CALLS {
         holds(
-            read_call(*line, 1).err() == Some(Fault::Form),
+            read_call(line, 1).err() == Some(Fault::Form),
             "a malformed call",
         )?;
     }

@@ -17,7 +17,7 @@ open
 ";
 
 /// The lines as they are printed for debugging: each field has its own number. A picture that a line has bears the stamp 0.
-const LINES: &[&str] = &[
+const LINES: [&str; 9] = [
     "1 First { version: 2 }",
     "2 Kernels(3)",
     "3 Process { p: Pid(0), kernel: 2 }",
@@ -38,18 +38,14 @@ fn shows(alloc: Global, line: &Line, want: &str) -> Result<(), Fail> {
     holds(text.as_str() == want, want)
 }
 
-fn each_shows(alloc: Global, lines: &[Line]) -> Result<(), Fail> {
-    holds(lines.len() == LINES.len(), "how many lines there are")?;
-    for (line, want) in lines.iter().zip(LINES) {
-        shows(alloc, line, want)?;
-    }
-    Ok(())
-}
-
 #[test]
 fn lines_show_their_values(rt: HostRuntime) -> Result<(), Fail> {
     let lines = read_transcript(rt.alloc(), TRANSCRIPT)?;
-    each_shows(rt.alloc(), &lines)
+    holds(lines.len() == LINES.len(), "how many lines there are")?;
+    for (line, want) in lines.iter().zip(&LINES) {
+        shows(rt.alloc(), line, want)?;
+    }
+    Ok(())
 }
 
 /// A reader gives the same fault or end again.
