@@ -8,7 +8,6 @@ use charlotte_calls::Pid;
 use charlotte_packets::Moving;
 use end_table::{Entry, HereView, Holder, Inward, Lent, NotStored, Outward, Table};
 use std::alloc::{AllocError, Global};
-use std::test::Fail;
 
 /// A call of the table on the end.
 #[derive(Clone, Copy)]
@@ -32,96 +31,101 @@ pub(crate) enum Act {
     Change(u32),
 }
 
-/// Makes a call. Whether it answers true, where it answers that.
-pub(crate) fn perform(table: &mut Table, act: Act) -> Result<bool, Fail> {
-    match act {
-        Act::Reserve => table.reserve(END)?,
-        Act::Install(p) => settle(table, end_a(END.link), p)?,
-        Act::Travel(to, p) => travel(table, to, p)?,
-        Act::Leave(to) => leave(table, to)?,
-        Act::Retire(hops) => return Ok(table.retire(END, hops)),
-        Act::HintMark(kernel, hops) => hint_mark(table, (kernel, hops))?,
-        Act::Erase => erase(table)?,
-        Act::Release => table.release(END),
+/// Makes a call. Whether it answers true, where it answers that; none where it cannot be made.
+pub(crate) fn perform(table: &mut Table, act: Act) -> Option<bool> {
+    let is_made = match act {
+        Act::Reserve => table.reserve(END).is_ok(),
+        Act::Install(p) => settle(table, end_a(END.link), p),
+        Act::Travel(to, p) => travel(table, to, p),
+        Act::Leave(to) => leave(table, to),
+        Act::Retire(hops) => return Some(table.retire(END, hops)),
+        Act::HintMark(kernel, hops) => hint_mark(table, (kernel, hops)),
+        Act::Erase => erase(table),
+        Act::Release => {
+            table.release(END);
+            true
+        }
         _ => return perform_here(table, act),
-    }
-    Ok(true)
+    };
+    if is_made { Some(true) } else { None }
 }
 
-/// Installs a value of an end that is not here.
-pub(crate) fn settle(table: &mut Table, moving: Moving, p: Pid) -> Result<(), Fail> {
+/// Installs a value of an end that is not here. Whether it could.
+pub(crate) fn settle(table: &mut Table, moving: Moving, p: Pid) -> bool {
     if let Lent::Here(_) = table.lend(moving.end()) {
         moving.destroy();
-        return Err("the end is here".into());
+        return false;
     }
     match table.install(moving, Holder::Owner(p)) {
-        Ok(()) => Ok(()),
+        Ok(()) => true,
         Err(NotStored { moving }) => {
             moving.destroy();
-            Err("no memory".into())
+            false
         }
     }
 }
 
-fn travel(table: &mut Table, to: u8, p: Pid) -> Result<(), Fail> {
+fn travel(table: &mut Table, to: u8, p: Pid) -> bool {
     if !is_idle(table) {
-        return Err("the end is not idle".into());
+        return false;
     }
     let moving = table.take_out(END, to);
     settle(table, moving, p)
 }
 
-fn leave(table: &mut Table, to: u8) -> Result<(), Fail> {
+fn leave(table: &mut Table, to: u8) -> bool {
     if !is_idle(table) {
-        return Err("the end is not idle".into());
+        return false;
     }
     table.take_out(END, to).destroy();
-    Ok(())
+    true
 }
 
-fn hint_mark(table: &mut Table, hint: (u8, u32)) -> Result<(), Fail> {
+fn hint_mark(table: &mut Table, hint: (u8, u32)) -> bool {
     if !is_destroyed(table) {
-        return Err("the end is not destroyed".into());
+        return false;
     }
     table.hint_mark(END, hint);
-    Ok(())
+    true
 }
 
-fn erase(table: &mut Table) -> Result<(), Fail> {
+fn erase(table: &mut Table) -> bool {
     if !is_destroyed(table) {
-        return Err("the end is not destroyed".into());
+        return false;
     }
     table.erase(END);
-    Ok(())
+    true
 }
 
 /// A call on an end that is here.
-fn perform_here(table: &mut Table, act: Act) -> Result<bool, Fail> {
+fn perform_here(table: &mut Table, act: Act) -> Option<bool> {
     if !is_here(table) {
-        return Err("the end is not here".into());
+        return None;
     }
     let mut value = table.here(END).value();
     match act {
-        Act::End => Ok(table.end_here(END).dead()),
-        Act::Hint(kernel, hops) => Ok(table.hint(END, kernel, hops)),
+        Act::End => Some(table.end_here(END).dead()),
+        Act::Hint(kernel, hops) => Some(table.hint(END, kernel, hops)),
         Act::SetInward(w) => {
             value.asked = w;
             table.set_inward(END, value, Inward::Posted { w });
-            Ok(true)
+            Some(true)
         }
         Act::SetDead => {
             value.dead = true;
             table.set_inward(END, value, Inward::Unreported);
-            Ok(true)
+            Some(true)
         }
         Act::Wait(n) => {
-            let (bytes, enclosed) = message(n)?;
+            let Some((bytes, enclosed)) = message(n) else {
+                return None;
+            };
             table.wait(END, value, n, bytes, enclosed);
-            Ok(true)
+            Some(true)
         }
         Act::SetHolder(p) => {
             table.set_holder(END, Holder::Owner(p));
-            Ok(true)
+            Some(true)
         }
         Act::Change(n) => {
             let holder = Holder::Owner(OWNER);
@@ -135,9 +139,9 @@ fn perform_here(table: &mut Table, act: Act) -> Result<bool, Fail> {
                     inward,
                 },
             );
-            Ok(true)
+            Some(true)
         }
-        _ => Err("no such call".into()),
+        _ => None,
     }
 }
 

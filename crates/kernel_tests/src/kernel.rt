@@ -3,8 +3,10 @@
 
 use crate::node::Node;
 use crate::samples::holds;
-use charlotte_calls::{Bytes, Call, EndId, Ends, LinkId, Pid, Side, Way};
+use charlotte_calls::{Bytes, Call, EndId, LinkId, Pid, Side, Way};
 use charlotte_packets::{Packet, What};
+use kernel_step::no_ends;
+use std::alloc::Global;
 use std::test::Fail;
 
 const P0: Pid = Pid(0);
@@ -113,74 +115,87 @@ const CANCELS: &[Row] = &[
     (Act::Exit, P0, "32 er p0 Ok .Exit"),
 ];
 
-fn hello() -> Result<Bytes, Fail> {
-    Ok(Bytes::from_slice(b"hello").ok_or("bytes")?)
+fn send() -> Option<Call> {
+    match Bytes::from_slice(b"hello") {
+        Some(bytes) => Some(Call::Send {
+            on: A,
+            bytes,
+            enclose: no_ends(),
+        }),
+        None => None,
+    }
 }
 
-fn send() -> Result<Call, Fail> {
-    Ok(Call::Send {
-        on: A,
-        bytes: hello()?,
-        enclose: Ends::from_slice(&[]).ok_or("ends")?,
-    })
+fn print() -> Option<Call> {
+    match Bytes::from_slice(b"hello") {
+        Some(bytes) => Some(Call::Print { bytes }),
+        None => None,
+    }
 }
 
 /// The call of an act that is one.
-fn call_of(act: Act) -> Result<Call, Fail> {
+fn call_of(act: Act) -> Option<Call> {
     match act {
-        Act::Make => Ok(Call::Make),
-        Act::Destroy(on) => Ok(Call::Destroy { on }),
+        Act::Make => Some(Call::Make),
+        Act::Destroy(on) => Some(Call::Destroy { on }),
         Act::Send => send(),
-        Act::Receive => Ok(Call::Receive { on: B }),
-        Act::Cancel(on, way) => Ok(Call::Cancel { on, way }),
-        Act::Wait => Ok(Call::Wait),
-        Act::Print => Ok(Call::Print { bytes: hello()? }),
-        Act::Exit => Ok(Call::Exit),
-        Act::Take | Act::Stray(..) | Act::Look(_) => Err("no call".into()),
+        Act::Receive => Some(Call::Receive { on: B }),
+        Act::Cancel(on, way) => Some(Call::Cancel { on, way }),
+        Act::Wait => Some(Call::Wait),
+        Act::Print => print(),
+        Act::Exit => Some(Call::Exit),
+        Act::Take | Act::Stray(..) | Act::Look(_) => None,
     }
 }
 
-fn happens(node: &mut Node, act: Act, p: Pid) -> Result<String, Fail> {
+/// Lets an act happen, and adds what is told of it. Whether it could.
+fn happens(node: &mut Node, text: &mut String, act: Act, p: Pid) -> bool {
     match act {
-        Act::Take => node.take(),
+        Act::Take => node.take(text),
         Act::Stray(stamp, to, at) => {
             let (w, hops) = (3, 0);
             let what = What::Want { to, w, at, hops };
-            node.take_this(Packet { stamp, what })
+            node.take_this(text, Packet { stamp, what })
         }
-        Act::Look(end) => node.tell_asked(end),
-        _ => node.call(p, call_of(act)?),
+        Act::Look(end) => node.tell_asked(text, end),
+        _ => match call_of(act) {
+            Some(call) => node.call(text, p, call),
+            None => false,
+        },
     }
 }
 
-fn gives(node: &mut Node, (act, p, want): Row) -> Result<(), Fail> {
-    let text = happens(node, act, p)?;
-    holds(text.as_str() == want, want)
+fn gives(alloc: Global, node: &mut Node, (act, p, want): Row) -> bool {
+    let mut text = String::new(alloc);
+    happens(node, &mut text, act, p) && text.as_str() == want
 }
 
-fn each_gives(node: &mut Node, rows: &[Row]) -> Result<(), Fail> {
+fn each_gives(alloc: Global, node: &mut Node, rows: &[Row]) -> Result<(), Fail> {
     for row in rows {
-        gives(node, *row)?;
+        holds(gives(alloc, node, *row), row.2)?;
     }
     Ok(())
 }
 
-/// The rows of all these, one after the other.
-fn all_give(node: &mut Node, all: &[&[Row]]) -> Result<(), Fail> {
-    for rows in all {
-        each_gives(node, rows)?;
-    }
-    Ok(())
+/// A message, these rows, and then those.
+fn both_give(alloc: Global, node: &mut Node, second: &[Row], third: &[Row]) -> Result<(), Fail> {
+    each_gives(alloc, node, A_MESSAGE)?;
+    each_gives(alloc, node, second)?;
+    each_gives(alloc, node, third)
+}
+
+/// A new node gives a message, these rows, and then those.
+fn node_gives(alloc: Global, second: &[Row], third: &[Row]) -> Result<(), Fail> {
+    let mut node = Node::start(alloc)?;
+    both_give(alloc, &mut node, second, third)
 }
 
 #[test]
 fn strays_are_dropped(rt: HostRuntime) -> Result<(), Fail> {
-    let mut node = Node::start(rt.alloc())?;
-    all_give(&mut node, &[A_MESSAGE, STRAYS, ENDS])
+    node_gives(rt.alloc(), STRAYS, ENDS)
 }
 
 #[test]
 fn calls_are_answered(rt: HostRuntime) -> Result<(), Fail> {
-    let mut node = Node::start(rt.alloc())?;
-    all_give(&mut node, &[A_MESSAGE, ANSWERS, CANCELS])
+    node_gives(rt.alloc(), ANSWERS, CANCELS)
 }

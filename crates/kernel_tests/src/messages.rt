@@ -6,7 +6,7 @@ ghost use Rattle.kernel_step.specs.Progress.{HasRoom};
 
 use crate::samples::{Begin, END, Send, ample, holds, kept};
 use crate::states::{is_posted, is_ready};
-use crate::telling::told;
+use crate::telling::is_told;
 use cancel_core::{
     arrived, finished, notice, post, room, start_send, unwant, unwanted, want, withdraw_receive,
     withdraw_send,
@@ -98,8 +98,8 @@ const ROWS: &[Row] = &[
     ),
 ];
 
-/// Makes a call that is for any end.
-fn perform(table: &mut Table, act: Act, out: &mut Work) -> Result<(), Fail>
+/// Makes a call that is for any end. Whether the end is ready for it.
+fn perform(table: &mut Table, act: Act, out: &mut Work) -> bool
     requires { HasRoom AMPLE out.old }
 {
     match act {
@@ -109,9 +109,9 @@ fn perform(table: &mut Table, act: Act, out: &mut Work) -> Result<(), Fail>
         Act::Unwant => unwant(table, END, 1, 3, 0, out),
         Act::WithdrawReceive if is_posted(table) => withdraw_receive(table, END, out),
         _ if is_ready(table) => perform_ready(table, act, out),
-        _ => return Err("the end is not ready".into()),
+        _ => return false,
     }
-    Ok(())
+    true
 }
 
 /// Makes a call for an end that is here.
@@ -129,34 +129,33 @@ fn perform_ready(table: &mut Table, act: Act, out: &mut Work)
     }
 }
 
-/// Makes a call. What is told of the end and of what the call adds.
-fn performed(alloc: Global, table: &mut Table, act: Act) -> Result<String, Fail> {
-    let mut out = ample(alloc)?;
-    perform(table, act, &mut out)?;
-    Ok(told(alloc, table, END, &out)?)
+/// Makes a call. Whether this is told of the end and of what the call adds.
+fn performed(alloc: Global, table: &mut Table, act: Act, want: &str) -> bool {
+    let Ok(mut out) = ample(alloc) else {
+        return false;
+    };
+    perform(table, act, &mut out) && is_told(alloc, table, END, &out, want)
 }
 
-fn gives(alloc: Global, (begin, act, want): Row) -> Result<(), Fail> {
-    let mut table = kept(alloc, begin)?;
-    let text = performed(alloc, &mut table, act)?;
-    holds(text.as_str() == want, want)
-}
-
-fn each_gives(alloc: Global, rows: &[Row]) -> Result<(), Fail> {
-    for row in rows {
-        gives(alloc, *row)?;
-    }
-    Ok(())
+fn gives(alloc: Global, (begin, act, want): Row) -> bool {
+    let Ok(mut table) = kept(alloc, begin) else {
+        return false;
+    };
+    performed(alloc, &mut table, act, want)
 }
 
 /// The room of an action on an end without a message.
-fn room_is_ample(alloc: Global) -> Result<(), Fail> {
-    let table = kept(alloc, (0, Send::Idle, Inward::Idle))?;
-    holds(room(&table, END).packets == 10, "the room of an action")
+fn room_is_ample(alloc: Global) -> bool {
+    let Ok(table) = kept(alloc, (0, Send::Idle, Inward::Idle)) else {
+        return false;
+    };
+    room(&table, END).packets == 10
 }
 
 #[test]
 fn each_call_of_cancel_core(rt: HostRuntime) -> Result<(), Fail> {
-    each_gives(rt.alloc(), ROWS)?;
-    room_is_ample(rt.alloc())
+    for row in ROWS {
+        holds(gives(rt.alloc(), *row), row.2)?;
+    }
+    holds(room_is_ample(rt.alloc()), "the room of an action")
 }

@@ -54,46 +54,50 @@ impl Node {
         })
     }
 
-    /// A process asks. What is told of this event.
-    pub(crate) fn call(&mut self, p: Pid, call: Call) -> Result<String, Fail> {
+    /// A process asks. What is told of this event is added. Whether it could ask.
+    pub(crate) fn call(&mut self, text: &mut String, p: Pid, call: Call) -> bool {
         if p.0 >= 2 {
-            return Err("no such process".into());
+            return false;
         }
         self.kernel.forget_answer(p);
         if !self.kernel.running(p) {
-            return Err("the process does not run".into());
+            return false;
         }
-        let effect = self.kernel.call(p, call)?;
-        self.tell(effect)
+        match self.kernel.call(p, call) {
+            Ok(effect) => self.tell(text, effect),
+            Err(_) => false,
+        }
     }
 
     /// The kernel takes its oldest packet.
-    pub(crate) fn take(&mut self) -> Result<String, Fail> {
-        let packet = self.flying.pop_front().ok_or("no packet flies")?;
-        self.take_this(packet)
+    pub(crate) fn take(&mut self, text: &mut String) -> bool {
+        match self.flying.pop_front() {
+            Some(packet) => self.take_this(text, packet),
+            None => false,
+        }
     }
 
     /// The kernel takes a packet that no kernel sent.
-    pub(crate) fn take_this(&mut self, packet: Packet) -> Result<String, Fail> {
+    pub(crate) fn take_this(&mut self, text: &mut String, packet: Packet) -> bool {
         match self.kernel.take(0, packet) {
-            Ok(effect) => self.tell(effect),
-            Err(NotTaken { packet: _ }) => Err("no memory".into()),
+            Ok(effect) => self.tell(text, effect),
+            Err(NotTaken { packet: _ }) => false,
         }
     }
 
-    /// What is told of an event: its stamp, which phase each process is in, the answers, the packets, and the steps.
-    fn tell(&mut self, effect: Effect) -> Result<String, Fail> {
-        let same = self.kernel.stamp() == effect.stamp;
+    /// Adds what is told of an event: its stamp, which phase each process is in, the answers, the packets, and the steps.
+    fn tell(&mut self, text: &mut String, effect: Effect) -> bool {
+        let is_told = self.push_event(text, effect.stamp);
+        let are_answers = self.push_answers(text, effect.answered.as_slice());
+        let are_sent = self.send(text, effect.packets, effect.stamp);
+        let are_steps = push_steps(self.alloc, text, effect.steps.as_slice()).is_ok();
+        is_told && are_answers && are_sent && are_steps
+    }
+
+    /// The stamp of an event, which is the kernel's, and which phase each process is in.
+    fn push_event(&self, text: &mut String, stamp: u64) -> bool {
         let (first, second) = (self.phase(Pid(0)), self.phase(Pid(1)));
-        let mut text = format!(in self.alloc; "{} {first}{second}", effect.stamp)?;
-        self.push_answers(&mut text, effect.answered.as_slice())?;
-        self.send(&mut text, effect.packets, effect.stamp)?;
-        push_steps(self.alloc, &mut text, effect.steps.as_slice())?;
-        if same {
-            Ok(text)
-        } else {
-            Err("a kernel with another stamp".into())
-        }
+        self.kernel.stamp() == stamp && write!(text, "{stamp} {first}{second}").is_ok()
     }
 
     /// Runs, waits, or has ended.
@@ -111,51 +115,49 @@ impl Node {
     }
 
     /// Takes the standing answers of these processes, and adds them.
-    fn push_answers(&mut self, text: &mut String, answered: &[Pid]) -> Result<(), Fail> {
+    fn push_answers(&mut self, text: &mut String, answered: &[Pid]) -> bool {
         for p in answered {
-            if p.0 < 2 {
-                self.push_taken(text, *p)?;
+            if p.0 < 2 && !self.push_taken(text, *p) {
+                return false;
             }
         }
-        Ok(())
+        true
     }
 
-    /// Takes the standing answer of a process, which is the one that is lent before, and adds it. None is lent after.
-    fn push_taken(&mut self, text: &mut String, p: Pid) -> Result<(), Fail>
+    /// Takes the standing answer of a process, and adds it. Whether it is the one that is lent before, and none is lent after.
+    fn push_taken(&mut self, text: &mut String, p: Pid) -> bool
         requires { p.0 < 2 }
     {
-        let lent = shown(self.alloc, self.kernel.standing_answer(p))?;
+        let Ok(lent) = shown(self.alloc, self.kernel.standing_answer(p)) else {
+            return false;
+        };
         let answer = self.kernel.answer(p);
-        let taken = shown(self.alloc, answer.as_ref())?;
-        if lent.as_str() != taken.as_str() || self.kernel.standing_answer(p).is_some() {
-            return Err("another answer is lent than taken".into());
-        }
-        push_answer(text, p.0, answer)?;
-        Ok(())
+        let Ok(taken) = shown(self.alloc, answer.as_ref()) else {
+            return false;
+        };
+        lent.as_str() == taken.as_str()
+            && self.kernel.standing_answer(p).is_none()
+            && push_answer(text, p.0, answer).is_ok()
     }
 
-    /// The packets of an event fly, and their kinds are added.
-    fn send(
-        &mut self,
-        text: &mut String,
-        packets: Vec<(u8, Packet)>,
-        stamp: u64,
-    ) -> Result<(), Fail> {
+    /// The packets of an event fly, and their kinds are added. Whether they have its stamp, and are for this kernel.
+    fn send(&mut self, text: &mut String, packets: Vec<(u8, Packet)>, stamp: u64) -> bool {
         for (to, packet) in packets {
-            if packet.stamp != stamp || to != 0 {
-                return Err("a packet with another stamp, or to another kernel".into());
+            let is_own = packet.stamp == stamp && to == 0;
+            let is_told = push_kind(self.alloc, text, " >", &packet.picture().what).is_ok();
+            let is_kept = self.flying.push_back(packet).is_ok();
+            if !(is_own && is_told && is_kept) {
+                return false;
             }
-            push_kind(self.alloc, text, " >", &packet.picture().what)?;
-            self.flying.push_back(packet)?;
         }
-        Ok(())
+        true
     }
 
-    /// Which receive asks an end, where that is here.
-    pub(crate) fn tell_asked(&self, end: EndId) -> Result<String, Fail> {
+    /// Which receive asks an end, where that is here, is added.
+    pub(crate) fn tell_asked(&self, text: &mut String, end: EndId) -> bool {
         match self.kernel.table().lend(end) {
-            Lent::Here(living) => Ok(format!(in self.alloc; "asked {}", living.value().want)?),
-            _ => Ok(String::from_str(self.alloc, "not here")?),
+            Lent::Here(living) => write!(text, "asked {}", living.value().want).is_ok(),
+            _ => text.push_str("not here").is_ok(),
         }
     }
 }

@@ -63,10 +63,11 @@ pub(crate) fn end_b(maker: u8, count: u32) -> Moving {
 }
 
 /// A message that tells a number.
-pub(crate) fn message(n: u32) -> Result<(Bytes, Ends), Fail> {
-    let bytes = Bytes::from_slice(&n.to_le_bytes()).ok_or("bytes")?;
-    let ends = Ends::from_slice(&[]).ok_or("ends")?;
-    Ok((bytes, ends))
+pub(crate) fn message(n: u32) -> Option<(Bytes, Ends)> {
+    match Bytes::from_slice(&n.to_le_bytes()) {
+        Some(bytes) => Some((bytes, no_ends())),
+        None => None,
+    }
 }
 
 /// How the end begins: the receive of its opposite that asks it, or 0; its send; and its receive.

@@ -106,18 +106,22 @@ const IS_SET: &[Row] = &[
     ),
 ];
 
-/// Makes the call of a row, which is answered so, and what is told behind it is this.
-fn gives(alloc: Global, table: &mut Table, (act, answer, want): Row) -> Result<(), Fail> {
-    let answered = perform(table, act)?;
-    let text = told(alloc, table)?;
-    holds(answered == answer && text.as_str() == want, want)
+/// Makes the call of a row. Whether it is answered so, and what is told behind it is this.
+fn gives(alloc: Global, table: &mut Table, (act, answer, want): Row) -> bool {
+    let Some(answered) = perform(table, act) else {
+        return false;
+    };
+    let Ok(text) = told(alloc, table) else {
+        return false;
+    };
+    answered == answer && text.as_str() == want
 }
 
 /// Makes the calls of these rows in order.
 fn performed(alloc: Global, rows: &[Row]) -> Result<(), Fail> {
     let mut table = Table::start(alloc, 1);
     for row in rows {
-        gives(alloc, &mut table, *row)?;
+        holds(gives(alloc, &mut table, *row), row.2)?;
     }
     Ok(())
 }
@@ -141,9 +145,9 @@ fn is_owned(table: &Table) -> bool {
 #[test]
 fn an_end_is_its_owners(rt: HostRuntime) -> Result<(), Fail> {
     let mut table = Table::start(rt.alloc(), 1);
-    settle(&mut table, end_a(END.link), OWNER)?;
+    let is_settled = settle(&mut table, end_a(END.link), OWNER);
     holds(
-        table.kernel() == 1 && is_owned(&table),
+        is_settled && table.kernel() == 1 && is_owned(&table),
         "an end that is owned",
     )
 }
@@ -158,19 +162,30 @@ const IN_ORDER: &str = "[\
 /// Ends b of links, and who owns them.
 const SETTLED: &[(u8, u32, Pid)] = &[(2, 7, OWNER), (2, 3, Pid(5)), (1, 9, OWNER), (2, 1, OWNER)];
 
-/// The ends of process 1 are printed so.
-fn owns(alloc: Global, table: &Table, want: &str) -> Result<(), Fail> {
-    let ends = table.owned_by(OWNER)?;
-    let text = format!(in alloc; "{:?}", ends.as_slice())?;
-    holds(text.as_str() == want, want)
+/// Settles these ends, and end a of a link. Whether each could be.
+fn settle_each(table: &mut Table) -> bool {
+    for (maker, count, p) in SETTLED {
+        if !settle(table, end_b(*maker, *count), *p) {
+            return false;
+        }
+    }
+    settle(table, end_a(LinkId { maker: 2, count: 7 }), OWNER)
+}
+
+/// Whether the ends of process 1 are printed so.
+fn owns(alloc: Global, table: &Table, want: &str) -> bool {
+    let Ok(ends) = table.owned_by(OWNER) else {
+        return false;
+    };
+    let Ok(text) = format!(in alloc; "{:?}", ends.as_slice()) else {
+        return false;
+    };
+    text.as_str() == want
 }
 
 #[test]
 fn the_ends_of_a_process_are_in_order(rt: HostRuntime) -> Result<(), Fail> {
     let mut table = Table::start(rt.alloc(), 1);
-    for (maker, count, p) in SETTLED {
-        settle(&mut table, end_b(*maker, *count), *p)?;
-    }
-    settle(&mut table, end_a(LinkId { maker: 2, count: 7 }), OWNER)?;
-    owns(rt.alloc(), &table, IN_ORDER)
+    let are_settled = settle_each(&mut table);
+    holds(are_settled && owns(rt.alloc(), &table, IN_ORDER), IN_ORDER)
 }

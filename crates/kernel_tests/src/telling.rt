@@ -7,7 +7,7 @@ use std::alloc::{AllocError, Global};
 use std::fmt::Write;
 
 /// What the table tells of an end: of one that is here its holder and its activities.
-pub(crate) fn push_end(text: &mut String, table: &Table, end: EndId) -> Result<(), AllocError> {
+fn push_end(text: &mut String, table: &Table, end: EndId) -> Result<(), AllocError> {
     match table.lend(end) {
         Lent::Nothing => text.push_str("nothing"),
         Lent::Left { to, hops } => write!(text, "left to {to}, hops {hops}"),
@@ -21,7 +21,7 @@ pub(crate) fn push_end(text: &mut String, table: &Table, end: EndId) -> Result<(
 }
 
 /// The packets and the answers that were added, and how many reports and steps.
-pub(crate) fn push_work(text: &mut String, out: &Work) -> Result<(), AllocError> {
+fn push_work(text: &mut String, out: &Work) -> Result<(), AllocError> {
     for (to, packet) in &out.packets {
         push_packet(text, *to, packet, out.stamp)?;
     }
@@ -47,15 +47,10 @@ fn push_answer(text: &mut String, p: Pid, answer: &Answer) -> Result<(), AllocEr
     write!(text, "; {p:?} {answer:?}")
 }
 
-/// The text of both.
-pub(crate) fn told(
-    alloc: Global,
-    table: &Table,
-    end: EndId,
-    out: &Work,
-) -> Result<String, AllocError> {
+/// Whether the text of both is this.
+pub(crate) fn is_told(alloc: Global, table: &Table, end: EndId, out: &Work, want: &str) -> bool {
     let mut text = String::new(alloc);
-    push_end(&mut text, table, end)?;
-    push_work(&mut text, out)?;
-    Ok(text)
+    push_end(&mut text, table, end).is_ok()
+        && push_work(&mut text, out).is_ok()
+        && text.as_str() == want
 }

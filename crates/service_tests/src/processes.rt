@@ -2,7 +2,7 @@
 ghost use Rattle.std.specs.Prelude.{◌≡◌, length};
 
 use crate::service::{holds, push_words};
-use charlotte_calls::{EndId, Items, LinkId, Outcome, Pid, Side, Way};
+use charlotte_calls::{EndId, Items, LinkId, NoMemory, Outcome, Pid, Side, Way};
 use service_processes::{KeptReport, Processes};
 use service_step::Phase;
 use std::alloc::{AllocError, Global};
@@ -50,7 +50,7 @@ enum Act {
 /// the end of its oldest report.
 type Row = (Act, &'static str);
 
-const ENDS: [Row; 6] = [
+const ENDS: &[Row] = &[
     (Act::Hold(X), "running, holds 0, last None, report None"),
     (
         Act::Activate(X),
@@ -69,9 +69,10 @@ const ENDS: [Row; 6] = [
         Act::Forget(Y),
         "running, holds 0 2, last Some(0), report None",
     ),
+    (Act::End, "ended, holds 0 2, last Some(0), report None"),
 ];
 
-const REPORTS: [Row; 9] = [
+const REPORTS: &[Row] = &[
     (Act::Cancel(X), "cancelling, holds, last None, report None"),
     (Act::Wake(Y), "cancelling, holds, last None, report None"),
     (Act::Tell(X, X), "running, holds, last None, report Some(0)"),
@@ -116,85 +117,96 @@ impl Two {
         Some(KeptReport::of(end, Way::Outward, Outcome::Done, bytes, enclosed))
     }
 
-    fn perform(&mut self, act: Act) -> Result<(), Fail> {
+    fn perform(&mut self, act: Act) -> Result<(), NoMemory> {
         match act {
-            Act::Hold(e) => self.processes.hold(P, e)?,
-            Act::Activate(e) => self.processes.activate(P, e)?,
-            Act::Learn(e) => self.processes.learn(P, e)?,
-            Act::LearnBoth(first, second) => self.processes.learn_each(P, &[first, second])?,
-            Act::ForgetLastActive => self.processes.forget_last_active(P),
-            Act::Forget(e) => self.processes.forget(P, e),
-            _ => self.perform_on_reports(act)?,
+            Act::Hold(e) => self.processes.hold(P, e),
+            Act::Activate(e) => self.processes.activate(P, e),
+            Act::Learn(e) => self.processes.learn(P, e),
+            Act::LearnBoth(first, second) => self.processes.learn_each(P, &[first, second]),
+            Act::Tell(e, on) => {
+                let report = self.report(on);
+                self.processes.tell(P, e, report, None)
+            }
+            Act::TellReserved(e, on) => self.tell_reserved(e, on),
+            Act::Gain(first, second) => {
+                let reports = (self.report(first), self.report(second));
+                self.processes.gain(P, reports.0, reports.1)
+            }
+            _ => {
+                self.perform_surely(act);
+                Ok(())
+            }
         }
+    }
+
+    fn tell_reserved(&mut self, e: EndId, on: EndId) -> Result<(), NoMemory> {
+        let report = self.report(on);
+        self.processes.reserve(P)?;
+        self.processes.tell_reserved(P, e, report);
         Ok(())
     }
 
-    fn perform_on_reports(&mut self, act: Act) -> Result<(), Fail> {
+    /// A call that takes no memory.
+    fn perform_surely(&mut self, act: Act) {
         match act {
+            Act::ForgetLastActive => self.processes.forget_last_active(P),
+            Act::Forget(e) => self.processes.forget(P, e),
             Act::Cancel(e) => self.processes.turn(P, Phase::Cancelling(e)),
             Act::Wait => self.processes.turn(P, Phase::Waiting),
             Act::Wake(e) => self.processes.wake(P, e),
-            Act::Tell(e, on) => {
-                let report = self.report(on);
-                self.processes.tell(P, e, report, None)?;
-            }
-            Act::TellReserved(e, on) => {
-                let report = self.report(on);
-                self.processes.reserve(P)?;
-                self.processes.tell_reserved(P, e, report);
-            }
-            Act::Gain(first, second) => {
-                let reports = (self.report(first), self.report(second));
-                self.processes.gain(P, reports.0, reports.1)?;
-            }
             Act::Give => self.processes.give(P),
             _ => self.processes.end(P),
         }
-        Ok(())
     }
 
-    fn told(&self) -> Result<String, AllocError> {
+    fn push_told(&self, text: &mut String) -> Result<(), AllocError> {
+        push_words(text, &words(self.processes.phase(P)))?;
+        text.push_str(", holds")?;
+        for e in self.processes.held(P) {
+            write!(text, " {}", e.link.count)?;
+        }
         let last = self.processes.last_active(P).map(|e| e.link.count);
         let oldest = self
             .processes
             .oldest(P)
             .map(|report| report.on().link.count);
-        let mut text = String::new(self.alloc);
-        push_words(&mut text, &words(self.processes.phase(P)))?;
-        text.push_str(", holds")?;
-        for e in self.processes.held(P) {
-            write!(text, " {}", e.link.count)?;
-        }
-        write!(text, ", last {last:?}, report {oldest:?}")?;
-        Ok(text)
+        write!(text, ", last {last:?}, report {oldest:?}")
     }
 
-    fn gives(&mut self, (act, want): Row) -> Result<(), Fail> {
-        self.perform(act)?;
-        let text = self.told()?;
-        holds(text.as_str() == want, want)
+    /// Makes a call. Whether this is told then.
+    fn gives(&mut self, (act, want): Row) -> bool {
+        let mut text = String::new(self.alloc);
+        self.perform(act).is_ok() && self.push_told(&mut text).is_ok() && text.as_str() == want
+    }
+
+    fn each_gives(&mut self, rows: &[Row]) -> Result<(), Fail> {
+        for row in rows {
+            holds(self.gives(*row), row.1)?;
+        }
+        Ok(())
     }
 }
 
 #[test]
 fn a_process_knows_its_ends(rt: HostRuntime) -> Result<(), Fail> {
     let mut two = Two::fresh(rt.alloc())?;
-    for row in ENDS {
-        two.gives(row)?;
-    }
-    two.gives((Act::End, "ended, holds 0 2, last Some(0), report None"))
+    two.each_gives(ENDS)
 }
+
+/// A process that is not there has ended, and this one has a report.
+fn has_report(two: &Two) -> bool {
+    two.processes.phase(Pid(2)) == Phase::Ended && two.processes.has_report(P)
+}
+
+const END: &[Row] = &[(Act::End, "ended, holds, last None, report None")];
 
 #[test]
 fn a_process_has_reports(rt: HostRuntime) -> Result<(), Fail> {
     let mut two = Two::fresh(rt.alloc())?;
-    for row in REPORTS {
-        two.gives(row)?;
-    }
-    let (phase, has) = (two.processes.phase(Pid(2)), two.processes.has_report(P));
+    two.each_gives(REPORTS)?;
     holds(
-        phase == Phase::Ended && has,
+        has_report(&two),
         "a process that is not there, and one with a report",
     )?;
-    two.gives((Act::End, "ended, holds, last None, report None"))
+    two.each_gives(END)
 }

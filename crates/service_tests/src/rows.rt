@@ -305,51 +305,51 @@ const PLACES: &[At] = &[
     ),
 ];
 
-fn is_row(alloc: Global, version: u8, (before, acts, refused): Row) -> Result<(), Fail> {
-    let _service = row(alloc, version, (before, acts), refused)?;
+/// Whether the steps of a row are allowed, or not, so.
+fn is_row(alloc: Global, version: u8, (before, acts, refused): Row) -> bool {
+    row(alloc, version, (before, acts), refused).is_some()
+}
+
+fn are_rows(alloc: Global, version: u8, rows: &[Row]) -> Result<(), Fail> {
+    for row in rows {
+        holds(is_row(alloc, version, *row), "the answers to the steps")?;
+    }
     Ok(())
 }
 
 #[test]
 fn each_call_is_allowed_or_not(rt: HostRuntime) -> Result<(), Fail> {
-    for row in CALLS {
-        is_row(rt.alloc(), 1, *row)?;
-    }
-    Ok(())
+    are_rows(rt.alloc(), 1, CALLS)
 }
 
 #[test]
 fn each_event_is_allowed_or_not(rt: HostRuntime) -> Result<(), Fail> {
-    for row in EVENTS {
-        is_row(rt.alloc(), 1, *row)?;
-    }
-    Ok(())
+    are_rows(rt.alloc(), 1, EVENTS)
 }
 
 #[test]
 fn each_message_of_version_2_is_allowed_or_not(rt: HostRuntime) -> Result<(), Fail> {
-    for row in IN_VERSION_2 {
-        is_row(rt.alloc(), 2, *row)?;
-    }
-    Ok(())
+    are_rows(rt.alloc(), 2, IN_VERSION_2)
 }
 
-const TAKE: Row = (NOTHING, &[Takes(A, 1, Q, false)], Some(11));
+const TAKE: &[Row] = &[(NOTHING, &[Takes(A, 1, Q, false)], Some(11))];
 
 #[test]
 fn a_take_at_the_start_is_not_allowed(rt: HostRuntime) -> Result<(), Fail> {
-    is_row(rt.alloc(), 1, TAKE)
+    are_rows(rt.alloc(), 1, TAKE)
 }
 
-fn is_at(alloc: Global, (before, acts, end, place): At) -> Result<(), Fail> {
-    let service = row(alloc, 1, (before, acts), None)?;
-    holds(service.place(end) == place, "the place of an end")
+fn is_at(alloc: Global, (before, acts, end, place): At) -> bool {
+    match row(alloc, 1, (before, acts), None) {
+        Some(service) => service.place(end) == place,
+        None => false,
+    }
 }
 
 #[test]
 fn each_end_is_at_its_place(rt: HostRuntime) -> Result<(), Fail> {
     for row in PLACES {
-        is_at(rt.alloc(), *row)?;
+        holds(is_at(rt.alloc(), *row), "the place of an end")?;
     }
     Ok(())
 }

@@ -1,5 +1,5 @@
 //! Services that make the steps of a row.
-ghost use Rattle.std.specs.Prelude.{IfOk};
+ghost use Rattle.std.specs.Prelude.{IfSome};
 ghost use Rattle.charlotte_calls.specs.Setting.{IsValid};
 
 use charlotte_calls::{
@@ -124,62 +124,80 @@ pub(crate) fn push_words(
     Ok(())
 }
 
-fn bytes() -> Result<Bytes, Fail> {
-    Ok(Bytes::from_slice(b"x").ok_or("one byte")?)
+/// What a message of a row has: its byte, and its ends.
+fn message(list: &[EndId]) -> Option<(Bytes, Ends)> {
+    let Some(bytes) = Bytes::from_slice(b"x") else {
+        return None;
+    };
+    match Ends::from_slice(list) {
+        Some(ends) => Some((bytes, ends)),
+        None => None,
+    }
 }
 
-fn ends(list: &[EndId]) -> Result<Ends, Fail> {
-    Ok(Ends::from_slice(list).ok_or("at most eight ends")?)
+fn done(list: &[EndId]) -> Option<Report> {
+    match message(list) {
+        Some((bytes, enclosed)) => Some(Report {
+            on: B,
+            way: Way::Inward,
+            outcome: Outcome::Done,
+            bytes,
+            enclosed,
+        }),
+        None => None,
+    }
 }
 
-fn done(enclosed: &[EndId]) -> Result<Report, Fail> {
-    Ok(Report {
-        on: B,
-        way: Way::Inward,
-        outcome: Outcome::Done,
-        bytes: bytes()?,
-        enclosed: ends(enclosed)?,
-    })
+fn send_of(on: EndId, list: &[EndId]) -> Option<Call> {
+    match message(list) {
+        Some((bytes, enclose)) => Some(Call::Send { on, bytes, enclose }),
+        None => None,
+    }
 }
 
-fn call_of(ask: Ask) -> Result<Call, Fail> {
-    Ok(match ask {
-        Ask::Make => Call::Make,
-        Ask::Destroy(on) => Call::Destroy { on },
-        Ask::Send(on, list) => Call::Send {
-            on,
-            bytes: bytes()?,
-            enclose: ends(list)?,
+fn call_of(ask: Ask) -> Option<Call> {
+    match ask {
+        Ask::Make => Some(Call::Make),
+        Ask::Destroy(on) => Some(Call::Destroy { on }),
+        Ask::Send(on, list) => send_of(on, list),
+        Ask::Receive(on) => Some(Call::Receive { on }),
+        Ask::Cancel(on, way) => Some(Call::Cancel { on, way }),
+        Ask::Wait => Some(Call::Wait),
+        Ask::Exit => Some(Call::Exit),
+    }
+}
+
+/// A step that has a call, a message or a report.
+fn long_step_of(act: Act) -> Option<ServiceStep> {
+    match act {
+        Act::Refuses(p, ask, cause) => match call_of(ask) {
+            Some(call) => Some(ServiceStep::Refuse { p, call, cause }),
+            None => None,
         },
-        Ask::Receive(on) => Call::Receive { on },
-        Ask::Cancel(on, way) => Call::Cancel { on, way },
-        Ask::Wait => Call::Wait,
-        Ask::Exit => Call::Exit,
-    })
+        Act::Sends(on, n, list) => match message(list) {
+            Some((bytes, enclose)) => Some(ServiceStep::Send {
+                on,
+                n,
+                bytes,
+                enclose,
+            }),
+            None => None,
+        },
+        Act::Reports(p, list) => match done(list) {
+            Some(report) => Some(ServiceStep::Report { p, report }),
+            None => None,
+        },
+        _ => None,
+    }
 }
 
-fn step_of(act: Act) -> Result<ServiceStep, Fail> {
-    Ok(match act {
+fn step_of(act: Act) -> Option<ServiceStep> {
+    Some(match act {
         Act::Makes(p, a, b) => ServiceStep::Make { p, a, b },
-        Act::Refuses(p, ask, cause) => ServiceStep::Refuse {
-            p,
-            call: call_of(ask)?,
-            cause,
-        },
         Act::Destroys(on) => ServiceStep::Destroy { on },
-        Act::Sends(on, n, list) => ServiceStep::Send {
-            on,
-            n,
-            bytes: bytes()?,
-            enclose: ends(list)?,
-        },
         Act::Receives(on) => ServiceStep::Receive { on },
         Act::Cancels(on, way) => ServiceStep::Cancel { on, way },
         Act::Waits(p) => ServiceStep::Wait { p },
-        Act::Reports(p, list) => ServiceStep::Report {
-            p,
-            report: done(list)?,
-        },
         Act::Exits(p) => ServiceStep::Exit { p },
         Act::Matches(on, n) => ServiceStep::Match { on, n },
         Act::Takes(on, n, p, late) => ServiceStep::Take { on, n, p, late },
@@ -188,61 +206,88 @@ fn step_of(act: Act) -> Result<ServiceStep, Fail> {
         Act::Frees(on) => ServiceStep::Free { on },
         Act::Notices(on, dead) => ServiceStep::Notice { on, dead },
         Act::Returns(on, n, dead) => ServiceStep::Back { on, n, dead },
+        Act::Refuses(..) | Act::Sends(..) | Act::Reports(..) => return long_step_of(act),
     })
 }
 
 /// Two processes on two kernels, and three links from the first to the second.
-fn setting(alloc: Global, version: u8) -> Result<Setting, Fail>
-    ensures { IfOk result (λ s. IsValid s) }
+fn setting(alloc: Global, version: u8) -> Option<Setting>
+    ensures { IfSome result (λ s. IsValid s) }
 {
-    let homes = vec![in alloc; 0, 1]?;
-    let wires = vec![in alloc; (P, Q), (P, Q), (P, Q)]?;
+    let Ok(homes) = vec![in alloc; 0, 1] else {
+        return None;
+    };
+    let Ok(wires) = vec![in alloc; (P, Q), (P, Q), (P, Q)] else {
+        return None;
+    };
     let setting = Setting {
         version,
         kernels: 2,
         homes: Items::of(homes),
         wires: Items::of(wires),
     };
-    if setting.valid() {
-        Ok(setting)
-    } else {
-        Err("the setting is valid".into())
+    if setting.valid() { Some(setting) } else { None }
+}
+
+fn start(alloc: Global, version: u8) -> Option<Service> {
+    let Some(setting) = setting(alloc, version) else {
+        return None;
+    };
+    match Service::start(alloc, &setting) {
+        Ok(service) => Some(service),
+        Err(_) => None,
     }
 }
 
-fn start(alloc: Global, version: u8) -> Result<Service, Fail> {
-    let setting = setting(alloc, version)?;
-    Ok(Service::start(alloc, &setting)?)
-}
-
-/// Makes a step; the answer is the number of one that is not allowed.
-fn step(service: &mut Service, act: Act) -> Result<Option<u8>, Fail> {
-    match service.apply(&step_of(act)?) {
-        Ok(()) => Ok(None),
-        Err(ApplyFault::NotAllowed(number)) => Ok(Some(number)),
-        Err(ApplyFault::NoMemory) => Err(Fail::from("memory is ample")),
+/// Makes a step. The number of one that is not allowed; nothing where it could not be made.
+fn step(service: &mut Service, act: Act) -> Option<Option<u8>> {
+    let Some(step) = step_of(act) else {
+        return None;
+    };
+    match service.apply(&step) {
+        Ok(()) => Some(None),
+        Err(ApplyFault::NotAllowed(number)) => Some(Some(number)),
+        Err(ApplyFault::NoMemory) => None,
     }
 }
 
-/// Makes these steps, one list after the other. Each but the last is allowed; the last is allowed, or not and of this number.
+/// Makes these steps. Whether each is allowed.
+fn are_allowed(service: &mut Service, acts: &[Act]) -> bool {
+    for act in acts {
+        if !matches!(step(service, *act), Some(None)) {
+            return false;
+        }
+    }
+    true
+}
+
+/// Makes these steps. Whether each but the last is allowed, and the last is, or is not and of this number.
+fn end_so(service: &mut Service, acts: &[Act], refused: Option<u8>) -> bool {
+    let mut answer = None;
+    for act in acts {
+        let next = step(service, *act);
+        match (answer, next) {
+            (None, Some(next)) => answer = next,
+            _ => return false,
+        }
+    }
+    answer == refused
+}
+
+/// A new service that makes these steps, one list after the other. Each but the last is allowed; the last is allowed, or not and of this
+/// number.
 pub(crate) fn row(
     alloc: Global,
     version: u8,
     acts: (&[Act], &[Act]),
     refused: Option<u8>,
-) -> Result<Service, Fail> {
-    let mut service = start(alloc, version)?;
-    for act in acts.0 {
-        holds(
-            step(&mut service, *act)? == None,
-            "each step before is allowed",
-        )?;
+) -> Option<Service> {
+    let Some(mut service) = start(alloc, version) else {
+        return None;
+    };
+    if are_allowed(&mut service, acts.0) && end_so(&mut service, acts.1, refused) {
+        Some(service)
+    } else {
+        None
     }
-    let mut answer = None;
-    for act in acts.1 {
-        holds(answer == None, "each step before the last is allowed")?;
-        answer = step(&mut service, *act)?;
-    }
-    holds(answer == refused, "the answer to the last step")?;
-    Ok(service)
 }
