@@ -1,5 +1,5 @@
 -- Threads that are counted and found.
-use Rattle.std.proofs.Common.{arith, ◌≡◌, ℕ, zero, suc, ◌+◌, ◌<◌, ◌≤◌, List, [], ◌∷◌, ◌++◌, length, replicate, take, ℤ, pos, negsuc, IsTrue, nat_abs, Bool, true, false, not, Option, Some, None, is_some, slice_get, refl, sym, ap, subst, ◌∙◌, ⊎_elim, true≢false, length-take-le}
+use Rattle.std.proofs.Common.{arith, ◌≡◌, ℕ, zero, suc, ◌+◌, ◌<◌, ◌≤◌, List, [], ◌∷◌, ◌++◌, length, replicate, take, ℤ, pos, negsuc, IsTrue, nat_abs, Bool, true, false, Option, Some, None, is_some, slice_get, refl, sym, ap, subst, ◌∙◌, ⊎_elim, true≢false, length-take-le}
 use Rattle.std.specs.Prelude.{slice_index_or}
 use Rattle.machine_turns.specs.Threads.{Standing}
 use Rattle.std.proofs.lemmas.Bool.Decides.{nat_tests}
@@ -35,9 +35,9 @@ count_more [] o = omega arith
 count_more (Some s ∷ ts) o = let rest = count_more ts o in omega arith
 count_more (None ∷ ts) o = let rest = count_more ts o in omega arith
 
-some_there : (o : Option Standing) (b : Bool) → is_some o ≡ not b → b ≡ false → (s : Standing) × (o ≡ Some s)
-some_there None b is no_one = absurd (true≢false (sym (is ∙ ap not no_one)))
-some_there (Some s) b is no_one = (s, refl)
+some_there : (o : Option Standing) (b : Bool) → b ≡ is_some o → b ≡ true → (s : Standing) × (o ≡ Some s)
+some_there None b is one = absurd (true≢false (sym one ∙ is))
+some_there (Some s) b is one = (s, refl)
 
 found_at : (ts : List (Option Standing)) (n : ℕ) (o : Option Standing) → n < length ts → o ≡ slice_index_or ts n o → slice_get ts n ≡ Some o
 found_at [] n o less found = absurd (omega arith)
@@ -79,9 +79,9 @@ few ts i n so_far less size =
     omega arith
 
 -- each number has a thread so far
-pub stands_so_far : (ts us : List (Option Standing)) (n i : ℕ) (o : Option Standing) (b : Bool) → ts ≡ us → i ≡ n → o ≡ slice_index_or ts i o → n < length ts → is_some o ≡ not b → b ≡ false →
+pub stands_so_far : (ts us : List (Option Standing)) (n i : ℕ) (o : Option Standing) (b : Bool) → ts ≡ us → i ≡ n → o ≡ slice_index_or ts i o → n < length ts → b ≡ is_some o → b ≡ true →
     ((k : ℕ) → k < n → (s : Standing) × (slice_get us k ≡ Some (Some s))) → (k : ℕ) → k < n + 1 → (s : Standing) × (slice_get us k ≡ Some (Some s))
-stands_so_far ts us n i o b all same found within is no_one so_far k less = ⊎_elim (λ (e : k ≡ n). subst (λ (j : ℕ). (s : Standing) × (slice_get us j ≡ Some (Some s))) (sym e) here) (λ (other : k ≡ n → ⊥). so_far k (below other)) (decided k n)
+stands_so_far ts us n i o b all same found within is one so_far k less = ⊎_elim (λ (e : k ≡ n). subst (λ (j : ℕ). (s : Standing) × (slice_get us j ≡ Some (Some s))) (sym e) here) (λ (other : k ≡ n → ⊥). so_far k (below other)) (decided k n)
   where
     below : (k ≡ n → ⊥) → k < n
     below other = smaller k n other less
@@ -90,7 +90,7 @@ stands_so_far ts us n i o b all same found within is no_one so_far k less = ⊎_
     place = found_at ts n o within (found ∙ ap (λ (j : ℕ). slice_index_or ts j o) same)
 
     here : (s : Standing) × (slice_get us n ≡ Some (Some s))
-    here = let it = some_there o b is no_one in (it.0, subst (λ (vs : List (Option Standing)). slice_get vs n ≡ Some (Some it.0)) all (place ∙ ap Some it.1))
+    here = let it = some_there o b is one in (it.0, subst (λ (vs : List (Option Standing)). slice_get vs n ≡ Some (Some it.0)) all (place ∙ ap Some it.1))
 
 pub full : (ts us : List (Option Standing)) (n : ℕ) → ts ≡ us → length ts ≡ 32 → 32 ≤ n → ((k : ℕ) → k < n → (s : Standing) × (slice_get us k ≡ Some (Some s))) → how_many us ≡ 32
 full ts us n all size past stand =
@@ -103,17 +103,8 @@ at_place [] n o p here = cc
 at_place (t ∷ ts) zero o p here = cc
 at_place (t ∷ ts) (suc n) o p here = at_place ts n o p here
 
-pub thread_there : (ts : List (Option Standing)) (n i : ℕ) (o : Option Standing) (s t : Standing) → i ≡ n → o ≡ slice_index_or ts i o → o ≡ Some t → slice_get ts n ≡ Some (Some s) → t ≡ s
-thread_there ts n i o s t same found is here =
-    let place : slice_index_or ts i o ≡ Some s = ap (λ (k : ℕ). slice_index_or ts k o) same ∙ at_place ts n o (Some s) here in
-    let both : Some t ≡ Some s = sym is ∙ found ∙ place in
-    cc
-
-pub none_there : (ts : List (Option Standing)) (n i : ℕ) (o : Option Standing) (s : Standing) → i ≡ n → o ≡ slice_index_or ts i o → o ≡ None → slice_get ts n ≡ Some (Some s) → ⊥
-none_there ts n i o s same found is here =
-    let place : slice_index_or ts i o ≡ Some s = ap (λ (k : ℕ). slice_index_or ts k o) same ∙ at_place ts n o (Some s) here in
-    let both : None ≡ Some s = sym is ∙ found ∙ place in
-    cc
+pub slot_there : (ts : List (Option Standing)) (n i : ℕ) (o : Option Standing) (s : Standing) → i ≡ n → o ≡ slice_index_or ts i o → slice_get ts n ≡ Some (Some s) → o ≡ Some s
+slot_there ts n i o s same found here = found ∙ ap (λ (k : ℕ). slice_index_or ts k o) same ∙ at_place ts n o (Some s) here
 
 -- ---- lists
 

@@ -3,6 +3,7 @@
 
 mod machine;
 mod outside;
+mod slot;
 mod starts;
 mod stop;
 mod turns;

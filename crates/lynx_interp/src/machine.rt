@@ -6,6 +6,7 @@ ghost use Rattle.machine_turns.specs.Turns.{at_start, most_threads};
 ghost use Rattle.lynx_interp.specs.Machines.{IsMachine, how_many, start_globals, state_of};
 ghost use Rattle.compiler_runnable.specs.Runnable.{HaveStarts, IsRunnable};
 
+use crate::slot::Slot;
 use crate::starts::{push_links, push_starts};
 use lynx_code::Code;
 use lynx_lexer::NoMemory;
@@ -25,7 +26,7 @@ pub struct Machine {
     pub(crate) code: Code,
     pub(crate) globals: Variables,
     /// Each at its number.
-    pub(crate) threads: Vec<Option<Thread>>,
+    pub(crate) threads: Vec<Slot>,
     /// The one that has the turn.
     pub(crate) running: Option<u8>,
     /// Those that wait for a turn, in the order of becoming ready.
@@ -88,8 +89,8 @@ impl Machine {
         ensures { result ≡ how_many self.now.turns.threads }
     {
         let mut standing = 0;
-        for thread in &self.threads {
-            if thread.is_some() {
+        for slot in &self.threads {
+            if slot.stands() {
                 standing += 1;
             }
         }
@@ -98,14 +99,14 @@ impl Machine {
 }
 
 // The thread of the module's body, and no other.
-fn body_alone(alloc: Global) -> Result<Vec<Option<Thread>>, NoMemory>
+fn body_alone(alloc: Global) -> Result<Vec<Slot>, NoMemory>
     ensures { IfOk result (λ threads. threads.items ≡ Some (begun [] 0 []) ∷ replicate (most_threads - 1) None) }
 {
     let mut threads = Vec::with_capacity(alloc, MOST_THREADS)?;
     let body = Thread::new(alloc, None, 0, Variables::new(alloc))?;
-    threads.push(Some(body))?;
+    threads.push(Slot::of(alloc, body)?)?;
     for _ in 0..MOST_THREADS - 1 {
-        threads.push(None)?;
+        threads.push(Slot::free())?;
     }
     Ok(threads)
 }

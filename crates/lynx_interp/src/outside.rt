@@ -11,6 +11,7 @@ ghost use Rattle.lynx_interp.specs.Machines.{GivesRequests, HasEntry, IsEntryFor
 ghost use Rattle.compiler_runnable.specs.Runnable.{start_locals};
 
 use crate::machine::Machine;
+use crate::slot::Slot;
 use crate::starts::entry_variables;
 use lynx_lexer::NoMemory;
 use machine_thread::{Given, Thread};
@@ -69,9 +70,9 @@ impl Machine {
         ensures begun { OnOk result ((p : PartTypes) → slice_get self.old.parts (entry + 1) ≡ Some p → self.new ≡ record self.old { turns = spawned number (opened_by p.op) p.start (start_locals p.locals (values_of values.items)) self.old.turns }) }
         ensures unchanged { OnErr result (self.new ≡ self.old) }
     {
-        let thread = self.new_thread(entry, values)?;
+        let slot = self.new_thread(entry, values)?;
         self.ready.reserve(1)?;
-        self.threads[usize::from(number)] = Some(thread);
+        self.threads[usize::from(number)] = slot;
         self.ready.push_reserved(number);
         Ok(())
     }
@@ -82,7 +83,7 @@ impl Machine {
         ensures first { IfSome result (λ n. StandBelow n self.now.turns) }
     {
         for number in 0..32_u8 {
-            if self.threads[usize::from(number)].is_none() {
+            if !self.threads[usize::from(number)].stands() {
                 return Some(number);
             }
         }
@@ -90,13 +91,14 @@ impl Machine {
     }
 
     // The thread of an entry before its first instruction.
-    fn new_thread(&self, entry: u16, values: Vec<Value>) -> Result<Thread, NoMemory>
+    fn new_thread(&self, entry: u16, values: Vec<Value>) -> Result<Slot, NoMemory>
         requires { HasEntry entry (values_of values.items) self.now }
-        ensures { IfOk result (λ thread. (p : PartTypes) → slice_get self.now.parts (entry + 1) ≡ Some p → thread ≡ begun (opened_by p.op) p.start (start_locals p.locals (values_of values.items))) }
+        ensures { IfOk result (λ slot. (p : PartTypes) → slice_get self.now.parts (entry + 1) ≡ Some p → slot ≡ Some (begun (opened_by p.op) p.start (start_locals p.locals (values_of values.items)))) }
     {
         let part = &self.code.parts[usize::from(entry) + 1];
         let locals = entry_variables(self.alloc, &part.locals, values)?;
-        Thread::new(self.alloc, part.op, part.start, locals)
+        let thread = Thread::new(self.alloc, part.op, part.start, locals)?;
+        Slot::of(self.alloc, thread)
     }
 
     // A thread has an outcome. Tells whether it connected or accepted.
@@ -104,9 +106,6 @@ impl Machine {
         requires { (s : Standing) × (slice_get self.old.turns.threads number ≡ Some (Some s)) }
         ensures { IfOk result (λ ready. (s : Standing) → slice_get self.old.turns.threads number ≡ Some (Some s) → (ready ≡ is_ready_after s.wanted) × (self.new ≡ record self.old { turns = with_thread number (Some (record s { given = s.given ++ outcome_of outcome ∷ []; wanted = None })) self.old.turns })) }
     {
-        match &mut self.threads[usize::from(number)] {
-            Some(thread) => thread.give(outcome),
-            None => unreachable!(),
-        }
+        self.threads[usize::from(number)].give(outcome)
     }
 }

@@ -12,6 +12,7 @@ ghost use Rattle.lynx_interp.specs.Runs.{CanGoOn, IsAsked, IsOfCode, IsRound, Is
 ghost use Rattle.lynx_interp.specs.declared.stop.Stop.TheVariants as stop;
 
 use crate::machine::Machine;
+use crate::slot::Slot;
 use crate::stop::Stop;
 use lynx_lexer::NoMemory;
 use machine_thread::{Action, Move, Wanted};
@@ -85,7 +86,7 @@ impl Machine {
     fn stands(&self) -> bool
         ensures { result ≡ stands self.now.turns }
     {
-        self.threads.iter().any(Option::is_some)
+        self.threads.iter().any(Slot::stands)
     }
 
     // A thread has the turn, or is ready.
@@ -114,10 +115,7 @@ impl Machine {
         requires { CanGoOn number self.old }
         ensures { IfOk result (λ r. IsTurn number fuel self.old self.new r.0 r.1) }
     {
-        match &mut self.threads[usize::from(number)] {
-            Some(thread) => thread.run(&self.code, &mut self.globals, fuel),
-            None => unreachable!(),
-        }
+        self.threads[usize::from(number)].run(&self.code, &mut self.globals, fuel)
     }
 
     // What came of a turn changes those that wait. Answers the action that the thread asks for.
@@ -162,17 +160,14 @@ impl Machine {
         requires { (s : Standing) × (slice_get self.now.turns.threads number ≡ Some (Some s)) }
         ensures { (s : Standing) → slice_get self.now.turns.threads number ≡ Some (Some s) → result ≡ s.again }
     {
-        match &self.threads[usize::from(number)] {
-            Some(thread) => thread.is_trying_again(),
-            None => unreachable!(),
-        }
+        self.threads[usize::from(number)].is_trying_again()
     }
 
     fn ends(&mut self, number: u8) -> Result<(), NoMemory>
         requires { number < length self.old.turns.threads }
         ensures { OnOk result (self.new ≡ record self.old { turns = with_thread number None (wakes self.old.turns) }) }
     {
-        self.threads[usize::from(number)] = None;
+        self.threads[usize::from(number)] = Slot::free();
         self.wakes()
     }
 

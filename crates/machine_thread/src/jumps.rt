@@ -79,7 +79,7 @@ impl Thread {
     fn finds_false(&mut self) -> Result<Move, NoMemory>
         ensures { IfOk result (λ move. (globals : List meaning.Value) → told move globals self.new ≡ Awaits globals (record self.old { given = self.old.given ++ Ok [] ∷ [] })) }
     {
-        self.given.push(Given::Values(Vec::new(self.alloc)))?;
+        self.hears(Given::Values(Vec::new(self.alloc)))?;
         Ok(Move::Awaits)
     }
 

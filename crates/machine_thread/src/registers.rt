@@ -10,7 +10,7 @@ ghost use Rattle.lynx_meaning.specs.Needs.{wanted_by};
 ghost use Rattle.machine_thread.specs.Told.{action_of, outcome_of, told};
 ghost use Rattle.machine_thread.specs.Kept.{opened_of};
 
-use crate::action::{Action, Move};
+use crate::action::{Action, Given, Move};
 use crate::thread::{Opened, Thread};
 use lynx_lexer::{NoMemory, TextLit};
 use machine_stack::Variables;
@@ -62,6 +62,15 @@ impl Thread {
         ensures { self.new ≡ record self.old { given = [] } }
     {
         self.given.clear();
+    }
+
+    /// It is given one outcome more. Few instructions are given a second one, so there is no room for it beforehand.
+    pub(crate) fn hears(&mut self, outcome: Given) -> Result<(), NoMemory>
+        ensures { OnOk result (self.new ≡ record self.old { given = self.old.given ++ outcome_of outcome ∷ [] }) }
+    {
+        self.given.reserve_exact(1)?;
+        self.given.push_reserved(outcome);
+        Ok(())
     }
 
     /// Its instruction begins.

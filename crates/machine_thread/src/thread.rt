@@ -94,7 +94,7 @@ impl Thread {
             Some(Wanted::Results(_) | Wanted::Arguments(_)) => true,
             Some(Wanted::NoValue | Wanted::Closing | Wanted::TwoLinks) | None => false,
         };
-        self.given.push(outcome)?;
+        self.hears(outcome)?;
         self.wanted = None;
         Ok(ready)
     }

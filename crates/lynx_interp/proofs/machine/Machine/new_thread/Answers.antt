@@ -1,5 +1,5 @@
 use Rattle.code_shapes.specs.Shapes.{PartTypes, kept_part, opened_by}
-use Rattle.std.proofs.Common.{◌∙◌, ◌+◌, ◌≤◌, List, ap, arith, length, slice_get, subst, sym}
+use Rattle.std.proofs.Common.{◌∙◌, ◌+◌, ◌≤◌, List, Some, ap, arith, length, slice_get, subst, sym}
 use Rattle.std.proofs.lemmas.List.{length-map}
 use Rattle.std.proofs.lemmas.Result.{IfOk-weaker}
 use Rattle.lynx_meaning.specs.Values.{Value}
@@ -26,12 +26,13 @@ entry_variables-requires c =
 pub returns : goal.returns
 returns c =
     let values = values_of c.args.values.items in
-    IfOk-weaker c.new.result _ _
-    (λ thread made p is.
+    IfOk-weaker c.of.result _ _
+    (λ slot made p is.
     let here = ap (λ (s : State). slice_get s.parts (c.args.entry + 1)) c.self.view_is ∙ is in
     let same = part_there c.self.inside.code.parts.items (c.args.entry + 1) (c.from.result + 1) c.index-part.result.now p (ap (λ n. n + 1) c.from.ensures) c.index-part.ensures here in
     let part = kept_part c.index-part.result.now in
     made
+    ∙ ap Some (c.in_ok-thread.ensures
     ∙ ap (λ (vs : List Value). begun (opened_by part.op) part.start vs) (c.in_ok-locals.ensures ∙ ap (λ (ts : List TypeName). start_locals ts values) c.deref.ensures.value)
-    ∙ ap (λ (q : PartTypes). begun (opened_by q.op) q.start (start_locals q.locals values)) same)
-    c.new.ensures
+    ∙ ap (λ (q : PartTypes). begun (opened_by q.op) q.start (start_locals q.locals values)) same))
+    c.of.ensures

@@ -1,24 +1,24 @@
 use Rattle.std.proofs.Common.{arith, ap, ◌∙◌, length}
 use Rattle.lynx_interp.proofs.Counting.{counted, few, nothing_there, one_there}
 use Rattle.lynx_interp.proofs.machine.Machine.standing.Goals as goal
-use Rattle.lynx_interp.proofs.machine.Machine.standing.Goals.{then-is_some, else-is_some}
+use Rattle.lynx_interp.proofs.machine.Machine.standing.Goals.{then-stands, else-stands}
 
 pub overflow_add-standing : goal.overflow_add-standing
 overflow_add-standing c =
     let small =
-    few c.deref-thread-items.result.now c.loop-thread.thread-index c.loop-thread.standing c.loop-thread.invariant c.loop-thread-test.true (ap length c.deref-thread-items.ensures.value ∙ c.self.invariant) in
+    few c.deref-slot-items.result.now c.loop-slot.slot-index c.loop-slot.standing c.loop-slot.invariant c.loop-slot-test.true (ap length c.deref-slot-items.ensures.value ∙ c.self.invariant) in
     omega (arith, small)
 
-pub loop-thread-preserved : goal.loop-thread-preserved
-loop-thread-preserved c =
-    let items = c.deref-thread-items.result.now in
-    let at = c.loop-thread.thread-index in
-    let o = c.thread-item.result in
-    elim c.if-is_some.branch [
-      | then-is_some w ↦
-          let one = one_there o c.is_some.result c.is_some.ensures w.if-is_some.true in
-          counted items at c.loop-thread.standing c.if-is_some.standing o c.thread-item.is c.loop-thread-test.true c.loop-thread.invariant (omega (arith, one, w.standing-is))
-      | else-is_some w ↦
-          let nothing = nothing_there o c.is_some.result c.is_some.ensures w.if-is_some.false in
-          counted items at c.loop-thread.standing c.if-is_some.standing o c.thread-item.is c.loop-thread-test.true c.loop-thread.invariant (omega (arith, nothing, w.standing-is))
+pub loop-slot-preserved : goal.loop-slot-preserved
+loop-slot-preserved c =
+    let items = c.deref-slot-items.result.now in
+    let at = c.loop-slot.slot-index in
+    let o = c.slot-item.result in
+    elim c.if-stands.branch [
+      | then-stands w ↦
+          let one = one_there o c.stands.result c.stands.ensures w.if-stands.true in
+          counted items at c.loop-slot.standing c.if-stands.standing o c.slot-item.is c.loop-slot-test.true c.loop-slot.invariant (omega (arith, one, w.standing-is))
+      | else-stands w ↦
+          let nothing = nothing_there o c.stands.result c.stands.ensures w.if-stands.false in
+          counted items at c.loop-slot.standing c.if-stands.standing o c.slot-item.is c.loop-slot-test.true c.loop-slot.invariant (omega (arith, nothing, w.standing-is))
     ]
