@@ -83,9 +83,11 @@ IsSpawned n entry values before after =
 abbrev pub KeepOthers : ℕ → State → State → Type 0
 KeepOthers n before now = (k : ℕ) → (k ≡ n → ⊥) → open_of before.instructions k now.turns ≡ open_of before.instructions k before.turns
 
--- an outcome changes those of its thread as what was asked for says: values for an accept open one, and any outcome of a close ends the innermost one
+-- an outcome changes those of its thread as what was asked for says: values for an accept open one, and any outcome of a close ends the
+-- innermost one
 pub record GivesRequests (n : ℕ) (outcome : Outcome) (before now : State) : Type 0 where
-  pub there : (wanted : Wanted) → IsAsking n wanted before.turns → open_of before.instructions n now.turns ≡ opens wanted outcome (open_of before.instructions n before.turns)
+  pub there : (wanted : Wanted) → IsAsking n wanted before.turns
+      → open_of before.instructions n now.turns ≡ opens wanted outcome (open_of before.instructions n before.turns)
   pub others : KeepOthers n before now
 
 -- a new thread has just the request open that it serves

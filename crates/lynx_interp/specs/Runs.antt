@@ -39,8 +39,8 @@ abbrev pub IsAsked : Stop → Turns → Type 0
 IsAsked (stop.Act thread action) t = IsAsking thread (wanted_by (action_of action)) t
 IsAsked _ t = ⊤
 
--- The action for which it stopped is one of the code, where the requests are open that are open in its thread: the operation or entry is there, what it
--- sends has the types of the operation, and a reply or close finds a request open.
+-- The action for which it stopped is one of the code, where the requests are open that are open in its thread: the operation or entry is
+-- there, what it sends has the types of the operation, and a reply or close finds a request open.
 abbrev pub IsOfCode : Stop → State → Type 0
 IsOfCode (stop.Act thread action) now = IsAction now.types (open_of now.instructions thread now.turns) (action_of action)
 IsOfCode _ now = ⊤

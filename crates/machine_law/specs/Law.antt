@@ -12,8 +12,8 @@ use Rattle.machine_law.specs.Fitting.{FitAll}
 use Rattle.machine_law.specs.Lives.{Life}
 use Rattle.machine_law.specs.Histories.{DidByCode, IsHistory, Move, behind, life_of}
 
--- Where a thread is that did this: it stands before an instruction that has not begun; it asked for an action or awaits, and has not gone on;
--- or it ended.
+-- Where a thread is that did this: it stands before an instruction that has not begun; it asked for an action or awaits, and has not gone
+-- on; or it ended.
 abbrev pub IsWhere : Option (Option Standing) → Behaviour → Type 0
 IsWhere (Some (Some s)) (Out actions) = (s.given ≡ []) × (s.wanted ≡ None)
 IsWhere (Some (Some s)) (Waits actions store) = (s.given ≡ []) × (s.wanted ≡ None) → ⊥

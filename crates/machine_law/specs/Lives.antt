@@ -37,8 +37,8 @@ latest [] = []
 latest (a ∷ []) = a ∷ []
 latest (a ∷ b ∷ rest) = latest (b ∷ rest)
 
--- The answer with which an instruction goes on: the last outcome that it was given, with the variables of the module as they stand. One that
--- begins has none.
+-- The answer with which an instruction goes on: the last outcome that it was given, with the variables of the module as they stand. One
+-- that begins has none.
 abbrev pub new_answer : List Value → List Outcome → List Answer
 new_answer globals [] = []
 new_answer globals (o ∷ []) = record { given = o; globals = globals } ∷ []

@@ -332,7 +332,9 @@ module _ (p : Program) (it : Thread) where
   stepped code.Not = with_truth (IsFirst (Some code.Not)) (IsLater (Some code.Not)) (λ L b stack. goes (Truth (not b) ∷ stack) (before it L)) it.stack (λ b rest. jumping (IsFirst (Some code.Not)) (IsLater (Some code.Not)) (it.address + 1) (Truth (not b) ∷ rest) t tt)
   stepped (code.AndJ address) = deciding (IsFirst (Some (code.AndJ address))) (IsLater (Some (code.AndJ address))) t (begun (code.AndJ address) (refl, tt) (refl, tt)) false address
   stepped (code.OrJ address) = deciding (IsFirst (Some (code.OrJ address))) (IsLater (Some (code.OrJ address))) t (begun (code.OrJ address) (refl, tt) (refl, tt)) true address
-  stepped (code.JumpF address) = with_truth (IsFirst (Some (code.JumpF address))) (IsLater (Some (code.JumpF address))) (λ L b stack. if b then goes stack (before it L) else jumps address stack (before it L)) it.stack (λ b rest. choosing (IsFirst (Some (code.JumpF address))) (IsLater (Some (code.JumpF address))) t (begun (code.JumpF address) (refl, tt) (refl, tt)) b (it.address + 1) address rest rest)
+  stepped (code.JumpF address) =
+      with_truth (IsFirst (Some (code.JumpF address))) (IsLater (Some (code.JumpF address))) (λ L b stack. if b then goes stack (before it L) else jumps address stack (before it L)) it.stack
+      (λ b rest. choosing (IsFirst (Some (code.JumpF address))) (IsLater (Some (code.JumpF address))) t (begun (code.JumpF address) (refl, tt) (refl, tt)) b (it.address + 1) address rest rest)
   stepped (code.Jump address) = jumping (IsFirst (Some (code.Jump address))) (IsLater (Some (code.Jump address))) address it.stack t tt
   stepped (code.Await address) =
       with_truth (IsFirst (Some (code.Await address))) (IsLater (Some (code.Await address)))

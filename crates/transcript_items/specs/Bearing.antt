@@ -16,8 +16,8 @@ use Rattle.transcript_items.specs.contracts.bearing.ItemPartialEq.TheImpl as der
 use Rattle.transcript_items.specs.declared.bearing.Item.{Item}
 use Rattle.transcript_items.specs.declared.bearing.Item.TheVariants as item
 
--- what is known before a line: stamp and kernel of the last entry, the step that is due, the kernel of the process that the line names, and each
--- way on which a packet waits, from a kernel to a kernel
+-- what is known before a line: stamp and kernel of the last entry, the step that is due, the kernel of the process that the line names,
+-- and each way on which a packet waits, from a kernel to a kernel
 pub record Known : Type 0 where
   pub latest : Option (ℕ × ℕ)
   pub due : Option ServiceStep
@@ -93,8 +93,8 @@ of_last k Quiet = of_waiting k.waiting
 of_last k Unsettled = of_waiting k.waiting
 of_last k (Spent kernel) = item.Stamp kernel ∷ []
 
--- Where no step is due. A call has the next stamp of its process's kernel, and that process runs; a packet has the stamp behind those of its kernel
--- and of the packet, which is the first on its way; both come behind the last entry.
+-- Where no step is due. A call has the next stamp of its process's kernel, and that process runs; a packet has the stamp behind those of
+-- its kernel and of the packet, which is the first on its way; both come behind the last entry.
 abbrev pub of_line : Known → LineKind → List Item
 of_line k (line.CallEntry stamp kernel p call) = of_latest k.latest ++ of_home k.home ++ item.Process p ∷ []
 of_line k (line.PacketEntry stamp kernel from picture) = of_latest k.latest ++ item.Stamp kernel ∷ item.Way from kernel ∷ []
