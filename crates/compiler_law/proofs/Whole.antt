@@ -1,7 +1,8 @@
 -- Source and code of each module agree.
-use Rattle.std.proofs.Common.{◌≡◌, ℕ, ◌+◌, List, [], ◌∷◌, ◌++◌, length, Contains, refl, sym, ap, ◌∙◌, subst, zero-lt-suc}
+use Rattle.std.proofs.Common.{◌≡◌, ℕ, ◌+◌, List, [], ◌∷◌, ◌++◌, length, Contains, Some, refl, sym, ap, ◌∙◌, subst, zero-lt-suc}
 use Rattle.lynx_tree.specs.Grammar.{AreStmts, HasTokens}
 use Rattle.lynx_tree.specs.Trees.{EntryTree, ModuleTree}
+use Rattle.lynx_tree.specs.declared.declaration.TypeName.{TypeName}
 use Rattle.typing_rules.specs.Modules.{entry_faults, module_faults, names_are_new, op_faults, param_faults, var_faults}
 use Rattle.typing_rules.specs.Names.{arguments_of, body_at, each_at, entries_at, entry_body_at, entry_size, inside, known, local_names, locals_at, module_names, module_scope, op_size, ops_at, params_at, results_of, var_size, vars_at}
 use Rattle.typing_rules.specs.Rules.{Asks, Fault, Outside, entry_has_parameters, entry_is_of_op, local_name_is_new, module_name_is_new}
@@ -48,14 +49,15 @@ main-is-part m tokens clean = record {
   stands = all-stand [] (main_part m).instructions (instructions_of (entry_parts m (length (main_part m).instructions) m.entries));
 }
 
--- as many parameters as arguments
-pub as-many : (m : ModuleTree) (at : ℕ) (e : EntryTree) → entry_has_parameters (at + 1) (module_scope m e.op) (length e.parameters) ≡ [] → entry_is_of_op (at + 3) (module_scope m e.op) ≡ [] → length e.parameters ≡ length (known (arguments_of (module_scope m e.op)))
-as-many m at e number of_op =
-    let found = some-of (arguments_of (module_scope m e.op)) (demand-met _ _ _ of_op) in
-    number-met (length e.parameters) (arguments_of (module_scope m e.op)) found.0 found.1 (demand-met _ _ _ number) ∙ ap (λ o. length (known o)) (sym found.1)
+-- what an entry has in which no rule finds a fault
+pub record IsCleanEntry (m : ModuleTree) (at : ℕ) (e : EntryTree) : Type 0 where
+  pub parameters : length e.parameters ≡ length (known (arguments_of (module_scope m e.op)))
+  pub operation : (arguments : List TypeName) × (arguments_of (module_scope m e.op) ≡ Some arguments)
+  pub vars : each_at var_size var_faults (locals_at at e) e.vars ≡ []
+  pub body : stmts_faults (inside (local_names (module_scope m) at e) (module_scope m)) (Asks (results_of (module_scope m e.op))) (entry_body_at at e) e.body ≡ []
 
-entry-is-part : (m : ModuleTree) (start at : ℕ) (e : EntryTree) → AreStmts e.body → entry_faults (module_scope m) at e ≡ [] → StandAt (module_code m) start (body_code (names_of m (modules.local_names e)) start e.body) → IsPart m (entry_part_tree m e) start
-entry-is-part m start at e written clean stands =
+pub clean-entry : (m : ModuleTree) (at : ℕ) (e : EntryTree) → entry_faults (module_scope m) at e ≡ [] → IsCleanEntry m at e
+clean-entry m at e clean =
     let outside = module_scope m in
     let f1 = entry_has_parameters (at + 1) (outside e.op) (length e.parameters) in
     let f2 = entry_is_of_op (at + 3) (outside e.op) in
@@ -66,15 +68,26 @@ entry-is-part m start at e written clean stands =
     let p3 = both-clean (f1 ++ f2 ++ f3) f4 p4.0 in
     let p2 = both-clean (f1 ++ f2) f3 p3.0 in
     let p1 = both-clean f1 f2 p2.0 in
-    let long = as-many m at e p1.0 p1.1 in
+    let found = some-of (arguments_of (outside e.op)) (demand-met _ _ _ p1.1) in
+    record {
+      parameters = number-met (length e.parameters) (arguments_of (outside e.op)) found.0 found.1 (demand-met _ _ _ p1.0) ∙ ap (λ o. length (known o)) (sym found.1);
+      operation = found;
+      vars = p3.1;
+      body = p4.1;
+    }
+
+entry-is-part : (m : ModuleTree) (start at : ℕ) (e : EntryTree) → AreStmts e.body → entry_faults (module_scope m) at e ≡ [] → StandAt (module_code m) start (body_code (names_of m (modules.local_names e)) start e.body) → IsPart m (entry_part_tree m e) start
+entry-is-part m start at e written clean stands =
+    let outside = module_scope m in
+    let is = clean-entry m at e clean in
     record {
       scope = inside (local_names outside at e) outside;
       request = Asks (results_of (outside e.op));
       place = entry_body_at at e;
-      variable = λ name t is. entry-variable m at e name t long is;
-      operation = λ name arguments is. entry-operation m at e name arguments long is;
+      variable = λ name t here. entry-variable m at e name t is.parameters here;
+      operation = λ name arguments here. entry-operation m at e name arguments is.parameters here;
       written = written;
-      clean = p4.1;
+      clean = is.body;
       stands = stands;
     }
 

@@ -1,24 +1,20 @@
 -- The code of a module that was checked can be run.
-use Rattle.std.proofs.Common.{◌≡◌, ℕ, zero, suc, ◌+◌, List, [], ◌∷◌, ◌++◌, length, map, replicate, is_some, option_map, Option, Some, None, slice_get, refl, sym, ap, ◌∙◌, subst}
+use Rattle.std.proofs.Common.{◌≡◌, ℕ, zero, suc, ◌+◌, List, [], ◌∷◌, ◌++◌, length, map, replicate, option_map, Option, Some, None, slice_get, refl, sym, ap, ◌∙◌, subst}
 use Rattle.std.specs.List.{AllByRecursion}
 use Rattle.std.proofs.lemmas.List.{map-append}
 use Rattle.std.proofs.lemmas.Option.{none-some, same_Some, slice_get-map}
 use Rattle.lynx_tree.specs.Trees.{EntryTree, ModuleTree, OpTree}
 use Rattle.lynx_tree.specs.declared.declaration.TypeName.{TypeName}
 use Rattle.lynx_tree.specs.declared.declaration.TypeName.TheVariants as types
-use Rattle.typing_rules.specs.Modules.{entry_faults, module_faults, names_are_new, op_faults, var_faults}
-use Rattle.typing_rules.specs.Names.{arguments_of, each_at, entry_body_at, inside, known, local_names, locals_at, module_scope, op_size, ops_at, entries_at, entry_size, results_of, var_size}
-use Rattle.typing_rules.specs.Rules.{Asks, entry_has_parameters, entry_is_of_op, local_name_is_new}
-use Rattle.typing_rules.specs.Statements.{stmts_faults}
+use Rattle.typing_rules.specs.Modules.{entry_faults, module_faults, op_faults}
+use Rattle.typing_rules.specs.Names.{arguments_of, known, locals_at, module_scope, op_size, ops_at, entries_at, entry_size}
 use Rattle.lynx_code.specs.Modules.{ArePairs, IsCodeOf, IsOpOf, IsPartOf, PartCode, entry_part, entry_parts, main_part, op_names, parts_of, index_of}
 use Rattle.lynx_code.specs.declared.code.Code.{Code}
 use Rattle.lynx_code.specs.declared.code.CodeOp.{CodeOp}
 use Rattle.lynx_code.specs.declared.code.Part as kept
-use Rattle.compiler_expressions.proofs.Clean.{both-clean, demand-met}
-use Rattle.compiler_expressions.proofs.Variables.{some-of}
 use Rattle.compiler_law.proofs.Names.{module-operation}
 use Rattle.compiler_law.proofs.Parts.{each-clean}
-use Rattle.compiler_law.proofs.Whole.{no-faults}
+use Rattle.compiler_law.proofs.Whole.{clean-entry, no-faults}
 use Rattle.code_shapes.specs.Shapes.{code_types, PartTypes, code_parts, kept_part}
 use Rattle.lynx_meaning.specs.Needs.{OpTypes, op_types}
 use Rattle.compiler_shapes.proofs.Whole as shapes
@@ -76,29 +72,12 @@ entry_part_at m made is i p here =
 pub entry_operation : (m : ModuleTree) (at : ℕ) (e : EntryTree) → entry_faults (module_scope m) at e ≡ [] →
     (op : OpTree) × (slice_get m.ops (index_of (op_names m) e.op) ≡ Some op) × (known (arguments_of (module_scope m e.op)) ≡ op.arguments)
 entry_operation m at e clean =
-    let outside = module_scope m in
-    let f1 = entry_has_parameters (at + 1) (outside e.op) (length e.parameters) in
-    let f2 = entry_is_of_op (at + 3) (outside e.op) in
-    let f3 = names_are_new local_name_is_new [] (local_names outside at e) in
-    let f4 = each_at var_size var_faults (locals_at at e) e.vars in
-    let f5 = stmts_faults (inside (local_names outside at e) outside) (Asks (results_of (outside e.op))) (entry_body_at at e) e.body in
-    let p4 = both-clean (f1 ++ f2 ++ f3 ++ f4) f5 clean in
-    let p3 = both-clean (f1 ++ f2 ++ f3) f4 p4.0 in
-    let p2 = both-clean (f1 ++ f2) f3 p3.0 in
-    let p1 = both-clean f1 f2 p2.0 in
-    let found = some-of (arguments_of (outside e.op)) (demand-met 6 (at + 3) (is_some (arguments_of (outside e.op))) p1.1) in
+    let found = (clean-entry m at e clean).operation in
     let op = module-operation m e.op found.0 found.1 in
     (op.0, op.1, ap known found.1 ∙ sym op.2)
 
 entry_vars : (m : ModuleTree) (at : ℕ) (e : EntryTree) → entry_faults (module_scope m) at e ≡ [] → HaveStarts (map (λ v. v.kind) e.vars)
-entry_vars m at e clean =
-    let outside = module_scope m in
-    let f1 = entry_has_parameters (at + 1) (outside e.op) (length e.parameters) in
-    let f2 = entry_is_of_op (at + 3) (outside e.op) in
-    let f3 = names_are_new local_name_is_new [] (local_names outside at e) in
-    let f4 = each_at var_size var_faults (locals_at at e) e.vars in
-    let f5 = stmts_faults (inside (local_names outside at e) outside) (Asks (results_of (outside e.op))) (entry_body_at at e) e.body in
-    vars_start (locals_at at e) e.vars (both-clean (f1 ++ f2 ++ f3) f4 (both-clean (f1 ++ f2 ++ f3 ++ f4) f5 clean).0).1
+entry_vars m at e clean = vars_start (locals_at at e) e.vars (clean-entry m at e clean).vars
 
 module _ (m : ModuleTree) (made : Code) (clean : AreClean m) (is : IsCodeOf m made) where
   -- the operation, as it is kept

@@ -8,9 +8,9 @@ use Rattle.lynx_tree.specs.Grammar.{AreStmts, HasTokens, Mark, entry_marks, kind
 use Rattle.lynx_tree.specs.Printing.{IsPrintable}
 use Rattle.lynx_tree.specs.Trees.{EntryTree, ModuleTree, OpTree, StmtTrees}
 use Rattle.lynx_tree.specs.declared.declaration.TypeName.{TypeName}
-use Rattle.typing_rules.specs.Modules.{entry_faults, module_faults, names_are_new, var_faults}
-use Rattle.typing_rules.specs.Names.{arguments_of, body_at, each_at, entries_at, entry_body_at, entry_size, inside, known, local_names, locals_at, module_scope, results_of, var_size}
-use Rattle.typing_rules.specs.Rules.{Asks, Outside, entry_has_parameters, entry_is_of_op, local_name_is_new}
+use Rattle.typing_rules.specs.Modules.{entry_faults, module_faults}
+use Rattle.typing_rules.specs.Names.{arguments_of, body_at, each_at, entries_at, entry_body_at, entry_size, inside, known, local_names, module_scope, results_of}
+use Rattle.typing_rules.specs.Rules.{Asks, Outside}
 use Rattle.typing_rules.specs.Statements.{stmts_faults}
 use Rattle.lynx_code.specs.Generation.{stmts_code}
 use Rattle.lynx_code.specs.Modules.{ArePairs, IsCodeOf, IsOpOf, IsPartOf, PartCode, body_code, entry_part, entry_parts, instructions_of, main_part, module_code, names_of, op_names, parts_of, index_of, variables}
@@ -20,10 +20,9 @@ use Rattle.lynx_code.specs.declared.code.CodeOp.{CodeOp}
 use Rattle.lynx_code.specs.declared.code.Part.{Part as KeptPart}
 use Rattle.lynx_code.specs.declared.instruction.Instruction.{Instruction}
 use Rattle.lynx_code.specs.declared.instruction.Instruction.TheVariants as code
-use Rattle.compiler_expressions.proofs.Clean.{both-clean, demand-met}
-use Rattle.compiler_expressions.proofs.Variables.{some-of}
+use Rattle.compiler_expressions.proofs.Clean.{both-clean}
 use Rattle.compiler_law.proofs.Names.{entry-operation, entry-variable, main-variable, module-operation, module-entry, entry-entry}
-use Rattle.compiler_law.proofs.Whole.{as-many, entries-and-body, no-faults}
+use Rattle.compiler_law.proofs.Whole.{clean-entry, entries-and-body, no-faults}
 use Rattle.code_shapes.specs.Shapes.{ModuleTypes, Shape, Shapes, AllObey, IsShaped, Leads, code_parts, code_types, kept_op, kept_part, part_shape, PartTypes, opened_by}
 use Rattle.lynx_meaning.specs.Needs.{OpTypes, op_types}
 use Rattle.compiler_shapes.specs.Law.{ModuleCodeIsShaped}
@@ -134,25 +133,16 @@ entry_covers : (m : ModuleTree) (start at : ℕ) (e : EntryTree) → AreStmts e.
     Covers (tree_types m) start (entry_part m start e).instructions (start_of (entry_part m start e) ∷ [])
 entry_covers m start at e written clean tokens =
     let outside = module_scope m in
-    let f1 = entry_has_parameters (at + 1) (outside e.op) (length e.parameters) in
-    let f2 = entry_is_of_op (at + 3) (outside e.op) in
-    let f3 = names_are_new local_name_is_new [] (local_names outside at e) in
-    let f4 = each_at var_size var_faults (locals_at at e) e.vars in
-    let f5 = stmts_faults (inside (local_names outside at e) outside) (Asks (results_of (outside e.op))) (entry_body_at at e) e.body in
-    let p4 = both-clean (f1 ++ f2 ++ f3 ++ f4) f5 clean in
-    let p3 = both-clean (f1 ++ f2 ++ f3) f4 p4.0 in
-    let p2 = both-clean (f1 ++ f2) f3 p3.0 in
-    let p1 = both-clean f1 f2 p2.0 in
-    let long = as-many m at e p1.0 p1.1 in
+    let is = clean-entry m at e clean in
     let printable = λ (t : Mark). IsPrintable t.kind in
     let end = word 0 keywords.End ∷ mark 0 signs.Semicolon ∷ [] in
     let body = word 0 keywords.Begin ∷ (stmts_marks 0 e.body ++ end) in
     let behind = all_back printable (names_marks 0 e.parameters) (vars_marks e.vars ++ body) tokens.1.1.1.1 in
     let inner = all_back printable (vars_marks e.vars) body behind in
-    let found = some-of (arguments_of (outside e.op)) (demand-met _ _ _ p1.1) in
+    let found = is.operation in
     let op = operation_types m (index_of (op_names m) e.op) found.0 (results_of (outside e.op)) (module-operation m e.op found.0 found.1) in
     let asked : Asked (tree_types m) (index_of (op_names m) e.op ∷ []) = record { request = Asks (results_of (outside e.op)); meant = (index_of (op_names m) e.op, [], op.0, refl, op.1, op.3) } in
-    body_covers (entry_of m at e long) (Some (index_of (op_names m) e.op)) asked start (entry_body_at at e) 0 e.body written p4.1 (all_front printable (stmts_marks 0 e.body) end inner.1)
+    body_covers (entry_of m at e is.parameters) (Some (index_of (op_names m) e.op)) asked start (entry_body_at at e) 0 e.body written is.body (all_front printable (stmts_marks 0 e.body) end inner.1)
 
 entries_cover : (m : ModuleTree) (es : List EntryTree) (start at : ℕ) → AllByRecursion (λ (e : EntryTree). AreStmts e.body) es → each_at entry_size (entry_faults (module_scope m)) at es ≡ [] → AreTokens (flat_map entry_marks es) →
     Covers (tree_types m) start (instructions_of (entry_parts m start es)) (map start_of (entry_parts m start es))

@@ -1,15 +1,14 @@
 -- A command whose file is there and obeys its rules, with no fault outside, ends with the whole text, or for want of memory.
-use Rattle.std.proofs.Common.{◌≡◌, inl, inr, ◌⊎◌, ℕ, ◌+◌, ◌<◌, ◌≤◌, List, [], ◌∷◌, ◌++◌, length, map, Option, Some, None, Result, Ok, Err, IfSome, IsSomeAnd, All, refl, sym, ap, subst, ◌∙◌, arith, string_bytes, max, min}
+use Rattle.std.proofs.Common.{◌≡◌, inl, inr, ◌⊎◌, ℕ, ◌+◌, ◌<◌, ◌≤◌, List, [], ◌∷◌, ◌++◌, length, map, Option, Some, None, Result, Ok, Err, IfSome, IsSomeAnd, All, refl, ap, subst, ◌∙◌, arith, max, min}
 use Rattle.std.specs.Prelude.{◌≢◌}
 use Rattle.std.proofs.lemmas.List.Elements.{All-head}
 use Rattle.command_words.specs.declared.words.Command.{Command}
 use Rattle.command_words.specs.declared.words.Command.TheVariants.{Drive, Check, Code, Run, Bench, Audit, Snapshot}
 use Rattle.compiler_source.proofs.Stages.{one_compilation}
 use Rattle.compiler_source.specs.Compiled.{IsCompiledAs}
-use Rattle.lynx_command.specs.Course.{Course, Outside, Took}
+use Rattle.lynx_command.specs.Course.{Course, IsOfFile, Outside, Took}
 use Rattle.lynx_command.specs.Ending.{Ends, EndsText, Tells, end_status}
 use Rattle.lynx_command.specs.Found.{Found, OutputLines, FindsAt, FindsIn, read}
-use Rattle.lynx_command.specs.Limits.{most_bytes, most_transcript_bytes}
 use Rattle.lynx_command.specs.declared.ending.End.TheVariants.{Done}
 use Rattle.lynx_command.specs.declared.failure.Failure.{Failure}
 use Rattle.lynx_command.specs.declared.failure.Failure.TheVariants as failure
@@ -26,10 +25,8 @@ use Rattle.lynx_plan.specs.declared.fault.PlanFault.{PlanFault}
 use Rattle.lynx_plan.specs.declared.fault.PlanFault.TheVariants as plan
 use Rattle.lynx_plan.specs.declared.script.Script.{Script}
 use Rattle.lynx_run.specs.Audit.{Audits}
-use Rattle.lynx_run.specs.Check.{Checks}
-use Rattle.lynx_run.specs.Code.{Codes}
-use Rattle.lynx_run.specs.Commands.{Answers}
-use Rattle.lynx_run.specs.Complete.{AreObeyed, FileOf, Finds, HasFileOf, HasNoFault, IsComplete, IsObeyed, Obeys, StaysBelow}
+use Rattle.lynx_run.specs.Commands.{Answers, Finds, Performs, file_of}
+use Rattle.lynx_run.specs.Complete.{AreObeyed, HasFileOf, HasNoFault, IsComplete, IsObeyed, Obeys, StaysBelow}
 use Rattle.lynx_run.specs.Drive.{Drives}
 use Rattle.lynx_run.specs.Failing.{FailsAs}
 use Rattle.lynx_source.proofs.Readings.{one_check}
@@ -161,7 +158,7 @@ ends-done (Snapshot file at serial) bytes obeys output is = absurd obeys
 -- ---- one read, and what was found
 
 -- what an answer of the read leads to
-answered : (command : Command) (name : List ℕ) (most : ℕ) (course : Course) (ended : Status) (old new : Outside) → FileOf command name most → Took course ended old new → HasNoFault old new
+answered : (command : Command) (name : List ℕ) (most : ℕ) (course : Course) (ended : Status) (old new : Outside) → file_of command ≡ Some (name, most) → Took course ended old new → HasNoFault old new
     → (answer : Result (List ℕ) FileAnswer) → course.reads ≡ read name most answer ∷ [] → FindsIn (Finds command) answer course.found → IsObeyed command answer → IsComplete command course ended
 answered command name most course ended old new file took none (Ok bytes) reads finds obeys = by course.found refl finds
   where
@@ -183,20 +180,12 @@ answered command name most course ended old new file took none (Err answer.NoMem
     inr (told-memory course.name old.err new.err ended course.errs none.err took.errs told.1)
 
 -- the one read of a command that is built
-named : (In : List ℕ → Found → Type 0) (name file : List ℕ) (most limit : ℕ) (course : Course) → name ≡ file → most ≡ limit → FindsAt In limit file course.reads course.found → FindsAt In most name course.reads course.found
-named In name file most limit course same size finds =
-    subst (λ (n : List ℕ). FindsAt In most n course.reads course.found) (sym same) (subst (λ (m : ℕ). FindsAt In m file course.reads course.found) (sym size) finds)
+reads-file : (command : Command) (name : List ℕ) (most : ℕ) (course : Course) → file_of command ≡ Some (name, most) → Answers (Some command) course → FindsAt (Finds command) most name course.reads course.found
+reads-file command name most course file answers =
+    let performs : IsOfFile (Finds command) most name course = subst (λ (of : Option (List ℕ × ℕ)). Performs command of course) file answers in
+    performs.finds
 
-reads-file : (command : Command) (name : List ℕ) (most : ℕ) (course : Course) → FileOf command name most → Answers (Some command) course → FindsAt (Finds command) most name course.reads course.found
-reads-file (Drive file) name most course is answers = named Drives name (string_bytes file) most most_bytes course is.0 is.1 answers.finds
-reads-file (Check file) name most course is answers = named Checks name (string_bytes file) most most_bytes course is.0 is.1 answers.finds
-reads-file (Code file) name most course is answers = named Codes name (string_bytes file) most most_bytes course is.0 is.1 answers.finds
-reads-file (Audit file) name most course is answers = named Audits name (string_bytes file) most most_transcript_bytes course is.0 is.1 answers.finds
-reads-file (Run file serial turns) name most course is answers = absurd is
-reads-file (Bench seed) name most course is answers = absurd is
-reads-file (Snapshot file at serial) name most course is answers = absurd is
-
-pub complete : (command : Command) (name : List ℕ) (most : ℕ) (course : Course) (ended : Status) (old new : Outside) → FileOf command name most → Answers (Some command) course
+pub complete : (command : Command) (name : List ℕ) (most : ℕ) (course : Course) (ended : Status) (old new : Outside) → file_of command ≡ Some (name, most) → Answers (Some command) course
     → Took course ended old new → HasNoFault old new → AreObeyed command course.reads → IsComplete command course ended
 complete command name most course ended old new file answers took none obeyed =
     let finds = reads-file command name most course file answers in

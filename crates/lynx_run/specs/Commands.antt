@@ -1,6 +1,7 @@
 -- What the program does with its words.
 use Rattle.std.specs.Prelude.{◌≡◌, ℕ, List, [], Option, Some, None, Err, codes, string_bytes}
 use Rattle.lynx_command.specs.Course.{Course, IsOfFile}
+use Rattle.lynx_command.specs.Found.{Found}
 use Rattle.lynx_command.specs.Limits.{most_bytes, most_transcript_bytes}
 use Rattle.lynx_command.specs.declared.failure.Failure.{Failure}
 use Rattle.lynx_command.specs.declared.failure.Failure.TheVariants.{Usage, Unbuilt}
@@ -27,12 +28,28 @@ pub record IsRefusedAs (failure : Failure) (name : List ℕ) (course : Course) :
   pub found : course.found ≡ Err failure
   pub named : course.name ≡ name
 
--- What words ask for: words that are not of the form are told so, `drive`, `check`, `code` and
--- `audit` read the file that is named, and a command that is not built yet is refused by its name.
+-- the file that a command reads, and the most bytes of it; a command that is not built yet reads none
+abbrev pub file_of : Command → Option (List ℕ × ℕ)
+file_of (Drive file) = Some (string_bytes file, most_bytes)
+file_of (Check file) = Some (string_bytes file, most_bytes)
+file_of (Code file) = Some (string_bytes file, most_bytes)
+file_of (Audit file) = Some (string_bytes file, most_transcript_bytes)
+file_of command = None
+
+-- what a command finds in the bytes of its file
+abbrev pub Finds : Command → List ℕ → Found → Type 0
+Finds (Drive file) = Drives
+Finds (Check file) = Checks
+Finds (Code file) = Codes
+Finds (Audit file) = Audits
+Finds command = λ bytes found. ⊥
+
+-- A command reads its file, and finds what is in it; one without a file is refused by its name.
+abbrev pub Performs : Command → Option (List ℕ × ℕ) → Course → Type 0
+Performs command (Some file) course = IsOfFile (Finds command) file.1 file.0 course
+Performs command None course = IsRefusedAs Unbuilt (command_name command) course
+
+-- What words ask for: a command is performed, and words that are not of the form are told so.
 abbrev pub Answers : Option Command → Course → Type 0
 Answers None course = IsRefusedAs Usage [] course
-Answers (Some (Drive file)) course = IsOfFile Drives most_bytes (string_bytes file) course
-Answers (Some (Check file)) course = IsOfFile Checks most_bytes (string_bytes file) course
-Answers (Some (Code file)) course = IsOfFile Codes most_bytes (string_bytes file) course
-Answers (Some (Audit file)) course = IsOfFile Audits most_transcript_bytes (string_bytes file) course
-Answers (Some command) course = IsRefusedAs Unbuilt (command_name command) course
+Answers (Some command) course = Performs command (file_of command) course

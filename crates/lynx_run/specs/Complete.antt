@@ -4,8 +4,7 @@ use Rattle.command_words.specs.declared.words.Command.{Command}
 use Rattle.command_words.specs.declared.words.Command.TheVariants.{Drive, Check, Code, Audit}
 use Rattle.compiler_source.specs.Compiled.{IsCompiledAs}
 use Rattle.lynx_command.specs.Course.{Course, Outside}
-use Rattle.lynx_command.specs.Found.{Found, OutputLines, read}
-use Rattle.lynx_command.specs.Limits.{most_bytes, most_transcript_bytes}
+use Rattle.lynx_command.specs.Found.{OutputLines, read}
 use Rattle.lynx_outside.specs.Faults.{last_count}
 use Rattle.lynx_outside.specs.Files.{Listing, Source, bytes_of}
 use Rattle.lynx_outside.specs.Logged.{Read}
@@ -16,10 +15,7 @@ use Rattle.lynx_outside.specs.declared.status.Status.{Status}
 use Rattle.lynx_outside.specs.declared.status.Status.TheVariants as status
 use Rattle.lynx_plan.specs.Reading.{script_of}
 use Rattle.lynx_plan.specs.declared.script.Script.{Script}
-use Rattle.lynx_run.specs.Audit.{Audits}
-use Rattle.lynx_run.specs.Check.{Checks}
-use Rattle.lynx_run.specs.Code.{Codes}
-use Rattle.lynx_run.specs.Drive.{Drives}
+use Rattle.lynx_run.specs.Commands.{Finds, file_of}
 use Rattle.lynx_source.specs.Sources.{IsCheckedAs}
 use Rattle.lynx_tree.specs.Trees.{ModuleTree}
 use Rattle.transcript_audit.specs.Audit.{IsAudited}
@@ -36,14 +32,6 @@ pub record HasNoFault (old new : Outside) : Type 0 where
   pub out : StaysBelow old.out.faults new.out.faults
   pub err : StaysBelow old.err.faults new.err.faults
 
--- the file that a command reads, and the most bytes of it; only commands that are built read one
-abbrev pub FileOf : Command → List ℕ → ℕ → Type 0
-FileOf (Drive file) name most = (name ≡ string_bytes file) × (most ≡ most_bytes)
-FileOf (Check file) name most = (name ≡ string_bytes file) × (most ≡ most_bytes)
-FileOf (Code file) name most = (name ≡ string_bytes file) × (most ≡ most_bytes)
-FileOf (Audit file) name most = (name ≡ string_bytes file) × (most ≡ most_transcript_bytes)
-FileOf command name most = ⊥
-
 -- the bytes break no rule of the command
 abbrev pub Obeys : Command → List ℕ → Type 0
 Obeys (Drive file) bytes = (script : Script) × (script_of bytes ≡ Ok script)
@@ -51,14 +39,6 @@ Obeys (Check file) bytes = (m : ModuleTree) × IsCheckedAs bytes (Ok m)
 Obeys (Code file) bytes = (m : ModuleTree) × IsCompiledAs bytes (Ok m)
 Obeys (Audit file) bytes = (last : Last) × IsAudited bytes last
 Obeys command bytes = ⊥
-
--- what the command finds in the bytes
-abbrev pub Finds : Command → List ℕ → Found → Type 0
-Finds (Drive file) = Drives
-Finds (Check file) = Checks
-Finds (Code file) = Codes
-Finds (Audit file) = Audits
-Finds command = λ bytes found. ⊥
 
 -- a read that did not find the file missing or too big, and gave bytes that obey the rules if it gave any
 abbrev pub IsObeyed : Command → Result (List ℕ) FileAnswer → Type 0
@@ -76,7 +56,7 @@ AreObeyed command reads = (r : Read) → reads ≡ r ∷ [] → IsObeyed command
 pub record HasFileOf (command : Command) (files : Listing) : Type 0 where
   pub name : List ℕ
   pub most : ℕ
-  pub file : FileOf command name most
+  pub file : file_of command ≡ Some (name, most)
   pub bytes : List ℕ
   pub there : bytes_of files name ≡ Some bytes
   pub within : length bytes ≤ most
@@ -86,7 +66,7 @@ pub record HasFileOf (command : Command) (files : Listing) : Type 0 where
 pub record HasPutAll (command : Command) (course : Course) : Type 0 where
   pub name : List ℕ
   pub most : ℕ
-  pub file : FileOf command name most
+  pub file : file_of command ≡ Some (name, most)
   pub bytes : List ℕ
   pub reads : course.reads ≡ read name most (Ok bytes) ∷ []
   pub output : OutputLines

@@ -5,8 +5,8 @@ ghost use Rattle.command_words.specs.declared.words.Command.{Command as ACommand
 ghost use Rattle.lynx_command.specs.Course.{Course, Outside, Took};
 ghost use Rattle.lynx_outside.specs.Files.{Listing};
 ghost use Rattle.lynx_outside.specs.declared.status.Status.{Status as AStatus};
-ghost use Rattle.lynx_run.specs.Commands.{Answers};
-ghost use Rattle.lynx_run.specs.Complete.{AreObeyed, FileOf, HasFileOf, HasNoFault, IsComplete};
+ghost use Rattle.lynx_run.specs.Commands.{Answers, file_of};
+ghost use Rattle.lynx_run.specs.Complete.{AreObeyed, HasFileOf, HasNoFault, IsComplete};
 ghost use Rattle.lynx_run.specs.Drive.{IsDriven};
 ghost use Rattle.transcript_audit.specs.Audit.{IsAudited};
 ghost use Rattle.transcript_lines.specs.declared.last.Last.{Last};
@@ -29,6 +29,6 @@ pub fn each_command_is_complete()
         → old.files.contents ≡ Some files → HasFileOf command files → Answers (Some command) course → Took course ended old new
         → HasNoFault old new → IsComplete command course ended }
     ensures by_answer { (command : ACommand) (name : List ℕ) (most : ℕ) (course : Course) (ended : AStatus) (old new : Outside)
-        → FileOf command name most → Answers (Some command) course → Took course ended old new → HasNoFault old new
+        → file_of command ≡ Some (name, most) → Answers (Some command) course → Took course ended old new → HasNoFault old new
         → AreObeyed command course.reads → IsComplete command course ended }
 {}
