@@ -38,6 +38,14 @@ impl Port {
         self.kernel
     }
 
+    /// How many kernels the net has.
+    pub fn kernels(&self) -> u8
+        ensures number { result ≡ kernels_of (place_of self.now) }
+        ensures most { result ≤ 8 }
+    {
+        self.out.len() as u8
+    }
+
     /// Puts a letter to a kernel: a packet whose stamp is below the greatest `u64`, or the first marker to that kernel. The letter comes
     /// back exactly where no free place of the ring to it is known.
     pub fn put(&mut self, to: u8, letter: Letter) -> Result<(), Letter>
