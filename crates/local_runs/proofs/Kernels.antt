@@ -30,7 +30,7 @@ use Rattle.transcript_record.specs.Told.{IsTold}
 pub few-two : (v n : ℕ) → n ≤ cond (nat_eq v 1) 1 8 → n ≤ 8
 few-two v n few = elim (nat_eq v 1) as (λ b. n ≤ cond b 1 8 → n ≤ 8) [ true ↦ λ h. omega arith | false ↦ λ h. h ] few
 
-few_call : (v : ℕ) (c : Call) → IsCallOf v c → HasFewCall 2 c
+pub few_call : (v : ℕ) (c : Call) → IsCallOf v c → HasFewCall 2 c
 few_call v call.Make h = tt
 few_call v (call.Destroy on) h = tt
 few_call v (call.Send on bytes xs) h = few-two v (length xs) h.0
