@@ -274,7 +274,7 @@ noted-length : (w : World) (es : List Event) → length (noted w es) ≡ length 
 noted-length w [] = refl
 noted-length w (e ∷ es) = let others : length (noted (happens w e) es) ≡ length es = noted-length (happens w e) es in omega (arith, others)
 
-started-two : (s : Setting) (k : ℕ) → IsTold 2 (start_kernel s k)
+pub started-two : (s : Setting) (k : ℕ) → IsTold 2 (start_kernel s k)
 started-two s k = let other : IsTold 2 (start_kernel (record s { version = 2 }) k) = (told-start (record s { version = 2 })).kernels k in record { table = other.table; reports = other.reports }
 
 pub one_run : (s : Setting) (own : ℕ → List LocalEvent) (left : ℕ → ℕ → List Picture) (merged : List Placed) → FitTogether s own left → AreInOrder merged → ((k : ℕ) → of_kernel k merged ≡ entries_of (start_kernel s k) (own k)) → length merged ≤ 2 ^ 31 → IsOneRun s own left merged
