@@ -1,8 +1,10 @@
 //! The code of expressions.
 
-ghost use Rattle.std.specs.Prelude.{◌≡◌, ◌<◌, ◌+◌, ◌∷◌, [], ◌++◌, length, true, Err, OnOk};
+ghost use Rattle.std.specs.Prelude.{◌≡◌, ◌<◌, ◌≤◌, ◌+◌, ◌∷◌, [], ◌++◌, length, true, Err, OnOk};
 ghost use Rattle.lynx_tree.specs.Trees.{expr_tree, expr_list, sum_list, term_list};
 ghost use Rattle.lynx_code.specs.Generation.{expr_code, chain_code, sum_code, term_code, exprs_code, relation, sum_operator, term_operator};
+ghost use Rattle.lynx_code.specs.declared.instruction.Instruction.TheVariants as instructions;
+ghost use Rattle.lynx_code.specs.declared.instruction.Literal.TheVariants as literals;
 ghost use Rattle.compiler_emission.specs.declared.fault.CompileFault.TheVariants as faults;
 ghost use Rattle.compiler_emission.specs.Chains.{chain_jump, member_code};
 ghost use Rattle.compiler_emission.specs.Tables.{names_in};
@@ -10,8 +12,8 @@ ghost use Rattle.compiler_emission.specs.Tables.{names_in};
 use crate::emit::{behind, push, set};
 use crate::fault::CompileFault;
 use crate::scope::Scope;
-use lynx_code::{Instruction, Literal};
-use lynx_lexer::Sign;
+use lynx_code::{Instruction, KeptText, Literal};
+use lynx_lexer::{Sign, TextRef};
 use lynx_tree::{Expr, TermSign};
 
 fn relation(sign: Sign) -> Instruction
@@ -46,6 +48,15 @@ fn term_operator(sign: TermSign) -> Instruction
     }
 }
 
+// Adds the `push` of a text.
+fn push_text(inside: &TextRef, code: &mut Vec<Instruction>) -> Result<(), CompileFault>
+    ensures ok { OnOk result (code.new.items ≡ code.old.items ++ instructions.Push (literals.Text inside.now) ∷ []) }
+    ensures long { result ≡ Err faults.CodeTooLong → 65535 ≤ length code.old.items }
+{
+    let text = KeptText::of(*code.allocator(), inside.to_text())?;
+    push(code, Instruction::Push(Literal::Text(text)))
+}
+
 /// Adds the code of an expression.
 #[cycle(emit_expression)]
 pub fn emit_expr(
@@ -78,7 +89,7 @@ pub fn emit_expr(
         Expr::Minus(inner) => emit_then(inner, Instruction::Neg, code, names),
         Expr::Not(inner) => emit_then(inner, Instruction::Not, code, names),
         Expr::Number(number) => push(code, Instruction::Push(Literal::Int(*number))),
-        Expr::Text(inside) => push(code, Instruction::Push(Literal::Text(inside.to_text()))),
+        Expr::Text(inside) => push_text(inside, code),
         Expr::True => push(code, Instruction::Push(Literal::Bool(true))),
         Expr::False => push(code, Instruction::Push(Literal::Bool(false))),
         Expr::Name { name, index: None } => push(code, names.load(name)),

@@ -72,10 +72,9 @@ fn copy_instructions(
 ) -> Result<Vec<Instruction>, NoMemory>
     ensures { IfOk result (λ copies. copies.items ≡ instructions.now) }
 {
-    let mut copies = Vec::new(alloc);
-    copies.reserve(instructions.len())?;
+    let mut copies = Vec::with_capacity(alloc, instructions.len())?;
     for instruction in instructions {
-        copies.push(instruction.copy())?;
+        copies.push_reserved(instruction.copy(alloc)?);
     }
     Ok(copies)
 }

@@ -1,8 +1,10 @@
 //! Instructions.
 
-ghost use Rattle.std.specs.Prelude.{◌≡◌};
+ghost use Rattle.std.specs.Prelude.{◌≡◌, IfOk};
 
-use lynx_lexer::TextLit;
+use crate::kept_text::KeptText;
+use lynx_lexer::NoMemory;
+use std::alloc::Global;
 use typing_rules::Exception;
 
 /// A value that stands in code.
@@ -10,7 +12,7 @@ use typing_rules::Exception;
 pub enum Literal {
     Int(i64),
     Bool(bool),
-    Text(TextLit),
+    Text(KeptText),
 }
 
 /// One instruction. A slot is the place of a variable, from 0: among those of the module where the name ends in G, and among those of the
@@ -76,67 +78,67 @@ pub enum Instruction {
 }
 
 impl Literal {
-    /// A literal that is equal.
-    pub fn copy(&self) -> Literal
-        ensures { result ≡ self.now }
+    /// A literal that is equal. Only a text takes memory.
+    pub fn copy(&self, alloc: Global) -> Result<Literal, NoMemory>
+        ensures { IfOk result (λ copy. copy ≡ self.now) }
     {
         match self {
-            Literal::Int(number) => Literal::Int(*number),
-            Literal::Bool(truth) => Literal::Bool(*truth),
-            Literal::Text(inside) => Literal::Text(inside.copy()),
+            Literal::Int(number) => Ok(Literal::Int(*number)),
+            Literal::Bool(truth) => Ok(Literal::Bool(*truth)),
+            Literal::Text(inside) => Ok(Literal::Text(inside.copy(alloc)?)),
         }
     }
 }
 
 impl Instruction {
-    /// An instruction that is equal.
-    pub fn copy(&self) -> Instruction
-        ensures { result ≡ self.now }
+    /// An instruction that is equal. Only the `push` of a text takes memory.
+    pub fn copy(&self, alloc: Global) -> Result<Instruction, NoMemory>
+        ensures { IfOk result (λ copy. copy ≡ self.now) }
     {
         match self {
-            Instruction::Push(literal) => Instruction::Push(literal.copy()),
-            Instruction::LoadG(slot) => Instruction::LoadG(*slot),
-            Instruction::LoadL(slot) => Instruction::LoadL(*slot),
-            Instruction::AtG(slot) => Instruction::AtG(*slot),
-            Instruction::AtL(slot) => Instruction::AtL(*slot),
-            Instruction::StoreG(slot) => Instruction::StoreG(*slot),
-            Instruction::StoreL(slot) => Instruction::StoreL(*slot),
-            Instruction::PutG(slot) => Instruction::PutG(*slot),
-            Instruction::PutL(slot) => Instruction::PutL(*slot),
-            Instruction::Add => Instruction::Add,
-            Instruction::Sub => Instruction::Sub,
-            Instruction::Mul => Instruction::Mul,
-            Instruction::Div => Instruction::Div,
-            Instruction::Mod => Instruction::Mod,
-            Instruction::Neg => Instruction::Neg,
-            Instruction::Eq => Instruction::Eq,
-            Instruction::Ne => Instruction::Ne,
-            Instruction::Lt => Instruction::Lt,
-            Instruction::Le => Instruction::Le,
-            Instruction::Gt => Instruction::Gt,
-            Instruction::Ge => Instruction::Ge,
-            Instruction::Not => Instruction::Not,
-            Instruction::AndJ(address) => Instruction::AndJ(*address),
-            Instruction::OrJ(address) => Instruction::OrJ(*address),
-            Instruction::JumpF(address) => Instruction::JumpF(*address),
-            Instruction::Jump(address) => Instruction::Jump(*address),
-            Instruction::Await(address) => Instruction::Await(*address),
-            Instruction::Try(address) => Instruction::Try(*address),
-            Instruction::Write => Instruction::Write,
-            Instruction::New => Instruction::New,
-            Instruction::Destroy => Instruction::Destroy,
-            Instruction::Close => Instruction::Close,
-            Instruction::Stop => Instruction::Stop,
-            Instruction::Untry => Instruction::Untry,
-            Instruction::Again => Instruction::Again,
-            Instruction::End => Instruction::End,
-            Instruction::Bind(entry) => Instruction::Bind(*entry),
-            Instruction::Unbind(entry) => Instruction::Unbind(*entry),
-            Instruction::Connect(op) => Instruction::Connect(*op),
-            Instruction::Accept(op) => Instruction::Accept(*op),
-            Instruction::Reply(count) => Instruction::Reply(*count),
-            Instruction::Raise(exception) => Instruction::Raise(*exception),
-            Instruction::Case(exception, address) => Instruction::Case(*exception, *address),
+            Instruction::Push(literal) => Ok(Instruction::Push(literal.copy(alloc)?)),
+            Instruction::LoadG(slot) => Ok(Instruction::LoadG(*slot)),
+            Instruction::LoadL(slot) => Ok(Instruction::LoadL(*slot)),
+            Instruction::AtG(slot) => Ok(Instruction::AtG(*slot)),
+            Instruction::AtL(slot) => Ok(Instruction::AtL(*slot)),
+            Instruction::StoreG(slot) => Ok(Instruction::StoreG(*slot)),
+            Instruction::StoreL(slot) => Ok(Instruction::StoreL(*slot)),
+            Instruction::PutG(slot) => Ok(Instruction::PutG(*slot)),
+            Instruction::PutL(slot) => Ok(Instruction::PutL(*slot)),
+            Instruction::Add => Ok(Instruction::Add),
+            Instruction::Sub => Ok(Instruction::Sub),
+            Instruction::Mul => Ok(Instruction::Mul),
+            Instruction::Div => Ok(Instruction::Div),
+            Instruction::Mod => Ok(Instruction::Mod),
+            Instruction::Neg => Ok(Instruction::Neg),
+            Instruction::Eq => Ok(Instruction::Eq),
+            Instruction::Ne => Ok(Instruction::Ne),
+            Instruction::Lt => Ok(Instruction::Lt),
+            Instruction::Le => Ok(Instruction::Le),
+            Instruction::Gt => Ok(Instruction::Gt),
+            Instruction::Ge => Ok(Instruction::Ge),
+            Instruction::Not => Ok(Instruction::Not),
+            Instruction::AndJ(address) => Ok(Instruction::AndJ(*address)),
+            Instruction::OrJ(address) => Ok(Instruction::OrJ(*address)),
+            Instruction::JumpF(address) => Ok(Instruction::JumpF(*address)),
+            Instruction::Jump(address) => Ok(Instruction::Jump(*address)),
+            Instruction::Await(address) => Ok(Instruction::Await(*address)),
+            Instruction::Try(address) => Ok(Instruction::Try(*address)),
+            Instruction::Write => Ok(Instruction::Write),
+            Instruction::New => Ok(Instruction::New),
+            Instruction::Destroy => Ok(Instruction::Destroy),
+            Instruction::Close => Ok(Instruction::Close),
+            Instruction::Stop => Ok(Instruction::Stop),
+            Instruction::Untry => Ok(Instruction::Untry),
+            Instruction::Again => Ok(Instruction::Again),
+            Instruction::End => Ok(Instruction::End),
+            Instruction::Bind(entry) => Ok(Instruction::Bind(*entry)),
+            Instruction::Unbind(entry) => Ok(Instruction::Unbind(*entry)),
+            Instruction::Connect(op) => Ok(Instruction::Connect(*op)),
+            Instruction::Accept(op) => Ok(Instruction::Accept(*op)),
+            Instruction::Reply(count) => Ok(Instruction::Reply(*count)),
+            Instruction::Raise(exception) => Ok(Instruction::Raise(*exception)),
+            Instruction::Case(exception, address) => Ok(Instruction::Case(*exception, *address)),
         }
     }
 }

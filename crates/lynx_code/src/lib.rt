@@ -4,8 +4,10 @@
 mod code;
 mod copies;
 mod instruction;
+mod kept_text;
 mod texts;
 
 pub use code::{Code, CodeOp, Part};
 pub use instruction::{Instruction, Literal};
+pub use kept_text::KeptText;
 pub use texts::listing;

@@ -8,8 +8,9 @@ ghost use Rattle.lynx_code.specs.Listing.{literal_text, instruction_text, line_e
 
 use crate::code::{Code, Part};
 use crate::instruction::{Instruction, Literal};
+use crate::kept_text::KeptText;
 use itoa::Buffer;
-use lynx_lexer::{Ident, NoMemory, TextLit};
+use lynx_lexer::{Ident, NoMemory};
 use std::alloc::Global;
 use typing_rules::Exception;
 
@@ -37,7 +38,7 @@ fn push_numbered(out: &mut Vec<u8>, word: &[u8], number: u32) -> Result<(), NoMe
     Ok(())
 }
 
-fn push_text(out: &mut Vec<u8>, inside: &TextLit) -> Result<(), NoMemory>
+fn push_text(out: &mut Vec<u8>, inside: &KeptText) -> Result<(), NoMemory>
     ensures { OnOk result (out.new.items ≡ out.old.items ++ (codes "'" ++ inside.now ++ codes "'")) }
 {
     push(out, b"'")?;

@@ -12,7 +12,8 @@ ghost use Rattle.machine_thread.specs.Kept.{opened_of};
 
 use crate::action::{Action, Given, Move};
 use crate::thread::{Opened, Thread};
-use lynx_lexer::{NoMemory, TextLit};
+use lynx_code::KeptText;
+use lynx_lexer::NoMemory;
 use machine_stack::Variables;
 use typing_rules::Exception;
 
@@ -122,7 +123,7 @@ impl Thread {
         self.operands.push_bool(truth)
     }
 
-    pub(crate) fn push_text(&mut self, literal: &TextLit) -> Result<(), NoMemory>
+    pub(crate) fn push_text(&mut self, literal: &KeptText) -> Result<(), NoMemory>
         ensures { OnOk result (self.new ≡ record self.old { stack = Text literal.now ∷ self.old.stack }) }
     {
         self.operands.push_text(literal.as_slice())
