@@ -1,0 +1,16 @@
+use Rattle.std.proofs.Common.{◌≡◌, ◌<◌, ◌≤◌, true, false, ◌++◌, length}
+use Rattle.kernel_net.specs.Ports.{kernels_of, place_of, put_to}
+use Rattle.kernel_outbox.specs.Letters.{MayAllBePut, PutsSome}
+use Rattle.kernel_outbox.proofs.outbox.put_first.Given as goal
+
+abbrev pub invariant-loop-letter : goal.invariant-loop-letter
+invariant-loop-letter l = record {
+  kernel : l.to < kernels_of (place_of l.port);
+  may : MayAllBePut (put_to l.port l.to) l.list.items;
+  puts : PutsSome l.to l.initial.list.items l.list.items l.initial.port l.port;
+  some : l.some ≡ true → length l.list.items < length l.initial.list.items;
+  none : l.some ≡ false → l.list.items ≡ l.initial.list.items;
+}
+
+abbrev pub decreases-loop-letter : goal.decreases-loop-letter
+decreases-loop-letter l = length l.list.items

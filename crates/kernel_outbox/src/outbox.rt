@@ -1,0 +1,244 @@
+ghost use Rattle.std.specs.Prelude.{◌≡◌, ◌≢◌, ◌<◌, ◌≤◌, ◌↔◌, ◌||◌, ◌++◌, [], ℕ, IfOk, IsTrue, OnOk, false, true, length, max};
+ghost use Rattle.kernel_named.specs.Named.{GoWithin};
+ghost use Rattle.kernel_net.specs.Letters.{MayBePut};
+ghost use Rattle.kernel_net.specs.Ports.{kernels_of, place_of, places_to, put_to};
+ghost use Rattle.kernel_outbox.specs.Letters.{Flushes, MayAllBePut, PutsFirst, PutsOne, if_to, letters_for, markers_to, outbox_to, waiting_to};
+
+use charlotte_calls::NoMemory;
+use charlotte_packets::Packet;
+use kernel_net::{Letter, Port};
+use std::alloc::Global;
+use std::collections::VecDeque;
+use std::mem;
+
+/// The letters of a node that its port did not put yet. Those to a kernel are the ones that wait for it, and behind them the unsent packets to
+/// it.
+#[derive(Drop)]
+pub struct Outbox {
+    /// The packets of the last event, each with its target, as the kernel gave them.
+    unsent: VecDeque<(u8, Packet)>,
+    /// By target, the letters whose ring was full, or before which a letter or a marker stands. There are no lists before the first is needed.
+    waiting: Vec<VecDeque<Letter>>,
+}
+
+impl Outbox {
+    /// Without letters.
+    pub fn start(alloc: Global) -> Outbox
+        ensures unsent { result.unsent.items ≡ [] }
+        ensures waiting { result.waiting.items ≡ [] }
+    {
+        Outbox {
+            unsent: VecDeque::new(alloc),
+            waiting: Vec::new(alloc),
+        }
+    }
+
+    /// The packets of an event go out, where none is unsent.
+    pub fn send(&mut self, packets: Vec<(u8, Packet)>)
+        ensures unsent { self.new.unsent.items ≡ packets.items }
+        ensures waiting { self.new.waiting ≡ self.old.waiting }
+    {
+        self.unsent = VecDeque::from(packets);
+    }
+
+    /// The list of the unsent packets, of which there are none, for the next event to fill.
+    pub fn emptied(&mut self) -> Vec<(u8, Packet)>
+        ensures unsent { self.new.unsent.items ≡ [] }
+        ensures waiting { self.new.waiting ≡ self.old.waiting }
+        ensures list { result.items ≡ self.old.unsent.items }
+    {
+        let alloc = *self.unsent.allocator();
+        let list = mem::replace(&mut self.unsent, VecDeque::new(alloc));
+        Vec::from(list)
+    }
+
+    /// Puts letters, to each kernel in order, while they are accepted. Whether one was put. No packet is unsent afterwards.
+    pub fn put(&mut self, port: &mut Port) -> Result<bool, NoMemory>
+        requires lists { length self.old.waiting.items ≤ kernels_of (place_of port.old) }
+        requires within { GoWithin (kernels_of (place_of port.old)) self.old.unsent.items }
+        requires letters { (to : ℕ) → MayAllBePut (put_to port.old to) (outbox_to self.old to) }
+        ensures flushed { OnOk result (Flushes (outbox_to self.old) (outbox_to self.new) port.old port.new) }
+        ensures unsent { OnOk result (self.new.unsent.items ≡ []) }
+        ensures lists { OnOk result (length self.new.waiting.items ≤ kernels_of (place_of port.old)) }
+        ensures some { IfOk result (λ some. some ≡ true → (to : ℕ) × (length (outbox_to self.new to) < length (outbox_to self.old to))) }
+        ensures none { IfOk result (λ some. some ≡ false → (to : ℕ) → outbox_to self.new to ≡ outbox_to self.old to) }
+    {
+        let kernels = port.kernels();
+        let waited = self.put_waiting(port);
+        let sent = self.put_unsent(port, kernels)?;
+        Ok(either(waited, sent))
+    }
+
+    /// Puts letters that wait, while they are accepted. Whether one was put.
+    fn put_waiting(&mut self, port: &mut Port) -> bool
+        requires lists { (length self.old.waiting.items ≤ kernels_of (place_of port.old)) × (length self.old.waiting.items ≤ 8) }
+        requires letters { (to : ℕ) → MayAllBePut (put_to port.old to) (waiting_to self.old to) }
+        ensures flushed { Flushes (waiting_to self.old) (waiting_to self.new) port.old port.new }
+        ensures unsent { self.new.unsent ≡ self.old.unsent }
+        ensures lists { length self.new.waiting.items ≡ length self.old.waiting.items }
+        ensures some { result ≡ true → (to : ℕ) × (length (waiting_to self.new to) < length (waiting_to self.old to)) }
+        ensures none { result ≡ false → (to : ℕ) → waiting_to self.new to ≡ waiting_to self.old to }
+    {
+        let mut some = false;
+        for to in 0..self.waiting.len() {
+            let put = put_first(&mut self.waiting[to], to as u8, port);
+            some = either(some, put);
+        }
+        some
+    }
+
+    /// Puts each unsent packet, or lets it wait. Whether one was put.
+    fn put_unsent(&mut self, port: &mut Port, kernels: u8) -> Result<bool, NoMemory>
+        requires kernels { kernels ≡ kernels_of (place_of port.old) }
+        requires lists { length self.old.waiting.items ≤ kernels }
+        requires within { GoWithin kernels self.old.unsent.items }
+        requires letters { (to : ℕ) → MayAllBePut (put_to port.old to) (outbox_to self.old to) }
+        requires full { (to : ℕ) → 0 < length (waiting_to self.old to) → places_to port.old to ≡ 0 }
+        ensures flushed { OnOk result (Flushes (outbox_to self.old) (outbox_to self.new) port.old port.new) }
+        ensures unsent { OnOk result (self.new.unsent.items ≡ []) }
+        ensures lists { OnOk result (length self.new.waiting.items ≤ kernels) }
+        ensures some { IfOk result (λ some. some ≡ true → (to : ℕ) × (length (outbox_to self.new to) < length (outbox_to self.old to))) }
+        ensures none { IfOk result (λ some. some ≡ false → (to : ℕ) → outbox_to self.new to ≡ outbox_to self.old to) }
+    {
+        let mut some = false;
+        while let Some((to, packet)) = self.unsent.pop_front() {
+            let put = self.put_one(port, kernels, to, Letter::Packet(packet))?;
+            some = either(some, put);
+        }
+        Ok(some)
+    }
+
+    /// Puts a letter where none waits and it is accepted, and else lets it wait. Whether it was put.
+    fn put_one(
+        &mut self,
+        port: &mut Port,
+        kernels: u8,
+        to: u8,
+        letter: Letter,
+    ) -> Result<bool, NoMemory>
+        requires kernels { kernels ≡ kernels_of (place_of port.old) }
+        requires lists { length self.old.waiting.items ≤ kernels }
+        requires there { to < kernels }
+        requires letter { waiting_to self.old to ≡ [] → MayBePut (put_to port.old to) letter }
+        requires full { 0 < length (waiting_to self.old to) → places_to port.old to ≡ 0 }
+        ensures put { IfOk result (λ put. PutsOne put to letter (waiting_to self.old) (waiting_to self.new) port.old port.new) }
+        ensures unsent { OnOk result (self.new.unsent ≡ self.old.unsent) }
+        ensures lists { OnOk result (length self.new.waiting.items ≤ kernels) }
+    {
+        if self.waits(to) {
+            self.wait(kernels, to, letter)?;
+            return Ok(false);
+        }
+        match port.put(to, letter) {
+            Ok(()) => Ok(true),
+            Err(back) => {
+                self.wait(kernels, to, back)?;
+                Ok(false)
+            }
+        }
+    }
+
+    /// Whether a letter to a kernel waits.
+    fn waits(&self, to: u8) -> bool
+        ensures { IsTrue result ↔ (0 < length (waiting_to self.now to)) }
+    {
+        match self.waiting.get(usize::from(to)) {
+            Some(list) => !list.is_empty(),
+            None => false,
+        }
+    }
+
+    /// A letter to a kernel waits, behind those that do.
+    fn wait(&mut self, kernels: u8, to: u8, letter: Letter) -> Result<(), NoMemory>
+        requires there { to < kernels }
+        requires lists { length self.old.waiting.items ≤ kernels }
+        ensures waiting { OnOk result ((q : ℕ) → waiting_to self.new q ≡ waiting_to self.old q ++ if_to q to letter) }
+        ensures unsent { OnOk result (self.new.unsent ≡ self.old.unsent) }
+        ensures lists { OnOk result (length self.new.waiting.items ≤ kernels) }
+    {
+        self.make_lists(kernels)?;
+        let list = &mut self.waiting[usize::from(to)];
+        list.push_back(letter)?;
+        Ok(())
+    }
+
+    /// There is a list for each of so many kernels.
+    fn make_lists(&mut self, kernels: u8) -> Result<(), NoMemory>
+        requires { length self.old.waiting.items ≤ kernels }
+        ensures waiting { OnOk result ((q : ℕ) → waiting_to self.new q ≡ waiting_to self.old q) }
+        ensures unsent { OnOk result (self.new.unsent ≡ self.old.unsent) }
+        ensures lists { OnOk result (length self.new.waiting.items ≡ kernels) }
+    {
+        let alloc = *self.waiting.allocator();
+        while self.waiting.len() < usize::from(kernels) {
+            self.waiting.push(VecDeque::new(alloc))?;
+        }
+        Ok(())
+    }
+
+    /// A marker goes out to each of so many kernels, behind all packets so far.
+    pub fn mark(&mut self, kernels: u8) -> Result<(), NoMemory>
+        requires lists { length self.old.waiting.items ≤ kernels }
+        requires within { GoWithin kernels self.old.unsent.items }
+        ensures letters { OnOk result ((to : ℕ) → outbox_to self.new to ≡ outbox_to self.old to ++ markers_to kernels to) }
+        ensures unsent { OnOk result (self.new.unsent.items ≡ []) }
+        ensures lists { OnOk result (length self.new.waiting.items ≡ kernels) }
+    {
+        self.make_lists(kernels)?;
+        self.let_wait()?;
+        self.mark_each()?;
+        Ok(())
+    }
+
+    /// A marker waits behind the letters of each list.
+    fn mark_each(&mut self) -> Result<(), NoMemory>
+        ensures waiting { OnOk result ((to : ℕ) → waiting_to self.new to ≡ waiting_to self.old to ++ markers_to (length self.old.waiting.items) to) }
+        ensures unsent { OnOk result (self.new.unsent ≡ self.old.unsent) }
+        ensures lists { OnOk result (length self.new.waiting.items ≡ length self.old.waiting.items) }
+    {
+        for to in 0..self.waiting.len() {
+            let list = &mut self.waiting[to];
+            list.push_back(Letter::Marker)?;
+        }
+        Ok(())
+    }
+
+    /// Each unsent packet waits, where there is a list for each kernel.
+    fn let_wait(&mut self) -> Result<(), NoMemory>
+        requires within { GoWithin (length self.old.waiting.items) self.old.unsent.items }
+        ensures letters { OnOk result ((to : ℕ) → outbox_to self.new to ≡ outbox_to self.old to) }
+        ensures unsent { OnOk result (self.new.unsent.items ≡ []) }
+        ensures lists { OnOk result (length self.new.waiting.items ≡ length self.old.waiting.items) }
+    {
+        while let Some((to, packet)) = self.unsent.pop_front() {
+            let list = &mut self.waiting[usize::from(to)];
+            list.push_back(Letter::Packet(packet))?;
+        }
+        Ok(())
+    }
+}
+
+/// Puts the first letters of a list to a kernel, while they are accepted. Whether one was put.
+fn put_first(list: &mut VecDeque<Letter>, to: u8, port: &mut Port) -> bool
+    requires kernel { to < kernels_of (place_of port.old) }
+    requires letters { MayAllBePut (put_to port.old to) list.old.items }
+    ensures puts { PutsFirst to list.old.items list.new.items port.old port.new }
+    ensures some { result ≡ true → length list.new.items < length list.old.items }
+    ensures none { result ≡ false → list.new.items ≡ list.old.items }
+{
+    let mut some = false;
+    while let Some(letter) = list.pop_front() {
+        if let Err(back) = port.put(to, letter) {
+            list.push_front_reserved(back);
+            return some;
+        }
+        some = true;
+    }
+    some
+}
+
+fn either(a: bool, b: bool) -> bool
+    ensures { result ≡ (a || b) }
+{
+    a || b
+}
