@@ -1,4 +1,4 @@
-use Rattle.std.proofs.Common.{◌≡◌, ◌≢◌, ◌<◌, ◌≤◌, length, set, ap, sym, ◌∙◌, arith, rules}
+use Rattle.std.proofs.Common.{◌<◌, ◌≤◌, length, set, ap, sym, ◌∙◌, arith, rules}
 use Rattle.std.specs.Prelude.{slice_index_or}
 use Rattle.program_round.specs.declared.doing.Doing.TheVariants.{Answered}
 use Rattle.program_round.proofs.Answering.{away-more, found-at, found-nowhere, other-number, same-number}
