@@ -1,4 +1,4 @@
-use Rattle.std.proofs.Common.{◌≡◌, ◌<◌, ◌≤◌, true, false, ◌++◌, length}
+use Rattle.std.proofs.Common.{◌≡◌, ◌<◌, true, false, length}
 use Rattle.kernel_net.specs.Ports.{kernels_of, place_of, put_to}
 use Rattle.kernel_outbox.specs.Letters.{MayAllBePut, PutsSome}
 use Rattle.kernel_outbox.proofs.outbox.put_first.Given as goal

@@ -1,5 +1,4 @@
 use Rattle.std.proofs.Common.{◌<◌, length, length-set, subst, sym, ◌∙◌}
-use Rattle.kernel_named.specs.Named.{GoWithin}
 use Rattle.kernel_outbox.proofs.Going.{head-there, rest-there}
 use Rattle.kernel_outbox.proofs.Waiting.{waits-next}
 use Rattle.kernel_outbox.proofs.outbox.Outbox.let_wait.Goals as goal

@@ -5,7 +5,7 @@ use Rattle.kernel_outbox.proofs.Putting.{both-fewer, both-less, both-letters, ma
 use Rattle.kernel_outbox.proofs.outbox.Outbox.put.Goals as goal
 
 pub put_waiting-waited-requires-clause-lists : goal.put_waiting-waited-requires-clause-lists
-put_waiting-waited-requires-clause-lists c = (c.requires.lists, omega (arith, c.requires.lists, c.kernels.ensures.number, c.kernels.ensures.most))
+put_waiting-waited-requires-clause-lists c = (c.requires.lists, omega (arith, c.requires.lists, c.kernels-kernels.ensures.number, c.kernels-kernels.ensures.most))
 
 pub put_waiting-waited-requires-clause-letters : goal.put_waiting-waited-requires-clause-letters
 put_waiting-waited-requires-clause-letters c q = may-front (put_to c.args.port.now q) (waiting_to c.args.self.now q) (letters_for q c.args.self.now.unsent.items) (c.requires.letters q)

@@ -1,4 +1,4 @@
-use Rattle.std.proofs.Common.{◌<◌, ◌≤◌, ◌+◌, ℕ, length, length-set, set, ◌∙◌, arith, rules}
+use Rattle.std.proofs.Common.{◌<◌, ◌+◌, length, length-set, set, ◌∙◌, arith, rules}
 use Rattle.kernel_outbox.specs.Letters.{waiting_to}
 use Rattle.kernel_outbox.proofs.Putting.{none-more, put-fewer, put-full, put-letters, put-may, put-none, put-some, some-more}
 use Rattle.kernel_outbox.proofs.Waiting.{waits_in}
