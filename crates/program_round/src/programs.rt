@@ -1,5 +1,5 @@
-ghost use Rattle.std.specs.Prelude.{◌≡◌, ◌≢◌, ◌↔◌, ◌+◌, ◌<◌, ◌≤◌, ℕ, Some, IfOk, OnOk, IfSome, IfNone, IsTrue, MatchOption, replicate, set, length, slice_get, slice_index_or};
-ghost use Rattle.charlotte_calls.specs.Program.{MayFollow};
+ghost use Rattle.std.specs.Prelude.{◌≡◌, ◌≢◌, ◌↔◌, ◌⊎◌, ◌+◌, ◌<◌, ◌≤◌, ℕ, Some, IfOk, OnOk, IfSome, IfNone, IsTrue, MatchOption, replicate, set, length, slice_get, slice_index_or};
+ghost use Rattle.charlotte_calls.specs.Program.{EndsAfterExit, IsOfVersion, MayFollow};
 ghost use Rattle.charlotte_calls.specs.declared.names.Pid.{Pid as APid};
 ghost use Rattle.program_round.specs.Doings.{IsNextToGo, NoneCanGo, NoneCanGoWithin, IsFirstToGo, all_answered, answered_at, behind, can_go_on, doing_after, doing_at};
 
@@ -88,6 +88,10 @@ impl<P: Program> Programs<P> {
         requires given { (d : APid × P) → MayFollow (P.last (slice_index_or self.old.all.items place d).1) answer }
         ensures step { IfOk result (λ made. (d : APid × P) → (made, P.state (slice_index_or self.new.all.items place d).1) ≡ P.step (P.state (slice_index_or self.old.all.items place d).1) answer) }
         ensures last { IfOk result (λ made. (d : APid × P) → P.last (slice_index_or self.new.all.items place d).1 ≡ Some made) }
+        ensures exit { IfOk result (λ made. (d : APid × P) → EndsAfterExit (P.last (slice_index_or self.old.all.items place d).1) made) }
+        ensures limit { IfOk result (λ made. (d : APid × P) → IsOfVersion (P.version (slice_index_or self.old.all.items place d).1) made) }
+        ensures version { IfOk result (λ made. (d : APid × P) → P.version (slice_index_or self.new.all.items place d).1 ≡ P.version (slice_index_or self.old.all.items place d).1) }
+        ensures one_or_two { (d : APid × P) → (P.version (slice_index_or self.old.all.items place d).1 ≡ 1) ⊎ (P.version (slice_index_or self.old.all.items place d).1 ≡ 2) }
         ensures same { (d : APid × P) → (slice_index_or self.new.all.items place d).0 ≡ (slice_index_or self.old.all.items place d).0 }
         ensures others { (q : ℕ) (d : APid × P) → q ≢ place → slice_index_or self.new.all.items q d ≡ slice_index_or self.old.all.items q d }
         ensures count { length self.new.all.items ≡ length self.old.all.items }
