@@ -1,5 +1,5 @@
 /* launch REPORT PROGRAM WORD..: runs a program, and writes to the file REPORT one line with its exit status (or 256 and more where a
-   signal ended it), its processor time in microseconds, user and system, and the most kilobytes that it held.
+   signal ended it), its processor time in microseconds, user and system, the most kilobytes that it held, and its page faults that took no reading.
 
    The benches start programs by it, since a process that Python starts itself is told to have held as much as Python did. */
 #include <stdio.h>
@@ -29,6 +29,7 @@ int main(int count, char **words) {
 #else
   long kilobytes = used.ru_maxrss;
 #endif
-  fprintf(report, "%d %lld %ld\n", code, microseconds(used.ru_utime) + microseconds(used.ru_stime), kilobytes);
+  long long time = microseconds(used.ru_utime) + microseconds(used.ru_stime);
+  fprintf(report, "%d %lld %ld %ld\n", code, time, kilobytes, used.ru_minflt);
   return fclose(report) ? 2 : 0;
 }

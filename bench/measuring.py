@@ -22,9 +22,10 @@ TOLD_APART = 1 << 19
 
 @dataclass
 class Run:
-    """The processor seconds of a run, user and system, and the bytes that it held at most."""
+    """The processor seconds of a run, user and system, the bytes that it held at most, and its page faults."""
     seconds: float
     held: int
+    faults: int
 
 
 def build():
@@ -97,18 +98,19 @@ class Bench:
             launch = [self.launch, self.path('report')] + self.programs[place] + words
             subprocess.run(launch, stdin=subprocess.DEVNULL, stdout=sink, stderr=sink, check=True)
         with open(self.path('report')) as report:
-            status, microseconds, kilobytes = map(int, report.read().split())
-        return status, Run(microseconds / 1e6, kilobytes * 1024)
+            status, microseconds, kilobytes, faults = map(int, report.read().split())
+        return status, Run(microseconds / 1e6, kilobytes * 1024, faults)
 
     def fastest(self, words, want, runs):
-        """Of each program the least seconds and the most held, as they run in turn; each has to end with the status that is wanted."""
-        best = [Run(math.inf, 0) for _ in self.programs]
+        """Of each program the least seconds, the most held and the most page faults, as they run in turn; each has to end with the status that is wanted."""
+        best = [Run(math.inf, 0, 0) for _ in self.programs]
         for _ in range(runs):
             for place, program in enumerate(self.programs):
                 status, run = self.once(place, words)
                 if status != want:
                     sys.exit(f'bench: {" ".join(program + words)} ended with status {status}')
-                best[place] = Run(min(best[place].seconds, run.seconds), max(best[place].held, run.held))
+                most = best[place]
+                best[place] = Run(min(most.seconds, run.seconds), max(most.held, run.held), max(most.faults, run.faults))
         if len(best) == 2 and not filecmp.cmp(self.out(0), self.out(1), shallow=False):
             sys.exit(f'bench: lynx and the plain program put different texts for {" ".join(words)}')
         return best
@@ -116,7 +118,7 @@ class Bench:
 
 def net(runs, base):
     """The runs less what a run of next to nothing takes."""
-    return [Run(max(run.seconds - least.seconds, 1e-6), max(run.held - least.held, 1)) for run, least in zip(runs, base)]
+    return [Run(max(run.seconds - least.seconds, 1e-6), max(run.held - least.held, 1), run.faults - least.faults) for run, least in zip(runs, base)]
 
 
 def ratios(runs, nets):

@@ -6,14 +6,16 @@ longest transcript that a script can give rise to with the one that is made here
 import math
 import re
 
-from scripts import KINDS as SCRIPTS, MOST_LINKS, header
+from scripts import KINDS as SCRIPTS, MOST_LINKS, each, header, numbered
 
 # What stands before the pieces of a kind, and the piece. Eight kernels are steady over two rings.
-KINDS = {kind: SCRIPTS[kind] for kind in ('rounds', 'long', 'coded', 'moves', 'eight')}
+KINDS = {kind: SCRIPTS[kind] for kind in ('rounds', 'long', 'coded', 'moves', 'eight', 'reports', 'queues', 'waiting', 'wires')}
 KINDS['kernels'] = (SCRIPTS['kernels'][0], SCRIPTS['kernels'][1] * 2)
-KINDS['makes'] = (header(8, range(8), []), ''.join(f'p{i} make\n' for i in range(8)))
+KINDS['makes'] = KINDS['exits'] = (header(8, range(8), []), each(8, 'make'))
+# What stands behind the pieces of a kind.
+AFTER = {'exits': each(8, 'exit')}
 # So many pieces there can be: a kernel makes no more links.
-MOST_PIECES = {'makes': MOST_LINKS}
+MOST_PIECES = {'makes': MOST_LINKS, 'exits': MOST_LINKS, 'reports': MOST_LINKS, 'queues': MOST_LINKS, 'waiting': MOST_LINKS, 'wires': MOST_LINKS - 512}
 # So many pieces are performed before the lines are steady.
 FIRST = 4
 
@@ -53,12 +55,18 @@ class Lines:
         return self.text % tuple([first + growth * piece for first, growth in self.numbers])
 
 
+def last_line(transcript):
+    return transcript.decode('ascii').splitlines(keepends=True)[-1]
+
+
 class Repeated:
     """A piece that is repeated behind what stands before it. `perform` gives the transcript of a script."""
 
     def __init__(self, before, piece, perform):
-        runs = [entries_of(perform(before + piece * count)) for count in range(FIRST, FIRST + 4)]
+        performed = [perform(before + numbered(piece, count)) for count in range(FIRST, FIRST + 4)]
+        runs = [entries_of(transcript) for transcript in performed]
         self.header, self.start = runs[0]
+        self.end = last_line(performed[0])
         self.steady = {}
         for kernel, last in runs[3][1].items():
             ends = [len(entries.get(kernel, [])) for _, entries in runs]
@@ -68,7 +76,7 @@ class Repeated:
     def transcript(self, pieces, size=math.inf):
         """The transcript of so many pieces, but of no more than have room in so many bytes."""
         placed = [(int(text.split(' ', 1)[0]), kernel, text) for kernel, entries in self.start.items() for text in entries]
-        room = size - len(self.header) - len('quiet\n') - sum(len(text) for _, _, text in placed)
+        room = size - len(self.header) - len(self.end) - sum(len(text) for _, _, text in placed)
         for piece in range(pieces - FIRST):
             more = [(kernel, lines.of(piece)) for kernel, entries in self.steady.items() for lines in entries]
             room -= sum(len(text) for _, text in more)
@@ -76,4 +84,16 @@ class Repeated:
                 break
             placed += [(int(text.split(' ', 1)[0]), kernel, text) for kernel, text in more]
         placed.sort()
-        return (self.header + ''.join([text for _, _, text in placed]) + 'quiet\n').encode('ascii')
+        return (self.header + ''.join([text for _, _, text in placed]) + self.end).encode('ascii')
+
+
+class Exits(Repeated):
+    """Pieces that are one Make at each of eight kernels, and then each of the processes that made them exits; what they send is not taken."""
+
+    def transcript(self, pieces, size=math.inf):
+        makes = super().transcript(pieces, size - len(self.exits(MOST_LINKS))).decode('ascii')
+        made = makes.count('\n. make ') // 8
+        return (makes[: -len(self.end)] + self.exits(made + 1) + 'open\n').encode('ascii')
+
+    def exits(self, stamp):
+        return ''.join(f'{stamp} k{kernel} p{kernel} exit\n. exit p{kernel}\n' for kernel in range(8))

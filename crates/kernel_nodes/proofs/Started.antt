@@ -11,7 +11,7 @@ use Rattle.kernel_world.specs.World.{start}
 use Rattle.kernel_nodes.specs.Nodes.{sent_to, world_of, IsNodeOf}
 use Rattle.kernel_nodes.specs.declared.node.Node.{Node}
 use Rattle.kernel_nodes.proofs.Worlds.{state_at}
-use Rattle.kernel_nodes.proofs.Sent.{Lists, sent_in, IsEmptyList, no-pictures, nothing_sent}
+use Rattle.kernel_nodes.proofs.Sent.{Queues, sent_in, IsEmptyQueue, nothing_sent}
 
 get_or-push : {X : Type 0} (ys : List X) (y d : X) (q : ℕ) → (q ≡ length ys → y ≡ d) → get_or (ys ++ y ∷ []) q d ≡ get_or ys q d
 get_or-push [] y d zero same = same refl
@@ -47,20 +47,20 @@ starting-more s n ns node is state sent of =
 -- ---- quiet
 
 abbrev pub IsQuietNode : Node → Type 0
-IsQuietNode node = All IsEmptyList node.sent.items
+IsQuietNode node = All IsEmptyQueue node.sent.items
 
 pub all-taken : (s : Setting) (ns : List Node) → All IsQuietNode ns → AllTaken (world_of s ns)
 all-taken s [] all from to = refl
 all-taken s (n ∷ ns) all zero to = nothing_sent n.sent.items (All-head IsQuietNode n ns all) to
 all-taken s (n ∷ ns) all (suc from) to = all-taken s ns (All-tail IsQuietNode n ns all) from to
 
-empty-lists : (lists : Lists) → ((to : ℕ) → sent_in lists to ≡ []) → All IsEmptyList lists
-empty-lists [] none = All-nil IsEmptyList
-empty-lists (x ∷ xs) none = All-cons IsEmptyList x xs (no-pictures x.items (none 0)) (empty-lists xs (λ to. none (suc to)))
+empty-queues : (queues : Queues) → ((to : ℕ) → sent_in queues to ≡ []) → All IsEmptyQueue queues
+empty-queues [] none = All-nil IsEmptyQueue
+empty-queues (x ∷ xs) none = All-cons IsEmptyQueue x xs (none 0) (empty-queues xs (λ to. none (suc to)))
 
 pub all-quiet : (ns : List Node) → ((from to : ℕ) → get_or (map sent_to ns) from (λ _. []) to ≡ []) → All IsQuietNode ns
 all-quiet [] none = All-nil IsQuietNode
-all-quiet (n ∷ ns) none = All-cons IsQuietNode n ns (empty-lists n.sent.items (none 0)) (all-quiet ns (λ from. none (suc from)))
+all-quiet (n ∷ ns) none = All-cons IsQuietNode n ns (empty-queues n.sent.items (none 0)) (all-quiet ns (λ from. none (suc from)))
 
 -- ---- either way
 
@@ -77,7 +77,7 @@ empty-or-not (x ∷ xs) = inr (λ e. absurd (cc))
 
 -- packets are under way, or none is
 pub quiet-or-not : (s : Setting) (ns : List Node) → AllTaken (world_of s ns) ⊎ (AllTaken (world_of s ns) → ⊥)
-quiet-or-not s ns = elim (all-or-not IsQuietNode (λ n. all-or-not IsEmptyList (λ list. empty-or-not list.items) n.sent.items) ns) [
+quiet-or-not s ns = elim (all-or-not IsQuietNode (λ n. all-or-not IsEmptyQueue empty-or-not n.sent.items) ns) [
   | inl all ↦ inl (all-taken s ns all)
   | inr other ↦ inr (λ taken. other (all-quiet ns taken))
 ]

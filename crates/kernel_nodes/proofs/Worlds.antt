@@ -18,7 +18,9 @@ use Rattle.kernel_step.specs.Kernel.{Kernel, Outcome, call_step, take_step, with
 use Rattle.kernel_step.specs.Start.{start_kernel}
 use Rattle.kernel_world.specs.World.{World, Event, Calls, Takes, kernel_of, outcome, removes, rest, adds_all, takes_first, to_kernel}
 use Rattle.kernel_world.proofs.Packets.{adds_all-own, adds_all-other}
-use Rattle.kernel_nodes.specs.Nodes.{picture_in, sent_to, AreNodes, Happens, IsNodeOf, IsNotedOf, IsAfter, IsFirst, TakesTold, world_of}
+use Rattle.packet_queue.specs.Queue.{picture_in, pictures}
+use Rattle.packet_queue.specs.declared.packed.Packed.{Packed}
+use Rattle.kernel_nodes.specs.Nodes.{sent_to, AreNodes, Happens, IsNodeOf, IsNotedOf, IsAfter, IsFirst, TakesTold, world_of}
 use Rattle.kernel_nodes.specs.declared.node.Node.{Node}
 use Rattle.kernel_nodes.specs.declared.nodes.Noted.{Noted}
 use Rattle.kernel_nodes.proofs.Lists.{map-set_same, map-set_other, map-read}
@@ -251,15 +253,22 @@ from_there s ns from to q are first = subst (λ n. from < n) are.count (below-re
     nothing : get_or (map sent_to ns) from (λ _. []) ≡ (λ _. []) → ⊥
     nothing e = let no : Some q ≡ None = first ∙ ap (λ (f : ℕ → List Picture). slice_get (f to) 0) e in absurd (cc)
 
--- a packet that is under way is in the list of its node
-pub is_there : (list : List (ℕ × Packet)) (q : Picture) → slice_get (map picture_in list) 0 ≡ Some q → (sent : ℕ × Packet) × (others : List (ℕ × Packet)) × (list ≡ sent ∷ others)
-is_there [] q first = let no : None ≡ Some q = first in absurd (cc)
-is_there (sent ∷ others) q first = (sent, others, refl)
+-- a packet that is under way is in the queue of its node, and the first of those in front
+pub is_there : (front : List (ℕ × Packet)) (behind : List Packed) (q : Picture) → (front ≡ [] → behind ≡ []) → slice_get (pictures front behind) 0 ≡ Some q → (sent : ℕ × Packet) × (others : List (ℕ × Packet)) × (front ≡ sent ∷ others)
+is_there [] behind q empty first =
+    let no : None ≡ Some q = sym (ap (λ b. slice_get (pictures [] b) 0) (empty refl)) ∙ first in absurd (cc)
+is_there (sent ∷ others) behind q empty first = (sent, others, refl)
 
-pub under_way : (s : Setting) (ns : List Node) (from to i : ℕ) (q : Picture) (node : Node) (list : List (ℕ × Packet)) → from ≡ i → i < length ns → node ≡ get_or ns i node → map picture_in list ≡ sent_to node to
-    → slice_get ((world_of s ns).packets from to) 0 ≡ Some q → (sent : ℕ × Packet) × (others : List (ℕ × Packet)) × (list ≡ sent ∷ others)
-under_way s ns from to i q node list is_i below at is first =
-    is_there list q (ap (λ qs. slice_get qs 0) (is ∙ sym (packets_at s ns i node below at to) ∙ ap (λ m. (world_of s ns).packets m to) (sym is_i)) ∙ first)
+pub under_way : (s : Setting) (ns : List Node) (from to i : ℕ) (q : Picture) (node : Node) (front : List (ℕ × Packet)) (behind : List Packed) → from ≡ i → i < length ns → node ≡ get_or ns i node → pictures front behind ≡ sent_to node to
+    → (front ≡ [] → behind ≡ []) → slice_get ((world_of s ns).packets from to) 0 ≡ Some q → (sent : ℕ × Packet) × (others : List (ℕ × Packet)) × (front ≡ sent ∷ others)
+under_way s ns from to i q node front behind is_i below at is empty first =
+    is_there front behind q empty (ap (λ qs. slice_get qs 0) (is ∙ sym (packets_at s ns i node below at to) ∙ ap (λ m. (world_of s ns).packets m to) (sym is_i)) ∙ first)
+
+-- once the first of those in front is taken
+pub taken-lent : (front left : List (ℕ × Packet)) (behind after : List Packed) (sent : ℕ × Packet) (others : List (ℕ × Packet)) → front ≡ sent ∷ others → left ≡ drop 1 front → after ≡ behind
+    → picture_in sent ∷ pictures left after ≡ pictures front behind
+taken-lent front left behind after sent others is left_is same =
+    ap (λ qs. picture_in sent ∷ qs) (ap (λ l. pictures l after) (left_is ∙ ap (drop 1) is) ∙ ap (pictures others) same) ∙ sym (ap (λ f. pictures f behind) is)
 
 same-number : (n : ℕ) → nat_eq n n ≡ true
 same-number n = elim (eqb_tells n n) [
@@ -267,24 +276,19 @@ same-number n = elim (eqb_tells n n) [
   | inr e ↦ absurd (e.1 refl)
 ]
 
--- all packets but the first
-all-but-first : (list : List (ℕ × Packet)) → map picture_in (drop 1 list) ≡ rest (map picture_in list)
-all-but-first [] = refl
-all-but-first (sent ∷ others) = refl
-
--- once the node of kernel i lent a list, each node is one of the setting still
+-- once the node of kernel i lent a queue, each node is one of the setting still
 pub after-lent : (s : Setting) (ns : List Node) (i j : ℕ) (n0 n1 m0 : Node) → AreNodes s ns → i < length ns → n0 ≡ get_or ns i n0 → n1.kernel ≡ n0.kernel → length n1.sent.items ≡ length n0.sent.items → j < length ns
     → m0 ≡ get_or (set ns i n1) j m0 → IsNodeOf s m0
 after-lent s ns i j n0 n1 m0 are below at kernel lists below_to at_taker =
     let one = with_sent s ns i n0 n1 below at are.nodes kernel lists in
     node_at s (set ns i n1) j m0 one.nodes (subst (λ m. j < m) (sym one.count) below_to) at_taker
 
--- node i lends its list of packets to kernel `to`, node j takes the first of it, and the list goes back; at last node j sends
-pub record IsTaking (ns : List Node) (to i j : ℕ) (list left : List (ℕ × Packet)) (n0 n1 m0 m1 p0 p1 r0 : Node) : Type 0 where
+-- node i lends its queue of packets to kernel `to`, node j takes the first of it, and the queue goes back; at last node j sends
+pub record IsTaking (ns : List Node) (to i j : ℕ) (first : Picture) (left : List Picture) (n0 n1 m0 m1 p0 p1 r0 : Node) : Type 0 where
   pub below : i < length ns
   pub below_to : j < length ns
   pub lends_at : n0 ≡ get_or ns i n0
-  pub lent : map picture_in list ≡ sent_to n0 to
+  pub lent : first ∷ left ≡ sent_to n0 to
   pub lends : n1.kernel ≡ n0.kernel
   pub lends_lists : length n1.sent.items ≡ length n0.sent.items
   pub lends_others : (q : ℕ) → q ≢ to → sent_to n1 q ≡ sent_to n0 q
@@ -292,15 +296,14 @@ pub record IsTaking (ns : List Node) (to i j : ℕ) (list left : List (ℕ × Pa
   pub takes : m1.sent ≡ m0.sent
   pub takes_processes : length m1.kernel.processes ≡ length m0.kernel.processes
   pub takes_kernels : m1.kernel.kernels ≡ m0.kernel.kernels
-  pub left_is : left ≡ drop 1 list
   pub gets_at : p0 ≡ get_or (set (set ns i n1) j m1) i p0
-  pub gets_list : sent_to p1 to ≡ map picture_in left
+  pub gets_list : sent_to p1 to ≡ left
   pub gets : p1.kernel ≡ p0.kernel
   pub gets_lists : length p1.sent.items ≡ length p0.sent.items
   pub gets_others : (q : ℕ) → q ≢ to → sent_to p1 q ≡ sent_to p0 q
   pub sends_at : r0 ≡ get_or (set (set (set ns i n1) j m1) i p1) j r0
 
-module _ (s : Setting) (ns : List Node) (from to : ℕ) (are : AreNodes s ns) (list left : List (ℕ × Packet)) (n0 n1 m0 m1 p0 p1 r0 : Node) (is : IsTaking ns to from to list left n0 n1 m0 m1 p0 p1 r0) where
+module _ (s : Setting) (ns : List Node) (from to : ℕ) (are : AreNodes s ns) (first : Picture) (left : List Picture) (n0 n1 m0 m1 p0 p1 r0 : Node) (is : IsTaking ns to from to first left n0 n1 m0 m1 p0 p1 r0) where
   abbrev w : World
   w = world_of s ns
 
@@ -336,7 +339,7 @@ module _ (s : Setting) (ns : List Node) (from to : ℕ) (are : AreNodes s ns) (l
 
   inner : (t : ℕ) → sent_to p1 t ≡ cond (nat_eq t to) (rest (w.packets from t)) (w.packets from t)
   inner t = elim (eqb_tells t to) as (λ _. sent_to p1 t ≡ cond (nat_eq t to) (rest (w.packets from t)) (w.packets from t)) [
-    | inl x ↦ ap (sent_to p1) x.1 ∙ is.gets_list ∙ ap (map picture_in) is.left_is ∙ all-but-first list ∙ ap rest (is.lent ∙ sym (packets_at s ns from n0 is.below is.lends_at to))
+    | inl x ↦ ap (sent_to p1) x.1 ∙ is.gets_list ∙ ap rest (is.lent ∙ sym (packets_at s ns from n0 is.below is.lends_at to))
         ∙ ap (λ i. rest (w.packets from i)) (sym x.1) ∙ sym (ap (λ b. cond b (rest (w.packets from t)) (w.packets from t)) x.0)
     | inr x ↦ is.gets_others t x.1 ∙ sym (packets_at s took from p0 below_two is.gets_at t) ∙ two.packets_are from t ∙ one.packets_are from t
         ∙ ap (λ b. cond b (sent_to n1 t) (w.packets from t)) (same-number from) ∙ is.lends_others t x.1 ∙ sym (packets_at s ns from n0 is.below is.lends_at t)
@@ -364,13 +367,13 @@ module _ (s : Setting) (ns : List Node) (from to : ℕ) (are : AreNodes s ns) (l
   same : state_of r0.kernel ≡ state_of m1.kernel
   same = sym (kernel_at s back to r0 below_three is.sends_at) ∙ three.kernel to ∙ two.kernel to ∙ ap (λ b. cond b (state_of m1.kernel) ((world_of s lent).kernel to)) (same-number to)
 
-  take_happens : (r1 : Node) (first : ℕ × Packet) (others : List (ℕ × Packet)) (effect : Effect) (noted : Noted) → list ≡ first ∷ others → ended (state_of m1.kernel) effect ≡ take_step (state_of m0.kernel) from (picture_in first) → effect.stamp ≡ m1.kernel.stamp
+  take_happens : (r1 : Node) (effect : Effect) (noted : Noted) → ended (state_of m1.kernel) effect ≡ take_step (state_of m0.kernel) from first → effect.stamp ≡ m1.kernel.stamp
       → IsSentBy effect noted r0 r1 → Happens s (Takes to from) noted ns (set back to r1)
-  take_happens r1 first others effect noted begins step stamp sent =
+  take_happens r1 effect noted step stamp sent =
       event_happens s ns back r0 r1 (Takes to from) noted are below_three is.sends_at readied (gives (λ o. IsAfter o r0 r1) after) (gives (λ o. IsNotedOf o noted) (noted-of m1.kernel effect o noted about sent.stamp sent.steps))
     where
       o : Outcome
-      o = take_step (state_of m0.kernel) from (picture_in first)
+      o = take_step (state_of m0.kernel) from first
 
       about : IsEffectOf m1.kernel effect o
       about = effect_of m1.kernel effect o step stamp
@@ -384,31 +387,31 @@ module _ (s : Setting) (ns : List Node) (from to : ℕ) (are : AreNodes s ns) (l
         lists = sent.lists;
       }
 
-      held : w.packets from to ≡ picture_in first ∷ map picture_in others
-      held = packets_at s ns from n0 is.below is.lends_at to ∙ sym is.lent ∙ ap (map picture_in) begins
+      held : w.packets from to ≡ first ∷ left
+      held = packets_at s ns from n0 is.below is.lends_at to ∙ sym is.lent
 
       was : state_of m0.kernel ≡ w.kernel to
       was = sym (kernel_at s lent to m0 (subst (λ m. to < m) (sym one.count) is.below_to) is.takes_at) ∙ one.kernel to
 
       gives : (P : Outcome → Type 0) → P o → P (takes_first (w.kernel to) from (w.packets from to))
-      gives P h = subst (λ (qs : List Picture). P (takes_first (w.kernel to) from qs)) (sym held) (subst (λ (x : Kernel). P (take_step x from (picture_in first))) was h)
+      gives P h = subst (λ (qs : List Picture). P (takes_first (w.kernel to) from qs)) (sym held) (subst (λ (x : Kernel). P (take_step x from first)) was h)
 
 -- the same, where the nodes are found by equal numbers
 abbrev TakeHappens : Setting → List Node → ℕ → ℕ → ℕ → ℕ → Type 0
 TakeHappens s ns from to i j =
-    (list left : List (ℕ × Packet)) (n0 n1 m0 m1 p0 p1 r0 r1 : Node) (first : ℕ × Packet) (others : List (ℕ × Packet)) (effect : Effect) (noted : Noted) → IsTaking ns to i j list left n0 n1 m0 m1 p0 p1 r0 → list ≡ first ∷ others
-    → ended (state_of m1.kernel) effect ≡ take_step (state_of m0.kernel) from (picture_in first) → effect.stamp ≡ m1.kernel.stamp → IsSentBy effect noted r0 r1
+    (first : Picture) (left : List Picture) (n0 n1 m0 m1 p0 p1 r0 r1 : Node) (effect : Effect) (noted : Noted) → IsTaking ns to i j first left n0 n1 m0 m1 p0 p1 r0
+    → ended (state_of m1.kernel) effect ≡ take_step (state_of m0.kernel) from first → effect.stamp ≡ m1.kernel.stamp → IsSentBy effect noted r0 r1
     → Happens s (Takes to from) noted ns (set (set (set (set ns i n1) j m1) i p1) j r1)
 
 pub take_happens_at : (s : Setting) (ns : List Node) (from to i j : ℕ) → AreNodes s ns → from ≡ i → to ≡ j → TakeHappens s ns from to i j
 take_happens_at s ns from to i j are is_i is_j =
     subst (λ m. TakeHappens s ns from to i m) is_j (subst (λ m. TakeHappens s ns from to m to) is_i
-    (λ list left n0 n1 m0 m1 p0 p1 r0 r1 first others effect noted is. take_happens s ns from to are list left n0 n1 m0 m1 p0 p1 r0 is r1 first others effect noted))
+    (λ first left n0 n1 m0 m1 p0 p1 r0 r1 effect noted is. take_happens s ns from to are first left n0 n1 m0 m1 p0 p1 r0 is r1 effect noted))
 
 abbrev ListsFit : Setting → List Node → ℕ → ℕ → ℕ → ℕ → Type 0
 ListsFit s ns from to i j =
-    (list left : List (ℕ × Packet)) (n0 n1 m0 m1 p0 p1 r0 : Node) → IsTaking ns to i j list left n0 n1 m0 m1 p0 p1 r0 → m1.kernel.kernels ≡ length r0.sent.items
+    (first : Picture) (left : List Picture) (n0 n1 m0 m1 p0 p1 r0 : Node) → IsTaking ns to i j first left n0 n1 m0 m1 p0 p1 r0 → m1.kernel.kernels ≡ length r0.sent.items
 
 pub takes-lists_at : (s : Setting) (ns : List Node) (from to i j : ℕ) → AreNodes s ns → from ≡ i → to ≡ j → ListsFit s ns from to i j
 takes-lists_at s ns from to i j are is_i is_j =
-    subst (λ m. ListsFit s ns from to i m) is_j (subst (λ m. ListsFit s ns from to m to) is_i (λ list left n0 n1 m0 m1 p0 p1 r0 is. takes-lists s ns from to are list left n0 n1 m0 m1 p0 p1 r0 is))
+    subst (λ m. ListsFit s ns from to i m) is_j (subst (λ m. ListsFit s ns from to m to) is_i (λ first left n0 n1 m0 m1 p0 p1 r0 is. takes-lists s ns from to are first left n0 n1 m0 m1 p0 p1 r0 is))

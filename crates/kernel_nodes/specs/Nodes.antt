@@ -12,13 +12,9 @@ use Rattle.kernel_world.specs.World.{World, Event, Takes, happens, outcome, to_k
 use Rattle.kernel_nodes.specs.declared.node.Node.{Node}
 use Rattle.kernel_nodes.specs.declared.nodes.Noted.{Noted}
 
--- a packet that an event gave, as plain data
-abbrev pub picture_in : ℕ × Packet → Picture
-picture_in sent = packet_picture sent.1
-
 -- the packets that a kernel sent to a kernel and that were not taken, oldest first
 abbrev pub sent_to : Node → ℕ → List Picture
-sent_to node to = slice_index_or (map (λ list. map picture_in list.items) node.sent.items) to []
+sent_to node to = slice_index_or node.sent.items to []
 
 -- a node of a setting: it has a place for each process and a list for each kernel
 pub record IsNodeOf (s : Setting) (node : Node) : Type 0 where

@@ -12,26 +12,24 @@ ghost use Rattle.kernel_step.specs.Progress.{sent_picture};
 ghost use Rattle.kernel_step.specs.Start.{start_kernel};
 ghost use Rattle.kernel_step.specs.declared.phase.Phase.TheVariants.{Running};
 ghost use Rattle.kernel_world.specs.World.{to_kernel};
-ghost use Rattle.kernel_nodes.specs.Nodes.{picture_in, sent_to, IsNodeOf, IsAfter, IsNotedOf};
+ghost use Rattle.packet_queue.specs.Queue.{picture_in, waiting};
+ghost use Rattle.kernel_nodes.specs.Nodes.{sent_to, IsNodeOf, IsAfter, IsNotedOf};
 
 use crate::nodes::Noted;
 use charlotte_calls::{NoMemory, ServiceStep, Setting};
 use charlotte_packets::{Effect, Packet};
 use kernel_core::{Kernel, Request};
+use packet_queue::{MOST_IN_FRONT, OpenQueue, PacketQueue};
 use std::alloc::Global;
 use std::collections::VecDeque;
-use std::mem;
 
 /// A kernel, and what it sent.
 #[derive(Drop)]
 pub(crate) struct Node {
     pub(crate) kernel: Kernel,
-    /// The packets that were not taken yet, oldest first, as its events gave them: a list for each kernel that there is.
-    pub(crate) sent: Vec<VecDeque<(u8, Packet)>>,
+    /// The packets that were not taken yet: a queue for each kernel that there is.
+    pub(crate) sent: Vec<PacketQueue>,
 }
-
-/// For how many packets a list without any keeps its room. A longer one, which an exit filled, is let go, and its memory serves other kernels.
-const MOST_KEPT: usize = 64;
 
 impl Node {
     /// A kernel of a setting before any event.
@@ -44,7 +42,7 @@ impl Node {
     {
         Ok(Node {
             kernel: Kernel::start(alloc, id, setting)?,
-            sent: empty_lists(alloc, setting.kernels)?,
+            sent: empty_queues(alloc, setting.kernels)?,
         })
     }
 
@@ -63,51 +61,48 @@ impl Node {
 
     /// Takes the first of the packets that a kernel sent to this one, where it lies. What it brings is taken out of it.
     #[inline(always)]
-    pub(crate) fn take(
-        &mut self,
-        from: u8,
-        waiting: &mut VecDeque<(u8, Packet)>,
-    ) -> Result<Effect, NoMemory>
+    pub(crate) fn take(&mut self, from: u8, waiting: &mut OpenQueue) -> Result<Effect, NoMemory>
         requires from { from < self.old.kernel.kernels }
-        requires some { (sent : ℕ × APacket) × (others : List (ℕ × APacket)) × (waiting.old.items ≡ sent ∷ others) }
-        ensures step { IfOk result (λ effect. (sent : ℕ × APacket) (others : List (ℕ × APacket)) → waiting.old.items ≡ sent ∷ others
+        requires some { (sent : ℕ × APacket) × (others : List (ℕ × APacket)) × (waiting.old.front.items ≡ sent ∷ others) }
+        ensures step { IfOk result (λ effect. (sent : ℕ × APacket) (others : List (ℕ × APacket)) → waiting.old.front.items ≡ sent ∷ others
             → ended (state_of self.new.kernel) effect ≡ take_step (state_of self.old.kernel) from (picture_in sent)) }
-        ensures left { OnOk result (waiting.new.items ≡ drop 1 waiting.old.items) }
+        ensures left { OnOk result (waiting.new.front.items ≡ drop 1 waiting.old.front.items) }
+        ensures behind { waiting.new.behind ≡ waiting.old.behind }
         ensures stamp { IfOk result (λ effect. effect.stamp ≡ self.new.kernel.stamp) }
         ensures there { IfOk result (λ effect. GoWithin self.new.kernel.kernels effect.packets.items) }
         ensures kernels { self.new.kernel.kernels ≡ self.old.kernel.kernels }
         ensures processes { length self.new.kernel.processes ≡ length self.old.kernel.processes }
         ensures sent { self.new.sent ≡ self.old.sent }
     {
-        let effect = self.kernel.take_from(from, &mut waiting[0].1)?;
-        let _taken = waiting.pop_front();
+        let effect = self.kernel.take_from(from, &mut waiting.front[0].1)?;
+        let _taken = waiting.front.pop_front();
         Ok(effect)
     }
 
-    /// Takes out the list of the packets to a kernel.
+    /// Takes out the packets to a kernel.
     #[inline(always)]
-    pub(crate) fn lift(&mut self, to: u8) -> VecDeque<(u8, Packet)>
+    pub(crate) fn lift(&mut self, to: u8) -> OpenQueue
         requires { to < length self.old.sent.items }
-        ensures list { map picture_in result.items ≡ sent_to self.old to }
+        ensures queue { waiting result ≡ sent_to self.old to }
+        ensures front { result.front.items ≡ [] → result.behind.items ≡ [] }
         ensures others { (q : ℕ) → q ≢ to → sent_to self.new q ≡ sent_to self.old q }
         ensures kernel { self.new.kernel ≡ self.old.kernel }
         ensures lists { length self.new.sent.items ≡ length self.old.sent.items }
     {
-        let list = &mut self.sent[usize::from(to)];
-        let alloc = *list.allocator();
-        mem::replace(list, VecDeque::new(alloc))
+        self.sent[usize::from(to)].open()
     }
 
-    /// Puts a list in the place of that of the packets to a kernel.
+    /// Puts packets in the place of those to a kernel.
     #[inline(always)]
-    pub(crate) fn lower(&mut self, to: u8, list: VecDeque<(u8, Packet)>)
+    pub(crate) fn lower(&mut self, to: u8, queue: OpenQueue) -> Result<(), NoMemory>
         requires { to < length self.old.sent.items }
-        ensures list { sent_to self.new to ≡ map picture_in list.items }
+        ensures queue { OnOk result (sent_to self.new to ≡ waiting queue) }
         ensures others { (q : ℕ) → q ≢ to → sent_to self.new q ≡ sent_to self.old q }
         ensures kernel { self.new.kernel ≡ self.old.kernel }
         ensures lists { length self.new.sent.items ≡ length self.old.sent.items }
     {
-        self.sent[usize::from(to)] = kept(list);
+        self.sent[usize::from(to)] = queue.close(to)?;
+        Ok(())
     }
 
     /// Gives the list of the steps of an event that is over back to the kernel.
@@ -135,7 +130,7 @@ impl Node {
         } = effect;
         self.kernel.reuse_answered(answered);
         let sent = self.send_all(packets)?;
-        if sent.capacity() <= MOST_KEPT {
+        if sent.capacity() <= MOST_IN_FRONT {
             self.kernel.reuse(sent);
         }
         Ok(Noted { stamp, steps })
@@ -163,6 +158,9 @@ impl Node {
         ensures sent { OnOk result ((to : ℕ) → sent_to self.new to ≡ sent_to self.old to ++ to_kernel to (map sent_picture packets.items)) }
         ensures lists { length self.new.sent.items ≡ length self.old.sent.items }
     {
+        if packets.capacity() > MOST_IN_FRONT {
+            return self.send_many(packets);
+        }
         match target_of_all(packets.as_slice()) {
             Some(to) if self.sent[usize::from(to)].is_empty() => Ok(self.send_whole(to, packets)),
             _ => self.send_many(packets),
@@ -178,8 +176,7 @@ impl Node {
         ensures sent { (q : ℕ) → sent_to self.new q ≡ sent_to self.old q ++ to_kernel q (map sent_picture packets.items) }
         ensures lists { length self.new.sent.items ≡ length self.old.sent.items }
     {
-        let list = &mut self.sent[usize::from(to)];
-        Vec::from(mem::replace(list, VecDeque::from(packets)))
+        self.sent[usize::from(to)].put_all(packets)
     }
 
     fn send_many(&mut self, packets: Vec<(u8, Packet)>) -> Result<Vec<(u8, Packet)>, NoMemory>
@@ -201,13 +198,8 @@ impl Node {
         ensures sent { OnOk result ((to : ℕ) → sent_to self.new to ≡ sent_to self.old to ++ to_kernel to (map sent_picture packets.items)) }
         ensures lists { length self.new.sent.items ≡ length self.old.sent.items }
     {
-        while let Some((to, _)) = packets.front() {
-            let list = &mut self.sent[usize::from(*to)];
-            list.reserve(1)?;
-            let Some(packet) = packets.pop_front() else {
-                unreachable!()
-            };
-            list.push_back_reserved(packet);
+        while let Some(sent) = packets.pop_front() {
+            self.sent[usize::from(sent.0)].push(sent)?;
         }
         Ok(packets)
     }
@@ -219,17 +211,14 @@ impl Node {
         if usize::from(to) >= self.sent.len() {
             return None;
         }
-        match self.sent[usize::from(to)].front() {
-            Some((_, packet)) => Some(packet),
-            None => None,
-        }
+        self.sent[usize::from(to)].first()
     }
 
     /// Whether no packet of this node waits to be taken.
     pub(crate) fn is_quiet(&self) -> bool
-        ensures { IsTrue result ↔ All (λ list. list.items ≡ []) self.now.sent.items }
+        ensures { IsTrue result ↔ All (λ queue. queue ≡ []) self.now.sent.items }
     {
-        self.sent.iter().all(|list| list.is_empty())
+        self.sent.iter().all(|queue| queue.is_empty())
     }
 }
 
@@ -246,24 +235,12 @@ fn target_of_all(packets: &[(u8, Packet)]) -> Option<u8>
     }
 }
 
-/// The list, or one without room where it has room for many packets and holds none.
-#[inline(always)]
-fn kept(list: VecDeque<(u8, Packet)>) -> VecDeque<(u8, Packet)>
-    ensures { result.items ≡ list.items }
+fn empty_queues(alloc: Global, kernels: u8) -> Result<Vec<PacketQueue>, NoMemory>
+    ensures { IfOk result (λ queues. (length queues.items ≡ kernels) × All (λ queue. queue ≡ []) queues.items) }
 {
-    if list.is_empty() && list.capacity() > MOST_KEPT {
-        VecDeque::new(*list.allocator())
-    } else {
-        list
-    }
-}
-
-fn empty_lists(alloc: Global, kernels: u8) -> Result<Vec<VecDeque<(u8, Packet)>>, NoMemory>
-    ensures { IfOk result (λ lists. (length lists.items ≡ kernels) × All (λ list. list.items ≡ []) lists.items) }
-{
-    let mut lists = Vec::with_capacity(alloc, usize::from(kernels))?;
+    let mut queues = Vec::with_capacity(alloc, usize::from(kernels))?;
     for _ in 0..kernels {
-        lists.push(VecDeque::new(alloc))?;
+        queues.push(PacketQueue::new(alloc))?;
     }
-    Ok(lists)
+    Ok(queues)
 }

@@ -75,7 +75,7 @@ impl Nodes {
         let taker = usize::from(to);
         let mut waiting = self.nodes[sender].lift(to);
         let effect = self.nodes[taker].take(from, &mut waiting)?;
-        self.nodes[sender].lower(to, waiting);
+        self.nodes[sender].lower(to, waiting)?;
         self.nodes[taker].send(effect)
     }
 
@@ -144,7 +144,7 @@ impl Nodes {
 
 /// Whether no packet of these nodes waits to be taken.
 fn are_all_quiet(nodes: &[Node]) -> bool
-    ensures { IsTrue result ↔ All (λ node. All (λ list. list.items ≡ []) node.sent.items) nodes.now }
+    ensures { IsTrue result ↔ All (λ node. All (λ queue. queue ≡ []) node.sent.items) nodes.now }
 {
     nodes.iter().all(|node| node.is_quiet())
 }

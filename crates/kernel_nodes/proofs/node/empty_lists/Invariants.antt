@@ -1,5 +1,0 @@
-use Rattle.std.proofs.Common.{◌≡◌, [], All, length}
-use Rattle.kernel_nodes.proofs.node.empty_lists.Given as goal
-
-abbrev pub invariant-loop : goal.invariant-loop
-invariant-loop l = (length l.lists.items ≡ l.counter) × All (λ list. list.items ≡ []) l.lists.items
