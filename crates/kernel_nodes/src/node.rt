@@ -101,7 +101,8 @@ impl Node {
         ensures kernel { self.new.kernel ≡ self.old.kernel }
         ensures lists { length self.new.sent.items ≡ length self.old.sent.items }
     {
-        self.sent[usize::from(to)] = queue.close(to)?;
+        let left = queue.close(to)?;
+        self.sent[usize::from(to)] = left;
         Ok(())
     }
 

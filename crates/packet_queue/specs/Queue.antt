@@ -1,5 +1,5 @@
 -- Packets that wait, as plain data.
-use Rattle.std.specs.Prelude.{◌≡◌, ℕ, List, [], ◌++◌, map}
+use Rattle.std.specs.Prelude.{ℕ, List, [], ◌++◌, map}
 use Rattle.charlotte_packets.specs.Packets.{packet_picture, what_picture}
 use Rattle.charlotte_packets.specs.declared.packet.Packet.{Packet}
 use Rattle.charlotte_packets.specs.declared.picture.Picture.{Picture}

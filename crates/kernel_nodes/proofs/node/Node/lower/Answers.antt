@@ -5,7 +5,7 @@ use Rattle.kernel_nodes.proofs.node.Node.lower.Goals as goal
 pub returns-clause-queue : goal.returns-clause-queue
 returns-clause-queue c =
     let below : c.from.result < length c.args.self.now.sent.items = search rules in
-    sent_in-set c.args.self.now.sent.items c.from.result c.args.to c.in_ok-close.field-0 c.from.ensures below ∙ c.in_ok-close.ensures
+    sent_in-set c.args.self.now.sent.items c.from.result c.args.to c.in_ok-left.left c.from.ensures below ∙ c.in_ok-left.ensures
 
 pub returns-clause-others : goal.returns-clause-others
-returns-clause-others c = sent_in-others c.args.self.now.sent.items c.from.result c.args.to c.in_ok-close.field-0 c.from.ensures
+returns-clause-others c = sent_in-others c.args.self.now.sent.items c.from.result c.args.to c.in_ok-left.left c.from.ensures

@@ -1,5 +1,4 @@
-use Rattle.std.proofs.Common.{◌≡◌, [], ◌∷◌, List, ◌∙◌, sym, subst, rules}
-use Rattle.charlotte_packets.specs.declared.picture.Picture.{Picture}
+use Rattle.std.proofs.Common.{◌≡◌, [], ◌∙◌, sym, rules}
 use Rattle.packet_queue.proofs.Pictures.{some-pictures}
 use Rattle.packet_queue.proofs.queue.PacketQueue.push.Goals.{else-is_empty-via-then-is_empty+else-len-lt-MOST_IN_FRONT, else-is_empty-via-else-is_empty}
 use Rattle.packet_queue.proofs.queue.PacketQueue.push.Goals as goal

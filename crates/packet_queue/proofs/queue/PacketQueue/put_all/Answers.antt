@@ -1,4 +1,4 @@
-use Rattle.std.proofs.Common.{◌≡◌, [], map, ap, append-nil, ◌∙◌, rules}
+use Rattle.std.proofs.Common.{◌≡◌, map, ap, append-nil, ◌∙◌, rules}
 use Rattle.packet_queue.specs.Queue.{picture_in, pictures}
 use Rattle.packet_queue.proofs.Pictures.{none-behind}
 use Rattle.packet_queue.proofs.queue.PacketQueue.put_all.Goals as goal
