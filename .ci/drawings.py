@@ -20,9 +20,10 @@ sys.dont_write_bytecode = True
 sys.path[:0] = [str(TOP / "share/draw"), str(TOP / ".ci/drawn")]
 sys.path.append(str(TOP / "share/why"))
 
-from draw import Answer, answer_to  # noqa: E402
+from draw import answer_to  # noqa: E402
 from faults import faults_of, faults_of_looks, faults_of_texts  # noqa: E402
 from line import line_sentence  # noqa: E402
+from outside import Answer  # noqa: E402
 from run import fault_of  # noqa: E402
 from seen import SVG, Drawing  # noqa: E402
 
@@ -57,7 +58,7 @@ def try_drawing(tries: Tries, transcript: Path, *options: str) -> None:
     made = draw(transcript, *options)
     name = " ".join([transcript.name, *options])
     tries.expect(made.status == 0 and not made.text, f"{name}: drawn", made.text)
-    faults = faults_of(made.svg.encode(), transcript.read_text(), "--all" in options)
+    faults = faults_of(made.out.encode(), transcript.read_text(), "--all" in options)
     tries.expect(not faults, f"{name}: its drawing", *faults)
 
 
@@ -65,7 +66,7 @@ def try_examples(tries: Tries) -> None:
     for transcript in sorted(EXAMPLES.glob("*.transcript")):
         kept = transcript.with_suffix(".svg")
         made = draw(transcript)
-        tries.expect(kept.exists() and kept.read_text() == made.svg, f"{kept.name} is the drawing of {transcript.name}")
+        tries.expect(kept.exists() and kept.read_text() == made.out, f"{kept.name} is the drawing of {transcript.name}")
         try_drawing(tries, transcript)
         try_drawing(tries, transcript, "--all")
     for transcript in sorted((TOP / ".ci/rows/runs").glob("*.transcript")):
@@ -74,29 +75,29 @@ def try_examples(tries: Tries) -> None:
 
 def write_examples() -> None:
     for transcript in sorted(EXAMPLES.glob("*.transcript")):
-        transcript.with_suffix(".svg").write_text(draw(transcript).svg)
+        transcript.with_suffix(".svg").write_text(draw(transcript).out)
 
 
 def try_choices(tries: Tries) -> None:
     """A run of eight kernels is as wide as a screen, and the words choose of it."""
     try_drawing(tries, BUSY)
-    text, whole = BUSY.read_text(), Drawing(draw(BUSY).svg.encode())
+    text, whole = BUSY.read_text(), Drawing(draw(BUSY).out.encode())
     tries.expect(whole.width <= SCREEN, f"250 events of eight kernels are {whole.width:g} points wide; wanted {SCREEN}")
     stamps = {line: int(one.split(" ")[0]) for line, one in enumerate(text.splitlines(), 1) if re.match(r"\d+ k", one)}
-    part = Drawing(draw(BUSY, "--from", "5", "--to=9").svg.encode())
+    part = Drawing(draw(BUSY, "--from", "5", "--to=9").out.encode())
     tries.expect(part.cards.keys() == {line for line, stamp in stamps.items() if 5 <= stamp <= 9}, "--from and --to choose rows")
     tries.expect(part.height < whole.height / 2, "--from and --to make a drawing smaller")
-    some = Drawing(draw("--ends=0.0a,1.0b", BUSY).svg.encode())
+    some = Drawing(draw("--ends=0.0a,1.0b", BUSY).out.encode())
     tries.expect({end for end, _, _ in some.holds} == {"0.0a", "1.0b"}, "--ends chooses ends")
-    every = Drawing(draw(BUSY, "--all").svg.encode())
+    every = Drawing(draw(BUSY, "--all").out.encode())
     tries.expect(len({end for end, _, _ in every.holds}) == 2 * text.count("\nwire "), "--all shows all ends")
     eight = EXAMPLES / "eight_ends.transcript"
-    folded, single = Drawing(draw(eight).svg.encode()), Drawing(draw(eight, "--all").svg.encode())
+    folded, single = Drawing(draw(eight).out.encode()), Drawing(draw(eight, "--all").out.encode())
     tries.expect(folded.height < single.height * 0.6, "events that are alike share a box")
     for words in (("--from", "9", "--to", "3"), ("--from",), ("--from", "x"), ("--to", "01"), ("--ends", "0.0"), ("--ends", "0.0a,0.0a"),
                   ("--from=1", "--from=2"), ("--all=1",), ("--every",), ("-a",), ("--from", "100000"), ("--ends", "7.9a")):
         made = draw(BUSY, *words)
-        tries.expect(made.status == 1 and not made.svg and made.text.startswith("lynx: "), f"{' '.join(words)} is refused", made.text)
+        tries.expect(made.status == 1 and not made.out and made.text.startswith("lynx: "), f"{' '.join(words)} is refused", made.text)
 
 
 def try_processes(tries: Tries, folder: Path) -> None:
@@ -110,7 +111,7 @@ def try_processes(tries: Tries, folder: Path) -> None:
 def try_wrong_drawings(tries: Tries) -> None:
     """A drawing with one thing wrong is found out."""
     text = (EXAMPLES / "moving_end.transcript").read_text()
-    svg = draw(EXAMPLES / "moving_end.transcript").svg
+    svg = draw(EXAMPLES / "moving_end.transcript").out
     arrows = re.findall(r'<path class="packet .*?</path>', svg, re.DOTALL)
     holds = re.findall(r'<rect class="hold".*? data-holder="p1".*?</rect>', svg)
     cards = re.findall(r'<g class="card.*?</g>', svg, re.DOTALL)
@@ -201,8 +202,8 @@ def faults_of_part(made: Answer, text: str, line: int) -> list[str]:
     """What is wrong with the drawing of the events before a wrong line: there is none of a wrong header, and else the line stands in it, why, and
     the sentence of `why`."""
     if line <= text.count("\nprocess ") + text.count("\nwire ") + 2 or not text.startswith("transcript "):
-        return ["there is a drawing"] if made.svg else []
-    drawing = Drawing(made.svg.encode())
+        return ["there is a drawing"] if made.out else []
+    drawing = Drawing(made.out.encode())
     first = min(int(group.get("data-line")) for group in drawing.find("g", "wrong") if group.get("data-line"))
     faults = [f"line {one} is drawn" for one in drawing.cards if one >= first]
     events = [number for number, one in enumerate(text.splitlines(), 1) if number < first and re.match(r"\d+ k\d", one)]
@@ -266,7 +267,7 @@ def try_names(tries: Tries, folder: Path) -> None:
         with open(file, "wb") as written:
             written.write(text)
         made = draw(os.fsdecode(file))
-        good = made.text.startswith("lynx: usage\n") if status else not faults_of(made.svg.encode(), text.decode())
+        good = made.text.startswith("lynx: usage\n") if status else not faults_of(made.out.encode(), text.decode())
         tries.expect(made.status == status and good, f"a file of the name {name}", made.text)
 
 
@@ -276,7 +277,7 @@ def try_streams(tries: Tries, folder: Path) -> None:
     file.write_text(text[:len(text) // 2])
     for name, status in ((BUSY, 0), (file, 4), (folder, 2)):
         run, made = subprocess.run([*DRAW, name], capture_output=True, check=False), draw(name)
-        good = run.stdout.decode() == made.svg and run.stderr.decode() == (made.text and made.text + "\n")
+        good = run.stdout.decode() == made.out and run.stderr.decode() == (made.text and made.text + "\n")
         tries.expect(good and run.returncode == made.status == status, f"{name.name}: status {status}, and both streams", run.stderr.decode())
 
 

@@ -1,11 +1,7 @@
 #!/usr/bin/env python3
 """lynx draw TRANSCRIPT ..: puts a drawing of a run, an SVG, on standard output. docs/DRAWINGS.md tells how to read it."""
 
-import os
-import re
-import signal
 import sys
-from dataclasses import dataclass
 
 sys.dont_write_bytecode = True
 if sys.version_info < (3, 10):
@@ -16,45 +12,12 @@ if sys.version_info < (3, 10):
 
 from choice import NoEnd, NoRow, view_of  # noqa: E402
 from drawing import Drawing  # noqa: E402
+from outside import DONE, REFUSED, TOO_BIG, USAGE, Answer, NoWords, Stopped, end_with, read_file, title_of  # noqa: E402
 from run import follow  # noqa: E402
 from transcript import MOST_EVENTS, TooMany, read  # noqa: E402
-from words import FORM, NoWords, Wish, wish_of  # noqa: E402
+from words import FORM, Wish, wish_of  # noqa: E402
 
-MOST_BYTES = 67_108_864
 MOST_ENDS = 200
-
-# The statuses are those of the program lynx.
-DONE, USAGE, READ_FAULT, WRITE_FAULT, REFUSED, NO_FILE, TOO_BIG = 0, 1, 2, 3, 4, 6, 8
-
-
-class Stopped(Exception):
-    """The command ends with this status and this text."""
-
-    def __init__(self, status: int, text: str):
-        super().__init__(text)
-        self.status = status
-        self.text = text
-
-
-@dataclass(frozen=True, slots=True)
-class Answer:
-    """What goes to standard output and to standard error, and the status."""
-    svg: str
-    text: str
-    status: int
-
-
-def read_file(name: str) -> bytes:
-    try:
-        with open(name, "rb") as file:
-            data = file.read(MOST_BYTES + 1)
-    except FileNotFoundError:
-        raise Stopped(NO_FILE, f"lynx: {name}: absent") from None
-    except OSError:
-        raise Stopped(READ_FAULT, f"lynx: {name}: read fault") from None
-    if len(data) > MOST_BYTES:
-        raise Stopped(TOO_BIG, f"lynx: {name}: too big")
-    return data
 
 
 def drawn(wish: Wish) -> Answer:
@@ -87,11 +50,6 @@ def viewed(wish: Wish, transcript, story, data: bytes):
     return view
 
 
-def title_of(name: str) -> str:
-    """The file's own name, where what an SVG can not hold is replaced."""
-    return re.sub(r"[^\t\x20-\uD7FF\uE000-\uFFFD\U00010000-\U0010FFFF]", "\uFFFD", os.path.basename(name))
-
-
 def answer_to(words: list[str]) -> Answer:
     try:
         return drawn(wish_of(words))
@@ -101,26 +59,5 @@ def answer_to(words: list[str]) -> Answer:
         return Answer("", stopped.text, stopped.status)
 
 
-def main(words: list[str]) -> int:
-    answer = answer_to(words)
-    put(sys.stdout, answer.svg)
-    put(sys.stderr, f"{answer.text}\n" if answer.text else "")
-    return answer.status
-
-
-def put(stream, text: str) -> None:
-    if not text:
-        return
-    if stream is None:
-        raise OSError
-    stream.buffer.write(text.encode("utf-8", "backslashreplace"))
-    stream.flush()
-
-
 if __name__ == "__main__":
-    signal.signal(signal.SIGINT, signal.SIG_DFL)
-    try:
-        sys.exit(main(sys.argv[1:]))
-    except OSError:
-        # with no further try to write
-        os._exit(WRITE_FAULT)
+    end_with(answer_to)

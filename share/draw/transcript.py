@@ -56,7 +56,7 @@ class Refused(Exception):
 
 
 class TooMany(Exception):
-    """The transcript has more events than are drawn."""
+    """The transcript has more events than are taken."""
 
 
 def there_is_no(what: str, number: int, count: int) -> str:
@@ -125,21 +125,29 @@ class Transcript:
     fault: Refused | None = None
 
 
-def read(data: bytes, first: int = 0, last: int | None = None) -> Transcript:
-    """The transcript that this text is, up to the stamp `last`, or up to where it is none. Raises TooMany at the first event that is one too many
-    from the stamp `first` on."""
+def read(data: bytes, first: int = 0, last: int | None = None, most: int = MOST_EVENTS) -> Transcript:
+    """The transcript that this text is, up to the stamp `last`, or up to where it is none. Raises TooMany where it has more events than `most` from the
+    stamp `first` on."""
     transcript = Transcript()
     try:
-        read_lines(transcript, Lines(data), first, last)
+        read_lines(transcript, Lines(data), Bounds(first, last, most))
     except Refused as refused:
         transcript.fault = refused
     return transcript
 
 
-def read_lines(transcript: Transcript, lines: Lines, first: int, last: int | None) -> None:
+@dataclass(frozen=True, slots=True)
+class Bounds:
+    """The stamps from which and up to which events count, and how many there may be."""
+    first: int
+    last: int | None
+    most: int
+
+
+def read_lines(transcript: Transcript, lines: Lines, bounds: Bounds) -> None:
     at = read_header(transcript, lines)
     transcript.is_headed = True
-    at = read_entries(transcript, lines, at, first, last)
+    at = read_entries(transcript, lines, at, bounds)
     if not transcript.is_cut:
         at = read_notes(transcript, lines, at)
         read_last(transcript, lines, at)
@@ -180,19 +188,19 @@ def add_header_line(transcript: Transcript, found: re.Match, number: int) -> Non
     transcript.wires.append((int(found["a"]), int(found["b"])))
 
 
-def read_entries(transcript: Transcript, lines: Lines, at: int, first: int, last: int | None) -> int:
+def read_entries(transcript: Transcript, lines: Lines, at: int, bounds: Bounds) -> int:
     """Reads the entries with their service lines, and tells which line comes next."""
-    drawn = 0
+    counted = 0
     while (line := lines.at(at)) is not None:
         if line.startswith(". "):
             add_step(transcript, line, at + 1)
         elif found := ENTRY.fullmatch(line):
             entry = entry_of(transcript, found, at + 1)
-            if last is not None and entry.stamp > last:
+            if bounds.last is not None and entry.stamp > bounds.last:
                 transcript.is_cut = True
                 return at
-            drawn += entry.stamp >= first
-            if drawn > MOST_EVENTS:
+            counted += entry.stamp >= bounds.first
+            if counted > bounds.most:
                 raise TooMany
             transcript.entries.append(entry)
         else:

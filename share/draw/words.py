@@ -3,13 +3,11 @@
 import re
 from dataclasses import dataclass
 
+from outside import NoWords, name_of_file, shown
+
 FORM = "lynx draw TRANSCRIPT [--from STAMP] [--to STAMP] [--ends END,END..] [--all]"
 NUMBER = re.compile(r"0|[1-9][0-9]{0,19}")
 END = re.compile(r"(?:0|[1-9][0-9]{0,2})\.(?:0|[1-9][0-9]{0,9})[ab]")
-
-
-class NoWords(Exception):
-    """The words are not of the form: why, in words."""
 
 
 @dataclass(slots=True)
@@ -51,11 +49,10 @@ def wish_of(words: list[str]) -> Wish:
 
 
 def name(wish: Wish, word: str) -> None:
-    if word == "" or word.startswith("-") or not is_text(word):
-        raise NoWords(f"`{shown(word)}` is no name of a file")
+    named = name_of_file(word)
     if wish.name is not None:
         raise NoWords(f"`{shown(word)}` is a word too many")
-    wish.name = word
+    wish.name = named
 
 
 def choose(wish: Wish, option: str, value: str) -> None:
@@ -72,12 +69,3 @@ def choose(wish: Wish, option: str, value: str) -> None:
     else:
         wish.last = int(value)
 
-
-def is_text(word: str) -> bool:
-    """Whether the word is UTF-8; other bytes come as lone surrogates."""
-    return not re.search(r"[\uD800-\uDFFF]", word)
-
-
-def shown(word: str) -> str:
-    """The first line of a word in printable ASCII, with a question mark for each other letter."""
-    return re.sub(r"[^ -~]", "?", word.split("\n")[0])
