@@ -14,13 +14,15 @@ from calls import CallEvent
 from packets import PacketEvent
 from state import Arrow, Change, Destroyed, Here, Left, Packet, Process, Story, Value
 from transcript import Entry, Refused, Transcript, read, there_is_no
+from waits import Waits
 from wrong import NOT_OPEN, not_quiet, wrong_entry
 
 
-def follow(transcript: Transcript) -> Story:
+def follow(transcript: Transcript, waits: Waits | None = None) -> Story:
     """What happens in a run: its arrows in the order of their heads, and the changes of holders in order. Where an event can't be, what
-    happens before it, and why it can't."""
+    happens before it, and why it can't. Where `waits` is there, it notes besides what processes wait for."""
     world = World(transcript)
+    world.waits = waits
     try:
         for number, entry in enumerate(transcript.entries):
             world.happens(number, entry)
@@ -54,6 +56,7 @@ class World:
         self.lists = {(j, k): deque() for j in range(self.kernels) for k in range(self.kernels)}
         self.stamp_of: list[int] = []
         self.latest = (0, -1)
+        self.waits: Waits | None = None
         for first, second in transcript.wires:
             self.wire(first, second)
 
@@ -81,6 +84,8 @@ class World:
         event.happens()
         event.answer_waits()
         event.compare_steps()
+        if self.waits:
+            self.waits.look(event)
 
     def check_place(self, entry: Entry) -> None:
         """An event is one of a kernel and a process that are there, and stands in its order."""

@@ -66,13 +66,18 @@ def entry_text(entry: Entry) -> str:
     return short(entry.what) if entry.is_packet() else f"p{entry.process} {entry.what}"
 
 
+def parts_of(entry: Entry) -> list[str]:
+    """What the box of an event tells: the event, and those of its service lines that tell more than it does."""
+    return [entry_text(entry)] + [step.text for step in entry.steps if entry.is_packet() or not step.text.startswith(REPEATED)]
+
+
 def lines_of(entry: Entry, most: int) -> list[Line]:
-    """What stands in the box of an event: the event, and those of its service lines that tell more than it does."""
-    lines = [Line(text, "") for text in wrapped(entry_text(entry), most)]
-    for step in entry.steps:
-        if entry.is_packet() or not step.text.startswith(REPEATED):
-            look = "step wrongly" if step.text.startswith("refuse ") else "step"
-            lines += [Line(text, look) for text in wrapped(step.text, most)]
+    """What stands in the box of an event, in lines of at most so many letters."""
+    event, *steps = parts_of(entry)
+    lines = [Line(text, "") for text in wrapped(event, most)]
+    for step in steps:
+        look = "step wrongly" if step.startswith("refuse ") else "step"
+        lines += [Line(text, look) for text in wrapped(step, most)]
     return lines
 
 
