@@ -16,11 +16,19 @@ def browser() -> str | None:
     return next((found for name in NAMES if (found := shutil.which(name))), None)
 
 
+def runs() -> bool:
+    """Whether there is a browser, and it shows a page."""
+    return browser() is not None and "shown" in dumped("data:text/html,<p>shown")
+
+
 def dumped(address: str) -> str:
-    """The page as it stands when its scripts have run."""
-    with tempfile.TemporaryDirectory() as folder:
+    """The page as it stands when its scripts have run; nothing where the browser takes too long."""
+    with tempfile.TemporaryDirectory(ignore_cleanup_errors=True) as folder:
         words = [browser(), *FLAGS, f"--user-data-dir={folder}", "--dump-dom", address]
-        run = subprocess.run(words, capture_output=True, text=True, check=False, timeout=SECONDS, env={**os.environ, "LC_ALL": "C.UTF-8"})
+        try:
+            run = subprocess.run(words, capture_output=True, text=True, check=False, timeout=SECONDS, env={**os.environ, "LC_ALL": "C.UTF-8"})
+        except subprocess.TimeoutExpired:
+            return ""
     return run.stdout
 
 

@@ -80,6 +80,10 @@ function onClick(clicked) {
     return;
   }
   if (clicked.target.closest("#light")) light();
+  if (clicked.target.closest(".skip")) {
+    clicked.preventDefault();
+    focusOn("moment");
+  }
   const box = clicked.target.closest("#sheet g.card[data-line]");
   if (box) lightAt(eventOfLine(Number(box.dataset.line)));
 }

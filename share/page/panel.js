@@ -18,8 +18,10 @@ function tellMoment() {
 }
 
 function startWords() {
-  const told = `${counted(run.homes.length, "process")}`.replace("processs", "processes");
-  return `<p>Before all events: ${told} on ${counted(run.kernels, "kernel")}, and ${counted(run.wires.length, "link")} that exist${run.wires.length === 1 ? "s" : ""} from the start.</p>`;
+  const told = counted(run.homes.length, "process", "processes");
+  const links = `${counted(run.wires.length, "link")} that exist${run.wires.length === 1 ? "s" : ""} from the start`;
+  return `<p>Before all events: ${told} on ${counted(run.kernels, "kernel")}, and ${links}.</p>
+    <p class="soft">Press <kbd>↓</kbd> or click an event to walk through the run; <kbd>?</kbd> tells all keys.</p>`;
 }
 
 function eventPart(number) {
@@ -60,6 +62,8 @@ function effectRows(number) {
 function tellHolds(held) {
   const wanted = document.getElementById("finder").value.trim().toLowerCase();
   const found = held.filter(({ name, is }) => !wanted || name.includes(wanted) || holderWords(is).includes(wanted));
+  // of many, those that changed now come first
+  if (found.length > MOST_ROWS) found.sort((one, other) => (other.since === state.at) - (one.since === state.at));
   const rows = found.slice(0, MOST_ROWS).map(holdRow);
   put("holds", `<thead><tr><th scope="col">End</th><th scope="col">Held by</th><th scope="col">Since, and why</th></tr></thead><tbody>${rows.join("")}</tbody>`);
   const more = document.getElementById("holds-more");
@@ -94,7 +98,16 @@ function tellStory() {
   part.hidden = story.picked === null;
   if (part.hidden) return;
   document.getElementById("told-name").textContent = storyWords();
-  put("told", `<p class="soft">${counted(story.shown.length, "event")} of ${count.toLocaleString("en")}</p>${story.picked.ends.map(holdsStory).join("") || takesStory()}`);
+  const near = nearTo(story.picked).map((name) => pickButton(name)).join(", ");
+  put("told", `<p class="soft">${counted(story.shown.length, "event")} of ${count.toLocaleString("en")}; see too ${near}</p>${story.picked.ends.map(holdsStory).join("") || takesStory()}`);
+}
+
+// What else a story is near to: the link and the opposite of an end, the ends of a link, the kernel of a process, the processes of a kernel.
+function nearTo({ kind, name, of, ends }) {
+  if (kind === "end") return [name.slice(0, -1), name.slice(0, -1) + (name.endsWith("a") ? "b" : "a")];
+  if (kind === "link") return ends;
+  if (kind === "process") return [`k${run.homes[of]}`];
+  return run.homes.map((home, process) => (home === of ? `p${process}` : "")).filter(Boolean);
 }
 
 // All holders of an end, those around the moment where they are many.

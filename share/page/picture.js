@@ -32,9 +32,9 @@ function drawPicture() {
   const high = Math.max(1, layout.height > picture.to ? picture.to - picture.from : layout.height - picture.from);
   const look = state.isLit && state.at !== START ? ' class="lit"' : "";
   sheet.style.top = `${picture.from}px`;
-  sheet.innerHTML = `<svg${look} width="${layout.width}" height="${high}" role="presentation">${[
-    stripes(rows), lifelines(high), columnParts(), packetParts(events), boxes(events), restBoxes(),
-  ].join("")}</svg>`;
+  sheet.innerHTML = `<svg${look} width="${layout.width}" height="${high}" role="presentation"><g aria-hidden="true">${[
+    stripes(rows), lifelines(high), columnParts(), packetParts(events), restBoxes(),
+  ].join("")}</g>${boxes(events)}</svg>`;
   drawHeads();
   if (state.at !== START && document.getElementById(`e${state.at}`)) scroller.setAttribute("aria-activedescendant", `e${state.at}`);
   else scroller.removeAttribute("aria-activedescendant");
@@ -77,7 +77,8 @@ function boxOf(number, place) {
   const bar = processOf[number] < 0 ? "" : `<rect x="${x}" y="${y}" width="6" height="${high}" rx="2" fill="${run.fills[processOf[number]]}"/>`;
   const words = texts.map(({ text, look }, row) => `<text class="${look}" x="${x + 2 * PAD + 2}" y="${y + PAD + 10 + row * LINE}" xml:space="preserve">${safe(text)}</text>`);
   const ring = number === state.at ? `<rect class="ring" x="${x - 3}" y="${y - 3}" width="${wide + 6}" height="${high + 6}" rx="6"/>` : "";
-  return `<g id="e${number}" ${marksOf(number)}>${ring}<rect class="box" ${frame}/>${bar}${words.join("")}${signOf(number, x + wide, y)}</g>`;
+  const tip = `<title>${safe(linesOf(number).join("\n"))}</title>`;
+  return `<g id="e${number}" ${marksOf(number)}>${tip}${ring}<rect class="box" ${frame}/>${bar}${words.join("")}${signOf(number, x + wide, y)}</g>`;
 }
 
 function marksOf(number) {
@@ -99,7 +100,7 @@ function signOf(number, right, y) {
 }
 
 function packetParts(events) {
-  if (!events.length) return restArrows();
+  if (!events.length) return "";
   const numbers = new Map();
   const arrows = packetsBetween(events[0], events[events.length - 1]).map((head) => {
     const tail = run.tails[head];
@@ -107,12 +108,15 @@ function packetParts(events) {
     numbers.set(tail, place + 1);
     return arrowOf(head, Math.min(place, 4));
   });
-  return arrows.join("") + stubNames() + restArrows();
+  return arrows.join("") + stubNames() + restArrows(events);
 }
 
-function restArrows() {
-  if (picture.to < layout.body) return "";
-  return eventsAt.map((_, kernel) => restsAt(kernel).slice(0, 4 * MOST_RESTS).map(restArrow).join("")).join("");
+// The packets that nobody took, of events in sight, or all where the place below all rows is in sight.
+function restArrows(events) {
+  const isBottom = picture.to >= layout.body;
+  const isSeen = ({ tail }) => isBottom || (tail >= events[0] && tail <= events[events.length - 1]);
+  return eventsAt.map((_, kernel) => restsAt(kernel).map((packet, place) => (isSeen(packet) ? restArrow(packet, place) : ""))
+    .filter(Boolean).slice(0, 4 * MOST_RESTS).join("")).join("");
 }
 
 function restBoxes() {
@@ -219,7 +223,7 @@ function drawHeads() {
   const high = 26 + 21 * Math.max(1, ...chips.map((mine) => mine.rows));
   const names = chips.map(({ parts }, kernel) => {
     const name = wideOf(kernel) > EMPTY_LANE ? `kernel ${kernel}` : `k${kernel}`;
-    return `<g class="pick" data-pick="k${kernel}"><text class="sans head" x="${leftOf(kernel)}" y="15">${name}</text></g>${parts.join("")}`;
+    return `<g class="pick" data-pick="k${kernel}"><title>the story of kernel ${kernel}</title><text class="sans head" x="${leftOf(kernel)}" y="15">${name}</text></g>${parts.join("")}`;
   });
   const ends = picture.columns.map((end, place) => headColumn(run.ends[end], columnAt(place), high));
   const stamp = `<text class="sans quiet" x="${LEFT - 16}" y="15" text-anchor="end">stamp</text>`;
@@ -237,7 +241,7 @@ function chipsOf(kernel) {
 
 function headChip(process, x, y) {
   const look = `style="${run.inks[process]}"`;
-  return `<g class="pick" data-pick="p${process}"><rect x="${x}" y="${y}" width="26" height="17" rx="8" fill="${run.fills[process]}"/>
+  return `<g class="pick" data-pick="p${process}"><title>the story of process ${process}</title><rect x="${x}" y="${y}" width="26" height="17" rx="8" fill="${run.fills[process]}"/>
     <text class="label on" ${look} x="${x + 13}" y="${y + 12}" text-anchor="middle">p${process}</text></g>`;
 }
 
@@ -245,5 +249,5 @@ function headColumn(name, x, high) {
   const middle = x + (isSlim() ? SLIM_COLUMN : WIDE_COLUMN) / 2 - 1.5;
   const turn = isSlim() ? ` transform="rotate(-90 ${middle + 3} ${high - 4})"` : "";
   const anchor = isSlim() ? "start" : "middle";
-  return `<g class="pick" data-pick="${name}"><text class="label" x="${isSlim() ? middle + 3 : middle}" y="${high - 4}" text-anchor="${anchor}"${turn}>${name}</text></g>`;
+  return `<g class="pick" data-pick="${name}"><title>the story of end ${name}</title><text class="label" x="${isSlim() ? middle + 3 : middle}" y="${high - 4}" text-anchor="${anchor}"${turn}>${name}</text></g>`;
 }

@@ -115,6 +115,6 @@ function safe(text) {
   return String(text).replace(/[&<>"]/g, (letter) => LETTERS[letter]);
 }
 
-function counted(number, what) {
-  return `${number.toLocaleString("en")} ${what}${number === 1 ? "" : "s"}`;
+function counted(number, one, many = `${one}s`) {
+  return `${number.toLocaleString("en")} ${number === 1 ? one : many}`;
 }

@@ -21,7 +21,7 @@ function matchWords() {
   const place = lastUpTo(search.matches, state.at);
   if (!search.matches.length) return "no match";
   const is = search.matches[place] === state.at ? `${place + 1} of ` : "";
-  return is + counted(search.matches.length, "match").replace("matchs", "matches");
+  return is + counted(search.matches.length, "match", "matches");
 }
 
 // To the next match, or the one before, round the ends of the run.

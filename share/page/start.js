@@ -16,7 +16,18 @@ function refresh() {
   layOutFor(story.shown);
   bringInSight();
   drawPicture();
-  tellMoment();
+  keepFocus(tellMoment);
+}
+
+// What had the focus in the part that is told anew has it again, or the part itself.
+function keepFocus(tell) {
+  const had = document.activeElement;
+  const part = had.closest("aside [id]");
+  const mark = ["data-pick", "href", "id"].find((name) => had.hasAttribute(name));
+  tell();
+  if (!part || part === had || document.contains(had)) return;
+  const again = mark && document.querySelector(`#${part.id} [${mark}="${had.getAttribute(mark)}"]`);
+  (again ?? document.getElementById("moment")).focus({ preventScroll: true });
 }
 
 let laidOut = null;
