@@ -1,10 +1,10 @@
 // Runs the parts of the page that look things up, without a browser: node parts.js FOLDER RECORD.. prints of each record who holds each end at each moment,
-// what each process waits for in words, and the causes of each event.
+// what each process waits for in words, and the causes of each event; the events of each story; and whether the lines of boxes are counted as they are made.
 "use strict";
 const { readFileSync } = require("fs");
 const vm = require("vm");
 
-const PARTS = ["run", "moment", "causes", "reasons", "story"];
+const PARTS = ["run", "moment", "causes", "reasons", "story", "layout"];
 const ASKED = `(() => {
   const found = [];
   for (let at = START; at < count; at += 1) {
@@ -17,7 +17,9 @@ const ASKED = `(() => {
   }
   const stories = Object.fromEntries([...eventsAt.map((_, kernel) => "k" + kernel), ...run.homes.map((_, process) => "p" + process), ...run.ends]
     .map((name) => [name, Array.from(storyOf(pickedBy(name)))]));
-  return JSON.stringify({ moments: found, stories });
+  const parts = run.boxes.join("\\n").split("\\n").filter(Boolean);
+  const isCounted = (most) => parts.every((part) => wrapped(part, most).length === countWrapped(part, 0, part.length, most));
+  return JSON.stringify({ moments: found, stories, isCounted: [15, 18, 27, 44].every(isCounted) });
 })()`;
 
 const [folder, ...records] = process.argv.slice(2);

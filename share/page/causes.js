@@ -4,15 +4,18 @@
 const clocks = new Int32Array(count * run.kernels);
 
 function fillClocks() {
-  const wide = run.kernels;
   for (let number = 0; number < count; number += 1) {
-    const at = number * wide;
-    for (const cause of [beforeAt(number), run.tails[number]]) {
-      for (let kernel = 0; cause >= 0 && kernel < wide; kernel += 1) {
-        clocks[at + kernel] = Math.max(clocks[at + kernel], clocks[cause * wide + kernel]);
-      }
-    }
-    clocks[at + kernelOf[number]] = orderOf[number];
+    joinClock(number, beforeAt(number));
+    joinClock(number, run.tails[number]);
+    clocks[number * run.kernels + kernelOf[number]] = orderOf[number];
+  }
+}
+
+function joinClock(number, cause) {
+  if (cause < 0) return;
+  const [at, from] = [number * run.kernels, cause * run.kernels];
+  for (let kernel = 0; kernel < run.kernels; kernel += 1) {
+    if (clocks[from + kernel] > clocks[at + kernel]) clocks[at + kernel] = clocks[from + kernel];
   }
 }
 

@@ -21,7 +21,7 @@ run.holds.is.forEach((is, turn) => {
   if (is.includes(" ")) moving.add(run.holds.who[turn]);
 });
 
-// A text in lines of at most so many letters; a longer word is cut.
+// A text in lines of at most so many letters, all but the first set in by two blanks; a word that is too long is cut.
 function wrapped(text, most) {
   const found = [];
   for (const whole of text.split(" ")) {
@@ -30,6 +30,24 @@ function wrapped(text, most) {
     const last = found.length - 1;
     if (last >= 0 && found[last].length + 1 + word.length <= most) found[last] += ` ${word}`;
     else found.push(last >= 0 ? `  ${word}` : word);
+  }
+  return found;
+}
+
+// How many lines these are, for the part of the text from one place to another.
+function countWrapped(text, start, stop, most) {
+  let found = 0;
+  let length = 0;
+  for (let from = start, end = start; end < stop; from = end + 1) {
+    end = text.indexOf(" ", from);
+    if (end < 0 || end > stop) end = stop;
+    const wide = Math.min(end - from, found ? most - 2 : most);
+    if (found && length + 1 + wide <= most) {
+      length += 1 + wide;
+    } else {
+      length = found ? wide + 2 : wide;
+      found += 1;
+    }
   }
   return found;
 }
@@ -44,8 +62,13 @@ function textOf(number) {
 }
 
 function heightOf(number) {
+  const box = run.boxes[number];
   let texts = 0;
-  for (const part of run.boxes[number].split("\n")) texts += part.length <= layout.letters ? 1 : wrapped(part, layout.letters).length;
+  for (let from = 0, end = 0; end >= 0; from = end + 1) {
+    end = box.indexOf("\n", from);
+    const part = end < 0 ? box.length : end;
+    texts += part - from <= layout.letters ? 1 : countWrapped(box, from, part, layout.letters);
+  }
   return texts * LINE + 2 * PAD;
 }
 
@@ -58,6 +81,7 @@ function longestText() {
   let longest = 8;
   for (const number of story.shown) {
     if (longest >= MOST_LETTERS) break;
+    if (run.boxes[number].length <= longest) continue;
     for (const part of run.boxes[number].split("\n")) longest = Math.max(longest, part.length);
   }
   return longest;

@@ -195,12 +195,14 @@ function holdPart(end, { is, since, top, bottom }, x) {
   if (is === "destroyed") return `<path class="cross" d="M${x + width / 2 - 4} ${y + 10} l8 8 m0 -8 l-8 8">${told}</path>`;
   const fill = isProcess(is) ? run.fills[Number(is.slice(1))] : "url(#enclosed)";
   const look = isProcess(is) ? ` class="label on" style="${run.inks[Number(is.slice(1))]}"` : ' class="label on inside"';
-  const box = `<rect class="hold" x="${x}" y="${y + 1}" width="${width}" height="${Math.max(1, high)}" fill="${fill}" data-end="${run.ends[end]}">${told}</rect>`;
+  const box = `<rect class="hold pick" x="${x}" y="${y + 1}" width="${width}" height="${Math.max(1, high)}" fill="${fill}" data-pick="${run.ends[end]}">${told}</rect>`;
   return box + labelIn(label, x, y, width, high, look);
 }
 
 function labelIn(label, x, y, width, high, look) {
-  if (!isSlim()) return high > 16 ? `<text${look} x="${x + width / 2}" y="${y + 13}" text-anchor="middle">${label}</text>` : "";
+  const most = Math.floor(width / 5.9);
+  const short = label.length > most ? `${label.slice(0, most - 1)}…` : label;
+  if (!isSlim()) return high > 16 ? `<text${look} x="${x + width / 2}" y="${y + 13}" text-anchor="middle">${short}</text>` : "";
   const long = label.length * 5.8 + 6;
   if (high < long) return "";
   return `<text${look} x="${x + width / 2 + 3.5}" y="${y + long - 1}" transform="rotate(-90 ${x + width / 2 + 3.5} ${y + long - 1})">${label}</text>`;
