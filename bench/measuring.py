@@ -102,7 +102,7 @@ class Bench:
         return status, Run(microseconds / 1e6, kilobytes * 1024, faults)
 
     def fastest(self, words, want, runs):
-        """Of each program the least seconds, the most held and the most page faults, as they run in turn; each has to end with the status that is wanted."""
+        """Of each program the least seconds, the most held and the most faults, as they run in turn; each has to end with the wanted status."""
         best = [Run(math.inf, 0, 0) for _ in self.programs]
         for _ in range(runs):
             for place, program in enumerate(self.programs):
@@ -118,7 +118,9 @@ class Bench:
 
 def net(runs, base):
     """The runs less what a run of next to nothing takes."""
-    return [Run(max(run.seconds - least.seconds, 1e-6), max(run.held - least.held, 1), run.faults - least.faults) for run, least in zip(runs, base)]
+    return [
+        Run(max(run.seconds - least.seconds, 1e-6), max(run.held - least.held, 1), run.faults - least.faults) for run, least in zip(runs, base)
+    ]
 
 
 def ratios(runs, nets):

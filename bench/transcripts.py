@@ -15,7 +15,9 @@ KINDS['makes'] = KINDS['exits'] = (header(8, range(8), []), each(8, 'make'))
 # What stands behind the pieces of a kind.
 AFTER = {'exits': each(8, 'exit')}
 # So many pieces there can be: a kernel makes no more links.
-MOST_PIECES = {'makes': MOST_LINKS, 'exits': MOST_LINKS, 'reports': MOST_LINKS, 'queues': MOST_LINKS, 'waiting': MOST_LINKS, 'wires': MOST_LINKS - 512}
+MOST_PIECES = dict.fromkeys(('makes', 'exits', 'reports', 'queues', 'waiting'), MOST_LINKS)
+# The wires are links too.
+MOST_PIECES['wires'] = MOST_LINKS - 512
 # So many pieces are performed before the lines are steady.
 FIRST = 4
 

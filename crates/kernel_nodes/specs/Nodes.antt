@@ -1,7 +1,5 @@
 -- Kernels with what they sent, as a world.
 use Rattle.std.specs.Prelude.{◌≡◌, ◌<◌, ℕ, List, [], ◌∷◌, ◌++◌, length, map, All, slice_index_or, Option, Some, None}
-use Rattle.charlotte_packets.specs.Packets.{packet_picture}
-use Rattle.charlotte_packets.specs.declared.packet.Packet.{Packet}
 use Rattle.charlotte_packets.specs.declared.picture.Picture.{Picture}
 use Rattle.charlotte_packets.specs.declared.picture.PictureWhat.{PictureWhat}
 use Rattle.charlotte_calls.specs.declared.setting.Setting.{Setting}
@@ -16,7 +14,7 @@ use Rattle.kernel_nodes.specs.declared.nodes.Noted.{Noted}
 abbrev pub sent_to : Node → ℕ → List Picture
 sent_to node to = slice_index_or node.sent.items to []
 
--- a node of a setting: it has a place for each process and a list for each kernel
+-- a node of a setting: it has a place for each process and a queue for each kernel
 pub record IsNodeOf (s : Setting) (node : Node) : Type 0 where
   pub processes : length node.kernel.processes ≡ length s.homes
   pub kernels : node.kernel.kernels ≡ s.kernels
