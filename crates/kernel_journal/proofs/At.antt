@@ -14,7 +14,7 @@ use Rattle.transcript_replay.specs.Replay.{IsDifference, IsReplay, IsTrueLast}
 use Rattle.transcript_replay.proofs.Header.{start-begins, start-left}
 use Rattle.transcript_replay.proofs.Places.{IsBehind, IsNoteOrEnd, behind-entry, behind-is, behind-note, behind-over, behind-start, behind-version, told-more}
 use Rattle.transcript_replay.proofs.Rest.{leads-end, leads-note, leads-notes, leads-notes-end, refutes-due, refutes-end, refutes-notes-end}
-use Rattle.kernel_journal.specs.At.{AreLeft, HasMet, IsAmongEntries, IsAt, MayFollow, Meets, Passed, setting_of}
+use Rattle.kernel_journal.specs.At.{AreLeft, HasMet, IsAmongEntries, IsAt, MayFollow, Meets, Passed}
 use Rattle.kernel_journal.specs.Body.{Differs, Fails, IsReady, Passes, course_of}
 use Rattle.kernel_journal.specs.Faults.{IsStopAt}
 use Rattle.kernel_journal.specs.declared.body.Body.{Body}
@@ -37,7 +37,7 @@ not-kept a b x y = let e : None ≡ Some b = sym x ∙ y in absurd (cc)
 
 -- ---- the kernels start where the header ends
 
-pub begins-header : (taken : List LineKind) (place behind : Place) (k : LineKind) (r : Replay) → IsAt taken place r → next place k ≡ Ok behind → is_body k ≡ true → r.body ≡ None → IsHeader (setting_of r.draft) taken
+pub begins-header : (taken : List LineKind) (place behind : Place) (k : LineKind) (r : Replay) → IsAt taken place r → next place k ≡ Ok behind → is_body k ≡ true → r.body ≡ None → IsHeader r.draft taken
 begins-header taken Start behind k r at e is none = behind-start behind k is e
 begins-header taken Version behind k r at e is none = behind-version behind k is e
 begins-header taken (Processes m n) behind k r at e is none = at.0.0
@@ -46,11 +46,11 @@ begins-header taken Entry behind k r at e is none = not-kept r.body at.body none
 begins-header taken (Noted m) behind k r at e is none = not-kept r.body at.body none at.kept
 begins-header taken Over behind k r at e is none = behind-over behind k e
 
-pub meets-first : (taken : List LineKind) (place behind : Place) (k : LineKind) (r : Replay) (b : Body) → IsAt taken place r → next place k ≡ Ok behind → is_body k ≡ true → r.body ≡ None → IsReady b → course_of b ≡ course_start (setting_of r.draft) → Meets taken place k b
+pub meets-first : (taken : List LineKind) (place behind : Place) (k : LineKind) (r : Replay) (b : Body) → IsAt taken place r → next place k ≡ Ok behind → is_body k ≡ true → r.body ≡ None → IsReady b → course_of b ≡ course_start r.draft → Meets taken place k b
 meets-first taken place behind k r b at e is none ready start = by place at e
   where
-    from_header : IsHeader (setting_of r.draft) taken → (more : List LineKind) (last : Last) → IsReplay (taken ++ k ∷ more) last ↔ IsRest (course_of b) (k ∷ more) last
-    from_header header more last = subst (λ c. IsReplay (taken ++ k ∷ more) last ↔ IsRest c (k ∷ more) last) (sym start) (start-left (setting_of r.draft) taken k more last header is)
+    from_header : IsHeader r.draft taken → (more : List LineKind) (last : Last) → IsReplay (taken ++ k ∷ more) last ↔ IsRest (course_of b) (k ∷ more) last
+    from_header header more last = subst (λ c. IsReplay (taken ++ k ∷ more) last ↔ IsRest c (k ∷ more) last) (sym start) (start-left r.draft taken k more last header is)
 
     by : (place : Place) → IsAt taken place r → next place k ≡ Ok behind → Meets taken place k b
     by Start at e = behind-start behind k is e
@@ -197,8 +197,8 @@ entries-begin taken r at =
 begins : (taken : List LineKind) (place behind : Place) (k : LineKind) (r : Replay) → IsAt taken place r → next place k ≡ Ok behind → is_body k ≡ true → Begins taken
 begins taken Start behind k r at e is = behind-start behind k is e
 begins taken Version behind k r at e is = behind-version behind k is e
-begins taken (Processes m n) behind k r at e is = record { more = line.End Quiet ∷ []; last = Quiet; is = start-begins (setting_of r.draft) taken at.0.0 }
-begins taken (Wires m n) behind k r at e is = record { more = line.End Quiet ∷ []; last = Quiet; is = start-begins (setting_of r.draft) taken at.0.0 }
+begins taken (Processes m n) behind k r at e is = record { more = line.End Quiet ∷ []; last = Quiet; is = start-begins r.draft taken at.0.0 }
+begins taken (Wires m n) behind k r at e is = record { more = line.End Quiet ∷ []; last = Quiet; is = start-begins r.draft taken at.0.0 }
 begins taken Entry behind k r at e is = entries-begin taken r at
 begins taken (Noted m) behind k r at e is =
     let ends : HasLast at.body = has-last at.body in
@@ -258,7 +258,7 @@ among-difference taken k r at refutes =
 
 -- ---- a line of the header
 
-header-at : (place : Place) (taken : List LineKind) (r : Replay) → IsToldAt place (setting_of r.draft) taken → r.body ≡ None → IsAt taken place r
+header-at : (place : Place) (taken : List LineKind) (r : Replay) → IsToldAt place r.draft taken → r.body ≡ None → IsAt taken place r
 header-at Start taken r told none = (told, none)
 header-at Version taken r told none = (told, none)
 header-at (Processes m n) taken r told none = (told, none)
@@ -278,11 +278,11 @@ no-header (line.Service s) is n = absurd n
 no-header (line.Note note) is n = absurd (cc)
 no-header (line.End l) is n = absurd (cc)
 
-pub told-at : (taken : List LineKind) (place behind : Place) (k : LineKind) (old new : Replay) → is_body k ≡ false → IsAt taken place old → next place k ≡ Ok behind → setting_of new.draft ≡ tells k (setting_of old.draft) → new.body ≡ old.body → IsAt (taken ++ k ∷ []) behind new
+pub told-at : (taken : List LineKind) (place behind : Place) (k : LineKind) (old new : Replay) → is_body k ≡ false → IsAt taken place old → next place k ≡ Ok behind → new.draft ≡ tells k old.draft → new.body ≡ old.body → IsAt (taken ++ k ∷ []) behind new
 told-at taken place behind k old new is at e told same = by place at e
   where
-    more : (p : Place) → IsToldAt p (setting_of old.draft) taken → old.body ≡ None → next p k ≡ Ok behind → IsAt (taken ++ k ∷ []) behind new
-    more p was none step = header-at behind (taken ++ k ∷ []) new (subst (λ s. IsToldAt behind s (taken ++ k ∷ [])) (sym told) (told-more p behind k (setting_of old.draft) taken is step was)) (same ∙ none)
+    more : (p : Place) → IsToldAt p old.draft taken → old.body ≡ None → next p k ≡ Ok behind → IsAt (taken ++ k ∷ []) behind new
+    more p was none step = header-at behind (taken ++ k ∷ []) new (subst (λ s. IsToldAt behind s (taken ++ k ∷ [])) (sym told) (told-more p behind k old.draft taken is step was)) (same ∙ none)
 
     by : (p : Place) → IsAt taken p old → next p k ≡ Ok behind → IsAt (taken ++ k ∷ []) behind new
     by Start at step = more Start at.0 at.1 step

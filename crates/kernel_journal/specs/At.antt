@@ -1,6 +1,5 @@
 -- How far a replay has come in a transcript: which lines it took, and what may follow.
 use Rattle.std.specs.Prelude.{◌≡◌, ◌↔◌, List, [], ◌∷◌, ◌++◌, Some, None}
-use Rattle.charlotte_calls.specs.declared.setting.Setting.{Setting}
 use Rattle.transcript_lines.specs.declared.last.Last.{Last}
 use Rattle.transcript_reading.specs.Order.{Place, Entry, Noted, Over}
 use Rattle.transcript_reading.specs.declared.line.LineKind.{LineKind}
@@ -9,16 +8,7 @@ use Rattle.transcript_replay.specs.Course.{Course, IsOver, IsRest, IsRestOfNotes
 use Rattle.transcript_replay.specs.Header.{IsToldAt}
 use Rattle.transcript_replay.specs.Replay.{IsReplay}
 use Rattle.kernel_journal.specs.declared.body.Body.{Body}
-use Rattle.kernel_journal.specs.declared.draft.Draft.{Draft}
 use Rattle.kernel_journal.specs.declared.lines.Replay.{Replay}
-
--- ---- the header
-
--- what the lines of a header have told so far
-abbrev pub setting_of : Draft → Setting
-setting_of d = record { version = d.version; kernels = d.kernels; homes = d.homes.items; wires = d.wires.items }
-
--- ---- behind it
 
 -- just these lines may follow
 abbrev pub AreLeft : List LineKind → (List LineKind → Last → Type 0) → Type 0
@@ -47,7 +37,7 @@ abbrev pub IsAt : List LineKind → Place → Replay → Type 0
 IsAt taken Entry r = IsAmongEntries taken r
 IsAt taken (Noted note) r = IsAmongNotes taken r
 IsAt taken Over r = HasEnded taken r
-IsAt taken place r = IsToldAt place (setting_of r.draft) taken × (r.body ≡ None)
+IsAt taken place r = IsToldAt place r.draft taken × (r.body ≡ None)
 
 -- just these lines may follow at a place behind the header
 abbrev pub MayFollow : Place → Course → List LineKind → Last → Type 0

@@ -14,7 +14,6 @@
 #![tactic(auto)]
 
 mod body;
-mod draft;
 mod due;
 mod expected;
 mod fault;

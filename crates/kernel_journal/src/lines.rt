@@ -8,7 +8,6 @@ ghost use Rattle.kernel_journal.specs.Faults.{IsFaultAt, IsStopAt};
 ghost use Rattle.kernel_journal.specs.declared.fault.Stop.TheVariants as stops;
 
 use crate::body::Body;
-use crate::draft::Draft;
 use crate::fault::{ReplayFault, Stop};
 use charlotte_calls::{Call, Pid};
 use kernel_nodes::Request;
@@ -16,6 +15,7 @@ use std::alloc::Global;
 use transcript_lines::Last;
 use transcript_reader::{Line, Reader};
 use transcript_reading::LineKind;
+use transcript_replay::Draft;
 
 /// A replay of a transcript, which takes one line after the other. It keeps the kernels and the packets that wait.
 #[derive(Drop)]

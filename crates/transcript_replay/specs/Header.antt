@@ -27,6 +27,15 @@ tells (line.Process p kernel) s = record s { homes = s.homes ++ kernel ∷ [] }
 tells (line.Wire first second) s = record s { wires = s.wires ++ (first, second) ∷ [] }
 tells _ s = s
 
+-- what is told before the first line
+abbrev pub untold : Setting
+untold = record { version = 0; kernels = 0; homes = []; wires = [] }
+
+-- what lines tell, behind what those before them did
+abbrev pub tell_all : List LineKind → Setting → Setting
+tell_all [] s = s
+tell_all (k ∷ ks) s = tell_all ks (tells k s)
+
 -- the lines of a header
 abbrev pub header_kinds : Setting → List LineKind
 header_kinds s = line.First s.version ∷ line.Kernels s.kernels ∷ process_kinds 0 s.homes ++ wire_kinds s.wires

@@ -1,26 +1,34 @@
 //! The header of a transcript, line by line.
-ghost use Rattle.std.specs.Prelude.{◌≡◌, [], OnOk};
-ghost use Rattle.kernel_journal.specs.At.{setting_of};
-ghost use Rattle.transcript_replay.specs.Header.{tells};
+ghost use Rattle.std.specs.Prelude.{◌≡◌, OnOk};
+ghost use Rattle.transcript_replay.specs.Header.{tells, untold};
 
 use charlotte_calls::{Items, NoMemory, Pid, Setting};
 use std::alloc::Global;
+use std::marker::Model;
 use std::mem;
 use transcript_reading::LineKind;
 
 /// What the lines of a header have told so far.
 #[derive(Drop)]
-pub(crate) struct Draft {
-    pub(crate) version: u8,
-    pub(crate) kernels: u8,
-    pub(crate) homes: Vec<u8>,
-    pub(crate) wires: Vec<(Pid, Pid)>,
+pub struct Draft {
+    version: u8,
+    kernels: u8,
+    homes: Vec<u8>,
+    wires: Vec<(Pid, Pid)>,
+}
+
+impl Model for Draft {
+    ghost use Rattle.charlotte_calls.specs.declared.setting.Setting.{Setting};
+
+    ghost Value = { Setting };
+
+    ghost view = { λ d. record { version = d.version; kernels = d.kernels; homes = d.homes.items; wires = d.wires.items } };
 }
 
 impl Draft {
-    pub(crate) fn new(alloc: Global) -> Draft
-        ensures homes { result.homes.items ≡ [] }
-        ensures wires { result.wires.items ≡ [] }
+    /// Before the first line.
+    pub fn new(alloc: Global) -> Draft
+        ensures { result ≡ untold }
     {
         Draft {
             version: 0,
@@ -31,8 +39,8 @@ impl Draft {
     }
 
     /// One more line; a line that is none of a header tells nothing.
-    pub(crate) fn tell(&mut self, kind: &LineKind) -> Result<(), NoMemory>
-        ensures { OnOk result (setting_of self.new ≡ tells kind.now (setting_of self.old)) }
+    pub fn tell(&mut self, kind: &LineKind) -> Result<(), NoMemory>
+        ensures { OnOk result (self.new ≡ tells kind.now self.old) }
     {
         match kind {
             LineKind::First { version } => self.version = *version,
@@ -49,8 +57,8 @@ impl Draft {
     }
 
     /// The setting that was told; it is handed out.
-    pub(crate) fn finish(&mut self, alloc: Global) -> Setting
-        ensures { result ≡ setting_of self.old }
+    pub fn finish(&mut self, alloc: Global) -> Setting
+        ensures { result ≡ self.old }
     {
         Setting {
             version: self.version,
