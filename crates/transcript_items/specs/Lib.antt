@@ -1,1 +1,4 @@
 pub mod Bearing
+pub mod Given
+pub mod Kept
+pub mod Texts

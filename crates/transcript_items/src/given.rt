@@ -1,8 +1,15 @@
 //! The lines that the kernels give next.
+ghost use Rattle.std.specs.Prelude.{◌≡◌, IfOk, Some, max, option_map, unwrap_or};
+ghost use Rattle.charlotte_packets.specs.Packets.{packet_picture};
+ghost use Rattle.kernel_entries.specs.declared.entry.Happened.TheVariants.{Asked};
+ghost use Rattle.kernel_step.specs.Kernel.{next_stamp};
+ghost use Rattle.transcript_items.specs.Given.{call_at, entry_text, given, given_entry, next_call, next_taking, placed, taking_of};
+ghost use Rattle.transcript_replay.specs.Course.{comes_after};
 
 use crate::kernels::{Doing, Kernels};
 use crate::lines::{call_line, packet_line, push_call_form, step_line};
 use charlotte_calls::{Call, NoMemory, Pid};
+use charlotte_packets::Packet;
 use charlotte_text::Listing;
 use std::alloc::Global;
 use transcript_reading::LineKind;
@@ -14,10 +21,26 @@ pub fn given_line<K: Kernels>(
     kind: &LineKind,
 ) -> Result<Option<Vec<u8>>, NoMemory>
     requires { K.stand kernels.now }
+    ensures { IfOk result (λ line. option_map (λ l. l.items) line ≡ given (K.kept kernels.now) kind.now) }
 {
-    if let Some(step) = kernels.due() {
-        return Ok(Some(step_line(alloc, step)?));
+    match kernels.due() {
+        Some(step) => {
+            let line = step_line(alloc, step)?;
+            Ok(Some(line))
+        }
+        None => given_entry(alloc, kernels, kind),
     }
+}
+
+/// The same where no step is due.
+fn given_entry<K: Kernels>(
+    alloc: Global,
+    kernels: &K,
+    kind: &LineKind,
+) -> Result<Option<Vec<u8>>, NoMemory>
+    requires { K.stand kernels.now }
+    ensures { IfOk result (λ line. option_map (λ l. l.items) line ≡ given_entry (K.kept kernels.now) kind.now) }
+{
     match kind {
         LineKind::CallEntry { p, call, .. } => right_call(alloc, kernels, *p, call),
         LineKind::PacketEntry { kernel, from, .. } => first_packet(alloc, kernels, *from, *kernel),
@@ -33,9 +56,13 @@ fn right_call<K: Kernels>(
     call: &Call,
 ) -> Result<Option<Vec<u8>>, NoMemory>
     requires { K.stand kernels.now }
+    ensures { IfOk result (λ line. option_map (λ l. l.items) line ≡ option_map (λ at. entry_text at (Asked p call.now)) (next_call (K.kept kernels.now) p)) }
 {
     match call_place(kernels, p) {
-        Some((stamp, kernel)) => Ok(Some(call_line(alloc, stamp, kernel, p, call)?)),
+        Some((stamp, kernel)) => {
+            let line = call_line(alloc, stamp, kernel, p, call)?;
+            Ok(Some(line))
+        }
         None => Ok(None),
     }
 }
@@ -43,15 +70,23 @@ fn right_call<K: Kernels>(
 /// Stamp and kernel of the next call of a process, if it runs and the merge has a place for it.
 fn call_place<K: Kernels>(kernels: &K, p: Pid) -> Option<(u64, u8)>
     requires { K.stand kernels.now }
+    ensures { result ≡ next_call (K.kept kernels.now) p }
 {
-    let (kernel, Doing::Runs) = kernels.doing(p)? else {
-        return None;
-    };
-    let stamp = kernels.stamp(kernel)?.saturating_add(1);
-    if is_behind(kernels.latest(), stamp, kernel) {
-        Some((stamp, kernel))
-    } else {
-        None
+    match kernels.doing(p) {
+        Some((kernel, Doing::Runs)) => call_at(kernels.latest(), kernel, kernels.stamp(kernel)),
+        Some((_, Doing::Waits)) => None,
+        Some((_, Doing::Exited)) => None,
+        None => None,
+    }
+}
+
+/// Those of the next call at a kernel with this last stamp.
+fn call_at(latest: Option<(u64, u8)>, kernel: u8, stamp: Option<u64>) -> Option<(u64, u8)>
+    ensures { result ≡ call_at latest kernel stamp }
+{
+    match stamp {
+        Some(stamp) => placed(latest, stamp_after(stamp), kernel),
+        None => None,
     }
 }
 
@@ -63,20 +98,65 @@ fn first_packet<K: Kernels>(
     kernel: u8,
 ) -> Result<Option<Vec<u8>>, NoMemory>
     requires { K.stand kernels.now }
+    ensures { IfOk result (λ line. option_map (λ l. l.items) line ≡ next_taking (K.kept kernels.now) from kernel) }
 {
-    let Some(packet) = kernels.first(from, kernel) else {
-        return Ok(None);
-    };
-    let last = kernels.stamp(kernel).unwrap_or(0);
-    let stamp = last.max(packet.stamp).saturating_add(1);
-    if !is_behind(kernels.latest(), stamp, kernel) {
-        return Ok(None);
+    match kernels.first(from, kernel) {
+        Some(packet) => taking_line(alloc, kernels, from, kernel, packet),
+        None => Ok(None),
     }
-    Ok(Some(packet_line(alloc, stamp, kernel, from, packet)?))
+}
+
+/// The line of a packet that a kernel takes next, if the merge has a place for it.
+fn taking_line<K: Kernels>(
+    alloc: Global,
+    kernels: &K,
+    from: u8,
+    kernel: u8,
+    packet: &Packet,
+) -> Result<Option<Vec<u8>>, NoMemory>
+    requires { K.stand kernels.now }
+    ensures { IfOk result (λ line. option_map (λ l. l.items) line ≡ taking_of (K.kept kernels.now) from kernel (Some (packet_picture packet.now))) }
+{
+    let stamp = taking_stamp(kernels.stamp(kernel), packet.stamp);
+    match placed(kernels.latest(), stamp, kernel) {
+        Some((stamp, kernel)) => {
+            let line = packet_line(alloc, stamp, kernel, from, packet)?;
+            Ok(Some(line))
+        }
+        None => Ok(None),
+    }
+}
+
+/// The stamp with which a kernel of this last stamp takes a packet of that one.
+fn taking_stamp(last: Option<u64>, sent: u64) -> u64
+    ensures { result ≡ next_stamp (max (unwrap_or last 0) sent) }
+{
+    let last = last.unwrap_or(0);
+    stamp_after(if last < sent { sent } else { last })
+}
+
+/// The stamp of the event after one with this stamp.
+fn stamp_after(stamp: u64) -> u64
+    ensures { result ≡ next_stamp stamp }
+{
+    stamp.saturating_add(1)
+}
+
+/// Stamp and kernel of an entry, if it may stand behind the last one.
+fn placed(latest: Option<(u64, u8)>, stamp: u64, kernel: u8) -> Option<(u64, u8)>
+    ensures { result ≡ placed latest stamp kernel }
+{
+    if is_behind(latest, stamp, kernel) {
+        Some((stamp, kernel))
+    } else {
+        None
+    }
 }
 
 /// Whether an entry may stand behind the last one.
-fn is_behind(latest: Option<(u64, u8)>, stamp: u64, kernel: u8) -> bool {
+fn is_behind(latest: Option<(u64, u8)>, stamp: u64, kernel: u8) -> bool
+    ensures { result ≡ comes_after latest stamp kernel }
+{
     match latest {
         Some((at, by)) => at < stamp || (at == stamp && by < kernel),
         None => true,

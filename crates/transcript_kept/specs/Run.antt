@@ -1,17 +1,22 @@
--- The kernels that follow a transcript.
-use Rattle.std.specs.Prelude.{◌≡◌, ◌<◌, ℕ, length}
-use Rattle.charlotte_calls.specs.declared.names.Pid.{Pid}
+-- The kernels and the link service that follow a transcript.
+use Rattle.charlotte_calls.specs.Setting.{IsValid}
 use Rattle.kernel_nodes.specs.Nodes.{AreNodes, world_of}
-use Rattle.kernel_step.specs.Kernel.{process_of}
-use Rattle.kernel_step.specs.declared.phase.Phase.TheVariants.{Running}
+use Rattle.link_service.specs.Service.{state_of}
+use Rattle.transcript_items.specs.Kept.{Kept}
 use Rattle.transcript_kept.specs.declared.run.Run.{Run}
 
--- the kernels of a run are those of its setting
-abbrev pub IsRun : Run → Type 0
-IsRun r = AreNodes r.setting r.nodes.nodes.items
+-- what a run keeps
+abbrev pub kept_of : Run → Kept
+kept_of r =
+    record {
+      setting = r.setting;
+      world = world_of r.setting r.nodes.nodes.items;
+      latest = r.latest;
+      due = r.due.items;
+      service = state_of r.service;
+    }
 
--- a process is there and runs at a kernel that is there
-pub record MayCall (r : Run) (kernel : ℕ) (p : Pid) : Type 0 where
-  pub kernel_there : kernel < r.setting.kernels
-  pub process_there : p.0 < length r.setting.homes
-  pub runs : (process_of p ((world_of r.setting r.nodes.nodes.items).kernel kernel)).phase ≡ Running
+-- the kernels of a run are those of its setting
+pub record IsRun (r : Run) : Type 0 where
+  pub valid : IsValid r.setting
+  pub nodes : AreNodes r.setting r.nodes.nodes.items

@@ -3,9 +3,10 @@
 //! An audit went over the lines before. They are not tested again here, so that a `Run` needs no part of a replay.
 //!
 //! # What is proved
-//! The kernels of a `Run` are those of its setting, and a process makes a call only where it exists and is running. `explain` gives the three lines
-//! of `transcript_why`.
-//! By `IsRun` and `MayCall` in `specs/Run.antt`; the clauses of `start` and `follow` of `Run`, and of `explain`.
+//! What a `Run` keeps is what the definition says: its kernels are the world of the events of the lines that it followed, the last entry and the
+//! steps that are due are those of the last event, and its service made the steps that were shown. It follows a line exactly where that is possible.
+//! `explain` gives the three lines of `transcript_why`.
+//! By `IsRun` and `kept_of` in `specs/Run.antt`; the clauses of `Kernels` at `Run`, and of `explain`.
 #![tactic(auto)]
 
 mod explaining;

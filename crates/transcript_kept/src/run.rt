@@ -1,10 +1,10 @@
 //! The kernels and the link service, after the first lines of the transcript of a run.
-ghost use Rattle.std.specs.Prelude.{◌≡◌, ◌<◌, ◌↔◌, IfOk, IfSome, IsTrue, length};
+ghost use Rattle.std.specs.Prelude.{◌≡◌, ◌<◌, ◌↔◌, IfOk, IfSome, IsTrue, MatchBool, Some, length, slice_get};
 ghost use Rattle.std.specs.Bool.{OnTrue};
-ghost use Rattle.charlotte_calls.specs.Setting.{IsValid};
-ghost use Rattle.kernel_nodes.specs.Nodes.{world_of};
-ghost use Rattle.kernel_world.specs.Run.{AllTaken};
-ghost use Rattle.transcript_kept.specs.Run.{IsRun, MayCall};
+ghost use Rattle.kernel_core.specs.State.{state_of};
+ghost use Rattle.kernel_step.specs.Kernel.{process_of};
+ghost use Rattle.transcript_items.specs.Kept.{Asks, Kept, MayCall, Shows, Takes, doing_in};
+ghost use Rattle.transcript_kept.specs.Run.{IsRun, kept_of};
 
 use charlotte_calls::{Call, EndId, NoMemory, Pid, ServiceStep, Setting};
 use charlotte_packets::{Packet, PictureWhat};
@@ -30,6 +30,8 @@ pub struct Run {
 }
 
 impl Kernels for Run {
+    ghost kept = { kept_of };
+
     ghost stand = { IsRun };
 
     fn start(alloc: Global, setting: Setting) -> Result<Run, NoMemory> {
@@ -59,7 +61,12 @@ impl Kernels for Run {
                 ..
             } => self.take(*from, *kernel, &picture.what),
             LineKind::Service(_) => self.show(),
-            _ => Ok(true),
+            LineKind::First { .. } => Ok(true),
+            LineKind::Kernels(_) => Ok(true),
+            LineKind::Process { .. } => Ok(true),
+            LineKind::Wire { .. } => Ok(true),
+            LineKind::Note(_) => Ok(true),
+            LineKind::End(_) => Ok(true),
         }
     }
 
@@ -75,9 +82,7 @@ impl Kernels for Run {
         self.due.front()
     }
 
-    fn is_quiet(&self) -> bool
-        ensures { IsTrue result ↔ AllTaken (world_of self.now.setting self.now.nodes.nodes.items) }
-    {
+    fn is_quiet(&self) -> bool {
         self.nodes.are_quiet()
     }
 
@@ -111,7 +116,9 @@ impl Run {
     /// A process makes a call at its kernel.
     fn ask(&mut self, kernel: u8, p: Pid, call: &Call) -> Result<bool, NoMemory>
         requires { IsRun self.old }
-        ensures { IfOk result (λ went. OnTrue went (IsRun self.new)) }
+        ensures stand { IfOk result (λ went. OnTrue went (IsRun self.new)) }
+        ensures asks { IfOk result (λ went. MatchBool went (Asks (kept_of self.old) kernel p call.now (kept_of self.new))
+            ((new : Kept) → Asks (kept_of self.old) kernel p call.now new → ⊥)) }
     {
         if !self.runs_at(p, kernel) {
             return Ok(false);
@@ -128,7 +135,9 @@ impl Run {
     /// A kernel takes a packet.
     fn take(&mut self, from: u8, kernel: u8, what: &PictureWhat) -> Result<bool, NoMemory>
         requires { IsRun self.old }
-        ensures { IfOk result (λ went. OnTrue went (IsRun self.new)) }
+        ensures stand { IfOk result (λ went. OnTrue went (IsRun self.new)) }
+        ensures takes { IfOk result (λ went. MatchBool went (Takes (kept_of self.old) from kernel what.now (kept_of self.new))
+            ((new : Kept) → Takes (kept_of self.old) from kernel what.now new → ⊥)) }
     {
         match self.nodes.take_told(from, kernel, what)? {
             Some(noted) => {
@@ -142,6 +151,9 @@ impl Run {
     fn note(&mut self, kernel: u8, noted: Noted)
         ensures nodes { self.new.nodes ≡ self.old.nodes }
         ensures setting { self.new.setting ≡ self.old.setting }
+        ensures service { self.new.service ≡ self.old.service }
+        ensures latest { self.new.latest ≡ Some (noted.stamp, kernel) }
+        ensures due { self.new.due.items ≡ noted.steps.items }
     {
         self.latest = Some((noted.stamp, kernel));
         self.due = VecDeque::from(noted.steps);
@@ -150,7 +162,9 @@ impl Run {
     /// The service makes the step that is due.
     fn show(&mut self) -> Result<bool, NoMemory>
         requires { IsRun self.old }
-        ensures { IfOk result (λ went. OnTrue went (IsRun self.new)) }
+        ensures stand { IfOk result (λ went. OnTrue went (IsRun self.new)) }
+        ensures shows { IfOk result (λ went. MatchBool went (Shows (kept_of self.old) (kept_of self.new))
+            ((new : Kept) → Shows (kept_of self.old) new → ⊥)) }
     {
         let Some(step) = self.due.pop_front() else {
             return Ok(false);
@@ -164,7 +178,8 @@ impl Run {
 
     /// The kernel of a process, if the process is there.
     fn home(&self, p: Pid) -> Option<u8>
-        ensures { IfSome result (λ _. p.0 < length self.now.setting.homes) }
+        ensures at { result ≡ slice_get self.now.setting.homes p.0 }
+        ensures there { IfSome result (λ _. p.0 < length self.now.setting.homes) }
     {
         self.setting.homes.as_slice().get(usize::from(p.0)).copied()
     }
@@ -172,7 +187,7 @@ impl Run {
     /// Whether a kernel is that of a process, which runs.
     fn runs_at(&self, p: Pid, kernel: u8) -> bool
         requires { IsRun self.now }
-        ensures { OnTrue result (MayCall self.now kernel p) }
+        ensures { IsTrue result ↔ MayCall (kept_of self.now) kernel p }
     {
         match self.home(p) {
             Some(home) => {
@@ -185,6 +200,7 @@ impl Run {
 
 fn doing_at(kernel: &Kernel, p: Pid) -> Doing
     requires { p.0 < length kernel.now.processes }
+    ensures { result ≡ doing_in (process_of p (state_of kernel.now)).phase }
 {
     if kernel.running(p) {
         Doing::Runs

@@ -1,4 +1,6 @@
 //! What the kernels give in the place of a line.
+ghost use Rattle.std.specs.Prelude.{◌≡◌, IfOk, IfSome};
+ghost use Rattle.transcript_items.specs.Given.{given};
 
 use charlotte_calls::NoMemory;
 use charlotte_text::{Listing, push_number};
@@ -19,6 +21,7 @@ pub(crate) fn expected_lines<K: Kernels>(
     kind: &LineKind,
 ) -> Result<Vec<u8>, NoMemory>
     requires { K.stand kernels.now }
+    ensures { IfOk result (λ text. IfSome (given (K.kept kernels.now) kind.now) (λ line. text.items ≡ line)) }
 {
     if let Some(line) = given_line(alloc, kernels, kind)? {
         return Ok(line);

@@ -1,6 +1,8 @@
 //! The three lines that tell why.
-ghost use Rattle.std.specs.Prelude.{◌<◌, IfOk, length, map};
-ghost use Rattle.transcript_why.specs.Why.{AreWhy};
+ghost use Rattle.std.specs.Prelude.{◌≡◌, ◌<◌, IfOk, IfSome, codes, length, map};
+ghost use Rattle.transcript_items.specs.Given.{given};
+ghost use Rattle.transcript_items.specs.Texts.{kept_text};
+ghost use Rattle.transcript_why.specs.Why.{AreWhy, Tells};
 
 use crate::expected::{OR, expected_lines};
 use crate::following::run_before;
@@ -41,6 +43,7 @@ pub fn explain<K: Kernels>(
 /// What stands in the second and in the third line. A line that cannot stand is named before any is replayed, so nothing is kept then.
 fn tell_reasons<K: Kernels>(alloc: Global, bytes: &[u8], number: u32) -> Result<Reasons, NoMemory>
     requires { length bytes.now < 4294967295 }
+    ensures { IfOk result (λ r. Tells bytes.now number r.expected.items r.kept.items) }
 {
     let Reached {
         place,
@@ -48,20 +51,31 @@ fn tell_reasons<K: Kernels>(alloc: Global, bytes: &[u8], number: u32) -> Result<
         next,
     } = reach(alloc, bytes, number)?;
     let version = setting.version;
-    if let Some(kind) = next {
-        if let Some(kernels) = run_before::<K>(alloc, bytes, number, setting)? {
-            return differing(alloc, place, &kernels, &kind);
-        }
-    }
+    let Some(kind) = next else {
+        let reasons = by_forms(alloc, place, version, line_at(bytes, number).text)?;
+        return Ok(reasons);
+    };
+    let Some(kernels) = run_before::<K>(alloc, bytes, number, setting)? else {
+        let reasons = by_forms(alloc, place, version, line_at(bytes, number).text)?;
+        return Ok(reasons);
+    };
+    let reasons = differing(alloc, place, &kernels, &kind)?;
+    Ok(reasons)
+}
+
+/// The forms of the lines that may stand in a place of a line, where no kernels are kept.
+fn by_forms(alloc: Global, place: Place, version: u8, line: &[u8]) -> Result<Reasons, NoMemory>
+    ensures { IfOk result (λ r. r.kept.items ≡ codes "nothing") }
+{
     let mut forms = Listing::new(alloc, OR);
-    expected_forms(&mut forms, place, version, line_at(bytes, number).text)?;
+    expected_forms(&mut forms, place, version, line)?;
     Ok(Reasons {
         expected: forms.text,
         kept: b"nothing".to_vec(alloc)?,
     })
 }
 
-/// The same of a line that differs from what the kernels give there.
+/// What stands in these lines of a line that differs from what the kernels give there.
 fn differing<K: Kernels>(
     alloc: Global,
     place: Place,
@@ -69,6 +83,8 @@ fn differing<K: Kernels>(
     kind: &LineKind,
 ) -> Result<Reasons, NoMemory>
     requires { K.stand kernels.now }
+    ensures expected { IfOk result (λ r. IfSome (given (K.kept kernels.now) kind.now) (λ line. r.expected.items ≡ line)) }
+    ensures kept { IfOk result (λ r. r.kept.items ≡ kept_text (K.kept kernels.now) kind.now) }
 {
     Ok(Reasons {
         expected: expected_lines(alloc, place, kernels, kind)?,

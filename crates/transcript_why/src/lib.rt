@@ -2,9 +2,11 @@
 //! link service keep then what bears on it. The kernels are any that follow a transcript (`Kernels` of `transcript_items`).
 //!
 //! # What is proved
-//! `explain` gives three lines: the line of the number as it stands in the text, byte by byte, with a mark where no line feed ends it;
-//! behind `expected: ` and behind `kept: ` a text, each shown as one line of printable ASCII. What these two texts say is tested only.
-//! By the clause of `explain`; `AreWhy` in `specs/Why.antt`.
+//! `explain` gives three lines. The first is the line of the number as it stands in the text, byte by byte, with a mark where no line feed ends
+//! it. Where that line can stand and the lines before it can be followed, the third tells just the items that bear on it, of what is kept once
+//! these lines were followed, no more and no fewer, and the second is the one line that the kernels give there, where they give one. Else the
+//! third says `nothing`. What the second line says where the kernels give no one line is tested only. Each is one line of printable ASCII.
+//! By the clause of `explain`; `AreWhy` in `specs/Why.antt`, `IsKept` in `specs/Before.antt`.
 #![tactic(auto)]
 
 mod expected;

@@ -18,4 +18,5 @@ returns g c =
           ∙ three c.in_ok-first.first.items c.in_ok-second.second.items c.in_ok-third.third.items _ _ _ c.in_ok-first.ensures
           (c.in_ok-second.ensures ∙ ap (λ (text : List ℕ). line (labelled (codes "expected: ") text)) c.as_slice.ensures.value)
           (c.in_ok-third.ensures ∙ ap (λ (text : List ℕ). line (labelled (codes "kept: ") text)) c.as_slice-2.ensures.value);
+      tells = c.in_ok-told.ensures;
     }
