@@ -3,4 +3,4 @@
 
 mod words;
 
-pub use words::{Command, command_of};
+pub use words::{Command, command_of, one_name};

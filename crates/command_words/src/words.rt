@@ -138,8 +138,9 @@ fn is_name(word: &[u8]) -> bool
     }
 }
 
+/// The name of a file: the one word, which is not empty and does not begin with `-`.
 #[tactic(auto, unfolding(crate::specs::Words::one_name))]
-fn one_name(mut words: VecDeque<String>) -> Option<String>
+pub fn one_name(mut words: VecDeque<String>) -> Option<String>
     ensures { result ≡ one_name words.items }
 {
     let word = words.pop_front()?;

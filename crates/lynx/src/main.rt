@@ -2,7 +2,7 @@
 #![tactic(auto)]
 
 use lynx_command::Failure;
-use lynx_outside::{HostFiles, HostSink, HostWords, WordsFault, read_words};
+use lynx_outside::{HostFiles, HostSink, HostWords, read_words};
 use lynx_run::{fail, lynx};
 use std::process::ExitCode;
 
@@ -13,15 +13,7 @@ fn main(rt: HostRuntime) -> ExitCode {
     let mut err = HostSink::of(rt.stderr());
     let status = match read_words(alloc, &HostWords::of(&rt)) {
         Ok(words) => lynx(alloc, words, &mut files, &mut out, &mut err),
-        Err(fault) => fail(alloc, failure_of(fault), &mut err),
+        Err(fault) => fail(alloc, Failure::of_words(fault), &mut err),
     };
     ExitCode::from(status.number())
-}
-
-// Words that are not text are not of the form of a command.
-fn failure_of(fault: WordsFault) -> Failure {
-    match fault {
-        WordsFault::NotText => Failure::Usage,
-        WordsFault::NoMemory => Failure::NoMemory,
-    }
 }

@@ -1,7 +1,8 @@
 -- What a command did to what is outside itself.
-use Rattle.std.specs.Prelude.{◌≡◌, ℕ, List}
+use Rattle.std.specs.Prelude.{◌≡◌, ℕ, List, [], Err}
 use Rattle.lynx_command.specs.Ending.{Ends}
 use Rattle.lynx_command.specs.Found.{Found, FindsAt}
+use Rattle.lynx_command.specs.declared.failure.Failure.{Failure}
 use Rattle.lynx_outside.specs.Files.{Source, WereRead}
 use Rattle.lynx_outside.specs.Logged.{Read, Put}
 use Rattle.lynx_outside.specs.Sink.{Stream, WerePut}
@@ -35,3 +36,9 @@ pub record Took (course : Course) (ended : Status) (old new : Outside) : Type 0 
 pub record IsOfFile (In : List ℕ → Found → Type 0) (most : ℕ) (name : List ℕ) (course : Course) : Type 0 where
   pub named : course.name ≡ name
   pub finds : FindsAt In most name course.reads course.found
+
+-- Nothing was read, and this is told of this name.
+pub record IsRefusedAs (failure : Failure) (name : List ℕ) (course : Course) : Type 0 where
+  pub reads : course.reads ≡ []
+  pub found : course.found ≡ Err failure
+  pub named : course.name ≡ name

@@ -9,6 +9,8 @@ use Rattle.lynx_outside.specs.declared.files.FileAnswer.{FileAnswer}
 use Rattle.lynx_outside.specs.declared.files.FileAnswer.TheVariants as answer
 use Rattle.lynx_outside.specs.declared.status.Status.{Status}
 use Rattle.lynx_outside.specs.declared.status.Status.TheVariants as status
+use Rattle.lynx_outside.specs.declared.words.WordsFault.{WordsFault}
+use Rattle.lynx_outside.specs.declared.words.WordsFault.TheVariants as words
 use Rattle.lynx_plan.specs.declared.fault.PlanFault.{PlanFault}
 use Rattle.lynx_plan.specs.declared.fault.PlanFault.TheVariants as fault
 use Rattle.lynx_source.specs.declared.fault.SourceFault.{SourceFault}
@@ -38,6 +40,11 @@ failure_of_file answer.Absent = Absent
 failure_of_file answer.TooBig = TooBig
 failure_of_file answer.Failed = ReadFault
 failure_of_file answer.NoMemory = NoMemory
+
+-- why the words were not read
+abbrev pub failure_of_words : WordsFault → Failure
+failure_of_words words.NotText = Usage
+failure_of_words words.NoMemory = NoMemory
 
 -- why a script was not read
 abbrev pub failure_of_script : PlanFault → Failure

@@ -1,6 +1,6 @@
 //! How a command ends.
-ghost use Rattle.std.specs.Prelude.{◌≡◌, List};
-ghost use Rattle.lynx_command.specs.Ending.{Ends};
+ghost use Rattle.std.specs.Prelude.{List};
+ghost use Rattle.lynx_command.specs.Ending.{Ends, EndsSo};
 ghost use Rattle.lynx_command.specs.Found.{found_of};
 ghost use Rattle.lynx_outside.specs.Logged.{Put};
 ghost use Rattle.lynx_outside.specs.Sink.{WerePut};
@@ -19,19 +19,8 @@ pub enum End {
     Done,
     /// A kernel's turns were used up.
     Spent,
-}
-
-impl End {
-    ghost use Rattle.lynx_command.specs.Ending.{end_status};
-
-    fn status(self) -> Status
-        ensures { result ≡ end_status self }
-    {
-        match self {
-            End::Done => Status::Done,
-            End::Spent => Status::Spent,
-        }
-    }
+    /// This is why it was not done, which is told behind the text.
+    Failed(Failure),
 }
 
 /// A text that a command is to put, and how it ends then.
@@ -42,7 +31,7 @@ pub struct Output<T> {
 }
 
 /// Puts the text on out, or tells the failure on err. After a put that failed nothing more is put. Where memory lacks for a
-/// line of the text, want of memory is told, and out keeps the lines before it.
+/// line of the text, want of memory is told, and out keeps the lines before it. A failure that stands behind the text is told once it was put whole.
 pub fn end_with<T: Text + Drop, O: Sink, E: Sink>(
     alloc: Global,
     name: &str,
@@ -60,8 +49,19 @@ pub fn end_with<T: Text + Drop, O: Sink, E: Sink>(
         Err(failure) => return tell(alloc, name, failure, err),
     };
     match put_text(alloc, &mut output.text, out) {
-        Ok(()) => output.end.status(),
+        Ok(()) => end_so(alloc, name, output.end, err),
         Err(PutFault::Failed) => Status::WriteFault,
         Err(PutFault::NoMemory) => tell(alloc, name, Failure::NoMemory, err),
+    }
+}
+
+/// Ends as a text says that was put whole.
+fn end_so<E: Sink>(alloc: Global, name: &str, end: End, err: &mut E) -> Status
+    ensures { (errs : List Put) × EndsSo end name.now result errs × WerePut (E.state err.old) (E.state err.new) errs }
+{
+    match end {
+        End::Done => Status::Done,
+        End::Spent => Status::Spent,
+        End::Failed(failure) => tell(alloc, name, failure, err),
     }
 }

@@ -6,7 +6,7 @@ ghost use Rattle.lynx_command.specs.Failures.{failure_of_file, failure_of_source
 
 use charlotte_calls::NoMemory;
 use charlotte_text::push_number;
-use lynx_outside::{FileAnswer, Status};
+use lynx_outside::{FileAnswer, Status, WordsFault};
 use lynx_plan::PlanFault;
 use lynx_source::{Place, SourceFault};
 use std::alloc::Global;
@@ -45,7 +45,17 @@ pub enum Failure {
 }
 
 impl Failure {
-    ghost use Rattle.lynx_command.specs.Failures.{status_of, failure_text, failure_of_script, failure_of_plan};
+    ghost use Rattle.lynx_command.specs.Failures.{status_of, failure_text, failure_of_script, failure_of_plan, failure_of_words};
+
+    /// Why the words were not read. Words that are not text are not of the form of a command.
+    pub fn of_words(fault: WordsFault) -> Failure
+        ensures { result ≡ failure_of_words fault }
+    {
+        match fault {
+            WordsFault::NotText => Failure::Usage,
+            WordsFault::NoMemory => Failure::NoMemory,
+        }
+    }
 
     /// Why a script was not read.
     pub fn of_script(fault: PlanFault) -> Failure

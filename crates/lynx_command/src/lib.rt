@@ -4,8 +4,8 @@
 //!
 //! # What is proved
 //! A command that reads one file reads it once, and gives its result of just the bytes that this read answered. Standard output gets one
-//! put for each line of its text, and nothing is put anywhere after a put that failed. A failure is told by its one line; each failure has
-//! its status and text. Where memory runs out in the middle of a text, standard output keeps the lines before it. A text that is held as
+//! put for each line of its text, and nothing is put anywhere after a put that failed. A failure is told by its one line, in place of a text or
+//! behind one; each failure has its status and text. Where memory runs out in the middle of a text, standard output keeps the lines before it. A text that is held as
 //! bytes is given by its lines, which together are the text.
 //! By `IsOfFile`, `Took`, `Ends`, `Tells` and `lines_of` in `specs/`; clauses of `perform_file`, `end_with`, `put_text`, `tell`,
 //! `read_file`, `HeldText`; the law `lines_are_the_text`.

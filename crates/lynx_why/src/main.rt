@@ -2,12 +2,12 @@
 //! over the files and streams of the host.
 #![tactic(auto)]
 
-mod finding;
+mod command;
 mod top;
 
-use crate::top::{fail, why};
-use lynx_command::Failure;
-use lynx_outside::{HostFiles, HostSink, HostWords, WordsFault, read_words};
+use crate::top::why;
+use lynx_command::{Failure, tell};
+use lynx_outside::{HostFiles, HostSink, HostWords, read_words};
 use std::process::ExitCode;
 
 fn main(rt: HostRuntime) -> ExitCode {
@@ -17,15 +17,7 @@ fn main(rt: HostRuntime) -> ExitCode {
     let mut err = HostSink::of(rt.stderr());
     let status = match read_words(alloc, &HostWords::of(&rt)) {
         Ok(words) => why(alloc, words, &mut files, &mut out, &mut err),
-        Err(fault) => fail(alloc, failure_of(fault), &mut err),
+        Err(fault) => tell(alloc, "", Failure::of_words(fault), &mut err),
     };
     ExitCode::from(status.number())
-}
-
-// Words that are not text are not of the form of a command.
-fn failure_of(fault: WordsFault) -> Failure {
-    match fault {
-        WordsFault::NotText => Failure::Usage,
-        WordsFault::NoMemory => Failure::NoMemory,
-    }
 }

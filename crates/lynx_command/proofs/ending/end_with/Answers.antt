@@ -9,7 +9,8 @@ returns-in-Err g c = ([], c.tell.ensures.0, rw c.in-Err.is (refl, c.tell.ensures
 pub returns-in-Ok-put_text : goal.returns-in-Ok-put_text
 returns-in-Ok-put_text g c =
     let put = c.in-Ok-put_text.ensures in
-    (put.0, [], rw c.in-Ok.is (inl (c.status.ensures, put.1, refl)), put.2, no_puts _)
+    let so = c.end_so.ensures in
+    (put.0, so.0, rw c.in-Ok.is (inl (put.1, so.1)), put.2, so.2)
 
 pub returns-in-Err-Failed : goal.returns-in-Err-Failed
 returns-in-Err-Failed g c =
