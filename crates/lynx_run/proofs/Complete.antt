@@ -7,8 +7,9 @@ use Rattle.command_words.specs.declared.words.Command.TheVariants.{Drive, Check,
 use Rattle.compiler_source.proofs.Stages.{one_compilation}
 use Rattle.compiler_source.specs.Compiled.{IsCompiledAs}
 use Rattle.lynx_command.specs.Course.{Course, IsOfFile, Outside, Took}
-use Rattle.lynx_command.specs.Ending.{Ends, EndsText, Tells, end_status}
+use Rattle.lynx_command.specs.Ending.{Ends, EndsSo, EndsText, Tells}
 use Rattle.lynx_command.specs.Found.{Found, OutputLines, FindsAt, FindsIn, read}
+use Rattle.lynx_command.specs.declared.ending.End.{End}
 use Rattle.lynx_command.specs.declared.ending.End.TheVariants.{Done}
 use Rattle.lynx_command.specs.declared.failure.Failure.{Failure}
 use Rattle.lynx_command.specs.declared.failure.Failure.TheVariants as failure
@@ -62,7 +63,9 @@ told-memory name old new ended errs stays were (inr (inr fails)) = absurd (no-fa
 -- a text is put whole, or memory ran out
 text-ends : (old new : Outside) (name : List ℕ) (output : OutputLines) (ended : Status) (outs errs : List Put) → HasNoFault old new → WerePut old.out new.out outs → WerePut old.err new.err errs → output.end ≡ Done
     → EndsText name output ended outs errs → ((ended ≡ status.Done) × (outs ≡ map taken output.lines) × (errs ≡ [])) ⊎ (ended ≡ status.NoMemory)
-text-ends old new name output ended outs errs none out err is (inl whole) = inl (whole.0 ∙ ap end_status is, whole.1, whole.2)
+text-ends old new name output ended outs errs none out err is (inl whole) =
+    let so : EndsSo Done name ended errs = subst (λ (end : End). EndsSo end name ended errs) is whole.1 in
+    inl (so.0, whole.0, so.1)
 text-ends old new name output ended outs errs none out err is (inr (inl stops)) = absurd (no-failed old.out new.out outs stops.1.before stops.1.line none.out out stops.1.puts_are)
 text-ends old new name output ended outs errs none out err is (inr (inr short)) = inr (told-memory name old.err new.err ended errs none.err err short.1)
 

@@ -1,6 +1,6 @@
 -- What the program does with its words.
 use Rattle.std.specs.Prelude.{◌≡◌, ℕ, List, [], Option, Some, None, Err, codes, string_bytes}
-use Rattle.lynx_command.specs.Course.{Course, IsOfFile}
+use Rattle.lynx_command.specs.Course.{Course, IsOfFile, IsRefusedAs}
 use Rattle.lynx_command.specs.Found.{Found}
 use Rattle.lynx_command.specs.Limits.{most_bytes, most_transcript_bytes}
 use Rattle.lynx_command.specs.declared.failure.Failure.{Failure}
@@ -21,12 +21,6 @@ command_name (Run plan serial turns) = codes "run"
 command_name (Bench seed) = codes "bench"
 command_name (Audit file) = codes "audit"
 command_name (Snapshot plan at serial) = codes "snapshot"
-
--- Nothing was read, and this is told of this name.
-pub record IsRefusedAs (failure : Failure) (name : List ℕ) (course : Course) : Type 0 where
-  pub reads : course.reads ≡ []
-  pub found : course.found ≡ Err failure
-  pub named : course.name ≡ name
 
 -- the file that a command reads, and the most bytes of it; a command that is not built yet reads none
 abbrev pub file_of : Command → Option (List ℕ × ℕ)
