@@ -1,8 +1,8 @@
 -- What the machine reads to its end behind a name's bracket stands there in a signature of the size.
 use Rattle.std.proofs.Common.{◌≡◌, ℕ, suc, ◌-◌, ◌+◌, ◌≤◌, true, false, cond, List, [], ◌∷◌, ◌++◌, length, Option, Some, None, Ok, refl, sym, ap, subst, ◌∙◌, arith, inl, inr, pos}
-use Rattle.std.specs.Prelude.{◌⊎◌, ◌&&◌, ◌||◌, ◌==◌, nat_le, slice_index}
+use Rattle.std.specs.Prelude.{◌⊎◌, ◌&&◌, ◌||◌, nat_le, slice_index}
 use Rattle.std.specs.Fmt.{decimal}
-use Rattle.std.proofs.lemmas.Bool.{and_parts, eqb-true, leb-true}
+use Rattle.std.proofs.lemmas.Bool.{and_parts, leb-true}
 use Rattle.lynx_tree.specs.declared.declaration.TypeName.{TypeName}
 use Rattle.lynx_tree.specs.declared.declaration.TypeName.TheVariants as types
 use Rattle.typing_rules.specs.Types.{has_length}
@@ -13,12 +13,12 @@ use Rattle.lynx_packets.specs.declared.spot.Word.{Word}
 use Rattle.lynx_packets.specs.declared.spot.Word.TheVariants as words
 use Rattle.lynx_packets.specs.declared.spot.Spot.{Spot}
 use Rattle.lynx_packets.specs.declared.spot.Spot.TheVariants as spots
-use Rattle.lynx_packets.specs.Spots.{behind, may_link, letters_of, word_begun, worded, spelled, started, ended_on, next_spot, type_told, type_of_word, link_told, listed, is_done, types_at}
+use Rattle.lynx_packets.specs.Spots.{behind, letters_of, word_begun, worded, spelled, started, ended_on, next_spot, type_told, type_of_word, link_told, listed, is_done, types_at}
 use Rattle.lynx_packets.proofs.Sizes.{chosen}
 use Rattle.lynx_packets.proofs.Runs.{Read, Step, Rest, later, step_of, step_to, ends_early}
-use Rattle.lynx_packets.proofs.Items.{in_part, IsMark, MayStand, last, inner, tail_of, ahead, row_of, one_digit, two_digits, digit_told_is, one_told_is, one_quiet, mark_tells}
-use Rattle.lynx_packets.proofs.Lives.{Marked, marked, tested, spot_is, behind_parts}
-use Rattle.lynx_packets.proofs.Steady.{Single, letter_single, Digit, digit_of, a_word, word_is, no_word, or_cases}
+use Rattle.lynx_packets.proofs.Items.{in_part, MayStand, last, inner, tail_of, ahead, row_of, one_digit, two_digits, digit_told_is, one_told_is, one_quiet, mark_tells}
+use Rattle.lynx_packets.proofs.Lives.{marked, tested, spot_is, behind_parts, mark_of}
+use Rattle.lynx_packets.proofs.Steady.{Single, letter_single, Digit, digit_of, or_cases, letter_of, Room, begun_of}
 
 -- ---- one step back
 
@@ -128,10 +128,6 @@ one_chosen links m part b next e =
       | inr f ↦ inr f.1
     ]
 
-mark_is : (part : Part) (m b : ℕ) (next : Spot) → Marked part m b next → IsMark b
-mark_is part m b next (inl p) = inl p.0
-mark_is part m b next (inr p) = inr p.0
-
 ended_goes : (links m : ℕ) (part : Part) (b : ℕ) (next : Spot) → ended_on part m b ≡ Some next → next_spot links m (spots.Ended part) b ≡ Some next
 unfolding next_spot
 ended_goes links m part b next e = e
@@ -140,7 +136,7 @@ ended_goes links m part b next e = e
 one_alone : (links m : ℕ) (part : Part) (d : ℕ) (bs : List ℕ) (ts : List TypeName) (s : Step links m (spots.One part) d bs (ts, [])) → ended_on part m d ≡ Some s.next → Behind links m (spots.Ended part) (in_part part (row_of 1)) (d ∷ bs) ts
 unfolding type_told
 one_alone links m part d bs ts s goes =
-    let told = mark_tells part d (mark_is part m d s.next (marked part m d s.next goes)) in
+    let told = mark_tells part d (mark_of part m d s.next (marked part m d s.next goes)) in
     let b = after links m (m - 1) (spots.One part) d bs ts (in_part part (row_of 1)) s.next s refl told refl in
     let fewer = links - link_told (in_part part (row_of 1)) in
     let none_lost : fewer - 0 ≡ fewer = omega arith in
@@ -191,46 +187,6 @@ digits_back links left k part (d ∷ bs) ts some size runs =
     digit_step links left k part d bs ts some size s (digit_of links k part d s.next s.goes)
 
 -- ---- the first letter of a type
-
-abbrev letter_of : Word → ℕ
-letter_of words.Int = 105
-letter_of words.Bool = 98
-letter_of words.Text = 116
-letter_of words.Link = 108
-letter_of words.Row = 114
-
-abbrev Room : Part → ℕ → ℕ → Word → Type 0
-Room part links left words.Int = behind part left 3 ≡ true
-Room part links left words.Bool = behind part left 4 ≡ true
-Room part links left words.Text = behind part left 4 ≡ true
-Room part links left words.Link = (may_link part links ≡ true) × (behind part left 4 ≡ true)
-Room part links left words.Row = (behind part left 4 || behind part left 5) ≡ true
-
-abbrev Begun : Part → ℕ → ℕ → ℕ → Word → Type 0
-Begun part links left b word = (b ≡ letter_of word) × Room part links left word
-
-found_word : (part : Part) (links left b : ℕ) (v word : Word) → a_word v ≡ Some word → Begun part links left b v → Begun part links left b word
-found_word part links left b v word is begun = subst (λ (w : Word). Begun part links left b w) (word_is v word is) begun
-
-begun_of : (part : Part) (links left b : ℕ) (word : Word) → word_begun part links left b ≡ Some word → Begun part links left b word
-unfolding word_begun
-begun_of part links left b word e =
-    elim (chosen (b == 105 && behind part left 3) (a_word words.Int) _ (Some word) e) [
-      | inl t ↦ let p = and_parts (b == 105) (behind part left 3) t.0 in found_word part links left b words.Int word t.1 (eqb-true b 105 p.0, p.1)
-      | inr e2 ↦ elim (chosen (b == 98 && behind part left 4) (a_word words.Bool) _ (Some word) e2.1) [
-        | inl t ↦ let p = and_parts (b == 98) (behind part left 4) t.0 in found_word part links left b words.Bool word t.1 (eqb-true b 98 p.0, p.1)
-        | inr e3 ↦ elim (chosen (b == 116 && behind part left 4) (a_word words.Text) _ (Some word) e3.1) [
-          | inl t ↦ let p = and_parts (b == 116) (behind part left 4) t.0 in found_word part links left b words.Text word t.1 (eqb-true b 116 p.0, p.1)
-          | inr e4 ↦ elim (chosen (b == 108 && may_link part links && behind part left 4) (a_word words.Link) _ (Some word) e4.1) [
-            | inl t ↦ let p = and_parts (b == 108 && may_link part links) (behind part left 4) t.0 in let q = and_parts (b == 108) (may_link part links) p.0 in found_word part links left b words.Link word t.1 (eqb-true b 108 q.0, (q.1, p.1))
-            | inr e5 ↦
-                let t = no_word (b == 114 && (behind part left 4 || behind part left 5)) words.Row word e5.1 in
-                let p = and_parts (b == 114) (behind part left 4 || behind part left 5) t.0 in
-                found_word part links left b words.Row word (ap a_word t.1) (eqb-true b 114 p.0, p.1)
-          ]
-        ]
-      ]
-    ]
 
 plain_item : (part : Part) (word : Word) (t : TypeName) (links left m : ℕ) (bs : List ℕ) (ts : List TypeName) → type_of_word word ≡ Some t → worded part word ≡ spots.Ended part → ((r : List ℕ) → letter_of word ∷ tail_of word r ≡ type_text t ++ r)
     → has_length t ≡ true → MayStand links part t → left ≡ length (type_text t) + m → left - 1 ≡ ahead word m → Rest links (left - 1) (spots.Within part word 1) ts bs → Item links left part (letter_of word ∷ bs) ts

@@ -8,6 +8,7 @@ use Rattle.lynx_packets.specs.declared.fault.DecodeFault.{DecodeFault}
 use Rattle.lynx_packets.specs.declared.fault.DecodeFault.TheVariants as faults
 use Rattle.lynx_packets.specs.Spelling.{Spells, Begins, IsWrongAt, IsUnlessMemory}
 use Rattle.lynx_packets.specs.Packets.{packet_of, Tells}
+use Rattle.lynx_packets.proofs.Sizes.{not_both, not_err}
 use Rattle.lynx_packets.proofs.Exact.{IsBytes, Broken, WrongAll}
 use Rattle.lynx_packets.proofs.Spelled.{WholeText, packet_reads, whole_to, whole_back}
 
@@ -20,14 +21,6 @@ ok p = Ok p
 same_packet : (p q : RtPacket) (r : Answer) → r ≡ ok p → r ≡ ok q → p ≡ q
 same_packet p q (Ok x) e f = cc
 same_packet p q (Err n) e f = absurd cc
-
-not_both : {P : Type 0} (p : RtPacket) (n : ℕ) (r : Answer) → r ≡ ok p → r ≡ Err n → P
-not_both p n (Ok x) e f = absurd cc
-not_both p n (Err m) e f = absurd cc
-
-not_err : {P : Type 0} (p : RtPacket) (r : Answer) → r ≡ ok p → IsErr r → P
-not_err p (Ok x) e broken = absurd cc
-not_err p (Err m) e broken = absurd cc
 
 pub reads_spelling : (version : ℕ) (p : RtPacket) (bytes : List ℕ) → Spells version p bytes → packet_of version bytes ≡ Ok p
 reads_spelling version p bytes s = (packet_reads version).again p bytes (whole_back version p bytes s)

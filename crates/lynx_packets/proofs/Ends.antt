@@ -42,10 +42,6 @@ record Closing (left : ℕ) (part : Part) (text : List ℕ) (ts : List TypeName)
 abbrev ClosedBy : Part → Type 0
 ClosedBy part = (links left : ℕ) (text : List ℕ) (ts : List TypeName) → closes part left ≡ true → Rest links (left - 1) (closed part) ts text → Closing left part text ts
 
-some_closes : (part : Part) (left : ℕ) → closes part left ≡ true → left ≡ suc (left - 1)
-some_closes Arguments left e = grind (arith, e)
-some_closes Results left e = grind (arith, e)
-
 some_goes : (part : Part) (left : ℕ) → goes_on part left ≡ true → left ≡ suc (left - 1)
 some_goes Arguments left e = grind (arith, e)
 some_goes Results left e = grind (arith, e)

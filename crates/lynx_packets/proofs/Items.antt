@@ -15,6 +15,7 @@ use Rattle.lynx_packets.specs.declared.spot.Word.TheVariants as words
 use Rattle.lynx_packets.specs.declared.spot.Spot.{Spot}
 use Rattle.lynx_packets.specs.declared.spot.Spot.TheVariants as spots
 use Rattle.lynx_packets.specs.Spots.{ends, behind, may_link, next_spot, word_begun, worded, type_told, type_of_word, is_last, link_told, listed, types_at}
+use Rattle.lynx_packets.proofs.Sizes.{or_left, or_right}
 use Rattle.lynx_packets.proofs.Runs.{Read, later, with_types, step_of, step_to}
 
 -- what the machine tells of a type in this part
@@ -228,14 +229,6 @@ row_starts opened part links k ds y may runs =
 abbrev pub MayStand : ℕ → Part → TypeName → Type 0
 MayStand links part types.Link = may_link part links ≡ true
 MayStand links part _ = Unit {0}
-
-or_left : (a b : Bool) → a ≡ true → (a || b) ≡ true
-or_left true b e = refl
-or_left false b e = absurd cc
-
-or_right : (a b : Bool) → b ≡ true → (a || b) ≡ true
-or_right true b e = refl
-or_right false b e = e
 
 abbrev pub TypeRuns : Bool → Part → TypeName → Type 0
 TypeRuns opened part t = (links left m e : ℕ) (bs : List ℕ) (y : Read) → MayStand links part t → left ≡ length (type_text t) + m → ends part m ≡ true → IsMark e

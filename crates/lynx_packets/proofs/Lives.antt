@@ -24,10 +24,6 @@ at_spot s = Some s
 pub spot_is : (s next : Spot) → at_spot s ≡ Some next → s ≡ next
 spot_is s next e = cc
 
-none_is : {P : Type 0} (next : Spot) (o : Option Spot) → o ≡ None → o ≡ Some next → P
-none_is next None e f = absurd cc
-none_is next (Some s) e f = absurd cc
-
 -- a test that a step made
 pub tested : (b : Bool) (s next : Spot) → cond b (at_spot s) None ≡ Some next → (b ≡ true) × (s ≡ next)
 tested true s next e = (refl, spot_is s next e)
@@ -44,7 +40,7 @@ marked part left b next e =
       | inr f ↦ let t = tested (b == 44 && goes_on part left) (spots.Comma part) next f.1 in let p = and_parts (b == 44) (goes_on part left) t.0 in inr (eqb-true b 44 p.0, p.1, t.1)
     ]
 
-mark_of : (part : Part) (left b : ℕ) (next : Spot) → Marked part left b next → IsMark b
+pub mark_of : (part : Part) (left b : ℕ) (next : Spot) → Marked part left b next → IsMark b
 mark_of part left b next (inl p) = inl p.0
 mark_of part left b next (inr p) = inr p.0
 

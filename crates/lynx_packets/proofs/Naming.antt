@@ -15,7 +15,7 @@ use Rattle.lynx_lexer.specs.declared.keyword.Keyword.{Keyword}
 use Rattle.lynx_lexer.specs.declared.keyword.Keyword.TheVariants as keywords
 use Rattle.lynx_packets.specs.Spelling.{IsName}
 use Rattle.lynx_packets.specs.Spots.{is_keyword, room_left, begins_name, opens, is_name_at, names, name_at}
-use Rattle.lynx_packets.proofs.Sizes.{chosen, ok_is}
+use Rattle.lynx_packets.proofs.Sizes.{chosen, ok_is, number_is, not_both, or_left, or_right}
 use Rattle.lynx_packets.proofs.Keywords.{keyword_is, keyword_of}
 use Rattle.lynx_packets.proofs.Exact.{IsBytes, Found, Wrong, Broken, Reads}
 use Rattle.lynx_packets.proofs.Parts.{IsBytes-rest}
@@ -231,14 +231,6 @@ room_so size left k few room = grind (arith, few, room)
 long_so : (left k : ℕ) → fits_left (left - suc k) ≡ true → nat_le 6 left ≡ true
 long_so left k room = grind (arith, room)
 
-or_left : (a b : Bool) → a ≡ true → (a || b) ≡ true
-or_left true b e = refl
-or_left false b e = absurd cc
-
-or_right : (a b : Bool) → b ≡ true → (a || b) ≡ true
-or_right true b e = refl
-or_right false b e = e
-
 goes_so : (name t : List ℕ) (left : ℕ) → IsName (name ++ t) → fits_left (left - length t) ≡ true → (nat_le 6 left || not (is_keyword name)) ≡ true
 goes_so name [] left is room = or_right (nat_le 6 left) (not (is_keyword name)) (not_false (is_keyword name) (is_free name (is_keyword name) refl (subst (λ (w : List ℕ). IsName w) (append-nil name) is).free))
 goes_so name (b ∷ t) left is room = or_left (nat_le 6 left) (not (is_keyword name)) (long_so left (length t) room)
@@ -359,14 +351,6 @@ name_ends_early : (name : List ℕ) (left : ℕ) → name_at name left [] ≡ Er
 unfolding name_at
 name_ends_early name left = refl
 
-number_is : (m n : ℕ) (r : Result (List ℕ × List ℕ) ℕ) → r ≡ Err m → r ≡ Err n → m ≡ n
-number_is m n (Ok x) e f = absurd cc
-number_is m n (Err k) e f = cc
-
-not_wrong : {P : Type 0} (x : List ℕ × List ℕ) (n : ℕ) (r : Result (List ℕ × List ℕ) ℕ) → r ≡ done x → r ≡ Err n → P
-not_wrong x n (Ok y) e f = absurd cc
-not_wrong x n (Err m) e f = absurd cc
-
 abbrev WrongName : List ℕ → ℕ → List ℕ → ℕ → Type 0
 WrongName name left bytes n = Wrong (name_at name left) (NameRest name left) bytes n
 
@@ -390,7 +374,7 @@ abbrev Deeper : List ℕ → ℕ → ℕ → List ℕ → ℕ → Type 0
 Deeper name left b bs n = IsFront (name ++ b ∷ []) → Ready (name ++ b ∷ []) (left - 1) → name_at (name ++ b ∷ []) (left - 1) bs ≡ Err n → WrongName (name ++ b ∷ []) (left - 1) bs n
 
 wrong_step : (name : List ℕ) (left b : ℕ) (bs : List ℕ) (n : ℕ) (opened goes : Bool) → opens name left b ≡ opened → names name left b ≡ goes → IsFront name → Ready name left → name_at name left (b ∷ bs) ≡ Err n → Deeper name left b bs n → WrongName name left (b ∷ bs) n
-wrong_step name left b bs n true goes opening going front ready e deeper = not_wrong (name, bs) n (name_at name left (b ∷ bs)) (name_opens name left b bs opening) e
+wrong_step name left b bs n true goes opening going front ready e deeper = not_both (name, bs) n (name_at name left (b ∷ bs)) (name_opens name left b bs opening) e
 wrong_step name left b bs n false false opening going front ready e deeper = wrong_here name left b bs n ready opening going e
 wrong_step name left b bs n false true opening going front ready e deeper =
     let p = names_parts name left b going in

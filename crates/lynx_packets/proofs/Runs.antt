@@ -7,7 +7,7 @@ use Rattle.lynx_packets.specs.declared.spot.Spot.{Spot}
 use Rattle.lynx_packets.specs.declared.spot.Spot.TheVariants as spots
 use Rattle.lynx_packets.specs.Reading.{◌>>=◌}
 use Rattle.lynx_packets.specs.Spots.{next_spot, onward, type_told, link_told, with_told, listed, is_done, types_at}
-use Rattle.lynx_packets.proofs.Sizes.{bind_ok, ok_is}
+use Rattle.lynx_packets.proofs.Sizes.{bind_ok, ok_is, number_is, not_both}
 use Rattle.lynx_packets.proofs.Types.{types_done, types_more}
 use Rattle.lynx_packets.proofs.Exact.{Wrong, Broken}
 
@@ -116,10 +116,6 @@ with_err None read n e = e
 with_err (Some t) (Ok x) n e = absurd cc
 with_err (Some t) (Err m) n e = e
 
-number_is : (m n : ℕ) (r : Result Read ℕ) → r ≡ Err m → r ≡ Err n → m ≡ n
-number_is m n (Ok x) e f = absurd cc
-number_is m n (Err k) e f = cc
-
 step_err : (links left : ℕ) (spot : Spot) (b : ℕ) (bs : List ℕ) (next : Spot) → next_spot links left spot b ≡ Some next → IsErr (later links left spot b bs next) → IsErr (types_at links left spot (b ∷ bs))
 step_err links left spot b bs next goes e =
     subst (λ r. IsErr r) (sym (types_more links left spot b bs (goes_live links left spot b next goes) ∙ ap (λ (o : Option Spot). onward o (suc (length bs)) (λ n. with_told (type_told spot b) (later links left spot b bs n))) goes))
@@ -153,12 +149,8 @@ step_wrong : (b : ℕ) (bs : List ℕ) (links left : ℕ) (spot : Spot) (n : ℕ
 step_wrong b bs links left spot n None goes going live e deep = wrong_here links left spot b bs n live going goes e
 step_wrong b bs links left spot n (Some next) goes going live e deep = wrong_later links left spot b bs n next goes (deep next goes)
 
-ok_err : (x : Read) (n : ℕ) (r : Result Read ℕ) → r ≡ Ok x → r ≡ Err n → ⊥
-ok_err x n (Ok y) e f = absurd cc
-ok_err x n (Err m) e f = absurd cc
-
 pub run_wrong : Keeps → (bytes : List ℕ) (links left : ℕ) (spot : Spot) (over : Bool) (n : ℕ) → is_done spot ≡ over → Live links left spot → types_at links left spot bytes ≡ Err n → WrongRest links left spot bytes n
-run_wrong keeps bytes links left spot true n over live e = absurd (ok_err ([], bytes) n (types_at links left spot bytes) (types_done links left spot bytes over) e)
+run_wrong keeps bytes links left spot true n over live e = not_both ([], bytes) n (types_at links left spot bytes) (types_done links left spot bytes over) e
 run_wrong keeps [] links left spot false n over live e = record { front = []; tail = []; parts = refl; size = number_is 0 n (types_at links left spot []) (none_left links left spot over) e; value = live.ts; more = live.text; goes_on = live.runs; broken = tt }
 run_wrong keeps (b ∷ bs) links left spot false n over live e =
     step_wrong b bs links left spot n (next_spot links left spot b) refl over live e

@@ -14,7 +14,7 @@ use Rattle.lynx_packets.specs.declared.spot.Spot.TheVariants as spots
 use Rattle.lynx_packets.specs.Spelling.{IsOperation}
 use Rattle.lynx_packets.specs.Reading.{◌>>=◌, byte_at, bytes_at}
 use Rattle.lynx_packets.specs.Spots.{name_at, types_at, signature_at, Signed}
-use Rattle.lynx_packets.proofs.Sizes.{bind_ok, ok_is, passed}
+use Rattle.lynx_packets.proofs.Sizes.{bind_ok, ok_is, passed, number_is, not_both, not_err}
 use Rattle.lynx_packets.proofs.Exact.{IsBytes, Found, Wrong, Broken, Reads, Then, and_then, both_next}
 use Rattle.lynx_packets.proofs.Parts.{IsByteText, byte_reads}
 use Rattle.lynx_packets.proofs.Runs.{Rest, Live, run_found, run_again, run_wrong}
@@ -238,27 +238,12 @@ signed_is bytes rest text x e s parts =
     let same : a.0.0 ∷ a.0.1 ≡ length x.0 ∷ (x.0 ++ rest) = sym (byte_is 6 255 bytes a.0 a.1) ∙ parts ∙ ap (λ (t : List ℕ). t ++ rest) s.parts in
     a.2 ∙ ap (λ (n : ℕ). whole_of (n, a.0.1) (x.1, rest)) (ap head_of same) ∙ ap (λ (t : List ℕ). whole_of (length x.0, t) (x.1, rest)) (ap (drop 1) same) ∙ front_is x.0 rest x.1 rest
 
-abbrev Reading : Type 0
-Reading = Result (Signed × List ℕ) ℕ
-
-not_ok : {P : Type 0} (n : ℕ) (x : Signed × List ℕ) (r : Reading) → r ≡ Err n → r ≡ Ok x → P
-not_ok n x (Ok y) e f = absurd cc
-not_ok n x (Err m) e f = absurd cc
-
-number_is : (m n : ℕ) (r : Reading) → r ≡ Err m → r ≡ Err n → m ≡ n
-number_is m n (Ok x) e f = absurd cc
-number_is m n (Err k) e f = cc
-
-ok_not : (y : List TypeName × List ℕ) (r : Result (List TypeName × List ℕ) ℕ) → r ≡ Ok y → IsErr r → ⊥
-ok_not y (Ok x) e broken = absurd cc
-ok_not y (Err n) e broken = absurd cc
-
 broken_at : (bytes : List ℕ) (r : Result (List TypeName × List ℕ) ℕ) → sized bytes ≡ r → IsErr (sized bytes) → IsErr (signature_at bytes)
-broken_at bytes (Ok y) read broken = absurd (ok_not y (sized bytes) read broken)
+broken_at bytes (Ok y) read broken = not_err y (sized bytes) read broken
 broken_at bytes (Err n) read broken = subst (λ r. IsErr r) (sym (sized_err bytes n read)) refl
 
 found_signature : (bytes : List ℕ) (x : Signed) (rest : List ℕ) → IsBytes bytes → (r : Result (List TypeName × List ℕ) ℕ) → sized bytes ≡ r → signature_at bytes ≡ Ok (x, rest) → Found IsSigned bytes x rest
-found_signature bytes x rest fits (Err n) read e = not_ok n (x, rest) (signature_at bytes) (sized_err bytes n read) e
+found_signature bytes x rest fits (Err n) read e = not_both (x, rest) n (signature_at bytes) e (sized_err bytes n read)
 found_signature bytes x rest fits (Ok y) read e =
     let f = sized_reads.found bytes y.0 y.1 fits read in
     let s = sized_to y.0 f.text f.is in
@@ -274,7 +259,7 @@ wrong_signature : (bytes : List ℕ) (n : ℕ) → IsBytes bytes → (r : Result
 wrong_signature bytes n fits (Ok y) read e =
     let f = sized_reads.found bytes y.0 y.1 fits read in
     let s = sized_to y.0 f.text f.is in
-    not_ok n ((s.0, y.0), y.1) (signature_at bytes) e (signed_is bytes y.1 f.text (s.0, y.0) read s.1 f.parts)
+    not_both ((s.0, y.0), y.1) n (signature_at bytes) (signed_is bytes y.1 f.text (s.0, y.0) read s.1 f.parts) e
 wrong_signature bytes n fits (Err m) read e =
     let w = sized_reads.wrong bytes m fits read in
     let s = sized_to w.value (w.front ++ w.more) w.goes_on in

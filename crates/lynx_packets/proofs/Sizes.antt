@@ -1,6 +1,6 @@
 -- What is read is behind what was read before.
 use Rattle.std.proofs.Common.{◌≡◌, ℕ, zero, suc, ◌≤◌, ◌<◌, Bool, true, false, cond, ltb, List, [], ◌∷◌, length, take, drop, Result, Ok, Err, refl, ap, arith, ℤ, inl, inr}
-use Rattle.std.specs.Prelude.{◌&&◌, nat_le, ◌==◌, ◌⊎◌}
+use Rattle.std.specs.Prelude.{IsErr, ◌||◌, ◌&&◌, nat_le, ◌==◌, ◌⊎◌}
 use Rattle.std.specs.Int.{w64, from_be_bytes, cast_signed}
 use Rattle.std.proofs.lemmas.List.{length-drop}
 use Rattle.lynx_packets.specs.declared.value.RtValue.{RtValue}
@@ -26,6 +26,27 @@ done x = Ok x
 
 pub ok_is : {A : Type 0} (x y : A) → done x ≡ done y → x ≡ y
 ok_is x y e = cc
+
+-- nothing is answered twice in two ways
+pub number_is : {A : Type 0} (m n : ℕ) (r : Result A ℕ) → r ≡ Err m → r ≡ Err n → m ≡ n
+number_is m n (Ok x) e f = absurd cc
+number_is m n (Err k) e f = cc
+
+pub not_both : {A P : Type 0} (x : A) (n : ℕ) (r : Result A ℕ) → r ≡ done x → r ≡ Err n → P
+not_both x n (Ok y) e f = absurd cc
+not_both x n (Err m) e f = absurd cc
+
+pub not_err : {A P : Type 0} (x : A) (r : Result A ℕ) → r ≡ done x → IsErr r → P
+not_err x (Ok y) e broken = absurd cc
+not_err x (Err m) e broken = absurd cc
+
+pub or_left : (a b : Bool) → a ≡ true → (a || b) ≡ true
+or_left true b e = refl
+or_left false b e = absurd cc
+
+pub or_right : (a b : Bool) → b ≡ true → (a || b) ≡ true
+or_right true b e = refl
+or_right false b e = e
 
 pub byte_less : (low high : ℕ) (bytes : List ℕ) (x : ℕ × List ℕ) → byte_at low high bytes ≡ Ok x → length bytes ≡ suc (length x.1)
 byte_less low high [] x e = absurd cc

@@ -42,10 +42,6 @@ kind_reads kind =
     (either_all (kind == 2) reply_of seven ReplyText (Either (kind == 7) EncText (NumberAlone kind)) reply_reads
     (either_all (kind == 7) enc_of last EncText (NumberAlone kind) enc_reads (numbered_reads kind)))
 
-some_either : (b : Bool) (Text Other : RtPacket → List ℕ → Type 0) → ((p : RtPacket) × (t : List ℕ) × Text p t) → ((p : RtPacket) × (t : List ℕ) × Other p t) → (p : RtPacket) × (t : List ℕ) × Either b Text Other p t
-some_either true Text Other x y = x
-some_either false Text Other x y = y
-
 lives : {Text : RtPacket → List ℕ → Type 0} {read : List ℕ → Result RtPacket ℕ} → ReadsAll read Text → (r : Result RtPacket ℕ) → read [] ≡ r → (p : RtPacket) × (t : List ℕ) × Text p t
 lives reads (Ok p) e = (p, [], reads.found [] p (λ i. omega arith) e)
 lives reads (Err n) e = let w = reads.wrong [] n (λ i. omega arith) e in (w.value, w.front ++ w.more, w.goes_on)

@@ -109,45 +109,72 @@ or_cases true b e = inl refl
 or_cases false b e = inr e
 
 -- what is left behind the first letter
-abbrev Begun : Part → ℕ → ℕ → Word → Type 0
-Begun part links left word = Live links (left - 1) (spots.Within part word 1)
+abbrev WordLives : Part → ℕ → ℕ → Word → Type 0
+WordLives part links left word = Live links (left - 1) (spots.Within part word 1)
 
-at_size : (part : Part) (links left k : ℕ) (v word : Word) → v ≡ word → k ≡ left - 1 → Live links k (spots.Within part v 1) → Begun part links left word
-at_size part links left k v word is size live = subst (λ (w : Word). Begun part links left w) is (subst (λ (l : ℕ). Live links l (spots.Within part v 1)) size live)
+at_size : (part : Part) (links left k : ℕ) (word : Word) → k ≡ left - 1 → Live links k (spots.Within part word 1) → WordLives part links left word
+at_size part links left k word size live = subst (λ (l : ℕ). Live links l (spots.Within part word 1)) size live
 
-row_begun_live : (part : Part) (links left : ℕ) (word : Word) → words.Row ≡ word → (behind part left 4 || behind part left 5) ≡ true → Begun part links left word
-row_begun_live part links left word is e =
-    elim (or_cases (behind part left 4) (behind part left 5) e) [
-      | inl short ↦ let p = behind_parts part left 4 short in at_size part links left (suc (suc (suc (left - 4)))) words.Row word is (omega (arith, p.0)) (short_live part links (left - 4) p.1)
-      | inr long ↦ let p = behind_parts part left 5 long in at_size part links left (suc (suc (suc (suc (left - 5))))) words.Row word is (omega (arith, p.0)) (long_live part links (left - 5) p.1)
-    ]
+abbrev pub letter_of : Word → ℕ
+letter_of words.Int = 105
+letter_of words.Bool = 98
+letter_of words.Text = 116
+letter_of words.Link = 108
+letter_of words.Row = 114
 
-three_live : (part : Part) (links left : ℕ) (word : Word) → words.Int ≡ word → behind part left 3 ≡ true → Begun part links left word
-three_live part links left word is e = let p = behind_parts part left 3 e in at_size part links left (suc (suc (left - 3))) words.Int word is (omega (arith, p.0)) (within_live part words.Int links (left - 3) refl p.1)
+abbrev pub Room : Part → ℕ → ℕ → Word → Type 0
+Room part links left words.Int = behind part left 3 ≡ true
+Room part links left words.Bool = behind part left 4 ≡ true
+Room part links left words.Text = behind part left 4 ≡ true
+Room part links left words.Link = (may_link part links ≡ true) × (behind part left 4 ≡ true)
+Room part links left words.Row = (behind part left 4 || behind part left 5) ≡ true
 
-four_live : (part : Part) (links left : ℕ) (v word : Word) → ahead v (left - 4) ≡ suc (suc (suc (left - 4))) → worded part v ≡ spots.Ended part → v ≡ word → behind part left 4 ≡ true → Begun part links left word
-four_live part links left v word size to is e = let p = behind_parts part left 4 e in at_size part links left (ahead v (left - 4)) v word is (omega (arith, size, p.0)) (within_live part v links (left - 4) to p.1)
+abbrev pub Begun : Part → ℕ → ℕ → ℕ → Word → Type 0
+Begun part links left b word = (b ≡ letter_of word) × Room part links left word
 
-begun_live : (part : Part) (links left b : ℕ) (word : Word) → word_begun part links left b ≡ Some word → Begun part links left word
+found_word : (part : Part) (links left b : ℕ) (v word : Word) → a_word v ≡ Some word → Begun part links left b v → Begun part links left b word
+found_word part links left b v word is begun = subst (λ (w : Word). Begun part links left b w) (word_is v word is) begun
+
+pub begun_of : (part : Part) (links left b : ℕ) (word : Word) → word_begun part links left b ≡ Some word → Begun part links left b word
 unfolding word_begun
-begun_live part links left b word e =
+begun_of part links left b word e =
     elim (chosen (b == 105 && behind part left 3) (a_word words.Int) _ (Some word) e) [
-      | inl t ↦ three_live part links left word (word_is words.Int word t.1) (and_parts (b == 105) (behind part left 3) t.0).1
+      | inl t ↦ let p = and_parts (b == 105) (behind part left 3) t.0 in found_word part links left b words.Int word t.1 (eqb-true b 105 p.0, p.1)
       | inr e2 ↦ elim (chosen (b == 98 && behind part left 4) (a_word words.Bool) _ (Some word) e2.1) [
-        | inl t ↦ four_live part links left words.Bool word refl refl (word_is words.Bool word t.1) (and_parts (b == 98) (behind part left 4) t.0).1
+        | inl t ↦ let p = and_parts (b == 98) (behind part left 4) t.0 in found_word part links left b words.Bool word t.1 (eqb-true b 98 p.0, p.1)
         | inr e3 ↦ elim (chosen (b == 116 && behind part left 4) (a_word words.Text) _ (Some word) e3.1) [
-          | inl t ↦ four_live part links left words.Text word refl refl (word_is words.Text word t.1) (and_parts (b == 116) (behind part left 4) t.0).1
+          | inl t ↦ let p = and_parts (b == 116) (behind part left 4) t.0 in found_word part links left b words.Text word t.1 (eqb-true b 116 p.0, p.1)
           | inr e4 ↦ elim (chosen (b == 108 && may_link part links && behind part left 4) (a_word words.Link) _ (Some word) e4.1) [
-            | inl t ↦ four_live part links left words.Link word refl refl (word_is words.Link word t.1) (and_parts (b == 108 && may_link part links) (behind part left 4) t.0).1
-            | inr e5 ↦ let t = no_word (b == 114 && (behind part left 4 || behind part left 5)) words.Row word e5.1 in row_begun_live part links left word t.1 (and_parts (b == 114) (behind part left 4 || behind part left 5) t.0).1
+            | inl t ↦ let p = and_parts (b == 108 && may_link part links) (behind part left 4) t.0 in let q = and_parts (b == 108) (may_link part links) p.0 in found_word part links left b words.Link word t.1 (eqb-true b 108 q.0, (q.1, p.1))
+            | inr e5 ↦
+                let t = no_word (b == 114 && (behind part left 4 || behind part left 5)) words.Row word e5.1 in
+                let p = and_parts (b == 114) (behind part left 4 || behind part left 5) t.0 in
+                found_word part links left b words.Row word (ap a_word t.1) (eqb-true b 114 p.0, p.1)
           ]
         ]
       ]
     ]
 
+row_lives : (part : Part) (links left : ℕ) → (behind part left 4 || behind part left 5) ≡ true → WordLives part links left words.Row
+row_lives part links left e =
+    elim (or_cases (behind part left 4) (behind part left 5) e) [
+      | inl short ↦ let p = behind_parts part left 4 short in at_size part links left (suc (suc (suc (left - 4)))) words.Row (omega (arith, p.0)) (short_live part links (left - 4) p.1)
+      | inr long ↦ let p = behind_parts part left 5 long in at_size part links left (suc (suc (suc (suc (left - 5))))) words.Row (omega (arith, p.0)) (long_live part links (left - 5) p.1)
+    ]
+
+four_live : (part : Part) (links left : ℕ) (word : Word) → ahead word (left - 4) ≡ suc (suc (suc (left - 4))) → worded part word ≡ spots.Ended part → behind part left 4 ≡ true → WordLives part links left word
+four_live part links left word size to e = let p = behind_parts part left 4 e in at_size part links left (ahead word (left - 4)) word (omega (arith, size, p.0)) (within_live part word links (left - 4) to p.1)
+
+word_lives : (part : Part) (links left : ℕ) (word : Word) → Room part links left word → WordLives part links left word
+word_lives part links left words.Int room = let p = behind_parts part left 3 room in at_size part links left (suc (suc (left - 3))) words.Int (omega (arith, p.0)) (within_live part words.Int links (left - 3) refl p.1)
+word_lives part links left words.Bool room = four_live part links left words.Bool refl refl room
+word_lives part links left words.Text room = four_live part links left words.Text refl refl room
+word_lives part links left words.Link room = four_live part links left words.Link refl refl room.1
+word_lives part links left words.Row room = row_lives part links left room
+
 started_live : (part : Part) (links left b : ℕ) (next : Spot) (o : Option Word) → word_begun part links left b ≡ o → started part o ≡ Some next → Live links (left - 1) next
 started_live part links left b next None begun e = absurd cc
-started_live part links left b next (Some word) begun e = subst (λ (n : Spot). Live links (left - 1) n) (spot_is (spots.Within part word 1) next e) (begun_live part links left b word begun)
+started_live part links left b next (Some word) begun e = subst (λ (n : Spot). Live links (left - 1) n) (spot_is (spots.Within part word 1) next e) (word_lives part links left word (begun_of part links left b word begun).1)
 
 -- ---- each spot
 

@@ -1,6 +1,6 @@
 -- What the machine reads behind a name's bracket is what stands there in a signature: it reads each one that has the size.
 use Rattle.std.proofs.Common.{◌≡◌, ℕ, suc, ◌-◌, ◌+◌, ◌≤◌, Bool, true, false, List, [], ◌∷◌, ◌++◌, length, Some, Ok, refl, sym, ap, ◌∙◌, arith, inl, inr, append_assoc, pos, negsuc}
-use Rattle.std.specs.Prelude.{◌⊎◌, ◌||◌, nat_le}
+use Rattle.std.specs.Prelude.{◌⊎◌, nat_le}
 use Rattle.std.proofs.lemmas.Bool.{and_parts, leb-true, cases_lt}
 use Rattle.std.proofs.lemmas.List.{length-append}
 use Rattle.lynx_tree.specs.declared.declaration.TypeName.{TypeName}
@@ -11,6 +11,7 @@ use Rattle.lynx_packets.specs.declared.spot.Part.{Part}
 use Rattle.lynx_packets.specs.declared.spot.Part.TheVariants.{Arguments, Results}
 use Rattle.lynx_packets.specs.declared.spot.Spot.TheVariants as spots
 use Rattle.lynx_packets.specs.Spots.{closes, goes_on, ends, closed, next_spot, type_told, link_told, listed, types_at}
+use Rattle.lynx_packets.proofs.Sizes.{or_left, or_right}
 use Rattle.lynx_packets.proofs.Types.{types_done}
 use Rattle.lynx_packets.proofs.Runs.{Rest}
 use Rattle.lynx_packets.proofs.Items.{in_part, start, MayStand, quiet, item_runs, one_digit, two_digits}
@@ -105,22 +106,11 @@ go_fits Results t ts rs fits =
     let size : suc (length (types_text (t ∷ ts) ++ 41 ∷ [])) ≡ 2 + length (types_text (t ∷ ts)) = omega (arith, length-append (types_text (t ∷ ts)) (41 ∷ [])) in
     rw size (results_go (length (types_text (t ∷ ts))) (types_size (t ∷ ts) fits) (some_types t ts fits))
 
-ends_is : (part : Part) (t : TypeName) (ts rs : List TypeName) → ends_text part (t ∷ ts) rs ≡ 44 ∷ (types_text (t ∷ ts) ++ close_text part rs)
-ends_is part t ts rs = refl
-
-either_ends : (a b : Bool) → a ≡ true → (a || b) ≡ true
-either_ends true b e = refl
-either_ends false b e = absurd cc
-
-other_ends : (a b : Bool) → b ≡ true → (a || b) ≡ true
-other_ends true b e = refl
-other_ends false b e = e
-
 pub ends_fit : (part : Part) (ts rs : List TypeName) → Lengths ts → Lengths rs → ends part (length (ends_text part ts rs)) ≡ true
-ends_fit part [] rs ts_fit rs_fit = either_ends (closes part (length (close_text part rs))) (goes_on part (length (close_text part rs))) (close_fits part rs rs_fit)
+ends_fit part [] rs ts_fit rs_fit = or_left (closes part (length (close_text part rs))) (goes_on part (length (close_text part rs))) (close_fits part rs rs_fit)
 ends_fit part (t ∷ ts) rs ts_fit rs_fit =
     let n = suc (length (types_text (t ∷ ts) ++ close_text part rs)) in
-    other_ends (closes part n) (goes_on part n) (go_fits part t ts rs ts_fit)
+    or_right (closes part n) (goes_on part n) (go_fits part t ts rs ts_fit)
 
 -- ---- the machine reads it
 
