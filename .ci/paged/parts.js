@@ -1,5 +1,6 @@
-// Runs the parts of the page that look things up, without a browser: node parts.js FOLDER RECORD.. prints of each record who holds each end at each moment,
-// what each process waits for in words, and the causes of each event; the events of each story; and whether the lines of boxes are counted as they are made.
+// Runs the parts of the page that look things up, without a browser: node parts.js FOLDER RECORD.. prints of each record who holds each end at each
+// moment, what each process waits for in words, and the causes of each event; the events of each story; and whether the lines of boxes are counted as they
+// are made.
 "use strict";
 const { readFileSync } = require("fs");
 const vm = require("vm");

@@ -123,10 +123,12 @@ def span_of(view: View, end: str, hold: tuple[str, int], stop: int, tracks: dict
     if start == stop:
         return []
     args = {"end": end, "line": view.entry(event).line} if event >= 0 else {"end": end, "line": "from the start"}
-    return [{"ph": "X", "name": holder_label(holder), "cat": "hold", "pid": ends_pid(view), "tid": tracks[end], "ts": start, "dur": stop - start, "args": args}]
+    track = {"pid": ends_pid(view), "tid": tracks[end]}
+    return [{"ph": "X", "name": holder_label(holder), "cat": "hold", **track, "ts": start, "dur": stop - start, "args": args}]
 
 
 def death_of(view: View, change, track: int) -> dict:
     """That the kernel of an end learnt of the death of the opposite one, as an instant."""
     args = {"end": change.end, "line": view.entry(change.event).line}
-    return {"ph": "i", "s": "t", "name": "opposite destroyed", "cat": "death", "pid": ends_pid(view), "tid": track, "ts": time_of(view, change.event), "args": args}
+    told = {"ph": "i", "s": "t", "name": "opposite destroyed", "cat": "death"}
+    return told | {"pid": ends_pid(view), "tid": track, "ts": time_of(view, change.event), "args": args}

@@ -14,7 +14,9 @@ const MOST_RESTS = 12;
 // A kernel that has no part in the story has a lane of this width.
 const EMPTY_LANE = 44;
 const EMPTY_GUTTER = 12;
-const layout = { letters: 0, gutter: 0, lanes: [], right: 0, width: 0, rows: 0, height: 0, body: 0, first: [], top: [] };
+// No browser shows what is much higher. Where a picture would be, its boxes have two lines at most.
+const MOST_HIGH = 15_000_000;
+const layout = { letters: 0, lines: Infinity, gutter: 0, lanes: [], right: 0, width: 0, rows: 0, height: 0, body: 0, first: [], top: [] };
 // The ends that ever go into a message.
 const moving = new Set();
 run.holds.is.forEach((is, turn) => {
@@ -58,7 +60,7 @@ function textOf(number) {
     const look = place === 0 ? "" : part.startsWith("refuse ") ? "step wrongly" : "step";
     for (const text of wrapped(part, layout.letters)) found.push({ text, look });
   });
-  return found;
+  return found.slice(0, layout.lines);
 }
 
 function heightOf(number) {
@@ -69,11 +71,15 @@ function heightOf(number) {
     const part = end < 0 ? box.length : end;
     texts += part - from <= layout.letters ? 1 : countWrapped(box, from, part, layout.letters);
   }
-  return texts * LINE + 2 * PAD;
+  return Math.min(texts, layout.lines) * LINE + 2 * PAD;
 }
 
 function layOut(width) {
   placeLanes(width);
+  layout.lines = Infinity;
+  placeRows();
+  if (layout.height <= MOST_HIGH) return;
+  layout.lines = 2;
   placeRows();
 }
 
@@ -90,7 +96,7 @@ function longestText() {
 function placeLanes(width) {
   const busy = busyKernels();
   const columns = columnsWide();
-  layout.gutter = run.kernels <= 4 ? 60 : 30;
+  layout.gutter = run.kernels > 4 ? 30 : width < 900 ? 34 : 60;
   const free = width - LEFT - columns - (run.kernels - busy.size) * (EMPTY_LANE + EMPTY_GUTTER);
   const letters = Math.floor((free / Math.max(1, busy.size) - layout.gutter - 4 * PAD) / LETTER);
   layout.letters = Math.min(longestText(), Math.max(FEWEST_LETTERS, Math.min(MOST_LETTERS, letters)));

@@ -29,7 +29,8 @@ function eventPart(number) {
   return `<pre>${safe(linesOf(number).join("\n"))}</pre>
     ${changes.length ? `<ul class="changes">${changes.join("")}</ul>` : ""}
     <ul class="ways">${causeRows(number)}${effectRows(number)}</ul>
-    <p><button type="button" id="light" aria-pressed="${state.isLit}">Light causes and effects <kbd>Enter</kbd></button> ${state.isLit ? standingsPart(number) : ""}</p>`;
+    <p><button type="button" id="light" aria-pressed="${state.isLit}">Light causes and effects <kbd>Enter</kbd></button>
+    ${state.isLit ? standingsPart(number) : ""}</p>`;
 }
 
 function standingsPart(number) {
@@ -52,7 +53,10 @@ function mannerWords(head) {
 }
 
 function effectRows(number) {
-  const taken = takenFrom(number).map((head) => `<li>It sends ${safe(run.boxes[head].split("\n", 1)[0])} to kernel ${kernelOf[head]}, taken in ${lineLink(head)}</li>`);
+  const taken = takenFrom(number).map((head) => {
+    const what = safe(run.boxes[head].split("\n", 1)[0]);
+    return `<li>It sends ${what} to kernel ${kernelOf[head]}, taken in ${lineLink(head)}</li>`;
+  });
   const rest = (restOf.get(number) ?? []).map((packet) => `<li>It sends ${safe(packet.short)} to kernel ${packet.to}, which nobody took</li>`);
   return taken.concat(rest).join("");
 }
@@ -65,7 +69,8 @@ function tellHolds(held) {
   // of many, those that changed now come first
   if (found.length > MOST_ROWS) found.sort((one, other) => (other.since === state.at) - (one.since === state.at));
   const rows = found.slice(0, MOST_ROWS).map(holdRow);
-  put("holds", `<thead><tr><th scope="col">End</th><th scope="col">Held by</th><th scope="col">Since, and why</th></tr></thead><tbody>${rows.join("")}</tbody>`);
+  const names = ["End", "Held by", "Since, and why"].map((name) => `<th scope="col">${name}</th>`).join("");
+  put("holds", `<thead><tr>${names}</tr></thead><tbody>${rows.join("")}</tbody>`);
   const more = document.getElementById("holds-more");
   more.hidden = found.length <= MOST_ROWS;
   more.textContent = `and ${(found.length - MOST_ROWS).toLocaleString("en")} more: name an end or a holder above to see them`;
@@ -99,7 +104,8 @@ function tellStory() {
   if (part.hidden) return;
   document.getElementById("told-name").textContent = storyWords();
   const near = nearTo(story.picked).map((name) => pickButton(name)).join(", ");
-  put("told", `<p class="soft">${counted(story.shown.length, "event")} of ${count.toLocaleString("en")}; see too ${near}</p>${story.picked.ends.map(holdsStory).join("") || takesStory()}`);
+  const many = `${counted(story.shown.length, "event")} of ${count.toLocaleString("en")}`;
+  put("told", `<p class="soft">${many}; see too ${near}</p>${story.picked.ends.map(holdsStory).join("") || takesStory()}`);
 }
 
 // What else a story is near to: the link and the opposite of an end, the ends of a link, the kernel of a process, the processes of a kernel.
@@ -120,7 +126,8 @@ function holdsStory(name) {
 }
 
 function storyRow(name, holder, since, isNow) {
-  return `<li${isNow ? ' aria-current="true"' : ""}>${lineLink(since)}: ${holderPiece(holder)} <span class="soft">${safe(reasonOf(name, holder, since))}</span></li>`;
+  const mark = isNow ? ' aria-current="true"' : "";
+  return `<li${mark}>${lineLink(since)}: ${holderPiece(holder)} <span class="soft">${safe(reasonOf(name, holder, since))}</span></li>`;
 }
 
 // What came to the hands of a process.

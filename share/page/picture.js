@@ -4,8 +4,8 @@ const scroller = document.getElementById("picture");
 const room = document.getElementById("room");
 const sheet = document.getElementById("sheet");
 const heads = document.getElementById("heads");
-// The heights between which the picture is drawn now, and the ends that have columns there.
-const picture = { from: 0, to: 0, columns: [] };
+// The heights between which the picture is drawn now, the ends that have columns there, and the names above.
+const picture = { from: 0, to: 0, columns: [], heads: "" };
 // The moment, and whether causes and effects are lit.
 const state = { at: START, isLit: false, found: new Set() };
 
@@ -75,7 +75,10 @@ function boxOf(number, place) {
   const high = texts.length * LINE + 2 * PAD;
   const frame = `x="${x}" y="${y}" width="${wide}" height="${high}" rx="4"`;
   const bar = processOf[number] < 0 ? "" : `<rect x="${x}" y="${y}" width="6" height="${high}" rx="2" fill="${run.fills[processOf[number]]}"/>`;
-  const words = texts.map(({ text, look }, row) => `<text class="${look}" x="${x + 2 * PAD + 2}" y="${y + PAD + 10 + row * LINE}" xml:space="preserve">${safe(text)}</text>`);
+  const words = texts.map(({ text, look }, row) => {
+    const place = `x="${x + 2 * PAD + 2}" y="${y + PAD + 10 + row * LINE}"`;
+    return `<text class="${look}" ${place} xml:space="preserve">${safe(text)}</text>`;
+  });
   const ring = number === state.at ? `<rect class="ring" x="${x - 3}" y="${y - 3}" width="${wide + 6}" height="${high + 6}" rx="6"/>` : "";
   const tip = `<title>${safe(linesOf(number).join("\n"))}</title>`;
   return `<g id="e${number}" ${marksOf(number)}>${tip}${ring}<rect class="box" ${frame}/>${bar}${words.join("")}${signOf(number, x + wide, y)}</g>`;
@@ -83,10 +86,13 @@ function boxOf(number, place) {
 
 function marksOf(number) {
   const how = state.isLit && state.at !== START ? standing(number, state.at) : "";
-  const kinds = ["card", processOf[number] < 0 ? "taking" : "", run.boxes[number].includes("\nrefuse ") ? "refusal" : "", how, state.found.has(number) ? "found" : ""];
+  const isRefused = run.boxes[number].includes("\nrefuse ");
+  const looks = { card: true, taking: processOf[number] < 0, refusal: isRefused, [how]: how !== "", found: state.found.has(number) };
+  const kinds = Object.keys(looks).filter((look) => looks[look]).join(" ");
   const told = `line ${lineOf(number)}, stamp ${stampOf[number]}: ${eventWords(number)}${how && how !== "chosen" ? `; ${HOW[how]}` : ""}`;
   const place = `aria-setsize="${story.shown.length}" aria-posinset="${lastUpTo(story.shown, number) + 1}"`;
-  return `class="${kinds.filter(Boolean).join(" ")}" role="option" aria-selected="${number === state.at}" ${place} aria-label="${safe(told)}" data-line="${lineOf(number)}"`;
+  const chosen = `aria-selected="${number === state.at}"`;
+  return `class="${kinds}" role="option" ${chosen} ${place} aria-label="${safe(told)}" data-line="${lineOf(number)}"`;
 }
 
 const HOW = { cause: "a cause of the chosen event", effect: "an effect of the chosen event", apart: "neither cause nor effect" };
@@ -96,7 +102,8 @@ function signOf(number, right, y) {
   if (!state.isLit || state.at === START) return "";
   const how = standing(number, state.at);
   if (how !== "cause" && how !== "effect") return "";
-  return `<g class="sign ${how}"><circle cx="${right}" cy="${y}" r="7"/><text x="${right}" y="${y + 3.5}" text-anchor="middle">${how === "cause" ? "↑" : "↓"}</text></g>`;
+  const sign = how === "cause" ? "↑" : "↓";
+  return `<g class="sign ${how}"><circle cx="${right}" cy="${y}" r="7"/><text x="${right}" y="${y + 3.5}" text-anchor="middle">${sign}</text></g>`;
 }
 
 function packetParts(events) {
@@ -130,8 +137,12 @@ function restBoxes() {
 
 function restBox(kernel, words) {
   const [x, y] = [leftOf(kernel), layout.body + 22 - picture.from];
-  const texts = words.map((word, row) => `<text class="step" x="${x + 12}" y="${y + PAD + 10 + row * LINE}">${safe(wrapped(word, layout.letters)[0])}</text>`);
-  return `<g class="card rest"><rect class="box" x="${x}" y="${y}" width="${wideOf(kernel)}" height="${words.length * LINE + 2 * PAD}" rx="4"/>${texts.join("")}
+  const texts = words.map((word, row) => {
+    const [text] = wrapped(word, layout.letters);
+    return `<text class="step" x="${x + 12}" y="${y + PAD + 10 + row * LINE}">${safe(text)}</text>`;
+  });
+  const high = words.length * LINE + 2 * PAD;
+  return `<g class="card rest"><rect class="box" x="${x}" y="${y}" width="${wideOf(kernel)}" height="${high}" rx="4"/>${texts.join("")}
     <text class="label quiet" x="${x}" y="${y - 4}">${run.wrong.length ? "under way" : "not taken"}</text></g>`;
 }
 
@@ -143,7 +154,8 @@ function columnsIn(events) {
   if (moving.size <= MOST_COLUMNS || !events.length) return [...moving].sort(byName).slice(0, MOST_COLUMNS);
   const [first, last] = [events[0], events[events.length - 1]];
   const found = new Set(picture.columns.filter((end) => changesIn(end, first, last)));
-  for (let turn = lastUpTo(run.holds.at, first - 1) + 1; turn < run.holds.at.length && run.holds.at[turn] <= last && found.size < MOST_COLUMNS; turn += 1) {
+  const end = lastUpTo(run.holds.at, last);
+  for (let turn = lastUpTo(run.holds.at, first - 1) + 1; turn <= end && found.size < MOST_COLUMNS; turn += 1) {
     if (moving.has(run.holds.who[turn])) found.add(run.holds.who[turn]);
   }
   return [...found].sort(byName);
@@ -163,7 +175,10 @@ function columnAt(place) {
 }
 
 function columnParts() {
-  return picture.columns.map((end, place) => holdsIn(end).map((hold) => holdPart(end, hold, columnAt(place))).join("") + deadEdge(end, columnAt(place))).join("");
+  return picture.columns.map((end, place) => {
+    const x = columnAt(place);
+    return holdsIn(end).map((hold) => holdPart(end, hold, x)).join("") + deadEdge(end, x);
+  }).join("");
 }
 
 // How an end is held in what is drawn: from which height on, and up to which.
@@ -195,7 +210,8 @@ function holdPart(end, { is, since, top, bottom }, x) {
   if (is === "destroyed") return `<path class="cross" d="M${x + width / 2 - 4} ${y + 10} l8 8 m0 -8 l-8 8">${told}</path>`;
   const fill = isProcess(is) ? run.fills[Number(is.slice(1))] : "url(#enclosed)";
   const look = isProcess(is) ? ` class="label on" style="${run.inks[Number(is.slice(1))]}"` : ' class="label on inside"';
-  const box = `<rect class="hold pick" x="${x}" y="${y + 1}" width="${width}" height="${Math.max(1, high)}" fill="${fill}" data-pick="${run.ends[end]}">${told}</rect>`;
+  const frame = `x="${x}" y="${y + 1}" width="${width}" height="${Math.max(1, high)}" fill="${fill}"`;
+  const box = `<rect class="hold pick" ${frame} data-pick="${run.ends[end]}">${told}</rect>`;
   return box + labelIn(label, x, y, width, high, look);
 }
 
@@ -225,12 +241,19 @@ function drawHeads() {
   const high = 26 + 21 * Math.max(1, ...chips.map((mine) => mine.rows));
   const names = chips.map(({ parts }, kernel) => {
     const name = wideOf(kernel) > EMPTY_LANE ? `kernel ${kernel}` : `k${kernel}`;
-    return `<g class="pick" data-pick="k${kernel}"><title>the story of kernel ${kernel}</title><text class="sans head" x="${leftOf(kernel)}" y="15">${name}</text></g>${parts.join("")}`;
+    const text = `<text class="sans head" x="${leftOf(kernel)}" y="15">${name}</text>`;
+    return headPart(`k${kernel}`, `kernel ${kernel}`, text) + parts.join("");
   });
   const ends = picture.columns.map((end, place) => headColumn(run.ends[end], columnAt(place), high));
   const stamp = `<text class="sans quiet" x="${LEFT - 16}" y="15" text-anchor="end">stamp</text>`;
   const markup = `<svg width="${layout.width}" height="${high}" role="presentation" aria-hidden="true">${stamp}${names.join("")}${ends.join("")}</svg>`;
-  if (heads.innerHTML !== markup) heads.innerHTML = markup;
+  if (picture.heads !== markup) heads.innerHTML = markup;
+  picture.heads = markup;
+}
+
+// What is above, and shows a story when it is clicked.
+function headPart(name, told, parts) {
+  return `<g class="pick" data-pick="${name}"><title>the story of ${told}</title>${parts}</g>`;
 }
 
 // The processes at a kernel, side by side and below each other as its lane has room.
@@ -243,13 +266,14 @@ function chipsOf(kernel) {
 
 function headChip(process, x, y) {
   const look = `style="${run.inks[process]}"`;
-  return `<g class="pick" data-pick="p${process}"><title>the story of process ${process}</title><rect x="${x}" y="${y}" width="26" height="17" rx="8" fill="${run.fills[process]}"/>
-    <text class="label on" ${look} x="${x + 13}" y="${y + 12}" text-anchor="middle">p${process}</text></g>`;
+  return headPart(`p${process}`, `process ${process}`, `<rect x="${x}" y="${y}" width="26" height="17" rx="8" fill="${run.fills[process]}"/>
+    <text class="label on" ${look} x="${x + 13}" y="${y + 12}" text-anchor="middle">p${process}</text>`);
 }
 
 function headColumn(name, x, high) {
   const middle = x + (isSlim() ? SLIM_COLUMN : WIDE_COLUMN) / 2 - 1.5;
   const turn = isSlim() ? ` transform="rotate(-90 ${middle + 3} ${high - 4})"` : "";
   const anchor = isSlim() ? "start" : "middle";
-  return `<g class="pick" data-pick="${name}"><title>the story of end ${name}</title><text class="label" x="${isSlim() ? middle + 3 : middle}" y="${high - 4}" text-anchor="${anchor}"${turn}>${name}</text></g>`;
+  const place = `x="${isSlim() ? middle + 3 : middle}" y="${high - 4}" text-anchor="${anchor}"${turn}`;
+  return headPart(name, `end ${name}`, `<text class="label" ${place}>${name}</text>`);
 }

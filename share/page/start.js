@@ -42,7 +42,8 @@ function nameMoment() {
   slider.max = story.shown.length;
   slider.value = place + 1;
   slider.setAttribute("aria-valuetext", state.at === START ? "the start" : `line ${lineOf(state.at)}`);
-  document.getElementById("progress").textContent = `event ${(place + 1).toLocaleString("en")} of ${story.shown.length.toLocaleString("en")}${story.picked ? " in the story" : ""}`;
+  const of = story.shown.length.toLocaleString("en");
+  document.getElementById("progress").textContent = `event ${(place + 1).toLocaleString("en")} of ${of}${story.picked ? " in the story" : ""}`;
   storyField.value = story.picked ? story.picked.name : "";
   document.getElementById("story-end").hidden = story.picked === null;
   const address = `#at=${lineField.value}${story.picked ? `&of=${story.picked.name}` : ""}`;
