@@ -1,3 +1,3 @@
 mod Going
 mod Waiting
-mod Putting
+pub mod Putting
