@@ -12,6 +12,7 @@ TOP = os.path.dirname(os.path.dirname(os.path.realpath(__file__)))
 BENCH = os.path.join(TOP, 'bench')
 LAUNCHER = os.path.join(TOP, 'bin', 'lynx')
 PROGRAM = os.path.join(TOP, 'crates', 'lynx', 'out', 'lynx')
+WHY = os.path.join(TOP, 'crates', 'lynx_why', 'out', 'lynx_why')
 EXAMPLE = os.path.join(TOP, 'examples', 'one_message.script')
 MOST_BYTES = 1_048_576
 # What the files end with that programs of bench/ are made of.
@@ -33,6 +34,13 @@ def build():
     done = subprocess.run([LAUNCHER, 'drive', EXAMPLE], stdin=subprocess.DEVNULL, stdout=subprocess.DEVNULL)
     if done.returncode != 0:
         sys.exit('bench: the program does not perform examples/one_message.script')
+
+
+def build_why():
+    """The same for the program that tells why."""
+    done = subprocess.run([LAUNCHER, 'why', EXAMPLE.replace('.script', '.transcript')], stdin=subprocess.DEVNULL, stdout=subprocess.DEVNULL)
+    if done.returncode != 0:
+        sys.exit('bench: the program does not tell why of examples/one_message.transcript')
 
 
 def compiled(source, compiler):

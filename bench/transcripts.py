@@ -12,6 +12,8 @@ from scripts import KINDS as SCRIPTS, MOST_LINKS, each, header, numbered
 KINDS = {kind: SCRIPTS[kind] for kind in ('rounds', 'long', 'coded', 'moves', 'eight', 'reports', 'queues', 'waiting', 'wires')}
 KINDS['kernels'] = (SCRIPTS['kernels'][0], SCRIPTS['kernels'][1] * 2)
 KINDS['makes'] = KINDS['exits'] = (header(8, range(8), []), each(8, 'make'))
+# Each of these lines finds no packet, so its transcript is of notes alone.
+KINDS['notes'] = (header(1, [], []), 'take 0 0\n')
 # What stands behind the pieces of a kind.
 AFTER = {'exits': each(8, 'exit')}
 # So many pieces there can be: a kernel makes no more links.
@@ -34,6 +36,32 @@ def entries_of(transcript):
         else:
             of_kernel[-1] += line
     return ''.join(lines[:body]), entries
+
+
+def with_false_entry(transcript):
+    """A transcript with another stamp in its first entry: from there on an audit tests forms alone."""
+    return re.sub(rb'^\d+ k', b'9999999 k', transcript, count=1, flags=re.MULTILINE)
+
+
+def with_false_last(transcript):
+    """A transcript whose last line alone is false: it tells of a packet under way."""
+    return transcript.removesuffix(b'quiet\n') + b'open\n'
+
+
+class Notes:
+    """The transcripts of notes alone. The header of their script has one line."""
+
+    def transcript(self, pieces, size=math.inf):
+        """The transcript of so many notes, but of no more than have room in so many bytes."""
+        lines, last = [b'transcript 1\nkernels 1\n'], b'quiet\n'
+        room = size - len(lines[0]) - len(last)
+        for number in range(2, pieces + 2):
+            note = b'note %d nothing\n' % number
+            room -= len(note)
+            if room < 0:
+                break
+            lines.append(note)
+        return b''.join([*lines, last])
 
 
 class Lines:
