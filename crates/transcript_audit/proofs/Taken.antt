@@ -1,5 +1,5 @@
 -- How far an audit has come in a text.
-use Rattle.std.proofs.Common.{◌≡◌, ℕ, ◌<◌, List, [], ◌∷◌, ◌++◌, length, Bool, true, false, IfOk, IfErr, MatchBool, Option, Some, None, Result, Ok, Err, refl, sym, ap, subst, ◌∙◌, append_assoc}
+use Rattle.std.proofs.Common.{◌≡◌, ℕ, ◌<◌, List, [], ◌∷◌, ◌++◌, length, Bool, true, false, IfOk, IfErr, MatchBool, Some, None, Result, Ok, Err, refl, sym, ap, subst, ◌∙◌, append_assoc}
 use Rattle.std.proofs.lemmas.List.{map-append}
 use Rattle.kernel_journal.specs.At.{HasEnded, IsAt}
 use Rattle.kernel_journal.specs.Expected.{HasDiffered, HasStopped, HasTaken}
@@ -167,9 +167,8 @@ reading-start u = record { lines = []; rest = refl }
 pub reading-more : (start old new : Unread) (l : Line) → IsReading start old → next_line old ≡ Ok (Some (l, new)) → IsReading start new
 reading-more start old new l is e = record { lines = is.lines ++ l ∷ []; rest = line_goes_on is.lines l old new (lines_left start) e is.rest }
 
-pub reading-ends : (start old new : Unread) (o : Option Line) → ((l : Line) → o ≡ Some l → ⊥) → IsReading start old → GivesNext old (Ok o) new → AreRest start
-reading-ends start old new None none is g = (is.lines, lines_end is.lines old (lines_left start) g.0 is.rest)
-reading-ends start old new (Some l) none is g = absurd (none l refl)
+pub reading-ends : (start old : Unread) → IsReading start old → next_line old ≡ Ok None → AreRest start
+reading-ends start old is e = (is.lines, lines_end is.lines old (lines_left start) e is.rest)
 
 pub reading-fails : (start old new : Unread) (f : LineFault) → IsReading start old → GivesNext old (Err f) new → IsBadRest start f
 reading-fails start old new (reading.BadLine n) is g = lines_fail is.lines old n (lines_left start) g.0 is.rest

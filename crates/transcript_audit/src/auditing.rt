@@ -78,6 +78,6 @@ fn read_rest(reader: &mut Reader<'_>) -> Result<(), LineFault>
     ensures lines { OnOk result (AreRest reader.old) }
     ensures fault { IfErr result (IsBadRest reader.old) }
 {
-    while let Some(_) = reader.next_line()? {}
+    while reader.skip_line()? {}
     Ok(())
 }

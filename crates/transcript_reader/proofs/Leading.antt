@@ -5,10 +5,18 @@ use Rattle.std.proofs.lemmas.Fmt.{decimal_digit, decimal_step}
 use Rattle.charlotte_calls.specs.declared.calls.Call.{Call}
 use Rattle.charlotte_calls.specs.declared.calls.Call.TheVariants as call
 use Rattle.charlotte_calls.specs.declared.names.EndId.{EndId}
+use Rattle.charlotte_packets.specs.declared.picture.PictureWhat.{PictureWhat}
 use Rattle.charlotte_text.specs.Reading.{bytes_of, call_of, rest_parts}
-use Rattle.charlotte_text.specs.Spelling.{AreBytes, IsCall, IsEnd, bytes_text, call_text, end_text, is_plain, number_text}
+use Rattle.charlotte_text.specs.Spelling.{AreBytes, IsCall, IsEnd, bytes_text, call_text, end_text, is_plain, number_text, process_text}
 use Rattle.charlotte_text.proofs.Clauses.{call_fits, call_found}
 use Rattle.charlotte_text.proofs.Texts.{Spells, bytes_takes, plain_kept}
+use Rattle.transcript_forms.specs.Spelling.{kind_text}
+use Rattle.transcript_lines.specs.Transcript.{packet_text}
+use Rattle.transcript_reading.specs.declared.line.LineKind.TheVariants as line
+use Rattle.transcript_reader.specs.Ahead.{head_text}
+use Rattle.transcript_reader.specs.declared.guess.Ahead.TheVariants as heads
+use Rattle.transcript_reader.specs.declared.guess.CallAhead.{CallAhead}
+use Rattle.transcript_reader.specs.declared.guess.PacketAhead.{PacketAhead}
 
 -- a digit is a number
 pub digit_first : (d v : ℕ) (rest : List ℕ) → 48 ≤ d → d ≤ 57 → v ≡ d - 48 → d ∷ rest ≡ number_text v ++ rest
@@ -61,3 +69,21 @@ send_then on text behind_word behind_end behind_blank word rest bytes enclose e 
 
 pub send_fits : (v : ℕ) (on : EndId) (bytes : List ℕ) (enclose : List EndId) → IsEnd on → AreBytes bytes → length bytes ≤ 256 → enclose ≡ [] → IsCall v (call.Send on bytes enclose)
 send_fits v on bytes enclose end are few none = subst (λ (es : List EndId). IsCall v (call.Send on bytes es)) (sym none) (end, are, few, tt, omega arith)
+
+-- ---- entries
+
+pub same_entry : (a b c d p left : List ℕ) → (a ++ b ++ c ++ d) ++ (p ++ left) ≡ (a ++ (b ++ c ++ d ++ p)) ++ left
+same_entry a b c d p left = simp append_assoc
+
+abbrev pub stamp_text : ℕ → ℕ → List ℕ
+stamp_text stamp kernel = number_text stamp ++ codes " k" ++ number_text kernel
+
+-- an entry, whose head and call or packet are these
+entry_then : (a b c d p text rest : List ℕ) → text ≡ p ++ rest → (a ++ b ++ c ++ d) ++ text ≡ (a ++ (b ++ c ++ d ++ p)) ++ rest
+entry_then a b c d p text rest e = ap (λ (t : List ℕ). (a ++ b ++ c ++ d) ++ t) e ∙ same_entry a b c d p rest
+
+pub asked_then : (a : CallAhead) (c : Call) (text rest : List ℕ) → text ≡ call_text c ++ rest → head_text (heads.Call a) ++ text ≡ kind_text (line.CallEntry a.stamp a.kernel a.p c) ++ rest
+asked_then a c text rest e = entry_then (stamp_text a.stamp a.kernel) (codes " ") (process_text a.p) (codes " ") (call_text c) text rest e
+
+pub took_then : (a : PacketAhead) (p : PictureWhat) (text rest : List ℕ) → text ≡ packet_text p ++ rest → head_text (heads.Packet a) ++ text ≡ kind_text (line.PacketEntry a.stamp a.kernel a.from (record { stamp = 0; what = p })) ++ rest
+took_then a p text rest e = entry_then (stamp_text a.stamp a.kernel) (codes " from ") (number_text a.from) (codes " ") (packet_text p) text rest e

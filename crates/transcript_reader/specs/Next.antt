@@ -1,11 +1,13 @@
 -- The next line of a transcript, where it is expected to be a certain one.
-use Rattle.std.specs.Prelude.{◌≡◌, ◌+◌, ◌++◌, ℕ, List, Some, Ok}
+use Rattle.std.specs.Prelude.{◌≡◌, ◌+◌, ◌++◌, ℕ, Bool, true, false, List, None, Some, Result, Ok, Err}
 use Rattle.charlotte_text.specs.Reading.{parts}
 use Rattle.charlotte_text.specs.Spelling.{line_feed}
 use Rattle.transcript_forms.specs.Spelling.{IsKind, kind_text}
 use Rattle.transcript_reading.specs.Order.{Entry, next}
 use Rattle.transcript_reading.specs.declared.line.LineKind.{LineKind}
-use Rattle.transcript_reader.specs.Lines.{Unread, next_line}
+use Rattle.transcript_reader.specs.Lines.{GivesNext, Unread, next_line}
+use Rattle.transcript_reader.specs.declared.fault.LineFault.{LineFault}
+use Rattle.transcript_reader.specs.declared.line.Line.{Line}
 
 -- what is unread begins with the text of this line, of an entry or of a step below one, behind which this is left
 pub record IsAhead (u : Unread) (k : LineKind) (left : List ℕ) : Type 0 where
@@ -19,3 +21,13 @@ pub record Reads (old : Unread) (k : LineKind) (new : Unread) : Type 0 where
   pub counted : new.lines ≡ old.lines + 1
   pub before : old.place ≡ Entry
   pub behind : new.place ≡ Entry
+
+-- there is a next line, which was passed
+abbrev pub Skips : Unread → Unread → Type 0
+Skips old new = (l : Line) × (next_line old ≡ Ok (Some (l, new)))
+
+-- a reader's answer where the line itself is not given
+abbrev pub GivesSkipped : Unread → Result Bool LineFault → Unread → Type 0
+GivesSkipped old (Ok true) new = Skips old new
+GivesSkipped old (Ok false) new = (next_line old ≡ Ok None) × (new ≡ old)
+GivesSkipped old (Err fault) new = GivesNext old (Err fault) new

@@ -5,6 +5,7 @@ ghost use Rattle.transcript_reader.specs.Ahead.{head_text};
 
 use crate::behind::{behind_byte, behind_short};
 use crate::number::leading_number;
+use crate::values::{leading_process, leading_u8};
 use charlotte_calls::Pid;
 
 /// With what an entry begins, up to its call or its packet.
@@ -36,11 +37,11 @@ pub(crate) fn look_ahead(text: &[u8]) -> Option<(Ahead, &[u8])>
     ensures { IfSome result (λ x. text.now ≡ head_text x.0 ++ x.1.now) }
 {
     let (stamp, rest) = leading_number(text)?;
-    let (kernel, rest) = leading_byte(behind_short(rest, b" k")?)?;
+    let (kernel, rest) = leading_u8(behind_short(rest, b" k")?)?;
     let rest = behind_byte(rest, b' ')?;
     match rest {
         [b'p', ..] => {
-            let (p, rest) = leading_process(rest)?;
+            let (p, rest) = leading_caller(rest)?;
             Some((Ahead::Call(CallAhead { stamp, kernel, p }), rest))
         }
         _ => {
@@ -59,15 +60,12 @@ pub(crate) fn look_ahead(text: &[u8]) -> Option<(Ahead, &[u8])>
 
 /// A process and its blank.
 #[inline(always)]
-fn leading_process(text: &[u8]) -> Option<(Pid, &[u8])>
+fn leading_caller(text: &[u8]) -> Option<(Pid, &[u8])>
     ensures { IfSome result (λ x. text.now ≡ process_text x.0 ++ codes " " ++ x.1.now) }
 {
-    let (number, rest) = leading_number(behind_byte(text, b'p')?)?;
+    let (p, rest) = leading_process(text)?;
     let rest = behind_byte(rest, b' ')?;
-    if number >= 65536 {
-        return None;
-    }
-    Some((Pid(number as u16), rest))
+    Some((p, rest))
 }
 
 /// The kernel that a packet comes from, and its blank.
@@ -75,19 +73,7 @@ fn leading_process(text: &[u8]) -> Option<(Pid, &[u8])>
 fn leading_origin(text: &[u8]) -> Option<(u8, &[u8])>
     ensures { IfSome result (λ x. text.now ≡ codes "from " ++ number_text x.0 ++ codes " " ++ x.1.now) }
 {
-    let (from, rest) = leading_byte(behind_short(text, b"from ")?)?;
+    let (from, rest) = leading_u8(behind_short(text, b"from ")?)?;
     let rest = behind_byte(rest, b' ')?;
     Some((from, rest))
-}
-
-/// A number below 256.
-#[inline(always)]
-fn leading_byte(text: &[u8]) -> Option<(u8, &[u8])>
-    ensures { IfSome result (λ x. text.now ≡ number_text x.0 ++ x.1.now) }
-{
-    let (number, rest) = leading_number(text)?;
-    if number >= 256 {
-        return None;
-    }
-    Some((number as u8, rest))
 }

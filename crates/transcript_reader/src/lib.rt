@@ -27,6 +27,10 @@ mod place;
 mod read;
 mod reader;
 mod step;
+mod values;
+mod whole_line;
+mod whole_packet;
+mod whole_step;
 
 pub use call::read_leading_call;
 pub use fault::LineFault;

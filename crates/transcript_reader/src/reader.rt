@@ -1,11 +1,11 @@
 //! A reader of one line after the other.
-ghost use Rattle.std.specs.Prelude.{◌≡◌, ◌↔◌, ◌+◌, ◌<◌, ◌++◌, IfSome, IsTrue, MatchBool, length};
+ghost use Rattle.std.specs.Prelude.{◌≡◌, ◌↔◌, ◌+◌, ◌<◌, ◌++◌, IfSome, IsTrue, MatchBool, MatchOption, Ok, Some, length};
 ghost use Rattle.charlotte_text.specs.Reading.{Gives, parts};
 ghost use Rattle.charlotte_text.specs.Spelling.{line_feed};
-ghost use Rattle.transcript_reader.specs.Lines.{GivesNext, is_ended, seen, stand, unread, version_after};
+ghost use Rattle.transcript_reader.specs.Lines.{GivesNext, is_ended, next_line, seen, stand, unread, version_after};
 ghost use Rattle.transcript_reader.specs.Ahead.{head_text};
-ghost use Rattle.transcript_reader.specs.Next.{IsAhead, Reads};
-ghost use Rattle.transcript_reading.specs.Order.{Entry};
+ghost use Rattle.transcript_reader.specs.Next.{GivesSkipped, IsAhead, Reads, Skips};
+ghost use Rattle.transcript_reading.specs.Order.{Entry, Noted};
 ghost use Rattle.transcript_reading.specs.declared.line.LineKind.{LineKind as AKind};
 
 use crate::behind::behind_byte;
@@ -13,6 +13,7 @@ use crate::fault::LineFault;
 use crate::guess::{Ahead, look_ahead};
 use crate::line::Line;
 use crate::place::{Place, next_place};
+use crate::whole_line::{leading_line, leading_note};
 use charlotte_text::{Fault, cut};
 use std::marker::Model;
 use transcript_forms::read_kind;
@@ -71,8 +72,97 @@ impl<'a> Reader<'a> {
     /// The next line; `None` exactly where the last line was read and nothing stands behind it; and a bad line where the
     /// next one cannot stand there, where it has no line feed and where there is none. After `None` and after a fault the
     /// reader is as before.
-    #[tactic(auto, unfolding(crate::specs::Lines::next_line))]
     pub fn next_line(&mut self) -> Result<Option<Line>, LineFault>
+        ensures { GivesNext self.old result self.new }
+    {
+        match self.next_of_entry() {
+            Some(line) => Ok(Some(line)),
+            None => self.next_other(),
+        }
+    }
+
+    /// Passes the next line, of which no value is kept: `true` where it was there, and `false` exactly where the last line was read and nothing
+    /// stands behind it. Faults are those of `next_line`.
+    pub fn skip_line(&mut self) -> Result<bool, LineFault>
+        ensures { GivesSkipped self.old result self.new }
+    {
+        if self.skip_of_entry() {
+            return Ok(true);
+        }
+        self.skip_other()
+    }
+
+    /// Passes the next line, whatever its form.
+    fn skip_other(&mut self) -> Result<bool, LineFault>
+        ensures { GivesSkipped self.old result self.new }
+    {
+        match self.next_other() {
+            Ok(Some(_)) => Ok(true),
+            Ok(None) => Ok(false),
+            Err(fault) => Err(fault),
+        }
+    }
+
+    /// Passes the next line, where it is one of an entry or of a step of the most common forms, behind such a line. `false`: it was not
+    /// passed, and may be any.
+    fn skip_of_entry(&mut self) -> bool
+        ensures { MatchBool result (Skips self.old self.new) (self.new ≡ self.old) }
+    {
+        if !is_entry(self.place) {
+            return false;
+        }
+        match leading_line(self.rest, self.version) {
+            Some((_, left)) => self.pass_line(left),
+            None => false,
+        }
+    }
+
+    /// The next line, where it is one of an entry or of a step of the most common forms, behind such a line. `None`: it was not read, and
+    /// may be any.
+    #[inline(never)]
+    fn next_of_entry(&mut self) -> Option<Line>
+        ensures { MatchOption result (self.new ≡ self.old) (λ l. next_line self.old ≡ Ok (Some (l, self.new))) }
+    {
+        if !is_entry(self.place) {
+            return None;
+        }
+        let (what, left) = leading_line(self.rest, self.version)?;
+        if !self.pass_line(left) {
+            return None;
+        }
+        let number = self.lines();
+        Some(Line { number, what })
+    }
+
+    /// The next line, whatever its form; a note is read at once.
+    fn next_other(&mut self) -> Result<Option<Line>, LineFault>
+        ensures { GivesNext self.old result self.new }
+    {
+        match self.next_note() {
+            Some(line) => Ok(Some(line)),
+            None => self.next_any(),
+        }
+    }
+
+    /// The next line, where it is a note behind the note of an earlier line of the script. `None`: it was not read, and may be any.
+    fn next_note(&mut self) -> Option<Line>
+        ensures { MatchOption result (self.new ≡ self.old) (λ l. next_line self.old ≡ Ok (Some (l, self.new))) }
+    {
+        let before = noted(self.place)?;
+        let (note, left) = leading_note(self.rest)?;
+        let rest = behind_byte(left, b'\n')?;
+        if note.line <= before {
+            return None;
+        }
+        self.pass_note(rest, note.line);
+        let number = self.lines();
+        let what = LineKind::Note(note);
+        Some(Line { number, what })
+    }
+
+    /// The next line, whatever its form.
+    #[tactic(auto, unfolding(crate::specs::Lines::next_line))]
+    fn next_any(&mut self) -> Result<Option<Line>, LineFault>
         ensures { GivesNext self.old result self.new }
     {
         let line = self.lines + 1;
@@ -157,6 +247,27 @@ impl<'a> Reader<'a> {
     {
         self.rest = rest;
         self.lines += 1;
+    }
+
+    /// Passes a note of this line of the script, behind which this is left.
+    fn pass_note(&mut self, rest: &'a [u8], note: u32)
+        requires { self.old.lines + 1 + length (parts line_feed rest.now) < 4294967296 }
+        ensures { self.new ≡ record { lines = self.old.lines + 1; version = self.old.version; place = Noted note; texts = parts line_feed rest.now } }
+    {
+        self.rest = rest;
+        self.lines += 1;
+        self.place = Place::Noted { line: note };
+    }
+}
+
+/// The line of the script whose note was read last.
+fn noted(place: Place) -> Option<u32>
+    ensures { IfSome result (λ n. seen place ≡ Noted n) }
+{
+    match place {
+        Place::Noted { line } => Some(line),
+        Place::Start | Place::Version | Place::Entry | Place::Over => None,
+        Place::Processes { .. } | Place::Wires { .. } => None,
     }
 }
 

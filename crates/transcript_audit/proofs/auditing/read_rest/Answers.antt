@@ -6,16 +6,20 @@ use Rattle.transcript_audit.proofs.auditing.read_rest.Goals as goal
 pub loop-init : goal.loop-init
 loop-init c = reading-start c.args.reader.now
 
-pub returns-in_err-next_line-clause-fault : goal.returns-in_err-next_line-clause-fault
-returns-in_err-next_line-clause-fault c =
+pub returns-in_err-skip_line-clause-fault : goal.returns-in_err-skip_line-clause-fault
+returns-in_err-skip_line-clause-fault c =
     let p = err_from_is_err_and c.from_residual.result c.from_residual.ensures.1 in
-    rw (p.1, p.2) (reading-fails c.args.reader.now c.loop.reader c.next_line.new.self c.in_err-next_line.field-0.0 c.loop.invariant c.in_err-next_line.ensures)
+    rw (p.1, p.2) (reading-fails c.args.reader.now c.loop.reader c.skip_line.new.self c.in_err-skip_line.field-0.0 c.loop.invariant c.in_err-skip_line.ensures)
 
 pub loop-smaller : goal.loop-smaller
-loop-smaller c = (next_some c.loop.reader c.next_line.new.self c.in-Some.field-0 (rw c.in-Some.is at c.in_ok-next_line.ensures)).1
+loop-smaller c = let is = rw c.if-branch.true at c.in_ok-skip_line.ensures in (next_some c.loop.reader c.skip_line.new.self is.0 is.1).1
 
 pub loop-preserved : goal.loop-preserved
-loop-preserved c = reading-more c.args.reader.now c.loop.reader c.next_line.new.self c.in-Some.field-0 c.loop.invariant (rw c.in-Some.is at c.in_ok-next_line.ensures)
+loop-preserved c =
+    let is = rw c.if-branch.true at c.in_ok-skip_line.ensures in
+    reading-more c.args.reader.now c.loop.reader c.skip_line.new.self is.0 c.loop.invariant is.1
 
 pub returns-clause-lines : goal.returns-clause-lines
-returns-clause-lines c = reading-ends c.args.reader.now c.loop.reader c.next_line.new.self c.in_ok-next_line.field-0 c.in_default.not-Some c.loop.invariant c.in_ok-next_line.ensures
+returns-clause-lines c =
+    let is = rw c.if-branch.false at c.in_ok-skip_line.ensures in
+    reading-ends c.args.reader.now c.loop.reader c.loop.invariant is.0

@@ -1,7 +1,7 @@
 use Rattle.std.proofs.Common.{◌≡◌, ◌≤◌, ◌-◌, length, take, true}
 use Rattle.std.specs.List.{list_all}
 use Rattle.charlotte_text.specs.Spelling.{is_plain}
-use Rattle.transcript_reader.proofs.call.plain_count.Given as goal
+use Rattle.transcript_reader.proofs.values.plain_count.Given as goal
 
 abbrev pub invariant-loop-count : goal.invariant-loop-count
 invariant-loop-count l = record {

@@ -1,0 +1,6 @@
+use Rattle.std.proofs.Common.{subst}
+use Rattle.transcript_reader.specs.Lines.{GivesNext, Unread}
+use Rattle.transcript_reader.proofs.reader.Reader.next_other.Goals as goal
+
+pub returns-in-None : goal.returns-in-None
+returns-in-None c = subst (λ (u : Unread). GivesNext u c.next_any.result c.next_any.new.self) c.in-None.ensures c.next_any.ensures
