@@ -135,6 +135,7 @@ impl<'a> Reader<'a> {
     }
 
     /// The next line, whatever its form; a note is read at once.
+    #[inline(always)]
     fn next_other(&mut self) -> Result<Option<Line>, LineFault>
         ensures { GivesNext self.old result self.new }
     {
@@ -145,6 +146,7 @@ impl<'a> Reader<'a> {
     }
 
     /// The next line, where it is a note behind the note of an earlier line of the script. `None`: it was not read, and may be any.
+    #[inline(always)]
     fn next_note(&mut self) -> Option<Line>
         ensures { MatchOption result (self.new ≡ self.old) (λ l. next_line self.old ≡ Ok (Some (l, self.new))) }
     {
