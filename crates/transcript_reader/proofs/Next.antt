@@ -77,8 +77,8 @@ pub note_next : (old new : Unread) (before number : ℕ) (bytes left rest : List
     → next_line old ≡ Ok (Some (record { number = number; what = kind.Note n }, new))
 note_next old new before number bytes left rest n place texts e f fits later is counted =
     next_stood old old.lines old.version (Noted before) bytes (note_text n) rest (kind.Note n) (Noted n.line) old.version
-        (λ i. record { lines = old.lines; version = old.version; place = place i; texts = texts i })
-        (note_first bytes left rest n e f fits) (stands_again old.version (Noted before) (kind.Note n) (Noted n.line) fits (note_stands before n later)) refl
+    (λ i. record { lines = old.lines; version = old.version; place = place i; texts = texts i })
+    (note_first bytes left rest n e f fits) (stands_again old.version (Noted before) (kind.Note n) (Noted n.line) fits (note_stands before n later)) refl
     ∙ ap (λ (u : Unread). Ok (Some (record { number = u.lines; what = kind.Note n }, u))) (sym is)
     ∙ ap (λ (m : ℕ). Ok (Some (record { number = m; what = kind.Note n }, new))) (sym counted)
 

@@ -18,7 +18,7 @@ parcel_then : (to : EndId) (n w at hops : ℕ) (bytes : List ℕ) (moving : List
 parcel_then to n w at hops bytes moving text behind_n behind_w behind_hops behind_blank rest e f g h b none =
     e
     ∙ ap (λ (x : List ℕ). codes "parcel " ++ end_text to ++ numbers_text (n ∷ []) ++ x)
-        (f ∙ ap (λ (x : List ℕ). numbers_text (w ∷ []) ++ x) (g ∙ ap (λ (x : List ℕ). numbers_text (at ∷ hops ∷ []) ++ x) (h ∙ ap (λ (x : List ℕ). 32 ∷ x) b)))
+    (f ∙ ap (λ (x : List ℕ). numbers_text (w ∷ []) ++ x) (g ∙ ap (λ (x : List ℕ). numbers_text (at ∷ hops ∷ []) ++ x) (h ∙ ap (λ (x : List ℕ). 32 ∷ x) b)))
     ∙ shape (codes "parcel ") (end_text to) (number_text n) (number_text w) (number_text at) (number_text hops) (bytes_text bytes) rest
     ∙ ap (λ (vs : List MovingPicture). packet_text (packet.Parcel to n w at hops bytes vs) ++ rest) (sym none)
 
