@@ -21,10 +21,10 @@ def runs() -> bool:
     return browser() is not None and "shown" in dumped("data:text/html,<p>shown")
 
 
-def dumped(address: str) -> str:
+def dumped(address: str, *flags: str) -> str:
     """The page as it stands when its scripts have run; nothing where the browser takes too long."""
     with tempfile.TemporaryDirectory(ignore_cleanup_errors=True) as folder:
-        words = [browser(), *FLAGS, f"--user-data-dir={folder}", "--dump-dom", address]
+        words = [browser(), *FLAGS, *flags, f"--user-data-dir={folder}", "--dump-dom", address]
         try:
             run = subprocess.run(words, capture_output=True, text=True, check=False, timeout=SECONDS, env={**os.environ, "LC_ALL": "C.UTF-8"})
         except subprocess.TimeoutExpired:
