@@ -1,0 +1,6 @@
+pub mod Courses
+pub mod Letters
+pub mod Events
+pub mod Nodes
+pub mod Turns
+pub mod Amid

@@ -1,0 +1,24 @@
+//! Nodes: kernels that run concurrently, each with its journal, its port and the programs of its processes. The pure core, without threads.
+//!
+//! # What is proved
+//! A turn is what `IsTurn` says, by cases: a snapshot is begun where it is time, letters are put in order, then a packet is taken, a marker is
+//! kept, or the next program in round order makes a step, and only where no letter is known. By a law, `node-turned`, a node stays one
+//! through each turn (`IsNode`): its kernel and its journal are those of a local run, what it put and has to put is what that run sends,
+//! with the markers in their places, what it got is what the run took, its programs replay the entries that it noted, and the turns used
+//! are the packets taken and the steps made. After want of memory kernel and journal are as before, and no further turn is made
+//! (`node-spoiled`). A node at its start is one (`node-started`). Workers will use it; no command does yet.
+//! By clauses of `Node::start`, `Node::turn`, the readers and `meet_nodes`; `IsNode` in `specs/Nodes.antt`, `IsTurn` in `specs/Turns.antt`,
+//! `SameRun` in `specs/Amid.antt`; the laws in `proofs/Turned.antt` and `proofs/Starting.antt`.
+#![tactic(auto)]
+
+mod base;
+mod course;
+mod node;
+mod turning;
+mod watch;
+
+pub use base::Orders;
+pub use course::Course;
+pub use node::{Node, Turn, meet_nodes};
+pub use program_round::CallList;
+pub use watch::{NoWatch, Watch};

@@ -1,0 +1,217 @@
+ghost use Rattle.std.specs.Prelude.{◌≡◌, ◌+◌, ◌-◌, ◌^◌, ◌<◌, ◌++◌, ◌∷◌, [], Bool, List, Some, None, All, IfOk, OnErr, OnOk, false, true, length};
+ghost use Rattle.charlotte_calls.specs.declared.calls.Answer.{Answer as AnAnswer};
+ghost use Rattle.charlotte_calls.specs.declared.names.EndId.{EndId};
+ghost use Rattle.charlotte_calls.specs.declared.names.Pid.{Pid as APid};
+ghost use Rattle.charlotte_packets.specs.Packets.{packet_picture};
+ghost use Rattle.end_table.specs.Table.{entries};
+ghost use Rattle.journal_text.specs.Journal.{IsAfterLast};
+ghost use Rattle.kernel_core.specs.State.{state_of};
+ghost use Rattle.kernel_entries.specs.Ranges.{IsEntryInRange};
+ghost use Rattle.kernel_entries.specs.declared.entry.Entry.{Entry};
+ghost use Rattle.kernel_step.specs.Calls.{IsCallWith};
+ghost use Rattle.kernel_step.specs.Kernel.{process_of};
+ghost use Rattle.local_runs.specs.Local.{MakesCall, TakesPacket, gives};
+ghost use Rattle.program_round.specs.Doings.{IsNextToGo, doing_at};
+ghost use Rattle.program_round.specs.declared.doing.Doing.TheVariants.{Answered};
+ghost use Rattle.kernel_turns.specs.Amid.{IsAmid, IsOne, SameRun};
+ghost use Rattle.kernel_turns.specs.Events.{Happens};
+ghost use Rattle.kernel_turns.specs.Turns.{Continues, GetsLetter, Hears, IsLent, IsTurn, NoLetter};
+ghost use Rattle.kernel_turns.specs.declared.base.Base.{Base as ABase};
+
+use crate::node::{Node, Turn};
+use crate::watch::Watch;
+use charlotte_calls::{Answer, Call, Next, NoMemory, Pid, Program};
+use charlotte_packets::Packet;
+use kernel_entries::{tell_call, tell_packet};
+use kernel_net::Letter;
+
+impl<P: Program, W: Watch> Node<P, W> {
+    /// One turn: it begins a snapshot where that is due, puts letters, and then takes a packet or lets a program make a step.
+    ///
+    /// After want of memory journal and kernel are as before, and no further turn is made.
+    pub fn turn(&mut self) -> Result<Turn, NoMemory>
+        requires node { IsOne (record { step = P.step; state = P.state; last = P.last; version = P.version }) W.HasSeen self.old }
+        ensures turn { IfOk result (λ t. IsTurn (record { step = P.step; state = P.state; last = P.last; version = P.version }) t self.old self.new) }
+        ensures unspoiled { OnOk result (self.old.spoiled ≡ false) }
+        ensures in_range { OnOk result (All IsEntryInRange self.new.base.journal.entries) }
+        ensures seen { OnOk result (W.HasSeen self.new.watch self.new.base.journal.entries) }
+        ensures same { OnErr result (SameRun self.old.base self.new.base) }
+        ensures spoiled { OnErr result (self.new.spoiled ≡ true) }
+    {
+        if self.spoiled {
+            return Err(NoMemory);
+        }
+        let turn = self.turn_unspoiled();
+        self.spoiled = turn.is_err();
+        turn
+    }
+
+    /// A turn, where memory was there so far.
+    fn turn_unspoiled(&mut self) -> Result<Turn, NoMemory>
+        requires node { IsOne (record { step = P.step; state = P.state; last = P.last; version = P.version }) W.HasSeen self.old }
+        requires unspoiled { self.old.spoiled ≡ false }
+        ensures turn { IfOk result (λ t. IsTurn (record { step = P.step; state = P.state; last = P.last; version = P.version }) t self.old self.new) }
+        ensures in_range { OnOk result (All IsEntryInRange self.new.base.journal.entries) }
+        ensures seen { OnOk result (W.HasSeen self.new.watch self.new.base.journal.entries) }
+        ensures same { OnErr result (SameRun self.old.base self.new.base) }
+        ensures spoiled { self.new.spoiled ≡ false }
+    {
+        if self.base.kernel.stamp() == u64::MAX {
+            return Ok(Turn::Spent);
+        }
+        let put = self.base.make_ready()?;
+        if self.base.used == self.base.orders.limit {
+            return Ok(Turn::Spent);
+        }
+        match self.base.get() {
+            Some((from, letter)) => self.hear(from, letter),
+            None => self.go_on(put),
+        }
+    }
+
+    /// A letter of a kernel was got.
+    fn hear(&mut self, from: u8, letter: Letter) -> Result<Turn, NoMemory>
+        requires amid { (before : ABase) × IsAmid (record { step = P.step; state = P.state; last = P.last; version = P.version }) W.HasSeen (record self.old { base = before }) × GetsLetter from letter before self.old.base }
+        ensures turn { IfOk result (λ t. (before : ABase) (put : Bool) → IsAmid (record { step = P.step; state = P.state; last = P.last; version = P.version }) W.HasSeen (record self.old { base = before }) → GetsLetter from letter before self.old.base
+            → Continues (record { step = P.step; state = P.state; last = P.last; version = P.version }) put t (record self.old { base = before }) self.new) }
+        ensures in_range { OnOk result (All IsEntryInRange self.new.base.journal.entries) }
+        ensures seen { OnOk result (W.HasSeen self.new.watch self.new.base.journal.entries) }
+        ensures same { OnErr result (SameRun self.old.base self.new.base) }
+        ensures spoiled { self.new.spoiled ≡ self.old.spoiled }
+    {
+        match letter {
+            Letter::Packet(packet) => {
+                tell_packet(&packet);
+                self.take(from, packet)?;
+                Ok(Turn::Event)
+            }
+            Letter::Marker => {
+                self.base.mark(from)?;
+                Ok(Turn::Marked)
+            }
+        }
+    }
+
+    /// The kernel takes a packet.
+    fn take(&mut self, from: u8, packet: Packet) -> Result<(), NoMemory>
+        requires from { from < self.old.base.kernel.kernels }
+        requires later { IsAfterLast self.old.base.journal.entries (gives (state_of self.old.base.kernel) (TakesPacket from (packet_picture packet))).kernel.stamp }
+        requires unsent { self.old.base.outbox.unsent.items ≡ [] }
+        requires used { self.old.base.used < 2 ^ 32 - 1 }
+        requires seen { W.HasSeen self.old.watch self.old.base.journal.entries }
+        ensures took { OnOk result ((who : List APid) × Happens (TakesPacket from (packet_picture packet)) self.old.base self.new.base who × Hears who self.old.programs self.new.programs) }
+        ensures rest { OnOk result (self.new ≡ record self.old { base = self.new.base; programs = self.new.programs; watch = self.new.watch }) }
+        ensures in_range { OnOk result (All IsEntryInRange self.new.base.journal.entries) }
+        ensures seen { OnOk result (W.HasSeen self.new.watch self.new.base.journal.entries) }
+        ensures same { OnErr result (SameRun self.old.base self.new.base) }
+        ensures spoiled { self.new.spoiled ≡ self.old.spoiled }
+    {
+        let answered = self.base.take(from, packet)?;
+        self.tell(answered);
+        Ok(())
+    }
+
+    /// A process makes a call.
+    fn ask(&mut self, p: Pid, call: Call) -> Result<(), NoMemory>
+        requires process { p.0 < length self.old.base.kernel.processes }
+        requires later { (mine : List EndId) → IsCallWith p (entries self.old.base.kernel.table) mine call
+            → IsAfterLast self.old.base.journal.entries (gives (state_of self.old.base.kernel) (MakesCall p call mine)).kernel.stamp }
+        requires unsent { self.old.base.outbox.unsent.items ≡ [] }
+        requires used { self.old.base.used < 2 ^ 32 - 1 }
+        requires seen { W.HasSeen self.old.watch self.old.base.journal.entries }
+        ensures asked { OnOk result ((who : List APid) × (mine : List EndId) × IsCallWith p (entries self.old.base.kernel.table) mine call
+            × Happens (MakesCall p call mine) self.old.base self.new.base who × Hears who self.old.programs self.new.programs) }
+        ensures rest { OnOk result (self.new ≡ record self.old { base = self.new.base; programs = self.new.programs; watch = self.new.watch }) }
+        ensures in_range { OnOk result (All IsEntryInRange self.new.base.journal.entries) }
+        ensures seen { OnOk result (W.HasSeen self.new.watch self.new.base.journal.entries) }
+        ensures same { OnErr result (SameRun self.old.base self.new.base) }
+        ensures spoiled { self.new.spoiled ≡ self.old.spoiled }
+    {
+        let answered = self.base.ask(p, call)?;
+        self.tell(answered);
+        Ok(())
+    }
+
+    /// No letter was got: a program makes a step, if one can.
+    fn go_on(&mut self, put: bool) -> Result<Turn, NoMemory>
+        requires amid { IsAmid (record { step = P.step; state = P.state; last = P.last; version = P.version }) W.HasSeen self.old }
+        requires letter { NoLetter self.old.base }
+        ensures turn { IfOk result (λ t. Continues (record { step = P.step; state = P.state; last = P.last; version = P.version }) put t self.old self.new) }
+        ensures in_range { OnOk result (All IsEntryInRange self.new.base.journal.entries) }
+        ensures seen { OnOk result (W.HasSeen self.new.watch self.new.base.journal.entries) }
+        ensures same { OnErr result (SameRun self.old.base self.new.base) }
+        ensures spoiled { self.new.spoiled ≡ self.old.spoiled }
+    {
+        match self.programs.ready() {
+            Some(place) => self.step(place),
+            None if put => Ok(Turn::Sent),
+            None => Ok(Turn::Idle),
+        }
+    }
+
+    /// The program at a place makes its step.
+    fn step(&mut self, place: usize) -> Result<Turn, NoMemory>
+        requires amid { IsAmid (record { step = P.step; state = P.state; last = P.last; version = P.version }) W.HasSeen self.old }
+        requires letter { NoLetter self.old.base }
+        requires next { IsNextToGo (length self.old.programs.all.items) self.old.programs.next self.old.programs.doing place }
+        ensures turn { IfOk result (λ t. (put : Bool) → Continues (record { step = P.step; state = P.state; last = P.last; version = P.version }) put t self.old self.new) }
+        ensures in_range { OnOk result (All IsEntryInRange self.new.base.journal.entries) }
+        ensures seen { OnOk result (W.HasSeen self.new.watch self.new.base.journal.entries) }
+        ensures same { OnErr result (SameRun self.old.base self.new.base) }
+        ensures spoiled { self.new.spoiled ≡ self.old.spoiled }
+    {
+        let p = self.programs.process(place);
+        let answer = self.lent(place, p);
+        match self.programs.step(self.alloc, place, answer)? {
+            Next::Ask(call) => {
+                tell_call(&call);
+                self.ask(p, call)?;
+                Ok(Turn::Event)
+            }
+            Next::Pause => {
+                self.pause();
+                Ok(Turn::Paused)
+            }
+            Next::Ended => {
+                self.pause();
+                Ok(Turn::Paused)
+            }
+        }
+    }
+
+    /// A pause of a program, or its end, uses a turn.
+    fn pause(&mut self)
+        requires used { self.old.base.used < 2 ^ 32 - 1 }
+        ensures { self.new ≡ record self.old { base = record self.old.base { used = self.old.base.used + 1 } } }
+    {
+        self.base.used += 1;
+    }
+
+    /// What the program at a place is lent: a copy of the answer to the call that it asked.
+    fn lent(&self, place: usize, p: Pid) -> Option<Answer>
+        requires place { place < length self.now.programs.all.items }
+        requires process { p.0 < length self.now.base.kernel.processes }
+        requires stands { doing_at self.now.programs.doing place ≡ Answered → (a : AnAnswer) × ((process_of p (state_of self.now.base.kernel)).answer ≡ Some a) }
+        ensures { IsLent self.now place p result }
+    {
+        if !self.programs.is_answered(place) {
+            return None;
+        }
+        match self.base.kernel.standing_answer(p) {
+            Some(answer) => Some(answer.copy()),
+            None => None,
+        }
+    }
+
+    /// An event happened, in which these processes were answered: the programs and the watch are told.
+    fn tell(&mut self, answered: Vec<Pid>)
+        requires seen { (before : List Entry) × (e : Entry) × (self.old.base.journal.entries ≡ before ++ e ∷ []) × W.HasSeen self.old.watch before }
+        ensures programs { Hears answered.items self.old.programs self.new.programs }
+        ensures seen { W.HasSeen self.new.watch self.new.base.journal.entries }
+        ensures rest { self.new ≡ record self.old { programs = self.new.programs; watch = self.new.watch } }
+    {
+        self.programs.hear(answered.as_slice());
+        self.base.kernel.reuse_answered(answered);
+        self.watch.event(&self.base.journal);
+    }
+}
