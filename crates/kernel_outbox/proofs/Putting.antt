@@ -163,12 +163,12 @@ none-more true b r before mid after is first second e q = let never : true ≡ f
 none-more false b r before mid after is first second e q = second (sym is ∙ e) q ∙ first refl q
 
 -- letters that wait were put, and the unsent are as before
-pub both-letters : (put0 put1 W0 W1 U0 U1 : List Letter) → put1 ++ W1 ≡ put0 ++ W0 → U1 ≡ U0 → put1 ++ (W1 ++ U1) ≡ put0 ++ (W0 ++ U0)
-both-letters put0 put1 W0 W1 U0 U1 whole same =
-    sym (append_assoc put1 W1 U1) ∙ ap (λ ls. ls ++ U1) whole ∙ append_assoc put0 W0 U1 ∙ ap (λ ls. put0 ++ (W0 ++ ls)) same
+pub both-letters : (put_before put_after waited waiting unsent_before unsent : List Letter) → put_after ++ waiting ≡ put_before ++ waited → unsent ≡ unsent_before → put_after ++ (waiting ++ unsent) ≡ put_before ++ (waited ++ unsent_before)
+both-letters put_before put_after waited waiting unsent_before unsent whole same =
+    sym (append_assoc put_after waiting unsent) ∙ ap (λ ls. ls ++ unsent) whole ∙ append_assoc put_before waited unsent ∙ ap (λ ls. put_before ++ (waited ++ ls)) same
 
-pub both-fewer : (W0 W1 U0 U1 : List Letter) → length W1 ≤ length W0 → U1 ≡ U0 → length (W1 ++ U1) ≤ length (W0 ++ U0)
-both-fewer W0 W1 U0 U1 fewer same = omega (arith, length-append W1 U1, length-append W0 U0, fewer, ap length same)
+pub both-fewer : (waited waiting unsent_before unsent : List Letter) → length waiting ≤ length waited → unsent ≡ unsent_before → length (waiting ++ unsent) ≤ length (waited ++ unsent_before)
+both-fewer waited waiting unsent_before unsent fewer same = omega (arith, length-append waiting unsent, length-append waited unsent_before, fewer, ap length same)
 
-pub both-less : (W0 W1 U0 U1 : List Letter) → length W1 < length W0 → U1 ≡ U0 → length (W1 ++ U1) < length (W0 ++ U0)
-both-less W0 W1 U0 U1 less same = omega (arith, length-append W1 U1, length-append W0 U0, less, ap length same)
+pub both-less : (waited waiting unsent_before unsent : List Letter) → length waiting < length waited → unsent ≡ unsent_before → length (waiting ++ unsent) < length (waited ++ unsent_before)
+both-less waited waiting unsent_before unsent less same = omega (arith, length-append waiting unsent, length-append waited unsent_before, less, ap length same)

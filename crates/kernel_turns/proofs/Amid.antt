@@ -40,7 +40,7 @@ use Rattle.kernel_turns.proofs.Sending.{sent-got}
 use Rattle.kernel_turns.proofs.Stepped.{all-at}
 use Rattle.kernel_turns.proofs.Turned.{lent-of}
 use Rattle.kernel_turns.proofs.Working.{run-kept}
-use Rattle.kernel_turns.specs.Amid.{IsAmid}
+use Rattle.kernel_turns.specs.Amid.{IsAmidTurn}
 use Rattle.kernel_turns.specs.Events.{FitsPort}
 use Rattle.kernel_turns.specs.Nodes.{ArePlaying, HasRun, HasSent, IsDoing, Meaning, Plays}
 use Rattle.kernel_turns.specs.Turns.{GetsLetter, IsLent, StepsAt}
@@ -145,7 +145,7 @@ module _ {P S W : Type 0} (m : Meaning P S) (HasSeen : W → List Entry → Type
     pub unsent : b.outbox.unsent.items ≡ []
     pub used : b.used < 2 ^ 32 - 1
 
-  pub may-take : (n : Node P W) (before : Base) (from : ℕ) (p : Packet) → IsAmid m HasSeen (record n { base = before }) → GetsLetter from (letter.Packet p) before n.base → IsPictureInRange (packet_picture p)
+  pub may-take : (n : Node P W) (before : Base) (from : ℕ) (p : Packet) → IsAmidTurn m HasSeen (record n { base = before }) → GetsLetter from (letter.Packet p) before n.base → IsPictureInRange (packet_picture p)
       → MayTake from p n.base
   may-take n before from p am gets range =
       record {
@@ -169,7 +169,7 @@ module _ {P S W : Type 0} (m : Meaning P S) (HasSeen : W → List Entry → Type
           (got-local am.some.setting am.some.kernel am.some.made before n.base from p am.some.node.run sent gets am.early range)
 
   -- what a node has to know to keep a marker
-  pub may-mark : (n : Node P W) (before : Base) (from : ℕ) → IsAmid m HasSeen (record n { base = before }) → GetsLetter from letter.Marker before n.base → (from < 8) × FitsPort n.base
+  pub may-mark : (n : Node P W) (before : Base) (from : ℕ) → IsAmidTurn m HasSeen (record n { base = before }) → GetsLetter from letter.Marker before n.base → (from < 8) × FitsPort n.base
   may-mark n before from am gets =
       let sent : HasSent am.some.setting am.some.kernel am.some.made before = am.some.node.sent am.unspoiled in
       let few : am.some.setting.kernels ≤ 8 = am.some.valid.limits.kernels in
@@ -177,7 +177,7 @@ module _ {P S W : Type 0} (m : Meaning P S) (HasSeen : W → List Entry → Type
 
   -- ---- a program goes on
 
-  module _ (n : Node P W) (place : ℕ) (p : Pid) (am : IsAmid m HasSeen n) (at : IsAt m n.programs place p) where
+  module _ (n : Node P W) (place : ℕ) (p : Pid) (am : IsAmidTurn m HasSeen n) (at : IsAt m n.programs place p) where
     playing : ArePlaying m am.some.setting am.some.kernel am.some.first am.some.made n.base.journal.entries n.base.used n.programs
     playing = am.some.node.programs am.unspoiled
 
@@ -218,7 +218,7 @@ module _ {P S W : Type 0} (m : Meaning P S) (HasSeen : W → List Entry → Type
         (lent-given plays.at.last plays.at.heard (doing_at n.programs.doing place) (process_of p (state_of n.base.kernel)).answer given plays.is_doing ready (told.answer ∙ ap answer_of (sym hears))
         (lent-of n place p given lent))))
 
-  pub amid-later : (n : Node P W) (place : ℕ) (p : Pid) (given : Option AnAnswer) (c : Call) (stepped : Programs P) → IsAmid m HasSeen n → can_go_on (doing_at n.programs.doing place) ≡ true
+  pub amid-later : (n : Node P W) (place : ℕ) (p : Pid) (given : Option AnAnswer) (c : Call) (stepped : Programs P) → IsAmidTurn m HasSeen n → can_go_on (doing_at n.programs.doing place) ≡ true
       → IsLent n place p given → StepsAt m place p given (next.Ask c) n.programs stepped → IsCallInRange c
       → (mine : List EndId) → IsCallWith p (entries n.base.kernel.table) mine c → IsAfterLast n.base.journal.entries (gives (state_of n.base.kernel) (MakesCall p c mine)).kernel.stamp
   amid-later n place p given c stepped am ready lent steps range mine call =

@@ -21,7 +21,7 @@ use Rattle.program_round.specs.Doings.{IsNextToGo}
 use Rattle.program_round.specs.declared.programs.Programs.{Programs}
 use Rattle.program_runs.specs.Replay.{IsNoCall}
 use Rattle.kernel_turns.proofs.Turned.{node-ready, works-both, works-in_time}
-use Rattle.kernel_turns.specs.Amid.{IsAmid, IsOne, SameRun}
+use Rattle.kernel_turns.specs.Amid.{IsAmidTurn, IsSomeNode, SameRun}
 use Rattle.kernel_turns.specs.Events.{Happens}
 use Rattle.kernel_turns.specs.Nodes.{Meaning}
 use Rattle.kernel_turns.specs.Turns.{Asks, BeginsOnce, Continues, BeginsInTime, GetsLetter, GetsMarker, HasTurns, Hears, IsLent, IsTurn, KeepsWork, NoLetter, Pauses, PutsLetters, SpendsTurns, StepsAt, TakesIt, Works, with_marker}
@@ -81,12 +81,12 @@ if-ok (Err e) A B f a = tt
 
 -- ---- a turn, once its letters were put
 
-module _ {P S W : Type 0} (m : Meaning P S) (HasSeen : W → List Entry → Type 0) (n new : Node P W) (begun ready : Base) (put : Bool) (one : IsOne m HasSeen n) (whole : n.spoiled ≡ false)
+module _ {P S W : Type 0} (m : Meaning P S) (HasSeen : W → List Entry → Type 0) (n new : Node P W) (begun ready : Base) (put : Bool) (one : IsSomeNode m HasSeen n) (whole : n.spoiled ≡ false)
     (early : n.base.kernel.stamp < greatest_stamp) (time : BeginsInTime n.base begun) (puts : PutsLetters put begun ready) where
   pub turn-spent : ready.used ≡ ready.orders.limit → IsTurn m turn.Spent n (record n { base = ready })
   turn-spent used = Works n begun ready put turn.Spent (record n { base = ready }) early time puts (SpendsTurns (record n { base = ready }) used)
 
-  pub amid-ready : ready.used ≢ ready.orders.limit → IsAmid m HasSeen (record n { base = ready })
+  pub amid-ready : ready.used ≢ ready.orders.limit → IsAmidTurn m HasSeen (record n { base = ready })
   amid-ready left =
       let node = node-ready m one.setting one.kernel one.first HasSeen one.made n begun ready put time puts whole one.node in
       let kept : KeepsWork n.base ready = works-both n.base begun ready (works-in_time n.base begun time) puts.kept in
@@ -98,13 +98,13 @@ module _ {P S W : Type 0} (m : Meaning P S) (HasSeen : W → List Entry → Type
         unsent = puts.unsent;
       }
 
-  pub amid-same : (base : Base) → base ≡ ready → ready.used ≢ ready.orders.limit → IsAmid m HasSeen (record n { base = base })
-  amid-same base same left = subst (λ b. IsAmid m HasSeen (record n { base = b })) (sym same) (amid-ready left)
+  pub amid-same : (base : Base) → base ≡ ready → ready.used ≢ ready.orders.limit → IsAmidTurn m HasSeen (record n { base = base })
+  amid-same base same left = subst (λ b. IsAmidTurn m HasSeen (record n { base = b })) (sym same) (amid-ready left)
 
   pub turn-heard : {E : Type 0} (r : Result Turn E) (from : ℕ) (l : Letter) (got : Base) → ready.used ≢ ready.orders.limit → GetsLetter from l ready got
-      → IfOk r (λ t. (before : Base) (put' : Bool) → IsAmid m HasSeen (record n { base = before }) → GetsLetter from l before got → Continues m put' t (record n { base = before }) new) → IfOk r (λ t. IsTurn m t n new)
+      → IfOk r (λ t. (before : Base) (put' : Bool) → IsAmidTurn m HasSeen (record n { base = before }) → GetsLetter from l before got → Continues m put' t (record n { base = before }) new) → IfOk r (λ t. IsTurn m t n new)
   turn-heard r from l got left gets heard =
-      if-ok r (λ t. (before : Base) (put' : Bool) → IsAmid m HasSeen (record n { base = before }) → GetsLetter from l before got → Continues m put' t (record n { base = before }) new) (λ t. IsTurn m t n new)
+      if-ok r (λ t. (before : Base) (put' : Bool) → IsAmidTurn m HasSeen (record n { base = before }) → GetsLetter from l before got → Continues m put' t (record n { base = before }) new) (λ t. IsTurn m t n new)
       (λ t goes. Works n begun ready put t new early time puts (goes ready put (amid-ready left) gets)) heard
 
   pub turn-went : {E : Type 0} (r : Result Turn E) (base : Base) → base ≡ ready → IfOk r (λ t. Continues m put t (record n { base = base }) new) → IfOk r (λ t. IsTurn m t n new)

@@ -21,7 +21,7 @@ pub record SameRun (old new : Base) : Type 0 where
   pub used : new.used ≡ old.used
 
 -- it is a node of a valid setting
-pub record IsOne {P S W : Type 0} (m : Meaning P S) (HasSeen : W → List Entry → Type 0) (n : Node P W) : Type 0 where
+pub record IsSomeNode {P S W : Type 0} (m : Meaning P S) (HasSeen : W → List Entry → Type 0) (n : Node P W) : Type 0 where
   pub setting : Setting
   pub kernel : ℕ
   pub first : List (Pid × P)
@@ -30,8 +30,8 @@ pub record IsOne {P S W : Type 0} (m : Meaning P S) (HasSeen : W → List Entry 
   pub node : IsNode m HasSeen setting kernel first made n
 
 -- memory was there, and neither its stamps nor its turns are used up
-pub record IsAmid {P S W : Type 0} (m : Meaning P S) (HasSeen : W → List Entry → Type 0) (n : Node P W) : Type 0 where
-  pub some : IsOne m HasSeen n
+pub record IsAmidTurn {P S W : Type 0} (m : Meaning P S) (HasSeen : W → List Entry → Type 0) (n : Node P W) : Type 0 where
+  pub some : IsSomeNode m HasSeen n
   pub unspoiled : n.spoiled ≡ false
   pub early : n.base.kernel.stamp < greatest_stamp
   pub turns : n.base.used < n.base.orders.limit

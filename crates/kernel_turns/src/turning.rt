@@ -13,7 +13,7 @@ ghost use Rattle.kernel_step.specs.Kernel.{process_of};
 ghost use Rattle.local_runs.specs.Local.{MakesCall, TakesPacket, gives};
 ghost use Rattle.program_round.specs.Doings.{IsNextToGo, doing_at};
 ghost use Rattle.program_round.specs.declared.doing.Doing.TheVariants.{Answered};
-ghost use Rattle.kernel_turns.specs.Amid.{IsAmid, IsOne, SameRun};
+ghost use Rattle.kernel_turns.specs.Amid.{IsAmidTurn, IsSomeNode, SameRun};
 ghost use Rattle.kernel_turns.specs.Events.{Happens};
 ghost use Rattle.kernel_turns.specs.Turns.{Continues, GetsLetter, Hears, IsLent, IsTurn, NoLetter};
 ghost use Rattle.kernel_turns.specs.declared.base.Base.{Base as ABase};
@@ -30,7 +30,7 @@ impl<P: Program, W: Watch> Node<P, W> {
     ///
     /// After want of memory journal and kernel are as before, and no further turn is made.
     pub fn turn(&mut self) -> Result<Turn, NoMemory>
-        requires node { IsOne (record { step = P.step; state = P.state; last = P.last; version = P.version }) W.HasSeen self.old }
+        requires node { IsSomeNode (record { step = P.step; state = P.state; last = P.last; version = P.version }) W.HasSeen self.old }
         ensures turn { IfOk result (λ t. IsTurn (record { step = P.step; state = P.state; last = P.last; version = P.version }) t self.old self.new) }
         ensures unspoiled { OnOk result (self.old.spoiled ≡ false) }
         ensures in_range { OnOk result (All IsEntryInRange self.new.base.journal.entries) }
@@ -48,7 +48,7 @@ impl<P: Program, W: Watch> Node<P, W> {
 
     /// A turn, where memory was there so far.
     fn turn_unspoiled(&mut self) -> Result<Turn, NoMemory>
-        requires node { IsOne (record { step = P.step; state = P.state; last = P.last; version = P.version }) W.HasSeen self.old }
+        requires node { IsSomeNode (record { step = P.step; state = P.state; last = P.last; version = P.version }) W.HasSeen self.old }
         requires unspoiled { self.old.spoiled ≡ false }
         ensures turn { IfOk result (λ t. IsTurn (record { step = P.step; state = P.state; last = P.last; version = P.version }) t self.old self.new) }
         ensures in_range { OnOk result (All IsEntryInRange self.new.base.journal.entries) }
@@ -71,8 +71,8 @@ impl<P: Program, W: Watch> Node<P, W> {
 
     /// A letter of a kernel was got.
     fn hear(&mut self, from: u8, letter: Letter) -> Result<Turn, NoMemory>
-        requires amid { (before : ABase) × IsAmid (record { step = P.step; state = P.state; last = P.last; version = P.version }) W.HasSeen (record self.old { base = before }) × GetsLetter from letter before self.old.base }
-        ensures turn { IfOk result (λ t. (before : ABase) (put : Bool) → IsAmid (record { step = P.step; state = P.state; last = P.last; version = P.version }) W.HasSeen (record self.old { base = before }) → GetsLetter from letter before self.old.base
+        requires amid { (before : ABase) × IsAmidTurn (record { step = P.step; state = P.state; last = P.last; version = P.version }) W.HasSeen (record self.old { base = before }) × GetsLetter from letter before self.old.base }
+        ensures turn { IfOk result (λ t. (before : ABase) (put : Bool) → IsAmidTurn (record { step = P.step; state = P.state; last = P.last; version = P.version }) W.HasSeen (record self.old { base = before }) → GetsLetter from letter before self.old.base
             → Continues (record { step = P.step; state = P.state; last = P.last; version = P.version }) put t (record self.old { base = before }) self.new) }
         ensures in_range { OnOk result (All IsEntryInRange self.new.base.journal.entries) }
         ensures seen { OnOk result (W.HasSeen self.new.watch self.new.base.journal.entries) }
@@ -134,7 +134,7 @@ impl<P: Program, W: Watch> Node<P, W> {
 
     /// No letter was got: a program makes a step, if one can.
     fn go_on(&mut self, put: bool) -> Result<Turn, NoMemory>
-        requires amid { IsAmid (record { step = P.step; state = P.state; last = P.last; version = P.version }) W.HasSeen self.old }
+        requires amid { IsAmidTurn (record { step = P.step; state = P.state; last = P.last; version = P.version }) W.HasSeen self.old }
         requires letter { NoLetter self.old.base }
         ensures turn { IfOk result (λ t. Continues (record { step = P.step; state = P.state; last = P.last; version = P.version }) put t self.old self.new) }
         ensures in_range { OnOk result (All IsEntryInRange self.new.base.journal.entries) }
@@ -151,7 +151,7 @@ impl<P: Program, W: Watch> Node<P, W> {
 
     /// The program at a place makes its step.
     fn step(&mut self, place: usize) -> Result<Turn, NoMemory>
-        requires amid { IsAmid (record { step = P.step; state = P.state; last = P.last; version = P.version }) W.HasSeen self.old }
+        requires amid { IsAmidTurn (record { step = P.step; state = P.state; last = P.last; version = P.version }) W.HasSeen self.old }
         requires letter { NoLetter self.old.base }
         requires next { IsNextToGo (length self.old.programs.all.items) self.old.programs.next self.old.programs.doing place }
         ensures turn { IfOk result (λ t. (put : Bool) → Continues (record { step = P.step; state = P.state; last = P.last; version = P.version }) put t self.old self.new) }

@@ -83,23 +83,6 @@ kept-first what (x ∷ xs) q at told = let same : x ≡ q = cc in ap (λ (y : Pi
 pub takes-none : (old : Kept) (from to : ℕ) (what : PictureWhat) → (to < old.setting.kernels → TellsFirst what (old.world.packets from to) → ⊥) → (new : Kept) → Takes old from to what new → ⊥
 takes-none old from to what none new takes = none takes.first.there (kept-first what (old.world.packets from to) takes.first.packet takes.first.first takes.first.told)
 
--- ---- the step that is due
-
--- where none is, none is shown
-pub shows-none : (old : Kept) (left : List ServiceStep) → old.due ≡ left → left ≡ drop 1 old.due → (new : Kept) → Shows old new → ⊥
-shows-none old left same rest new shows =
-    let tail : left ≡ shows.others = rest ∙ ap (drop 1) shows.due in
-    let all : left ≡ shows.step ∷ shows.others = sym same ∙ shows.due in
-    let longer : length shows.others ≡ suc (length shows.others) = ap length (sym tail ∙ all) in
-    absurd (omega (arith, longer))
-
--- where that is not allowed, none is shown
-pub shows-other : (old : Kept) (step : ServiceStep) (left : List ServiceStep) → old.due ≡ step ∷ left → (IsAllowed old.service step → ⊥) → (new : Kept) → Shows old new → ⊥
-shows-other old step left due not new shows =
-    let all : shows.step ∷ shows.others ≡ step ∷ left = sym shows.due ∙ due in
-    let same : shows.step ≡ step = cc in
-    not (subst (IsAllowed old.service) same shows.made.allowed)
-
 -- ---- what is told of a kernel
 
 state-stamp : (k : KernelView) → (kernel_state k).stamp ≡ k.stamp
