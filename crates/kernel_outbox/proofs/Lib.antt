@@ -1,3 +1,4 @@
 mod Going
 mod Waiting
 pub mod Putting
+pub mod Emptying

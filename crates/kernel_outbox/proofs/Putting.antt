@@ -162,6 +162,11 @@ pub none-more : (a b r : Bool) (before mid after : ℕ → List Letter) → r �
 none-more true b r before mid after is first second e q = let never : true ≡ false = sym is ∙ e in cc
 none-more false b r before mid after is first second e q = second (sym is ∙ e) q ∙ first refl q
 
+-- where nothing was put in either, nothing changed
+pub same-more : {P : Type 0} (a b r : Bool) (old mid new : P) → r ≡ (a || b) → (a ≡ false → mid ≡ old) → (b ≡ false → new ≡ mid) → r ≡ false → new ≡ old
+same-more true b r old mid new is first second e = let never : true ≡ false = sym is ∙ e in cc
+same-more false b r old mid new is first second e = second (sym is ∙ e) ∙ first refl
+
 -- letters that wait were put, and the unsent are as before
 pub both-letters : (put_before put_after waited waiting unsent_before unsent : List Letter) → put_after ++ waiting ≡ put_before ++ waited → unsent ≡ unsent_before → put_after ++ (waiting ++ unsent) ≡ put_before ++ (waited ++ unsent_before)
 both-letters put_before put_after waited waiting unsent_before unsent whole same =

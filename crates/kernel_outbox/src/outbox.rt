@@ -1,4 +1,4 @@
-ghost use Rattle.std.specs.Prelude.{◌≡◌, ◌≢◌, ◌<◌, ◌≤◌, ◌↔◌, ◌||◌, ◌++◌, [], ℕ, IfOk, IsTrue, OnOk, false, true, length, max};
+ghost use Rattle.std.specs.Prelude.{◌≡◌, ◌≢◌, ◌<◌, ◌≤◌, ◌↔◌, ◌||◌, ◌++◌, [], ℕ, All, IfOk, IsTrue, OnOk, false, true, length, max};
 ghost use Rattle.kernel_named.specs.Named.{GoWithin};
 ghost use Rattle.kernel_net.specs.Letters.{MayBePut};
 ghost use Rattle.kernel_net.specs.Ports.{kernels_of, place_of, places_to, put_to};
@@ -19,6 +19,8 @@ pub struct Outbox {
     unsent: VecDeque<(u8, Packet)>,
     /// By target, the letters whose ring was full, or before which a letter or a marker stands. There are no lists before the first is needed.
     waiting: Vec<VecDeque<Letter>>,
+    /// The kernels to which letters were put since this was last asked, one bit each. No clause speaks of it.
+    reached: u8,
 }
 
 impl Outbox {
@@ -30,6 +32,7 @@ impl Outbox {
         Outbox {
             unsent: VecDeque::new(alloc),
             waiting: Vec::new(alloc),
+            reached: 0,
         }
     }
 
@@ -62,6 +65,8 @@ impl Outbox {
         ensures lists { OnOk result (length self.new.waiting.items ≤ kernels_of (place_of port.old)) }
         ensures some { IfOk result (λ some. some ≡ true → (to : ℕ) × (length (outbox_to self.new to) < length (outbox_to self.old to))) }
         ensures none { IfOk result (λ some. some ≡ false → (to : ℕ) → outbox_to self.new to ≡ outbox_to self.old to) }
+        ensures port { IfOk result (λ some. some ≡ false → port.new ≡ port.old) }
+        ensures place { place_of port.new ≡ place_of port.old }
     {
         let kernels = port.kernels();
         let waited = self.put_waiting(port);
@@ -78,12 +83,16 @@ impl Outbox {
         ensures lists { length self.new.waiting.items ≡ length self.old.waiting.items }
         ensures some { result ≡ true → (to : ℕ) × (length (waiting_to self.new to) < length (waiting_to self.old to)) }
         ensures none { result ≡ false → (to : ℕ) → waiting_to self.new to ≡ waiting_to self.old to }
+        ensures port { result ≡ false → port.new ≡ port.old }
     {
         let mut some = false;
+        let mut reached = self.reached;
         for to in 0..self.waiting.len() {
             let put = put_first(&mut self.waiting[to], to as u8, port);
+            reached |= bit_where(put, to as u8);
             some = either(some, put);
         }
+        self.reached = reached;
         some
     }
 
@@ -99,6 +108,8 @@ impl Outbox {
         ensures lists { OnOk result (length self.new.waiting.items ≤ kernels) }
         ensures some { IfOk result (λ some. some ≡ true → (to : ℕ) × (length (outbox_to self.new to) < length (outbox_to self.old to))) }
         ensures none { IfOk result (λ some. some ≡ false → (to : ℕ) → outbox_to self.new to ≡ outbox_to self.old to) }
+        ensures port { IfOk result (λ some. some ≡ false → port.new ≡ port.old) }
+        ensures place { place_of port.new ≡ place_of port.old }
     {
         let mut some = false;
         while let Some((to, packet)) = self.unsent.pop_front() {
@@ -122,6 +133,8 @@ impl Outbox {
         requires letter { waiting_to self.old to ≡ [] → MayBePut (put_to port.old to) letter }
         requires full { 0 < length (waiting_to self.old to) → places_to port.old to ≡ 0 }
         ensures put { IfOk result (λ put. PutsOne put to letter (waiting_to self.old) (waiting_to self.new) port.old port.new) }
+        ensures port { IfOk result (λ put. put ≡ false → port.new ≡ port.old) }
+        ensures place { place_of port.new ≡ place_of port.old }
         ensures unsent { OnOk result (self.new.unsent ≡ self.old.unsent) }
         ensures lists { OnOk result (length self.new.waiting.items ≤ kernels) }
     {
@@ -130,12 +143,37 @@ impl Outbox {
             return Ok(false);
         }
         match port.put(to, letter) {
-            Ok(()) => Ok(true),
+            Ok(()) => {
+                self.reached |= bit_where(true, to);
+                Ok(true)
+            }
             Err(back) => {
                 self.wait(kernels, to, back)?;
                 Ok(false)
             }
         }
+    }
+
+    /// The kernels to which letters were put since this was last asked, one bit each, for those who have to know soon whom they can hear of.
+    /// No clause speaks of the answer.
+    pub fn reached(&mut self) -> u8
+        ensures { self.new ≡ record self.old { reached = self.new.reached } }
+    {
+        mem::replace(&mut self.reached, 0)
+    }
+
+    /// Whether no letter is left to be put.
+    pub fn is_empty(&self) -> bool
+        ensures { IsTrue result ↔ ((to : ℕ) → outbox_to self.now to ≡ []) }
+    {
+        self.unsent.is_empty() && self.none_waits()
+    }
+
+    /// Whether no letter waits.
+    fn none_waits(&self) -> bool
+        ensures { IsTrue result ↔ All (λ list. list.items ≡ []) self.now.waiting.items }
+    {
+        self.waiting.iter().all(|list| list.is_empty())
     }
 
     /// Whether a letter to a kernel waits.
@@ -225,6 +263,7 @@ fn put_first(list: &mut VecDeque<Letter>, to: u8, port: &mut Port) -> bool
     ensures puts { PutsFirst to list.old.items list.new.items port.old port.new }
     ensures some { result ≡ true → length list.new.items < length list.old.items }
     ensures none { result ≡ false → list.new.items ≡ list.old.items }
+    ensures port { result ≡ false → port.new ≡ port.old }
 {
     let mut some = false;
     while let Some(letter) = list.pop_front() {
@@ -235,6 +274,15 @@ fn put_first(list: &mut VecDeque<Letter>, to: u8, port: &mut Port) -> bool
         some = true;
     }
     some
+}
+
+/// The bit of a kernel to which a letter was put, if one was.
+fn bit_where(put: bool, to: u8) -> u8 {
+    if put {
+        1u8.wrapping_shl(u32::from(to))
+    } else {
+        0
+    }
 }
 
 fn either(a: bool, b: bool) -> bool

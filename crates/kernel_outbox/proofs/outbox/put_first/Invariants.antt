@@ -10,6 +10,7 @@ invariant-loop-letter l = record {
   puts : PutsSome l.to l.initial.list.items l.list.items l.initial.port l.port;
   some : l.some ≡ true → length l.list.items < length l.initial.list.items;
   none : l.some ≡ false → l.list.items ≡ l.initial.list.items;
+  port : l.some ≡ false → l.port ≡ l.initial.port;
 }
 
 abbrev pub decreases-loop-letter : goal.decreases-loop-letter

@@ -1,7 +1,7 @@
 use Rattle.std.proofs.Common.{◌≡◌, ℕ, ◌++◌, ap, subst, sym, ◌∙◌, arith}
 use Rattle.kernel_net.specs.Ports.{put_to}
 use Rattle.kernel_outbox.specs.Letters.{MayAllBePut, letters_for, outbox_to, waiting_to}
-use Rattle.kernel_outbox.proofs.Putting.{both-fewer, both-less, both-letters, may-front, may-rest-of, some-more}
+use Rattle.kernel_outbox.proofs.Putting.{both-fewer, both-less, both-letters, may-front, may-rest-of, same-more, some-more}
 use Rattle.kernel_outbox.proofs.outbox.Outbox.put.Goals as goal
 
 pub put_waiting-waited-requires-clause-lists : goal.put_waiting-waited-requires-clause-lists
@@ -43,3 +43,8 @@ returns-clause-some c =
     c.in_ok-sent.ensures.some
     (λ q. both-fewer (waiting_to c.args.self.now q) (waiting_to mid.self q) _ _ (first.fewer q) (unsent q))
     second.fewer
+
+pub returns-clause-port : goal.returns-clause-port
+returns-clause-port c =
+    same-more c.put_waiting-waited.result c.in_ok-sent.sent c.either.result c.args.port.now c.put_waiting-waited.new.port c.put_unsent.new.port c.either.ensures
+    c.put_waiting-waited.ensures.port c.in_ok-sent.ensures.port

@@ -2,7 +2,7 @@ use Rattle.std.proofs.Common.{◌≡◌, ◌∷◌, ap, sym, refl, ◌∙◌, ar
 use Rattle.kernel_net.specs.Ports.{kernels_of}
 use Rattle.kernel_outbox.specs.Letters.{outbox_to, waiting_to}
 use Rattle.kernel_outbox.proofs.Going.{rest-there}
-use Rattle.kernel_outbox.proofs.Putting.{none-more, sent-fewer, sent-full, sent-letters, sent-may, sent-none, sent-some, some-more}
+use Rattle.kernel_outbox.proofs.Putting.{none-more, same-more, sent-fewer, sent-full, sent-letters, sent-may, sent-none, sent-some, some-more}
 use Rattle.kernel_outbox.proofs.outbox.Outbox.put_unsent.Goals as goal
 
 pub loop-to-preserved : goal.loop-to-preserved
@@ -34,4 +34,5 @@ loop-to-preserved c =
           (sent-some W W' n p left rest first old new put one) inv.fewer (sent-fewer W W' n p left rest first old new put one);
       none = none-more c.loop-to.some put c.either-some.result (outbox_to c.args.self.now) (outbox_to c.loop-to.self) (outbox_to c.put_one.new.self) c.either-some.ensures inv.none
           (sent-none W W' n p left rest first old new put one);
+      port = same-more c.loop-to.some put c.either-some.result c.args.port.now old new c.either-some.ensures inv.port c.in_ok-put.ensures.port;
     }

@@ -17,6 +17,7 @@ invariant-loop-to l = record {
   lists : length l.self.waiting.items ≤ l.kernels;
   some : l.some ≡ true → (q : ℕ) × (length (outbox_to l.self q) < length (outbox_to l.initial.self q));
   none : l.some ≡ false → (q : ℕ) → outbox_to l.self q ≡ outbox_to l.initial.self q;
+  port : l.some ≡ false → l.port ≡ l.initial.port;
 }
 
 abbrev pub decreases-loop-to : goal.decreases-loop-to

@@ -1,6 +1,6 @@
 use Rattle.std.proofs.Common.{◌<◌, ◌+◌, length, length-set, set, ◌∙◌, arith, rules}
 use Rattle.kernel_outbox.specs.Letters.{waiting_to}
-use Rattle.kernel_outbox.proofs.Putting.{none-more, put-fewer, put-full, put-letters, put-may, put-none, put-some, some-more}
+use Rattle.kernel_outbox.proofs.Putting.{none-more, put-fewer, put-full, put-letters, put-may, put-none, put-some, same-more, some-more}
 use Rattle.kernel_outbox.proofs.Waiting.{waits_in}
 use Rattle.kernel_outbox.proofs.outbox.Outbox.put_waiting.Goals as goal
 
@@ -30,4 +30,5 @@ loop-to-preserved c =
           (λ e. put-some lists to before after old new below is puts (c.put_first-put.ensures.some e)) inv.fewer (put-fewer lists to before after old new below is puts);
       none = none-more c.loop-to.some c.put_first-put.result c.either-some.result (waiting_to c.args.self.now) (waiting_to now) (waits_in (set lists to after)) c.either-some.ensures inv.none
           (λ e. put-none lists to before after old new below is puts (c.put_first-put.ensures.none e));
+      port = same-more c.loop-to.some c.put_first-put.result c.either-some.result c.args.port.now old new c.either-some.ensures inv.port c.put_first-put.ensures.port;
     }

@@ -15,4 +15,5 @@ invariant-loop-to l = record {
   lists : length l.self.waiting.items ≡ length l.initial.self.waiting.items;
   some : l.some ≡ true → (q : ℕ) × (length (waiting_to l.self q) < length (waiting_to l.initial.self q));
   none : l.some ≡ false → (q : ℕ) → waiting_to l.self q ≡ waiting_to l.initial.self q;
+  port : l.some ≡ false → l.port ≡ l.initial.port;
 }
