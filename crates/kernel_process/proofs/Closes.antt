@@ -1,6 +1,5 @@
 -- What the end of an event changes of the table and of the processes.
 use Rattle.std.proofs.Common.{◌≡◌, ◌≢◌, ◌⊎◌, inl, inr, ℕ, ◌+◌, ◌<◌, ◌≤◌, Bool, true, false, nat_eq, true≢false, eq-eqb, Some, List, [], ◌∷◌, ◌++◌, drop, length, slice_set, map, ap, sym, subst, ◌∙◌, refl, get_or, cond, arith}
-use Rattle.std.specs.VecDeque.{deque_len, deque_capacity}
 use Rattle.std.proofs.lemmas.List.{map-set, get_or-map, length-set, set-get_or}
 use Rattle.std.proofs.lemmas.List.Elements.{All-set}
 use Rattle.std.proofs.lemmas.Bool.Decides.{eqb_tells}
@@ -62,13 +61,13 @@ sets-by t xs i y d s p f lent at below is =
 
 -- room for so many more reports
 abbrev HasSpare : ℕ → ControlBlock → Type 0
-HasSpare n x = deque_len x.reports + n ≤ deque_capacity x.reports
+HasSpare n x = n ≤ x.reports.fits
 
 -- one process is set to one with the same ends with activities, and at most n more reports
 pub takes-set : (n : ℕ) (xs : List ControlBlock) (i : ℕ) (y d : ControlBlock) (p : Pid) → d ≡ get_or xs i d → i ≡ p.0 → p.0 < length xs → y.active ≡ d.active
-    → deque_capacity y.reports ≡ deque_capacity d.reports → deque_len y.reports ≤ deque_len d.reports + n
+    → d.reports.fits ≤ y.reports.fits + n
     → TakesAtMost n xs (slice_set xs i y)
-takes-set n xs i y d p lent at below active capacity len =
+takes-set n xs i y d p lent at below active fits =
     record {
       active = map-set (λ (x : ControlBlock). x.active) xs i y
           ∙ ap (λ a. slice_set (map (λ (x : ControlBlock). x.active) xs) i a) (active ∙ ap (λ (x : ControlBlock). x.active) lent ∙ sym (get_or-map (λ (x : ControlBlock). x.active) xs i d d.active within))
@@ -191,10 +190,6 @@ unfolding ended with_parts
 tells-by t u xs s e f p r others is packets answered steps =
     λ j. record { kernel = with_parts (is j) xs s; packets = map sent_picture (packets j); answered = answered j; steps = steps j }
 
--- none is told
-pub tells-none : (p : Pid) (rs : List Report) (o : Outcome) → rs ≡ [] → o ≡ tells_first p rs o
-tells-none p rs o none = ap (λ l. tells_first p l o) (sym none)
-
 -- a report that is told answers the Wait of its process, which keeps the other reports
 pub answers_wait-told : (p : Pid) (r : Report) (o : Outcome) → stands p (answer.Reported r) (tells_first p (r ∷ []) o) ≡ answers_wait p r (process_of p o.kernel).reports o
 unfolding answers_wait
@@ -207,22 +202,10 @@ answers_wait-told p r o =
     same : now ≡ with_process p (process_of p now) now
     same = sym (with_process-same p now)
 
--- the first of its reports leaves the list of a process, once it is told, and answers its Wait
-pub waits-told : (p : Pid) (r : Report) (all others : List Report) (s after : Kernel) (e : Effect) (o : Outcome) → all ≡ r ∷ others → ended s e ≡ tells_first p all o
-    → after ≡ with_process p (record (process_of p s) { reports = others }) s → stands p (answer.Reported r) (ended after e) ≡ waits p all o
-unfolding ended answers_wait
-waits-told p r all others s after e o is told left =
-    ap (λ k. stands p (answer.Reported r) (ended k e)) left
-    ∙ ap (λ z. stands p (answer.Reported r) (record z { kernel = with_process p (record (process_of p z.kernel) { reports = others }) z.kernel })) (told ∙ ap (λ l. tells_first p l o) is)
-    ∙ ap (λ l. waits p l o) (sym is)
-
 -- a Wait that finds no report
-pub waits-idle : (p : Pid) (all : List Report) (s after : Kernel) (e : Effect) (o : Outcome) → all ≡ [] → ended s e ≡ tells_first p all o → after ≡ turns p Waiting s → ended after e ≡ waits p all o
+pub waits-idle : (p : Pid) (all : List Report) (s after : Kernel) (e : Effect) → all ≡ [] → after ≡ turns p Waiting s → ended after e ≡ waits p all (ended s e)
 unfolding ended
-waits-idle p all s after e o none told turned =
-    ap (λ k. ended k e) turned
-    ∙ ap {A = Outcome} {B = Outcome} (λ z. record z { kernel = turns p Waiting z.kernel }) (told ∙ ap (λ l. tells_first p l o) none)
-    ∙ ap (λ l. waits p l o) (sym none)
+waits-idle p all s after e none turned = ap (λ k. ended k e) turned ∙ ap (λ l. waits p l (ended s e)) (sym none)
 
 -- the reports are those that were left before
 pub answers_wait-left : (p : Pid) (r : Report) (others : List Report) (s after : Kernel) (e : Effect) → after ≡ with_process p (record (process_of p s) { reports = others }) s
@@ -241,20 +224,15 @@ answers_wait-left p r others s after e is =
     told : with_process p (process_of p (with_process p x s)) (record (with_process p x s) { table = now }) ≡ with_process p x (record s { table = now })
     told = ap (λ y. with_process p y (record (with_process p x s) { table = now })) (with_process-at p x s) ∙ with_process-twice p x x now s
 
--- the first of a list that has one, and the others
-pub front-some : {X : Type 0} (xs : List X) (n : ℕ) (x : X) → n ≡ length xs → 0 < n → x ≡ get_or xs 0 x → xs ≡ x ∷ drop 1 xs
-front-some [] n x len some is = absurd (omega arith)
-front-some (y ∷ ys) n x len some is = ap (λ z. z ∷ ys) (sym is)
-
--- and of one that has none
-pub front-none : {X : Type 0} (xs : List X) (n : ℕ) → n ≡ length xs → (0 < n → ⊥) → xs ≡ []
-front-none [] n len none = refl
-front-none (y ∷ ys) n len none = absurd (none (omega (arith, len)))
-
 -- a list that is its own rest is empty
 pub drop-same : {X : Type 0} (xs : List X) → xs ≡ drop 1 xs → xs ≡ []
 drop-same [] same = refl
 drop-same (x ∷ xs) same = absurd (let e : length (x ∷ xs) ≡ length (drop 1 (x ∷ xs)) = ap length same in omega arith)
+
+-- the oldest report left the list of its process, and answers a Wait
+pub waits-left : (p : Pid) (r : Report) (all others : List Report) (s after : Kernel) (e : Effect) → all ≡ r ∷ others → after ≡ with_process p (record (process_of p s) { reports = others }) s
+    → answers_wait p r (process_of p after).reports (ended after e) ≡ waits p all (ended s e)
+waits-left p r all others s after e is left = answers_wait-left p r others s after e left ∙ ap (λ l. waits p l (ended s e)) (sym is)
 
 -- a report joined the list, and the oldest of it answers a Wait
 pub joins-waiting : (p : Pid) (r oldest : Report) (others : List Report) (s after : Kernel) (e : Effect) → is_waiting (process_of p s).phase ≡ true

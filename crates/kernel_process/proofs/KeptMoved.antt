@@ -5,7 +5,6 @@ use Rattle.std.specs.Option.{option_map}
 use Rattle.std.proofs.lemmas.List.{get_or-map, length-map}
 use Rattle.std.proofs.lemmas.Option.{slice_get-map}
 use Rattle.indexmap.specs.IndexSet.{spare}
-use Rattle.std.specs.VecDeque.{deque_len, deque_capacity}
 use Rattle.kernel_process.specs.Closing.{HavePlace, HaveSpare}
 use Rattle.kernel_process.specs.Active.{started_ends}
 use Rattle.kernel_process.specs.declared.process.ControlBlock.{ControlBlock}
@@ -54,4 +53,4 @@ HavePlace-moved xs ys same places = All-moved (λ x. x.active) (λ s. 1 ≤ spar
 
 -- and for reports
 pub HaveSpare-moved : (n : ℕ) (xs ys : List ControlBlock) → map (λ x. x.reports) ys ≡ map (λ x. x.reports) xs → HaveSpare n xs → HaveSpare n ys
-HaveSpare-moved n xs ys same room = All-moved (λ x. x.reports) (λ q. deque_len q + n ≤ deque_capacity q) xs ys same room
+HaveSpare-moved n xs ys same room = All-moved (λ x. x.reports) (λ q. n ≤ q.fits) xs ys same room

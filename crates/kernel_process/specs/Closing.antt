@@ -1,6 +1,5 @@
 -- Room that an event has as it begins, and as it closes.
 use Rattle.std.specs.Prelude.{◌≡◌, ℕ, ◌+◌, ◌≤◌, List, [], ◌∷◌, All, length, vec_len, vec_capacity}
-use Rattle.std.specs.VecDeque.{deque_len, deque_capacity}
 use Rattle.charlotte_calls.specs.declared.calls.Report.{Report}
 use Rattle.charlotte_calls.specs.declared.names.Pid.{Pid}
 use Rattle.charlotte_packets.specs.declared.work.Room.{Room}
@@ -11,7 +10,7 @@ use Rattle.kernel_step.specs.Progress.{HasRoom}
 
 -- each process has room for so many reports
 abbrev pub HaveSpare : ℕ → List ControlBlock → Type 0
-HaveSpare n xs = All (λ x. deque_len x.reports + n ≤ deque_capacity x.reports) xs
+HaveSpare n xs = All (λ x. n ≤ x.reports.fits) xs
 
 -- each process has room for these reports, if there are any
 abbrev pub HaveSpareFor : List (Pid × Report) → List ControlBlock → Type 0

@@ -1,5 +1,4 @@
 ghost use Rattle.std.specs.Prelude.{◌≡◌, true, false, ℕ, ◌+◌, ◌<◌, ◌≤◌, ◌++◌, [], ◌∷◌, List, Some, IfSome, IfNone, length, drop, option_to_list, vec_len, vec_capacity};
-ghost use Rattle.std.specs.VecDeque.{deque_len, deque_capacity};
 ghost use Rattle.charlotte_calls.specs.declared.calls.Answer.TheVariants as answer;
 ghost use Rattle.charlotte_calls.specs.declared.calls.Report.{Report};
 ghost use Rattle.charlotte_calls.specs.declared.names.EndId.{EndId};
@@ -27,7 +26,6 @@ use charlotte_calls::{Answer, EndId, Pid, Report, ServiceStep, Way};
 use charlotte_packets::{Effect, Work};
 use end_table::{Inward, Lent, Living, Sending, Table};
 use kernel_step::Phase;
-use std::collections::VecDeque;
 use std::mem;
 
 /// A process goes on to another phase.
@@ -61,26 +59,10 @@ fn exchange_report(processes: &mut Processes, p: Pid, report: Report) -> Report
         (with_parts t processes.old s) }
     ensures oldest { (t : EndId → Entry) (s : Kernel) → (process_of p (with_parts t processes.old s)).reports ++ report ∷ []
         ≡ result ∷ drop 1 ((process_of p (with_parts t processes.old s)).reports ++ report ∷ []) }
-    ensures kept { TakesAtMost 0 processes.old processes.new }
+    ensures kept { TakesAtMost 1 processes.old processes.new }
 {
     let process = processes.at_mut(usize::from(p.0));
-    exchange_oldest(&mut process.reports, report)
-}
-
-/// A report goes behind the others, and the oldest leaves the list.
-fn exchange_oldest(reports: &mut VecDeque<Report>, report: Report) -> Report
-    requires spare { deque_len reports.old + 1 ≤ deque_capacity reports.old }
-    ensures items { reports.old.items ++ report ∷ [] ≡ result ∷ reports.new.items }
-    ensures len { deque_len reports.new ≡ deque_len reports.old }
-    ensures capacity { deque_capacity reports.new ≡ deque_capacity reports.old }
-{
-    match reports.pop_front() {
-        Some(oldest) => {
-            reports.push_back_reserved(report);
-            oldest
-        }
-        None => report,
-    }
+    process.reports.exchange(report)
 }
 
 /// A report goes behind the others of its process.
@@ -93,7 +75,7 @@ fn add_report(processes: &mut Processes, p: Pid, report: Report)
     ensures kept { TakesAtMost 1 processes.old processes.new }
 {
     let process = processes.at_mut(usize::from(p.0));
-    process.reports.push_back_reserved(report);
+    process.reports.push(&report);
 }
 
 /// An activity that was over is idle once it is reported.
@@ -386,22 +368,6 @@ fn answer_all(processes: &mut Processes, effect: &mut Effect, answers: &mut Vec<
     }
 }
 
-/// The oldest report of a process is told, if there is one, and its activity is idle.
-fn tell_first(table: &mut Table, processes: &Processes, effect: &mut Effect, p: Pid)
-    requires process { p.0 < length processes.now }
-    requires places { HasPlaces 0 1 effect.old }
-    ensures part { (s : Kernel) → ended (with_parts (entries table.new) processes.now s) effect.new
-        ≡ tells_first p (process_of p (with_parts (entries table.old) processes.now s)).reports (ended (with_parts (entries table.old) processes.now s) effect.old) }
-    ensures calm { StaysCalm table.old table.new }
-    ensures places { GainsAtMost 0 1 effect.old effect.new }
-    ensures stamp { effect.new.stamp ≡ effect.old.stamp }
-{
-    match processes.at(usize::from(p.0)).reports.front() {
-        Some(report) => tell(table, effect, p, report),
-        None => {}
-    }
-}
-
 /// The oldest report of a process leaves its list.
 fn first_report(processes: &mut Processes, p: Pid) -> Option<Report>
     requires { p.0 < length processes.old }
@@ -413,7 +379,7 @@ fn first_report(processes: &mut Processes, p: Pid) -> Option<Report>
     ensures kept { TakesAtMost 0 processes.old processes.new }
 {
     let process = processes.at_mut(usize::from(p.0));
-    process.reports.pop_front()
+    process.reports.pop()
 }
 
 /// A Wait: the oldest report of the process answers it.
@@ -426,9 +392,8 @@ pub fn wait(table: &mut Table, processes: &mut Processes, effect: &mut Effect, p
     ensures kept { TakesAtMost 0 processes.old processes.new }
     ensures stamp { effect.new.stamp ≡ effect.old.stamp }
 {
-    tell_first(table, processes, effect, p);
     match first_report(processes, p) {
-        Some(report) => stand(processes, effect, p, Answer::Reported(report)),
+        Some(report) => answer_wait(table, processes, effect, p, report),
         None => turn(processes, p, Phase::Waiting),
     }
 }

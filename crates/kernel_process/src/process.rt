@@ -1,5 +1,4 @@
 ghost use Rattle.std.specs.Prelude.{◌≡◌, ◌+◌, ◌<◌, ◌≤◌, ℕ, All, IfOk, OnOk, length, map, slice_index_or};
-ghost use Rattle.std.specs.VecDeque.{deque_len, deque_capacity};
 ghost use Rattle.indexmap.specs.IndexSet.{spare};
 ghost use Rattle.kernel_process.specs.Active.{started_ends};
 ghost use Rattle.kernel_process.specs.Closing.{HaveSpare, HavePlace};
@@ -9,11 +8,11 @@ ghost use Rattle.std.specs.Borrow.{sem};
 ghost use Rattle.kernel_process.specs.Lending.{LendsBlock};
 ghost use Rattle.kernel_process.specs.declared.process.ControlBlock.{ControlBlock};
 
-use charlotte_calls::{Answer, EndId, NoMemory, Report};
+use charlotte_calls::{Answer, EndId, NoMemory};
 use indexmap::IndexSet;
 use kernel_step::Phase;
+use report_queue::ReportQueue;
 use std::alloc::Global;
-use std::collections::VecDeque;
 use std::marker::Model;
 
 /// What a kernel keeps of one of its processes.
@@ -21,7 +20,7 @@ use std::marker::Model;
 pub struct ControlBlock {
     pub phase: Phase,
     /// The reports that it was not given yet, oldest first.
-    pub reports: VecDeque<Report>,
+    pub reports: ReportQueue,
     /// The answer that it was not given yet.
     pub answer: Option<Answer>,
     /// The ends that it owns on which an activity is started.
@@ -112,7 +111,7 @@ fn fresh_block(alloc: Global) -> ControlBlock
 {
     ControlBlock {
         phase: Phase::Running,
-        reports: VecDeque::new(alloc),
+        reports: ReportQueue::new(alloc),
         answer: None,
         active: IndexSet::new(alloc),
     }
@@ -133,7 +132,7 @@ fn reserve_reports(blocks: &mut [ControlBlock], most: usize) -> Result<(), NoMem
 fn reserve_reports_of(block: &mut ControlBlock, most: usize) -> Result<(), NoMemory>
     ensures kept { process_state block.new ≡ process_state block.old }
     ensures active { block.new.active ≡ block.old.active }
-    ensures room { OnOk result (deque_len block.new.reports + most ≤ deque_capacity block.new.reports) }
+    ensures room { OnOk result (most ≤ block.new.reports.fits) }
 {
     block.reports.reserve(most)?;
     Ok(())

@@ -13,7 +13,7 @@ returns-then-is_in_wait-clause-part c =
     (c.exchange_report-oldest.ensures.part (entries c.args.table.now) s)
 
 pub returns-then-is_in_wait-clause-kept : goal.returns-then-is_in_wait-clause-kept
-returns-then-is_in_wait-clause-kept c = takes-both 0 0 1 _ _ _ (omega arith) c.exchange_report-oldest.ensures.kept c.answer_wait.ensures.kept
+returns-then-is_in_wait-clause-kept c = takes-both 1 0 1 _ _ _ (omega arith) c.exchange_report-oldest.ensures.kept c.answer_wait.ensures.kept
 
 pub returns-else-is_in_wait-clause-part : goal.returns-else-is_in_wait-clause-part
 returns-else-is_in_wait-clause-part c =

@@ -10,4 +10,4 @@ returns-clause-part c =
 
 pub returns-clause-kept : goal.returns-clause-kept
 returns-clause-kept c =
-    takes-set 0 c.args.processes.now c.from.result _ c.at_mut-process.result.now c.args.p (c.at_mut-process.ensures.value _) c.from.ensures c.requires refl refl (omega arith)
+    takes-set 0 c.args.processes.now c.from.result _ c.at_mut-process.result.now c.args.p (c.at_mut-process.ensures.value _) c.from.ensures c.requires refl (omega arith)

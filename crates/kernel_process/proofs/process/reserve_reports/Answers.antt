@@ -1,6 +1,5 @@
 -- One process more has room.
-use Rattle.std.proofs.Common.{◌+◌, ◌≤◌, ◌∙◌, arith}
-use Rattle.std.specs.VecDeque.{deque_len, deque_capacity}
+use Rattle.std.proofs.Common.{◌≤◌, ◌∙◌, arith}
 use Rattle.kernel_process.specs.Parts.{process_state}
 use Rattle.kernel_process.specs.declared.process.ControlBlock.{ControlBlock}
 use Rattle.kernel_process.proofs.Rooms.{same_map, set_more}
@@ -13,7 +12,7 @@ loop-block-preserved c =
           ∙ c.loop-block.invariant.kept;
       active = same_map (λ (x : ControlBlock). x.active) c.loop-block.blocks c.loop-block.block-index c.block-item.result c.reserve_reports_of.new.block c.reserve_reports_of.ensures.active
           ∙ c.loop-block.invariant.active;
-      room = set_more (λ (x : ControlBlock). deque_len x.reports + c.args.most ≤ deque_capacity x.reports) c.loop-block.blocks c.loop-block.block-index c.reserve_reports_of.new.block
+      room = set_more (λ (x : ControlBlock). c.args.most ≤ x.reports.fits) c.loop-block.blocks c.loop-block.block-index c.reserve_reports_of.new.block
           c.loop-block.invariant.room (omega arith) c.in_ok-reserve_reports_of.ensures.room;
     }
 

@@ -1,6 +1,5 @@
 -- The processes before the index have room, and all are as before in what others see of them.
-use Rattle.std.proofs.Common.{◌≡◌, ℕ, ◌+◌, ◌<◌, ◌≤◌, map, get_or}
-use Rattle.std.specs.VecDeque.{deque_len, deque_capacity}
+use Rattle.std.proofs.Common.{◌≡◌, ℕ, ◌<◌, ◌≤◌, map, get_or}
 use Rattle.kernel_process.specs.Parts.{process_state}
 use Rattle.kernel_process.specs.declared.process.ControlBlock.{ControlBlock}
 use Rattle.kernel_process.proofs.process.reserve_reports.Given as goal
@@ -10,5 +9,5 @@ invariant-loop-block l =
     record {
       kept : map process_state l.blocks ≡ map process_state l.initial.blocks;
       active : map (λ (x : ControlBlock). x.active) l.blocks ≡ map (λ (x : ControlBlock). x.active) l.initial.blocks;
-      room : (k : ℕ) (d : ControlBlock) → k < l.block-index → deque_len (get_or l.blocks k d).reports + l.most ≤ deque_capacity (get_or l.blocks k d).reports;
+      room : (k : ℕ) (d : ControlBlock) → k < l.block-index → l.most ≤ (get_or l.blocks k d).reports.fits;
     }
