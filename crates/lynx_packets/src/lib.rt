@@ -1,4 +1,4 @@
-//! The packets that LYNX run-times send each other in messages, after Scott (TSE 1987), and their bytes in both directions.
+//! The packets that LYNX runtimes send each other in messages, after Scott (TSE 1987), and their bytes in both directions.
 #![tactic(auto)]
 
 mod fault;

@@ -3,7 +3,7 @@
 use crate::value::RtValue;
 use charlotte_calls::Items;
 
-/// What one LYNX run-time sends another in a message. The number is that of the request of which the packet speaks.
+/// What one LYNX runtime sends another in a message. The number is that of the request of which the packet speaks.
 #[derive(Debug, Drop)]
 pub enum RtPacket {
     /// A thread connects: the signature of the operation, and the arguments.

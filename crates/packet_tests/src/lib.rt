@@ -1,4 +1,4 @@
-//! Tests of run-time packets through their public calls.
+//! Tests of runtime packets through their public calls.
 #![tactic(auto)]
 
 #[cfg(test)]
