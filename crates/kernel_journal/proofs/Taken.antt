@@ -14,7 +14,7 @@ use Rattle.transcript_replay.specs.Course.{Course, IsRest, Leads, Refutes, comes
 use Rattle.transcript_replay.proofs.Rest.{leads-step}
 use Rattle.transcript_reader.specs.Lines.{Unread}
 use Rattle.transcript_reader.specs.Next.{Reads}
-use Rattle.transcript_reader.specs.declared.guess.PacketAhead.{PacketAhead}
+use Rattle.leading_lines.specs.declared.guess.PacketAhead.{PacketAhead}
 use Rattle.transcript_reading.specs.Kinds.{shown_step}
 use Rattle.transcript_reading.specs.Order.{Place, Entry}
 use Rattle.transcript_reading.specs.declared.line.LineKind.{LineKind}

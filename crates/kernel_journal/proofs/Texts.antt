@@ -1,5 +1,5 @@
 -- The texts of steps and of entries are lines that may come next.
-use Rattle.std.proofs.Common.{◌≡◌, ℕ, Bool, true, false, MatchBool, List, ◌++◌, append_assoc, codes, refl, ap, ◌∙◌, arith}
+use Rattle.std.proofs.Common.{◌≡◌, ℕ, Bool, true, false, MatchBool, List, ◌++◌, codes, refl, ap, ◌∙◌, arith}
 use Rattle.charlotte_packets.specs.Packets.{packet_picture, what_picture}
 use Rattle.charlotte_calls.specs.Ranges.{IsPid, IsStepInRange, IsU8, IsU64}
 use Rattle.charlotte_packets.specs.Ranges.{IsPictureInRange}
@@ -11,13 +11,14 @@ use Rattle.charlotte_text.specs.Reading.{parts}
 use Rattle.charlotte_text.specs.Spelling.{IsCall, call_text, number_text, process_text}
 use Rattle.transcript_lines.specs.Transcript.{packet_text, step_text}
 use Rattle.transcript_lines.specs.TranscriptText.{HasFewPacket}
-use Rattle.transcript_forms.specs.Spelling.{bare_step, HasShown}
-use Rattle.transcript_reader.specs.Ahead.{head_text}
+use Rattle.transcript_reading.specs.Spelling.{bare_step, HasShown}
+use Rattle.leading_lines.specs.Ahead.{head_text}
 use Rattle.transcript_reader.specs.Lines.{Unread}
 use Rattle.transcript_reader.specs.Next.{IsAhead, Reads}
-use Rattle.transcript_reader.specs.declared.guess.Ahead.TheVariants as heads
-use Rattle.transcript_reader.specs.declared.guess.CallAhead.{CallAhead}
-use Rattle.transcript_reader.specs.declared.guess.PacketAhead.{PacketAhead}
+use Rattle.leading_lines.specs.declared.guess.Ahead.TheVariants as heads
+use Rattle.leading_lines.specs.declared.guess.CallAhead.{CallAhead}
+use Rattle.leading_lines.specs.declared.guess.PacketAhead.{PacketAhead}
+use Rattle.leading_lines.proofs.Leading.{entry_then, stamp_text}
 use Rattle.transcript_reading.specs.Kinds.{shown_step}
 use Rattle.transcript_reading.specs.Order.{next}
 use Rattle.transcript_reading.specs.declared.line.LineKind.{LineKind}
@@ -70,14 +71,8 @@ step_ahead u s rest left shown fits texts e = record { texts = texts ∙ ap (par
 
 -- ---- entries
 
-same_entry : (a b c d p left : List ℕ) → (a ++ b ++ c ++ d) ++ (p ++ left) ≡ (a ++ (b ++ c ++ d ++ p)) ++ left
-same_entry a b c d p left = simp append_assoc
-
 entry_ahead : (texts : List (List ℕ)) (a b c d p rest left : List ℕ) → texts ≡ parts 10 ((a ++ b ++ c ++ d) ++ rest) → rest ≡ p ++ left → texts ≡ parts 10 ((a ++ (b ++ c ++ d ++ p)) ++ left)
-entry_ahead texts a b c d p rest left e f = e ∙ ap (parts 10) (ap (λ (t : List ℕ). (a ++ b ++ c ++ d) ++ t) f ∙ same_entry a b c d p left)
-
-abbrev stamp_text : ℕ → ℕ → List ℕ
-stamp_text stamp kernel = number_text stamp ++ codes " k" ++ number_text kernel
+entry_ahead texts a b c d p rest left e f = e ∙ ap (parts 10) (entry_then a b c d p rest left f)
 
 pub packet_ahead : (u : Unread) (a : PacketAhead) (packet : Packet) (rest left : List ℕ) → HasFewPacket u.version (what_picture packet.what) → IsU64 a.stamp → IsU8 a.kernel → IsU8 a.from → IsPictureInRange (packet_picture packet)
     → u.texts ≡ parts 10 (head_text (heads.Packet a) ++ rest) → rest ≡ packet_text (what_picture packet.what) ++ left → IsAhead u (line.PacketEntry a.stamp a.kernel a.from (told_packet (what_picture packet.what))) left

@@ -9,7 +9,7 @@ use Rattle.kernel_nodes.specs.declared.nodes.Nodes.{Nodes}
 use Rattle.transcript_replay.specs.Course.{Refutes}
 use Rattle.transcript_reader.specs.Lines.{Unread, next_line}
 use Rattle.transcript_reader.specs.Next.{Reads}
-use Rattle.transcript_reader.specs.declared.guess.PacketAhead.{PacketAhead}
+use Rattle.leading_lines.specs.declared.guess.PacketAhead.{PacketAhead}
 use Rattle.transcript_reader.specs.declared.line.Line.{Line}
 use Rattle.transcript_reading.specs.Kinds.{shown_step}
 use Rattle.transcript_reading.specs.declared.line.LineKind.{LineKind}

@@ -7,8 +7,8 @@ ghost use Rattle.kernel_journal.specs.Expected.{ReadsDue, ReadsFirst, Stands, To
 ghost use Rattle.charlotte_text.specs.Reading.{parts};
 ghost use Rattle.charlotte_text.specs.Spelling.{line_feed};
 ghost use Rattle.kernel_nodes.specs.Nodes.{AreNodes};
-ghost use Rattle.transcript_reader.specs.Ahead.{head_text};
-ghost use Rattle.transcript_reader.specs.declared.guess.Ahead.TheVariants as heads;
+ghost use Rattle.leading_lines.specs.Ahead.{head_text};
+ghost use Rattle.leading_lines.specs.declared.guess.Ahead.TheVariants as heads;
 ghost use Rattle.transcript_reading.specs.declared.line.LineKind.TheVariants as line;
 
 use crate::body::Body;

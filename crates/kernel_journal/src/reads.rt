@@ -4,9 +4,9 @@ ghost use Rattle.charlotte_packets.specs.Packets.{what_picture};
 ghost use Rattle.charlotte_text.specs.Reading.{parts};
 ghost use Rattle.charlotte_text.specs.Spelling.{line_feed};
 ghost use Rattle.kernel_journal.specs.Expected.{told_packet};
-ghost use Rattle.transcript_reader.specs.Ahead.{head_text};
+ghost use Rattle.leading_lines.specs.Ahead.{head_text};
 ghost use Rattle.transcript_reader.specs.Next.{Reads};
-ghost use Rattle.transcript_reader.specs.declared.guess.Ahead.TheVariants as heads;
+ghost use Rattle.leading_lines.specs.declared.guess.Ahead.TheVariants as heads;
 ghost use Rattle.transcript_reading.specs.Kinds.{shown_step};
 ghost use Rattle.transcript_reading.specs.declared.line.LineKind.TheVariants as line;
 

@@ -2,7 +2,7 @@
 ghost use Rattle.std.specs.Prelude.{◌↔◌, IsTrue};
 ghost use Rattle.charlotte_packets.specs.Packets.{what_picture};
 ghost use Rattle.transcript_lines.specs.TranscriptText.{HasFewPacket, IsFew, IsShownReport};
-ghost use Rattle.transcript_forms.specs.Spelling.{HasShown};
+ghost use Rattle.transcript_reading.specs.Spelling.{HasShown};
 ghost use Rattle.transcript_reading.specs.Kinds.{shown_step};
 
 use charlotte_calls::{Outcome, Report, ServiceStep, Way};

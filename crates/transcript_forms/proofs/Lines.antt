@@ -15,7 +15,7 @@ use Rattle.transcript_reading.specs.declared.line.LineKind.{LineKind}
 use Rattle.transcript_reading.specs.declared.line.LineKind.TheVariants as kind
 use Rattle.transcript_reading.proofs.Packets.{packet_name, packet_rest}
 use Rattle.transcript_reading.proofs.Steps.{step_name, step_rest}
-use Rattle.transcript_forms.specs.Spelling.{bare_step, IsKind}
+use Rattle.transcript_reading.specs.Spelling.{bare_step, IsKind}
 use Rattle.transcript_forms.proofs.Packets.{packet_takes}
 use Rattle.transcript_forms.proofs.Steps.{step_takes}
 use Rattle.transcript_forms.proofs.Taking.{first_ok, only_ok, none_ok, named_ok, cons_is, u8_takes, u32_takes, u64_takes, numbered_takes, kernel_takes, pid_takes, waits_text, waits_takes}

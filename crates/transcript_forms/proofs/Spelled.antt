@@ -26,7 +26,7 @@ use Rattle.transcript_reading.proofs.Names.{number_word, wide8, wide32, u8_again
 use Rattle.transcript_reading.proofs.Packets.{packet_name, packet_rest, packet_spelled, packet_again}
 use Rattle.transcript_reading.proofs.Steps.{step_spelled, step_again}
 use Rattle.transcript_reading.proofs.Words.{IsWord, IsFree, IsSpelled, word_codes, spelled_words, spelled_free, same_text, one_word, word_before}
-use Rattle.transcript_forms.specs.Spelling.{bare_step, kind_text, HasShown, IsKind}
+use Rattle.transcript_reading.specs.Spelling.{bare_step, kind_text, HasShown, IsKind}
 use Rattle.transcript_forms.proofs.Lines.{kind_words, words_take}
 use Rattle.transcript_forms.proofs.Packets.{few}
 use Rattle.transcript_forms.proofs.Taking.{waits_text}

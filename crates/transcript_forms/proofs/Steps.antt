@@ -24,7 +24,7 @@ use Rattle.transcript_reading.specs.declared.line.ServiceLine.{ServiceLine}
 use Rattle.transcript_reading.specs.declared.line.ServiceLine.TheVariants as service
 use Rattle.transcript_reading.proofs.Packets.{end_numbers}
 use Rattle.transcript_reading.proofs.Steps.{step_name, step_rest, result_words, suffix_words, report}
-use Rattle.transcript_forms.specs.Spelling.{bare_step, HasShown}
+use Rattle.transcript_reading.specs.Spelling.{bare_step, HasShown}
 use Rattle.transcript_forms.proofs.Packets.{few, end_number_takes}
 use Rattle.transcript_forms.proofs.Taking.{first_ok, only_ok, none_ok, named_ok, cons_is, u32_takes, pid_takes, cause_takes, outcome_text, outcome_takes, text_takes}
 

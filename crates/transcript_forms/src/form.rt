@@ -1,7 +1,7 @@
 //! What a line shows, by its form.
 ghost use Rattle.std.specs.Prelude.{◌≡◌, Ok, IfOk};
 ghost use Rattle.charlotte_text.specs.Reading.{words};
-ghost use Rattle.transcript_forms.specs.Spelling.{kind_text, IsKind};
+ghost use Rattle.transcript_reading.specs.Spelling.{kind_text, IsKind};
 ghost use Rattle.transcript_reading.specs.declared.line.LineKind.{LineKind as ALineKind};
 ghost use Rattle.transcript_reading.specs.Forms.{only_of, u8_of, home_of, wire_of, note_of, named_line_of, kind_of};
 

@@ -12,7 +12,7 @@ use Rattle.transcript_reading.specs.Reading.{Told, ended_lines, lines_of, kinds_
 use Rattle.transcript_reading.specs.declared.line.LineKind.{LineKind}
 use Rattle.transcript_reading.specs.declared.line.LineKind.TheVariants as kind
 use Rattle.transcript_reading.proofs.Texts.{split_more}
-use Rattle.transcript_forms.specs.Spelling.{kind_text}
+use Rattle.transcript_reading.specs.Spelling.{kind_text}
 use Rattle.transcript_forms.proofs.Spelled.{text_again, text_free}
 use Rattle.transcript_reader.specs.Lines.{version_after}
 use Rattle.transcript_reader.specs.Text.{AreKinds, kinds_text, numbered, AreLines, told_by_lines}

@@ -1,7 +1,6 @@
 pub mod Agree
 pub mod Clauses
 mod Later
-mod Leading
 mod Next
 pub mod Texts
 pub mod Told

@@ -3,7 +3,7 @@ use Rattle.std.proofs.Common.{◌≡◌, eqb, Bool, true, false, MatchBool, ℕ,
 use Rattle.std.proofs.lemmas.Bool.{lt-ltb}
 use Rattle.std.proofs.lemmas.List.Splits.{slice_split_at}
 use Rattle.charlotte_text.specs.Reading.{parts}
-use Rattle.transcript_forms.specs.Spelling.{IsKind, kind_text}
+use Rattle.transcript_reading.specs.Spelling.{IsKind, kind_text}
 use Rattle.transcript_forms.proofs.Spelled.{text_free}
 use Rattle.transcript_lines.specs.Transcript.{note_text}
 use Rattle.transcript_lines.specs.TranscriptText.{IsNoteInRange}
@@ -82,8 +82,9 @@ note_next old new before number bytes left rest n place texts e f fits later is 
     ∙ ap (λ (u : Unread). Ok (Some (record { number = u.lines; what = kind.Note n }, u))) (sym is)
     ∙ ap (λ (m : ℕ). Ok (Some (record { number = m; what = kind.Note n }, new))) (sym counted)
 
--- ---- any
+-- ---- lines of entries
 
+-- a line that is ahead is read
 pub reads : (u : Unread) (k : LineKind) (bytes left rest : List ℕ) → u.place ≡ Entry → u.texts ≡ parts 10 bytes → left ≡ 10 ∷ rest → IsAhead u k left → Reads u k (passed u rest)
 reads u k bytes left rest among texts e is = record {
   line = next_stood u u.lines u.version u.place bytes (kind_text k) rest k u.place u.version (λ i. record { lines = u.lines; version = u.version; place = u.place; texts = texts i })

@@ -11,7 +11,7 @@ use Rattle.transcript_reading.specs.Forms.{kind_of}
 use Rattle.transcript_reading.specs.Order.{Place, Start, Version, Processes, Wires, Entry, Noted, Over, next, follows}
 use Rattle.transcript_reading.specs.declared.line.LineKind.{LineKind}
 use Rattle.transcript_reader.specs.Lines.{version_after, stand, is_ended, with_all, with_first, then_lines, lines_from, lines_read}
-use Rattle.transcript_forms.specs.Spelling.{kind_text, IsKind}
+use Rattle.transcript_reading.specs.Spelling.{kind_text, IsKind}
 use Rattle.transcript_reader.specs.Text.{kind_line, AreKinds, version_behind, kinds_text, numbered, AreLines, IsBadLine}
 use Rattle.transcript_reader.specs.declared.line.Line.{Line}
 use Rattle.transcript_forms.proofs.Spelled.{text_takes, text_again, text_free}

@@ -36,7 +36,7 @@ use Rattle.transcript_reading.specs.declared.line.LineKind.TheVariants as kind
 use Rattle.transcript_reading.specs.declared.line.ServiceLine.{ServiceLine}
 use Rattle.transcript_reading.specs.declared.line.ServiceLine.TheVariants as service
 use Rattle.transcript_forms.proofs.Spelled.{call_range, text_takes, text_again}
-use Rattle.transcript_forms.specs.Spelling.{bare_step, kind_text, IsKind}
+use Rattle.transcript_reading.specs.Spelling.{bare_step, kind_text, IsKind}
 use Rattle.transcript_reader.specs.Text.{kinds_text}
 use Rattle.transcript_reading.proofs.Order.{IsThere}
 

@@ -1,4 +1,3 @@
-pub mod Ahead
 pub mod Lines
 pub mod Next
 pub mod Text

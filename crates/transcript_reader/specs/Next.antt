@@ -2,7 +2,7 @@
 use Rattle.std.specs.Prelude.{◌≡◌, ◌+◌, ◌++◌, ℕ, Bool, true, false, List, None, Some, Result, Ok, Err}
 use Rattle.charlotte_text.specs.Reading.{parts}
 use Rattle.charlotte_text.specs.Spelling.{line_feed}
-use Rattle.transcript_forms.specs.Spelling.{IsKind, kind_text}
+use Rattle.transcript_reading.specs.Spelling.{IsKind, kind_text}
 use Rattle.transcript_reading.specs.Order.{Entry, next}
 use Rattle.transcript_reading.specs.declared.line.LineKind.{LineKind}
 use Rattle.transcript_reader.specs.Lines.{GivesNext, Unread, next_line}

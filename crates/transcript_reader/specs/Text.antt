@@ -6,7 +6,7 @@ use Rattle.transcript_lines.specs.Transcript.{line}
 use Rattle.transcript_reading.specs.Order.{Place, Start, Over, next, follows}
 use Rattle.transcript_reading.specs.Reading.{Told, with_lines, nothing_told}
 use Rattle.transcript_reading.specs.declared.line.LineKind.{LineKind}
-use Rattle.transcript_forms.specs.Spelling.{kind_text, IsKind}
+use Rattle.transcript_reading.specs.Spelling.{kind_text, IsKind}
 use Rattle.transcript_reader.specs.Lines.{version_after}
 use Rattle.transcript_reader.specs.declared.fault.LineFault.{LineFault}
 use Rattle.transcript_reader.specs.declared.fault.LineFault.TheVariants.{BadLine, NoMemory}

@@ -1,42 +1,11 @@
 //! What stands behind a value in a text that begins with it. `None` promises nothing: who expects the value may read the text in another way.
-ghost use Rattle.std.specs.Prelude.{◌≡◌, ◌<◌, ◌≤◌, ◌∷◌, ◌++◌, IfSome};
+ghost use Rattle.std.specs.Prelude.{◌≡◌, ◌<◌, ◌++◌, IfSome};
 ghost use Rattle.std.specs.List.{flat_map};
 ghost use Rattle.charlotte_text.specs.Spelling.{byte_text, bytes_text, end_text, ends_text, number_text, process_text, side_text, way_text};
 
-use crate::number::leading_number;
 use charlotte_calls::{EndId, Pid, Side, Way};
 use charlotte_text::{hex_digit, is_plain};
-
-/// Behind a word.
-#[inline(always)]
-pub(crate) fn behind_word<'a>(text: &'a [u8], word: &[u8]) -> Option<&'a [u8]>
-    ensures { IfSome result (λ rest. text.now ≡ word.now ++ rest.now) }
-{
-    text.strip_prefix(word)
-}
-
-/// Behind a word of a few bytes, which are compared one by one.
-#[inline(always)]
-pub(crate) fn behind_short<'a>(text: &'a [u8], word: &[u8]) -> Option<&'a [u8]>
-    ensures { IfSome result (λ rest. text.now ≡ word.now ++ rest.now) }
-{
-    let mut rest = text;
-    for byte in word {
-        rest = behind_byte(rest, *byte)?;
-    }
-    Some(rest)
-}
-
-/// Behind a byte.
-#[inline(always)]
-pub(crate) fn behind_byte(text: &[u8], byte: u8) -> Option<&[u8]>
-    ensures { IfSome result (λ rest. text.now ≡ byte ∷ rest.now) }
-{
-    match text {
-        [first, rest @ ..] if *first == byte => Some(rest),
-        _ => None,
-    }
-}
+use leading_lines::{behind_byte, behind_short, leading_number};
 
 /// Behind a decimal number. Most have one digit.
 #[inline(always)]

@@ -17,26 +17,18 @@
 #![tactic(auto)]
 
 mod behind;
-mod call;
 mod fault;
-mod guess;
 mod law;
 mod line;
-mod number;
 mod packet;
 mod place;
 mod read;
 mod reader;
 mod step;
-mod values;
-mod whole_line;
-mod whole_packet;
-mod whole_step;
 
-pub use call::read_leading_call;
 pub use fault::LineFault;
-pub use guess::{Ahead, CallAhead, PacketAhead};
 pub use law::{lines_are_told, told_is_written};
+pub use leading_lines::{Ahead, CallAhead, PacketAhead, read_leading_call};
 pub use line::Line;
 pub use packet::behind_packet;
 pub use place::Place;

@@ -4,10 +4,11 @@ ghost use Rattle.charlotte_packets.specs.Packets.{what_picture};
 ghost use Rattle.charlotte_text.specs.Spelling.{bytes_text, end_text, colon};
 ghost use Rattle.transcript_lines.specs.Transcript.{numbers_behind, numbers_text, packet_text, value_text, values_text};
 
-use crate::behind::{behind_byte, behind_bytes, behind_end, behind_number, behind_word};
+use crate::behind::{behind_bytes, behind_end, behind_number};
 use crate::step::{behind_count, behind_numbered, behind_on};
 use charlotte_calls::EndId;
 use charlotte_packets::{MovingPicture, What};
+use leading_lines::{behind_byte, behind_word};
 use transcript_lines::value_fields;
 
 /// What a packet tells of an activity: its number, and the kernel and the hops of the opposite end.

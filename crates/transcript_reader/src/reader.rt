@@ -2,19 +2,17 @@
 ghost use Rattle.std.specs.Prelude.{◌≡◌, ◌↔◌, ◌+◌, ◌<◌, ◌++◌, IfSome, IsTrue, MatchBool, MatchOption, Ok, Some, length};
 ghost use Rattle.charlotte_text.specs.Reading.{Gives, parts};
 ghost use Rattle.charlotte_text.specs.Spelling.{line_feed};
+ghost use Rattle.leading_lines.specs.Ahead.{head_text};
 ghost use Rattle.transcript_reader.specs.Lines.{GivesNext, is_ended, next_line, seen, stand, unread, version_after};
-ghost use Rattle.transcript_reader.specs.Ahead.{head_text};
 ghost use Rattle.transcript_reader.specs.Next.{GivesSkipped, IsAhead, Reads, Skips};
 ghost use Rattle.transcript_reading.specs.Order.{Entry, Noted};
 ghost use Rattle.transcript_reading.specs.declared.line.LineKind.{LineKind as AKind};
 
-use crate::behind::behind_byte;
 use crate::fault::LineFault;
-use crate::guess::{Ahead, look_ahead};
 use crate::line::Line;
 use crate::place::{Place, next_place};
-use crate::whole_line::{leading_line, leading_note};
 use charlotte_text::{Fault, cut};
+use leading_lines::{Ahead, behind_byte, leading_line, leading_note, look_ahead};
 use std::marker::Model;
 use transcript_forms::read_kind;
 use transcript_reading::LineKind;

@@ -4,10 +4,10 @@ ghost use Rattle.charlotte_text.specs.Spelling.{end_text, ends_text, process_tex
 ghost use Rattle.transcript_lines.specs.Transcript.{cause_text, numbers_text, report_text, result_text, step_text, suffix_text};
 
 use crate::behind::{
-    behind_byte, behind_bytes, behind_end, behind_ends, behind_number, behind_process,
-    behind_short, behind_way, behind_word,
+    behind_bytes, behind_end, behind_ends, behind_number, behind_process, behind_way,
 };
 use charlotte_calls::{Cause, EndId, Outcome, Pid, Report, ServiceStep, Way};
+use leading_lines::{behind_byte, behind_short, behind_word};
 use transcript_lines::cause_name;
 
 /// What stands behind a service step, as `. take 0.0a 1 p1 late`, in a text that begins with it. `None` promises nothing.

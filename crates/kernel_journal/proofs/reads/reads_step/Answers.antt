@@ -1,5 +1,5 @@
 use Rattle.std.proofs.Common.{ℕ, refl, subst}
-use Rattle.transcript_forms.specs.Spelling.{HasShown}
+use Rattle.transcript_reading.specs.Spelling.{HasShown}
 use Rattle.transcript_reader.specs.Next.{IsAhead}
 use Rattle.transcript_reading.specs.Kinds.{shown_step}
 use Rattle.transcript_reading.specs.declared.line.LineKind.TheVariants as line
