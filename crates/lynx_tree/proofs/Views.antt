@@ -22,25 +22,25 @@ exprs_are : {n : _} (row : expr.Row_of-Expr n) → expr_trees row ≡ expr_list 
 exprs_are expr.end_of-Expr = refl
 exprs_are (expr.more_of-Expr e rest) = ap (trees.more_exprs (expr_tree e)) (exprs_are rest)
 
-sums_are : {n : _} (row : expr.Row_of-Expr-Sum-1-2 n) → sum_tail row ≡ sum_list (expr.items-the_row-Expr-Sum-1-2 n row)
-sums_are expr.end_of-Expr-Sum-1-2 = refl
-sums_are (expr.more_of-Expr-Sum-1-2 sign e rest) = ap (trees.more_sums sign (expr_tree e)) (sums_are rest)
+sums_are : {n : _} (row : expr.Row_of-Expr-Sums-1-2 n) → sum_tail row ≡ sum_list (expr.items-the_row-Expr-Sums-1-2 n row)
+sums_are expr.end_of-Expr-Sums-1-2 = refl
+sums_are (expr.more_of-Expr-Sums-1-2 sign e rest) = ap (trees.more_sums sign (expr_tree e)) (sums_are rest)
 
-terms_are : {n : _} (row : expr.Row_of-Expr-Term-1-2 n) → term_tail row ≡ term_list (expr.items-the_row-Expr-Term-1-2 n row)
-terms_are expr.end_of-Expr-Term-1-2 = refl
-terms_are (expr.more_of-Expr-Term-1-2 sign e rest) = ap (trees.more_terms sign (expr_tree e)) (terms_are rest)
+terms_are : {n : _} (row : expr.Row_of-Expr-Terms-1-2 n) → term_tail row ≡ term_list (expr.items-the_row-Expr-Terms-1-2 n row)
+terms_are expr.end_of-Expr-Terms-1-2 = refl
+terms_are (expr.more_of-Expr-Terms-1-2 sign e rest) = ap (trees.more_terms sign (expr_tree e)) (terms_are rest)
 
-pub expr_tree-Or : (v : Vec expr.Expr) → expr_tree (expr.Or v) ≡ trees.Or (expr_list v.items)
+pub expr_tree-Or : (v : Box (Vec expr.Expr)) → expr_tree (expr.Or v) ≡ trees.Or (expr_list v.value.items)
 expr_tree-Or v = search (rules, exprs_are, the_lemmas)
 
-pub expr_tree-And : (v : Vec expr.Expr) → expr_tree (expr.And v) ≡ trees.And (expr_list v.items)
+pub expr_tree-And : (v : Box (Vec expr.Expr)) → expr_tree (expr.And v) ≡ trees.And (expr_list v.value.items)
 expr_tree-And v = search (rules, exprs_are, the_lemmas)
 
-pub expr_tree-Term : (first : Box expr.Expr) (v : Vec (TermSign × expr.Expr)) → expr_tree (expr.Term first v) ≡ trees.Term (expr_tree first.value) (term_list v.items)
-expr_tree-Term first v = search (rules, terms_are, the_lemmas)
+pub expr_tree-Terms : (first : Box expr.Expr) (v : Box (Vec (TermSign × expr.Expr))) → expr_tree (expr.Terms first v) ≡ trees.Term (expr_tree first.value) (term_list v.value.items)
+expr_tree-Terms first v = search (rules, terms_are, the_lemmas)
 
-pub expr_tree-Sum : (first : Box expr.Expr) (v : Vec (Sign × expr.Expr)) → expr_tree (expr.Sum first v) ≡ trees.Sum (expr_tree first.value) (sum_list v.items)
-expr_tree-Sum first v = search (rules, sums_are, the_lemmas)
+pub expr_tree-Sums : (first : Box expr.Expr) (v : Box (Vec (Sign × expr.Expr))) → expr_tree (expr.Sums first v) ≡ trees.Sum (expr_tree first.value) (sum_list v.value.items)
+expr_tree-Sums first v = search (rules, sums_are, the_lemmas)
 
 -- ---- the members of a vector inside a statement
 

@@ -106,35 +106,34 @@ choice_tree condition then (Some otherwise) = IfElse condition then otherwise
 
 abbrev mutual
   pub expr_tree : expr.Expr → ExprTree
-  expr_tree (expr.Or' shape all) = Or (expr_trees all)
-  expr_tree (expr.And' shape all) = And (expr_trees all)
-  expr_tree (expr.Relation' p first sign q second) = Relation (expr_tree first) sign (expr_tree second)
-  expr_tree (expr.Sum' p first shape rest) = Sum (expr_tree first) (sum_tail rest)
-  expr_tree (expr.Term' p first shape rest) = Term (expr_tree first) (term_tail rest)
+  expr_tree (expr.Or' p shape all) = Or (expr_trees all)
+  expr_tree (expr.And' p shape all) = And (expr_trees all)
+  expr_tree (expr.Relation' sign p first q second) = Relation (expr_tree first) sign (expr_tree second)
+  expr_tree (expr.Sum' sign p first q second) = Sum (expr_tree first) (more_sums sign (expr_tree second) no_sums)
+  expr_tree (expr.Sums' p first q shape rest) = Sum (expr_tree first) (sum_tail rest)
+  expr_tree (expr.Term' sign p first q second) = Term (expr_tree first) (more_terms sign (expr_tree second) no_terms)
+  expr_tree (expr.Terms' p first q shape rest) = Term (expr_tree first) (term_tail rest)
   expr_tree (expr.Minus' p inner) = Minus (expr_tree inner)
   expr_tree (expr.Not' p inner) = Not (expr_tree inner)
   expr_tree (expr.Number n) = Number n
   expr_tree (expr.Text inside) = Text inside
   expr_tree expr.True = True
   expr_tree expr.False = False
-  expr_tree (expr.Name' name index) = name_tree name index
+  expr_tree (expr.Name name) = Name name
+  expr_tree (expr.Member' name p index) = Member name.value (expr_tree index)
   expr_tree (expr.Bracket' p inner) = Bracket (expr_tree inner)
-
-  pub name_tree : List ℕ → expr.Held-Expr-Name-1 → ExprTree
-  name_tree name expr.None' = Name name
-  name_tree name (expr.Some' p index) = Member name (expr_tree index)
 
   pub expr_trees : {m : _} → expr.Row_of-Expr m → ExprTrees
   expr_trees expr.end_of-Expr = no_exprs
   expr_trees (expr.more_of-Expr e rest) = more_exprs (expr_tree e) (expr_trees rest)
 
-  pub sum_tail : {m : _} → expr.Row_of-Expr-Sum-1-2 m → SumTail
-  sum_tail expr.end_of-Expr-Sum-1-2 = no_sums
-  sum_tail (expr.more_of-Expr-Sum-1-2 sign e rest) = more_sums sign (expr_tree e) (sum_tail rest)
+  pub sum_tail : {m : _} → expr.Row_of-Expr-Sums-1-2 m → SumTail
+  sum_tail expr.end_of-Expr-Sums-1-2 = no_sums
+  sum_tail (expr.more_of-Expr-Sums-1-2 sign e rest) = more_sums sign (expr_tree e) (sum_tail rest)
 
-  pub term_tail : {m : _} → expr.Row_of-Expr-Term-1-2 m → TermTail
-  term_tail expr.end_of-Expr-Term-1-2 = no_terms
-  term_tail (expr.more_of-Expr-Term-1-2 sign e rest) = more_terms sign (expr_tree e) (term_tail rest)
+  pub term_tail : {m : _} → expr.Row_of-Expr-Terms-1-2 m → TermTail
+  term_tail expr.end_of-Expr-Terms-1-2 = no_terms
+  term_tail (expr.more_of-Expr-Terms-1-2 sign e rest) = more_terms sign (expr_tree e) (term_tail rest)
 
 -- the tree of a boxed expression
 abbrev pub boxed_tree : Box expr.Expr → ExprTree

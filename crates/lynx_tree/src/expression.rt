@@ -2,26 +2,38 @@
 
 use lynx_lexer::{IdentRef, Sign, TextRef};
 
-/// An expression. A chain of operators of one rank is one list of at least two members.
+/// An expression. A chain of operators of one rank has at least two members. It takes 24 bytes: the sign of two members lies beside the tag.
 #[derive(Drop)]
 pub enum Expr<'a> {
-    Or(Vec<Expr<'a>>),
-    And(Vec<Expr<'a>>),
+    Or(Box<Vec<Expr<'a>>>),
+    And(Box<Vec<Expr<'a>>>),
     /// `first` and `second` are compared: `=`, `<>`, `<`, `<=`, `>` or `>=`.
     Relation {
-        first: Box<Expr<'a>>,
         sign: Sign,
+        first: Box<Expr<'a>>,
         second: Box<Expr<'a>>,
     },
-    /// `first`, and then members behind `+` or `-`.
+    /// `first`, and one member behind `+` or `-`.
     Sum {
+        sign: Sign,
         first: Box<Expr<'a>>,
-        rest: Vec<(Sign, Expr<'a>)>,
+        second: Box<Expr<'a>>,
     },
-    /// `first`, and then members behind `*`, `/` or `mod`.
-    Term {
+    /// `first`, and more members, each behind `+` or `-`.
+    Sums {
         first: Box<Expr<'a>>,
-        rest: Vec<(TermSign, Expr<'a>)>,
+        rest: Box<Vec<(Sign, Expr<'a>)>>,
+    },
+    /// `first`, and one member behind `*`, `/` or `mod`.
+    Term {
+        sign: TermSign,
+        first: Box<Expr<'a>>,
+        second: Box<Expr<'a>>,
+    },
+    /// `first`, and more members, each behind `*`, `/` or `mod`.
+    Terms {
+        first: Box<Expr<'a>>,
+        rest: Box<Vec<(TermSign, Expr<'a>)>>,
     },
     Minus(Box<Expr<'a>>),
     Not(Box<Expr<'a>>),
@@ -29,10 +41,12 @@ pub enum Expr<'a> {
     Text(TextRef<'a>),
     True,
     False,
-    /// A variable, or a member of a row.
-    Name {
-        name: IdentRef<'a>,
-        index: Option<Box<Expr<'a>>>,
+    /// A variable.
+    Name(IdentRef<'a>),
+    /// A member of a row.
+    Member {
+        name: Box<IdentRef<'a>>,
+        index: Box<Expr<'a>>,
     },
     /// An expression in brackets.
     Bracket(Box<Expr<'a>>),
