@@ -21,17 +21,17 @@ pub fn one<'a>(alloc: Global, first: Expr<'a>) -> Result<Vec<Expr<'a>>, AllocErr
 }
 
 #[tactic(auto, using(crate::proofs::Made::made))]
-pub fn or_of<'a>(members: Vec<Expr<'a>>) -> Expr<'a>
-    ensures { expr_tree result ≡ trees.Or (exprs_of (map expr_tree members.entry.items)) }
+pub fn or_of<'a>(alloc: Global, members: Vec<Expr<'a>>) -> Result<Expr<'a>, Refusal>
+    ensures { Makes (trees.Or (exprs_of (map expr_tree members.entry.items))) result }
 {
-    Expr::Or(members)
+    Ok(Expr::Or(Box::new(alloc, members)?))
 }
 
 #[tactic(auto, using(crate::proofs::Made::made))]
-pub fn and_of<'a>(members: Vec<Expr<'a>>) -> Expr<'a>
-    ensures { expr_tree result ≡ trees.And (exprs_of (map expr_tree members.entry.items)) }
+pub fn and_of<'a>(alloc: Global, members: Vec<Expr<'a>>) -> Result<Expr<'a>, Refusal>
+    ensures { Makes (trees.And (exprs_of (map expr_tree members.entry.items))) result }
 {
-    Expr::And(members)
+    Ok(Expr::And(Box::new(alloc, members)?))
 }
 
 #[tactic(auto, using(crate::proofs::Made::made))]
@@ -43,33 +43,62 @@ pub fn relation_of<'a>(
 ) -> Result<Expr<'a>, Refusal>
     ensures { Makes (trees.Relation (boxed_tree first.entry) sign (expr_tree second.entry)) result }
 {
+    let second = Box::new(alloc, second)?;
     Ok(Expr::Relation {
-        first,
         sign,
-        second: Box::new(alloc, second)?,
+        first,
+        second,
     })
 }
 
 /// A sum, or its first member where it has no other.
 #[tactic(auto, using(crate::proofs::Made::made))]
-pub fn sum_of<'a>(first: Box<Expr<'a>>, rest: Vec<(Sign, Expr<'a>)>) -> Expr<'a>
-    ensures { expr_tree result ≡ sum_of (boxed_tree first.entry) (map (λ m. (m.0, expr_tree m.1)) rest.entry.items) }
+pub fn sum_of<'a>(
+    alloc: Global,
+    first: Box<Expr<'a>>,
+    mut rest: Vec<(Sign, Expr<'a>)>,
+) -> Result<Expr<'a>, Refusal>
+    ensures { Makes (sum_of (boxed_tree first.entry) (map (λ m. (m.0, expr_tree m.1)) rest.entry.items)) result }
 {
-    if rest.is_empty() {
-        return Box::into_inner(first);
+    if rest.len() > 1 {
+        rest.shrink_to_fit();
+        let rest = Box::new(alloc, rest)?;
+        return Ok(Expr::Sums { first, rest });
     }
-    Expr::Sum { first, rest }
+    let Some((sign, second)) = rest.pop() else {
+        return Ok(Box::into_inner(first));
+    };
+    let second = Box::new(alloc, second)?;
+    Ok(Expr::Sum {
+        sign,
+        first,
+        second,
+    })
 }
 
 /// A term, or its first member where it has no other.
 #[tactic(auto, using(crate::proofs::Made::made))]
-pub fn term_of<'a>(first: Box<Expr<'a>>, rest: Vec<(TermSign, Expr<'a>)>) -> Expr<'a>
-    ensures { expr_tree result ≡ term_of (boxed_tree first.entry) (map (λ m. (m.0, expr_tree m.1)) rest.entry.items) }
+pub fn term_of<'a>(
+    alloc: Global,
+    first: Box<Expr<'a>>,
+    mut rest: Vec<(TermSign, Expr<'a>)>,
+) -> Result<Expr<'a>, Refusal>
+    ensures { Makes (term_of (boxed_tree first.entry) (map (λ m. (m.0, expr_tree m.1)) rest.entry.items)) result }
 {
-    if rest.is_empty() {
-        return Box::into_inner(first);
+    if rest.len() > 1 {
+        rest.shrink_to_fit();
+        let rest = Box::new(alloc, rest)?;
+        return Ok(Expr::Terms { first, rest });
     }
-    Expr::Term { first, rest }
+    let Some((sign, second)) = rest.pop() else {
+        return Ok(Box::into_inner(first));
+    };
+    let second = Box::new(alloc, second)?;
+    Ok(Expr::Term {
+        sign,
+        first,
+        second,
+    })
 }
 
 #[tactic(auto, using(crate::proofs::Made::made))]
@@ -95,8 +124,16 @@ pub fn bracket_of<'a>(inner: Box<Expr<'a>>) -> Expr<'a>
 
 /// A variable, or a member of a row.
 #[tactic(auto, using(crate::proofs::Made::made))]
-pub fn named_of<'a>(name: IdentRef<'a>, index: Option<Box<Expr<'a>>>) -> Expr<'a>
-    ensures { expr_tree result ≡ named_of name.entry (option_map boxed_tree index.entry) }
+pub fn named_of<'a>(
+    alloc: Global,
+    name: IdentRef<'a>,
+    index: Option<Box<Expr<'a>>>,
+) -> Result<Expr<'a>, Refusal>
+    ensures { Makes (named_of name.entry (option_map boxed_tree index.entry)) result }
 {
-    Expr::Name { name, index }
+    let Some(index) = index else {
+        return Ok(Expr::Name(name));
+    };
+    let name = Box::new(alloc, name)?;
+    Ok(Expr::Member { name, index })
 }

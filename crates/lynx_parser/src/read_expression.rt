@@ -82,7 +82,8 @@ impl<'t, 'a> Reader<'t, 'a> {
         let mut members = one(self.alloc(), first)?;
         self.advance();
         members.push(self.conj(room)?)?;
-        Ok(or_of(self.disjuncts(room, members)?))
+        let members = self.disjuncts(room, members)?;
+        or_of(self.alloc(), members)
     }
 
     /// Reads what follows each further `or`.
@@ -118,7 +119,8 @@ impl<'t, 'a> Reader<'t, 'a> {
         let mut members = one(self.alloc(), first)?;
         self.advance();
         members.push(self.rel(room)?)?;
-        Ok(and_of(self.conjuncts(room, members)?))
+        let members = self.conjuncts(room, members)?;
+        and_of(self.alloc(), members)
     }
 
     /// Reads what follows each further `and`.
@@ -168,7 +170,7 @@ impl<'t, 'a> Reader<'t, 'a> {
         }
         let first = Box::new(self.alloc(), first)?;
         let rest = self.summands(room)?;
-        Ok(sum_of(first, rest))
+        sum_of(self.alloc(), first, rest)
     }
 
     /// Reads operators and what follows each.
@@ -185,7 +187,6 @@ impl<'t, 'a> Reader<'t, 'a> {
             self.advance();
             rest.push((sign, self.term(room)?))?;
         }
-        rest.shrink_to_fit();
         Ok(rest)
     }
 
@@ -200,7 +201,7 @@ impl<'t, 'a> Reader<'t, 'a> {
         }
         let first = Box::new(self.alloc(), first)?;
         let rest = self.factors(room)?;
-        Ok(term_of(first, rest))
+        term_of(self.alloc(), first, rest)
     }
 
     /// Reads operators and what follows each.
@@ -217,7 +218,6 @@ impl<'t, 'a> Reader<'t, 'a> {
             self.advance();
             rest.push((sign, self.unary(room)?))?;
         }
-        rest.shrink_to_fit();
         Ok(rest)
     }
 
@@ -275,7 +275,7 @@ impl<'t, 'a> Reader<'t, 'a> {
     {
         let name = self.name()?;
         let index = self.index(room)?;
-        Ok(named_of(name, index))
+        named_of(self.alloc(), name, index)
     }
 
     /// Reads an index in its brackets, if `[` comes next.

@@ -3,5 +3,5 @@ use Rattle.std.proofs.lemmas.Grind.{common_steps}
 use Rattle.lynx_parser.proofs.Made.{sum_made}
 use Rattle.lynx_parser.proofs.make_expression.sum_of.Goals as goal
 
-pub returns : goal.returns
-returns c = sum_made c.args.first c.args.rest (first_of (search rules, omega arith, grind (arith, common_steps)))
+pub returns-then-len-gt1 : goal.returns-then-len-gt1
+returns-then-len-gt1 c = sum_made c.args.first c.in_ok-rest.rest c.args.rest.items (first_of (search rules, cc)) (first_of (search rules, omega arith, grind (arith, common_steps)))
