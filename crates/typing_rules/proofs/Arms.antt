@@ -1,5 +1,6 @@
 -- What a walk over the parts of an expression says of it.
 use Rattle.std.proofs.Common.{◌≡◌, ℕ, ◌+◌, List, [], ◌∷◌, ◌++◌, Bool, Option, Some, None, is_some, cond, ◌&&◌, length, sym, ap, ◌∙◌, arith, length-append}
+use Rattle.std.proofs.lemmas.List.{append-nil}
 use Rattle.std.specs.Global.{Vec, Box}
 use Rattle.lynx_lexer.specs.declared.sign.Sign.{Sign}
 use Rattle.lynx_tree.specs.declared.expression.Expr as expr
@@ -9,10 +10,10 @@ use Rattle.lynx_tree.specs.declared.declaration.TypeName.TheVariants as types
 use Rattle.lynx_tree.specs.Grammar.{Mark, sum_marks, term_marks}
 use Rattle.lynx_tree.specs.Trees.{ExprTree, ExprTrees, SumTail, TermTail, expr_tree, expr_list, sum_list, term_list}
 use Rattle.lynx_tree.specs.Trees as trees
-use Rattle.lynx_tree.proofs.Views.{expr_tree-Or, expr_tree-And, expr_tree-Sum, expr_tree-Term}
+use Rattle.lynx_tree.proofs.Views.{expr_tree-Or, expr_tree-And, expr_tree-Sums, expr_tree-Terms}
 use Rattle.typing_rules.specs.Types.{Held, fits}
 use Rattle.typing_rules.specs.Names.{Scope, type_of_variable}
-use Rattle.typing_rules.specs.Rules.{Fault, demand, wants, is_variable, indexed_is_row}
+use Rattle.typing_rules.specs.Rules.{Fault, demand, wants, operand_is_int, is_variable, indexed_is_row}
 use Rattle.typing_rules.specs.Expressions.{expr_size, held, shown_type, expr_faults, sum_faults, term_faults, value_faults, relation_faults, related}
 use Rattle.typing_rules.specs.Progress.{first_with, is_clean}
 use Rattle.typing_rules.proofs.Progress.{joined, joined_clean, is_clean-demand, held-some, held-shown}
@@ -20,26 +21,30 @@ use Rattle.typing_rules.proofs.Sizes.{expr-size, chain-size}
 
 -- ---- the trees of what the program matches
 
-pub or_tree : (e : expr.Expr) (v : Vec expr.Expr) (items : List expr.Expr) → e ≡ expr.Or v → items ≡ v.items → expr_tree e ≡ trees.Or (expr_list items)
-or_tree e v items is are = ap expr_tree is ∙ expr_tree-Or v ∙ ap (λ xs. trees.Or (expr_list xs)) (sym are)
+pub or_tree : (e : expr.Expr) (b : Box (Vec expr.Expr)) (v : Vec expr.Expr) (items : List expr.Expr) → e ≡ expr.Or b → v ≡ b.value → items ≡ v.items → expr_tree e ≡ trees.Or (expr_list items)
+or_tree e b v items is boxed are = ap expr_tree is ∙ expr_tree-Or b ∙ ap (λ xs. trees.Or (expr_list xs)) (sym (are ∙ ap (λ (w : Vec expr.Expr). w.items) boxed))
 
-pub and_tree : (e : expr.Expr) (v : Vec expr.Expr) (items : List expr.Expr) → e ≡ expr.And v → items ≡ v.items → expr_tree e ≡ trees.And (expr_list items)
-and_tree e v items is are = ap expr_tree is ∙ expr_tree-And v ∙ ap (λ xs. trees.And (expr_list xs)) (sym are)
+pub and_tree : (e : expr.Expr) (b : Box (Vec expr.Expr)) (v : Vec expr.Expr) (items : List expr.Expr) → e ≡ expr.And b → v ≡ b.value → items ≡ v.items → expr_tree e ≡ trees.And (expr_list items)
+and_tree e b v items is boxed are = ap expr_tree is ∙ expr_tree-And b ∙ ap (λ xs. trees.And (expr_list xs)) (sym (are ∙ ap (λ (w : Vec expr.Expr). w.items) boxed))
 
-pub sum_tree : (e x : expr.Expr) (first : Box expr.Expr) (v : Vec (Sign × expr.Expr)) (items : List (Sign × expr.Expr)) → e ≡ expr.Sum first v → x ≡ first.value → items ≡ v.items
+pub sums_tree : (e x : expr.Expr) (first : Box expr.Expr) (b : Box (Vec (Sign × expr.Expr))) (v : Vec (Sign × expr.Expr)) (items : List (Sign × expr.Expr)) → e ≡ expr.Sums first b → x ≡ first.value → v ≡ b.value → items ≡ v.items
     → expr_tree e ≡ trees.Sum (expr_tree x) (sum_list items)
-sum_tree e x first v items is head are = ap expr_tree is ∙ expr_tree-Sum first v ∙ (λ i. trees.Sum (expr_tree (sym head i)) (sum_list (sym are i)))
+sums_tree e x first b v items is head boxed are =
+    let all = are ∙ ap (λ (w : Vec (Sign × expr.Expr)). w.items) boxed in
+    ap expr_tree is ∙ expr_tree-Sums first b ∙ (λ i. trees.Sum (expr_tree (sym head i)) (sum_list (sym all i)))
 
-pub term_tree : (e x : expr.Expr) (first : Box expr.Expr) (v : Vec (TermSign × expr.Expr)) (items : List (TermSign × expr.Expr)) → e ≡ expr.Term first v → x ≡ first.value → items ≡ v.items
+pub terms_tree : (e x : expr.Expr) (first : Box expr.Expr) (b : Box (Vec (TermSign × expr.Expr))) (v : Vec (TermSign × expr.Expr)) (items : List (TermSign × expr.Expr)) → e ≡ expr.Terms first b → x ≡ first.value → v ≡ b.value → items ≡ v.items
     → expr_tree e ≡ trees.Term (expr_tree x) (term_list items)
-term_tree e x first v items is head are = ap expr_tree is ∙ expr_tree-Term first v ∙ (λ i. trees.Term (expr_tree (sym head i)) (term_list (sym are i)))
+terms_tree e x first b v items is head boxed are =
+    let all = are ∙ ap (λ (w : Vec (TermSign × expr.Expr)). w.items) boxed in
+    ap expr_tree is ∙ expr_tree-Terms first b ∙ (λ i. trees.Term (expr_tree (sym head i)) (term_list (sym all i)))
 
 pub bracket_tree : (e x : expr.Expr) (inner : Box expr.Expr) → e ≡ expr.Bracket inner → x ≡ inner.value → expr_tree e ≡ trees.Bracket (expr_tree x)
 bracket_tree e x inner is head = ap expr_tree is ∙ ap (λ y. trees.Bracket (expr_tree y)) (sym head)
 
-pub relation_tree : (e x y : expr.Expr) (first : Box expr.Expr) (sign : Sign) (second : Box expr.Expr) → e ≡ expr.Relation first sign second → x ≡ first.value → y ≡ second.value
+pub relation_tree : (e x y : expr.Expr) (sign : Sign) (first second : Box expr.Expr) → e ≡ expr.Relation sign first second → x ≡ first.value → y ≡ second.value
     → expr_tree e ≡ trees.Relation (expr_tree x) sign (expr_tree y)
-relation_tree e x y first sign second is head last = ap expr_tree is ∙ (λ i. trees.Relation (expr_tree (sym head i)) sign (expr_tree (sym last i)))
+relation_tree e x y sign first second is head last = ap expr_tree is ∙ (λ i. trees.Relation (expr_tree (sym head i)) sign (expr_tree (sym last i)))
 
 -- ---- sizes
 
@@ -127,3 +132,29 @@ module _ (s : Scope) (a : ℕ) where
       → (x && y) ≡ is_clean (expr_faults s a (trees.Term first rest))
   term_clean first rest b x y at_b ex ey =
       joined_clean x y (value_faults (wants 9 types.Int) s a first) (term_faults s (a + expr_size first) rest) ex (ey ∙ ap (λ n. is_clean (term_faults s n rest)) at_b)
+
+-- ---- two numbers with an operator between
+
+module _ (e x y : expr.Expr) (first second : Box expr.Expr) (head : x ≡ first.value) (last : y ≡ second.value) where
+  pub sum_tree : {sign : Sign} → e ≡ expr.Sum sign first second → expr_tree e ≡ trees.Sum (expr_tree x) (trees.more_sums sign (expr_tree y) trees.no_sums)
+  sum_tree {sign = sign} is = ap expr_tree is ∙ (λ i. trees.Sum (expr_tree (sym head i)) (trees.more_sums sign (expr_tree (sym last i)) trees.no_sums))
+
+  pub term_tree : {sign : TermSign} → e ≡ expr.Term sign first second → expr_tree e ≡ trees.Term (expr_tree x) (trees.more_terms sign (expr_tree y) trees.no_terms)
+  term_tree {sign = sign} is = ap expr_tree is ∙ (λ i. trees.Term (expr_tree (sym head i)) (trees.more_terms sign (expr_tree (sym last i)) trees.no_terms))
+
+  pub two_summed : {sign : Sign} → e ≡ expr.Sum sign first second → expr_size (expr_tree e) ≡ expr_size (expr_tree x) + 1 + expr_size (expr_tree y)
+  two_summed {sign = sign} is = ap expr_size (sum_tree is) ∙ sum_size (expr_tree x) (trees.more_sums sign (expr_tree y) trees.no_sums) ∙ omega (arith, length-append {A = Mark})
+
+  pub two_joined : {sign : TermSign} → e ≡ expr.Term sign first second → expr_size (expr_tree e) ≡ expr_size (expr_tree x) + 1 + expr_size (expr_tree y)
+  two_joined {sign = sign} is = ap expr_size (term_tree is) ∙ term_size (expr_tree x) (trees.more_terms sign (expr_tree y) trees.no_terms) ∙ omega (arith, length-append {A = Mark})
+
+  module _ (s : Scope) (a : ℕ) where
+    pub sum_pair_faults : {sign : Sign} → e ≡ expr.Sum sign first second
+        → value_faults operand_is_int s a (expr_tree x) ++ value_faults operand_is_int s (a + expr_size (expr_tree x) + 1) (expr_tree y) ≡ expr_faults s a (expr_tree e)
+    sum_pair_faults is =
+        ap (λ fs. value_faults operand_is_int s a (expr_tree x) ++ fs) (sym (append-nil (value_faults operand_is_int s (a + expr_size (expr_tree x) + 1) (expr_tree y)))) ∙ ap (expr_faults s a) (sym (sum_tree is))
+
+    pub term_pair_faults : {sign : TermSign} → e ≡ expr.Term sign first second
+        → value_faults operand_is_int s a (expr_tree x) ++ value_faults operand_is_int s (a + expr_size (expr_tree x) + 1) (expr_tree y) ≡ expr_faults s a (expr_tree e)
+    term_pair_faults is =
+        ap (λ fs. value_faults operand_is_int s a (expr_tree x) ++ fs) (sym (append-nil (value_faults operand_is_int s (a + expr_size (expr_tree x) + 1) (expr_tree y)))) ∙ ap (expr_faults s a) (sym (term_tree is))

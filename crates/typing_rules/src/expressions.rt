@@ -1,10 +1,10 @@
 //! Types of expressions.
 
-ghost use Rattle.std.specs.Prelude.{◌≡◌, ◌+◌, ◌<◌, ◌&&◌, length, Some, None, if◌then◌else◌};
+ghost use Rattle.std.specs.Prelude.{◌≡◌, ◌+◌, ◌<◌, ◌&&◌, ◌++◌, length, Some, None, if◌then◌else◌};
 ghost use Rattle.lynx_tree.specs.Grammar.{sum_marks, term_marks};
 ghost use Rattle.lynx_tree.specs.Trees.{expr_tree, expr_list, sum_list, term_list, Or, Member};
 ghost use Rattle.typing_rules.specs.Expressions.{expr_size, shown_type, held, expr_faults, sum_faults, term_faults, value_faults};
-ghost use Rattle.typing_rules.specs.Rules.{wants};
+ghost use Rattle.typing_rules.specs.Rules.{wants, operand_is_int};
 ghost use Rattle.typing_rules.specs.Meanings.{scope_of};
 ghost use Rattle.typing_rules.specs.Progress.{first_with, is_clean};
 
@@ -93,6 +93,20 @@ fn bools(walk: &mut Walk, scope: &Scope, members: &[Expr]) -> bool
     clean
 }
 
+/// Goes over two numbers with an operator between, and tells whether no rule fails in them.
+#[cycle(type_expression)]
+fn numbers(walk: &mut Walk, scope: &Scope, first: &Expr, second: &Expr) -> bool
+    requires fits { walk.old.at + expr_size (expr_tree first.now) + 1 + expr_size (expr_tree second.now) < 4294967296 }
+    ensures at { walk.new.at ≡ walk.old.at + expr_size (expr_tree first.now) + 1 + expr_size (expr_tree second.now) }
+    ensures first { walk.new.first ≡ first_with walk.old.first (value_faults operand_is_int (scope_of scope.now) walk.old.at (expr_tree first.now) ++ value_faults operand_is_int (scope_of scope.now) (walk.old.at + expr_size (expr_tree first.now) + 1) (expr_tree second.now)) }
+    ensures clean { result ≡ is_clean (value_faults operand_is_int (scope_of scope.now) walk.old.at (expr_tree first.now) ++ value_faults operand_is_int (scope_of scope.now) (walk.old.at + expr_size (expr_tree first.now) + 1) (expr_tree second.now)) }
+{
+    let clean = operand(walk, scope, OPERAND_IS_INT, TypeName::Int, first);
+    walk.skip(1);
+    let next = operand(walk, scope, OPERAND_IS_INT, TypeName::Int, second);
+    both(clean, next)
+}
+
 /// Goes over the members of a sum behind the first, and tells whether no rule fails in them.
 #[cycle(type_expression)]
 fn sums(walk: &mut Walk, scope: &Scope, members: &[(Sign, Expr)]) -> bool
@@ -139,8 +153,8 @@ pub fn expression(walk: &mut Walk, scope: &Scope, value: &Expr) -> Held
         Expr::Or(members) => shown(bools(walk, scope, members), TypeName::Bool),
         Expr::And(members) => shown(bools(walk, scope, members), TypeName::Bool),
         Expr::Relation {
-            first,
             sign,
+            first,
             second,
         } => {
             let first_at = walk.at();
@@ -152,12 +166,20 @@ pub fn expression(walk: &mut Walk, scope: &Scope, value: &Expr) -> Held
             let clean = both(first.is_some(), second.is_some());
             shown(both(clean, holds), TypeName::Bool)
         }
-        Expr::Sum { first, rest } => {
+        Expr::Sum { first, second, .. } => {
+            let clean = numbers(walk, scope, first, second);
+            shown(clean, TypeName::Int)
+        }
+        Expr::Sums { first, rest } => {
             let clean = operand(walk, scope, OPERAND_IS_INT, TypeName::Int, first);
             let others = sums(walk, scope, rest);
             shown(both(clean, others), TypeName::Int)
         }
-        Expr::Term { first, rest } => {
+        Expr::Term { first, second, .. } => {
+            let clean = numbers(walk, scope, first, second);
+            shown(clean, TypeName::Int)
+        }
+        Expr::Terms { first, rest } => {
             let clean = operand(walk, scope, OPERAND_IS_INT, TypeName::Int, first);
             let others = terms(walk, scope, rest);
             shown(both(clean, others), TypeName::Int)
@@ -176,10 +198,8 @@ pub fn expression(walk: &mut Walk, scope: &Scope, value: &Expr) -> Held
         Expr::Text(_) => literal(walk, TypeName::Text),
         Expr::True => literal(walk, TypeName::Bool),
         Expr::False => literal(walk, TypeName::Bool),
-        Expr::Name { name, index } => match index {
-            None => variable(walk, scope, name),
-            Some(index) => shown(member(walk, scope, name, index), TypeName::Int),
-        },
+        Expr::Name(name) => variable(walk, scope, name),
+        Expr::Member { name, index } => shown(member(walk, scope, name, index), TypeName::Int),
         Expr::Bracket(inner) => {
             walk.skip(1);
             let held = expression(walk, scope, inner);

@@ -3,13 +3,13 @@ use Rattle.lynx_tree.specs.declared.declaration.TypeName.TheVariants.{Int, Bool}
 use Rattle.lynx_tree.specs.Trees.{expr_tree, expr_list, sum_list, term_list}
 use Rattle.lynx_tree.specs.Trees as trees
 use Rattle.typing_rules.specs.Expressions.{expr_size, expr_faults, value_faults, bools_faults, sum_faults, term_faults}
-use Rattle.typing_rules.specs.Rules.{wants}
+use Rattle.typing_rules.specs.Rules.{wants, operand_is_int}
 use Rattle.typing_rules.specs.Meanings.{scope_of}
-use Rattle.typing_rules.specs.Progress.{first_with}
+use Rattle.typing_rules.specs.Progress.{first_with, is_clean}
 use Rattle.lynx_tree.specs.declared.expression.Expr.TheViews.{the_lemmas}
-use Rattle.typing_rules.proofs.Arms.{or_tree, and_tree, sum_tree, term_tree, bracket_tree, and_size, bracket_size, member_size, arm_at, arm_first, arm_held, operand_clean, relation_tree, relation_first, relation_clean, member_first, sum_size, sum_first, sum_clean, term_size, term_first, term_clean}
+use Rattle.typing_rules.proofs.Arms.{or_tree, and_tree, sum_tree, term_tree, sums_tree, terms_tree, two_summed, two_joined, sum_pair_faults, term_pair_faults, bracket_tree, and_size, bracket_size, member_size, arm_at, arm_first, arm_held, operand_clean, relation_tree, relation_first, relation_clean, member_first, sum_size, sum_first, sum_clean, term_size, term_first, term_clean}
 use Rattle.typing_rules.proofs.Members.{bools-parts, next_bool, bool-split, next_sum, sum-split, next_term, term-split, none_left}
-use Rattle.typing_rules.proofs.Progress.{joined, left_first, left_clean, end_first}
+use Rattle.typing_rules.proofs.Progress.{joined, joined_clean, left_first, left_clean, end_first}
 use Rattle.typing_rules.proofs.expressions.+type_expression.Goals as goal
 
 pub bools-loop-member-preserved : goal.bools-loop-member-preserved
@@ -39,11 +39,11 @@ bools-returns-clause-first t c =
     ∙ ap (first_with c.args.walk.now.first) (sym (bools-parts c.args.members.now rest first c.in-Some.ensures.cases.0 s a))
 
 pub expression-bools-requires : goal.expression-bools-requires
-expression-bools-requires t c = (search (rules, the_lemmas), subst (λ x. c.args.walk.now.at + expr_size x < 4294967296) (or_tree c.args.value.now c.in-Or.members c.deref.result.now c.in-Or.is c.deref.ensures.value) c.requires.fits)
+expression-bools-requires t c = (search (rules, the_lemmas), subst (λ x. c.args.walk.now.at + expr_size x < 4294967296) (or_tree c.args.value.now c.in-Or.members c.deref.result.now c.deref-in-Or.result.now c.in-Or.is c.deref.ensures c.deref-in-Or.ensures.value) c.requires.fits)
 
 pub expression-bools-requires-in-And : goal.expression-bools-requires-in-And
 expression-bools-requires-in-And t c =
-    (search (rules, the_lemmas), subst (λ n. c.args.walk.now.at + n < 4294967296) (ap expr_size (and_tree c.args.value.now c.in-And.members c.deref-in-And.result.now c.in-And.is c.deref-in-And.ensures.value) ∙ and_size (expr_list c.deref-in-And.result.now)) c.requires.fits)
+    (search (rules, the_lemmas), subst (λ n. c.args.walk.now.at + n < 4294967296) (ap expr_size (and_tree c.args.value.now c.in-And.members c.deref-in-And.result.now c.deref-in-And-2.result.now c.in-And.is c.deref-in-And.ensures c.deref-in-And-2.ensures.value) ∙ and_size (expr_list c.deref-in-And-2.result.now)) c.requires.fits)
 
 pub expression-expression-held-requires : goal.expression-expression-held-requires
 expression-expression-held-requires t c =
@@ -54,25 +54,25 @@ expression-skip-requires-in-Bracket-2 t c =
     omega (arith, bracket_size (expr_tree c.deref-in-Bracket.result.now), ap expr_size (bracket_tree c.args.value.now c.deref-in-Bracket.result.now c.in-Bracket.inner c.in-Bracket.is c.deref-in-Bracket.ensures))
 
 pub expression-returns-in-Or-clause-at : goal.expression-returns-in-Or-clause-at
-expression-returns-in-Or-clause-at t c = arm_at _ _ (or_tree c.args.value.now c.in-Or.members c.deref.result.now c.in-Or.is c.deref.ensures.value) _ _ c.bools.ensures.at
+expression-returns-in-Or-clause-at t c = arm_at _ _ (or_tree c.args.value.now c.in-Or.members c.deref.result.now c.deref-in-Or.result.now c.in-Or.is c.deref.ensures c.deref-in-Or.ensures.value) _ _ c.bools.ensures.at
 
 pub expression-returns-in-Or-clause-first : goal.expression-returns-in-Or-clause-first
-expression-returns-in-Or-clause-first t c = arm_first _ _ (or_tree c.args.value.now c.in-Or.members c.deref.result.now c.in-Or.is c.deref.ensures.value) (scope_of c.args.scope.now) _ _ _ c.bools.ensures.first
+expression-returns-in-Or-clause-first t c = arm_first _ _ (or_tree c.args.value.now c.in-Or.members c.deref.result.now c.deref-in-Or.result.now c.in-Or.is c.deref.ensures c.deref-in-Or.ensures.value) (scope_of c.args.scope.now) _ _ _ c.bools.ensures.first
 
 pub expression-returns-in-Or-clause-held : goal.expression-returns-in-Or-clause-held
 expression-returns-in-Or-clause-held t c =
-    arm_held _ _ (or_tree c.args.value.now c.in-Or.members c.deref.result.now c.in-Or.is c.deref.ensures.value) (scope_of c.args.scope.now) c.args.walk.now.at Bool c.bools.result _ refl c.bools.ensures.clean c.shown.ensures
+    arm_held _ _ (or_tree c.args.value.now c.in-Or.members c.deref.result.now c.deref-in-Or.result.now c.in-Or.is c.deref.ensures c.deref-in-Or.ensures.value) (scope_of c.args.scope.now) c.args.walk.now.at Bool c.bools.result _ refl c.bools.ensures.clean c.shown.ensures
 
 pub expression-returns-in-And-clause-at : goal.expression-returns-in-And-clause-at
 expression-returns-in-And-clause-at t c =
-    arm_at _ _ (and_tree c.args.value.now c.in-And.members c.deref-in-And.result.now c.in-And.is c.deref-in-And.ensures.value) _ _ (c.bools-in-And.ensures.at ∙ ap (λ n. c.args.walk.now.at + n) (sym (and_size (expr_list c.deref-in-And.result.now))))
+    arm_at _ _ (and_tree c.args.value.now c.in-And.members c.deref-in-And.result.now c.deref-in-And-2.result.now c.in-And.is c.deref-in-And.ensures c.deref-in-And-2.ensures.value) _ _ (c.bools-in-And.ensures.at ∙ ap (λ n. c.args.walk.now.at + n) (sym (and_size (expr_list c.deref-in-And-2.result.now))))
 
 pub expression-returns-in-And-clause-first : goal.expression-returns-in-And-clause-first
-expression-returns-in-And-clause-first t c = arm_first _ _ (and_tree c.args.value.now c.in-And.members c.deref-in-And.result.now c.in-And.is c.deref-in-And.ensures.value) (scope_of c.args.scope.now) _ _ _ c.bools-in-And.ensures.first
+expression-returns-in-And-clause-first t c = arm_first _ _ (and_tree c.args.value.now c.in-And.members c.deref-in-And.result.now c.deref-in-And-2.result.now c.in-And.is c.deref-in-And.ensures c.deref-in-And-2.ensures.value) (scope_of c.args.scope.now) _ _ _ c.bools-in-And.ensures.first
 
 pub expression-returns-in-And-clause-held : goal.expression-returns-in-And-clause-held
 expression-returns-in-And-clause-held t c =
-    arm_held _ _ (and_tree c.args.value.now c.in-And.members c.deref-in-And.result.now c.in-And.is c.deref-in-And.ensures.value) (scope_of c.args.scope.now) c.args.walk.now.at Bool c.bools-in-And.result _ refl c.bools-in-And.ensures.clean c.shown-in-And.ensures
+    arm_held _ _ (and_tree c.args.value.now c.in-And.members c.deref-in-And.result.now c.deref-in-And-2.result.now c.in-And.is c.deref-in-And.ensures c.deref-in-And-2.ensures.value) (scope_of c.args.scope.now) c.args.walk.now.at Bool c.bools-in-And.result _ refl c.bools-in-And.ensures.clean c.shown-in-And.ensures
 
 pub expression-returns-in-Bracket-clause-at : goal.expression-returns-in-Bracket-clause-at
 expression-returns-in-Bracket-clause-at t c =
@@ -134,55 +134,113 @@ pub terms-returns-clause-first : goal.terms-returns-clause-first
 terms-returns-clause-first t c =
     end_first c.loop-member.walk.first _ _ (none_left (λ xs. term_faults (scope_of c.args.scope.now) c.loop-member.walk.at (term_list xs)) c.args.members.now c.loop-member.member-index c.loop-member-test.false) c.loop-member.invariant.first
 
-pub expression-sums-others-requires : goal.expression-sums-others-requires
-expression-sums-others-requires t c =
-    let size = ap expr_size (sum_tree c.args.value.now c.deref-in-Sum.result.now c.in-Sum.first c.in-Sum.rest c.deref-in-Sum-2.result.now c.in-Sum.is c.deref-in-Sum.ensures c.deref-in-Sum-2.ensures.value) in
-    (search (rules, the_lemmas), omega (arith, sum_size (expr_tree c.deref-in-Sum.result.now) (sum_list c.deref-in-Sum-2.result.now), size))
+pub numbers-returns-clause-first : goal.numbers-returns-clause-first
+numbers-returns-clause-first t c =
+    let s = scope_of c.args.scope.now in
+    let a = c.args.walk.now.at in
+    let behind = a + expr_size (expr_tree c.args.first.now) + 1 in
+    let here : c.skip.new.self.at ≡ behind = omega arith in
+    joined c.args.walk.now.first c.operand-clean.new.walk.first c.operand-next.new.walk.first (value_faults operand_is_int s a (expr_tree c.args.first.now)) (value_faults operand_is_int s behind (expr_tree c.args.second.now))
+    c.operand-clean.ensures.first (c.operand-next.ensures.first ∙ (λ i. first_with (c.skip.ensures.first i) (value_faults operand_is_int s (here i) (expr_tree c.args.second.now))))
+
+pub numbers-returns-clause-clean : goal.numbers-returns-clause-clean
+numbers-returns-clause-clean t c =
+    let s = scope_of c.args.scope.now in
+    let a = c.args.walk.now.at in
+    let behind = a + expr_size (expr_tree c.args.first.now) + 1 in
+    let here : c.skip.new.self.at ≡ behind = omega arith in
+    c.both.ensures ∙ joined_clean c.operand-clean.result c.operand-next.result (value_faults operand_is_int s a (expr_tree c.args.first.now)) (value_faults operand_is_int s behind (expr_tree c.args.second.now))
+    c.operand-clean.ensures.clean (c.operand-next.ensures.clean ∙ ap (λ n. is_clean (value_faults operand_is_int s n (expr_tree c.args.second.now))) here)
+
+pub expression-numbers-clean-requires : goal.expression-numbers-clean-requires
+expression-numbers-clean-requires t c =
+    (search (rules, the_lemmas), omega (arith, two_summed c.args.value.now c.deref-in-Sum.result.now c.deref-in-Sum-2.result.now c.in-Sum.first c.in-Sum.second c.deref-in-Sum.ensures c.deref-in-Sum-2.ensures c.in-Sum.is))
 
 pub expression-returns-in-Sum-clause-at : goal.expression-returns-in-Sum-clause-at
-expression-returns-in-Sum-clause-at t c =
-    omega (arith, sum_size (expr_tree c.deref-in-Sum.result.now) (sum_list c.deref-in-Sum-2.result.now), ap expr_size (sum_tree c.args.value.now c.deref-in-Sum.result.now c.in-Sum.first c.in-Sum.rest c.deref-in-Sum-2.result.now c.in-Sum.is c.deref-in-Sum.ensures c.deref-in-Sum-2.ensures.value))
+expression-returns-in-Sum-clause-at t c = omega (arith, two_summed c.args.value.now c.deref-in-Sum.result.now c.deref-in-Sum-2.result.now c.in-Sum.first c.in-Sum.second c.deref-in-Sum.ensures c.deref-in-Sum-2.ensures c.in-Sum.is)
 
 pub expression-returns-in-Sum-clause-first : goal.expression-returns-in-Sum-clause-first
 expression-returns-in-Sum-clause-first t c =
-    arm_first _ _ (sum_tree c.args.value.now c.deref-in-Sum.result.now c.in-Sum.first c.in-Sum.rest c.deref-in-Sum-2.result.now c.in-Sum.is c.deref-in-Sum.ensures c.deref-in-Sum-2.ensures.value) (scope_of c.args.scope.now) c.args.walk.now.at _ _
-    (sum_first (scope_of c.args.scope.now) c.args.walk.now.at (expr_tree c.deref-in-Sum.result.now)
-    (sum_list c.deref-in-Sum-2.result.now) c.operand-clean.new.walk.at c.args.walk.now.first c.operand-clean.new.walk.first c.sums-others.new.walk.first c.operand-clean.ensures.at c.operand-clean.ensures.first c.sums-others.ensures.first)
+    c.numbers-clean.ensures.first ∙ ap (first_with c.args.walk.now.first)
+    (sum_pair_faults c.args.value.now c.deref-in-Sum.result.now c.deref-in-Sum-2.result.now c.in-Sum.first c.in-Sum.second c.deref-in-Sum.ensures c.deref-in-Sum-2.ensures (scope_of c.args.scope.now) c.args.walk.now.at c.in-Sum.is)
 
 pub expression-returns-in-Sum-clause-held : goal.expression-returns-in-Sum-clause-held
 expression-returns-in-Sum-clause-held t c =
-    arm_held _ _ (sum_tree c.args.value.now c.deref-in-Sum.result.now c.in-Sum.first c.in-Sum.rest c.deref-in-Sum-2.result.now c.in-Sum.is c.deref-in-Sum.ensures c.deref-in-Sum-2.ensures.value) (scope_of c.args.scope.now) c.args.walk.now.at Int c.both-in-Sum.result _ refl
-    (c.both-in-Sum.ensures ∙ sum_clean (scope_of c.args.scope.now) c.args.walk.now.at (expr_tree c.deref-in-Sum.result.now)
-    (sum_list c.deref-in-Sum-2.result.now) c.operand-clean.new.walk.at c.operand-clean.result c.sums-others.result c.operand-clean.ensures.at c.operand-clean.ensures.clean c.sums-others.ensures.clean) c.shown-in-Sum.ensures
+    let s = scope_of c.args.scope.now in
+    let a = c.args.walk.now.at in
+    let tree = sum_tree c.args.value.now c.deref-in-Sum.result.now c.deref-in-Sum-2.result.now c.in-Sum.first c.in-Sum.second c.deref-in-Sum.ensures c.deref-in-Sum-2.ensures c.in-Sum.is in
+    let faults = sum_pair_faults c.args.value.now c.deref-in-Sum.result.now c.deref-in-Sum-2.result.now c.in-Sum.first c.in-Sum.second c.deref-in-Sum.ensures c.deref-in-Sum-2.ensures s a c.in-Sum.is ∙ ap (expr_faults s a) tree in
+    arm_held _ _ tree s a Int c.numbers-clean.result _ refl (c.numbers-clean.ensures.clean ∙ ap is_clean faults) c.shown-in-Sum.ensures
 
-pub expression-terms-others-requires : goal.expression-terms-others-requires
-expression-terms-others-requires t c =
-    let size = ap expr_size (term_tree c.args.value.now c.deref-in-Term.result.now c.in-Term.first c.in-Term.rest c.deref-in-Term-2.result.now c.in-Term.is c.deref-in-Term.ensures c.deref-in-Term-2.ensures.value) in
-    (search (rules, the_lemmas), omega (arith, term_size (expr_tree c.deref-in-Term.result.now) (term_list c.deref-in-Term-2.result.now), size))
+pub expression-numbers-clean-requires-in-Term : goal.expression-numbers-clean-requires-in-Term
+expression-numbers-clean-requires-in-Term t c =
+    (search (rules, the_lemmas), omega (arith, two_joined c.args.value.now c.deref-in-Term.result.now c.deref-in-Term-2.result.now c.in-Term.first c.in-Term.second c.deref-in-Term.ensures c.deref-in-Term-2.ensures c.in-Term.is))
 
 pub expression-returns-in-Term-clause-at : goal.expression-returns-in-Term-clause-at
-expression-returns-in-Term-clause-at t c =
-    omega (
-      arith,
-      term_size (expr_tree c.deref-in-Term.result.now) (term_list c.deref-in-Term-2.result.now),
-      ap expr_size (term_tree c.args.value.now c.deref-in-Term.result.now c.in-Term.first c.in-Term.rest c.deref-in-Term-2.result.now c.in-Term.is c.deref-in-Term.ensures c.deref-in-Term-2.ensures.value),
-    )
+expression-returns-in-Term-clause-at t c = omega (arith, two_joined c.args.value.now c.deref-in-Term.result.now c.deref-in-Term-2.result.now c.in-Term.first c.in-Term.second c.deref-in-Term.ensures c.deref-in-Term-2.ensures c.in-Term.is)
 
 pub expression-returns-in-Term-clause-first : goal.expression-returns-in-Term-clause-first
 expression-returns-in-Term-clause-first t c =
-    arm_first _ _ (term_tree c.args.value.now c.deref-in-Term.result.now c.in-Term.first c.in-Term.rest c.deref-in-Term-2.result.now c.in-Term.is c.deref-in-Term.ensures c.deref-in-Term-2.ensures.value) (scope_of c.args.scope.now) c.args.walk.now.at _ _
-    (term_first (scope_of c.args.scope.now) c.args.walk.now.at (expr_tree c.deref-in-Term.result.now)
-    (term_list c.deref-in-Term-2.result.now) c.operand-clean-in-Term.new.walk.at c.args.walk.now.first c.operand-clean-in-Term.new.walk.first c.terms-others.new.walk.first c.operand-clean-in-Term.ensures.at c.operand-clean-in-Term.ensures.first c.terms-others.ensures.first)
+    c.numbers-clean-in-Term.ensures.first ∙ ap (first_with c.args.walk.now.first)
+    (term_pair_faults c.args.value.now c.deref-in-Term.result.now c.deref-in-Term-2.result.now c.in-Term.first c.in-Term.second c.deref-in-Term.ensures c.deref-in-Term-2.ensures (scope_of c.args.scope.now) c.args.walk.now.at c.in-Term.is)
 
 pub expression-returns-in-Term-clause-held : goal.expression-returns-in-Term-clause-held
 expression-returns-in-Term-clause-held t c =
-    arm_held _ _ (term_tree c.args.value.now c.deref-in-Term.result.now c.in-Term.first c.in-Term.rest c.deref-in-Term-2.result.now c.in-Term.is c.deref-in-Term.ensures c.deref-in-Term-2.ensures.value) (scope_of c.args.scope.now) c.args.walk.now.at Int c.both-in-Term.result _ refl
-    (c.both-in-Term.ensures ∙ term_clean (scope_of c.args.scope.now) c.args.walk.now.at (expr_tree c.deref-in-Term.result.now)
-    (term_list c.deref-in-Term-2.result.now) c.operand-clean-in-Term.new.walk.at c.operand-clean-in-Term.result c.terms-others.result c.operand-clean-in-Term.ensures.at c.operand-clean-in-Term.ensures.clean c.terms-others.ensures.clean) c.shown-in-Term.ensures
+    let s = scope_of c.args.scope.now in
+    let a = c.args.walk.now.at in
+    let tree = term_tree c.args.value.now c.deref-in-Term.result.now c.deref-in-Term-2.result.now c.in-Term.first c.in-Term.second c.deref-in-Term.ensures c.deref-in-Term-2.ensures c.in-Term.is in
+    let faults = term_pair_faults c.args.value.now c.deref-in-Term.result.now c.deref-in-Term-2.result.now c.in-Term.first c.in-Term.second c.deref-in-Term.ensures c.deref-in-Term-2.ensures s a c.in-Term.is ∙ ap (expr_faults s a) tree in
+    arm_held _ _ tree s a Int c.numbers-clean-in-Term.result _ refl (c.numbers-clean-in-Term.ensures.clean ∙ ap is_clean faults) c.shown-in-Term.ensures
+
+pub expression-sums-others-requires : goal.expression-sums-others-requires
+expression-sums-others-requires t c =
+    let size = ap expr_size (sums_tree c.args.value.now c.deref-in-Sums.result.now c.in-Sums.first c.in-Sums.rest c.deref-in-Sums-2.result.now c.deref-in-Sums-3.result.now c.in-Sums.is c.deref-in-Sums.ensures c.deref-in-Sums-2.ensures c.deref-in-Sums-3.ensures.value) in
+    (search (rules, the_lemmas), omega (arith, sum_size (expr_tree c.deref-in-Sums.result.now) (sum_list c.deref-in-Sums-3.result.now), size))
+
+pub expression-returns-in-Sums-clause-at : goal.expression-returns-in-Sums-clause-at
+expression-returns-in-Sums-clause-at t c =
+    omega (arith, sum_size (expr_tree c.deref-in-Sums.result.now) (sum_list c.deref-in-Sums-3.result.now), ap expr_size (sums_tree c.args.value.now c.deref-in-Sums.result.now c.in-Sums.first c.in-Sums.rest c.deref-in-Sums-2.result.now c.deref-in-Sums-3.result.now c.in-Sums.is c.deref-in-Sums.ensures c.deref-in-Sums-2.ensures c.deref-in-Sums-3.ensures.value))
+
+pub expression-returns-in-Sums-clause-first : goal.expression-returns-in-Sums-clause-first
+expression-returns-in-Sums-clause-first t c =
+    arm_first _ _ (sums_tree c.args.value.now c.deref-in-Sums.result.now c.in-Sums.first c.in-Sums.rest c.deref-in-Sums-2.result.now c.deref-in-Sums-3.result.now c.in-Sums.is c.deref-in-Sums.ensures c.deref-in-Sums-2.ensures c.deref-in-Sums-3.ensures.value) (scope_of c.args.scope.now) c.args.walk.now.at _ _
+    (sum_first (scope_of c.args.scope.now) c.args.walk.now.at (expr_tree c.deref-in-Sums.result.now)
+    (sum_list c.deref-in-Sums-3.result.now) c.operand-clean.new.walk.at c.args.walk.now.first c.operand-clean.new.walk.first c.sums-others.new.walk.first c.operand-clean.ensures.at c.operand-clean.ensures.first c.sums-others.ensures.first)
+
+pub expression-returns-in-Sums-clause-held : goal.expression-returns-in-Sums-clause-held
+expression-returns-in-Sums-clause-held t c =
+    arm_held _ _ (sums_tree c.args.value.now c.deref-in-Sums.result.now c.in-Sums.first c.in-Sums.rest c.deref-in-Sums-2.result.now c.deref-in-Sums-3.result.now c.in-Sums.is c.deref-in-Sums.ensures c.deref-in-Sums-2.ensures c.deref-in-Sums-3.ensures.value) (scope_of c.args.scope.now) c.args.walk.now.at Int c.both-in-Sums.result _ refl
+    (c.both-in-Sums.ensures ∙ sum_clean (scope_of c.args.scope.now) c.args.walk.now.at (expr_tree c.deref-in-Sums.result.now)
+    (sum_list c.deref-in-Sums-3.result.now) c.operand-clean.new.walk.at c.operand-clean.result c.sums-others.result c.operand-clean.ensures.at c.operand-clean.ensures.clean c.sums-others.ensures.clean) c.shown-in-Sums.ensures
+
+pub expression-terms-others-requires : goal.expression-terms-others-requires
+expression-terms-others-requires t c =
+    let size = ap expr_size (terms_tree c.args.value.now c.deref-in-Terms.result.now c.in-Terms.first c.in-Terms.rest c.deref-in-Terms-2.result.now c.deref-in-Terms-3.result.now c.in-Terms.is c.deref-in-Terms.ensures c.deref-in-Terms-2.ensures c.deref-in-Terms-3.ensures.value) in
+    (search (rules, the_lemmas), omega (arith, term_size (expr_tree c.deref-in-Terms.result.now) (term_list c.deref-in-Terms-3.result.now), size))
+
+pub expression-returns-in-Terms-clause-at : goal.expression-returns-in-Terms-clause-at
+expression-returns-in-Terms-clause-at t c =
+    omega (
+      arith,
+      term_size (expr_tree c.deref-in-Terms.result.now) (term_list c.deref-in-Terms-3.result.now),
+      ap expr_size (terms_tree c.args.value.now c.deref-in-Terms.result.now c.in-Terms.first c.in-Terms.rest c.deref-in-Terms-2.result.now c.deref-in-Terms-3.result.now c.in-Terms.is c.deref-in-Terms.ensures c.deref-in-Terms-2.ensures c.deref-in-Terms-3.ensures.value),
+    )
+
+pub expression-returns-in-Terms-clause-first : goal.expression-returns-in-Terms-clause-first
+expression-returns-in-Terms-clause-first t c =
+    arm_first _ _ (terms_tree c.args.value.now c.deref-in-Terms.result.now c.in-Terms.first c.in-Terms.rest c.deref-in-Terms-2.result.now c.deref-in-Terms-3.result.now c.in-Terms.is c.deref-in-Terms.ensures c.deref-in-Terms-2.ensures c.deref-in-Terms-3.ensures.value) (scope_of c.args.scope.now) c.args.walk.now.at _ _
+    (term_first (scope_of c.args.scope.now) c.args.walk.now.at (expr_tree c.deref-in-Terms.result.now)
+    (term_list c.deref-in-Terms-3.result.now) c.operand-clean-in-Terms.new.walk.at c.args.walk.now.first c.operand-clean-in-Terms.new.walk.first c.terms-others.new.walk.first c.operand-clean-in-Terms.ensures.at c.operand-clean-in-Terms.ensures.first c.terms-others.ensures.first)
+
+pub expression-returns-in-Terms-clause-held : goal.expression-returns-in-Terms-clause-held
+expression-returns-in-Terms-clause-held t c =
+    arm_held _ _ (terms_tree c.args.value.now c.deref-in-Terms.result.now c.in-Terms.first c.in-Terms.rest c.deref-in-Terms-2.result.now c.deref-in-Terms-3.result.now c.in-Terms.is c.deref-in-Terms.ensures c.deref-in-Terms-2.ensures c.deref-in-Terms-3.ensures.value) (scope_of c.args.scope.now) c.args.walk.now.at Int c.both-in-Terms.result _ refl
+    (c.both-in-Terms.ensures ∙ term_clean (scope_of c.args.scope.now) c.args.walk.now.at (expr_tree c.deref-in-Terms.result.now)
+    (term_list c.deref-in-Terms-3.result.now) c.operand-clean-in-Terms.new.walk.at c.operand-clean-in-Terms.result c.terms-others.result c.operand-clean-in-Terms.ensures.at c.operand-clean-in-Terms.ensures.clean c.terms-others.ensures.clean) c.shown-in-Terms.ensures
 
 pub expression-returns-in-Relation-clause-first : goal.expression-returns-in-Relation-clause-first
 expression-returns-in-Relation-clause-first t c =
-    arm_first _ _ (relation_tree c.args.value.now c.deref-in-Relation.result.now c.deref-in-Relation-2.result.now c.in-Relation.first c.in-Relation.sign c.in-Relation.second c.in-Relation.is c.deref-in-Relation.ensures c.deref-in-Relation-2.ensures) (scope_of c.args.scope.now) c.args.walk.now.at _ _
+    arm_first _ _ (relation_tree c.args.value.now c.deref-in-Relation.result.now c.deref-in-Relation-2.result.now c.in-Relation.sign c.in-Relation.first c.in-Relation.second c.in-Relation.is c.deref-in-Relation.ensures c.deref-in-Relation-2.ensures) (scope_of c.args.scope.now) c.args.walk.now.at _ _
     (relation_first (scope_of c.args.scope.now) c.args.walk.now.at (expr_tree c.deref-in-Relation.result.now) (expr_tree c.deref-in-Relation-2.result.now) c.in-Relation.sign c.skip.new.self.at
     (omega arith) c.expression-first.result c.expression-second.result c.expression-first.ensures.held c.expression-second.ensures.held
     c.args.walk.now.first c.expression-first.new.walk.first c.expression-second.new.walk.first c.compare-holds.new.walk.first c.expression-first.ensures.first
@@ -190,7 +248,7 @@ expression-returns-in-Relation-clause-first t c =
 
 pub expression-returns-in-Relation-clause-held : goal.expression-returns-in-Relation-clause-held
 expression-returns-in-Relation-clause-held t c =
-    arm_held _ _ (relation_tree c.args.value.now c.deref-in-Relation.result.now c.deref-in-Relation-2.result.now c.in-Relation.first c.in-Relation.sign c.in-Relation.second c.in-Relation.is c.deref-in-Relation.ensures c.deref-in-Relation-2.ensures)
+    arm_held _ _ (relation_tree c.args.value.now c.deref-in-Relation.result.now c.deref-in-Relation-2.result.now c.in-Relation.sign c.in-Relation.first c.in-Relation.second c.in-Relation.is c.deref-in-Relation.ensures c.deref-in-Relation-2.ensures)
     (scope_of c.args.scope.now) c.args.walk.now.at Bool c.both.result _ refl
     (c.both.ensures ∙ ap (λ b. b && c.compare-holds.result) c.both-clean.ensures ∙ relation_clean (scope_of c.args.scope.now) c.args.walk.now.at (expr_tree c.deref-in-Relation.result.now) (expr_tree c.deref-in-Relation-2.result.now) c.in-Relation.sign c.skip.new.self.at
     (omega arith) c.expression-first.result c.expression-second.result c.expression-first.ensures.held c.expression-second.ensures.held
