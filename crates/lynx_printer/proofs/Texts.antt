@@ -6,7 +6,7 @@ use Rattle.lynx_lexer.specs.declared.keyword.Keyword.TheVariants as keywords
 use Rattle.std.proofs.lemmas.List.{append-nil, drop_more, drop_all}
 use Rattle.lynx_tree.specs.declared.expression.Expr as expr
 use Rattle.std.specs.Global.{Vec, Box}
-use Rattle.lynx_tree.proofs.Views.{expr_tree-Or, expr_tree-And, expr_tree-Sum, expr_tree-Term}
+use Rattle.lynx_tree.proofs.Views.{expr_tree-Or, expr_tree-And, expr_tree-Sums, expr_tree-Terms}
 use Rattle.lynx_lexer.specs.declared.sign.Sign.{Sign}
 use Rattle.lynx_tree.specs.Trees.{expr_tree, expr_list, sum_list, term_list}
 use Rattle.lynx_lexer.specs.declared.token.Kind.TheVariants as kinds
@@ -82,33 +82,37 @@ pub text_of_and : (d : ℕ) → token_text (word d keywords.And).kind ≡ codes 
 unfolding token_text
 text_of_and d = refl
 
-pub or_printed : (e : expr.Expr) (v : Vec expr.Expr) (items : List expr.Expr) (d : ℕ) (r : Result (Unit {0}) NoMemory) (old new : List ℕ) → e ≡ expr.Or v → items ≡ v.items
+pub or_printed : (e : expr.Expr) (b : Box (Vec expr.Expr)) (v : Vec expr.Expr) (items : List expr.Expr) (d : ℕ) (r : Result (Unit {0}) NoMemory) (old new : List ℕ) → e ≡ expr.Or b → v ≡ b.value → items ≡ v.items
     → OnOk r (Prints old new (chain_marks d (word d keywords.Or) (expr_list items))) → OnOk r (Prints old new (expr_marks d (expr_tree e)))
-or_printed e v items d r old new is are h =
+or_printed e b v items d r old new is boxed are h =
+    let all = are ∙ ap (λ (w : Vec expr.Expr). w.items) boxed in
     let same : expr_marks d (expr_tree e) ≡ chain_marks d (word d keywords.Or) (expr_list items) =
-    ap (λ (x : expr.Expr). expr_marks d (expr_tree x)) is ∙ ap (expr_marks d) (expr_tree-Or v) ∙ ap (λ (xs : List expr.Expr). chain_marks d (word d keywords.Or) (expr_list xs)) (sym are) in
+    ap (λ (x : expr.Expr). expr_marks d (expr_tree x)) is ∙ ap (expr_marks d) (expr_tree-Or b) ∙ ap (λ (xs : List expr.Expr). chain_marks d (word d keywords.Or) (expr_list xs)) (sym all) in
     subst (λ (ms : List Mark). OnOk r (Prints old new ms)) (sym same) h
 
-pub and_printed : (e : expr.Expr) (v : Vec expr.Expr) (items : List expr.Expr) (d : ℕ) (r : Result (Unit {0}) NoMemory) (old new : List ℕ) → e ≡ expr.And v → items ≡ v.items
+pub and_printed : (e : expr.Expr) (b : Box (Vec expr.Expr)) (v : Vec expr.Expr) (items : List expr.Expr) (d : ℕ) (r : Result (Unit {0}) NoMemory) (old new : List ℕ) → e ≡ expr.And b → v ≡ b.value → items ≡ v.items
     → OnOk r (Prints old new (chain_marks d (word d keywords.And) (expr_list items))) → OnOk r (Prints old new (expr_marks d (expr_tree e)))
-and_printed e v items d r old new is are h =
+and_printed e b v items d r old new is boxed are h =
+    let all = are ∙ ap (λ (w : Vec expr.Expr). w.items) boxed in
     let same : expr_marks d (expr_tree e) ≡ chain_marks d (word d keywords.And) (expr_list items) =
-    ap (λ (x : expr.Expr). expr_marks d (expr_tree x)) is ∙ ap (expr_marks d) (expr_tree-And v) ∙ ap (λ (xs : List expr.Expr). chain_marks d (word d keywords.And) (expr_list xs)) (sym are) in
+    ap (λ (x : expr.Expr). expr_marks d (expr_tree x)) is ∙ ap (expr_marks d) (expr_tree-And b) ∙ ap (λ (xs : List expr.Expr). chain_marks d (word d keywords.And) (expr_list xs)) (sym all) in
     subst (λ (ms : List Mark). OnOk r (Prints old new ms)) (sym same) h
 
 two_parts : (a b : List Mark) (old mid new : List ℕ) → Prints old mid a → Prints mid new b → Prints old new (a ++ b)
 two_parts a b old mid new h g = g ∙ ap (λ (y : List ℕ). y ++ text_of b) h ∙ append_assoc old (text_of a) (text_of b) ∙ ap (λ (y : List ℕ). old ++ y) (sym (text_of-append a b))
 
-pub sum_printed : (e x : expr.Expr) (first : Box expr.Expr) (v : Vec (Sign × expr.Expr)) (items : List (Sign × expr.Expr)) (d : ℕ) (old mid new : List ℕ) → e ≡ expr.Sum first v → x ≡ first.value → items ≡ v.items
+pub sums_printed : (e x : expr.Expr) (first : Box expr.Expr) (b : Box (Vec (Sign × expr.Expr))) (v : Vec (Sign × expr.Expr)) (items : List (Sign × expr.Expr)) (d : ℕ) (old mid new : List ℕ) → e ≡ expr.Sums first b → x ≡ first.value → v ≡ b.value → items ≡ v.items
     → Prints old mid (expr_marks d (expr_tree x)) → Prints mid new (sum_marks d (sum_list items)) → Prints old new (expr_marks d (expr_tree e))
-sum_printed e x first v items d old mid new is head are h g =
+sums_printed e x first b v items d old mid new is head boxed are h g =
+    let all = are ∙ ap (λ (w : Vec (Sign × expr.Expr)). w.items) boxed in
     let same : expr_marks d (expr_tree e) ≡ expr_marks d (expr_tree x) ++ sum_marks d (sum_list items) =
-    ap (λ (y : expr.Expr). expr_marks d (expr_tree y)) is ∙ ap (expr_marks d) (expr_tree-Sum first v) ∙ (λ i. expr_marks d (expr_tree (sym head i)) ++ sum_marks d (sum_list (sym are i))) in
+    ap (λ (y : expr.Expr). expr_marks d (expr_tree y)) is ∙ ap (expr_marks d) (expr_tree-Sums first b) ∙ (λ i. expr_marks d (expr_tree (sym head i)) ++ sum_marks d (sum_list (sym all i))) in
     subst (λ (ms : List Mark). Prints old new ms) (sym same) (two_parts (expr_marks d (expr_tree x)) (sum_marks d (sum_list items)) old mid new h g)
 
-pub term_printed : (e x : expr.Expr) (first : Box expr.Expr) (v : Vec (TermSign × expr.Expr)) (items : List (TermSign × expr.Expr)) (d : ℕ) (old mid new : List ℕ) → e ≡ expr.Term first v → x ≡ first.value → items ≡ v.items
+pub terms_printed : (e x : expr.Expr) (first : Box expr.Expr) (b : Box (Vec (TermSign × expr.Expr))) (v : Vec (TermSign × expr.Expr)) (items : List (TermSign × expr.Expr)) (d : ℕ) (old mid new : List ℕ) → e ≡ expr.Terms first b → x ≡ first.value → v ≡ b.value → items ≡ v.items
     → Prints old mid (expr_marks d (expr_tree x)) → Prints mid new (term_marks d (term_list items)) → Prints old new (expr_marks d (expr_tree e))
-term_printed e x first v items d old mid new is head are h g =
+terms_printed e x first b v items d old mid new is head boxed are h g =
+    let all = are ∙ ap (λ (w : Vec (TermSign × expr.Expr)). w.items) boxed in
     let same : expr_marks d (expr_tree e) ≡ expr_marks d (expr_tree x) ++ term_marks d (term_list items) =
-    ap (λ (y : expr.Expr). expr_marks d (expr_tree y)) is ∙ ap (expr_marks d) (expr_tree-Term first v) ∙ (λ i. expr_marks d (expr_tree (sym head i)) ++ term_marks d (term_list (sym are i))) in
+    ap (λ (y : expr.Expr). expr_marks d (expr_tree y)) is ∙ ap (expr_marks d) (expr_tree-Terms first b) ∙ (λ i. expr_marks d (expr_tree (sym head i)) ++ term_marks d (term_list (sym all i))) in
     subst (λ (ms : List Mark). Prints old new ms) (sym same) (two_parts (expr_marks d (expr_tree x)) (term_marks d (term_list items)) old mid new h g)

@@ -21,19 +21,37 @@ pub fn push_expr(expr: &Expr, out: &mut Vec<u8>) -> Result<(), NoMemory>
         Expr::Or(members) => push_chain(members, b"or", out),
         Expr::And(members) => push_chain(members, b"and", out),
         Expr::Relation {
-            first,
             sign,
+            first,
             second,
         } => {
             push_expr(first, out)?;
             push_sign(*sign, out)?;
             push_expr(second, out)
         }
-        Expr::Sum { first, rest } => {
+        Expr::Sum {
+            sign,
+            first,
+            second: member,
+        } => {
+            push_expr(first, out)?;
+            push_sign(*sign, out)?;
+            push_expr(member, out)
+        }
+        Expr::Sums { first, rest } => {
             push_expr(first, out)?;
             push_sums(rest, out)
         }
-        Expr::Term { first, rest } => {
+        Expr::Term {
+            sign,
+            first,
+            second: member,
+        } => {
+            push_expr(first, out)?;
+            push_term_sign(*sign, out)?;
+            push_expr(member, out)
+        }
+        Expr::Terms { first, rest } => {
             push_expr(first, out)?;
             push_terms(rest, out)
         }
@@ -49,12 +67,10 @@ pub fn push_expr(expr: &Expr, out: &mut Vec<u8>) -> Result<(), NoMemory>
         Expr::Text(inside) => push_text(inside, out),
         Expr::True => push_keyword(Keyword::True, out),
         Expr::False => push_keyword(Keyword::False, out),
-        Expr::Name { name, index } => {
+        Expr::Name(name) => push_name(name, out),
+        Expr::Member { name, index } => {
             push_name(name, out)?;
-            match index {
-                None => Ok(()),
-                Some(index) => push_index(index, out),
-            }
+            push_index(index, out)
         }
         Expr::Bracket(inner) => {
             push_sign(Sign::Open, out)?;
