@@ -4,7 +4,7 @@ use Rattle.lynx_lexer.specs.declared.sign.Sign.{Sign}
 use Rattle.lynx_tree.specs.declared.expression.Expr as expr
 use Rattle.lynx_tree.specs.declared.expression.TermSign.{TermSign}
 use Rattle.std.specs.Global.{Vec, Box}
-use Rattle.lynx_tree.proofs.Views.{expr_tree-Or, expr_tree-And, expr_tree-Sum, expr_tree-Term}
+use Rattle.lynx_tree.proofs.Views.{expr_tree-Or, expr_tree-And, expr_tree-Sums, expr_tree-Terms}
 use Rattle.lynx_tree.specs.Trees.{expr_tree, expr_list, sum_list, term_list}
 use Rattle.lynx_tree.specs.Trees as trees
 use Rattle.lynx_code.specs.Generation.{how_many}
@@ -73,25 +73,43 @@ chain_long names jump first rest members old mid are begun long =
 
 -- ---- expressions with a list, as they lie in memory
 
-pub or_is : (names : Names) (at : ℕ) (e : expr.Expr) (v : Vec expr.Expr) (members : List expr.Expr) → e ≡ expr.Or v → members ≡ v.items → chain_code names code.OrJ at (expr_list members) ≡ expr_code names at (expr_tree e)
-or_is names at e v members is held =
-    ap (λ (es : List expr.Expr). chain_code names code.OrJ at (expr_list es)) held ∙ sym (ap (λ (x : expr.Expr). expr_code names at (expr_tree x)) is ∙ ap (expr_code names at) (expr_tree-Or v))
+pub or_is : (names : Names) (at : ℕ) (e : expr.Expr) (b : Box (Vec expr.Expr)) (v : Vec expr.Expr) (members : List expr.Expr) → e ≡ expr.Or b → v ≡ b.value → members ≡ v.items → chain_code names code.OrJ at (expr_list members) ≡ expr_code names at (expr_tree e)
+or_is names at e b v members is boxed held =
+    let all = held ∙ ap (λ (w : Vec expr.Expr). w.items) boxed in
+    ap (λ (es : List expr.Expr). chain_code names code.OrJ at (expr_list es)) all ∙ sym (ap (λ (x : expr.Expr). expr_code names at (expr_tree x)) is ∙ ap (expr_code names at) (expr_tree-Or b))
 
-pub and_is : (names : Names) (at : ℕ) (e : expr.Expr) (v : Vec expr.Expr) (members : List expr.Expr) → e ≡ expr.And v → members ≡ v.items → chain_code names code.AndJ at (expr_list members) ≡ expr_code names at (expr_tree e)
-and_is names at e v members is held =
-    ap (λ (es : List expr.Expr). chain_code names code.AndJ at (expr_list es)) held ∙ sym (ap (λ (x : expr.Expr). expr_code names at (expr_tree x)) is ∙ ap (expr_code names at) (expr_tree-And v))
+pub and_is : (names : Names) (at : ℕ) (e : expr.Expr) (b : Box (Vec expr.Expr)) (v : Vec expr.Expr) (members : List expr.Expr) → e ≡ expr.And b → v ≡ b.value → members ≡ v.items → chain_code names code.AndJ at (expr_list members) ≡ expr_code names at (expr_tree e)
+and_is names at e b v members is boxed held =
+    let all = held ∙ ap (λ (w : Vec expr.Expr). w.items) boxed in
+    ap (λ (es : List expr.Expr). chain_code names code.AndJ at (expr_list es)) all ∙ sym (ap (λ (x : expr.Expr). expr_code names at (expr_tree x)) is ∙ ap (expr_code names at) (expr_tree-And b))
 
-pub sum_is : (names : Names) (at : ℕ) (e first : expr.Expr) (b : Box expr.Expr) (v : Vec (Sign × expr.Expr)) (members : List (Sign × expr.Expr)) → e ≡ expr.Sum b v → first ≡ b.value → members ≡ v.items
+pub sums_is : (names : Names) (at : ℕ) (e first : expr.Expr) (b : Box expr.Expr) (rest : Box (Vec (Sign × expr.Expr))) (v : Vec (Sign × expr.Expr)) (members : List (Sign × expr.Expr)) → e ≡ expr.Sums b rest → first ≡ b.value → v ≡ rest.value → members ≡ v.items
     → expr_code names at (expr_tree first) ++ sum_code names (at + length (expr_code names at (expr_tree first))) (sum_list members) ≡ expr_code names at (expr_tree e)
-sum_is names at e first b v members is begun held =
-    ap (λ (f : expr.Expr). expr_code names at (trees.Sum (expr_tree f) (sum_list members))) begun ∙ ap (λ (ms : List (Sign × expr.Expr)). expr_code names at (trees.Sum (expr_tree b.value) (sum_list ms))) held
-    ∙ sym (ap (λ (x : expr.Expr). expr_code names at (expr_tree x)) is ∙ ap (expr_code names at) (expr_tree-Sum b v))
+sums_is names at e first b rest v members is begun boxed held =
+    let all = held ∙ ap (λ (w : Vec (Sign × expr.Expr)). w.items) boxed in
+    ap (λ (f : expr.Expr). expr_code names at (trees.Sum (expr_tree f) (sum_list members))) begun ∙ ap (λ (ms : List (Sign × expr.Expr)). expr_code names at (trees.Sum (expr_tree b.value) (sum_list ms))) all
+    ∙ sym (ap (λ (x : expr.Expr). expr_code names at (expr_tree x)) is ∙ ap (expr_code names at) (expr_tree-Sums b rest))
 
-pub term_is : (names : Names) (at : ℕ) (e first : expr.Expr) (b : Box expr.Expr) (v : Vec (TermSign × expr.Expr)) (members : List (TermSign × expr.Expr)) → e ≡ expr.Term b v → first ≡ b.value → members ≡ v.items
+pub terms_is : (names : Names) (at : ℕ) (e first : expr.Expr) (b : Box expr.Expr) (rest : Box (Vec (TermSign × expr.Expr))) (v : Vec (TermSign × expr.Expr)) (members : List (TermSign × expr.Expr)) → e ≡ expr.Terms b rest → first ≡ b.value → v ≡ rest.value → members ≡ v.items
     → expr_code names at (expr_tree first) ++ term_code names (at + length (expr_code names at (expr_tree first))) (term_list members) ≡ expr_code names at (expr_tree e)
-term_is names at e first b v members is begun held =
-    ap (λ (f : expr.Expr). expr_code names at (trees.Term (expr_tree f) (term_list members))) begun ∙ ap (λ (ms : List (TermSign × expr.Expr)). expr_code names at (trees.Term (expr_tree b.value) (term_list ms))) held
-    ∙ sym (ap (λ (x : expr.Expr). expr_code names at (expr_tree x)) is ∙ ap (expr_code names at) (expr_tree-Term b v))
+terms_is names at e first b rest v members is begun boxed held =
+    let all = held ∙ ap (λ (w : Vec (TermSign × expr.Expr)). w.items) boxed in
+    ap (λ (f : expr.Expr). expr_code names at (trees.Term (expr_tree f) (term_list members))) begun ∙ ap (λ (ms : List (TermSign × expr.Expr)). expr_code names at (trees.Term (expr_tree b.value) (term_list ms))) all
+    ∙ sym (ap (λ (x : expr.Expr). expr_code names at (expr_tree x)) is ∙ ap (expr_code names at) (expr_tree-Terms b rest))
+
+pub sum_is : (names : Names) (at : ℕ) (e x y : expr.Expr) (sign : Sign) (first second : Box expr.Expr) (operator : Instruction) → e ≡ expr.Sum sign first second → x ≡ first.value → y ≡ second.value → operator ≡ sum_operator sign
+    → expr_code names at (expr_tree x) ++ (expr_code names (at + length (expr_code names at (expr_tree x))) (expr_tree y) ++ operator ∷ []) ≡ expr_code names at (expr_tree e)
+sum_is names at e x y sign first second operator is head last does =
+    let begun : List Instruction = expr_code names at (expr_tree x) in
+    let more : List Instruction = expr_code names (at + length begun) (expr_tree y) in
+    ap (λ (o : Instruction). begun ++ (more ++ o ∷ [])) does ∙ (λ i. expr_code names at (trees.Sum (expr_tree (head i)) (trees.more_sums sign (expr_tree (last i)) trees.no_sums))) ∙ sym (ap (λ (z : expr.Expr). expr_code names at (expr_tree z)) is)
+
+pub term_is : (names : Names) (at : ℕ) (e x y : expr.Expr) (sign : TermSign) (first second : Box expr.Expr) (operator : Instruction) → e ≡ expr.Term sign first second → x ≡ first.value → y ≡ second.value → operator ≡ term_operator sign
+    → expr_code names at (expr_tree x) ++ (expr_code names (at + length (expr_code names at (expr_tree x))) (expr_tree y) ++ operator ∷ []) ≡ expr_code names at (expr_tree e)
+term_is names at e x y sign first second operator is head last does =
+    let begun : List Instruction = expr_code names at (expr_tree x) in
+    let more : List Instruction = expr_code names (at + length begun) (expr_tree y) in
+    ap (λ (o : Instruction). begun ++ (more ++ o ∷ [])) does ∙ (λ i. expr_code names at (trees.Term (expr_tree (head i)) (trees.more_terms sign (expr_tree (last i)) trees.no_terms))) ∙ sym (ap (λ (z : expr.Expr). expr_code names at (expr_tree z)) is)
 
 pub how_many_are : (es : List expr.Expr) → how_many (expr_list es) ≡ length es
 how_many_are [] = refl

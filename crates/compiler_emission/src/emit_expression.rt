@@ -71,18 +71,34 @@ pub fn emit_expr(
         Expr::Or(members) => emit_chain(true, members, code, names),
         Expr::And(members) => emit_chain(false, members, code, names),
         Expr::Relation {
-            first,
             sign,
+            first,
             second,
         } => {
             emit_expr(first, code, names)?;
             emit_then(second, relation(*sign), code, names)
         }
-        Expr::Sum { first, rest } => {
+        Expr::Sum {
+            sign,
+            first,
+            second,
+        } => {
+            emit_expr(first, code, names)?;
+            emit_then(second, sum_operator(*sign), code, names)
+        }
+        Expr::Sums { first, rest } => {
             emit_expr(first, code, names)?;
             emit_sums(rest, code, names)
         }
-        Expr::Term { first, rest } => {
+        Expr::Term {
+            sign,
+            first,
+            second,
+        } => {
+            emit_expr(first, code, names)?;
+            emit_then(second, term_operator(*sign), code, names)
+        }
+        Expr::Terms { first, rest } => {
             emit_expr(first, code, names)?;
             emit_terms(rest, code, names)
         }
@@ -92,11 +108,8 @@ pub fn emit_expr(
         Expr::Text(inside) => push_text(inside, code),
         Expr::True => push(code, Instruction::Push(Literal::Bool(true))),
         Expr::False => push(code, Instruction::Push(Literal::Bool(false))),
-        Expr::Name { name, index: None } => push(code, names.load(name)),
-        Expr::Name {
-            name,
-            index: Some(index),
-        } => emit_then(index, names.load_member(name), code, names),
+        Expr::Name(name) => push(code, names.load(name)),
+        Expr::Member { name, index } => emit_then(index, names.load_member(name), code, names),
         Expr::Bracket(inner) => emit_expr(inner, code, names),
     }
 }
