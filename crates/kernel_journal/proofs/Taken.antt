@@ -21,7 +21,8 @@ use Rattle.transcript_reading.specs.declared.line.LineKind.{LineKind}
 use Rattle.transcript_reading.specs.declared.line.LineKind.TheVariants as line
 use Rattle.kernel_journal.specs.At.{AreLeft, IsAmongEntries, IsAt}
 use Rattle.kernel_journal.specs.Body.{Goes, IsNoted, IsReady, StopsAt, course_of}
-use Rattle.kernel_journal.specs.Expected.{HasDiffered, HasTaken as HasTakenLine, MayNotFollow, ReadsDue, ReadsFirst, Stands, TookNext, Waits, told_packet}
+use Rattle.kernel_journal.specs.Expected.{HasDiffered, HasTaken as HasTakenLine, MayNotFollow, ReadsDue, ReadsFirst, Stands, TookNext, Waits}
+use Rattle.expected_lines.specs.Told.{told_packet}
 use Rattle.kernel_journal.specs.declared.body.Body.{Body}
 use Rattle.kernel_journal.specs.declared.fault.Stop.{Stop}
 use Rattle.kernel_journal.specs.declared.fault.Stop.TheVariants as stop

@@ -1,11 +1,11 @@
 -- The next line of a text, where it is just what the kernels expect there.
 use Rattle.std.specs.Prelude.{◌≡◌, ◌<◌, ℕ, List, [], ◌∷◌, ◌++◌, Some, Ok}
 use Rattle.charlotte_calls.specs.declared.calls.ServiceStep.{ServiceStep}
-use Rattle.charlotte_packets.specs.declared.picture.Picture.{Picture}
 use Rattle.charlotte_packets.specs.declared.picture.PictureWhat.{PictureWhat}
 use Rattle.charlotte_calls.specs.declared.setting.Setting.{Setting}
 use Rattle.kernel_nodes.specs.Nodes.{IsFirst, world_of}
 use Rattle.kernel_nodes.specs.declared.nodes.Nodes.{Nodes}
+use Rattle.expected_lines.specs.Told.{told_packet}
 use Rattle.transcript_replay.specs.Course.{Refutes}
 use Rattle.transcript_reader.specs.Lines.{Unread, next_line}
 use Rattle.transcript_reader.specs.Next.{Reads}
@@ -23,10 +23,6 @@ use Rattle.kernel_journal.specs.declared.fault.ReplayFault.TheVariants as fault
 use Rattle.kernel_journal.specs.declared.fault.Stop.{Stop}
 use Rattle.kernel_journal.specs.declared.fault.Stop.TheVariants as stop
 use Rattle.kernel_journal.specs.declared.lines.Replay.{Replay}
-
--- a packet as its line tells it, which shows no stamp
-abbrev pub told_packet : PictureWhat → Picture
-told_packet what = record { stamp = 0; what = what }
 
 -- ---- a body
 

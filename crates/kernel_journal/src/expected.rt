@@ -3,7 +3,8 @@ ghost use Rattle.std.specs.Prelude.{◌≡◌, ◌<◌, ◌++◌, [], IfErr, IfO
 ghost use Rattle.charlotte_packets.specs.declared.picture.PictureWhat.{PictureWhat as AWhat};
 ghost use Rattle.charlotte_calls.specs.declared.setting.Setting.{Setting as ASetting};
 ghost use Rattle.kernel_journal.specs.Body.{Goes, IsReady, StopsAt, most_events};
-ghost use Rattle.kernel_journal.specs.Expected.{ReadsDue, ReadsFirst, Stands, TookNext, Waits, told_packet};
+ghost use Rattle.kernel_journal.specs.Expected.{ReadsDue, ReadsFirst, Stands, TookNext, Waits};
+ghost use Rattle.expected_lines.specs.Told.{told_packet};
 ghost use Rattle.charlotte_text.specs.Reading.{parts};
 ghost use Rattle.charlotte_text.specs.Spelling.{line_feed};
 ghost use Rattle.kernel_nodes.specs.Nodes.{AreNodes};
@@ -13,7 +14,7 @@ ghost use Rattle.transcript_reading.specs.declared.line.LineKind.TheVariants as 
 
 use crate::body::Body;
 use crate::fault::Stop;
-use crate::reads::{reads_call, reads_packet, reads_step};
+use expected_lines::{reads_call, reads_packet, reads_step};
 use kernel_nodes::{Nodes, Request};
 use transcript_reader::{Ahead, CallAhead, PacketAhead, Reader};
 

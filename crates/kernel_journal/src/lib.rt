@@ -18,8 +18,6 @@ mod due;
 mod expected;
 mod fault;
 mod lines;
-mod reads;
-mod shown;
 mod whole;
 
 pub use fault::ReplayFault;

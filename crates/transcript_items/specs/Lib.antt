@@ -1,4 +1,5 @@
 pub mod Bearing
 pub mod Given
 pub mod Kept
+pub mod Next
 pub mod Texts

@@ -1,17 +1,19 @@
 //! What kernels and a link service that follow a transcript tell.
-ghost use Rattle.std.specs.Prelude.{◌≡◌, ◌↔◌, IfOk, IsTrue, MatchBool, option_copied, option_map};
+ghost use Rattle.std.specs.Prelude.{◌≡◌, ◌↔◌, IfOk, IsTrue, MatchBool, MatchOption, option_copied, option_map};
 ghost use Rattle.std.specs.Bool.{OnTrue};
 ghost use Rattle.charlotte_calls.specs.Setting.{IsValid};
 ghost use Rattle.charlotte_packets.specs.Packets.{packet_picture};
 ghost use Rattle.end_table.specs.Lent.{lent_entry};
 ghost use Rattle.kernel_world.specs.Run.{AllTaken};
 ghost use Rattle.transcript_items.specs.Kept.{Kept, Follows, Refuses, doing_of, entry_at, first_due, first_packet, kept_start, stamp_of};
+ghost use Rattle.transcript_items.specs.Next.{FollowsNext};
 
 use charlotte_calls::{EndId, NoMemory, Pid, ServiceStep, Setting};
 use charlotte_packets::Packet;
 use end_table::Lent;
 use service_step::Place;
 use std::alloc::Global;
+use transcript_reader::Reader;
 use transcript_reading::LineKind;
 
 /// What a process is doing.
@@ -42,6 +44,14 @@ pub trait Kernels: Sized + Drop {
         requires { stand self.old }
         ensures stand { IfOk result (λ went. OnTrue went (stand self.new)) }
         ensures follows { IfOk result (λ went. MatchBool went (Follows (kept self.old) kind.now (kept self.new)) (Refuses (kept self.old) kind.now)) };
+
+    /// Reads the next line and does what it says, where it is just what they expect there: no value is made of it. `None`: it was not read, and may be
+    /// any. `false` exactly where that is not possible, and then no further line is followed.
+    fn follow_expected(&mut self, reader: &mut Reader<'_>) -> Result<Option<bool>, NoMemory>
+        requires { stand self.old }
+        ensures stand { IfOk result (λ went. MatchOption went (stand self.new) (λ w. OnTrue w (stand self.new))) }
+        ensures follows { IfOk result (λ went. MatchOption went ((kept self.new ≡ kept self.old) × (reader.new ≡ reader.old))
+            (λ w. FollowsNext (kept self.old) reader.old w (kept self.new) reader.new)) };
 
     /// How many kernels there are.
     fn count(&self) -> u8

@@ -1,10 +1,13 @@
 -- What a run keeps, once an event was noted.
-use Rattle.std.proofs.Common.{◌≡◌, ℕ, suc, ◌<◌, ◌≤◌, arith, List, [], ◌∷◌, drop, length, slice_get, cond, lt-ltb, le-ltb, Some, None, option_map, refl, subst, sym, ap, ◌∙◌}
+use Rattle.std.proofs.Common.{◌≡◌, ℕ, ◌+◌, suc, ◌<◌, ◌≤◌, Bool, true, false, MatchBool, IfOk, MatchOption, Option, Result, Ok, Err, arith, List, [], ◌∷◌, drop, length, slice_get, cond, lt-ltb, le-ltb, Some, None, option_map, refl, subst, sym, ap, ◌∙◌}
+use Rattle.std.specs.Bool.{OnTrue}
 use Rattle.std.proofs.lemmas.List.Elements.{All-get_or}
 use Rattle.std.proofs.lemmas.Option.{get_or_from_slice_get, slice_get_within}
 use Rattle.charlotte_calls.specs.Setting.{IsValid}
 use Rattle.charlotte_calls.specs.declared.calls.Call.{Call}
 use Rattle.charlotte_calls.specs.declared.calls.ServiceStep.{ServiceStep}
+use Rattle.charlotte_packets.specs.Packets.{packet_picture, what_picture}
+use Rattle.charlotte_packets.specs.declared.packet.Packet.{Packet}
 use Rattle.charlotte_packets.specs.declared.picture.Picture.{Picture}
 use Rattle.charlotte_packets.specs.declared.picture.PictureWhat.{PictureWhat}
 use Rattle.charlotte_calls.specs.declared.names.EndId.{EndId}
@@ -22,12 +25,21 @@ use Rattle.kernel_nodes.specs.declared.nodes.Noted.{Noted}
 use Rattle.kernel_step.specs.Calls.{IsCallWith}
 use Rattle.kernel_step.specs.Kernel.{Kernel, process_of}
 use Rattle.kernel_world.specs.World.{Event, Calls, happens, kernel_of, outcome}
+use Rattle.kernel_world.specs.World.{Takes as TakesFirst}
 use Rattle.link_service.specs.Service.{state_of}
 use Rattle.service_step.specs.Steps.{IsAllowed}
 use Rattle.transcript_items.specs.Kept.{Asks, Kept, MayCall, Shows, Takes, doing_in, doing_of, entry_at, goes_on, stamp_of}
 use Rattle.transcript_items.specs.declared.kernels.Doing.{Doing}
-use Rattle.transcript_kept.specs.Run.{IsRun, kept_of}
+use Rattle.transcript_items.specs.Next.{FollowsNext}
+use Rattle.transcript_kept.specs.Run.{AnswersNext, IsRun, ReadsFirst, kept_of}
 use Rattle.transcript_kept.specs.declared.run.Run.{Run}
+use Rattle.expected_lines.specs.Told.{told_packet}
+use Rattle.transcript_reader.specs.Lines.{Unread}
+use Rattle.transcript_reader.specs.Next.{Reads}
+use Rattle.transcript_reader.specs.declared.guess.CallAhead.{CallAhead}
+use Rattle.transcript_reader.specs.declared.guess.PacketAhead.{PacketAhead}
+use Rattle.transcript_reading.specs.Kinds.{shown_step}
+use Rattle.transcript_reading.specs.declared.line.LineKind.TheVariants as line
 
 -- the event with its note, and what stayed
 pub record IsNoted (e : Event) (ms : Nodes) (noted : Noted) (old new : Run) : Type 0 where
@@ -119,3 +131,74 @@ pub entry-some : (r : Run) (kernel : ℕ) (end : EndId) (k : KernelView) (x : En
 entry-some r kernel end k x is told =
     told ∙ ap (λ (t : EndId → Entry). t end) (sym (state-table k)) ∙ ap (λ (x : Kernel). x.table end) (sym is.state)
     ∙ sym (ap (λ b. cond b (((kept_of r).world.kernel kernel).table end) Nothing) (lt-ltb kernel r.setting.kernels is.below))
+
+-- ---- the next line
+
+-- it was not read, and another call is kept at most
+pub none-next : (old new : Run) (u v : Unread) → IsRun old → new.setting ≡ old.setting → new.nodes ≡ old.nodes → new.service ≡ old.service → new.latest ≡ old.latest → new.due ≡ old.due → v ≡ u → AnswersNext old u None new v
+none-next old new u v run setting nodes service latest due same = (
+  record {
+    valid = subst IsValid (sym setting) run.valid;
+    nodes = subst (λ (ns : Nodes). AreNodes new.setting ns.nodes.items) (sym nodes) (subst (λ (s : Setting). AreNodes s old.nodes.nodes.items) (sym setting) run.nodes);
+  },
+  λ i. record { setting = setting i; world = world_of (setting i) ((nodes i).nodes.items); latest = latest i; due = (due i).items; service = state_of (service i) },
+  same,
+)
+
+-- it shows the step that is due
+pub shows-next : (went : Bool) (s : ServiceStep) (old new : Run) (u v : Unread) → Reads u (line.Service (shown_step s)) v → OnTrue went (IsRun new)
+    → MatchBool went (Shows (kept_of old) (kept_of new)) ((new : Kept) → Shows (kept_of old) new → ⊥) → AnswersNext old u (Some went) new v
+shows-next went s old new u v read stand shows = (stand, record { line = record { number = u.lines + 1; what = line.Service (shown_step s) }; read = read.line; follows = shows })
+
+-- it is the entry of the first packet
+pub first-reads : (b : Bool) (r : Run) (a : PacketAhead) (p : Packet) (u v : Unread) → Some (packet_picture p) ≡ slice_get ((kept_of r).world.packets a.from a.kernel) 0
+    → MatchBool b (Reads u (line.PacketEntry a.stamp a.kernel a.from (told_packet (what_picture p.what))) v) (v ≡ u) → MatchBool b (ReadsFirst (kept_of r) a u v) (v ≡ u)
+first-reads true r a p u v first read = record { packet = packet_picture p; first = sym first; read = read }
+first-reads false r a p u v first same = same
+
+pub takes-next : (a : PacketAhead) (ms : Nodes) (noted : Noted) (old new : Run) (u v : Unread) → IsRun old → a.kernel < old.setting.kernels → ReadsFirst a (kept_of old) u v
+    → IsNoted (TakesFirst a.kernel a.from) ms noted old new → AnswersNext old u (Some true) new v
+takes-next a ms noted old new u v run below reads is =
+    (
+      stands (TakesFirst a.kernel a.from) ms noted old new run is,
+      record {
+        line = record { number = u.lines + 1; what = line.PacketEntry a.stamp a.kernel a.from (told_packet reads.packet.what) };
+        read = reads.read.line;
+        follows = record {
+            first = record { there = below; packet = reads.packet; first = reads.first; told = refl };
+            after = kept-on (TakesFirst a.kernel a.from) ms noted old new is;
+          };
+      },
+    )
+
+-- it is the entry of a call
+pub asks-next : (a : CallAhead) (call : Call) (mine : List EndId) (ms : Nodes) (noted : Noted) (old new : Run) (u v : Unread) → IsRun old → MayCall (kept_of old) a.kernel a.p
+    → Reads u (line.CallEntry a.stamp a.kernel a.p call) v → IsCallWith a.p ((kept_of old).world.kernel a.kernel).table mine call → IsNoted (Calls a.kernel a.p call mine) ms noted old new → AnswersNext old u (Some true) new v
+asks-next a call mine ms noted old new u v run may reads owned is = (
+  stands (Calls a.kernel a.p call mine) ms noted old new run is,
+  record {
+    line = record { number = u.lines + 1; what = line.CallEntry a.stamp a.kernel a.p call };
+    read = reads.line;
+    follows = asks-on a.kernel a.p call call mine ms noted old new may refl owned is;
+  },
+)
+
+-- ---- what is told of it, clause by clause
+
+next-stand : (went : Option Bool) (old new : Run) (u v : Unread) → AnswersNext old u went new v → MatchOption went (IsRun new) (λ w. OnTrue w (IsRun new))
+next-stand None old new u v is = is.0
+next-stand (Some went) old new u v is = is.0
+
+next-follows : (went : Option Bool) (old new : Run) (u v : Unread) → AnswersNext old u went new v
+    → MatchOption went ((kept_of new ≡ kept_of old) × (v ≡ u)) (λ w. FollowsNext (kept_of old) u w (kept_of new) v)
+next-follows None old new u v is = is.1
+next-follows (Some went) old new u v is = is.1
+
+pub answers-stand : {E : Type 0} (r : Result (Option Bool) E) (old new : Run) (u v : Unread) → IfOk r (λ went. AnswersNext old u went new v) → IfOk r (λ went. MatchOption went (IsRun new) (λ w. OnTrue w (IsRun new)))
+answers-stand (Ok went) old new u v is = next-stand went old new u v is
+answers-stand (Err e) old new u v is = tt
+
+pub answers-follow : {E : Type 0} (r : Result (Option Bool) E) (old new : Run) (u v : Unread) → IfOk r (λ went. AnswersNext old u went new v)
+    → IfOk r (λ went. MatchOption went ((kept_of new ≡ kept_of old) × (v ≡ u)) (λ w. FollowsNext (kept_of old) u w (kept_of new) v))
+answers-follow (Ok went) old new u v is = next-follows went old new u v is
+answers-follow (Err e) old new u v is = tt

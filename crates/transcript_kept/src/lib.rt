@@ -9,6 +9,7 @@
 //! By `IsRun` and `kept_of` in `specs/Run.antt`; the clauses of `Kernels` at `Run`, and of `explain`.
 #![tactic(auto)]
 
+mod expected;
 mod explaining;
 mod run;
 

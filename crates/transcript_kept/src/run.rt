@@ -15,18 +15,21 @@ use link_service::{ApplyFault, Place, Service};
 use std::alloc::Global;
 use std::collections::VecDeque;
 use transcript_items::{Doing, Kernels};
+use transcript_reader::Reader;
 use transcript_reading::LineKind;
 
 /// The kernels and the service after some lines. The lines are those of a run, which an audit has tested; here they are followed.
 #[derive(Drop)]
 pub struct Run {
-    setting: Setting,
-    nodes: Nodes,
+    pub(crate) setting: Setting,
+    pub(crate) nodes: Nodes,
     service: Service,
     /// Stamp and kernel of the last entry.
     latest: Option<(u64, u8)>,
     /// The service steps of the last event that no line has shown yet.
-    due: VecDeque<ServiceStep>,
+    pub(crate) due: VecDeque<ServiceStep>,
+    /// A call that comes next is read into its place.
+    pub(crate) request: Request,
 }
 
 impl Kernels for Run {
@@ -43,6 +46,10 @@ impl Kernels for Run {
             service,
             latest: None,
             due: VecDeque::new(alloc),
+            request: Request {
+                p: Pid(0),
+                call: Call::Make,
+            },
         })
     }
 
@@ -68,6 +75,13 @@ impl Kernels for Run {
             LineKind::Note(_) => Ok(true),
             LineKind::End(_) => Ok(true),
         }
+    }
+
+    fn follow_expected(&mut self, reader: &mut Reader<'_>) -> Result<Option<bool>, NoMemory> {
+        if !reader.is_among_entries() {
+            return Ok(None);
+        }
+        self.follow_next(reader)
     }
 
     fn count(&self) -> u8 {
@@ -148,7 +162,7 @@ impl Run {
         }
     }
 
-    fn note(&mut self, kernel: u8, noted: Noted)
+    pub(crate) fn note(&mut self, kernel: u8, noted: Noted)
         ensures nodes { self.new.nodes ≡ self.old.nodes }
         ensures setting { self.new.setting ≡ self.old.setting }
         ensures service { self.new.service ≡ self.old.service }
@@ -160,7 +174,7 @@ impl Run {
     }
 
     /// The service makes the step that is due.
-    fn show(&mut self) -> Result<bool, NoMemory>
+    pub(crate) fn show(&mut self) -> Result<bool, NoMemory>
         requires { IsRun self.old }
         ensures stand { IfOk result (λ went. OnTrue went (IsRun self.new)) }
         ensures shows { IfOk result (λ went. MatchBool went (Shows (kept_of self.old) (kept_of self.new))
@@ -185,7 +199,7 @@ impl Run {
     }
 
     /// Whether a kernel is that of a process, which runs.
-    fn runs_at(&self, p: Pid, kernel: u8) -> bool
+    pub(crate) fn runs_at(&self, p: Pid, kernel: u8) -> bool
         requires { IsRun self.now }
         ensures { IsTrue result ↔ MayCall (kept_of self.now) kernel p }
     {

@@ -1,12 +1,13 @@
 -- One line more of the first ones, and what it makes of what is kept.
-use Rattle.std.proofs.Common.{◌≡◌, ℕ, zero, suc, ◌+◌, ◌≤◌, List, [], ◌∷◌, ◌++◌, Option, Some, None, Result, Ok, Err, ap, refl, subst, sym, ◌∙◌, arith, add-one}
+use Rattle.std.proofs.Common.{◌≡◌, ℕ, zero, suc, ◌+◌, ◌≤◌, Bool, true, false, IfOk, MatchBool, List, [], ◌∷◌, ◌++◌, Option, Some, None, Result, Ok, Err, ap, refl, subst, sym, ◌∙◌, arith, add-one}
 use Rattle.charlotte_calls.specs.declared.setting.Setting.{Setting}
-use Rattle.transcript_items.specs.Kept.{Kept, Follows, FollowAll}
+use Rattle.transcript_items.specs.Kept.{Kept, Follows, FollowAll, Refuses}
+use Rattle.transcript_items.specs.Next.{FollowsNext}
 use Rattle.transcript_reader.specs.Lines.{Unread, next_line}
 use Rattle.transcript_reader.specs.declared.line.Line.{Line}
 use Rattle.transcript_reading.specs.declared.line.LineKind.{LineKind}
 use Rattle.transcript_replay.specs.Header.{tell_all, tells}
-use Rattle.transcript_why.specs.Before.{first_lines, shown_next, with_next}
+use Rattle.transcript_why.specs.Before.{Halts, first_lines, shown_next, with_next}
 
 -- ---- the lines
 
@@ -78,3 +79,21 @@ follow-more (x ∷ xs) a b c k all f = (all.0, all.1, follow-more xs all.0 b c k
 pub follows-more : (n : ℕ) (u v : Unread) (l : Line) (a b c : Kept) → next_line (first_lines n u).1 ≡ Ok (Some (l, v)) → FollowAll a (first_lines n u).0 b → Follows b l.what c → FollowAll a (first_lines (n + 1) u).0 c
 follows-more n u v l a b c e all f =
     subst (λ (r : List LineKind × Unread). FollowAll a r.0 c) (sym (first-more n u v l e)) (follow-more (first_lines n u).0 a b c l.what all f)
+
+-- the next line was followed, or the lines halt there
+pub went-next : (went : Bool) (old new : Kept) (u v : Unread) → FollowsNext old u went new v → MatchBool went (FollowsNext old u true new v) (Halts old (shown_next (next_line u)))
+went-next true old new u v is = is
+went-next false old new u v is = subst (λ (r : Result (Option (Line × Unread)) ℕ). Halts old (shown_next r)) (sym is.read) is.follows
+
+-- a line was read, and followed or not
+pub line-went : {E : Type 0} (r : Result Bool E) (l : Line) (old new : Kept) (u v : Unread) → next_line u ≡ Ok (Some (l, v)) → IfOk r (λ went. MatchBool went (Follows old l.what new) (Refuses old l.what))
+    → IfOk r (λ went. MatchBool went (FollowsNext old u true new v) (Halts old (shown_next (next_line u))))
+line-went (Ok went) l old new u v read follows = went-next went old new u v (record { line = l; read = read; follows = follows })
+line-went (Err e) l old new u v read follows = tt
+
+-- what was kept and left before is as it was
+pub any-went : {E : Type 0} (r : Result Bool E) (old mid new : Kept) (u m v : Unread) → mid ≡ old → m ≡ u → IfOk r (λ went. MatchBool went (FollowsNext mid m true new v) (Halts mid (shown_next (next_line m))))
+    → IfOk r (λ went. MatchBool went (FollowsNext old u true new v) (Halts old (shown_next (next_line u))))
+any-went r old mid new u m v same left is =
+    subst (λ (k : Kept). IfOk r (λ went. MatchBool went (FollowsNext k u true new v) (Halts k (shown_next (next_line u))))) same
+    (subst (λ (w : Unread). IfOk r (λ went. MatchBool went (FollowsNext mid w true new v) (Halts mid (shown_next (next_line w))))) left is)

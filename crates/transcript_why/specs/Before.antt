@@ -5,6 +5,7 @@ use Rattle.charlotte_calls.specs.declared.setting.Setting.{Setting}
 use Rattle.transcript_items.specs.Kept.{Kept, FollowAll, Refuses, kept_start}
 use Rattle.transcript_reader.specs.Lines.{Unread, next_line, unread}
 use Rattle.transcript_reader.specs.declared.line.Line.{Line}
+use Rattle.transcript_reading.specs.Order.{Place, Entry, Noted, Over}
 use Rattle.transcript_reading.specs.declared.line.LineKind.{LineKind}
 use Rattle.transcript_replay.specs.Header.{tell_all, untold}
 
@@ -27,6 +28,13 @@ first_lines (suc n) u = with_next (first_lines n) u (next_line u)
 
 abbrev pub lines_before : List ℕ → ℕ → List LineKind × Unread
 lines_before bytes number = first_lines (number - 1) (unread bytes)
+
+-- no line of the header stands behind this place
+abbrev pub IsBehindHeader : Place → Type 0
+IsBehindHeader Entry = Unit {0}
+IsBehindHeader (Noted line) = Unit {0}
+IsBehindHeader Over = Unit {0}
+IsBehindHeader _ = ⊥
 
 -- what the lines of the header among them tell
 abbrev pub setting_before : List ℕ → ℕ → Setting

@@ -5,8 +5,8 @@ ghost use Rattle.transcript_items.specs.Texts.{kept_text};
 ghost use Rattle.transcript_why.specs.Why.{AreWhy, Tells};
 
 use crate::expected::{OR, expected_lines};
-use crate::following::run_before;
-use crate::reached::{Reached, reach};
+use crate::following::{Behind, run_before};
+use crate::reached::{next_kind, read_setting};
 use charlotte_calls::NoMemory;
 use charlotte_text::Listing;
 use std::alloc::Global;
@@ -45,17 +45,15 @@ fn tell_reasons<K: Kernels>(alloc: Global, bytes: &[u8], number: u32) -> Result<
     requires { length bytes.now < 4294967295 }
     ensures { IfOk result (λ r. Tells bytes.now number r.expected.items r.kept.items) }
 {
-    let Reached {
-        place,
-        setting,
-        next,
-    } = reach(alloc, bytes, number)?;
+    let setting = read_setting(alloc, bytes, number)?;
     let version = setting.version;
-    let Some(kind) = next else {
+    let Behind { mut reader, run } = run_before::<K>(alloc, bytes, number, setting)?;
+    let place = reader.place();
+    let Some(kind) = next_kind(&mut reader) else {
         let reasons = by_forms(alloc, place, version, line_at(bytes, number).text)?;
         return Ok(reasons);
     };
-    let Some(kernels) = run_before::<K>(alloc, bytes, number, setting)? else {
+    let Some(kernels) = run else {
         let reasons = by_forms(alloc, place, version, line_at(bytes, number).text)?;
         return Ok(reasons);
     };

@@ -1,9 +1,11 @@
--- A line more is told; behind one that cannot stand none is.
-use Rattle.std.proofs.Common.{◌≡◌, List, Some, Ok, ap, arith, sym, ◌∙◌}
+-- A line more is told; behind one that cannot stand none is, and behind the header none tells more.
+use Rattle.std.proofs.Common.{◌≡◌, ◌≤◌, List, Some, Ok, ap, arith, refl, subst, sym, ◌∙◌}
 use Rattle.transcript_reader.specs.Lines.{Unread, next_line}
+use Rattle.transcript_reading.specs.Order.{Place}
 use Rattle.transcript_reading.specs.declared.line.LineKind.{LineKind}
 use Rattle.transcript_replay.specs.Header.{tell_all, tells}
-use Rattle.transcript_why.specs.Before.{first_lines, shown_next}
+use Rattle.transcript_why.specs.Before.{IsBehindHeader, first_lines, shown_next}
+use Rattle.transcript_why.proofs.Header.{told-all}
 use Rattle.transcript_why.proofs.Lines.{first-all, first-more, none-yet, tells-more}
 use Rattle.transcript_why.proofs.reached.tell_lines.Goals as goal
 
@@ -29,7 +31,12 @@ returns-in_default c =
     let u = c.args.reader.now in
     let all : first_lines c.args.lines u ≡ first_lines n u =
     first-all n c.args.lines u (omega (arith, c.loop-test.true)) (ap (λ (r : Unread). shown_next (next_line r)) (sym c.loop.invariant.1) ∙ c.in_default.ensures.0) in
-    record {
-      told = c.loop.invariant.0 ∙ ap (λ (r : List LineKind × Unread). tell_all r.0 c.args.draft.now) (sym all);
-      left = c.in_default.ensures.1 ∙ c.loop.invariant.1 ∙ ap (λ (r : List LineKind × Unread). r.1) (sym all);
-    }
+    c.loop.invariant.0 ∙ ap (λ (r : List LineKind × Unread). tell_all r.0 c.args.draft.now) (sym all)
+
+pub returns-in_if-is_behind_header : goal.returns-in_if-is_behind_header
+returns-in_if-is_behind_header c =
+    let n = c.loop.counter in
+    let u = c.args.reader.now in
+    let behind : IsBehindHeader (first_lines n u).1.place =
+    subst IsBehindHeader (c.place.ensures ∙ ap (λ (r : Unread). r.place) c.loop.invariant.1) (c.is_behind_header.ensures.0 refl) in
+    c.loop.invariant.0 ∙ sym (told-all n c.args.lines u c.args.draft.now (omega (arith, c.loop-test.true)) behind)

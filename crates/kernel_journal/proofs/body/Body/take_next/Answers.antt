@@ -1,7 +1,7 @@
 use Rattle.std.proofs.Common.{◌<◌, arith}
 use Rattle.std.proofs.lemmas.Result.{err_from_is_err_and}
 use Rattle.transcript_reading.specs.declared.line.LineKind.TheVariants as line
-use Rattle.kernel_journal.specs.Expected.{told_packet}
+use Rattle.expected_lines.specs.Told.{told_packet}
 use Rattle.kernel_journal.proofs.Taken.{stands}
 use Rattle.kernel_journal.proofs.body.Body.take_next.Goals as goal
 

@@ -3,9 +3,9 @@ use Rattle.charlotte_packets.specs.Packets.{what_picture}
 use Rattle.transcript_lines.specs.TranscriptText.{HasFewPacket}
 use Rattle.transcript_reader.specs.Next.{IsAhead}
 use Rattle.transcript_reading.specs.declared.line.LineKind.TheVariants as line
-use Rattle.kernel_journal.specs.Expected.{told_packet}
-use Rattle.kernel_journal.proofs.Texts.{packet_ahead, read_as}
-use Rattle.kernel_journal.proofs.reads.reads_packet.Goals as goal
+use Rattle.expected_lines.specs.Told.{told_packet}
+use Rattle.expected_lines.proofs.Texts.{packet_ahead, read_as}
+use Rattle.expected_lines.proofs.reads.reads_packet.Goals as goal
 
 pub pass_line-requires : goal.pass_line-requires
 pass_line-requires c = (

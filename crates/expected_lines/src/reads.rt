@@ -1,9 +1,9 @@
-//! Lines that the kernels expect, compared with what a reader has next.
+//! The next line of a reader, compared with the text of what a kernel gives.
 ghost use Rattle.std.specs.Prelude.{◌≡◌, ◌++◌, MatchBool};
 ghost use Rattle.charlotte_packets.specs.Packets.{what_picture};
 ghost use Rattle.charlotte_text.specs.Reading.{parts};
 ghost use Rattle.charlotte_text.specs.Spelling.{line_feed};
-ghost use Rattle.kernel_journal.specs.Expected.{told_packet};
+ghost use Rattle.expected_lines.specs.Told.{told_packet};
 ghost use Rattle.leading_lines.specs.Ahead.{head_text};
 ghost use Rattle.transcript_reader.specs.Next.{Reads};
 ghost use Rattle.leading_lines.specs.declared.guess.Ahead.TheVariants as heads;
@@ -19,7 +19,7 @@ use transcript_reader::{
 };
 
 /// Whether the next line shows this step; if so, it is read.
-pub(crate) fn reads_step(reader: &mut Reader<'_>, step: &ServiceStep) -> bool
+pub fn reads_step(reader: &mut Reader<'_>, step: &ServiceStep) -> bool
     ensures { MatchBool result (Reads reader.old (line.Service (shown_step step.now)) reader.new) (reader.new ≡ reader.old) }
 {
     if !has_shown(reader.version(), step) {
@@ -33,7 +33,7 @@ pub(crate) fn reads_step(reader: &mut Reader<'_>, step: &ServiceStep) -> bool
 }
 
 /// Whether the next line, which begins so, is the entry of this packet; if so, it is read.
-pub(crate) fn reads_packet<'a>(
+pub fn reads_packet<'a>(
     reader: &mut Reader<'a>,
     ahead: PacketAhead,
     rest: &'a [u8],
@@ -56,7 +56,7 @@ pub(crate) fn reads_packet<'a>(
 }
 
 /// Whether the next line, which begins so, is the entry of a call; if so, it is read, and the call is put into its place.
-pub(crate) fn reads_call<'a>(
+pub fn reads_call<'a>(
     reader: &mut Reader<'a>,
     ahead: CallAhead,
     rest: &'a [u8],

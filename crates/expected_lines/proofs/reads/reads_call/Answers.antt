@@ -2,8 +2,8 @@ use Rattle.std.proofs.Common.{ℕ, subst}
 use Rattle.charlotte_text.specs.Spelling.{IsCall}
 use Rattle.transcript_reader.specs.Next.{IsAhead}
 use Rattle.transcript_reading.specs.declared.line.LineKind.TheVariants as line
-use Rattle.kernel_journal.proofs.Texts.{call_ahead, read_as}
-use Rattle.kernel_journal.proofs.reads.reads_call.Goals as goal
+use Rattle.expected_lines.proofs.Texts.{call_ahead, read_as}
+use Rattle.expected_lines.proofs.reads.reads_call.Goals as goal
 
 pub pass_line-requires : goal.pass_line-requires
 pass_line-requires c = (

@@ -23,7 +23,7 @@ use Rattle.transcript_reading.specs.Kinds.{shown_step}
 use Rattle.transcript_reading.specs.Order.{next}
 use Rattle.transcript_reading.specs.declared.line.LineKind.{LineKind}
 use Rattle.transcript_reading.specs.declared.line.LineKind.TheVariants as line
-use Rattle.kernel_journal.specs.Expected.{told_packet}
+use Rattle.expected_lines.specs.Told.{told_packet}
 
 -- ---- steps
 

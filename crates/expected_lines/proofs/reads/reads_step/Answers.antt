@@ -3,8 +3,8 @@ use Rattle.transcript_reading.specs.Spelling.{HasShown}
 use Rattle.transcript_reader.specs.Next.{IsAhead}
 use Rattle.transcript_reading.specs.Kinds.{shown_step}
 use Rattle.transcript_reading.specs.declared.line.LineKind.TheVariants as line
-use Rattle.kernel_journal.proofs.Texts.{read_as, step_ahead}
-use Rattle.kernel_journal.proofs.reads.reads_step.Goals as goal
+use Rattle.expected_lines.proofs.Texts.{read_as, step_ahead}
+use Rattle.expected_lines.proofs.reads.reads_step.Goals as goal
 
 pub pass_line-requires : goal.pass_line-requires
 pass_line-requires c = (
