@@ -158,18 +158,17 @@ first-reads false r a p u v first same = same
 
 pub takes-next : (a : PacketAhead) (ms : Nodes) (noted : Noted) (old new : Run) (u v : Unread) → IsRun old → a.kernel < old.setting.kernels → ReadsFirst a (kept_of old) u v
     → IsNoted (TakesFirst a.kernel a.from) ms noted old new → AnswersNext old u (Some true) new v
-takes-next a ms noted old new u v run below reads is =
-    (
-      stands (TakesFirst a.kernel a.from) ms noted old new run is,
-      record {
-        line = record { number = u.lines + 1; what = line.PacketEntry a.stamp a.kernel a.from (told_packet reads.packet.what) };
-        read = reads.read.line;
-        follows = record {
-            first = record { there = below; packet = reads.packet; first = reads.first; told = refl };
-            after = kept-on (TakesFirst a.kernel a.from) ms noted old new is;
-          };
-      },
-    )
+takes-next a ms noted old new u v run below reads is = (
+  stands (TakesFirst a.kernel a.from) ms noted old new run is,
+  record {
+    line = record { number = u.lines + 1; what = line.PacketEntry a.stamp a.kernel a.from (told_packet reads.packet.what) };
+    read = reads.read.line;
+    follows = record {
+      first = record { there = below; packet = reads.packet; first = reads.first; told = refl };
+      after = kept-on (TakesFirst a.kernel a.from) ms noted old new is;
+    };
+  },
+)
 
 -- it is the entry of a call
 pub asks-next : (a : CallAhead) (call : Call) (mine : List EndId) (ms : Nodes) (noted : Noted) (old new : Run) (u v : Unread) → IsRun old → MayCall (kept_of old) a.kernel a.p

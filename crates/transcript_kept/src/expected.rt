@@ -14,10 +14,7 @@ use transcript_reader::{Ahead, CallAhead, PacketAhead, Reader};
 impl Run {
     /// Reads the next line and does what it says, where it shows the step that is due, or is the entry of a packet that waits or of a call. `None`: it
     /// was not read.
-    pub(crate) fn follow_next(
-        &mut self,
-        reader: &mut Reader<'_>,
-    ) -> Result<Option<bool>, NoMemory>
+    pub(crate) fn follow_next(&mut self, reader: &mut Reader<'_>) -> Result<Option<bool>, NoMemory>
         requires { IsRun self.old }
         ensures { IfOk result (λ went. AnswersNext self.old reader.old went self.new reader.new) }
     {

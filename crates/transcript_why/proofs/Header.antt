@@ -4,7 +4,7 @@ use Rattle.charlotte_calls.specs.declared.setting.Setting.{Setting}
 use Rattle.transcript_reader.specs.Lines.{Unread, next_line}
 use Rattle.transcript_reader.specs.declared.line.Line.{Line}
 use Rattle.transcript_reader.proofs.Clauses.{next_follows}
-use Rattle.transcript_reading.specs.Order.{Place, Start, Version, Processes, Wires, Entry, Noted, Over, next}
+use Rattle.transcript_reading.specs.Order.{Place, Entry, Noted, Over, next}
 use Rattle.transcript_reading.specs.declared.line.LineKind.{LineKind}
 use Rattle.transcript_reading.specs.declared.line.LineKind.TheVariants as line
 use Rattle.transcript_replay.specs.Header.{is_body, tell_all, tells}
@@ -16,13 +16,17 @@ note-body (line.Note n) is = refl
 note-body (line.End l) is = refl
 note-body _ is = absurd is
 
--- a line that stands behind one of the body is of the body
-body-next : (place behind : Place) (k : LineKind) → IsBehindHeader place → next place k ≡ Ok behind → is_body k ≡ true
-body-next Entry behind k is e = go (is_body k) refl
+-- among entries stands no line of the header
+entry-body : (behind : Place) (k : LineKind) → next Entry k ≡ Ok behind → is_body k ≡ true
+entry-body behind k e = go (is_body k) refl
   where
     go : (b : Bool) → is_body k ≡ b → b ≡ true
     go true no = refl
     go false no = behind-entry behind k no e
+
+-- a line that stands behind one of the body is of the body
+body-next : (place behind : Place) (k : LineKind) → IsBehindHeader place → next place k ≡ Ok behind → is_body k ≡ true
+body-next Entry behind k is e = entry-body behind k e
 body-next (Noted m) behind k is e = note-body k (behind-note m behind k e)
 body-next Over behind k is e = behind-over behind k e
 body-next _ behind k is e = absurd is

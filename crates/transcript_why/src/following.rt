@@ -54,7 +54,11 @@ pub(crate) fn run_before<'a, K: Kernels>(
 }
 
 /// Follows so many lines; `false` exactly where there are fewer that can stand, or one can not be followed.
-fn follow_lines<K: Kernels>(run: &mut K, reader: &mut Reader<'_>, lines: u32) -> Result<bool, NoMemory>
+fn follow_lines<K: Kernels>(
+    run: &mut K,
+    reader: &mut Reader<'_>,
+    lines: u32,
+) -> Result<bool, NoMemory>
     requires { K.stand run.old }
     ensures stand { IfOk result (λ went. OnTrue went (K.stand run.new)) }
     ensures left { IfOk result (λ went. OnTrue went (reader.new ≡ (first_lines lines reader.old).1)) }

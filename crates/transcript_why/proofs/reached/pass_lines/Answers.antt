@@ -19,9 +19,9 @@ loop-preserved c =
     let e : next_line (first_lines n u).1 ≡ Ok (Some (skips.0, left)) = ap next_line (sym c.loop.invariant) ∙ skips.1 in
     sym (ap (λ (r : List LineKind × Unread). r.1) (first-more n u left skips.0 e))
 
-pub returns-in_if-skip_line : goal.returns-in_if-skip_line
-returns-in_if-skip_line c =
+pub returns-then-not-skip_line : goal.returns-then-not-skip_line
+returns-then-not-skip_line c =
     let n = c.loop.counter in
     let u = c.args.reader.now in
-    let all = first-all n c.args.lines u (omega (arith, c.loop-test.true)) (ap (λ (r : Unread). shown_next (next_line r)) (sym c.loop.invariant) ∙ c.if-skip_line.ensures.0) in
-    c.if-skip_line.ensures.1 ∙ c.loop.invariant ∙ ap (λ (r : List LineKind × Unread). r.1) (sym all)
+    let all = first-all n c.args.lines u (omega (arith, c.loop-test.true)) (ap (λ (r : Unread). shown_next (next_line r)) (sym c.loop.invariant) ∙ c.if-not-skip_line.ensures.0) in
+    c.if-not-skip_line.ensures.1 ∙ c.loop.invariant ∙ ap (λ (r : List LineKind × Unread). r.1) (sym all)

@@ -33,10 +33,10 @@ returns-in_default c =
     first-all n c.args.lines u (omega (arith, c.loop-test.true)) (ap (λ (r : Unread). shown_next (next_line r)) (sym c.loop.invariant.1) ∙ c.in_default.ensures.0) in
     c.loop.invariant.0 ∙ ap (λ (r : List LineKind × Unread). tell_all r.0 c.args.draft.now) (sym all)
 
-pub returns-in_if-is_behind_header : goal.returns-in_if-is_behind_header
-returns-in_if-is_behind_header c =
+pub returns-then-is_behind_header : goal.returns-then-is_behind_header
+returns-then-is_behind_header c =
     let n = c.loop.counter in
     let u = c.args.reader.now in
     let behind : IsBehindHeader (first_lines n u).1.place =
-    subst IsBehindHeader (c.place.ensures ∙ ap (λ (r : Unread). r.place) c.loop.invariant.1) (c.is_behind_header.ensures.0 refl) in
+    subst IsBehindHeader (c.place.ensures ∙ ap (λ (r : Unread). r.place) c.loop.invariant.1) (c.if-is_behind_header.ensures.0 refl) in
     c.loop.invariant.0 ∙ sym (told-all n c.args.lines u c.args.draft.now (omega (arith, c.loop-test.true)) behind)
