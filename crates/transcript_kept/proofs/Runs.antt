@@ -36,8 +36,8 @@ use Rattle.transcript_kept.specs.declared.run.Run.{Run}
 use Rattle.expected_lines.specs.Told.{told_packet}
 use Rattle.transcript_reader.specs.Lines.{Unread}
 use Rattle.transcript_reader.specs.Next.{Reads}
-use Rattle.transcript_reader.specs.declared.guess.CallAhead.{CallAhead}
-use Rattle.transcript_reader.specs.declared.guess.PacketAhead.{PacketAhead}
+use Rattle.leading_lines.specs.declared.guess.CallAhead.{CallAhead}
+use Rattle.leading_lines.specs.declared.guess.PacketAhead.{PacketAhead}
 use Rattle.transcript_reading.specs.Kinds.{shown_step}
 use Rattle.transcript_reading.specs.declared.line.LineKind.TheVariants as line
 

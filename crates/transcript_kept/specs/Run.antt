@@ -11,7 +11,7 @@ use Rattle.transcript_kept.specs.declared.run.Run.{Run}
 use Rattle.expected_lines.specs.Told.{told_packet}
 use Rattle.transcript_reader.specs.Lines.{Unread}
 use Rattle.transcript_reader.specs.Next.{Reads}
-use Rattle.transcript_reader.specs.declared.guess.PacketAhead.{PacketAhead}
+use Rattle.leading_lines.specs.declared.guess.PacketAhead.{PacketAhead}
 use Rattle.transcript_reading.specs.declared.line.LineKind.TheVariants as line
 
 -- what a run keeps

@@ -3,8 +3,8 @@ ghost use Rattle.std.specs.Prelude.{◌≡◌, ◌++◌, IfOk, MatchBool};
 ghost use Rattle.charlotte_text.specs.Reading.{parts};
 ghost use Rattle.charlotte_text.specs.Spelling.{line_feed};
 ghost use Rattle.transcript_kept.specs.Run.{AnswersNext, IsRun, ReadsFirst, kept_of};
-ghost use Rattle.transcript_reader.specs.Ahead.{head_text};
-ghost use Rattle.transcript_reader.specs.declared.guess.Ahead.TheVariants as heads;
+ghost use Rattle.leading_lines.specs.Ahead.{head_text};
+ghost use Rattle.leading_lines.specs.declared.guess.Ahead.TheVariants as heads;
 
 use crate::run::Run;
 use charlotte_calls::NoMemory;
