@@ -148,13 +148,11 @@ module _ (e x y : expr.Expr) (first second : Box expr.Expr) (head : x ≡ first.
   pub two_joined : {sign : TermSign} → e ≡ expr.Term sign first second → expr_size (expr_tree e) ≡ expr_size (expr_tree x) + 1 + expr_size (expr_tree y)
   two_joined {sign = sign} is = ap expr_size (term_tree is) ∙ term_size (expr_tree x) (trees.more_terms sign (expr_tree y) trees.no_terms) ∙ omega (arith, length-append {A = Mark})
 
-  module _ (s : Scope) (a : ℕ) where
-    pub sum_pair_faults : {sign : Sign} → e ≡ expr.Sum sign first second
-        → value_faults operand_is_int s a (expr_tree x) ++ value_faults operand_is_int s (a + expr_size (expr_tree x) + 1) (expr_tree y) ≡ expr_faults s a (expr_tree e)
+  module _ (s : Scope) (a b : ℕ) (at_b : b ≡ a + expr_size (expr_tree x)) where
+    pub sum_pair_faults : {sign : Sign} → e ≡ expr.Sum sign first second → value_faults operand_is_int s a (expr_tree x) ++ value_faults operand_is_int s (b + 1) (expr_tree y) ≡ expr_faults s a (expr_tree e)
     sum_pair_faults is =
-        ap (λ fs. value_faults operand_is_int s a (expr_tree x) ++ fs) (sym (append-nil (value_faults operand_is_int s (a + expr_size (expr_tree x) + 1) (expr_tree y)))) ∙ ap (expr_faults s a) (sym (sum_tree is))
+        (λ i. value_faults operand_is_int s a (expr_tree x) ++ sym (append-nil (value_faults operand_is_int s (at_b i + 1) (expr_tree y))) i) ∙ ap (expr_faults s a) (sym (sum_tree is))
 
-    pub term_pair_faults : {sign : TermSign} → e ≡ expr.Term sign first second
-        → value_faults operand_is_int s a (expr_tree x) ++ value_faults operand_is_int s (a + expr_size (expr_tree x) + 1) (expr_tree y) ≡ expr_faults s a (expr_tree e)
+    pub term_pair_faults : {sign : TermSign} → e ≡ expr.Term sign first second → value_faults operand_is_int s a (expr_tree x) ++ value_faults operand_is_int s (b + 1) (expr_tree y) ≡ expr_faults s a (expr_tree e)
     term_pair_faults is =
-        ap (λ fs. value_faults operand_is_int s a (expr_tree x) ++ fs) (sym (append-nil (value_faults operand_is_int s (a + expr_size (expr_tree x) + 1) (expr_tree y)))) ∙ ap (expr_faults s a) (sym (term_tree is))
+        (λ i. value_faults operand_is_int s a (expr_tree x) ++ sym (append-nil (value_faults operand_is_int s (at_b i + 1) (expr_tree y))) i) ∙ ap (expr_faults s a) (sym (term_tree is))

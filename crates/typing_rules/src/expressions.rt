@@ -1,6 +1,6 @@
 //! Types of expressions.
 
-ghost use Rattle.std.specs.Prelude.{◌≡◌, ◌+◌, ◌<◌, ◌&&◌, ◌++◌, length, Some, None, if◌then◌else◌};
+ghost use Rattle.std.specs.Prelude.{◌≡◌, ◌+◌, ◌<◌, ◌&&◌, length, Some, None, if◌then◌else◌};
 ghost use Rattle.lynx_tree.specs.Grammar.{sum_marks, term_marks};
 ghost use Rattle.lynx_tree.specs.Trees.{expr_tree, expr_list, sum_list, term_list, Or, Member};
 ghost use Rattle.typing_rules.specs.Expressions.{expr_size, shown_type, held, expr_faults, sum_faults, term_faults, value_faults};
@@ -93,17 +93,16 @@ fn bools(walk: &mut Walk, scope: &Scope, members: &[Expr]) -> bool
     clean
 }
 
-/// Goes over two numbers with an operator between, and tells whether no rule fails in them.
+/// Goes over an operator and the number behind it, and tells whether no rule fails in it and in what stands before.
 #[cycle(type_expression)]
-fn numbers(walk: &mut Walk, scope: &Scope, first: &Expr, second: &Expr) -> bool
-    requires fits { walk.old.at + expr_size (expr_tree first.now) + 1 + expr_size (expr_tree second.now) < 4294967296 }
-    ensures at { walk.new.at ≡ walk.old.at + expr_size (expr_tree first.now) + 1 + expr_size (expr_tree second.now) }
-    ensures first { walk.new.first ≡ first_with walk.old.first (value_faults operand_is_int (scope_of scope.now) walk.old.at (expr_tree first.now) ++ value_faults operand_is_int (scope_of scope.now) (walk.old.at + expr_size (expr_tree first.now) + 1) (expr_tree second.now)) }
-    ensures clean { result ≡ is_clean (value_faults operand_is_int (scope_of scope.now) walk.old.at (expr_tree first.now) ++ value_faults operand_is_int (scope_of scope.now) (walk.old.at + expr_size (expr_tree first.now) + 1) (expr_tree second.now)) }
+fn number_behind(walk: &mut Walk, scope: &Scope, clean: bool, member: &Expr) -> bool
+    requires fits { walk.old.at + 1 + expr_size (expr_tree member.now) < 4294967296 }
+    ensures at { walk.new.at ≡ walk.old.at + 1 + expr_size (expr_tree member.now) }
+    ensures first { walk.new.first ≡ first_with walk.old.first (value_faults operand_is_int (scope_of scope.now) (walk.old.at + 1) (expr_tree member.now)) }
+    ensures clean { result ≡ (clean && is_clean (value_faults operand_is_int (scope_of scope.now) (walk.old.at + 1) (expr_tree member.now))) }
 {
-    let clean = operand(walk, scope, OPERAND_IS_INT, TypeName::Int, first);
     walk.skip(1);
-    let next = operand(walk, scope, OPERAND_IS_INT, TypeName::Int, second);
+    let next = operand(walk, scope, OPERAND_IS_INT, TypeName::Int, member);
     both(clean, next)
 }
 
@@ -167,8 +166,9 @@ pub fn expression(walk: &mut Walk, scope: &Scope, value: &Expr) -> Held
             shown(both(clean, holds), TypeName::Bool)
         }
         Expr::Sum { first, second, .. } => {
-            let clean = numbers(walk, scope, first, second);
-            shown(clean, TypeName::Int)
+            let clean = operand(walk, scope, OPERAND_IS_INT, TypeName::Int, first);
+            let both_clean = number_behind(walk, scope, clean, second);
+            shown(both_clean, TypeName::Int)
         }
         Expr::Sums { first, rest } => {
             let clean = operand(walk, scope, OPERAND_IS_INT, TypeName::Int, first);
@@ -176,8 +176,9 @@ pub fn expression(walk: &mut Walk, scope: &Scope, value: &Expr) -> Held
             shown(both(clean, others), TypeName::Int)
         }
         Expr::Term { first, second, .. } => {
-            let clean = numbers(walk, scope, first, second);
-            shown(clean, TypeName::Int)
+            let clean = operand(walk, scope, OPERAND_IS_INT, TypeName::Int, first);
+            let both_clean = number_behind(walk, scope, clean, second);
+            shown(both_clean, TypeName::Int)
         }
         Expr::Terms { first, rest } => {
             let clean = operand(walk, scope, OPERAND_IS_INT, TypeName::Int, first);

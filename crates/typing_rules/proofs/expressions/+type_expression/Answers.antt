@@ -134,26 +134,16 @@ pub terms-returns-clause-first : goal.terms-returns-clause-first
 terms-returns-clause-first t c =
     end_first c.loop-member.walk.first _ _ (none_left (λ xs. term_faults (scope_of c.args.scope.now) c.loop-member.walk.at (term_list xs)) c.args.members.now c.loop-member.member-index c.loop-member-test.false) c.loop-member.invariant.first
 
-pub numbers-returns-clause-first : goal.numbers-returns-clause-first
-numbers-returns-clause-first t c =
-    let s = scope_of c.args.scope.now in
-    let a = c.args.walk.now.at in
-    let behind = a + expr_size (expr_tree c.args.first.now) + 1 in
-    let here : c.skip.new.self.at ≡ behind = omega arith in
-    joined c.args.walk.now.first c.operand-clean.new.walk.first c.operand-next.new.walk.first (value_faults operand_is_int s a (expr_tree c.args.first.now)) (value_faults operand_is_int s behind (expr_tree c.args.second.now))
-    c.operand-clean.ensures.first (c.operand-next.ensures.first ∙ (λ i. first_with (c.skip.ensures.first i) (value_faults operand_is_int s (here i) (expr_tree c.args.second.now))))
+pub number_behind-returns-clause-first : goal.number_behind-returns-clause-first
+number_behind-returns-clause-first t c =
+    c.operand-next.ensures.first ∙ (λ i. first_with (c.skip.ensures.first i) (value_faults operand_is_int (scope_of c.args.scope.now) (c.skip.ensures.at i) (expr_tree c.args.member.now)))
 
-pub numbers-returns-clause-clean : goal.numbers-returns-clause-clean
-numbers-returns-clause-clean t c =
-    let s = scope_of c.args.scope.now in
-    let a = c.args.walk.now.at in
-    let behind = a + expr_size (expr_tree c.args.first.now) + 1 in
-    let here : c.skip.new.self.at ≡ behind = omega arith in
-    c.both.ensures ∙ joined_clean c.operand-clean.result c.operand-next.result (value_faults operand_is_int s a (expr_tree c.args.first.now)) (value_faults operand_is_int s behind (expr_tree c.args.second.now))
-    c.operand-clean.ensures.clean (c.operand-next.ensures.clean ∙ ap (λ n. is_clean (value_faults operand_is_int s n (expr_tree c.args.second.now))) here)
+pub number_behind-returns-clause-clean : goal.number_behind-returns-clause-clean
+number_behind-returns-clause-clean t c =
+    c.both.ensures ∙ ap (λ b. c.args.clean && b) (c.operand-next.ensures.clean ∙ ap (λ n. is_clean (value_faults operand_is_int (scope_of c.args.scope.now) n (expr_tree c.args.member.now))) c.skip.ensures.at)
 
-pub expression-numbers-clean-requires : goal.expression-numbers-clean-requires
-expression-numbers-clean-requires t c =
+pub expression-number_behind-both_clean-requires : goal.expression-number_behind-both_clean-requires
+expression-number_behind-both_clean-requires t c =
     (search (rules, the_lemmas), omega (arith, two_summed c.args.value.now c.deref-in-Sum.result.now c.deref-in-Sum-2.result.now c.in-Sum.first c.in-Sum.second c.deref-in-Sum.ensures c.deref-in-Sum-2.ensures c.in-Sum.is))
 
 pub expression-returns-in-Sum-clause-at : goal.expression-returns-in-Sum-clause-at
@@ -161,19 +151,24 @@ expression-returns-in-Sum-clause-at t c = omega (arith, two_summed c.args.value.
 
 pub expression-returns-in-Sum-clause-first : goal.expression-returns-in-Sum-clause-first
 expression-returns-in-Sum-clause-first t c =
-    c.numbers-clean.ensures.first ∙ ap (first_with c.args.walk.now.first)
-    (sum_pair_faults c.args.value.now c.deref-in-Sum.result.now c.deref-in-Sum-2.result.now c.in-Sum.first c.in-Sum.second c.deref-in-Sum.ensures c.deref-in-Sum-2.ensures (scope_of c.args.scope.now) c.args.walk.now.at c.in-Sum.is)
+    let s = scope_of c.args.scope.now in
+    let a = c.args.walk.now.at in
+    let b = c.operand-clean.new.walk.at in
+    joined c.args.walk.now.first c.operand-clean.new.walk.first c.number_behind-both_clean.new.walk.first (value_faults operand_is_int s a (expr_tree c.deref-in-Sum.result.now)) (value_faults operand_is_int s (b + 1) (expr_tree c.deref-in-Sum-2.result.now)) c.operand-clean.ensures.first c.number_behind-both_clean.ensures.first
+    ∙ ap (first_with c.args.walk.now.first) (sum_pair_faults c.args.value.now c.deref-in-Sum.result.now c.deref-in-Sum-2.result.now c.in-Sum.first c.in-Sum.second c.deref-in-Sum.ensures c.deref-in-Sum-2.ensures s a b c.operand-clean.ensures.at c.in-Sum.is)
 
 pub expression-returns-in-Sum-clause-held : goal.expression-returns-in-Sum-clause-held
 expression-returns-in-Sum-clause-held t c =
     let s = scope_of c.args.scope.now in
     let a = c.args.walk.now.at in
+    let b = c.operand-clean.new.walk.at in
     let tree = sum_tree c.args.value.now c.deref-in-Sum.result.now c.deref-in-Sum-2.result.now c.in-Sum.first c.in-Sum.second c.deref-in-Sum.ensures c.deref-in-Sum-2.ensures c.in-Sum.is in
-    let faults = sum_pair_faults c.args.value.now c.deref-in-Sum.result.now c.deref-in-Sum-2.result.now c.in-Sum.first c.in-Sum.second c.deref-in-Sum.ensures c.deref-in-Sum-2.ensures s a c.in-Sum.is ∙ ap (expr_faults s a) tree in
-    arm_held _ _ tree s a Int c.numbers-clean.result _ refl (c.numbers-clean.ensures.clean ∙ ap is_clean faults) c.shown-in-Sum.ensures
+    let faults = sum_pair_faults c.args.value.now c.deref-in-Sum.result.now c.deref-in-Sum-2.result.now c.in-Sum.first c.in-Sum.second c.deref-in-Sum.ensures c.deref-in-Sum-2.ensures s a b c.operand-clean.ensures.at c.in-Sum.is ∙ ap (expr_faults s a) tree in
+    let clean = c.number_behind-both_clean.ensures.clean ∙ joined_clean c.operand-clean.result _ (value_faults operand_is_int s a (expr_tree c.deref-in-Sum.result.now)) (value_faults operand_is_int s (b + 1) (expr_tree c.deref-in-Sum-2.result.now)) c.operand-clean.ensures.clean refl in
+    arm_held _ _ tree s a Int c.number_behind-both_clean.result _ refl (clean ∙ ap is_clean faults) c.shown-in-Sum.ensures
 
-pub expression-numbers-clean-requires-in-Term : goal.expression-numbers-clean-requires-in-Term
-expression-numbers-clean-requires-in-Term t c =
+pub expression-number_behind-both_clean-requires-in-Term : goal.expression-number_behind-both_clean-requires-in-Term
+expression-number_behind-both_clean-requires-in-Term t c =
     (search (rules, the_lemmas), omega (arith, two_joined c.args.value.now c.deref-in-Term.result.now c.deref-in-Term-2.result.now c.in-Term.first c.in-Term.second c.deref-in-Term.ensures c.deref-in-Term-2.ensures c.in-Term.is))
 
 pub expression-returns-in-Term-clause-at : goal.expression-returns-in-Term-clause-at
@@ -181,16 +176,21 @@ expression-returns-in-Term-clause-at t c = omega (arith, two_joined c.args.value
 
 pub expression-returns-in-Term-clause-first : goal.expression-returns-in-Term-clause-first
 expression-returns-in-Term-clause-first t c =
-    c.numbers-clean-in-Term.ensures.first ∙ ap (first_with c.args.walk.now.first)
-    (term_pair_faults c.args.value.now c.deref-in-Term.result.now c.deref-in-Term-2.result.now c.in-Term.first c.in-Term.second c.deref-in-Term.ensures c.deref-in-Term-2.ensures (scope_of c.args.scope.now) c.args.walk.now.at c.in-Term.is)
+    let s = scope_of c.args.scope.now in
+    let a = c.args.walk.now.at in
+    let b = c.operand-clean-in-Term.new.walk.at in
+    joined c.args.walk.now.first c.operand-clean-in-Term.new.walk.first c.number_behind-both_clean-in-Term.new.walk.first (value_faults operand_is_int s a (expr_tree c.deref-in-Term.result.now)) (value_faults operand_is_int s (b + 1) (expr_tree c.deref-in-Term-2.result.now)) c.operand-clean-in-Term.ensures.first c.number_behind-both_clean-in-Term.ensures.first
+    ∙ ap (first_with c.args.walk.now.first) (term_pair_faults c.args.value.now c.deref-in-Term.result.now c.deref-in-Term-2.result.now c.in-Term.first c.in-Term.second c.deref-in-Term.ensures c.deref-in-Term-2.ensures s a b c.operand-clean-in-Term.ensures.at c.in-Term.is)
 
 pub expression-returns-in-Term-clause-held : goal.expression-returns-in-Term-clause-held
 expression-returns-in-Term-clause-held t c =
     let s = scope_of c.args.scope.now in
     let a = c.args.walk.now.at in
+    let b = c.operand-clean-in-Term.new.walk.at in
     let tree = term_tree c.args.value.now c.deref-in-Term.result.now c.deref-in-Term-2.result.now c.in-Term.first c.in-Term.second c.deref-in-Term.ensures c.deref-in-Term-2.ensures c.in-Term.is in
-    let faults = term_pair_faults c.args.value.now c.deref-in-Term.result.now c.deref-in-Term-2.result.now c.in-Term.first c.in-Term.second c.deref-in-Term.ensures c.deref-in-Term-2.ensures s a c.in-Term.is ∙ ap (expr_faults s a) tree in
-    arm_held _ _ tree s a Int c.numbers-clean-in-Term.result _ refl (c.numbers-clean-in-Term.ensures.clean ∙ ap is_clean faults) c.shown-in-Term.ensures
+    let faults = term_pair_faults c.args.value.now c.deref-in-Term.result.now c.deref-in-Term-2.result.now c.in-Term.first c.in-Term.second c.deref-in-Term.ensures c.deref-in-Term-2.ensures s a b c.operand-clean-in-Term.ensures.at c.in-Term.is ∙ ap (expr_faults s a) tree in
+    let clean = c.number_behind-both_clean-in-Term.ensures.clean ∙ joined_clean c.operand-clean-in-Term.result _ (value_faults operand_is_int s a (expr_tree c.deref-in-Term.result.now)) (value_faults operand_is_int s (b + 1) (expr_tree c.deref-in-Term-2.result.now)) c.operand-clean-in-Term.ensures.clean refl in
+    arm_held _ _ tree s a Int c.number_behind-both_clean-in-Term.result _ refl (clean ∙ ap is_clean faults) c.shown-in-Term.ensures
 
 pub expression-sums-others-requires : goal.expression-sums-others-requires
 expression-sums-others-requires t c =
@@ -205,13 +205,13 @@ pub expression-returns-in-Sums-clause-first : goal.expression-returns-in-Sums-cl
 expression-returns-in-Sums-clause-first t c =
     arm_first _ _ (sums_tree c.args.value.now c.deref-in-Sums.result.now c.in-Sums.first c.in-Sums.rest c.deref-in-Sums-2.result.now c.deref-in-Sums-3.result.now c.in-Sums.is c.deref-in-Sums.ensures c.deref-in-Sums-2.ensures c.deref-in-Sums-3.ensures.value) (scope_of c.args.scope.now) c.args.walk.now.at _ _
     (sum_first (scope_of c.args.scope.now) c.args.walk.now.at (expr_tree c.deref-in-Sums.result.now)
-    (sum_list c.deref-in-Sums-3.result.now) c.operand-clean.new.walk.at c.args.walk.now.first c.operand-clean.new.walk.first c.sums-others.new.walk.first c.operand-clean.ensures.at c.operand-clean.ensures.first c.sums-others.ensures.first)
+    (sum_list c.deref-in-Sums-3.result.now) c.operand-clean-in-Sums.new.walk.at c.args.walk.now.first c.operand-clean-in-Sums.new.walk.first c.sums-others.new.walk.first c.operand-clean-in-Sums.ensures.at c.operand-clean-in-Sums.ensures.first c.sums-others.ensures.first)
 
 pub expression-returns-in-Sums-clause-held : goal.expression-returns-in-Sums-clause-held
 expression-returns-in-Sums-clause-held t c =
     arm_held _ _ (sums_tree c.args.value.now c.deref-in-Sums.result.now c.in-Sums.first c.in-Sums.rest c.deref-in-Sums-2.result.now c.deref-in-Sums-3.result.now c.in-Sums.is c.deref-in-Sums.ensures c.deref-in-Sums-2.ensures c.deref-in-Sums-3.ensures.value) (scope_of c.args.scope.now) c.args.walk.now.at Int c.both-in-Sums.result _ refl
     (c.both-in-Sums.ensures ∙ sum_clean (scope_of c.args.scope.now) c.args.walk.now.at (expr_tree c.deref-in-Sums.result.now)
-    (sum_list c.deref-in-Sums-3.result.now) c.operand-clean.new.walk.at c.operand-clean.result c.sums-others.result c.operand-clean.ensures.at c.operand-clean.ensures.clean c.sums-others.ensures.clean) c.shown-in-Sums.ensures
+    (sum_list c.deref-in-Sums-3.result.now) c.operand-clean-in-Sums.new.walk.at c.operand-clean-in-Sums.result c.sums-others.result c.operand-clean-in-Sums.ensures.at c.operand-clean-in-Sums.ensures.clean c.sums-others.ensures.clean) c.shown-in-Sums.ensures
 
 pub expression-terms-others-requires : goal.expression-terms-others-requires
 expression-terms-others-requires t c =
