@@ -16,7 +16,7 @@ returns-clause-first c = λ t s.
     let below : c.from.result < length c.args.processes.now = subst (λ n. n < length c.args.processes.now) (sym c.from.ensures) c.requires in
     let at : process_of c.args.p (with_parts t c.args.processes.now s) ≡ process_state c.at_mut-process.result.now
     = process_of-at t c.args.processes.now c.at_mut-process.result.now s c.from.result c.args.p c.from.ensures below ∙ ap process_state (sym (c.at_mut-process.ensures.value _)) in
-    ap (λ x. x.reports) at ∙ c.pop.ensures.items ∙ ap (λ rs. option_to_list c.pop.result ++ rs) c.pop.ensures.rest
+    ap (λ x. x.reports) at ∙ c.pop.ensures.first ∙ ap (λ rs. option_to_list c.pop.result ++ rs) c.pop.ensures.rest
     ∙ ap (λ x. option_to_list c.pop.result ++ drop 1 x.reports) (sym at)
 
 pub returns-clause-kept : goal.returns-clause-kept
