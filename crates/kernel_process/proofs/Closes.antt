@@ -23,7 +23,6 @@ use Rattle.kernel_step.specs.Calls.{is_active}
 use Rattle.kernel_step.specs.Kernel.{Kernel, Outcome, Process, with_process, process_of, reported_entry, is_waiting, joins, join_answers, join_reports, stands, exits, answers_wait, closes, turns, waits}
 use Rattle.kernel_step.specs.Progress.{progress, sent_picture}
 use Rattle.kernel_step.specs.declared.phase.Phase.TheVariants.{Running, Waiting, Exited}
-use Rattle.kernel_step.specs.declared.phase.Phase.{Phase}
 use Rattle.kernel_process.proofs.OneProcess.{process_of-at, with_parts-set}
 use Rattle.kernel_sound.proofs.Reports.{IsSound-reported, is_active-reported_put}
 use Rattle.kernel_process.specs.Closing.{HaveSpare, HaveSpareFor}

@@ -1,4 +1,4 @@
-ghost use Rattle.std.specs.Prelude.{◌≡◌, true, false, ℕ, ◌+◌, ◌<◌, ◌≤◌, ◌++◌, [], ◌∷◌, List, Some, IfSome, IfNone, length, drop, option_to_list, vec_len, vec_capacity};
+ghost use Rattle.std.specs.Prelude.{◌≡◌, true, false, ℕ, ◌+◌, ◌<◌, ◌++◌, [], ◌∷◌, List, Some, IfSome, IfNone, length, drop, option_to_list, vec_len, vec_capacity};
 ghost use Rattle.charlotte_calls.specs.declared.calls.Answer.TheVariants as answer;
 ghost use Rattle.charlotte_calls.specs.declared.calls.Report.{Report};
 ghost use Rattle.charlotte_calls.specs.declared.names.EndId.{EndId};

@@ -1,8 +1,8 @@
 -- The report joins the others, of which the oldest answers the Wait.
-use Rattle.std.proofs.Common.{[], ◌∙◌, sym, arith}
+use Rattle.std.proofs.Common.{◌∙◌, sym, arith}
 use Rattle.end_table.specs.Table.{entries}
 use Rattle.kernel_process.proofs.Closes.{joins-behind, joins-waiting, takes-both}
-use Rattle.kernel_process.specs.Parts.{ended, with_parts}
+use Rattle.kernel_process.specs.Parts.{with_parts}
 use Rattle.kernel_process.proofs.closing.join.Goals as goal
 
 pub returns-then-is_in_wait-clause-part : goal.returns-then-is_in_wait-clause-part

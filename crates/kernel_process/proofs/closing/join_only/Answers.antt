@@ -4,7 +4,7 @@ use Rattle.charlotte_calls.specs.declared.calls.Report.{Report}
 use Rattle.charlotte_calls.specs.declared.names.Pid.{Pid}
 use Rattle.end_table.specs.Table.{entries}
 use Rattle.kernel_process.proofs.Closes.{join_reports-only, joins-behind, joins-waiting, takes-both}
-use Rattle.kernel_process.specs.Parts.{ended, with_parts}
+use Rattle.kernel_process.specs.Parts.{with_parts}
 use Rattle.kernel_process.proofs.closing.join_only.Goals as goal
 
 pub returns-then-is_in_wait-clause-part : goal.returns-then-is_in_wait-clause-part
