@@ -1,5 +1,5 @@
 -- Worked runs: what the definitions of streams give, computed.
-use Rattle.std.proofs.Common.{◌≡◌, ℕ, false, IsTrue, List, [], ◌∷◌, refl}
+use Rattle.std.proofs.Common.{◌≡◌, ℕ, Bool, true, false, ◌&&◌, List, [], ◌∷◌, refl}
 use Rattle.charlotte_calls.specs.declared.calls.Report.{Report}
 use Rattle.charlotte_calls.specs.declared.calls.ServiceStep.{ServiceStep}
 use Rattle.charlotte_calls.specs.declared.calls.ServiceStep.TheVariants as step
@@ -12,7 +12,7 @@ use Rattle.charlotte_calls.specs.declared.setting.Setting.{Setting}
 use Rattle.service_step.specs.Ends.{end_eq, destroys, idles, matches, notices, owner, places, puts, returns, starts_send, takes, turns_inward, turns_outward, withdraws_send}
 use Rattle.service_step.specs.Run.{new_processes, start_state, wires_one}
 use Rattle.service_step.specs.State.{State, gains, given, receive_report, send_report, turns, wakes}
-use Rattle.service_step.specs.Steps.{after_cancel, after_complete, after_notice, after_report, after_return, after_take, may_cancel, may_complete, may_destroy, may_match, may_notice, may_receive, may_return, may_send, may_take}
+use Rattle.service_step.specs.Steps.{after_cancel, after_complete, after_report, after_return, after_take, may_cancel, may_complete, may_destroy, may_match, may_receive, may_return, may_send, may_take}
 use Rattle.service_step.specs.declared.state.Inward.TheVariants as inward
 use Rattle.service_step.specs.declared.state.Message.{Message}
 use Rattle.service_step.specs.declared.state.Phase.TheVariants as phase
@@ -62,20 +62,20 @@ left_by_all s [] = s
 left_by_all s (x ∷ xs) = left_by_all (left_by s x) xs
 
 -- the steps on ends are allowed, one after the other
-abbrev IsAllowedHere : State → ServiceStep → Type 0
-IsAllowedHere s (step.Destroy e) = IsTrue (may_destroy s e)
-IsAllowedHere s (step.Send e n bytes xs) = IsTrue (may_send s e n xs)
-IsAllowedHere s (step.Receive e) = IsTrue (may_receive s e)
-IsAllowedHere s (step.Cancel e w) = IsTrue (may_cancel s e w)
-IsAllowedHere s (step.Match e n) = IsTrue (may_match s.ends e n)
-IsAllowedHere s (step.Take e n p late) = IsTrue (may_take s e n p late)
-IsAllowedHere s (step.Complete e n) = IsTrue (may_complete s.ends e n)
-IsAllowedHere s (step.Back e n dead) = IsTrue (may_return s e n dead)
-IsAllowedHere s _ = Unit {0}
+abbrev may_be : State → ServiceStep → Bool
+may_be s (step.Destroy e) = may_destroy s e
+may_be s (step.Send e n bytes xs) = may_send s e n xs
+may_be s (step.Receive e) = may_receive s e
+may_be s (step.Cancel e w) = may_cancel s e w
+may_be s (step.Match e n) = may_match s.ends e n
+may_be s (step.Take e n p late) = may_take s e n p late
+may_be s (step.Complete e n) = may_complete s.ends e n
+may_be s (step.Back e n dead) = may_return s e n dead
+may_be s _ = true
 
-abbrev AreAllowedHere : State → List ServiceStep → Type 0
-AreAllowedHere s [] = Unit {0}
-AreAllowedHere s (x ∷ xs) = IsAllowedHere s x × AreAllowedHere (left_by s x) xs
+abbrev may_all_be : State → List ServiceStep → Bool
+may_all_be s [] = true
+may_all_be s (x ∷ xs) = may_be s x && may_all_be (left_by s x) xs
 
 -- the first message is taken and reported. The second, with an end, is cancelled, the third taken, and its report stands
 abbrev cancelled : List ServiceStep
@@ -109,9 +109,9 @@ cancelled-reported : reported_in b cancelled ≡ record { bytes = 120 ∷ []; ca
 unfolding end_eq
 cancelled-reported = refl
 
-cancelled-allowed : AreAllowedHere (start_state setting) cancelled
+cancelled-allowed : may_all_be (start_state setting) cancelled ≡ true
 unfolding end_eq wires_one new_processes starts_send places puts turns_inward turns_outward matches takes gains wakes turns given idles withdraws_send
-cancelled-allowed = (tt, (tt, (tt, (tt, (tt, (tt, (tt, (tt, (tt, (tt, (tt, (tt, (tt, (tt, (tt, tt)))))))))))))))
+cancelled-allowed = refl
 
 cancelled-taken : taken_at b (start_state setting) (run_from (start_state setting) cancelled) ≡ kept_on a cancelled
 unfolding end_eq wires_one new_processes starts_send places puts turns_inward turns_outward matches takes gains wakes turns given idles withdraws_send
@@ -130,9 +130,9 @@ returned-kept : kept_on a returned ≡ record { number = 1; message = record { b
 unfolding end_eq
 returned-kept = refl
 
-returned-allowed : AreAllowedHere (start_state setting) returned
+returned-allowed : may_all_be (start_state setting) returned ≡ true
 unfolding end_eq wires_one new_processes starts_send places puts turns_inward turns_outward matches destroys returns notices gains wakes turns
-returned-allowed = (tt, (tt, (tt, (tt, (tt, tt)))))
+returned-allowed = refl
 
 returned-taken : taken_at b (start_state setting) (run_from (start_state setting) returned) ≡ []
 unfolding end_eq wires_one new_processes starts_send places puts turns_inward turns_outward matches destroys returns notices gains wakes turns
