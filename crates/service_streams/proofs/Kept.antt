@@ -1,5 +1,5 @@
 -- What is kept of the messages sent on an end: those that were taken, then those that were lost as the link died, then the one under way.
-use Rattle.std.proofs.Common.{◌≡◌, ◌≢◌, ℕ, ◌+◌, Bool, true, false, true≢false, nat_eq, ◌&&◌, ◌||◌, not, is_some, ◌⊎◌, inl, inr, if◌then◌else◌, Option, Some, None, List, [], ◌∷◌, ◌++◌, map, append-nil, append_assoc, refl, sym, ap, ap₂, subst, ◌∙◌}
+use Rattle.std.proofs.Common.{◌≡◌, ℕ, ◌+◌, Bool, true, false, true≢false, ◌&&◌, ◌||◌, not, is_some, ◌⊎◌, inl, inr, if◌then◌else◌, Option, Some, None, List, [], ◌∷◌, ◌++◌, append-nil, append_assoc, refl, sym, ap, ap₂, subst, ◌∙◌}
 use Rattle.std.proofs.lemmas.Grind.{flat_map-append}
 use Rattle.std.proofs.lemmas.List.{map-append}
 use Rattle.std.proofs.lemmas.List.Folds.{list_any-append}
@@ -13,22 +13,19 @@ use Rattle.charlotte_calls.specs.declared.names.Pid.{Pid}
 use Rattle.charlotte_calls.specs.declared.names.Way.TheVariants as way
 use Rattle.service_change.proofs.Change.{none-some}
 use Rattle.service_change.proofs.Counts.{and-true}
-use Rattle.service_change.proofs.EndEq.{end_eq-refl, end_eq-same, opposite-opposite, places-other, puts-at}
+use Rattle.service_change.proofs.EndEq.{end_eq-refl, end_eq-same, opposite-opposite, puts-at}
 use Rattle.service_change.proofs.Facts.{made-owned, owner-Owned, waiting-Waiting}
 use Rattle.service_lawful.specs.Consistent.{IsConsistent}
-use Rattle.service_runs.proofs.History.{after-more}
 use Rattle.service_runs.proofs.Moves.{Move, completed, matched, may-sent, number-its, over, places-sends, sent, still, taken}
 use Rattle.service_runs.proofs.MovesOfSteps.{move}
-use Rattle.service_step.specs.Ends.{end_eq, carried_by, is_made, matched_message, owner, places, puts, starts_send, turns_outward, waiting_message, withdraws_send}
-use Rattle.service_step.specs.Lawful.{message_of, number_on, send_number, take_number}
+use Rattle.service_step.specs.Ends.{end_eq, carried_by, matched_message, owner, puts, starts_send, turns_outward, waiting_message, withdraws_send}
+use Rattle.service_step.specs.Lawful.{message_of, send_number, take_number}
 use Rattle.service_step.specs.Run.{state_after}
 use Rattle.service_step.specs.State.{State}
-use Rattle.service_step.specs.Steps.{IsServiceStep, after_cancel, is_running_owner, may_cancel, may_send_as}
+use Rattle.service_step.specs.Steps.{IsServiceStep, after_cancel, is_running_owner, may_send_as}
 use Rattle.service_step.specs.declared.state.End.{End}
 use Rattle.service_step.specs.declared.state.Message.{Message}
-use Rattle.service_step.specs.declared.state.Outward.{Outward}
 use Rattle.service_step.specs.declared.state.Outward.TheVariants as outward
-use Rattle.service_step.specs.declared.state.Place.{Place}
 use Rattle.service_step.specs.declared.state.Place.TheVariants as place
 use Rattle.service_streams.proofs.Lists.{but_last-more, subsequence-but_last, subsequence-both, subsequence-more}
 use Rattle.service_streams.proofs.Places.{IsGone, Loss, died, gone-stays, loss, took, unmet, withdrawn}
@@ -149,9 +146,10 @@ sent-one s (step.Send f n bytes xs) t e m i is numbers out = by (end_eq e f) ref
     by : (b : Bool) → end_eq e f ≡ b → (if b then n ∷ [] else []) ≡ i ∷ [] → ((if b then numbered n (Some (record { bytes = bytes; carried = xs })) else []) ≡ numbered i (Some m)) × (IsGone s.ends e → ⊥)
     by true same numbers =
         let its = end_eq-same e f same in
-        let message = same-message (sym (send-outward s f n bytes xs t is) ∙ subst (λ z. (t.ends z).outward ≡ outward.Waiting m) its out) in
-        (ap (λ j. numbered j (Some (record { bytes = bytes; carried = xs }))) (same-number numbers) ∙ ap (λ a. numbered i (Some a)) message,
-        λ gone. send-owned s f n xs (owner (s.ends f).place) is.allowed refl (subst (IsGone s.ends) its gone))
+        let message = same-message (sym (send-outward s f n bytes xs t is) ∙ subst (λ z. (t.ends z).outward ≡ outward.Waiting m) its out) in (
+          ap (λ j. numbered j (Some (record { bytes = bytes; carried = xs }))) (same-number numbers) ∙ ap (λ a. numbered i (Some a)) message,
+          λ gone. send-owned s f n xs (owner (s.ends f).place) is.allowed refl (subst (IsGone s.ends) its gone),
+        )
     by false apart numbers = absurd (differ numbers)
 sent-one s _ t e m i is numbers out = let differ : [] ≡ i ∷ [] = numbers in absurd (cc)
 

@@ -1,5 +1,5 @@
 -- A report that stands after a step or does not: it goes by being given, or where its process ends. And the report that a take adds.
-use Rattle.std.proofs.Common.{◌≡◌, ◌≢◌, ℕ, zero, suc, ◌+◌, ◌≤◌, Bool, true, false, true≢false, nat_eq, ◌⊎◌, inl, inr, if◌then◌else◌, Option, Some, None, List, [], ◌∷◌, ◌++◌, Contains, refl, sym, ap, subst, ◌∙◌, arith}
+use Rattle.std.proofs.Common.{◌≡◌, ◌≢◌, ℕ, zero, suc, Bool, true, false, nat_eq, ◌⊎◌, inl, inr, if◌then◌else◌, Option, Some, None, List, [], ◌∷◌, ◌++◌, Contains, refl, sym, ap, subst, ◌∙◌, arith}
 use Rattle.std.proofs.lemmas.List.Elements.{Contains-append_cases, Contains-append_left, Contains-append_right}
 use Rattle.charlotte_calls.specs.Names.{opposite}
 use Rattle.charlotte_calls.specs.declared.calls.Report.{Report}
@@ -9,14 +9,12 @@ use Rattle.charlotte_calls.specs.declared.names.EndId.{EndId}
 use Rattle.charlotte_calls.specs.declared.names.Pid.{Pid}
 use Rattle.charlotte_calls.specs.declared.names.Way.{Way}
 use Rattle.charlotte_calls.specs.declared.names.Way.TheVariants as way
-use Rattle.service_change.proofs.Counts.{Contains-count, pid_tells}
+use Rattle.service_change.proofs.Counts.{pid_tells}
 use Rattle.service_change.proofs.Facts.{put_process-at, put_process-other, wakes-woken}
-use Rattle.service_lawful.specs.Consistent.{is_report_on, reports_on}
-use Rattle.service_step.specs.Ends.{is_destroyed, matched_message, owner, waiting_message}
+use Rattle.service_step.specs.Ends.{matched_message, owner, waiting_message}
 use Rattle.service_step.specs.State.{State, Process, ends_process, gains, given, later, no_process, put_process, receive_report, tells, turns, wakes}
 use Rattle.service_step.specs.Steps.{IsServiceStep, after_cancel, dead_reports, done_reports, gains_owner, returned_reports, wakes_owner}
 use Rattle.service_step.specs.declared.state.Message.{Message}
-use Rattle.service_step.specs.declared.state.Outward.{Outward}
 use Rattle.service_step.specs.declared.state.Outward.TheVariants as outward
 use Rattle.service_step.specs.declared.state.Phase.{Phase}
 use Rattle.service_step.specs.declared.state.Phase.TheVariants as phase

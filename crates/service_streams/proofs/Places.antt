@@ -1,11 +1,9 @@
 -- What a step leaves of places: a destroyed end stays destroyed. And why a message that is under way is under way no more.
-use Rattle.std.proofs.Common.{◌≡◌, ◌≢◌, ℕ, zero, suc, ◌<◌, Bool, true, false, true≢false, nat_eq, ◌&&◌, ◌||◌, not, is_none, ◌⊎◌, inl, inr, if◌then◌else◌, Option, Some, None, List, [], ◌∷◌, Contains, slice_get, refl, sym, ap, subst, ◌∙◌, arith}
+use Rattle.std.proofs.Common.{◌≡◌, ℕ, Bool, true, false, true≢false, ◌||◌, not, ◌⊎◌, inl, inr, if◌then◌else◌, Option, Some, None, List, [], ◌∷◌, Contains, slice_get, refl, sym, ap, subst, ◌∙◌, arith}
 use Rattle.std.specs.List.{list_any}
 use Rattle.charlotte_calls.proofs.Causes.{AllFail, none-fails}
 use Rattle.charlotte_calls.specs.Causes.{send_causes}
 use Rattle.charlotte_calls.specs.Names.{opposite}
-use Rattle.charlotte_calls.specs.declared.calls.Cause.{Cause}
-use Rattle.charlotte_calls.specs.declared.calls.Cause.TheVariants as cause
 use Rattle.charlotte_calls.specs.declared.calls.Report.{Report}
 use Rattle.charlotte_calls.specs.declared.calls.ServiceStep.{ServiceStep}
 use Rattle.charlotte_calls.specs.declared.calls.ServiceStep.TheVariants as step
@@ -16,15 +14,15 @@ use Rattle.charlotte_calls.specs.declared.names.Way.{Way}
 use Rattle.charlotte_calls.specs.declared.names.Way.TheVariants as way
 use Rattle.service_change.proofs.Change.{none-some}
 use Rattle.service_change.proofs.Counts.{and-true}
-use Rattle.service_change.proofs.EndEq.{among, among-Contains, end_eq-apart, end_eq-same, opposite-opposite, places-other, put-other}
-use Rattle.service_change.proofs.Facts.{busy-inward, busy-made, busy-outward, none-first, not-false, not-true, put_process-at, taken-Taken, waiting-Waiting}
+use Rattle.service_change.proofs.EndEq.{among, among-Contains, end_eq-same, opposite-opposite, places-other, put-other}
+use Rattle.service_change.proofs.Facts.{busy-inward, busy-made, busy-outward, not-true, put_process-at, taken-Taken}
 use Rattle.service_lawful.specs.Consistent.{IsConsistent, is_over}
-use Rattle.service_runs.proofs.Moves.{makes-sends, may-sent, places-sends, puts-apart, puts-either, sends_of, turns_inward-sends}
+use Rattle.service_runs.proofs.Moves.{may-sent, places-sends, puts-apart, puts-either, sends_of, turns_inward-sends}
 use Rattle.service_step.specs.Causes.{sees}
 use Rattle.service_step.specs.Ends.{end_eq, carried_by, destroys, destroys_each, destroys_owned, dropped, fresh, idles, is_destroyed, is_living, is_made, is_owned_by, is_unreported_inward, is_unreported_outward, makes, matched_message, matched_outward, matches, noticed_end, notices, owner, places, put, puts, returned_end, returns, starts_send, takes, to_owner, turns_inward, turns_outward, waiting_message, withdraws_send}
 use Rattle.service_step.specs.Lawful.{IsHeldAt, message_of}
-use Rattle.service_step.specs.State.{State, Process, ends_process, given, next_link, no_process}
-use Rattle.service_step.specs.Steps.{IsServiceStep, after_cancel, after_report, is_new_pair, may_match, may_send, may_send_as}
+use Rattle.service_step.specs.State.{State, ends_process, next_link, no_process}
+use Rattle.service_step.specs.Steps.{IsServiceStep, after_cancel, is_new_pair, may_send, may_send_as}
 use Rattle.service_step.specs.declared.state.End.{End}
 use Rattle.service_step.specs.declared.state.Inward.{Inward}
 use Rattle.service_step.specs.declared.state.Inward.TheVariants as inward

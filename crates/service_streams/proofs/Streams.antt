@@ -1,5 +1,5 @@
 -- Each direction of a link is FIFO in every service run.
-use Rattle.std.proofs.Common.{◌≡◌, ◌≢◌, ℕ, ◌+◌, ◌≤◌, Bool, true, false, true≢false, ◌⊎◌, inl, inr, if◌then◌else◌, Some, None, Contains, List, [], ◌∷◌, ◌++◌, length, map, append-nil, append_assoc, refl, sym, ap, ap₂, subst, ◌∙◌, arith}
+use Rattle.std.proofs.Common.{◌≡◌, ◌+◌, ◌≤◌, Bool, true, false, true≢false, ◌⊎◌, inl, inr, if◌then◌else◌, Some, Contains, List, [], ◌∷◌, ◌++◌, length, map, append-nil, append_assoc, refl, sym, ap, ap₂, subst, ◌∙◌, arith}
 use Rattle.std.proofs.lemmas.Grind.{flat_map-append}
 use Rattle.std.proofs.lemmas.List.{length-append, length-map, map-append}
 use Rattle.std.specs.List.{flat_map}
@@ -11,7 +11,6 @@ use Rattle.charlotte_calls.specs.declared.calls.ServiceStep.{ServiceStep}
 use Rattle.charlotte_calls.specs.declared.calls.ServiceStep.TheVariants as step
 use Rattle.charlotte_calls.specs.declared.names.EndId.{EndId}
 use Rattle.charlotte_calls.specs.declared.names.Pid.{Pid}
-use Rattle.charlotte_calls.specs.declared.names.Way.{Way}
 use Rattle.charlotte_calls.specs.declared.names.Way.TheVariants as way
 use Rattle.charlotte_calls.specs.declared.setting.Setting.{Setting}
 use Rattle.service_change.proofs.Change.{idle-parts}
@@ -21,12 +20,10 @@ use Rattle.service_lawful.specs.Consistent.{IsConsistent}
 use Rattle.service_runs.proofs.History.{after-more}
 use Rattle.service_runs.proofs.Lawful.{runs_are_lawful}
 use Rattle.service_step.specs.Ends.{end_eq, is_living, is_unreported_inward}
-use Rattle.service_step.specs.Lawful.{AreRising, IsLawful, message_of, number_on, send_number}
+use Rattle.service_step.specs.Lawful.{AreRising, IsLawful, message_of, send_number}
 use Rattle.service_step.specs.Run.{IsRunFrom, IsServiceRun, start_state, state_after}
 use Rattle.service_step.specs.State.{State, receive_report}
-use Rattle.service_step.specs.declared.state.End.{End}
 use Rattle.service_step.specs.declared.state.Message.{Message}
-use Rattle.service_step.specs.declared.state.Place.{Place}
 use Rattle.service_step.specs.declared.state.Place.TheVariants as place
 use Rattle.service_streams.proofs.Kept.{IsClosed, IsKept, IsPart, flat-more, kept-more, next-kept, next-part, taken-more}
 use Rattle.service_streams.proofs.Lists.{subsequence-front}
@@ -156,6 +153,12 @@ module _ (s0 : State) (run : List (ServiceStep × State)) (e : EndId) (h : IsStr
       its : q ≡ p
       its = one (sym owned ∙ h.consistent.reported.own q r there (ap is_living owned))
 
+  is-delivered : IsPrefix told (messages took) → IsPrefix told (messages (kept_on e (steps_in run)))
+  is-delivered first = (
+    first.0 ++ messages is-prefix.0,
+    sym (append_assoc told first.0 (messages is-prefix.0)) ∙ ap (λ l. l ++ messages is-prefix.0) first.1 ∙ sym (map-append (λ m. m.message) took is-prefix.0) ∙ ap messages is-prefix.1,
+  )
+
   pub is-fifo : IsLawful s0 run → IsFifo s0 run e
   is-fifo lawful =
       record {
@@ -167,6 +170,7 @@ module _ (s0 : State) (run : List (ServiceStep × State)) (e : EndId) (h : IsStr
         told = is-told h.telling;
         soon = is-soon h.telling;
         pending = λ p owned. is-pending p owned h.telling;
+        delivered = is-delivered (is-told h.telling);
       }
 
 -- each direction of each link, in each run of a valid setting

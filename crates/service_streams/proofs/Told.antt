@@ -1,9 +1,7 @@
 -- What the owners of an end were told of the messages taken there: of all of them, or of all but the last, whose report stands, or went
 -- with the process that owned the end.
-use Rattle.std.proofs.Common.{◌≡◌, ◌≢◌, ℕ, zero, suc, ◌+◌, ◌≤◌, Bool, true, false, true≢false, nat_eq, ◌&&◌, ◌⊎◌, inl, inr, if◌then◌else◌, Option, Some, None, List, [], ◌∷◌, ◌++◌, length, map, append-nil, Contains, refl, sym, ap, subst, ◌∙◌, arith}
-use Rattle.std.proofs.lemmas.List.{map-append}
+use Rattle.std.proofs.Common.{◌≡◌, ℕ, zero, suc, ◌+◌, ◌≤◌, Bool, true, false, true≢false, ◌&&◌, ◌⊎◌, inl, inr, if◌then◌else◌, Some, List, [], ◌∷◌, ◌++◌, append-nil, Contains, refl, sym, ap, subst, ◌∙◌, arith}
 use Rattle.std.proofs.lemmas.List.Elements.{Contains-append_cases, Contains-append_right}
-use Rattle.std.specs.List.{flat_map}
 use Rattle.charlotte_calls.specs.Names.{opposite}
 use Rattle.charlotte_calls.specs.declared.calls.Report.{Report}
 use Rattle.charlotte_calls.specs.declared.calls.ServiceStep.{ServiceStep}
@@ -14,28 +12,23 @@ use Rattle.charlotte_calls.specs.declared.names.Outcome.TheVariants as outcome
 use Rattle.charlotte_calls.specs.declared.names.Pid.{Pid}
 use Rattle.charlotte_calls.specs.declared.names.Way.{Way}
 use Rattle.charlotte_calls.specs.declared.names.Way.TheVariants as way
-use Rattle.service_change.proofs.Counts.{Contains-count, and-true, count-Contains, is_report_on-its, none-on, pid_tells}
+use Rattle.service_change.proofs.Counts.{Contains-count, and-true, is_report_on-its}
 use Rattle.service_change.proofs.EndEq.{end_eq-refl, end_eq-same, puts-at}
 use Rattle.service_change.proofs.Facts.{busy-inward, busy-made}
 use Rattle.service_consistent.proofs.Laws.{consistent_after}
 use Rattle.service_consistent.proofs.StepsOfMessages.{take-inward, take-matched, take-owned}
 use Rattle.service_lawful.specs.Consistent.{IsConsistent, is_over, is_report_on, reports_on, way_eq}
-use Rattle.service_runs.proofs.ReportsOfSteps.{IsNew, IsOfTake, reports-from}
-use Rattle.service_step.specs.Ends.{end_eq, idles, is_living, is_made, is_unreported_inward, matched_message, owner, puts, turns_inward}
-use Rattle.service_step.specs.State.{State, no_process, receive_report}
+use Rattle.service_runs.proofs.ReportsOfSteps.{IsNew, reports-from}
+use Rattle.service_step.specs.Ends.{end_eq, idles, is_unreported_inward, matched_message, puts, turns_inward}
+use Rattle.service_step.specs.State.{State, receive_report}
 use Rattle.service_step.specs.Steps.{IsServiceStep}
-use Rattle.service_step.specs.declared.state.End.{End}
-use Rattle.service_step.specs.declared.state.Inward.{Inward}
 use Rattle.service_step.specs.declared.state.Inward.TheVariants as inward
 use Rattle.service_step.specs.declared.state.Message.{Message}
-use Rattle.service_step.specs.declared.state.Outward.{Outward}
 use Rattle.service_step.specs.declared.state.Outward.TheVariants as outward
-use Rattle.service_step.specs.declared.state.Phase.TheVariants as phase
-use Rattle.service_step.specs.declared.state.Place.{Place}
 use Rattle.service_step.specs.declared.state.Place.TheVariants as place
 use Rattle.service_streams.proofs.Pending.{IsDue, exit-none, reports-stay, take-stands}
 use Rattle.service_streams.proofs.Places.{IsGone, exit-gone, gone-stays, oldest-there}
-use Rattle.service_streams.specs.Streams.{Sent, given_by, is_done, messages, numbered, taken_by, told_by, told_in}
+use Rattle.service_streams.specs.Streams.{given_by, is_done, messages, numbered, taken_by, told_by, told_in}
 
 -- the report Done of a receive on the end
 abbrev pub is_receipt : EndId → Report → Bool

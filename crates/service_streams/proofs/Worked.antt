@@ -1,6 +1,5 @@
 -- Worked runs: what the definitions of streams give, computed.
-use Rattle.std.proofs.Common.{◌≡◌, ℕ, Bool, true, false, ◌&&◌, List, [], ◌∷◌, refl}
-use Rattle.charlotte_calls.specs.declared.calls.Report.{Report}
+use Rattle.std.proofs.Common.{◌≡◌, Bool, true, false, ◌&&◌, List, [], ◌∷◌, refl}
 use Rattle.charlotte_calls.specs.declared.calls.ServiceStep.{ServiceStep}
 use Rattle.charlotte_calls.specs.declared.calls.ServiceStep.TheVariants as step
 use Rattle.charlotte_calls.specs.declared.names.EndId.{EndId}
@@ -14,9 +13,8 @@ use Rattle.service_step.specs.Run.{new_processes, start_state, wires_one}
 use Rattle.service_step.specs.State.{State, gains, given, receive_report, send_report, turns, wakes}
 use Rattle.service_step.specs.Steps.{after_cancel, after_complete, after_report, after_return, after_take, may_cancel, may_complete, may_destroy, may_match, may_receive, may_return, may_send, may_take}
 use Rattle.service_step.specs.declared.state.Inward.TheVariants as inward
-use Rattle.service_step.specs.declared.state.Message.{Message}
 use Rattle.service_step.specs.declared.state.Phase.TheVariants as phase
-use Rattle.service_streams.specs.Streams.{Sent, kept_on, reported_in, sent_on, taken_at, told_in, under_way}
+use Rattle.service_streams.specs.Streams.{kept_on, reported_in, sent_on, taken_at, told_in, under_way}
 
 -- two processes with two links, the first of them with all sides a
 abbrev setting : Setting

@@ -130,3 +130,5 @@ pub record IsFifo (s : State) (run : List (ServiceStep × State)) (e : EndId) : 
   pub pending : (p : Pid) → ((state_after s run).ends (opposite e)).place ≡ place.Owned p
       → messages (taken_at (opposite e) s run)
       ≡ reported_in (opposite e) (steps_in run) ++ told_in (opposite e) ((state_after s run).process p.0).reports
+  -- so they are told of the first of the messages that were sent and not cancelled, as the steps alone show
+  pub delivered : IsPrefix (reported_in (opposite e) (steps_in run)) (messages (kept_on e (steps_in run)))
