@@ -390,7 +390,7 @@ impl Service {
 
 /// What is claimed, and the invariant.
 impl Service {
-    fn under_way(&self, e: EndId) -> Vec<(u32, Message)> {
+    fn outstanding(&self, e: EndId) -> Vec<(u32, Message)> {
         match &self.ends[e].outward {
             Outward::Waiting(message) | Outward::Matched(message) => vec![(self.ends[e].sends, message.clone())],
             _ => vec![],
@@ -408,7 +408,7 @@ impl Service {
     }
 
     fn each_clause(&self, e: EndId) -> [(&'static str, bool); 10] {
-        let (o, stream, way) = (opposite(e), &self.streams[e], self.under_way(e));
+        let (o, stream, way) = (opposite(e), &self.streams[e], self.outstanding(e));
         let messages: Vec<Message> = stream.taken.iter().map(|(_, message)| message.clone()).collect();
         let rest = stream.kept.strip_prefix(&stream.taken[..]);
         let lost = rest.and_then(|rest| rest.strip_suffix(&way[..]));

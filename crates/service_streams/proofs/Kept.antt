@@ -1,4 +1,4 @@
--- What is kept of the messages sent on an end: those that were taken, then those that were lost as the link died, then the one under way.
+-- What is kept of the messages sent on an end: those that were taken, then those that were lost as the link died, then the outstanding one.
 use Rattle.std.proofs.Common.{◌≡◌, ℕ, ◌+◌, Bool, true, false, true≢false, ◌&&◌, ◌||◌, not, is_some, ◌⊎◌, inl, inr, if◌then◌else◌, Option, Some, None, List, [], ◌∷◌, ◌++◌, append-nil, append_assoc, refl, sym, ap, ap₂, subst, ◌∙◌}
 use Rattle.std.proofs.lemmas.Grind.{flat_map-append}
 use Rattle.std.proofs.lemmas.List.{map-append}
@@ -29,7 +29,7 @@ use Rattle.service_step.specs.declared.state.Outward.TheVariants as outward
 use Rattle.service_step.specs.declared.state.Place.TheVariants as place
 use Rattle.service_streams.proofs.Lists.{but_last-more, subsequence-but_last, subsequence-both, subsequence-more}
 use Rattle.service_streams.proofs.Places.{IsGone, Loss, died, gone-stays, loss, took, unmet, withdrawn}
-use Rattle.service_streams.specs.Streams.{IsSubsequence, Sent, but_last, cancels_send, kept_by, kept_on, numbered, sent_by, sent_on, steps_in, taken_at, taken_by, under_way}
+use Rattle.service_streams.specs.Streams.{IsSubsequence, Sent, but_last, cancels_send, kept_by, kept_on, numbered, sent_by, sent_on, steps_in, taken_at, taken_by, outstanding}
 
 -- one step more
 
@@ -130,7 +130,7 @@ send-owned : (s : State) (f : EndId) (n : ℕ) (xs : List EndId) (o : Option Pid
 send-owned s f n xs None may is gone = true≢false (sym may)
 send-owned s f n xs (Some p) may is gone = none-some None p refl (sym (is ∙ ap owner gone))
 
--- a send is of the message that is under way after it
+-- a send is of the message that is outstanding after it
 sent-one : (s : State) (x : ServiceStep) (t : State) (e : EndId) (m : Message) (i : ℕ) → IsServiceStep s x t → send_number e (x, t) ≡ i ∷ [] → (t.ends e).outward ≡ outward.Waiting m → (sent_by e x ≡ numbered i (Some m)) × (IsGone s.ends e → ⊥)
 sent-one s (step.Send f n bytes xs) t e m i is numbers out = by (end_eq e f) refl numbers
   where
@@ -170,14 +170,14 @@ cancel-facts s e t k is = (waiting-Waiting (s.ends e).outward (and-true _ _ both
         ap (λ z. (z.ends e).outward) after ∙ ap (λ z. z.outward) (places-sends (place.Owned p) (carried_by (waiting_message (s.ends e).outward)) (puts e y s.ends) e)
         ∙ ap (λ z. z.outward) (puts-at e y s.ends (made-owned (s.ends e).place p (owner-Owned (s.ends e).place p is)))
 
--- where a link dies: the opposite is destroyed, or the end is, with nothing under way
+-- where a link dies: the opposite is destroyed, or the end is, with nothing outstanding
 abbrev pub IsClosed : State → EndId → Type 0
-IsClosed s e = IsGone s.ends (opposite e) ⊎ (IsGone s.ends e × (under_way (s.ends e) ≡ []))
+IsClosed s e = IsGone s.ends (opposite e) ⊎ (IsGone s.ends e × (outstanding (s.ends e) ≡ []))
 
--- of what is sent on e and not cancelled some were taken, some were lost, since the link died, and one may be under way
+-- of what is sent on e and not cancelled some were taken, some were lost, since the link died, and one may be outstanding
 pub record IsKept (kept took : List Sent) (s : State) (e : EndId) : Type 0 where
   pub lost : List Sent
-  pub all : kept ≡ (took ++ lost) ++ under_way (s.ends e)
+  pub all : kept ≡ (took ++ lost) ++ outstanding (s.ends e)
   pub closed : (lost ≡ []) ⊎ IsClosed s e
 
 -- lists
@@ -194,10 +194,10 @@ append-taken a c = ap (λ l. l ++ c) (append-nil a) ∙ sym (append-nil (a ++ c)
 append-lost : (a b c : List Sent) → (a ++ b) ++ c ≡ ((a ++ []) ++ (b ++ c)) ++ []
 append-lost a b c = append_assoc a b c ∙ ap (λ l. l ++ (b ++ c)) (sym (append-nil a)) ∙ sym (append-nil ((a ++ []) ++ (b ++ c)))
 
-way-same : (x y : End) → message_of y.outward ≡ message_of x.outward → y.sent ≡ x.sent → under_way y ≡ under_way x
+way-same : (x y : End) → message_of y.outward ≡ message_of x.outward → y.sent ≡ x.sent → outstanding y ≡ outstanding x
 way-same x y message number = ap (λ n. numbered n (message_of y.outward)) number ∙ ap (numbered x.sent) message
 
-way-is : (x : End) (o : Option Message) → message_of x.outward ≡ o → under_way x ≡ numbered x.sent o
+way-is : (x : End) (o : Option Message) → message_of x.outward ≡ o → outstanding x ≡ numbered x.sent o
 way-is x o is = ap (numbered x.sent) is
 
 one-more : (n : ℕ) (m : Message) → numbered n (Some m) ≡ [] → ⊥
@@ -207,8 +207,8 @@ module _ (kept took_so : List Sent) (s : State) (x : ServiceStep) (t : State) (e
   abbrev Next : Type 0
   Next = IsKept (kept_by e kept x) (took_so ++ taken_by (opposite e) s x) t e
 
-  -- a link that is closed stays so while nothing new is under way
-  stays : (under_way (s.ends e) ≡ [] → under_way (t.ends e) ≡ []) → (h.lost ≡ []) ⊎ IsClosed s e → (h.lost ≡ []) ⊎ IsClosed t e
+  -- a link that is closed stays so while nothing new is outstanding
+  stays : (outstanding (s.ends e) ≡ [] → outstanding (t.ends e) ≡ []) → (h.lost ≡ []) ⊎ IsClosed s e → (h.lost ≡ []) ⊎ IsClosed t e
   stays quiet (inl none) = inl none
   stays quiet (inr (inl gone)) = inr (inl (gone-stays s x t (opposite e) k is gone))
   stays quiet (inr (inr both)) = inr (inr (gone-stays s x t e k is both.0, quiet both.1))
@@ -217,12 +217,12 @@ module _ (kept took_so : List Sent) (s : State) (x : ServiceStep) (t : State) (e
   with-taken : (l : List Sent) → taken_by (opposite e) s x ≡ l → IsKept (kept_by e kept x) (took_so ++ l) t e → Next
   with-taken l is_l = subst (λ z. IsKept (kept_by e kept x) (took_so ++ z) t e) (sym is_l)
 
-  as-was : kept_by e kept x ≡ kept → taken_by (opposite e) s x ≡ [] → under_way (t.ends e) ≡ under_way (s.ends e) → Next
+  as-was : kept_by e kept x ≡ kept → taken_by (opposite e) s x ≡ [] → outstanding (t.ends e) ≡ outstanding (s.ends e) → Next
   as-was same none alike =
       with-taken [] none
       (record {
         lost = h.lost;
-        all = same ∙ h.all ∙ append-four took_so h.lost (under_way (s.ends e)) ∙ ap (λ u. ((took_so ++ []) ++ h.lost) ++ u) (sym alike);
+        all = same ∙ h.all ∙ append-four took_so h.lost (outstanding (s.ends e)) ∙ ap (λ u. ((took_so ++ []) ++ h.lost) ++ u) (sym alike);
         closed = stays (λ nothing. alike ∙ nothing) h.closed;
       })
 
@@ -241,10 +241,10 @@ module _ (kept took_so : List Sent) (s : State) (x : ServiceStep) (t : State) (e
       facts : ((m : Message) × ((s.ends e).outward ≡ outward.Waiting m)) × ((t.ends e).outward ≡ outward.Idle)
       facts = cancel-facts s e t k (subst (λ z. IsServiceStep s z t) its is)
 
-      waits : under_way (s.ends e) ≡ numbered (s.ends e).sent (Some facts.0.0)
+      waits : outstanding (s.ends e) ≡ numbered (s.ends e).sent (Some facts.0.0)
       waits = way-is (s.ends e) (Some facts.0.0) (ap message_of facts.0.1)
 
-      nothing : under_way (t.ends e) ≡ []
+      nothing : outstanding (t.ends e) ≡ []
       nothing = way-is (t.ends e) None (ap message_of facts.1)
 
   -- every other step
@@ -255,20 +255,20 @@ module _ (kept took_so : List Sent) (s : State) (x : ServiceStep) (t : State) (e
     keeps-none : send_number e (x, t) ≡ [] → kept_by e kept x ≡ kept
     keeps-none none = keeps [] (sent-none e x t none) ∙ append-nil kept
 
-    -- a message more is under way
+    -- a message more is outstanding
     sends : (m : Message) → (s.ends e).outward ≡ outward.Idle → (t.ends e).outward ≡ outward.Waiting m → (t.ends e).sent ≡ (s.ends e).sent + 1 → send_number e (x, t) ≡ ((s.ends e).sent + 1) ∷ [] → take_number e (x, t) ≡ [] → Next
     sends m was out number its_sends its_takes =
         with-taken [] (taken-none e s x t its_takes)
         (record {
           lost = h.lost;
-          all = keeps (under_way (t.ends e)) (one.0 ∙ sym now) ∙ ap (λ l. l ++ under_way (t.ends e)) (h.all ∙ ap (λ u. (took_so ++ h.lost) ++ u) (way-is (s.ends e) None (ap message_of was))) ∙ append-sent took_so h.lost (under_way (t.ends e));
+          all = keeps (outstanding (t.ends e)) (one.0 ∙ sym now) ∙ ap (λ l. l ++ outstanding (t.ends e)) (h.all ∙ ap (λ u. (took_so ++ h.lost) ++ u) (way-is (s.ends e) None (ap message_of was))) ∙ append-sent took_so h.lost (outstanding (t.ends e));
           closed = closed h.closed;
         })
       where
         one : (sent_by e x ≡ numbered ((s.ends e).sent + 1) (Some m)) × (IsGone s.ends e → ⊥)
         one = sent-one s x t e m ((s.ends e).sent + 1) is its_sends out
 
-        now : under_way (t.ends e) ≡ numbered ((s.ends e).sent + 1) (Some m)
+        now : outstanding (t.ends e) ≡ numbered ((s.ends e).sent + 1) (Some m)
         now = way-is (t.ends e) (Some m) (ap message_of out) ∙ ap (λ n. numbered n (Some m)) number
 
         closed : (h.lost ≡ []) ⊎ IsClosed s e → (h.lost ≡ []) ⊎ IsClosed t e
@@ -276,7 +276,7 @@ module _ (kept took_so : List Sent) (s : State) (x : ServiceStep) (t : State) (e
         closed (inr (inl gone)) = inr (inl (gone-stays s x t (opposite e) k is gone))
         closed (inr (inr both)) = absurd (one.1 both.0)
 
-    -- the message under way is taken
+    -- the outstanding message is taken
     takes : (m : Message) (p : Pid) (late : Bool) → (s.ends e).outward ≡ outward.Matched m → (t.ends e).outward ≡ outward.Taken → x ≡ step.Take e (s.ends e).sent p late → (s.ends (opposite e)).place ≡ place.Owned p → send_number e (x, t) ≡ [] → Next
     takes m p late was out its owned its_sends =
         with-taken u taken
@@ -289,7 +289,7 @@ module _ (kept took_so : List Sent) (s : State) (x : ServiceStep) (t : State) (e
         u : List Sent
         u = numbered (s.ends e).sent (Some m)
 
-        way : under_way (s.ends e) ≡ u
+        way : outstanding (s.ends e) ≡ u
         way = way-is (s.ends e) (Some m) (ap message_of was)
 
         taken : taken_by (opposite e) s x ≡ u
@@ -305,7 +305,7 @@ module _ (kept took_so : List Sent) (s : State) (x : ServiceStep) (t : State) (e
         none (inr (inl gone)) = absurd (differ (sym owned ∙ gone))
         none (inr (inr both)) = absurd (one-more (s.ends e).sent m (sym way ∙ both.1))
 
-    -- nothing is under way any more
+    -- nothing is outstanding any more
     ends : message_of (t.ends e).outward ≡ None → (t.ends e).sent ≡ (s.ends e).sent → send_number e (x, t) ≡ [] → take_number e (x, t) ≡ [] → Next
     ends none number its_sends its_takes = by (message_of (s.ends e).outward) refl
       where
@@ -313,8 +313,8 @@ module _ (kept took_so : List Sent) (s : State) (x : ServiceStep) (t : State) (e
         lost-now m there closed =
             with-taken [] (taken-none e s x t its_takes)
             (record {
-              lost = h.lost ++ under_way (s.ends e);
-              all = keeps-none its_sends ∙ h.all ∙ append-lost took_so h.lost (under_way (s.ends e)) ∙ ap (λ z. ((took_so ++ []) ++ (h.lost ++ under_way (s.ends e))) ++ z) (sym (way-is (t.ends e) None none));
+              lost = h.lost ++ outstanding (s.ends e);
+              all = keeps-none its_sends ∙ h.all ∙ append-lost took_so h.lost (outstanding (s.ends e)) ∙ ap (λ z. ((took_so ++ []) ++ (h.lost ++ outstanding (s.ends e))) ++ z) (sym (way-is (t.ends e) None none));
               closed = inr closed;
             })
 

@@ -1,4 +1,4 @@
--- What a step leaves of places: a destroyed end stays destroyed. And why a message that is under way is under way no more.
+-- What a step leaves of places: a destroyed end stays destroyed. And why a message is outstanding no more.
 use Rattle.std.proofs.Common.{◌≡◌, ℕ, Bool, true, false, true≢false, ◌||◌, not, ◌⊎◌, inl, inr, if◌then◌else◌, Option, Some, None, List, [], ◌∷◌, Contains, slice_get, refl, sym, ap, subst, ◌∙◌, arith}
 use Rattle.std.specs.List.{list_any}
 use Rattle.charlotte_calls.proofs.Causes.{AllFail, none-fails}
@@ -250,7 +250,7 @@ destroys_each-fate p [] t q = inl refl
 destroys_each-fate p (e ∷ mine) t q =
     let u = destroys_owned p e t in then-fate t u (destroys_each p mine u) q (destroys_owned-fate p e t q) (destroys_each-fate p mine u q) (destroys_each-gone p mine u q)
 
--- how a message of f comes to be under way no more
+-- how a message of f comes to be outstanding no more
 pub data Loss (x : ServiceStep) (t : State) (f : EndId) : Type 0 where
   withdrawn : x ≡ step.Cancel f way.Outward → Loss x t f
   took : (n : ℕ) (p : Pid) (late : Bool) → x ≡ step.Take f n p late → Loss x t f

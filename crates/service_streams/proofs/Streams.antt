@@ -29,7 +29,7 @@ use Rattle.service_streams.proofs.Kept.{IsClosed, IsKept, IsPart, flat-more, kep
 use Rattle.service_streams.proofs.Lists.{subsequence-front}
 use Rattle.service_streams.proofs.Places.{IsGone}
 use Rattle.service_streams.proofs.Told.{NoneStands, Telling, all_told, is_receipt, its-receipt, next-telling, one_lost, one_stands, over-at, told-it, told-none, told-one}
-use Rattle.service_streams.specs.Streams.{IsFifo, IsSubsequence, Sent, given_by, kept_by, kept_on, messages, numbered, reported_in, sent_by, sent_on, steps_in, taken_at, taken_by, told_in, under_way}
+use Rattle.service_streams.specs.Streams.{IsFifo, IsSubsequence, Sent, given_by, kept_by, kept_on, messages, numbered, reported_in, sent_by, sent_on, steps_in, taken_at, taken_by, told_in, outstanding}
 
 -- what is true of a direction after some steps of a run from a state
 pub record IsStream (s0 : State) (past : List (ServiceStep × State)) (e : EndId) : Type 0 where
@@ -120,10 +120,10 @@ module _ (s0 : State) (run : List (ServiceStep × State)) (e : EndId) (h : IsStr
   s = state_after s0 run
 
   is-prefix : IsPrefix took (kept_on e (steps_in run))
-  is-prefix = (h.kept.lost ++ under_way (s.ends e), sym (append_assoc took h.kept.lost (under_way (s.ends e))) ∙ sym h.kept.all)
+  is-prefix = (h.kept.lost ++ outstanding (s.ends e), sym (append_assoc took h.kept.lost (outstanding (s.ends e))) ∙ sym h.kept.all)
 
-  lossless : (IsGone s.ends e → ⊥) → (IsGone s.ends (opposite e) → ⊥) → (h.kept.lost ≡ []) ⊎ IsClosed s e → kept_on e (steps_in run) ≡ took ++ under_way (s.ends e)
-  lossless lives opposite_lives (inl none) = h.kept.all ∙ ap (λ l. (took ++ l) ++ under_way (s.ends e)) none ∙ ap (λ l. l ++ under_way (s.ends e)) (append-nil took)
+  lossless : (IsGone s.ends e → ⊥) → (IsGone s.ends (opposite e) → ⊥) → (h.kept.lost ≡ []) ⊎ IsClosed s e → kept_on e (steps_in run) ≡ took ++ outstanding (s.ends e)
+  lossless lives opposite_lives (inl none) = h.kept.all ∙ ap (λ l. (took ++ l) ++ outstanding (s.ends e)) none ∙ ap (λ l. l ++ outstanding (s.ends e)) (append-nil took)
   lossless lives opposite_lives (inr (inl gone)) = absurd (opposite_lives gone)
   lossless lives opposite_lives (inr (inr both)) = absurd (lives both.0)
 

@@ -14,7 +14,7 @@ use Rattle.service_step.specs.State.{State, gains, given, receive_report, send_r
 use Rattle.service_step.specs.Steps.{after_cancel, after_complete, after_report, after_return, after_take, may_cancel, may_complete, may_destroy, may_match, may_receive, may_return, may_send, may_take}
 use Rattle.service_step.specs.declared.state.Inward.TheVariants as inward
 use Rattle.service_step.specs.declared.state.Phase.TheVariants as phase
-use Rattle.service_streams.specs.Streams.{kept_on, reported_in, sent_on, taken_at, told_in, under_way}
+use Rattle.service_streams.specs.Streams.{kept_on, reported_in, sent_on, taken_at, told_in, outstanding}
 
 -- two processes with two links, the first of them with all sides a
 abbrev setting : Setting
@@ -136,7 +136,7 @@ returned-taken : taken_at b (start_state setting) (run_from (start_state setting
 unfolding end_eq wires_one new_processes starts_send places puts turns_inward turns_outward matches destroys returns notices gains wakes turns
 returned-taken = refl
 
--- it is under way no more
-returned-way : under_way ((left_by_all (start_state setting) returned).ends a) ≡ []
+-- it is outstanding no more
+returned-way : outstanding ((left_by_all (start_state setting) returned).ends a) ≡ []
 unfolding end_eq wires_one new_processes starts_send places puts turns_inward turns_outward matches destroys returns notices gains wakes turns
 returned-way = refl

@@ -101,9 +101,9 @@ given_by _ = []
 abbrev pub reported_in : EndId → List ServiceStep → List Message
 reported_in e steps = told_in e (flat_map given_by steps)
 
--- the message of an end that is sent, and neither taken nor back
-abbrev pub under_way : End → List Sent
-under_way x = numbered x.sent (message_of x.outward)
+-- the message of an end that is outstanding: it was sent, and is neither taken nor back
+abbrev pub outstanding : End → List Sent
+outstanding x = numbered x.sent (message_of x.outward)
 
 -- a list in the order of another, with some of its elements left out
 abbrev pub IsSubsequence : {X : Type 0} → List X → List X → Type 0
@@ -120,9 +120,9 @@ pub record IsFifo (s : State) (run : List (ServiceStep × State)) (e : EndId) : 
   -- those whose send was cancelled are not taken, and of the others none is left out
   pub gapless : IsPrefix (taken_at (opposite e) s run) (kept_on e (steps_in run))
   pub uncancelled : list_any (cancels_send e) (steps_in run) ≡ false → kept_on e (steps_in run) ≡ sent_on e (steps_in run)
-  -- while neither end is destroyed none is lost: all are taken but the one that is under way
+  -- while neither end is destroyed none is lost: all are taken but the outstanding one
   pub lossless : ((state_after s run).ends e).place ≢ place.Destroyed → ((state_after s run).ends (opposite e)).place ≢ place.Destroyed
-      → kept_on e (steps_in run) ≡ taken_at (opposite e) s run ++ under_way ((state_after s run).ends e)
+      → kept_on e (steps_in run) ≡ taken_at (opposite e) s run ++ outstanding ((state_after s run).ends e)
   -- the owners of the opposite are told of just the messages taken, in order, but perhaps of the last
   pub told : IsPrefix (reported_in (opposite e) (steps_in run)) (messages (taken_at (opposite e) s run))
   pub soon : length (taken_at (opposite e) s run) ≤ length (reported_in (opposite e) (steps_in run)) + 1
