@@ -21,7 +21,7 @@ use Rattle.program_round.specs.Doings.{IsNextToGo}
 use Rattle.program_round.specs.declared.programs.Programs.{Programs}
 use Rattle.program_runs.specs.Replay.{IsNoCall}
 use Rattle.kernel_turns.proofs.Turned.{node-ready, works-both, works-in_time}
-use Rattle.kernel_turns.specs.Amid.{IsAmidTurn, IsSomeNode, SameRun}
+use Rattle.kernel_turns.specs.Amid.{IsAmidTurn, IsSomeNode}
 use Rattle.kernel_turns.specs.Events.{Happens}
 use Rattle.kernel_turns.specs.Nodes.{Meaning}
 use Rattle.kernel_turns.specs.Turns.{Asks, BeginsOnce, Continues, BeginsInTime, GetsLetter, GetsMarker, HasTurns, Hears, IsLent, IsTurn, KeepsWork, NoLetter, Pauses, PutsLetters, SpendsTurns, StepsAt, TakesIt, Works, with_marker}
@@ -29,22 +29,6 @@ use Rattle.kernel_turns.specs.declared.base.Base.{Base}
 use Rattle.kernel_turns.specs.declared.node.Node.{Node}
 use Rattle.kernel_turns.specs.declared.node.Turn.{Turn}
 use Rattle.kernel_turns.specs.declared.node.Turn.TheVariants as turn
-
--- what is as it was is as before want of memory
-pub same-run : (old mid new : Base) → mid.kernel ≡ old.kernel → mid.journal ≡ old.journal → mid.orders ≡ old.orders → mid.used ≡ old.used → SameRun mid new → SameRun old new
-same-run old mid new kernel journal orders used same =
-    record {
-      kernel = same.kernel ∙ ap state_of kernel;
-      processes = same.processes ∙ ap (λ v. length v.processes) kernel;
-      kernels = same.kernels ∙ ap (λ v. v.kernels) kernel;
-      journal = same.journal ∙ ap (λ j. j.entries) journal;
-      orders = same.orders ∙ orders;
-      used = same.used ∙ used;
-    }
-
-pub same-base : (old new : Base) → new.kernel ≡ old.kernel → new.journal ≡ old.journal → new.orders ≡ old.orders → new.used ≡ old.used → SameRun old new
-same-base old new kernel journal orders used =
-    same-run old new new kernel journal orders used (record { kernel = refl; processes = refl; kernels = refl; journal = refl; orders = refl; used = refl })
 
 module _ {P S W : Type 0} (m : Meaning P S) where
   pub took-continues : (n new : Node P W) (before : Base) (from : ℕ) (p : Packet) (put : Bool) (who : List Pid) → HasTurns before → GetsLetter from (letter.Packet p) before n.base

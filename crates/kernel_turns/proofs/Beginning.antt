@@ -45,9 +45,9 @@ emptied-letters o o' none none' same to =
     ∙ ap (λ ws. slice_index_or (map (λ list. list.items) ws.items) to [] ++ letters_for to o.unsent.items) same
 
 pub puts-emptied : (put : Bool) (old new : Base) (o : Outbox) → ((to : ℕ) → outbox_to new.outbox to ≡ outbox_to o to) → Flushes (outbox_to old.outbox) (outbox_to o) old.port new.port
-    → (put ≡ true → (to : ℕ) × (length (outbox_to o to) < length (outbox_to old.outbox to))) → (put ≡ false → (to : ℕ) → outbox_to o to ≡ outbox_to old.outbox to)
+    → (put ≡ true → (to : ℕ) × (length (outbox_to o to) < length (outbox_to old.outbox to))) → (put ≡ false → (to : ℕ) → outbox_to o to ≡ outbox_to old.outbox to) → (put ≡ false → new.port ≡ old.port)
     → new.outbox.unsent.items ≡ [] → FitsPort new → KeepsWork old new → new.course ≡ old.course → PutsLetters put old new
-puts-emptied put old new o is flushed some unput unsent fits kept course =
+puts-emptied put old new o is flushed some unput port unsent fits kept course =
     record {
       kept = kept;
       course = course;
@@ -62,6 +62,7 @@ puts-emptied put old new o is flushed some unput unsent fits kept course =
       };
       some = λ e. let less = some e in (less.0, subst (λ ls. length ls < length (outbox_to old.outbox less.0)) (sym (is less.0)) less.1);
       none = λ e to. is to ∙ unput e to;
+      port = port;
     }
 
 pub none-within : (kernels : ℕ) (sent : List (ℕ × Packet)) → sent ≡ [] → GoWithin kernels sent

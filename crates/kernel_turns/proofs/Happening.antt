@@ -1,6 +1,6 @@
 -- One event at a node: what the kernel gave is noted and goes out.
-use Rattle.std.proofs.Common.{◌≡◌, ◌≢◌, ◌⊎◌, inl, inr, ℕ, ◌+◌, ◌≤◌, arith, true, false, nat_eq, List, [], ◌∷◌, ◌++◌, All, length, map, ap, sym, refl, subst, ◌∙◌, append-nil}
-use Rattle.std.proofs.lemmas.List.{map-append}
+use Rattle.std.proofs.Common.{◌≡◌, ◌≢◌, ◌⊎◌, inl, inr, ℕ, ◌+◌, ◌^◌, ◌<◌, ◌≤◌, arith, true, false, nat_eq, List, [], ◌∷◌, ◌++◌, All, length, map, ap, sym, refl, subst, ◌∙◌, append-nil}
+use Rattle.std.proofs.lemmas.List.{length-map, map-append}
 use Rattle.std.proofs.lemmas.Bool.Decides.{eqb_tells}
 use Rattle.charlotte_calls.specs.declared.names.Pid.{Pid}
 use Rattle.charlotte_packets.specs.declared.packet.Packet.{Packet}
@@ -86,6 +86,7 @@ happens-of o effect k old new who is processes kernels there none closes =
       within = subst (λ (v : KernelView). GoWithin v.kernels new.outbox.unsent.items) (sym closes.kernel) (subst (GoWithin k.kernels) (sym closes.unsent) there);
       lists = ap (λ ws. length ws.items) closes.waiting;
       noted = closes.noted ∙ ap (λ e. old.journal.entries ++ e ∷ []) entry;
+      few = few;
       sent = sent;
       answered = closes.answered ∙ is.answered;
       used = closes.used;
@@ -96,6 +97,9 @@ happens-of o effect k old new who is processes kernels there none closes =
   where
     entry : record { stamp = effect.stamp; what = happened o; steps = effect.steps.items } ≡ entry_of (state_of old.kernel) o
     entry = ap (λ s. record { stamp = s; what = happened o; steps = effect.steps.items }) is.stamp ∙ ap (λ ss. record { stamp = (gives (state_of old.kernel) o).kernel.stamp; what = happened o; steps = ss }) is.steps
+
+    few : length (gives (state_of old.kernel) o).packets < 2 ^ 63
+    few = omega (arith, sym (ap length is.packets_are), length-map effect.packets.items sent_picture, effect.packets.ok.0, effect.packets.ok.1, effect.packets.small)
 
     before : (to : ℕ) → told (outbox_to old.outbox to) ≡ told (waiting_to old.outbox to)
     before to = ap (λ xs. told (waiting_to old.outbox to ++ letters_for to xs)) none ∙ ap told (append-nil (waiting_to old.outbox to))

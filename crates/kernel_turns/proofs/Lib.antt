@@ -12,8 +12,12 @@ mod Programs
 mod Stepping
 mod Stepped
 mod Calling
-mod Turned
+pub mod Turned
 mod Amid
-mod Starting
+pub mod Starting
 mod Answering
+pub mod Goes
+pub mod Alike
+mod Sums
+pub mod Left
 mod Rows

@@ -20,7 +20,7 @@ got-other (x ∷ xs) (suc i) (suc j) y other = got-other xs i j y (λ e. other (
 abbrev pub one_at : ℕ → (ℕ → ℕ) → ℕ → ℕ
 one_at place f i = if nat_eq i place then f i + 1 else f i
 
-sum-past : (n place : ℕ) (f : ℕ → ℕ) → n ≤ place → sum_of n (one_at place f) ≡ sum_of n f
+pub sum-past : (n place : ℕ) (f : ℕ → ℕ) → n ≤ place → sum_of n (one_at place f) ≡ sum_of n f
 sum-past zero place f past = refl
 sum-past (suc n) place f past = by (eqb_tells n place) (sum-past n place f (omega (arith, past)))
   where

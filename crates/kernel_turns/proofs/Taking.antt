@@ -159,6 +159,10 @@ taken-begun made old new once taken =
       marks = ap length kept.marked ∙ taken.marks;
     }
 
+-- a marker that is got was not got before
+pub none-got : (made : List LocalEvent) (from : ℕ) (old got : Base) → GetsLetter from letter.Marker old got → HasTaken made old → marked_of old.course from ≡ None
+none-got made from old got gets taken = unmarked (marked_of old.course from) from made (ap marks (sym (taken.got from)) ∙ no-marks (got_from old.port from) gets.got.allowed)
+
 pub taken-marked : (made : List LocalEvent) (from : ℕ) (old got new : Base) → GetsLetter from letter.Marker old got → BeginsOnce (with_marker from got) new → from < 8
     → length old.journal.entries ≡ length made → HasTaken made old → HasTaken made new
 taken-marked made from old got new gets once below long taken =
@@ -182,7 +186,7 @@ taken-marked made from old got new gets once below long taken =
     there = subst (λ n. from < n) (sym taken.marks) below
 
     none : marked_of old.course from ≡ None
-    none = unmarked (marked_of old.course from) from made (ap marks (sym (taken.got from)) ∙ no-marks (got_from old.port from) gets.got.allowed)
+    none = none-got made from old got gets taken
 
     here : told (got_from got.port from) ≡ letters_from (Some (length made)) from made
     here =

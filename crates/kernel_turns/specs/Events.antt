@@ -1,5 +1,5 @@
 -- What an event does with a node's kernel, journal and outbox.
-use Rattle.std.specs.Prelude.{◌≡◌, ℕ, ◌+◌, ◌≤◌, List, [], ◌∷◌, ◌++◌, length}
+use Rattle.std.specs.Prelude.{◌≡◌, ℕ, ◌+◌, ◌^◌, ◌<◌, ◌≤◌, List, [], ◌∷◌, ◌++◌, length}
 use Rattle.charlotte_calls.specs.declared.names.Pid.{Pid}
 use Rattle.kernel_core.specs.State.{state_of}
 use Rattle.kernel_named.specs.Named.{GoWithin}
@@ -21,6 +21,8 @@ pub record Happens (o : LocalEvent) (old new : Base) (who : List Pid) : Type 0 w
   pub processes : length new.kernel.processes ≡ length old.kernel.processes
   pub kernels : new.kernel.kernels ≡ old.kernel.kernels
   pub noted : new.journal.entries ≡ old.journal.entries ++ entry_of (state_of old.kernel) o ∷ []
+  -- no more packets than a list holds
+  pub few : length (gives (state_of old.kernel) o).packets < 2 ^ 63
   pub sent : (to : ℕ) → told (outbox_to new.outbox to) ≡ told (outbox_to old.outbox to) ++ packets (to_kernel to (gives (state_of old.kernel) o).packets)
   -- they go to kernels that are there, and no list is made for them
   pub within : GoWithin new.kernel.kernels new.outbox.unsent.items

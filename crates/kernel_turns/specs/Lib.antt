@@ -4,3 +4,5 @@ pub mod Events
 pub mod Nodes
 pub mod Turns
 pub mod Amid
+pub mod Left
+pub mod Goes

@@ -82,6 +82,7 @@ pub record PutsLetters (put : Bool) (old new : Base) : Type 0 where
   pub fits : FitsPort new
   pub some : put ≡ true → (to : ℕ) × (length (outbox_to new.outbox to) < length (outbox_to old.outbox to))
   pub none : put ≡ false → (to : ℕ) → outbox_to new.outbox to ≡ outbox_to old.outbox to
+  pub port : put ≡ false → new.port ≡ old.port
 
 -- a letter is got, and of the rest nothing changes
 pub record GetsLetter (from : ℕ) (l : Letter) (old new : Base) : Type 0 where

@@ -8,7 +8,7 @@ ghost use Rattle.kernel_entries.specs.Ranges.{IsEntryInRange};
 ghost use Rattle.kernel_entries.specs.declared.entry.Happened.{Happened};
 ghost use Rattle.kernel_step.specs.Calls.{IsCallWith};
 ghost use Rattle.local_runs.specs.Local.{MakesCall, TakesPacket, gives};
-ghost use Rattle.kernel_net.specs.Ports.{put_to};
+ghost use Rattle.kernel_net.specs.Ports.{place_of, put_to};
 ghost use Rattle.kernel_outbox.specs.Letters.{MayAllBePut, outbox_to};
 ghost use Rattle.kernel_turns.specs.Amid.{SameRun};
 ghost use Rattle.kernel_turns.specs.Courses.{marked_of};
@@ -143,6 +143,7 @@ impl Base {
         ensures journal { self.new.journal ≡ self.old.journal }
         ensures orders { self.new.orders ≡ self.old.orders }
         ensures used { self.new.used ≡ self.old.used }
+        ensures port { self.new.port ≡ self.old.port }
     {
         if self.course.begun.is_some() {
             return Ok(());
@@ -171,6 +172,7 @@ impl Base {
         ensures journal { self.new.journal ≡ self.old.journal }
         ensures orders { self.new.orders ≡ self.old.orders }
         ensures used { self.new.used ≡ self.old.used }
+        ensures port { self.new.port ≡ self.old.port }
     {
         if self.is_due() {
             self.begin()?;
@@ -187,6 +189,7 @@ impl Base {
         ensures journal { self.new.journal ≡ self.old.journal }
         ensures orders { self.new.orders ≡ self.old.orders }
         ensures used { self.new.used ≡ self.old.used }
+        ensures place { place_of self.new.port ≡ place_of self.old.port }
     {
         let put = self.outbox.put(&mut self.port)?;
         self.kernel.reuse(self.outbox.emptied());
@@ -202,6 +205,7 @@ impl Base {
         ensures journal { self.new.journal ≡ self.old.journal }
         ensures orders { self.new.orders ≡ self.old.orders }
         ensures used { self.new.used ≡ self.old.used }
+        ensures place { place_of self.new.port ≡ place_of self.old.port }
     {
         self.begin_in_time()?;
         let put = self.put()?;
@@ -225,6 +229,7 @@ impl Base {
         ensures journal { self.new.journal ≡ self.old.journal }
         ensures orders { self.new.orders ≡ self.old.orders }
         ensures used { self.new.used ≡ self.old.used }
+        ensures port { self.new.port ≡ self.old.port }
     {
         self.course.mark(from, self.journal.len());
         self.begin()

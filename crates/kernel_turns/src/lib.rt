@@ -6,9 +6,13 @@
 //! through each turn (`IsNode`): its kernel and its journal are those of a local run, what it put and has to put is what that run sends,
 //! with the markers in their places, what it got is what the run took, its programs replay the entries that it noted, and the turns used
 //! are the packets taken and the steps made. After want of memory kernel and journal are as before, and no further turn is made
-//! (`node-spoiled`). A node at its start is one (`node-started`). Workers will use it; no command does yet.
+//! (`node-spoiled`). A node at its start is one (`node-started`). Each turn keeps its place in the net, what it is to do and what its watch was
+//! made with (`Goes`), which chains over many turns (`goes-both`). What is left to do is a number (`weight`), which falls with each turn that
+//! does something; after one that did nothing and began no snapshot no letter was known, no program could go on, and for no letter that is
+//! left is a place known (`idle-stands`). Workers will use it; no command does yet.
 //! By clauses of `Node::start`, `Node::turn`, the readers and `meet_nodes`; `IsNode` in `specs/Nodes.antt`, `IsTurn` in `specs/Turns.antt`,
-//! `SameRun` in `specs/Amid.antt`; the laws in `proofs/Turned.antt` and `proofs/Starting.antt`.
+//! `SameRun` in `specs/Amid.antt`, `Goes` and `IsAtRest` in `specs/Goes.antt`, `weight` in `specs/Left.antt`; the laws in
+//! `proofs/Turned.antt`, `Starting.antt`, `Goes.antt` and `Left.antt`.
 #![tactic(auto)]
 
 mod base;

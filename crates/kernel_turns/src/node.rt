@@ -2,6 +2,7 @@ ghost use Rattle.std.specs.Prelude.{◌≡◌, ◌≤◌, ◌+◌, ◌↔◌, �
 ghost use Rattle.kernel_net.specs.Ports.{AreAllThere, AreOfOneNet, HasLooked, place_of, there_of};
 ghost use Rattle.program_round.specs.declared.doing.Doing.TheVariants.{Begins};
 ghost use Rattle.kernel_turns.specs.Courses.{marked_of};
+ghost use Rattle.kernel_turns.specs.Goes.{IsAtRest};
 
 use crate::base::{Base, Orders};
 use crate::course::Course;
@@ -123,6 +124,13 @@ impl<P: Program, W: Watch> Node<P, W> {
         self.base.used == self.base.orders.limit
     }
 
+    /// Whether no letter is left to be put, and each program has ended or waits for an answer.
+    pub fn is_at_rest(&self) -> bool
+        ensures { IsTrue result ↔ IsAtRest self.now }
+    {
+        self.base.outbox.is_empty() && self.programs.are_quiet()
+    }
+
     /// Whether memory was wanting in a turn.
     pub fn is_spoiled(&self) -> bool
         ensures { result ≡ self.now.spoiled }
@@ -137,6 +145,13 @@ impl<P: Program, W: Watch> Node<P, W> {
     {
         self.passes = self.passes.saturating_add(1);
         self.passes
+    }
+
+    /// The kernels to which it put letters since this was last asked, one bit each. No clause speaks of the answer.
+    pub fn reached(&mut self) -> u8
+        ensures { self.new ≡ record self.old { base = record self.old.base { outbox = record self.old.base.outbox { reached = self.new.base.outbox.reached } } } }
+    {
+        self.base.outbox.reached()
     }
 
     /// Brings both ends of the ring from its port to itself together: how many letters are there.

@@ -8,6 +8,7 @@ ghost use Rattle.journal_text.specs.Journal.{IsAfterLast};
 ghost use Rattle.kernel_core.specs.State.{state_of};
 ghost use Rattle.kernel_entries.specs.Ranges.{IsEntryInRange};
 ghost use Rattle.kernel_entries.specs.declared.entry.Entry.{Entry};
+ghost use Rattle.kernel_net.specs.Ports.{place_of};
 ghost use Rattle.kernel_step.specs.Calls.{IsCallWith};
 ghost use Rattle.kernel_step.specs.Kernel.{process_of};
 ghost use Rattle.local_runs.specs.Local.{MakesCall, TakesPacket, gives};
@@ -15,6 +16,8 @@ ghost use Rattle.program_round.specs.Doings.{IsNextToGo, doing_at};
 ghost use Rattle.program_round.specs.declared.doing.Doing.TheVariants.{Answered};
 ghost use Rattle.kernel_turns.specs.Amid.{IsAmidTurn, IsSomeNode, SameRun};
 ghost use Rattle.kernel_turns.specs.Events.{Happens};
+ghost use Rattle.kernel_turns.specs.Goes.{Goes};
+ghost use Rattle.kernel_turns.specs.Left.{Lessens, weight};
 ghost use Rattle.kernel_turns.specs.Turns.{Continues, GetsLetter, Hears, IsLent, IsTurn, NoLetter};
 ghost use Rattle.kernel_turns.specs.declared.base.Base.{Base as ABase};
 
@@ -37,6 +40,8 @@ impl<P: Program, W: Watch> Node<P, W> {
         ensures seen { OnOk result (W.HasSeen self.new.watch self.new.base.journal.entries) }
         ensures same { OnErr result (SameRun self.old.base self.new.base) }
         ensures spoiled { OnErr result (self.new.spoiled ≡ true) }
+        ensures goes { Goes (record { step = P.step; state = P.state; last = P.last; version = P.version }) W.HasSeen W.made self.old self.new }
+        ensures left { IfOk result (λ t. Lessens t (weight self.old.base) (weight self.new.base)) }
     {
         if self.spoiled {
             return Err(NoMemory);
@@ -55,6 +60,10 @@ impl<P: Program, W: Watch> Node<P, W> {
         ensures seen { OnOk result (W.HasSeen self.new.watch self.new.base.journal.entries) }
         ensures same { OnErr result (SameRun self.old.base self.new.base) }
         ensures spoiled { self.new.spoiled ≡ false }
+        ensures place { place_of self.new.base.port ≡ place_of self.old.base.port }
+        ensures orders { self.new.base.orders ≡ self.old.base.orders }
+        ensures count { length self.new.programs.all.items ≡ length self.old.programs.all.items }
+        ensures made { W.made self.new.watch ≡ W.made self.old.watch }
     {
         if self.base.kernel.stamp() == u64::MAX {
             return Ok(Turn::Spent);
@@ -78,6 +87,10 @@ impl<P: Program, W: Watch> Node<P, W> {
         ensures seen { OnOk result (W.HasSeen self.new.watch self.new.base.journal.entries) }
         ensures same { OnErr result (SameRun self.old.base self.new.base) }
         ensures spoiled { self.new.spoiled ≡ self.old.spoiled }
+        ensures place { place_of self.new.base.port ≡ place_of self.old.base.port }
+        ensures orders { self.new.base.orders ≡ self.old.base.orders }
+        ensures count { length self.new.programs.all.items ≡ length self.old.programs.all.items }
+        ensures made { W.made self.new.watch ≡ W.made self.old.watch }
     {
         match letter {
             Letter::Packet(packet) => {
@@ -105,6 +118,10 @@ impl<P: Program, W: Watch> Node<P, W> {
         ensures seen { OnOk result (W.HasSeen self.new.watch self.new.base.journal.entries) }
         ensures same { OnErr result (SameRun self.old.base self.new.base) }
         ensures spoiled { self.new.spoiled ≡ self.old.spoiled }
+        ensures place { place_of self.new.base.port ≡ place_of self.old.base.port }
+        ensures orders { self.new.base.orders ≡ self.old.base.orders }
+        ensures count { length self.new.programs.all.items ≡ length self.old.programs.all.items }
+        ensures made { W.made self.new.watch ≡ W.made self.old.watch }
     {
         let answered = self.base.take(from, packet)?;
         self.tell(answered);
@@ -126,6 +143,10 @@ impl<P: Program, W: Watch> Node<P, W> {
         ensures seen { OnOk result (W.HasSeen self.new.watch self.new.base.journal.entries) }
         ensures same { OnErr result (SameRun self.old.base self.new.base) }
         ensures spoiled { self.new.spoiled ≡ self.old.spoiled }
+        ensures place { place_of self.new.base.port ≡ place_of self.old.base.port }
+        ensures orders { self.new.base.orders ≡ self.old.base.orders }
+        ensures count { length self.new.programs.all.items ≡ length self.old.programs.all.items }
+        ensures made { W.made self.new.watch ≡ W.made self.old.watch }
     {
         let answered = self.base.ask(p, call)?;
         self.tell(answered);
@@ -141,6 +162,10 @@ impl<P: Program, W: Watch> Node<P, W> {
         ensures seen { OnOk result (W.HasSeen self.new.watch self.new.base.journal.entries) }
         ensures same { OnErr result (SameRun self.old.base self.new.base) }
         ensures spoiled { self.new.spoiled ≡ self.old.spoiled }
+        ensures place { place_of self.new.base.port ≡ place_of self.old.base.port }
+        ensures orders { self.new.base.orders ≡ self.old.base.orders }
+        ensures count { length self.new.programs.all.items ≡ length self.old.programs.all.items }
+        ensures made { W.made self.new.watch ≡ W.made self.old.watch }
     {
         match self.programs.ready() {
             Some(place) => self.step(place),
@@ -159,6 +184,10 @@ impl<P: Program, W: Watch> Node<P, W> {
         ensures seen { OnOk result (W.HasSeen self.new.watch self.new.base.journal.entries) }
         ensures same { OnErr result (SameRun self.old.base self.new.base) }
         ensures spoiled { self.new.spoiled ≡ self.old.spoiled }
+        ensures place { place_of self.new.base.port ≡ place_of self.old.base.port }
+        ensures orders { self.new.base.orders ≡ self.old.base.orders }
+        ensures count { length self.new.programs.all.items ≡ length self.old.programs.all.items }
+        ensures made { W.made self.new.watch ≡ W.made self.old.watch }
     {
         let p = self.programs.process(place);
         let answer = self.lent(place, p);
@@ -209,6 +238,7 @@ impl<P: Program, W: Watch> Node<P, W> {
         ensures programs { Hears answered.items self.old.programs self.new.programs }
         ensures seen { W.HasSeen self.new.watch self.new.base.journal.entries }
         ensures rest { self.new ≡ record self.old { programs = self.new.programs; watch = self.new.watch } }
+        ensures made { W.made self.new.watch ≡ W.made self.old.watch }
     {
         self.programs.hear(answered.as_slice());
         self.base.kernel.reuse_answered(answered);

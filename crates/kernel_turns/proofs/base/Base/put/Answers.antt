@@ -8,7 +8,7 @@ pub returns-clause-puts : goal.returns-clause-puts
 returns-clause-puts c =
     let new : Base = record c.args.self.now { kernel = c.reuse.new.self; port = c.put.new.port; outbox = c.emptied.new.self } in
     puts-emptied c.in_ok-put.put c.args.self.now new c.put.new.self (emptied-letters c.put.new.self c.emptied.new.self c.in_ok-put.ensures.unsent c.emptied.ensures.unsent c.emptied.ensures.waiting)
-    c.in_ok-put.ensures.flushed c.in_ok-put.ensures.some c.in_ok-put.ensures.none c.emptied.ensures.unsent
+    c.in_ok-put.ensures.flushed c.in_ok-put.ensures.some c.in_ok-put.ensures.none c.in_ok-put.ensures.port c.emptied.ensures.unsent
     (record {
       lists = subst (λ (p : Place). length c.emptied.new.self.waiting.items ≤ kernels_of p) (sym c.in_ok-put.ensures.flushed.place)
           (subst (λ ws. length ws.items ≤ kernels_of (place_of c.args.self.now.port)) (sym c.emptied.ensures.waiting) c.in_ok-put.ensures.lists);
