@@ -2,7 +2,8 @@
 
 use lynx_lexer::{IdentRef, Sign, TextRef};
 
-/// An expression. A chain of operators of one rank has at least two members. It takes 24 bytes: the sign of two members lies beside the tag.
+/// An expression. A chain of operators of one rank has at least two members. A sign stands first in its variant, where it lies
+/// beside the tag, so that an expression takes 24 bytes.
 #[derive(Drop)]
 pub enum Expr<'a> {
     Or(Box<Vec<Expr<'a>>>),

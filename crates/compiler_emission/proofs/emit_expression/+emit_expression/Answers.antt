@@ -27,7 +27,8 @@ emit_chain-returns-clause-ok t c =
 
 pub emit_expr-returns-in-Or-clause-ok : goal.emit_expr-returns-in-Or-clause-ok
 emit_expr-returns-in-Or-clause-ok t c =
-    same_ok c.emit_chain.result c.args.code.now.items c.emit_chain.new.code.items _ _ (or_is (names_in c.args.names.now) (length c.args.code.now.items) c.args.expr.now c.in-Or.members c.deref.result.now c.deref-in-Or.result.now c.in-Or.is c.deref.ensures c.deref-in-Or.ensures.value) c.emit_chain.ensures.ok
+    same_ok c.emit_chain.result c.args.code.now.items c.emit_chain.new.code.items _ _ (or_is (names_in c.args.names.now) (length c.args.code.now.items) c.args.expr.now c.in-Or.members c.deref.result.now c.deref-in-Or.result.now c.in-Or.is c.deref.ensures c.deref-in-Or.ensures.value)
+    c.emit_chain.ensures.ok
 
 pub emit_expr-returns-in-Or-clause-long : goal.emit_expr-returns-in-Or-clause-long
 emit_expr-returns-in-Or-clause-long t c h =
@@ -35,7 +36,8 @@ emit_expr-returns-in-Or-clause-long t c h =
 
 pub emit_expr-returns-in-And-clause-ok : goal.emit_expr-returns-in-And-clause-ok
 emit_expr-returns-in-And-clause-ok t c =
-    same_ok c.emit_chain-in-And.result c.args.code.now.items c.emit_chain-in-And.new.code.items _ _ (and_is (names_in c.args.names.now) (length c.args.code.now.items) c.args.expr.now c.in-And.members c.deref-in-And.result.now c.deref-in-And-2.result.now c.in-And.is c.deref-in-And.ensures c.deref-in-And-2.ensures.value) c.emit_chain-in-And.ensures.ok
+    same_ok c.emit_chain-in-And.result c.args.code.now.items c.emit_chain-in-And.new.code.items _ _
+    (and_is (names_in c.args.names.now) (length c.args.code.now.items) c.args.expr.now c.in-And.members c.deref-in-And.result.now c.deref-in-And-2.result.now c.in-And.is c.deref-in-And.ensures c.deref-in-And-2.ensures.value) c.emit_chain-in-And.ensures.ok
 
 pub emit_expr-returns-in-And-clause-long : goal.emit_expr-returns-in-And-clause-long
 emit_expr-returns-in-And-clause-long t c h =

@@ -7,7 +7,8 @@ use Rattle.typing_rules.specs.Rules.{wants, operand_is_int}
 use Rattle.typing_rules.specs.Meanings.{scope_of}
 use Rattle.typing_rules.specs.Progress.{first_with, is_clean}
 use Rattle.lynx_tree.specs.declared.expression.Expr.TheViews.{the_lemmas}
-use Rattle.typing_rules.proofs.Arms.{or_tree, and_tree, sum_tree, term_tree, sums_tree, terms_tree, two_summed, two_joined, sum_pair_faults, term_pair_faults, bracket_tree, and_size, bracket_size, member_size, arm_at, arm_first, arm_held, operand_clean, relation_tree, relation_first, relation_clean, member_first, sum_size, sum_first, sum_clean, term_size, term_first, term_clean}
+use Rattle.typing_rules.proofs.Arms.{or_tree, and_tree, sum_tree, term_tree, sums_tree, terms_tree, two_summed, two_joined, sum_pair_faults, term_pair_faults, bracket_tree, and_size, bracket_size, member_size}
+use Rattle.typing_rules.proofs.Arms.{arm_at, arm_first, arm_held, operand_clean, relation_tree, relation_first, relation_clean, member_first, sum_size, sum_first, sum_clean, term_size, term_first, term_clean}
 use Rattle.typing_rules.proofs.Members.{bools-parts, next_bool, bool-split, next_sum, sum-split, next_term, term-split, none_left}
 use Rattle.typing_rules.proofs.Progress.{joined, joined_clean, left_first, left_clean, end_first}
 use Rattle.typing_rules.proofs.expressions.+type_expression.Goals as goal
@@ -42,8 +43,11 @@ pub expression-bools-requires : goal.expression-bools-requires
 expression-bools-requires t c = (search (rules, the_lemmas), subst (λ x. c.args.walk.now.at + expr_size x < 4294967296) (or_tree c.args.value.now c.in-Or.members c.deref.result.now c.deref-in-Or.result.now c.in-Or.is c.deref.ensures c.deref-in-Or.ensures.value) c.requires.fits)
 
 pub expression-bools-requires-in-And : goal.expression-bools-requires-in-And
-expression-bools-requires-in-And t c =
-    (search (rules, the_lemmas), subst (λ n. c.args.walk.now.at + n < 4294967296) (ap expr_size (and_tree c.args.value.now c.in-And.members c.deref-in-And.result.now c.deref-in-And-2.result.now c.in-And.is c.deref-in-And.ensures c.deref-in-And-2.ensures.value) ∙ and_size (expr_list c.deref-in-And-2.result.now)) c.requires.fits)
+expression-bools-requires-in-And t c = (
+  search (rules, the_lemmas),
+  subst (λ n. c.args.walk.now.at + n < 4294967296)
+      (ap expr_size (and_tree c.args.value.now c.in-And.members c.deref-in-And.result.now c.deref-in-And-2.result.now c.in-And.is c.deref-in-And.ensures c.deref-in-And-2.ensures.value) ∙ and_size (expr_list c.deref-in-And-2.result.now)) c.requires.fits,
+)
 
 pub expression-expression-held-requires : goal.expression-expression-held-requires
 expression-expression-held-requires t c =
@@ -65,14 +69,16 @@ expression-returns-in-Or-clause-held t c =
 
 pub expression-returns-in-And-clause-at : goal.expression-returns-in-And-clause-at
 expression-returns-in-And-clause-at t c =
-    arm_at _ _ (and_tree c.args.value.now c.in-And.members c.deref-in-And.result.now c.deref-in-And-2.result.now c.in-And.is c.deref-in-And.ensures c.deref-in-And-2.ensures.value) _ _ (c.bools-in-And.ensures.at ∙ ap (λ n. c.args.walk.now.at + n) (sym (and_size (expr_list c.deref-in-And-2.result.now))))
+    arm_at _ _ (and_tree c.args.value.now c.in-And.members c.deref-in-And.result.now c.deref-in-And-2.result.now c.in-And.is c.deref-in-And.ensures c.deref-in-And-2.ensures.value) _ _
+    (c.bools-in-And.ensures.at ∙ ap (λ n. c.args.walk.now.at + n) (sym (and_size (expr_list c.deref-in-And-2.result.now))))
 
 pub expression-returns-in-And-clause-first : goal.expression-returns-in-And-clause-first
 expression-returns-in-And-clause-first t c = arm_first _ _ (and_tree c.args.value.now c.in-And.members c.deref-in-And.result.now c.deref-in-And-2.result.now c.in-And.is c.deref-in-And.ensures c.deref-in-And-2.ensures.value) (scope_of c.args.scope.now) _ _ _ c.bools-in-And.ensures.first
 
 pub expression-returns-in-And-clause-held : goal.expression-returns-in-And-clause-held
 expression-returns-in-And-clause-held t c =
-    arm_held _ _ (and_tree c.args.value.now c.in-And.members c.deref-in-And.result.now c.deref-in-And-2.result.now c.in-And.is c.deref-in-And.ensures c.deref-in-And-2.ensures.value) (scope_of c.args.scope.now) c.args.walk.now.at Bool c.bools-in-And.result _ refl c.bools-in-And.ensures.clean c.shown-in-And.ensures
+    arm_held _ _ (and_tree c.args.value.now c.in-And.members c.deref-in-And.result.now c.deref-in-And-2.result.now c.in-And.is c.deref-in-And.ensures c.deref-in-And-2.ensures.value) (scope_of c.args.scope.now) c.args.walk.now.at Bool c.bools-in-And.result _ refl
+    c.bools-in-And.ensures.clean c.shown-in-And.ensures
 
 pub expression-returns-in-Bracket-clause-at : goal.expression-returns-in-Bracket-clause-at
 expression-returns-in-Bracket-clause-at t c =
@@ -154,7 +160,8 @@ expression-returns-in-Sum-clause-first t c =
     let s = scope_of c.args.scope.now in
     let a = c.args.walk.now.at in
     let b = c.operand-clean.new.walk.at in
-    joined c.args.walk.now.first c.operand-clean.new.walk.first c.number_behind-both_clean.new.walk.first (value_faults operand_is_int s a (expr_tree c.deref-in-Sum.result.now)) (value_faults operand_is_int s (b + 1) (expr_tree c.deref-in-Sum-2.result.now)) c.operand-clean.ensures.first c.number_behind-both_clean.ensures.first
+    joined c.args.walk.now.first c.operand-clean.new.walk.first c.number_behind-both_clean.new.walk.first (value_faults operand_is_int s a (expr_tree c.deref-in-Sum.result.now)) (value_faults operand_is_int s (b + 1) (expr_tree c.deref-in-Sum-2.result.now)) c.operand-clean.ensures.first
+    c.number_behind-both_clean.ensures.first
     ∙ ap (first_with c.args.walk.now.first) (sum_pair_faults c.args.value.now c.deref-in-Sum.result.now c.deref-in-Sum-2.result.now c.in-Sum.first c.in-Sum.second c.deref-in-Sum.ensures c.deref-in-Sum-2.ensures s a b c.operand-clean.ensures.at c.in-Sum.is)
 
 pub expression-returns-in-Sum-clause-held : goal.expression-returns-in-Sum-clause-held
@@ -179,7 +186,8 @@ expression-returns-in-Term-clause-first t c =
     let s = scope_of c.args.scope.now in
     let a = c.args.walk.now.at in
     let b = c.operand-clean-in-Term.new.walk.at in
-    joined c.args.walk.now.first c.operand-clean-in-Term.new.walk.first c.number_behind-both_clean-in-Term.new.walk.first (value_faults operand_is_int s a (expr_tree c.deref-in-Term.result.now)) (value_faults operand_is_int s (b + 1) (expr_tree c.deref-in-Term-2.result.now)) c.operand-clean-in-Term.ensures.first c.number_behind-both_clean-in-Term.ensures.first
+    joined c.args.walk.now.first c.operand-clean-in-Term.new.walk.first c.number_behind-both_clean-in-Term.new.walk.first (value_faults operand_is_int s a (expr_tree c.deref-in-Term.result.now)) (value_faults operand_is_int s (b + 1) (expr_tree c.deref-in-Term-2.result.now))
+    c.operand-clean-in-Term.ensures.first c.number_behind-both_clean-in-Term.ensures.first
     ∙ ap (first_with c.args.walk.now.first) (term_pair_faults c.args.value.now c.deref-in-Term.result.now c.deref-in-Term-2.result.now c.in-Term.first c.in-Term.second c.deref-in-Term.ensures c.deref-in-Term-2.ensures s a b c.operand-clean-in-Term.ensures.at c.in-Term.is)
 
 pub expression-returns-in-Term-clause-held : goal.expression-returns-in-Term-clause-held
@@ -189,7 +197,8 @@ expression-returns-in-Term-clause-held t c =
     let b = c.operand-clean-in-Term.new.walk.at in
     let tree = term_tree c.args.value.now c.deref-in-Term.result.now c.deref-in-Term-2.result.now c.in-Term.first c.in-Term.second c.deref-in-Term.ensures c.deref-in-Term-2.ensures c.in-Term.is in
     let faults = term_pair_faults c.args.value.now c.deref-in-Term.result.now c.deref-in-Term-2.result.now c.in-Term.first c.in-Term.second c.deref-in-Term.ensures c.deref-in-Term-2.ensures s a b c.operand-clean-in-Term.ensures.at c.in-Term.is ∙ ap (expr_faults s a) tree in
-    let clean = c.number_behind-both_clean-in-Term.ensures.clean ∙ joined_clean c.operand-clean-in-Term.result _ (value_faults operand_is_int s a (expr_tree c.deref-in-Term.result.now)) (value_faults operand_is_int s (b + 1) (expr_tree c.deref-in-Term-2.result.now)) c.operand-clean-in-Term.ensures.clean refl in
+    let clean = c.number_behind-both_clean-in-Term.ensures.clean ∙ joined_clean c.operand-clean-in-Term.result _ (value_faults operand_is_int s a (expr_tree c.deref-in-Term.result.now)) (value_faults operand_is_int s (b + 1) (expr_tree c.deref-in-Term-2.result.now))
+    c.operand-clean-in-Term.ensures.clean refl in
     arm_held _ _ tree s a Int c.number_behind-both_clean-in-Term.result _ refl (clean ∙ ap is_clean faults) c.shown-in-Term.ensures
 
 pub expression-sums-others-requires : goal.expression-sums-others-requires
@@ -199,17 +208,23 @@ expression-sums-others-requires t c =
 
 pub expression-returns-in-Sums-clause-at : goal.expression-returns-in-Sums-clause-at
 expression-returns-in-Sums-clause-at t c =
-    omega (arith, sum_size (expr_tree c.deref-in-Sums.result.now) (sum_list c.deref-in-Sums-3.result.now), ap expr_size (sums_tree c.args.value.now c.deref-in-Sums.result.now c.in-Sums.first c.in-Sums.rest c.deref-in-Sums-2.result.now c.deref-in-Sums-3.result.now c.in-Sums.is c.deref-in-Sums.ensures c.deref-in-Sums-2.ensures c.deref-in-Sums-3.ensures.value))
+    omega (
+      arith,
+      sum_size (expr_tree c.deref-in-Sums.result.now) (sum_list c.deref-in-Sums-3.result.now),
+      ap expr_size (sums_tree c.args.value.now c.deref-in-Sums.result.now c.in-Sums.first c.in-Sums.rest c.deref-in-Sums-2.result.now c.deref-in-Sums-3.result.now c.in-Sums.is c.deref-in-Sums.ensures c.deref-in-Sums-2.ensures c.deref-in-Sums-3.ensures.value),
+    )
 
 pub expression-returns-in-Sums-clause-first : goal.expression-returns-in-Sums-clause-first
 expression-returns-in-Sums-clause-first t c =
-    arm_first _ _ (sums_tree c.args.value.now c.deref-in-Sums.result.now c.in-Sums.first c.in-Sums.rest c.deref-in-Sums-2.result.now c.deref-in-Sums-3.result.now c.in-Sums.is c.deref-in-Sums.ensures c.deref-in-Sums-2.ensures c.deref-in-Sums-3.ensures.value) (scope_of c.args.scope.now) c.args.walk.now.at _ _
+    arm_first _ _ (sums_tree c.args.value.now c.deref-in-Sums.result.now c.in-Sums.first c.in-Sums.rest c.deref-in-Sums-2.result.now c.deref-in-Sums-3.result.now c.in-Sums.is c.deref-in-Sums.ensures c.deref-in-Sums-2.ensures c.deref-in-Sums-3.ensures.value) (scope_of c.args.scope.now)
+    c.args.walk.now.at _ _
     (sum_first (scope_of c.args.scope.now) c.args.walk.now.at (expr_tree c.deref-in-Sums.result.now)
     (sum_list c.deref-in-Sums-3.result.now) c.operand-clean-in-Sums.new.walk.at c.args.walk.now.first c.operand-clean-in-Sums.new.walk.first c.sums-others.new.walk.first c.operand-clean-in-Sums.ensures.at c.operand-clean-in-Sums.ensures.first c.sums-others.ensures.first)
 
 pub expression-returns-in-Sums-clause-held : goal.expression-returns-in-Sums-clause-held
 expression-returns-in-Sums-clause-held t c =
-    arm_held _ _ (sums_tree c.args.value.now c.deref-in-Sums.result.now c.in-Sums.first c.in-Sums.rest c.deref-in-Sums-2.result.now c.deref-in-Sums-3.result.now c.in-Sums.is c.deref-in-Sums.ensures c.deref-in-Sums-2.ensures c.deref-in-Sums-3.ensures.value) (scope_of c.args.scope.now) c.args.walk.now.at Int c.both-in-Sums.result _ refl
+    arm_held _ _ (sums_tree c.args.value.now c.deref-in-Sums.result.now c.in-Sums.first c.in-Sums.rest c.deref-in-Sums-2.result.now c.deref-in-Sums-3.result.now c.in-Sums.is c.deref-in-Sums.ensures c.deref-in-Sums-2.ensures c.deref-in-Sums-3.ensures.value) (scope_of c.args.scope.now)
+    c.args.walk.now.at Int c.both-in-Sums.result _ refl
     (c.both-in-Sums.ensures ∙ sum_clean (scope_of c.args.scope.now) c.args.walk.now.at (expr_tree c.deref-in-Sums.result.now)
     (sum_list c.deref-in-Sums-3.result.now) c.operand-clean-in-Sums.new.walk.at c.operand-clean-in-Sums.result c.sums-others.result c.operand-clean-in-Sums.ensures.at c.operand-clean-in-Sums.ensures.clean c.sums-others.ensures.clean) c.shown-in-Sums.ensures
 
@@ -228,13 +243,15 @@ expression-returns-in-Terms-clause-at t c =
 
 pub expression-returns-in-Terms-clause-first : goal.expression-returns-in-Terms-clause-first
 expression-returns-in-Terms-clause-first t c =
-    arm_first _ _ (terms_tree c.args.value.now c.deref-in-Terms.result.now c.in-Terms.first c.in-Terms.rest c.deref-in-Terms-2.result.now c.deref-in-Terms-3.result.now c.in-Terms.is c.deref-in-Terms.ensures c.deref-in-Terms-2.ensures c.deref-in-Terms-3.ensures.value) (scope_of c.args.scope.now) c.args.walk.now.at _ _
+    arm_first _ _ (terms_tree c.args.value.now c.deref-in-Terms.result.now c.in-Terms.first c.in-Terms.rest c.deref-in-Terms-2.result.now c.deref-in-Terms-3.result.now c.in-Terms.is c.deref-in-Terms.ensures c.deref-in-Terms-2.ensures c.deref-in-Terms-3.ensures.value)
+    (scope_of c.args.scope.now) c.args.walk.now.at _ _
     (term_first (scope_of c.args.scope.now) c.args.walk.now.at (expr_tree c.deref-in-Terms.result.now)
     (term_list c.deref-in-Terms-3.result.now) c.operand-clean-in-Terms.new.walk.at c.args.walk.now.first c.operand-clean-in-Terms.new.walk.first c.terms-others.new.walk.first c.operand-clean-in-Terms.ensures.at c.operand-clean-in-Terms.ensures.first c.terms-others.ensures.first)
 
 pub expression-returns-in-Terms-clause-held : goal.expression-returns-in-Terms-clause-held
 expression-returns-in-Terms-clause-held t c =
-    arm_held _ _ (terms_tree c.args.value.now c.deref-in-Terms.result.now c.in-Terms.first c.in-Terms.rest c.deref-in-Terms-2.result.now c.deref-in-Terms-3.result.now c.in-Terms.is c.deref-in-Terms.ensures c.deref-in-Terms-2.ensures c.deref-in-Terms-3.ensures.value) (scope_of c.args.scope.now) c.args.walk.now.at Int c.both-in-Terms.result _ refl
+    arm_held _ _ (terms_tree c.args.value.now c.deref-in-Terms.result.now c.in-Terms.first c.in-Terms.rest c.deref-in-Terms-2.result.now c.deref-in-Terms-3.result.now c.in-Terms.is c.deref-in-Terms.ensures c.deref-in-Terms-2.ensures c.deref-in-Terms-3.ensures.value)
+    (scope_of c.args.scope.now) c.args.walk.now.at Int c.both-in-Terms.result _ refl
     (c.both-in-Terms.ensures ∙ term_clean (scope_of c.args.scope.now) c.args.walk.now.at (expr_tree c.deref-in-Terms.result.now)
     (term_list c.deref-in-Terms-3.result.now) c.operand-clean-in-Terms.new.walk.at c.operand-clean-in-Terms.result c.terms-others.result c.operand-clean-in-Terms.ensures.at c.operand-clean-in-Terms.ensures.clean c.terms-others.ensures.clean) c.shown-in-Terms.ensures
 
