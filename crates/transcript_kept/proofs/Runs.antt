@@ -156,7 +156,7 @@ pub first-reads : (b : Bool) (r : Run) (a : PacketAhead) (p : Packet) (u v : Unr
 first-reads true r a p u v first read = record { packet = packet_picture p; first = sym first; read = read }
 first-reads false r a p u v first same = same
 
-pub takes-next : (a : PacketAhead) (ms : Nodes) (noted : Noted) (old new : Run) (u v : Unread) → IsRun old → a.kernel < old.setting.kernels → ReadsFirst a (kept_of old) u v
+pub takes-next : (a : PacketAhead) (ms : Nodes) (noted : Noted) (old new : Run) (u v : Unread) → IsRun old → a.kernel < old.setting.kernels → ReadsFirst (kept_of old) a u v
     → IsNoted (TakesFirst a.kernel a.from) ms noted old new → AnswersNext old u (Some true) new v
 takes-next a ms noted old new u v run below reads is = (
   stands (TakesFirst a.kernel a.from) ms noted old new run is,
@@ -190,7 +190,7 @@ next-stand (Some went) old new u v is = is.0
 
 next-follows : (went : Option Bool) (old new : Run) (u v : Unread) → AnswersNext old u went new v
     → MatchOption went ((kept_of new ≡ kept_of old) × (v ≡ u)) (λ w. FollowsNext (kept_of old) u w (kept_of new) v)
-next-follows None old new u v is = is.1
+next-follows None old new u v is = (is.1, is.2)
 next-follows (Some went) old new u v is = is.1
 
 pub answers-stand : {E : Type 0} (r : Result (Option Bool) E) (old new : Run) (u v : Unread) → IfOk r (λ went. AnswersNext old u went new v) → IfOk r (λ went. MatchOption went (IsRun new) (λ w. OnTrue w (IsRun new)))

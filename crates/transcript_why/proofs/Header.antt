@@ -21,8 +21,8 @@ entry-body : (behind : Place) (k : LineKind) → next Entry k ≡ Ok behind → 
 entry-body behind k e = go (is_body k) refl
   where
     go : (b : Bool) → is_body k ≡ b → b ≡ true
-    go true no = refl
-    go false no = behind-entry behind k no e
+    go true same = refl
+    go false other = behind-entry behind k other e
 
 -- a line that stands behind one of the body is of the body
 body-next : (place behind : Place) (k : LineKind) → IsBehindHeader place → next place k ≡ Ok behind → is_body k ≡ true
@@ -43,24 +43,25 @@ body-tells place behind _ s is e = absurd cc
 nothing-told : (m : ℕ) (u : Unread) (s : Setting) → IsBehindHeader u.place → tell_all (first_lines m u).0 s ≡ s
 unfolding first_lines
 nothing-told zero u s is = refl
-nothing-told (suc m) u s is = go (next_line u) refl
+nothing-told (suc m) u s is = go (next_line u) (nothing-told m) refl
   where
-    go : (r : Result (Option (Line × Unread)) ℕ) → next_line u ≡ r → tell_all (with_next (first_lines m) u r).0 s ≡ s
-    go (Ok (Some x)) e =
+    go : (r : Result (Option (Line × Unread)) ℕ) → ((w : Unread) (t : Setting) → IsBehindHeader w.place → tell_all (first_lines m w).0 t ≡ t) → next_line u ≡ r → tell_all (with_next (first_lines m) u r).0 s ≡ s
+    go (Ok (Some x)) others e =
         let follows : next u.place x.0.what ≡ Ok x.1.place = next_follows u x.1 x.0 e in
         let body = body-tells u.place x.1.place x.0.what s (body-next u.place x.1.place x.0.what is follows) follows in
-        nothing-told m x.1 (tells x.0.what s) body.0 ∙ body.1
-    go (Ok None) e = refl
-    go (Err number) e = refl
+        others x.1 (tells x.0.what s) body.0 ∙ body.1
+    go (Ok None) others e = refl
+    go (Err number) others e = refl
 
 -- behind the header the lines before tell all
 pub told-all : (n m : ℕ) (u : Unread) (s : Setting) → n ≤ m → IsBehindHeader (first_lines n u).1.place → tell_all (first_lines m u).0 s ≡ tell_all (first_lines n u).0 s
 unfolding first_lines
 told-all zero m u s le is = nothing-told m u s is
 told-all (suc n) zero u s le is = absurd (omega arith)
-told-all (suc n) (suc m) u s le is = go (next_line u) is
+told-all (suc n) (suc m) u s le is = go (next_line u) (λ w t. told-all n m w t (omega arith)) is
   where
-    go : (r : Result (Option (Line × Unread)) ℕ) → IsBehindHeader (with_next (first_lines n) u r).1.place → tell_all (with_next (first_lines m) u r).0 s ≡ tell_all (with_next (first_lines n) u r).0 s
-    go (Ok (Some x)) is = told-all n m x.1 (tells x.0.what s) (omega arith) is
-    go (Ok None) is = refl
-    go (Err number) is = refl
+    go : (r : Result (Option (Line × Unread)) ℕ) → ((w : Unread) (t : Setting) → IsBehindHeader (first_lines n w).1.place → tell_all (first_lines m w).0 t ≡ tell_all (first_lines n w).0 t)
+        → IsBehindHeader (with_next (first_lines n) u r).1.place → tell_all (with_next (first_lines m) u r).0 s ≡ tell_all (with_next (first_lines n) u r).0 s
+    go (Ok (Some x)) others is = others x.1 (tells x.0.what s) is
+    go (Ok None) others is = refl
+    go (Err number) others is = refl

@@ -1,5 +1,5 @@
 -- One line more of the first ones, and what it makes of what is kept.
-use Rattle.std.proofs.Common.{◌≡◌, ℕ, zero, suc, ◌+◌, ◌≤◌, Bool, true, false, IfOk, MatchBool, List, [], ◌∷◌, ◌++◌, Option, Some, None, Result, Ok, Err, ap, refl, subst, sym, ◌∙◌, arith, add-one}
+use Rattle.std.proofs.Common.{◌≡◌, ℕ, zero, suc, ◌+◌, ◌≤◌, Bool, true, false, IfOk, MatchBool, MatchOption, List, [], ◌∷◌, ◌++◌, Option, Some, None, Result, Ok, Err, ap, refl, subst, sym, ◌∙◌, arith, add-one}
 use Rattle.charlotte_calls.specs.declared.setting.Setting.{Setting}
 use Rattle.transcript_items.specs.Kept.{Kept, Follows, FollowAll, Refuses}
 use Rattle.transcript_items.specs.Next.{FollowsNext}
@@ -81,7 +81,7 @@ follows-more n u v l a b c e all f =
     subst (λ (r : List LineKind × Unread). FollowAll a r.0 c) (sym (first-more n u v l e)) (follow-more (first_lines n u).0 a b c l.what all f)
 
 -- the next line was followed, or the lines halt there
-pub went-next : (went : Bool) (old new : Kept) (u v : Unread) → FollowsNext old u went new v → MatchBool went (FollowsNext old u true new v) (Halts old (shown_next (next_line u)))
+went-next : (went : Bool) (old new : Kept) (u v : Unread) → FollowsNext old u went new v → MatchBool went (FollowsNext old u true new v) (Halts old (shown_next (next_line u)))
 went-next true old new u v is = is
 went-next false old new u v is = subst (λ (r : Result (Option (Line × Unread)) ℕ). Halts old (shown_next r)) (sym is.read) is.follows
 
@@ -91,9 +91,14 @@ pub line-went : {E : Type 0} (r : Result Bool E) (l : Line) (old new : Kept) (u 
 line-went (Ok went) l old new u v read follows = went-next went old new u v (record { line = l; read = read; follows = follows })
 line-went (Err e) l old new u v read follows = tt
 
+pub some-went : (o : Option Bool) (went : Bool) (Same : Type 0) (old new : Kept) (u v : Unread) → o ≡ Some went → MatchOption o Same (λ w. FollowsNext old u w new v)
+    → MatchBool went (FollowsNext old u true new v) (Halts old (shown_next (next_line u)))
+some-went o went Same old new u v is told = went-next went old new u v (subst (λ (x : Option Bool). MatchOption x Same (λ w. FollowsNext old u w new v)) is told)
+
 -- what was kept and left before is as it was
-pub any-went : {E : Type 0} (r : Result Bool E) (old mid new : Kept) (u m v : Unread) → mid ≡ old → m ≡ u → IfOk r (λ went. MatchBool went (FollowsNext mid m true new v) (Halts mid (shown_next (next_line m))))
-    → IfOk r (λ went. MatchBool went (FollowsNext old u true new v) (Halts old (shown_next (next_line u))))
-any-went r old mid new u m v same left is =
-    subst (λ (k : Kept). IfOk r (λ went. MatchBool went (FollowsNext k u true new v) (Halts k (shown_next (next_line u))))) same
-    (subst (λ (w : Unread). IfOk r (λ went. MatchBool went (FollowsNext mid w true new v) (Halts mid (shown_next (next_line w))))) left is)
+pub none-went : {E : Type 0} (r : Result Bool E) (o : Option Bool) (Then : Bool → Type 0) (old mid new : Kept) (u m v : Unread) → o ≡ None → MatchOption o ((mid ≡ old) × (m ≡ u)) Then
+    → IfOk r (λ went. MatchBool went (FollowsNext mid m true new v) (Halts mid (shown_next (next_line m)))) → IfOk r (λ went. MatchBool went (FollowsNext old u true new v) (Halts old (shown_next (next_line u))))
+none-went r o Then old mid new u m v is told follows =
+    let same = subst (λ (x : Option Bool). MatchOption x ((mid ≡ old) × (m ≡ u)) Then) is told in
+    subst (λ (k : Kept). IfOk r (λ went. MatchBool went (FollowsNext k u true new v) (Halts k (shown_next (next_line u))))) same.0
+    (subst (λ (w : Unread). IfOk r (λ went. MatchBool went (FollowsNext mid w true new v) (Halts mid (shown_next (next_line w))))) same.1 follows)

@@ -1,7 +1,7 @@
 use Rattle.std.proofs.Common.{◌<◌, arith, sym}
 use Rattle.kernel_nodes.proofs.Worlds.{from_there}
 use Rattle.transcript_kept.proofs.Runs.{takes-next}
-use Rattle.transcript_kept.proofs.expected.Run.take_next.Goals as goal
+use Rattle.transcript_kept.proofs.run.Run.take_next.Goals as goal
 
 pub take_first-requires : goal.take_first-requires
 take_first-requires c =

@@ -1,6 +1,6 @@
 use Rattle.std.proofs.Common.{refl}
 use Rattle.transcript_kept.proofs.Runs.{asks-next, none-next}
-use Rattle.transcript_kept.proofs.expected.Run.ask_next.Goals as goal
+use Rattle.transcript_kept.proofs.run.Run.ask_next.Goals as goal
 
 pub returns : goal.returns
 returns c =

@@ -1,5 +1,0 @@
-use Rattle.transcript_kept.proofs.Runs.{shows-next}
-use Rattle.transcript_kept.proofs.expected.Run.show_next.Goals as goal
-
-pub returns : goal.returns
-returns c = shows-next c.in_ok-show.went c.in-Some.step.now c.args.self.now c.show.new.self c.args.reader.now c.reads_step.new.reader c.if-not-reads_step.ensures c.in_ok-show.ensures.stand c.in_ok-show.ensures.shows
