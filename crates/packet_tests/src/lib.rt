@@ -1,6 +1,8 @@
-//! Tests of runtime packets through their public calls.
+//! Tests of packets of the runtime, and of what is done with them at an end, through their public calls.
 #![tactic(auto)]
 
+#[cfg(test)]
+mod ends;
 #[cfg(test)]
 mod samples;
 #[cfg(test)]

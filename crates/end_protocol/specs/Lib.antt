@@ -1,0 +1,10 @@
+pub mod Lists
+pub mod Messages
+pub mod Kept
+pub mod Wanting
+pub mod Asking
+pub mod Hearing
+pub mod Falling
+pub mod Going
+pub mod Deeds
+pub mod Happenings
