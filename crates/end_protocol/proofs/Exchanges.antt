@@ -1,26 +1,24 @@
 -- Worked exchanges between two ends, computed by the definitions.
-use Rattle.std.specs.Prelude.{◌≡◌, ℕ, true, false, ℤ, pos, List, [], ◌∷◌, ◌++◌, Option, None, Some, refl}
+use Rattle.std.specs.Prelude.{◌≡◌, ℕ, true, pos, List, [], ◌∷◌, ◌++◌, Option, None, Some, refl}
 use Rattle.charlotte_calls.specs.declared.names.EndId.{EndId}
 use Rattle.charlotte_calls.specs.declared.names.Side.TheVariants.{A}
 use Rattle.lynx_tree.specs.declared.declaration.TypeName.{TypeName}
 use Rattle.lynx_tree.specs.declared.declaration.TypeName.TheVariants as types
 use Rattle.lynx_packets.specs.declared.packet.RtPacket.{RtPacket}
-use Rattle.lynx_packets.specs.declared.packet.RtPacket.TheVariants.{Request, Reply, Retry, Forbid, Allow, GoAhead, Enc}
+use Rattle.lynx_packets.specs.declared.packet.RtPacket.TheVariants.{Request, Reply, Forbid, Allow, GoAhead, Enc}
 use Rattle.lynx_packets.specs.declared.value.RtValue.{RtValue}
 use Rattle.lynx_packets.specs.declared.value.RtValue.TheVariants as values
-use Rattle.end_protocol.specs.declared.hearing.Heard.{Heard}
 use Rattle.end_protocol.specs.declared.kept.Accept.{Accept}
 use Rattle.end_protocol.specs.declared.kept.Kept.{Kept}
 use Rattle.end_protocol.specs.declared.kept.Response.{Response}
 use Rattle.end_protocol.specs.declared.messages.Connect.{Connect}
 use Rattle.end_protocol.specs.declared.messages.Message.{Message}
 use Rattle.end_protocol.specs.Lists.{head}
-use Rattle.end_protocol.specs.Messages.{most_of}
 use Rattle.end_protocol.specs.Kept.{fresh, queued}
 use Rattle.end_protocol.specs.Wanting.{is_needed, taker}
 use Rattle.end_protocol.specs.Asking.{asked, lined_up, connected, accepts_too, replied}
 use Rattle.end_protocol.specs.Hearing.{is_readable, accepted, let_come, forbade, gone_on, hears}
-use Rattle.end_protocol.specs.Falling.{dies, fallen, held_again, destroyed, raised}
+use Rattle.end_protocol.specs.Falling.{fallen, held_again, destroyed, raised}
 use Rattle.end_protocol.specs.Going.{settled, allows, sent, send_over, enclosed}
 use Rattle.end_protocol.specs.Deeds.{Deed, Issued, Accepted, Replied, Returned, issued_deeds, replied_deeds, heard_deeds}
 

@@ -1,5 +1,5 @@
 -- What threads ask on an end, once the tests for exceptions are passed.
-use Rattle.std.specs.Prelude.{Bool, true, false, not, ℕ, ◌+◌, ◌==◌, ◌^◌, ◌-◌, min, if◌then◌else◌, List, [], ◌∷◌, ◌++◌, filter, take, drop, Option, None, Some, is_some}
+use Rattle.std.specs.Prelude.{Bool, false, not, ℕ, ◌+◌, ◌==◌, ◌^◌, ◌-◌, min, if◌then◌else◌, List, [], ◌∷◌, ◌++◌, filter, take, drop, Option, None, Some, is_some}
 use Rattle.std.specs.List.{list_any}
 use Rattle.lynx_packets.specs.declared.packet.RtPacket.TheVariants as packets
 use Rattle.end_protocol.specs.declared.kept.Accept.{Accept}
@@ -9,7 +9,6 @@ use Rattle.end_protocol.specs.declared.kept.Response.{Response}
 use Rattle.end_protocol.specs.declared.messages.Connect.{Connect}
 use Rattle.end_protocol.specs.declared.messages.Message.{Message}
 use Rattle.end_protocol.specs.Messages.{most_of, request_of, left_of, further}
-use Rattle.end_protocol.specs.Kept.{queued}
 
 -- ---- connects
 

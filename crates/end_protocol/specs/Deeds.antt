@@ -1,6 +1,6 @@
 -- The deeds on an end: what the promises on requests and replies speak of. Links in values count as their ends, which stand beside
 -- the values.
-use Rattle.std.specs.Prelude.{Bool, not, ◌&&◌, ℕ, if◌then◌else◌, List, [], ◌∷◌}
+use Rattle.std.specs.Prelude.{not, ◌&&◌, ℕ, if◌then◌else◌, List, [], ◌∷◌}
 use Rattle.charlotte_calls.specs.declared.names.EndId.{EndId}
 use Rattle.lynx_packets.specs.declared.value.RtValue.{RtValue}
 use Rattle.end_protocol.specs.declared.hearing.Heard.{Heard}

@@ -6,7 +6,6 @@ use Rattle.end_protocol.specs.declared.going.Due.{Due}
 use Rattle.end_protocol.specs.declared.going.Due.TheVariants as due
 use Rattle.end_protocol.specs.declared.kept.Forbade.{Forbade}
 use Rattle.end_protocol.specs.declared.kept.Kept.{Kept}
-use Rattle.end_protocol.specs.declared.kept.Receiving.{Receiving}
 use Rattle.end_protocol.specs.declared.kept.Receiving.TheVariants as receiving
 use Rattle.end_protocol.specs.declared.kept.Sending.{Sending}
 use Rattle.end_protocol.specs.declared.kept.Sending.TheVariants as sending

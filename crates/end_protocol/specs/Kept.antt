@@ -1,5 +1,5 @@
 -- What is kept for an end.
-use Rattle.std.specs.Prelude.{true, false, List, [], ◌∷◌, ◌++◌, None}
+use Rattle.std.specs.Prelude.{false, List, [], ◌++◌, None}
 use Rattle.end_protocol.specs.declared.kept.Kept.{Kept}
 use Rattle.end_protocol.specs.declared.kept.Sending.TheVariants as sending
 use Rattle.end_protocol.specs.declared.kept.Receiving.TheVariants as receiving

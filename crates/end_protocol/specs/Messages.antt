@@ -1,5 +1,5 @@
 -- Packets to be sent, and the ends that travel with them.
-use Rattle.std.specs.Prelude.{ℕ, ◌+◌, ◌==◌, if◌then◌else◌, min, List, [], ◌∷◌, ◌++◌, take, drop}
+use Rattle.std.specs.Prelude.{ℕ, ◌+◌, ◌==◌, if◌then◌else◌, min, List, [], ◌∷◌, take, drop}
 use Rattle.charlotte_calls.specs.declared.names.EndId.{EndId}
 use Rattle.lynx_packets.specs.declared.packet.RtPacket.TheVariants as packets
 use Rattle.lynx_packets.specs.declared.value.RtValue.{RtValue}
