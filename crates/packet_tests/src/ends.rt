@@ -80,7 +80,7 @@ fn end(count: u32) -> EndId {
 /// So many ends come with a packet.
 fn coming(version: u8, many: usize) -> Ends {
     let pair = [end(5), end(6)];
-    let many = if version == 1 { many } else { many * 2 };
+    let many = if version == 2 && many == 1 { 2 } else { many };
     match Ends::from_slice(&pair[..many.min(2)]) {
         Some(ends) => ends,
         None => unreachable!(),
