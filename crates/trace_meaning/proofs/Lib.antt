@@ -1,3 +1,4 @@
 pub mod Chains
 pub mod Quiet
+pub mod Frame
 mod Worked

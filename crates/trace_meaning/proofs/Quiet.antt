@@ -44,7 +44,7 @@ module _ (w : Links) (t : EndId → End) (h : AreTraced w t) (quiet : IsQuiet w)
 
   -- no mark, since it is mourned
   no-mark : (e : EndId) → HasMark w e → ⊥
-  no-mark e m = by (subst (IsTraceRight w t e m.at) m.there (h.entries e m.at)).mourned
+  no-mark e m = by (subst (IsTraceRight w t e m.at) m.there ((h e).entries m.at)).mourned
     where
       by : IsGoingTo w m.at (IsGoneSeen e) ⊎ (IsSought w t (opposite e) × IsOnTrack w (opposite e) m.mark.hint.1 (IsGoneFrom (opposite e) m.at)) → ⊥
       by (inl going) = nothing-goes m.at _ going
@@ -56,7 +56,7 @@ module _ (w : Links) (t : EndId → End) (h : AreTraced w t) (quiet : IsQuiet w)
   open-of e (inr mark) = absurd (no-mark e mark)
 
   lives-of : (e : EndId) → is_open (t e) ≡ true → is_living (t (opposite e)).place ≡ true
-  lives-of e open_yet = by (h.met e open_yet)
+  lives-of e open_yet = by ((h e).met open_yet)
     where
       by : (is_living (t (opposite e)).place ≡ true) ⊎ HasMark w (opposite e) → is_living (t (opposite e)).place ≡ true
       by (inl lives) = lives
@@ -72,7 +72,7 @@ module _ (w : Links) (t : EndId → End) (h : AreTraced w t) (quiet : IsQuiet w)
 
   -- and it has no trail, since it is announced
   no-trail : (e : EndId) (k : ℕ) (v : HereView) → entry_at w k e ≡ entry.Here v → is_open (t e) ≡ true → v.value.trail ≢ 0 → ⊥
-  no-trail e k v is open_yet some = by (subst (IsTraceRight w t e k) is (h.entries e k) (unnoticed e open_yet) some (lives-of e open_yet))
+  no-trail e k v is open_yet some = by (subst (IsTraceRight w t e k) is ((h e).entries k) (unnoticed e open_yet) some (lives-of e open_yet))
     where
       by : IsGoingTo w k (IsKnownOf e v.value.hops) ⊎ IsOnTrack w (opposite e) v.value.hint.1 (IsMovedTo (opposite e) k v.value.hops) → ⊥
       by (inl going) = nothing-goes k _ going
@@ -112,4 +112,4 @@ module _ (w : Links) (t : EndId → End) (h : AreTraced w t) (quiet : IsQuiet w)
   no-trace e k (entry.Destroyed m) is right = no-mark e (record { at = k; mark = m; there = is })
 
 pub bare-when-quiet : (w : Links) (t : EndId → End) → AreTraced w t → AreBare w
-bare-when-quiet w t h quiet k e = no-trace w t h quiet e k (entry_at w k e) refl (h.entries e k)
+bare-when-quiet w t h quiet k e = no-trace w t h quiet e k (entry_at w k e) refl ((h e).entries k)

@@ -94,12 +94,16 @@ IsTraceRight w t e k (entry.Here v) = IsAnnounced w t e k v
 IsTraceRight w t e k (entry.Left to h) = IsLeftRight w t e k h
 IsTraceRight w t e k (entry.Destroyed m) = IsMarkRight w t e k m
 
-pub record AreTraced (w : Links) (t : EndId → End) : Type 0 where
-  pub met : (e : EndId) → IsMet w t e
-  pub reached : (e : EndId) → IsReached w t e
-  pub seen : (e : EndId) → IsSeenRight w t e
-  pub known : (e : EndId) → IsKnownRight w t e
-  pub entries : (e : EndId) (k : ℕ) → IsTraceRight w t e k (entry_at w k e)
+-- of one link, as far as one of its ends goes
+pub record IsTraced (w : Links) (t : EndId → End) (e : EndId) : Type 0 where
+  pub met : IsMet w t e
+  pub reached : IsReached w t e
+  pub seen : IsSeenRight w t e
+  pub known : IsKnownRight w t e
+  pub entries : (k : ℕ) → IsTraceRight w t e k (entry_at w k e)
+
+abbrev pub AreTraced : Links → (EndId → End) → Type 0
+AreTraced w t = (e : EndId) → IsTraced w t e
 
 -- ---- what follows
 
