@@ -1,6 +1,6 @@
 -- What is true of the traces of a link stays true while nothing of the link changes: neither its two ends, nor the packets that are about it,
 -- which stand in each list in the same order. w and t are the links of kernels and the ends of the service before an event, v and u after it.
-use Rattle.std.proofs.Common.{◌≡◌, ◌≢◌, ℕ, zero, suc, ◌<◌, ◌≤◌, Bool, true, false, true≢false, ◌⊎◌, inl, inr, cond, List, [], ◌∷◌, ◌++◌, Contains, get_or, refl, sym, ap, subst, ◌∙◌, arith}
+use Rattle.std.proofs.Common.{◌≡◌, ℕ, zero, suc, ◌<◌, Bool, true, false, true≢false, ◌⊎◌, inl, inr, cond, List, [], ◌∷◌, ◌++◌, Contains, get_or, refl, sym, ap, subst, ◌∙◌, arith}
 use Rattle.std.proofs.lemmas.List.Elements.{Contains-append_cases, Contains-append_right, All-contains, Contains-get_or, filter-append}
 use Rattle.std.specs.List.{filter}
 use Rattle.charlotte_calls.specs.Names.{opposite}
@@ -20,7 +20,7 @@ use Rattle.service_step.specs.declared.state.End.{End}
 use Rattle.service_step.specs.declared.state.Place.TheVariants as place
 use Rattle.theorem_meaning.proofs.Ends.{opposite-twice}
 use Rattle.theorem_meaning.proofs.Frame.{IsAbout, IsSameLink, had-asking, had-heard, same-opposite}
-use Rattle.theorem_meaning.specs.Fields.{At, Flying, HasFields, IsAsking, IsHeard, IsNews, IsUnserved, Stand, value_of}
+use Rattle.theorem_meaning.specs.Fields.{At, Flying, HasFields, Stand, value_of}
 use Rattle.theorem_meaning.specs.Packets.{Each, IsUnderWay, Links, values_of}
 use Rattle.theorem_meaning.specs.StandsFor.{entry_at}
 use Rattle.trace_meaning.specs.Traces.{IsAnnounced, IsKnownRight, IsLeftRight, IsMarkRight, IsMet, IsReached, IsSeenRight, IsToForget, IsTraceRight, IsTraced, IsTrailed}

@@ -1,5 +1,5 @@
 -- Where no packet is under way there is no trace.
-use Rattle.std.proofs.Common.{◌≡◌, ◌≢◌, ℕ, ◌+◌, Bool, true, false, true≢false, nat_eq, ◌&&◌, ◌⊎◌, inl, inr, if◌then◌else◌, Some, None, List, [], ◌∷◌, ◌++◌, Contains, refl, sym, ap, subst, ◌∙◌, arith}
+use Rattle.std.proofs.Common.{◌≡◌, ◌≢◌, ℕ, Bool, true, false, true≢false, ◌&&◌, ◌⊎◌, inl, inr, if◌then◌else◌, Some, None, List, [], ◌∷◌, ◌++◌, Contains, refl, sym, ap, subst, ◌∙◌, arith}
 use Rattle.std.proofs.lemmas.Nat.Bits.{bit_at-zero}
 use Rattle.std.specs.Int.{bit_at}
 use Rattle.charlotte_calls.specs.Names.{opposite}
@@ -16,7 +16,7 @@ use Rattle.service_step.specs.declared.state.End.{End}
 use Rattle.theorem_meaning.specs.Fields.{At, Flying, HasFields, Stand, value_of}
 use Rattle.theorem_meaning.specs.Packets.{IsUnderWay, Links}
 use Rattle.theorem_meaning.specs.StandsFor.{entry_at}
-use Rattle.trace_meaning.specs.Traces.{AreBare, AreTraced, IsLeftRight, IsMarkRight, IsNoTrace, IsQuiet, IsToForget, IsTraceRight, IsTrailed}
+use Rattle.trace_meaning.specs.Traces.{AreBare, AreTraced, IsLeftRight, IsNoTrace, IsQuiet, IsToForget, IsTraceRight, IsTrailed}
 use Rattle.trace_meaning.specs.Words.{HasMark, IsGoingTo, IsGoneFrom, IsGoneSeen, IsKnownOf, IsMovedTo, IsOnTrack, IsSought}
 
 bit-none : (k : ℕ) → bit_at 0 k ≡ 1 → ⊥

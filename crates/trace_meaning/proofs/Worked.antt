@@ -15,7 +15,7 @@ use Rattle.kernel_step.specs.Progress as progress
 use Rattle.kernel_step.specs.Rows as rows
 use Rattle.kernel_world.specs.World.{Event, Calls, Takes, after, start}
 use Rattle.theorem_meaning.proofs.Rows.{end_a, end_b, pid, two_links}
-use Rattle.theorem_meaning.specs.Packets.{Links, links_of}
+use Rattle.theorem_meaning.specs.Packets.{links_of}
 use Rattle.theorem_meaning.specs.StandsFor.{entry_at}
 
 -- what an entry is, and what a packet is
