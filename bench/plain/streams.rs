@@ -194,9 +194,7 @@ impl Service {
     fn allows_between(&self, step: Step) -> bool {
         let o = |e| &self.ends[opposite(e)];
         match step {
-            Step::Match(e) => {
-                matches!(self.ends[e].outward, Outward::Waiting(_)) && !self.ends[e].noticed && o(e).inward == Inward::Posted
-            }
+            Step::Match(e) => matches!(self.ends[e].outward, Outward::Waiting(_)) && !self.ends[e].noticed && o(e).inward == Inward::Posted,
             Step::Take(e) => {
                 let inward = Inward::Matched(self.ends[e].sends);
                 self.is_matched(e) && self.owner(opposite(e)).is_some() && !o(e).noticed && o(e).inward == inward
@@ -449,7 +447,13 @@ fn any_step(service: &Service, chance: &mut Chance) -> Step {
         43..=47 => Step::Cancel(e, false),
         48..=54 => Step::Wait(p),
         55..=61 => Step::Report(p),
-        62 => if chance.below(4) == 0 { Step::Exit(p) } else { Step::Report(p) },
+        62 => {
+            if chance.below(4) == 0 {
+                Step::Exit(p)
+            } else {
+                Step::Report(p)
+            }
+        }
         63..=70 => Step::Match(e),
         71..=78 => Step::Take(e),
         79..=84 => Step::Complete(e),
