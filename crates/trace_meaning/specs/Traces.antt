@@ -33,7 +33,7 @@ IsReached w t e =
 
 -- ---- marks
 
--- the opposite of a mark does not know of the death, and is told from where the mark stands. What an open opposite asks and sends goes there
+-- the opposite of a mark does not know of the death, and is told from the mark. What an open opposite asks and sends goes there
 pub record IsMarkRight (w : Links) (t : EndId → End) (e : EndId) (d : ℕ) (mark : MovingPicture) : Type 0 where
   pub dead : mark.dead ≡ false
   pub noticed : (t e).noticed ≡ false

@@ -61,7 +61,7 @@ pub record IsGoingTo (w : Links) (to : ℕ) (P : PictureWhat → Type 0) : Type 
   pub there : Contains (w.packets from to) packet
   pub is : P packet.what
 
--- and a packet for e is on its track above h hops: e itself is before it in its list, with more hops, or a chain leads on from where it goes
+-- and a packet for e is on its track above h hops: e itself is before it in its list, with more hops, or a chain leads on from there
 pub record IsOnTrack (w : Links) (e : EndId) (h : ℕ) (P : PictureWhat → Type 0) : Type 0 where
   pub from : ℕ
   pub to : ℕ
