@@ -10,16 +10,17 @@ use Rattle.kernel_nodes.specs.Nodes.{AreNodes, Happens, IsFirst, world_of}
 use Rattle.kernel_nodes.specs.declared.nodes.Nodes.{Nodes}
 use Rattle.kernel_nodes.specs.declared.nodes.Noted.{Noted}
 use Rattle.kernel_world.specs.World.{Takes}
-use Rattle.transcript_replay.specs.Course.{Course, IsRest, Leads, Refutes, comes_after}
-use Rattle.transcript_replay.proofs.Rest.{leads-step}
+use Rattle.transcript_lines.specs.declared.last.ScriptNote.{ScriptNote}
+use Rattle.transcript_replay.specs.Course.{Course, IsRest, IsRestOfNotes, Leads, Refutes, comes_after}
+use Rattle.transcript_replay.proofs.Rest.{leads-notes, leads-step}
 use Rattle.transcript_reader.specs.Lines.{Unread}
-use Rattle.transcript_reader.specs.Next.{Reads}
+use Rattle.transcript_reader.specs.Next.{Reads, ReadsNote, SkipsNote}
 use Rattle.leading_lines.specs.declared.guess.PacketAhead.{PacketAhead}
 use Rattle.transcript_reading.specs.Kinds.{shown_step}
 use Rattle.transcript_reading.specs.Order.{Place, Entry}
 use Rattle.transcript_reading.specs.declared.line.LineKind.{LineKind}
 use Rattle.transcript_reading.specs.declared.line.LineKind.TheVariants as line
-use Rattle.kernel_journal.specs.At.{AreLeft, IsAmongEntries, IsAt}
+use Rattle.kernel_journal.specs.At.{AreLeft, IsAmongEntries, IsAmongNotes, IsAt}
 use Rattle.kernel_journal.specs.Body.{Goes, IsNoted, IsReady, StopsAt, course_of}
 use Rattle.kernel_journal.specs.Expected.{HasDiffered, HasTaken as HasTakenLine, MayNotFollow, ReadsDue, ReadsFirst, Stands, TookNext, Waits}
 use Rattle.expected_lines.specs.Told.{told_packet}
@@ -122,3 +123,23 @@ differs taken r old u v number e kept numbered m place =
       read = m.read.line;
       differs = (numbered ∙ m.read.counted, among-difference taken m.kind r at (subst (λ (b : Body). Refutes (course_of b) m.kind) (sym (kept-same r.body at.body old at.kept kept)) m.refutes));
     }
+
+-- ---- a replay among notes
+
+-- a note behind a note is taken
+note-taken : (taken : List LineKind) (r : Replay) (u v : Unread) (n : ScriptNote) → ReadsNote u n v → IsAt taken u.place r → HasTakenLine taken u v r
+note-taken taken r u v n is at =
+    let notes : IsAmongNotes taken r = subst (λ (p : Place). IsAt taken p r) is.was at in
+    let behind : IsAmongNotes (taken ++ line.Note n ∷ []) r = record {
+      body = notes.body;
+      kept = notes.kept;
+      ready = notes.ready;
+      none = notes.none;
+      left = left-more taken (line.Note n) (IsRestOfNotes (course_of notes.body)) (IsRestOfNotes (course_of notes.body)) (λ more last. notes.left (line.Note n ∷ more) last) (λ more last. leads-notes (course_of notes.body) n more last);
+    } in
+    record { line = record { number = v.lines; what = line.Note n }; read = is.line; at = subst (λ (p : Place). IsAt (taken ++ line.Note n ∷ []) p r) (sym is.is) behind }
+
+-- it was taken, or nothing was read
+pub noted : (b : Bool) (taken : List LineKind) (r : Replay) (u v : Unread) → MatchBool b (SkipsNote u v) (v ≡ u) → IsAt taken u.place r → MatchBool b (HasTakenLine taken u v r) (IsAt taken u.place r × (v ≡ u))
+noted true taken r u v is at = note-taken taken r u v is.0 is.1 at
+noted false taken r u v same at = (at, same)

@@ -62,8 +62,8 @@ impl Replay {
         }
     }
 
-    /// Reads the next line and takes it, where it is just what the kernels expect there: it is compared with the text of that, and no value is
-    /// made of it. `false`: it was not read, and may be any. After a fault no further line is taken.
+    /// Reads the next line and takes it, where it is just what the kernels expect there, or a note behind a note: it is compared with the text of that,
+    /// and no value is made of it. `false`: it was not read, and may be any. After a fault no further line is taken.
     pub fn take_expected(&mut self, reader: &mut Reader<'_>) -> Result<bool, ReplayFault>
         requires { (taken : List AKind) × IsAt taken reader.old.place self.old }
         ensures taken { IfOk result (λ took. (taken : List AKind) → IsAt taken reader.old.place self.old
@@ -71,7 +71,7 @@ impl Replay {
         ensures fault { IfErr result (λ fault. (taken : List AKind) → IsAt taken reader.old.place self.old → HasStopped taken reader.old reader.new fault) }
     {
         if !reader.is_among_entries() {
-            return Ok(false);
+            return Ok(reader.skip_note());
         }
         match &mut self.body {
             Some(body) => match body.take_expected(reader, &mut self.request) {

@@ -5,13 +5,15 @@ use Rattle.std.proofs.lemmas.Fmt.{decimal_digit, decimal_step}
 use Rattle.charlotte_calls.specs.declared.calls.Call.{Call}
 use Rattle.charlotte_calls.specs.declared.calls.Call.TheVariants as call
 use Rattle.charlotte_calls.specs.declared.names.EndId.{EndId}
+use Rattle.charlotte_packets.specs.declared.picture.MovingPicture.{MovingPicture}
 use Rattle.charlotte_packets.specs.declared.picture.PictureWhat.{PictureWhat}
+use Rattle.charlotte_packets.specs.declared.picture.PictureWhat.TheVariants as packet
 use Rattle.charlotte_text.specs.Reading.{bytes_of, call_of, rest_parts}
 use Rattle.charlotte_text.specs.Spelling.{AreBytes, IsCall, IsEnd, bytes_text, call_text, end_text, is_plain, number_text, process_text}
 use Rattle.charlotte_text.proofs.Clauses.{call_fits, call_found}
 use Rattle.charlotte_text.proofs.Texts.{Spells, bytes_takes, plain_kept}
 use Rattle.transcript_reading.specs.Spelling.{kind_text}
-use Rattle.transcript_lines.specs.Transcript.{packet_text}
+use Rattle.transcript_lines.specs.Transcript.{numbers_text, packet_text, values_text}
 use Rattle.transcript_reading.specs.declared.line.LineKind.TheVariants as line
 use Rattle.leading_lines.specs.Ahead.{head_text}
 use Rattle.leading_lines.specs.declared.guess.Ahead.TheVariants as heads
@@ -56,19 +58,40 @@ pub plain_spelled : (word bytes : List ℕ) (r : Option (List ℕ)) → 0 < leng
 plain_spelled word bytes r some plain long same is = bytes_takes word bytes (subst (λ (o : Option (List ℕ)). IfSome o (λ bs. bytes_of word ≡ Ok bs)) is (plain_kept word r some plain long same))
 
 -- a send of plain bytes without ends, and what stands behind it
-tail_shape : (e b rest : List ℕ) → e ++ (32 ∷ (b ++ rest)) ≡ (((e ++ 32 ∷ []) ++ b) ++ []) ++ rest
-tail_shape e b rest = simp (append_assoc, append-nil)
+pub tail_shape : (e b n rest : List ℕ) → e ++ (32 ∷ (b ++ (n ++ rest))) ≡ (((e ++ 32 ∷ []) ++ b) ++ n) ++ rest
+tail_shape e b n rest = simp append_assoc
 
 pub send_then : (on : EndId) (text behind_word behind_end behind_blank word rest bytes : List ℕ) (enclose : List EndId) → text ≡ codes "send " ++ behind_word → behind_word ≡ end_text on ++ behind_end
     → behind_end ≡ 32 ∷ behind_blank → behind_blank ≡ word ++ rest → word ≡ bytes_text bytes → enclose ≡ []
     → text ≡ call_text (call.Send on bytes enclose) ++ rest
 send_then on text behind_word behind_end behind_blank word rest bytes enclose e f g h spelled none =
     e
-    ∙ ap (λ (x : List ℕ). codes "send " ++ x) (f ∙ ap (λ (x : List ℕ). end_text on ++ x) (g ∙ ap (λ (x : List ℕ). 32 ∷ x) (h ∙ ap (λ (x : List ℕ). x ++ rest) spelled)) ∙ tail_shape (end_text on) (bytes_text bytes) rest)
+    ∙ ap (λ (x : List ℕ). codes "send " ++ x) (f ∙ ap (λ (x : List ℕ). end_text on ++ x) (g ∙ ap (λ (x : List ℕ). 32 ∷ x) (h ∙ ap (λ (x : List ℕ). x ++ rest) spelled)) ∙ tail_shape (end_text on) (bytes_text bytes) [] rest)
     ∙ ap (λ (es : List EndId). call_text (call.Send on bytes es) ++ rest) (sym none)
 
 pub send_fits : (v : ℕ) (on : EndId) (bytes : List ℕ) (enclose : List EndId) → IsEnd on → AreBytes bytes → length bytes ≤ 256 → enclose ≡ [] → IsCall v (call.Send on bytes enclose)
 send_fits v on bytes enclose end are few none = subst (λ (es : List EndId). IsCall v (call.Send on bytes es)) (sym none) (end, are, few, tt, omega arith)
+
+-- ---- packets
+
+-- four numbers, read by one, one and two
+four_numbers : (a b t : List ℕ) → (32 ∷ (a ++ [])) ++ ((32 ∷ (b ++ [])) ++ t) ≡ 32 ∷ (a ++ (32 ∷ (b ++ t)))
+four_numbers a b t = simp append-nil
+
+parcel_shape : (x n w p s y m rest : List ℕ) → (x ++ n) ++ (w ++ (p ++ (s ++ (y ++ (m ++ rest))))) ≡ ((((x ++ (n ++ (w ++ p))) ++ s) ++ y) ++ m) ++ rest
+parcel_shape x n w p s y m rest = simp append_assoc
+
+-- a parcel, and what stands behind it
+pub parcel_then : (to : EndId) (n w at hops : ℕ) (bytes : List ℕ) (moving : List MovingPicture) (text behind_n behind_w behind_hops behind_blank behind_bytes rest : List ℕ)
+    → text ≡ codes "parcel " ++ end_text to ++ numbers_text (n ∷ []) ++ behind_n → behind_n ≡ numbers_text (w ∷ []) ++ behind_w → behind_w ≡ numbers_text (at ∷ hops ∷ []) ++ behind_hops
+    → behind_hops ≡ 32 ∷ behind_blank → behind_blank ≡ bytes_text bytes ++ behind_bytes → behind_bytes ≡ values_text moving ++ rest → text ≡ packet_text (packet.Parcel to n w at hops bytes moving) ++ rest
+parcel_then to n w at hops bytes moving text behind_n behind_w behind_hops behind_blank behind_bytes rest e f g h b v =
+    let front : List ℕ = codes "parcel " ++ end_text to in
+    e
+    ∙ ap (λ (x : List ℕ). front ++ numbers_text (n ∷ []) ++ x)
+    (f ∙ ap (λ (x : List ℕ). numbers_text (w ∷ []) ++ x) (g ∙ ap (λ (x : List ℕ). numbers_text (at ∷ hops ∷ []) ++ x) (h ∙ ap (λ (x : List ℕ). 32 ∷ x) (b ∙ ap (λ (x : List ℕ). bytes_text bytes ++ x) v))))
+    ∙ parcel_shape front (numbers_text (n ∷ [])) (numbers_text (w ∷ [])) (numbers_text (at ∷ hops ∷ [])) (codes " ") (bytes_text bytes) (values_text moving) rest
+    ∙ ap (λ (x : List ℕ). ((((front ++ x) ++ codes " ") ++ bytes_text bytes) ++ values_text moving) ++ rest) (four_numbers (number_text n) (number_text w) (numbers_text (at ∷ hops ∷ [])))
 
 -- ---- entries
 

@@ -187,7 +187,7 @@ fn leading_plain(text: &[u8]) -> Option<(Bytes, &[u8])>
 }
 
 /// How many bytes that stand for themselves a text begins with.
-fn plain_count(text: &[u8]) -> usize
+pub(crate) fn plain_count(text: &[u8]) -> usize
     ensures within { result ≤ length text.now }
     ensures plain { list_all is_plain (take result text.now) ≡ true }
 {

@@ -35,7 +35,7 @@ use Rattle.transcript_kept.specs.Run.{AnswersNext, IsRun, ReadsFirst, kept_of}
 use Rattle.transcript_kept.specs.declared.run.Run.{Run}
 use Rattle.expected_lines.specs.Told.{told_packet}
 use Rattle.transcript_reader.specs.Lines.{Unread}
-use Rattle.transcript_reader.specs.Next.{Reads}
+use Rattle.transcript_reader.specs.Next.{Reads, SkipsNote}
 use Rattle.leading_lines.specs.declared.guess.CallAhead.{CallAhead}
 use Rattle.leading_lines.specs.declared.guess.PacketAhead.{PacketAhead}
 use Rattle.transcript_reading.specs.Kinds.{shown_step}
@@ -181,6 +181,10 @@ asks-next a call mine ms noted old new u v run may reads owned is = (
     follows = asks-on a.kernel a.p call call mine ms noted old new may refl owned is;
   },
 )
+
+-- it is a note behind a note
+pub note-next : (r : Run) (u v : Unread) → IsRun r → SkipsNote u v → AnswersNext r u (Some true) r v
+note-next r u v run is = (run, record { line = record { number = v.lines; what = line.Note is.0 }; read = is.1.line; follows = refl })
 
 -- ---- what is told of it, clause by clause
 

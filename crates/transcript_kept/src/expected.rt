@@ -12,12 +12,15 @@ use expected_lines::{reads_call, reads_packet, reads_step};
 use transcript_reader::{Ahead, CallAhead, PacketAhead, Reader};
 
 impl Run {
-    /// Reads the next line and does what it says, where it shows the step that is due, or is the entry of a packet that waits or of a call. `None`: it
-    /// was not read.
+    /// Reads the next line and does what it says, where it shows the step that is due, or is the entry of a packet that waits or of a call, or a note
+    /// behind a note. `None`: it was not read.
     pub(crate) fn follow_next(&mut self, reader: &mut Reader<'_>) -> Result<Option<bool>, NoMemory>
         requires { IsRun self.old }
         ensures { IfOk result (λ went. AnswersNext self.old reader.old went self.new reader.new) }
     {
+        if !reader.is_among_entries() {
+            return Ok(self.pass_note(reader));
+        }
         if !self.due.is_empty() {
             return self.show_next(reader);
         }
@@ -26,6 +29,14 @@ impl Run {
             Some((Ahead::Call(ahead), rest)) => self.ask_next(reader, ahead, rest),
             None => Ok(None),
         }
+    }
+
+    /// A note behind a note, of which nothing changes.
+    fn pass_note(&self, reader: &mut Reader<'_>) -> Option<bool>
+        requires { IsRun self.now }
+        ensures { AnswersNext self.now reader.old result self.now reader.new }
+    {
+        if reader.skip_note() { Some(true) } else { None }
     }
 
     /// The line of the step that is due.

@@ -78,9 +78,6 @@ impl Kernels for Run {
     }
 
     fn follow_expected(&mut self, reader: &mut Reader<'_>) -> Result<Option<bool>, NoMemory> {
-        if !reader.is_among_entries() {
-            return Ok(None);
-        }
         self.follow_next(reader)
     }
 

@@ -12,7 +12,7 @@ use Rattle.transcript_reading.specs.Order.{Entry, Noted, Place, next}
 use Rattle.transcript_reading.specs.declared.line.LineKind.{LineKind}
 use Rattle.transcript_reading.specs.declared.line.LineKind.TheVariants as kind
 use Rattle.transcript_reader.specs.Lines.{Unread, next_line, stand, version_after}
-use Rattle.transcript_reader.specs.Next.{IsAhead, Reads, Skips}
+use Rattle.transcript_reader.specs.Next.{IsAhead, Reads, ReadsNote, Skips}
 use Rattle.transcript_reader.proofs.Clauses.{next_stood}
 use Rattle.transcript_reader.proofs.Texts.{stands_again}
 
@@ -71,16 +71,22 @@ pub note_fewer : (lines : ℕ) (bytes left rest : List ℕ) (n : ScriptNote) →
 note_fewer lines bytes left rest n e f fits few = omega (arith, few, ap length (note_first bytes left rest n e f fits))
 
 -- a note of a later line is the next line
-pub note_next : (old new : Unread) (before number : ℕ) (bytes left rest : List ℕ) (n : ScriptNote) → old.place ≡ Noted before → old.texts ≡ parts 10 bytes
+pub note_next : (old new : Unread) (before : ℕ) (bytes left rest : List ℕ) (n : ScriptNote) → old.place ≡ Noted before → old.texts ≡ parts 10 bytes
     → bytes ≡ note_text n ++ left → left ≡ 10 ∷ rest → IsNoteInRange n → before < n.line
-    → new ≡ record { lines = old.lines + 1; version = old.version; place = Noted n.line; texts = parts 10 rest } → number ≡ new.lines
-    → next_line old ≡ Ok (Some (record { number = number; what = kind.Note n }, new))
-note_next old new before number bytes left rest n place texts e f fits later is counted =
-    next_stood old old.lines old.version (Noted before) bytes (note_text n) rest (kind.Note n) (Noted n.line) old.version
-    (λ i. record { lines = old.lines; version = old.version; place = place i; texts = texts i })
-    (note_first bytes left rest n e f fits) (stands_again old.version (Noted before) (kind.Note n) (Noted n.line) fits (note_stands before n later)) refl
-    ∙ ap (λ (u : Unread). Ok (Some (record { number = u.lines; what = kind.Note n }, u))) (sym is)
-    ∙ ap (λ (m : ℕ). Ok (Some (record { number = m; what = kind.Note n }, new))) (sym counted)
+    → new ≡ record { lines = old.lines + 1; version = old.version; place = Noted n.line; texts = parts 10 rest } → ReadsNote old n new
+note_next old new before bytes left rest n place texts e f fits later is = record {
+  line = next_stood old old.lines old.version (Noted before) bytes (note_text n) rest (kind.Note n) (Noted n.line) old.version
+      (λ i. record { lines = old.lines; version = old.version; place = place i; texts = texts i })
+      (note_first bytes left rest n e f fits) (stands_again old.version (Noted before) (kind.Note n) (Noted n.line) fits (note_stands before n later)) refl
+      ∙ ap (λ (u : Unread). Ok (Some (record { number = u.lines; what = kind.Note n }, u))) (sym is);
+  before = before;
+  was = place;
+  is = ap (λ (u : Unread). u.place) is;
+}
+
+-- its line, with its number
+pub note_line : (old new : Unread) (n : ScriptNote) (number : ℕ) → ReadsNote old n new → number ≡ new.lines → next_line old ≡ Ok (Some (record { number = number; what = kind.Note n }, new))
+note_line old new n number is counted = is.line ∙ ap (λ (m : ℕ). Ok (Some (record { number = m; what = kind.Note n }, new))) (sym counted)
 
 -- ---- lines of entries
 

@@ -3,8 +3,10 @@ use Rattle.std.specs.Prelude.{◌≡◌, ◌+◌, ◌++◌, ℕ, Bool, true, fal
 use Rattle.charlotte_text.specs.Reading.{parts}
 use Rattle.charlotte_text.specs.Spelling.{line_feed}
 use Rattle.transcript_reading.specs.Spelling.{IsKind, kind_text}
-use Rattle.transcript_reading.specs.Order.{Entry, next}
+use Rattle.transcript_lines.specs.declared.last.ScriptNote.{ScriptNote}
+use Rattle.transcript_reading.specs.Order.{Entry, Noted, next}
 use Rattle.transcript_reading.specs.declared.line.LineKind.{LineKind}
+use Rattle.transcript_reading.specs.declared.line.LineKind.TheVariants as line
 use Rattle.transcript_reader.specs.Lines.{GivesNext, Unread, next_line}
 use Rattle.transcript_reader.specs.declared.fault.LineFault.{LineFault}
 use Rattle.transcript_reader.specs.declared.line.Line.{Line}
@@ -22,9 +24,20 @@ pub record Reads (old : Unread) (k : LineKind) (new : Unread) : Type 0 where
   pub before : old.place ≡ Entry
   pub behind : new.place ≡ Entry
 
+-- this note comes next behind another note, and was read
+pub record ReadsNote (old : Unread) (note : ScriptNote) (new : Unread) : Type 0 where
+  pub line : next_line old ≡ Ok (Some (record { number = new.lines; what = line.Note note }, new))
+  pub before : ℕ
+  pub was : old.place ≡ Noted before
+  pub is : new.place ≡ Noted note.line
+
 -- there is a next line, which was passed
 abbrev pub Skips : Unread → Unread → Type 0
 Skips old new = (l : Line) × (next_line old ≡ Ok (Some (l, new)))
+
+-- a note comes next behind another note, and was passed
+abbrev pub SkipsNote : Unread → Unread → Type 0
+SkipsNote old new = (note : ScriptNote) × ReadsNote old note new
 
 -- a reader's answer where the line itself is not given
 abbrev pub GivesSkipped : Unread → Result Bool LineFault → Unread → Type 0

@@ -4,7 +4,7 @@ ghost use Rattle.charlotte_text.specs.Reading.{Gives, parts};
 ghost use Rattle.charlotte_text.specs.Spelling.{line_feed};
 ghost use Rattle.leading_lines.specs.Ahead.{head_text};
 ghost use Rattle.transcript_reader.specs.Lines.{GivesNext, is_ended, next_line, seen, stand, unread, version_after};
-ghost use Rattle.transcript_reader.specs.Next.{GivesSkipped, IsAhead, Reads, Skips};
+ghost use Rattle.transcript_reader.specs.Next.{GivesSkipped, IsAhead, Reads, ReadsNote, Skips, SkipsNote};
 ghost use Rattle.transcript_reading.specs.Order.{Entry, Noted};
 ghost use Rattle.transcript_reading.specs.declared.line.LineKind.{LineKind as AKind};
 
@@ -12,9 +12,10 @@ use crate::fault::LineFault;
 use crate::line::Line;
 use crate::place::{Place, next_place};
 use charlotte_text::{Fault, cut};
-use leading_lines::{Ahead, behind_byte, leading_line, leading_note, look_ahead};
+use leading_lines::{Ahead, behind_byte, leading_line, leading_note, look_ahead, past_line};
 use std::marker::Model;
 use transcript_forms::read_kind;
+use transcript_lines::ScriptNote;
 use transcript_reading::LineKind;
 
 /// The lines of a transcript that are not read yet: the place in the bytes, and what may stand next. It takes no memory.
@@ -90,6 +91,16 @@ impl<'a> Reader<'a> {
         self.skip_other()
     }
 
+    /// Passes the next line, where it is a note behind the note of an earlier line of the script. `false`: it was not passed, and may be any.
+    pub fn skip_note(&mut self) -> bool
+        ensures { MatchBool result (SkipsNote self.old self.new) (self.new ≡ self.old) }
+    {
+        match self.next_note() {
+            Some(_) => true,
+            None => false,
+        }
+    }
+
     /// Passes the next line, whatever its form.
     fn skip_other(&mut self) -> Result<bool, LineFault>
         ensures { GivesSkipped self.old result self.new }
@@ -101,16 +112,16 @@ impl<'a> Reader<'a> {
         }
     }
 
-    /// Passes the next line, where it is one of an entry or of a step of the most common forms, behind such a line. `false`: it was not
-    /// passed, and may be any.
+    /// Passes the next line, where it is one of an entry or of a step of the most common forms, also with what it encloses, behind such a
+    /// line. `false`: it was not passed, and may be any.
     fn skip_of_entry(&mut self) -> bool
         ensures { MatchBool result (Skips self.old self.new) (self.new ≡ self.old) }
     {
         if !is_entry(self.place) {
             return false;
         }
-        match leading_line(self.rest, self.version) {
-            Some((_, left)) => self.pass_line(left),
+        match past_line(self.rest, self.version) {
+            Some(left) => self.pass_line(left),
             None => false,
         }
     }
@@ -138,15 +149,19 @@ impl<'a> Reader<'a> {
         ensures { GivesNext self.old result self.new }
     {
         match self.next_note() {
-            Some(line) => Ok(Some(line)),
+            Some(note) => {
+                let number = self.lines();
+                let what = LineKind::Note(note);
+                Ok(Some(Line { number, what }))
+            }
             None => self.next_any(),
         }
     }
 
     /// The next line, where it is a note behind the note of an earlier line of the script. `None`: it was not read, and may be any.
     #[inline(always)]
-    fn next_note(&mut self) -> Option<Line>
-        ensures { MatchOption result (self.new ≡ self.old) (λ l. next_line self.old ≡ Ok (Some (l, self.new))) }
+    fn next_note(&mut self) -> Option<ScriptNote>
+        ensures { MatchOption result (self.new ≡ self.old) (λ note. ReadsNote self.old note self.new) }
     {
         let before = noted(self.place)?;
         let (note, left) = leading_note(self.rest)?;
@@ -155,9 +170,7 @@ impl<'a> Reader<'a> {
             return None;
         }
         self.pass_note(rest, note.line);
-        let number = self.lines();
-        let what = LineKind::Note(note);
-        Some(Line { number, what })
+        Some(note)
     }
 
     /// The next line, whatever its form.

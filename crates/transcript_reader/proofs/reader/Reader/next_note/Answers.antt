@@ -12,6 +12,6 @@ pass_note-requires c =
 pub returns : goal.returns
 returns c =
     let later : c.in_ok-before.before < c.in_ok-note.note.line = search rules in
-    note_next c.args.self.now c.pass_note.new.self c.in_ok-before.before c.lines-number.result c.self.inside.rest.now c.in_ok-note.left.now c.in_ok-rest.rest.now c.in_ok-note.note
+    note_next c.args.self.now c.pass_note.new.self c.in_ok-before.before c.self.inside.rest.now c.in_ok-note.left.now c.in_ok-rest.rest.now c.in_ok-note.note
     (ap (λ (u : Unread). u.place) (sym c.self.view_is) ∙ c.in_ok-before.ensures) (ap (λ (u : Unread). u.texts) (sym c.self.view_is)) c.in_ok-note.ensures.spelled c.in_ok-rest.ensures c.in_ok-note.ensures.fits later
-    c.pass_note.ensures c.lines-number.ensures
+    c.pass_note.ensures
