@@ -30,54 +30,28 @@ use Rattle.lynx_plan.specs.declared.script.ScriptCall.{ScriptCall}
 use Rattle.lynx_plan.specs.declared.script.ScriptCall.TheVariants as script
 use Rattle.lynx_plan.specs.declared.fault.PlanFault.{PlanFault}
 use Rattle.lynx_plan.specs.Given.{Given, nothing}
-use Rattle.lynx_plan.specs.Forms.{lead_of, one_number, two_numbers, placed, asked, led, form_of}
+use Rattle.lynx_plan.specs.Forms.{lead_of, one_number, two_numbers, placed, placed_at, asked, led, form_of}
 use Rattle.lynx_plan.specs.Rules.{allows, broken, meaning_of, judged, with_meaning}
-use Rattle.lynx_plan.specs.Reading.{Gives, is_skipped, has_kernels, meaning_at, noted, line_read, then_lines, lines_read, script_given, finished, script_of}
+use Rattle.lynx_plan.specs.Reading.{Gives, has_kernels, meaning_at, noted, then_lines, script_given, script_of, script_reader}
 use Rattle.lynx_plan.specs.ScriptText.{standing, version_text, kernels_text, home_text, home_texts, wire_text, what_text, header_texts, IsHeader, FitsWhat, numbered, IsScriptText}
 use Rattle.lynx_plan.proofs.Words.{two_shape, home_shape, ask_shape}
 use Rattle.lynx_plan.proofs.Sound.{Joins}
-use Rattle.lynx_plan.proofs.Spelled.{Line}
-
--- ---- the lines that are not skipped
-
-abbrev stands_read : Given → List Line → Result Given PlanFault
-stands_read g [] = Ok g
-stands_read g (l ∷ ls) = then_lines (λ h. stands_read h ls) (noted l.0 g (meaning_at g l.1))
-
-then_same : (f k : Given → Result Given PlanFault) (r : Result Given PlanFault) → ((g : Given) → f g ≡ k g) → then_lines f r ≡ then_lines k r
-then_same f k (Ok g) e = e g
-then_same f k (Err x) e = refl
-
-stands_lines : (n : ℕ) (g : Given) (ps : List (List ℕ)) → lines_read n g ps ≡ stands_read g (standing n ps)
-unfolding lines_read line_read
-stands_lines n g [] = refl
-stands_lines n g (t ∷ ts) =
-    elim (is_skipped t) as (λ b. then_lines (λ h. lines_read (n + 1) h ts) (cond b (Ok g) (noted n g (meaning_at g t))) ≡ stands_read g (cond b (standing (n + 1) ts) ((n, t) ∷ standing (n + 1) ts))) [
-      | true ↦ stands_lines (n + 1) g ts
-      | false ↦ then_same (λ h. lines_read (n + 1) h ts) (λ h. stands_read h (standing (n + 1) ts)) (noted n g (meaning_at g t)) (λ h. stands_lines (n + 1) h ts)
-    ]
-
-then_stands : (r : Result Given PlanFault) (xs ys : List Line) → ((g : Given) → stands_read g (xs ++ ys) ≡ then_lines (λ h. stands_read h ys) (stands_read g xs)) → then_lines (λ h. stands_read h (xs ++ ys)) r ≡ then_lines (λ h. stands_read h ys) (then_lines (λ h. stands_read h xs) r)
-then_stands (Ok g) xs ys e = e g
-then_stands (Err f) xs ys e = refl
-
-stands_append : (xs ys : List Line) (g : Given) → stands_read g (xs ++ ys) ≡ then_lines (λ h. stands_read h ys) (stands_read g xs)
-stands_append [] ys g = refl
-stands_append (x ∷ xs) ys g = then_stands (noted x.0 g (meaning_at g x.1)) xs ys (stands_append xs ys)
+use Rattle.lynx_plan.proofs.Lines.{Line, stands_read, stands_append, whole_again}
+use Rattle.lynx_plan.proofs.Spelled.{texts_of}
 
 -- ---- forms
 
-number_free : (n : ℕ) → n < 2 ^ 64 → IsWord (number_text n)
+pub number_free : (n : ℕ) → n < 2 ^ 64 → IsWord (number_text n)
 number_free n lt = no_digit 32 n lt (inl (omega arith))
 
-version_words : (n : ℕ) → n < 2 ^ 64 → words (version_text n) ≡ codes "version" ∷ number_text n ∷ []
+pub version_words : (n : ℕ) → n < 2 ^ 64 → words (version_text n) ≡ codes "version" ∷ number_text n ∷ []
 version_words n lt = words_joined (codes "version") (number_text n ∷ []) (free_codes (codes "version") refl) (number_free n lt, tt)
 
 version_form : (v n : ℕ) → n < 2 ^ 64 → form_of v (words (version_text n)) ≡ Ok (Version (Is n))
 unfolding form_of lead_of led one_number
 version_form v n lt = ap (form_of v) (version_words n lt) ∙ rw (number_again n lt) refl
 
-kernels_words : (n : ℕ) → n < 2 ^ 64 → words (kernels_text n) ≡ codes "kernels" ∷ number_text n ∷ []
+pub kernels_words : (n : ℕ) → n < 2 ^ 64 → words (kernels_text n) ≡ codes "kernels" ∷ number_text n ∷ []
 kernels_words n lt = words_joined (codes "kernels") (number_text n ∷ []) (free_codes (codes "kernels") refl) (number_free n lt, tt)
 
 kernels_form : (v n : ℕ) → n < 2 ^ 64 → form_of v (words (kernels_text n)) ≡ Ok (Kernels (Is n))
@@ -88,10 +62,10 @@ home_words : (i k : ℕ) → i < 2 ^ 64 → k < 2 ^ 64 → words (home_text i k)
 home_words i k li lk = ap words (sym (home_shape (number_text i) (number_text k))) ∙ words_joined (codes "process") (number_text i ∷ codes "on" ∷ number_text k ∷ []) (free_codes (codes "process") refl) (number_free i li, (free_codes (codes "on") refl, (number_free k lk, tt)))
 
 home_form : (v i k : ℕ) → i < 2 ^ 64 → k < 2 ^ 64 → form_of v (words (home_text i k)) ≡ Ok (Process (Is i) (Is k))
-unfolding form_of lead_of led placed one_number
+unfolding form_of lead_of led placed placed_at
 home_form v i k li lk = ap (form_of v) (home_words i k li lk) ∙ rw (number_again i li, number_again k lk) refl
 
-wire_words : (w : Pid × Pid) → w.0.0 < 2 ^ 64 → w.1.0 < 2 ^ 64 → words (wire_text w) ≡ codes "wire" ∷ number_text w.0.0 ∷ number_text w.1.0 ∷ []
+pub wire_words : (w : Pid × Pid) → w.0.0 < 2 ^ 64 → w.1.0 < 2 ^ 64 → words (wire_text w) ≡ codes "wire" ∷ number_text w.0.0 ∷ number_text w.1.0 ∷ []
 wire_words w li lj = ap words (sym (two_shape (codes "wire") (number_text w.0.0) (number_text w.1.0))) ∙ words_joined (codes "wire") (number_text w.0.0 ∷ number_text w.1.0 ∷ []) (free_codes (codes "wire") refl) (number_free w.0.0 li, (number_free w.1.0 lj, tt))
 
 wire_form : (v : ℕ) (w : Pid × Pid) → w.0.0 < 2 ^ 64 → w.1.0 < 2 ^ 64 → form_of v (words (wire_text w)) ≡ Ok (Wire (Is w.0.0) (Is w.1.0))
@@ -152,7 +126,7 @@ what_forms v s script.Settle e lk lh fits = ap (form_of v) (words_joined (codes 
 
 -- ---- one line
 
-judged_ok : (g : Given) (f : Form) → allows f g.stage ≡ true → broken g f ≡ None → judged g f ≡ Ok (meaning_of f)
+pub judged_ok : (g : Given) (f : Form) → allows f g.stage ≡ true → broken g f ≡ None → judged g f ≡ Ok (meaning_of f)
 unfolding judged
 judged_ok g f a b = rw (a, b) refl
 
@@ -160,17 +134,17 @@ one_ok : (line : ℕ) (g : Given) (text : List ℕ) (f : Form) → form_of g.ver
 unfolding meaning_at
 one_ok line g text f e a b = rw (e, judged_ok g f a b) refl
 
-version_ok : (g : Given) (v : ℕ) → (v ≡ 1) ⊎ (v ≡ 2) → broken g (Version (Is v)) ≡ None
+pub version_ok : (g : Given) (v : ℕ) → (v ≡ 1) ⊎ (v ≡ 2) → broken g (Version (Is v)) ≡ None
 version_ok g v (inl e) = rw e refl
 version_ok g v (inr e) = rw e refl
 
-kernels_ok : (g : Given) (k : ℕ) → 1 ≤ k → k ≤ 8 → broken g (Kernels (Is k)) ≡ None
+pub kernels_ok : (g : Given) (k : ℕ) → 1 ≤ k → k ≤ 8 → broken g (Kernels (Is k)) ≡ None
 kernels_ok g k low high = rw (le-ltb k 1 low, lt-ltb k 9 (omega arith)) refl
 
-home_ok : (g : Given) (k : ℕ) → length g.homes < 64 → k < g.kernels → broken g (Process (Is (length g.homes)) (Is k)) ≡ None
+pub home_ok : (g : Given) (k : ℕ) → length g.homes < 64 → k < g.kernels → broken g (Process (Is (length g.homes)) (Is k)) ≡ None
 home_ok g k few there = rw (eq-eqb (length g.homes) (length g.homes) refl, lt-ltb (length g.homes) 64 few, lt-ltb k g.kernels there) refl
 
-wire_ok : (g : Given) (i j : ℕ) → i < length g.homes → j < length g.homes → length g.wires < 4096 → broken g (Wire (Is i) (Is j)) ≡ None
+pub wire_ok : (g : Given) (i j : ℕ) → i < length g.homes → j < length g.homes → length g.wires < 4096 → broken g (Wire (Is i) (Is j)) ≡ None
 wire_ok g i j hi hj few = rw (lt-ltb i (length g.homes) hi, lt-ltb j (length g.homes) hj, lt-leb 4096 (length g.wires) few) refl
 
 what_ok : (g : Given) (what : ScriptCall) → FitsWhat (script_given g).setting what → broken g (what_form what) ≡ None
@@ -214,20 +188,17 @@ calls_stage_again : (ls : List ScriptLine) → calls_stage stage.Calls ls ≡ st
 calls_stage_again [] = refl
 calls_stage_again (l ∷ ls) = refl
 
-calls_read : (ls : List ScriptLine) (g : Given) → has_kernels g.stage ≡ true → g.kernels < 2 ^ 64 → length g.homes < 2 ^ 64 → AllByRecursion (λ l. FitsWhat (script_given g).setting l.what) ls → stands_read g (map numbered ls) ≡ Ok (with_calls g ls)
+calls_read : (ls : List ScriptLine) (g : Given) → has_kernels g.stage ≡ true → g.kernels < 2 ^ 64 → length g.homes < 2 ^ 64 → AllByRecursion (λ l. FitsWhat (script_given g).setting l.what) ls → stands_read script_reader g (map numbered ls) ≡ Ok (with_calls g ls)
 calls_read [] g k lk lh fits = ap (λ (x : List ScriptLine). Ok (record g { lines = x; stage = g.stage })) (sym (append-nil g.lines))
 calls_read (l ∷ ls) g k lk lh fits =
     let h : Given = record g { lines = g.lines ++ l ∷ []; stage = stage.Calls } in
     let one : noted l.line g (meaning_at g (what_text l.what)) ≡ Ok h =
     one_ok l.line g (what_text l.what) (what_form l.what) (what_forms g.version (script_given g).setting l.what refl lk lh fits.0) (what_allowed l.what g.stage k) (what_ok g l.what fits.0) ∙ ap Ok (what_adds l.line g l.what) in
-    ap (then_lines (λ x. stands_read x (map numbered ls))) one ∙ calls_read ls h refl lk lh fits.1
+    ap (then_lines (λ x. stands_read script_reader x (map numbered ls))) one ∙ calls_read ls h refl lk lh fits.1
     ∙ ap (λ (x : List ScriptLine). Ok (record h { lines = x; stage = calls_stage stage.Calls ls })) (append_assoc g.lines (l ∷ []) ls)
     ∙ ap (λ (s : Stage). Ok (record h { lines = g.lines ++ l ∷ ls; stage = s })) (calls_stage_again ls)
 
 -- ---- the wires
-
-abbrev texts_of : List Line → List (List ℕ)
-texts_of ls = map (λ l. l.1) ls
 
 first_text : (t u : List ℕ) (ts us : List (List ℕ)) → t ∷ ts ≡ u ∷ us → t ≡ u
 first_text t u ts us e = cc
@@ -235,33 +206,33 @@ first_text t u ts us e = cc
 other_texts : (t u : List ℕ) (ts us : List (List ℕ)) → t ∷ ts ≡ u ∷ us → ts ≡ us
 other_texts t u ts us e = cc
 
-abbrev wires_stage : Stage → List (Pid × Pid) → Stage
+abbrev pub wires_stage : Stage → List (Pid × Pid) → Stage
 wires_stage s [] = s
 wires_stage s (w ∷ ws) = stage.Wires
 
 -- wires may follow
-abbrev wires_follow : Stage → Bool
+abbrev pub wires_follow : Stage → Bool
 wires_follow s = allows (Wire (Is 0) (Is 0)) s
 
-wire_allowed : (i j : ℕ) (s : Stage) → wires_follow s ≡ true → allows (Wire (Is i) (Is j)) s ≡ true
+pub wire_allowed : (i j : ℕ) (s : Stage) → wires_follow s ≡ true → allows (Wire (Is i) (Is j)) s ≡ true
 wire_allowed i j stage.Start e = absurd cc
 wire_allowed i j stage.Named e = absurd cc
 wire_allowed i j stage.Processes e = refl
 wire_allowed i j stage.Wires e = refl
 wire_allowed i j stage.Calls e = absurd cc
 
-abbrev with_wires : Given → List (Pid × Pid) → Given
+abbrev pub with_wires : Given → List (Pid × Pid) → Given
 with_wires g ws = record g { wires = g.wires ++ ws; stage = wires_stage g.stage ws }
 
-wire_adds : (line : ℕ) (g : Given) (w : Pid × Pid) → with_meaning line g (meaning_of (Wire (Is w.0.0) (Is w.1.0))) ≡ record g { wires = g.wires ++ w ∷ []; stage = stage.Wires }
+pub wire_adds : (line : ℕ) (g : Given) (w : Pid × Pid) → with_meaning line g (meaning_of (Wire (Is w.0.0) (Is w.1.0))) ≡ record g { wires = g.wires ++ w ∷ []; stage = stage.Wires }
 unfolding with_meaning
 wire_adds line g w = refl
 
-wires_stage_again : (ws : List (Pid × Pid)) → wires_stage stage.Wires ws ≡ stage.Wires
+pub wires_stage_again : (ws : List (Pid × Pid)) → wires_stage stage.Wires ws ≡ stage.Wires
 wires_stage_again [] = refl
 wires_stage_again (w ∷ ws) = refl
 
-wires_read : (ws : List (Pid × Pid)) (ls : List Line) (g : Given) → texts_of ls ≡ map wire_text ws → wires_follow g.stage ≡ true → length g.homes ≤ 64 → length g.wires + length ws ≤ 4096 → AllByRecursion (Joins (length g.homes)) ws → stands_read g ls ≡ Ok (with_wires g ws)
+wires_read : (ws : List (Pid × Pid)) (ls : List Line) (g : Given) → texts_of ls ≡ map wire_text ws → wires_follow g.stage ≡ true → length g.homes ≤ 64 → length g.wires + length ws ≤ 4096 → AllByRecursion (Joins (length g.homes)) ws → stands_read script_reader g ls ≡ Ok (with_wires g ws)
 wires_read [] [] g e s few room fits = ap (λ (x : List (Pid × Pid)). Ok (record g { wires = x; stage = g.stage })) (sym (append-nil g.wires))
 wires_read [] (l ∷ ls) g e s few room fits = absurd cc
 wires_read (w ∷ ws) [] g e s few room fits = absurd cc
@@ -272,7 +243,7 @@ wires_read (w ∷ ws) (l ∷ ls) g e s few room fits =
     let one : noted l.0 g (meaning_at g l.1) ≡ Ok h =
     ap (λ (t : List ℕ). noted l.0 g (meaning_at g t)) (first_text l.1 (wire_text w) (texts_of ls) (map wire_text ws) e)
     ∙ one_ok l.0 g (wire_text w) (Wire (Is w.0.0) (Is w.1.0)) (wire_form g.version w small small2) (wire_allowed w.0.0 w.1.0 g.stage s) (wire_ok g w.0.0 w.1.0 fits.0.0 fits.0.1 (omega arith)) ∙ ap Ok (wire_adds l.0 g w) in
-    ap (then_lines (λ x. stands_read x ls)) one ∙ wires_read ws ls h (other_texts l.1 (wire_text w) (texts_of ls) (map wire_text ws) e) refl few (omega (arith, length-append g.wires (w ∷ []))) fits.1
+    ap (then_lines (λ x. stands_read script_reader x ls)) one ∙ wires_read ws ls h (other_texts l.1 (wire_text w) (texts_of ls) (map wire_text ws) e) refl few (omega (arith, length-append g.wires (w ∷ []))) fits.1
     ∙ ap (λ (x : List (Pid × Pid)). Ok (record h { wires = x; stage = wires_stage stage.Wires ws })) (append_assoc g.wires (w ∷ []) ws)
     ∙ ap (λ (x : Stage). Ok (record h { wires = g.wires ++ w ∷ ws; stage = x })) (wires_stage_again ws)
 
@@ -283,7 +254,7 @@ unfolding with_meaning
 home_adds line g i k = refl
 
 homes_read : (ks : List ℕ) (ls : List Line) (g : Given) (ws : List (Pid × Pid)) → texts_of ls ≡ home_texts (length g.homes) ks ++ map wire_text ws → g.stage ≡ stage.Processes → g.kernels ≤ 8 → length g.homes + length ks ≤ 64 → AllByRecursion (λ k. k < g.kernels) ks
-    → length g.wires + length ws ≤ 4096 → AllByRecursion (Joins (length g.homes + length ks)) ws → stands_read g ls ≡ Ok (with_wires (record g { homes = g.homes ++ ks }) ws)
+    → length g.wires + length ws ≤ 4096 → AllByRecursion (Joins (length g.homes + length ks)) ws → stands_read script_reader g ls ≡ Ok (with_wires (record g { homes = g.homes ++ ks }) ws)
 homes_read [] ls g ws e s k8 few there room fits =
     let n : length g.homes + 0 ≡ length g.homes = omega arith in
     wires_read ws ls g e (ap wires_follow s) (omega arith) room (subst (λ (m : ℕ). AllByRecursion (Joins m) ws) n fits) ∙ ap (λ (x : List ℕ). Ok (with_wires (record g { homes = x }) ws)) (sym (append-nil g.homes))
@@ -297,23 +268,23 @@ homes_read (k ∷ ks) (l ∷ ls) g ws e s k8 few there room fits =
     ∙ one_ok l.0 g (home_text (length g.homes) k) (Process (Is (length g.homes)) (Is k)) (home_form g.version (length g.homes) k small (omega (arith, there.0))) (ap (allows (Process (Is (length g.homes)) (Is k))) s) (home_ok g k (omega arith) there.0) ∙ ap Ok (home_adds l.0 g (length g.homes) k) in
     let rest : texts_of ls ≡ home_texts (length h.homes) ks ++ map wire_text ws = other_texts l.1 (home_text (length g.homes) k) (texts_of ls) (home_texts (length g.homes + 1) ks ++ map wire_text ws) e ∙ ap (λ (m : ℕ). home_texts m ks ++ map wire_text ws) (sym len) in
     let n : length g.homes + length (k ∷ ks) ≡ length h.homes + length ks = omega (arith, len) in
-    ap (then_lines (λ x. stands_read x ls)) one ∙ homes_read ks ls h ws rest s k8 (omega (arith, len)) there.1 room (subst (λ (m : ℕ). AllByRecursion (Joins m) ws) n fits)
+    ap (then_lines (λ x. stands_read script_reader x ls)) one ∙ homes_read ks ls h ws rest s k8 (omega (arith, len)) there.1 room (subst (λ (m : ℕ). AllByRecursion (Joins m) ws) n fits)
     ∙ ap (λ (x : List ℕ). Ok (with_wires (record g { homes = x }) ws)) (append_assoc g.homes (k ∷ []) ks)
 
 -- ---- the header
 
-abbrev begun : ℕ → Stage → Given
+abbrev pub begun : ℕ → Stage → Given
 begun v s = record { version = v; kernels = 0; homes = []; wires = []; lines = []; stage = s }
 
 -- what a whole header says
 abbrev header_given : Setting → Given
 header_given t = record { version = t.version; kernels = t.kernels; homes = t.homes; wires = t.wires; lines = []; stage = wires_stage stage.Processes t.wires }
 
-kernels_adds : (line v k : ℕ) (s : Stage) → with_meaning line (begun v s) (meaning_of (Kernels (Is k))) ≡ record { version = v; kernels = k; homes = []; wires = []; lines = []; stage = stage.Processes }
+pub kernels_adds : (line v k : ℕ) (s : Stage) → with_meaning line (begun v s) (meaning_of (Kernels (Is k))) ≡ record { version = v; kernels = k; homes = []; wires = []; lines = []; stage = stage.Processes }
 unfolding with_meaning
 kernels_adds line v k s = refl
 
-kernels_read : (t : Setting) (s : Stage) (ls : List Line) → allows (Kernels (Is t.kernels)) s ≡ true → texts_of ls ≡ header_texts t → IsValid t → stands_read (begun t.version s) ls ≡ Ok (header_given t)
+kernels_read : (t : Setting) (s : Stage) (ls : List Line) → allows (Kernels (Is t.kernels)) s ≡ true → texts_of ls ≡ header_texts t → IsValid t → stands_read script_reader (begun t.version s) ls ≡ Ok (header_given t)
 kernels_read t s [] a e valid = absurd cc
 kernels_read t s (l ∷ ls) a e valid =
     let h : Given = record { version = t.version; kernels = t.kernels; homes = []; wires = []; lines = []; stage = stage.Processes } in
@@ -323,31 +294,31 @@ kernels_read t s (l ∷ ls) a e valid =
     (kernels_ok (begun t.version s) t.kernels valid.limits.some_kernel valid.limits.kernels)
     ∙ ap Ok (kernels_adds l.0 t.version t.kernels s) in
     let n : length t.homes ≡ 0 + length t.homes = omega arith in
-    ap (then_lines (λ x. stands_read x ls)) one
+    ap (then_lines (λ x. stands_read script_reader x ls)) one
     ∙ homes_read t.homes ls h t.wires (other_texts l.1 (kernels_text t.kernels) (texts_of ls) (home_texts 0 t.homes ++ map wire_text t.wires) e) refl valid.limits.kernels (omega (arith, valid.limits.processes))
     (recursion_from_All (λ k. k < t.kernels) t.homes valid.homes) (omega (arith, valid.limits.wires))
     (subst (λ (m : ℕ). AllByRecursion (Joins m) t.wires) n (recursion_from_All (Joins (length t.homes)) t.wires valid.wires))
 
-version_adds : (line v : ℕ) → with_meaning line nothing (meaning_of (Version (Is v))) ≡ begun v stage.Named
+pub version_adds : (line v : ℕ) → with_meaning line nothing (meaning_of (Version (Is v))) ≡ begun v stage.Named
 unfolding with_meaning
 version_adds line v = refl
 
-small_version : (v : ℕ) → (v ≡ 1) ⊎ (v ≡ 2) → v < 2 ^ 64
+pub small_version : (v : ℕ) → (v ≡ 1) ⊎ (v ≡ 2) → v < 2 ^ 64
 small_version v (inl e) = omega arith
 small_version v (inr e) = omega arith
 
-header_read : (t : Setting) (ls : List Line) → IsHeader (texts_of ls) t → IsValid t → stands_read nothing ls ≡ Ok (header_given t)
-header_read t ls (inr h) valid = ap (λ (v : ℕ). stands_read (begun v stage.Start) ls) (sym h.0) ∙ kernels_read t stage.Start ls refl h.1 valid
+header_read : (t : Setting) (ls : List Line) → IsHeader (texts_of ls) t → IsValid t → stands_read script_reader nothing ls ≡ Ok (header_given t)
+header_read t ls (inr h) valid = ap (λ (v : ℕ). stands_read script_reader (begun v stage.Start) ls) (sym h.0) ∙ kernels_read t stage.Start ls refl h.1 valid
 header_read t [] (inl e) valid = absurd cc
 header_read t (l ∷ ls) (inl e) valid =
     let one : noted l.0 nothing (meaning_at nothing l.1) ≡ Ok (begun t.version stage.Named) =
     ap (λ (x : List ℕ). noted l.0 nothing (meaning_at nothing x)) (first_text l.1 (version_text t.version) (texts_of ls) (header_texts t) e)
     ∙ one_ok l.0 nothing (version_text t.version) (Version (Is t.version)) (version_form 1 t.version (small_version t.version valid.limits.version)) refl (version_ok nothing t.version valid.limits.version) ∙ ap Ok (version_adds l.0 t.version) in
-    ap (then_lines (λ x. stands_read x ls)) one ∙ kernels_read t stage.Named ls refl (other_texts l.1 (version_text t.version) (texts_of ls) (header_texts t) e) valid
+    ap (then_lines (λ x. stands_read script_reader x ls)) one ∙ kernels_read t stage.Named ls refl (other_texts l.1 (version_text t.version) (texts_of ls) (header_texts t) e) valid
 
 -- ---- the whole script
 
-wires_kernels : (ws : List (Pid × Pid)) → has_kernels (wires_stage stage.Processes ws) ≡ true
+pub wires_kernels : (ws : List (Pid × Pid)) → has_kernels (wires_stage stage.Processes ws) ≡ true
 wires_kernels [] = refl
 wires_kernels (w ∷ ws) = refl
 
@@ -355,19 +326,15 @@ calls_kernels : (s : Stage) (ls : List ScriptLine) → has_kernels s ≡ true �
 calls_kernels s [] e = e
 calls_kernels s (l ∷ ls) e = refl
 
-finished_ok : (n : ℕ) (g : Given) → has_kernels g.stage ≡ true → finished n (Ok g) ≡ Ok (script_given g)
-finished_ok n g e = rw e refl
-
 pub script_again : (bytes : List ℕ) (s : Script) → IsScriptText bytes s → script_of bytes ≡ Ok s
-unfolding script_of
 script_again bytes s is =
     let t : Setting = s.setting in
     let g : Given = header_given t in
     let k = wires_kernels t.wires in
-    let calls : stands_read g (map numbered s.lines) ≡ Ok (with_calls g s.lines) = calls_read s.lines g k (omega (arith, is.valid.limits.kernels)) (omega (arith, is.valid.limits.processes)) (recursion_from_All (λ l. FitsWhat t l.what) s.lines is.calls) in
-    let all : lines_read 1 nothing (parts 10 bytes) ≡ Ok (with_calls g s.lines) =
-    stands_lines 1 nothing (parts 10 bytes) ∙ ap (stands_read nothing) is.lines ∙ stands_append is.header (map numbered s.lines) nothing ∙ ap (then_lines (λ h. stands_read h (map numbered s.lines))) (header_read t is.header is.spelled is.valid) ∙ calls in
-    ap (finished (length (parts 10 bytes))) all ∙ finished_ok (length (parts 10 bytes)) (with_calls g s.lines) (calls_kernels g.stage s.lines k)
+    let calls : stands_read script_reader g (map numbered s.lines) ≡ Ok (with_calls g s.lines) = calls_read s.lines g k (omega (arith, is.valid.limits.kernels)) (omega (arith, is.valid.limits.processes)) (recursion_from_All (λ l. FitsWhat t l.what) s.lines is.calls) in
+    let all : stands_read script_reader nothing (standing 1 (parts 10 bytes)) ≡ Ok (with_calls g s.lines) =
+    ap (stands_read script_reader nothing) is.lines ∙ stands_append script_reader is.header (map numbered s.lines) nothing ∙ ap (then_lines (λ h. stands_read script_reader h (map numbered s.lines))) (header_read t is.header is.spelled is.valid) ∙ calls in
+    whole_again script_reader bytes (with_calls g s.lines) all (calls_kernels g.stage s.lines k)
 
 abbrev read : Script → Result Script PlanFault
 read s = Ok s

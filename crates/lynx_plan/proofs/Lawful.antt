@@ -40,7 +40,7 @@ Lawful g (Take j k) = IsSmall j g.kernels × IsSmall k g.kernels
 Lawful g Settle = Unit {0}
 
 -- a test that a rule makes, where the line fails no rule
-passed : (b : Bool) (r : Rule) (o : Option Rule) → cond b (Some r) o ≡ None → (b ≡ false) × (o ≡ None)
+pub passed : (b : Bool) (r : Rule) (o : Option Rule) → cond b (Some r) o ≡ None → (b ≡ false) × (o ≡ None)
 passed true r o e = absurd cc
 passed false r o e = (refl, e)
 

@@ -19,8 +19,9 @@ use Rattle.lynx_plan.specs.declared.fault.PlanFault.{PlanFault}
 use Rattle.lynx_plan.specs.Given.{Given, nothing}
 use Rattle.lynx_plan.specs.Forms.{form_of}
 use Rattle.lynx_plan.specs.Rules.{allows, value, meaning_of, with_meaning}
-use Rattle.lynx_plan.specs.Reading.{has_kernels, judged_form, meaning_at, noted, line_read, is_skipped, script_given}
+use Rattle.lynx_plan.specs.Reading.{has_kernels, judged_form, meaning_at, noted, line_read, script_given, script_reader}
 use Rattle.lynx_plan.proofs.Lawful.{Lawful, passes_from}
+use Rattle.lynx_plan.proofs.Lines.{ok_is, line_kept}
 
 -- each wire joins processes that are declared
 abbrev pub Joins : ℕ → Pid × Pid → Type 0
@@ -143,33 +144,22 @@ sound_form line g (LongAsk p) a l s = absurd l
 sound_form line g (Take j k) a l s = let there = settle_after g.stage a in record { version = s.version; kernels = s.kernels; some = λ x. s.some there; none = λ x. absurd cc; processes = s.processes; count = s.count; homes = s.homes; wires = s.wires }
 sound_form line g Settle a l s = let there = settle_after g.stage a in record { version = s.version; kernels = s.kernels; some = λ x. s.some there; none = λ x. absurd cc; processes = s.processes; count = s.count; homes = s.homes; wires = s.wires }
 
-sound_judged : (line : ℕ) (g : Given) (r : Result Form Fault) (e : Meaning) → judged_form g r ≡ Ok e → Sound g → Sound (with_meaning line g e)
+pub sound_judged : (line : ℕ) (g : Given) (r : Result Form Fault) (e : Meaning) → judged_form g r ≡ Ok e → Sound g → Sound (with_meaning line g e)
 sound_judged line g (Ok f) e h s =
     let p = passes_from g f e h in
     subst (λ (x : Meaning). Sound (with_meaning line g x)) p.says (sound_form line g f p.stands p.lawful s)
 sound_judged line g (Err f) e h s = absurd cc
 
-abbrev kept : Given → Result Given PlanFault
-kept g = Ok g
-
-pub given_is : (g h : Given) → kept g ≡ kept h → g ≡ h
-given_is g h e = cc
-
 sound_noted : (line : ℕ) (g h : Given) (r : Result Meaning Rule) → noted line g r ≡ Ok h → ((e : Meaning) → r ≡ Ok e → Sound (with_meaning line g e)) → Sound h
-sound_noted line g h (Ok e) n s = subst Sound (given_is (with_meaning line g e) h n) (s e refl)
+sound_noted line g h (Ok e) n s = subst Sound (ok_is (with_meaning line g e) h n) (s e refl)
 sound_noted line g h (Err rule) n s = absurd cc
 
-pub which : (b : Bool) (g h : Given) (r : Result Given PlanFault) → cond b (Ok g) r ≡ Ok h → (g ≡ h) ⊎ (r ≡ Ok h)
-which true g h r e = inl (given_is g h e)
-which false g h r e = inr e
+pub sound_line : (line : ℕ) (g h : Given) (text : List ℕ) → noted line g (meaning_at g text) ≡ Ok h → Sound g → Sound h
+unfolding meaning_at
+sound_line line g h text n s = sound_noted line g h (meaning_at g text) n (λ x at. sound_judged line g (form_of g.version (words text)) x at s)
 
-pub sound_kept : (line : ℕ) (g h : Given) (text : List ℕ) → line_read line g text ≡ Ok h → Sound g → Sound h
-unfolding line_read meaning_at
-sound_kept line g h text e s =
-    elim (which (is_skipped text) g h (noted line g (meaning_at g text)) e) [
-      | inl same ↦ subst Sound same s
-      | inr n ↦ sound_noted line g h (meaning_at g text) n (λ x at. sound_judged line g (form_of g.version (words text)) x at s)
-    ]
+pub sound_kept : (line : ℕ) (g h : Given) (text : List ℕ) → line_read script_reader line g text ≡ Ok h → Sound g → Sound h
+sound_kept line g h text e s = line_kept script_reader (λ x all. Sound x) (λ n x y t all. sound_line n x y t) line g h text [] e s
 
 pub valid_given : (g : Given) → Sound g → has_kernels g.stage ≡ true → IsValid (script_given g).setting
 valid_given g s k = record {

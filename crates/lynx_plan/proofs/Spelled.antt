@@ -25,20 +25,18 @@ use Rattle.lynx_plan.specs.declared.fault.PlanFault.TheVariants.{BadPlan}
 use Rattle.lynx_plan.specs.Given.{Given, nothing}
 use Rattle.lynx_plan.specs.Forms.{form_of}
 use Rattle.lynx_plan.specs.Rules.{allows, value, meaning_of, with_meaning}
-use Rattle.lynx_plan.specs.Reading.{Gives, is_skipped, has_kernels, judged_form, meaning_at, noted, line_read, then_lines, lines_read, script_given, finished, script_of}
+use Rattle.lynx_plan.specs.Reading.{Gives, has_kernels, judged_form, meaning_at, noted, script_given, script_of, script_reader}
 use Rattle.lynx_plan.specs.ScriptText.{standing, version_text, kernels_text, home_text, home_texts, wire_text, what_text, header_texts, IsHeader, FitsWhat, numbered, IsScriptText}
 use Rattle.lynx_plan.proofs.Lawful.{Lawful, passes_from}
-use Rattle.lynx_plan.proofs.Sound.{Sound, sound_nothing, sound_kept, valid_given, given_is, process_stage, wire_after, settle_after}
+use Rattle.lynx_plan.proofs.Lines.{Line, ok_is, Keeps, Whole, whole_from, whole_kept}
+use Rattle.lynx_plan.proofs.Sound.{Sound, sound_nothing, sound_line, valid_given, process_stage, wire_after, settle_after}
 use Rattle.lynx_plan.proofs.Words.{form_text, form_has, text_has, FitsForm, fits_has}
 
 abbrev setting_of : Given → Setting
 setting_of g = (script_given g).setting
 
-abbrev texts_of : List (ℕ × List ℕ) → List (List ℕ)
+abbrev pub texts_of : List (ℕ × List ℕ) → List (List ℕ)
 texts_of ls = map (λ l. l.1) ls
-
-abbrev pub Line : Type 0
-Line = ℕ × List ℕ
 
 -- the texts of a header that may go on
 abbrev Opens : Given → Stage → List (List ℕ) → Type 0
@@ -106,14 +104,14 @@ bare_header g k hs ws = ap (λ (x : List ℕ). kernels_text k ∷ (home_texts 0 
 
 -- ---- stages
 
-version_stage : (n : Number) (s : Stage) → allows (Version n) s ≡ true → s ≡ stage.Start
+pub version_stage : (n : Number) (s : Stage) → allows (Version n) s ≡ true → s ≡ stage.Start
 version_stage n stage.Start e = refl
 version_stage n stage.Named e = absurd cc
 version_stage n stage.Processes e = absurd cc
 version_stage n stage.Wires e = absurd cc
 version_stage n stage.Calls e = absurd cc
 
-kernels_stage : (n : Number) (s : Stage) → allows (Kernels n) s ≡ true → (s ≡ stage.Start) ⊎ (s ≡ stage.Named)
+pub kernels_stage : (n : Number) (s : Stage) → allows (Kernels n) s ≡ true → (s ≡ stage.Start) ⊎ (s ≡ stage.Named)
 kernels_stage n stage.Start e = inl refl
 kernels_stage n stage.Named e = inr refl
 kernels_stage n stage.Processes e = absurd cc
@@ -236,64 +234,34 @@ reads_judged line g text (Ok f) e all is h r =
 reads_judged line g text (Err f) e all is h r = absurd cc
 
 reads_noted : (line : ℕ) (g h : Given) (read : Result Meaning Rule) (all : List Line) → noted line g read ≡ Ok h → ((e : Meaning) → read ≡ Ok e → Reads (with_meaning line g e) all) → Reads h all
-reads_noted line g h (Ok e) all n s = subst (λ (x : Given). Reads x all) (given_is (with_meaning line g e) h n) (s e refl)
+reads_noted line g h (Ok e) all n s = subst (λ (x : Given). Reads x all) (ok_is (with_meaning line g e) h n) (s e refl)
 reads_noted line g h (Err rule) all n s = absurd cc
 
--- the line, if it is not skipped
-abbrev one_standing : ℕ → List ℕ → List Line
-one_standing n text = cond (is_skipped text) [] ((n, text) ∷ [])
+reads_line : (line : ℕ) (g h : Given) (text : List ℕ) (all : List Line) → noted line g (meaning_at g text) ≡ Ok h → Reads g all → Reads h (all ++ (line, text) ∷ [])
+unfolding meaning_at
+reads_line line g h text all n r = reads_noted line g h (meaning_at g text) (all ++ (line, text) ∷ []) n (λ x at. reads_judged line g text (form_of g.version (words text)) x all refl at r)
 
-reads_line : (line : ℕ) (g h : Given) (text : List ℕ) (all : List Line) → line_read line g text ≡ Ok h → Reads g all → Reads h (all ++ one_standing line text)
-unfolding line_read meaning_at
-reads_line line g h text all e r =
-    elim (is_skipped text) as (λ b. cond b (Ok g) (noted line g (meaning_at g text)) ≡ Ok h → Reads h (all ++ cond b [] ((line, text) ∷ []))) [
-      | true ↦ λ k. subst (λ (x : Given). Reads x (all ++ [])) (given_is g h k) (subst (Reads g) (sym (append-nil all)) r)
-      | false ↦ λ k. reads_noted line g h (meaning_at g text) (all ++ (line, text) ∷ []) k (λ x at. reads_judged line g text (form_of g.version (words text)) x all refl at r)
-    ] e
+-- what a reading keeps
+abbrev Kept : Given → List Line → Type 0
+Kept g all = Reads g all × Sound g
 
-standing_first : (n : ℕ) (text : List ℕ) (texts : List (List ℕ)) → standing n (text ∷ texts) ≡ one_standing n text ++ standing (n + 1) texts
-standing_first n text texts = elim (is_skipped text) as (λ b. cond b (standing (n + 1) texts) ((n, text) ∷ standing (n + 1) texts) ≡ cond b [] ((n, text) ∷ []) ++ standing (n + 1) texts) [ true ↦ refl | false ↦ refl ]
+kept_line : Keeps script_reader Kept
+kept_line n g h text all e k = (reads_line n g h text all e k.0, sound_line n g h text e k.1)
 
-then_ok : (f : Given → Result Given PlanFault) (r : Result Given PlanFault) (h : Given) → then_lines f r ≡ Ok h → (g : Given) × (r ≡ Ok g) × (f g ≡ Ok h)
-then_ok f (Ok g) h e = (g, refl, e)
-then_ok f (Err x) h e = absurd cc
-
-reads_lines : (n : ℕ) (g h : Given) (ps : List (List ℕ)) (all : List Line) → lines_read n g ps ≡ Ok h → Sound g → Reads g all → Reads h (all ++ standing n ps) × Sound h
-unfolding lines_read
-reads_lines n g h [] all e s r = subst (λ (x : Given). Reads x (all ++ []) × Sound x) (given_is g h e) (subst (Reads g) (sym (append-nil all)) r, s)
-reads_lines n g h (text ∷ texts) all e s r =
-    let one = then_ok (λ x. lines_read (n + 1) x texts) (line_read n g text) h e in
-    let first = reads_line n g one.0 text all one.1 r in
-    let rest = reads_lines (n + 1) one.0 h texts (all ++ one_standing n text) one.2 (sound_kept n g one.0 text one.1 s) first in
-    (subst (Reads h) (append_assoc all (one_standing n text) (standing (n + 1) texts) ∙ ap (λ (x : List Line). all ++ x) (sym (standing_first n text texts))) rest.0, rest.1)
-
-abbrev read : Script → Result Script PlanFault
-read s = Ok s
-
-script_is : (a b : Script) → read a ≡ read b → a ≡ b
-script_is a b e = cc
-
-spelled_end : (n : ℕ) (bytes : List ℕ) (s : Script) (g : Given) → lines_read 1 nothing (parts 10 bytes) ≡ Ok g → finished n (Ok g) ≡ Ok s → IsScriptText bytes s
-spelled_end n bytes s g e f =
-    let both = reads_lines 1 nothing g (parts 10 bytes) [] e sound_nothing reads_nothing in
-    elim (has_kernels g.stage) as (λ b. has_kernels g.stage ≡ b → cond b (Ok (script_given g)) (Err (BadPlan n 1)) ≡ Ok s → IsScriptText bytes s) [
-      | true ↦ λ k x. subst (IsScriptText bytes) (script_is (script_given g) s x) (record {
-        header = both.0.header;
-        lines = both.0.lines;
-        spelled = whole_header g g.stage (texts_of both.0.header) k both.0.opens;
-        valid = valid_given g both.1 k;
-        calls = both.0.calls;
-      })
-      | false ↦ λ k x. absurd cc
-    ] refl f
-
-spelled_read : (n : ℕ) (bytes : List ℕ) (s : Script) (r : Result Given PlanFault) → lines_read 1 nothing (parts 10 bytes) ≡ r → finished n r ≡ Ok s → IsScriptText bytes s
-spelled_read n bytes s (Ok g) e f = spelled_end n bytes s g e f
-spelled_read n bytes s (Err x) e f = absurd cc
+spelled_whole : (bytes : List ℕ) (s : Script) → Whole script_reader bytes s → IsScriptText bytes s
+spelled_whole bytes s w =
+    let g : Given = w.said in
+    let both = whole_kept script_reader Kept kept_line (reads_nothing, sound_nothing) bytes s w in
+    subst (IsScriptText bytes) w.whole (record {
+      header = both.0.header;
+      lines = both.0.lines;
+      spelled = whole_header g g.stage (texts_of both.0.header) w.ended both.0.opens;
+      valid = valid_given g both.1 w.ended;
+      calls = both.0.calls;
+    })
 
 pub script_spelled : (bytes : List ℕ) (s : Script) → script_of bytes ≡ Ok s → IsScriptText bytes s
-unfolding script_of
-script_spelled bytes s e = spelled_read (length (parts 10 bytes)) bytes s (lines_read 1 nothing (parts 10 bytes)) refl e
+script_spelled bytes s e = spelled_whole bytes s (whole_from script_reader bytes s e)
 
 pub script_found : (bytes : List ℕ) (r : Result Script PlanFault) → Gives r (script_of bytes) → IfOk r (IsScriptText bytes)
 script_found bytes (Ok s) g = script_spelled bytes s g

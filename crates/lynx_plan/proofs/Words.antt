@@ -21,14 +21,14 @@ use Rattle.lynx_plan.specs.declared.form.Lead.TheVariants as lead
 use Rattle.lynx_plan.specs.declared.form.Form.{Form}
 use Rattle.lynx_plan.specs.declared.form.Form.TheVariants.{Version, Kernels, Process, Wire, Ask, LongAsk, Take, Settle}
 use Rattle.lynx_plan.specs.Given.{Given}
-use Rattle.lynx_plan.specs.Forms.{lead_of, one_number, two_numbers, placed, ask_form, asked, led, form_of}
+use Rattle.lynx_plan.specs.Forms.{lead_of, one_number, two_numbers, placed, placed_at, ask_form, asked, led, form_of}
 use Rattle.lynx_plan.specs.Rules.{value}
 use Rattle.lynx_plan.specs.ScriptText.{version_text, kernels_text, home_text, wire_text}
 use Rattle.lynx_plan.proofs.Lawful.{Lawful}
 
 -- ---- first words
 
-abbrev LeadIs : List ℕ → Lead → Type 0
+abbrev pub LeadIs : List ℕ → Lead → Type 0
 LeadIs w lead.Version = w ≡ codes "version"
 LeadIs w lead.Kernels = w ≡ codes "kernels"
 LeadIs w lead.Process = w ≡ codes "process"
@@ -41,7 +41,7 @@ lead_step : (w t : List ℕ) (k r : Lead) → (w ≡ t → LeadIs w k) → LeadI
 lead_step w t k r here there =
     elim (bytes_eq w t) as (λ b. bytes_eq w t ≡ b → LeadIs w (cond b k r)) [ true ↦ λ e. here ((bytes_eq-Decides w t).0 e) | false ↦ λ e. there ] refl
 
-lead_is : (w : List ℕ) → LeadIs w (lead_of w)
+pub lead_is : (w : List ℕ) → LeadIs w (lead_of w)
 unfolding lead_of
 lead_is w =
     lead_step w (codes "version") lead.Version
@@ -56,7 +56,7 @@ lead_is w =
 
 -- ---- numbers
 
-number_word : (w : List ℕ) (x : Number) (n : ℕ) → number_of w ≡ Ok x → x ≡ Is n → w ≡ number_text n
+pub number_word : (w : List ℕ) (x : Number) (n : ℕ) → number_of w ≡ Ok x → x ≡ Is n → w ≡ number_text n
 number_word w x n e is = (number_takes w n (e ∙ ap Ok is)).0
 
 record OneNumber (ws : List (List ℕ)) (x : Number) : Type 0 where
@@ -94,29 +94,51 @@ two_take ws x e =
       two = o.number;
     })
 
+-- `I on K` stands first
+pub record Placed (ws : List (List ℕ)) (x : Number × Number) (rest : List (List ℕ)) : Type 0 where
+  pub first : List ℕ
+  pub second : List ℕ
+  pub words : ws ≡ first ∷ codes "on" ∷ second ∷ rest
+  pub one : number_of first ≡ Ok x.0
+  pub two : number_of second ≡ Ok x.1
+
+pub placed_at_take : (ws : List (List ℕ)) (x : (Number × Number) × List (List ℕ)) → placed_at ws ≡ Ok x → Placed ws x.0 x.1
+unfolding placed_at
+placed_at_take ws x e =
+    let a = bind_ok (part_at ws) (λ first. number_of first.0 >>= λ i. part_at first.1 >>= λ second. cond (bytes_eq second.0 (codes "on")) (part_at second.1) (Err fault.Form) >>= λ third. number_of third.0 >>= λ k. Ok ((i, k), third.1)) x e in
+    let i = bind_ok (number_of a.0.0) (λ i. part_at a.0.1 >>= λ second. cond (bytes_eq second.0 (codes "on")) (part_at second.1) (Err fault.Form) >>= λ third. number_of third.0 >>= λ k. Ok ((i, k), third.1)) x a.2 in
+    let s = bind_ok (part_at a.0.1) (λ second. cond (bytes_eq second.0 (codes "on")) (part_at second.1) (Err fault.Form) >>= λ third. number_of third.0 >>= λ k. Ok ((i.0, k), third.1)) x i.2 in
+    let t = bind_ok (cond (bytes_eq s.0.0 (codes "on")) (part_at s.0.1) (Err fault.Form)) (λ third. number_of third.0 >>= λ k. Ok ((i.0, k), third.1)) x s.2 in
+    let k = bind_ok (number_of t.0.0) (λ k. Ok ((i.0, k), t.0.1)) x t.2 in
+    let h = held (bytes_eq s.0.0 (codes "on")) (part_at s.0.1) fault.Form t.0 t.1 in
+    let on : s.0.0 ≡ codes "on" = (bytes_eq-Decides s.0.0 (codes "on")).0 h.0 in
+    let tail : a.0.1 ≡ codes "on" ∷ t.0.0 ∷ t.0.1 = part_ok a.0.1 s.0 s.1 ∙ ap (λ (w : List ℕ). w ∷ s.0.1) on ∙ ap (λ (ps : List (List ℕ)). codes "on" ∷ ps) (part_ok s.0.1 t.0 h.1) in
+    subst (λ (y : (Number × Number) × List (List ℕ)). Placed ws y.0 y.1) (ok_is ((i.0, k.0), t.0.1) x k.2) (record {
+      first = a.0.0;
+      second = t.0.0;
+      words = part_ok ws a.0 a.1 ∙ ap (λ (ps : List (List ℕ)). a.0.0 ∷ ps) tail;
+      one = i.1;
+      two = k.1;
+    })
+
 placed_take : (ws : List (List ℕ)) (x : Number × Number) → placed ws ≡ Ok x → TwoNumbers (codes "on" ∷ []) ws x
 unfolding placed
 placed_take ws x e =
-    let a = bind_ok (part_at ws) (λ first. number_of first.0 >>= λ i. part_at first.1 >>= λ second. cond (bytes_eq second.0 (codes "on")) (one_number second.1) (Err fault.Form) >>= λ k. Ok (i, k)) x e in
-    let i = bind_ok (number_of a.0.0) (λ i. part_at a.0.1 >>= λ second. cond (bytes_eq second.0 (codes "on")) (one_number second.1) (Err fault.Form) >>= λ k. Ok (i, k)) x a.2 in
-    let s = bind_ok (part_at a.0.1) (λ second. cond (bytes_eq second.0 (codes "on")) (one_number second.1) (Err fault.Form) >>= λ k. Ok (i.0, k)) x i.2 in
-    let k = bind_ok (cond (bytes_eq s.0.0 (codes "on")) (one_number s.0.1) (Err fault.Form)) (λ k. Ok (i.0, k)) x s.2 in
-    let h = held (bytes_eq s.0.0 (codes "on")) (one_number s.0.1) fault.Form k.0 k.1 in
-    let o = one_takes s.0.1 k.0 h.1 in
-    let on : s.0.0 ≡ codes "on" = (bytes_eq-Decides s.0.0 (codes "on")).0 h.0 in
-    let tail : a.0.1 ≡ codes "on" ∷ o.word ∷ [] = part_ok a.0.1 s.0 s.1 ∙ ap (λ (w : List ℕ). w ∷ s.0.1) on ∙ ap (λ (ps : List (List ℕ)). codes "on" ∷ ps) o.words in
-    subst (λ (y : Number × Number). TwoNumbers (codes "on" ∷ []) ws y) (ok_is (i.0, k.0) x k.2) (record {
-      first = a.0.0;
-      second = o.word;
-      words = part_ok ws a.0 a.1 ∙ ap (λ (ps : List (List ℕ)). a.0.0 ∷ ps) tail;
-      one = i.1;
-      two = o.number;
+    let p = bind_ok (placed_at ws) (λ at. ended at.1 >>= λ last. Ok at.0) x e in
+    let l = bind_ok (ended p.0.1) (λ last. Ok p.0.0) x p.2 in
+    let t = placed_at_take ws p.0 p.1 in
+    subst (λ (y : Number × Number). TwoNumbers (codes "on" ∷ []) ws y) (ok_is p.0.0 x l.2) (record {
+      first = t.first;
+      second = t.second;
+      words = t.words ∙ ap (λ (ps : List (List ℕ)). t.first ∷ codes "on" ∷ t.second ∷ ps) (ended_ok p.0.1 l.0 l.1);
+      one = t.one;
+      two = t.two;
     })
 
 -- ---- forms
 
 -- the words of a line of a form
-abbrev Has : ℕ → List (List ℕ) → Form → Type 0
+abbrev pub Has : ℕ → List (List ℕ) → Form → Type 0
 Has v ws (Version n) = (w : List ℕ) × (ws ≡ codes "version" ∷ w ∷ []) × (number_of w ≡ Ok n)
 Has v ws (Kernels n) = (w : List ℕ) × (ws ≡ codes "kernels" ∷ w ∷ []) × (number_of w ≡ Ok n)
 Has v ws (Process i k) = (x : List ℕ) × (y : List ℕ) × (ws ≡ codes "process" ∷ x ∷ codes "on" ∷ y ∷ []) × (number_of x ≡ Ok i) × (number_of y ≡ Ok k)
@@ -133,10 +155,10 @@ asks v w ws p (Ok call) f pe ce e =
 asks v w ws p (Err fault.Long) f pe ce e = subst (λ (x : Form). Has v (w ∷ ws) x) (ok_is (LongAsk p) f e) tt
 asks v w ws p (Err fault.Form) f pe ce e = absurd (not_ok f fault.Form e)
 
-begins : (k w : List ℕ) (ws tail : List (List ℕ)) → w ≡ k → ws ≡ tail → w ∷ ws ≡ k ∷ tail
+pub begins : (k w : List ℕ) (ws tail : List (List ℕ)) → w ≡ k → ws ≡ tail → w ∷ ws ≡ k ∷ tail
 begins k w ws tail a b = ap (λ (x : List ℕ). x ∷ ws) a ∙ ap (λ (ps : List (List ℕ)). k ∷ ps) b
 
-led_has : (v : ℕ) (k : Lead) (w : List ℕ) (ws : List (List ℕ)) (f : Form) → LeadIs w k → led v k w ws ≡ Ok f → Has v (w ∷ ws) f
+pub led_has : (v : ℕ) (k : Lead) (w : List ℕ) (ws : List (List ℕ)) (f : Form) → LeadIs w k → led v k w ws ≡ Ok f → Has v (w ∷ ws) f
 unfolding led asked
 led_has v lead.Version w ws f is e =
     let n = bind_ok (one_number ws) (λ n. Ok (Version n)) f e in
@@ -184,7 +206,7 @@ form_text g (LongAsk p) = []
 form_text g (Take j k) = codes "take " ++ number_text (value j) ++ codes " " ++ number_text (value k)
 form_text g Settle = codes "settle"
 
-line_is : (text : List ℕ) (ws : List (List ℕ)) → words text ≡ ws → text ≡ join_with_byte 32 ws
+pub line_is : (text : List ℕ) (ws : List (List ℕ)) → words text ≡ ws → text ≡ join_with_byte 32 ws
 line_is text ws e = sym (join_with_byte-slice_split 32 text) ∙ ap (join_with_byte 32) e
 
 pub two_shape : (k x y : List ℕ) → k ++ 32 ∷ (x ++ 32 ∷ y) ≡ ((k ++ codes " ") ++ x ++ codes " ") ++ y

@@ -38,14 +38,22 @@ two_numbers ws = do
   j ← one_number first.1
   Ok (i, j)
 
--- `I on K`
-unfoldable pub placed : List (List ℕ) → Result (Number × Number) Fault
-placed ws = do
+-- `I on K`, and what stands behind it
+unfoldable pub placed_at : List (List ℕ) → Result ((Number × Number) × List (List ℕ)) Fault
+placed_at ws = do
   first ← part_at ws
   i ← number_of first.0
   second ← part_at first.1
-  k ← if bytes_eq second.0 (codes "on") then one_number second.1 else Err fault.Form
-  Ok (i, k)
+  third ← if bytes_eq second.0 (codes "on") then part_at second.1 else Err fault.Form
+  k ← number_of third.0
+  Ok ((i, k), third.1)
+
+-- `I on K`
+unfoldable pub placed : List (List ℕ) → Result (Number × Number) Fault
+placed ws = do
+  at ← placed_at ws
+  last ← ended at.1
+  Ok at.0
 
 -- a call of a process, whose text may be too long
 abbrev pub ask_form : Number → Result Call Fault → Result Form Fault

@@ -1,4 +1,4 @@
--- Reading a script from its first line on, with the first line that fails a rule, and the least rule there.
+-- Reading a text from its first line on, as a script, with the first line that fails a rule, and the least rule there.
 use Rattle.std.specs.Prelude.{◌≡◌, ℕ, List, [], ◌∷◌, Bool, true, false, ◌+◌, ◌==◌, if◌then◌else◌, length, Result, Ok, Err}
 use Rattle.charlotte_text.specs.declared.fault.Fault.{Fault}
 use Rattle.charlotte_text.specs.Reading.{parts, words}
@@ -44,17 +44,25 @@ abbrev pub noted : ℕ → Given → Result Meaning Rule → Result Given PlanFa
 noted line g (Ok e) = Ok (with_meaning line g e)
 noted line g (Err rule) = Err (BadPlan line (rule_number rule))
 
-unfoldable pub line_read : ℕ → Given → List ℕ → Result Given PlanFault
-line_read line g text = if is_skipped text then Ok g else noted line g (meaning_at g text)
+-- how a text is read line by line: what is said before the first line, what a line that is not skipped adds, by its number, which lines
+-- may then follow, and what the whole text says
+pub record Reader (G X : Type 0) : Type 0 where
+  pub start : G
+  pub with_line : ℕ → G → List ℕ → Result G PlanFault
+  pub stage : G → Stage
+  pub whole : G → X
 
--- the lines in order, from the one with this number
-abbrev pub then_lines : (Given → Result Given PlanFault) → Result Given PlanFault → Result Given PlanFault
+unfoldable pub line_read : {G X : Type 0} → Reader G X → ℕ → G → List ℕ → Result G PlanFault
+line_read r line g text = if is_skipped text then Ok g else r.with_line line g text
+
+abbrev pub then_lines : {G : Type 0} → (G → Result G PlanFault) → Result G PlanFault → Result G PlanFault
 then_lines f (Ok g) = f g
 then_lines f (Err e) = Err e
 
-unfoldable pub lines_read : ℕ → Given → List (List ℕ) → Result Given PlanFault
-lines_read line g [] = Ok g
-lines_read line g (text ∷ texts) = then_lines (λ h. lines_read (line + 1) h texts) (line_read line g text)
+-- the lines in order, from the one with this number
+unfoldable pub lines_read : {G X : Type 0} → Reader G X → ℕ → G → List (List ℕ) → Result G PlanFault
+lines_read r line g [] = Ok g
+lines_read r line g (text ∷ texts) = then_lines (λ h. lines_read r (line + 1) h texts) (line_read r line g text)
 
 -- the `kernels` line stood
 abbrev pub has_kernels : Stage → Bool
@@ -62,14 +70,21 @@ has_kernels stage.Start = false
 has_kernels stage.Named = false
 has_kernels s = true
 
+-- at the end the `kernels` line must have stood; the place past the last byte is in this line
+abbrev pub finished : {G X : Type 0} → Reader G X → ℕ → Result G PlanFault → Result X PlanFault
+finished r line (Ok g) = if has_kernels (r.stage g) then Ok (r.whole g) else Err (BadPlan line (rule_number LineDoesNotStandThere))
+finished r line (Err e) = Err e
+
+-- what bytes spell, or the first line that fails and the least rule there
+unfoldable pub text_read : {G X : Type 0} → Reader G X → List ℕ → Result X PlanFault
+text_read r bytes = finished r (length (parts line_feed bytes)) (lines_read r 1 r.start (parts line_feed bytes))
+
 abbrev pub script_given : Given → Script
 script_given g = record { setting = record { version = g.version; kernels = g.kernels; homes = g.homes; wires = g.wires }; lines = g.lines }
 
--- at the end the `kernels` line must have stood; the place past the last byte is in this line
-abbrev pub finished : ℕ → Result Given PlanFault → Result Script PlanFault
-finished line (Ok g) = if has_kernels g.stage then Ok (script_given g) else Err (BadPlan line (rule_number LineDoesNotStandThere))
-finished line (Err e) = Err e
+abbrev pub script_reader : Reader Given Script
+script_reader = record { start = nothing; with_line = λ line g text. noted line g (meaning_at g text); stage = λ g. g.stage; whole = script_given }
 
 -- the script that bytes spell, or the first line that fails and the least rule there
-unfoldable pub script_of : List ℕ → Result Script PlanFault
-script_of bytes = finished (length (parts line_feed bytes)) (lines_read 1 nothing (parts line_feed bytes))
+abbrev pub script_of : List ℕ → Result Script PlanFault
+script_of bytes = text_read script_reader bytes

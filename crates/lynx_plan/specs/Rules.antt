@@ -13,7 +13,7 @@ use Rattle.lynx_plan.specs.declared.meaning.Meaning.TheVariants as meaning
 use Rattle.lynx_plan.specs.declared.rule.Rule.{Rule}
 use Rattle.lynx_plan.specs.declared.rule.Rule.TheVariants.{LineDoesNotStandThere, KernelsAreTooManyOrNone}
 use Rattle.lynx_plan.specs.declared.rule.Rule.TheVariants.{ProcessIsNotTheNext, KernelIsNotThere, ProcessIsNotThere}
-use Rattle.lynx_plan.specs.declared.rule.Rule.TheVariants.{TextIsTooLong, WiresAreTooMany, VersionIsNotKnown}
+use Rattle.lynx_plan.specs.declared.rule.Rule.TheVariants.{TextIsTooLong, WiresAreTooMany, VersionIsNotKnown, ProcessIsNotFree}
 use Rattle.lynx_plan.specs.declared.script.ScriptCall.TheVariants as script
 use Rattle.lynx_plan.specs.Given.{Given}
 
@@ -98,6 +98,7 @@ rule_number ProcessIsNotThere = 5
 rule_number TextIsTooLong = 6
 rule_number WiresAreTooMany = 7
 rule_number VersionIsNotKnown = 10
+rule_number ProcessIsNotFree = 11
 
 -- the least of the rules from the second on that a line fails
 abbrev pub broken : Given → Form → Option Rule

@@ -8,9 +8,9 @@ use charlotte_calls::{Items, NoMemory, Pid, Setting};
 use std::alloc::Global;
 use std::marker::Model;
 
-/// What the lines of a script said so far.
+/// What the lines of a script said so far. Of a plan it is what its header said.
 #[derive(Drop)]
-pub(crate) struct Draft {
+pub struct Draft {
     version: u8,
     kernels: u8,
     homes: Vec<u8>,
@@ -38,7 +38,7 @@ impl Draft {
     ghost use Rattle.lynx_plan.specs.Reading.{script_given};
 
     /// Before the first line.
-    pub(crate) fn new(alloc: Global) -> Draft
+    pub fn new(alloc: Global) -> Draft
         ensures { result ≡ nothing }
     {
         Draft {
@@ -51,33 +51,36 @@ impl Draft {
         }
     }
 
-    pub(crate) fn version(&self) -> u8
+    /// The version, which is 1 where no line said it.
+    pub fn version(&self) -> u8
         ensures { result ≡ self.now.version }
     {
         self.version
     }
 
-    pub(crate) fn kernels(&self) -> u8
+    /// The number of kernels, and 0 before the line that says it.
+    pub fn kernels(&self) -> u8
         ensures { result ≡ self.now.kernels }
     {
         self.kernels
     }
 
     /// How many processes are declared.
-    pub(crate) fn processes(&self) -> u64
+    pub fn processes(&self) -> u64
         ensures { result ≡ length self.now.homes }
     {
         self.homes.len() as u64
     }
 
     /// How many wires stood.
-    pub(crate) fn wires(&self) -> usize
+    pub fn wires(&self) -> usize
         ensures { result ≡ length self.now.wires }
     {
         self.wires.len()
     }
 
-    pub(crate) fn stage(&self) -> Stage
+    /// Which lines may follow.
+    pub fn stage(&self) -> Stage
         ensures { result ≡ self.now.stage }
     {
         self.stage
@@ -85,7 +88,7 @@ impl Draft {
 
     /// Adds what a line says.
     #[tactic(auto, unfolding(crate::specs::Rules::with_meaning))]
-    pub(crate) fn add(&mut self, line: u32, meaning: Meaning) -> Result<(), NoMemory>
+    pub fn add(&mut self, line: u32, meaning: Meaning) -> Result<(), NoMemory>
         ensures { OnOk result (self.new ≡ with_meaning line self.old meaning) }
     {
         match meaning {
@@ -111,7 +114,7 @@ impl Draft {
     }
 
     /// The script that the lines spell.
-    pub(crate) fn into_script(self) -> Script
+    pub fn into_script(self) -> Script
         ensures { result ≡ script_given self }
     {
         let Draft {

@@ -1,8 +1,8 @@
 ghost use Rattle.std.specs.Prelude.{◌≡◌, ◌≢◌, ℕ, List, IfOk, option_copied};
-ghost use Rattle.charlotte_text.specs.Reading.{rest_parts, words};
+ghost use Rattle.charlotte_text.specs.Reading.{Gives, rest_parts, words};
 ghost use Rattle.charlotte_text.specs.Spelling.{blank};
 ghost use Rattle.lynx_plan.specs.declared.form.Lead.TheVariants as Lead;
-ghost use Rattle.lynx_plan.specs.Forms.{lead_of, one_number, two_numbers, placed, asked, led, form_of};
+ghost use Rattle.lynx_plan.specs.Forms.{lead_of, one_number, two_numbers, placed, placed_at, asked, led, form_of};
 
 use charlotte_calls::{Call, NoMemory};
 use charlotte_text::{
@@ -13,7 +13,7 @@ use std::alloc::Global;
 
 /// Which kind of line a first word begins.
 #[derive(Clone, Copy, Debug)]
-pub(crate) enum Lead {
+pub enum Lead {
     Version,
     Kernels,
     Process,
@@ -25,7 +25,7 @@ pub(crate) enum Lead {
 
 /// The form of a line of a script, with numbers of any size.
 #[derive(Debug, Drop)]
-pub(crate) enum Form {
+pub enum Form {
     Version(Number),
     Kernels(Number),
     /// The process and its kernel.
@@ -57,7 +57,7 @@ pub(crate) fn script_form(
 
 /// The form of a line that is no call of a process.
 #[tactic(auto, unfolding(crate::specs::Forms::led))]
-fn led_form(lead: Lead, rest: Option<&[u8]>) -> Result<Form, Fault>
+pub fn led_form(lead: Lead, rest: Option<&[u8]>) -> Result<Form, Fault>
     requires { lead ≢ Lead.Other }
     ensures { (version : ℕ) (word : List ℕ) → result ≡ led version lead word (rest_parts blank (option_copied rest.entry)) }
 {
@@ -106,8 +106,9 @@ fn call_of_process(
     }
 }
 
+/// Which kind of line a first word begins.
 #[tactic(auto, unfolding(crate::specs::Forms::lead_of))]
-fn read_lead(word: &[u8]) -> Lead
+pub fn read_lead(word: &[u8]) -> Lead
     ensures { result ≡ lead_of word.now }
 {
     if word == b"version".as_slice() {
@@ -154,12 +155,23 @@ fn numbers(rest: Option<&[u8]>) -> Result<(Number, Number), Fault>
 fn process_on_kernel(rest: Option<&[u8]>) -> Result<(Number, Number), Fault>
     ensures { result ≡ placed (rest_parts blank (option_copied rest.entry)) }
 {
+    let (placed, rest) = placed_process(rest)?;
+    end_of_line(rest)?;
+    Ok(placed)
+}
+
+/// The process and the kernel of `I on K`, and what stands behind them.
+#[tactic(auto, unfolding(crate::specs::Forms::placed_at))]
+pub fn placed_process(rest: Option<&[u8]>) -> Result<((Number, Number), Option<&[u8]>), Fault>
+    ensures { Gives (λ x. (x.0, rest_parts blank (option_copied x.1))) result (placed_at (rest_parts blank (option_copied rest.entry))) }
+{
     let (word, rest) = next_word(rest)?;
     let process = read_number(word)?;
     let (on, rest) = next_word(rest)?;
     if on != b"on".as_slice() {
         return Err(Fault::Form);
     }
-    let kernel = number(rest)?;
-    Ok((process, kernel))
+    let (word, rest) = next_word(rest)?;
+    let kernel = read_number(word)?;
+    Ok(((process, kernel), rest))
 }

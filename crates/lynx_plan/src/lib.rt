@@ -20,7 +20,13 @@ mod script;
 mod stage;
 
 pub use compact::{CompactScriptCall, StoredScriptCall};
+pub use draft::Draft;
 pub use fault::PlanFault;
+pub use form::{Form, Lead, led_form, placed_process, read_lead};
 pub use law::one_script;
-pub use read::read_script;
+pub use meaning::Meaning;
+pub use read::{first_line, read_script, skipped};
+pub use rule::Rule;
+pub use rules::{below, judge, known};
 pub use script::{Script, ScriptCall, ScriptLine};
+pub use stage::Stage;

@@ -3,7 +3,7 @@ use charlotte_calls::Pid;
 
 /// What a line says that fails no rule.
 #[derive(Debug, Drop)]
-pub(crate) enum Meaning {
+pub enum Meaning {
     Version(u8),
     Kernels(u8),
     /// The kernel of the next process.

@@ -5,7 +5,7 @@ ghost use Rattle.std.specs.Prelude.{◌≡◌, ◌==◌, ◌∷◌, option_copie
 ghost use Rattle.charlotte_calls.specs.Setting.{IsValid};
 ghost use Rattle.lynx_plan.specs.declared.script.Script.{Script};
 ghost use Rattle.lynx_plan.specs.ScriptText.{AreRisingLines, IsScriptText};
-ghost use Rattle.lynx_plan.specs.Reading.{Fails, Gives, is_skipped, meaning_at, line_read, lines_read, script_of};
+ghost use Rattle.lynx_plan.specs.Reading.{Fails, Gives, is_skipped, meaning_at, finished, line_read, script_of, script_reader};
 
 use crate::draft::Draft;
 use crate::fault::PlanFault;
@@ -50,6 +50,13 @@ fn read_lines(alloc: Global, bytes: &[u8]) -> Result<Script, PlanFault>
         read_line(alloc, &mut draft, line, this, &mut place)?;
         rest = after;
     }
+    whole(draft, line)
+}
+
+/// What the lines of a whole text say, of which this is the number of the last.
+fn whole(draft: Draft, line: u32) -> Result<Script, PlanFault>
+    ensures { Gives result (finished script_reader line (Ok draft)) }
+{
     match draft.stage() {
         Stage::Start | Stage::Named => Err(PlanFault::BadPlan {
             line,
@@ -60,7 +67,7 @@ fn read_lines(alloc: Global, bytes: &[u8]) -> Result<Script, PlanFault>
 }
 
 /// The first line of a text, and what stands behind its line feed, if it has one.
-fn first_line(text: &[u8]) -> (&[u8], Option<&[u8]>)
+pub fn first_line(text: &[u8]) -> (&[u8], Option<&[u8]>)
     ensures { parts line_feed text.now ≡ result.0.now ∷ rest_parts line_feed (option_copied result.1) }
 {
     match line_feed_at(text) {
@@ -85,7 +92,7 @@ fn read_line(
     place: &mut Call,
 ) -> Result<(), PlanFault>
     requires { length draft.old.homes ≤ 64 }
-    ensures { MatchResult result (λ _. line_read line draft.old text.now ≡ Ok draft.new) (λ e. Fails e (line_read line draft.old text.now)) }
+    ensures { MatchResult result (λ _. line_read script_reader line draft.old text.now ≡ Ok draft.new) (λ e. Fails e (line_read script_reader line draft.old text.now)) }
 {
     if skipped(text) {
         return Ok(());
@@ -100,7 +107,8 @@ fn read_line(
     Ok(())
 }
 
-fn skipped(text: &[u8]) -> bool
+/// Whether a line is skipped: it is empty, or begins with `#`.
+pub fn skipped(text: &[u8]) -> bool
     ensures { result ≡ is_skipped text.now }
 {
     match text {

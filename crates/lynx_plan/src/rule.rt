@@ -1,9 +1,9 @@
 ghost use Rattle.std.specs.Prelude.{◌≡◌};
 ghost use Rattle.lynx_plan.specs.Rules.{rule_number};
 
-/// A rule of scripts that a line fails.
+/// A rule of scripts and plans that a line fails. The last is one of plans alone.
 #[derive(Clone, Copy, Debug, PartialEq, Eq)]
-pub(crate) enum Rule {
+pub enum Rule {
     /// The line has a form, and it may stand there.
     LineDoesNotStandThere,
     /// There are 1 to 8 kernels.
@@ -20,11 +20,13 @@ pub(crate) enum Rule {
     WiresAreTooMany,
     /// The version is 1 or 2.
     VersionIsNotKnown,
+    /// A process that moves runs a file and has one host, and no wire line names a host.
+    ProcessIsNotFree,
 }
 
 impl Rule {
     /// The number by which a fault tells the rule.
-    pub(crate) fn number(self) -> u8
+    pub fn number(self) -> u8
         ensures { result ≡ rule_number self }
     {
         match self {
@@ -36,6 +38,7 @@ impl Rule {
             Rule::TextIsTooLong => 6,
             Rule::WiresAreTooMany => 7,
             Rule::VersionIsNotKnown => 10,
+            Rule::ProcessIsNotFree => 11,
         }
     }
 }

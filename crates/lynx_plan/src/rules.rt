@@ -12,7 +12,7 @@ use charlotte_text::Number;
 
 /// What a line of a form says after the lines before it, or the least rule that it fails.
 #[tactic(auto, unfolding(crate::specs::Rules::judged, crate::specs::Rules::ruled))]
-pub(crate) fn judge(draft: &Draft, form: Form) -> Result<Meaning, Rule>
+pub fn judge(draft: &Draft, form: Form) -> Result<Meaning, Rule>
     requires { length draft.now.homes ≤ 64 }
     ensures { result ≡ judged draft.now form }
 {
@@ -125,7 +125,7 @@ fn rule_take(draft: &Draft, from: Number, to: Number) -> Result<Meaning, Rule>
 }
 
 /// The process of a number, where it is declared.
-fn known(draft: &Draft, process: Number) -> Option<Pid>
+pub fn known(draft: &Draft, process: Number) -> Option<Pid>
     requires { length draft.now.homes ≤ 64 }
     ensures { result ≡ known_process draft.now process }
 {
@@ -136,7 +136,8 @@ fn known(draft: &Draft, process: Number) -> Option<Pid>
     }
 }
 
-fn below(number: Number, limit: u64) -> bool
+/// Whether a number is below this one.
+pub fn below(number: Number, limit: u64) -> bool
     ensures exact { result ≡ is_below number limit }
     ensures small { IsTrue result → value number < limit }
 {

@@ -1,6 +1,6 @@
 /// Which lines may follow.
 #[derive(Clone, Copy, Debug, PartialEq, Eq)]
-pub(crate) enum Stage {
+pub enum Stage {
     /// No line was read that is not skipped.
     Start,
     /// The `version` line stood, and the `kernels` line must follow.

@@ -1,13 +1,12 @@
 use Rattle.std.proofs.Common.{◌≡◌, ◌+◌, length, option_copied}
 use Rattle.charlotte_text.specs.Reading.{parts, rest_parts}
-use Rattle.lynx_plan.specs.Given.{nothing}
-use Rattle.lynx_plan.specs.Reading.{lines_read}
+use Rattle.lynx_plan.specs.Reading.{lines_read, script_reader}
 use Rattle.lynx_plan.proofs.Sound.{Sound}
 use Rattle.lynx_plan.proofs.read.read_lines.Given as goal
 
 abbrev pub invariant-loop-rest : goal.invariant-loop-rest
 invariant-loop-rest l = record {
-  so_far : lines_read (l.line + 1) l.draft (rest_parts 10 (option_copied l.rest)) ≡ lines_read 1 nothing (parts 10 l.bytes);
+  so_far : lines_read script_reader (l.line + 1) l.draft (rest_parts 10 (option_copied l.rest)) ≡ lines_read script_reader 1 script_reader.start (parts 10 l.bytes);
   count : l.line + length (rest_parts 10 (option_copied l.rest)) ≡ length (parts 10 l.bytes);
   sound : Sound l.draft;
 }
