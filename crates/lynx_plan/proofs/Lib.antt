@@ -6,3 +6,4 @@ pub mod Words
 pub mod Spelled
 pub mod Again
 pub mod Places
+pub mod Drawn

@@ -4,3 +4,5 @@ pub mod Rules
 pub mod Reading
 pub mod ScriptText
 pub mod Stored
+pub mod Draws
+pub mod Seeded

@@ -9,6 +9,7 @@
 
 mod compact;
 mod draft;
+mod draws;
 mod fault;
 mod form;
 mod law;
@@ -17,6 +18,7 @@ mod read;
 mod rule;
 mod rules;
 mod script;
+mod seeded;
 mod stage;
 
 pub use compact::{CompactScriptCall, StoredScriptCall};
@@ -29,4 +31,5 @@ pub use read::{first_line, read_script, skipped};
 pub use rule::Rule;
 pub use rules::{below, judge, known};
 pub use script::{Script, ScriptCall, ScriptLine};
+pub use seeded::make_script;
 pub use stage::Stage;

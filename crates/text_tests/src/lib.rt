@@ -16,6 +16,8 @@ mod replays;
 #[cfg(test)]
 mod scripts;
 #[cfg(test)]
+mod seeded;
+#[cfg(test)]
 mod texts;
 #[cfg(test)]
 mod transcripts;
